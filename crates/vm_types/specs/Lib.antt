@@ -1,0 +1,3 @@
+pub mod Permission
+pub mod Refusal
+pub mod Width

@@ -1,0 +1,41 @@
+//! The words that every layer shares: numbers of pages, frames and processes, permissions, accesses,
+//! commands, replies and their refusals. The flat model that the whole system is proved against stands in `specs/`.
+#![tactic(auto)]
+
+mod access;
+mod command;
+mod file;
+mod number;
+mod permission;
+mod refusal;
+mod region;
+mod reply;
+mod width;
+
+pub use access::{Access, StoredValue};
+pub use command::{Command, MapSource, MsyncMode};
+pub use file::{FileInfo, FilePage};
+pub use number::{FrameNo, NoFree, Phys, Pid, SlotNo, TooManyRuns, Vpn};
+pub use permission::Prot;
+pub use refusal::{Code, Errno, Fault, Stall};
+pub use region::{Attr, Backing};
+pub use reply::Reply;
+pub use width::Width;
+
+/// Bytes of a page, a frame and a slot.
+pub const PAGE_BYTES: usize = 4096;
+
+/// Bytes of a sector of a device.
+pub const SECTOR_BYTES: usize = 512;
+
+/// The most processes that live at once; their numbers are 1 to this one.
+pub const PROCESSES: usize = 64;
+
+/// The most files of an image; their numbers are 0 to one less.
+pub const FILES: usize = 64;
+
+/// The most touched pages that one msync makes durable.
+pub const MSYNC_PAGES: usize = 127;
+
+#[cfg(test)]
+mod tests;

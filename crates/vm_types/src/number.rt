@@ -1,0 +1,104 @@
+//! Numbers that are no mere numbers: processes, pages, frames, slots and physical addresses.
+ghost use Rattle.std.specs.Prelude.{◌≡◌, ◌<◌, ◌≤◌, ◌^◌, IfSome, IsSome, ◌↔◌};
+
+use std::marker::Model;
+
+/// A process number, 1 to 64. In contracts it is that number.
+#[derive(Clone, Copy, Debug, PartialEq, Eq)]
+pub struct Pid {
+    number: u8,
+}
+
+impl Model for Pid {
+    ghost use Rattle.std.specs.Prelude.{ℕ, ◌≤◌};
+
+    ghost Value = { ℕ };
+
+    ghost view = { λ p. p.number };
+
+    ghost invariant = { λ p. (1 ≤ p.number) × (p.number ≤ 64) };
+
+    ghost inverse = { λ n. record { number = n } };
+}
+
+impl Pid {
+    /// The process of that number; `None` exactly where it isn't 1 to 64.
+    pub fn new(number: u64) -> Option<Pid>
+        ensures found { IfSome result (λ pid. pid ≡ number) }
+        ensures known { IsSome result ↔ ((1 ≤ number) × (number ≤ 64)) }
+    {
+        match u8::try_from(number) {
+            Ok(number) if number >= 1 && number <= 64 => Some(Pid { number }),
+            _ => None,
+        }
+    }
+
+    /// The number, 1 to 64.
+    pub fn get(self) -> u8
+        ensures number { result ≡ self }
+        ensures range { (1 ≤ result) × (result ≤ 64) }
+    {
+        self.number
+    }
+}
+
+/// A number of a user page, 16 to 67,108,863 (virtual addresses `0x10000` to `0x3fffffffff`, the lower half of
+/// Sv39 but its first 64 KiB). In contracts it is that number.
+#[derive(Clone, Copy, Debug, PartialEq, Eq, PartialOrd, Ord)]
+pub struct Vpn {
+    page: u64,
+}
+
+impl Model for Vpn {
+    ghost use Rattle.std.specs.Prelude.{ℕ, ◌≤◌, ◌<◌, ◌^◌};
+
+    ghost Value = { ℕ };
+
+    ghost view = { λ v. v.page };
+
+    ghost invariant = { λ v. (16 ≤ v.page) × (v.page < 2 ^ 26) };
+
+    ghost inverse = { λ n. record { page = n } };
+}
+
+impl Vpn {
+    /// The page of that number; `None` exactly where it is no user page.
+    pub fn new(number: u64) -> Option<Vpn>
+        ensures found { IfSome result (λ page. page ≡ number) }
+        ensures known { IsSome result ↔ ((16 ≤ number) × (number < 2 ^ 26)) }
+    {
+        if number >= 16 && number < 1 << 26 {
+            Some(Vpn { page: number })
+        } else {
+            None
+        }
+    }
+
+    /// The number, 16 to 67,108,863.
+    pub fn get(self) -> u64
+        ensures number { result ≡ self }
+        ensures range { (16 ≤ result) × (result < 2 ^ 26) }
+    {
+        self.page
+    }
+}
+
+/// A frame of physical memory by its number, counted from 0 in pages of 4,096 bytes.
+#[derive(Clone, Copy, Debug, PartialEq, Eq)]
+pub struct FrameNo(pub u32);
+
+/// A slot of the swap device by its number, counted from 0 in pages of 4,096 bytes.
+#[derive(Clone, Copy, Debug, PartialEq, Eq)]
+pub struct SlotNo(pub u32);
+
+/// A physical address, in bytes.
+#[derive(Clone, Copy, Debug, PartialEq, Eq)]
+pub struct Phys(pub u64);
+
+/// No frame is free.
+#[derive(Clone, Copy, Debug, PartialEq, Eq)]
+pub struct NoFree;
+
+/// More than 256 runs of pages would result.
+#[derive(Clone, Copy, Debug, PartialEq, Eq)]
+pub struct TooManyRuns;
