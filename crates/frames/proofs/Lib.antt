@@ -1,0 +1,4 @@
+pub mod FrameLemmas
+pub mod ChainLemmas
+pub mod Calls
+pub mod Made

@@ -1,0 +1,11 @@
+use Rattle.std.proofs.Common.{◌-◌, arith}
+use Rattle.frames.proofs.Made.{IsAllTables-less, IsHeld-table}
+use Rattle.frames.proofs.memory.Frames.new.Goals as goal
+
+pub release-requires : goal.release-requires
+release-requires c =
+    IsHeld-table c.loop-n.frames (c.loop-n.n - 1) (omega (arith, c.loop-n.invariant.frames)) (c.loop-n.invariant.tables (c.loop-n.n - 1) (omega arith) (omega arith))
+
+pub loop-n-preserved : goal.loop-n-preserved
+loop-n-preserved c =
+    IsAllTables-less c.loop-n.frames c.release.new.self c.args.count c.loop-n.n (omega arith) (omega arith) c.loop-n.invariant c.release.ensures

@@ -1,0 +1,4 @@
+pub mod FrameTable
+pub mod Chain
+pub mod Lending
+pub mod Inside

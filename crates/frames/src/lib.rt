@@ -1,0 +1,10 @@
+//! Physical memory: frames of 4,096 bytes with a role and a share count each. An edit of one frame leaves all others.
+#![tactic(auto)]
+
+mod memory;
+mod role;
+#[cfg(test)]
+mod tests;
+
+pub use memory::{FRAME_BYTES, Frames};
+pub use role::Role;
