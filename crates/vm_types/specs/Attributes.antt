@@ -1,0 +1,50 @@
+-- What the pages after a given one are, where mapped pages follow one another. mmap(2): a mapping of a file
+-- begins at an offset of the file, and its pages are the file's from there on.
+use Rattle.std.specs.Prelude.{ℕ, ◌+◌, ◌≤◌, ◌^◌, Bool, true, false, ◌==◌, ◌&&◌}
+use Rattle.vm_types.specs.declared.file.FilePage.{FilePage}
+use Rattle.vm_types.specs.declared.permission.Prot.{Prot}
+use Rattle.vm_types.specs.declared.region.Attr.{Attr}
+use Rattle.vm_types.specs.declared.region.Backing.{Backing}
+use Rattle.vm_types.specs.declared.region.Backing.TheVariants.{Anon, Private, Shared}
+
+-- the file page so many pages further on
+abbrev pub file_page_after : FilePage → ℕ → FilePage
+file_page_after page count = record { file = page.file; page = page.page + count }
+
+-- what stands behind the page so many pages further on
+abbrev pub backing_after : Backing → ℕ → Backing
+backing_after Anon count = Anon
+backing_after (Private page) count = Private (file_page_after page count)
+backing_after (Shared page) count = Shared (file_page_after page count)
+
+-- what the page so many pages further on is: of equal permission, its file page as much further on
+abbrev pub attr_after : Attr → ℕ → Attr
+attr_after attr count = record { prot = attr.prot; backing = backing_after attr.backing count }
+
+-- whether the file pages of a row of this many pages are all under 2 ^ 32
+abbrev pub backing_fits : Backing → ℕ → Type 0
+backing_fits Anon count = Unit {0}
+backing_fits (Private page) count = page.page + count ≤ 2 ^ 32
+backing_fits (Shared page) count = page.page + count ≤ 2 ^ 32
+
+abbrev pub file_page_eq : FilePage → FilePage → Bool
+file_page_eq a b = (a.file == b.file) && (a.page == b.page)
+
+abbrev pub backing_eq : Backing → Backing → Bool
+backing_eq Anon Anon = true
+backing_eq Anon (Private _) = false
+backing_eq Anon (Shared _) = false
+backing_eq (Private _) Anon = false
+backing_eq (Private a) (Private b) = file_page_eq a b
+backing_eq (Private _) (Shared _) = false
+backing_eq (Shared _) Anon = false
+backing_eq (Shared _) (Private _) = false
+backing_eq (Shared a) (Shared b) = file_page_eq a b
+
+-- whether permission and backing are equal
+abbrev pub attr_eq : Attr → Attr → Bool
+attr_eq a b = (a.prot.0 == b.prot.0) && backing_eq a.backing b.backing
+
+-- with another permission
+abbrev pub with_prot : Prot → Attr → Attr
+with_prot prot attr = record { prot = prot; backing = attr.backing }

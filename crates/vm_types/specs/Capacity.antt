@@ -1,0 +1,28 @@
+-- How much memory and swap a state needs. Sv39: a table for each 512 entries, in three levels.
+use Rattle.std.specs.Prelude.{ℕ, ◌+◌, ◌*◌, ◌^◌, Bool, false, if◌then◌else◌, Option, Some, None, is_some}
+use Rattle.vm_types.specs.Counting.{any_below, count_below, sum_below}
+use Rattle.vm_types.specs.State.{State}
+use Rattle.vm_types.specs.View.{View}
+
+-- how many of the first rows of so many pages have a mapped page
+abbrev pub used_rows : (ℕ → Option View) → ℕ → ℕ → ℕ
+used_rows space pages rows = count_below (λ row. any_below (λ i. is_some (space (pages * row + i))) pages) rows
+
+-- the tables of a process: its root, and one for each 2 ^ 18 and each 2 ^ 9 pages with a mapped one
+abbrev pub tables_of : (ℕ → Option View) → ℕ
+tables_of space = 1 + (used_rows space (2 ^ 18) (2 ^ 8) + used_rows space (2 ^ 9) (2 ^ 17))
+
+-- the tables of all processes
+unfoldable pub table_count : State → ℕ
+table_count s = sum_below (λ pid. if s.live pid then tables_of (s.views pid) else 0) 65
+
+-- whether a page has a copy of its own
+abbrev pub has_own : Option View → Bool
+has_own None = false
+has_own (Some view) = is_some view.own
+
+-- the own copies of all processes, and the touched file pages
+unfoldable pub held_count : State → ℕ
+held_count s =
+    sum_below (λ pid. count_below (λ page. has_own (s.views pid page)) (2 ^ 26)) 65
+    + sum_below (λ file. count_below (s.touched file) (2 ^ 20)) 64

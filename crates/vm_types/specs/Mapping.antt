@@ -1,0 +1,81 @@
+-- mmap: its checks in their order, and the pages that it leaves. mmap(2).
+use Rattle.std.specs.Prelude.{ℕ, ◌+◌, ◌-◌, ◌/◌, ◌%◌, ◌^◌, Bool, false, not, ◌==◌, ◌&&◌, nat_lt, if◌then◌else◌, List, [], ◌∷◌, Option, Some, None, is_none}
+use Rattle.vm_types.specs.declared.command.MapSource.{MapSource}
+use Rattle.vm_types.specs.declared.command.MapSource.TheVariants.{Shared}
+use Rattle.vm_types.specs.declared.file.FileInfo.{FileInfo}
+use Rattle.vm_types.specs.declared.permission.Prot.{Prot}
+use Rattle.vm_types.specs.declared.refusal.Errno.{Errno}
+use Rattle.vm_types.specs.declared.refusal.Errno.TheVariants.{ESRCH, EBADF, ENOMEM, EACCES, EINVAL, EOVERFLOW}
+use Rattle.vm_types.specs.declared.region.Attr.{Attr}
+use Rattle.vm_types.specs.declared.region.Backing.TheVariants as Backings
+use Rattle.vm_types.specs.Attributes.{attr_after}
+use Rattle.vm_types.specs.Checks.{Check, first_of, page_count}
+use Rattle.vm_types.specs.Files.{Files}
+use Rattle.vm_types.specs.Permission.{can_write, kept}
+use Rattle.vm_types.specs.Placement.{placed}
+use Rattle.vm_types.specs.Rows.{in_row, replaced}
+use Rattle.vm_types.specs.Runs.{run_count}
+use Rattle.vm_types.specs.StageLimits.{has_mapping}
+use Rattle.vm_types.specs.State.{State}
+use Rattle.vm_types.specs.View.{View, attrs_of}
+
+-- the offset in the file is no multiple of the page size
+abbrev pub is_odd_offset : MapSource → Bool
+is_odd_offset (Shared file offset) = not (offset % 4096 == 0)
+
+abbrev pub is_unwritable : Option FileInfo → Bool
+is_unwritable None = false
+is_unwritable (Some info) = info.read_only
+
+-- there is no such file
+abbrev pub lacks_file : Files → MapSource → Bool
+lacks_file files (Shared file offset) = is_none (files file)
+
+-- stores to a file that may only be read are asked for
+abbrev pub denies_write : Files → MapSource → Prot → Bool
+denies_write files (Shared file offset) prot = can_write prot && is_unwritable (files file)
+
+-- the mapping would pass the last page that a file can have
+abbrev pub passes_end : MapSource → ℕ → Bool
+passes_end (Shared file offset) pages = nat_lt (2 ^ 32) (offset / 4096 + pages)
+
+-- the first page of the mapping
+abbrev pub first_attr : MapSource → Prot → Attr
+first_attr (Shared file offset) prot =
+    record { prot = kept prot; backing = Backings.Shared (record { file = file; page = offset / 4096 }) }
+
+-- more than 256 runs would result
+abbrev pub has_too_many_runs : (ℕ → Option View) → ℕ → Attr → Option ℕ → Bool
+has_too_many_runs space pages attr None = false
+has_too_many_runs space pages attr (Some first) = nat_lt 256 (run_count (replaced (attrs_of space) first pages attr))
+
+-- the checks in their order
+abbrev pub mmap_checks : State → ℕ → ℕ → ℕ → Prot → MapSource → Option ℕ → List Check
+mmap_checks s pid addr len prot source place =
+    (not (s.live pid), ESRCH)
+    ∷ (len == 0, EINVAL)
+    ∷ (is_odd_offset source, EINVAL)
+    ∷ (lacks_file s.files source, EBADF)
+    ∷ (denies_write s.files source prot, EACCES)
+    ∷ (passes_end source (page_count len), EOVERFLOW)
+    ∷ (is_none place, ENOMEM)
+    ∷ (has_too_many_runs (s.views pid) (page_count len) (first_attr source prot) place, ENOMEM)
+    ∷ (has_mapping (s.views pid), ENOMEM)
+    ∷ []
+
+-- where the mapping goes
+abbrev pub mmap_place : State → ℕ → ℕ → ℕ → Option ℕ
+mmap_place s pid addr len = placed (attrs_of (s.views pid)) addr (page_count len)
+
+-- why an mmap is refused, if it is
+abbrev pub mmap_errno : State → ℕ → ℕ → ℕ → Prot → MapSource → Option Errno
+mmap_errno s pid addr len prot source = first_of (mmap_checks s pid addr len prot source (mmap_place s pid addr len))
+
+-- the pages of the row are new ones without own copies, the file pages rising from the first one's
+abbrev pub mapped : (ℕ → Option View) → ℕ → ℕ → Attr → ℕ → Option View
+mapped space first pages attr page =
+    if in_row first pages page then Some (record { attr = attr_after attr (page - first); own = None }) else space page
+
+-- the state with such a row in one process
+abbrev pub with_mapping : State → ℕ → ℕ → ℕ → Attr → State
+with_mapping s pid first pages attr = record s { views = λ p. if p == pid then mapped (s.views pid) first pages attr else s.views p }

@@ -1,0 +1,29 @@
+-- Where a mapping goes. mmap(2): an address that isn't fixed is a hint about where to place the mapping; which
+-- place is taken is our choice.
+use Rattle.std.specs.Prelude.{ℕ, suc, zero, ◌+◌, ◌/◌, ◌^◌, Bool, true, false, not, ◌==◌, ◌&&◌, leb, if◌then◌else◌, Option, Some, None, is_none}
+use Rattle.vm_types.specs.declared.region.Attr.{Attr}
+
+-- whether no page of the row of count pages from first on is mapped
+unfoldable pub is_free : (ℕ → Option Attr) → ℕ → ℕ → Bool
+is_free map first zero = true
+is_free map first (suc count) = is_none (map (first + count)) && is_free map first count
+
+-- whether the whole row is in the user pages, which are 16 up to, not including, 2 ^ 26, and free
+unfoldable pub is_place : (ℕ → Option Attr) → ℕ → ℕ → Bool
+is_place map count first = leb 16 first && (leb (first + count) (2 ^ 26) && is_free map first count)
+
+-- the lowest of so many pages from first on where a row of count pages fits
+unfoldable pub lowest_from : (ℕ → Option Attr) → ℕ → ℕ → ℕ → Option ℕ
+lowest_from map count first zero = None
+lowest_from map count first (suc pages) =
+    elim (is_place map count first) [ true ↦ Some first | false ↦ lowest_from map count (suc first) pages ]
+
+-- the lowest page where a row of count pages fits
+unfoldable pub lowest_place : (ℕ → Option Attr) → ℕ → Option ℕ
+lowest_place map count = lowest_from map count 16 (2 ^ 26)
+
+-- the place of a mapping of count pages: the hint's page, where the hint isn't 0 and the row fits there, else the
+-- lowest page where it fits
+unfoldable pub placed : (ℕ → Option Attr) → ℕ → ℕ → Option ℕ
+placed map address count =
+    if not (address == 0) && is_place map count (address / 4096) then Some (address / 4096) else lowest_place map count

@@ -1,0 +1,70 @@
+-- When a command may stall: it would succeed, but memory or a device is wanting. Our own choice.
+use Rattle.std.specs.Prelude.{◌≡◌, Bool, true, false, is_some}
+use Rattle.vm_types.specs.declared.command.Command.{Command}
+use Rattle.vm_types.specs.declared.command.Command.TheVariants.{Spawn, Mmap, Msync, Load, Store}
+use Rattle.vm_types.specs.declared.refusal.Stall.{Stall}
+use Rattle.vm_types.specs.declared.refusal.Stall.TheVariants.{NoFrames, NoSwap, SwapDevice, StoreDevice}
+use Rattle.vm_types.specs.declared.reply.Reply.{Reply}
+use Rattle.vm_types.specs.declared.reply.Reply.TheVariants.{Process, Address, Done, Value, Faulted, Refused, Stalled, Halted}
+use Rattle.vm_types.specs.State.{State}
+use Rattle.vm_types.specs.Step.{outcome, commits}
+
+-- What came to pass in a call besides its reply: the store device failed, the swap device failed, a request for a frame was refused.
+pub record Causes : Type 1 where
+  pub store : Type 0
+  pub swap : Type 0
+  pub refused : Type 0
+
+-- whether a reply tells of success
+abbrev pub is_success : Reply → Bool
+is_success (Process pid) = true
+is_success (Address addr) = true
+is_success Done = true
+is_success (Value width value) = true
+is_success (Faulted fault) = false
+is_success (Refused errno) = false
+is_success (Stalled stall) = false
+is_success Halted = false
+
+-- whether a command needs frames
+abbrev pub needs_frames : Command → Bool
+needs_frames Spawn = true
+needs_frames (Mmap pid addr len prot source) = false
+needs_frames (Msync pid addr len mode) = false
+needs_frames (Load pid addr width) = true
+needs_frames (Store pid addr value) = true
+
+-- whether a command may read a file page from the store
+abbrev pub reads_files : Command → Bool
+reads_files Spawn = false
+reads_files (Mmap pid addr len prot source) = false
+reads_files (Msync pid addr len mode) = false
+reads_files (Load pid addr width) = true
+reads_files (Store pid addr value) = true
+
+-- whether a command may read the swap device
+abbrev pub reads_swap : State → Command → Bool
+reads_swap s Spawn = true
+reads_swap s (Mmap pid addr len prot source) = false
+reads_swap s (Msync pid addr len mode) = is_some (commits s (Msync pid addr len mode))
+reads_swap s (Load pid addr width) = true
+reads_swap s (Store pid addr value) = true
+
+-- whether that stall may come of that command
+abbrev pub is_open_to : State → Command → Stall → Bool
+is_open_to s command NoFrames = needs_frames command
+is_open_to s command NoSwap = needs_frames command
+is_open_to s command SwapDevice = reads_swap s command
+is_open_to s command StoreDevice = reads_files command
+
+-- what a stall comes from
+abbrev pub cause_of : Causes → Stall → Type 0
+cause_of causes NoFrames = causes.refused
+cause_of causes NoSwap = causes.refused
+cause_of causes SwapDevice = causes.swap
+cause_of causes StoreDevice = causes.store
+
+pub record MayStall (causes : Causes) (s : State) (command : Command) (stall : Stall) : Type 0 where
+  pub otherwise : is_success (outcome s command).reply ≡ true
+  pub open_to : is_open_to s command stall ≡ true
+  pub cause : cause_of causes stall

@@ -1,0 +1,101 @@
+-- What each command answers and what it leaves.
+-- mmap(2), fork(2), msync(2), sigaction(2); the order of the checks is our choice.
+use Rattle.std.specs.Prelude.{ℕ, ◌%◌, ◌*◌, if◌then◌else◌, Option, Some, None}
+use Rattle.vm_types.specs.declared.access.Access.{Access}
+use Rattle.vm_types.specs.declared.access.Access.TheVariants as Accesses
+use Rattle.vm_types.specs.declared.access.StoredValue.{StoredValue}
+use Rattle.vm_types.specs.declared.command.Command.{Command}
+use Rattle.vm_types.specs.declared.command.Command.TheVariants.{Spawn, Mmap, Msync, Load, Store}
+use Rattle.vm_types.specs.declared.command.MapSource.{MapSource}
+use Rattle.vm_types.specs.declared.permission.Prot.{Prot}
+use Rattle.vm_types.specs.declared.refusal.Errno.{Errno}
+use Rattle.vm_types.specs.declared.refusal.Errno.TheVariants.{ESRCH, EAGAIN, ENOMEM}
+use Rattle.vm_types.specs.declared.reply.Reply.{Reply}
+use Rattle.vm_types.specs.declared.reply.Reply.TheVariants.{Process, Address, Done, Value, Faulted, Refused}
+use Rattle.vm_types.specs.declared.width.Width.{Width}
+use Rattle.vm_types.specs.Access.{loaded, stored}
+use Rattle.vm_types.specs.Checks.{page_count}
+use Rattle.vm_types.specs.Mapping.{mmap_errno, mmap_place, first_attr, with_mapping}
+use Rattle.vm_types.specs.Msync.{Ruling, Refuses, Passes, Takes, msync_ruling, committed, synced}
+use Rattle.vm_types.specs.Processes.{least_free_pid, with_process}
+use Rattle.vm_types.specs.State.{State}
+use Rattle.vm_types.specs.Verdict.{Verdict, Fine, Faults, verdict, fault_of}
+use Rattle.vm_types.specs.View.{Pages, shown}
+use Rattle.vm_types.specs.Width.{byte_count}
+
+-- a reply, and the state after it
+pub record Outcome : Type 0 where
+  pub reply : Reply
+  pub state : State
+
+-- a reply that changes nothing
+abbrev pub answers : State → Reply → Outcome
+answers s reply = record { reply = reply; state = s }
+
+-- spawn: the least free number gets an empty space
+abbrev pub spawn_outcome : State → Option ℕ → Outcome
+spawn_outcome s None = answers s (Refused EAGAIN)
+spawn_outcome s (Some pid) = record { reply = Process pid; state = with_process s pid (λ page. None) }
+
+-- mmap: refused, or placed
+abbrev pub mmap_outcome : State → ℕ → ℕ → Prot → MapSource → Option Errno → Option ℕ → Outcome
+mmap_outcome s pid len prot source (Some errno) place = answers s (Refused errno)
+mmap_outcome s pid len prot source None None = answers s (Refused ENOMEM)
+mmap_outcome s pid len prot source None (Some first) =
+    record { reply = Address (4096 * first); state = with_mapping s pid first (page_count len) (first_attr source prot) }
+
+-- msync: refused, done with nothing to make durable, or done
+abbrev pub msync_outcome : State → Ruling → Outcome
+msync_outcome s (Refuses errno) = answers s (Refused errno)
+msync_outcome s Passes = answers s Done
+msync_outcome s (Takes pid first count) = record { reply = Done; state = synced s pid first count }
+
+-- load: the number that the page shows
+abbrev pub load_outcome : State → ℕ → Width → Verdict → Outcome
+load_outcome s addr width (Faults code) = answers s (Faulted (fault_of Accesses.Load code addr))
+load_outcome s addr width (Fine view) = answers s (Value width (loaded (shown s.volatile view) (addr % 4096) (byte_count width)))
+
+-- store: the page with the number written
+abbrev pub store_outcome : State → ℕ → ℕ → StoredValue → Verdict → Outcome
+store_outcome s pid addr value (Faults code) = answers s (Faulted (fault_of Accesses.Store code addr))
+store_outcome s pid addr value (Fine view) =
+    record { reply = Done; state = stored s pid addr view (byte_count value.width) value.value }
+
+-- what a process's access comes to
+abbrev pub judged : State → ℕ → ℕ → Width → Access → Verdict
+judged s pid addr width access = verdict s.files (s.views pid) addr (byte_count width) access
+
+-- what a machine that runs and lacks nothing answers and leaves
+abbrev pub outcome : State → Command → Outcome
+outcome s Spawn = spawn_outcome s (least_free_pid s.live)
+outcome s (Mmap pid addr len prot source) =
+    mmap_outcome s pid len prot source (mmap_errno s pid addr len prot source) (mmap_place s pid addr len)
+outcome s (Msync pid addr len mode) = msync_outcome s (msync_ruling s pid addr len mode)
+outcome s (Load pid addr width) =
+    if s.live pid then load_outcome s addr width (judged s pid addr width Accesses.Load) else answers s (Refused ESRCH)
+outcome s (Store pid addr value) =
+    if s.live pid then store_outcome s pid addr value (judged s pid addr value.width Accesses.Store) else answers s (Refused ESRCH)
+
+-- how an msync is judged; any other command makes nothing durable
+abbrev pub ruling : State → Command → Ruling
+ruling s Spawn = Passes
+ruling s (Mmap pid addr len prot source) = Passes
+ruling s (Msync pid addr len mode) = msync_ruling s pid addr len mode
+ruling s (Load pid addr width) = Passes
+ruling s (Store pid addr value) = Passes
+
+-- the durable pages with what is taken made durable, all of it at once
+abbrev pub takes : State → Ruling → Pages → Pages
+takes s (Refuses errno) before = before
+takes s Passes before = before
+takes s (Takes pid first count) before = committed s pid first count before
+
+-- what a commit would leave durable, where there is one
+abbrev pub commit_of : State → Ruling → Option Pages
+commit_of s (Refuses errno) = None
+commit_of s Passes = None
+commit_of s (Takes pid first count) = Some (committed s pid first count s.durable)
+
+-- the same of a command
+abbrev pub commits : State → Command → Option Pages
+commits s command = commit_of s (ruling s command)
