@@ -1,0 +1,11 @@
+pub mod AttrLemmas
+pub mod RunLemmas
+pub mod ListLemmas
+pub mod MapLemmas
+pub mod CountLemmas
+pub mod SearchLemmas
+pub mod PasteLemmas
+pub mod PushLemmas
+pub mod ResultLemmas
+pub mod WalkLemmas
+pub mod RowLemmas

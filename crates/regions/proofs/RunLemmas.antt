@@ -1,0 +1,217 @@
+-- One run: the pages of it, of two joined, and of a part.
+use Rattle.std.proofs.Common.{◌≡◌, ℕ, ◌+◌, ◌-◌, ◌^◌, ◌<◌, ◌≤◌, ◌⊎◌, inl, inr, ⊎_elim, max, min, Bool, true, false, if◌then◌else◌, ◌==◌, ◌&&◌, leb, ltb, refl, sym, ◌∙◌, ap, subst, arith, Option, Some, None, option_map, eqb-true, le-leb, lt-ltb}
+use Rattle.std.proofs.lemmas.Bool.{and_parts}
+use Rattle.std.proofs.lemmas.Bool.Decides.{leb_tells, nat_tests}
+use Rattle.vm_types.specs.declared.permission.Prot.{Prot}
+use Rattle.vm_types.specs.declared.region.Attr.{Attr}
+use Rattle.vm_types.specs.Attributes.{attr_after, backing_after, attr_eq, backing_fits}
+use Rattle.regions.specs.declared.run.Run.{Run}
+use Rattle.regions.specs.Run.{IsRun, attr_in, joins, joined, changed, cut}
+use Rattle.regions.specs.RunList.{or_else}
+use Rattle.regions.proofs.AttrLemmas.{attr_after-add, backing_fits-after, backing_fits-joined, backing_fits-less, attr_eq-true}
+
+-- where a page lies
+pub data Side (run : Run) (page : ℕ) : Type 0 where
+  below : page < run.first → Side run page
+  inside : run.first ≤ page → page < run.end → Side run page
+  above : run.end ≤ page → Side run page
+
+pub lt_or_le : (a b : ℕ) → (a < b) ⊎ (b ≤ a)
+lt_or_le a b = ⊎_elim (λ t. inr t.1) (λ f. inl f.1) (leb_tells b a)
+
+pub side : (run : Run) (page : ℕ) → Side run page
+side run page =
+    ⊎_elim (λ h. below h) (λ l. ⊎_elim (λ h. inside l h) (λ h. above h) (lt_or_le page run.end)) (lt_or_le page run.first)
+
+pub leb-no : (a b : ℕ) → b < a → leb a b ≡ false
+leb-no a b h = grind (arith, nat_tests)
+
+pub ltb-no : (a b : ℕ) → b ≤ a → ltb a b ≡ false
+ltb-no a b h = grind (arith, nat_tests)
+
+and-no : (b : Bool) → (b && false) ≡ false
+and-no true = refl
+and-no false = refl
+
+-- a row's test
+pub row_inside : (low high page : ℕ) → low ≤ page → page < high → (leb low page && ltb page high) ≡ true
+row_inside low high page a b = rw (le-leb low page a, lt-ltb page high b)
+
+pub row_below : (low high page : ℕ) → page < low → (leb low page && ltb page high) ≡ false
+row_below low high page h = rw (leb-no low page h)
+
+pub row_above : (low high page : ℕ) → high ≤ page → (leb low page && ltb page high) ≡ false
+row_above low high page h = rw (ltb-no page high h) (and-no (leb low page))
+
+pub attr_in-inside : (run : Run) (page : ℕ) → run.first ≤ page → page < run.end → attr_in run page ≡ Some (attr_after run.attr (page - run.first))
+attr_in-inside run page a b = rw (row_inside run.first run.end page a b)
+
+pub attr_in-below : (run : Run) (page : ℕ) → page < run.first → attr_in run page ≡ None
+attr_in-below run page h = rw (row_below run.first run.end page h)
+
+pub attr_in-above : (run : Run) (page : ℕ) → run.end ≤ page → attr_in run page ≡ None
+attr_in-above run page h = rw (row_above run.first run.end page h)
+
+-- no page is of two runs, where one ends before the other
+pub apart : (run next : Run) (page : ℕ) → run.end ≤ next.first → (attr_in run page ≡ None) ⊎ (attr_in next page ≡ None)
+apart run next page h =
+    ⊎_elim (λ b. inr (attr_in-below next page (omega arith))) (λ l. inl (attr_in-above run page l)) (lt_or_le page run.end)
+
+pub or_else-none : (o : Option Attr) → or_else o None ≡ o
+or_else-none None = refl
+or_else-none (Some a) = refl
+
+pub or_else-swap : (a b o : Option Attr) → (a ≡ None) ⊎ (b ≡ None) → or_else a (or_else b o) ≡ or_else b (or_else a o)
+or_else-swap a b o h = ⊎_elim (λ e. rw e) (λ e. rw e) h
+
+pub record Joins (run next : Run) : Type 0 where
+  pub touches : run.end ≡ next.first
+  pub goes_on : attr_after run.attr (run.end - run.first) ≡ next.attr
+
+pub joins-true : (run next : Run) → joins run next ≡ true → Joins run next
+joins-true run next e =
+    let parts = and_parts (run.end == next.first) (attr_eq (attr_after run.attr (run.end - run.first)) next.attr) e in
+    record {
+      touches = eqb-true run.end next.first parts.0;
+      goes_on = attr_eq-true (attr_after run.attr (run.end - run.first)) next.attr parts.1;
+    }
+
+pub joined-run : (run next : Run) → IsRun run → IsRun next → Joins run next → IsRun (joined run next)
+joined-run run next r n j =
+    let t : run.end ≡ next.first = j.touches in
+    let a : run.first < run.end = r.nonempty in
+    let b : next.first < next.end = n.nonempty in
+    let split : (run.end - run.first) + (next.end - next.first) ≡ next.end - run.first = omega arith in
+    let fits : backing_fits (backing_after run.attr.backing (run.end - run.first)) (next.end - next.first) =
+    subst (λ (x : Attr). backing_fits x.backing (next.end - next.first)) (sym j.goes_on) n.file_pages in
+    record {
+      low = r.low;
+      nonempty = omega arith;
+      high = n.high;
+      file_pages = subst (λ (m : ℕ). backing_fits run.attr.backing m) split (backing_fits-joined run.attr.backing (run.end - run.first) (next.end - next.first) fits);
+    }
+
+after_joined : (run next : Run) (page : ℕ) → run.first < run.end → Joins run next → run.end ≤ page → attr_after next.attr (page - next.first) ≡ attr_after run.attr (page - run.first)
+after_joined run next page r j h =
+    let t : run.end ≡ next.first = j.touches in
+    let d : (run.end - run.first) + (page - next.first) ≡ page - run.first = omega arith in
+    ap (λ (a : Attr). attr_after a (page - next.first)) (sym j.goes_on) ∙ attr_after-add run.attr (run.end - run.first) (page - next.first) ∙ ap (λ (m : ℕ). attr_after run.attr m) d
+
+pub attr_in-joined : (run next : Run) (page : ℕ) → run.first < run.end → next.first < next.end → Joins run next → attr_in (joined run next) page ≡ or_else (attr_in next page) (attr_in run page)
+attr_in-joined run next page r n j =
+    let t : run.end ≡ next.first = j.touches in
+    elim (side run page) [
+      | below h ↦ rw (attr_in-below (joined run next) page h, attr_in-below next page (omega arith), attr_in-below run page h)
+      | inside l h ↦ rw (attr_in-inside (joined run next) page l (omega arith), attr_in-below next page (omega arith), attr_in-inside run page l h)
+      | above h ↦ ⊎_elim
+          (λ (k : page < next.end). rw (attr_in-inside (joined run next) page (omega arith) k, attr_in-inside next page (omega arith) k, after_joined run next page r j h))
+          (λ (k : next.end ≤ page). rw (attr_in-above (joined run next) page k, attr_in-above next page k, attr_in-above run page h))
+          (lt_or_le page next.end)
+    ]
+
+-- a list's attributes between two pages, changed
+abbrev pub clipped : ℕ → ℕ → Option Prot → ℕ → Option Attr → Option Attr
+clipped low high prot page attr = if leb low page && ltb page high then option_map (changed prot) attr else None
+
+pub clipped-inside : (low high : ℕ) (prot : Option Prot) (page : ℕ) (attr : Option Attr) → low ≤ page → page < high → clipped low high prot page attr ≡ option_map (changed prot) attr
+clipped-inside low high prot page attr a b = rw (row_inside low high page a b)
+
+pub clipped-below : (low high : ℕ) (prot : Option Prot) (page : ℕ) (attr : Option Attr) → page < low → clipped low high prot page attr ≡ None
+clipped-below low high prot page attr h = rw (row_below low high page h)
+
+pub clipped-above : (low high : ℕ) (prot : Option Prot) (page : ℕ) (attr : Option Attr) → high ≤ page → clipped low high prot page attr ≡ None
+clipped-above low high prot page attr h = rw (row_above low high page h)
+
+cond_none : (b : Bool) → (if b then (let n : Option Attr = None in n) else None) ≡ None
+cond_none true = refl
+cond_none false = refl
+
+pub clipped-none : (low high : ℕ) (prot : Option Prot) (page : ℕ) → clipped low high prot page None ≡ None
+clipped-none low high prot page = cond_none (leb low page && ltb page high)
+
+pub clipped-or : (low high : ℕ) (prot : Option Prot) (page : ℕ) (a b o : Option Attr) → (a ≡ None) ⊎ (b ≡ None) → or_else (clipped low high prot page b) (or_else (clipped low high prot page a) o) ≡ or_else (clipped low high prot page (or_else a b)) o
+clipped-or low high prot page None b o h =
+    ap (λ (x : Option Attr). or_else (clipped low high prot page b) (or_else x o)) (clipped-none low high prot page)
+clipped-or low high prot page (Some a) b o h =
+    ⊎_elim
+    (λ (e : Some a ≡ None). cc)
+    (λ (e : b ≡ None).
+    ap (λ (x : Option Attr). or_else x (or_else (clipped low high prot page (Some a)) o)) (ap (λ (x : Option Attr). clipped low high prot page x) e ∙ clipped-none low high prot page))
+    h
+
+pub changed-none : (o : Option Attr) → option_map (changed None) o ≡ o
+changed-none None = refl
+changed-none (Some a) = refl
+
+abbrev pub attr_in_part : Option Run → ℕ → Option Attr
+attr_in_part None page = None
+attr_in_part (Some run) page = attr_in run page
+
+-- the part is a run of its own
+pub record IsPart (low high : ℕ) (run part : Run) : Type 0 where
+  pub is_run : IsRun part
+  pub first : part.first ≡ max run.first low
+  pub end : part.end ≤ run.end
+  pub within : part.end ≤ high
+
+pub cut-run : (low high : ℕ) (prot : Option Prot) (run : Run) → IsRun run → max run.first low < min run.end high → IsPart low high run (cut prot run (max run.first low) (min run.end high))
+cut-run low high prot run r h =
+    let low_ok : 16 ≤ run.first = r.low in
+    let high_ok : run.end ≤ 2 ^ 26 = r.high in
+    let fits : backing_fits run.attr.backing ((max run.first low - run.first) + (min run.end high - max run.first low)) =
+    backing_fits-less run.attr.backing ((max run.first low - run.first) + (min run.end high - max run.first low)) (run.end - run.first) (omega arith) r.file_pages in
+    record {
+      is_run = record {
+        low = omega arith;
+        nonempty = h;
+        high = omega arith;
+        file_pages = backing_fits-after run.attr.backing (max run.first low - run.first) (min run.end high - max run.first low) fits;
+      };
+      first = refl;
+      end = omega arith;
+      within = omega arith;
+    }
+
+clipped_outside : (low high : ℕ) (prot : Option Prot) (run : Run) (page : ℕ) → (page < max run.first low) ⊎ (min run.end high ≤ page) → clipped low high prot page (attr_in run page) ≡ None
+clipped_outside low high prot run page h =
+    ⊎_elim
+    (λ (a : page < max run.first low). ⊎_elim
+    (λ (b : page < low). clipped-below low high prot page (attr_in run page) b)
+    (λ (b : low ≤ page). rw (attr_in-below run page (omega arith)) (clipped-none low high prot page))
+    (lt_or_le page low))
+    (λ (a : min run.end high ≤ page). ⊎_elim
+    (λ (b : page < high). rw (attr_in-above run page (omega arith)) (clipped-none low high prot page))
+    (λ (b : high ≤ page). clipped-above low high prot page (attr_in run page) b)
+    (lt_or_le page high))
+    h
+
+cut_inside : (low high : ℕ) (prot : Option Prot) (run : Run) (page : ℕ) → max run.first low ≤ page → page < min run.end high → attr_in (cut prot run (max run.first low) (min run.end high)) page ≡ clipped low high prot page (attr_in run page)
+cut_inside low high prot run page a b =
+    let m : ℕ = max run.first low in
+    let d : (max run.first low - run.first) + (page - max run.first low) ≡ page - run.first = omega arith in
+    let left : attr_in (cut prot run (max run.first low) (min run.end high)) page ≡ Some (changed prot (attr_after (attr_after run.attr (max run.first low - run.first)) (page - max run.first low))) =
+    attr_in-inside (cut prot run (max run.first low) (min run.end high)) page a b in
+    let middle : attr_after (attr_after run.attr (max run.first low - run.first)) (page - max run.first low) ≡ attr_after run.attr (page - run.first) =
+    attr_after-add run.attr (max run.first low - run.first) (page - max run.first low) ∙ ap (λ (k : ℕ). attr_after run.attr k) d in
+    let right : clipped low high prot page (Some (attr_after run.attr (page - run.first))) ≡ Some (changed prot (attr_after run.attr (page - run.first))) =
+    clipped-inside low high prot page (Some (attr_after run.attr (page - run.first))) (omega arith) (omega arith) in
+    let whole : attr_in run page ≡ Some (attr_after run.attr (page - run.first)) = attr_in-inside run page (omega arith) (omega arith) in
+    left ∙ ap (λ (x : Attr). Some (changed prot x)) middle ∙ sym right ∙ ap (λ (o : Option Attr). clipped low high prot page o) (sym whole)
+
+pub attr_in-cut : (low high : ℕ) (prot : Option Prot) (run : Run) (page : ℕ) → attr_in (cut prot run (max run.first low) (min run.end high)) page ≡ clipped low high prot page (attr_in run page)
+attr_in-cut low high prot run page =
+    ⊎_elim
+    (λ (a : page < max run.first low). attr_in-below (cut prot run (max run.first low) (min run.end high)) page a ∙ sym (clipped_outside low high prot run page (inl a)))
+    (λ (a : max run.first low ≤ page). ⊎_elim
+    (λ (b : page < min run.end high). cut_inside low high prot run page a b)
+    (λ (b : min run.end high ≤ page). attr_in-above (cut prot run (max run.first low) (min run.end high)) page b ∙ sym (clipped_outside low high prot run page (inr b)))
+    (lt_or_le page (min run.end high)))
+    (lt_or_le page (max run.first low))
+
+-- where the part is empty
+pub clipped-empty : (low high : ℕ) (prot : Option Prot) (run : Run) (page : ℕ) → min run.end high ≤ max run.first low → clipped low high prot page (attr_in run page) ≡ None
+clipped-empty low high prot run page h =
+    ⊎_elim
+    (λ (a : page < max run.first low). clipped_outside low high prot run page (inl a))
+    (λ (a : max run.first low ≤ page). clipped_outside low high prot run page (inr (omega arith)))
+    (lt_or_le page (max run.first low))

@@ -1,0 +1,116 @@
+-- What is public of a list's map: where it is mapped, and what a walk over its runs finds.
+use Rattle.std.proofs.Common.{◌≡◌, ℕ, ◌+◌, ◌-◌, ◌^◌, ◌<◌, ◌≤◌, ⊎_elim, max, min, Bool, true, false, if◌then◌else◌, ltb, refl, sym, ◌∙◌, ap, subst, arith, List, [], ◌∷◌, Option, Some, None, IsSome, IfSome, IfNone, ltb-true, ltb-false}
+use Rattle.vm_types.specs.declared.region.Attr.{Attr}
+use Rattle.vm_types.specs.Attributes.{attr_after, backing_fits}
+use Rattle.vm_types.specs.Rows.{IsUserMap}
+use Rattle.regions.specs.declared.run.Run.{Run}
+use Rattle.regions.specs.Run.{IsRun, attr_in, cut}
+use Rattle.regions.specs.RunList.{or_else, attr_at, IsMaximal, IsNextRun}
+use Rattle.regions.specs.Search.{first_part, run_or}
+use Rattle.regions.proofs.AttrLemmas.{backing_fits-after, backing_fits-less}
+use Rattle.regions.proofs.RunLemmas.{lt_or_le, attr_in-inside, attr_in-below, attr_in-above, attr_in-cut, clipped-inside, changed-none, IsPart, cut-run}
+use Rattle.regions.proofs.ListLemmas.{attr_at-before}
+
+-- only user pages are mapped
+
+abbrev IsUserAttr : ℕ → Option Attr → Type 0
+IsUserAttr page o = (IsSome o → (16 ≤ page) × (page < 2 ^ 26)) × IfSome o (λ attr. backing_fits attr.backing 1)
+
+some_none : IsSome {T = Attr} None → ⊥
+some_none h = cc
+
+user_none : (page : ℕ) → IsUserAttr page None
+user_none page = (λ h. absurd (some_none h), tt)
+
+user_inside : (run : Run) (page : ℕ) → IsRun run → run.first ≤ page → page < run.end → IsUserAttr page (Some (attr_after run.attr (page - run.first)))
+user_inside run page r a b =
+    let low : 16 ≤ run.first = r.low in
+    let high : run.end ≤ 2 ^ 26 = r.high in
+    let fits : backing_fits run.attr.backing ((page - run.first) + 1) = backing_fits-less run.attr.backing ((page - run.first) + 1) (run.end - run.first) (omega arith) r.file_pages in
+    (λ _. (omega arith, omega arith), backing_fits-after run.attr.backing (page - run.first) 1 fits)
+
+user_in : (run : Run) (page : ℕ) → IsRun run → IsUserAttr page (attr_in run page)
+user_in run page r =
+    ⊎_elim
+    (λ (a : page < run.first). subst (λ (o : Option Attr). IsUserAttr page o) (sym (attr_in-below run page a)) (user_none page))
+    (λ (a : run.first ≤ page). ⊎_elim
+    (λ (b : page < run.end). subst (λ (o : Option Attr). IsUserAttr page o) (sym (attr_in-inside run page a b)) (user_inside run page r a b))
+    (λ (b : run.end ≤ page). subst (λ (o : Option Attr). IsUserAttr page o) (sym (attr_in-above run page b)) (user_none page))
+    (lt_or_le page run.end))
+    (lt_or_le page run.first)
+
+user_or : (page : ℕ) (a b : Option Attr) → IsUserAttr page a → IsUserAttr page b → IsUserAttr page (or_else a b)
+user_or page None b ha hb = hb
+user_or page (Some x) b ha hb = ha
+
+user_at : (from : ℕ) (runs : List Run) (page : ℕ) → IsMaximal from runs → IsUserAttr page (attr_at runs page)
+user_at from [] page m = user_none page
+user_at from (run ∷ runs) page m =
+    user_or page (attr_in run page) (attr_at runs page) (user_in run page m.1) (user_at run.end runs page m.3)
+
+pub user_map : (runs : List Run) → IsMaximal 16 runs → IsUserMap (attr_at runs)
+user_map runs m = record { user_pages = λ page. (user_at 16 runs page m).0; file_pages = λ page. (user_at 16 runs page m).1 }
+
+-- a walk's next run
+
+-- whether the part is the next run of the map, or no page is mapped from the page on
+abbrev pub IsNext : (ℕ → Option Attr) → ℕ → Option Run → Type 0
+IsNext map page None = (k : ℕ) → page ≤ k → map k ≡ None
+IsNext map page (Some run) = IsNextRun map page run
+
+next_here : (page : ℕ) (run : Run) (runs : List Run) → IsRun run → IsMaximal run.end runs → max run.first page < min run.end (2 ^ 26) → IsNextRun (attr_at (run ∷ runs)) page (cut None run (max run.first page) (min run.end (2 ^ 26)))
+next_here page run runs r rest h =
+    let part : IsPart page (2 ^ 26) run (cut None run (max run.first page) (min run.end (2 ^ 26))) = cut-run page (2 ^ 26) None run r h in
+    let high : run.end ≤ 2 ^ 26 = r.high in
+    let low : 16 ≤ run.first = r.low in
+    let some : run.first < run.end = r.nonempty in
+    record {
+      from = omega arith;
+      low = omega arith;
+      nonempty = h;
+      high = omega arith;
+      none_before = λ k a b.
+          ap (λ (o : Option Attr). or_else o (attr_at runs k)) (attr_in-below run k (omega arith))
+          ∙ attr_at-before run.end runs k rest (omega arith);
+      mapped = λ k a b.
+          let same : attr_in run k ≡ Some (attr_after (cut None run (max run.first page) (min run.end (2 ^ 26))).attr (k - max run.first page)) =
+          sym (changed-none (attr_in run k))
+          ∙ sym (clipped-inside page (2 ^ 26) None k (attr_in run k) (omega arith) (omega arith))
+          ∙ sym (attr_in-cut page (2 ^ 26) None run k)
+          ∙ attr_in-inside (cut None run (max run.first page) (min run.end (2 ^ 26))) k a b in
+          ap (λ (o : Option Attr). or_else o (attr_at runs k)) same;
+    }
+
+next_later : (page : ℕ) (run : Run) (runs : List Run) (next : Option Run) → run.end ≤ page → IsNext (attr_at runs) page next → IsNext (attr_at (run ∷ runs)) page next
+next_later page run runs None h n = λ k a. ap (λ (o : Option Attr). or_else o (attr_at runs k)) (attr_in-above run k (omega arith)) ∙ n k a
+next_later page run runs (Some next) h n =
+    let from : page ≤ next.first = n.from in
+    record {
+      from = from;
+      low = n.low;
+      nonempty = n.nonempty;
+      high = n.high;
+      none_before = λ k a b. ap (λ (o : Option Attr). or_else o (attr_at runs k)) (attr_in-above run k (omega arith)) ∙ n.none_before k a b;
+      mapped = λ k a b. ap (λ (o : Option Attr). or_else o (attr_at runs k)) (attr_in-above run k (omega arith)) ∙ n.mapped k a b;
+    }
+
+next_test : (page : ℕ) (run : Run) (runs : List Run) (b : Bool) → ltb (max run.first page) (min run.end (2 ^ 26)) ≡ b → IsRun run → IsMaximal run.end runs → IsNext (attr_at runs) page (first_part page runs) → IsNext (attr_at (run ∷ runs)) page (run_or (if b then Some (cut None run (max run.first page) (min run.end (2 ^ 26))) else None) (first_part page runs))
+next_test page run runs true e r rest n = next_here page run runs r rest (ltb-true (max run.first page) (min run.end (2 ^ 26)) e)
+next_test page run runs false e r rest n =
+    let empty : min run.end (2 ^ 26) ≤ max run.first page = ltb-false (max run.first page) (min run.end (2 ^ 26)) e in
+    let high : run.end ≤ 2 ^ 26 = r.high in
+    let some : run.first < run.end = r.nonempty in
+    next_later page run runs (first_part page runs) (omega arith) n
+
+pub first_part-is : (from page : ℕ) (runs : List Run) → IsMaximal from runs → IsNext (attr_at runs) page (first_part page runs)
+first_part-is from page [] m = λ k a. refl
+first_part-is from page (run ∷ runs) m =
+    next_test page run runs (ltb (max run.first page) (min run.end (2 ^ 26))) refl m.1 m.3 (first_part-is run.end page runs m.3)
+
+pub next_none : (map : ℕ → Option Attr) (page : ℕ) (o : Option Run) → IsNext map page o → IfNone o ((k : ℕ) → page ≤ k → map k ≡ None)
+next_none map page None n = n
+next_none map page (Some run) n = tt
+
+pub next_some : (map : ℕ → Option Attr) (page : ℕ) (o : Option Run) → IsNext map page o → IfSome o (λ run. IsNextRun map page run)
+next_some map page None n = tt
+next_some map page (Some run) n = n

@@ -1,0 +1,19 @@
+use Rattle.std.proofs.Common.{inl, inr, sym, ◌∙◌, arith}
+use Rattle.regions.specs.RunList.{attr_at}
+use Rattle.regions.proofs.SearchLemmas.{is_place-clear, is_place-not}
+use Rattle.regions.proofs.table.Regions.is_place.Goals as goal
+use Rattle.regions.proofs.table.Regions.is_place.Goals.{then-first-lt-USER_START-via-then-first-lt-USER_START, then-first-lt-USER_START-via-else-first-lt-USER_START+then-first-gt-USER_END, then-first-lt-USER_START-via-else-first-lt-USER_START+else-first-gt-USER_END+then-pages-first}
+
+pub returns-then-first-lt-USER_START : goal.returns-then-first-lt-USER_START
+returns-then-first-lt-USER_START c =
+    sym (is_place-not (attr_at c.args.self.now) c.args.pages c.args.first
+    (elim c.then-first-lt-USER_START.branch [
+      | then-first-lt-USER_START-via-then-first-lt-USER_START w ↦ inl (omega arith)
+      | then-first-lt-USER_START-via-else-first-lt-USER_START+then-first-gt-USER_END w ↦ inr (omega arith)
+      | then-first-lt-USER_START-via-else-first-lt-USER_START+else-first-gt-USER_END+then-pages-first w ↦ inr (omega arith)
+    ]))
+
+pub returns : goal.returns
+returns c =
+    c.is_clear.ensures.clear
+    ∙ sym (is_place-clear c.args.self.now c.args.pages c.args.first c.is_clear.ensures.maximal c.requires (omega arith) (omega arith))

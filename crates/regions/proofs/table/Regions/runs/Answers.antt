@@ -1,0 +1,9 @@
+use Rattle.std.proofs.Common.{List, length, sym, ◌∙◌, ap}
+use Rattle.regions.specs.declared.run.Run.{Run}
+use Rattle.regions.proofs.CountLemmas.{run_count-maximal}
+use Rattle.regions.proofs.table.Regions.runs.Goals as goal
+
+pub returns-clause-count : goal.returns-clause-count
+returns-clause-count c =
+    ap (λ (l : List Run). length l) c.as_slice.ensures.runs
+    ∙ sym (run_count-maximal c.args.self.now c.as_slice.ensures.maximal)

@@ -1,0 +1,61 @@
+//! Attributes of pages that follow one another.
+ghost use Rattle.std.specs.Prelude.{◌≡◌, ◌+◌, ◌<◌, ◌^◌};
+ghost use Rattle.vm_types.specs.Attributes.{attr_after, attr_eq, backing_after, backing_eq, backing_fits, file_page_after, file_page_eq};
+
+use vm_types::{Attr, Backing, FilePage};
+
+/// The file page `count` pages further on.
+fn file_page_after(page: FilePage, count: u64) -> FilePage
+    requires { page.page + count < 2 ^ 32 }
+    ensures { result ≡ file_page_after page count }
+{
+    FilePage {
+        file: page.file,
+        page: page.page + count as u32,
+    }
+}
+
+/// What the page `count` pages further on is.
+pub(crate) fn attr_after(attr: Attr, count: u64) -> Attr
+    requires { backing_fits attr.backing (count + 1) }
+    ensures { result ≡ attr_after attr count }
+{
+    let backing = match attr.backing {
+        Backing::Anon => Backing::Anon,
+        Backing::Private(page) => Backing::Private(file_page_after(page, count)),
+        Backing::Shared(page) => Backing::Shared(file_page_after(page, count)),
+    };
+    Attr {
+        prot: attr.prot,
+        backing,
+    }
+}
+
+/// Whether `next` is the file page `count` pages further on than `page`.
+fn file_page_follows(page: FilePage, count: u64, next: FilePage) -> bool
+    requires { count < 2 ^ 32 }
+    ensures { result ≡ file_page_eq (file_page_after page count) next }
+{
+    page.file == next.file && page.page as u64 + count == next.page as u64
+}
+
+/// Whether `next` stands behind the page `count` pages further on than `backing`'s.
+fn backing_follows(backing: Backing, count: u64, next: Backing) -> bool
+    requires { count < 2 ^ 32 }
+    ensures { result ≡ backing_eq (backing_after backing count) next }
+{
+    match (backing, next) {
+        (Backing::Anon, Backing::Anon) => true,
+        (Backing::Private(page), Backing::Private(next)) => file_page_follows(page, count, next),
+        (Backing::Shared(page), Backing::Shared(next)) => file_page_follows(page, count, next),
+        _ => false,
+    }
+}
+
+/// Whether `next` is what the page `count` pages further on than `attr`'s would be.
+pub(crate) fn attr_follows(attr: Attr, count: u64, next: Attr) -> bool
+    requires { count < 2 ^ 32 }
+    ensures { result ≡ attr_eq (attr_after attr count) next }
+{
+    attr.prot == next.prot && backing_follows(attr.backing, count, next.backing)
+}

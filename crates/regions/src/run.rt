@@ -1,0 +1,59 @@
+//! One run, and its part between two pages.
+ghost use Rattle.std.specs.Prelude.{◌≡◌};
+
+use crate::attributes::{attr_after, attr_follows};
+use vm_types::{Attr, Prot};
+
+/// The pages from `first` up to, not including, `end`. The first one's attributes are `attr`; file pages follow one
+/// another.
+#[derive(Clone, Copy, Debug)]
+pub struct Run {
+    pub first: u64,
+    pub end: u64,
+    pub attr: Attr,
+}
+
+impl Run {
+    ghost use Rattle.regions.specs.Run.{IsRun, part_of, joins, attr_in};
+
+    /// What the page is; `None` where it isn't of this run.
+    pub(crate) fn at(&self, page: u64) -> Option<Attr>
+        requires { IsRun self.now }
+        ensures { result ≡ attr_in self.now page }
+    {
+        if self.first <= page && page < self.end {
+            Some(attr_after(self.attr, page - self.first))
+        } else {
+            None
+        }
+    }
+
+    /// Whether `next` begins where this run ends, and goes on with it.
+    pub(crate) fn joins(&self, next: Run) -> bool
+        requires { IsRun self.now }
+        ensures { result ≡ joins self.now next }
+    {
+        self.end == next.first && attr_follows(self.attr, self.end - self.first, next.attr)
+    }
+
+    /// The part between `low` and `high`, with the permission `prot` where one is given; `None` where that is empty.
+    pub(crate) fn part(&self, low: u64, high: u64, prot: Option<Prot>) -> Option<Run>
+        requires { IsRun self.now }
+        ensures { result ≡ part_of low high prot self.now }
+    {
+        let first = self.first.max(low);
+        let end = self.end.min(high);
+        if first >= end {
+            return None;
+        }
+        let attr = attr_after(self.attr, first - self.first);
+        Some(Run {
+            first,
+            end,
+            attr: Attr {
+                prot: prot.unwrap_or(attr.prot),
+                backing: attr.backing,
+            },
+        })
+    }
+}

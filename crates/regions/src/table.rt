@@ -1,0 +1,358 @@
+//! The table of runs, and the calls on it.
+ghost use Rattle.std.specs.Prelude.{◌≡◌, ◌+◌, ◌^◌, ◌<◌, ◌≤◌, ℕ, Some, None, IfNone, IfOk, IfSome, OnOk, OnErr, [], length, max};
+
+use crate::RUNS;
+use crate::run::Run;
+use std::marker::Model;
+use vm_types::{Attr, Backing, Prot, TooManyRuns, Vpn};
+
+/// The first user page.
+const USER_START: u64 = 16;
+
+/// The first page past the user pages.
+const USER_END: u64 = 1 << 26;
+
+/// Bytes of a page.
+const PAGE_BYTES: u64 = vm_types::PAGE_BYTES as u64;
+
+/// A map from user pages to attributes of at most 256 runs. Contracts see it through `attr_at`, as that map.
+#[derive(Debug, Drop)]
+pub struct Regions {
+    runs: [Run; RUNS],
+    len: usize,
+}
+
+impl Model for Regions {
+    ghost use Rattle.std.specs.Prelude.{ℕ, ◌≤◌, ◌≡◌, List, length, take};
+    ghost use Rattle.regions.specs.declared.run.Run.{Run};
+
+    ghost Value = { List Run };
+
+    ghost use Rattle.regions.specs.RunList.{IsMaximal};
+
+    ghost view = { λ r. take r.len r.runs };
+
+    ghost invariant = { λ r. (r.len ≤ 256) × (length r.runs ≡ 256) × IsMaximal 16 (take r.len r.runs) };
+}
+
+impl Regions {
+    ghost use Rattle.vm_types.specs.Attributes.{backing_fits};
+    ghost use Rattle.vm_types.specs.Placement.{is_place, placed};
+    ghost use Rattle.vm_types.specs.Rows.{IsUserMap, is_covered, protected, removed, replaced};
+    ghost use Rattle.vm_types.specs.Runs.{run_count};
+    ghost use Rattle.regions.specs.Run.{IsRun};
+    ghost use Rattle.regions.specs.RunList.{attr_at, end_of, IsMaximal, IsNextRun, joins_last, list_protected, list_removed, list_replaced, pasted, pushed};
+    ghost use Rattle.regions.specs.Search.{first_part, gap_from, is_clear, lowest_gap};
+
+    /// No page is mapped.
+    pub fn new() -> Regions
+        ensures empty { (page : ℕ) → attr_at result page ≡ None }
+        ensures user { IsUserMap (attr_at result) }
+    {
+        Regions::empty()
+    }
+
+    /// The table without a run.
+    fn empty() -> Regions
+        ensures { result ≡ [] }
+    {
+        let unused = Run {
+            first: 0,
+            end: 0,
+            attr: Attr {
+                prot: Prot::READ,
+                backing: Backing::Anon,
+            },
+        };
+        Regions {
+            runs: [unused; RUNS],
+            len: 0,
+        }
+    }
+
+    /// The runs in order.
+    fn as_slice(&self) -> &[Run]
+        ensures runs { result.now ≡ self.now }
+        ensures maximal { IsMaximal 16 self.now }
+        ensures room { length self.now ≤ 256 }
+    {
+        &self.runs[..self.len]
+    }
+
+    /// How many runs the map has, at most 256.
+    pub fn runs(&self) -> usize
+        ensures count { result ≡ run_count (attr_at self.now) }
+        ensures limit { result ≤ 256 }
+    {
+        self.as_slice().len()
+    }
+
+    /// What the page is; `None` where it isn't mapped.
+    pub fn at(&self, page: Vpn) -> Option<Attr>
+        ensures value { result ≡ attr_at self.now page }
+        ensures user { IsUserMap (attr_at self.now) }
+    {
+        let page = page.get();
+        for run in self.as_slice() {
+            if let Some(attr) = run.at(page) {
+                return Some(attr);
+            }
+        }
+        None
+    }
+
+    /// The pages of one run that come first from `page` on, which may be the rest of a run: so a caller walks over
+    /// the mapped pages of a row in at most 256 steps. `None` exactly where no page from `page` on is mapped.
+    pub fn next_run(&self, page: u64) -> Option<Run>
+        ensures none { IfNone result ((k : ℕ) → page ≤ k → attr_at self.now k ≡ None) }
+        ensures some { IfSome result (IsNextRun (attr_at self.now) page) }
+    {
+        self.first_part(page)
+    }
+
+    /// The part from the page on of the first run that has one.
+    fn first_part(&self, page: u64) -> Option<Run>
+        ensures part { result ≡ first_part page self.now }
+        ensures maximal { IsMaximal 16 self.now }
+    {
+        for run in self.as_slice() {
+            if let Some(part) = run.part(page, USER_END, None) {
+                return Some(part);
+            }
+        }
+        None
+    }
+
+    /// Whether each of the `pages` pages from `first` on is mapped.
+    pub fn covers(&self, first: u64, pages: u64) -> bool
+        requires { first + pages < 2 ^ 64 }
+        ensures { result ≡ is_covered (attr_at self.now) first pages }
+    {
+        self.gap_from(first) >= first + pages
+    }
+
+    /// The first page from this one on that isn't mapped.
+    fn gap_from(&self, page: u64) -> u64
+        ensures gap { result ≡ gap_from page self.now }
+        ensures maximal { IsMaximal 16 self.now }
+    {
+        let mut gap = page;
+        for run in self.as_slice() {
+            if gap < run.first {
+                return gap;
+            }
+            gap = gap.max(run.end);
+        }
+        gap
+    }
+
+    /// Where a mapping of `pages` pages goes: to the page of `address`, where that isn't 0 and the pages from there on
+    /// are free user pages, else to the lowest free row of that many user pages; `None` where there is none.
+    pub fn place(&self, address: u64, pages: u64) -> Option<Vpn>
+        requires { 0 < pages }
+        ensures { result ≡ placed (attr_at self.now) address pages }
+    {
+        let hint = address / PAGE_BYTES;
+        if address != 0 && self.is_place(hint, pages) {
+            return Vpn::new(hint);
+        }
+        self.lowest_gap(pages)
+    }
+
+    /// Whether the `pages` pages from `first` on are free user pages.
+    fn is_place(&self, first: u64, pages: u64) -> bool
+        requires { 0 < pages }
+        ensures { result ≡ is_place (attr_at self.now) pages first }
+    {
+        if first < USER_START || first > USER_END || pages > USER_END - first {
+            return false;
+        }
+        self.is_clear(first, first + pages)
+    }
+
+    /// Whether no run has a page from `first` up to, not including, `end`.
+    fn is_clear(&self, first: u64, end: u64) -> bool
+        ensures clear { result ≡ is_clear first end self.now }
+        ensures maximal { IsMaximal 16 self.now }
+    {
+        for run in self.as_slice() {
+            if run.first < end && first < run.end {
+                return false;
+            }
+        }
+        true
+    }
+
+    /// The lowest page where `pages` pages lie between two runs or behind the last.
+    fn lowest_gap(&self, pages: u64) -> Option<Vpn>
+        requires { 0 < pages }
+        ensures place { result ≡ lowest_gap pages 16 self.now }
+        ensures maximal { IsMaximal 16 self.now }
+    {
+        let mut start = USER_START;
+        for run in self.as_slice() {
+            if pages <= run.first - start {
+                return Vpn::new(start);
+            }
+            start = run.end;
+        }
+        if pages <= USER_END - start {
+            Vpn::new(start)
+        } else {
+            None
+        }
+    }
+
+    /// Maps the `pages` pages from `first` on anew, the first one as `attr`, file pages following one another.
+    /// `TooManyRuns` exactly where more than 256 runs would result; then nothing is changed.
+    pub fn replace(&mut self, first: u64, pages: u64, attr: Attr) -> Result<(), TooManyRuns>
+        requires some { 0 < pages }
+        requires low { 16 ≤ first }
+        requires high { first + pages ≤ 2 ^ 26 }
+        requires file_pages { backing_fits attr.backing pages }
+        ensures ok { OnOk result ((page : ℕ) → attr_at self.new page ≡ replaced (attr_at self.old) first pages attr page) }
+        ensures few { OnOk result (run_count (replaced (attr_at self.old) first pages attr) ≤ 256) }
+        ensures too_many { OnErr result (256 < run_count (replaced (attr_at self.old) first pages attr)) }
+        ensures err { OnErr result (self.new ≡ self.old) }
+        ensures user { IsUserMap (attr_at self.new) }
+    {
+        let run = Run {
+            first,
+            end: first + pages,
+            attr,
+        };
+        let next = self.replaced(run)?;
+        *self = next;
+        Ok(())
+    }
+
+    /// Unmaps the `pages` pages from `first` on; a page that isn't mapped is no error.
+    /// `TooManyRuns` exactly where more than 256 runs would result; then nothing is changed.
+    pub fn remove(&mut self, first: u64, pages: u64) -> Result<(), TooManyRuns>
+        requires some { 0 < pages }
+        requires row { first + pages < 2 ^ 64 }
+        ensures ok { OnOk result ((page : ℕ) → attr_at self.new page ≡ removed (attr_at self.old) first pages page) }
+        ensures few { OnOk result (run_count (removed (attr_at self.old) first pages) ≤ 256) }
+        ensures too_many { OnErr result (256 < run_count (removed (attr_at self.old) first pages)) }
+        ensures err { OnErr result (self.new ≡ self.old) }
+        ensures user { IsUserMap (attr_at self.new) }
+    {
+        let next = self.removed(first, first + pages)?;
+        *self = next;
+        Ok(())
+    }
+
+    /// Gives those of the `pages` pages from `first` on that are mapped the permission.
+    /// `TooManyRuns` exactly where more than 256 runs would result; then nothing is changed.
+    pub fn protect(&mut self, first: u64, pages: u64, prot: Prot) -> Result<(), TooManyRuns>
+        requires some { 0 < pages }
+        requires row { first + pages < 2 ^ 64 }
+        ensures ok { OnOk result ((page : ℕ) → attr_at self.new page ≡ protected (attr_at self.old) first pages prot page) }
+        ensures few { OnOk result (run_count (protected (attr_at self.old) first pages prot) ≤ 256) }
+        ensures too_many { OnErr result (256 < run_count (protected (attr_at self.old) first pages prot)) }
+        ensures err { OnErr result (self.new ≡ self.old) }
+        ensures user { IsUserMap (attr_at self.new) }
+    {
+        let next = self.protected(first, first + pages, prot)?;
+        *self = next;
+        Ok(())
+    }
+
+    /// The runs with this one in the place of its pages.
+    fn replaced(&self, run: Run) -> Result<Regions, TooManyRuns>
+        requires { IsRun run }
+        ensures ok { IfOk result (λ next. next ≡ list_replaced self.now run) }
+        ensures few { IfOk result (λ next. length next ≤ 256) }
+        ensures maximal { IsMaximal 16 self.now }
+        ensures err { OnErr result (256 < length (list_replaced self.now run)) }
+    {
+        let mut next = Regions::empty();
+        next.paste(self.as_slice(), 0, run.first, None)?;
+        next.push(run)?;
+        next.paste(self.as_slice(), run.end, USER_END, None)?;
+        Ok(next)
+    }
+
+    /// The runs without the pages from `first` up to, not including, `end`.
+    fn removed(&self, first: u64, end: u64) -> Result<Regions, TooManyRuns>
+        requires { first ≤ end }
+        ensures ok { IfOk result (λ next. next ≡ list_removed self.now first end) }
+        ensures few { IfOk result (λ next. length next ≤ 256) }
+        ensures maximal { IsMaximal 16 self.now }
+        ensures err { OnErr result (256 < length (list_removed self.now first end)) }
+    {
+        let mut next = Regions::empty();
+        next.paste(self.as_slice(), 0, first, None)?;
+        next.paste(self.as_slice(), end, USER_END, None)?;
+        Ok(next)
+    }
+
+    /// The runs with another permission for the pages from `first` up to, not including, `end`.
+    fn protected(&self, first: u64, end: u64, prot: Prot) -> Result<Regions, TooManyRuns>
+        requires { first ≤ end }
+        ensures ok { IfOk result (λ next. next ≡ list_protected self.now first end prot) }
+        ensures few { IfOk result (λ next. length next ≤ 256) }
+        ensures maximal { IsMaximal 16 self.now }
+        ensures err { OnErr result (256 < length (list_protected self.now first end prot)) }
+    {
+        let mut next = Regions::empty();
+        next.paste(self.as_slice(), 0, first, None)?;
+        next.paste(self.as_slice(), first, end, Some(prot))?;
+        next.paste(self.as_slice(), end, USER_END, None)?;
+        Ok(next)
+    }
+
+    /// Puts the parts of `runs` between the pages `low` and `high` behind the others, with the permission `prot` where
+    /// one is given.
+    fn paste(
+        &mut self,
+        runs: &[Run],
+        low: u64,
+        high: u64,
+        prot: Option<Prot>,
+    ) -> Result<(), TooManyRuns>
+        requires maximal { IsMaximal 16 runs.now }
+        requires behind { end_of 16 self.old ≤ max low 16 }
+        requires few { length self.old ≤ 256 }
+        ensures ok { OnOk result (self.new ≡ pasted low high prot self.old runs.now) }
+        ensures few { OnOk result (length self.new ≤ 256) }
+        ensures err { OnErr result (256 < length (pasted low high prot self.old runs.now)) }
+    {
+        for run in runs {
+            if let Some(part) = run.part(low, high, prot) {
+                self.push(part)?;
+            }
+        }
+        Ok(())
+    }
+
+    /// Puts a run behind the others, joining it with the last where it goes on with that.
+    fn push(&mut self, next: Run) -> Result<(), TooManyRuns>
+        requires run { IsRun next }
+        requires behind { end_of 16 self.old ≤ next.first }
+        ensures ok { OnOk result (self.new ≡ pushed self.old next) }
+        ensures few { OnOk result (length self.new ≤ 256) }
+        ensures err { OnErr result (256 < length (pushed self.old next)) }
+    {
+        if self.joins_last(next) {
+            self.runs[self.len - 1].end = next.end;
+            return Ok(());
+        }
+        if self.len == RUNS {
+            return Err(TooManyRuns);
+        }
+        self.runs[self.len] = next;
+        self.len += 1;
+        Ok(())
+    }
+
+    /// Whether the last run goes on with this one.
+    fn joins_last(&self, next: Run) -> bool
+        ensures { result ≡ joins_last self.now next }
+    {
+        if self.len == 0 {
+            return false;
+        }
+        self.runs[self.len - 1].joins(next)
+    }
+}
