@@ -1,0 +1,26 @@
+-- What a device holds, and what a stop may leave in it.
+-- After POSIX write(2) and fsync(2): until a sync succeeds, nothing is known of what a stop leaves where a write was made.
+use Rattle.std.specs.Prelude.{ℕ, List, ◌≡◌, ◌≢◌, ◌⊎◌, ◌≤◌, ◌<◌, Result, IsErr}
+
+-- the bytes of each sector
+abbrev pub Image : Type 0
+Image = ℕ → List ℕ
+
+-- A stop may leave any bytes in each unsynced sector, and in each other one what it holds.
+pub record MayLeave (content : Image) (unsynced : ℕ → Type 0) (image : Image) : Type 0 where
+  pub kept : (k : ℕ) → unsynced k ⊎ (image k ≡ content k)
+
+-- no sector but n holds other bytes
+pub record ChangesOnly (n : ℕ) (old new : Image) : Type 0 where
+  pub others : (k : ℕ) → k ≢ n → new k ≡ old k
+
+-- Time goes on: a stop since t might have left what it might have left before, or what it may leave now.
+pub record Elapses (before now : ℕ) (past since : ℕ → Image → Type 0) (content : Image) (unsynced : ℕ → Type 0) : Type 0 where
+  pub later : before ≤ now
+  pub nothing_else : (t : ℕ) (c : Image) → t ≤ before → since t c → past t c ⊎ MayLeave content unsynced c
+  pub keeps : (t : ℕ) (c : Image) → t ≤ before → past t c → since t c
+
+-- An error is told only where the device failed in this call.
+pub record HasCause {T E : Type 0} (before now : ℕ) (result : Result T E) : Type 0 where
+  pub later : before ≤ now
+  pub failed : IsErr result → before < now

@@ -1,0 +1,136 @@
+//! A device in a file of the operating system.
+ghost use Rattle.std.specs.Prelude.{◌≡◌, ◌<◌, ◌*◌, ◌^◌, ℕ, List, [], is_ok, IfOk};
+ghost use Rattle.disk_model.specs.Unknown.{unknown_bytes};
+ghost use Rattle.disk_model.specs.FileRecord.{is_lost};
+
+use crate::ghost_data::Log;
+use crate::{DiskFault, SECTOR_BYTES, SectorDisk};
+use std::fs::File;
+use std::io;
+use std::marker::PhantomData;
+use std::os::unix::fs::FileExt;
+
+const SECTOR: u64 = SECTOR_BYTES as u64;
+
+// The kinds of calls, as they are noted.
+const READ: u64 = 0;
+
+const WRITE: u64 = 1;
+
+const SYNC: u64 = 2;
+
+/// What no program can know of a file before it reads it. A function over `C: FileContents` is proved for all
+/// contents of the file, and for all bytes that failed writes may leave.
+pub trait FileContents: Drop {
+    /// The bytes of each sector as the file was opened.
+    ghost at_first: { ℕ → List ℕ };
+
+    /// The bytes that a failed write leaves in its sector, by the number of calls before it.
+    ghost after_fault: { ℕ → List ℕ };
+}
+
+/// For programs to name. No proof can tell which bytes these are.
+#[derive(Drop)]
+pub struct Unknown;
+
+impl FileContents for Unknown {
+    ghost at_first = { unknown_bytes };
+
+    ghost after_fault = { unknown_bytes };
+}
+
+/// A device in a file: sector `n` is the file's 512 bytes from byte `512 n` on, by `pread`, `pwrite` and
+/// `fsync`. Its model is told from the record of its calls and their answers, which contracts alone see.
+///
+/// That the file keeps the model cannot be proved of any real file. It is a premise of what is promised of the
+/// contents: each read gave what the last write of its sector took, and a stop leaves what
+/// `SectorDisk::left_since` says.
+#[derive(Drop)]
+pub struct FileDisk<C: FileContents = Unknown> {
+    file: File,
+    count: u64,
+    lost: bool,
+    calls: Log,
+    contents: PhantomData<C>,
+    ghost within: { count * 512 < 2 ^ 64 },
+    ghost lost_by_calls: { lost ≡ is_lost calls.notes },
+}
+
+fn answer(done: bool) -> Result<(), DiskFault>
+    ensures { is_ok result ≡ done }
+{
+    if done { Ok(()) } else { Err(DiskFault) }
+}
+
+impl<C: FileContents> FileDisk<C> {
+    /// The device in this file, which has to be open for reading and writing. It has as many sectors as lie
+    /// whole in the file now, and the file must not be cut while it is used.
+    ///
+    /// The file is synced first, so that a stop leaves what a read gives.
+    ///
+    /// # Errors
+    ///
+    /// The system's, where the sync fails or the length of the file is not told.
+    pub fn new(file: File) -> io::Result<FileDisk<C>>
+        ensures fresh { IfOk result (λ d. d.calls.notes ≡ []) }
+        ensures kept { IfOk result (λ d. ⟦<FileDisk<C> as SectorDisk>⟧.keeps_model d) }
+        ensures synced { IfOk result (λ d. (k : ℕ) → ⟦<FileDisk<C> as SectorDisk>⟧.unsynced d k → ⊥) }
+    {
+        file.sync_all()?;
+        let count = file.metadata()?.len() / SECTOR;
+        Ok(FileDisk {
+            file,
+            count,
+            lost: false,
+            calls: Log::new(),
+            contents: PhantomData,
+        })
+    }
+}
+
+impl<C: FileContents> SectorDisk for FileDisk<C> {
+    ghost use Rattle.std.specs.Prelude.{length};
+    ghost use Rattle.disk_model.specs.FileRecord.{held, Unsynced, LeftAfter, IsHonest, failed_calls, counts_present, only_present};
+
+    ghost sector_count = { λ d. d.count };
+
+    ghost content = { λ d. held C.at_first C.after_fault d.calls.notes };
+
+    ghost unsynced = { λ d. Unsynced d.calls.notes };
+
+    ghost moment = { λ d. length d.calls.notes };
+
+    ghost left_since = { λ d. LeftAfter C.at_first C.after_fault d.calls.notes };
+
+    ghost failures = { λ d. failed_calls d.calls.notes };
+
+    ghost keeps_model = { λ d. IsHonest C.at_first C.after_fault d.calls.notes };
+
+    ghost counts_now = { λ d t c kept le now. counts_present C.at_first C.after_fault d.calls.notes t c now };
+
+    ghost only_now = { λ d c kept left. only_present C.at_first C.after_fault d.calls.notes c left };
+
+    fn sectors(&self) -> u64 {
+        self.count
+    }
+
+    fn read(&mut self, n: u64, to: &mut [u8; SECTOR_BYTES]) -> Result<(), DiskFault> {
+        let done = self.file.read_exact_at(to, n * SECTOR).is_ok();
+        self.calls.note(&[READ, n], &[*to], &[done]);
+        answer(done)
+    }
+
+    fn write(&mut self, n: u64, from: &[u8; SECTOR_BYTES]) -> Result<(), DiskFault> {
+        let done = self.file.write_all_at(from, n * SECTOR).is_ok();
+        self.calls.note(&[WRITE, n], &[*from], &[done]);
+        answer(done)
+    }
+
+    /// After a failed sync all later ones fail: the system may then take pages for written that are not.
+    fn sync(&mut self) -> Result<(), DiskFault> {
+        let done = !self.lost && self.file.sync_all().is_ok();
+        self.lost = !done;
+        self.calls.note(&[SYNC, 0], &[], &[done]);
+        answer(done)
+    }
+}

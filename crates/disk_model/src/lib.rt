@@ -1,0 +1,18 @@
+//! Devices that are rows of 512-byte sectors, and what a stop of such a device may leave.
+//!
+//! `SectorDisk` is what the store and the swap area ask of a device: POSIX `pread`, `pwrite` and `fsync`,
+//! one sector at a time. Its contract says what a read gives, and which images a loss of power may leave at
+//! any moment.
+#![tactic(auto)]
+
+mod file_disk;
+mod ghost_data;
+mod sector_disk;
+mod sim_disk;
+#[cfg(test)]
+mod tests;
+
+pub use file_disk::{FileContents, FileDisk, Unknown};
+pub use ghost_data::Count;
+pub use sector_disk::{DiskFault, SECTOR_BYTES, SectorDisk};
+pub use sim_disk::SimDisk;

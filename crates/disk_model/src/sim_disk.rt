@@ -1,0 +1,306 @@
+//! A device in memory whose failures and stops are chosen.
+ghost use Rattle.std.specs.Prelude.{◌≡◌, ◌⊎◌, ◌<◌, ℕ, replicate, length, is_err, IfOk, OnOk, OnErr};
+ghost use Rattle.std.proofs.Common.{inl};
+ghost use Rattle.disk_model.specs.Stop.{MayLeave, ChangesOnly, Elapses, HasCause};
+ghost use Rattle.disk_model.specs.Plan.{is_at, one_more, first_listed};
+
+use crate::ghost_data::{Count, Log};
+use crate::{DiskFault, SECTOR_BYTES, SectorDisk};
+use std::alloc::{AllocError, Global};
+
+/// What a failed write leaves in its sector, until it is written again.
+const GARBLED: [u8; SECTOR_BYTES] = [0xee; SECTOR_BYTES];
+
+/// A device in memory. It keeps the model of `SectorDisk`, and fails or stops where it is told to.
+#[derive(Drop)]
+pub struct SimDisk {
+    sectors: Vec<[u8; SECTOR_BYTES]>,
+    /// The sectors as they were last synced.
+    synced: Vec<[u8; SECTOR_BYTES]>,
+    unsynced: Vec<bool>,
+    stop: Option<u64>,
+    fail: Option<u64>,
+    stopped: bool,
+    calls: u64,
+    writes: u64,
+    syncs: u64,
+    failures: Count,
+    /// The sectors and marks before each write and sync.
+    past: Log,
+    ghost synced_length: { length synced.items ≡ length sectors.items },
+    ghost unsynced_length: { length unsynced.items ≡ length sectors.items },
+}
+
+fn is_at(armed: Option<u64>, count: u64) -> bool
+    ensures { result ≡ is_at armed count }
+{
+    match armed {
+        Some(k) => k == count,
+        None => false,
+    }
+}
+
+fn filled<T: Copy>(alloc: Global, count: u64, value: T) -> Result<Vec<T>, AllocError>
+    ensures { IfOk result (λ v. v.items ≡ replicate count value) }
+{
+    let mut items = Vec::new(alloc);
+    for i in 0..count {
+        items.push(value)?;
+    }
+    Ok(items)
+}
+
+/// Answers a call, and counts its failure.
+fn answer(fails: bool, failures: &mut Count) -> Result<(), DiskFault>
+    ensures fails { is_err result ≡ fails }
+    ensures cause { HasCause failures.old.number failures.new.number result }
+{
+    if fails {
+        failures.raise();
+        return Err(DiskFault);
+    }
+    Ok(())
+}
+
+/// The bytes that `chosen` lists first for sector `n`, or else `bytes`.
+fn listed_or<'a>(
+    chosen: &'a [(u64, [u8; SECTOR_BYTES])],
+    n: u64,
+    bytes: &'a [u8; SECTOR_BYTES],
+) -> &'a [u8; SECTOR_BYTES]
+    ensures { result.now ≡ first_listed chosen.now n bytes.now }
+{
+    for (k, listed) in chosen {
+        if *k == n {
+            return listed;
+        }
+    }
+    bytes
+}
+
+impl SimDisk {
+    ghost use Rattle.disk_model.specs.SimDisk.{row, sector_of, IsUnsynced, sectors_in, calls_made, writes_made, syncs_made, IsFresh, left_at};
+
+    /// A device of this many sectors of zeros, all of them synced.
+    ///
+    /// # Errors
+    ///
+    /// `AllocError` where the host has no room for the sectors.
+    pub fn new(alloc: Global, sectors: u64) -> Result<SimDisk, AllocError>
+        ensures size { IfOk result (λ d. sectors_in d ≡ sectors) }
+        ensures zeros { IfOk result (λ d. (k : ℕ) → k < sectors → sector_of d k ≡ replicate 512 0) }
+        ensures fresh { IfOk result IsFresh }
+    {
+        let zeros = [0; SECTOR_BYTES];
+        Ok(SimDisk {
+            sectors: filled(alloc, sectors, zeros)?,
+            synced: filled(alloc, sectors, zeros)?,
+            unsynced: filled(alloc, sectors, false)?,
+            stop: None,
+            fail: None,
+            stopped: false,
+            calls: 0,
+            writes: 0,
+            syncs: 0,
+            failures: Count::new(),
+            past: Log::new(),
+        })
+    }
+
+    /// Stops the device at its write `k`, the first being 1: that write and all later calls fail.
+    pub fn stop_at(&mut self, k: u64)
+        ensures { self.new ≡ record self.old { stop = Some k } }
+    {
+        self.stop = Some(k);
+    }
+
+    /// Fails call `k` of any kind, the first being 1.
+    pub fn fail_at(&mut self, k: u64)
+        ensures { self.new ≡ record self.old { fail = Some k } }
+    {
+        self.fail = Some(k);
+    }
+
+    /// How many calls were made.
+    pub fn calls(&self) -> u64
+        ensures { result ≡ calls_made self.now }
+    {
+        self.calls // reads, writes and syncs
+    }
+
+    /// How many writes were made.
+    pub fn writes(&self) -> u64
+        ensures { result ≡ writes_made self.now }
+    {
+        self.writes // failed ones too
+    }
+
+    /// How many syncs were made.
+    pub fn syncs(&self) -> u64
+        ensures { result ≡ syncs_made self.now }
+    {
+        self.syncs // failed ones too
+    }
+
+    /// What sector `n` holds.
+    pub fn sector(&self, n: u64) -> &[u8; SECTOR_BYTES]
+        requires { n < sectors_in self.now }
+        ensures { result.now ≡ sector_of self.now n }
+    {
+        &self.sectors[n as usize]
+    }
+
+    /// The device after a stop, with these bytes in its unsynced sectors. One that is listed twice has the
+    /// first bytes, one that is not listed has those that were last synced, and bytes that are listed for a
+    /// synced sector count for nothing. All is synced then, no call was made, and no fault is armed.
+    ///
+    /// # Errors
+    ///
+    /// `AllocError` where the host has no room for the sectors.
+    pub fn left(
+        &self,
+        alloc: Global,
+        chosen: &[(u64, [u8; SECTOR_BYTES])],
+    ) -> Result<SimDisk, AllocError>
+        ensures size { IfOk result (λ d. sectors_in d ≡ sectors_in self.now) }
+        ensures bytes { IfOk result (λ d. (k : ℕ) → sector_of d k ≡ left_at self.now chosen.now k) }
+        ensures stop { IfOk result (λ d. MayLeave (sector_of self.now) (IsUnsynced self.now) (sector_of d)) }
+        ensures fresh { IfOk result IsFresh }
+    {
+        Ok(SimDisk {
+            sectors: self.image_left(alloc, chosen)?,
+            synced: self.image_left(alloc, chosen)?,
+            unsynced: filled(alloc, self.sectors.len() as u64, false)?,
+            stop: None,
+            fail: None,
+            stopped: false,
+            calls: 0,
+            writes: 0,
+            syncs: 0,
+            failures: Count::new(),
+            past: Log::new(),
+        })
+    }
+
+    fn image_left(
+        &self,
+        alloc: Global,
+        chosen: &[(u64, [u8; SECTOR_BYTES])],
+    ) -> Result<Vec<[u8; SECTOR_BYTES]>, AllocError>
+        ensures size { IfOk result (λ v. length v.items ≡ sectors_in self.now) }
+        ensures bytes { IfOk result (λ v. (k : ℕ) → row v.items k ≡ left_at self.now chosen.now k) }
+    {
+        let mut image = Vec::new(alloc);
+        for i in 0..self.sectors.len() {
+            let bytes = if self.unsynced[i] {
+                listed_or(chosen, i as u64, &self.synced[i])
+            } else {
+                &self.sectors[i]
+            };
+            image.push(*bytes)?;
+        }
+        Ok(image)
+    }
+}
+
+impl SectorDisk for SimDisk {
+    ghost use Rattle.disk_model.specs.SimDisk.{sectors_in, sector_of, last_synced, IsUnsynced, moment_of, LeftSince, only_present, failures_of, calls_made, writes_made, syncs_made, fails_next, stops_next, write_fails_next, is_stopped, IsCounted};
+
+    ghost sector_count = { sectors_in };
+
+    ghost content = { sector_of };
+
+    ghost unsynced = { IsUnsynced };
+
+    ghost moment = { moment_of };
+
+    ghost left_since = { LeftSince };
+
+    ghost failures = { failures_of };
+
+    ghost keeps_model = { λ _. Unit {0} };
+
+    ghost counts_now = { λ d t c kept le now. inl now };
+
+    ghost only_now = { λ d c kept left. only_present d c left };
+
+    fn sectors(&self) -> u64 {
+        self.sectors.len() as u64
+    }
+
+    fn read(&mut self, n: u64, to: &mut [u8; SECTOR_BYTES]) -> Result<(), DiskFault>
+        requires { n < sectors_in self.old }
+        ensures size { sectors_in self.new ≡ sectors_in self.old }
+        ensures cause { HasCause (failures_of self.old) (failures_of self.new) result }
+        ensures gives { OnOk result (to.new ≡ sector_of self.old n) }
+        ensures same { sector_of self.new ≡ sector_of self.old }
+        ensures unsynced { (k : ℕ) → IsUnsynced self.new k → IsUnsynced self.old k }
+        ensures still { (k : ℕ) → IsUnsynced self.old k → IsUnsynced self.new k }
+        ensures time { Elapses (moment_of self.old) (moment_of self.new) (LeftSince self.old) (LeftSince self.new) (sector_of self.new) (IsUnsynced self.new) }
+        ensures last { last_synced self.new ≡ last_synced self.old }
+        ensures fails { is_err result ≡ fails_next self.old }
+        ensures counted { IsCounted (writes_made self.old) (syncs_made self.old) (is_stopped self.old) self.old self.new }
+    {
+        self.calls = self.calls.saturating_add(1);
+        answer(
+            self.stopped || is_at(self.fail, self.calls),
+            &mut self.failures,
+        )?;
+        *to = self.sectors[n as usize];
+        Ok(())
+    }
+
+    fn write(&mut self, n: u64, from: &[u8; SECTOR_BYTES]) -> Result<(), DiskFault>
+        requires { n < sectors_in self.old }
+        ensures size { sectors_in self.new ≡ sectors_in self.old }
+        ensures cause { HasCause (failures_of self.old) (failures_of self.new) result }
+        ensures written { OnOk result (sector_of self.new n ≡ from.now) }
+        ensures garbled { OnErr result (sector_of self.new n ≡ replicate 512 238) }
+        ensures others { ChangesOnly n (sector_of self.old) (sector_of self.new) }
+        ensures unsynced { (k : ℕ) → IsUnsynced self.new k → IsUnsynced self.old k ⊎ (k ≡ n) }
+        ensures marked { IsUnsynced self.new n }
+        ensures still { (k : ℕ) → IsUnsynced self.old k → IsUnsynced self.new k }
+        ensures time { Elapses (moment_of self.old) (moment_of self.new) (LeftSince self.old) (LeftSince self.new) (sector_of self.new) (IsUnsynced self.new) }
+        ensures last { last_synced self.new ≡ last_synced self.old }
+        ensures fails { is_err result ≡ write_fails_next self.old }
+        ensures counted { IsCounted (one_more (writes_made self.old)) (syncs_made self.old) (stops_next self.old) self.old self.new }
+    {
+        self.past.note(&[], &self.sectors, &self.unsynced);
+        self.calls = self.calls.saturating_add(1);
+        self.writes = self.writes.saturating_add(1);
+        self.stopped = self.stopped || is_at(self.stop, self.writes);
+        self.unsynced[n as usize] = true;
+        self.sectors[n as usize] = GARBLED;
+        answer(
+            self.stopped || is_at(self.fail, self.calls),
+            &mut self.failures,
+        )?;
+        self.sectors[n as usize] = *from;
+        Ok(())
+    }
+
+    fn sync(&mut self) -> Result<(), DiskFault>
+        ensures size { sectors_in self.new ≡ sectors_in self.old }
+        ensures cause { HasCause (failures_of self.old) (failures_of self.new) result }
+        ensures same { sector_of self.new ≡ sector_of self.old }
+        ensures synced { OnOk result ((k : ℕ) → IsUnsynced self.new k → ⊥) }
+        ensures unsynced { (k : ℕ) → IsUnsynced self.new k → IsUnsynced self.old k }
+        ensures still { OnErr result ((k : ℕ) → IsUnsynced self.old k → IsUnsynced self.new k) }
+        ensures time { Elapses (moment_of self.old) (moment_of self.new) (LeftSince self.old) (LeftSince self.new) (sector_of self.new) (IsUnsynced self.new) }
+        ensures last { OnOk result (last_synced self.new ≡ sector_of self.old) }
+        ensures last_stays { OnErr result (last_synced self.new ≡ last_synced self.old) }
+        ensures fails { is_err result ≡ fails_next self.old }
+        ensures counted { IsCounted (writes_made self.old) (one_more (syncs_made self.old)) (is_stopped self.old) self.old self.new }
+    {
+        self.past.note(&[], &self.sectors, &self.unsynced);
+        self.calls = self.calls.saturating_add(1);
+        self.syncs = self.syncs.saturating_add(1);
+        answer(
+            self.stopped || is_at(self.fail, self.calls),
+            &mut self.failures,
+        )?;
+        self.synced.copy_from_slice(&self.sectors);
+        self.unsynced.fill(false);
+        Ok(())
+    }
+}
