@@ -77,3 +77,11 @@ freed t n first rest w count held none fits link whole =
         (rw (kind_now) (count_now ∙ none)) (λ e. free≢zero (sym kind_now ∙ e)),
      IsChained-freed n t (with_frame t n w Free count) first same above held.inside (IsHeld-not_free t n held) kind_now
         (ap next_of (bytes_now ∙ link) ∙ little_number-reads_back 4 first rest fits) whole.1)
+
+-- a frame that isn't private is nobody else's
+pub alone_count : (r : Role) (c : ℕ) → is_handed_out r ≡ true → r ≢ Private → IsCountFor r c → c ≡ 1
+alone_count Free c h ne one = absurd (false≢true h)
+alone_count Zero c h ne one = absurd (false≢true h)
+alone_count Table c h ne one = one
+alone_count Private c h ne one = absurd (ne refl)
+alone_count Cache c h ne one = one

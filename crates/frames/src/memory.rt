@@ -1,6 +1,6 @@
 //! Frames in one block of memory. Free frames are chained through their own first four bytes, so no call but `new`
 //! takes memory, and each touches one frame.
-ghost use Rattle.std.specs.Prelude.{◌≡◌, ◌+◌, ◌<◌, ◌≤◌, ◌↔◌, IfOk, OnErr, IsErr, IsTrue};
+ghost use Rattle.std.specs.Prelude.{◌≡◌, ◌≢◌, ◌+◌, ◌<◌, ◌≤◌, ◌↔◌, IfOk, OnErr, IsErr, IsTrue};
 ghost use Rattle.frames.specs.FrameTable.{zero_bytes};
 
 use byteorder::{ByteOrder, LittleEndian};
@@ -37,7 +37,7 @@ impl Model for Frames {
 
 impl Frames {
     ghost use Rattle.std.specs.Borrow.{sem};
-    ghost use Rattle.frames.specs.declared.role.Role.TheVariants.{Private};
+    ghost use Rattle.frames.specs.declared.role.Role.TheVariants.{Free, Private};
     ghost use Rattle.frames.specs.FrameTable.{frame_count, bytes_of, role_of, count_of, IsFrame, IsSound, IsFresh, IsFull, IsHeld, is_handed_out, Takes, Shares, Releases, with_bytes};
     ghost use Rattle.frames.specs.Lending.{LendsFrame};
     ghost use Rattle.frames.specs.Chain.{IsAllTables};
@@ -140,10 +140,12 @@ impl Frames {
         self.counts[at] += 1;
     }
 
-    /// One less shares frame `n`. Where nobody is left the frame is free, and its bytes are lost.
+    /// One less shares frame `n`. Where nobody is left the frame is free, and its bytes are lost: a table and a page of a
+    /// file at once.
     pub fn release(&mut self, n: FrameNo)
         requires { IsHeld self.old n.0 }
-        ensures { Releases self.old self.new n.0 }
+        ensures change { Releases self.old self.new n.0 }
+        ensures alone { role_of self.old n.0 ≢ Private → role_of self.new n.0 ≡ Free }
     {
         let at = n.0 as usize;
         self.counts[at] -= 1;

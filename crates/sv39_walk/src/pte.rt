@@ -1,7 +1,7 @@
 //! An entry of a page table, by its named bits.
-ghost use Rattle.std.specs.Prelude.{◌≡◌, ◌<◌, ◌^◌, ◌==◌};
+ghost use Rattle.std.specs.Prelude.{◌≡◌, ◌<◌, ◌^◌, ◌==◌, true};
 ghost use Rattle.frames.specs.FrameTable.{IsFrame};
-ghost use Rattle.sv39_walk.specs.Entry.{entry_at};
+ghost use Rattle.sv39_walk.specs.Entry.{entry_at, pointer_to, is_pointer, frame_of};
 
 use byteorder::{ByteOrder, LittleEndian};
 use frames::Frames;
@@ -14,7 +14,7 @@ use vm_types::{Access, FrameNo};
 pub struct Pte(pub u64);
 
 impl Pte {
-    ghost use Rattle.sv39_walk.specs.Entry.{has_bit, frame_of, is_valid, can_read, can_write, can_execute, is_user, is_accessed, is_dirty, is_reserved, is_leaf, is_pointer, grants, pointer_to};
+    ghost use Rattle.sv39_walk.specs.Entry.{has_bit, is_valid, can_read, can_write, can_execute, is_user, is_accessed, is_dirty, is_reserved, is_leaf, grants};
 
     /// The entry of that number.
     pub fn from_u64(number: u64) -> Pte
@@ -33,9 +33,11 @@ impl Pte {
 
     /// A pointer to the table in that frame: V alone, with A, D and U clear.
     pub fn pointer(table: FrameNo) -> Pte
-        ensures { result.0 ≡ pointer_to table.0 }
+        ensures number { result.0 ≡ pointer_to table.0 }
+        ensures pointer { is_pointer result.0 ≡ true }
+        ensures target { frame_of result.0 ≡ table.0 }
     {
-        Pte(u64::from(table.0) * 1024 + 1)
+        pointer_to_frame(table.0)
     }
 
     /// V: the entry is valid.
@@ -146,4 +148,12 @@ pub fn read_entry(frames: &Frames, table: FrameNo, index: usize) -> Pte
     ensures { result.0 ≡ entry_at frames.now table.0 index }
 {
     Pte::from_u64(LittleEndian::read_u64(&frames.bytes(table)[8 * index..]))
+}
+
+fn pointer_to_frame(frame: u32) -> Pte
+    ensures number { result.0 ≡ pointer_to frame }
+    ensures pointer { is_pointer result.0 ≡ true }
+    ensures target { frame_of result.0 ≡ frame }
+{
+    Pte(u64::from(frame) * 1024 + 1)
 }

@@ -8,4 +8,4 @@ release-requires c =
 
 pub loop-n-preserved : goal.loop-n-preserved
 loop-n-preserved c =
-    IsAllTables-less c.loop-n.frames c.release.new.self c.args.count c.loop-n.n (omega arith) (omega arith) c.loop-n.invariant c.release.ensures
+    IsAllTables-less c.loop-n.frames c.release.new.self c.args.count c.loop-n.n (omega arith) (omega arith) c.loop-n.invariant c.release.ensures.change

@@ -1,0 +1,10 @@
+pub mod Changes
+pub mod Copies
+pub mod Gates
+pub mod Images
+pub mod Maps
+pub mod Phases
+pub mod Recoveries
+pub mod Replays
+pub mod Runs
+pub mod Sectors

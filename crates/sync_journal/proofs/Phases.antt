@@ -1,0 +1,200 @@
+-- The moments of a commit: the pages and the map staged, the gate opened, and a replay.
+use Rattle.std.proofs.Common.{◌≡◌, ◌≢◌, ◌⊎◌, ◌≤◌, ◌<◌, ◌+◌, ◌^◌, ℕ, true, false, List, length, get_or, Option, Some, None, sym, ap, subst, ◌∙◌, ⊎_elim, inl, inr, arith}
+use Rattle.disk_model.specs.Stop.{Image, MayLeave}
+use Rattle.disk_model.specs.Moments.{Touches, LeavesOnly}
+use Rattle.disk_model.proofs.Moments.{started, goes_on, joined, weaker}
+use Rattle.disk_model.specs.declared.sector_disk.SectorDisk.{Ghosts}
+use Rattle.sync_journal.specs.Layout.{gate_sector, map_sector, home_sector, body_sector, home_count, IsGate, IsJournalSector, IsOutside}
+use Rattle.sync_journal.specs.Gate.{is_open, is_open_sector}
+use Rattle.sync_journal.specs.Map.{map_bytes, place_of, count_in, home_in, AreHomes, IsBadMap}
+use Rattle.sync_journal.specs.Standing.{place_or_home, standing, StandsFor, IsOpenFor, HoldsPages}
+use Rattle.sync_journal.specs.Commit.{sector_or, changed, StandsForEither, IsKept, IsQuiet, IsSettled}
+use Rattle.sync_journal.proofs.Maps.{counted, named}
+use Rattle.sync_journal.proofs.Images.{Means, place_means, standing_closed, standing_open}
+use Rattle.sync_journal.proofs.Replays.{open_or_closed}
+
+-- the sectors outside are neither the gate nor the journal's
+pub not_gate : (sectors k : ℕ) → IsOutside sectors k → k ≢ gate_sector
+not_gate sectors k outside e = ⊎_elim (λ front. omega (arith, front, e)) (λ behind. omega (arith, behind, e)) outside
+
+pub not_journal : (sectors k : ℕ) → IsOutside sectors k → IsJournalSector k → ⊥
+not_journal sectors k outside inside = ⊎_elim (λ front. omega (arith, front, inside.0)) (λ behind. omega (arith, behind, inside.1)) outside
+
+-- a map of good homes isn't bad
+pub not_bad : (count : ℕ) (homes map : List ℕ) → AreHomes count homes → count_in map ≡ length homes
+    → ((j : ℕ) → j < length homes → home_in map j ≡ get_or homes j 0) → IsBadMap count map → ⊥
+not_bad count homes map are counts names bad = ⊎_elim
+    (λ many. let few = are.few in omega (arith, many, counts, few))
+    (λ rest. ⊎_elim
+    (λ none. let below : none.0 < length homes = omega (arith, none.1, counts) in omega (arith, none.2, names none.0 below, are.inside none.0 below))
+    (λ twice. let below : twice.1 < length homes = omega (arith, twice.3, counts) in
+    are.distinct twice.0 twice.1 twice.2 below (sym (names twice.0 (omega (arith, twice.2, below))) ∙ twice.4 ∙ names twice.1 below))
+    rest)
+    bad
+
+-- an image with the gate closed, and the content outside the journal
+pub before_kept : (sectors : ℕ) (content image : Image) → is_open content ≡ false → is_open image ≡ false
+    → ((k : ℕ) → k ≢ gate_sector → IsJournalSector k ⊎ (image k ≡ content k)) → IsKept sectors content (StandsFor (standing content)) image
+before_kept sectors content image was gate same = record {
+  stands = record {
+    each = λ h i below. standing_closed image h i gate
+        ∙ ⊎_elim (λ inside. absurd (omega (arith, inside.1))) (λ e. e) (same (home_sector h + i) (omega arith))
+        ∙ sym (standing_closed content h i was);
+  };
+  journal = λ bad. absurd (never bad.gate);
+  outside = λ k outside. ⊎_elim (λ inside. absurd (not_journal sectors k outside inside)) (λ e. e) (same k (not_gate sectors k outside));
+}
+  where
+    never : is_open image ≡ true → ⊥
+    never opened = let e : true ≡ false = sym opened ∙ gate in cc
+
+-- an open gate before the map sector of these homes
+pub opens_for : (count : ℕ) (homes : List ℕ) (image : Image) → AreHomes count homes → count ≤ 2 ^ 30 → is_open image ≡ true
+    → image map_sector ≡ map_bytes homes → IsOpenFor homes image
+opens_for count homes image are small gate map = record {
+  gate = gate;
+  count = ap count_in map ∙ counted homes are.few;
+  each = λ j below. ap (λ m. home_in m j) map ∙ named homes j below (let inside = are.inside j below in omega (arith, inside));
+}
+
+-- The content before, with its gate closed, and what stands when pages and map are staged.
+module _ (sectors : ℕ) (homes : List ℕ) (are : AreHomes (home_count sectors) homes) (pages : ℕ → List ℕ) (content staged : Image)
+    (was : is_open content ≡ false) (others : (k : ℕ) → IsJournalSector k ⊎ (staged k ≡ content k))
+    (counts : count_in (staged map_sector) ≡ length homes) (names : (j : ℕ) → j < length homes → home_in (staged map_sector) j ≡ get_or homes j 0)
+    (body : HoldsPages (length homes) pages staged) where
+  abbrev pub After : ℕ → ℕ → List ℕ
+  After = changed (standing content) homes pages
+
+  -- an image as staged, with the gate open
+  pub names_homes : (image : Image) → is_open image ≡ true → ((k : ℕ) → k ≢ gate_sector → image k ≡ staged k) → IsOpenFor homes image
+  names_homes image gate same =
+      let map = same map_sector (omega arith) in
+      record { gate = gate; count = ap count_in map ∙ counts; each = λ j below. ap (λ m. home_in m j) map ∙ names j below }
+
+  pub after_kept : (image : Image) → is_open image ≡ true → ((k : ℕ) → k ≢ gate_sector → image k ≡ staged k) → IsKept sectors content (StandsFor After) image
+  unfolding changed
+  after_kept image gate same = record {
+    stands = record {
+      each = λ h i below. standing_open homes image h i (names_homes image gate same)
+          ∙ here h i below (place_of homes h) (place_means (λ j. get_or homes j 0) h (length homes));
+    };
+    journal = λ bad. absurd (let named = names_homes image gate same in not_bad (home_count sectors) homes (image map_sector) are named.count named.each bad.map);
+    outside = λ k outside. same k (not_gate sectors k outside) ∙ ⊎_elim (λ inside. absurd (not_journal sectors k outside inside)) (λ e. e) (others k);
+  }
+    where
+      here : (h i : ℕ) → i < 8 → (o : Option ℕ) → Means (λ j. get_or homes j 0) h (length homes) o
+          → image (place_or_home h o + i) ≡ sector_or pages (standing content h i) i o
+      here h i below None none = same (home_sector h + i) (omega arith)
+          ∙ ⊎_elim (λ inside. absurd (omega (arith, inside.1))) (λ e. e) (others (home_sector h + i))
+          ∙ sym (standing_closed content h i was)
+      here h i below (Some j) found = same (body_sector j + i) (omega arith) ∙ body j i found.0 below
+
+  -- whatever the gate holds, before or after
+  pub either_kept : (image : Image) → ((k : ℕ) → k ≢ gate_sector → image k ≡ staged k) → IsKept sectors content (StandsForEither (standing content) After) image
+  either_kept image same = ⊎_elim
+      (λ gate. let kept = after_kept image gate same in record { stands = inr kept.stands; journal = kept.journal; outside = kept.outside })
+      (λ gate. let kept = before_kept sectors content image was gate (λ k other. ⊎_elim (λ inside. inl inside) (λ e. inr (same k other ∙ e)) (others k)) in
+      record { stands = inl kept.stands; journal = kept.journal; outside = kept.outside })
+      (open_or_closed image)
+
+  -- what is kept once the gate is open is the pages after
+  pub kept_since : (opened image : Image) → is_open opened ≡ true → ((k : ℕ) → k ≢ gate_sector → opened k ≡ staged k)
+      → IsKept sectors opened (StandsFor (standing opened)) image → IsKept sectors content (StandsFor After) image
+  kept_since opened image gate same kept =
+      let here = after_kept opened gate same in
+      record {
+        stands = record { each = λ h i below. kept.stands.each h i below ∙ here.stands.each h i below };
+        journal = λ bad. here.journal (kept.journal bad);
+        outside = λ k outside. kept.outside k outside ∙ here.outside k outside;
+      }
+
+-- The states of a commit: before, staged, with the gate open, and at the end of the replay.
+module _ {D : Type 0} (g : Ghosts D) (homes : List ℕ) (pages : ℕ → List ℕ) (old staged : D)
+    (only_now : (image : Image) → g.left_since old (g.moment old) image → MayLeave (g.content old) (g.unsynced old) image)
+    (are : AreHomes (home_count (g.sector_count old)) homes) (quiet : IsQuiet g old) (stages : Touches g IsJournalSector old staged) where
+  abbrev pub Before : Image → Type 0
+  Before = IsKept (g.sector_count old) (g.content old) (StandsFor (standing (g.content old)))
+
+  abbrev pub Either : Image → Type 0
+  Either = IsKept (g.sector_count old) (g.content old) (StandsForEither (standing (g.content old)) (changed (standing (g.content old)) homes pages))
+
+  -- an image with the content before outside the journal
+  as_before : (image : Image) → ((k : ℕ) → IsJournalSector k ⊎ (image k ≡ g.content old k)) → Before image
+  as_before image same = before_kept (g.sector_count old) (g.content old) image quiet.closed
+      (ap is_open_sector (⊎_elim (λ inside. absurd (omega (arith, inside.0))) (λ e. e) (same gate_sector)) ∙ quiet.closed)
+      (λ k other. same k)
+
+  around_staging : (image : Image) → MayLeave (g.content old) (λ k. g.unsynced old k ⊎ IsJournalSector k) image → Before image
+  around_staging image may = as_before image (λ k. ⊎_elim (⊎_elim (λ u. inl (quiet.synced k u)) (λ inside. inl inside)) (λ e. inr e) (may.kept k))
+
+  pub while_staging : LeavesOnly g old staged Before
+  while_staging = goes_on g IsJournalSector old old staged Before
+      (started g old Before only_now (λ image may. around_staging image (record { kept = λ k. ⊎_elim (λ u. inl (inl u)) (λ e. inr e) (may.kept k) })))
+      stages around_staging
+
+  -- where the source failed
+  pub staged_settled : IsSettled g (g.sector_count old) (g.content old) staged (standing (g.content old))
+  staged_settled =
+      let here = as_before (g.content staged) stages.content in
+      record {
+        quiet = record {
+          closed = ap is_open_sector (⊎_elim (λ inside. absurd (omega (arith, inside.0))) (λ e. e) (stages.content gate_sector)) ∙ quiet.closed;
+          synced = unsynced;
+        };
+        stands = here.stands;
+        outside = here.outside;
+        left = λ image may. as_before image (λ k. ⊎_elim (λ u. inl (unsynced k u)) (λ e. ⊎_elim (λ inside. inl inside) (λ e'. inr (e ∙ e')) (stages.content k)) (may.kept k));
+      }
+    where
+      unsynced : (k : ℕ) → g.unsynced staged k → IsJournalSector k
+      unsynced k u = ⊎_elim (λ before. quiet.synced k before) (λ inside. inside) (stages.unsynced k u)
+
+  pub while_staging_either : LeavesOnly g old staged Either
+  while_staging_either = weaker g old staged Before Either
+      (λ image kept. record { stands = inl kept.stands; journal = kept.journal; outside = kept.outside }) while_staging
+
+  module _ (opened new : D) (body : HoldsPages (length homes) pages (g.content staged)) (map : g.content staged map_sector ≡ map_bytes homes)
+      (staged_synced : (k : ℕ) → g.unsynced staged k → ⊥) (opens : Touches g IsGate staged opened) where
+    counts : count_in (g.content staged map_sector) ≡ length homes
+    counts = ap count_in map ∙ counted homes are.few
+
+    names : (j : ℕ) → j < length homes → home_in (g.content staged map_sector) j ≡ get_or homes j 0
+    names j below = ap (λ m. home_in m j) map ∙ named homes j below (let inside = are.inside j below in omega (arith, inside))
+
+    around_opening : (image : Image) → MayLeave (g.content staged) (λ k. g.unsynced staged k ⊎ IsGate k) image → Either image
+    around_opening image may = either_kept (g.sector_count old) homes are pages (g.content old) (g.content staged) quiet.closed stages.content counts names body image
+        (λ k other. ⊎_elim (⊎_elim (λ u. absurd (staged_synced k u)) (λ at. absurd (other at))) (λ e. e) (may.kept k))
+
+    pub while_opening : LeavesOnly g old opened Either
+    while_opening = goes_on g IsGate old staged opened Either while_staging_either opens around_opening
+
+    module _ (gate : is_open (g.content opened) ≡ true) where
+      as_staged : (k : ℕ) → k ≢ gate_sector → g.content opened k ≡ g.content staged k
+      as_staged k other = ⊎_elim (λ at. absurd (other at)) (λ e. e) (opens.content k)
+
+      since : (image : Image) → IsKept (g.sector_count old) (g.content opened) (StandsFor (standing (g.content opened))) image
+          → IsKept (g.sector_count old) (g.content old) (StandsFor (changed (standing (g.content old)) homes pages)) image
+      since image kept = kept_since (g.sector_count old) homes are pages (g.content old) (g.content staged) quiet.closed stages.content counts names body
+          (g.content opened) image gate as_staged kept
+
+      here : IsKept (g.sector_count old) (g.content old) (StandsFor (changed (standing (g.content old)) homes pages)) (g.content opened)
+      here = after_kept (g.sector_count old) homes are pages (g.content old) (g.content staged) quiet.closed stages.content counts names body (g.content opened) gate as_staged
+
+      pub while_replaying : g.sector_count opened ≡ g.sector_count old
+          → LeavesOnly g opened new (IsKept (g.sector_count opened) (g.content opened) (StandsFor (standing (g.content opened)))) → LeavesOnly g old new Either
+      while_replaying size replayed = joined g old opened new Either while_opening
+          (weaker g opened new (IsKept (g.sector_count old) (g.content opened) (StandsFor (standing (g.content opened)))) Either
+          (λ image kept. let after = since image kept in record { stands = inr after.stands; journal = after.journal; outside = after.outside })
+          (subst (λ sectors. LeavesOnly g opened new (IsKept sectors (g.content opened) (StandsFor (standing (g.content opened))))) size replayed))
+
+      pub replay_settled : g.sector_count opened ≡ g.sector_count old
+          → IsSettled g (g.sector_count opened) (g.content opened) new (standing (g.content opened))
+          → IsSettled g (g.sector_count old) (g.content old) new (changed (standing (g.content old)) homes pages)
+      replay_settled size replayed =
+          let settled = subst (λ sectors. IsSettled g sectors (g.content opened) new (standing (g.content opened))) size replayed in
+          record {
+            quiet = settled.quiet;
+            stands = record { each = λ h i below. settled.stands.each h i below ∙ here.stands.each h i below };
+            outside = λ k outside. settled.outside k outside ∙ here.outside k outside;
+            left = λ image may. since image (settled.left image may);
+          }

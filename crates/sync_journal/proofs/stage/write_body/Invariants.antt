@@ -1,0 +1,10 @@
+use Rattle.std.proofs.Common.{◌≡◌, length}
+use Rattle.sync_journal.specs.Layout.{IsJournalSector}
+use Rattle.sync_journal.specs.Runs.{Runs}
+use Rattle.sync_journal.specs.Standing.{HoldsPages}
+use Rattle.sync_journal.specs.Source.{Asks}
+use Rattle.sync_journal.proofs.stage.write_body.Given as goal
+
+abbrev pub invariant-loop-j : goal.invariant-loop-j
+invariant-loop-j g l = (length l.page ≡ 4096) × Runs g.D.SectorDisk IsJournalSector l.fn.disk l.disk × Asks g.S.PageSource l.fn.source l.source
+    × (g.D.SectorDisk.keeps_model l.disk → g.S.PageSource.keeps_model l.source → HoldsPages l.j (g.S.PageSource.pages l.fn.source) (g.D.SectorDisk.content l.disk))

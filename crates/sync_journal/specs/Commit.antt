@@ -1,0 +1,44 @@
+-- What a commit and a recovery leave, at every moment and at their end.
+-- All or nothing over all pages at once: failure-atomic msync (Park, Kelly and Shen, EuroSys 2013).
+use Rattle.std.specs.Prelude.{ℕ, ◌≡◌, ◌⊎◌, false, List, Option, Some, None}
+use Rattle.disk_model.specs.Stop.{Image}
+use Rattle.disk_model.specs.Moments.{LeavesNow}
+use Rattle.disk_model.specs.declared.sector_disk.SectorDisk.{Ghosts}
+use Rattle.sync_journal.specs.Layout.{IsJournalSector, IsOutside}
+use Rattle.sync_journal.specs.Gate.{is_open}
+use Rattle.sync_journal.specs.Map.{place_of}
+use Rattle.sync_journal.specs.Standing.{StandsFor, IsBadJournal, sector_of}
+
+-- sector i of a page: of page j where there is a place j, otherwise the old one
+abbrev pub sector_or : (ℕ → List ℕ) → List ℕ → ℕ → Option ℕ → List ℕ
+sector_or pages old i None = old
+sector_or pages old i (Some j) = sector_of (pages j) i
+
+-- the pages of before, but that the home at place j of the list holds page j
+unfoldable pub changed : (ℕ → ℕ → List ℕ) → List ℕ → (ℕ → List ℕ) → ℕ → ℕ → List ℕ
+changed before homes pages h i = sector_or pages (before h i) i (place_of homes h)
+
+-- the pages of before, or those of after
+abbrev pub StandsForEither : (ℕ → ℕ → List ℕ) → (ℕ → ℕ → List ℕ) → Image → Type 0
+StandsForEither before after image = StandsFor before image ⊎ StandsFor after image
+
+-- An image that a stop may leave where the device held this content: what it stands for has `Stands`, its journal is
+-- bad only where that of the content was, and nothing outside the gate, the journal and the homes is changed.
+pub record IsKept (sectors : ℕ) (content : Image) (Stands : Image → Type 0) (image : Image) : Type 0 where
+  pub stands : Stands image
+  pub journal : IsBadJournal sectors image → IsBadJournal sectors content
+  pub outside : (k : ℕ) → IsOutside sectors k → image k ≡ content k
+
+module _ {D : Type 0} (g : Ghosts D) where
+  -- The gate is closed, and nothing is unsynced but in map and body.
+  pub record IsQuiet (d : D) : Type 0 where
+    pub closed : is_open (g.content d) ≡ false
+    pub synced : (k : ℕ) → g.unsynced d k → IsJournalSector k
+
+  -- The device is quiet again, and stands for these pages now and after every stop. Outside the gate, the journal and
+  -- the homes it holds this content.
+  pub record IsSettled (sectors : ℕ) (content : Image) (new : D) (pages : ℕ → ℕ → List ℕ) : Type 0 where
+    pub quiet : IsQuiet new
+    pub stands : StandsFor pages (g.content new)
+    pub outside : (k : ℕ) → IsOutside sectors k → g.content new k ≡ content k
+    pub left : LeavesNow g new (IsKept sectors content (StandsFor pages))

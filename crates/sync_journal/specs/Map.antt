@@ -1,0 +1,44 @@
+-- The journal map: a count, then so many home page numbers, each a little-endian number of four bytes.
+-- The rest is zero when written, and is not looked at. The format is our own.
+use Rattle.std.specs.Prelude.{ℕ, zero, suc, ◌+◌, ◌-◌, ◌*◌, ◌<◌, ◌≤◌, ◌≡◌, ◌⊎◌, List, ◌++◌, length, drop, replicate, slice_index, Option, Some, None, if◌then◌else◌, ◌==◌}
+use Rattle.std.specs.List.{flat_map}
+use Rattle.byteorder.specs.Endian.{little_number, little_bytes}
+
+-- how many pages a map sector names
+abbrev pub count_in : List ℕ → ℕ
+count_in map = little_number 4 map
+
+-- the home of the page at place j
+abbrev pub home_in : List ℕ → ℕ → ℕ
+home_in map j = little_number 4 (drop (4 + 4 * j) map)
+
+-- the map sector of these homes
+abbrev pub map_bytes : List ℕ → List ℕ
+map_bytes homes = (little_bytes 4 (length homes) ++ flat_map (little_bytes 4) homes) ++ replicate (508 - 4 * length homes) 0
+
+-- the last of the first n places that names home h
+unfoldable pub place_among : (ℕ → ℕ) → ℕ → ℕ → Option ℕ
+place_among homes h zero = None
+place_among homes h (suc n) = if homes n == h then Some n else place_among homes h n
+
+-- the place of home h in a list of homes
+abbrev pub place_of : List ℕ → ℕ → Option ℕ
+place_of homes h = place_among (λ j. slice_index homes j) h (length homes)
+
+-- at most 127 homes, each under the number of homes, none twice
+pub record AreHomes (count : ℕ) (homes : List ℕ) : Type 0 where
+  pub few : length homes ≤ 127
+  pub inside : (j : ℕ) → j < length homes → slice_index homes j < count
+  pub distinct : (i j : ℕ) → i < j → j < length homes → slice_index homes i ≡ slice_index homes j → ⊥
+
+-- the number at some place isn't under the number of homes
+abbrev pub HasNoHome : ℕ → (ℕ → ℕ) → ℕ → Type 0
+HasNoHome count names n = (j : ℕ) × (j < n) × (count ≤ names j)
+
+-- some home stands at two places
+abbrev pub HasHomeTwice : (ℕ → ℕ) → ℕ → Type 0
+HasHomeTwice names n = (i : ℕ) × (j : ℕ) × (i < j) × (j < n) × (names i ≡ names j)
+
+-- a map that no commit writes: over 127 pages, a home that the device hasn't, or a home twice
+abbrev pub IsBadMap : ℕ → List ℕ → Type 0
+IsBadMap count map = (127 < count_in map) ⊎ (HasNoHome count (home_in map) (count_in map) ⊎ HasHomeTwice (home_in map) (count_in map))

@@ -1,0 +1,20 @@
+-- What a commit does to its source, and when it tells which fault.
+use Rattle.std.specs.Prelude.{ℕ, ◌<◌, ◌≤◌, ◌≡◌, Result, IsErrOf}
+use Rattle.sync_journal.specs.declared.faults.CommitFault.{CommitFault}
+use Rattle.sync_journal.specs.declared.faults.CommitFault.TheVariants.{Source, Device}
+use Rattle.sync_journal.specs.declared.source.PageSource.{Ghosts}
+
+-- Pages were asked of the source, and nothing else was done to it.
+pub record Asks {S : Type 0} (g : Ghosts S) (old new : S) : Type 0 where
+  pub kept : g.keeps_model new → g.keeps_model old
+  pub later : g.failures old ≤ g.failures new
+  pub same : g.keeps_model new → (k : ℕ) → g.pages new k ≡ g.pages old k
+  pub still : (k : ℕ) → g.gives old k → g.gives new k
+  pub follows : g.follows old new
+
+-- A fault is told only where the one that it names failed in this call.
+pub record HasCauses (device_before device_now source_before source_now : ℕ) (result : Result (Unit {0}) CommitFault) : Type 0 where
+  pub device_later : device_before ≤ device_now
+  pub source_later : source_before ≤ source_now
+  pub device : IsErrOf result Device → device_before < device_now
+  pub source : IsErrOf result Source → source_before < source_now

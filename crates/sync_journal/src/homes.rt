@@ -1,0 +1,62 @@
+//! The pages of an open journal, copied to their homes.
+ghost use Rattle.std.specs.Prelude.{◌≡◌, ◌<◌, ◌≤◌, ℕ, length, OnOk, IsErr};
+ghost use Rattle.disk_model.specs.Moments.{LeavesOnly};
+ghost use Rattle.sync_journal.specs.Layout.{home_count, IsHomeSector, IsReplayed};
+ghost use Rattle.sync_journal.specs.Map.{AreHomes};
+ghost use Rattle.sync_journal.specs.Standing.{IsOpenFor, AreCopied, StandsFor, standing};
+ghost use Rattle.sync_journal.specs.Commit.{IsKept, IsSettled};
+ghost use Rattle.sync_journal.specs.Runs.{Runs};
+
+use crate::gate::close_gate;
+use crate::layout::{BODY, FIRST_HOME, PAGE_SECTORS};
+use crate::pages::copy_page;
+use disk_model::{DiskFault, SectorDisk};
+
+/// Copies the pages of an open journal to their homes, and then closes the gate.
+pub(crate) fn replay<D: SectorDisk>(disk: &mut D, homes: &[u32]) -> Result<(), DiskFault>
+    requires room { 1020 ≤ D.sector_count disk.old }
+    requires homes { AreHomes (home_count (D.sector_count disk.old)) homes.now }
+    requires opened { D.keeps_model disk.old → IsOpenFor homes.now (D.content disk.old) }
+    requires synced { D.keeps_model disk.old → (k : ℕ) → D.unsynced disk.old k → ⊥ }
+    ensures run { Runs D.SectorDisk (IsReplayed homes.now) disk.old disk.new }
+    ensures failed { IsErr result → D.failures disk.old < D.failures disk.new }
+
+    // Every image of a stop at any moment of the call stands for the same pages.
+    ensures any_moment { D.keeps_model disk.new → LeavesOnly D.SectorDisk disk.old disk.new
+        (IsKept (D.sector_count disk.old) (D.content disk.old) (StandsFor (standing (D.content disk.old)))) }
+
+    ensures settled { D.keeps_model disk.new → OnOk result
+        (IsSettled D.SectorDisk (D.sector_count disk.old) (D.content disk.old) disk.new (standing (D.content disk.old))) }
+    ensures all_synced { D.keeps_model disk.new → OnOk result ((k : ℕ) → D.unsynced disk.new k → ⊥) }
+{
+    copy_homes(disk, homes)?;
+    close_gate(disk)
+}
+
+// Copies each page of the body to its home, and syncs.
+fn copy_homes<D: SectorDisk>(disk: &mut D, homes: &[u32]) -> Result<(), DiskFault>
+    requires { AreHomes (home_count (D.sector_count disk.old)) homes.now }
+    ensures run { Runs D.SectorDisk (IsHomeSector homes.now) disk.old disk.new }
+    ensures failed { IsErr result → D.failures disk.old < D.failures disk.new }
+    ensures copied { D.keeps_model disk.new → OnOk result (AreCopied homes.now (length homes.now) (D.content disk.old) (D.content disk.new)) }
+    ensures synced { D.keeps_model disk.new → OnOk result ((k : ℕ) → D.unsynced disk.new k → ⊥) }
+{
+    copy_each(disk, homes)?;
+    disk.sync()
+}
+
+fn copy_each<D: SectorDisk>(disk: &mut D, homes: &[u32]) -> Result<(), DiskFault>
+    requires { AreHomes (home_count (D.sector_count disk.old)) homes.now }
+    ensures run { Runs D.SectorDisk (IsHomeSector homes.now) disk.old disk.new }
+    ensures failed { IsErr result → D.failures disk.old < D.failures disk.new }
+    ensures copied { D.keeps_model disk.new → OnOk result (AreCopied homes.now (length homes.now) (D.content disk.old) (D.content disk.new)) }
+{
+    for (j, home) in homes.iter().enumerate() {
+        copy_page(
+            disk,
+            BODY + PAGE_SECTORS * j as u64,
+            FIRST_HOME + PAGE_SECTORS * u64::from(*home),
+        )?;
+    }
+    Ok(())
+}

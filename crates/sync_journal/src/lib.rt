@@ -1,0 +1,37 @@
+//! A redo journal over a row of sectors: the pages of one commit become durable all at once or not at all,
+//! whatever moment the device stops at.
+//!
+//! The store's format is our own; sectors are of 512 bytes.
+//!
+//! | Sectors | Content |
+//! |---|---|
+//! | 0, 1 | not the journal's: nothing here writes them |
+//! | 2 | gate: open exactly where it is the bytes `GATEOPEN` 64 times |
+//! | 3 | map: the number of pages, then the number of each one's home, as little-endian `u32`s |
+//! | 4 to 1,019 | body: page `j` of the commit is sectors `4 + 8 j` to `11 + 8 j` |
+//! | 1,020 on | home page `h` is sectors `1020 + 8 h` to `1027 + 8 h` |
+//!
+//! An image stands for its home pages, but where the gate is open, a page that the map names stands in the body.
+//! After Park, Kelly and Shen, "Failure-Atomic msync(): A Simple and Efficient Mechanism for Preserving the
+//! Integrity of Durable Data" (EuroSys 2013), which asks for this of one msync.
+#![tactic(auto)]
+
+mod commits;
+mod faults;
+mod gate;
+mod homes;
+mod layout;
+mod map;
+mod pages;
+mod recovery;
+mod source;
+mod stage;
+
+pub use commits::Journal;
+pub use faults::{CommitFault, RecoverFault};
+pub use layout::{FIRST_HOME, MAX_HOMES, PAGE_LIMIT, PAGE_SECTORS, home_count};
+pub use recovery::recover;
+pub use source::{PageSource, SourceFault};
+
+#[cfg(test)]
+mod tests;

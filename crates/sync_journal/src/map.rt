@@ -1,0 +1,75 @@
+//! The journal map: which homes the pages of the body belong to.
+ghost use Rattle.std.specs.Prelude.{◌≡◌, ◌<◌, ◌≤◌, ◌⊎◌, ◌+◌, ◌*◌, ◌++◌, ℕ, length, take, drop, slice_index, MatchOption};
+ghost use Rattle.std.specs.Bool.{OnTrue, OnFalse};
+ghost use Rattle.std.specs.List.{flat_map};
+ghost use Rattle.byteorder.specs.Endian.{little_bytes};
+ghost use Rattle.sync_journal.specs.Map.{AreHomes, HasNoHome, HasHomeTwice, IsBadMap, map_bytes, count_in, home_in};
+
+use crate::layout::PAGE_LIMIT;
+use byteorder::{ByteOrder, LittleEndian};
+
+/// The map sector of these homes; the rest of it is zero.
+pub(crate) fn map_sector(homes: &[u32]) -> [u8; 512]
+    requires { length homes.now ≤ 127 }
+    ensures { result ≡ map_bytes homes.now }
+{
+    let mut map = [0; 512];
+    write_map(&mut map, homes);
+    map
+}
+
+// Writes the count and the homes over the front of a map.
+fn write_map(map: &mut [u8], homes: &[u32])
+    requires few { length homes.now ≤ 127 }
+    requires room { length map.old ≡ 512 }
+    ensures { map.new ≡ (little_bytes 4 (length homes.now) ++ flat_map (little_bytes 4) homes.now) ++ drop (4 + 4 * length homes.now) map.old }
+{
+    LittleEndian::write_u32(map, homes.len() as u32);
+    LittleEndian::write_u32_into(homes, &mut map[4..4 + 4 * homes.len()]);
+}
+
+/// Reads the homes that a map names into the front of `homes`, and answers how many they are. `None` exactly where
+/// the map names over 127 pages, a home that isn't under `limit` or a home twice.
+pub(crate) fn read_homes(
+    map: &[u8; 512],
+    limit: u64,
+    homes: &mut [u32; PAGE_LIMIT],
+) -> Option<usize>
+    ensures { MatchOption result (IsBadMap limit map.now) (λ count. (count ≡ count_in map.now) × (count ≤ 127)
+        × ((j : ℕ) → j < count → slice_index homes.new j ≡ home_in map.now j) × AreHomes limit (take count homes.new)) }
+{
+    let count = LittleEndian::read_u32(map) as usize;
+    if count > PAGE_LIMIT {
+        return None;
+    }
+    read_numbers(map, &mut homes[..count]);
+    if are_homes(&homes[..count], limit) {
+        Some(count)
+    } else {
+        None
+    }
+}
+
+// Fills `homes` with the first numbers behind the count.
+fn read_numbers(map: &[u8], homes: &mut [u32])
+    requires few { length homes.old ≤ 127 }
+    requires room { length map.now ≡ 512 }
+    ensures { (j : ℕ) → j < length homes.new → slice_index homes.new j ≡ home_in map.now j }
+{
+    LittleEndian::read_u32_into(&map[4..4 + 4 * homes.len()], homes);
+}
+
+// Whether each home is under the limit, and none stands twice.
+pub(crate) fn are_homes(homes: &[u32], limit: u64) -> bool
+    requires { length homes.now ≤ 127 }
+    ensures good { OnTrue result (AreHomes limit homes.now) }
+    ensures bad { OnFalse result (HasNoHome limit (λ j. slice_index homes.now j) (length homes.now)
+        ⊎ HasHomeTwice (λ j. slice_index homes.now j) (length homes.now)) }
+{
+    for (j, home) in homes.iter().enumerate() {
+        if u64::from(*home) >= limit || homes[..j].contains(home) {
+            return false;
+        }
+    }
+    true
+}

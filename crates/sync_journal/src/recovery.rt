@@ -1,0 +1,76 @@
+//! A store after a stop.
+ghost use Rattle.std.specs.Prelude.{◌≡◌, ◌<◌, ◌≤◌, ℕ, false, OnOk, IsErrOf};
+ghost use Rattle.disk_model.specs.Moments.{LeavesOnly, Touches, Nothing};
+ghost use Rattle.sync_journal.specs.Gate.{is_open};
+ghost use Rattle.sync_journal.specs.Runs.{Runs};
+ghost use Rattle.sync_journal.specs.Recovery.{Finds, GivesHomes};
+ghost use Rattle.sync_journal.specs.Standing.{StandsFor, IsBadJournal, standing};
+ghost use Rattle.sync_journal.specs.Commit.{IsKept, IsSettled};
+
+use crate::faults::RecoverFault;
+use crate::gate::is_open_gate;
+use crate::homes::replay;
+use crate::layout::{GATE, MAP, PAGE_LIMIT, home_count};
+use crate::map::read_homes;
+use disk_model::SectorDisk;
+
+/// Copies the pages of an open journal to their homes and closes the gate. Where the gate is closed nothing is
+/// written. It may be stopped at any moment, any number of times in a row.
+///
+/// `BadJournal` comes exactly where the gate is open and the map names over 127 pages, a home that the device
+/// hasn't or a home twice, unless the device fails first. `Device` comes only where the device failed.
+pub fn recover<D: SectorDisk>(disk: &mut D) -> Result<(), RecoverFault>
+    requires room { 1020 ≤ D.sector_count disk.old }
+    requires synced { D.keeps_model disk.old → (k : ℕ) → D.unsynced disk.old k → ⊥ }
+
+    ensures size { D.sector_count disk.new ≡ D.sector_count disk.old }
+    ensures kept { D.keeps_model disk.new → D.keeps_model disk.old }
+    ensures later { D.failures disk.old ≤ D.failures disk.new }
+    ensures device { IsErrOf result RecoverFault.Device → D.failures disk.old < D.failures disk.new }
+
+    // Every image of a stop at any moment of the call stands for the same pages.
+    ensures any_moment { D.keeps_model disk.new → LeavesOnly D.SectorDisk disk.old disk.new
+        (IsKept (D.sector_count disk.old) (D.content disk.old) (StandsFor (standing (D.content disk.old)))) }
+
+    ensures ok { D.keeps_model disk.new → OnOk result
+        (IsSettled D.SectorDisk (D.sector_count disk.old) (D.content disk.old) disk.new (standing (D.content disk.old))) }
+    ensures ok_synced { D.keeps_model disk.new → OnOk result ((k : ℕ) → D.unsynced disk.new k → ⊥) }
+
+    // BadJournal exactly where the journal is bad.
+    ensures good { D.keeps_model disk.new → OnOk result (IsBadJournal (D.sector_count disk.old) (D.content disk.old) → ⊥) }
+    ensures bad { D.keeps_model disk.new → IsErrOf result RecoverFault.BadJournal → IsBadJournal (D.sector_count disk.old) (D.content disk.old) }
+
+    ensures bad_unwritten { D.keeps_model disk.new → IsBadJournal (D.sector_count disk.old) (D.content disk.old) → Touches D.SectorDisk Nothing disk.old disk.new }
+    ensures closed_unwritten { D.keeps_model disk.new → is_open (D.content disk.old) ≡ false → Touches D.SectorDisk Nothing disk.old disk.new }
+{
+    let mut homes = [0; PAGE_LIMIT];
+    let Some(count) = find_open(disk, &mut homes)? else {
+        return Ok(());
+    };
+    replay(disk, &homes[..count])?;
+    Ok(())
+}
+
+// Reads gate and map: `None` where the gate is closed, otherwise how many homes the map names, which then stand at
+// the front of `homes`.
+fn find_open<D: SectorDisk>(
+    disk: &mut D,
+    homes: &mut [u32; PAGE_LIMIT],
+) -> Result<Option<usize>, RecoverFault>
+    requires { 1020 ≤ D.sector_count disk.old }
+    ensures run { Runs D.SectorDisk Nothing disk.old disk.new }
+    ensures device { IsErrOf result RecoverFault.Device → D.failures disk.old < D.failures disk.new }
+    ensures gives { GivesHomes (D.sector_count disk.old) homes.new result }
+    ensures finds { D.keeps_model disk.new → Finds (D.sector_count disk.old) (D.content disk.old) homes.new result }
+{
+    let mut sector = [0; 512];
+    disk.read(GATE, &mut sector)?;
+    if !is_open_gate(&sector) {
+        return Ok(None);
+    }
+    disk.read(MAP, &mut sector)?;
+    match read_homes(&sector, home_count(disk.sectors()), homes) {
+        Some(count) => Ok(Some(count)),
+        None => Err(RecoverFault::BadJournal),
+    }
+}

@@ -1,0 +1,58 @@
+//! Pages and map of a commit, written to the journal before the gate is opened.
+ghost use Rattle.std.specs.Prelude.{◌≡◌, ◌<◌, ◌≤◌, ℕ, length, OnOk};
+ghost use Rattle.sync_journal.specs.Layout.{map_sector, IsJournalSector};
+ghost use Rattle.sync_journal.specs.Map.{map_bytes};
+ghost use Rattle.sync_journal.specs.Standing.{HoldsPages};
+ghost use Rattle.sync_journal.specs.Runs.{Runs};
+ghost use Rattle.sync_journal.specs.Source.{Asks, HasCauses};
+
+use crate::faults::CommitFault;
+use crate::layout::{BODY, MAP, PAGE_SECTORS};
+use crate::map::map_sector as map_sector_of;
+use crate::pages::write_page;
+use crate::source::PageSource;
+use disk_model::SectorDisk;
+
+/// Writes the pages that the source gives into the body and the homes into the map, and syncs.
+pub(crate) fn stage<D: SectorDisk, S: PageSource>(
+    disk: &mut D,
+    homes: &[u32],
+    source: &mut S,
+) -> Result<(), CommitFault>
+    requires room { 1020 ≤ D.sector_count disk.old }
+    requires few { length homes.now ≤ 127 }
+    requires gives { (i : ℕ) → i < length homes.now → S.gives source.old i }
+    ensures run { Runs D.SectorDisk IsJournalSector disk.old disk.new }
+    ensures asks { Asks S.PageSource source.old source.new }
+    ensures causes { HasCauses (D.failures disk.old) (D.failures disk.new) (S.failures source.old) (S.failures source.new) result }
+    ensures body { D.keeps_model disk.new → S.keeps_model source.new → OnOk result (HoldsPages (length homes.now) (S.pages source.old) (D.content disk.new)) }
+    ensures map { D.keeps_model disk.new → OnOk result (D.content disk.new map_sector ≡ map_bytes homes.now) }
+    ensures synced { D.keeps_model disk.new → OnOk result ((k : ℕ) → D.unsynced disk.new k → ⊥) }
+{
+    write_body(disk, homes.len(), source)?;
+    disk.write(MAP, &map_sector_of(homes))?;
+    disk.sync()?;
+    Ok(())
+}
+
+// Writes the first pages that the source gives into the body.
+fn write_body<D: SectorDisk, S: PageSource>(
+    disk: &mut D,
+    count: usize,
+    source: &mut S,
+) -> Result<(), CommitFault>
+    requires room { 1020 ≤ D.sector_count disk.old }
+    requires few { count ≤ 127 }
+    requires gives { (i : ℕ) → i < count → S.gives source.old i }
+    ensures run { Runs D.SectorDisk IsJournalSector disk.old disk.new }
+    ensures asks { Asks S.PageSource source.old source.new }
+    ensures causes { HasCauses (D.failures disk.old) (D.failures disk.new) (S.failures source.old) (S.failures source.new) result }
+    ensures body { D.keeps_model disk.new → S.keeps_model source.new → OnOk result (HoldsPages count (S.pages source.old) (D.content disk.new)) }
+{
+    let mut page = [0; 4096];
+    for j in 0..count {
+        source.page(j, &mut page)?;
+        write_page(disk, BODY + PAGE_SECTORS * j as u64, &page)?;
+    }
+    Ok(())
+}

@@ -1,0 +1,6 @@
+mod Radix
+mod Hex
+mod Places
+mod Spaces
+mod OneCommand
+pub mod Lines

@@ -1,0 +1,50 @@
+-- Numerals digit by digit.
+use Rattle.std.proofs.Common.{◌≡◌, ℕ, zero, suc, ◌+◌, ◌*◌, ◌<◌, ◌≤◌, List, [], ◌∷◌, length, get_or, take, Bool, false, ◌==◌, sym, ◌∙◌, ap, subst, arith}
+use Rattle.std.specs.Char.{digit_value}
+use Rattle.std.specs.Str.Parse.{AllDigits, digits_value}
+use Rattle.std.proofs.lemmas.Int.Digits.{digits_value_more}
+use Rattle.std.proofs.lemmas.Str.Parse.{digits_value-take-le}
+
+-- each digit of a numeral is below the radix
+pub digit_below : (radix : ℕ) (ds : List ℕ) (i byte : ℕ) → byte ≡ get_or ds i 0 → AllDigits radix ds → i < length ds → digit_value byte < radix
+digit_below radix [] i byte e h l = absurd (omega (arith, l))
+digit_below radix (c ∷ cs) zero byte e h l = let P : ℕ → Type 0 = λ x. digit_value x < radix in subst P (sym e) h.0
+digit_below radix (c ∷ cs) (suc i) byte e h l = digit_below radix cs i byte e h.1 (below_suc i (length cs) l)
+  where
+    below_suc : (i n : ℕ) → suc i < suc n → i < n
+    below_suc i n l = omega arith
+
+-- a numeral is at least what its first digits and the next one write
+pub value_so_far : (radix : ℕ) (ds : List ℕ) (i n : ℕ) → 2 ≤ radix → i < length ds → n ≡ digits_value radix (take i ds)
+    → n * radix + digit_value (get_or ds i 0) ≤ digits_value radix ds
+value_so_far radix ds i n low l e =
+    let P : ℕ → Type 0 = λ x. x ≤ digits_value radix ds in
+    subst P (digits_value_more radix ds i l ∙ ap (λ v. v * radix + digit_value (get_or ds i 0)) (sym e))
+    (digits_value-take-le radix ds (i + 1) (at_least_one radix low))
+  where
+    at_least_one : (n : ℕ) → 2 ≤ n → 1 ≤ n
+    at_least_one n l = omega arith
+
+-- what one more digit gives
+pub next_value : (radix : ℕ) (ds : List ℕ) (i n factor shifted byte digit added more : ℕ) → i < length ds → n ≡ digits_value radix (take i ds)
+    → factor ≡ radix → shifted ≡ n * factor → byte ≡ get_or ds i 0 → digit ≡ digit_value byte → added ≡ digit → more ≡ shifted + added
+    → more ≡ digits_value radix (take (i + 1) ds)
+next_value radix ds i n factor shifted byte digit added more l en ef es eb ed ea em =
+    em ∙ ap (λ x. x + added) es ∙ ap (λ x. n * x + added) ef
+    ∙ ap (λ x. n * radix + x) (ea ∙ ed ∙ ap digit_value eb)
+    ∙ ap (λ v. v * radix + digit_value (get_or ds i 0)) en ∙ sym (digits_value_more radix ds i l)
+
+-- a product or a sum past the limit shows that the numeral is
+pub mul_past : (n radix factor d most limit : ℕ) → n * radix + d ≤ most → most < limit → factor ≡ radix → (n * factor < limit → ⊥) → ⊥
+mul_past n radix factor d most limit h small e past =
+    let P : ℕ → Type 0 = λ x. n * x < limit in past (subst P (sym e) (omega arith))
+
+pub add_past : (n radix factor shifted d digit added most limit : ℕ) → n * radix + d ≤ most → most < limit → factor ≡ radix → shifted ≡ n * factor
+    → added ≡ digit → digit ≡ d → (shifted + added < limit → ⊥) → ⊥
+add_past n radix factor shifted d digit added most limit h small ef es ea ed past =
+    let P : ℕ → Type 0 = λ x. x < limit in
+    past (subst P (sym (ap (λ x. x + added) (es ∙ ap (λ x. n * x) ef) ∙ ap (λ x. n * radix + x) (ea ∙ ed))) (omega arith))
+
+pub not_empty : (n : ℕ) (test : Bool) → test ≡ (n == 0) → test ≡ false → 0 < n
+not_empty zero test e f = cc
+not_empty (suc n) test e f = omega arith

@@ -1,0 +1,90 @@
+-- The words of a line are what stands between its spaces.
+use Rattle.std.proofs.Common.{◌≡◌, ◌≢◌, ℕ, zero, suc, ◌<◌, ◌≤◌, Bool, true, false, eqb, eqb-true, List, [], ◌∷◌, length, get_or, All, refl, sym, ◌∙◌, ap, subst, inl, inr, lit<, lit≤, arith}
+use Rattle.std.proofs.lemmas.Bool.{cases_eq}
+use Rattle.std.specs.List.{onto_first, join_with_byte}
+use Rattle.std.proofs.lemmas.List.Splits.{slice_split-cons_yes, slice_split-cons_no, slice_split_none, slice_split_at, join_with_byte-slice_split}
+use Rattle.trace_lang.specs.Grammar.{HasNoSpace, IsCommand, IsForm, IsSource, IsWords}
+use Rattle.trace_lang.specs.Words.{words_of}
+use Rattle.vm_types.specs.declared.command.Command.{Command}
+use Rattle.vm_types.specs.declared.command.Command.TheVariants.{Spawn, Mmap, Msync, Load, Store}
+use Rattle.vm_types.specs.declared.command.MapSource.{MapSource}
+use Rattle.vm_types.specs.declared.command.MapSource.TheVariants.{Shared}
+
+other_byte : (b : ℕ) → b ≢ 32 → eqb b 32 ≡ false
+other_byte b h = elim (eqb b 32) as (λ v. eqb b 32 ≡ v → v ≡ false) [ true ↦ (λ e. absurd (h (eqb-true b 32 e))) | false ↦ (λ e. refl) ] refl
+
+no_space-cons : (b : ℕ) (word : List ℕ) → b ≢ 32 → HasNoSpace word → HasNoSpace (b ∷ word)
+no_space-cons b word h all zero d l = h
+no_space-cons b word h all (suc k) d l = all k d (omega arith)
+
+no_space-onto : (b : ℕ) (parts : List (List ℕ)) → b ≢ 32 → All HasNoSpace parts → All HasNoSpace (onto_first b parts)
+no_space-onto b [] h all zero d l = no_space-cons b [] h (λ k d l. absurd (omega arith))
+no_space-onto b [] h all (suc k) d l = absurd (omega arith)
+no_space-onto b (part ∷ parts) h all zero d l = no_space-cons b part h (all 0 d (omega arith))
+no_space-onto b (part ∷ parts) h all (suc k) d l = all (suc k) d l
+
+no_space-empty : (parts : List (List ℕ)) → All HasNoSpace parts → All HasNoSpace ([] ∷ parts)
+no_space-empty parts all zero d l = λ k d l. absurd (omega arith)
+no_space-empty parts all (suc k) d l = all k d (omega arith)
+
+no_space-words_of : (line : List ℕ) → All HasNoSpace (words_of line)
+no_space-words_of [] = no_space-empty [] (λ k d l. absurd (omega arith))
+no_space-words_of (b ∷ bs) =
+    let P : List (List ℕ) → Type 0 = λ parts. All HasNoSpace parts in
+    let p : ℕ → Bool = λ b. eqb b 32 in
+    elim (cases_eq b 32) [
+      | inl e ↦ subst P (sym (slice_split-cons_yes p b bs (ap p e))) (no_space-empty (words_of bs) (no_space-words_of bs))
+      | inr h ↦ subst P (sym (slice_split-cons_no p b bs (other_byte b h))) (no_space-onto b (words_of bs) h (no_space-words_of bs))
+    ]
+
+pub words_joined : (line : List ℕ) → IsWords line (words_of line)
+words_joined line = record { joined = sym (join_with_byte-slice_split 32 line); each = no_space-words_of line }
+
+no_cut : (word : List ℕ) → HasNoSpace word → All (λ b. eqb b 32 ≡ false) word
+no_cut word h k d l = other_byte (get_or word k d) (h k d l)
+
+split-join : (word : List ℕ) (words : List (List ℕ)) → All HasNoSpace (word ∷ words) → words_of (join_with_byte 32 (word ∷ words)) ≡ word ∷ words
+split-join word [] all = slice_split_none (λ b. eqb b 32) word (no_cut word (all 0 [] (omega arith)))
+split-join word (next ∷ words) all =
+    slice_split_at (λ b. eqb b 32) word 32 (join_with_byte 32 (next ∷ words)) (no_cut word (all 0 [] (omega arith))) refl
+    ∙ ap (λ parts. word ∷ parts) (split-join next words (λ k d l. all (suc k) d (omega arith)))
+
+-- the words of a line are no others, where there are any
+pub words_of_line : (line : List ℕ) (words : List (List ℕ)) → IsWords line words → 0 < length words → words_of line ≡ words
+words_of_line line [] h some = absurd (omega arith)
+words_of_line line (word ∷ words) h some = ap words_of h.joined ∙ split-join word words h.each
+
+few_of : (n : ℕ) (words others : List (List ℕ)) → words ≡ others → length others ≡ n → 0 < n → n ≤ 9 → (0 < length words) × (length words ≤ 9)
+few_of n words others e l low high = let m = ap length e ∙ l in (omega (arith, m), omega (arith, m))
+
+source_words : (words : List (List ℕ)) (source : MapSource) → IsSource words source → length words ≡ 3
+source_words words (Shared file offset) h = ap length h.2
+
+-- a form has one word to nine
+pub form_words : (words : List (List ℕ)) (command : Command) → IsForm words command → (0 < length words) × (length words ≤ 9)
+form_words words Spawn h = few_of 1 words _ h refl (lit< tt) (lit≤ tt)
+form_words words (Mmap pid addr len prot source) h =
+    let m = ap length h.5 in let n = source_words h.4 source h.10 in (omega (arith, m, n), omega (arith, m, n))
+form_words words (Msync pid addr len mode) h = few_of 5 words _ h.4 refl (lit< tt) (lit≤ tt)
+form_words words (Load pid addr width) h = few_of 4 words _ h.3 refl (lit< tt) (lit≤ tt)
+form_words words (Store pid addr stored) h = few_of 5 words _ h.4 refl (lit< tt) (lit≤ tt)
+
+pub same_words : (line : List ℕ) (command : Command) (h : IsCommand line command) → words_of line ≡ h.words
+same_words line command h = words_of_line line h.words h.parted (form_words h.words command h.form).0
+
+-- the command of a line is read off its words
+pub form_of_line : (line : List ℕ) (words : List (List ℕ)) (command : Command) → words ≡ words_of line → IsCommand line command → IsForm words command
+form_of_line line words command e h =
+    let P : List (List ℕ) → Type 0 = λ w. IsForm w command in
+    subst P (sym (e ∙ same_words line command h)) h.form
+
+pub command_of_words : (line : List ℕ) (words : List (List ℕ)) (command : Command) → length line ≤ 256 → words ≡ words_of line → IsForm words command → IsCommand line command
+command_of_words line words command short e form =
+    let P : List (List ℕ) → Type 0 = λ w. IsForm w command in
+    record { short = short; words = words_of line; parted = words_joined line; form = subst P e form }
+
+pub too_many_words : (line : List ℕ) (command : Command) → 9 < length (words_of line) → IsCommand line command → ⊥
+too_many_words line command many h =
+    let e = ap length (same_words line command h) in
+    let few = (form_words h.words command h.form).1 in
+    omega (arith, e, few)

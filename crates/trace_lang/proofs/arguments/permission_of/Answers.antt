@@ -1,0 +1,23 @@
+use Rattle.std.proofs.Common.{◌≡◌, ◌+◌, ◌*◌, Bool, true, false, Some, get_or, if◌then◌else◌, refl, sym, ◌∙◌, ap}
+use mir.Val.{bool_byte}
+use Rattle.vm_types.specs.Permission.{with_bits}
+use Rattle.trace_lang.proofs.arguments.permission_of.Goals as goal
+
+bits_of : (r w x : Bool) → bool_byte r + 2 * bool_byte w + 4 * bool_byte x ≡ (if r then 1 else 0) + (if w then 2 else 0) + (if x then 4 else 0)
+bits_of false false false = refl
+bits_of false false true = refl
+bits_of false true false = refl
+bits_of false true true = refl
+bits_of true false false = refl
+bits_of true false true = refl
+bits_of true true false = refl
+bits_of true true true = refl
+
+pub returns-clause-only : goal.returns-clause-only
+returns-clause-only c = λ prot h.
+    let r = c.given.ensures.only h.0 (ap (λ t. get_or t 0 0) h.3) in
+    let w = c.given-2.ensures.only h.1 (ap (λ t. get_or t 1 0) h.3) in
+    let x = c.given-3.ensures.only h.2 (ap (λ t. get_or t 2 0) h.3) in
+    let bits : c.from_bits_retain.result.0 ≡ bool_byte h.0 + 2 * bool_byte h.1 + 4 * bool_byte h.2 = cc (c.from_bits_retain.ensures tt) in
+    let same : c.from_bits_retain.result ≡ with_bits c.from_bits_retain.result.0 = refl in
+    ap (λ p. Some p) (same ∙ ap with_bits (bits ∙ bits_of h.0 h.1 h.2) ∙ sym h.4)

@@ -1,0 +1,40 @@
+use Rattle.std.proofs.Common.{ℕ, List, get_or, codes, IfSome, sym, subst, arith}
+use Rattle.std.proofs.lemmas.Slice.Eq.{text_from_reads}
+use Rattle.trace_lang.specs.Grammar.{IsForm}
+use Rattle.trace_lang.proofs.Places.{four_words, five_words, five_or_more}
+use Rattle.trace_lang.proofs.OneCommand.{only_load, only_store, only_msync, only_mmap}
+use Rattle.trace_lang.proofs.forms.command_of.Goals as goal
+
+pub returns-in-load-clause-only : goal.returns-in-load-clause-only
+returns-in-load-clause-only c =
+    let name = text_from_reads (get_or c.args.words.now 0 _).now (codes "load") (grind arith) (omega arith, (omega arith, (omega arith, (omega arith, tt)))) in
+    only_load _ _ _ _ _ (four_words c.args.words.now _ _ (grind arith) name) c.load_of.ensures.only
+
+pub returns-in-store-clause-only : goal.returns-in-store-clause-only
+returns-in-store-clause-only c =
+    let name = text_from_reads (get_or c.args.words.now 0 _).now (codes "store") (grind arith) (omega arith, (omega arith, (omega arith, (omega arith, (omega arith, tt))))) in
+    only_store _ _ _ _ _ _ (five_words c.args.words.now _ _ (grind arith) name) c.store_of.ensures.only
+
+pub returns-in-msync-clause-found : goal.returns-in-msync-clause-found
+returns-in-msync-clause-found c =
+    let name = text_from_reads (get_or c.args.words.now 0 _).now (codes "msync") (grind arith) (omega arith, (omega arith, (omega arith, (omega arith, (omega arith, tt))))) in
+    let whole = five_words c.args.words.now _ _ (grind arith) name in
+    let P : List (List ℕ) → Type 0 = λ t. IfSome c.msync_of.result (λ command. IsForm t command) in
+    subst P (sym whole) c.msync_of.ensures.found
+
+pub returns-in-msync-clause-only : goal.returns-in-msync-clause-only
+returns-in-msync-clause-only c =
+    let name = text_from_reads (get_or c.args.words.now 0 _).now (codes "msync") (grind arith) (omega arith, (omega arith, (omega arith, (omega arith, (omega arith, tt))))) in
+    only_msync _ _ _ _ _ _ (five_words c.args.words.now _ _ (grind arith) name) c.msync_of.ensures.only
+
+pub returns-in-mmap-clause-found : goal.returns-in-mmap-clause-found
+returns-in-mmap-clause-found c =
+    let name = text_from_reads (get_or c.args.words.now 0 _).now (codes "mmap") (grind arith) (omega arith, (omega arith, (omega arith, (omega arith, tt)))) in
+    let whole = five_or_more c.args.words.now _ _ (grind arith) name in
+    let P : List (List ℕ) → Type 0 = λ t. IfSome c.mmap_of.result (λ command. IsForm t command) in
+    subst P (sym whole) c.mmap_of.ensures.found
+
+pub returns-in-mmap-clause-only : goal.returns-in-mmap-clause-only
+returns-in-mmap-clause-only c =
+    let name = text_from_reads (get_or c.args.words.now 0 _).now (codes "mmap") (grind arith) (omega arith, (omega arith, (omega arith, (omega arith, tt)))) in
+    only_mmap _ _ _ _ _ _ _ (five_or_more c.args.words.now _ _ (grind arith) name) c.mmap_of.ensures.only

@@ -1,0 +1,35 @@
+use Rattle.std.proofs.Common.{◌≡◌, Option, Some, None, Result, Ok, Err, IfSome, IfOk, OnErr, ok_or, sym, ◌∙◌, ap, subst, arith}
+use Rattle.vm_types.specs.declared.command.Command.{Command}
+use Rattle.trace_lang.specs.Grammar.{IsCommand}
+use Rattle.trace_lang.proofs.Spaces.{form_of_line, command_of_words, too_many_words}
+use Rattle.trace_lang.proofs.parsing.parse_line.Goals as goal
+
+found_ok : {A E : Type 0} (P Q : A → Type 0) (r : Option A) (e : E) → ((x : A) → P x → Q x) → IfSome r P → IfOk (ok_or r e) Q
+found_ok P Q None e f h = tt
+found_ok P Q (Some x) e f h = f x h
+
+none_ok : {A E : Type 0} (P : A → Type 0) (r : Result A E) → ((x : A) → P x → r ≡ Ok x) → OnErr r ((x : A) → P x → ⊥)
+none_ok P (Ok x) only = tt
+none_ok P (Err e) only = λ x h. let same = only x h in cc
+
+pub returns-in_default-clause-none : goal.returns-in_default-clause-none
+returns-in_default-clause-none c = λ command h. too_many_words _ command c.in_default.ensures.none h
+
+pub returns-in_default-clause-only : goal.returns-in_default-clause-only
+returns-in_default-clause-only c = λ command h. absurd (too_many_words _ command c.in_default.ensures.none h)
+
+pub returns-clause-found : goal.returns-clause-found
+returns-clause-found c =
+    let line = c.args.line.now in
+    let P : Result Command _ → Type 0 = λ r. IfOk r (λ command. IsCommand line command) in
+    subst P (sym c.ok_or.ensures.value)
+    (found_ok _ (λ command. IsCommand line command) c.command_of.result _ (λ command form. command_of_words line _ command (omega arith) c.in-Some.ensures.found.1 form) c.command_of.ensures.found)
+
+pub returns-clause-only : goal.returns-clause-only
+returns-clause-only c = λ command h.
+    c.ok_or.ensures.value ∙ ap (λ r. ok_or r _) (c.command_of.ensures.only command (form_of_line _ _ command c.in-Some.ensures.found.1 h))
+
+pub returns-clause-none : goal.returns-clause-none
+returns-clause-none c =
+    none_ok (λ command. IsCommand c.args.line.now command) c.ok_or.result (λ command h.
+    c.ok_or.ensures.value ∙ ap (λ r. ok_or r _) (c.command_of.ensures.only command (form_of_line _ _ command c.in-Some.ensures.found.1 h)))

@@ -1,0 +1,84 @@
+-- Which line stands for which command: our own language, one case for each form of a line.
+use Rattle.std.specs.Prelude.{◌≡◌, ℕ, ◌+◌, ◌*◌, ◌^◌, ◌<◌, ◌≤◌, ◌⊎◌, ◌≢◌, Bool, List, [], ◌∷◌, ◌++◌, length, codes, All, if◌then◌else◌}
+use Rattle.std.specs.List.{join_with_byte}
+use Rattle.std.specs.Str.Parse.{IsNumeral, digits_value}
+use Rattle.vm_types.specs.Permission.{with_bits}
+use Rattle.vm_types.specs.Width.{byte_count}
+use Rattle.vm_types.specs.declared.command.Command.{Command}
+use Rattle.vm_types.specs.declared.command.Command.TheVariants.{Spawn, Mmap, Msync, Load, Store}
+use Rattle.vm_types.specs.declared.command.MapSource.{MapSource}
+use Rattle.vm_types.specs.declared.command.MapSource.TheVariants.{Shared}
+use Rattle.vm_types.specs.declared.command.MsyncMode.{MsyncMode}
+use Rattle.vm_types.specs.declared.command.MsyncMode.TheVariants.{Sync, Async}
+use Rattle.vm_types.specs.declared.permission.Prot.{Prot}
+use Rattle.vm_types.specs.declared.width.Width.{Width}
+
+-- one decimal digit or more
+abbrev pub IsDecimal : List ℕ → ℕ → Type 0
+IsDecimal text n = IsNumeral 10 text × (digits_value 10 text ≡ n)
+
+-- 0x, and one hexadecimal digit of either case or more
+abbrev pub IsHexadecimal : List ℕ → ℕ → Type 0
+IsHexadecimal text n = (digits : List ℕ) × (text ≡ codes "0x" ++ digits) × IsNumeral 16 digits × (digits_value 16 digits ≡ n)
+
+-- the text writes the number, which fits 64 bits; leading zeros change nothing
+pub record IsNumber (text : List ℕ) (n : ℕ) : Type 0 where
+  pub written : IsDecimal text n ⊎ IsHexadecimal text n
+  pub fits : n < 2 ^ 64
+
+-- a letter where the permission is given, and a dash where it isn't
+abbrev pub letter_or_dash : ℕ → Bool → ℕ
+letter_or_dash letter given = if given then letter else 45
+
+-- three characters: r or a dash, w or a dash, x or a dash
+abbrev pub IsPermission : List ℕ → Prot → Type 0
+IsPermission text prot =
+    (read write execute : Bool) × (text ≡ letter_or_dash 114 read ∷ letter_or_dash 119 write ∷ letter_or_dash 120 execute ∷ [])
+    × (prot ≡ with_bits ((if read then 1 else 0) + (if write then 2 else 0) + (if execute then 4 else 0)))
+
+-- 1, 2, 4 or 8, as a number
+abbrev pub IsWidth : List ℕ → Width → Type 0
+IsWidth text width = IsNumber text (byte_count width)
+
+abbrev pub IsMode : List ℕ → MsyncMode → Type 0
+IsMode text Sync = text ≡ codes "sync"
+IsMode text Async = text ≡ codes "async"
+
+-- the words that say what a mapping is to stand on
+abbrev pub IsSource : List (List ℕ) → MapSource → Type 0
+IsSource words (Shared file offset) =
+    (f o : List ℕ) × (words ≡ codes "shared" ∷ f ∷ o ∷ []) × IsNumber f file × IsNumber o offset
+
+-- the words of a line that stand for the command
+abbrev pub IsForm : List (List ℕ) → Command → Type 0
+IsForm words Spawn = words ≡ codes "spawn" ∷ []
+IsForm words (Mmap pid addr len prot source) =
+    (p a l t : List ℕ) × (s : List (List ℕ)) × (words ≡ codes "mmap" ∷ p ∷ a ∷ l ∷ t ∷ s)
+    × IsNumber p pid × IsNumber a addr × IsNumber l len × IsPermission t prot × IsSource s source
+IsForm words (Msync pid addr len mode) =
+    (p a l m : List ℕ) × (words ≡ codes "msync" ∷ p ∷ a ∷ l ∷ m ∷ [])
+    × IsNumber p pid × IsNumber a addr × IsNumber l len × IsMode m mode
+IsForm words (Load pid addr width) =
+    (p a w : List ℕ) × (words ≡ codes "load" ∷ p ∷ a ∷ w ∷ [])
+    × IsNumber p pid × IsNumber a addr × IsWidth w width
+IsForm words (Store pid addr stored) =
+    (p a w v : List ℕ) × (words ≡ codes "store" ∷ p ∷ a ∷ w ∷ v ∷ [])
+    × IsNumber p pid × IsNumber a addr × IsWidth w stored.width × IsNumber v stored.value
+    × (stored.value < 2 ^ (8 * byte_count stored.width))
+
+-- no space stands in it
+abbrev pub HasNoSpace : List ℕ → Type 0
+HasNoSpace word = All (λ b. b ≢ 32) word
+
+-- The words are parted by exactly one space each. At two spaces, or a space at either end, one of them is empty, and
+-- no form has an empty word.
+pub record IsWords (line : List ℕ) (words : List (List ℕ)) : Type 0 where
+  pub joined : line ≡ join_with_byte 32 words
+  pub each : All HasNoSpace words
+
+-- The line stands for the command. A line of more than 256 bytes stands for none.
+pub record IsCommand (line : List ℕ) (command : Command) : Type 0 where
+  pub short : length line ≤ 256
+  pub words : List (List ℕ)
+  pub parted : IsWords line words
+  pub form : IsForm words command

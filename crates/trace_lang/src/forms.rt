@@ -1,0 +1,131 @@
+//! The forms of a line, one function each, over the words of the line.
+ghost use Rattle.std.specs.Prelude.{◌≡◌, ◌∷◌, [], ℕ, ◌<◌, ◌^◌, ◌*◌, List, map, codes, IfSome};
+ghost use Rattle.trace_lang.specs.Grammar.{IsForm, IsMode, IsNumber, IsPermission, IsSource, IsWidth};
+ghost use Rattle.vm_types.specs.Width.{byte_count};
+ghost use Rattle.vm_types.specs.declared.access.StoredValue.{StoredValue};
+ghost use Rattle.vm_types.specs.declared.command.Command.{Command};
+ghost use Rattle.vm_types.specs.declared.command.MapSource.{MapSource};
+ghost use Rattle.vm_types.specs.declared.command.MsyncMode.{MsyncMode};
+ghost use Rattle.vm_types.specs.declared.permission.Prot.{Prot};
+ghost use Rattle.vm_types.specs.declared.width.Width.{Width};
+
+use crate::arguments::{mode_of, permission_of, source_of};
+use crate::numerals::{number_of, stored_of, width_of};
+use vm_types::Command;
+
+/// A load, by the words behind its name.
+fn load_of(process: &[u8], address: &[u8], bytes: &[u8]) -> Option<Command>
+    ensures found { IfSome result (λ command. IsForm (codes "load" ∷ process.now ∷ address.now ∷ bytes.now ∷ []) command) }
+    ensures only { (pid addr : ℕ) (width : Width) → IsNumber process.now pid → IsNumber address.now addr → IsWidth bytes.now width → result ≡ Some (Command.Load pid addr width) }
+{
+    let Some(pid) = number_of(process) else {
+        return None;
+    };
+    let Some(addr) = number_of(address) else {
+        return None;
+    };
+    let Some(width) = width_of(bytes) else {
+        return None;
+    };
+    Some(Command::Load { pid, addr, width })
+}
+
+/// A store, by the words behind its name.
+fn store_of(process: &[u8], address: &[u8], bytes: &[u8], value: &[u8]) -> Option<Command>
+    ensures found { IfSome result (λ command. IsForm (codes "store" ∷ process.now ∷ address.now ∷ bytes.now ∷ value.now ∷ []) command) }
+    ensures only { (pid addr : ℕ) (stored : StoredValue) → IsNumber process.now pid → IsNumber address.now addr → IsWidth bytes.now stored.width
+        → IsNumber value.now stored.value → stored.value < 2 ^ (8 * byte_count stored.width) → result ≡ Some (Command.Store pid addr stored) }
+{
+    let Some(pid) = number_of(process) else {
+        return None;
+    };
+    let Some(addr) = number_of(address) else {
+        return None;
+    };
+    let Some(width) = width_of(bytes) else {
+        return None;
+    };
+    let Some(stored) = stored_of(width, value) else {
+        return None;
+    };
+    Some(Command::Store { pid, addr, stored })
+}
+
+/// An msync, by the words behind its name.
+fn msync_of(process: &[u8], address: &[u8], length: &[u8], waits: &[u8]) -> Option<Command>
+    ensures found { IfSome result (λ command. IsForm (codes "msync" ∷ process.now ∷ address.now ∷ length.now ∷ waits.now ∷ []) command) }
+    ensures only { (pid addr len : ℕ) (mode : MsyncMode) → IsNumber process.now pid → IsNumber address.now addr → IsNumber length.now len
+        → IsMode waits.now mode → result ≡ Some (Command.Msync pid addr len mode) }
+{
+    let Some(pid) = number_of(process) else {
+        return None;
+    };
+    let Some(addr) = number_of(address) else {
+        return None;
+    };
+    let Some(len) = number_of(length) else {
+        return None;
+    };
+    let Some(mode) = mode_of(waits) else {
+        return None;
+    };
+    Some(Command::Msync {
+        pid,
+        addr,
+        len,
+        mode,
+    })
+}
+
+/// An mmap, by the words behind its name.
+fn mmap_of(
+    process: &[u8],
+    address: &[u8],
+    length: &[u8],
+    permission: &[u8],
+    back: &[&[u8]],
+) -> Option<Command>
+    ensures found { IfSome result (λ command. IsForm (codes "mmap" ∷ process.now ∷ address.now ∷ length.now ∷ permission.now ∷ map (λ w. w.now) back.now) command) }
+    ensures only { (pid addr len : ℕ) (prot : Prot) (source : MapSource) → IsNumber process.now pid → IsNumber address.now addr → IsNumber length.now len
+        → IsPermission permission.now prot → IsSource (map (λ w. w.now) back.now) source → result ≡ Some (Command.Mmap pid addr len prot source) }
+{
+    let Some(pid) = number_of(process) else {
+        return None;
+    };
+    let Some(addr) = number_of(address) else {
+        return None;
+    };
+    let Some(len) = number_of(length) else {
+        return None;
+    };
+    let Some(prot) = permission_of(permission) else {
+        return None;
+    };
+    let Some(source) = source_of(back) else {
+        return None;
+    };
+    Some(Command::Mmap {
+        pid,
+        addr,
+        len,
+        prot,
+        source,
+    })
+}
+
+/// The command that the words of a line stand for; `None` exactly where they are in no form.
+pub(crate) fn command_of(words: &[&[u8]]) -> Option<Command>
+    ensures found { IfSome result (λ command. IsForm (map (λ w. w.now) words.now) command) }
+    ensures only { (command : Command) → IsForm (map (λ w. w.now) words.now) command → result ≡ Some command }
+{
+    match words {
+        [b"spawn"] => Some(Command::Spawn),
+        [b"load", process, address, bytes] => load_of(process, address, bytes),
+        [b"store", process, address, bytes, value] => store_of(process, address, bytes, value),
+        [b"msync", process, address, length, waits] => msync_of(process, address, length, waits),
+        [b"mmap", process, address, length, permission, back @ ..] => mmap_of(
+            process, address, length, permission, back,
+        ),
+        _ => None,
+    }
+}

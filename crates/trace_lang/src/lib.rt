@@ -1,0 +1,13 @@
+//! The language of traces: which command a line stands for, and which text a reply is.
+#![tactic(auto)]
+
+mod arguments;
+mod forms;
+mod numerals;
+mod output;
+mod parsing;
+mod texts;
+mod words;
+
+pub use parsing::{BadLine, MAX_LINE_BYTES, parse_line};
+pub use texts::{bad_line_text, reply_text};

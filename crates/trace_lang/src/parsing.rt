@@ -1,0 +1,142 @@
+//! Reads a line of a trace.
+ghost use Rattle.std.specs.Prelude.{◌≡◌, IfOk, OnErr};
+ghost use Rattle.trace_lang.specs.Grammar.{IsCommand};
+ghost use Rattle.vm_types.specs.declared.command.Command.{Command};
+
+use crate::forms::command_of;
+use crate::words::split_words;
+use vm_types::Command;
+
+/// The most bytes of a line that stands for a command.
+pub const MAX_LINE_BYTES: usize = 256;
+
+/// The line is in no form.
+#[derive(Clone, Copy, Debug, PartialEq, Eq)]
+pub struct BadLine;
+
+/// The command that a line without its newline stands for. An `Err` exactly where it stands for none: its words
+/// aren't parted by single spaces, they are in no form, a number is 2^64 or more, or the line is over 256 bytes.
+pub fn parse_line(line: &[u8]) -> Result<Command, BadLine>
+    ensures found { IfOk result (λ command. IsCommand line.now command) }
+    ensures none { OnErr result ((command : Command) → IsCommand line.now command → ⊥) }
+    // So a line stands for one command at most.
+    ensures only { (command : Command) → IsCommand line.now command → result ≡ Ok command }
+{
+    if line.len() > MAX_LINE_BYTES {
+        return Err(BadLine);
+    }
+    let Some(found) = split_words(line) else {
+        return Err(BadLine);
+    };
+    command_of(&found.words[..found.count]).ok_or(BadLine)
+}
+
+#[cfg(test)]
+mod tests {
+    use super::*;
+    use vm_types::{MapSource, MsyncMode, Prot, StoredValue, Width};
+
+    fn load(addr: u64, width: Width) -> Result<Command, BadLine> {
+        Ok(Command::Load {
+            pid: 1,
+            addr,
+            width,
+        })
+    }
+
+    #[test]
+    fn each_form_is_read(rt: HostRuntime) {
+        let prot = Prot::READ | Prot::WRITE;
+        let source = MapSource::Shared {
+            file: 0,
+            offset: 0x2000,
+        };
+        let mapping = Command::Mmap {
+            pid: 1,
+            addr: 0x22000,
+            len: 4096,
+            prot,
+            source,
+        };
+        assert_eq!(rt; parse_line(b"spawn"), Ok(Command::Spawn));
+        assert_eq!(rt;
+            parse_line(b"mmap 1 0x22000 4096 rw- shared 0 0x2000"),
+            Ok(mapping)
+        );
+        assert_eq!(rt;
+            parse_line(b"load 1 0x10ff8 8"),
+            load(0x10ff8, Width::Eight)
+        );
+        assert_eq!(rt;
+            parse_line(b"load 1 18446744073709551615 0x1"),
+            load(u64::MAX, Width::One)
+        );
+        assert_eq!(rt;
+            parse_line(b"load 1 0xAbCdEf 1"),
+            load(0xabcdef, Width::One)
+        );
+        for (line, mode) in [
+            (b"msync 1 0x10000 12288 sync".as_slice(), MsyncMode::Sync),
+            (b"msync 1 0x10000 12288 async".as_slice(), MsyncMode::Async),
+        ] {
+            let msync = Command::Msync {
+                pid: 1,
+                addr: 0x10000,
+                len: 12288,
+                mode,
+            };
+            assert_eq!(rt; parse_line(line), Ok(msync));
+        }
+        let stored = StoredValue::new(Width::Eight, 0x1122334455667788);
+        let store = stored.map(|stored| Command::Store {
+            pid: 1,
+            addr: 0x10000,
+            stored,
+        });
+        assert_eq!(rt;
+            parse_line(b"store 1 0x10000 8 0x1122334455667788").ok(),
+            store
+        );
+    }
+
+    #[test]
+    fn other_lines_are_bad(rt: HostRuntime) {
+        for line in [
+            b"".as_slice(),
+            b" ",
+            b"spawn ",
+            b" spawn",
+            b"spawn\r",
+            b"SPAWN",
+            b"load  1 0x10000 1",
+            b"load 1 0x10000 1 ",
+            b"load 1 0x10000",
+            b"load 1 0x10000 1 1",
+            b"load 1 0X10000 1",
+            b"load 1 0x 1",
+            b"load 1 +1 1",
+            b"load 1 1a 1",
+            b"load 1 18446744073709551616 1",
+            b"load 1 0x10000000000000000 1",
+            b"load 1 0x10000 3",
+            b"store 1 0x10000 1 0x100",
+            b"msync 1 0x10000 4096 later",
+            b"mmap 1 0 4096 wr- shared 0 0",
+            b"mmap 1 0 4096 rw shared 0 0",
+            b"mmap 1 0 4096 rw- shared 0",
+            b"mmap 1 0 4096 rw- shared 0 0 fixed twice",
+        ] {
+            assert_eq!(rt; parse_line(line), Err(BadLine), "at {line:?}");
+        }
+    }
+
+    #[test]
+    fn lines_have_at_most_256_bytes(rt: HostRuntime) {
+        let mut line = [b'0'; 257];
+        line[..9].copy_from_slice(b"load 1 0x");
+        line[249..256].copy_from_slice(b"10000 1");
+        assert_eq!(rt; parse_line(&line[..256]), load(0x10000, Width::One));
+        line[249..].copy_from_slice(b"010000 1");
+        assert_eq!(rt; parse_line(&line), Err(BadLine));
+    }
+}

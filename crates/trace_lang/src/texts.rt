@@ -1,0 +1,190 @@
+//! Writes a reply.
+ghost use Rattle.std.specs.Prelude.{◌≡◌, ◌+◌, ◌≤◌, ◌++◌, take, length, codes, decimal};
+ghost use Rattle.trace_lang.specs.Texts.{text_of, fault_text, words_of_reply, bad_line_text, errno_name, stall_name, code_name};
+
+use crate::output::{push, push_decimal, push_hex_digits, push_hexadecimal};
+use vm_types::{Code, Errno, Fault, Reply, Stall};
+
+/// The name of an error.
+fn errno_text(errno: Errno) -> &'static [u8]
+    ensures name { result.now ≡ errno_name errno }
+    ensures short { length result.now ≤ 16 }
+{
+    match errno {
+        Errno::ESRCH => b"ESRCH",
+        Errno::EIO => b"EIO",
+        Errno::EBADF => b"EBADF",
+        Errno::EAGAIN => b"EAGAIN",
+        Errno::ENOMEM => b"ENOMEM",
+        Errno::EACCES => b"EACCES",
+        Errno::EEXIST => b"EEXIST",
+        Errno::EINVAL => b"EINVAL",
+        Errno::ENOSPC => b"ENOSPC",
+        Errno::EOVERFLOW => b"EOVERFLOW",
+    }
+}
+
+/// The name of a stall.
+fn stall_text(stall: Stall) -> &'static [u8]
+    ensures name { result.now ≡ stall_name stall }
+    ensures short { length result.now ≤ 16 }
+{
+    match stall {
+        Stall::NoFrames => b"NOFRAMES",
+        Stall::NoSwap => b"NOSWAP",
+        Stall::SwapDevice => b"SWAPDEV",
+        Stall::StoreDevice => b"STOREDEV",
+    }
+}
+
+/// The name of a fault's reason.
+fn code_text(code: Code) -> &'static [u8]
+    ensures name { result.now ≡ code_name code }
+    ensures short { length result.now ≤ 16 }
+{
+    match code {
+        Code::BusAdraln => b"BUS_ADRALN",
+        Code::SegvMaperr => b"SEGV_MAPERR",
+        Code::SegvAccerr => b"SEGV_ACCERR",
+        Code::BusAdrerr => b"BUS_ADRERR",
+    }
+}
+
+/// Writes `CAUSE CODE 0xADDR` of a fault at `at`.
+fn push_fault(out: &mut [u8; 1024], at: usize, fault: Fault) -> usize
+    requires { at ≤ 256 }
+    ensures end { result ≤ at + 64 }
+    ensures text { take result out.new ≡ take at out.old ++ fault_text fault }
+{
+    let at = push_decimal(out, at, u64::from(fault.cause));
+    let at = push(out, at, b" ");
+    let at = push(out, at, code_text(fault.code));
+    let at = push(out, at, b" ");
+    push_hexadecimal(out, at, fault.addr)
+}
+
+/// Writes `KIND NUMBER NAME` to the front of `out`.
+fn push_numbered(out: &mut [u8; 1024], kind: &[u8], number: u8, name: &[u8]) -> usize
+    requires kind { length kind.now ≤ 16 }
+    requires name { length name.now ≤ 16 }
+    ensures end { result ≤ 64 }
+    ensures text { take result out.new ≡ kind.now ++ decimal number ++ codes " " ++ name.now }
+{
+    let at = push(out, 0, kind);
+    let at = push_decimal(out, at, u64::from(number));
+    let at = push(out, at, b" ");
+    push(out, at, name)
+}
+
+/// Writes the reply's text and a newline to the front of `out`, and answers how many bytes that is, at most 1,024.
+pub fn reply_text(reply: &Reply, out: &mut [u8; 1024]) -> usize
+    ensures text { take result out.new ≡ text_of reply.now }
+    ensures room { result ≤ 1024 }
+{
+    let at = match reply {
+        Reply::Process(pid) => {
+            let at = push(out, 0, b"pid ");
+            push_decimal(out, at, u64::from(pid.get()))
+        }
+        Reply::Address(addr) => {
+            let at = push(out, 0, b"addr ");
+            push_hexadecimal(out, at, *addr)
+        }
+        Reply::Done => push(out, 0, b"ok"),
+        Reply::Value { width, value } => {
+            let at = push(out, 0, b"value 0x");
+            push_hex_digits(out, at, *value, 2 * usize::from(width.bytes()))
+        }
+        Reply::Faulted(fault) => {
+            let at = push(out, 0, b"fault ");
+            push_fault(out, at, *fault)
+        }
+        Reply::Refused(errno) => push_numbered(out, b"error ", errno.number(), errno_text(*errno)),
+        Reply::Stalled(stall) => push_numbered(out, b"stall ", stall.number(), stall_text(*stall)),
+        Reply::Halted => push(out, 0, b"halted"),
+    };
+    push(out, at, b"\n")
+}
+
+/// What answers a line in no form, with its newline.
+pub fn bad_line_text() -> &'static [u8]
+    ensures { result.now ≡ bad_line_text }
+{
+    b"bad line\n"
+}
+
+#[cfg(test)]
+mod tests {
+    use super::*;
+    use std::process::Abort;
+    use vm_types::{Pid, Width};
+
+    fn expect(rt: &impl Abort, reply: Reply, want: &[u8]) {
+        let mut out = [0; 1024];
+        let len = reply_text(&reply, &mut out);
+        assert_eq!(rt; &out[..len], want);
+    }
+
+    #[test]
+    fn each_reply_has_its_text(rt: HostRuntime) {
+        let Some(pid) = Pid::new(64) else {
+            return assert!(rt; false);
+        };
+        expect(&rt, Reply::Process(pid), b"pid 64\n");
+        expect(&rt, Reply::Address(0x10000), b"addr 0x10000\n");
+        expect(&rt, Reply::Address(0), b"addr 0x0\n");
+        expect(&rt, Reply::Done, b"ok\n");
+        expect(
+            &rt,
+            Reply::Value {
+                width: Width::One,
+                value: 0,
+            },
+            b"value 0x00\n",
+        );
+        expect(
+            &rt,
+            Reply::Value {
+                width: Width::Four,
+                value: 0x11223344,
+            },
+            b"value 0x11223344\n",
+        );
+        expect(
+            &rt,
+            Reply::Value {
+                width: Width::Eight,
+                value: 0xab,
+            },
+            b"value 0x00000000000000ab\n",
+        );
+        let misaligned = Fault {
+            cause: 4,
+            code: Code::BusAdraln,
+            addr: 0x20004,
+        };
+        expect(
+            &rt,
+            Reply::Faulted(misaligned),
+            b"fault 4 BUS_ADRALN 0x20004\n",
+        );
+        let unmapped = Fault {
+            cause: 13,
+            code: Code::SegvMaperr,
+            addr: 0xffff_ffff_ffff_ffff,
+        };
+        expect(
+            &rt,
+            Reply::Faulted(unmapped),
+            b"fault 13 SEGV_MAPERR 0xffffffffffffffff\n",
+        );
+        expect(
+            &rt,
+            Reply::Refused(Errno::EOVERFLOW),
+            b"error 75 EOVERFLOW\n",
+        );
+        expect(&rt, Reply::Stalled(Stall::SwapDevice), b"stall 3 SWAPDEV\n");
+        expect(&rt, Reply::Halted, b"halted\n");
+        assert_eq!(rt; bad_line_text(), b"bad line\n".as_slice());
+    }
+}
