@@ -14,9 +14,10 @@ use Rattle.frames.proofs.ChainLemmas.{IsChained-kept, IsChained-first, IsChained
 pub written : (t : FrameTable) (n first : ℕ) (w : List ℕ) → IsHeld t n → IsSound t × IsChained t first
     → IsSound (with_bytes t n w) × IsChained (with_bytes t n w) first
 written t n first w held whole =
-    let same = with_bytes-others t n w in
-    (IsSound-step n t (with_bytes t n w) whole.0 same (IsHeld-above t n whole.0 held) refl refl (whole.0.counted n held.inside) (IsHeld-not_zero t n held),
-     IsChained-kept n t (with_bytes t n w) first same (IsHeld-not_free t n held) (IsHeld-not_free t n held) whole.1)
+    let same = with_bytes-others t n w in (
+      IsSound-step n t (with_bytes t n w) whole.0 same (IsHeld-above t n whole.0 held) refl refl (whole.0.counted n held.inside) (IsHeld-not_zero t n held),
+      IsChained-kept n t (with_bytes t n w) first same (IsHeld-not_free t n held) (IsHeld-not_free t n held) whole.1,
+    )
 
 not_free : (r : Role) → is_handed_out r ≡ true → r ≢ Free
 not_free r h e = false≢true (sym (ap is_handed_out e) ∙ h)
@@ -41,10 +42,11 @@ taken t first kind w next some handed link whole =
     let in_roles : first < length t.roles = rw whole.0.all_roles there.1 in
     let in_counts : first < length t.counts = rw whole.0.all_counts there.1 in
     let kind_now : role_of (with_frame t first w kind 1) first ≡ kind = get_or-set_same t.roles first kind Free in_roles in
-    let count_now : count_of (with_frame t first w kind 1) first ≡ 1 = get_or-set_same t.counts first 1 0 in_counts in
-    (IsSound-step first t (with_frame t first w kind 1) whole.0 same there.0 (length-set t.roles first kind) (length-set t.counts first 1)
-        (rw (kind_now, count_now) (count_one kind handed)) (λ e. not_zero kind handed (sym kind_now ∙ e)),
-     rw link (IsChained-taken t (with_frame t first w kind 1) first same some (λ e. not_free kind handed (sym kind_now ∙ e)) whole.1))
+    let count_now : count_of (with_frame t first w kind 1) first ≡ 1 = get_or-set_same t.counts first 1 0 in_counts in (
+      IsSound-step first t (with_frame t first w kind 1) whole.0 same there.0 (length-set t.roles first kind) (length-set t.counts first 1)
+          (rw (kind_now, count_now) (count_one kind handed)) (λ e. not_zero kind handed (sym kind_now ∙ e)),
+      rw link (IsChained-taken t (with_frame t first w kind 1) first same some (λ e. not_free kind handed (sym kind_now ∙ e)) whole.1),
+    )
 
 pub Takes-taken : (t : FrameTable) (first : ℕ) (kind : Role) (w : List ℕ) → first ≢ 0 → w ≡ zero_bytes
     → IsSound t × IsChained t first → Takes t (with_frame t first w kind 1) kind first
@@ -72,11 +74,12 @@ freed t n first rest w count held none fits link whole =
     let kind_now : role_of (with_frame t n w Free count) n ≡ Free = get_or-set_same t.roles n Free Free in_roles in
     let count_now : count_of (with_frame t n w Free count) n ≡ count = get_or-set_same t.counts n count 0 in_counts in
     let bytes_now : bytes_of (with_frame t n w Free count) n ≡ w = get_or-set_same t.bytes n w [] held.inside in
-    let free≢zero : Free ≢ Zero = λ e. (cc) in
-    (IsSound-step n t (with_frame t n w Free count) whole.0 same above (length-set t.roles n Free) (length-set t.counts n count)
-        (rw (kind_now) (count_now ∙ none)) (λ e. free≢zero (sym kind_now ∙ e)),
-     IsChained-freed n t (with_frame t n w Free count) first same above held.inside (IsHeld-not_free t n held) kind_now
-        (ap next_of (bytes_now ∙ link) ∙ little_number-reads_back 4 first rest fits) whole.1)
+    let free≢zero : Free ≢ Zero = λ e. (cc) in (
+      IsSound-step n t (with_frame t n w Free count) whole.0 same above (length-set t.roles n Free) (length-set t.counts n count)
+          (rw (kind_now) (count_now ∙ none)) (λ e. free≢zero (sym kind_now ∙ e)),
+      IsChained-freed n t (with_frame t n w Free count) first same above held.inside (IsHeld-not_free t n held) kind_now
+          (ap next_of (bytes_now ∙ link) ∙ little_number-reads_back 4 first rest fits) whole.1,
+    )
 
 -- a frame that isn't private is nobody else's
 pub alone_count : (r : Role) (c : ℕ) → is_handed_out r ≡ true → r ≢ Private → IsCountFor r c → c ≡ 1

@@ -23,8 +23,9 @@ IsChained-kept n old new first s before after c = record {
   free = c.free;
   chain = kept n old new s c.free first (absent old n before c.free first c.chain) c.chain;
   complete = λ m h is_free. elim (cases_eq m n) [
-      inl e ↦ absurd (after (ap (role_of new) (sym e) ∙ is_free))
-    | inr ne ↦ c.complete m (rw (← s.frames) h) (sym (s.roles m ne) ∙ is_free) ];
+    | inl e ↦ absurd (after (ap (role_of new) (sym e) ∙ is_free))
+    | inr ne ↦ c.complete m (rw (← s.frames) h) (sym (s.roles m ne) ∙ is_free)
+  ];
 }
 
 -- the first frame of the chain is free
@@ -51,10 +52,12 @@ rest old new first s ne after (m ∷ ms) c complete = record {
   free = ms;
   chain = kept first old new s ms _ (rw c.0 c.4) (rw c.0 c.5);
   complete = λ n h is_free. elim (cases_eq n first) [
-      inl e ↦ absurd (after (ap (role_of new) (sym e) ∙ is_free))
+    | inl e ↦ absurd (after (ap (role_of new) (sym e) ∙ is_free))
     | inr other ↦ elim (complete n (rw (← s.frames) h) (sym (s.roles n other) ∙ is_free)) [
-        inl e ↦ absurd (other (e ∙ sym c.0))
-      | inr on ↦ on ] ];
+      | inl e ↦ absurd (other (e ∙ sym c.0))
+      | inr on ↦ on
+    ]
+  ];
 }
 
 -- the first frame of the chain was handed out
@@ -72,6 +75,7 @@ IsChained-freed n old new first s above inside before after next c =
       free = n ∷ c.free;
       chain = (refl, above, rw s.frames inside, after, off, rw next on);
       complete = λ m h is_free. elim (cases_eq m n) [
-          inl e ↦ inl e
-        | inr ne ↦ inr (c.complete m (rw (← s.frames) h) (sym (s.roles m ne) ∙ is_free)) ];
+        | inl e ↦ inl e
+        | inr ne ↦ inr (c.complete m (rw (← s.frames) h) (sym (s.roles m ne) ∙ is_free))
+      ];
     }

@@ -70,20 +70,23 @@ IsSound-step n old new sound same above roles counts counted other = record {
   all_roles = roles ∙ sound.all_roles ∙ sym same.frames;
   all_counts = counts ∙ sound.all_counts ∙ sym same.frames;
   counted = λ m h. elim (cases_eq m n) [
-      inl e ↦ (let P : ℕ → Type 0 = λ k. IsCountFor (role_of new k) (count_of new k) in subst P (sym e) counted)
-    | inr ne ↦ rw (same.roles m ne, same.counts m ne) (sound.counted m (rw (← same.frames) h)) ];
+    | inl e ↦ (let P : ℕ → Type 0 = λ k. IsCountFor (role_of new k) (count_of new k) in subst P (sym e) counted)
+    | inr ne ↦ rw (same.roles m ne, same.counts m ne) (sound.counted m (rw (← same.frames) h))
+  ];
   zero_role = same.roles 0 (λ e. (omega arith)) ∙ sound.zero_role;
   zero_alone = λ m is_zero. elim (cases_eq m n) [
-      inl e ↦ absurd (other (ap (role_of new) (sym e) ∙ is_zero))
-    | inr ne ↦ sound.zero_alone m (sym (same.roles m ne) ∙ is_zero) ];
+    | inl e ↦ absurd (other (ap (role_of new) (sym e) ∙ is_zero))
+    | inr ne ↦ sound.zero_alone m (sym (same.roles m ne) ∙ is_zero)
+  ];
   zero_page = same.bytes 0 (λ e. (omega arith)) ∙ sound.zero_page;
 }
 
 -- a frame that was handed out isn't the zero page
 pub IsHeld-above : (t : FrameTable) (n : ℕ) → IsSound t → IsHeld t n → 0 < n
 IsHeld-above t n sound held = elim (cases_eq n 0) [
-    inl e ↦ absurd (false≢true (sym (ap is_handed_out (ap (role_of t) e ∙ sound.zero_role)) ∙ held.handed_out))
-  | inr ne ↦ omega arith ]
+  | inl e ↦ absurd (false≢true (sym (ap is_handed_out (ap (role_of t) e ∙ sound.zero_role)) ∙ held.handed_out))
+  | inr ne ↦ omega arith
+]
 
 pub IsHeld-not_free : (t : FrameTable) (n : ℕ) → IsHeld t n → role_of t n ≢ Free
 IsHeld-not_free t n held e = false≢true (sym (ap is_handed_out e) ∙ held.handed_out)
@@ -107,10 +110,12 @@ pub copied_item : (xs ys : List (List ℕ)) (from to n : ℕ) → n ≡ 1 → fr
     → CopiedTo xs ys from to n → SameBelow xs ys to → SameFrom xs ys (to + n) → ys ≡ slice_set xs to (get_or xs from [])
 copied_item xs ys from to n one source target len copied below above =
     ext_get_or [] ys (slice_set xs to (get_or xs from [])) (len ∙ sym (length-set xs to (get_or xs from [])))
-      (λ k h. elim (cases_eq k to) [
-          inl e ↦ (let there : k - to ≡ 0 = omega arith in let sum : from + (k - to) ≡ from = omega arith in
-              copied k [] (omega arith) (omega arith) ∙ ap (λ j. get_or xs j []) sum
-              ∙ sym (ap (λ j. get_or (slice_set xs to (get_or xs from [])) j []) e ∙ get_or-set_same xs to (get_or xs from []) [] target))
-        | inr ne ↦ elim (cases_lt k to) [
-            inl lt ↦ below k [] lt ∙ sym (get_or-set_other xs to k (get_or xs from []) [] ne)
-          | inr le ↦ above k [] (omega arith) ∙ sym (get_or-set_other xs to k (get_or xs from []) [] ne) ] ])
+    (λ k h. elim (cases_eq k to) [
+      | inl e ↦ (let there : k - to ≡ 0 = omega arith in let sum : from + (k - to) ≡ from = omega arith in
+          copied k [] (omega arith) (omega arith) ∙ ap (λ j. get_or xs j []) sum
+          ∙ sym (ap (λ j. get_or (slice_set xs to (get_or xs from [])) j []) e ∙ get_or-set_same xs to (get_or xs from []) [] target))
+      | inr ne ↦ elim (cases_lt k to) [
+        | inl lt ↦ below k [] lt ∙ sym (get_or-set_other xs to k (get_or xs from []) [] ne)
+        | inr le ↦ above k [] (omega arith) ∙ sym (get_or-set_other xs to k (get_or xs from []) [] ne)
+      ]
+    ])

@@ -35,8 +35,9 @@ IsMade-first bytes none_bytes roles none_roles counts none_counts b b0 r r0 c c0
 at_push : {X : Type 0} (P : X → Type 0) (xs : List X) (x d : X) (n : ℕ) → length xs ≡ n → ((k : ℕ) → 0 < k → k < n → P (get_or xs k d)) → P x
     → (k : ℕ) → 0 < k → k < n + 1 → P (get_or (xs ++ x ∷ []) k d)
 at_push P xs x d n len all here k above below = elim (cases_eq k n) [
-    inl e ↦ (let at : length xs ≡ k = len ∙ sym e in rw (get_or_push xs x d k at) here)
-  | inr ne ↦ (let within : k < length xs = omega arith in rw (get_or_append_left xs (x ∷ []) d k within) (all k above (omega arith))) ]
+  | inl e ↦ (let at : length xs ≡ k = len ∙ sym e in rw (get_or_push xs x d k at) here)
+  | inr ne ↦ (let within : k < length xs = omega arith in rw (get_or_append_left xs (x ∷ []) d k within) (all k above (omega arith)))
+]
 
 pub IsMade-more : (t : FrameTable) (n : ℕ) (w : List ℕ) → 0 < n → IsMade t n
     → IsMade (record { bytes = t.bytes ++ w ∷ []; roles = t.roles ++ Table ∷ []; counts = t.counts ++ 1 ∷ [] }) (n + 1)
@@ -53,23 +54,27 @@ IsMade-more t n w above m = record {
 
 role_at : (t : FrameTable) (n k : ℕ) → IsMade t n → k < n → ((k ≡ 0) × (role_of t k ≡ Zero) × (count_of t k ≡ 0)) ⊎ ((0 < k) × (role_of t k ≡ Table) × (count_of t k ≡ 1))
 role_at t n k m below = elim (cases_eq k 0) [
-    inl e ↦ inl (e, rw e m.zero_role, rw e m.zero_count)
-  | inr ne ↦ (let above : 0 < k = omega arith in inr (above, m.tables k above below, m.counts k above below)) ]
+  | inl e ↦ inl (e, rw e m.zero_role, rw e m.zero_count)
+  | inr ne ↦ (let above : 0 < k = omega arith in inr (above, m.tables k above below, m.counts k above below))
+]
 
 no_free : (t : FrameTable) (n k : ℕ) → IsMade t n → k < n → role_of t k ≡ Free → ⊥
 no_free t n k m below e = elim (role_at t n k m below) [
-    inl z ↦ absurd (let bad : Zero ≡ Free = sym z.1 ∙ e in (cc))
-  | inr z ↦ absurd (let bad : Table ≡ Free = sym z.1 ∙ e in (cc)) ]
+  | inl z ↦ absurd (let bad : Zero ≡ Free = sym z.1 ∙ e in (cc))
+  | inr z ↦ absurd (let bad : Table ≡ Free = sym z.1 ∙ e in (cc))
+]
 
 zero_alone : (t : FrameTable) (n k : ℕ) → IsMade t n → k < n → role_of t k ≡ Zero → k ≡ 0
 zero_alone t n k m below e = elim (role_at t n k m below) [
-    inl z ↦ z.0
-  | inr z ↦ absurd (let bad : Table ≡ Zero = sym z.1 ∙ e in (cc)) ]
+  | inl z ↦ z.0
+  | inr z ↦ absurd (let bad : Table ≡ Zero = sym z.1 ∙ e in (cc))
+]
 
 counted : (t : FrameTable) (n k : ℕ) → IsMade t n → k < n → IsCountFor (role_of t k) (count_of t k)
 counted t n k m below = elim (role_at t n k m below) [
-    inl z ↦ rw z.1 z.2
-  | inr z ↦ rw z.1 z.2 ]
+  | inl z ↦ rw z.1 z.2
+  | inr z ↦ rw z.1 z.2
+]
 
 past : (t : FrameTable) (n k : ℕ) → IsMade t n → n ≤ k → role_of t k ≡ Free
 past t n k m above = get_or_past t.roles k Free (omega (arith, m.all_roles))
@@ -83,8 +88,9 @@ IsSound-made t n least most m = record {
   counted = λ k h. counted t n k m (omega (arith, m.frames));
   zero_role = m.zero_role;
   zero_alone = λ k e. elim (cases_lt k n) [
-      inl below ↦ zero_alone t n k m below e
-    | inr above ↦ absurd (let bad : Free ≡ Zero = sym (past t n k m above) ∙ e in (cc)) ];
+    | inl below ↦ zero_alone t n k m below e
+    | inr above ↦ absurd (let bad : Free ≡ Zero = sym (past t n k m above) ∙ e in (cc))
+  ];
   zero_page = m.zero_page;
 }
 
@@ -111,8 +117,9 @@ IsAllTables-less old new count n above below all released = record {
   tables = λ k low high. released.others.roles k (λ e. (omega arith)) ∙ all.tables k low (omega arith);
   counts = λ k low high. released.others.counts k (λ e. (omega arith)) ∙ all.counts k low (omega arith);
   free = λ k low high. elim (cases_eq k (n - 1)) [
-      inl e ↦ ap (role_of new) e ∙ released.freed (all.counts (n - 1) (omega arith) (omega arith))
-    | inr ne ↦ released.others.roles k ne ∙ all.free k (omega arith) high ];
+    | inl e ↦ ap (role_of new) e ∙ released.freed (all.counts (n - 1) (omega arith) (omega arith))
+    | inr ne ↦ released.others.roles k ne ∙ all.free k (omega arith) high
+  ];
 }
 
 -- it may be released

@@ -3,12 +3,11 @@
 ghost use Rattle.std.specs.Prelude.{◌≡◌, ◌≢◌, ◌+◌, ◌<◌, ◌≤◌, ◌↔◌, IfOk, OnErr, IsErr, IsTrue};
 ghost use Rattle.frames.specs.FrameTable.{zero_bytes};
 
+use crate::role::Role;
 use byteorder::{ByteOrder, LittleEndian};
 use std::alloc::{AllocError, Global};
 use std::marker::Model;
 use vm_types::{FrameNo, NoFree, PAGE_BYTES};
-
-use crate::role::Role;
 
 /// Bytes of a frame.
 pub const FRAME_BYTES: usize = PAGE_BYTES;

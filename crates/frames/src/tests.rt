@@ -1,7 +1,6 @@
+use crate::{Frames, Role};
 use std::test::Fail;
 use vm_types::NoFree;
-
-use crate::{Frames, Role};
 
 #[test]
 fn a_frame_is_shared_written_copied_and_given_back(rt: HostRuntime) -> Result<(), Fail> {
@@ -22,7 +21,9 @@ fn a_frame_is_shared_written_copied_and_given_back(rt: HostRuntime) -> Result<()
 
     frames.release(page);
     assert_eq!(rt; frames.role(page), Role::Free);
-    let again = frames.take(Role::Table).expect(&rt, "the frame that was given back");
+    let again = frames
+        .take(Role::Table)
+        .expect(&rt, "the frame that was given back");
     assert_eq!(rt; again, page);
     assert_eq!(rt; frames.bytes(again), &[0; 4096]);
     Ok(())

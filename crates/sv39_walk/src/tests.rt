@@ -1,12 +1,11 @@
 ghost use Rattle.std.specs.Prelude.{◌≤◌};
 
+use crate::{WalkFault, table_index, walk};
 use byteorder::{ByteOrder, LittleEndian};
 use frames::{Frames, Role};
 use std::alloc::Global;
 use std::test::Fail;
 use vm_types::{Access, FrameNo, Phys};
-
-use crate::{WalkFault, table_index, walk};
 
 // A table with that number at a byte, and zeros elsewhere.
 fn table_with(frames: &mut Frames, at: usize, number: u64) -> Option<FrameNo>
@@ -73,7 +72,11 @@ fn larger_pages_and_bad_addresses(rt: HostRuntime) -> Result<(), Fail> {
 fn fields_of_addresses(rt: HostRuntime) {
     let places = |addr: u64| {
         let page = addr / 4096;
-        [table_index(page, 2), table_index(page, 1), table_index(page, 0)]
+        [
+            table_index(page, 2),
+            table_index(page, 1),
+            table_index(page, 0),
+        ]
     };
     assert_eq!(rt; places(0x11387), [0, 0, 17]);
     assert_eq!(rt; places(0x3f_ffff_ffff), [255, 511, 511]);

@@ -4,11 +4,10 @@ ghost use Rattle.sv39_walk.specs.Entry.{frame_of};
 ghost use Rattle.frames.specs.FrameTable.{IsFrame, frame_count};
 ghost use Rattle.sv39_walk.specs.Walk.{translated, is_canonical, last_of, answer_of, index_of, leads_on};
 
-use frames::Frames;
-use vm_types::{Access, FrameNo, Phys};
-
 use crate::TOP_LEVEL;
 use crate::pte::{Pte, read_entry};
+use frames::Frames;
+use vm_types::{Access, FrameNo, Phys};
 
 /// Why an address has no physical address. Each is a page fault (RISC-V Privileged Specification, "Virtual Address
 /// Translation Process"); the names and their order are our own.
@@ -40,12 +39,7 @@ pub enum WalkFault {
 /// # Errors
 /// The reason, exactly where there is one.
 #[tactic(auto, unfolding(crate::specs::Walk::translated))]
-pub fn walk(
-    frames: &Frames,
-    root: FrameNo,
-    addr: u64,
-    access: Access,
-) -> Result<Phys, WalkFault>
+pub fn walk(frames: &Frames, root: FrameNo, addr: u64, access: Access) -> Result<Phys, WalkFault>
     ensures { result ≡ translated 2 frames.now root.0 addr access }
 {
     if !canonical(addr) {
@@ -123,13 +117,7 @@ fn leaf_pages(level: u32) -> u64
 
 // What the last entry says of the address.
 #[tactic(auto, unfolding(crate::specs::Walk::answer_of, crate::specs::Walk::frame_in))]
-fn answer(
-    count: u32,
-    addr: u64,
-    access: Access,
-    level: u32,
-    last: Pte,
-) -> Result<Phys, WalkFault>
+fn answer(count: u32, addr: u64, access: Access, level: u32, last: Pte) -> Result<Phys, WalkFault>
     requires { level ≤ 2 }
     ensures { result ≡ answer_of count addr access level last.0 }
 {
@@ -140,7 +128,11 @@ fn answer(
         return Err(WalkFault::Reserved);
     }
     if !last.is_leaf() {
-        return Err(if level == 0 { WalkFault::TooDeep } else { WalkFault::Outside });
+        return Err(if level == 0 {
+            WalkFault::TooDeep
+        } else {
+            WalkFault::Outside
+        });
     }
     let pages = leaf_pages(level);
     if last.frame() % pages != 0 {

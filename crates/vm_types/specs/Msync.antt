@@ -55,10 +55,10 @@ row_ruling s pid first count Sync =
 abbrev pub msync_ruling : State → ℕ → ℕ → ℕ → MsyncMode → Ruling
 msync_ruling s pid addr len mode =
     or_else (first_of ((not (s.live pid), ESRCH) ∷ (not (addr % 4096 == 0), EINVAL) ∷ []))
-        (if len == 0 then Passes
-         else (let count = pages_from addr len in
-               or_else (first_of ((not (is_covered (attrs_of (s.views pid)) (addr / 4096) count), ENOMEM) ∷ []))
-                   (row_ruling s pid (addr / 4096) count mode)))
+    (if len == 0 then Passes
+    else (let count = pages_from addr len in
+    or_else (first_of ((not (is_covered (attrs_of (s.views pid)) (addr / 4096) count), ENOMEM) ∷ []))
+    (row_ruling s pid (addr / 4096) count mode)))
 
 -- the durable pages with the touched ones of a row as the mappings see them, and zeros past the end of a file
 abbrev pub committed : State → ℕ → ℕ → ℕ → Pages → Pages
@@ -68,7 +68,7 @@ committed s pid first count before =
 -- the state after a row was made durable
 abbrev pub synced : State → ℕ → ℕ → ℕ → State
 synced s pid first count = record s {
-    durable = committed s pid first count s.durable;
-    volatile = committed s pid first count s.volatile;
-    touched = λ file page. s.touched file page && not (touched_in s pid first count file page)
-  }
+  durable = committed s pid first count s.durable;
+  volatile = committed s pid first count s.volatile;
+  touched = λ file page. s.touched file page && not (touched_in s pid first count file page);
+}

@@ -16,6 +16,6 @@ least_free_pid live = least_free_from live 1 process_limit
 -- one more process, with these pages
 abbrev pub with_process : State → ℕ → (ℕ → Option View) → State
 with_process s pid space = record s {
-    live = λ p. p == pid || s.live p;
-    views = λ p. if p == pid then space else s.views p
-  }
+  live = λ p. p == pid || s.live p;
+  views = λ p. if p == pid then space else s.views p;
+}

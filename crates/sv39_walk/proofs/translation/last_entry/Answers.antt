@@ -25,9 +25,11 @@ pub loop-level-preserved : goal.loop-level-preserved
 loop-level-preserved c =
     let entry = c.read_entry-entry.ensures ∙ ap (entry_at c.args.frames.now c.loop-level.table.0) c.table_index.ensures.index in
     let leads = rw entry at c.in-Some.ensures.0 in
-    let next = rw entry at c.in-Some.ensures.1 in
-    (omega (arith, c.loop-level.invariant.0), c.in-Some.ensures.2,
-     rw next (sym (last_of-next c.args.frames.now c.args.page c.loop-level.level c.loop-level.table.0 c.loop-level-test.true leads) ∙ c.loop-level.invariant.2))
+    let next = rw entry at c.in-Some.ensures.1 in (
+      omega (arith, c.loop-level.invariant.0),
+      c.in-Some.ensures.2,
+      rw next (sym (last_of-next c.args.frames.now c.args.page c.loop-level.level c.loop-level.table.0 c.loop-level-test.true leads) ∙ c.loop-level.invariant.2),
+    )
 
 pub returns-clause-last : goal.returns-clause-last
 returns-clause-last c =

@@ -11,7 +11,7 @@ copied c =
     let source = rw (← c.self.view_is) at c.requires.source in
     let target = rw (← c.self.view_is) at c.requires.target in
     copied_item c.self.inside.bytes.items c.copy_within.new.self.items c.args.from.0 c.args.to.0 (c.args.from.0 + 1 - c.args.from.0) (omega arith)
-      source target.inside (sym c.copy_within.new.self.ok.0 ∙ c.copy_within.ensures.len ∙ c.self.inside.bytes.ok.0) c.copy_within.ensures.by_index.0 c.copy_within.ensures.by_index.1 c.copy_within.ensures.by_index.2
+    source target.inside (sym c.copy_within.new.self.ok.0 ∙ c.copy_within.ensures.len ∙ c.self.inside.bytes.ok.0) c.copy_within.ensures.by_index.0 c.copy_within.ensures.by_index.1 c.copy_within.ensures.by_index.2
 
 pub invariant_of-self : goal.invariant_of-self
 invariant_of-self c =

@@ -21,5 +21,5 @@ returns-else-index-eq0-clause-alone c =
     let before = get_or_read c.self.inside.counts.items c.args.n.0 c.index_mut.result.now inside c.index_mut.ensures.value 0 in
     let was = c.self.invariant.0.counted c.args.n.0 held.inside in
     rw (← c.self.view_is) (λ other.
-      let one = alone_count (role_of (table_of c.self.inside) c.args.n.0) _ held.handed_out other was in
-      absurd (c.if-index-eq0.false (omega (arith, read, before, one))))
+    let one = alone_count (role_of (table_of c.self.inside) c.args.n.0) _ held.handed_out other was in
+    absurd (c.if-index-eq0.false (omega (arith, read, before, one))))

@@ -31,7 +31,7 @@ invariant_of-self c =
     let there = IsChained-first (table_of c.self.inside) c.self.inside.first_free c.if-n-eq0.false c.self.invariant.1 in
     let read = get_or_read c.self.inside.bytes.items c.self.inside.first_free c.index_mut-frame.result.now there.1 c.index_mut-frame.ensures.value [] in
     taken (table_of c.self.inside) c.self.inside.first_free c.args.role c.clear.new.frame c.read_u32-self-inside.result c.if-n-eq0.false c.requires
-      (c.read_u32-self-inside.ensures ∙ ap next_of read) c.self.invariant
+    (c.read_u32-self-inside.ensures ∙ ap next_of read) c.self.invariant
 
 pub returns-clause-taken : goal.returns-clause-taken
 returns-clause-taken c =
