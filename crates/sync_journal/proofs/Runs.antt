@@ -41,6 +41,21 @@ module _ {D : Type 0} (g : Ghosts D) where
     touches = λ h. after_none g W old new (same h) (marks h) (time h);
   }
 
+  -- a sync behind a run, and one before it
+  pub and_no_write : (W : ℕ → Type 0) (old mid new : D) → Runs g W old mid → g.sector_count new ≡ g.sector_count mid
+      → (g.keeps_model new → g.keeps_model mid) → g.failures mid ≤ g.failures new → (g.keeps_model new → g.content new ≡ g.content mid)
+      → (g.keeps_model new → (k : ℕ) → g.unsynced new k → g.unsynced mid k)
+      → (g.keeps_model new → Elapses (g.moment mid) (g.moment new) (g.left_since mid) (g.left_since new) (g.content new) (g.unsynced new))
+      → Runs g W old new
+  and_no_write W old mid new run size kept later same marks time = one_more W old mid new run (no_write W mid new size kept later same marks time)
+
+  pub no_write_and : (W : ℕ → Type 0) (old mid new : D) → Runs g W mid new → g.sector_count mid ≡ g.sector_count old
+      → (g.keeps_model mid → g.keeps_model old) → g.failures old ≤ g.failures mid → (g.keeps_model mid → g.content mid ≡ g.content old)
+      → (g.keeps_model mid → (k : ℕ) → g.unsynced mid k → g.unsynced old k)
+      → (g.keeps_model mid → Elapses (g.moment old) (g.moment mid) (g.left_since old) (g.left_since mid) (g.content mid) (g.unsynced mid))
+      → Runs g W old new
+  no_write_and W old mid new run size kept later same marks time = one_more W old mid new (no_write W old mid size kept later same marks time) run
+
   -- a write to a sector of W
   pub one_write : (W : ℕ → Type 0) (n : ℕ) (old new : D) → W n → g.sector_count new ≡ g.sector_count old → (g.keeps_model new → g.keeps_model old)
       → g.failures old ≤ g.failures new → (g.keeps_model new → ChangesOnly n (g.content old) (g.content new))
