@@ -1,0 +1,9 @@
+pub mod Ways
+pub mod EntryBytes
+pub mod Ends
+pub mod Pages
+pub mod Setting
+pub mod Linking
+pub mod Numbers
+pub mod Keeping
+pub mod Pruning

@@ -1,0 +1,174 @@
+-- A table without entries unlinked and given back.
+use Rattle.std.proofs.Common.{◌≡◌, ◌≢◌, ℕ, zero, suc, ◌+◌, ◌-◌, ◌<◌, ◌≤◌, ◌⊎◌, ◌↔◌, inl, inr, Bool, true, false, refl, sym, ap, ◌∙◌, subst, arith}
+use Rattle.std.proofs.lemmas.Bool.{cases_eq, cases_lt, false≢true}
+use Rattle.frames.specs.declared.role.Role.TheVariants.{Free, Table}
+use Rattle.frames.specs.FrameTable.{FrameTable, bytes_of, role_of, SameButFor}
+use Rattle.sv39_walk.specs.Entry.{entry_at, frame_of, is_pointer}
+use Rattle.sv39_walk.specs.Walk.{index_of}
+use Rattle.sv39_walk.proofs.Entries.{is_pointer-zero}
+use Rattle.page_tables.specs.Entry.{IsSoftware}
+use Rattle.page_tables.specs.declared.forms.Entry.TheVariants.{None}
+use Rattle.page_tables.specs.Tree.{IsTable, Points, IsForest, IsUnlinked, IsRoot, IsEmptyTable, last_table, missing_of, page_entry}
+use Rattle.page_tables.specs.Change.{ChangesEntry, Unlinks, KeepsData, Prunes}
+use Rattle.page_tables.proofs.Ways.{Way, EndsAt, ends}
+use Rattle.page_tables.proofs.Ends.{SameTrees, missing_of-is}
+use Rattle.page_tables.proofs.Setting.{other_entries, cases_place, at_place, table_forth, table_back, points_forth, points_back, elsewhere}
+use Rattle.page_tables.proofs.Linking.{Linked, Hits, Misses, link_cases, link_entries, root_down}
+use Rattle.page_tables.proofs.Keeping.{KeepsTables, keeps_tables, empty_not_linking, same_trees, forest_kept, root_kept, entry_kept_at, missing_kept_at}
+
+-- a table at the end of a way of some length is pointed to
+way_pointed : (t : FrameTable) (top root page d m : ℕ) → 0 < d → Way t top root page d m → IsUnlinked t m → ⊥
+way_pointed t top root page zero m some w free = omega arith
+way_pointed t top root page (suc d) m some w free = free w.0 (index_of page (top - d)) w.2
+
+-- a table without entries points to no table, itself neither
+pub empty_apart : (t : FrameTable) (n i m : ℕ) → Points t n i m → IsEmptyTable t m → n ≡ m → ⊥
+empty_apart t n i m p empty e = empty_not_linking t m empty i m (let P : ℕ → Type 0 = λ x. Points t x i m in subst P e p)
+
+-- what holds where the other doesn't
+pub otherwise : {A B : Type 0} → A ⊎ B → (A → ⊥) → B
+otherwise (inl a) no_a = absurd (no_a a)
+otherwise (inr b) no_a = b
+
+module _ (old new : FrameTable) (top root page n i m k : ℕ) (forest : IsForest old) (is_root : IsRoot top old root)
+    (last : last_table old page top root ≡ (k, m)) (not_root : m ≢ root) (empty : IsEmptyTable old m) (on : Points old n i m)
+    (mid : FrameTable) (change : ChangesEntry old mid n i 0) (released : SameButFor m mid new) (free : role_of new m ≡ Free) where
+  after : is_pointer (entry_at mid n i) ≡ false
+  after = ap is_pointer change.changed ∙ is_pointer-zero
+
+  to_old : (a j b : ℕ) → Points mid a j b → Points old a j b
+  to_old a j b p = points_back old mid n i 0 change a j b (elsewhere mid n i after a j b p) p
+
+  forest_mid : IsForest mid
+  forest_mid = record {
+    onto_tables = λ a j b p. table_forth old mid n i 0 change b (forest.onto_tables a j b (to_old a j b p));
+    one_way = λ a j b l x p q. forest.one_way a j b l x (to_old a j x p) (to_old b l x q);
+    normal = λ a j t h. elim (cases_place a j n i) [
+      | inl here ↦ (let P : ℕ → Type 0 = λ x. IsSoftware x in
+          subst P (sym (at_place mid a j n i here.0 here.1 ∙ change.changed)) (inr (record { entry = None; form = tt; is = refl })))
+      | inr other ↦ (let P : ℕ → Type 0 = λ x. IsSoftware x in
+          subst P (sym (other_entries old mid n i 0 change a j h other)) (forest.normal a j (table_back old mid n i 0 change a t) h))
+    ];
+  }
+
+  linked : Linked mid old n i m
+  linked = record {
+    less = to_old;
+    tables = table_back old mid n i 0 change;
+    same = λ a j h other. sym (other_entries old mid n i 0 change a j h other);
+    off = after;
+    on = on;
+    empty = empty;
+  }
+
+  end : EndsAt old top root page k m
+  end = let P : ℕ × ℕ → Type 0 = λ x. EndsAt old top root page x.0 x.1 in subst P last (ends old top root page forest is_root.table)
+
+  below : k < top
+  below = elim (cases_lt k top) [
+    | inl lt ↦ lt
+    | inr le ↦ (
+        let none : top - k ≡ 0 = omega (arith, le) in
+        let P : ℕ → Type 0 = λ d. Way old top root page d m in
+        absurd (not_root (subst P none end.way)))
+  ]
+
+  apart : m ≢ n
+  apart e = empty_not_linking old m empty i m (let P : ℕ → Type 0 = λ x. Points old x i m in subst P (sym e) on)
+
+  free_mid : IsUnlinked mid m
+  free_mid a j p =
+      let one = forest.one_way a j n i m (to_old a j m p) on in
+      elim (elsewhere mid n i after a j m p) [ inl ne ↦ ne one.0 | inr ne ↦ ne one.1 ]
+
+  empty_mid : IsEmptyTable mid m
+  empty_mid j h = other_entries old mid n i 0 change m j h (inl apart) ∙ empty j h
+
+  no_table : role_of new m ≢ Table
+  no_table e = let bad : Free ≡ Table = sym free ∙ e in (cc)
+
+  kept : KeepsTables m mid new
+  kept = keeps_tables m mid new released no_table
+
+  linking : (j b : ℕ) → Points mid m j b → ⊥
+  linking = empty_not_linking mid m empty_mid
+
+  other_root : (r : ℕ) → IsRoot top old r → r ≢ m
+  other_root r root' e = root'.unlinked n i (let P : ℕ → Type 0 = λ x. Points old n i x in subst P (sym e) on)
+
+  root_mid : (r : ℕ) → IsRoot top old r → IsRoot top mid r
+  root_mid r root' = root_down mid old n i m top root page k linked forest_mid forest is_root.unlinked below end.way change.changed r (table_forth old mid n i 0 change r root'.table) root'
+
+  same : SameTrees mid new
+  same = same_trees m mid new forest_mid free_mid linking kept
+
+  pub prunes : Prunes old new top
+  prunes =
+      let table : IsTable old m = forest.onto_tables n i m on in
+      record {
+        kept = record {
+          frames = released.frames ∙ change.others.frames;
+          bytes = λ x role. released.bytes x (λ e. role (ap (role_of old) e ∙ table.role)) ∙ change.others.bytes x (λ e. role (ap (role_of old) e ∙ on.table.role));
+          roles = λ x role. released.roles x (λ e. role (ap (role_of old) e ∙ table.role)) ∙ change.others.roles x (λ e. role (ap (role_of old) e ∙ on.table.role));
+          counts = λ x role. released.counts x (λ e. role (ap (role_of old) e ∙ table.role)) ∙ change.others.counts x (λ e. role (ap (role_of old) e ∙ on.table.role));
+          tables = λ x t. table_back old mid n i 0 change x (kept.back x t).1;
+        };
+        forest = forest_kept m mid new forest_mid free_mid linking kept;
+        roots = λ r root'. root_kept m mid new forest_mid free_mid linking kept top r (other_root r root') (root_mid r root');
+        unlinked = λ x t. (
+          λ unlinked a j p. unlinked a j (to_old a j x (same.back a j x p)),
+          λ unlinked a j p. elim (cases_place a j n i) [
+            | inl here ↦ (kept.back x t).0 (sym p.target ∙ ap frame_of (at_place old a j n i here.0 here.1) ∙ on.target)
+            | inr other ↦ unlinked a j (same.forth a j x (points_forth old mid n i 0 change a j x other p))
+          ],
+        );
+        entries = λ r p root'. entry_kept_at m mid new forest_mid free_mid linking kept top r p (other_root r root') (root_mid r root')
+            ∙ sym (link_entries mid old n i m top root page k linked forest_mid forest is_root.unlinked below end.way r p (table_forth old mid n i 0 change r root'.table) root'.unlinked);
+      }
+
+  pub missing_up : missing_of new top root page ≡ missing_of old top root page + 1
+  missing_up =
+      let table = table_forth old mid n i 0 change root is_root.table in
+      let old_missing = missing_of-is old top root page ∙ ap (λ x. x.0) last in
+      missing_kept_at m mid new forest_mid free_mid linking kept top root page (other_root root is_root) (root_mid root is_root)
+      ∙ elim (link_cases mid old n i m top root page k linked forest_mid forest is_root.unlinked below end.way root page table is_root.unlinked) [
+        | inl hit ↦ missing_of-is mid top root page ∙ ap (λ x. x.0) hit.in_small ∙ (let more : suc k ≡ missing_of old top root page + 1 = omega (arith, old_missing) in more)
+        | inr miss ↦ (
+            let P : ℕ × ℕ → Type 0 = λ x. EndsAt mid top root page x.0 x.1 in
+            let here = subst P (sym miss.last ∙ last) (ends mid top root page forest_mid table) in
+            absurd (way_pointed mid top root page (top - k) m (omega (arith, below)) here.way free_mid))
+      ]
+
+-- nothing was pruned
+pub Prunes-refl : (t : FrameTable) (top : ℕ) → IsForest t → Prunes t t top
+Prunes-refl t top forest = record {
+  kept = record {
+    frames = refl;
+    bytes = λ x role. refl;
+    roles = λ x role. refl;
+    counts = λ x role. refl;
+    tables = λ x table. table;
+  };
+  forest = forest;
+  roots = λ r is_root. is_root;
+  unlinked = λ x table. (λ free. free, λ free. free);
+  entries = λ r p is_root. refl;
+}
+
+pub Prunes-trans : (t u v : FrameTable) (top : ℕ) → Prunes t u top → Prunes u v top → Prunes t v top
+Prunes-trans t u v top a b = record {
+  kept = record {
+    frames = b.kept.frames ∙ a.kept.frames;
+    bytes = λ x role. b.kept.bytes x (λ e. role (sym (a.kept.roles x role) ∙ e)) ∙ a.kept.bytes x role;
+    roles = λ x role. b.kept.roles x (λ e. role (sym (a.kept.roles x role) ∙ e)) ∙ a.kept.roles x role;
+    counts = λ x role. b.kept.counts x (λ e. role (sym (a.kept.roles x role) ∙ e)) ∙ a.kept.counts x role;
+    tables = λ x table. a.kept.tables x (b.kept.tables x table);
+  };
+  forest = b.forest;
+  roots = λ r is_root. b.roots r (a.roots r is_root);
+  unlinked = λ x table. (
+    λ free. (b.unlinked x table).0 ((a.unlinked x (b.kept.tables x table)).0 free),
+    λ free. (a.unlinked x (b.kept.tables x table)).1 ((b.unlinked x table).1 free),
+  );
+  entries = λ r p is_root. b.entries r p (a.roots r is_root) ∙ a.entries r p is_root;
+}

@@ -1,0 +1,71 @@
+-- Tables as trees. `top` is the level of a root: 2 for Sv39, and one less than the number of levels for any other.
+use Rattle.std.specs.Prelude.{◌≡◌, ◌≢◌, ℕ, zero, suc, ◌+◌, ◌<◌, ◌^◌, Bool, true, false, ◌==◌, if◌then◌else◌}
+use Rattle.frames.specs.declared.role.Role.TheVariants.{Table}
+use Rattle.frames.specs.FrameTable.{FrameTable, IsFrame, role_of}
+use Rattle.sv39_walk.specs.Entry.{entry_at, frame_of, is_pointer}
+use Rattle.sv39_walk.specs.Walk.{index_of}
+use Rattle.page_tables.specs.Entry.{IsSoftware}
+
+-- a page that a tree of that top level has a place for
+abbrev pub IsPage : ℕ → ℕ → Type 0
+IsPage top page = page < 512 ^ (top + 1)
+
+pub record IsTable (t : FrameTable) (n : ℕ) : Type 0 where
+  pub inside : IsFrame t n
+  pub role : role_of t n ≡ Table
+
+-- entry i of table n points to frame m
+pub record Points (t : FrameTable) (n i m : ℕ) : Type 0 where
+  pub table : IsTable t n
+  pub index : i < 512
+  pub pointer : is_pointer (entry_at t n i) ≡ true
+  pub target : frame_of (entry_at t n i) ≡ m
+
+-- no table points to it
+abbrev pub IsUnlinked : FrameTable → ℕ → Type 0
+IsUnlinked t m = (n i : ℕ) → Points t n i m → ⊥
+
+-- The tables of all trees: pointers lead to tables, at most one pointer to each, and every entry has one of the forms
+-- that these calls write.
+pub record IsForest (t : FrameTable) : Type 0 where
+  pub onto_tables : (n i m : ℕ) → Points t n i m → IsTable t m
+  pub one_way : (a i b j m : ℕ) → Points t a i m → Points t b j m → (a ≡ b) × (i ≡ j)
+  pub normal : (n i : ℕ) → IsTable t n → i < 512 → IsSoftware (entry_at t n i)
+
+-- where the way to a page ends, from the table n of that level on: the level, which is 0 where no table is missing, and
+-- the table
+unfoldable pub last_table : FrameTable → ℕ → ℕ → ℕ → ℕ × ℕ
+last_table t page zero n = (0, n)
+last_table t page (suc level) n =
+    let e = entry_at t n (index_of page (suc level)) in
+    if is_pointer e then last_table t page level (frame_of e) else (suc level, n)
+
+-- how many tables are missing on the way to a page
+unfoldable pub missing_of : FrameTable → ℕ → ℕ → ℕ → ℕ
+missing_of t top root page = (last_table t page top root).0
+
+-- the entry that ends the way
+unfoldable pub last_entry : FrameTable → ℕ → ℕ → ℕ → ℕ
+last_entry t top root page = let last = last_table t page top root in entry_at t last.1 (index_of page last.0)
+
+-- the number that stands for a page, 0 where a table is missing
+unfoldable pub page_entry : FrameTable → ℕ → ℕ → ℕ → ℕ
+page_entry t top root page = if missing_of t top root page == 0 then last_entry t top root page else 0
+
+-- A table that begins a tree. Where a table is missing on the way to a page nothing stands in its place, and no page's
+-- own entry is a pointer.
+pub record IsRoot (top : ℕ) (t : FrameTable) (n : ℕ) : Type 0 where
+  pub table : IsTable t n
+  pub unlinked : IsUnlinked t n
+  pub bare : (page : ℕ) → missing_of t top n page ≢ 0 → last_entry t top n page ≡ 0
+  pub flat : (page : ℕ) → missing_of t top n page ≡ 0 → is_pointer (last_entry t top n page) ≡ false
+
+-- a table without entries
+abbrev pub IsEmptyTable : FrameTable → ℕ → Type 0
+IsEmptyTable t n = (i : ℕ) → i < 512 → entry_at t n i ≡ 0
+
+-- a table that is in no tree and has no entries
+pub record IsSpare (t : FrameTable) (n : ℕ) : Type 0 where
+  pub table : IsTable t n
+  pub unlinked : IsUnlinked t n
+  pub empty : IsEmptyTable t n

@@ -1,0 +1,11 @@
+//! Page tables in frames: for each root a map from page number to entry. A call changes what it names and nothing else,
+//! in its own tree and in every other.
+#![tactic(auto)]
+
+mod forms;
+mod tables;
+#[cfg(test)]
+mod tests;
+
+pub use forms::Entry;
+pub use tables::{entry, entry_number, link_table, missing_tables, prune, set, take_table};

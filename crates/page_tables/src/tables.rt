@@ -1,0 +1,190 @@
+//! The calls on trees of tables.
+ghost use Rattle.std.specs.Prelude.{◌≡◌, ◌≢◌, ◌+◌, ◌≤◌, ◌<◌, ◌⊎◌, ◌↔◌, IsTrue, IsErr, IfOk, OnErr, true, false};
+ghost use Rattle.frames.specs.FrameTable.{IsFull};
+ghost use Rattle.sv39_walk.specs.Walk.{index_of};
+ghost use Rattle.page_tables.specs.Entry.{number_of, IsEntry};
+ghost use Rattle.page_tables.specs.Tree.{IsTable, Points, IsForest, IsRoot, IsSpare, IsEmptyTable, last_table, missing_of, page_entry};
+ghost use Rattle.page_tables.specs.Change.{AddsTable, PutsNumber, ChangesEntry, Unlinks, SetsEntry, LinksTable, Prunes, IsPruned};
+
+use crate::forms::{Entry, decode, encode};
+use byteorder::{ByteOrder, LittleEndian};
+use frames::{Frames, Role};
+use sv39_walk::{Pte, TOP_LEVEL, next_table, read_entry, table_index};
+use vm_types::{FrameNo, NoFree, Vpn};
+
+/// A table of zeros that is in no tree, to be linked or to begin a tree in which nothing stands. All trees stay as they are.
+///
+/// # Errors
+/// `NoFree` exactly where no frame is free; then nothing changes.
+pub fn take_table(frames: &mut Frames) -> Result<FrameNo, NoFree>
+    requires { IsForest frames.old }
+    ensures taken { IfOk result (λ n. AddsTable frames.old frames.new 2 n.0) }
+    ensures none_free { IsErr result ↔ IsFull frames.old }
+    ensures err { OnErr result (frames.new ≡ frames.old) }
+{
+    frames.take(Role::Table)
+}
+
+/// What the tree of `root` says of a page; `Entry::None` also where a table is missing.
+pub fn entry(frames: &Frames, root: FrameNo, page: Vpn) -> Entry
+    requires forest { IsForest frames.now }
+    requires root { IsRoot 2 frames.now root.0 }
+    ensures entry { number_of result ≡ page_entry frames.now 2 root.0 page }
+    ensures form { IsEntry result }
+{
+    decode(entry_number(frames, root, page))
+}
+
+/// The number that stands for what the tree of `root` says of a page, 0 where a table is missing.
+pub fn entry_number(frames: &Frames, root: FrameNo, page: Vpn) -> Pte
+    requires forest { IsForest frames.now }
+    requires root { IsRoot 2 frames.now root.0 }
+    ensures { result.0 ≡ page_entry frames.now 2 root.0 page }
+{
+    let (level, table, _) = end_of_way(frames, root, page.get());
+    if level > 0 {
+        return Pte::from_u64(0);
+    }
+    read_entry(frames, table, table_index(page.get(), 0))
+}
+
+/// How many tables are missing on the way to a page, 0 to 2.
+pub fn missing_tables(frames: &Frames, root: FrameNo, page: Vpn) -> u8
+    requires forest { IsForest frames.now }
+    requires root { IsRoot 2 frames.now root.0 }
+    ensures missing { result ≡ missing_of frames.now 2 root.0 page }
+    ensures range { result ≤ 2 }
+{
+    let (level, _, _) = end_of_way(frames, root, page.get());
+    level as u8
+}
+
+/// Makes `entry` what the tree of `root` says of a page, to which no table is missing. No other page's entry changes, in
+/// this tree or in another.
+pub fn set(frames: &mut Frames, root: FrameNo, page: Vpn, entry: Entry)
+    requires forest { IsForest frames.old }
+    requires root { IsRoot 2 frames.old root.0 }
+    requires whole { missing_of frames.old 2 root.0 page ≡ 0 }
+    requires form { IsEntry entry }
+    ensures { SetsEntry frames.old frames.new 2 root.0 page (number_of entry) }
+{
+    let (_, table, _) = end_of_way(frames, root, page.get());
+    write_entry(frames, table, table_index(page.get(), 0), encode(entry));
+}
+
+/// Puts a table of zeros, which no tree has, in the highest missing place on the way to a page.
+pub fn link_table(frames: &mut Frames, root: FrameNo, page: Vpn, table: FrameNo)
+    requires forest { IsForest frames.old }
+    requires root { IsRoot 2 frames.old root.0 }
+    requires missing { missing_of frames.old 2 root.0 page ≢ 0 }
+    requires spare { IsSpare frames.old table.0 }
+    requires other { table.0 ≢ root.0 }
+    ensures { LinksTable frames.old frames.new 2 root.0 page table.0 }
+{
+    let (level, parent, _) = end_of_way(frames, root, page.get());
+    write_entry(
+        frames,
+        parent,
+        table_index(page.get(), level),
+        Pte::pointer(table),
+    );
+}
+
+/// Releases each table below the root on the way to a page that has no entry, the lower first.
+pub fn prune(frames: &mut Frames, root: FrameNo, page: Vpn)
+    requires forest { IsForest frames.old }
+    requires root { IsRoot 2 frames.old root.0 }
+    ensures prunes { Prunes frames.old frames.new 2 }
+    ensures pruned { IsPruned frames.new 2 root.0 page }
+{
+    while prune_last(frames, root, page) {}
+}
+
+// Releases the last table on the way to a page, where it isn't the root and has no entry; whether it did.
+fn prune_last(frames: &mut Frames, root: FrameNo, page: Vpn) -> bool
+    requires forest { IsForest frames.old }
+    requires root { IsRoot 2 frames.old root.0 }
+    ensures prunes { Prunes frames.old frames.new 2 }
+    ensures done { result ≡ false → IsPruned frames.new 2 root.0 page }
+    ensures higher { result ≡ true → missing_of frames.new 2 root.0 page ≡ missing_of frames.old 2 root.0 page + 1 }
+    ensures in_levels { missing_of frames.new 2 root.0 page ≤ 2 }
+{
+    let number = page.get();
+    let (level, table, parent) = end_of_way(frames, root, number);
+    if table.0 == root.0 {
+        return false;
+    }
+    if !is_empty(frames, table) {
+        return false;
+    }
+    unlink(frames, parent, table_index(number, level + 1), table);
+    true
+}
+
+// Clears the pointer to a table, and releases the table.
+fn unlink(frames: &mut Frames, parent: FrameNo, index: usize, table: FrameNo)
+    requires points { Points frames.old parent.0 index table.0 }
+    requires table { IsTable frames.old table.0 }
+    requires apart { parent.0 ≢ table.0 }
+    ensures { Unlinks frames.old frames.new parent.0 index table.0 }
+{
+    write_entry(frames, parent, index, Pte::from_u64(0));
+    frames.release(table);
+}
+
+// Whether no entry of a table is set.
+fn is_empty(frames: &Frames, table: FrameNo) -> bool
+    requires { IsTable frames.now table.0 }
+    ensures { IsTrue result ↔ IsEmptyTable frames.now table.0 }
+{
+    for index in 0..512 {
+        if read_entry(frames, table, index).to_u64() != 0 {
+            return false;
+        }
+    }
+    true
+}
+
+// Where the way to a page ends: the level, the table, and the table before it, if it isn't the root.
+fn end_of_way(frames: &Frames, root: FrameNo, page: u64) -> (u32, FrameNo, FrameNo)
+    requires forest { IsForest frames.now }
+    requires root { IsTable frames.now root.0 }
+    ensures level { result.0 ≡ (last_table frames.now page 2 root.0).0 }
+    ensures table { result.1.0 ≡ (last_table frames.now page 2 root.0).1 }
+    ensures in_levels { result.0 ≤ 2 }
+    ensures is_table { IsTable frames.now result.1.0 }
+    ensures parent { (result.1.0 ≡ root.0)
+        ⊎ ((result.0 < 2) × Points frames.now result.2.0 (index_of page (result.0 + 1)) result.1.0) }
+{
+    let mut table = root;
+    let mut parent = root;
+    let mut level = TOP_LEVEL;
+    while level > 0 {
+        match next_table(frames, read_entry(frames, table, table_index(page, level))) {
+            Some(next) => {
+                parent = table;
+                table = next;
+            }
+            None => return (level, table, parent),
+        }
+        level -= 1;
+    }
+    (0, table, parent)
+}
+
+// Writes one entry of a table.
+fn write_entry(frames: &mut Frames, table: FrameNo, index: usize, number: Pte)
+    requires table { IsTable frames.old table.0 }
+    requires below { index < 512 }
+    ensures { ChangesEntry frames.old frames.new table.0 index number.0 }
+{
+    put_number(frames.bytes_mut(table), index, number.to_u64());
+}
+
+// Writes one number of a frame's 512.
+fn put_number(bytes: &mut [u8; 4096], index: usize, number: u64)
+    requires { index < 512 }
+    ensures { PutsNumber bytes.old bytes.new index number }
+{
+    LittleEndian::write_u64(&mut bytes[8 * index..], number);
+}

@@ -1,0 +1,55 @@
+use crate::forms::encode;
+use crate::{Entry, entry, entry_number, link_table, missing_tables, prune, set, take_table};
+use frames::Frames;
+use std::test::Fail;
+use sv39_walk::Pte;
+use vm_types::{FrameNo, SlotNo, Vpn};
+
+#[test]
+fn numbers_of_entries(rt: HostRuntime) {
+    assert_eq!(rt; Pte::pointer(FrameNo(3)).to_u64(), 3073);
+    let leaf = Pte::from_u64(5591);
+    assert!(rt; leaf.is_valid());
+    assert!(rt; leaf.is_leaf());
+    assert_eq!(rt;
+        encode(Entry::Leaf(leaf)).to_u64().to_le_bytes(),
+        [0xd7, 0x15, 0, 0, 0, 0, 0, 0]
+    );
+    assert_eq!(rt; encode(Entry::Swapped(SlotNo(7))).to_u64(), 7170);
+    assert_eq!(rt; encode(Entry::Parked(FrameNo(9), false)).to_u64(), 9220);
+    assert_eq!(rt; encode(Entry::Parked(FrameNo(9), true)).to_u64(), 9476);
+}
+
+#[test]
+fn a_page_gets_its_tables_and_an_entry(rt: HostRuntime) -> Result<(), Fail> {
+    let mut frames = Frames::new(rt.alloc(), 8)?;
+    let all = frames.len();
+    assert_eq!(rt; all, 8);
+    let page = Vpn::new(17).expect(&rt, "a user page");
+    let root = take_table(&mut frames).expect(&rt, "a free frame");
+    assert_eq!(rt; missing_tables(&frames, root, page), 2);
+    let middle = take_table(&mut frames).expect(&rt, "a second one");
+    link_table(&mut frames, root, page, middle);
+    let lowest = take_table(&mut frames).expect(&rt, "a third one");
+    link_table(&mut frames, root, page, lowest);
+    set(&mut frames, root, page, Entry::Swapped(SlotNo(7)));
+    assert_eq!(rt; entry(&frames, root, page), Entry::Swapped(SlotNo(7)));
+    assert_eq!(rt; entry_number(&frames, root, page).to_u64(), 7170);
+    Ok(())
+}
+
+#[test]
+fn a_table_without_entries_is_released(rt: HostRuntime) -> Result<(), Fail> {
+    let mut frames = Frames::new(rt.alloc(), 8)?;
+    let all = frames.len();
+    assert_eq!(rt; all, 8);
+    let page = Vpn::new(17).expect(&rt, "a user page");
+    let root = take_table(&mut frames).expect(&rt, "a free frame");
+    assert_eq!(rt; missing_tables(&frames, root, page), 2);
+    let middle = take_table(&mut frames).expect(&rt, "a second one");
+    link_table(&mut frames, root, page, middle);
+    assert_eq!(rt; missing_tables(&frames, root, page), 1);
+    prune(&mut frames, root, page);
+    assert_eq!(rt; missing_tables(&frames, root, page), 2);
+    Ok(())
+}
