@@ -20,6 +20,13 @@ not_gate sectors k outside e = ⊎_elim (λ front. omega (arith, front, e)) (λ 
 pub not_journal : (sectors k : ℕ) → IsOutside sectors k → IsJournalSector k → ⊥
 not_journal sectors k outside inside = ⊎_elim (λ front. omega (arith, front, inside.0)) (λ behind. omega (arith, behind, inside.1)) outside
 
+-- staging and opening leave the sectors outside
+pub opened_outside : {D : Type 0} (g : Ghosts D) (sectors : ℕ) (old staged opened : D) → Touches g IsJournalSector old staged → Touches g IsGate staged opened
+    → (k : ℕ) → IsOutside sectors k → g.content opened k ≡ g.content old k
+opened_outside g sectors old staged opened stages opens k outside =
+    ⊎_elim {C = g.content opened k ≡ g.content staged k} (λ at. absurd (not_gate sectors k outside at)) (λ e. e) (opens.content k)
+    ∙ ⊎_elim {C = g.content staged k ≡ g.content old k} (λ inside. absurd (not_journal sectors k outside inside)) (λ e. e) (stages.content k)
+
 -- a map of good homes isn't bad
 pub not_bad : (count : ℕ) (homes map : List ℕ) → AreHomes count homes → count_in map ≡ length homes
     → ((j : ℕ) → j < length homes → home_in map j ≡ get_or homes j 0) → IsBadMap count map → ⊥

@@ -2,7 +2,7 @@
 ghost use Rattle.std.specs.Prelude.{◌≡◌, ◌<◌, ◌⊎◌, ℕ, length, OnOk, IsErrOf};
 ghost use Rattle.disk_model.specs.Stop.{Image};
 ghost use Rattle.disk_model.specs.Moments.{LeavesOnly};
-ghost use Rattle.sync_journal.specs.Layout.{home_count};
+ghost use Rattle.sync_journal.specs.Layout.{home_count, IsOutside};
 ghost use Rattle.sync_journal.specs.Map.{AreHomes};
 ghost use Rattle.sync_journal.specs.Standing.{StandsFor, standing};
 ghost use Rattle.sync_journal.specs.Commit.{changed, StandsForEither, IsKept, IsQuiet, IsSettled};
@@ -55,6 +55,10 @@ impl Journal {
 
         ensures ok { D.keeps_model disk.new → S.keeps_model source.new → OnOk result (IsSettled D.SectorDisk (D.sector_count disk.old)
             (D.content disk.old) disk.new (changed (standing (D.content disk.old)) homes.now (S.pages source.old))) }
+
+        // Whatever the source gives, the device is quiet after Ok, and outside as it was.
+        ensures quiet { D.keeps_model disk.new → OnOk result (IsQuiet D.SectorDisk disk.new) }
+        ensures outside { D.keeps_model disk.new → OnOk result ((k : ℕ) → IsOutside (D.sector_count disk.old) k → D.content disk.new k ≡ D.content disk.old k) }
 
         ensures source { D.keeps_model disk.new → IsErrOf result CommitFault.Source
             → IsSettled D.SectorDisk (D.sector_count disk.old) (D.content disk.old) disk.new (standing (D.content disk.old)) }

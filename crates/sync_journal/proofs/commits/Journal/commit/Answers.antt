@@ -1,7 +1,7 @@
 use Rattle.std.proofs.Common.{◌≡◌, subst, sym, ⊎_elim, ◌∙◌, arith}
-use Rattle.sync_journal.specs.Layout.{map_sector, home_count}
+use Rattle.sync_journal.specs.Layout.{map_sector, home_count, IsOutside}
 use Rattle.sync_journal.specs.Map.{AreHomes}
-use Rattle.sync_journal.proofs.Phases.{while_staging, while_staging_either, staged_settled, while_opening, opens_for, while_replaying, replay_settled}
+use Rattle.sync_journal.proofs.Phases.{while_staging, while_staging_either, staged_settled, while_opening, opens_for, while_replaying, replay_settled, opened_outside}
 use Rattle.sync_journal.proofs.commits.Journal.commit.Goals as goal
 
 pub returns-in_err-stage-clause-source_moments : goal.returns-in_err-stage-clause-source_moments
@@ -82,3 +82,14 @@ returns-clause-ok g c = λ keeps gives.
     c.requires.homes (c.requires.quiet before) (c.stage.ensures.run.touches mid)
     c.open_gate.new.disk c.replay.new.disk (staged.body mid gives) (staged.map mid) (staged.synced mid) (c.open_gate.ensures.run.touches last)
     (c.in_ok-open_gate.ensures.opened last) (c.open_gate.ensures.run.size ∙ c.stage.ensures.run.size) (c.in_ok-replay.ensures.settled keeps)
+
+pub returns-clause-quiet : goal.returns-clause-quiet
+returns-clause-quiet g c = λ keeps. (c.in_ok-replay.ensures.settled keeps).quiet
+
+pub returns-clause-outside : goal.returns-clause-outside
+returns-clause-outside g c = λ keeps k at.
+    let last = c.replay.ensures.run.kept keeps in
+    let sectors : g.D.SectorDisk.sector_count c.open_gate.new.disk ≡ g.D.SectorDisk.sector_count c.args.disk.now = c.open_gate.ensures.run.size ∙ c.stage.ensures.run.size in
+    (c.in_ok-replay.ensures.settled keeps).outside k (subst (λ n. IsOutside n k) (sym sectors) at)
+    ∙ opened_outside g.D.SectorDisk (g.D.SectorDisk.sector_count c.args.disk.now) c.args.disk.now c.stage.new.disk c.open_gate.new.disk
+    (c.stage.ensures.run.touches (c.open_gate.ensures.run.kept last)) (c.open_gate.ensures.run.touches last) k at
