@@ -1,0 +1,176 @@
+-- What a commit makes of the files.
+use Rattle.std.proofs.Common.{◌≡◌, ◌≢◌, ℕ, zero, suc, ◌+◌, ◌*◌, ◌<◌, ◌≤◌, ◌⊎◌, ⊎_elim, inl, inr, List, length, get_or, take, slice_get, slice_index, Option, Some, None, cond, false, eqb, refl, sym, ap, subst, ◌∙◌, arith}
+use Rattle.std.proofs.lemmas.Bool.{cases_eq, eq-eqb}
+use Rattle.std.proofs.lemmas.Bool.Decides.{nat_tests}
+use Rattle.std.proofs.lemmas.List.{length-take-le, get_or-take}
+use Rattle.std.proofs.lemmas.Option.{same_Some, slice_get-get_or, slice_get_within}
+use Rattle.disk_model.specs.Stop.{Image}
+use Rattle.sync_journal.specs.Layout.{home_count}
+use Rattle.sync_journal.specs.Map.{place_among, AreHomes}
+use Rattle.sync_journal.specs.Standing.{standing, sector_of}
+use Rattle.sync_journal.specs.Standing.{StandsFor as HomesStandFor}
+use Rattle.sync_journal.specs.Commit.{changed, sector_or, IsKept}
+use Rattle.sync_journal.specs.Commit.{StandsForEither as HomesStandForEither}
+use Rattle.vm_types.specs.declared.file.FileInfo.{FileInfo}
+use Rattle.vm_types.specs.declared.file.FilePage.{FilePage}
+use Rattle.file_store.specs.declared.directory.Entry.{Entry}
+use Rattle.file_store.specs.declared.directory.Directory.{Directory}
+use Rattle.file_store.specs.Layout.{trimmed, bytes_inside}
+use Rattle.file_store.specs.Directory.{IsSound, IsHomeOf}
+use Rattle.file_store.specs.Standing.{IsPageOf, StandsFor, directory_entry, file_info, page_standing, standing_page}
+use Rattle.file_store.specs.Store.{entry_of, home_of, inside_of, inside_at, IsEntryPage}
+use Rattle.file_store.specs.Commit.{cut_page, ArePages, Changes, StandsForEither}
+use Rattle.file_store.proofs.Pieces.{joined-same, joined_sectors, trimmed-trimmed, length-trimmed}
+use Rattle.file_store.proofs.Homes.{entry_behind, home_of-entry, is_home, one_file, one_page, home_inside, inside_of-entry}
+use Rattle.file_store.proofs.Images.{bad_layout_moves, stands_kept}
+
+eqb-ne : (m n : ℕ) → m ≢ n → eqb m n ≡ false
+eqb-ne m n other = grind (arith, nat_tests)
+
+-- where a list of homes names a home, if it does
+pub place_cases : (homes : ℕ → ℕ) (h n : ℕ) →
+    ((place_among homes h n ≡ None) × ((j : ℕ) → j < n → homes j ≢ h)) ⊎ ((j : ℕ) × (place_among homes h n ≡ Some j) × (j < n) × (homes j ≡ h))
+unfolding place_among
+place_cases homes h zero = inl (refl, λ j lt. absurd (omega (arith, lt)))
+place_cases homes h (suc n) = ⊎_elim
+    (λ same. inr (n, ap (λ b. cond b (Some n) (place_among homes h n)) (eq-eqb (homes n) h same), omega arith, same))
+    (λ other. ⊎_elim
+    (λ none. inl (ap (λ b. cond b (Some n) (place_among homes h n)) (eqb-ne (homes n) h other) ∙ none.0, λ j lt. ⊎_elim (λ e. subst (λ k. homes k ≢ h) (sym e) other) (λ ne. none.1 j (omega (arith, lt, ne))) (cases_eq j n)))
+    (λ some. inr (some.0, ap (λ b. cond b (Some n) (place_among homes h n)) (eqb-ne (homes n) h other) ∙ some.1, omega (arith, some.2), some.3))
+    (place_cases homes h n))
+    (cases_eq (homes n) h)
+
+-- the homes of a list of pages
+pub record AreHomesOf (directory : Directory) (list : List FilePage) (homes : List ℕ) : Type 0 where
+  pub size : length homes ≡ length list
+  pub each : (i : ℕ) (p : FilePage) → slice_get list i ≡ Some p → slice_index homes i ≡ home_of directory p
+  pub entries : (i : ℕ) (p : FilePage) → slice_get list i ≡ Some p → IsEntryPage directory p
+
+pub homes_front : (directory : Directory) (list : List FilePage) (homes : List ℕ) → length list ≤ length homes
+    → ((i : ℕ) (p : FilePage) → slice_get list i ≡ Some p → slice_index homes i ≡ home_of directory p)
+    → ((i : ℕ) (p : FilePage) → slice_get list i ≡ Some p → IsEntryPage directory p) → AreHomesOf directory list (take (length list) homes)
+homes_front directory list homes few each entries = record {
+  size = length-take-le (length list) homes few;
+  each = λ i p at. get_or-take (length list) homes i 0 (slice_get_within list i p at) ∙ each i p at;
+  entries = entries;
+}
+
+no_page : FilePage
+no_page = record { file = 0; page = 0 }
+
+at_place : (list : List FilePage) (i : ℕ) → i < length list → (p : FilePage) × (slice_get list i ≡ Some p)
+at_place list i lt = (get_or list i no_page, slice_get-get_or list i no_page lt)
+
+pub are_homes : (sectors : ℕ) (directory : Directory) (files : ℕ → Option FileInfo) (list : List FilePage) (homes : List ℕ)
+    → IsSound (home_count sectors) (entry_of directory) → ArePages files list → AreHomesOf directory list homes → AreHomes (home_count sectors) homes
+are_homes sectors directory files list homes sound pages of_list = record {
+  few = omega (arith, pages.few, of_list.size);
+  inside = λ j lt.
+      let at = at_place list j (omega (arith, lt, of_list.size)) in
+      let entry = of_list.entries j at.0 at.1 in
+      let home = of_list.each j at.0 at.1 ∙ home_of-entry directory at.0 entry.entry entry.is in
+      let below = home_inside sectors directory sound at.0 entry in
+      subst (λ h. h < home_count sectors) (sym home) below;
+  distinct = λ i j less lt same.
+      let at = at_place list i (omega (arith, less, lt, of_list.size)) in
+      let at' = at_place list j (omega (arith, lt, of_list.size)) in
+      let entry = of_list.entries i at.0 at.1 in
+      let entry' = of_list.entries j at'.0 at'.1 in
+      let home = of_list.each i at.0 at.1 ∙ home_of-entry directory at.0 entry.entry entry.is in
+      let home' = of_list.each j at'.0 at'.1 ∙ home_of-entry directory at'.0 entry'.entry entry'.is in
+      let page = one_page (home_count sectors) directory sound at.0 at'.0 entry entry' (sym home ∙ same ∙ home') in
+      pages.distinct i j at.0 less at.1 (at'.1 ∙ ap Some (sym page));
+}
+
+-- A page of which the list names the home is that page of the list.
+module _ (sectors : ℕ) (directory : Directory) (list : List FilePage) (homes : List ℕ) (given : ℕ → List ℕ) (old new : Image)
+    (sound : IsSound (home_count sectors) (entry_of directory)) (same_directory : (f : ℕ) → entry_of directory f ≡ directory_entry old f)
+    (of_list : AreHomesOf directory list homes)
+    (kept : IsKept sectors old (HomesStandFor (changed (standing old) homes (λ i. trimmed (inside_at directory list i) (given i)))) new) where
+  abbrev cut : ℕ → List ℕ
+  cut i = trimmed (inside_at directory list i) (given i)
+
+  second : new 1 ≡ old 1
+  second = kept.outside 1 (inl (omega arith))
+
+  entry_same : (f : ℕ) → directory_entry new f ≡ directory_entry old f
+  entry_same f = ap (λ (s : List ℕ). directory_entry (λ _. s) f) second
+
+  -- not named: as before
+  unlisted : (f k : ℕ) (e : Entry) → directory_entry old f ≡ Some e → place_among (λ j. slice_index homes j) (e.first + k) (length homes) ≡ None → standing_page new f k ≡ standing_page old f k
+  unfolding changed
+  unlisted f k e is none =
+      let sectors_same : (i : ℕ) → i < 8 → standing new (e.first + k) i ≡ standing old (e.first + k) i
+      = λ i lt. kept.stands.each (e.first + k) i lt ∙ ap (sector_or cut (standing old (e.first + k) i) i) none in
+      ap (page_standing new k) (entry_same f ∙ is)
+      ∙ ap (trimmed (bytes_inside e.info.length k)) (joined-same 8 (standing new (e.first + k)) (standing old (e.first + k)) sectors_same)
+      ∙ sym (ap (page_standing old k) is)
+
+  -- named: as given
+  listed : (f k j : ℕ) (e : Entry) (p : FilePage) → directory_entry old f ≡ Some e → slice_get list j ≡ Some p → p.file ≡ f → p.page ≡ k
+      → place_among (λ j. slice_index homes j) (e.first + k) (length homes) ≡ Some j → standing_page new f k ≡ trimmed (bytes_inside e.info.length k) (given j)
+  unfolding changed
+  listed f k j e p is at file page some =
+      let sectors_are : (i : ℕ) → i < 8 → standing new (e.first + k) i ≡ sector_of (cut j) i
+      = λ i lt. kept.stands.each (e.first + k) i lt ∙ ap (sector_or cut (standing old (e.first + k) i) i) some in
+      let entry_is : entry_of directory p.file ≡ Some e = ap (entry_of directory) file ∙ same_directory f ∙ is in
+      let inside : inside_at directory list j ≡ bytes_inside e.info.length k
+      = ap (inside_of directory) at ∙ inside_of-entry directory p e entry_is ∙ ap (bytes_inside e.info.length) page in
+      let cut_is : cut j ≡ trimmed (bytes_inside e.info.length k) (given j) = ap (λ n. trimmed n (given j)) inside in
+      let small : bytes_inside e.info.length k ≤ 4096 = omega arith in
+      ap (page_standing new k) (entry_same f ∙ is)
+      ∙ ap (trimmed (bytes_inside e.info.length k)) (joined-same 8 (standing new (e.first + k)) (sector_of (cut j)) sectors_are
+      ∙ joined_sectors (cut j) (ap length cut_is ∙ length-trimmed (bytes_inside e.info.length k) (given j) small) ∙ cut_is)
+      ∙ trimmed-trimmed (bytes_inside e.info.length k) (given j) small
+
+  -- so the image stands for the files after
+  pub stands_changed : (files : ℕ → Option FileInfo) (before after : ℕ → ℕ → List ℕ) → StandsFor sectors files before old → Changes files list given before after → StandsFor sectors files after new
+  stands_changed files before after was changes = record {
+    layout = λ bad. was.layout (bad_layout_moves sectors new old (kept.outside 0 (inl (omega arith))) second bad);
+    journal = λ bad. was.journal (kept.journal bad);
+    facts = λ f. ap (λ (s : List ℕ). file_info (λ _. s) f) second ∙ was.facts f;
+    same = same_pages;
+  }
+    where
+      same_pages : (f k : ℕ) → IsPageOf files f k → standing_page new f k ≡ after f k
+      same_pages f k inside =
+          let b = entry_behind (directory_entry old f) inside.0 (was.facts f ∙ inside.1) in
+          let e : Entry = b.0 in
+          let entry_is : directory_entry old f ≡ Some e = b.1 in
+          let lt : 4096 * k < e.info.length = subst (λ (i : FileInfo). 4096 * k < i.length) (sym b.2) inside.2 in
+          let in_memory : entry_of directory f ≡ Some e = same_directory f ∙ entry_is in
+          ⊎_elim
+          (λ none. unlisted f k e entry_is none.0 ∙ was.same f k inside
+          ∙ sym (changes.others f k (λ i p at file page.
+          let home = of_list.each i p at ∙ home_of-entry directory p e (ap (entry_of directory) file ∙ in_memory) ∙ ap (λ n. e.first + n) page in
+          none.1 i (omega (arith, slice_get_within list i p at, of_list.size)) home)))
+          (λ some.
+          let at = at_place list some.0 (omega (arith, some.2, of_list.size)) in
+          let p = at.0 in
+          let entry = of_list.entries some.0 p at.1 in
+          let home : entry.entry.first + p.page ≡ e.first + k = sym (of_list.each some.0 p at.1 ∙ home_of-entry directory p entry.entry entry.is) ∙ some.3 in
+          let file : p.file ≡ f = one_file (home_count sectors) (entry_of directory) sound p.file f (entry.entry.first + p.page) entry.entry e entry.is in_memory
+          (is_home entry.entry p.page entry.inside) (subst (λ h. IsHomeOf e h) (sym home) (is_home e k lt)) in
+          let same_entry : entry.entry ≡ e = same_Some entry.entry e (sym entry.is ∙ ap (entry_of directory) file ∙ in_memory) in
+          let first : entry.entry.first ≡ e.first = ap (λ x. x.first) same_entry in
+          let page : p.page ≡ k = omega (arith, home, first) in
+          listed f k some.0 e p entry_is at.1 file page some.1
+          ∙ ap (λ (i : FileInfo). trimmed (bytes_inside i.length k) (given some.0)) b.2
+          ∙ sym (ap (λ o. cut_page o k (given some.0)) inside.1)
+          ∙ sym (ap (λ n. cut_page (files f) n (given some.0)) page)
+          ∙ sym (ap (λ n. cut_page (files n) p.page (given some.0)) file)
+          ∙ sym (changes.listed some.0 p at.1)
+          ∙ ap (λ n. after n p.page) file ∙ ap (after f) page)
+          (place_cases (λ j. slice_index homes j) (e.first + k) (length homes))
+
+-- at any moment the image stands for the files before or after
+pub stands_either : (sectors : ℕ) (directory : Directory) (list : List FilePage) (homes : List ℕ) (given : ℕ → List ℕ) (old new : Image)
+    → IsSound (home_count sectors) (entry_of directory) → ((f : ℕ) → entry_of directory f ≡ directory_entry old f) → AreHomesOf directory list homes
+    → (files : ℕ → Option FileInfo) (before after : ℕ → ℕ → List ℕ) → StandsFor sectors files before old → Changes files list given before after
+    → IsKept sectors old (HomesStandForEither (standing old) (changed (standing old) homes (λ i. trimmed (inside_at directory list i) (given i)))) new
+    → StandsForEither sectors files before after new
+stands_either sectors directory list homes given old new sound same_directory of_list files before after was changes kept = ⊎_elim
+    (λ stands. inl (stands_kept sectors old new (record { stands = stands; journal = kept.journal; outside = kept.outside }) files before was))
+    (λ stands. inr (stands_changed sectors directory list homes given old new sound same_directory of_list
+    (record { stands = stands; journal = kept.journal; outside = kept.outside }) files before after was changes))
+    kept.stands

@@ -1,0 +1,9 @@
+pub mod Entries
+pub mod Pieces
+pub mod Reading
+pub mod Images
+pub mod Homes
+pub mod Openings
+pub mod Causes
+pub mod Changed
+pub mod Lists

@@ -1,0 +1,93 @@
+-- Pages in pieces.
+use Rattle.std.proofs.Common.{◌≡◌, ℕ, zero, suc, ◌+◌, ◌-◌, ◌*◌, ◌<◌, ◌≤◌, ⊎_elim, List, [], ◌++◌, length, get_or, take, drop, replicate, refl, sym, ap, ◌∙◌, arith, add-one, length-append, length-take, length-drop}
+use Rattle.std.proofs.lemmas.List.{take_all, take_at, drop_all, append-nil, length-take-le, length-replicate, ext_get_or, get_or-take, get_or_past, get_or-replicate, get_or_append_left, get_or-append_right}
+use Rattle.std.proofs.lemmas.Bool.{cases_lt}
+use Rattle.std.proofs.Math.Seq.{take-add}
+use Rattle.sync_journal.specs.Standing.{sector_of}
+use Rattle.std.proofs.lemmas.Slice.{put_mid-paste}
+use borrow.Rule.Slice.PartMut.{put_mid, mid_of}
+use Rattle.file_store.specs.Layout.{joined, trimmed}
+
+pub joined-none : (pieces : ℕ → List ℕ) → joined pieces 0 ≡ []
+unfolding joined
+joined-none pieces = refl
+
+pub joined-more : (pieces : ℕ → List ℕ) (n : ℕ) → joined pieces (n + 1) ≡ joined pieces n ++ pieces n
+unfolding joined
+joined-more pieces n = rw add-one refl
+
+-- equal pieces
+pub joined-same : (n : ℕ) (xs ys : ℕ → List ℕ) → ((i : ℕ) → i < n → xs i ≡ ys i) → joined xs n ≡ joined ys n
+unfolding joined
+joined-same zero xs ys same = refl
+joined-same (suc n) xs ys same =
+    ap (λ (s : List ℕ). s ++ xs n) (joined-same n xs ys (λ i lt. same i (omega (arith, lt)))) ∙ ap (λ (s : List ℕ). joined ys n ++ s) (same n (omega arith))
+
+-- a page with one more sector in place
+pub page_step : (page sector : List ℕ) (i : ℕ) → length sector ≡ 512 → 512 * i + 512 ≤ length page
+    → take (512 * (i + 1)) (take (512 * i) page ++ sector ++ drop (512 * i + 512) page) ≡ take (512 * i) page ++ sector
+page_step page sector i size room =
+    let front : length (take (512 * i) page ++ sector) ≡ 512 * (i + 1) = omega (arith, length-append (take (512 * i) page) sector, length-take-le (512 * i) page (omega (arith, room)), size) in
+    take_at (take (512 * i) page ++ sector) (drop (512 * i + 512) page) (512 * (i + 1)) front
+
+-- trimmed to as many bytes as the page has in the file
+pub trimmed_fill : (n : ℕ) (page : List ℕ) → length page ≡ 4096 → n ≤ 4096 → take n page ++ replicate (4096 - n) 0 ≡ trimmed n page
+unfolding trimmed
+trimmed_fill n page size le = ap (λ (k : ℕ). take n page ++ replicate (4096 - k) 0) (sym (length-take-le n page (omega (arith, size, le))))
+
+-- a part of a page written over
+pub length_put : (a k : ℕ) (xs ys : List ℕ) → a + k ≤ length xs → length ys ≡ k → length (put_mid a k xs ys) ≡ length xs
+length_put a k xs ys room size =
+    ap length (put_mid-paste a k xs ys ys k refl refl (sym size))
+    ∙ simp (length-append, length-take, length-drop) (omega (arith, room, size))
+
+pub trimmed_put : (n : ℕ) (page zeros : List ℕ) → length page ≡ 4096 → n ≤ 4096 → zeros ≡ replicate (4096 - n) 0 → put_mid n (4096 - n) page zeros ≡ trimmed n page
+trimmed_put n page zeros size le is =
+    let long : length zeros ≡ 4096 - n = ap length is ∙ length-replicate (4096 - n) 0 in
+    put_mid-paste n (4096 - n) page zeros zeros (4096 - n) refl refl (sym long)
+    ∙ ap (λ (s : List ℕ). take n page ++ s ++ drop (n + (4096 - n)) page) (take_all (4096 - n) zeros (omega (arith, long)) ∙ is)
+    ∙ ap (λ (s : List ℕ). take n page ++ replicate (4096 - n) 0 ++ s) (drop_all (n + (4096 - n)) page (omega (arith, size, le)))
+    ∙ append-nil (take n page ++ replicate (4096 - n) 0)
+    ∙ trimmed_fill n page size le
+
+pub length_mid : (a k : ℕ) (xs : List ℕ) → a + k ≤ length xs → length (mid_of a k xs) ≡ k
+length_mid a k xs room = simp (length-take, length-drop) (omega (arith, room))
+
+-- the sectors of a page, one after another
+sectors_joined : (page : List ℕ) (n : ℕ) → joined (sector_of page) n ≡ take (512 * n) page
+unfolding joined
+sectors_joined page zero = refl
+sectors_joined page (suc n) =
+    ap (λ (s : List ℕ). s ++ sector_of page n) (sectors_joined page n)
+    ∙ sym (take-add (512 * n) 512 page)
+    ∙ (let e : 512 * n + 512 ≡ 512 * suc n = omega arith in ap (λ (m : ℕ). take m page) e)
+
+pub joined_sectors : (page : List ℕ) → length page ≡ 4096 → joined (sector_of page) 8 ≡ page
+joined_sectors page size = sectors_joined page 8 ∙ take_all 4096 page (omega (arith, size))
+
+pub length-trimmed : (n : ℕ) (page : List ℕ) → n ≤ 4096 → length (trimmed n page) ≡ 4096
+unfolding trimmed
+length-trimmed n page le = simp (length-append, length-take, length-replicate) (omega (arith, le))
+
+get_or-zeros : (m i : ℕ) → ◌≡◌ {A = ℕ} (get_or (replicate m 0) i 0) (0)
+get_or-zeros m i = ⊎_elim (λ lt. get_or-replicate m i 0 0 lt) (λ le. get_or_past (replicate m 0) i 0 (omega (arith, le, length-replicate {A = ℕ} m 0))) (cases_lt i m)
+
+get_or-padded : (front : List ℕ) (m i : ℕ) → length front ≤ i → ◌≡◌ {A = ℕ} (get_or (front ++ replicate m 0) i 0) (0)
+get_or-padded front m i le = get_or-append_right front (replicate m 0) (length front) i 0 refl le ∙ get_or-zeros m (i - length front)
+
+get_or-trimmed : (n : ℕ) (page : List ℕ) → (i : ℕ) → i < n → ◌≡◌ {A = ℕ} (get_or (trimmed n page) i 0) (get_or page i 0)
+unfolding trimmed
+get_or-trimmed n page i lt = ⊎_elim
+    (λ inside. get_or_append_left (take n page) (replicate (4096 - length (take n page)) 0) 0 i inside ∙ get_or-take n page i 0 lt)
+    (λ past. get_or-padded (take n page) (4096 - length (take n page)) i past ∙ sym (get_or_past page i 0 (omega (arith, past, lt, length-take n page))))
+    (cases_lt i (length (take n page)))
+
+get_or-trimmed_past : (n : ℕ) (page : List ℕ) → (i : ℕ) → n ≤ i → ◌≡◌ {A = ℕ} (get_or (trimmed n page) i 0) (0)
+unfolding trimmed
+get_or-trimmed_past n page i past = get_or-padded (take n page) (4096 - length (take n page)) i (omega (arith, past, length-take n page))
+
+-- trimmed twice
+pub trimmed-trimmed : (n : ℕ) (page : List ℕ) → n ≤ 4096 → trimmed n (trimmed n page) ≡ trimmed n page
+trimmed-trimmed n page le = ext_get_or 0 (trimmed n (trimmed n page)) (trimmed n page) (length-trimmed n (trimmed n page) le ∙ sym (length-trimmed n page le))
+    (λ i lt. ⊎_elim (λ below. get_or-trimmed n (trimmed n page) i below)
+    (λ past. get_or-trimmed_past n (trimmed n page) i past ∙ sym (get_or-trimmed_past n page i past)) (cases_lt i n))

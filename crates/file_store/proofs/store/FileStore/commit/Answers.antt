@@ -1,0 +1,85 @@
+use Rattle.std.proofs.Common.{◌≡◌, length, take, arith, rules}
+use Rattle.std.proofs.lemmas.Result.{on_ok_weaker}
+use Rattle.disk_model.proofs.Moments.{weaker}
+use Rattle.sync_journal.specs.Standing.{standing}
+use Rattle.sync_journal.specs.Standing.{StandsFor as HomesStandFor}
+use Rattle.sync_journal.specs.Commit.{IsKept, changed}
+use Rattle.sync_journal.specs.Commit.{StandsForEither as HomesStandForEither}
+use Rattle.file_store.specs.Layout.{trimmed}
+use Rattle.file_store.specs.Standing.{StandsFor}
+use Rattle.file_store.specs.Store.{inside_at, files_of}
+use Rattle.file_store.specs.Commit.{StandsForEither}
+use Rattle.file_store.proofs.Reading.{has_content}
+use Rattle.file_store.proofs.Homes.{entry_page}
+use Rattle.file_store.proofs.Images.{stands_kept}
+use Rattle.file_store.proofs.Changed.{are_homes, homes_front, stands_changed, stands_either}
+use Rattle.file_store.proofs.store.FileStore.commit.Goals as goal
+
+pub homes_of-homes-requires-clause-inside : goal.homes_of-homes-requires-clause-inside
+homes_of-homes-requires-clause-inside g c = λ i p at.
+    entry_page (g.D.SectorDisk.sector_count c.args.self.now.disk) c.args.self.now.directory c.requires.ready.sound p (c.requires.pages.inside i p at)
+
+pub commit-requires-clause-homes : goal.commit-requires-clause-homes
+commit-requires-clause-homes g c =
+    let sectors = g.D.SectorDisk.sector_count c.args.self.now.disk in
+    let directory = c.args.self.now.directory in
+    let long : length c.homes_of-homes.result ≡ 127 = search rules in
+    let of_list = homes_front directory c.args.pages.now c.homes_of-homes.result (let few = c.requires.pages.few in omega (arith, few, long)) c.homes_of-homes.ensures
+    (λ i p at. entry_page sectors directory c.requires.ready.sound p (c.requires.pages.inside i p at)) in
+    are_homes sectors directory (files_of c.args.self.now) c.args.pages.now (take (length c.args.pages.now) c.homes_of-homes.result) c.requires.ready.sound c.requires.pages of_list
+
+pub returns-clause-asks : goal.returns-clause-asks
+returns-clause-asks g c = let a = c.commit.ensures.asks.follows.1 in search rules
+
+pub returns-clause-any_moment : goal.returns-clause-any_moment
+returns-clause-any_moment g c = λ k ks files before after left changes.
+    let ks' : g.S.PageSource.keeps_model c.commit.new.source.source.now = search rules in
+    let sectors = g.D.SectorDisk.sector_count c.args.self.now.disk in
+    let directory = c.args.self.now.directory in
+    let list = c.args.pages.now in
+    let given = g.S.PageSource.pages c.args.source.now in
+    let old = g.D.SectorDisk.content c.args.self.now.disk in
+    let homes = take (length list) c.homes_of-homes.result in
+    let rest = c.requires.ready.at_rest (c.commit.ensures.kept k) in
+    let long : length c.homes_of-homes.result ≡ 127 = search rules in
+    let of_list = homes_front directory list c.homes_of-homes.result (let few = c.requires.pages.few in omega (arith, few, long)) c.homes_of-homes.ensures
+    (λ i p at. entry_page sectors directory c.requires.ready.sound p (c.requires.pages.inside i p at)) in
+    let was = has_content g.D.SectorDisk c.args.self.now.disk (StandsFor sectors files before) left in
+    weaker g.D.SectorDisk c.args.self.now.disk c.commit.new.disk
+    (IsKept sectors old (HomesStandForEither (standing old) (changed (standing old) homes (λ i. trimmed (inside_at directory list i) (given i)))))
+    (StandsForEither sectors files before after)
+    (λ image kept. stands_either sectors directory list homes given old image c.requires.ready.sound rest.directory of_list files before after was changes kept)
+    (c.commit.ensures.any_moment k ks')
+
+pub returns-clause-ok : goal.returns-clause-ok
+returns-clause-ok g c = λ k ks files before after left changes.
+    let ks' : g.S.PageSource.keeps_model c.commit.new.source.source.now = search rules in
+    let sectors = g.D.SectorDisk.sector_count c.args.self.now.disk in
+    let directory = c.args.self.now.directory in
+    let list = c.args.pages.now in
+    let given = g.S.PageSource.pages c.args.source.now in
+    let old = g.D.SectorDisk.content c.args.self.now.disk in
+    let homes = take (length list) c.homes_of-homes.result in
+    let rest = c.requires.ready.at_rest (c.commit.ensures.kept k) in
+    let long : length c.homes_of-homes.result ≡ 127 = search rules in
+    let of_list = homes_front directory list c.homes_of-homes.result (let few = c.requires.pages.few in omega (arith, few, long)) c.homes_of-homes.ensures
+    (λ i p at. entry_page sectors directory c.requires.ready.sound p (c.requires.pages.inside i p at)) in
+    let was = has_content g.D.SectorDisk c.args.self.now.disk (StandsFor sectors files before) left in
+    on_ok_weaker c.commit.result (λ settled image may. stands_changed sectors directory list homes given old image c.requires.ready.sound rest.directory of_list
+    (settled.left image may) files before after was changes) (c.commit.ensures.ok k ks')
+
+pub returns-clause-source : goal.returns-clause-source
+returns-clause-source g c = λ k is files before left.
+    let sectors = g.D.SectorDisk.sector_count c.args.self.now.disk in
+    let old = g.D.SectorDisk.content c.args.self.now.disk in
+    let was = has_content g.D.SectorDisk c.args.self.now.disk (StandsFor sectors files before) left in
+    weaker g.D.SectorDisk c.args.self.now.disk c.commit.new.disk (IsKept sectors old (HomesStandFor (standing old))) (StandsFor sectors files before)
+    (λ image kept. stands_kept sectors old image kept files before was) (c.commit.ensures.source_moments k is)
+
+pub returns-clause-source_now : goal.returns-clause-source_now
+returns-clause-source_now g c = λ k is files before left image may.
+    let sectors = g.D.SectorDisk.sector_count c.args.self.now.disk in
+    let old = g.D.SectorDisk.content c.args.self.now.disk in
+    let was = has_content g.D.SectorDisk c.args.self.now.disk (StandsFor sectors files before) left in
+    let settled = c.commit.ensures.source k is in
+    stands_kept sectors old image (settled.left image may) files before was

@@ -1,0 +1,7 @@
+pub mod Layout
+pub mod Asking
+pub mod Directory
+pub mod Faults
+pub mod Standing
+pub mod Store
+pub mod Commit

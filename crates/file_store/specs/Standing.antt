@@ -1,0 +1,57 @@
+-- The files that an image of a store stands for. The format is our own.
+use Rattle.std.specs.Prelude.{ℕ, ◌+◌, ◌*◌, ◌<◌, ◌≡◌, ◌≢◌, List, [], take, Option, Some, None}
+use Rattle.std.specs.Option.{option_map}
+use Rattle.vm_types.specs.declared.file.FileInfo.{FileInfo}
+use Rattle.disk_model.specs.Stop.{Image}
+use Rattle.sync_journal.specs.Layout.{home_count}
+use Rattle.sync_journal.specs.Standing.{standing, IsBadJournal}
+use Rattle.file_store.specs.declared.directory.Entry.{Entry}
+use Rattle.file_store.specs.Layout.{mark, page_count, bytes_inside, trimmed, joined}
+use Rattle.file_store.specs.Directory.{entry_in, IsBadDirectory}
+
+-- An image without the layout of a store: the device is too small, the mark is missing, or the directory is bad.
+pub data IsBadLayout (sectors : ℕ) (image : Image) : Type 0 where
+  TooSmall : sectors < 1020 → IsBadLayout sectors image
+  Unmarked : image 0 ≢ mark → IsBadLayout sectors image
+  BadDirectory : IsBadDirectory (home_count sectors) (image 1) → IsBadLayout sectors image
+
+-- the directory's entry of file f
+abbrev pub directory_entry : Image → ℕ → Option Entry
+directory_entry image f = entry_in (image 1) f
+
+-- what the directory says of file f
+abbrev pub file_info : Image → ℕ → Option FileInfo
+file_info image f = option_map (λ e. e.info) (directory_entry image f)
+
+-- page k of a file with this entry: the file's bytes, and zeros past its end
+abbrev pub page_standing : Image → ℕ → Option Entry → List ℕ
+page_standing image k None = []
+page_standing image k (Some e) = trimmed (bytes_inside e.info.length k) (joined (standing image (e.first + k)) 8)
+
+-- page k of file f as it stands
+abbrev pub standing_page : Image → ℕ → ℕ → List ℕ
+standing_page image f k = page_standing image k (directory_entry image f)
+
+-- page k begins inside file f
+abbrev pub IsPageOf : (ℕ → Option FileInfo) → ℕ → ℕ → Type 0
+IsPageOf files f k = (info : FileInfo) × (files f ≡ Some info) × (4096 * k < info.length)
+
+-- The image stands for these files, with these bytes in each of their pages: it has the layout of a store, and its
+-- journal is one that a commit wrote.
+pub record StandsFor (sectors : ℕ) (files : ℕ → Option FileInfo) (pages : ℕ → ℕ → List ℕ) (image : Image) : Type 0 where
+  pub layout : IsBadLayout sectors image → ⊥
+  pub journal : IsBadJournal sectors image → ⊥
+  pub facts : (f : ℕ) → file_info image f ≡ files f
+  pub same : (f k : ℕ) → IsPageOf files f k → standing_page image f k ≡ pages f k
+
+-- the bytes of a file of these pages
+abbrev pub bytes_of_pages : (ℕ → List ℕ) → FileInfo → List ℕ
+bytes_of_pages pages info = take info.length (joined pages (page_count info.length))
+
+-- the bytes of file f as they stand
+abbrev pub standing_file : Image → ℕ → Option (List ℕ)
+standing_file image f = option_map (bytes_of_pages (standing_page image f)) (file_info image f)
+
+-- it stands for what the other image stands for
+abbrev pub StandsAs : ℕ → Image → Image → Type 0
+StandsAs sectors old image = (files : ℕ → Option FileInfo) (pages : ℕ → ℕ → List ℕ) → StandsFor sectors files pages old → StandsFor sectors files pages image

@@ -1,0 +1,75 @@
+-- An open store.
+use Rattle.std.specs.Prelude.{ℕ, ◌+◌, ◌*◌, ◌^◌, ◌<◌, ◌≤◌, ◌≡◌, List, slice_get, Option, Some, None, get_or}
+use Rattle.std.specs.Option.{option_map}
+use Rattle.vm_types.specs.declared.file.FileInfo.{FileInfo}
+use Rattle.disk_model.specs.declared.sector_disk.SectorDisk.{Ghosts}
+use Rattle.sync_journal.specs.Layout.{home_count}
+use Rattle.sync_journal.specs.Commit.{IsQuiet}
+use Rattle.file_store.specs.declared.directory.Entry.{Entry}
+use Rattle.file_store.specs.declared.directory.Directory.{Directory}
+use Rattle.file_store.specs.declared.store.FileStore.{FileStore}
+use Rattle.vm_types.specs.declared.file.FilePage.{FilePage}
+use Rattle.file_store.specs.Layout.{bytes_inside}
+use Rattle.file_store.specs.Directory.{IsSound}
+use Rattle.file_store.specs.Standing.{directory_entry, IsBadLayout, StandsAs}
+use Rattle.disk_model.specs.Moments.{LeavesNow}
+use Rattle.sync_journal.specs.Standing.{IsBadJournal}
+
+-- the entry of file f
+abbrev pub entry_of : Directory → ℕ → Option Entry
+entry_of directory f = get_or directory.entries f None
+
+module _ {D : Type 0} where
+  -- what the store says of file f
+  abbrev pub files_of : FileStore D → ℕ → Option FileInfo
+  files_of store f = option_map (λ e. e.info) (entry_of store.directory f)
+
+module _ {D : Type 0} (g : Ghosts D) where
+  -- what the store's device holds, as long as it keeps its model: the directory is the store's, and no journal is open
+  pub record IsAtRest (store : FileStore D) : Type 0 where
+    pub quiet : IsQuiet g store.disk
+    pub directory : (f : ℕ) → entry_of store.directory f ≡ directory_entry (g.content store.disk) f
+
+  -- The store may be read and committed to.
+  pub record IsReady (store : FileStore D) : Type 0 where
+    pub room : 1020 ≤ g.sector_count store.disk
+    pub sound : IsSound (home_count (g.sector_count store.disk)) (entry_of store.directory)
+    pub at_rest : g.keeps_model store.disk → IsAtRest store
+
+-- how many bytes of the page at place i of a list lie inside its file, where it has one
+unfoldable pub inside_in : Option Entry → ℕ → ℕ
+inside_in None k = 4096
+inside_in (Some e) k = bytes_inside e.info.length k
+
+unfoldable pub inside_of : Directory → Option FilePage → ℕ
+inside_of directory None = 4096
+inside_of directory (Some p) = inside_in (entry_of directory p.file) p.page
+
+abbrev pub inside_at : Directory → List FilePage → ℕ → ℕ
+inside_at directory list i = inside_of directory (slice_get list i)
+
+-- a page that begins inside its file, whose home's number fits into four bytes
+pub record IsEntryPage (directory : Directory) (p : FilePage) : Type 0 where
+  pub entry : Entry
+  pub is : entry_of directory p.file ≡ Some entry
+  pub inside : 4096 * p.page < entry.info.length
+  pub fits : entry.first + p.page < 2 ^ 30
+
+abbrev pub home_in : Option Entry → ℕ → ℕ
+home_in None k = 0
+home_in (Some e) k = e.first + k
+
+-- the home page of a page
+unfoldable pub home_of : Directory → FilePage → ℕ
+home_of directory p = home_in (entry_of directory p.file) p.page
+
+module _ {D : Type 0} (g : Ghosts D) where
+  -- What opening leaves: the device at rest with this directory, and what it stood for.
+  pub record IsMounted (old new : D) (directory : Directory) : Type 0 where
+    pub room : 1020 ≤ g.sector_count old
+    pub sound : IsSound (home_count (g.sector_count old)) (entry_of directory)
+    pub quiet : g.keeps_model new → IsQuiet g new
+    pub same : g.keeps_model new → (f : ℕ) → entry_of directory f ≡ directory_entry (g.content new) f
+    pub layout : g.keeps_model new → IsBadLayout (g.sector_count old) (g.content old) → ⊥
+    pub journal : g.keeps_model new → IsBadJournal (g.sector_count old) (g.content old) → ⊥
+    pub stands : g.keeps_model new → LeavesNow g new (StandsAs (g.sector_count old) (g.content old))

@@ -1,0 +1,85 @@
+//! Pages of files changed all at once.
+ghost use Rattle.std.specs.Prelude.{◌≡◌, ◌<◌, ◌≤◌, ℕ, List, Option, OnOk, IsErrOf, length, slice_get, slice_index};
+ghost use Rattle.vm_types.specs.declared.file.FileInfo.{FileInfo};
+ghost use Rattle.vm_types.specs.declared.file.FilePage.{FilePage};
+ghost use Rattle.disk_model.specs.Moments.{LeavesOnly, LeavesNow};
+ghost use Rattle.sync_journal.specs.Source.{HasCauses, Asks};
+ghost use Rattle.file_store.specs.Standing.{StandsFor};
+ghost use Rattle.file_store.specs.Store.{files_of, home_of, IsEntryPage, IsReady};
+ghost use Rattle.file_store.specs.Commit.{ArePages, Changes, StandsForEither};
+
+use crate::directory::Directory;
+use crate::layout::COMMIT_PAGES;
+use crate::store::FileStore;
+use crate::trimmed::Trimmed;
+use disk_model::SectorDisk;
+use sync_journal::{CommitFault, PageSource};
+use vm_types::FilePage;
+
+impl<D: SectorDisk> FileStore<D> {
+    /// Makes pages of files durable all at once, in all files of the list: page `pages[i]` becomes page `i` of the
+    /// source, with zeros past its file's end.
+    ///
+    /// `Source` comes only where the source failed: the store then stands for what it did, at every moment, and commit
+    /// may be called again. `Device` comes only where the device failed: every image that a stop might have left stands
+    /// for the files before or for those after, and the store is not ready until it is opened again.
+    pub fn commit<S: PageSource>(
+        &mut self,
+        pages: &[FilePage],
+        source: &mut S,
+    ) -> Result<(), CommitFault>
+        requires ready { IsReady D.SectorDisk self.old }
+        requires pages { ArePages (files_of self.old) pages.now }
+        requires gives { (i : ℕ) → i < length pages.now → S.gives source.old i }
+
+        ensures size { D.sector_count self.new.disk ≡ D.sector_count self.old.disk }
+        ensures kept { D.keeps_model self.new.disk → D.keeps_model self.old.disk }
+        ensures asks { Asks S.PageSource source.old source.new }
+        ensures causes { HasCauses (D.failures self.old.disk) (D.failures self.new.disk) (S.failures source.old) (S.failures source.new) result }
+        ensures files { self.new.directory ≡ self.old.directory }
+        ensures ready { OnOk result (IsReady D.SectorDisk self.new) }
+        ensures ready_after_source { IsErrOf result CommitFault.Source → IsReady D.SectorDisk self.new }
+
+        // Every image of a stop at any moment of the call stands for the files before or after.
+        ensures any_moment { D.keeps_model self.new.disk → S.keeps_model source.new
+            → (files : ℕ → Option FileInfo) (before after : ℕ → ℕ → List ℕ) → LeavesNow D.SectorDisk self.old.disk (StandsFor (D.sector_count self.old.disk) files before)
+            → Changes files pages.now (S.pages source.old) before after
+            → LeavesOnly D.SectorDisk self.old.disk self.new.disk (StandsForEither (D.sector_count self.old.disk) files before after) }
+
+        // After Ok every image of a stop from now on stands for the files after.
+        ensures ok { D.keeps_model self.new.disk → S.keeps_model source.new
+            → (files : ℕ → Option FileInfo) (before after : ℕ → ℕ → List ℕ) → LeavesNow D.SectorDisk self.old.disk (StandsFor (D.sector_count self.old.disk) files before)
+            → Changes files pages.now (S.pages source.old) before after
+            → OnOk result (LeavesNow D.SectorDisk self.new.disk (StandsFor (D.sector_count self.old.disk) files after)) }
+
+        // After a source's fault they stand for the files before, as at every moment of the call.
+        ensures source { D.keeps_model self.new.disk → IsErrOf result CommitFault.Source
+            → (files : ℕ → Option FileInfo) (before : ℕ → ℕ → List ℕ) → LeavesNow D.SectorDisk self.old.disk (StandsFor (D.sector_count self.old.disk) files before)
+            → LeavesOnly D.SectorDisk self.old.disk self.new.disk (StandsFor (D.sector_count self.old.disk) files before) }
+        ensures source_now { D.keeps_model self.new.disk → IsErrOf result CommitFault.Source
+            → (files : ℕ → Option FileInfo) (before : ℕ → ℕ → List ℕ) → LeavesNow D.SectorDisk self.old.disk (StandsFor (D.sector_count self.old.disk) files before)
+            → LeavesNow D.SectorDisk self.new.disk (StandsFor (D.sector_count self.old.disk) files before) }
+    {
+        let homes = homes_of(&self.directory, pages);
+        let mut source = Trimmed {
+            source,
+            pages,
+            directory: &self.directory,
+        };
+        self.journal
+            .commit(&mut self.disk, &homes[..pages.len()], &mut source)
+    }
+}
+
+/// The home pages of these pages, which begin inside their files, one after the other.
+fn homes_of(directory: &Directory, pages: &[FilePage]) -> [u32; COMMIT_PAGES]
+    requires few { length pages.now ≤ 127 }
+    requires inside { (i : ℕ) (p : FilePage) → slice_get pages.now i ≡ Some p → IsEntryPage directory.now p }
+    ensures { (i : ℕ) (p : FilePage) → slice_get pages.now i ≡ Some p → slice_index result i ≡ home_of directory.now p }
+{
+    let mut homes = [0; COMMIT_PAGES];
+    for i in 0..pages.len() {
+        homes[i] = directory.home_of(pages[i]);
+    }
+    homes
+}

@@ -1,0 +1,173 @@
+//! The directory in memory.
+ghost use Rattle.std.specs.Prelude.{◌≡◌, ◌<◌, ◌≤◌, ◌+◌, ℕ, length, get_or, Option, IfOk, OnOk, OnErr, IsTrue, IsFalse, ◌↔◌};
+ghost use Rattle.file_store.specs.Layout.{bytes_inside};
+ghost use Rattle.file_store.specs.Directory.{decoded, entry_in, end_of, IsHomeOf, IsZero, IsBadDirectory, AreGood, AreEntries};
+
+use crate::layout::{FILES, PAGE_BYTES};
+use byteorder::{ByteOrder, LittleEndian};
+use vm_types::{FileInfo, FilePage};
+
+/// Bit 31 of an entry's first number: the file is there.
+const PRESENT: u32 = 1 << 31;
+
+/// Bit 30: it is read-only. The bits below are its first home page.
+const READ_ONLY: u32 = 1 << 30;
+
+/// No store has such a directory.
+#[derive(Clone, Copy, Debug, PartialEq, Eq)]
+pub(crate) struct BadDirectory;
+
+/// A file's place and facts.
+#[derive(Clone, Copy, Debug, PartialEq, Eq)]
+pub(crate) struct Entry {
+    pub first: u32,
+    pub info: FileInfo,
+}
+
+impl Entry {
+    /// What the eight bytes of an entry say.
+    #[tactic(auto, unfolding(crate::specs::Directory::decoded))]
+    fn decode(bytes: &[u8]) -> Option<Entry>
+        requires { 8 ≤ length bytes.now }
+        ensures { result ≡ decoded bytes.now }
+    {
+        let word = LittleEndian::read_u32(bytes);
+        let length = LittleEndian::read_u32(&bytes[4..]);
+        if word / PRESENT % 2 == 0 {
+            return None;
+        }
+        let read_only = word / READ_ONLY % 2 == 1;
+        let info = FileInfo { length, read_only };
+        Some(Entry {
+            first: word % READ_ONLY,
+            info,
+        })
+    }
+
+    /// Whether both numbers of an entry are zero.
+    fn is_zero(bytes: &[u8]) -> bool
+        requires { 8 ≤ length bytes.now }
+        ensures { IsTrue result ↔ IsZero bytes.now }
+    {
+        LittleEndian::read_u32(bytes) == 0 && LittleEndian::read_u32(&bytes[4..]) == 0
+    }
+
+    /// The home page behind the file's last.
+    fn end(&self) -> u64
+        ensures { result ≡ end_of self.now }
+    {
+        u64::from(self.first) + u64::from(self.info.length).div_ceil(PAGE_BYTES)
+    }
+
+    /// Whether both have a home page.
+    fn overlaps(&self, other: &Entry) -> bool
+        ensures some { IsTrue result → (h : ℕ) × IsHomeOf self.now h × IsHomeOf other.now h }
+        ensures none { IsFalse result → (h : ℕ) → IsHomeOf self.now h → IsHomeOf other.now h → ⊥ }
+    {
+        u64::from(self.first.max(other.first)) < self.end().min(other.end())
+    }
+
+    /// Whether a file, if there is one, has a home page in common with this one.
+    fn shares(&self, other: &Option<Entry>) -> bool
+        ensures some { IsTrue result → (h : ℕ) × (a : Entry) × (other.now ≡ Some a) × IsHomeOf a h × IsHomeOf self.now h }
+        ensures none { IsFalse result → (h : ℕ) (a : Entry) → other.now ≡ Some a → IsHomeOf a h → IsHomeOf self.now h → ⊥ }
+    {
+        match other {
+            Some(other) => other.overlaps(self),
+            None => false,
+        }
+    }
+
+    /// How many bytes of page `page` lie inside the file.
+    pub(crate) fn bytes_inside(&self, page: u32) -> usize
+        ensures { result ≡ bytes_inside self.now.info.length page }
+    {
+        let length = u64::from(self.info.length);
+        length
+            .saturating_sub(PAGE_BYTES * u64::from(page))
+            .min(PAGE_BYTES) as usize
+    }
+}
+
+/// Whether one of these files has a home page in common with `entry`.
+fn overlaps_any(entries: &[Option<Entry>], entry: &Entry) -> bool
+    ensures some { IsTrue result → (f : ℕ) × (h : ℕ) × (a : Entry) × (f < length entries.now) × (get_or entries.now f None ≡ Some a) × IsHomeOf a h × IsHomeOf entry.now h }
+    ensures none { IsFalse result → (f h : ℕ) (a : Entry) → f < length entries.now → get_or entries.now f None ≡ Some a → IsHomeOf a h → IsHomeOf entry.now h → ⊥ }
+{
+    for other in entries {
+        if entry.shares(other) {
+            return true;
+        }
+    }
+    false
+}
+
+/// The files of a store, by their numbers.
+#[derive(Debug, Drop)]
+pub(crate) struct Directory {
+    entries: [Option<Entry>; FILES],
+}
+
+impl Directory {
+    ghost use Rattle.file_store.specs.Store.{entry_of, home_of, IsEntryPage};
+
+    /// The directory that a sector holds, for a store of so many home pages. It fails exactly where the sector is bad.
+    pub(crate) fn from_sector(sector: &[u8; 512], homes: u64) -> Result<Directory, BadDirectory>
+        ensures entries { IfOk result (λ directory. (f : ℕ) → entry_of directory f ≡ entry_in sector.now f) }
+        ensures good { OnOk result (AreGood homes sector.now 64) }
+        ensures bad { OnErr result (IsBadDirectory homes sector.now) }
+    {
+        let mut entries = [None; FILES];
+        for f in 0..FILES {
+            entries[f] = Directory::next_entry(sector, homes, &entries[..f])?;
+        }
+        Ok(Directory { entries })
+    }
+
+    /// The entry that follows the earlier ones.
+    fn next_entry(
+        sector: &[u8],
+        homes: u64,
+        earlier: &[Option<Entry>],
+    ) -> Result<Option<Entry>, BadDirectory>
+        requires size { length sector.now ≡ 512 }
+        requires room { length earlier.now < 64 }
+        requires read { AreEntries sector.now earlier.now (length earlier.now) }
+        requires good { AreGood homes sector.now (length earlier.now) }
+        ensures entry { IfOk result (λ entry. entry ≡ entry_in sector.now (length earlier.now)) }
+        ensures good { OnOk result (AreGood homes sector.now (length earlier.now + 1)) }
+        ensures bad { OnErr result (IsBadDirectory homes sector.now) }
+    {
+        let bytes = &sector[8 * earlier.len()..];
+        let Some(entry) = Entry::decode(bytes) else {
+            return if Entry::is_zero(bytes) {
+                Ok(None)
+            } else {
+                Err(BadDirectory)
+            };
+        };
+        if entry.end() > homes || overlaps_any(earlier, &entry) {
+            return Err(BadDirectory);
+        }
+        Ok(Some(entry))
+    }
+
+    /// The entry of file `n`.
+    pub(crate) fn entry(&self, n: u8) -> Option<Entry>
+        ensures { result ≡ entry_of self.now n }
+    {
+        *self.entries.get(usize::from(n))?
+    }
+
+    /// The home page of a page that begins inside its file.
+    #[tactic(auto, unfolding(crate::specs::Store::home_of))]
+    pub(crate) fn home_of(&self, page: FilePage) -> u32
+        requires { IsEntryPage self.now page }
+        ensures { result ≡ home_of self.now page }
+    {
+        let Some(entry) = self.entry(page.file) else {
+            unreachable!();
+        };
+        entry.first + page.page
+    }
+}

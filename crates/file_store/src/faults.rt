@@ -1,0 +1,48 @@
+//! Why a store could not be opened.
+ghost use Rattle.std.specs.Prelude.{◌≡◌};
+ghost use Rattle.file_store.specs.declared.faults.OpenFault.TheVariants.{Device, BadLayout};
+
+use crate::directory::BadDirectory;
+use disk_model::DiskFault;
+use sync_journal::RecoverFault;
+
+/// Why a store could not be opened.
+#[derive(Clone, Copy, Debug, PartialEq, Eq)]
+pub enum OpenFault {
+    /// The device failed.
+    Device = 1,
+    /// The device has fewer than 1,020 sectors, sector 0 is not the layout mark, or the directory is bad: an entry of
+    /// no file is not zero, a file's homes do not end within the store, or two files share a home. Nothing was written.
+    BadLayout = 2,
+    /// The journal is open with a map that no commit writes. Nothing was written.
+    BadJournal = 3,
+}
+
+impl From<DiskFault> for OpenFault {
+    ghost from_gives = { λ _ fault. fault ≡ Device };
+
+    fn from(_: DiskFault) -> Self {
+        OpenFault::Device
+    }
+}
+
+impl From<BadDirectory> for OpenFault {
+    ghost from_gives = { λ _ fault. fault ≡ BadLayout };
+
+    fn from(_: BadDirectory) -> Self {
+        OpenFault::BadLayout
+    }
+}
+
+impl From<RecoverFault> for OpenFault {
+    ghost use Rattle.file_store.specs.Faults.{open_fault};
+
+    ghost from_gives = { λ given fault. fault ≡ open_fault given };
+
+    fn from(fault: RecoverFault) -> Self {
+        match fault {
+            RecoverFault::Device => OpenFault::Device,
+            RecoverFault::BadJournal => OpenFault::BadJournal,
+        }
+    }
+}

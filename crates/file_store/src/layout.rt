@@ -1,0 +1,54 @@
+//! Where the parts of the store lie, in sectors.
+ghost use Rattle.std.specs.Prelude.{◌≡◌, ◌↔◌, IsTrue};
+ghost use Rattle.file_store.specs.Layout.{mark};
+
+/// The layout mark.
+pub(crate) const MARK_SECTOR: u64 = 0;
+
+/// The directory.
+pub(crate) const DIRECTORY_SECTOR: u64 = 1;
+
+/// The first sector of the first home page, and the fewest sectors of a store.
+pub(crate) const FIRST_HOME: u64 = 1020;
+
+/// The sectors of a page.
+pub(crate) const PAGE_SECTORS: usize = 8;
+
+/// The bytes of a sector.
+pub(crate) const SECTOR_BYTES: usize = 512;
+
+/// The bytes of a page.
+pub(crate) const PAGE_BYTES: u64 = 4096;
+
+/// The most home pages of a store, however large the device is.
+pub(crate) const MAX_HOMES: u64 = 1 << 30;
+
+/// The entries of the directory.
+pub(crate) const FILES: usize = 64;
+
+/// The most pages of one commit.
+pub(crate) const COMMIT_PAGES: usize = 127;
+
+const MARK: &[u8; 512] = b"\
+    FAMSYNC1FAMSYNC1FAMSYNC1FAMSYNC1FAMSYNC1FAMSYNC1FAMSYNC1FAMSYNC1\
+    FAMSYNC1FAMSYNC1FAMSYNC1FAMSYNC1FAMSYNC1FAMSYNC1FAMSYNC1FAMSYNC1\
+    FAMSYNC1FAMSYNC1FAMSYNC1FAMSYNC1FAMSYNC1FAMSYNC1FAMSYNC1FAMSYNC1\
+    FAMSYNC1FAMSYNC1FAMSYNC1FAMSYNC1FAMSYNC1FAMSYNC1FAMSYNC1FAMSYNC1\
+    FAMSYNC1FAMSYNC1FAMSYNC1FAMSYNC1FAMSYNC1FAMSYNC1FAMSYNC1FAMSYNC1\
+    FAMSYNC1FAMSYNC1FAMSYNC1FAMSYNC1FAMSYNC1FAMSYNC1FAMSYNC1FAMSYNC1\
+    FAMSYNC1FAMSYNC1FAMSYNC1FAMSYNC1FAMSYNC1FAMSYNC1FAMSYNC1FAMSYNC1\
+    FAMSYNC1FAMSYNC1FAMSYNC1FAMSYNC1FAMSYNC1FAMSYNC1FAMSYNC1FAMSYNC1";
+
+/// What sector 0 of every store holds.
+pub(crate) fn mark_bytes() -> &'static [u8; 512]
+    ensures { result.now ≡ mark }
+{
+    MARK
+}
+
+/// Whether a sector is the layout mark.
+pub(crate) fn is_mark(sector: &[u8; 512]) -> bool
+    ensures { IsTrue result ↔ (sector.now ≡ mark) }
+{
+    sector.as_slice() == mark_bytes().as_slice()
+}

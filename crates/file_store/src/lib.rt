@@ -1,0 +1,31 @@
+//! A store of up to 64 files of fixed lengths on a row of sectors, whose pages change all at once or not at all,
+//! whatever moment the device stops at.
+//!
+//! The store's format is our own; sectors are of 512 bytes, pages of 4,096.
+//!
+//! | Sectors | Content |
+//! |---|---|
+//! | 0 | layout mark: the bytes `FAMSYNC1` 64 times |
+//! | 1 | directory: for each of 64 files two little-endian `u32`s: bit 31 present, bit 30 read-only, bits 0 to 29 the first home page; the length in bytes |
+//! | 2 to 1,019 | the journal (`sync_journal`) |
+//! | 1,020 on | home page `h` is sectors `1020 + 8 h` to `1027 + 8 h` |
+//!
+//! A file of `n` bytes has `n / 4096` (rounded up) home pages, one after the other. Past its end it reads as zeros.
+//! After Park, Kelly and Shen, "Failure-Atomic msync(): A Simple and Efficient Mechanism for Preserving the
+//! Integrity of Durable Data" (EuroSys 2013).
+#![tactic(auto)]
+
+mod commits;
+mod directory;
+mod faults;
+mod layout;
+mod opening;
+mod pages;
+mod store;
+mod trimmed;
+
+pub use faults::OpenFault;
+pub use store::FileStore;
+
+#[cfg(test)]
+mod tests;

@@ -1,0 +1,13 @@
+pub mod Boots
+pub mod Calls
+pub mod Choosing
+pub mod Commits
+pub mod Committed
+pub mod Empty
+pub mod Flat
+pub mod Late
+pub mod OneRow
+pub mod Reading
+pub mod Ruling
+pub mod Runs
+pub mod Steps

@@ -1,0 +1,40 @@
+use Rattle.std.proofs.Common.{◌≡◌, ◌+◌, ◌++◌, ◌∷◌, [], ◌<◌, List, length, take, set, sym, ◌∙◌, ap, subst, arith, length-set, take_all}
+use Rattle.std.proofs.lemmas.List.{take_more, take_more_set}
+use Rattle.vm_types.specs.declared.command.Command.{Command}
+use Rattle.vm_types.specs.declared.reply.Reply.{Reply}
+use Rattle.machine.proofs.Runs.{all_ran, ran_more, RanSoFar}
+use Rattle.machine.proofs.machine.Machine.run.Goals as goal
+
+pub loop-i-preserved : goal.loop-i-preserved
+loop-i-preserved g c =
+    let inv = c.loop-i.invariant in
+    let i = c.loop-i.i in
+    let commands = c.args.commands.now in
+    let replies = c.loop-i.replies in
+    let x = c.index-commands-i.result in
+    let r = c.step.result in
+    let less : i < length replies = omega (arith, inv.lengths, c.loop-i-test.true) in
+    let read = c.index-commands-i.is in
+    let xs : take (i + 1) commands ≡ take i commands ++ x ∷ [] =
+    take_more commands i x c.loop-i-test.true ∙ ap (λ (y : Command). take i commands ++ y ∷ []) (sym c.index-commands-i.is) in
+    let ys : take (i + 1) (set replies i r) ≡ take i replies ++ r ∷ [] = take_more_set replies i r less in
+    record {
+      sound = c.step.ensures.sound;
+      lengths = length-set _ _ _ ∙ inv.lengths;
+      ran = λ s shows.
+          let old = c.args.self.now in
+          let one = ran_more g.D.SectorDisk g.E.SectorDisk old c.loop-i.self c.step.new.self s (take i commands) (take i replies) x r (inv.ran s shows) (λ u at. c.step.ensures.meets u at) in
+          subst (λ (zs : List Command). RanSoFar g.D.SectorDisk g.E.SectorDisk old c.step.new.self s zs (take (i + 1) (set replies i r))) (sym xs)
+          (subst (λ (zs : List Reply). RanSoFar g.D.SectorDisk g.E.SectorDisk old c.step.new.self s (take i commands ++ x ∷ []) zs) (sym ys) one);
+    }
+
+pub returns-clause-run : goal.returns-clause-run
+returns-clause-run g c = λ s shows.
+    let commands = c.args.commands.now in
+    let replies = c.loop-i.replies in
+    let all : take c.loop-i.i commands ≡ commands = take_all c.loop-i.i commands (omega arith) in
+    let every : take c.loop-i.i replies ≡ replies = take_all c.loop-i.i replies (omega (arith, c.loop-i.invariant.lengths)) in
+    let ran = c.loop-i.invariant.ran s shows in
+    all_ran g.D.SectorDisk g.E.SectorDisk c.args.self.now c.loop-i.self s commands replies (λ d i k left. g.met.D.SectorDisk.only_now d i k left) shows
+    (subst (λ (xs : List Command). RanSoFar g.D.SectorDisk g.E.SectorDisk c.args.self.now c.loop-i.self s xs replies) all
+    (subst (λ (ys : List Reply). RanSoFar g.D.SectorDisk g.E.SectorDisk c.args.self.now c.loop-i.self s (take c.loop-i.i commands) ys) every ran))

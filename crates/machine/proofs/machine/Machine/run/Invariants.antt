@@ -1,0 +1,13 @@
+use Rattle.std.proofs.Common.{length, take, ◌≡◌}
+use Rattle.vm_types.specs.State.{State}
+use Rattle.machine.specs.Machine.{IsSound, Shows}
+use Rattle.machine.proofs.Runs.{RanSoFar}
+use Rattle.machine.proofs.machine.Machine.run.Given as goal
+
+abbrev pub invariant-loop-i : goal.invariant-loop-i
+invariant-loop-i g l = record {
+  sound : IsSound g.D.SectorDisk g.E.SectorDisk l.self;
+  lengths : length l.replies ≡ length l.commands;
+  ran : (s : State) → Shows g.D.SectorDisk g.E.SectorDisk l.fn.self s
+      → RanSoFar g.D.SectorDisk g.E.SectorDisk l.fn.self l.self s (take l.i l.commands) (take l.i l.replies);
+}

@@ -1,0 +1,53 @@
+-- A run of commands on a machine, and what a stop in it leaves.
+use Rattle.std.specs.Prelude.{ℕ, zero, suc, ◌≡◌, List, [], ◌∷◌}
+use Rattle.disk_model.specs.Stop.{Image}
+use Rattle.disk_model.specs.declared.sector_disk.SectorDisk.{Ghosts}
+use Rattle.vm_types.specs.declared.command.Command.{Command}
+use Rattle.vm_types.specs.declared.reply.Reply.{Reply}
+use Rattle.vm_types.specs.Prefix.{Event, IsPrefixHolding}
+use Rattle.vm_types.specs.State.{State, IsRunning}
+use Rattle.machine.specs.declared.machine.Machine.{Machine}
+use Rattle.machine.specs.Machine.{Shows, Meets, StandsForSome}
+
+-- a command and its reply, in the state before it
+abbrev pub event : State → Command → Reply → Event
+event s command reply = record { state = s; command = command; reply = reply }
+
+module _ {D E : Type 0} (g : Ghosts D) (h : Ghosts E) where
+  -- the machine goes from one state to another by these commands with these replies, each carried out
+  abbrev pub Chain : Machine D E → State → List Command → List Reply → List Event → Machine D E → State → Type 0
+  Chain old s [] [] [] new t = (new ≡ old) × (t ≡ s)
+  Chain old s (command ∷ commands) (reply ∷ replies) (first ∷ events) new t =
+      (mid : Machine D E) × (u : State) × (first ≡ event s command reply) × Meets g h old mid s u command reply
+      × Chain mid u commands replies events new t
+  Chain old s [] [] (first ∷ events) new t = ⊥
+  Chain old s [] (reply ∷ replies) events new t = ⊥
+  Chain old s (command ∷ commands) [] events new t = ⊥
+  Chain old s (command ∷ commands) (reply ∷ replies) [] new t = ⊥
+
+  -- the machine after the first k commands of a chain
+  abbrev pub after : (old : Machine D E) (s : State) (commands : List Command) (replies : List Reply) (events : List Event) (new : Machine D E) (t : State)
+      → Chain old s commands replies events new t → ℕ → Machine D E
+  after old s [] replies events new t chain k = old
+  after old s (command ∷ commands) replies events new t chain zero = old
+  after old s (command ∷ commands) [] events new t chain (suc k) = old
+  after old s (command ∷ commands) (reply ∷ replies) [] new t chain (suc k) = old
+  after old s (command ∷ commands) (reply ∷ replies) (first ∷ events) new t chain (suc k) =
+      after chain.0 chain.1 commands replies events new t chain.4 k
+
+  -- Every image of a stop since the machine after the first k commands stands for the files after some of the msyncs, in
+  -- order, each taken whole, and with each that was acknowledged among those k.
+  abbrev pub LeavesPrefixes : (old : Machine D E) (s : State) (commands : List Command) (replies : List Reply) (events : List Event) (new : Machine D E) (t : State)
+      → Chain old s commands replies events new t → Type 0
+  LeavesPrefixes old s commands replies events new t chain =
+      (k : ℕ) (image : Image)
+      → g.left_since new.store.disk (g.moment (after old s commands replies events new t chain k).store.disk) image
+      → StandsForSome (g.sector_count old.store.disk) s.files (IsPrefixHolding s.durable events k) image
+
+  -- The replies are those of the flat model, and what a stop leaves is what some of the msyncs left.
+  pub record Runs (old new : Machine D E) (commands : List Command) (replies : List Reply) (s : State) : Type 0 where
+    pub last : State
+    pub events : List Event
+    pub chain : Chain old s commands replies events new last
+    pub shows : Shows g h new last
+    pub prefixes : IsRunning s → g.keeps_model new.store.disk → LeavesPrefixes old s commands replies events new last chain

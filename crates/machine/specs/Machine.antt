@@ -1,0 +1,69 @@
+-- How a machine is a state of the flat model, stops included.
+use Rattle.std.specs.Prelude.{ℕ, ◌≡◌, ◌<◌, ◌⊎◌, true, false, List, [], ◌∷◌, Option, Some, None}
+use Rattle.disk_model.specs.Moments.{LeavesNow, LeavesOnly}
+use Rattle.disk_model.specs.Stop.{Image}
+use Rattle.disk_model.specs.declared.sector_disk.SectorDisk.{Ghosts}
+use Rattle.file_store.specs.Standing.{StandsFor}
+use Rattle.file_store.specs.Store.{IsReady}
+use Rattle.file_store.specs.Store as Stores
+use Rattle.vm_types.specs.declared.command.Command.{Command}
+use Rattle.vm_types.specs.declared.reply.Reply.{Reply}
+use Rattle.vm_types.specs.Files.{Files}
+use Rattle.vm_types.specs.Prefix.{may_have_taken}
+use Rattle.vm_types.specs.Run.{Step}
+use Rattle.vm_types.specs.Stalls.{Causes}
+use Rattle.vm_types.specs.State.{State, IsRunning}
+use Rattle.vm_types.specs.Step.{ruling, takes}
+use Rattle.vm_types.specs.View.{Pages}
+use Rattle.machine.specs.declared.machine.Machine.{Machine}
+use Rattle.machine.specs.Shows.{ShowsPages}
+
+-- one of a list of contents
+abbrev pub IsOneOf : Pages → List Pages → Type 0
+IsOneOf pages [] = ⊥
+IsOneOf pages (one ∷ others) = (pages ≡ one) ⊎ IsOneOf pages others
+
+abbrev pub stands_in : Option (List Pages) → Pages → Pages → Type 0
+stands_in None durable pages = pages ≡ durable
+stands_in (Some ends) durable pages = IsOneOf pages ends
+
+-- the contents of all files that a stop may leave in a state: the durable ones, or once it has halted one of its ends
+abbrev pub MayStand : State → Pages → Type 0
+MayStand s pages = stands_in s.ends s.durable pages
+
+-- the same at any moment of a command: what it makes durable may stand as well
+abbrev pub HoldsIn : State → Command → Reply → Pages → Type 0
+HoldsIn s command reply pages =
+    MayStand s pages ⊎ (IsRunning s × (may_have_taken reply ≡ true) × (pages ≡ takes s (ruling s command) s.durable))
+
+-- the image stands for contents of which P holds
+abbrev pub StandsForSome : ℕ → Files → (Pages → Type 0) → Image → Type 0
+StandsForSome sectors files P image = (pages : Pages) × P pages × StandsFor sectors files pages image
+
+module _ {D E : Type 0} (g : Ghosts D) (h : Ghosts E) where
+  -- The machine may go on: unless it has halted, its store may be committed to.
+  pub record IsSound (m : Machine D E) : Type 0 where
+    pub ready : m.memory.halted ≡ false → IsReady g m.store
+    pub file : Stores.files_of m.store 0 ≡ Some m.memory.info
+
+  -- The machine is in that state: its memory shows it, and so does every image that a stop may leave now.
+  pub record Shows (m : Machine D E) (s : State) : Type 0 where
+    pub pages : ShowsPages m.memory s
+    pub stands : g.keeps_model m.store.disk → LeavesNow g m.store.disk (StandsForSome (g.sector_count m.store.disk) s.files (MayStand s))
+
+  -- what came to pass between two states of the machine; nothing asks for frames yet
+  abbrev pub causes : Machine D E → Machine D E → Causes
+  causes old new = record {
+    store = g.failures old.store.disk < g.failures new.store.disk;
+    swap = h.failures old.swap < h.failures new.swap;
+    refused = ⊥;
+  }
+
+  -- A command was carried out: as the flat model does, and with nothing else durable at any moment.
+  pub record Meets (old new : Machine D E) (s t : State) (command : Command) (reply : Reply) : Type 0 where
+    pub step : Step (causes old new) s command reply t
+    pub shows : Shows new t
+    pub size : g.sector_count new.store.disk ≡ g.sector_count old.store.disk
+    pub kept : g.keeps_model new.store.disk → g.keeps_model old.store.disk
+    pub moments : g.keeps_model new.store.disk
+        → LeavesOnly g old.store.disk new.store.disk (StandsForSome (g.sector_count old.store.disk) s.files (HoldsIn s command reply))

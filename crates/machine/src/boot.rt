@@ -1,0 +1,208 @@
+//! Starting a machine.
+ghost use Rattle.std.specs.Prelude.{◌≡◌, ◌≤◌, ◌<◌, ◌%◌, ◌⊎◌, ℕ, Some, [], IfOk, IfErr, OnOk, OnErr, IsErrOf, IfSome, IfNone};
+ghost use Rattle.disk_model.specs.Moments.{LeavesOnly};
+ghost use Rattle.file_store.specs.Standing.{StandsAs, IsBadLayout};
+ghost use Rattle.sync_journal.specs.Standing.{IsBadJournal};
+ghost use Rattle.machine.specs.Machine.{IsSound};
+ghost use Rattle.machine.specs.Boot.{HasBadFrames, HasBadSlots, IsUnfit, Boots, IsOnly, IsFresh, AreRead};
+ghost use Rattle.machine.specs.Fault.{fault_number, boot_fault};
+ghost use Rattle.machine.specs.declared.boot.BootFault.TheVariants.{OutOfMemory, Device};
+ghost use Rattle.file_store.specs.Store.{IsReady, files_of};
+ghost use Rattle.vm_types.specs.StageLimits.{IsOneFile};
+
+use crate::machine::Machine;
+use crate::memory::{Memory, PAGE};
+use disk_model::{DiskFault, SectorDisk};
+use file_store::{FileStore, OpenFault};
+use std::alloc::{AllocError, Global};
+use vm_types::{FileInfo, FilePage};
+
+/// The fewest and the most frames.
+const MIN_FRAMES: u32 = 8;
+
+const MAX_FRAMES: u32 = 1 << 16;
+
+/// The most slots, and the sectors of one.
+const MAX_SLOTS: u32 = 1 << 16;
+
+const SLOT_SECTORS: u64 = 8;
+
+/// The sizes of a machine.
+#[derive(Clone, Copy, Debug, PartialEq, Eq)]
+pub struct Config {
+    /// Frames of memory, 8 to 65,536, of 4,096 bytes.
+    pub frames: u32,
+    /// Slots of the swap device, 0 to 65,536, of 4,096 bytes.
+    pub slots: u32,
+}
+
+/// Why a machine doesn't start.
+#[derive(Clone, Copy, Debug, PartialEq, Eq)]
+pub enum BootFault {
+    /// Fewer than 8 or more than 65,536 frames.
+    Frames = 1,
+    /// More than 65,536 slots, or more than the swap device has room for.
+    Slots = 2,
+    /// Want of memory.
+    OutOfMemory = 3,
+    /// The store device failed.
+    Device = 4,
+    /// The store isn't laid out as one. For now also: it hasn't one file of whole pages, number 0.
+    BadLayout = 5,
+    /// The journal is open with a map that no commit writes.
+    BadJournal = 6,
+}
+
+impl BootFault {
+    /// The number, 1 to 6.
+    pub fn number(self) -> u8
+        ensures { result ≡ fault_number self }
+    {
+        self as u8
+    }
+}
+
+impl From<AllocError> for BootFault {
+    ghost from_gives = { λ _ fault. fault ≡ OutOfMemory };
+
+    fn from(_: AllocError) -> Self {
+        BootFault::OutOfMemory
+    }
+}
+
+impl From<DiskFault> for BootFault {
+    ghost from_gives = { λ _ fault. fault ≡ Device };
+
+    fn from(_: DiskFault) -> Self {
+        BootFault::Device
+    }
+}
+
+impl From<OpenFault> for BootFault {
+    ghost from_gives = { λ fault boot. boot ≡ boot_fault fault };
+
+    fn from(fault: OpenFault) -> Self {
+        match fault {
+            OpenFault::Device => BootFault::Device,
+            OpenFault::BadLayout => BootFault::BadLayout,
+            OpenFault::BadJournal => BootFault::BadJournal,
+        }
+    }
+}
+
+impl<D: SectorDisk, E: SectorDisk + Drop> Machine<D, E> {
+    /// Starts a machine over a store that comes without unsynced writes, as after a stop: opens it, recovering it, and
+    /// takes all memory that the machine will ever need. The checks come in the order of the faults' numbers.
+    ///
+    /// `Frames`, `Slots`, `BadLayout` and `BadJournal` come exactly where their texts say, unless an earlier one
+    /// comes; `Device` only where the store device failed in this call. Each fault hands the store back.
+    pub fn boot(
+        alloc: Global,
+        config: Config,
+        store: D,
+        swap: E,
+    ) -> Result<Machine<D, E>, (BootFault, D)>
+        requires { D.keeps_model store → (k : ℕ) → D.unsynced store k → ⊥ }
+
+        ensures sound { IfOk result (λ m. IsSound D.SectorDisk E.SectorDisk m) }
+        ensures boots { IfOk result (λ m. Boots D.SectorDisk E.SectorDisk store m) }
+        ensures size { IfOk result (λ m. D.sector_count m.store.disk ≡ D.sector_count store) }
+        ensures kept { IfOk result (λ m. D.keeps_model m.store.disk → D.keeps_model store) }
+        ensures frames { OnOk result (HasBadFrames config → ⊥) }
+        ensures slots { OnOk result (HasBadSlots config (E.sector_count swap) → ⊥) }
+        ensures layout { IfOk result (λ m. D.keeps_model m.store.disk → IsUnfit (D.sector_count store) (D.content store) → ⊥) }
+        ensures journal { IfOk result (λ m. D.keeps_model m.store.disk → IsBadJournal (D.sector_count store) (D.content store) → ⊥) }
+
+        // At every moment of the call a stop leaves what stood before it.
+        ensures any_moment { IfOk result (λ m. D.keeps_model m.store.disk → LeavesOnly D.SectorDisk store m.store.disk (StandsAs (D.sector_count store) (D.content store))) }
+        ensures err_moment { IfErr result (λ e. D.keeps_model e.1 → LeavesOnly D.SectorDisk store e.1 (StandsAs (D.sector_count store) (D.content store))) }
+
+        ensures err_kept { IfErr result (λ e. D.keeps_model e.1 → D.keeps_model store) }
+        ensures bad_frames { IfErr result (λ e. e.0 ≡ BootFault.Frames → HasBadFrames config) }
+        ensures only_frames { IfErr result (λ e. HasBadFrames config → e.0 ≡ BootFault.Frames) }
+        ensures bad_slots { IfErr result (λ e. e.0 ≡ BootFault.Slots → HasBadSlots config (E.sector_count swap)) }
+        ensures only_slots { IfErr result (λ e. (HasBadFrames config → ⊥) → HasBadSlots config (E.sector_count swap) → e.0 ≡ BootFault.Slots) }
+        ensures device { IfErr result (λ e. e.0 ≡ BootFault.Device → D.failures store < D.failures e.1) }
+        ensures bad_layout { IfErr result (λ e. D.keeps_model e.1 → e.0 ≡ BootFault.BadLayout → IsUnfit (D.sector_count store) (D.content store)) }
+        ensures bad_journal { IfErr result (λ e. D.keeps_model e.1 → e.0 ≡ BootFault.BadJournal → IsBadJournal (D.sector_count store) (D.content store)) }
+    {
+        if config.frames < MIN_FRAMES || config.frames > MAX_FRAMES {
+            return Err((BootFault::Frames, store));
+        }
+        if config.slots > MAX_SLOTS || SLOT_SECTORS * u64::from(config.slots) > swap.sectors() {
+            return Err((BootFault::Slots, store));
+        }
+        let mut store = match FileStore::open(store) {
+            Ok(store) => store,
+            Err((fault, disk)) => return Err((BootFault::from(fault), disk)),
+        };
+        let Some(info) = only_file(&store) else {
+            return Err((BootFault::BadLayout, store.into_disk()));
+        };
+        match read_memory(alloc, &mut store, info) {
+            Ok(memory) => Ok(Machine {
+                store,
+                swap,
+                memory,
+            }),
+            Err(fault) => Err((fault, store.into_disk())),
+        }
+    }
+}
+
+/// The facts of the one file of whole pages; none where the store has others or none.
+fn only_file<D: SectorDisk>(store: &FileStore<D>) -> Option<FileInfo>
+    ensures found { IfSome result (IsOnly (files_of store.now)) }
+    ensures none { IfNone result (IsOneFile (files_of store.now) → ⊥) }
+{
+    let info = store.file(0)?;
+    if u64::from(info.length) % PAGE != 0 {
+        return None;
+    }
+    for file in 1..64 {
+        if store.file(file).is_some() {
+            return None;
+        }
+    }
+    Some(info)
+}
+
+/// Reads all pages of the file into memory.
+fn read_memory<D: SectorDisk>(
+    alloc: Global,
+    store: &mut FileStore<D>,
+    info: FileInfo,
+) -> Result<Memory, BootFault>
+    requires ready { IsReady D.SectorDisk store.old }
+    requires file { files_of store.old 0 ≡ Some info }
+    requires whole { info.length % 4096 ≡ 0 }
+    ensures fresh { IfOk result (λ m. IsFresh m info) }
+    ensures read { IfOk result (λ m. AreRead D.SectorDisk store.old store.new m.pages.items) }
+    ensures err { OnErr result (AreRead D.SectorDisk store.old store.new []) }
+    ensures device { IsErrOf result BootFault.Device → D.failures store.old.disk < D.failures store.new.disk }
+    ensures faults { IfErr result (λ e. (e ≡ BootFault.Device) ⊎ (e ≡ BootFault.OutOfMemory)) }
+{
+    let count = info.length / 4096;
+    let mut pages = Vec::with_capacity(alloc, count as usize)?;
+    let mut touched = Vec::with_capacity(alloc, count as usize)?;
+    for page in 0..count {
+        let mut bytes = [0; 4096];
+        store.read_page(FilePage { file: 0, page }, &mut bytes)?;
+        match pages.push(bytes) {
+            Ok(()) => {}
+            Err(refused) => return Err(AllocError::from(refused).into()),
+        }
+        match touched.push(false) {
+            Ok(()) => {}
+            Err(refused) => return Err(AllocError::from(refused).into()),
+        }
+    }
+    Ok(Memory {
+        live: false,
+        mapping: None,
+        info,
+        pages,
+        touched,
+        halted: false,
+    })
+}

@@ -1,0 +1,28 @@
+//! The pages that an msync makes durable.
+ghost use Rattle.std.specs.Prelude.{◌≡◌, ◌≤◌, length};
+
+use vm_types::{Errno, FilePage, MSYNC_PAGES};
+
+/// The touched pages of a row of the file.
+#[derive(Debug, Drop)]
+pub(crate) struct Chosen {
+    /// The row: its first page, and the one behind its last.
+    pub start: usize,
+    pub end: usize,
+    pub list: [FilePage; MSYNC_PAGES],
+    /// How many pages of the list there are.
+    pub count: usize,
+    pub ghost few: { count ≤ 127 },
+    pub ghost room: { length list ≡ 127 },
+}
+
+/// How an msync is judged.
+#[derive(Debug, Drop)]
+pub(crate) enum Ruling {
+    /// It is refused.
+    Refuses(Errno),
+    /// It is done, with nothing to make durable.
+    Passes,
+    /// These pages are made durable.
+    Takes(Chosen),
+}

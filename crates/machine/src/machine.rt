@@ -1,0 +1,72 @@
+//! The machine: commands in, replies out, over a store that survives stops.
+ghost use Rattle.std.specs.Prelude.{◌≡◌, ◌≤◌, ◌<◌, length};
+ghost use Rattle.vm_types.specs.State.{State};
+ghost use Rattle.machine.specs.Machine.{IsSound, Shows, Meets};
+ghost use Rattle.machine.specs.Chain.{Runs};
+
+use crate::memory::Memory;
+use disk_model::SectorDisk;
+use file_store::FileStore;
+use vm_types::{Command, Reply};
+
+/// A machine over a store device `D` and a swap device `E`, made by `boot`.
+///
+/// Its replies are those of the flat model in `vm_types`, and what a stop leaves in the store is what some of its
+/// msyncs left, in order and each taken whole (Park, Kelly and Shen, Failure-Atomic msync, EuroSys 2013).
+#[derive(Drop)]
+pub struct Machine<D, E> {
+    pub(crate) store: FileStore<D>,
+    pub(crate) swap: E,
+    pub(crate) memory: Memory,
+}
+
+impl<D: SectorDisk, E: SectorDisk> Machine<D, E> {
+    /// The store's device.
+    pub fn store(&self) -> &D
+        ensures { result.now ≡ self.now.store.disk }
+    {
+        self.store.disk()
+    }
+
+    /// Carries out one command. It takes no memory. A failure of the store in an msync is answered by `EIO`, only
+    /// where the device failed in this call, and halts the machine: from then on every command answers `Halted`.
+    pub fn step(&mut self, command: Command) -> Reply
+        requires sound { IsSound D.SectorDisk E.SectorDisk self.old }
+        ensures sound { IsSound D.SectorDisk E.SectorDisk self.new }
+        ensures meets { (s : State) → Shows D.SectorDisk E.SectorDisk self.old s → (t : State) × Meets D.SectorDisk E.SectorDisk self.old self.new s t command result }
+    {
+        if self.memory.halted {
+            return Reply::Halted;
+        }
+        match command {
+            Command::Spawn => self.memory.spawn(),
+            Command::Mmap {
+                pid,
+                addr,
+                len,
+                prot,
+                source,
+            } => self.memory.mmap(pid, addr, len, prot, source),
+            Command::Msync {
+                pid,
+                addr,
+                len,
+                mode,
+            } => self.msync(pid, addr, len, mode),
+            Command::Load { pid, addr, width } => self.memory.load(pid, addr, width),
+            Command::Store { pid, addr, stored } => self.memory.store(pid, addr, stored),
+        }
+    }
+
+    /// Carries out commands one after another, and writes the reply to each.
+    pub fn run(&mut self, commands: &[Command], replies: &mut [Reply])
+        requires sound { IsSound D.SectorDisk E.SectorDisk self.old }
+        requires lengths { length replies.old ≡ length commands.now }
+        ensures sound { IsSound D.SectorDisk E.SectorDisk self.new }
+        ensures run { (s : State) → Shows D.SectorDisk E.SectorDisk self.old s → Runs D.SectorDisk E.SectorDisk self.old self.new commands.now replies.new s }
+    {
+        for (i, command) in commands.iter().enumerate() {
+            replies[i] = self.step(*command);
+        }
+    }
+}
