@@ -7,3 +7,4 @@ pub mod Openings
 pub mod Causes
 pub mod Changed
 pub mod Lists
+pub mod Totals

@@ -1,5 +1,5 @@
 //! The directory in memory.
-ghost use Rattle.std.specs.Prelude.{◌≡◌, ◌<◌, ◌≤◌, ◌+◌, ℕ, length, get_or, Option, IfOk, OnOk, OnErr, IsTrue, IsFalse, ◌↔◌};
+ghost use Rattle.std.specs.Prelude.{◌≡◌, ◌<◌, ◌≤◌, ◌+◌, ◌^◌, ℕ, length, get_or, Option, IfOk, OnOk, OnErr, IsTrue, IsFalse, ◌↔◌};
 ghost use Rattle.file_store.specs.Layout.{bytes_inside};
 ghost use Rattle.file_store.specs.Directory.{decoded, entry_in, end_of, IsHomeOf, IsZero, IsBadDirectory, AreGood, AreEntries};
 
@@ -50,6 +50,17 @@ impl Entry {
         ensures { IsTrue result ↔ IsZero bytes.now }
     {
         LittleEndian::read_u32(bytes) == 0 && LittleEndian::read_u32(&bytes[4..]) == 0
+    }
+
+    /// Writes an entry to the front of `bytes`.
+    pub(crate) fn encode(&self, bytes: &mut [u8])
+        requires room { 8 ≤ length bytes.old }
+        requires first { self.now.first < 2 ^ 30 }
+        ensures { length bytes.new ≡ length bytes.old }
+    {
+        let read_only = if self.info.read_only { READ_ONLY } else { 0 };
+        LittleEndian::write_u32(bytes, PRESENT + read_only + self.first);
+        LittleEndian::write_u32(&mut bytes[4..], self.info.length);
     }
 
     /// The home page behind the file's last.

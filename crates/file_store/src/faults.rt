@@ -1,4 +1,4 @@
-//! Why a store could not be opened.
+//! Why a store could not be opened or made.
 ghost use Rattle.std.specs.Prelude.{◌≡◌};
 ghost use Rattle.file_store.specs.declared.faults.OpenFault.TheVariants.{Device, BadLayout};
 
@@ -16,6 +16,19 @@ pub enum OpenFault {
     BadLayout = 2,
     /// The journal is open with a map that no commit writes. Nothing was written.
     BadJournal = 3,
+}
+
+/// Why a store could not be made.
+#[derive(Clone, Copy, Debug, PartialEq, Eq)]
+pub enum FormatFault {
+    /// The device failed.
+    Device = 1,
+    /// There are over 64 files, fewer than 1,020 sectors, or not enough home pages. Nothing was written.
+    TooLarge = 2,
+    /// Sector 0 is the layout mark already. Nothing was written.
+    Formatted = 3,
+    /// A source failed or ended early.
+    Source = 4,
 }
 
 impl From<DiskFault> for OpenFault {
@@ -44,5 +57,15 @@ impl From<RecoverFault> for OpenFault {
             RecoverFault::Device => OpenFault::Device,
             RecoverFault::BadJournal => OpenFault::BadJournal,
         }
+    }
+}
+
+impl From<DiskFault> for FormatFault {
+    ghost use Rattle.file_store.specs.declared.faults.FormatFault.TheVariants.{Device as FormatDevice};
+
+    ghost from_gives = { λ _ fault. fault ≡ FormatDevice };
+
+    fn from(_: DiskFault) -> Self {
+        FormatFault::Device
     }
 }

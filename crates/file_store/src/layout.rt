@@ -8,6 +8,9 @@ pub(crate) const MARK_SECTOR: u64 = 0;
 /// The directory.
 pub(crate) const DIRECTORY_SECTOR: u64 = 1;
 
+/// The gate of the journal.
+pub(crate) const GATE_SECTOR: u64 = 2;
+
 /// The first sector of the first home page, and the fewest sectors of a store.
 pub(crate) const FIRST_HOME: u64 = 1020;
 

@@ -18,13 +18,17 @@
 mod commits;
 mod directory;
 mod faults;
+mod formatting;
 mod layout;
 mod opening;
 mod pages;
+mod sources;
 mod store;
 mod trimmed;
 
-pub use faults::OpenFault;
+pub use faults::{FormatFault, OpenFault};
+pub use formatting::format;
+pub use sources::FileSource;
 pub use store::FileStore;
 
 #[cfg(test)]

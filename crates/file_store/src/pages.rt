@@ -30,6 +30,31 @@ pub(crate) fn read_sectors<D: SectorDisk>(
     Ok(())
 }
 
+/// Writes the eight sectors from `first` on.
+pub(crate) fn write_sectors<D: SectorDisk>(
+    disk: &mut D,
+    first: u64,
+    page: &[u8; 4096],
+) -> Result<(), DiskFault>
+    requires room { first + 8 ≤ D.sector_count disk.old }
+    requires fits { first < 2 ^ 60 }
+    ensures size { D.sector_count disk.new ≡ D.sector_count disk.old }
+    ensures kept { D.keeps_model disk.new → D.keeps_model disk.old }
+    ensures cause { HasCause (D.failures disk.old) (D.failures disk.new) result }
+{
+    for (i, sector) in sectors_of(page).iter().enumerate() {
+        disk.write(first + i as u64, sector)?;
+    }
+    Ok(())
+}
+
+/// The eight sectors of a page.
+fn sectors_of(page: &[u8; 4096]) -> &[[u8; 512]]
+    ensures { length result.now ≡ 8 }
+{
+    page.as_chunks::<512>().0
+}
+
 /// Leaves the first `inside` bytes of a page, and puts zeros in place of the others.
 pub(crate) fn trim(page: &mut [u8; 4096], inside: usize)
     requires { inside ≤ 4096 }

@@ -3,7 +3,7 @@ ghost use Rattle.std.specs.Prelude.{◌≡◌, ◌<◌, ℕ, IfOk, refl};
 ghost use Rattle.std.proofs.Common.{◌∙◌};
 ghost use Rattle.file_store.specs.Store.{IsReady};
 
-use crate::{FileStore, OpenFault};
+use crate::{FileSource, FileStore, FormatFault, OpenFault, format};
 use disk_model::{DiskFault, SectorDisk, SimDisk};
 use std::alloc::Global;
 use std::test::Fail;
@@ -286,5 +286,32 @@ fn looks_at_the_journal(rt: HostRuntime) -> Result<(), Fail> {
         &[(1, one_file), (2, closed), (3, single(0, 128))],
     )?)?;
     assert_eq!(rt; store.into_disk().writes(), 0);
+    Ok(())
+}
+
+#[test]
+fn formats_one_page(rt: HostRuntime) -> Result<(), Fail> {
+    let zeros: &[u8] = &[0; 4096];
+    let source = FileSource {
+        read_only: false,
+        length: 4096,
+        bytes: Some(zeros),
+    };
+    let mut disk = SimDisk::new(rt.alloc(), 1028)?;
+    assert_eq!(rt; format(&mut disk, &mut [source]), Ok(()));
+    assert_eq!(rt; (disk.writes(), disk.syncs()), (11, 2));
+    assert_eq!(rt; disk.sectors(), 1028);
+    assert_eq!(rt; disk.sector(1)[3], 0x80);
+    assert_eq!(rt; disk.sector(1)[5], 0x10);
+    let empty: FileSource<&[u8]> = FileSource {
+        read_only: false,
+        length: 0,
+        bytes: None,
+    };
+    assert_eq!(rt;
+        format(&mut disk, &mut [empty]),
+        Err(FormatFault::Formatted)
+    );
+    assert_eq!(rt; disk.writes(), 11);
     Ok(())
 }

@@ -1,0 +1,99 @@
+//! What files are made of.
+ghost use Rattle.std.specs.Prelude.{◌≡◌, ◌≤◌, ◌^◌, ◌↔◌, length, OnErr, IsErrOf, IsTrue};
+ghost use Rattle.file_store.specs.Layout.{page_count};
+ghost use Rattle.file_store.specs.Format.{info_of, total_pages, IsTooLarge};
+
+use crate::directory::Entry;
+use crate::faults::FormatFault;
+use crate::layout::{FILES, PAGE_BYTES, SECTOR_BYTES};
+use std::io::Read;
+use sync_journal::{FIRST_HOME, MAX_HOMES, home_count};
+use vm_types::FileInfo;
+
+/// A file of a new store: its length in bytes, whether it may only be read, and the reader whose first `length` bytes
+/// it has. Without a reader it has `length` zero bytes.
+#[derive(Debug, Drop)]
+pub struct FileSource<R> {
+    pub read_only: bool,
+    pub length: u32,
+    pub bytes: Option<R>,
+}
+
+impl<R> FileSource<R> {
+    /// How many pages the file has.
+    pub(crate) fn pages(&self) -> u64
+        ensures count { result ≡ page_count self.now.length }
+        ensures bound { result ≤ 2 ^ 20 }
+    {
+        u64::from(self.length).div_ceil(PAGE_BYTES)
+    }
+
+    /// The file's facts.
+    fn info(&self) -> FileInfo
+        ensures { result ≡ info_of self.now }
+    {
+        FileInfo {
+            length: self.length,
+            read_only: self.read_only,
+        }
+    }
+}
+
+impl<R: Read> FileSource<R> {
+    /// Reads page `k`, which follows those that were read before, into a page of zeros.
+    pub(crate) fn read_page(&mut self, k: u64, page: &mut [u8; 4096]) -> Result<(), FormatFault>
+        requires { k ≤ 2 ^ 20 }
+        ensures info { info_of self.new ≡ info_of self.old }
+        ensures cause { OnErr result (IsErrOf result FormatFault.Source) }
+    {
+        let inside = u64::from(self.length)
+            .saturating_sub(PAGE_BYTES * k)
+            .min(PAGE_BYTES) as usize;
+        let Some(reader) = &mut self.bytes else {
+            return Ok(());
+        };
+        match reader.read_exact(&mut page[..inside]) {
+            Ok(()) => Ok(()),
+            Err(_) => Err(FormatFault::Source),
+        }
+    }
+}
+
+/// Whether these files are too many or too large for a store of so many sectors.
+pub(crate) fn is_too_large<R>(sources: &[FileSource<R>], sectors: u64) -> bool
+    ensures { IsTrue result ↔ IsTooLarge sectors sources.now }
+{
+    sources.len() > FILES || sectors < FIRST_HOME || pages_of(sources) > home_count(sectors)
+}
+
+/// How many pages up to 64 files have.
+fn pages_of<R>(sources: &[FileSource<R>]) -> u64
+    requires { length sources.now ≤ 64 }
+    ensures { result ≡ total_pages sources.now }
+{
+    let mut total = 0;
+    for f in 0..sources.len() {
+        total += sources[f].pages();
+    }
+    total
+}
+
+/// The directory sector of these files, whose homes follow one another.
+pub(crate) fn directory_of<R>(sources: &[FileSource<R>]) -> [u8; SECTOR_BYTES]
+    requires files { length sources.now ≤ 64 }
+    requires homes { total_pages sources.now ≤ 2 ^ 30 }
+{
+    let mut directory = [0; SECTOR_BYTES];
+    let mut first = 0;
+    for f in 0..sources.len() {
+        let source = &sources[f];
+        // Only an empty file's first home can be the one behind the last that a number of 30 bits names.
+        let entry = Entry {
+            first: (first % MAX_HOMES) as u32,
+            info: source.info(),
+        };
+        entry.encode(&mut directory[8 * f..]);
+        first += source.pages();
+    }
+    directory
+}
