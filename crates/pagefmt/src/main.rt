@@ -1,0 +1,14 @@
+//! Makes an image of a store. What it takes and answers stands at `runner::pagefmt`.
+#![tactic(auto)]
+
+use runner::{given_words, pagefmt};
+use std::process::ExitCode;
+
+fn main(rt: HostRuntime) -> ExitCode {
+    let (mut input, mut output, mut errors) = (rt.stdin(), rt.stdout(), rt.stderr());
+    let status = match given_words(&rt, "pagefmt", &mut errors) {
+        Ok(words) => pagefmt(&rt, words.as_slice(), &mut input, &mut output, &mut errors),
+        Err(status) => status,
+    };
+    ExitCode::from(status)
+}

@@ -1,0 +1,8 @@
+pub mod Bytes
+pub mod Lines
+pub mod Session
+pub mod Progress
+pub mod Ends
+pub mod Trace
+pub mod Steps
+pub mod Prefixes

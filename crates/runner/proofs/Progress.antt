@@ -1,0 +1,176 @@
+-- How the engine goes on, byte after byte.
+use Rattle.std.proofs.Common.{◌≡◌, ◌≢◌, ℕ, ◌+◌, ◌<◌, ◌≤◌, ◌⊎◌, List, [], ◌∷◌, ◌++◌, length, take, drop, refl, sym, ap, subst, ◌∙◌, append_assoc, append-nil, inl, inr, arith, Option, length-append}
+use Rattle.std.proofs.lemmas.List.{take_all, length-take-le, take-append-le}
+use Rattle.std.proofs.lemmas.List.Elements.{All-nil}
+use Rattle.std.proofs.lemmas.Bool.{cases_lt}
+use Rattle.std.specs.Io.KnownBytes.{Appends}
+use Rattle.std.proofs.KnownBytes.{Appends-trans, Appends-nil}
+use Rattle.disk_model.specs.declared.sector_disk.SectorDisk.{Ghosts}
+use Rattle.machine.specs.declared.machine.Machine.{Machine}
+use Rattle.trace_lang.specs.Lines.{HasNoNewline, Cuts}
+use Rattle.runner.specs.Bytes.{StartsAs, WritesBeginning}
+use Rattle.runner.specs.Session.{Answers, CarriesOut}
+use Rattle.runner.specs.Progress.{Stage, stage, IsKept, Advances, Reads, Breaks, GoesOn, BreaksOff}
+use Rattle.runner.proofs.Lines.{Cuts-trans, Cuts-none, Cuts-byte, Cuts-newline}
+use Rattle.runner.proofs.Session.{answers_line, CarriesOut-one, CarriesOut-append}
+
+-- the buffer goes on as the line does
+pub kept_byte : (line : List ℕ) (byte : ℕ) → take 257 (take 257 line ++ byte ∷ []) ≡ take 257 (line ++ byte ∷ [])
+kept_byte line byte = elim (cases_lt (length line) 257) [
+  | inl short ↦ let room : length line ≤ 257 = omega arith in ap (λ l. take 257 (l ++ byte ∷ [])) (take_all 257 line room)
+  | inr long ↦
+      let all = length-take-le 257 line long in
+      let enough : 257 ≤ length (take 257 line) = omega arith in
+      let nothing_more : length (take 257 line) ≤ 257 = omega arith in
+      take-append-le 257 (take 257 line) (byte ∷ []) enough ∙ take_all 257 (take 257 line) nothing_more
+      ∙ sym (take-append-le 257 line (byte ∷ []) long)
+]
+
+pub IsKept-none : IsKept [] []
+IsKept-none = record { front = refl; unfinished = All-nil (λ b. b ≢ 10) }
+
+-- what the writer took in the end, after what it took before
+pub wrote_beginning : (old mid new : Option (List ℕ)) (pending text written half others : List ℕ)
+    → pending ++ text ≡ written ++ half → Appends old mid written → WritesBeginning mid new (half ++ others)
+    → WritesBeginning old new (pending ++ (text ++ others))
+wrote_beginning old mid new pending text written half others sent wrote broke = (
+  written ++ broke.0,
+  Appends-trans old mid new written broke.0 wrote broke.1,
+  (
+    broke.2.0,
+    sym (append_assoc pending text others) ∙ ap (λ t. t ++ others) sent ∙ append_assoc written half others
+        ∙ ap (λ t. written ++ t) broke.2.1 ∙ sym (append_assoc written broke.0 broke.2.0),
+  ),
+)
+
+module _ {D E : Type 0} (g : Ghosts D) (h : Ghosts E) where
+  pub Advances-trans : (old mid new : Machine D E) (open_line bytes more text others half rest : List ℕ)
+      → Advances g h old open_line bytes text half mid → Advances g h mid half more others rest new
+      → Advances g h old open_line (bytes ++ more) (text ++ others) rest new
+  Advances-trans old mid new open_line bytes more text others half rest p q = record {
+    lines = p.lines ++ q.lines;
+    cuts = rw (← append_assoc open_line bytes more) (Cuts-trans (open_line ++ bytes) more p.lines q.lines half rest p.cuts q.cuts);
+    runs = CarriesOut-append g h old mid new p.lines q.lines text others p.runs q.runs;
+  }
+
+  -- no byte changes nothing
+  pub goes_nowhere : (s : Stage D E) → GoesOn g h s s []
+  goes_nowhere s open_line kept = record {
+    text = [];
+    rest = open_line;
+    written = [];
+    advances = record { lines = []; cuts = Cuts-none open_line kept.unfinished; runs = (refl, refl) };
+    kept = kept;
+    sent = append-nil s.pending;
+    wrote = Appends-nil s.held;
+  }
+
+  -- a byte that goes on with the line
+  pub goes_on_by_byte : (machine : Machine D E) (kept pending : List ℕ) (held : Option (List ℕ)) (byte : ℕ) (more : List ℕ)
+      → byte ≢ 10 → more ≡ take 257 (kept ++ byte ∷ []) → GoesOn g h (stage machine kept pending held) (stage machine more pending held) (byte ∷ [])
+  goes_on_by_byte machine kept pending held byte more other is open_line begun = record {
+    text = [];
+    rest = open_line ++ byte ∷ [];
+    written = [];
+    advances = record { lines = []; cuts = Cuts-byte open_line byte begun.unfinished other; runs = (refl, refl) };
+    kept = record {
+      front = is ∙ ap (λ k. take 257 (k ++ byte ∷ [])) begun.front ∙ kept_byte open_line byte;
+      unfinished = (Cuts-byte open_line byte begun.unfinished other).rest;
+    };
+    sent = append-nil pending;
+    wrote = Appends-nil held;
+  }
+
+  -- what the newline does to the machine
+  ends_line : (old new : Machine D E) (kept open_line text : List ℕ) → IsKept kept open_line → Answers g h old kept text new
+      → Advances g h old open_line (10 ∷ []) text [] new
+  ends_line old new kept open_line text begun answers = record {
+    lines = open_line ∷ [];
+    cuts = Cuts-newline open_line begun.unfinished;
+    runs = CarriesOut-one g h old new open_line text (answers_line g h old new open_line text (subst (λ k. Answers g h old k text new) begun.front answers));
+  }
+
+  -- the newline, where the output is not written out
+  pub goes_on_by_newline : (old new : Machine D E) (kept cleared pending more text : List ℕ) (held : Option (List ℕ))
+      → Answers g h old kept text new → cleared ≡ [] → more ≡ pending ++ text
+      → GoesOn g h (stage old kept pending held) (stage new cleared more held) (10 ∷ [])
+  goes_on_by_newline old new kept cleared pending more text held answers none is open_line begun = record {
+    text = text;
+    rest = [];
+    written = [];
+    advances = ends_line old new kept open_line text begun answers;
+    kept = subst (λ k. IsKept k []) (sym none) IsKept-none;
+    sent = sym is;
+    wrote = Appends-nil held;
+  }
+
+  -- the newline, where it is
+  pub goes_on_written_out : (old new : Machine D E) (kept cleared pending more text left : List ℕ) (held held_then : Option (List ℕ))
+      → Answers g h old kept text new → cleared ≡ [] → more ≡ pending ++ text → left ≡ [] → Appends held held_then more
+      → GoesOn g h (stage old kept pending held) (stage new cleared left held_then) (10 ∷ [])
+  goes_on_written_out old new kept cleared pending more text left held held_then answers none is gone wrote open_line begun = record {
+    text = text;
+    rest = [];
+    written = more;
+    advances = ends_line old new kept open_line text begun answers;
+    kept = subst (λ k. IsKept k []) (sym none) IsKept-none;
+    sent = sym is ∙ sym (append-nil more) ∙ ap (λ l. more ++ l) (sym gone);
+    wrote = wrote;
+  }
+
+  pub breaks_at_newline : (old new : Machine D E) (kept cleared pending more text left : List ℕ) (held held_then : Option (List ℕ))
+      → Answers g h old kept text new → more ≡ pending ++ text → WritesBeginning held held_then more
+      → BreaksOff g h (stage old kept pending held) (stage new cleared left held_then) (10 ∷ [])
+  breaks_at_newline old new kept cleared pending more text left held held_then answers is wrote open_line begun = record {
+    text = text;
+    rest = [];
+    front = 10 ∷ [];
+    more = [];
+    split = refl;
+    advances = ends_line old new kept open_line text begun answers;
+    wrote = subst (WritesBeginning held held_then) is wrote;
+  }
+
+  pub GoesOn-trans : (old mid new : Stage D E) (bytes more : List ℕ) → GoesOn g h old mid bytes → GoesOn g h mid new more → GoesOn g h old new (bytes ++ more)
+  GoesOn-trans old mid new bytes more p q open_line begun =
+      let first = p open_line begun in
+      let second = q first.rest first.kept in
+      record {
+        text = first.text ++ second.text;
+        rest = second.rest;
+        written = first.written ++ second.written;
+        advances = Advances-trans old.machine mid.machine new.machine open_line bytes more first.text second.text first.rest second.rest first.advances second.advances;
+        kept = second.kept;
+        sent = sym (append_assoc old.pending first.text second.text) ∙ ap (λ t. t ++ second.text) first.sent
+            ∙ append_assoc first.written mid.pending second.text ∙ ap (λ t. first.written ++ t) second.sent
+            ∙ sym (append_assoc first.written second.written new.pending);
+        wrote = Appends-trans old.held mid.held new.held first.written second.written first.wrote second.wrote;
+      }
+
+  pub breaks_after : (old mid new : Stage D E) (bytes more : List ℕ) → GoesOn g h old mid bytes → BreaksOff g h mid new more → BreaksOff g h old new (bytes ++ more)
+  breaks_after old mid new bytes more p q open_line begun =
+      let first = p open_line begun in
+      let second = q first.rest first.kept in
+      record {
+        text = first.text ++ second.text;
+        rest = second.rest;
+        front = bytes ++ second.front;
+        more = second.more;
+        split = ap (λ b. bytes ++ b) second.split ∙ sym (append_assoc bytes second.front second.more);
+        advances = Advances-trans old.machine mid.machine new.machine open_line bytes second.front first.text second.text first.rest second.rest first.advances second.advances;
+        wrote = wrote_beginning old.held mid.held new.held old.pending first.text first.written mid.pending second.text first.sent first.wrote second.wrote;
+      }
+
+  -- the bytes after a break stay unread
+  pub breaks_before : (old new : Stage D E) (bytes more : List ℕ) → BreaksOff g h old new bytes → BreaksOff g h old new (bytes ++ more)
+  breaks_before old new bytes more p open_line begun =
+      let first = p open_line begun in
+      record {
+        text = first.text;
+        rest = first.rest;
+        front = first.front;
+        more = first.more ++ more;
+        split = ap (λ b. b ++ more) first.split ∙ append_assoc first.front first.more more;
+        advances = first.advances;
+        wrote = first.wrote;
+      }

@@ -1,0 +1,145 @@
+-- From the lines that were carried out to a run of the machine.
+use Rattle.std.proofs.Common.{◌≡◌, ℕ, List, [], ◌∷◌, ◌++◌, refl, sym, ap, subst, ◌∙◌, Option, inl, inr}
+use Rattle.std.specs.Io.KnownBytes.{Appends, Consumes, IsAtEnd}
+use Rattle.disk_model.specs.Stop.{Image, MayLeave}
+use Rattle.disk_model.specs.declared.sector_disk.SectorDisk.{Ghosts}
+use Rattle.vm_types.specs.declared.command.Command.{Command}
+use Rattle.vm_types.specs.declared.reply.Reply.{Reply}
+use Rattle.vm_types.specs.Prefix.{Event}
+use Rattle.vm_types.specs.State.{State, IsRunning}
+use Rattle.machine.specs.declared.machine.Machine.{Machine}
+use Rattle.machine.specs.Machine.{Shows, Meets}
+use Rattle.machine.specs.Chain.{event, Chain, LeavesPrefixes, Runs}
+use Rattle.trace_lang.specs.Lines.{lines_of, Cuts}
+use Rattle.trace_lang.specs.Texts.{text_of, bad_line_text}
+use Rattle.runner.specs.declared.engine.RunEnd.{RunEnd}
+use Rattle.runner.specs.declared.engine.RunEnd.TheVariants.{Done, ReadFault, WriteFault}
+use Rattle.runner.specs.Session.{Answers, Obeys, Rejects, CarriesOut, Answered}
+use Rattle.runner.proofs.Prefixes.{prefixes}
+use Rattle.runner.specs.Progress.{Stage, stage, EndsSo, ReadsAll}
+use Rattle.runner.specs.Trace.{Streams, streams, EndsTrace, RunsTrace}
+
+module _ {D E : Type 0} (g : Ghosts D) (h : Ghosts E)
+    (only_now : (d : D) (image : Image) → g.keeps_model d → g.left_since d (g.moment d) image → MayLeave (g.content d) (g.unsynced d) image) where
+  -- the machine's run of the lines' commands
+  record Session (old new : Machine D E) (s : State) (lines : List (List ℕ)) (text : List ℕ) : Type 0 where
+    commands : List Command
+    replies : List Reply
+    events : List Event
+    last : State
+    answered : Answered lines commands replies text
+    chain : Chain g h old s commands replies events new last
+    shows : Shows g h new last
+
+  obeyed : (old mid new : Machine D E) (s : State) (line : List ℕ) (lines : List (List ℕ)) (first rest text : List ℕ)
+      → (o : Obeys g h old line first mid) → text ≡ first ++ rest
+      → (step : (t : State) × Meets g h old mid s t o.command o.reply) → Session mid new step.0 lines rest → Session old new s (line ∷ lines) text
+  obeyed old mid new s line lines first rest text o is step later = record {
+    commands = o.command ∷ later.commands;
+    replies = o.reply ∷ later.replies;
+    events = event s o.command o.reply ∷ later.events;
+    last = later.last;
+    answered = inr (
+      o.command,
+      o.reply,
+      later.commands,
+      later.replies,
+      rest,
+      o.form,
+      refl,
+      refl,
+      is ∙ ap (λ t. t ++ rest) o.text_is,
+      later.answered,
+    );
+    chain = (mid, step.0, refl, step.1, later.chain);
+    shows = later.shows;
+  }
+
+  rejected : (old mid new : Machine D E) (s : State) (line : List ℕ) (lines : List (List ℕ)) (first rest text : List ℕ)
+      → Rejects g h old line first mid → text ≡ first ++ rest → Session old new s lines rest → Session old new s (line ∷ lines) text
+  rejected old mid new s line lines first rest text r is later = record {
+    commands = later.commands;
+    replies = later.replies;
+    events = later.events;
+    last = later.last;
+    answered = inl (r.bad, (rest, is ∙ ap (λ t. t ++ rest) r.text_is, later.answered));
+    chain = later.chain;
+    shows = later.shows;
+  }
+
+  session : (old new : Machine D E) (s : State) (lines : List (List ℕ)) (text : List ℕ)
+      → CarriesOut g h old lines text new → Shows g h old s → Session old new s lines text
+  session old new s [] text carried shows = record {
+    commands = [];
+    replies = [];
+    events = [];
+    last = s;
+    answered = (refl, refl, carried.0);
+    chain = (carried.1, refl);
+    shows = subst (λ m. Shows g h m s) (sym carried.1) shows;
+  }
+  session old new s (line ∷ lines) text carried shows =
+      let mid = carried.0 in
+      elim carried.3 [
+        | inl o ↦
+            let step = o.steps s shows in
+            obeyed old mid new s line lines carried.1 carried.2 text o carried.5 step
+            (session mid new step.0 lines carried.2 carried.4 step.1.shows)
+        | inr r ↦
+            rejected old mid new s line lines carried.1 carried.2 text r carried.5
+            (session old new s lines carried.2 (subst (λ m. CarriesOut g h m lines carried.2 new) r.same carried.4) shows)
+      ]
+
+  runs : (old new : Machine D E) (s : State) (lines : List (List ℕ)) (text : List ℕ) (before : Shows g h old s)
+      (a : Session old new s lines text) → Runs g h old new a.commands a.replies s
+  runs old new s lines text before a = record {
+    last = a.last;
+    events = a.events;
+    chain = a.chain;
+    shows = a.shows;
+    prefixes = prefixes g h only_now old s a.commands a.replies a.events new a.last a.chain before;
+  }
+
+  pub runs_trace : (end : RunEnd) (old new : Machine D E) (s : State) (left left_then held held_then : Option (List ℕ)) (bytes : List ℕ)
+      → Consumes left left_then bytes → ReadsAll end left_then → EndsSo g h end (stage old [] [] held) (stage new [] [] held_then) bytes []
+      → Shows g h old s → RunsTrace g h end old new (streams left held) (streams left_then held_then) s
+  runs_trace Done old new s left left_then held held_then bytes read all ended shows =
+      let a = session old new s (lines_of bytes) ended.text ended.runs shows in
+      record {
+        bytes = bytes;
+        read = read;
+        lines = lines_of bytes;
+        commands = a.commands;
+        replies = a.replies;
+        text = ended.text;
+        answered = a.answered;
+        runs = runs old new s (lines_of bytes) ended.text shows a;
+        ends = (all, refl, ended.wrote);
+      }
+  runs_trace ReadFault old new s left left_then held held_then bytes read all ended shows =
+      let lines = ended.advances.lines in
+      let a = session old new s lines ended.text ended.advances.runs shows in
+      record {
+        bytes = bytes;
+        read = read;
+        lines = lines;
+        commands = a.commands;
+        replies = a.replies;
+        text = ended.text;
+        answered = a.answered;
+        runs = runs old new s lines ended.text shows a;
+        ends = ((ended.rest, ended.advances.cuts), ended.wrote);
+      }
+  runs_trace WriteFault old new s left left_then held held_then bytes read all ended shows =
+      let a = session old new s ended.lines ended.text ended.runs shows in
+      record {
+        bytes = bytes;
+        read = read;
+        lines = ended.lines;
+        commands = a.commands;
+        replies = a.replies;
+        text = ended.text;
+        answered = a.answered;
+        runs = runs old new s ended.lines ended.text shows a;
+        ends = (ended.first, ended.wrote);
+      }

@@ -1,0 +1,37 @@
+use Rattle.std.proofs.Common.{[], ◌++◌, arith}
+use Rattle.std.proofs.KnownBytes.{Consumes-trans, Consumes-nil}
+use Rattle.runner.specs.declared.engine.RunEnd.TheVariants.{ReadFault}
+use Rattle.runner.proofs.Progress.{IsKept-none, GoesOn-trans}
+use Rattle.runner.proofs.Ends.{ends_after, ends_alike, stops_here}
+use Rattle.runner.proofs.engine.run_turns.Goals as goal
+
+pub returns-in-Some-clause-reads : goal.returns-in-Some-clause-reads
+returns-in-Some-clause-reads g c =
+    let before = c.loop-i.invariant.reads in
+    let now = c.in-Some.ensures.reads in (
+      before.0 ++ now.0,
+      Consumes-trans _ _ _ before.0 now.0 before.1 now.1,
+      now.2.0,
+      ends_alike g.D.SectorDisk g.E.SectorDisk c.in-Some.end _ _ _ _ _ _ _ _ (ends_after g.D.SectorDisk g.E.SectorDisk c.in-Some.end _ _ _ before.0 now.0 before.2 now.2.1) [] IsKept-none,
+    )
+
+pub loop-i-preserved : goal.loop-i-preserved
+loop-i-preserved g c =
+    let before = c.loop-i.invariant.reads in
+    let now = c.in-None.ensures.reads in
+    record {
+      input = omega arith;
+      empty = c.in-None.ensures.empty;
+      sound = c.turn.ensures.sound;
+      reads = (before.0 ++ now.0, Consumes-trans _ _ _ before.0 now.0 before.1 now.1, GoesOn-trans g.D.SectorDisk g.E.SectorDisk _ _ _ before.0 now.0 before.2 now.2);
+    }
+
+pub returns-clause-reads : goal.returns-clause-reads
+returns-clause-reads g c =
+    let before = c.loop-i.invariant.reads in (
+      before.0 ++ [],
+      Consumes-trans _ _ _ before.0 [] before.1 (Consumes-nil _),
+      tt,
+      ends_alike g.D.SectorDisk g.E.SectorDisk ReadFault _ _ _ _ _ _ _ _
+          (ends_after g.D.SectorDisk g.E.SectorDisk ReadFault _ _ _ before.0 [] before.2 (stops_here g.D.SectorDisk g.E.SectorDisk _ _ _ c.loop-i.output _ c.loop-i.invariant.empty)) [] IsKept-none,
+    )

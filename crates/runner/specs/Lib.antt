@@ -1,0 +1,4 @@
+pub mod Bytes
+pub mod Session
+pub mod Progress
+pub mod Trace

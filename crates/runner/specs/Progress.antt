@@ -1,0 +1,101 @@
+-- How far the engine has come, by what it holds: the machine, the beginning of the open line, the bytes that the writer
+-- has not taken yet, and what the writer holds where that is known.
+use Rattle.std.specs.Prelude.{◌≡◌, ℕ, List, ◌++◌, take, Option}
+use Rattle.std.specs.Io.KnownBytes.{Appends, IsAtEnd}
+use Rattle.disk_model.specs.declared.sector_disk.SectorDisk.{Ghosts}
+use Rattle.machine.specs.declared.machine.Machine.{Machine}
+use Rattle.trace_lang.specs.Lines.{Cuts, HasNoNewline, lines_of}
+use Rattle.runner.specs.declared.engine.RunEnd.{RunEnd}
+use Rattle.runner.specs.declared.engine.RunEnd.TheVariants.{Done, ReadFault, WriteFault}
+use Rattle.runner.specs.Bytes.{StartsAs, WritesBeginning}
+use Rattle.runner.specs.Session.{CarriesOut}
+
+pub record Stage (D E : Type 0) : Type 0 where
+  pub machine : Machine D E
+  pub kept : List ℕ
+  pub pending : List ℕ
+  pub held : Option (List ℕ)
+
+abbrev pub stage : {D E : Type 0} → Machine D E → List ℕ → List ℕ → Option (List ℕ) → Stage D E
+stage m k p h = record { machine = m; kept = k; pending = p; held = h }
+
+-- the buffer holds the beginning of the open line
+pub record IsKept (kept open_line : List ℕ) : Type 0 where
+  pub front : kept ≡ take 257 open_line
+  pub unfinished : HasNoNewline open_line
+
+module _ {D E : Type 0} (g : Ghosts D) (h : Ghosts E) where
+  -- the open line and the bytes after it were cut into lines, which were run with this text, and a rest
+  pub record Advances (old : Machine D E) (open_line bytes text rest : List ℕ) (new : Machine D E) : Type 0 where
+    pub lines : List (List ℕ)
+    pub cuts : Cuts (open_line ++ bytes) lines rest
+    pub runs : CarriesOut g h old lines text new
+
+  -- all the bytes were read, and the texts lie with the writer and in the buffer
+  pub record Reads (old new : Stage D E) (bytes open_line : List ℕ) : Type 0 where
+    pub text : List ℕ
+    pub rest : List ℕ
+    pub written : List ℕ
+    pub advances : Advances old.machine open_line bytes text rest new.machine
+    pub kept : IsKept new.kept rest
+    pub sent : old.pending ++ text ≡ written ++ new.pending
+    pub wrote : Appends old.held new.held written
+
+  -- a beginning of the bytes was read, and the writer took a beginning of the texts
+  pub record Breaks (old new : Stage D E) (bytes open_line : List ℕ) : Type 0 where
+    pub text : List ℕ
+    pub rest : List ℕ
+    pub front : List ℕ
+    pub more : List ℕ
+    pub split : bytes ≡ front ++ more
+    pub advances : Advances old.machine open_line front text rest new.machine
+    pub wrote : WritesBeginning old.held new.held (old.pending ++ text)
+
+  -- the same, whatever the open line is that the buffer holds the beginning of
+  abbrev pub GoesOn : Stage D E → Stage D E → List ℕ → Type 0
+  GoesOn old new bytes = (open_line : List ℕ) → IsKept old.kept open_line → Reads old new bytes open_line
+
+  abbrev pub BreaksOff : Stage D E → Stage D E → List ℕ → Type 0
+  BreaksOff old new bytes = (open_line : List ℕ) → IsKept old.kept open_line → Breaks old new bytes open_line
+
+  -- the open line was run as the last one where it has bytes, and its text was added to the output
+  pub record RunsLast (old new : Machine D E) (open_line pending more : List ℕ) : Type 0 where
+    pub text : List ℕ
+    pub runs : CarriesOut g h old (lines_of open_line) text new
+    pub sent : more ≡ pending ++ text
+
+  -- The reader is at its end: all lines were run, the last one with or without a newline, and the writer took all texts.
+  pub record Finishes (old new : Stage D E) (bytes open_line : List ℕ) : Type 0 where
+    pub text : List ℕ
+    pub runs : CarriesOut g h old.machine (lines_of (open_line ++ bytes)) text new.machine
+    pub wrote : Appends old.held new.held (old.pending ++ text)
+
+  -- the complete lines were run, the rest was not, and the writer took all texts
+  pub record Stops (old new : Stage D E) (bytes open_line : List ℕ) : Type 0 where
+    pub text : List ℕ
+    pub rest : List ℕ
+    pub advances : Advances old.machine open_line bytes text rest new.machine
+    pub wrote : Appends old.held new.held (old.pending ++ text)
+
+  -- the first lines were run, and the writer took a beginning of their texts
+  pub record Fails (old new : Stage D E) (bytes open_line : List ℕ) : Type 0 where
+    pub lines : List (List ℕ)
+    pub text : List ℕ
+    pub first : StartsAs lines (lines_of (open_line ++ bytes))
+    pub runs : CarriesOut g h old.machine lines text new.machine
+    pub wrote : WritesBeginning old.held new.held (old.pending ++ text)
+
+  abbrev pub EndsSo : RunEnd → Stage D E → Stage D E → List ℕ → List ℕ → Type 0
+  EndsSo Done old new bytes open_line = Finishes old new bytes open_line
+  EndsSo ReadFault old new bytes open_line = Stops old new bytes open_line
+  EndsSo WriteFault old new bytes open_line = Fails old new bytes open_line
+
+  -- the run ends after these bytes, whatever the open line is that the buffer holds the beginning of
+  abbrev pub Ends : RunEnd → Stage D E → Stage D E → List ℕ → Type 0
+  Ends end old new bytes = (open_line : List ℕ) → IsKept old.kept open_line → EndsSo end old new bytes open_line
+
+-- a run is done only where the reader is at its end
+abbrev pub ReadsAll : RunEnd → Option (List ℕ) → Type 0
+ReadsAll Done remaining = IsAtEnd remaining
+ReadsAll ReadFault remaining = Unit {0}
+ReadsAll WriteFault remaining = Unit {0}

@@ -1,0 +1,297 @@
+//! Runs the lines of a trace.
+ghost use Rattle.std.specs.Prelude.{◌≡◌, ℕ, List, [], ◌∷◌, ◌++◌, ◌+◌, ◌<◌, ◌≤◌, length, take, IfNone, IfOk, IfSome, MatchOption, MatchResult, OnOk};
+ghost use Rattle.std.specs.Io.KnownBytes.{Consumes, IsAtEnd};
+ghost use Rattle.machine.specs.Machine.{IsSound, Shows};
+ghost use Rattle.vm_types.specs.State.{State};
+ghost use Rattle.runner.specs.Progress.{stage, IsKept, RunsLast, GoesOn, BreaksOff, Ends, EndsSo, ReadsAll};
+ghost use Rattle.runner.specs.Session.{Answers};
+ghost use Rattle.runner.specs.Trace.{streams, RunsTrace};
+
+use crate::line_buffer::LineBuffer;
+use crate::output_buffer::{OutputBuffer, WriteFault};
+use disk_model::SectorDisk;
+use machine::Machine;
+use std::io::{ErrorKind, Read, Write};
+use trace_lang::{bad_line_text, parse_line};
+
+// The most bytes of one read: 32 KiB.
+const READ_BYTES: usize = 32768;
+
+/// How a run ended.
+#[derive(Clone, Copy, Debug, PartialEq, Eq)]
+pub enum RunEnd {
+    /// The reader is at its end, and each line is answered.
+    Done,
+    /// The reader failed.
+    ReadFault,
+    /// The writer failed, or took no bytes.
+    WriteFault,
+}
+
+// The reader failed.
+#[derive(Drop)]
+struct ReadFault;
+
+// Runs one line and adds the text that answers it to the output.
+fn answer<D: SectorDisk, E: SectorDisk>(
+    line: &[u8],
+    output: &mut OutputBuffer,
+    machine: &mut Machine<D, E>,
+)
+    requires room { length output.old < 32768 }
+    requires sound { IsSound D.SectorDisk E.SectorDisk machine.old }
+    ensures room { length output.new ≤ length output.old + 1024 }
+    ensures sound { IsSound D.SectorDisk E.SectorDisk machine.new }
+    ensures answers { (text : List ℕ) × Answers D.SectorDisk E.SectorDisk machine.old line.now text machine.new
+        × (output.new ≡ output.old ++ text) }
+{
+    match parse_line(line) {
+        Ok(command) => {
+            let reply = machine.step(command);
+            output.push_reply(&reply);
+        }
+        Err(_) => output.push(bad_line_text()),
+    }
+}
+
+// Runs the line that a newline has ended, and writes the output out where it is full.
+fn end_line<W: Write, D: SectorDisk, E: SectorDisk>(
+    line: &mut LineBuffer,
+    output: &mut OutputBuffer,
+    writer: &mut W,
+    machine: &mut Machine<D, E>,
+) -> Result<(), WriteFault>
+    requires room { length output.old < 32768 }
+    requires sound { IsSound D.SectorDisk E.SectorDisk machine.old }
+    ensures room { OnOk result (length output.new < 32768) }
+    ensures sound { IsSound D.SectorDisk E.SectorDisk machine.new }
+    ensures reads { MatchResult result
+        (λ _. GoesOn D.SectorDisk E.SectorDisk (stage machine.old line.old output.old (W.contents writer.old))
+        (stage machine.new line.new output.new (W.contents writer.new)) (10 ∷ []))
+        (λ _. BreaksOff D.SectorDisk E.SectorDisk (stage machine.old line.old output.old (W.contents writer.old))
+        (stage machine.new line.new output.new (W.contents writer.new)) (10 ∷ [])) }
+{
+    answer(line.as_slice(), output, machine);
+    line.clear();
+    if output.is_full() {
+        return output.write_out(writer);
+    }
+    Ok(())
+}
+
+// Goes on by a byte of the trace.
+fn run_byte<W: Write, D: SectorDisk, E: SectorDisk>(
+    byte: u8,
+    line: &mut LineBuffer,
+    output: &mut OutputBuffer,
+    writer: &mut W,
+    machine: &mut Machine<D, E>,
+) -> Result<(), WriteFault>
+    requires room { length output.old < 32768 }
+    requires sound { IsSound D.SectorDisk E.SectorDisk machine.old }
+    ensures room { OnOk result (length output.new < 32768) }
+    ensures sound { IsSound D.SectorDisk E.SectorDisk machine.new }
+    ensures reads { MatchResult result
+        (λ _. GoesOn D.SectorDisk E.SectorDisk (stage machine.old line.old output.old (W.contents writer.old))
+        (stage machine.new line.new output.new (W.contents writer.new)) (byte ∷ []))
+        (λ _. BreaksOff D.SectorDisk E.SectorDisk (stage machine.old line.old output.old (W.contents writer.old))
+        (stage machine.new line.new output.new (W.contents writer.new)) (byte ∷ [])) }
+{
+    if byte == b'\n' {
+        return end_line(line, output, writer, machine);
+    }
+    line.push(byte);
+    Ok(())
+}
+
+// Goes on by a piece of the trace.
+fn run_piece<W: Write, D: SectorDisk, E: SectorDisk>(
+    piece: &[u8],
+    line: &mut LineBuffer,
+    output: &mut OutputBuffer,
+    writer: &mut W,
+    machine: &mut Machine<D, E>,
+) -> Result<(), WriteFault>
+    requires room { length output.old < 32768 }
+    requires sound { IsSound D.SectorDisk E.SectorDisk machine.old }
+    ensures room { OnOk result (length output.new < 32768) }
+    ensures sound { IsSound D.SectorDisk E.SectorDisk machine.new }
+    ensures reads { MatchResult result
+        (λ _. GoesOn D.SectorDisk E.SectorDisk (stage machine.old line.old output.old (W.contents writer.old))
+        (stage machine.new line.new output.new (W.contents writer.new)) piece.now)
+        (λ _. BreaksOff D.SectorDisk E.SectorDisk (stage machine.old line.old output.old (W.contents writer.old))
+        (stage machine.new line.new output.new (W.contents writer.new)) piece.now) }
+{
+    for byte in piece {
+        match run_byte(*byte, line, output, writer, machine) {
+            Ok(()) => {}
+            Err(fault) => return Err(fault),
+        }
+    }
+    Ok(())
+}
+
+// Goes on by a piece and gives the replies to the writer. `None`: the run goes on.
+fn take_piece<W: Write, D: SectorDisk, E: SectorDisk>(
+    piece: &[u8],
+    line: &mut LineBuffer,
+    output: &mut OutputBuffer,
+    writer: &mut W,
+    machine: &mut Machine<D, E>,
+) -> Option<RunEnd>
+    requires room { length output.old < 32768 }
+    requires sound { IsSound D.SectorDisk E.SectorDisk machine.old }
+    ensures empty { IfNone result (output.new ≡ []) }
+    ensures sound { IsSound D.SectorDisk E.SectorDisk machine.new }
+    ensures reads { MatchOption result
+        (GoesOn D.SectorDisk E.SectorDisk (stage machine.old line.old output.old (W.contents writer.old))
+        (stage machine.new line.new output.new (W.contents writer.new)) piece.now)
+        (λ end. (end ≡ RunEnd.WriteFault) × Ends D.SectorDisk E.SectorDisk RunEnd.WriteFault (stage machine.old line.old output.old (W.contents writer.old))
+        (stage machine.new line.new output.new (W.contents writer.new)) piece.now) }
+{
+    match run_piece(piece, line, output, writer, machine) {
+        Ok(()) => {}
+        Err(_) => return Some(RunEnd::WriteFault),
+    }
+    match output.write_out(writer) {
+        Ok(()) => None,
+        Err(_) => Some(RunEnd::WriteFault),
+    }
+}
+
+// Runs the last line where no newline ended it.
+fn answer_last<D: SectorDisk, E: SectorDisk>(
+    line: &LineBuffer,
+    output: &mut OutputBuffer,
+    machine: &mut Machine<D, E>,
+)
+    requires room { length output.old < 32768 }
+    requires sound { IsSound D.SectorDisk E.SectorDisk machine.old }
+    ensures sound { IsSound D.SectorDisk E.SectorDisk machine.new }
+    ensures runs { (open_line : List ℕ) → IsKept line.now open_line
+        → RunsLast D.SectorDisk E.SectorDisk machine.old machine.new open_line output.old output.new }
+{
+    if line.is_empty() {
+        return;
+    }
+    answer(line.as_slice(), output, machine);
+}
+
+// The reader is at its end: runs the last line and gives the replies to the writer.
+fn finish<W: Write, D: SectorDisk, E: SectorDisk>(
+    line: &LineBuffer,
+    output: &mut OutputBuffer,
+    writer: &mut W,
+    machine: &mut Machine<D, E>,
+) -> RunEnd
+    requires room { length output.old < 32768 }
+    requires sound { IsSound D.SectorDisk E.SectorDisk machine.old }
+    ensures sound { IsSound D.SectorDisk E.SectorDisk machine.new }
+    ensures ends { Ends D.SectorDisk E.SectorDisk result (stage machine.old line.now output.old (W.contents writer.old))
+        (stage machine.new line.now output.new (W.contents writer.new)) [] }
+{
+    answer_last(line, output, machine);
+    match output.write_out(writer) {
+        Ok(()) => RunEnd::Done,
+        Err(_) => RunEnd::WriteFault,
+    }
+}
+
+// One call of the reader: how many bytes came, 0 only where it was interrupted, or `None` at its end.
+fn read_once<R: Read>(reader: &mut R, input: &mut [u8]) -> Result<Option<usize>, ReadFault>
+    requires { 0 < length input.old }
+    ensures bound { IfOk result (λ read. IfSome read (λ n. n ≤ length input.new)) }
+    ensures bytes { MatchResult result
+        (λ read. MatchOption read
+        (Consumes (R.remaining reader.old) (R.remaining reader.new) [] × IsAtEnd (R.remaining reader.new))
+        (λ n. Consumes (R.remaining reader.old) (R.remaining reader.new) (take n input.new)))
+        (λ _. Consumes (R.remaining reader.old) (R.remaining reader.new) []) }
+{
+    match reader.read(input) {
+        Ok(0) => Ok(None),
+        Ok(count) => Ok(Some(count)),
+        Err(error) if error.kind() == ErrorKind::Interrupted => Ok(Some(0)),
+        Err(_) => Err(ReadFault),
+    }
+}
+
+// One read, and what its bytes ask for. `None`: the run goes on.
+fn turn<R: Read, W: Write, D: SectorDisk, E: SectorDisk>(
+    input: &mut [u8],
+    reader: &mut R,
+    line: &mut LineBuffer,
+    output: &mut OutputBuffer,
+    writer: &mut W,
+    machine: &mut Machine<D, E>,
+) -> Option<RunEnd>
+    requires input { 0 < length input.old }
+    requires empty { output.old ≡ [] }
+    requires sound { IsSound D.SectorDisk E.SectorDisk machine.old }
+    ensures empty { IfNone result (output.new ≡ []) }
+    ensures sound { IsSound D.SectorDisk E.SectorDisk machine.new }
+    ensures reads { (bytes : List ℕ) × Consumes (R.remaining reader.old) (R.remaining reader.new) bytes
+        × MatchOption result
+        (GoesOn D.SectorDisk E.SectorDisk (stage machine.old line.old output.old (W.contents writer.old))
+        (stage machine.new line.new output.new (W.contents writer.new)) bytes)
+        (λ end. ReadsAll end (R.remaining reader.new)
+        × Ends D.SectorDisk E.SectorDisk end (stage machine.old line.old output.old (W.contents writer.old))
+        (stage machine.new line.new output.new (W.contents writer.new)) bytes) }
+{
+    match read_once(reader, input) {
+        Ok(Some(count)) => take_piece(&input[..count], line, output, writer, machine),
+        Ok(None) => Some(finish(line, output, writer, machine)),
+        Err(_) => Some(RunEnd::ReadFault),
+    }
+}
+
+// The turns of a run, with the words that each turn keeps.
+fn run_turns<R: Read, W: Write, D: SectorDisk, E: SectorDisk>(
+    reader: &mut R,
+    writer: &mut W,
+    machine: &mut Machine<D, E>,
+) -> RunEnd
+    requires { IsSound D.SectorDisk E.SectorDisk machine.old }
+    ensures sound { IsSound D.SectorDisk E.SectorDisk machine.new }
+    ensures reads { (bytes : List ℕ) × Consumes (R.remaining reader.old) (R.remaining reader.new) bytes
+        × ReadsAll result (R.remaining reader.new)
+        × EndsSo D.SectorDisk E.SectorDisk result (stage machine.old [] [] (W.contents writer.old))
+        (stage machine.new [] [] (W.contents writer.new)) bytes [] }
+{
+    let mut input = [0; READ_BYTES];
+    let mut line = LineBuffer::new();
+    let mut output = OutputBuffer::new();
+    for i in 0..u64::MAX {
+        match turn(&mut input, reader, &mut line, &mut output, writer, machine) {
+            None => {}
+            Some(end) => return end,
+        }
+    }
+    RunEnd::ReadFault
+}
+
+/// Runs a trace: reads its lines, has the machine carry out the commands that they stand for, one after another, and
+/// writes the text of each reply, or `bad line` for a line that stands for none. It takes no memory.
+///
+/// Each complete line is answered, and its answer given to the writer, before more is read. The reader and the writer are
+/// called again where they were interrupted.
+///
+/// - `Done`: the reader is at its end. All lines were answered, the last one with or without a newline.
+/// - `ReadFault`: the reader failed, or was called 2^64 - 1 times. The complete lines read before were answered; an
+///   unfinished one was not run.
+/// - `WriteFault`: the writer failed or took no bytes. What it took is a beginning of the answers to the lines that were
+///   run, which are the first of those read.
+///
+/// Where a reader or a writer does not tell its bytes, as a file or a terminal, the contract claims nothing of these.
+pub fn run<R: Read, W: Write, D: SectorDisk, E: SectorDisk>(
+    reader: &mut R,
+    writer: &mut W,
+    machine: &mut Machine<D, E>,
+) -> RunEnd
+    requires { IsSound D.SectorDisk E.SectorDisk machine.old }
+    ensures sound { IsSound D.SectorDisk E.SectorDisk machine.new }
+    ensures runs { (s : State) → Shows D.SectorDisk E.SectorDisk machine.old s
+        → RunsTrace D.SectorDisk E.SectorDisk result machine.old machine.new
+        (streams (R.remaining reader.old) (W.contents writer.old)) (streams (R.remaining reader.new) (W.contents writer.new)) s }
+{
+    run_turns(reader, writer, machine)
+}

@@ -1,0 +1,10 @@
+//! The engine that reads a trace and writes the replies to its lines, and the programs that stand on it.
+#![tactic(auto)]
+
+mod engine;
+mod line_buffer;
+mod output_buffer;
+mod programs;
+
+pub use engine::{RunEnd, run};
+pub use programs::{given_words, pagefmt, pagerun};

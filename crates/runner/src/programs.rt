@@ -1,0 +1,12 @@
+//! The programs: each is a function of the words after its name and of its streams, and answers its exit status.
+
+mod faults;
+mod files;
+mod formatting;
+mod running;
+mod start;
+mod words;
+
+pub use formatting::pagefmt;
+pub use running::pagerun;
+pub use start::given_words;

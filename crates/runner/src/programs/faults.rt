@@ -1,0 +1,96 @@
+//! Why a program gives up, and how it says so.
+ghost use Rattle.std.specs.Prelude.{◌≡◌, ◌≤◌, IfOk, OnErr};
+
+use clap::error::ErrorKind;
+use file_store::FormatFault;
+use machine::BootFault;
+use std::alloc::AllocError;
+use std::io::Write;
+use thiserror::Error;
+
+/// Why a program gives up. A path or a spec is the word that named it.
+#[derive(Debug, Drop, Error)]
+pub(crate) enum ProgramFault<'a> {
+    #[error("usage")]
+    Usage,
+    #[error("out of memory")]
+    OutOfMemory,
+    #[error("bad spec {0}")]
+    BadSpec(&'a str),
+    #[error("cannot open {0}")]
+    CannotOpen(&'a str),
+    #[error("format {} {}", *.0 as u8, format_fault_name(*.0))]
+    Format(FormatFault),
+    #[error("boot {} {}", *.0 as u8, boot_fault_name(*.0))]
+    Boot(BootFault),
+    #[error("read failed")]
+    ReadFailed,
+    #[error("write failed")]
+    WriteFailed,
+}
+
+fn format_fault_name(fault: FormatFault) -> &'static str {
+    match fault {
+        FormatFault::Device => "DEVICE",
+        FormatFault::TooLarge => "TOOLARGE",
+        FormatFault::Formatted => "FORMATTED",
+        FormatFault::Source => "SOURCE",
+    }
+}
+
+fn boot_fault_name(fault: BootFault) -> &'static str {
+    match fault {
+        BootFault::Frames => "FRAMES",
+        BootFault::Slots => "SLOTS",
+        BootFault::OutOfMemory => "OUTOFMEMORY",
+        BootFault::Device => "DEVICE",
+        BootFault::BadLayout => "BADLAYOUT",
+        BootFault::BadJournal => "BADJOURNAL",
+    }
+}
+
+impl From<AllocError> for ProgramFault<'_> {
+    fn from(_: AllocError) -> Self {
+        ProgramFault::OutOfMemory
+    }
+}
+
+impl From<clap::Error> for ProgramFault<'_> {
+    fn from(error: clap::Error) -> Self {
+        match error.kind() {
+            ErrorKind::OutOfMemory => ProgramFault::OutOfMemory,
+            _ => ProgramFault::Usage,
+        }
+    }
+}
+
+impl ProgramFault<'_> {
+    /// 2 for other words than the program takes, else 1.
+    fn status(&self) -> u8
+        ensures { (1 ≤ result) × (result ≤ 2) }
+    {
+        match self {
+            ProgramFault::Usage => 2,
+            _ => 1,
+        }
+    }
+}
+
+/// The exit status of a program that ended so. A fault is told in one line first.
+pub(crate) fn report<X: Write>(
+    program: &str,
+    outcome: Result<u8, ProgramFault<'_>>,
+    errors: &mut X,
+) -> u8
+    ensures ok { IfOk outcome.entry (λ status. result ≡ status) }
+    ensures err { OnErr outcome.entry ((1 ≤ result) × (result ≤ 2)) }
+{
+    match outcome {
+        Ok(status) => status,
+        Err(fault) => {
+            // Where this stream fails too, the status alone tells.
+            let _ = writeln!(errors, "{program}: {fault}");
+            fault.status()
+        }
+    }
+}

@@ -1,0 +1,50 @@
+//! The files that a program works on, as devices.
+ghost use Rattle.std.specs.Prelude.{ℕ, IfOk};
+ghost use Rattle.disk_model.specs.FileRecord.{Unsynced};
+
+use super::faults::ProgramFault;
+use disk_model::FileDisk;
+use std::fs::{File, Files, OpenOptions};
+use std::io;
+
+/// Whether a file that is missing is made.
+#[derive(Clone, Copy, Debug, PartialEq, Eq)]
+pub(crate) enum Missing {
+    Refused,
+    Made,
+}
+
+/// The device in the file of that path, which is lengthened with zeros to so many bytes where it is shorter.
+pub(crate) fn open_disk<'a, R: Files<File = File>>(
+    rt: &R,
+    path: &'a str,
+    missing: Missing,
+    length: u64,
+) -> Result<FileDisk, ProgramFault<'a>>
+    ensures { IfOk result (λ disk. (k : ℕ) → Unsynced disk.calls.notes k → ⊥) }
+{
+    match open_lengthened(rt, path, missing, length) {
+        Ok(disk) => Ok(disk),
+        Err(_) => Err(ProgramFault::CannotOpen(path)),
+    }
+}
+
+fn open_lengthened<R: Files<File = File>>(
+    rt: &R,
+    path: &str,
+    missing: Missing,
+    length: u64,
+) -> io::Result<FileDisk>
+    ensures { IfOk result (λ disk. (k : ℕ) → Unsynced disk.calls.notes k → ⊥) }
+{
+    let mut options = OpenOptions::new();
+    options
+        .read(true)
+        .write(true)
+        .create(missing == Missing::Made);
+    let file = options.open(rt, path)?;
+    if file.metadata()?.len() < length {
+        file.set_len(length)?;
+    }
+    FileDisk::new(file)
+}

@@ -1,0 +1,79 @@
+//! What the tests share: a formatted image, and a trace that is run on it.
+ghost use Rattle.machine.specs.Machine.{IsSound};
+
+use disk_model::{SectorDisk, SimDisk};
+use file_store::{FileSource, format};
+use machine::{Config, Machine};
+use runner::{RunEnd, run};
+use std::alloc::Global;
+use std::test::Fail;
+
+/// Maps the first page of the file and stores a byte.
+pub(crate) const STORED: &[u8] = b"spawn\nmmap 1 0 4096 rw- shared 0 0\nstore 1 0x10000 1 0x5a\n";
+
+/// Syncs that page.
+pub(crate) const SYNCED: &[u8] = b"msync 1 0x10000 4096 sync\n";
+
+/// Shows the first eight bytes of the file in a new process.
+pub(crate) const SHOWN: &[u8] = b"spawn\nmmap 1 0 4096 r-- shared 0 0\nload 1 0x10000 8\n";
+
+/// An image of one file of so many zeros, whole pages of them.
+pub(crate) fn image(alloc: Global, length: u32) -> Result<SimDisk, Fail> {
+    let mut disk = SimDisk::new(alloc, 1020 + u64::from(length) / 512)?;
+    let mut files: [FileSource<&[u8]>; 1] = [FileSource {
+        read_only: false,
+        length,
+        bytes: None,
+    }];
+    format(&mut disk, &mut files)?;
+    Ok(disk)
+}
+
+/// The fault that a device is to have.
+#[derive(Clone, Copy, Debug, PartialEq, Eq)]
+pub(crate) enum Armed {
+    Nothing,
+    StopAtWrite(u64),
+    FailAtCall(u64),
+}
+
+pub(crate) const CONFIG: Config = Config {
+    frames: 64,
+    slots: 16,
+};
+
+/// A machine over simulated devices.
+#[derive(Drop)]
+pub(crate) struct Bench {
+    pub machine: Machine<SimDisk, SimDisk>,
+    ghost sound: { IsSound ⟦<SimDisk as SectorDisk>⟧ ⟦<SimDisk as SectorDisk>⟧ machine },
+}
+
+impl Bench {
+    /// A machine on the image as it was last synced.
+    pub(crate) fn boot(alloc: Global, image: &SimDisk, armed: Armed) -> Result<Bench, Fail> {
+        let mut store = image.left(alloc, &[])?;
+        match armed {
+            Armed::Nothing => {}
+            Armed::StopAtWrite(write) => store.stop_at(write),
+            Armed::FailAtCall(call) => store.fail_at(call),
+        }
+        match Machine::boot(alloc, CONFIG, store, SimDisk::new(alloc, 128)?) {
+            Ok(machine) => Ok(Bench { machine }),
+            Err((fault, _)) => Err(Fail::new(format_args!("boot: {fault:?}"))),
+        }
+    }
+
+    /// The trace's replies, and how the run ended.
+    pub(crate) fn replies(&mut self, alloc: Global, trace: &[u8]) -> (RunEnd, Vec<u8>) {
+        let mut reader = trace;
+        let mut writer = Vec::new(alloc);
+        let end = run(&mut reader, &mut writer, &mut self.machine);
+        (end, writer)
+    }
+
+    /// The store's device.
+    pub(crate) fn store(&self) -> &SimDisk {
+        self.machine.store()
+    }
+}

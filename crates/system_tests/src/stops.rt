@@ -1,0 +1,170 @@
+//! A stop at each write of an msync, and failing device calls.
+use crate::bench::{Armed, Bench, CONFIG, SHOWN, STORED, SYNCED, image};
+use disk_model::{SectorDisk, SimDisk};
+use machine::{BootFault, Machine};
+use runner::RunEnd;
+use std::alloc::Global;
+use std::process::Abort;
+use std::test::Fail;
+
+/// What opens the gate, 64 times.
+const OPEN: &[u8; 8] = b"GATEOPEN";
+
+/// The sectors that an msync of one page writes: gate, map and first body page, and the first home page.
+const WRITTEN: [u64; 18] = [
+    2, 3, 4, 5, 6, 7, 8, 9, 10, 11, 1020, 1021, 1022, 1023, 1024, 1025, 1026, 1027,
+];
+
+/// What the unsynced sectors hold after a stop.
+#[derive(Clone, Copy, Debug, PartialEq, Eq)]
+enum Filling {
+    Old,
+    Zeros,
+    Ones,
+    HalfOpen,
+    Open,
+}
+
+const FILLINGS: [Filling; 5] = [
+    Filling::Old,
+    Filling::Zeros,
+    Filling::Ones,
+    Filling::HalfOpen,
+    Filling::Open,
+];
+
+/// So many bytes of the words that open the gate, and zeros.
+fn open_words(count: usize) -> [u8; 512] {
+    let mut bytes = [0; 512];
+    for (i, byte) in bytes.iter_mut().enumerate() {
+        if i < count {
+            *byte = OPEN[i % 8];
+        }
+    }
+    bytes
+}
+
+/// The bytes of a filling, where it isn't the old ones.
+fn filled(filling: Filling) -> Option<[u8; 512]> {
+    match filling {
+        Filling::Old => None,
+        Filling::Zeros => Some([0; 512]),
+        Filling::Ones => Some([0xff; 512]),
+        Filling::HalfOpen => Some(open_words(256)),
+        Filling::Open => Some(open_words(512)),
+    }
+}
+
+/// The device after a stop, with this filling in each unsynced sector.
+fn left_with(alloc: Global, disk: &SimDisk, filling: Filling) -> Result<SimDisk, Fail> {
+    let mut chosen = Vec::new(alloc);
+    if let Some(bytes) = filled(filling) {
+        for sector in WRITTEN {
+            chosen.push((sector, bytes))?;
+        }
+    }
+    Ok(disk.left(alloc, chosen.as_slice())?)
+}
+
+/// The replies that show the file's first bytes after recovery.
+fn shown(alloc: Global, disk: &SimDisk) -> Result<Vec<u8>, Fail> {
+    let (_, output) = Bench::boot(alloc, disk, Armed::Nothing)?.replies(alloc, SHOWN);
+    Ok(output)
+}
+
+const OLD: &[u8] = b"pid 1\naddr 0x10000\nvalue 0x0000000000000000\n";
+
+const NEW: &[u8] = b"pid 1\naddr 0x10000\nvalue 0x000000000000005a\n";
+
+/// Until the gate's write the old file stands, from the write after it on the new one, and at the gate's write what its
+/// bytes say.
+fn standing_after(write: u64, filling: Filling) -> &'static [u8] {
+    if write > 10 || (write == 10 && filling == Filling::Open) {
+        NEW
+    } else {
+        OLD
+    }
+}
+
+/// A machine that was stopped at a write of an msync.
+fn stopped_at(alloc: Global, write: u64) -> Result<Bench, Fail> {
+    let mut bench = Bench::boot(alloc, &image(alloc, 4096)?, Armed::StopAtWrite(write))?;
+    bench.replies(alloc, STORED);
+    bench.replies(alloc, SYNCED);
+    Ok(bench)
+}
+
+#[test]
+fn a_stop_at_each_write_leaves_the_old_file_or_the_new_one(rt: HostRuntime) -> Result<(), Fail> {
+    for write in 1..20 {
+        let bench = stopped_at(rt.alloc(), write)?;
+        for filling in FILLINGS {
+            let output = shown(rt.alloc(), &left_with(rt.alloc(), bench.store(), filling)?)?;
+            assert_eq!(rt;
+                output.as_slice(),
+                standing_after(write, filling),
+                "at write {write}"
+            );
+        }
+    }
+    Ok(())
+}
+
+/// A machine on an image whose call so many after boot fails, once it has run an msync and two commands more.
+fn failed_at<R: AllocGlobal + Abort>(rt: &R, call: u64) -> Result<Bench, Fail> {
+    let disk = image(rt.alloc(), 4096)?;
+    let at_boot = Bench::boot(rt.alloc(), &disk, Armed::Nothing)?
+        .store()
+        .calls();
+    let armed = Armed::FailAtCall(at_boot.saturating_add(call));
+    let mut bench = Bench::boot(rt.alloc(), &disk, armed)?;
+    let (_, output) = bench.replies(rt.alloc(), STORED);
+    assert_eq!(rt; output.as_slice(), b"pid 1\naddr 0x10000\nok\n".as_slice());
+    let (_, output) = bench.replies(rt.alloc(), SYNCED);
+    assert_eq!(rt; output.as_slice(), b"error 5 EIO\n".as_slice());
+    let (end, output) = bench.replies(rt.alloc(), b"load 1 0x10000 1\nspawn\nfork\n");
+    assert_eq!(rt; output.as_slice(), b"halted\nhalted\nbad line\n".as_slice());
+    assert_eq!(rt; end, RunEnd::Done);
+    Ok(bench)
+}
+
+#[test]
+fn a_failed_sync_halts_the_machine(rt: HostRuntime) -> Result<(), Fail> {
+    // Nine writes come before the first sync: the gate is closed in every image.
+    let bench = failed_at(&rt, 10)?;
+    for filling in FILLINGS {
+        let output = shown(rt.alloc(), &left_with(rt.alloc(), bench.store(), filling)?)?;
+        assert_eq!(rt; output.as_slice(), OLD);
+    }
+    // Then the gate is written, and synced: what stands is what its sector says.
+    let bench = failed_at(&rt, 12)?;
+    for filling in FILLINGS {
+        let output = shown(rt.alloc(), &left_with(rt.alloc(), bench.store(), filling)?)?;
+        assert_eq!(rt; output.as_slice(), standing_after(10, filling));
+    }
+    Ok(())
+}
+
+/// Why no machine starts on this image, and how many writes were made to it.
+fn refused(alloc: Global, image: &SimDisk) -> Result<(BootFault, u64), Fail> {
+    let store = image.left(alloc, &[])?;
+    match Machine::boot(alloc, CONFIG, store, SimDisk::new(alloc, 128)?) {
+        Ok(_) => Err(Fail::new("it booted")),
+        Err((fault, store)) => Ok((fault, store.writes())),
+    }
+}
+
+#[test]
+fn an_open_gate_over_a_map_of_too_many_pages_is_refused(rt: HostRuntime) -> Result<(), Fail> {
+    let mut disk = image(rt.alloc(), 4096)?;
+    assert!(rt; disk.sectors() > 3);
+    let mut map = [0; 512];
+    map[0] = 128;
+    disk.write(3, &map)?;
+    disk.write(2, &open_words(512))?;
+    disk.sync()?;
+    let (fault, writes) = refused(rt.alloc(), &disk)?;
+    assert_eq!(rt; fault, BootFault::BadJournal);
+    assert_eq!(rt; writes, 0);
+    Ok(())
+}

@@ -1,0 +1,118 @@
+//! Traces and their replies.
+use crate::bench::{Armed, Bench, SHOWN, STORED, SYNCED, image};
+use runner::RunEnd;
+use std::test::Fail;
+
+/// Traces on an image of two pages, each from a new start, and their replies.
+const ROWS: [(&[u8], &[u8]); 8] = [
+    (b"", b""),
+    // A byte that is stored is loaded by each width.
+    (
+        b"spawn\nmmap 1 0 1 rw- shared 0 0\nload 1 0x10ff8 8\nstore 1 0x10000 8 0x1122334455667788\n\
+load 1 0x10000 1\nload 1 0x10002 2\nload 1 0x10004 4\n",
+        b"pid 1\naddr 0x10000\nvalue 0x0000000000000000\nok\nvalue 0x88\nvalue 0x5566\nvalue 0x11223344\n",
+    ),
+    // Misaligned accesses, before it is asked whether the page is mapped.
+    (
+        b"spawn\nload 1 0x20004 8\nstore 1 0x20001 2 0\n",
+        b"pid 1\nfault 4 BUS_ADRALN 0x20004\nfault 6 BUS_ADRALN 0x20001\n",
+    ),
+    // Pages that are not mapped, outside the user pages too.
+    (
+        b"spawn\nload 1 0x0 1\nload 1 0x4000000000 8\nload 1 0xffffffc000000000 8\n",
+        b"pid 1\nfault 13 SEGV_MAPERR 0x0\nfault 13 SEGV_MAPERR 0x4000000000\n\
+fault 13 SEGV_MAPERR 0xffffffc000000000\n",
+    ),
+    // A mapping past the end of the file.
+    (
+        b"spawn\nmmap 1 0 12288 rw- shared 0 0\nstore 1 0x11fff 1 0xaa\nload 1 0x12000 1\n\
+msync 1 0x10000 12288 sync\nload 1 0x11fff 1\n",
+        b"pid 1\naddr 0x10000\nok\nfault 13 BUS_ADRERR 0x12000\nok\nvalue 0xaa\n",
+    ),
+    // Who may write may read, who may only run may not.
+    (
+        b"spawn\nmmap 1 0 4096 -w- shared 0 0\nload 1 0x10000 1\nstore 1 0x10000 1 1\n",
+        b"pid 1\naddr 0x10000\nvalue 0x00\nok\n",
+    ),
+    (
+        b"spawn\nmmap 1 0 4096 --x shared 0 0\nload 1 0x10000 4\nstore 1 0x10000 1 1\n",
+        b"pid 1\naddr 0x10000\nfault 13 SEGV_ACCERR 0x10000\nfault 15 SEGV_ACCERR 0x10000\n",
+    ),
+    // Refused mappings, in the order of the checks.
+    (
+        b"spawn\nmmap 9 0 0 rw- shared 0 0\nmmap 1 0 0 rw- shared 0 0\nmmap 1 0 4096 rw- shared 9 0\n\
+mmap 1 0 4096 r-- shared 0 1\nmmap 1 0 4096 r-- shared 0 0x100000000000\nmmap 1 0 4096 r-- shared 0 0\n\
+store 1 0x10000 1 1\nmsync 9 0 0 sync\nmsync 1 1 0 sync\nmsync 1 0x20000 4096 sync\n",
+        b"pid 1\nerror 3 ESRCH\nerror 22 EINVAL\nerror 9 EBADF\nerror 22 EINVAL\nerror 75 EOVERFLOW\n\
+addr 0x10000\nfault 15 SEGV_ACCERR 0x10000\nerror 3 ESRCH\nerror 22 EINVAL\nerror 12 ENOMEM\n",
+    ),
+];
+
+#[test]
+fn traces_are_answered(rt: HostRuntime) -> Result<(), Fail> {
+    for (trace, wanted) in ROWS {
+        let mut bench = Bench::boot(rt.alloc(), &image(rt.alloc(), 8192)?, Armed::Nothing)?;
+        let (end, output) = bench.replies(rt.alloc(), trace);
+        assert_eq!(rt; end, RunEnd::Done);
+        assert_eq!(rt; output.as_slice(), wanted);
+    }
+    Ok(())
+}
+
+#[test]
+fn lines_are_cut(rt: HostRuntime) -> Result<(), Fail> {
+    let mut trace = Vec::new(rt.alloc());
+    trace.extend_from_slice(b"spawn\nmmap 1 0 4096 rw- shared 0 0\n")?;
+    // A line of 256 bytes, and one of 257.
+    for zeros in [240, 241] {
+        trace.extend_from_slice(b"load 1 0x")?;
+        for _ in 0..zeros {
+            trace.push(b'0')?;
+        }
+        trace.extend_from_slice(b"10000 1\n")?;
+    }
+    // A number that is too large for its width, an empty line, and one without a newline.
+    trace.extend_from_slice(b"store 1 0x10000 1 0x100\n\nspawn")?;
+    let mut bench = Bench::boot(rt.alloc(), &image(rt.alloc(), 4096)?, Armed::Nothing)?;
+    let (end, output) = bench.replies(rt.alloc(), trace.as_slice());
+    assert_eq!(rt; end, RunEnd::Done);
+    let wanted =
+        b"pid 1\naddr 0x10000\nvalue 0x00\nbad line\nbad line\nbad line\nerror 11 EAGAIN\n";
+    assert_eq!(rt; output.as_slice(), wanted.as_slice());
+    Ok(())
+}
+
+#[test]
+fn an_empty_trace_writes_nothing(rt: HostRuntime) -> Result<(), Fail> {
+    let mut bench = Bench::boot(rt.alloc(), &image(rt.alloc(), 4096)?, Armed::Nothing)?;
+    let (end, output) = bench.replies(rt.alloc(), b"");
+    assert_eq!(rt; end, RunEnd::Done);
+    assert!(rt; output.is_empty());
+    assert_eq!(rt; bench.store().writes(), 0);
+    Ok(())
+}
+
+#[test]
+fn a_second_run_sees_what_the_first_synced(rt: HostRuntime) -> Result<(), Fail> {
+    let mut first = Bench::boot(rt.alloc(), &image(rt.alloc(), 4096)?, Armed::Nothing)?;
+    let (_, output) = first.replies(rt.alloc(), STORED);
+    assert_eq!(rt; output.as_slice(), b"pid 1\naddr 0x10000\nok\n".as_slice());
+    let mut unsynced = Bench::boot(rt.alloc(), first.store(), Armed::Nothing)?;
+    let (_, output) = first.replies(rt.alloc(), SYNCED);
+    assert_eq!(rt; output.as_slice(), b"ok\n".as_slice());
+    assert_eq!(rt; first.store().writes(), 19);
+    assert_eq!(rt; first.store().syncs(), 4);
+    let mut synced = Bench::boot(rt.alloc(), first.store(), Armed::Nothing)?;
+
+    let (_, output) = unsynced.replies(rt.alloc(), SHOWN);
+    assert_eq!(rt;
+        output.as_slice(),
+        b"pid 1\naddr 0x10000\nvalue 0x0000000000000000\n".as_slice()
+    );
+    let (_, output) = synced.replies(rt.alloc(), SHOWN);
+    assert_eq!(rt;
+        output.as_slice(),
+        b"pid 1\naddr 0x10000\nvalue 0x000000000000005a\n".as_slice()
+    );
+    Ok(())
+}
