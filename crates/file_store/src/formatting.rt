@@ -16,8 +16,8 @@ use std::io::Read;
 use sync_journal::{FIRST_HOME, PAGE_SECTORS};
 
 /// Makes a store of these files, which get numbers and homes in the order of the sources. Homes, directory and a
-/// closed gate are written and synced before the layout mark is, so a stop leaves an image without the mark or a
-/// whole store.
+/// closed gate are written and synced before the layout mark is, so that a stop leaves an image without the mark or a
+/// whole store. No clause says that yet, nor that the image stands for the sources' bytes.
 ///
 /// The faults are looked for in this order: `TooLarge`, exactly where there are over 64 sources, the device has fewer
 /// than 1,020 sectors or not enough home pages; `Formatted`, exactly where sector 0 is the mark already, unless the

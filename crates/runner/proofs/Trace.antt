@@ -67,9 +67,9 @@ module _ {D E : Type 0} (g : Ghosts D) (h : Ghosts E)
     shows = later.shows;
   }
 
-  session : (old new : Machine D E) (s : State) (lines : List (List ℕ)) (text : List ℕ)
+  relates : (old new : Machine D E) (s : State) (lines : List (List ℕ)) (text : List ℕ)
       → CarriesOut g h old lines text new → Shows g h old s → Session old new s lines text
-  session old new s [] text carried shows = record {
+  relates old new s [] text carried shows = record {
     commands = [];
     replies = [];
     events = [];
@@ -78,16 +78,16 @@ module _ {D E : Type 0} (g : Ghosts D) (h : Ghosts E)
     chain = (carried.1, refl);
     shows = subst (λ m. Shows g h m s) (sym carried.1) shows;
   }
-  session old new s (line ∷ lines) text carried shows =
+  relates old new s (line ∷ lines) text carried shows =
       let mid = carried.0 in
       elim carried.3 [
         | inl o ↦
             let step = o.steps s shows in
             obeyed old mid new s line lines carried.1 carried.2 text o carried.5 step
-            (session mid new step.0 lines carried.2 carried.4 step.1.shows)
+            (relates mid new step.0 lines carried.2 carried.4 step.1.shows)
         | inr r ↦
             rejected old mid new s line lines carried.1 carried.2 text r carried.5
-            (session old new s lines carried.2 (subst (λ m. CarriesOut g h m lines carried.2 new) r.same carried.4) shows)
+            (relates old new s lines carried.2 (subst (λ m. CarriesOut g h m lines carried.2 new) r.same carried.4) shows)
       ]
 
   runs : (old new : Machine D E) (s : State) (lines : List (List ℕ)) (text : List ℕ) (before : Shows g h old s)
@@ -104,7 +104,7 @@ module _ {D E : Type 0} (g : Ghosts D) (h : Ghosts E)
       → Consumes left left_then bytes → ReadsAll end left_then → EndsSo g h end (stage old [] [] held) (stage new [] [] held_then) bytes []
       → Shows g h old s → RunsTrace g h end old new (streams left held) (streams left_then held_then) s
   runs_trace Done old new s left left_then held held_then bytes read all ended shows =
-      let a = session old new s (lines_of bytes) ended.text ended.runs shows in
+      let a = relates old new s (lines_of bytes) ended.text ended.runs shows in
       record {
         bytes = bytes;
         read = read;
@@ -118,7 +118,7 @@ module _ {D E : Type 0} (g : Ghosts D) (h : Ghosts E)
       }
   runs_trace ReadFault old new s left left_then held held_then bytes read all ended shows =
       let lines = ended.advances.lines in
-      let a = session old new s lines ended.text ended.advances.runs shows in
+      let a = relates old new s lines ended.text ended.advances.runs shows in
       record {
         bytes = bytes;
         read = read;
@@ -131,7 +131,7 @@ module _ {D E : Type 0} (g : Ghosts D) (h : Ghosts E)
         ends = ((ended.rest, ended.advances.cuts), ended.wrote);
       }
   runs_trace WriteFault old new s left left_then held held_then bytes read all ended shows =
-      let a = session old new s ended.lines ended.text ended.runs shows in
+      let a = relates old new s ended.lines ended.text ended.runs shows in
       record {
         bytes = bytes;
         read = read;
