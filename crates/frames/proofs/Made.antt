@@ -5,7 +5,7 @@ use Rattle.std.proofs.lemmas.List.{length_push, get_or_push, get_or_append_left,
 use Rattle.frames.specs.declared.role.Role.{Role}
 use Rattle.frames.specs.declared.role.Role.TheVariants.{Free, Zero, Table}
 use Rattle.frames.specs.FrameTable.{FrameTable, frame_count, bytes_of, role_of, count_of, IsFrame, IsSound, IsCountFor, IsHeld, Releases, is_handed_out, zero_bytes}
-use Rattle.frames.specs.Chain.{IsChained, IsAllTables, IsOn}
+use Rattle.frames.specs.Chain.{IsChained, IsAllTables}
 
 -- the zero page and then tables, n of all
 pub record IsMade (t : FrameTable) (n : ℕ) : Type 0 where

@@ -1,13 +1,13 @@
 -- Where ways end, and what they have in common in two memories.
-use Rattle.std.proofs.Common.{◌≡◌, ◌≢◌, ℕ, zero, suc, ◌+◌, ◌-◌, ◌*◌, ◌/◌, ◌%◌, ◌^◌, ◌<◌, ◌≤◌, ◌⊎◌, inl, inr, Bool, true, false, refl, sym, ap, ◌∙◌, subst, arith}
+use Rattle.std.proofs.Common.{◌≡◌, ◌≢◌, ℕ, zero, suc, ◌+◌, ◌-◌, ◌<◌, ◌≤◌, inl, inr, false, refl, sym, ap, ◌∙◌, subst, arith}
 use Rattle.std.proofs.lemmas.Bool.{cases_eq, false≢true}
 use Rattle.std.proofs.lemmas.Bool.Decides.{nat_tests}
 use Rattle.std.specs.Prelude.{◌==◌}
 use Rattle.frames.specs.FrameTable.{FrameTable}
-use Rattle.sv39_walk.specs.Entry.{entry_at, frame_of, is_pointer}
+use Rattle.sv39_walk.specs.Entry.{entry_at, is_pointer}
 use Rattle.sv39_walk.specs.Walk.{index_of}
-use Rattle.page_tables.specs.Tree.{IsTable, Points, IsForest, IsUnlinked, IsRoot, last_table, last_entry, missing_of, page_entry, IsPage}
-use Rattle.page_tables.proofs.Ways.{Way, EndsAt, ends, only_way, index_of-lt, last_table-next, last_table-stop, last_table-zero}
+use Rattle.page_tables.specs.Tree.{IsTable, Points, IsForest, IsRoot, last_table, last_entry, missing_of, page_entry, Way}
+use Rattle.page_tables.proofs.Ways.{ends, index_of-lt, last_table-next, last_table-stop, last_table-zero}
 use Rattle.page_tables.specs.Entry.{IsPageEntry}
 use Rattle.page_tables.specs.declared.forms.Entry.TheVariants.{None}
 
@@ -67,6 +67,10 @@ pub record SameTrees (old new : FrameTable) : Type 0 where
   pub forth : (a i b : ℕ) → Points old a i b → Points new a i b
   pub back : (a i b : ℕ) → Points new a i b → Points old a i b
   pub entries : (n i : ℕ) → i < 512 → IsTable old n → IsTable new n → entry_at new n i ≡ entry_at old n i
+
+-- the same of the two the other way round
+pub turned : (old new : FrameTable) → SameTrees old new → SameTrees new old
+turned old new same = record { forth = same.back; back = same.forth; entries = λ n i h table table'. sym (same.entries n i h table' table) }
 
 table_there : (t : FrameTable) → IsForest t → (top root page d n : ℕ) → IsTable t root → Way t top root page d n → IsTable t n
 table_there t forest top root page zero n table w = (let P : ℕ → Type 0 = λ x. IsTable t x in subst P (sym w) table)

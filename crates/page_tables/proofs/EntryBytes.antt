@@ -1,8 +1,7 @@
 -- What the write of eight bytes does to the entries of a table. The one file that sees bytes.
-use Rattle.std.proofs.Common.{◌≡◌, ◌≢◌, ◌⊎◌, inl, inr, ℕ, zero, suc, ◌+◌, ◌-◌, ◌*◌, ◌<◌, ◌≤◌, ◌^◌, List, [], ◌∷◌, ◌++◌, length, get_or, take, drop, refl, sym, ap, ◌∙◌, rules, arith, length-append, length-drop, length-take}
-use Rattle.std.proofs.lemmas.List.{places, get_or-drop, get_or-take, length-take-le, drop_at, append_assoc, get_or_append_left, get_or-append_right}
+use Rattle.std.proofs.Common.{◌≡◌, inl, inr, ℕ, zero, suc, ◌+◌, ◌-◌, ◌*◌, ◌<◌, ◌≤◌, ◌^◌, List, ◌++◌, length, get_or, take, drop, refl, sym, ap, ◌∙◌, arith, length-drop}
+use Rattle.std.proofs.lemmas.List.{get_or-drop, get_or-take, length-take-le, drop_at, append_assoc, get_or_append_left, get_or-append_right}
 use Rattle.std.proofs.lemmas.Bool.{cases_lt}
-use Rattle.std.specs.Int.{bytes_low_first}
 use borrow.Rule.Slice.PartMut.{put_mid, mid_of, post_of}
 use Rattle.frames.specs.FrameTable.{FrameTable, bytes_of, with_bytes}
 use Rattle.frames.proofs.FrameLemmas.{with_bytes-same, with_bytes-others}

@@ -1,8 +1,8 @@
 -- What leaves all trees: changes of frames that are no tables, a table taken, a table without links given back.
-use Rattle.std.proofs.Common.{◌≡◌, ◌≢◌, ℕ, zero, suc, ◌+◌, ◌*◌, ◌<◌, ◌≤◌, ◌⊎◌, inl, inr, Bool, true, false, List, get_or, drop, refl, sym, ap, ◌∙◌, subst, arith}
+use Rattle.std.proofs.Common.{◌≡◌, ◌≢◌, ℕ, zero, suc, ◌+◌, ◌*◌, inl, inr, List, get_or, drop, refl, sym, ap, ◌∙◌, subst, arith}
 use Rattle.std.proofs.lemmas.Bool.{cases_eq, cases_lt, false≢true}
 use Rattle.std.proofs.lemmas.List.{get_or-drop, get_or_past}
-use Rattle.byteorder.specs.Endian.{little_from, little_number}
+use Rattle.byteorder.specs.Endian.{little_from}
 use Rattle.frames.specs.declared.role.Role.TheVariants.{Free, Zero, Table}
 use Rattle.frames.specs.FrameTable.{FrameTable, frame_count, bytes_of, role_of, IsFrame, SameButFor, IsSound, IsFresh, Takes, zero_bytes}
 use Rattle.frames.proofs.FrameLemmas.{zero_bytes-at}
@@ -11,14 +11,14 @@ use Rattle.sv39_walk.specs.Walk.{index_of}
 use Rattle.sv39_walk.proofs.Entries.{is_pointer-zero}
 use Rattle.page_tables.specs.Entry.{IsSoftware}
 use Rattle.page_tables.specs.declared.forms.Entry.TheVariants.{None}
-use Rattle.page_tables.specs.Tree.{IsTable, Points, IsForest, IsUnlinked, IsRoot, IsEmptyTable, IsSpare, last_table, last_entry, missing_of, page_entry}
+use Rattle.page_tables.specs.Tree.{IsTable, Points, IsForest, IsUnlinked, IsRoot, IsEmptyTable, IsSpare, last_entry, missing_of, page_entry}
 use Rattle.page_tables.specs.Change.{AddsTable}
-use Rattle.std.specs.Prelude.{Result, Ok, Err, IfOk}
+use Rattle.std.specs.Prelude.{◌↔◌, Result, Ok, Err, IfOk}
 use Rattle.vm_types.specs.declared.number.FrameNo.{FrameNo}
 use Rattle.vm_types.specs.declared.number.NoFree.{NoFree}
 use Rattle.page_tables.proofs.Ways.{index_of-lt}
 use Rattle.page_tables.proofs.Setting.{entry_at-bytes}
-use Rattle.page_tables.proofs.Ends.{SameTrees, root_same, missing_same, entry_same, missing_of-is, last_entry-is}
+use Rattle.page_tables.proofs.Ends.{SameTrees, turned, root_same, missing_same, entry_same, last_entry-is}
 use Rattle.page_tables.proofs.Linking.{empty_last}
 
 -- tables are the same but for one frame that is no table afterwards
@@ -140,6 +140,13 @@ module _ (n : ℕ) (old new : FrameTable) (forest : IsForest old) (same : SameBu
   pub root_taken : (top r : ℕ) → IsRoot top old r → IsRoot top new r
   root_taken top r is_root = root_same old new forest forest_taken trees_taken top r (table_taken r is_root.table) is_root
 
+  -- and so was every root but the table
+  pub root_before : (top r : ℕ) → r ≢ n → IsRoot top new r → IsRoot top old r
+  root_before top r ne is_root = root_same new old forest_taken forest (turned old new trees_taken) top r (table_moved_back old new n r same ne is_root.table) is_root
+
+  pub unlinked_taken : (m : ℕ) → IsUnlinked old m ↔ IsUnlinked new m
+  unlinked_taken m = (λ free a i p. free a i (trees_taken.back a i m p), λ free a i p. free a i (trees_taken.forth a i m p))
+
   pub entry_taken : (top r p : ℕ) → IsRoot top old r → page_entry new top r p ≡ page_entry old top r p
   entry_taken top r p is_root = entry_same old new forest forest_taken trees_taken top r p is_root.table (table_taken r is_root.table)
 
@@ -184,6 +191,8 @@ adds_table old new top n forest takes =
       root = spare_root top new n (spare_taken n old new forest takes.others takes.inside was takes.kind_set takes.zeros);
       apart = λ m table e. was (ap (role_of old) (sym e) ∙ table.role);
       roots = root_taken n old new forest takes.others takes.inside was takes.kind_set takes.zeros top;
+      were_roots = root_before n old new forest takes.others takes.inside was takes.kind_set takes.zeros top;
+      unlinked = unlinked_taken n old new forest takes.others takes.inside was takes.kind_set takes.zeros;
       entries = entry_taken n old new forest takes.others takes.inside was takes.kind_set takes.zeros top;
       missing = missing_taken n old new forest takes.others takes.inside was takes.kind_set takes.zeros top;
     }

@@ -7,3 +7,6 @@ pub mod Linking
 pub mod Numbers
 pub mod Keeping
 pub mod Pruning
+pub mod Data
+pub mod Tight
+pub mod Hollow

@@ -1,15 +1,14 @@
 -- A table without entries that one more pointer leads to, read both ways: linked, and unlinked again.
-use Rattle.std.proofs.Common.{◌≡◌, ◌≢◌, ℕ, zero, suc, ◌+◌, ◌-◌, ◌*◌, ◌/◌, ◌%◌, ◌^◌, ◌<◌, ◌≤◌, ◌⊎◌, ◌↔◌, inl, inr, Bool, true, false, get_or, refl, sym, ap, ◌∙◌, subst, arith}
-use Rattle.std.proofs.lemmas.Bool.{cases_eq, false≢true}
-use Rattle.frames.specs.FrameTable.{FrameTable, bytes_of, role_of, SameButFor}
+use Rattle.std.proofs.Common.{◌≡◌, ◌≢◌, ℕ, zero, suc, ◌+◌, ◌-◌, ◌<◌, ◌≤◌, ◌⊎◌, inl, inr, true, false, sym, ap, ◌∙◌, subst, arith}
+use Rattle.std.proofs.lemmas.Bool.{cases_eq}
+use Rattle.frames.specs.FrameTable.{FrameTable}
 use Rattle.sv39_walk.specs.Entry.{entry_at, frame_of, is_pointer}
 use Rattle.sv39_walk.specs.Walk.{index_of}
 use Rattle.sv39_walk.proofs.Entries.{is_pointer-zero}
-use Rattle.page_tables.specs.Entry.{IsSoftware, IsPageEntry}
-use Rattle.page_tables.specs.declared.forms.Entry.TheVariants.{None}
-use Rattle.page_tables.specs.Tree.{IsTable, Points, IsForest, IsUnlinked, IsRoot, IsEmptyTable, IsSpare, last_table, last_entry, missing_of, page_entry, IsPage}
-use Rattle.page_tables.specs.Change.{ChangesEntry, KeepsFrames, LinksTable}
-use Rattle.page_tables.proofs.Ways.{Way, EndsAt, ends, only_way, index_of-lt, last_table-stop, last_table-zero}
+use Rattle.page_tables.specs.Entry.{IsSoftware}
+use Rattle.page_tables.specs.Tree.{IsTable, Points, IsForest, IsUnlinked, IsRoot, IsEmptyTable, IsSpare, last_table, last_entry, missing_of, page_entry, Way}
+use Rattle.page_tables.specs.Change.{ChangesEntry, LinksTable}
+use Rattle.page_tables.proofs.Ways.{EndsAt, ends, only_way, index_of-lt, last_table-stop, last_table-zero}
 use Rattle.page_tables.proofs.Ends.{last_is, last_from_way, way_forth, missing_of-is, last_entry-is, page_entry-same, page_entry-whole, page_entry-missing}
 use Rattle.page_tables.proofs.Setting.{other_entries, cases_place, at_place, table_forth, table_back, points_forth, points_back, elsewhere, kept_frames}
 
@@ -103,6 +102,16 @@ module _ (small big : FrameTable) (n i m top root page k : ℕ) (linked : Linked
   missing_other r p ne table free = elim (link_cases r p table free) [
     | inl hit ↦ absurd (ne hit.is_root)
     | inr miss ↦ missing_missed r p miss
+  ]
+
+  -- nowhere more are missing
+  pub fewer : (r p : ℕ) → IsTable small r → IsUnlinked big r → missing_of big top r p ≤ missing_of small top r p
+  fewer r p table free = elim (link_cases r p table free) [
+    | inl hit ↦ (
+        let now = missing_of-is big top r p ∙ ap (λ x. x.0) hit.in_big in
+        let was = missing_of-is small top r p ∙ ap (λ x. x.0) hit.in_small in
+        omega (arith, now, was))
+    | inr miss ↦ (let same = missing_missed r p miss in omega (arith, same))
   ]
 
   -- roots of the small are roots of the big, where they aren't the linked table
@@ -228,8 +237,16 @@ module _ (old new : FrameTable) (top root page m e : ℕ) (forest : IsForest old
       ((last_table old page top root).1, way_forth old new forth top root page (top - (last_table old page top root).0) (last_table old page top root).1 end.way, subst P here on) in
       subst W depth step
 
+  bare : entry_at old (last_table old page top root).1 (index_of page (last_table old page top root).0) ≡ 0
+  bare = sym (last_entry-is old top root page) ∙ is_root.bare page lacks
+
   root_free : IsUnlinked new root
   root_free = free_after root (λ z. other_table (sym z)) is_root.unlinked
+
+  last_now : last_table new page top root ≡ ((last_table old page top root).0 - 1, m)
+  last_now =
+      last_from_way new top root page (top - ((last_table old page top root).0 - 1)) m ((last_table old page top root).0 - 1) (omega (arith, above, end.least)) way
+      ∙ empty_last new page ((last_table old page top root).0 - 1) m linked.empty
 
   pub links : LinksTable old new top root page m
   links = record {
@@ -237,11 +254,15 @@ module _ (old new : FrameTable) (top root page m e : ℕ) (forest : IsForest old
     forest = forest_after;
     stays = root_up old new _ _ m top root page _ linked forest forest_after root_free below way root root_free is_root;
     roots = λ r ne root'. root_up old new _ _ m top root page _ linked forest forest_after root_free below way r (free_after r ne root'.unlinked) root';
-    linked = λ x ne. (free_after x ne, λ free a j p. free a j (forth a j x p));
+    were_roots = λ r ne root'. root_down old new _ _ m top root page _ linked forest forest_after root_free below way bare r (table_back old new _ _ e change r root'.table) root';
+    linked = λ free. free _ _ on;
+    unlinked = λ x ne. (free_after x ne, λ free a j p. free a j (forth a j x p));
+    pointers = λ a j b ne. (forth a j b, λ p. elim (back a j b p) [ inl here ↦ absurd (ne here.2) | inr q ↦ q ]);
+    others = λ a j h ne. other_entries old new _ _ e change a j h (inl ne);
+    no_more = λ p. fewer old new _ _ m top root page _ linked forest forest_after root_free below way root p is_root.table root_free;
+    ends = ap (λ x. x.1) last_now;
     lowered = (
-        let last = last_from_way new top root page (top - ((last_table old page top root).0 - 1)) m ((last_table old page top root).0 - 1) (omega (arith, above, end.least)) way
-        ∙ empty_last new page ((last_table old page top root).0 - 1) m linked.empty in
-        let now = missing_of-is new top root page ∙ ap (λ x. x.0) last in
+        let now = missing_of-is new top root page ∙ ap (λ x. x.0) last_now in
         let was = missing_of-is old top root page in
         omega (arith, now, was, above));
     entries = λ r p ne root'. link_entries old new _ _ m top root page _ linked forest forest_after root_free below way r p root'.table (free_after r ne root'.unlinked);

@@ -1,19 +1,19 @@
 -- A table without entries unlinked and given back.
-use Rattle.std.proofs.Common.{◌≡◌, ◌≢◌, ℕ, zero, suc, ◌+◌, ◌-◌, ◌<◌, ◌≤◌, ◌⊎◌, ◌↔◌, inl, inr, Bool, true, false, refl, sym, ap, ◌∙◌, subst, arith}
-use Rattle.std.proofs.lemmas.Bool.{cases_eq, cases_lt, false≢true}
+use Rattle.std.proofs.Common.{◌≡◌, ◌≢◌, ℕ, zero, suc, ◌+◌, ◌-◌, ◌<◌, ◌⊎◌, inl, inr, false, refl, sym, ap, ◌∙◌, subst, arith}
+use Rattle.std.proofs.lemmas.Bool.{cases_eq, cases_lt}
 use Rattle.frames.specs.declared.role.Role.TheVariants.{Free, Table}
-use Rattle.frames.specs.FrameTable.{FrameTable, bytes_of, role_of, SameButFor}
+use Rattle.frames.specs.FrameTable.{FrameTable, role_of, SameButFor}
 use Rattle.sv39_walk.specs.Entry.{entry_at, frame_of, is_pointer}
 use Rattle.sv39_walk.specs.Walk.{index_of}
 use Rattle.sv39_walk.proofs.Entries.{is_pointer-zero}
 use Rattle.page_tables.specs.Entry.{IsSoftware}
 use Rattle.page_tables.specs.declared.forms.Entry.TheVariants.{None}
-use Rattle.page_tables.specs.Tree.{IsTable, Points, IsForest, IsUnlinked, IsRoot, IsEmptyTable, last_table, missing_of, page_entry}
-use Rattle.page_tables.specs.Change.{ChangesEntry, Unlinks, KeepsData, Prunes}
-use Rattle.page_tables.proofs.Ways.{Way, EndsAt, ends}
-use Rattle.page_tables.proofs.Ends.{SameTrees, missing_of-is}
+use Rattle.page_tables.specs.Tree.{IsTable, Points, IsForest, IsUnlinked, IsRoot, IsEmptyTable, last_table, missing_of, Way}
+use Rattle.page_tables.specs.Change.{ChangesEntry, Prunes}
+use Rattle.page_tables.proofs.Ways.{EndsAt, ends}
+use Rattle.page_tables.proofs.Ends.{SameTrees, turned, root_same, missing_of-is, way_forth}
 use Rattle.page_tables.proofs.Setting.{other_entries, cases_place, at_place, table_forth, table_back, points_forth, points_back, elsewhere}
-use Rattle.page_tables.proofs.Linking.{Linked, Hits, Misses, link_cases, link_entries, root_down}
+use Rattle.page_tables.proofs.Linking.{Linked, link_cases, link_entries, root_down, root_up}
 use Rattle.page_tables.proofs.Keeping.{KeepsTables, keeps_tables, empty_not_linking, same_trees, forest_kept, root_kept, entry_kept_at, missing_kept_at}
 
 -- a table at the end of a way of some length is pointed to
@@ -102,7 +102,37 @@ module _ (old new : FrameTable) (top root page n i m k : ℕ) (forest : IsForest
   same : SameTrees mid new
   same = same_trees m mid new forest_mid free_mid linking kept
 
-  pub prunes : Prunes old new top
+  -- what nothing points to any more, but the table that is gone, nothing pointed to before
+  unlinked_back : (x : ℕ) → IsTable new x → IsUnlinked new x → IsUnlinked old x
+  unlinked_back x t unlinked a j p = elim (cases_place a j n i) [
+    | inl here ↦ (kept.back x t).0 (sym p.target ∙ ap frame_of (at_place old a j n i here.0 here.1) ∙ on.target)
+    | inr other ↦ unlinked a j (same.forth a j x (points_forth old mid n i 0 change a j x other p))
+  ]
+
+  root_old : (r : ℕ) → IsRoot top new r → IsRoot top old r
+  root_old r root' =
+      let t = (kept.back r root'.table).1 in
+      let forest' = forest_kept m mid new forest_mid free_mid linking kept in
+      root_up mid old n i m top root page k linked forest_mid forest is_root.unlinked below end.way r (unlinked_back r root'.table root'.unlinked)
+      (root_same new mid forest' forest_mid (turned mid new same) top r t root')
+
+  depth : suc (top - k - 1) ≡ top - k
+  depth = omega (arith, below)
+
+  depth_below : top - k - 1 < top
+  depth_below = omega (arith, below)
+
+  -- the table that is gone
+  below_root : Way old top root page (suc (top - k - 1)) m
+  below_root = let W : ℕ → Type 0 = λ d. Way old top root page d m in subst W (sym depth) end.way
+
+  -- the table that pointed to it
+  on_way : Way old top root page (top - k - 1) n
+  on_way =
+      let one = forest.one_way _ _ n i m below_root.2 on in
+      let W : ℕ → Type 0 = λ x. Way old top root page (top - k - 1) x in subst W one.0 below_root.1
+
+  pub prunes : Prunes old new top root page
   prunes =
       let table : IsTable old m = forest.onto_tables n i m on in
       record {
@@ -114,14 +144,22 @@ module _ (old new : FrameTable) (top root page n i m k : ℕ) (forest : IsForest
           tables = λ x t. table_back old mid n i 0 change x (kept.back x t).1;
         };
         forest = forest_kept m mid new forest_mid free_mid linking kept;
+        gone = λ x t. elim (cases_eq x m) [
+          | inl e ↦ inr (
+            ap (role_of new) e ∙ free,
+            (top - k - 1, depth_below, (let W : ℕ → Type 0 = λ y. Way old top root page (suc (top - k - 1)) y in subst W (sym e) below_root)),
+          )
+          | inr ne ↦ inl (kept.tables x ne (table_forth old mid n i 0 change x t))
+        ];
+        others = λ x t. elim (cases_eq x n) [
+          | inl e ↦ inl (top - k - 1, omega (arith, depth_below), (let W : ℕ → Type 0 = λ y. Way old top root page (top - k - 1) y in subst W (sym e) on_way))
+          | inr ne ↦ inr (λ j h.
+              same.entries x j h (kept.back x t).1 t ∙ other_entries old mid n i 0 change x j h (inl ne))
+        ];
+        pointers = λ a j b p. to_old a j b (same.back a j b p);
         roots = λ r root'. root_kept m mid new forest_mid free_mid linking kept top r (other_root r root') (root_mid r root');
-        unlinked = λ x t. (
-          λ unlinked a j p. unlinked a j (to_old a j x (same.back a j x p)),
-          λ unlinked a j p. elim (cases_place a j n i) [
-            | inl here ↦ (kept.back x t).0 (sym p.target ∙ ap frame_of (at_place old a j n i here.0 here.1) ∙ on.target)
-            | inr other ↦ unlinked a j (same.forth a j x (points_forth old mid n i 0 change a j x other p))
-          ],
-        );
+        were_roots = root_old;
+        unlinked = λ x t. (λ unlinked a j p. unlinked a j (to_old a j x (same.back a j x p)), unlinked_back x t);
         entries = λ r p root'. entry_kept_at m mid new forest_mid free_mid linking kept top r p (other_root r root') (root_mid r root')
             ∙ sym (link_entries mid old n i m top root page k linked forest_mid forest is_root.unlinked below end.way r p (table_forth old mid n i 0 change r root'.table) root'.unlinked);
       }
@@ -140,8 +178,8 @@ module _ (old new : FrameTable) (top root page n i m k : ℕ) (forest : IsForest
       ]
 
 -- nothing was pruned
-pub Prunes-refl : (t : FrameTable) (top : ℕ) → IsForest t → Prunes t t top
-Prunes-refl t top forest = record {
+pub Prunes-refl : (t : FrameTable) (top root page : ℕ) → IsForest t → Prunes t t top root page
+Prunes-refl t top root page forest = record {
   kept = record {
     frames = refl;
     bytes = λ x role. refl;
@@ -150,25 +188,47 @@ Prunes-refl t top forest = record {
     tables = λ x table. table;
   };
   forest = forest;
+  gone = λ x table. inl table;
+  others = λ x table. inr (λ i h. refl);
+  pointers = λ a i b p. p;
   roots = λ r is_root. is_root;
+  were_roots = λ r is_root. is_root;
   unlinked = λ x table. (λ free. free, λ free. free);
   entries = λ r p is_root. refl;
 }
 
-pub Prunes-trans : (t u v : FrameTable) (top : ℕ) → Prunes t u top → Prunes u v top → Prunes t v top
-Prunes-trans t u v top a b = record {
-  kept = record {
-    frames = b.kept.frames ∙ a.kept.frames;
-    bytes = λ x role. b.kept.bytes x (λ e. role (sym (a.kept.roles x role) ∙ e)) ∙ a.kept.bytes x role;
-    roles = λ x role. b.kept.roles x (λ e. role (sym (a.kept.roles x role) ∙ e)) ∙ a.kept.roles x role;
-    counts = λ x role. b.kept.counts x (λ e. role (sym (a.kept.roles x role) ∙ e)) ∙ a.kept.counts x role;
-    tables = λ x table. a.kept.tables x (b.kept.tables x table);
-  };
-  forest = b.forest;
-  roots = λ r is_root. b.roots r (a.roots r is_root);
-  unlinked = λ x table. (
-    λ free. (b.unlinked x table).0 ((a.unlinked x (b.kept.tables x table)).0 free),
-    λ free. (a.unlinked x (b.kept.tables x table)).1 ((b.unlinked x table).1 free),
-  );
-  entries = λ r p is_root. b.entries r p (a.roots r is_root) ∙ a.entries r p is_root;
-}
+pub Prunes-trans : (t u v : FrameTable) (top root page : ℕ) → Prunes t u top root page → Prunes u v top root page → Prunes t v top root page
+Prunes-trans t u v top root page a b =
+    let back : (d n : ℕ) → Way u top root page d n → Way t top root page d n = way_forth u t a.pointers top root page in
+    record {
+      kept = record {
+        frames = b.kept.frames ∙ a.kept.frames;
+        bytes = λ x role. b.kept.bytes x (λ e. role (sym (a.kept.roles x role) ∙ e)) ∙ a.kept.bytes x role;
+        roles = λ x role. b.kept.roles x (λ e. role (sym (a.kept.roles x role) ∙ e)) ∙ a.kept.roles x role;
+        counts = λ x role. b.kept.counts x (λ e. role (sym (a.kept.roles x role) ∙ e)) ∙ a.kept.counts x role;
+        tables = λ x table. a.kept.tables x (b.kept.tables x table);
+      };
+      forest = b.forest;
+      gone = λ x table. elim (a.gone x table) [
+        | inl stays ↦ elim (b.gone x stays) [
+          | inl still ↦ inl still
+          | inr lost ↦ inr (lost.0, (lost.1.0, lost.1.1, back (suc lost.1.0) x lost.1.2))
+        ]
+        | inr lost ↦ inr (b.kept.roles x (λ e. (let bad : Free ≡ Table = sym lost.0 ∙ e in (cc))) ∙ lost.0, lost.1)
+      ];
+      others = λ x table. elim (b.others x table) [
+        | inl way ↦ inl (way.0, way.1, back way.0 x way.2)
+        | inr same ↦ elim (a.others x (b.kept.tables x table)) [
+          | inl way ↦ inl way
+          | inr first ↦ inr (λ i h. same i h ∙ first i h)
+        ]
+      ];
+      pointers = λ n i m p. a.pointers n i m (b.pointers n i m p);
+      roots = λ r is_root. b.roots r (a.roots r is_root);
+      were_roots = λ r is_root. a.were_roots r (b.were_roots r is_root);
+      unlinked = λ x table. (
+        λ free. (b.unlinked x table).0 ((a.unlinked x (b.kept.tables x table)).0 free),
+        λ free. (a.unlinked x (b.kept.tables x table)).1 ((b.unlinked x table).1 free),
+      );
+      entries = λ r p is_root. b.entries r p (a.roots r is_root) ∙ a.entries r p is_root;
+    }

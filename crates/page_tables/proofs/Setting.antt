@@ -1,15 +1,15 @@
 -- One entry of a page set: no pointer before, no pointer after.
-use Rattle.std.proofs.Common.{◌≡◌, ◌≢◌, ℕ, zero, suc, ◌+◌, ◌-◌, ◌*◌, ◌/◌, ◌%◌, ◌^◌, ◌<◌, ◌≤◌, ◌⊎◌, ◌↔◌, inl, inr, Bool, true, false, get_or, refl, sym, ap, ◌∙◌, subst, arith}
+use Rattle.std.proofs.Common.{◌≡◌, ◌≢◌, ℕ, ◌-◌, ◌<◌, ◌≤◌, ◌⊎◌, inl, inr, false, get_or, refl, sym, ap, ◌∙◌, subst, arith}
 use Rattle.std.proofs.lemmas.Bool.{cases_eq, false≢true}
-use Rattle.frames.specs.declared.role.Role.TheVariants.{Free, Table}
-use Rattle.frames.specs.FrameTable.{FrameTable, bytes_of, role_of, SameButFor}
+use Rattle.frames.specs.declared.role.Role.TheVariants.{Free}
+use Rattle.frames.specs.FrameTable.{FrameTable, bytes_of, role_of}
 use Rattle.sv39_walk.specs.Entry.{entry_at, frame_of, is_pointer}
 use Rattle.sv39_walk.specs.Walk.{index_of}
 use Rattle.page_tables.specs.Entry.{IsSoftware}
-use Rattle.page_tables.specs.Tree.{IsTable, Points, IsForest, IsUnlinked, IsRoot, last_table, last_entry, missing_of, page_entry, IsPage}
+use Rattle.page_tables.specs.Tree.{IsTable, Points, IsForest, IsUnlinked, IsRoot, last_table, last_entry, missing_of, IsPage, Way}
 use Rattle.page_tables.specs.Change.{ChangesEntry, KeepsFrames, SetsEntry}
-use Rattle.page_tables.proofs.Ways.{Way, EndsAt, ends, only_way, index_of-lt}
-use Rattle.page_tables.proofs.Ends.{last_is, way_forth, missing_of-is, last_entry-is, page_entry-same, page_entry-whole, page_entry-missing}
+use Rattle.page_tables.proofs.Ways.{EndsAt, ends, only_way, index_of-lt}
+use Rattle.page_tables.proofs.Ends.{last_is, way_forth, missing_of-is, last_entry-is, page_entry-same, page_entry-whole}
 use Rattle.page_tables.proofs.Pages.{page_from_fields}
 
 -- an entry reads the bytes of its frame alone
@@ -171,13 +171,16 @@ module _ (old new : FrameTable) (top root page n e : ℕ) (forest : IsForest old
         ]);
   }
 
-  pub sets : IsPage top page → SetsEntry old new top root page e
-  sets small = record {
+  made : ((r : ℕ) → IsRoot top new r → IsRoot top old r) → IsPage top page → SetsEntry old new top root page e
+  made root_before small = record {
     kept = kept_frames old new n (index_of page 0) e table change;
     forest = forest_after;
     stays = root_after root is_root;
     roots = root_after;
+    were_roots = root_before;
     unlinked = λ m. (λ free a j p. free a j (back a j m p), λ free a j p. free a j (forth a j m p));
+    pointers = λ a i b. (forth a i b, back a i b);
+    others = λ a i h other. other_entries old new n (index_of page 0) e change a i h (let P : ℕ → Type 0 = λ x. (a ≢ x) ⊎ (i ≢ index_of page 0) in subst P last other);
     changed = page_entry-whole new top root page (missing_kept root page is_root.table ∙ whole) ∙ last_entry_after root page is_root.table
         ∙ at_place new _ _ n (index_of page 0) last (ap (index_of page) level_zero) ∙ change.changed;
     entries = λ r p root' small' differs. page_entry-same old new top r p (missing_kept r p root'.table) (
@@ -191,3 +194,43 @@ module _ (old new : FrameTable) (top root page n e : ℕ) (forest : IsForest old
         ]);
     missing = λ r p root'. missing_kept r p root'.table;
   }
+
+  -- the change undone
+  undone : ChangesEntry new old n (index_of page 0) (entry_at old n (index_of page 0))
+  undone = record {
+    others = record {
+      frames = sym change.others.frames;
+      bytes = λ m ne. sym (change.others.bytes m ne);
+      roles = λ m ne. sym (change.others.roles m ne);
+      counts = λ m ne. sym (change.others.counts m ne);
+    };
+    roles = sym change.roles;
+    counts = sym change.counts;
+    changed = refl;
+    entries = λ j h ne. sym (change.entries j h ne);
+  }
+
+  whole_after : missing_of new top root page ≡ 0
+  whole_after = missing_kept root page is_root.table ∙ whole
+
+  last_after : (last_table new page top root).1 ≡ n
+  last_after = ap (λ x. x.1) (last_same root page is_root.table) ∙ last
+
+  software_before : IsSoftware (entry_at old n (index_of page 0))
+  software_before = forest.normal n (index_of page 0) table (index_of-lt page 0)
+
+module _ (old new : FrameTable) (top root page n e : ℕ) (forest : IsForest old) (is_root : IsRoot top old root)
+    (whole : missing_of old top root page ≡ 0) (last : (last_table old page top root).1 ≡ n)
+    (software : IsSoftware e) (leaf : is_pointer e ≡ false) (change : ChangesEntry old new n (index_of page 0) e) where
+  root_before : (r : ℕ) → IsRoot top new r → IsRoot top old r
+  root_before = root_after new old top root page n (entry_at old n (index_of page 0))
+      (forest_after old new top root page n e forest is_root whole last software leaf change)
+      (root_after old new top root page n e forest is_root whole last software leaf change root is_root)
+      (whole_after old new top root page n e forest is_root whole last software leaf change)
+      (last_after old new top root page n e forest is_root whole last software leaf change)
+      (software_before old new top root page n e forest is_root whole last software leaf change)
+      (before old new top root page n e forest is_root whole last software leaf change)
+      (undone old new top root page n e forest is_root whole last software leaf change)
+
+  pub sets : IsPage top page → SetsEntry old new top root page e
+  sets = made old new top root page n e forest is_root whole last software leaf change root_before

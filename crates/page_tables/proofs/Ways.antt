@@ -1,22 +1,17 @@
 -- Ways from roots to tables.
-use Rattle.std.proofs.Common.{◌≡◌, ◌≢◌, ℕ, zero, suc, ◌+◌, ◌-◌, ◌*◌, ◌/◌, ◌%◌, ◌^◌, ◌<◌, ◌≤◌, ◌⊎◌, inl, inr, Bool, true, false, refl, sym, ap, ◌∙◌, subst, arith}
+use Rattle.std.proofs.Common.{◌≡◌, ℕ, zero, suc, ◌-◌, ◌<◌, ◌≤◌, ◌⊎◌, inl, inr, Bool, true, false, refl, sym, ap, ◌∙◌, subst, arith}
 use Rattle.std.proofs.lemmas.Bool.{cases_eq, false≢true}
 use Rattle.std.proofs.lemmas.Bool.Decides.{nat_tests}
 use Rattle.std.specs.Prelude.{nat_lt}
 use Rattle.frames.specs.FrameTable.{FrameTable, frame_count}
 use Rattle.sv39_walk.specs.Entry.{entry_at, frame_of, is_pointer}
 use Rattle.sv39_walk.specs.Walk.{index_of, leads_on}
-use Rattle.page_tables.specs.Tree.{IsTable, Points, IsForest, IsUnlinked, last_table, IsPage}
+use Rattle.page_tables.specs.Tree.{IsTable, Points, IsForest, IsUnlinked, Way, last_table}
 
 -- a field of a page's number is under 512
 pub index_of-lt : (page level : ℕ) → index_of page level < 512
 unfolding index_of
 index_of-lt page level = omega arith
-
--- table b lies d pointers below the root on the way to the page
-abbrev pub Way : FrameTable → ℕ → ℕ → ℕ → ℕ → ℕ → Type 0
-Way t top root page zero b = b ≡ root
-Way t top root page (suc d) b = (a : ℕ) × Way t top root page d a × Points t a (index_of page (top - d)) b
 
 -- a table has one way from a root at most
 pub only_way : (t : FrameTable) (top : ℕ) → IsForest t → (r p r' p' : ℕ) → IsUnlinked t r → IsUnlinked t r' → (d d' b : ℕ) → Way t top r p d b → Way t top r' p' d' b

@@ -1,10 +1,11 @@
 -- What the calls change.
-use Rattle.std.specs.Prelude.{◌≡◌, ◌≢◌, ℕ, suc, ◌+◌, ◌*◌, ◌<◌, ◌⊎◌, ◌↔◌, List, drop}
+use Rattle.std.specs.Prelude.{◌≡◌, ◌≢◌, ℕ, ◌+◌, ◌*◌, ◌<◌, ◌≤◌, ◌⊎◌, ◌↔◌, List, drop}
 use Rattle.byteorder.specs.Endian.{little_number}
 use Rattle.frames.specs.declared.role.Role.TheVariants.{Free, Table}
 use Rattle.frames.specs.FrameTable.{FrameTable, frame_count, bytes_of, role_of, count_of, SameButFor, Takes}
 use Rattle.sv39_walk.specs.Entry.{entry_at}
-use Rattle.page_tables.specs.Tree.{IsPage, IsTable, IsUnlinked, IsForest, IsRoot, IsSpare, IsEmptyTable, last_table, missing_of, page_entry}
+use Rattle.sv39_walk.specs.Walk.{index_of}
+use Rattle.page_tables.specs.Tree.{IsPage, IsTable, Points, IsUnlinked, IsForest, IsOnWay, IsBelowRoot, IsRoot, IsSpare, IsEmptyTable, last_table, missing_of, page_entry}
 
 -- number i of a frame's 512, each of eight bytes, the lowest first
 abbrev pub number_at : List ℕ → ℕ → ℕ
@@ -51,27 +52,41 @@ pub record SetsEntry (old new : FrameTable) (top root page number : ℕ) : Type 
   pub forest : IsForest new
   pub stays : IsRoot top new root
   pub roots : (r : ℕ) → IsRoot top old r → IsRoot top new r
+  pub were_roots : (r : ℕ) → IsRoot top new r → IsRoot top old r
   pub unlinked : (n : ℕ) → IsUnlinked old n ↔ IsUnlinked new n
+  pub pointers : (n i m : ℕ) → Points old n i m ↔ Points new n i m
+  pub others : (n i : ℕ) → i < 512 → (n ≢ (last_table old page top root).1) ⊎ (i ≢ index_of page 0) → entry_at new n i ≡ entry_at old n i
   pub changed : page_entry new top root page ≡ number
   pub entries : (r p : ℕ) → IsRoot top old r → IsPage top p → (r ≢ root) ⊎ (p ≢ page) → page_entry new top r p ≡ page_entry old top r p
   pub missing : (r p : ℕ) → IsRoot top old r → missing_of new top r p ≡ missing_of old top r p
 
--- one table less is missing on the way to the page, and no entry of any tree changed
+-- one table less is missing on the way to the page, nowhere one more, and no entry of any tree changed
 pub record LinksTable (old new : FrameTable) (top root page table : ℕ) : Type 0 where
   pub kept : KeepsFrames old new
   pub forest : IsForest new
   pub stays : IsRoot top new root
   pub roots : (r : ℕ) → r ≢ table → IsRoot top old r → IsRoot top new r
-  pub linked : (n : ℕ) → n ≢ table → IsUnlinked old n ↔ IsUnlinked new n
+  pub were_roots : (r : ℕ) → r ≢ table → IsRoot top new r → IsRoot top old r
+  pub linked : IsUnlinked new table → ⊥
+  pub unlinked : (n : ℕ) → n ≢ table → IsUnlinked old n ↔ IsUnlinked new n
+  pub pointers : (n i m : ℕ) → m ≢ table → Points old n i m ↔ Points new n i m
+  pub others : (n i : ℕ) → i < 512 → n ≢ (last_table old page top root).1 → entry_at new n i ≡ entry_at old n i
   pub lowered : missing_of new top root page + 1 ≡ missing_of old top root page
+  pub ends : (last_table new page top root).1 ≡ table
+  pub no_more : (p : ℕ) → missing_of new top root p ≤ missing_of old top root p
   pub entries : (r p : ℕ) → r ≢ table → IsRoot top old r → page_entry new top r p ≡ page_entry old top r p
   pub missing : (r p : ℕ) → r ≢ root → r ≢ table → IsRoot top old r → missing_of new top r p ≡ missing_of old top r p
 
--- some tables without entries on the way to the page are gone, and no entry of any tree changed
-pub record Prunes (old new : FrameTable) (top : ℕ) : Type 0 where
+-- Some tables below the root on the way to the page are free, and no entry of any tree changed. Of the tables that
+-- stay those on that way alone have another entry, and no pointer is new.
+pub record Prunes (old new : FrameTable) (top root page : ℕ) : Type 0 where
   pub kept : KeepsData old new
   pub forest : IsForest new
+  pub gone : (n : ℕ) → IsTable old n → IsTable new n ⊎ ((role_of new n ≡ Free) × IsBelowRoot old top root page n)
+  pub others : (n : ℕ) → IsTable new n → IsOnWay old top root page n ⊎ ((i : ℕ) → i < 512 → entry_at new n i ≡ entry_at old n i)
+  pub pointers : (n i m : ℕ) → Points new n i m → Points old n i m
   pub roots : (r : ℕ) → IsRoot top old r → IsRoot top new r
+  pub were_roots : (r : ℕ) → IsRoot top new r → IsRoot top old r
   pub unlinked : (n : ℕ) → IsTable new n → IsUnlinked old n ↔ IsUnlinked new n
   pub entries : (r p : ℕ) → IsRoot top old r → page_entry new top r p ≡ page_entry old top r p
 
@@ -87,5 +102,7 @@ pub record AddsTable (old new : FrameTable) (top n : ℕ) : Type 0 where
   pub root : IsRoot top new n
   pub apart : (m : ℕ) → IsTable old m → m ≢ n
   pub roots : (r : ℕ) → IsRoot top old r → IsRoot top new r
+  pub were_roots : (r : ℕ) → r ≢ n → IsRoot top new r → IsRoot top old r
+  pub unlinked : (m : ℕ) → IsUnlinked old m ↔ IsUnlinked new m
   pub entries : (r p : ℕ) → IsRoot top old r → page_entry new top r p ≡ page_entry old top r p
   pub missing : (r p : ℕ) → IsRoot top old r → missing_of new top r p ≡ missing_of old top r p

@@ -1,5 +1,5 @@
 -- What a table says of a page, and the number that stands for it. The forms of an entry without V are our own.
-use Rattle.std.specs.Prelude.{◌≡◌, ℕ, ◌+◌, ◌*◌, ◌<◌, ◌^◌, ◌⊎◌, Bool, true, false, if◌then◌else◌}
+use Rattle.std.specs.Prelude.{◌≡◌, ℕ, ◌+◌, ◌*◌, ◌<◌, ◌^◌, ◌⊎◌, true, if◌then◌else◌}
 use Rattle.sv39_walk.specs.Entry.{is_valid, is_leaf, is_pointer}
 use Rattle.page_tables.specs.declared.forms.Entry.{Entry}
 use Rattle.page_tables.specs.declared.forms.Entry.TheVariants.{None, Leaf, Swapped, Parked}

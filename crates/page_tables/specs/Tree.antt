@@ -1,5 +1,5 @@
 -- Tables as trees. `top` is the level of a root: 2 for Sv39, and one less than the number of levels for any other.
-use Rattle.std.specs.Prelude.{◌≡◌, ◌≢◌, ℕ, zero, suc, ◌+◌, ◌<◌, ◌^◌, Bool, true, false, ◌==◌, if◌then◌else◌}
+use Rattle.std.specs.Prelude.{◌≡◌, ◌≢◌, ℕ, zero, suc, ◌+◌, ◌-◌, ◌<◌, ◌≤◌, ◌^◌, true, false, ◌==◌, if◌then◌else◌}
 use Rattle.frames.specs.declared.role.Role.TheVariants.{Table}
 use Rattle.frames.specs.FrameTable.{FrameTable, IsFrame, role_of}
 use Rattle.sv39_walk.specs.Entry.{entry_at, frame_of, is_pointer}
@@ -31,6 +31,19 @@ pub record IsForest (t : FrameTable) : Type 0 where
   pub onto_tables : (n i m : ℕ) → Points t n i m → IsTable t m
   pub one_way : (a i b j m : ℕ) → Points t a i m → Points t b j m → (a ≡ b) × (i ≡ j)
   pub normal : (n i : ℕ) → IsTable t n → i < 512 → IsSoftware (entry_at t n i)
+
+-- table n lies that many pointers below the root on the way to the page
+abbrev pub Way : FrameTable → ℕ → ℕ → ℕ → ℕ → ℕ → Type 0
+Way t top root page zero n = n ≡ root
+Way t top root page (suc depth) n = (m : ℕ) × Way t top root page depth m × Points t m (index_of page (top - depth)) n
+
+-- a table on the way to a page, the root among them
+abbrev pub IsOnWay : FrameTable → ℕ → ℕ → ℕ → ℕ → Type 0
+IsOnWay t top root page n = (depth : ℕ) × (depth ≤ top) × Way t top root page depth n
+
+-- a table below the root on the way to a page
+abbrev pub IsBelowRoot : FrameTable → ℕ → ℕ → ℕ → ℕ → Type 0
+IsBelowRoot t top root page n = (depth : ℕ) × (depth < top) × Way t top root page (suc depth) n
 
 -- where the way to a page ends, from the table n of that level on: the level, which is 0 where no table is missing, and
 -- the table
@@ -69,3 +82,11 @@ pub record IsSpare (t : FrameTable) (n : ℕ) : Type 0 where
   pub table : IsTable t n
   pub unlinked : IsUnlinked t n
   pub empty : IsEmptyTable t n
+
+-- no table that is pointed to is without entries
+abbrev pub IsTight : FrameTable → Type 0
+IsTight t = (n i m : ℕ) → Points t n i m → IsEmptyTable t m → ⊥
+
+-- but those on the way to that page
+abbrev pub IsTightBut : FrameTable → ℕ → ℕ → ℕ → Type 0
+IsTightBut t top root page = (n i m : ℕ) → Points t n i m → IsEmptyTable t m → IsOnWay t top root page m

@@ -94,7 +94,7 @@ pub fn link_table(frames: &mut Frames, root: FrameNo, page: Vpn, table: FrameNo)
 pub fn prune(frames: &mut Frames, root: FrameNo, page: Vpn)
     requires forest { IsForest frames.old }
     requires root { IsRoot 2 frames.old root.0 }
-    ensures prunes { Prunes frames.old frames.new 2 }
+    ensures prunes { Prunes frames.old frames.new 2 root.0 page }
     ensures pruned { IsPruned frames.new 2 root.0 page }
 {
     while prune_last(frames, root, page) {}
@@ -104,7 +104,7 @@ pub fn prune(frames: &mut Frames, root: FrameNo, page: Vpn)
 fn prune_last(frames: &mut Frames, root: FrameNo, page: Vpn) -> bool
     requires forest { IsForest frames.old }
     requires root { IsRoot 2 frames.old root.0 }
-    ensures prunes { Prunes frames.old frames.new 2 }
+    ensures prunes { Prunes frames.old frames.new 2 root.0 page }
     ensures done { result ≡ false → IsPruned frames.new 2 root.0 page }
     ensures higher { result ≡ true → missing_of frames.new 2 root.0 page ≡ missing_of frames.old 2 root.0 page + 1 }
     ensures in_levels { missing_of frames.new 2 root.0 page ≤ 2 }

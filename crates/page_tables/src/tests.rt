@@ -7,17 +7,19 @@ use vm_types::{FrameNo, SlotNo, Vpn};
 
 #[test]
 fn numbers_of_entries(rt: HostRuntime) {
-    assert_eq!(rt; Pte::pointer(FrameNo(3)).to_u64(), 3073);
     let leaf = Pte::from_u64(5591);
     assert!(rt; leaf.is_valid());
     assert!(rt; leaf.is_leaf());
-    assert_eq!(rt;
-        encode(Entry::Leaf(leaf)).to_u64().to_le_bytes(),
-        [0xd7, 0x15, 0, 0, 0, 0, 0, 0]
-    );
-    assert_eq!(rt; encode(Entry::Swapped(SlotNo(7))).to_u64(), 7170);
-    assert_eq!(rt; encode(Entry::Parked(FrameNo(9), false)).to_u64(), 9220);
-    assert_eq!(rt; encode(Entry::Parked(FrameNo(9), true)).to_u64(), 9476);
+    for (entry, number, low, high) in [
+        (Pte::pointer(FrameNo(3)), 3073, 0x01, 0x0c),
+        (encode(Entry::Leaf(leaf)), 5591, 0xd7, 0x15),
+        (encode(Entry::Swapped(SlotNo(7))), 7170, 0x02, 0x1c),
+        (encode(Entry::Parked(FrameNo(9), false)), 9220, 0x04, 0x24),
+        (encode(Entry::Parked(FrameNo(9), true)), 9476, 0x04, 0x25),
+    ] {
+        assert_eq!(rt; entry.to_u64(), number);
+        assert_eq!(rt; entry.to_u64().to_le_bytes(), [low, high, 0, 0, 0, 0, 0, 0]);
+    }
 }
 
 #[test]
@@ -35,6 +37,8 @@ fn a_page_gets_its_tables_and_an_entry(rt: HostRuntime) -> Result<(), Fail> {
     set(&mut frames, root, page, Entry::Swapped(SlotNo(7)));
     assert_eq!(rt; entry(&frames, root, page), Entry::Swapped(SlotNo(7)));
     assert_eq!(rt; entry_number(&frames, root, page).to_u64(), 7170);
+    let place = &frames.bytes(lowest)[136..144];
+    assert_eq!(rt; place, [0x02, 0x1c, 0, 0, 0, 0, 0, 0].as_slice());
     Ok(())
 }
 

@@ -9,3 +9,4 @@ pub mod PushLemmas
 pub mod ResultLemmas
 pub mod WalkLemmas
 pub mod RowLemmas
+pub mod PermissionLemmas

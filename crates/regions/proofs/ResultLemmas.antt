@@ -52,6 +52,18 @@ long_protected runs first end prot m h l =
     let f : length (pasted first end (Some prot) (pasted 0 first None [] runs) runs) ≤ length (list_protected runs first end prot) = (protected_is runs m first end h prot).longer in
     omega arith
 
+-- the same of the map that the finished list stands for
+pub many_protected_front : (runs : List Run) (first pages : ℕ) (prot : Prot) → IsMaximal 16 runs → 256 < length (pasted 0 first None [] runs) → 256 < run_count (protected (attr_at runs) first pages prot)
+many_protected_front runs first pages prot m l =
+    subst (λ (n : ℕ). 256 < n) (sym (count_protected runs first pages prot m)) (long_protected_front runs first (first + pages) prot m (omega arith) l)
+
+pub many_protected_middle : (runs : List Run) (first pages : ℕ) (prot : Prot) → IsMaximal 16 runs → 256 < length (pasted first (first + pages) (Some prot) (pasted 0 first None [] runs) runs) → 256 < run_count (protected (attr_at runs) first pages prot)
+many_protected_middle runs first pages prot m l =
+    subst (λ (n : ℕ). 256 < n) (sym (count_protected runs first pages prot m)) (long_protected runs first (first + pages) prot m (omega arith) l)
+
+pub many_protected : (runs : List Run) (first pages : ℕ) (prot : Prot) → IsMaximal 16 runs → 256 < length (list_protected runs first (first + pages) prot) → 256 < run_count (protected (attr_at runs) first pages prot)
+many_protected runs first pages prot m l = subst (λ (n : ℕ). 256 < n) (sym (count_protected runs first pages prot m)) l
+
 pub long_replaced_front : (runs : List Run) (run : Run) → IsMaximal 16 runs → IsRun run → 256 < length (pasted 0 run.first None [] runs) → 256 < length (list_replaced runs run)
 long_replaced_front runs run m r l =
     let e : length (pasted 0 run.first None [] runs) ≤ length (pushed (pasted 0 run.first None [] runs) run) = length-pushed (pasted 0 run.first None [] runs) run in

@@ -1,3 +1,4 @@
 pub mod Run
 pub mod RunList
 pub mod Search
+pub mod Permission

@@ -253,7 +253,7 @@ impl Regions {
         ensures err { OnErr result (self.new ≡ self.old) }
         ensures user { IsUserMap (attr_at self.new) }
     {
-        let next = self.protected(first, first + pages, prot)?;
+        let next = self.protected(first, pages, prot)?;
         *self = next;
         Ok(())
     }
@@ -287,14 +287,16 @@ impl Regions {
         Ok(next)
     }
 
-    /// The runs with another permission for the pages from `first` up to, not including, `end`.
-    fn protected(&self, first: u64, end: u64, prot: Prot) -> Result<Regions, TooManyRuns>
-        requires { first ≤ end }
-        ensures ok { IfOk result (λ next. next ≡ list_protected self.now first end prot) }
-        ensures few { IfOk result (λ next. length next ≤ 256) }
-        ensures maximal { IsMaximal 16 self.now }
-        ensures err { OnErr result (256 < length (list_protected self.now first end prot)) }
+    /// The runs with another permission for those of the `pages` pages from `first` on that are mapped.
+    fn protected(&self, first: u64, pages: u64, prot: Prot) -> Result<Regions, TooManyRuns>
+        requires { first + pages < 2 ^ 64 }
+        ensures ok { IfOk result (λ next. (page : ℕ) → attr_at next page ≡ protected (attr_at self.now) first pages prot page) }
+        ensures few { OnOk result (run_count (protected (attr_at self.now) first pages prot) ≤ 256) }
+        ensures too_many { OnErr result (256 < run_count (protected (attr_at self.now) first pages prot)) }
+        ensures user_before { IsUserMap (attr_at self.now) }
+        ensures user_after { IfOk result (λ next. IsUserMap (attr_at next)) }
     {
+        let end = first + pages;
         let mut next = Regions::empty();
         next.paste(self.as_slice(), 0, first, None)?;
         next.paste(self.as_slice(), first, end, Some(prot))?;

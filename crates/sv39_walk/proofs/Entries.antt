@@ -1,7 +1,5 @@
 -- What a pointer is made of.
-use Rattle.std.proofs.Common.{◌≡◌, ℕ, ◌+◌, ◌*◌, ◌/◌, ◌%◌, ◌<◌, ◌≤◌, ◌^◌, Bool, true, false, refl, sym, ap, ◌∙◌, arith}
-use Rattle.std.specs.Prelude.{◌==◌}
-use Rattle.std.proofs.lemmas.Bool.Decides.{nat_tests}
+use Rattle.std.proofs.Common.{◌≡◌, ℕ, ◌+◌, ◌*◌, ◌/◌, ◌%◌, ◌<◌, ◌^◌, true, false, refl, arith}
 use Rattle.sv39_walk.specs.Entry.{has_bit, frame_of, high_bits, is_pointer, pointer_to}
 
 bit_clear : (e k : ℕ) → e / 2 ^ k % 2 ≡ 0 → has_bit e k ≡ false

@@ -1,5 +1,5 @@
 -- One step on the way to a page.
-use Rattle.std.proofs.Common.{◌≡◌, ℕ, zero, suc, ◌+◌, ◌-◌, ◌<◌, ◌≤◌, Bool, true, false, refl, sym, ap, ◌∙◌, arith}
+use Rattle.std.proofs.Common.{◌≡◌, ℕ, zero, suc, ◌-◌, ◌<◌, true, false, refl, arith}
 use Rattle.frames.specs.FrameTable.{FrameTable}
 use Rattle.sv39_walk.specs.Entry.{entry_at, frame_of}
 use Rattle.sv39_walk.specs.Walk.{last_of, leads_on, index_of}

@@ -1,5 +1,5 @@
 -- An entry of a page table as a number. RISC-V Privileged Specification, "Sv39 page table entry".
-use Rattle.std.specs.Prelude.{◌≡◌, ℕ, ◌+◌, ◌*◌, ◌/◌, ◌%◌, ◌^◌, Bool, true, false, ◌&&◌, ◌||◌, not, ◌==◌, List, drop}
+use Rattle.std.specs.Prelude.{ℕ, ◌+◌, ◌*◌, ◌/◌, ◌%◌, ◌^◌, Bool, ◌&&◌, ◌||◌, not, ◌==◌, drop}
 use Rattle.vm_types.specs.declared.access.Access.{Access}
 use Rattle.vm_types.specs.declared.access.Access.TheVariants.{Load, Store, Fetch}
 use Rattle.byteorder.specs.Endian.{little_number}

@@ -3,14 +3,14 @@
 -- user mode, MXR clear; no PMA or PMP check but that tables and pages lie in memory, a page fault too where they don't; A
 -- and D are kept by software, so a clear A, and a clear D at a store, is a page fault; A, D and U of a pointer aren't
 -- looked at. The specification doesn't part its page faults by reasons: names and order of the reasons are our own.
-use Rattle.std.specs.Prelude.{◌≡◌, ℕ, zero, suc, ◌+◌, ◌-◌, ◌*◌, ◌/◌, ◌%◌, ◌^◌, Bool, true, false, ◌&&◌, ◌||◌, not, ◌==◌, nat_lt, nat_le, if◌then◌else◌, Result, Ok, Err}
+use Rattle.std.specs.Prelude.{ℕ, zero, suc, ◌+◌, ◌-◌, ◌*◌, ◌/◌, ◌%◌, ◌^◌, Bool, true, false, ◌&&◌, ◌||◌, not, ◌==◌, nat_lt, nat_le, if◌then◌else◌, Result, Ok, Err}
 use Rattle.vm_types.specs.declared.access.Access.{Access}
 use Rattle.vm_types.specs.declared.access.Access.TheVariants.{Load, Store, Fetch}
 use Rattle.vm_types.specs.declared.number.Phys.{Phys}
 use Rattle.sv39_walk.specs.declared.translation.WalkFault.{WalkFault}
 use Rattle.sv39_walk.specs.declared.translation.WalkFault.TheVariants.{NonCanonical, Invalid, Reserved, TooDeep, Outside, Misaligned, Denied, NotAccessed, NotDirty}
 use Rattle.frames.specs.FrameTable.{FrameTable, frame_count}
-use Rattle.sv39_walk.specs.Entry.{has_bit, is_valid, is_user, is_accessed, is_dirty, is_reserved, is_leaf, is_pointer, frame_of, grants, entry_at}
+use Rattle.sv39_walk.specs.Entry.{is_valid, is_user, is_accessed, is_dirty, is_reserved, is_leaf, is_pointer, frame_of, grants, entry_at}
 
 -- the number of the page that an address lies in
 abbrev pub page_of : ℕ → ℕ

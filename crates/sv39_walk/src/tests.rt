@@ -1,6 +1,6 @@
 ghost use Rattle.std.specs.Prelude.{◌≤◌};
 
-use crate::{WalkFault, table_index, walk};
+use crate::{Pte, WalkFault, next_table, read_entry, table_index, walk};
 use byteorder::{ByteOrder, LittleEndian};
 use frames::{Frames, Role};
 use std::alloc::Global;
@@ -80,4 +80,49 @@ fn fields_of_addresses(rt: HostRuntime) {
     };
     assert_eq!(rt; places(0x11387), [0, 0, 17]);
     assert_eq!(rt; places(0x3f_ffff_ffff), [255, 511, 511]);
+}
+
+#[test]
+fn bits_of_entries(rt: HostRuntime) {
+    let leaf = Pte::from_u64(0x15d7);
+    assert_eq!(rt; leaf.to_u64(), 5591);
+    assert_eq!(rt; leaf.frame(), 5);
+    assert_eq!(rt;
+        [
+            leaf.is_valid(),
+            leaf.is_readable(),
+            leaf.is_writable(),
+            leaf.is_executable()
+        ],
+        [true, true, true, false]
+    );
+    assert_eq!(rt;
+        [leaf.is_user(), leaf.is_accessed(), leaf.is_dirty()],
+        [true; 3]
+    );
+    assert_eq!(rt;
+        [leaf.is_leaf(), leaf.is_pointer(), leaf.is_reserved()],
+        [true, false, false]
+    );
+    assert_eq!(rt;
+        [
+            leaf.grants(Access::Load),
+            leaf.grants(Access::Store),
+            leaf.grants(Access::Fetch)
+        ],
+        [true, true, false]
+    );
+}
+
+#[test]
+fn a_pointer_in_a_table_leads_on(rt: HostRuntime) -> Result<(), Fail> {
+    let mut frames = Frames::new(rt.alloc(), 8)?;
+    let table = frames.take(Role::Table).expect(&rt, "a free frame");
+    let pointer = Pte::pointer(FrameNo(3));
+    assert_eq!(rt; pointer.to_u64(), 3073);
+    frames.bytes_mut(table)[136..144].copy_from_slice(&[1, 0x0c, 0, 0, 0, 0, 0, 0]);
+    let entry = read_entry(&frames, table, table_index(0x11387 / 4096, 0));
+    assert_eq!(rt; entry, pointer);
+    assert_eq!(rt; next_table(&frames, entry), Some(FrameNo(3)));
+    Ok(())
 }

@@ -1,4 +1,4 @@
-use Rattle.std.proofs.Common.{◌≡◌, ◌-◌, ◌+◌, ◌<◌, inr, zero, suc, refl, sym, ap, ◌∙◌, arith}
+use Rattle.std.proofs.Common.{◌≡◌, ◌-◌, ◌+◌, ◌<◌, inr, sym, ap, ◌∙◌, arith}
 use Rattle.sv39_walk.specs.Entry.{entry_at}
 use Rattle.page_tables.specs.Tree.{last_table}
 use Rattle.page_tables.proofs.Ways.{last_table-zero, last_at-next, last_at-stop, not_pointer, next_table, is_pointer-leads_on}

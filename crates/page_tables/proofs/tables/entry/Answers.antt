@@ -1,4 +1,4 @@
-use Rattle.std.proofs.Common.{◌≡◌, sym, ap, ◌∙◌, subst}
+use Rattle.std.proofs.Common.{sym, subst}
 use Rattle.page_tables.specs.Entry.{IsPageEntry}
 use Rattle.page_tables.proofs.Ends.{page_is_entry}
 use Rattle.page_tables.proofs.tables.entry.Goals as goal

@@ -1,4 +1,4 @@
-use Rattle.std.proofs.Common.{◌≡◌, ℕ, ◌<◌, ◌^◌, inr, refl, sym, ap, ◌∙◌, subst, arith}
+use Rattle.std.proofs.Common.{ap, ◌∙◌}
 use Rattle.sv39_walk.specs.Walk.{index_of}
 use Rattle.page_tables.specs.Tree.{last_table}
 use Rattle.page_tables.specs.Change.{ChangesEntry}

@@ -1,5 +1,4 @@
-use Rattle.std.proofs.Common.{◌≡◌, ℕ, ◌+◌, ◌≤◌, ◌<◌, refl, sym, ap, ◌∙◌, subst, arith}
-use Rattle.sv39_walk.specs.Walk.{index_of}
+use Rattle.std.proofs.Common.{◌≡◌, ℕ, ◌+◌, ◌<◌, sym, ap, ◌∙◌, subst, arith}
 use Rattle.page_tables.specs.Tree.{Points, last_table, missing_of}
 use Rattle.page_tables.specs.Change.{Prunes}
 use Rattle.page_tables.proofs.Ends.{missing_of-is}
@@ -25,7 +24,7 @@ unlink-requires-clause-apart c =
     empty_apart c.args.frames.now _ _ _ on (c.is_empty.ensures.0 c.if-not-is_empty.false)
 
 abbrev Removed : goal.After-unlink → Type 0
-Removed c = Prunes c.args.frames.now c.unlink.new.frames 2
+Removed c = Prunes c.args.frames.now c.unlink.new.frames 2 c.args.root.0 c.args.page
     × (missing_of c.unlink.new.frames 2 c.args.root.0 c.args.page ≡ missing_of c.args.frames.now 2 c.args.root.0 c.args.page + 1)
     × (missing_of c.args.frames.now 2 c.args.root.0 c.args.page < 2)
 

@@ -1,6 +1,3 @@
-use Rattle.std.proofs.Common.{Result, Ok, Err, IfOk}
-use Rattle.frames.specs.FrameTable.{FrameTable, Takes}
-use Rattle.page_tables.specs.Change.{AddsTable}
 use Rattle.page_tables.proofs.Keeping.{if_taken}
 use Rattle.page_tables.proofs.tables.take_table.Goals as goal
 

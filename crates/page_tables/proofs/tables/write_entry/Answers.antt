@@ -1,7 +1,5 @@
-use Rattle.std.proofs.Common.{◌≡◌, List, ℕ, ap, subst, sym}
 use Rattle.page_tables.specs.Change.{PutsNumber}
 use Rattle.frames.specs.FrameTable.{bytes_of}
-use Rattle.frames.specs.declared.role.Role.TheVariants.{Table}
 use Rattle.page_tables.proofs.EntryBytes.{changes_entry}
 use Rattle.page_tables.proofs.tables.write_entry.Goals as goal
 

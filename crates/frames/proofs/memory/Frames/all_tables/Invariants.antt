@@ -1,4 +1,4 @@
-use Rattle.std.proofs.Common.{◌≡◌, ◌≤◌, vec_capacity}
+use Rattle.std.proofs.Common.{◌≤◌, vec_capacity}
 use Rattle.frames.proofs.Made.{IsMade}
 use Rattle.frames.proofs.memory.Frames.all_tables.Given as goal
 

@@ -1,7 +1,6 @@
 use Rattle.std.proofs.Common.{◌≡◌, ◌+◌, ◌-◌, get_or, [], arith, sym, ◌∙◌}
 use Rattle.std.specs.Prelude.{slice_set}
 use Rattle.frames.specs.Inside.{table_of}
-use Rattle.frames.specs.FrameTable.{FrameTable, IsFrame, with_bytes, bytes_of}
 use Rattle.frames.proofs.FrameLemmas.{copied_item}
 use Rattle.frames.proofs.Calls.{written}
 use Rattle.frames.proofs.memory.Frames.copy.Goals as goal

@@ -1,8 +1,7 @@
-use Rattle.std.proofs.Common.{rules, ◌≡◌, ◌-◌, ◌<◌, ◌^◌, drop, arith, length, get_or-set_same, get_or, sym, ◌∙◌, ap}
-use Rattle.std.specs.Prelude.{slice_set}
+use Rattle.std.proofs.Common.{rules, ◌-◌, ◌<◌, arith, length, get_or-set_same, sym, ◌∙◌}
 use Rattle.std.proofs.lemmas.List.{get_or_read}
 use Rattle.frames.specs.Inside.{table_of}
-use Rattle.frames.specs.FrameTable.{IsHeld, role_of}
+use Rattle.frames.specs.FrameTable.{role_of}
 use Rattle.frames.proofs.Calls.{freed, alone_count}
 use Rattle.frames.proofs.memory.Frames.release.Goals as goal
 

@@ -1,27 +1,73 @@
-use Rattle.std.proofs.Common.{◌<◌, length}
-use Rattle.regions.specs.RunList.{list_protected}
-use Rattle.regions.proofs.MapLemmas.{front_end_low, middle_end}
-use Rattle.regions.proofs.ResultLemmas.{long_protected, long_protected_front, on_err}
+use Rattle.std.proofs.Common.{◌≡◌, ◌+◌, ◌<◌, ◌≤◌, List, length, sym, ◌∙◌, ap, subst, arith}
+use Rattle.vm_types.specs.Rows.{protected}
+use Rattle.vm_types.specs.Runs.{run_count}
+use Rattle.regions.specs.declared.run.Run.{Run}
+use Rattle.regions.specs.RunList.{attr_at, IsMaximal, list_protected}
+use Rattle.regions.proofs.MapLemmas.{front_end_low, middle_end, protected_at, protected_is}
+use Rattle.regions.proofs.ResultLemmas.{count_protected, many_protected, many_protected_front, many_protected_middle, on_err}
+use Rattle.regions.proofs.WalkLemmas.{user_map}
 use Rattle.regions.proofs.table.Regions.protected.Goals as goal
 
-pub returns-in_err-paste-clause-err : goal.returns-in_err-paste-clause-err
-returns-in_err-paste-clause-err c =
-    on_err c.from_residual.result (256 < length (list_protected c.args.self.now c.args.first c.args.end c.args.prot))
-    (long_protected_front c.args.self.now c.args.first c.args.end c.args.prot c.as_slice.ensures.maximal c.requires
+pub returns-in_err-paste-clause-too_many : goal.returns-in_err-paste-clause-too_many
+returns-in_err-paste-clause-too_many c =
+    on_err c.from_residual.result (256 < run_count (protected (attr_at c.args.self.now) c.args.first c.args.pages c.args.prot))
+    (many_protected_front c.args.self.now c.args.first c.args.pages c.args.prot c.as_slice.ensures.maximal
     (rw (c.empty-next.ensures, c.as_slice.ensures.runs) at c.in_err-paste.ensures.err))
+
+pub returns-in_err-paste-clause-user_before : goal.returns-in_err-paste-clause-user_before
+returns-in_err-paste-clause-user_before c = user_map c.args.self.now c.as_slice.ensures.maximal
 
 pub paste-requires-2-clause-behind : goal.paste-requires-2-clause-behind
 paste-requires-2-clause-behind c =
     rw (c.in_ok-paste.ensures.ok, c.empty-next.ensures, c.as_slice.ensures.runs)
-    (front_end_low c.args.self.now c.as_slice.ensures.maximal c.args.first c.args.end c.requires)
+    (front_end_low c.args.self.now c.as_slice.ensures.maximal c.args.first (c.args.first + c.args.pages) (omega arith))
 
-pub returns-in_err-paste-2-clause-err : goal.returns-in_err-paste-2-clause-err
-returns-in_err-paste-2-clause-err c =
-    on_err c.from_residual-in_err-paste-2.result (256 < length (list_protected c.args.self.now c.args.first c.args.end c.args.prot))
-    (long_protected c.args.self.now c.args.first c.args.end c.args.prot c.as_slice.ensures.maximal c.requires
+pub returns-in_err-paste-2-clause-too_many : goal.returns-in_err-paste-2-clause-too_many
+returns-in_err-paste-2-clause-too_many c =
+    on_err c.from_residual-in_err-paste-2.result (256 < run_count (protected (attr_at c.args.self.now) c.args.first c.args.pages c.args.prot))
+    (many_protected_middle c.args.self.now c.args.first c.args.pages c.args.prot c.as_slice.ensures.maximal
     (rw (c.in_ok-paste.ensures.ok, c.empty-next.ensures, c.as_slice.ensures.runs, c.as_slice-2.ensures.runs) at c.in_err-paste-2.ensures.err))
+
+pub returns-in_err-paste-2-clause-user_before : goal.returns-in_err-paste-2-clause-user_before
+returns-in_err-paste-2-clause-user_before c = user_map c.args.self.now c.as_slice.ensures.maximal
 
 pub paste-requires-3-clause-behind : goal.paste-requires-3-clause-behind
 paste-requires-3-clause-behind c =
     rw (c.in_ok-paste-2.ensures.ok, c.in_ok-paste.ensures.ok, c.empty-next.ensures, c.as_slice.ensures.runs, c.as_slice-2.ensures.runs)
-    (middle_end c.args.self.now c.as_slice.ensures.maximal c.args.first c.args.end c.requires c.args.prot)
+    (middle_end c.args.self.now c.as_slice.ensures.maximal c.args.first (c.args.first + c.args.pages) (omega arith) c.args.prot)
+
+pub returns-in_err-paste-3-clause-too_many : goal.returns-in_err-paste-3-clause-too_many
+returns-in_err-paste-3-clause-too_many c =
+    on_err c.from_residual-in_err-paste-3.result (256 < run_count (protected (attr_at c.args.self.now) c.args.first c.args.pages c.args.prot))
+    (many_protected c.args.self.now c.args.first c.args.pages c.args.prot c.as_slice.ensures.maximal
+    (rw (c.in_ok-paste-2.ensures.ok, c.in_ok-paste.ensures.ok, c.empty-next.ensures, c.as_slice.ensures.runs, c.as_slice-2.ensures.runs, c.as_slice-3.ensures.runs) at c.in_err-paste-3.ensures.err))
+
+pub returns-in_err-paste-3-clause-user_before : goal.returns-in_err-paste-3-clause-user_before
+returns-in_err-paste-3-clause-user_before c = user_map c.args.self.now c.as_slice.ensures.maximal
+
+pub returns-clause-ok : goal.returns-clause-ok
+returns-clause-ok c = λ page.
+    let list : c.paste-3.new.self ≡ list_protected c.args.self.now c.args.first (c.args.first + c.args.pages) c.args.prot =
+    rw (c.in_ok-paste-2.ensures.ok, c.in_ok-paste.ensures.ok, c.empty-next.ensures, c.as_slice.ensures.runs, c.as_slice-2.ensures.runs, c.as_slice-3.ensures.runs) at c.in_ok-paste-3.ensures.ok in
+    ap (λ (l : List Run). attr_at l page) list
+    ∙ protected_at c.args.self.now c.as_slice.ensures.maximal c.args.first (c.args.first + c.args.pages) (omega arith) c.args.prot page
+
+pub returns-clause-few : goal.returns-clause-few
+returns-clause-few c =
+    let list : c.paste-3.new.self ≡ list_protected c.args.self.now c.args.first (c.args.first + c.args.pages) c.args.prot =
+    rw (c.in_ok-paste-2.ensures.ok, c.in_ok-paste.ensures.ok, c.empty-next.ensures, c.as_slice.ensures.runs, c.as_slice-2.ensures.runs, c.as_slice-3.ensures.runs) at c.in_ok-paste-3.ensures.ok in
+    let count : run_count (protected (attr_at c.args.self.now) c.args.first c.args.pages c.args.prot) ≡ length (list_protected c.args.self.now c.args.first (c.args.first + c.args.pages) c.args.prot) =
+    count_protected c.args.self.now c.args.first c.args.pages c.args.prot c.as_slice.ensures.maximal in
+    let same : length c.paste-3.new.self ≡ length (list_protected c.args.self.now c.args.first (c.args.first + c.args.pages) c.args.prot) = ap (λ (l : List Run). length l) list in
+    let few : length c.paste-3.new.self ≤ 256 = c.in_ok-paste-3.ensures.few in
+    omega arith
+
+pub returns-clause-user_after : goal.returns-clause-user_after
+returns-clause-user_after c =
+    let list : c.paste-3.new.self ≡ list_protected c.args.self.now c.args.first (c.args.first + c.args.pages) c.args.prot =
+    rw (c.in_ok-paste-2.ensures.ok, c.in_ok-paste.ensures.ok, c.empty-next.ensures, c.as_slice.ensures.runs, c.as_slice-2.ensures.runs, c.as_slice-3.ensures.runs) at c.in_ok-paste-3.ensures.ok in
+    user_map c.paste-3.new.self
+    (subst (λ (l : List Run). IsMaximal 16 l) (sym list) (protected_is c.args.self.now c.as_slice.ensures.maximal c.args.first (c.args.first + c.args.pages) (omega arith) c.args.prot).maximal)
+
+pub returns-clause-user_before : goal.returns-clause-user_before
+returns-clause-user_before c = user_map c.args.self.now c.as_slice.ensures.maximal
