@@ -8,3 +8,7 @@ pub mod Causes
 pub mod Changed
 pub mod Lists
 pub mod Totals
+pub mod NewStores
+pub mod Formats
+pub mod Encoded
+pub mod Filled

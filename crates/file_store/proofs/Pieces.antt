@@ -69,7 +69,7 @@ pub length-trimmed : (n : ℕ) (page : List ℕ) → n ≤ 4096 → length (trim
 unfolding trimmed
 length-trimmed n page le = simp (length-append, length-take, length-replicate) (omega (arith, le))
 
-get_or-zeros : (m i : ℕ) → ◌≡◌ {A = ℕ} (get_or (replicate m 0) i 0) (0)
+pub get_or-zeros : (m i : ℕ) → ◌≡◌ {A = ℕ} (get_or (replicate m 0) i 0) (0)
 get_or-zeros m i = ⊎_elim (λ lt. get_or-replicate m i 0 0 lt) (λ le. get_or_past (replicate m 0) i 0 (omega (arith, le, length-replicate {A = ℕ} m 0))) (cases_lt i m)
 
 get_or-padded : (front : List ℕ) (m i : ℕ) → length front ≤ i → ◌≡◌ {A = ℕ} (get_or (front ++ replicate m 0) i 0) (0)

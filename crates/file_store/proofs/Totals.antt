@@ -1,5 +1,5 @@
 -- The pages of several files.
-use Rattle.std.proofs.Common.{◌≡◌, ℕ, zero, suc, ◌+◌, ◌*◌, ◌<◌, ◌≤◌, List, [], ◌∷◌, length, get_or, drop, set, refl, sym, ap, ◌∙◌, arith, add-one}
+use Rattle.std.proofs.Common.{◌≡◌, ℕ, zero, suc, ◌+◌, ◌<◌, ◌≤◌, List, [], ◌∷◌, length, get_or, drop, set, refl, sym, ap, arith}
 use Rattle.std.proofs.lemmas.List.{drop-set-lt}
 use Rattle.file_store.specs.declared.sources.FileSource.{FileSource}
 use Rattle.file_store.specs.Layout.{page_count}

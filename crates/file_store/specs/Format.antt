@@ -1,17 +1,36 @@
 -- What a new store is made of.
-use Rattle.std.specs.Prelude.{ℕ, ◌+◌, ◌*◌, ◌<◌, ◌≡◌, List, [], ◌∷◌, drop, length, slice_get, Option, Some, None}
+use Rattle.std.specs.Prelude.{ℕ, ◌+◌, ◌*◌, ◌%◌, ◌<◌, ◌≤◌, ◌≡◌, ◌⊎◌, false, List, [], ◌∷◌, take, drop, length, slice_get, Option, Some, None}
 use Rattle.std.specs.Option.{option_map}
 use Rattle.vm_types.specs.declared.file.FileInfo.{FileInfo}
 use Rattle.disk_model.specs.Stop.{Image}
-use Rattle.sync_journal.specs.Layout.{home_count}
-use Rattle.sync_journal.specs.Standing.{IsBadJournal}
+use Rattle.sync_journal.specs.Layout.{home_count, home_sector}
+use Rattle.sync_journal.specs.Gate.{is_open}
+use Rattle.sync_journal.specs.Standing.{IsBadJournal, sector_of}
+use Rattle.file_store.specs.declared.directory.Entry.{Entry}
 use Rattle.file_store.specs.declared.sources.FileSource.{FileSource}
-use Rattle.file_store.specs.Layout.{page_count, bytes_inside, trimmed}
+use Rattle.file_store.specs.Layout.{mark, page_count, bytes_inside, trimmed}
+use Rattle.file_store.specs.Directory.{entry_in, bytes_in, IsZero}
 use Rattle.file_store.specs.Standing.{IsBadLayout, file_info, standing_page}
 
 -- page k of a file of so many of these bytes, which is zeros past their end
 abbrev pub page_told : ℕ → ℕ → Option (List ℕ) → Option (List ℕ)
 page_told length k told = option_map (λ bytes. trimmed (bytes_inside length k) (drop (4096 * k) bytes)) told
+
+-- the sectors from n on
+abbrev pub IsFrom : ℕ → ℕ → Type 0
+IsFrom n k = n ≤ k
+
+-- sector 0, where the mark stands
+abbrev pub IsMarkSector : ℕ → Type 0
+IsMarkSector k = k ≡ 0
+
+-- the directory and the gate
+abbrev pub IsLayoutSector : ℕ → Type 0
+IsLayoutSector k = (k ≡ 1) ⊎ (k ≡ 2)
+
+-- home page h holds this page
+abbrev pub HoldsPage : ℕ → List ℕ → Image → Type 0
+HoldsPage h page image = (i : ℕ) → i < 8 → image (home_sector h + i) ≡ sector_of page i
 
 module _ {R : Type 0} where
   abbrev pub info_of : FileSource R → FileInfo
@@ -48,3 +67,35 @@ module _ {R : Type 0} where
     pub facts : (f : ℕ) → file_info image f ≡ files_given sources f
     pub pages : (f k : ℕ) (source : FileSource R) (page : List ℕ) → slice_get sources f ≡ Some source → 4096 * k < source.length
         → page_given remaining source k ≡ Some page → standing_page image f k ≡ page
+
+  -- An image that has the mark is such a store.
+  abbrev pub IsStoreIfMarked : (R → Option (List ℕ)) → ℕ → List (FileSource R) → Image → Type 0
+  IsStoreIfMarked remaining sectors sources image = image 0 ≡ mark → IsStoreOf remaining sectors sources image
+
+  -- the first home of file f: the homes of the files before it come first
+  abbrev pub first_home : List (FileSource R) → ℕ → ℕ
+  first_home sources f = total_pages (take f sources)
+
+  -- the directory's entry of file f; an empty file has no home, and its first may be one too large for 30 bits
+  abbrev pub entry_given : List (FileSource R) → ℕ → Option Entry
+  entry_given sources f = option_map (λ source. record { first = first_home sources f % 1073741824; info = info_of source }) (slice_get sources f)
+
+  -- the directory sector of these files
+  pub record IsDirectoryOf (sources : List (FileSource R)) (sector : List ℕ) : Type 0 where
+    pub entries : (f : ℕ) → entry_in sector f ≡ entry_given sources f
+    pub rest : (f : ℕ) → f < 64 → length sources ≤ f → IsZero (bytes_in sector f)
+
+  -- The homes from first on hold the first n pages of the source, where it tells them.
+  abbrev pub HoldsPages : (R → Option (List ℕ)) → FileSource R → ℕ → ℕ → Image → Type 0
+  HoldsPages remaining source first n image = (k : ℕ) (page : List ℕ) → k < n → page_given remaining source k ≡ Some page → HoldsPage (first + k) page image
+
+  -- The homes hold the first n of the sources' files.
+  abbrev pub HoldsFiles : (R → Option (List ℕ)) → List (FileSource R) → ℕ → Image → Type 0
+  HoldsFiles remaining sources n image = (f : ℕ) (source : FileSource R) → f < n → slice_get sources f ≡ Some source
+      → HoldsPages remaining source (first_home sources f) (page_count source.length) image
+
+  -- The image has all of the sources' store but the mark.
+  pub record IsUnmarkedStoreOf (remaining : R → Option (List ℕ)) (sources : List (FileSource R)) (image : Image) : Type 0 where
+    pub directory : IsDirectoryOf sources (image 1)
+    pub gate : is_open image ≡ false
+    pub files : HoldsFiles remaining sources (length sources) image

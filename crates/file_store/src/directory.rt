@@ -1,5 +1,5 @@
 //! The directory in memory.
-ghost use Rattle.std.specs.Prelude.{◌≡◌, ◌<◌, ◌≤◌, ◌+◌, ◌^◌, ℕ, length, get_or, Option, IfOk, OnOk, OnErr, IsTrue, IsFalse, ◌↔◌};
+ghost use Rattle.std.specs.Prelude.{◌≡◌, ◌<◌, ◌≤◌, ◌+◌, ◌^◌, ℕ, length, get_or, drop, Option, Some, IfOk, OnOk, OnErr, IsTrue, IsFalse, ◌↔◌};
 ghost use Rattle.file_store.specs.Layout.{bytes_inside};
 ghost use Rattle.file_store.specs.Directory.{decoded, entry_in, end_of, IsHomeOf, IsZero, IsBadDirectory, AreGood, AreEntries};
 
@@ -56,11 +56,14 @@ impl Entry {
     pub(crate) fn encode(&self, bytes: &mut [u8])
         requires room { 8 ≤ length bytes.old }
         requires first { self.now.first < 2 ^ 30 }
-        ensures { length bytes.new ≡ length bytes.old }
+        ensures entry { decoded bytes.new ≡ Some self.now }
+        ensures others { drop 8 bytes.new ≡ drop 8 bytes.old }
+        ensures length { length bytes.new ≡ length bytes.old }
     {
+        let length = self.info.length;
         let read_only = if self.info.read_only { READ_ONLY } else { 0 };
         LittleEndian::write_u32(bytes, PRESENT + read_only + self.first);
-        LittleEndian::write_u32(&mut bytes[4..], self.info.length);
+        LittleEndian::write_u32(&mut bytes[4..], length);
     }
 
     /// The home page behind the file's last.

@@ -1,9 +1,10 @@
 //! New stores.
-ghost use Rattle.std.specs.Prelude.{◌≡◌, ◌≢◌, ◌+◌, ◌<◌, ◌≤◌, ◌⊎◌, ◌↔◌, ℕ, OnOk, OnErr, IsErrOf, length};
-ghost use Rattle.disk_model.specs.Moments.{Touches, Nothing};
-ghost use Rattle.sync_journal.specs.Layout.{home_count};
+ghost use Rattle.std.specs.Prelude.{◌≡◌, ◌≢◌, ◌+◌, ◌<◌, ◌≤◌, ◌⊎◌, ◌↔◌, ℕ, OnOk, OnErr, IsErr, IsErrOf, length, replicate};
+ghost use Rattle.disk_model.specs.Moments.{Touches, Nothing, LeavesOnly};
+ghost use Rattle.sync_journal.specs.Layout.{home_count, home_sector};
+ghost use Rattle.sync_journal.specs.Runs.{Runs};
 ghost use Rattle.file_store.specs.Layout.{mark, page_count};
-ghost use Rattle.file_store.specs.Format.{info_of, total_pages, IsTooLarge};
+ghost use Rattle.file_store.specs.Format.{info_of, total_pages, IsTooLarge, IsStoreOf, IsStoreIfMarked, IsUnmarkedStoreOf, HoldsFiles, HoldsPages, IsFrom, IsMarkSector, IsLayoutSector};
 
 use crate::faults::FormatFault;
 use crate::layout::{
@@ -11,13 +12,13 @@ use crate::layout::{
 };
 use crate::pages::write_sectors;
 use crate::sources::{FileSource, directory_of, is_too_large};
-use disk_model::SectorDisk;
+use disk_model::{DiskFault, SectorDisk};
 use std::io::Read;
 use sync_journal::{FIRST_HOME, PAGE_SECTORS};
 
 /// Makes a store of these files, which get numbers and homes in the order of the sources. Homes, directory and a
 /// closed gate are written and synced before the layout mark is, so that a stop leaves an image without the mark or a
-/// whole store. No clause says that yet, nor that the image stands for the sources' bytes.
+/// whole store, whose files have the sources' bytes.
 ///
 /// The faults are looked for in this order: `TooLarge`, exactly where there are over 64 sources, the device has fewer
 /// than 1,020 sectors or not enough home pages; `Formatted`, exactly where sector 0 is the mark already, unless the
@@ -39,17 +40,22 @@ pub fn format<D: SectorDisk, R: Read>(
     ensures unwritten { D.keeps_model disk.new → IsErrOf result FormatFault.TooLarge ⊎ IsErrOf result FormatFault.Formatted
         → Touches D.SectorDisk Nothing disk.old disk.new }
 
-    // After Ok the device has the mark, and all of it is synced.
+    // After Ok the device holds the store, with its mark, and all of it is synced.
+    ensures ok { D.keeps_model disk.new → OnOk result (IsStoreOf R.remaining (D.sector_count disk.old) sources.old (D.content disk.new)) }
     ensures marked { D.keeps_model disk.new → OnOk result (D.content disk.new 0 ≡ mark) }
     ensures synced { D.keeps_model disk.new → OnOk result ((k : ℕ) → D.unsynced disk.new k → ⊥) }
+
+    // Whatever it answers, every image that a stop at any moment of the call might leave lacks the mark or is the store,
+    // where the device had no mark and nothing unsynced.
+    ensures any_moment { D.keeps_model disk.new → ((k : ℕ) → D.unsynced disk.old k → ⊥) → D.content disk.old 0 ≢ mark
+        → LeavesOnly D.SectorDisk disk.old disk.new (IsStoreIfMarked R.remaining (D.sector_count disk.old) sources.old) }
 {
     if is_too_large(sources, disk.sectors()) {
         return Err(FormatFault::TooLarge);
     }
     check_unmarked(disk)?;
     write_unmarked(disk, sources)?;
-    disk.write(MARK_SECTOR, mark_bytes())?;
-    disk.sync()?;
+    write_mark(disk)?;
     Ok(())
 }
 
@@ -81,17 +87,15 @@ fn write_unmarked<D: SectorDisk, R: Read>(
     requires files { length sources.old ≤ 64 }
     requires room { 1020 ≤ D.sector_count disk.old }
     requires homes { total_pages sources.old ≤ home_count (D.sector_count disk.old) }
-    ensures size { D.sector_count disk.new ≡ D.sector_count disk.old }
-    ensures kept { D.keeps_model disk.new → D.keeps_model disk.old }
-    ensures later { D.failures disk.old ≤ D.failures disk.new }
+    ensures run { Runs D.SectorDisk (IsFrom 1) disk.old disk.new }
     ensures device { IsErrOf result FormatFault.Device → D.failures disk.old < D.failures disk.new }
     ensures others { OnErr result (IsErrOf result FormatFault.Source ⊎ IsErrOf result FormatFault.Device) }
+    ensures written { D.keeps_model disk.new → OnOk result (IsUnmarkedStoreOf R.remaining sources.old (D.content disk.new)) }
+    ensures synced { D.keeps_model disk.new → OnOk result ((k : ℕ) → D.unsynced disk.new k → ⊥) }
 {
     let directory = directory_of(sources);
     write_homes(disk, sources)?;
-    disk.write(DIRECTORY_SECTOR, &directory)?;
-    disk.write(GATE_SECTOR, &[0; SECTOR_BYTES])?;
-    disk.sync()?;
+    write_layout(disk, &directory)?;
     Ok(())
 }
 
@@ -101,11 +105,10 @@ fn write_homes<D: SectorDisk, R: Read>(
     sources: &mut [FileSource<R>],
 ) -> Result<(), FormatFault>
     requires { total_pages sources.old ≤ home_count (D.sector_count disk.old) }
-    ensures size { D.sector_count disk.new ≡ D.sector_count disk.old }
-    ensures kept { D.keeps_model disk.new → D.keeps_model disk.old }
-    ensures later { D.failures disk.old ≤ D.failures disk.new }
+    ensures run { Runs D.SectorDisk (IsFrom 1020) disk.old disk.new }
     ensures device { IsErrOf result FormatFault.Device → D.failures disk.old < D.failures disk.new }
     ensures others { OnErr result (IsErrOf result FormatFault.Source ⊎ IsErrOf result FormatFault.Device) }
+    ensures files { D.keeps_model disk.new → OnOk result (HoldsFiles R.remaining sources.old (length sources.old) (D.content disk.new)) }
 {
     let mut first = 0;
     for f in 0..sources.len() {
@@ -124,11 +127,10 @@ fn write_file<D: SectorDisk, R: Read>(
 ) -> Result<(), FormatFault>
     requires { first + page_count source.old.length ≤ home_count (D.sector_count disk.old) }
     ensures info { info_of source.new ≡ info_of source.old }
-    ensures size { D.sector_count disk.new ≡ D.sector_count disk.old }
-    ensures kept { D.keeps_model disk.new → D.keeps_model disk.old }
-    ensures later { D.failures disk.old ≤ D.failures disk.new }
+    ensures run { Runs D.SectorDisk (IsFrom (home_sector first)) disk.old disk.new }
     ensures device { IsErrOf result FormatFault.Device → D.failures disk.old < D.failures disk.new }
     ensures others { OnErr result (IsErrOf result FormatFault.Source ⊎ IsErrOf result FormatFault.Device) }
+    ensures pages { D.keeps_model disk.new → OnOk result (HoldsPages R.remaining source.old first (page_count source.old.length) (D.content disk.new)) }
 {
     for k in 0..source.pages() {
         let mut page = [0; 4096];
@@ -136,4 +138,33 @@ fn write_file<D: SectorDisk, R: Read>(
         write_sectors(disk, FIRST_HOME + PAGE_SECTORS * (first + k), &page)?;
     }
     Ok(())
+}
+
+/// Writes the directory and a closed gate, a sector of zeros, and syncs.
+fn write_layout<D: SectorDisk>(
+    disk: &mut D,
+    directory: &[u8; SECTOR_BYTES],
+) -> Result<(), DiskFault>
+    requires { 1020 ≤ D.sector_count disk.old }
+    ensures run { Runs D.SectorDisk IsLayoutSector disk.old disk.new }
+    ensures failed { IsErr result → D.failures disk.old < D.failures disk.new }
+    ensures directory { D.keeps_model disk.new → OnOk result (D.content disk.new 1 ≡ directory.now) }
+    ensures gate { D.keeps_model disk.new → OnOk result (D.content disk.new 2 ≡ replicate 512 0) }
+    ensures synced { D.keeps_model disk.new → OnOk result ((k : ℕ) → D.unsynced disk.new k → ⊥) }
+{
+    disk.write(DIRECTORY_SECTOR, directory)?;
+    disk.write(GATE_SECTOR, &[0; SECTOR_BYTES])?;
+    disk.sync()
+}
+
+/// Writes the layout mark, and syncs.
+fn write_mark<D: SectorDisk>(disk: &mut D) -> Result<(), DiskFault>
+    requires { 0 < D.sector_count disk.old }
+    ensures run { Runs D.SectorDisk IsMarkSector disk.old disk.new }
+    ensures failed { IsErr result → D.failures disk.old < D.failures disk.new }
+    ensures marked { D.keeps_model disk.new → OnOk result (D.content disk.new 0 ≡ mark) }
+    ensures synced { D.keeps_model disk.new → OnOk result ((k : ℕ) → D.unsynced disk.new k → ⊥) }
+{
+    disk.write(MARK_SECTOR, mark_bytes())?;
+    disk.sync()
 }

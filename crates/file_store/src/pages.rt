@@ -1,7 +1,10 @@
 //! Pages of eight sectors.
-ghost use Rattle.std.specs.Prelude.{◌≡◌, ◌<◌, ◌≤◌, ◌+◌, ◌^◌, OnOk, length, replicate};
+ghost use Rattle.std.specs.Prelude.{◌≡◌, ◌<◌, ◌≤◌, ◌+◌, ◌^◌, ℕ, [], OnOk, IsErr, length, replicate, slice_index_or};
 ghost use Rattle.disk_model.specs.Stop.{HasCause};
 ghost use Rattle.disk_model.specs.Moments.{Touches, Nothing};
+ghost use Rattle.sync_journal.specs.Layout.{IsPageSector};
+ghost use Rattle.sync_journal.specs.Runs.{Runs};
+ghost use Rattle.sync_journal.specs.Standing.{sector_of};
 ghost use Rattle.file_store.specs.Layout.{trimmed, joined};
 
 use crate::layout::{PAGE_SECTORS, SECTOR_BYTES};
@@ -38,9 +41,9 @@ pub(crate) fn write_sectors<D: SectorDisk>(
 ) -> Result<(), DiskFault>
     requires room { first + 8 ≤ D.sector_count disk.old }
     requires fits { first < 2 ^ 60 }
-    ensures size { D.sector_count disk.new ≡ D.sector_count disk.old }
-    ensures kept { D.keeps_model disk.new → D.keeps_model disk.old }
-    ensures cause { HasCause (D.failures disk.old) (D.failures disk.new) result }
+    ensures run { Runs D.SectorDisk (IsPageSector first) disk.old disk.new }
+    ensures failed { IsErr result → D.failures disk.old < D.failures disk.new }
+    ensures written { D.keeps_model disk.new → OnOk result ((i : ℕ) → i < 8 → D.content disk.new (first + i) ≡ sector_of page.now i) }
 {
     for (i, sector) in sectors_of(page).iter().enumerate() {
         disk.write(first + i as u64, sector)?;
@@ -50,7 +53,8 @@ pub(crate) fn write_sectors<D: SectorDisk>(
 
 /// The eight sectors of a page.
 fn sectors_of(page: &[u8; 4096]) -> &[[u8; 512]]
-    ensures { length result.now ≡ 8 }
+    ensures len { length result.now ≡ 8 }
+    ensures each { (i : ℕ) → i < 8 → slice_index_or result.now i [] ≡ sector_of page.now i }
 {
     page.as_chunks::<512>().0
 }

@@ -1,7 +1,7 @@
 //! What files are made of.
-ghost use Rattle.std.specs.Prelude.{◌≡◌, ◌≤◌, ◌^◌, ◌↔◌, length, OnErr, IsErrOf, IsTrue};
-ghost use Rattle.file_store.specs.Layout.{page_count};
-ghost use Rattle.file_store.specs.Format.{info_of, total_pages, IsTooLarge};
+ghost use Rattle.std.specs.Prelude.{◌≡◌, ◌≤◌, ◌^◌, ◌↔◌, ℕ, List, Some, length, drop, replicate, OnOk, OnErr, IsErrOf, IsTrue};
+ghost use Rattle.file_store.specs.Layout.{page_count, bytes_inside, trimmed};
+ghost use Rattle.file_store.specs.Format.{info_of, told_by, total_pages, IsTooLarge, IsDirectoryOf};
 
 use crate::directory::Entry;
 use crate::faults::FormatFault;
@@ -42,9 +42,12 @@ impl<R> FileSource<R> {
 impl<R: Read> FileSource<R> {
     /// Reads page `k`, which follows those that were read before, into a page of zeros.
     pub(crate) fn read_page(&mut self, k: u64, page: &mut [u8; 4096]) -> Result<(), FormatFault>
-        requires { k ≤ 2 ^ 20 }
+        requires bound { k ≤ 2 ^ 20 }
+        requires zeros { page.old ≡ replicate 4096 0 }
         ensures info { info_of self.new ≡ info_of self.old }
         ensures cause { OnErr result (IsErrOf result FormatFault.Source) }
+        ensures page { OnOk result ((told : List ℕ) → told_by R.remaining self.old.bytes ≡ Some told → page.new ≡ trimmed (bytes_inside self.old.length k) told) }
+        ensures rest { OnOk result ((told : List ℕ) → told_by R.remaining self.old.bytes ≡ Some told → told_by R.remaining self.new.bytes ≡ Some (drop (bytes_inside self.old.length k) told)) }
     {
         let inside = u64::from(self.length)
             .saturating_sub(PAGE_BYTES * k)
@@ -82,6 +85,7 @@ fn pages_of<R>(sources: &[FileSource<R>]) -> u64
 pub(crate) fn directory_of<R>(sources: &[FileSource<R>]) -> [u8; SECTOR_BYTES]
     requires files { length sources.now ≤ 64 }
     requires homes { total_pages sources.now ≤ 2 ^ 30 }
+    ensures { IsDirectoryOf sources.now result }
 {
     let mut directory = [0; SECTOR_BYTES];
     let mut first = 0;

@@ -315,3 +315,112 @@ fn formats_one_page(rt: HostRuntime) -> Result<(), Fail> {
     assert_eq!(rt; disk.writes(), 11);
     Ok(())
 }
+
+#[test]
+fn formats_files_one_after_another(rt: HostRuntime) -> Result<(), Fail> {
+    let zeros: FileSource<&[u8]> = FileSource {
+        read_only: false,
+        length: 5000,
+        bytes: None,
+    };
+    let letter: &[u8] = b"b";
+    let locked = FileSource {
+        read_only: true,
+        length: 1,
+        bytes: Some(letter),
+    };
+    let mut disk = SimDisk::new(rt.alloc(), 1044)?;
+    assert_eq!(rt; format(&mut disk, &mut [zeros, locked]), Ok(()));
+    assert_eq!(rt; *disk.sector(0), repeated(b"FAMSYNC1"));
+    assert_eq!(rt; *disk.sector(1), directory());
+    assert_eq!(rt; *disk.sector(2), [0; 512]);
+    assert_eq!(rt; *disk.sector(1036), single(0, 0x62));
+    let mut store = opened(disk.left(rt.alloc(), &[])?)?;
+    assert_eq!(rt;
+        first_byte(&mut store, FilePage { file: 0, page: 1 }),
+        Some(0)
+    );
+    assert_eq!(rt;
+        first_byte(&mut store, FilePage { file: 1, page: 0 }),
+        Some(0x62)
+    );
+    Ok(())
+}
+
+#[test]
+fn refuses_what_does_not_fit(rt: HostRuntime) -> Result<(), Fail> {
+    // One sector too few, and a file of two pages where there is one home.
+    for (sectors, length) in [(1019, 0), (1028, 4097)] {
+        let source: FileSource<&[u8]> = FileSource {
+            read_only: false,
+            length,
+            bytes: None,
+        };
+        let mut disk = SimDisk::new(rt.alloc(), sectors)?;
+        assert_eq!(rt;
+            format(&mut disk, &mut [source]),
+            Err(FormatFault::TooLarge)
+        );
+        assert_eq!(rt; disk.calls(), 0);
+    }
+    Ok(())
+}
+
+#[test]
+fn tells_a_source_that_ends_early(rt: HostRuntime) -> Result<(), Fail> {
+    let short: &[u8] = &[0x61; 4999];
+    let source = FileSource {
+        read_only: false,
+        length: 5000,
+        bytes: Some(short),
+    };
+    let mut disk = SimDisk::new(rt.alloc(), 1044)?;
+    assert_eq!(rt; format(&mut disk, &mut [source]), Err(FormatFault::Source));
+    // The first page was written, and nothing else.
+    assert_eq!(rt; (disk.writes(), disk.syncs()), (8, 0));
+    assert_eq!(rt;
+        fault_of(disk.left(rt.alloc(), &[])?),
+        Some(OpenFault::BadLayout)
+    );
+    Ok(())
+}
+
+#[test]
+fn a_stop_leaves_no_mark_or_a_whole_store(rt: HostRuntime) -> Result<(), Fail> {
+    let mark = repeated(b"FAMSYNC1");
+    for write in 1..12 {
+        let page: &[u8] = &[0x61; 4096];
+        let source = FileSource {
+            read_only: false,
+            length: 4096,
+            bytes: Some(page),
+        };
+        let mut disk = SimDisk::new(rt.alloc(), 1028)?;
+        disk.stop_at(write);
+        assert_eq!(rt; format(&mut disk, &mut [source]), Err(FormatFault::Device));
+        assert_eq!(rt; disk.writes(), write);
+        // The mark's own write may be lost, or reach the device.
+        assert_eq!(rt;
+            fault_of(disk.left(rt.alloc(), &[])?),
+            Some(OpenFault::BadLayout)
+        );
+        let after = disk.left(rt.alloc(), &[(0, mark)])?;
+        if write < 11 {
+            assert_eq!(rt; fault_of(after), Some(OpenFault::BadLayout));
+        } else {
+            let mut store = opened(after)?;
+            assert_eq!(rt;
+                first_byte(&mut store, FilePage { file: 0, page: 0 }),
+                Some(0x61)
+            );
+            assert_eq!(rt;
+                store.file(0),
+                Some(FileInfo {
+                    length: 4096,
+                    read_only: false
+                })
+            );
+        }
+    }
+    Ok(())
+}

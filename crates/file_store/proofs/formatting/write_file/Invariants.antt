@@ -1,11 +1,14 @@
-use Rattle.std.proofs.Common.{◌≡◌, ◌≤◌}
-use Rattle.file_store.specs.Format.{info_of}
+use Rattle.std.proofs.Common.{◌≡◌, ◌*◌, min, ℕ, List, Some, drop}
+use Rattle.sync_journal.specs.Layout.{home_sector}
+use Rattle.sync_journal.specs.Runs.{Runs}
+use Rattle.file_store.specs.Format.{info_of, told_by, IsFrom, HoldsPages}
 use Rattle.file_store.proofs.formatting.write_file.Given as goal
 
 abbrev pub invariant-loop-k : goal.invariant-loop-k
 invariant-loop-k g l = record {
-  size : g.D.SectorDisk.sector_count l.disk ≡ g.D.SectorDisk.sector_count l.initial.disk;
-  kept : g.D.SectorDisk.keeps_model l.disk → g.D.SectorDisk.keeps_model l.initial.disk;
-  later : g.D.SectorDisk.failures l.initial.disk ≤ g.D.SectorDisk.failures l.disk;
+  run : Runs g.D.SectorDisk (IsFrom (home_sector l.first)) l.initial.disk l.disk;
   info : info_of l.source ≡ info_of l.initial.source;
+  left : (told : List ℕ) → told_by g.R.Read.remaining l.initial.source.bytes ≡ Some told
+      → told_by g.R.Read.remaining l.source.bytes ≡ Some (drop (min l.initial.source.length (4096 * l.k)) told);
+  pages : g.D.SectorDisk.keeps_model l.disk → HoldsPages g.R.Read.remaining l.initial.source l.first l.k (g.D.SectorDisk.content l.disk);
 }

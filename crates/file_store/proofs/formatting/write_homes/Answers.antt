@@ -1,7 +1,13 @@
-use Rattle.std.proofs.Common.{◌≡◌, ◌+◌, ◌<◌, ◌≤◌, ◌∙◌, sym, ap, length, arith}
-use Rattle.std.proofs.lemmas.List.{length-set}
-use Rattle.sync_journal.specs.Layout.{home_count}
+use Rattle.std.proofs.Common.{◌≡◌, ◌+◌, ◌<◌, ◌∙◌, ⊎_elim, length, drop, slice_get, Some, drop-drop, refl, sym, ap, subst, get_or, arith}
+use Rattle.std.proofs.lemmas.Bool.{cases_eq}
+use Rattle.std.proofs.lemmas.List.{length-set, drop-set-lt}
+use Rattle.std.proofs.lemmas.Option.{same_Some, slice_get_read}
+use Rattle.sync_journal.specs.Layout.{home_count, home_sector}
+use Rattle.sync_journal.proofs.Runs.{one_more, of_more}
+use Rattle.file_store.specs.declared.sources.FileSource.{FileSource}
 use Rattle.file_store.specs.Layout.{page_count}
+use Rattle.file_store.specs.Format.{total_pages, first_home, IsFrom, HoldsPages}
+use Rattle.file_store.proofs.NewStores.{slice_get-drop, first_home-rest, first_home-order}
 use Rattle.file_store.proofs.Totals.{total_pages-rest, total_pages-set}
 use Rattle.file_store.proofs.formatting.write_homes.Goals as goal
 
@@ -11,25 +17,48 @@ write_file-requires g c =
     let below : c.loop-f.f < length c.loop-f.sources = omega (arith, inv.length, c.loop-f-test.true) in
     let e = total_pages-rest c.loop-f.sources c.loop-f.f c.index-sources-f.result below c.index-sources-f.is in
     let same = ap (λ s. page_count s.length) c.index-sources-f.is in
-    let homes = ap home_count inv.size in
+    let homes = ap home_count inv.run.size in
     omega (arith, e, same, homes, inv.rest, c.requires)
 
 pub overflow_add-first : goal.overflow_add-first
 overflow_add-first g c = omega (arith, c.loop-f.invariant.rest, c.requires, c.pages-first.ensures.bound)
 
+pub returns-in_err-write_file-clause-run : goal.returns-in_err-write_file-clause-run
+returns-in_err-write_file-clause-run g c = one_more g.D.SectorDisk (IsFrom 1020) c.args.disk.now c.loop-f.disk c.write_file.new.disk c.loop-f.invariant.run
+    (of_more g.D.SectorDisk (IsFrom (home_sector c.loop-f.first)) (IsFrom 1020) c.loop-f.disk c.write_file.new.disk (λ k behind. omega (arith, behind)) c.write_file.ensures.run)
+
 pub loop-f-preserved : goal.loop-f-preserved
 loop-f-preserved g c =
     let inv = c.loop-f.invariant in
     let w = c.write_file.ensures in
-    let below : c.loop-f.f < length c.loop-f.sources = omega (arith, inv.length, c.loop-f-test.true) in
-    let e = total_pages-rest c.loop-f.sources c.loop-f.f c.index-sources-f.result below c.index-sources-f.is in
-    let behind = total_pages-set c.loop-f.sources c.loop-f.f c.write_file.new.source in
+    let sources = c.args.sources.now in
+    let f = c.loop-f.f in
+    let below : f < length c.loop-f.sources = omega (arith, inv.length, c.loop-f-test.true) in
+    let e = total_pages-rest c.loop-f.sources f c.index-sources-f.result below c.index-sources-f.is in
+    let after = total_pages-set c.loop-f.sources f c.write_file.new.source in
     let same = ap (λ i. page_count i.length) w.info in
     let is = ap (λ s. page_count s.length) c.index-sources-f.is in
+    let here : slice_get sources f ≡ Some c.index-sources-f.result = sym (slice_get-drop sources f) ∙ ap (λ list. slice_get list 0) (sym inv.behind) ∙ slice_get-drop c.loop-f.sources f
+    ∙ slice_get_read c.loop-f.sources (length c.loop-f.sources) f c.index-sources-f.result refl below c.index-sources-f.is in
+    let first : c.loop-f.first ≡ first_home sources f = let split = first_home-rest sources f in let behind = ap total_pages inv.behind in omega (arith, split, behind, inv.rest) in
     record {
-      size = w.size ∙ inv.size;
-      kept = λ k. inv.kept (w.kept k);
-      later = omega (arith, inv.later, w.later);
-      length = length-set c.loop-f.sources c.loop-f.f c.write_file.new.source ∙ inv.length;
-      rest = omega (arith, e, behind, same, is, inv.rest, c.pages-first.ensures.count);
+      run = one_more g.D.SectorDisk (IsFrom 1020) c.args.disk.now c.loop-f.disk c.write_file.new.disk inv.run
+          (of_more g.D.SectorDisk (IsFrom (home_sector c.loop-f.first)) (IsFrom 1020) c.loop-f.disk c.write_file.new.disk (λ k behind. omega (arith, behind)) w.run);
+      length = length-set c.loop-f.sources f c.write_file.new.source ∙ inv.length;
+      rest = omega (arith, e, after, same, is, inv.rest, c.pages-first.ensures.count);
+      behind = drop-set-lt (f + 1) c.loop-f.sources f c.write_file.new.source (omega arith)
+          ∙ sym (drop-drop 1 f c.loop-f.sources) ∙ ap (drop 1) inv.behind ∙ drop-drop 1 f sources;
+      files = λ keeps h source less at. ⊎_elim
+          (λ same.
+          let source_is : get_or c.loop-f.sources f c.index-sources-f.result ≡ source = sym c.index-sources-f.is ∙ same_Some c.index-sources-f.result source (sym here ∙ ap (slice_get sources) (sym same) ∙ at) in
+          let from : c.loop-f.first ≡ first_home sources h = first ∙ ap (first_home sources) (sym same) in
+          subst (λ n. HoldsPages g.R.Read.remaining source n (page_count source.length) (g.D.SectorDisk.content c.write_file.new.disk)) from
+          (subst (λ (s : FileSource g.row.R.Denot). HoldsPages g.R.Read.remaining s c.loop-f.first (page_count s.length) (g.D.SectorDisk.content c.write_file.new.disk)) source_is
+          (c.in_ok-write_file.ensures.pages keeps)))
+          (λ other. λ k page inside given i lt.
+          let order = first_home-order sources h f source (omega (arith, less, other)) at in
+          ⊎_elim (λ behind. absurd (omega (arith, behind, first, order, inside, lt)))
+          (λ e. e ∙ inv.files (w.run.kept keeps) h source (omega (arith, less, other)) at k page inside given i lt)
+          ((w.run.touches keeps).content (home_sector (first_home sources h + k) + i)))
+          (cases_eq h f);
     }

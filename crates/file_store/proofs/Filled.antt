@@ -1,0 +1,30 @@
+-- Pages of zeros whose front is read from a source.
+use Rattle.std.proofs.Common.{◌≡◌, ℕ, ◌-◌, ◌≤◌, List, [], ◌++◌, length, drop, replicate, Option, Some, None, refl, sym, ap, ◌∙◌, arith}
+use Rattle.std.proofs.lemmas.List.{take_all, take_at, drop-replicate}
+use Rattle.std.proofs.lemmas.Option.{none-some, same_Some}
+use Rattle.std.specs.Io.KnownBytes.{Consumes}
+use Rattle.file_store.specs.Layout.{trimmed}
+
+-- the front of what is told, and zeros
+pub trimmed_front : (n : ℕ) (given rest : List ℕ) → length given ≡ n → n ≤ 4096 → given ++ drop n (replicate 4096 0) ≡ trimmed n (given ++ rest)
+unfolding trimmed
+trimmed_front n given rest size small =
+    ap (λ (zeros : List ℕ). given ++ zeros) (drop-replicate n 4096 0)
+    ∙ ap (λ (m : ℕ). given ++ replicate (4096 - m) 0) (sym size)
+    ∙ sym (ap (λ (front : List ℕ). front ++ replicate (4096 - length front) 0) (take_at given rest n size))
+
+-- nothing is told
+pub trimmed_nothing : (n : ℕ) → replicate 4096 0 ≡ trimmed n []
+unfolding trimmed
+trimmed_nothing n = sym (ap (λ (front : List ℕ). front ++ replicate (4096 - length front) 0) (take_all n [] (omega arith)))
+
+-- what was read is the front of what the source told, and it tells the rest
+pub record IsRead (told given : List ℕ) (left : Option (List ℕ)) : Type 0 where
+  pub rest : List ℕ
+  pub is_left : left ≡ Some rest
+  pub whole : told ≡ given ++ rest
+
+pub is_read : (old new : Option (List ℕ)) (told given : List ℕ) → old ≡ Some told → Consumes old new given → IsRead told given new
+is_read None new told given is consumes = absurd (none-some told is)
+is_read (Some xs) None told given is consumes = absurd consumes
+is_read (Some xs) (Some ys) told given is consumes = record { rest = ys; is_left = refl; whole = sym (same_Some xs told is) ∙ consumes }

@@ -1,0 +1,195 @@
+-- The directory and the homes of a new store.
+use Rattle.std.proofs.Common.{◌≡◌, ℕ, zero, suc, ◌+◌, ◌*◌, ◌%◌, ◌<◌, ◌≤◌, ⊎_elim, false, List, [], ◌∷◌, length, drop, slice_get, Option, Some, None, refl, sym, ap, subst, ◌∙◌, arith}
+use Rattle.std.specs.Option.{option_map}
+use Rattle.std.proofs.lemmas.Bool.{cases_lt}
+use Rattle.std.proofs.lemmas.Option.{none-some, same_Some, slice_get_within, slice_get_cases}
+use Rattle.vm_types.specs.declared.file.FileInfo.{FileInfo}
+use Rattle.disk_model.specs.Stop.{Image}
+use Rattle.sync_journal.specs.Layout.{home_count, home_sector}
+use Rattle.sync_journal.specs.Gate.{is_open, is_open_sector}
+use Rattle.sync_journal.specs.Standing.{sector_of, standing}
+use Rattle.sync_journal.proofs.Changes.{closed_not_bad}
+use Rattle.file_store.specs.declared.directory.Entry.{Entry}
+use Rattle.file_store.specs.declared.sources.FileSource.{FileSource}
+use Rattle.file_store.specs.Layout.{mark, page_count, bytes_inside, trimmed}
+use Rattle.file_store.specs.Directory.{AreGood}
+use Rattle.file_store.specs.Standing.{directory_entry, page_standing, standing_page}
+use Rattle.file_store.specs.Format.{page_told, info_of, files_given, total_pages, told_by, first_home, entry_given, HoldsPage, IsTooLarge, IsDirectoryOf, IsUnmarkedStoreOf, IsStoreOf}
+use Rattle.file_store.specs.Format.IsTooLarge.{TooFewSectors, TooManyPages}
+use Rattle.file_store.proofs.Pieces.{joined-same, joined_sectors, trimmed-trimmed, length-trimmed}
+use Rattle.file_store.proofs.Images.{standing_closed, layout_is_good}
+
+-- where a list goes on
+pub slice_get-drop : {A : Type 0} → (list : List A) (n : ℕ) → slice_get (drop n list) 0 ≡ slice_get list n
+slice_get-drop [] zero = refl
+slice_get-drop [] (suc n) = refl
+slice_get-drop (x ∷ list) zero = refl
+slice_get-drop (x ∷ list) (suc n) = slice_get-drop list n
+
+module _ {R : Type 0} where
+  -- the files before file f, and those from it on
+  pub first_home-rest : (sources : List (FileSource R)) (f : ℕ) → first_home sources f + total_pages (drop f sources) ≡ total_pages sources
+  unfolding total_pages
+  first_home-rest [] zero = refl
+  first_home-rest [] (suc f) = refl
+  first_home-rest (s ∷ sources) zero = omega arith
+  first_home-rest (s ∷ sources) (suc f) = let rest = first_home-rest sources f in omega (arith, rest)
+
+  -- a file's homes end where those of a later one begin
+  pub first_home-order : (sources : List (FileSource R)) (f g : ℕ) (source : FileSource R) → f < g → slice_get sources f ≡ Some source
+      → first_home sources f + page_count source.length ≤ first_home sources g
+  unfolding total_pages
+  first_home-order [] f g source less at = absurd (none-some source at)
+  first_home-order (s ∷ sources) f zero source less at = absurd (omega (arith, less))
+  first_home-order (s ∷ sources) zero (suc g) source less at =
+      let same = ap (λ x. page_count x.length) (same_Some s source at) in
+      omega (arith, same)
+  first_home-order (s ∷ sources) (suc f) (suc g) source less at =
+      let rest = first_home-order sources f g source (omega (arith, less)) at in
+      omega (arith, rest)
+
+  -- and end within the store
+  pub first_home-fits : (sources : List (FileSource R)) (f : ℕ) (source : FileSource R) → slice_get sources f ≡ Some source
+      → first_home sources f + page_count source.length ≤ total_pages sources
+  unfolding total_pages
+  first_home-fits [] f source at = absurd (none-some source at)
+  first_home-fits (s ∷ sources) zero source at =
+      let same = ap (λ x. page_count x.length) (same_Some s source at) in
+      omega (arith, same)
+  first_home-fits (s ∷ sources) (suc f) source at =
+      let rest = first_home-fits sources f source at in
+      omega (arith, rest)
+
+  -- what an entry comes from
+  pub record ComesFrom (sources : List (FileSource R)) (f : ℕ) (e : Entry) : Type 0 where
+    pub source : FileSource R
+    pub at : slice_get sources f ≡ Some source
+    pub first : e.first ≡ first_home sources f % 1073741824
+    pub pages : page_count e.info.length ≡ page_count source.length
+
+  comes_from_some : (sources : List (FileSource R)) (f : ℕ) (e : Entry) (source : Option (FileSource R)) → slice_get sources f ≡ source
+      → option_map (λ s. record { first = first_home sources f % 1073741824; info = info_of s }) source ≡ Some e → ComesFrom sources f e
+  comes_from_some sources f e None at is = absurd (none-some e is)
+  comes_from_some sources f e (Some s) at is =
+      let entry : Entry = record { first = first_home sources f % 1073741824; info = info_of s } in
+      let same : entry ≡ e = same_Some entry e is in
+      record { source = s; at = at; first = sym (ap (λ x. x.first) same); pages = sym (ap (λ x. page_count x.info.length) same) }
+
+  pub comes_from : (sources : List (FileSource R)) (f : ℕ) (e : Entry) → entry_given sources f ≡ Some e → ComesFrom sources f e
+  comes_from sources f e is = comes_from_some sources f e (slice_get sources f) refl is
+
+  -- the entry of a file that has a page
+  entry_of_pages : (sources : List (FileSource R)) (f : ℕ) (source : FileSource R) → slice_get sources f ≡ Some source → first_home sources f < 1073741824
+      → entry_given sources f ≡ Some (record { first = first_home sources f; info = info_of source })
+  entry_of_pages sources f source at small =
+      let first : first_home sources f % 1073741824 ≡ first_home sources f = omega (arith, small) in
+      ap (option_map (λ s. record { first = first_home sources f % 1073741824; info = info_of s })) at
+      ∙ ap (λ n. Some (record { first = n; info = info_of source })) first
+
+  -- what is written of file f
+  pub entry_written : (sources : List (FileSource R)) (f first : ℕ) (info : FileInfo) (source : FileSource R) → slice_get sources f ≡ Some source → first ≡ first_home sources f
+      → info ≡ info_of source → ◌≡◌ {A = Option Entry} (Some (record { first = first % 1073741824; info = info })) (entry_given sources f)
+  entry_written sources f first info source at home facts =
+      ap (λ n. Some (record { first = n % 1073741824; info = info })) home
+      ∙ ap (λ i. Some (record { first = first_home sources f % 1073741824; info = i })) facts
+      ∙ sym (ap (option_map (λ s. record { first = first_home sources f % 1073741824; info = info_of s })) at)
+
+  no_entry : (first : ℕ) (source : Option (FileSource R)) → ◌≡◌ {A = Option Entry} (option_map (λ s. record { first = first; info = info_of s }) source) None → source ≡ None
+  no_entry first None is = refl
+  no_entry first (Some s) is = cc
+
+  -- a file that has no entry is behind the last source
+  pub past_the_last : (sources : List (FileSource R)) (f : ℕ) → entry_given sources f ≡ None → length sources ≤ f
+  past_the_last sources f is = ⊎_elim
+      (λ inside. absurd (none-some inside.0 (sym (no_entry (first_home sources f % 1073741824) (slice_get sources f) is) ∙ inside.2)))
+      (λ past. past.0)
+      (slice_get_cases sources f).1
+
+  entry_info : (first : ℕ) (source : Option (FileSource R))
+      → option_map (λ (e : Entry). e.info) (option_map (λ s. record { first = first; info = info_of s }) source) ≡ option_map info_of source
+  entry_info first None = refl
+  entry_info first (Some s) = refl
+
+  -- what an entry says of its file
+  pub info_given : (sources : List (FileSource R)) (f : ℕ) → option_map (λ (e : Entry). e.info) (entry_given sources f) ≡ files_given sources f
+  info_given sources f = entry_info (first_home sources f % 1073741824) (slice_get sources f)
+
+  -- a directory of files that fit is good
+  pub good_given : (homes : ℕ) (sources : List (FileSource R)) (sector : List ℕ) → total_pages sources ≤ homes → homes ≤ 1073741824
+      → IsDirectoryOf sources sector → AreGood homes sector 64
+  good_given homes sources sector fit few directory = record {
+    zero = λ f lt none. directory.rest f lt (past_the_last sources f (sym (directory.entries f) ∙ none));
+    within = λ f e lt is.
+        let from = comes_from sources f e (sym (directory.entries f) ∙ is) in
+        let end = first_home-fits sources f from.source from.at in
+        omega (arith, from.first, from.pages, end, fit);
+    apart = λ f g h a b less lt is is' in_a in_b.
+        let first = comes_from sources f a (sym (directory.entries f) ∙ is) in
+        let second = comes_from sources g b (sym (directory.entries g) ∙ is') in
+        let order = first_home-order sources f g first.source less first.at in
+        let end = first_home-fits sources g second.source second.at in
+        omega (arith, first.first, first.pages, second.first, second.pages, order, end, fit, few, in_a.0, in_a.1, in_b.0, in_b.1);
+  }
+
+  -- what is not too large fits
+  pub store_fits : (sectors : ℕ) (sources : List (FileSource R)) → (IsTooLarge sectors sources → ⊥) → (1020 ≤ sectors) × (total_pages sources ≤ home_count sectors)
+  store_fits sectors sources fit = (
+    ⊎_elim (λ few. absurd (fit (TooFewSectors few))) (λ room. room) (cases_lt sectors 1020),
+    ⊎_elim (λ many. absurd (fit (TooManyPages many))) (λ homes. homes) (cases_lt (home_count sectors) (total_pages sources)),
+  )
+
+-- a page of bytes that are told
+pub record IsTold (length k : ℕ) (told : Option (List ℕ)) (page : List ℕ) : Type 0 where
+  pub bytes : List ℕ
+  pub are : told ≡ Some bytes
+  pub page_is : page ≡ trimmed (bytes_inside length k) (drop (4096 * k) bytes)
+
+pub is_told : (length k : ℕ) (told : Option (List ℕ)) (page : List ℕ) → page_told length k told ≡ Some page → IsTold length k told page
+is_told length k None page is = absurd (none-some page is)
+is_told length k (Some bytes) page is = record { bytes = bytes; are = refl; page_is = sym (same_Some (trimmed (bytes_inside length k) (drop (4096 * k) bytes)) page is) }
+
+-- such a page is of 4,096 bytes, and has no byte past its end
+told_trimmed : (length k : ℕ) (told : Option (List ℕ)) (page : List ℕ) → IsTold length k told page → trimmed (bytes_inside length k) page ≡ page
+told_trimmed length k told page is =
+    let small : bytes_inside length k ≤ 4096 = omega arith in
+    ap (trimmed (bytes_inside length k)) is.page_is ∙ trimmed-trimmed (bytes_inside length k) (drop (4096 * k) is.bytes) small ∙ sym is.page_is
+
+told_size : (n k : ℕ) (told : Option (List ℕ)) (page : List ℕ) → IsTold n k told page → length page ≡ 4096
+told_size n k told page is =
+    let small : bytes_inside n k ≤ 4096 = omega arith in
+    ap length is.page_is ∙ length-trimmed (bytes_inside n k) (drop (4096 * k) is.bytes) small
+
+module _ {R : Type 0} (remaining : R → Option (List ℕ)) (sources : List (FileSource R)) where
+  -- the mark is no part of it
+  pub unmarked_moves : (old new : Image) → ((k : ℕ) → 1 ≤ k → new k ≡ old k) → IsUnmarkedStoreOf remaining sources old → IsUnmarkedStoreOf remaining sources new
+  unmarked_moves old new same all = record {
+    directory = subst (λ (s : List ℕ). IsDirectoryOf sources s) (sym (same 1 (omega arith))) all.directory;
+    gate = ap is_open_sector (same 2 (omega arith)) ∙ all.gate;
+    files = λ f source lt at k page below given i inside. same (home_sector (first_home sources f + k) + i) (omega arith) ∙ all.files f source lt at k page below given i inside;
+  }
+
+  -- a page of it
+  page_stands : (image : Image) (f k : ℕ) (source : FileSource R) (page : List ℕ) → is_open image ≡ false
+      → directory_entry image f ≡ Some (record { first = first_home sources f; info = info_of source })
+      → HoldsPage (first_home sources f + k) page image → IsTold source.length k (told_by remaining source.bytes) page → standing_page image f k ≡ page
+  page_stands image f k source page closed entry holds told =
+      let first = first_home sources f in
+      ap (page_standing image k) entry
+      ∙ ap (trimmed (bytes_inside source.length k)) (joined-same 8 (standing image (first + k)) (sector_of page)
+      (λ i inside. standing_closed image (first + k) i closed ∙ holds i inside) ∙ joined_sectors page (told_size source.length k (told_by remaining source.bytes) page told))
+      ∙ told_trimmed source.length k (told_by remaining source.bytes) page told
+
+  -- with the mark it is the store
+  pub store_if_marked : (sectors : ℕ) (image : Image) → 1020 ≤ sectors → total_pages sources ≤ home_count sectors
+      → IsUnmarkedStoreOf remaining sources image → image 0 ≡ mark → IsStoreOf remaining sectors sources image
+  store_if_marked sectors image room fit all marked = record {
+    layout = layout_is_good sectors image room marked (good_given (home_count sectors) sources (image 1) fit (omega arith) all.directory);
+    journal = closed_not_bad sectors image all.gate;
+    facts = λ f. ap (option_map (λ (e : Entry). e.info)) (all.directory.entries f) ∙ info_given sources f;
+    pages = λ f k source page at inside given.
+        let end = first_home-fits sources f source at in
+        let first : first_home sources f < 1073741824 = omega (arith, end, fit, inside) in
+        page_stands image f k source page all.gate (all.directory.entries f ∙ entry_of_pages sources f source at first)
+        (all.files f source (slice_get_within sources f source at) at k page (omega (arith, inside)) given)
+        (is_told source.length k (told_by remaining source.bytes) page given);
+  }

@@ -1,0 +1,46 @@
+use Rattle.std.proofs.Common.{◌≡◌, ℕ, ◌+◌, ◌*◌, ◌<◌, min, List, Some, drop, drop-drop, sym, ap, ◌∙◌, ⊎_elim, arith}
+use Rattle.std.proofs.lemmas.Bool.{cases_eq}
+use Rattle.sync_journal.specs.Layout.{home_sector, IsPageSector}
+use Rattle.sync_journal.specs.Standing.{sector_of}
+use Rattle.sync_journal.proofs.Runs.{one_more, of_more}
+use Rattle.file_store.specs.Layout.{bytes_inside, trimmed}
+use Rattle.file_store.specs.Format.{told_by, page_given, IsFrom}
+use Rattle.file_store.proofs.NewStores.{is_told}
+use Rattle.file_store.proofs.formatting.write_file.Goals as goal
+
+pub loop-k-preserved : goal.loop-k-preserved
+loop-k-preserved g c =
+    let inv = c.loop-k.invariant in
+    let r = c.in_ok-read_page.ensures in
+    let w = c.write_sectors.ensures in
+    let remaining = g.R.Read.remaining in
+    let content = g.D.SectorDisk.content in
+    let length : c.loop-k.source.length ≡ c.args.source.now.length = ap (λ i. i.length) inv.info in
+    let more : 4096 * c.loop-k.k < c.args.source.now.length = omega (arith, c.loop-k-test.true, c.pages-k-end.ensures.count) in
+    record {
+      run = one_more g.D.SectorDisk (IsFrom (home_sector c.args.first)) c.args.disk.now c.loop-k.disk c.write_sectors.new.disk inv.run
+          (of_more g.D.SectorDisk (IsPageSector (1020 + 8 * (c.args.first + c.loop-k.k))) (IsFrom (home_sector c.args.first)) c.loop-k.disk c.write_sectors.new.disk
+          (λ k inside. omega (arith, inside.0)) w.run);
+      info = c.read_page.ensures.info ∙ inv.info;
+      left = λ told is.
+          let e : min c.args.source.now.length (4096 * c.loop-k.k) + bytes_inside c.loop-k.source.length c.loop-k.k ≡ min c.args.source.now.length (4096 * (c.loop-k.k + 1)) = omega (arith, more, length) in
+          r.rest _ (inv.left told is)
+          ∙ ap Some (drop-drop (bytes_inside c.loop-k.source.length c.loop-k.k) (min c.args.source.now.length (4096 * c.loop-k.k)) told ∙ ap (λ n. drop n told) e);
+      pages = λ keeps j page below given i inside. ⊎_elim
+          (λ same.
+          let told = is_told c.args.source.now.length c.loop-k.k (told_by remaining c.args.source.now.bytes) page
+          (ap (page_given remaining c.args.source.now) (sym same) ∙ given) in
+          let reached : min c.args.source.now.length (4096 * c.loop-k.k) ≡ 4096 * c.loop-k.k = omega (arith, more) in
+          let page_is : c.read_page.new.page ≡ page = r.page _ (inv.left told.bytes told.are)
+          ∙ ap (λ n. trimmed (bytes_inside n c.loop-k.k) (drop (min c.args.source.now.length (4096 * c.loop-k.k)) told.bytes)) length
+          ∙ ap (λ n. trimmed (bytes_inside c.args.source.now.length c.loop-k.k) (drop n told.bytes)) reached
+          ∙ sym told.page_is in
+          ap (λ n. content c.write_sectors.new.disk (home_sector (c.args.first + n) + i)) same
+          ∙ c.in_ok-write_sectors.ensures.written keeps i inside
+          ∙ ap (λ (p : List ℕ). sector_of p i) page_is)
+          (λ other.
+          let mid = w.run.kept keeps in
+          let here = inv.pages mid j page (omega (arith, below, other)) given i inside in
+          ⊎_elim (λ at. absurd (omega (arith, at.0, below, other, inside))) (λ e. e ∙ here) ((w.run.touches keeps).content (home_sector (c.args.first + j) + i)))
+          (cases_eq j c.loop-k.k);
+    }
