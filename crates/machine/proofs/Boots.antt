@@ -13,6 +13,8 @@ use Rattle.file_store.specs.Store as Stores
 use Rattle.file_store.specs.declared.faults.OpenFault.{OpenFault}
 use Rattle.file_store.specs.declared.faults.OpenFault.TheVariants.{Device as StoreDevice, BadLayout as StoreLayout, BadJournal as StoreJournal}
 use Rattle.file_store.specs.declared.store.FileStore.{FileStore}
+use Rattle.spaces.specs.Space.{space_of, files_of, touched_at, plain}
+use Rattle.spaces.specs.declared.memory.Memory.{Memory}
 use Rattle.sync_journal.specs.Standing.{IsBadJournal}
 use Rattle.vm_types.specs.declared.file.FileInfo.{FileInfo}
 use Rattle.vm_types.specs.Files.{Files}
@@ -20,10 +22,8 @@ use Rattle.vm_types.specs.StageLimits.{IsOneFile}
 use Rattle.vm_types.specs.State.{State}
 use Rattle.machine.specs.declared.boot.BootFault.TheVariants.{BadLayout, BadJournal}
 use Rattle.machine.specs.declared.machine.Machine.{Machine}
-use Rattle.machine.specs.declared.memory.Memory.{Memory}
 use Rattle.machine.specs.Boot.{IsUnfit, IsOnly, IsFresh, AreRead, Boots}
 use Rattle.machine.specs.Fault.{boot_fault}
-use Rattle.machine.specs.Shows.{space_of, files_of, touched_at}
 
 pub was_layout : (fault : OpenFault) → boot_fault fault ≡ BadLayout → fault ≡ StoreLayout
 was_layout StoreDevice e = cc
@@ -178,7 +178,7 @@ whole_of m = omega (arith, m.whole, m.pages.ok.0)
 abbrev start : Memory → State
 start m = record {
   live = λ pid. m.live && pid == 1;
-  views = λ pid. space_of m.mapping;
+  views = λ pid. space_of m.regions;
   files = files_of m.info;
   volatile = λ f k. get_or m.pages.items k [];
   durable = λ f k. get_or m.pages.items k [];
@@ -188,21 +188,22 @@ start m = record {
 
 module _ {D E : Type 0} (g : Ghosts D) (h : Ghosts E) where
   pub boots : (entry : D) (store : FileStore D) (m : Machine D E) (info : FileInfo)
-      → IsOpened g entry store → IsOnly (Stores.files_of store) info → IsFresh m.memory info → AreRead g store m.store m.memory.pages.items
+      → m.halted ≡ false → IsOpened g entry store → IsOnly (Stores.files_of store) info → IsFresh m.core.memory info → AreRead g store m.core.store m.core.memory.pages.items
       → Boots g h entry m
-  boots entry store m info opened only fresh read = record {
-    state = start m.memory;
+  boots entry store m info goes opened only fresh read = record {
+    state = start m.core.memory;
     shows = record {
-      pages = record { live = λ pid. refl; views = refl; files = refl; volatile = λ page less. refl; touched = λ file page. refl; running = sym fresh.halted };
+      pages = record { live = λ pid. refl; views = refl; files = refl; volatile = λ page less. refl; touched = λ file page. refl };
+      running = sym goes;
       stands = λ keeps c may.
-          let at : StandsFor (g.sector_count entry) (files_of m.memory.info) (λ f k. get_or m.memory.pages.items k []) c =
+          let at : StandsFor (g.sector_count entry) (files_of m.core.memory.info) (λ f k. get_or m.core.memory.pages.items k []) c =
           opened.leaves (read.kept keeps) c (seen keeps c may) _ _ (held keeps) in
-          (_, refl, subst (λ (n : ℕ). StandsFor n (files_of m.memory.info) (λ f k. get_or m.memory.pages.items k []) c) (sym (read.size ∙ opened.size)) at);
+          (_, refl, subst (λ (n : ℕ). StandsFor n (files_of m.core.memory.info) (λ f k. get_or m.core.memory.pages.items k []) c) (sym (read.size ∙ opened.size)) at);
     };
     start = record {
       live = λ pid. rw fresh.live refl;
-      views = λ pid page. rw fresh.mapping refl;
-      files = record { info = m.memory.info; first = refl; pages = length m.memory.pages.items; whole = whole_of m.memory; others = λ file more. none_of m.memory.info file more };
+      views = λ pid page. ap (option_map plain) (fresh.empty page);
+      files = record { info = m.core.memory.info; first = refl; pages = length m.core.memory.pages.items; whole = whole_of m.core.memory; others = λ file more. none_of m.core.memory.info file more };
       same = λ file page. refl;
       touched = λ file page. clean file page;
       running = refl;
@@ -210,10 +211,10 @@ module _ {D E : Type 0} (g : Ghosts D) (h : Ghosts E) where
     stands = λ keeps. held keeps;
   }
     where
-      held : g.keeps_model m.store.disk → StandsFor (g.sector_count entry) (files_of m.memory.info) (λ f k. get_or m.memory.pages.items k []) (g.content entry)
-      held keeps = rw fresh.info_is (stands_entry g entry store m.store info m.memory.pages.items (sym (ap (λ (i : FileInfo). i.length) fresh.info_is) ∙ whole_of m.memory) opened only read keeps)
+      held : g.keeps_model m.core.store.disk → StandsFor (g.sector_count entry) (files_of m.core.memory.info) (λ f k. get_or m.core.memory.pages.items k []) (g.content entry)
+      held keeps = rw fresh.info_is (stands_entry g entry store m.core.store info m.core.memory.pages.items (sym (ap (λ (i : FileInfo). i.length) fresh.info_is) ∙ whole_of m.core.memory) opened only read keeps)
 
-      seen : g.keeps_model m.store.disk → (c : Image) → MayLeave (g.content m.store.disk) (g.unsynced m.store.disk) c → MayLeave (g.content store.disk) (g.unsynced store.disk) c
+      seen : g.keeps_model m.core.store.disk → (c : Image) → MayLeave (g.content m.core.store.disk) (g.unsynced m.core.store.disk) c → MayLeave (g.content store.disk) (g.unsynced store.disk) c
       seen keeps c may =
           let t = read.touches keeps in
           record {
@@ -221,6 +222,6 @@ module _ {D E : Type 0} (g : Ghosts D) (h : Ghosts E) where
                 (λ e. ⊎_elim (λ none. absurd none) (λ same. inr (e ∙ same)) (t.content k)) (may.kept k);
           }
 
-      clean : (file page : ℕ) → touched_at m.memory.touched.items file page ≡ false
+      clean : (file page : ℕ) → touched_at m.core.memory.touched.items file page ≡ false
       clean zero page = fresh.touched page
       clean (suc file) page = rw (not_zero file) refl

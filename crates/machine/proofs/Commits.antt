@@ -1,136 +1,246 @@
 -- msync on a machine.
-use Rattle.std.proofs.Common.{ℕ, ◌≡◌, ◌<◌, ◌≤◌, inl, inr, ⊎_elim, true, false, List, Option, Err, refl, sym, ap, subst, lt_irrefl}
-use Rattle.disk_model.specs.Moments.{LeavesNow, LeavesOnly}
+use Rattle.std.proofs.Common.{ℕ, ◌≡◌, ◌<◌, ◌≤◌, ◌⊎◌, inl, inr, ⊎_elim, ◌∷◌, [], Bool, true, false, not, ◌==◌, ◌%◌, ◌/◌, if◌then◌else◌, nat_lt, List, Option, Some, None, is_some, refl, sym, ap, ◌∙◌, subst}
+use Rattle.disk_model.specs.Moments.{LeavesNow}
 use Rattle.disk_model.specs.Stop.{Image, MayLeave}
 use Rattle.disk_model.specs.declared.sector_disk.SectorDisk.{Ghosts}
 use Rattle.disk_model.proofs.Moments.{weaker, holds_now}
 use Rattle.file_store.specs.Commit.{StandsForEither}
 use Rattle.file_store.specs.Standing.{StandsFor}
-use Rattle.sync_journal.specs.Source.{HasCauses}
-use Rattle.sync_journal.specs.declared.faults.CommitFault.{CommitFault}
-use Rattle.sync_journal.specs.declared.faults.CommitFault.TheVariants.{Source, Device}
+use Rattle.spaces.specs.Core as Spaces
+use Rattle.spaces.specs.Core.{Commits, IsEnd, Acknowledged, Failed}
+use Rattle.spaces.specs.Shows.{ShowsPages, Does}
+use Rattle.spaces.specs.declared.memory.Memory.{Memory}
+use Rattle.spaces.specs.declared.state.Core.{Core}
+use Rattle.vm_types.specs.declared.command.Command.{Command}
 use Rattle.vm_types.specs.declared.command.Command.TheVariants.{Msync}
 use Rattle.vm_types.specs.declared.command.MsyncMode.{MsyncMode}
-use Rattle.vm_types.specs.declared.refusal.Errno.TheVariants.{EIO}
+use Rattle.vm_types.specs.declared.command.MsyncMode.TheVariants.{Sync, Async}
+use Rattle.vm_types.specs.declared.refusal.Errno.{Errno}
+use Rattle.vm_types.specs.declared.refusal.Errno.TheVariants.{ESRCH, EIO, EINVAL, ENOMEM, ENOSPC}
+use Rattle.vm_types.specs.declared.reply.Reply.{Reply}
 use Rattle.vm_types.specs.declared.reply.Reply.TheVariants.{Done, Refused}
-use Rattle.vm_types.specs.Files.{Files}
-use Rattle.vm_types.specs.Msync.{touched_in, committed, synced, msync_ruling}
-use Rattle.vm_types.specs.Msync as Flats
+use Rattle.vm_types.specs.Checks.{Check, first_of, pages_from}
+use Rattle.vm_types.specs.Msync.{Ruling, Refuses, Passes, Takes, or_else, row_ruling, msync_ruling, touched_count, committed}
+use Rattle.vm_types.specs.Prefix.{is_io_error, may_have_taken}
+use Rattle.vm_types.specs.Rows.{is_covered}
 use Rattle.vm_types.specs.Run.{Answers, Fails}
 use Rattle.vm_types.specs.State.{State, IsRunning, halted}
-use Rattle.vm_types.specs.Step.{msync_outcome, commit_of, takes}
-use Rattle.vm_types.specs.View.{Pages}
-use Rattle.machine.specs.declared.chosen.Chosen.{Chosen}
+use Rattle.vm_types.specs.Step.{outcome, msync_outcome, ruling, commit_of, commits, takes}
+use Rattle.vm_types.specs.View.{Pages, attrs_of}
 use Rattle.machine.specs.declared.machine.Machine.{Machine}
-use Rattle.machine.specs.declared.memory.Memory.{Memory}
 use Rattle.machine.specs.Machine.{stands_in, MayStand, HoldsIn, StandsForSome, Shows, Meets}
-use Rattle.machine.specs.Msyncs.{TakesSame}
-use Rattle.machine.specs.Shows.{ShowsPages}
-use Rattle.machine.proofs.Flat.{is_running}
+use Rattle.machine.proofs.Flat.{OnlyNow, is_running, flat}
+use Rattle.machine.proofs.Steps.{outcome_keeps, commit_takes}
+
+-- no check answers EIO
+abbrev IsNoFailure : Option Errno → Type 0
+IsNoFailure None = Unit {0}
+IsNoFailure (Some errno) = is_io_error errno ≡ false
+
+abbrev RefusesOnly : Ruling → Type 0
+RefusesOnly (Refuses errno) = is_io_error errno ≡ false
+RefusesOnly Passes = Unit {0}
+RefusesOnly (Takes pid first count) = Unit {0}
+
+one_check : (b : Bool) (errno : Errno) (rest : List Check) → is_io_error errno ≡ false → IsNoFailure (first_of rest) → IsNoFailure (first_of ((b, errno) ∷ rest))
+one_check true errno rest e h = e
+one_check false errno rest e h = h
+
+checked : (o : Option Errno) (r : Ruling) → IsNoFailure o → RefusesOnly r → RefusesOnly (or_else o r)
+checked None r h k = k
+checked (Some errno) r h k = h
+
+either_ruling : (b : Bool) (x y : Ruling) → RefusesOnly x → RefusesOnly y → RefusesOnly (if b then x else y)
+either_ruling true x y h k = h
+either_ruling false x y h k = k
+
+row_refuses : (s : State) (pid first count : ℕ) (mode : MsyncMode) → RefusesOnly (row_ruling s pid first count mode)
+row_refuses s pid first count Async = tt
+row_refuses s pid first count Sync =
+    let n = touched_count s pid first count in
+    either_ruling (nat_lt 127 n) (Refuses ENOSPC) (if n == 0 then Passes else Takes pid first count) refl
+    (either_ruling (n == 0) Passes (Takes pid first count) tt tt)
+
+msync_refuses : (s : State) (pid addr len : ℕ) (mode : MsyncMode) → RefusesOnly (msync_ruling s pid addr len mode)
+msync_refuses s pid addr len mode =
+    let count = pages_from addr len in
+    let covered = (not (is_covered (attrs_of (s.views pid)) (addr / 4096) count), ENOMEM) ∷ [] in
+    let row = or_else (first_of covered) (row_ruling s pid (addr / 4096) count mode) in
+    checked (first_of ((not (s.live pid), ESRCH) ∷ (not (addr % 4096 == 0), EINVAL) ∷ [])) (if len == 0 then Passes else row)
+    (one_check (not (s.live pid)) ESRCH ((not (addr % 4096 == 0), EINVAL) ∷ []) refl
+    (one_check (not (addr % 4096 == 0)) EINVAL [] refl tt))
+    (either_ruling (len == 0) Passes row tt
+    (checked (first_of covered) (row_ruling s pid (addr / 4096) count mode)
+    (one_check (not (is_covered (attrs_of (s.views pid)) (addr / 4096) count)) ENOMEM [] refl tt)
+    (row_refuses s pid (addr / 4096) count mode)))
+
+ruled_so : (s : State) (r : Ruling) → RefusesOnly r → (msync_outcome s r).reply ≡ Refused EIO → ⊥
+ruled_so s (Refuses errno) fine e =
+    let io : is_io_error errno ≡ true = ap may_have_taken e in
+    let never : false ≡ true = sym fine ∙ io in
+    cc
+ruled_so s Passes fine e = cc
+ruled_so s (Takes pid first count) fine e = cc
+
+-- the flat model's msync never fails
+never_fails : (s : State) (pid addr len : ℕ) (mode : MsyncMode) → (outcome s (Msync pid addr len mode)).reply ≡ Refused EIO → ⊥
+never_fails s pid addr len mode e = ruled_so s (msync_ruling s pid addr len mode) (msync_refuses s pid addr len mode) e
+
+-- what it answers, where it makes pages durable
+done_of : (s : State) (r : Ruling) (after : Pages) → commit_of s r ≡ Some after → (msync_outcome s r).reply ≡ Done
+done_of s (Refuses errno) after e = absurd (let k : None ≡ Some after = e in cc)
+done_of s Passes after e = absurd (let k : None ≡ Some after = e in cc)
+done_of s (Takes pid first count) after e = refl
+
+-- where it makes none durable, the state stays
+stays_of : (s : State) (r : Ruling) → commit_of s r ≡ None → ((msync_outcome s r).state ≡ s) × (takes s r s.durable ≡ s.durable)
+stays_of s (Refuses errno) e = (refl, refl)
+stays_of s Passes e = (refl, refl)
+stays_of s (Takes pid first count) e = absurd (let k : Some (committed s pid first count s.durable) ≡ None = e in cc)
+
+none_or_some : (o : Option Pages) → (o ≡ None) ⊎ ((after : Pages) × (o ≡ Some after))
+none_or_some None = inl refl
+none_or_some (Some after) = inr (after, refl)
 
 module _ {D E : Type 0} (g : Ghosts D) (h : Ghosts E) where
-  -- what the store's commit says of these contents
-  pub record Commits (n : ℕ) (files : Files) (before after : Pages) (old new : D) : Type 0 where
-    pub size : g.sector_count new ≡ g.sector_count old
-    pub kept : g.keeps_model new → g.keeps_model old
-    pub either : g.keeps_model new → LeavesNow g old (StandsFor n files before) → LeavesOnly g old new (StandsForEither n files before after)
+  abbrev pub CountsNow : Type 0
+  CountsNow = (d : D) (t : ℕ) (c : Image) → g.keeps_model d → t ≤ g.moment d → MayLeave (g.content d) (g.unsynced d) c → g.left_since d t c
 
-  durable_now : (old : Machine D E) (s : State) → Shows g h old s → IsRunning s → g.keeps_model old.store.disk
-      → LeavesNow g old.store.disk (StandsFor (g.sector_count old.store.disk) s.files s.durable)
+  durable_now : (old : Machine D E) (s : State) → Shows g h old s → IsRunning s → g.keeps_model old.core.store.disk
+      → LeavesNow g old.core.store.disk (StandsFor (g.sector_count old.core.store.disk) s.files s.durable)
   durable_now old s shows run keeps c may =
       let p = shows.stands keeps c may in
       let e : p.0 ≡ s.durable = subst (λ (o : Option (List Pages)). stands_in o s.durable p.0) run p.1 in
-      subst (λ (d : Pages). StandsFor (g.sector_count old.store.disk) s.files d c) e p.2
+      subst (λ (d : Pages). StandsFor (g.sector_count old.core.store.disk) s.files d c) e p.2
 
-  abbrev after_of : State → ℕ → ℕ → ℕ → Pages
-  after_of s pid first count = committed s pid first count s.durable
+  -- a running machine's processes and files
+  shows_core : (old : Machine D E) (s : State) → Shows g h old s → IsRunning s → Spaces.Shows g h old.core s
+  shows_core old s shows run = record { pages = shows.pages; stands = λ k. durable_now old s shows run k }
 
-  holds_either : (n : ℕ) (s : State) (pid addr len first count : ℕ) (mode : MsyncMode) (c : Image) → IsRunning s
-      → msync_ruling s pid addr len mode ≡ Flats.Takes pid first count
-      → StandsForEither n s.files s.durable (after_of s pid first count) c → StandsForSome n s.files (HoldsIn s (Msync pid addr len mode) Done) c
-  holds_either n s pid addr len first count mode c run rules either =
+  holds_either : (n : ℕ) (s : State) (command : Command) (reply : Reply) (after : Pages) (c : Image) → IsRunning s
+      → commits s command ≡ Some after → may_have_taken reply ≡ true
+      → StandsForEither n s.files s.durable after c → StandsForSome n s.files (HoldsIn s command reply) c
+  holds_either n s command reply after c run commit taken either =
       ⊎_elim (λ b. (s.durable, inl (subst (λ (o : Option (List Pages)). stands_in o s.durable s.durable) (sym run) refl), b))
-      (λ a. (after_of s pid first count, inr (run, refl, sym (ap (λ (r : Flats.Ruling). takes s r s.durable) rules)), a)) either
+      (λ a. (after, inr (run, taken, commit_takes s (ruling s command) after commit), a)) either
 
-  holds_failed : (n : ℕ) (s : State) (pid addr len first count : ℕ) (mode : MsyncMode) (c : Image) → IsRunning s
-      → msync_ruling s pid addr len mode ≡ Flats.Takes pid first count
-      → StandsForEither n s.files s.durable (after_of s pid first count) c → StandsForSome n s.files (HoldsIn s (Msync pid addr len mode) (Refused EIO)) c
-  holds_failed n s pid addr len first count mode c run rules either =
-      ⊎_elim (λ b. (s.durable, inl (subst (λ (o : Option (List Pages)). stands_in o s.durable s.durable) (sym run) refl), b))
-      (λ a. (after_of s pid first count, inr (run, refl, sym (ap (λ (r : Flats.Ruling). takes s r s.durable) rules)), a)) either
-
-  pub commit_done : (old new : Machine D E) (s : State) (pid addr len : ℕ) (mode : MsyncMode) (chosen : Chosen) → Shows g h old s → old.memory.halted ≡ false
-      → (same : TakesSame old.memory s pid addr len mode chosen)
-      → Commits (g.sector_count old.store.disk) s.files s.durable (after_of s pid same.first same.count) old.store.disk new.store.disk
-      → (g.keeps_model new.store.disk → LeavesNow g old.store.disk (StandsFor (g.sector_count old.store.disk) s.files s.durable)
-      → LeavesNow g new.store.disk (StandsFor (g.sector_count old.store.disk) s.files (after_of s pid same.first same.count)))
-      → ShowsPages new.memory (synced s pid same.first same.count)
-      → (t : State) × Meets g h old new s t (Msync pid addr len mode) Done
-  commit_done old new s pid addr len mode chosen shows live same commits ok pages =
-      let run = is_running old.memory s shows.pages live in
-      let t = synced s pid same.first same.count in
-      let n = g.sector_count old.store.disk in
-      let after = after_of s pid same.first same.count in
-      let meets : Meets g h old new s t (Msync pid addr len mode) Done = record {
-        step = Answers run (sym (ap (λ (r : Flats.Ruling). (msync_outcome s r).reply) same.ruling)) (sym (ap (λ (r : Flats.Ruling). (msync_outcome s r).state) same.ruling));
+  -- the commit was made
+  commit_done : (old : Machine D E) (core : Core D E) (s : State) (pid addr len : ℕ) (mode : MsyncMode) (reply : Reply) (after : Pages)
+      → Shows g h old s → IsRunning s → commits s (Msync pid addr len mode) ≡ Some after
+      → Commits g h old.core core s after (Msync pid addr len mode) reply → reply ≡ Done
+      → Spaces.Shows g h core (outcome s (Msync pid addr len mode)).state
+      → (t : State) × Meets g h old (record { core = core; halted = false }) s t (Msync pid addr len mode) reply
+  commit_done old core s pid addr len mode reply after shows run commit made done now =
+      let x = Msync pid addr len mode in
+      let new : Machine D E = record { core = core; halted = false } in
+      let n = g.sector_count old.core.store.disk in
+      let t = (outcome s x).state in
+      let all = outcome_keeps s x in
+      let goes_on : IsRunning t = all.ends ∙ run in
+      let meets : Meets g h old new s t x reply = record {
+        step = Answers run (done ∙ sym (done_of s (ruling s x) after commit)) refl;
         shows = record {
-          pages = pages;
-          stands = λ k c may.
-              subst (λ (x : ℕ). StandsForSome x s.files (MayStand t) c) (sym commits.size)
-              (after, subst (λ (o : Option (List Pages)). stands_in o after after) (sym run) refl, ok k (durable_now old s shows run (commits.kept k)) c may);
+          pages = now.pages;
+          running = ap is_some goes_on;
+          stands = λ k c may. (t.durable, subst (λ (o : Option (List Pages)). stands_in o t.durable t.durable) (sym goes_on) refl, now.stands k c may);
         };
-        size = commits.size;
-        kept = commits.kept;
-        moments = λ k. weaker g old.store.disk new.store.disk (StandsForEither n s.files s.durable after) (StandsForSome n s.files (HoldsIn s (Msync pid addr len mode) Done))
-            (λ c either. holds_either n s pid addr len same.first same.count mode c run same.ruling either)
-            (commits.either k (durable_now old s shows run (commits.kept k)));
+        size = made.size;
+        kept = made.kept;
+        moments = λ k. weaker g old.core.store.disk core.store.disk (StandsForEither n s.files s.durable after) (StandsForSome n s.files (HoldsIn s x reply))
+            (λ c either. holds_either n s x reply after c run commit (ap may_have_taken done) either)
+            (made.either k);
       } in
       (t, meets)
 
-  failed_shows : (m new : Memory) (s : State) (after : Pages) → ShowsPages m s
-      → new.live ≡ m.live → new.mapping ≡ m.mapping → new.info ≡ m.info → new.pages ≡ m.pages → new.touched ≡ m.touched → new.halted ≡ true
-      → ShowsPages new (halted s after)
-  failed_shows m new s after shows live map info pages touched stop = record {
-    live = rw live shows.live;
-    views = rw map shows.views;
-    files = rw info shows.files;
-    volatile = rw pages shows.volatile;
-    touched = rw touched shows.touched;
-    running = sym stop;
-  }
-
-  pub commit_failed : (counts_now : (d : D) (t : ℕ) (c : Image) → g.keeps_model d → t ≤ g.moment d → MayLeave (g.content d) (g.unsynced d) c → g.left_since d t c)
-      → (old new : Machine D E) (s : State) (pid addr len : ℕ) (mode : MsyncMode) (chosen : Chosen) → Shows g h old s → old.memory.halted ≡ false
-      → (same : TakesSame old.memory s pid addr len mode chosen)
-      → Commits (g.sector_count old.store.disk) s.files s.durable (after_of s pid same.first same.count) old.store.disk new.store.disk
-      → g.failures old.store.disk < g.failures new.store.disk
-      → new.memory.live ≡ old.memory.live → new.memory.mapping ≡ old.memory.mapping → new.memory.info ≡ old.memory.info → new.memory.pages ≡ old.memory.pages
-      → new.memory.touched ≡ old.memory.touched → new.memory.halted ≡ true
-      → (t : State) × Meets g h old new s t (Msync pid addr len mode) (Refused EIO)
-  commit_failed counts_now old new s pid addr len mode chosen shows running same commits grew live map info pages touched stop =
-      let run = is_running old.memory s shows.pages running in
-      let after = after_of s pid same.first same.count in
+  -- the store failed in it
+  commit_failed : (counts_now : CountsNow) (old : Machine D E) (core : Core D E) (s : State) (pid addr len : ℕ) (mode : MsyncMode) (reply : Reply) (after : Pages)
+      → Shows g h old s → IsRunning s → commits s (Msync pid addr len mode) ≡ Some after
+      → Commits g h old.core core s after (Msync pid addr len mode) reply → reply ≡ Refused EIO
+      → g.failures old.core.store.disk < g.failures core.store.disk → core.memory ≡ old.core.memory
+      → (t : State) × Meets g h old (record { core = core; halted = true }) s t (Msync pid addr len mode) reply
+  commit_failed counts_now old core s pid addr len mode reply after shows run commit made failed grew memory =
+      let x = Msync pid addr len mode in
+      let new : Machine D E = record { core = core; halted = true } in
+      let n = g.sector_count old.core.store.disk in
       let t = halted s after in
-      let n = g.sector_count old.store.disk in
-      let either = λ (k : g.keeps_model new.store.disk). commits.either k (durable_now old s shows run (commits.kept k)) in
-      let meets : Meets g h old new s t (Msync pid addr len mode) (Refused EIO) = record {
-        step = Fails after run (ap (commit_of s) same.ruling) grew refl refl;
+      let pages : ShowsPages old.core.memory t = record {
+        live = shows.pages.live;
+        views = shows.pages.views;
+        files = shows.pages.files;
+        volatile = shows.pages.volatile;
+        touched = shows.pages.touched;
+      } in
+      let meets : Meets g h old new s t x reply = record {
+        step = Fails after run commit grew failed refl;
         shows = record {
-          pages = failed_shows old.memory new.memory s after shows.pages live map info pages touched stop;
+          pages = subst (λ (m : Memory). ShowsPages m t) (sym memory) pages;
+          running = refl;
           stands = λ k c may.
-              subst (λ (x : ℕ). StandsForSome x s.files (MayStand t) c) (sym commits.size)
+              subst (λ (sectors : ℕ). StandsForSome sectors s.files (MayStand t) c) (sym made.size)
               (⊎_elim (λ b. (s.durable, inl refl, b)) (λ a. (after, inr (inl refl), a))
-              (holds_now g old.store.disk new.store.disk (StandsForEither n s.files s.durable after) (λ m i le ml. counts_now new.store.disk m i k le ml) (either k) c may));
+              (holds_now g old.core.store.disk core.store.disk (StandsForEither n s.files s.durable after)
+              (λ m i le ml. counts_now core.store.disk m i k le ml) (made.either k) c may));
         };
-        size = commits.size;
-        kept = commits.kept;
-        moments = λ k. weaker g old.store.disk new.store.disk (StandsForEither n s.files s.durable after) (StandsForSome n s.files (HoldsIn s (Msync pid addr len mode) (Refused EIO)))
-            (λ c e. holds_failed n s pid addr len same.first same.count mode c run same.ruling e)
-            (either k);
+        size = made.size;
+        kept = made.kept;
+        moments = λ k. weaker g old.core.store.disk core.store.disk (StandsForEither n s.files s.durable after) (StandsForSome n s.files (HoldsIn s x reply))
+            (λ c either. holds_either n s x reply after c run commit (ap may_have_taken failed) either)
+            (made.either k);
       } in
       (t, meets)
 
--- the source never fails, so the device did
-pub device_failed : (before now : ℕ) (f : CommitFault) → HasCauses before now 0 0 (Err f) → before < now
-device_failed before now Source causes = absurd (lt_irrefl _ (causes.source refl))
-device_failed before now Device causes = causes.device refl
+  -- what spaces says of an msync, in a state that they show
+  pub record Msynced (old core : Core D E) (s : State) (command : Command) (reply : Reply) : Type 0 where
+    pub passes : commits s command ≡ None → (reply ≡ (outcome s command).reply) × (core ≡ old)
+    pub commits_so : (after : Pages) → commits s command ≡ Some after → Commits g h old core s after command reply
+
+  -- answered by EIO, it halts the machine
+  pub msync_halts : (counts_now : CountsNow) (old : Machine D E) (core : Core D E) (s : State) (pid addr len : ℕ) (mode : MsyncMode) (reply : Reply)
+      → Shows g h old s → old.halted ≡ false → (Spaces.Shows g h old.core s → Msynced old.core core s (Msync pid addr len mode) reply)
+      → reply ≡ Refused EIO → (t : State) × Meets g h old (record { core = core; halted = true }) s t (Msync pid addr len mode) reply
+  msync_halts counts_now old core s pid addr len mode reply shows live said e =
+      let x = Msync pid addr len mode in
+      let run = is_running g h old s shows live in
+      let told = said (shows_core old s shows run) in
+      ⊎_elim (λ none. absurd (never_fails s pid addr len mode (sym (told.passes none).0 ∙ e)))
+      (λ (some : (after : Pages) × (commits s x ≡ Some after)).
+      let made = told.commits_so some.0 some.1 in
+      elim made.end as (λ _. (t : State) × Meets g h old (record { core = core; halted = true }) s t x reply) [
+        | Acknowledged done now sound ↦ absurd (let never : Done ≡ Refused EIO = sym done ∙ e in cc)
+        | Failed failed grew memory ↦ commit_failed counts_now old core s pid addr len mode reply some.0 shows run some.1 made e grew memory
+      ])
+      (none_or_some (commits s x))
+
+  -- answered otherwise, it lets the machine go on
+  pub msync_goes_on : (only_now : OnlyNow g h) (old : Machine D E) (core : Core D E) (s : State) (pid addr len : ℕ) (mode : MsyncMode) (reply : Reply)
+      → Shows g h old s → old.halted ≡ false → (Spaces.Shows g h old.core s → Msynced old.core core s (Msync pid addr len mode) reply)
+      → (reply ≡ Refused EIO → ⊥) → (t : State) × Meets g h old (record { core = core; halted = false }) s t (Msync pid addr len mode) reply
+  msync_goes_on only_now old core s pid addr len mode reply shows live said otherwise =
+      let x = Msync pid addr len mode in
+      let run = is_running g h old s shows live in
+      let told = said (shows_core old s shows run) in
+      ⊎_elim (λ none.
+      let stays = stays_of s (ruling s x) none in
+      let same : core ≡ old.core = (told.passes none).1 in
+      let does : Does core.memory s x reply = record {
+        answer = (told.passes none).0;
+        shows = subst (λ (t : State). ShowsPages core.memory t) (sym stays.0) (subst (λ (o : Core D E). ShowsPages o.memory s) (sym same) shows.pages);
+      } in
+      flat g h only_now old core false s x reply shows live refl stays.1 (record { store = ap (λ (o : Core D E). o.store) same; swap = ap (λ (o : Core D E). o.swap) same }) does)
+      (λ (some : (after : Pages) × (commits s x ≡ Some after)).
+      let made = told.commits_so some.0 some.1 in
+      elim made.end as (λ _. (t : State) × Meets g h old (record { core = core; halted = false }) s t x reply) [
+        | Acknowledged done now sound ↦ commit_done old core s pid addr len mode reply some.0 shows run some.1 made done now
+        | Failed failed grew memory ↦ absurd (otherwise failed)
+      ])
+      (none_or_some (commits s x))
+
+  -- either way
+  pub msync_meets : (only_now : OnlyNow g h) (counts_now : CountsNow) (old : Machine D E) (core : Core D E) (stops : Bool) (s : State) (pid addr len : ℕ) (mode : MsyncMode) (reply : Reply)
+      → Shows g h old s → old.halted ≡ false → (Spaces.Shows g h old.core s → Msynced old.core core s (Msync pid addr len mode) reply)
+      → (stops ≡ true → reply ≡ Refused EIO) → (stops ≡ false → reply ≡ Refused EIO → ⊥)
+      → (t : State) × Meets g h old (record { core = core; halted = stops }) s t (Msync pid addr len mode) reply
+  msync_meets only_now counts_now old core true s pid addr len mode reply shows live said failed otherwise =
+      msync_halts counts_now old core s pid addr len mode reply shows live said (failed refl)
+  msync_meets only_now counts_now old core false s pid addr len mode reply shows live said failed otherwise =
+      msync_goes_on only_now old core s pid addr len mode reply shows live said (otherwise refl)

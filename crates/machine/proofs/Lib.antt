@@ -1,13 +1,6 @@
 pub mod Boots
-pub mod Calls
-pub mod Choosing
 pub mod Commits
-pub mod Committed
-pub mod Empty
 pub mod Flat
-pub mod Late
-pub mod OneRow
 pub mod Reading
-pub mod Ruling
 pub mod Runs
 pub mod Steps

@@ -27,8 +27,8 @@ module _ {D E : Type 0} (g : Ghosts D) (h : Ghosts E) where
     pub shows : Shows g h new last
 
   pub chain_kept : (old : Machine D E) (s : State) (commands : List Command) (replies : List Reply) (events : List Event) (new : Machine D E) (t : State)
-      → Chain g h old s commands replies events new t → g.keeps_model new.store.disk → g.keeps_model old.store.disk
-  chain_kept old s [] [] [] new t c k = subst (λ (m : Machine D E). g.keeps_model m.store.disk) c.0 k
+      → Chain g h old s commands replies events new t → g.keeps_model new.core.store.disk → g.keeps_model old.core.store.disk
+  chain_kept old s [] [] [] new t c k = subst (λ (m : Machine D E). g.keeps_model m.core.store.disk) c.0 k
   chain_kept old s (x ∷ xs) (r ∷ rs) (e ∷ es) new t c k = c.3.kept (chain_kept c.0 c.1 xs rs es new t c.4 k)
   chain_kept old s [] [] (e ∷ es) new t c k = absurd c
   chain_kept old s [] (r ∷ rs) es new t c k = absurd c
@@ -37,10 +37,10 @@ module _ {D E : Type 0} (g : Ghosts D) (h : Ghosts E) where
 
   -- from a halted state nothing but its ends may stand
   pub halted_leaves : (n : ℕ) (files : Files) (ends : List Pages) (old : Machine D E) (s : State) (commands : List Command) (replies : List Reply) (events : List Event) (new : Machine D E) (t : State)
-      → Chain g h old s commands replies events new t → g.keeps_model new.store.disk → s.ends ≡ Some ends → s.files ≡ files → g.sector_count old.store.disk ≡ n
-      → (m : ℕ) (image : Image) → m ≤ g.moment old.store.disk → g.left_since new.store.disk m image
-      → g.left_since old.store.disk m image ⊎ StandsForSome n files (λ p. IsOneOf p ends) image
-  halted_leaves n files ends old s [] [] [] new t c keeps is f size m image le left = inl (subst (λ (x : Machine D E). g.left_since x.store.disk m image) c.0 left)
+      → Chain g h old s commands replies events new t → g.keeps_model new.core.store.disk → s.ends ≡ Some ends → s.files ≡ files → g.sector_count old.core.store.disk ≡ n
+      → (m : ℕ) (image : Image) → m ≤ g.moment old.core.store.disk → g.left_since new.core.store.disk m image
+      → g.left_since old.core.store.disk m image ⊎ StandsForSome n files (λ p. IsOneOf p ends) image
+  halted_leaves n files ends old s [] [] [] new t c keeps is f size m image le left = inl (subst (λ (x : Machine D E). g.left_since x.core.store.disk m image) c.0 left)
   halted_leaves n files ends old s (x ∷ xs) (r ∷ rs) (e ∷ es) new t c keeps is f size m image le left =
       let mid = c.0 in
       let u = c.1 in
@@ -50,8 +50,8 @@ module _ {D E : Type 0} (g : Ghosts D) (h : Ghosts E) where
       let only = meets.moments kept in
       ⊎_elim
       (λ mid_left. ⊎_elim (λ o. inl o) (λ p. inr (subst (λ (k : ℕ). StandsForSome k files (λ q. IsOneOf q ends) image) size
-      (subst (λ (fs : Files). StandsForSome (g.sector_count old.store.disk) fs (λ q. IsOneOf q ends) image) f
-      (some_more (g.sector_count old.store.disk) s.files (HoldsIn s x r) (λ q. IsOneOf q ends) image (λ q hold. only_ends s x r ends is q hold) p))))
+      (subst (λ (fs : Files). StandsForSome (g.sector_count old.core.store.disk) fs (λ q. IsOneOf q ends) image) f
+      (some_more (g.sector_count old.core.store.disk) s.files (HoldsIn s x r) (λ q. IsOneOf q ends) image (λ q hold. only_ends s x r ends is q hold) p))))
       (only.before m image le mid_left))
       (λ p. inr p)
       (halted_leaves n files ends mid u xs rs es new t c.4 keeps (ap (λ (y : State). y.ends) stays.1 ∙ is) (ap (λ (y : State). y.files) stays.1 ∙ f) (meets.size ∙ size)
@@ -68,10 +68,10 @@ module _ {D E : Type 0} (g : Ghosts D) (h : Ghosts E) where
 
   -- while it runs, what stands is what some of the msyncs left
   pub running_leaves : (n : ℕ) (files : Files) (old : Machine D E) (s : State) (commands : List Command) (replies : List Reply) (events : List Event) (new : Machine D E) (t : State)
-      → Chain g h old s commands replies events new t → g.keeps_model new.store.disk → IsRunning s → s.files ≡ files → g.sector_count old.store.disk ≡ n
-      → (m : ℕ) (image : Image) → m ≤ g.moment old.store.disk → g.left_since new.store.disk m image
-      → g.left_since old.store.disk m image ⊎ StandsForSome n files (IsPrefixHolding s.durable events 0) image
-  running_leaves n files old s [] [] [] new t c keeps run f size m image le left = inl (subst (λ (x : Machine D E). g.left_since x.store.disk m image) c.0 left)
+      → Chain g h old s commands replies events new t → g.keeps_model new.core.store.disk → IsRunning s → s.files ≡ files → g.sector_count old.core.store.disk ≡ n
+      → (m : ℕ) (image : Image) → m ≤ g.moment old.core.store.disk → g.left_since new.core.store.disk m image
+      → g.left_since old.core.store.disk m image ⊎ StandsForSome n files (IsPrefixHolding s.durable events 0) image
+  running_leaves n files old s [] [] [] new t c keeps run f size m image le left = inl (subst (λ (x : Machine D E). g.left_since x.core.store.disk m image) c.0 left)
   running_leaves n files old s (x ∷ xs) (r ∷ rs) (e ∷ es) new t c keeps run f size m image le left =
       let mid = c.0 in
       let u = c.1 in
@@ -80,11 +80,11 @@ module _ {D E : Type 0} (g : Ghosts D) (h : Ghosts E) where
       let only = meets.moments kept in
       let files_u = step_files (causes g h old mid) s x r u meets.step ∙ f in
       let P : List Event → Image → Type 0 = λ l i. StandsForSome n files (IsPrefixHolding s.durable l 0) i in
-      subst (λ (first : Event). g.left_since old.store.disk m image ⊎ P (first ∷ es) image) (sym c.2)
+      subst (λ (first : Event). g.left_since old.core.store.disk m image ⊎ P (first ∷ es) image) (sym c.2)
       (⊎_elim
       (λ mid_left. ⊎_elim (λ o. inl o) (λ p. inr (subst (λ (k : ℕ). StandsForSome k files (IsPrefixHolding s.durable (event s x r ∷ es) 0) image) size
-      (subst (λ (fs : Files). StandsForSome (g.sector_count old.store.disk) fs (IsPrefixHolding s.durable (event s x r ∷ es) 0) image) f
-      (some_more (g.sector_count old.store.disk) s.files (HoldsIn s x r) (IsPrefixHolding s.durable (event s x r ∷ es) 0) image (λ q hold. held s x r es run q hold) p))))
+      (subst (λ (fs : Files). StandsForSome (g.sector_count old.core.store.disk) fs (IsPrefixHolding s.durable (event s x r ∷ es) 0) image) f
+      (some_more (g.sector_count old.core.store.disk) s.files (HoldsIn s x r) (IsPrefixHolding s.durable (event s x r ∷ es) 0) image (λ q hold. held s x r es run q hold) p))))
       (only.before m image le mid_left))
       (λ p. inr p)
       (⊎_elim
@@ -137,41 +137,41 @@ module _ {D E : Type 0} (g : Ghosts D) (h : Ghosts E) where
   after_start old s (x ∷ xs) replies events new t c = refl
 
   halted_start : (n : ℕ) (files : Files) (ends : List Pages) (old : Machine D E) (s : State) (commands : List Command) (replies : List Reply) (events : List Event) (new : Machine D E) (t : State)
-      → (c : Chain g h old s commands replies events new t) → g.keeps_model new.store.disk → s.ends ≡ Some ends → s.files ≡ files → g.sector_count old.store.disk ≡ n
+      → (c : Chain g h old s commands replies events new t) → g.keeps_model new.core.store.disk → s.ends ≡ Some ends → s.files ≡ files → g.sector_count old.core.store.disk ≡ n
       → ((d : D) (i : Image) → g.keeps_model d → g.left_since d (g.moment d) i → MayLeave (g.content d) (g.unsynced d) i) → Shows g h old s
-      → (image : Image) → g.left_since new.store.disk (g.moment old.store.disk) image → StandsForSome n files (λ p. IsOneOf p ends) image
+      → (image : Image) → g.left_since new.core.store.disk (g.moment old.core.store.disk) image → StandsForSome n files (λ p. IsOneOf p ends) image
   halted_start n files ends old s commands replies events new t c keeps is f size only_now shows image left =
       let kept = chain_kept old s commands replies events new t c keeps in
       ⊎_elim
-      (λ o. subst (λ (k : ℕ). StandsForSome k files (λ p. IsOneOf p ends) image) size (subst (λ (fs : Files). StandsForSome (g.sector_count old.store.disk) fs (λ p. IsOneOf p ends) image) f
-      (some_more (g.sector_count old.store.disk) s.files (MayStand s) (λ p. IsOneOf p ends) image (λ q stand. subst (λ (y : Option (List Pages)). stands_in y s.durable q) is stand)
-      (shows.stands kept image (only_now old.store.disk image kept o)))))
+      (λ o. subst (λ (k : ℕ). StandsForSome k files (λ p. IsOneOf p ends) image) size (subst (λ (fs : Files). StandsForSome (g.sector_count old.core.store.disk) fs (λ p. IsOneOf p ends) image) f
+      (some_more (g.sector_count old.core.store.disk) s.files (MayStand s) (λ p. IsOneOf p ends) image (λ q stand. subst (λ (y : Option (List Pages)). stands_in y s.durable q) is stand)
+      (shows.stands kept image (only_now old.core.store.disk image kept o)))))
       (λ p. p)
-      (halted_leaves n files ends old s commands replies events new t c keeps is f size (g.moment old.store.disk) image (omega arith) left)
+      (halted_leaves n files ends old s commands replies events new t c keeps is f size (g.moment old.core.store.disk) image (omega arith) left)
 
   running_start : (n : ℕ) (files : Files) (old : Machine D E) (s : State) (commands : List Command) (replies : List Reply) (events : List Event) (new : Machine D E) (t : State)
-      → (c : Chain g h old s commands replies events new t) → g.keeps_model new.store.disk → IsRunning s → s.files ≡ files → g.sector_count old.store.disk ≡ n
+      → (c : Chain g h old s commands replies events new t) → g.keeps_model new.core.store.disk → IsRunning s → s.files ≡ files → g.sector_count old.core.store.disk ≡ n
       → ((d : D) (i : Image) → g.keeps_model d → g.left_since d (g.moment d) i → MayLeave (g.content d) (g.unsynced d) i) → Shows g h old s
-      → (image : Image) → g.left_since new.store.disk (g.moment old.store.disk) image → StandsForSome n files (IsPrefixHolding s.durable events 0) image
+      → (image : Image) → g.left_since new.core.store.disk (g.moment old.core.store.disk) image → StandsForSome n files (IsPrefixHolding s.durable events 0) image
   running_start n files old s commands replies events new t c keeps run f size only_now shows image left =
       let kept = chain_kept old s commands replies events new t c keeps in
       ⊎_elim
-      (λ o. subst (λ (k : ℕ). StandsForSome k files (IsPrefixHolding s.durable events 0) image) size (subst (λ (fs : Files). StandsForSome (g.sector_count old.store.disk) fs (IsPrefixHolding s.durable events 0) image) f
-      (some_more (g.sector_count old.store.disk) s.files (MayStand s) (IsPrefixHolding s.durable events 0) image
+      (λ o. subst (λ (k : ℕ). StandsForSome k files (IsPrefixHolding s.durable events 0) image) size (subst (λ (fs : Files). StandsForSome (g.sector_count old.core.store.disk) fs (IsPrefixHolding s.durable events 0) image) f
+      (some_more (g.sector_count old.core.store.disk) s.files (MayStand s) (IsPrefixHolding s.durable events 0) image
       (λ q stand. prefix_here s.durable events q (subst (λ (y : Option (List Pages)). stands_in y s.durable q) run stand))
-      (shows.stands kept image (only_now old.store.disk image kept o)))))
+      (shows.stands kept image (only_now old.core.store.disk image kept o)))))
       (λ p. p)
-      (running_leaves n files old s commands replies events new t c keeps run f size (g.moment old.store.disk) image (omega arith) left)
+      (running_leaves n files old s commands replies events new t c keeps run f size (g.moment old.core.store.disk) image (omega arith) left)
 
   -- what a stop leaves that comes after the first k commands of a halted chain
   pub halted_since : (n : ℕ) (files : Files) (ends : List Pages) (old : Machine D E) (s : State) (commands : List Command) (replies : List Reply) (events : List Event) (new : Machine D E) (t : State)
-      → (c : Chain g h old s commands replies events new t) → g.keeps_model new.store.disk → s.ends ≡ Some ends → s.files ≡ files → g.sector_count old.store.disk ≡ n
+      → (c : Chain g h old s commands replies events new t) → g.keeps_model new.core.store.disk → s.ends ≡ Some ends → s.files ≡ files → g.sector_count old.core.store.disk ≡ n
       → ((d : D) (i : Image) → g.keeps_model d → g.left_since d (g.moment d) i → MayLeave (g.content d) (g.unsynced d) i) → Shows g h old s
-      → (k : ℕ) (image : Image) → g.left_since new.store.disk (g.moment (after g h old s commands replies events new t c k).store.disk) image
+      → (k : ℕ) (image : Image) → g.left_since new.core.store.disk (g.moment (after g h old s commands replies events new t c k).core.store.disk) image
       → StandsForSome n files (λ p. IsOneOf p ends) image
   halted_since n files ends old s commands replies events new t c keeps is f size only_now shows zero image left =
       halted_start n files ends old s commands replies events new t c keeps is f size only_now shows image
-      (subst (λ (m : Machine D E). g.left_since new.store.disk (g.moment m.store.disk) image) (after_start old s commands replies events new t c) left)
+      (subst (λ (m : Machine D E). g.left_since new.core.store.disk (g.moment m.core.store.disk) image) (after_start old s commands replies events new t c) left)
   halted_since n files ends old s [] [] [] new t c keeps is f size only_now shows (suc k) image left =
       halted_start n files ends old s [] [] [] new t c keeps is f size only_now shows image left
   halted_since n files ends old s (x ∷ xs) (r ∷ rs) (e ∷ es) new t c keeps is f size only_now shows (suc k) image left =
@@ -184,13 +184,13 @@ module _ {D E : Type 0} (g : Ghosts D) (h : Ghosts E) where
 
   -- every stop leaves a prefix of the msyncs
   pub leaves_prefix : (n : ℕ) (files : Files) (old : Machine D E) (s : State) (commands : List Command) (replies : List Reply) (events : List Event) (new : Machine D E) (t : State)
-      → (c : Chain g h old s commands replies events new t) → g.keeps_model new.store.disk → IsRunning s → s.files ≡ files → g.sector_count old.store.disk ≡ n
+      → (c : Chain g h old s commands replies events new t) → g.keeps_model new.core.store.disk → IsRunning s → s.files ≡ files → g.sector_count old.core.store.disk ≡ n
       → ((d : D) (i : Image) → g.keeps_model d → g.left_since d (g.moment d) i → MayLeave (g.content d) (g.unsynced d) i) → Shows g h old s
-      → (k : ℕ) (image : Image) → g.left_since new.store.disk (g.moment (after g h old s commands replies events new t c k).store.disk) image
+      → (k : ℕ) (image : Image) → g.left_since new.core.store.disk (g.moment (after g h old s commands replies events new t c k).core.store.disk) image
       → StandsForSome n files (IsPrefixHolding s.durable events k) image
   leaves_prefix n files old s commands replies events new t c keeps run f size only_now shows zero image left =
       running_start n files old s commands replies events new t c keeps run f size only_now shows image
-      (subst (λ (m : Machine D E). g.left_since new.store.disk (g.moment m.store.disk) image) (after_start old s commands replies events new t c) left)
+      (subst (λ (m : Machine D E). g.left_since new.core.store.disk (g.moment m.core.store.disk) image) (after_start old s commands replies events new t c) left)
   leaves_prefix n files old s [] [] [] new t c keeps run f size only_now shows (suc k) image left =
       let p = running_start n files old s [] [] [] new t c keeps run f size only_now shows image left in
       some_more n files (IsPrefixHolding s.durable [] 0) (IsPrefixHolding s.durable [] (suc k)) image (λ q hold. record { i = hold.i; holds = hold.holds; same = hold.same }) p
@@ -255,5 +255,5 @@ module _ {D E : Type 0} (g : Ghosts D) (h : Ghosts E) where
     events = ran.events;
     chain = ran.chain;
     shows = ran.shows;
-    prefixes = λ run keeps. leaves_prefix (g.sector_count old.store.disk) s.files old s commands replies ran.events new ran.last ran.chain keeps run refl refl only_now shows;
+    prefixes = λ run keeps. leaves_prefix (g.sector_count old.core.store.disk) s.files old s commands replies ran.events new ran.last ran.chain keeps run refl refl only_now shows;
   }

@@ -1,8 +1,8 @@
 -- What a step of the flat model leaves of files and durable pages.
-use Rattle.std.proofs.Common.{ℕ, zero, suc, ◌+◌, ◌≡◌, ◌≤◌, ◌⊎◌, inl, inr, Bool, true, false, if◌then◌else◌, List, [], ◌∷◌, Option, Some, None, refl, sym, ap, ◌∙◌, arith, add-one, add-zero}
+use Rattle.std.proofs.Common.{ℕ, zero, suc, ◌+◌, ◌≡◌, ◌≤◌, ◌/◌, ◌==◌, ◌⊎◌, inl, inr, Bool, true, false, if◌then◌else◌, List, [], ◌∷◌, Option, Some, None, refl, sym, ap, ◌∙◌, arith, add-one, add-zero}
 use Rattle.vm_types.specs.declared.access.StoredValue.{StoredValue}
 use Rattle.vm_types.specs.declared.command.Command.{Command}
-use Rattle.vm_types.specs.declared.command.Command.TheVariants.{Spawn, Mmap, Msync, Load, Store}
+use Rattle.vm_types.specs.declared.command.Command.TheVariants.{Spawn, Mmap, Munmap, Mprotect, Msync, Load, Store}
 use Rattle.vm_types.specs.declared.command.MapSource.{MapSource}
 use Rattle.vm_types.specs.declared.permission.Prot.{Prot}
 use Rattle.vm_types.specs.declared.refusal.Errno.{Errno}
@@ -10,7 +10,7 @@ use Rattle.vm_types.specs.declared.refusal.Errno.TheVariants.{EIO}
 use Rattle.vm_types.specs.declared.region.Backing.{Backing}
 use Rattle.vm_types.specs.declared.region.Backing.TheVariants.{Anon, Private, Shared}
 use Rattle.vm_types.specs.declared.reply.Reply.{Reply}
-use Rattle.vm_types.specs.declared.reply.Reply.TheVariants.{Refused, Halted}
+use Rattle.vm_types.specs.declared.reply.Reply.TheVariants.{Done, Refused, Halted}
 use Rattle.vm_types.specs.declared.width.Width.{Width}
 use Rattle.vm_types.specs.Access.{with_bytes}
 use Rattle.vm_types.specs.Msync.{Ruling, Refuses, Passes, Takes, msync_ruling, committed}
@@ -18,8 +18,11 @@ use Rattle.vm_types.specs.Prefix.{Event, is_msync, is_done, may_have_taken, afte
 use Rattle.vm_types.specs.Run.{Step, Answers, Fails, Stalls, Stays}
 use Rattle.vm_types.specs.Stalls.{Causes}
 use Rattle.vm_types.specs.State.{State, IsRunning}
-use Rattle.vm_types.specs.Step.{Outcome, outcome, spawn_outcome, mmap_outcome, msync_outcome, load_outcome, store_outcome, ruling, takes, commit_of, commits}
+use Rattle.vm_types.specs.Step.{Outcome, outcome, answers, refused_or, spawn_outcome, mmap_outcome, munmap_outcome, protect_outcome, mprotect_outcome, msync_outcome, load_outcome, store_outcome, ruling, takes, commit_of, commits}
+use Rattle.vm_types.specs.Checks.{first_of, pages_from}
+use Rattle.vm_types.specs.Permission.{kept}
 use Rattle.vm_types.specs.Processes.{least_free_pid}
+use Rattle.vm_types.specs.Ranges.{munmap_checks, asked_checks, row_checks, without_row, with_protection}
 use Rattle.vm_types.specs.Mapping.{mmap_errno, mmap_place}
 use Rattle.vm_types.specs.Verdict.{Verdict, Fine, Faults}
 use Rattle.vm_types.specs.View.{View, Pages}
@@ -43,6 +46,20 @@ keeps_mmap s pid len prot source (Some errno) place = same s
 keeps_mmap s pid len prot source None None = same s
 keeps_mmap s pid len prot source None (Some first) = record { files = refl; ends = refl; durable_is = refl }
 
+keeps_refused : (s : State) (errno : Option Errno) (x : Outcome) → Keeps s x.state s.durable → Keeps s (refused_or s errno x).state s.durable
+keeps_refused s (Some errno) x h = same s
+keeps_refused s None x h = h
+
+keeps_munmap : (s : State) (pid addr len : ℕ) → Keeps s (munmap_outcome s pid addr len).state s.durable
+keeps_munmap s pid addr len =
+    keeps_refused s (first_of (munmap_checks s pid addr len)) (record { reply = Done; state = without_row s pid (addr / 4096) (pages_from addr len) })
+    (record { files = refl; ends = refl; durable_is = refl })
+
+keeps_protect : (s : State) (pid first pages : ℕ) (prot : Prot) → Keeps s (protect_outcome s pid first pages prot).state s.durable
+keeps_protect s pid first pages prot =
+    keeps_refused s (first_of (row_checks s pid first pages prot)) (record { reply = Done; state = with_protection s pid first pages (kept prot) })
+    (record { files = refl; ends = refl; durable_is = refl })
+
 keeps_msync : (s : State) (r : Ruling) → Keeps s (msync_outcome s r).state (takes s r s.durable)
 keeps_msync s (Refuses errno) = same s
 keeps_msync s Passes = same s
@@ -65,9 +82,18 @@ keeps_either : (s : State) (b : Bool) (x y : Outcome) (d : Pages) → Keeps s x.
 keeps_either s true x y d h k = h
 keeps_either s false x y d h k = k
 
+keeps_mprotect : (s : State) (pid addr len : ℕ) (prot : Prot) → Keeps s (mprotect_outcome s pid addr len prot).state s.durable
+keeps_mprotect s pid addr len prot =
+    keeps_refused s (first_of (asked_checks s pid addr)) _
+    (keeps_either s (len == 0) (answers s Done) (protect_outcome s pid (addr / 4096) (pages_from addr len) prot) s.durable
+    (same s) (keeps_protect s pid (addr / 4096) (pages_from addr len) prot))
+
 pub outcome_keeps : (s : State) (command : Command) → Keeps s (outcome s command).state (takes s (ruling s command) s.durable)
 outcome_keeps s Spawn = keeps_spawn s (least_free_pid s.live)
-outcome_keeps s (Mmap pid addr len prot source) = keeps_mmap s pid len prot source (mmap_errno s pid addr len prot source) (mmap_place s pid addr len)
+outcome_keeps s (Mmap pid addr len prot source placing) =
+    keeps_mmap s pid len prot source (mmap_errno s pid addr len prot source placing) (mmap_place s pid addr len placing)
+outcome_keeps s (Munmap pid addr len) = keeps_munmap s pid addr len
+outcome_keeps s (Mprotect pid addr len prot) = keeps_mprotect s pid addr len prot
 outcome_keeps s (Msync pid addr len mode) = keeps_msync s (msync_ruling s pid addr len mode)
 outcome_keeps s (Load pid addr width) = keeps_either s (s.live pid) _ _ s.durable (keeps_load s addr width _) (same s)
 outcome_keeps s (Store pid addr value) = keeps_either s (s.live pid) _ _ s.durable (keeps_store s pid addr value _) (same s)
@@ -91,7 +117,9 @@ msync_event s (Takes pid first count) reply d e = rw e refl
 answered_event : (s : State) (command : Command) (reply : Reply) (d : Pages) → reply ≡ (outcome s command).reply
     → after_event (event s command reply) d ≡ takes s (ruling s command) d
 answered_event s Spawn reply d e = either_way (may_have_taken reply) d
-answered_event s (Mmap pid addr len prot source) reply d e = either_way (may_have_taken reply) d
+answered_event s (Mmap pid addr len prot source placing) reply d e = either_way (may_have_taken reply) d
+answered_event s (Munmap pid addr len) reply d e = either_way (may_have_taken reply) d
+answered_event s (Mprotect pid addr len prot) reply d e = either_way (may_have_taken reply) d
 answered_event s (Msync pid addr len mode) reply d e = msync_event s (msync_ruling s pid addr len mode) reply d e
 answered_event s (Load pid addr width) reply d e = either_way (may_have_taken reply) d
 answered_event s (Store pid addr value) reply d e = either_way (may_have_taken reply) d
@@ -129,7 +157,7 @@ halted_stays causes s command reply t ends (Fails after run c cause r e) h = abs
 halted_stays causes s command reply t ends (Stalls stall run may r e) h = absurd (let k : Some ends ≡ None = sym h ∙ run in cc)
 halted_stays causes s command reply t ends (Stays others is r e) h = (r, e)
 
-commit_takes : (s : State) (r : Ruling) (after : Pages) → commit_of s r ≡ Some after → after ≡ takes s r s.durable
+pub commit_takes : (s : State) (r : Ruling) (after : Pages) → commit_of s r ≡ Some after → after ≡ takes s r s.durable
 commit_takes s (Refuses errno) after e = absurd (let k : None ≡ Some after = e in cc)
 commit_takes s Passes after e = absurd (let k : None ≡ Some after = e in cc)
 commit_takes s (Takes pid first count) after e = (let k : Some (committed s pid first count s.durable) ≡ Some after = e in cc)
@@ -150,7 +178,9 @@ after_zero d (e ∷ es) = refl
 
 not_msync : (s : State) (command : Command) (reply : Reply) (d : Pages) → is_msync command ≡ false → after_event (event s command reply) d ≡ d
 not_msync s Spawn reply d e = either_way (may_have_taken reply) d
-not_msync s (Mmap pid addr len prot source) reply d e = either_way (may_have_taken reply) d
+not_msync s (Mmap pid addr len prot source placing) reply d e = either_way (may_have_taken reply) d
+not_msync s (Munmap pid addr len) reply d e = either_way (may_have_taken reply) d
+not_msync s (Mprotect pid addr len prot) reply d e = either_way (may_have_taken reply) d
 not_msync s (Msync pid addr len mode) reply d e = cc
 not_msync s (Load pid addr width) reply d e = either_way (may_have_taken reply) d
 not_msync s (Store pid addr value) reply d e = either_way (may_have_taken reply) d

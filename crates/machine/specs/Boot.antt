@@ -6,12 +6,13 @@ use Rattle.disk_model.specs.Moments.{Touches, Nothing}
 use Rattle.file_store.specs.Standing.{StandsFor, file_info, standing_page, IsBadLayout}
 use Rattle.file_store.specs.Store.{IsReady}
 use Rattle.file_store.specs.declared.store.FileStore.{FileStore}
+use Rattle.regions.specs.RunList.{attr_at}
+use Rattle.spaces.specs.declared.memory.Memory.{Memory}
 use Rattle.vm_types.specs.declared.file.FileInfo.{FileInfo}
 use Rattle.vm_types.specs.StageLimits.{IsOneFile}
 use Rattle.vm_types.specs.State.{State, IsRunning}
 use Rattle.machine.specs.declared.boot.Config.{Config}
 use Rattle.machine.specs.declared.machine.Machine.{Machine}
-use Rattle.machine.specs.declared.memory.Memory.{Memory}
 use Rattle.machine.specs.Machine.{Shows}
 
 -- 8 to 65,536 frames
@@ -44,9 +45,8 @@ pub record IsOnly (files : ℕ → Option FileInfo) (info : FileInfo) : Type 0 w
 -- The memory of a machine as it starts: no process, and nothing touched.
 pub record IsFresh (m : Memory) (info : FileInfo) : Type 0 where
   pub live : m.live ≡ false
-  pub mapping : m.mapping ≡ None
+  pub empty : (page : ℕ) → attr_at m.regions page ≡ None
   pub info_is : m.info ≡ info
-  pub halted : m.halted ≡ false
   pub touched : (page : ℕ) → get_or m.touched.items page false ≡ false
 
 module _ {D : Type 0} (g : Ghosts D) where
@@ -66,4 +66,4 @@ module _ {D E : Type 0} (g : Ghosts D) (h : Ghosts E) where
     pub state : State
     pub shows : Shows g h m state
     pub start : IsBootState state
-    pub stands : g.keeps_model m.store.disk → StandsFor (g.sector_count store) state.files state.durable (g.content store)
+    pub stands : g.keeps_model m.core.store.disk → StandsFor (g.sector_count store) state.files state.durable (g.content store)

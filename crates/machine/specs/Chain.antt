@@ -41,8 +41,8 @@ module _ {D E : Type 0} (g : Ghosts D) (h : Ghosts E) where
       → Chain old s commands replies events new t → Type 0
   LeavesPrefixes old s commands replies events new t chain =
       (k : ℕ) (image : Image)
-      → g.left_since new.store.disk (g.moment (after old s commands replies events new t chain k).store.disk) image
-      → StandsForSome (g.sector_count old.store.disk) s.files (IsPrefixHolding s.durable events k) image
+      → g.left_since new.core.store.disk (g.moment (after old s commands replies events new t chain k).core.store.disk) image
+      → StandsForSome (g.sector_count old.core.store.disk) s.files (IsPrefixHolding s.durable events k) image
 
   -- The replies are those of the flat model, and what a stop leaves is what some of the msyncs left.
   pub record Runs (old new : Machine D E) (commands : List Command) (replies : List Reply) (s : State) : Type 0 where
@@ -50,4 +50,4 @@ module _ {D E : Type 0} (g : Ghosts D) (h : Ghosts E) where
     pub events : List Event
     pub chain : Chain old s commands replies events new last
     pub shows : Shows g h new last
-    pub prefixes : IsRunning s → g.keeps_model new.store.disk → LeavesPrefixes old s commands replies events new last chain
+    pub prefixes : IsRunning s → g.keeps_model new.core.store.disk → LeavesPrefixes old s commands replies events new last chain

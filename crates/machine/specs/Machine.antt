@@ -1,11 +1,11 @@
 -- How a machine is a state of the flat model, stops included.
-use Rattle.std.specs.Prelude.{ℕ, ◌≡◌, ◌<◌, ◌⊎◌, true, false, List, [], ◌∷◌, Option, Some, None}
+use Rattle.std.specs.Prelude.{ℕ, ◌≡◌, ◌<◌, ◌⊎◌, true, false, List, [], ◌∷◌, Option, Some, None, is_some}
 use Rattle.disk_model.specs.Moments.{LeavesNow, LeavesOnly}
 use Rattle.disk_model.specs.Stop.{Image}
 use Rattle.disk_model.specs.declared.sector_disk.SectorDisk.{Ghosts}
 use Rattle.file_store.specs.Standing.{StandsFor}
-use Rattle.file_store.specs.Store.{IsReady}
-use Rattle.file_store.specs.Store as Stores
+use Rattle.spaces.specs.Core as Spaces
+use Rattle.spaces.specs.Shows.{ShowsPages}
 use Rattle.vm_types.specs.declared.command.Command.{Command}
 use Rattle.vm_types.specs.declared.reply.Reply.{Reply}
 use Rattle.vm_types.specs.Files.{Files}
@@ -16,7 +16,6 @@ use Rattle.vm_types.specs.State.{State, IsRunning}
 use Rattle.vm_types.specs.Step.{ruling, takes}
 use Rattle.vm_types.specs.View.{Pages}
 use Rattle.machine.specs.declared.machine.Machine.{Machine}
-use Rattle.machine.specs.Shows.{ShowsPages}
 
 -- one of a list of contents
 abbrev pub IsOneOf : Pages → List Pages → Type 0
@@ -41,21 +40,22 @@ abbrev pub StandsForSome : ℕ → Files → (Pages → Type 0) → Image → Ty
 StandsForSome sectors files P image = (pages : Pages) × P pages × StandsFor sectors files pages image
 
 module _ {D E : Type 0} (g : Ghosts D) (h : Ghosts E) where
-  -- The machine may go on: unless it has halted, its store may be committed to.
+  -- The machine may go on: unless it has halted, its store may be committed to, and its file is the one that the memory knows.
   pub record IsSound (m : Machine D E) : Type 0 where
-    pub ready : m.memory.halted ≡ false → IsReady g m.store
-    pub file : Stores.files_of m.store 0 ≡ Some m.memory.info
+    pub going : m.halted ≡ false → Spaces.IsSound g h m.core
 
   -- The machine is in that state: its memory shows it, and so does every image that a stop may leave now.
   pub record Shows (m : Machine D E) (s : State) : Type 0 where
-    pub pages : ShowsPages m.memory s
-    pub stands : g.keeps_model m.store.disk → LeavesNow g m.store.disk (StandsForSome (g.sector_count m.store.disk) s.files (MayStand s))
+    pub pages : ShowsPages m.core.memory s
+    pub running : is_some s.ends ≡ m.halted
+    pub stands : g.keeps_model m.core.store.disk
+        → LeavesNow g m.core.store.disk (StandsForSome (g.sector_count m.core.store.disk) s.files (MayStand s))
 
   -- what came to pass between two states of the machine; nothing asks for frames yet
   abbrev pub causes : Machine D E → Machine D E → Causes
   causes old new = record {
-    store = g.failures old.store.disk < g.failures new.store.disk;
-    swap = h.failures old.swap < h.failures new.swap;
+    store = g.failures old.core.store.disk < g.failures new.core.store.disk;
+    swap = h.failures old.core.swap < h.failures new.core.swap;
     refused = ⊥;
   }
 
@@ -63,7 +63,7 @@ module _ {D E : Type 0} (g : Ghosts D) (h : Ghosts E) where
   pub record Meets (old new : Machine D E) (s t : State) (command : Command) (reply : Reply) : Type 0 where
     pub step : Step (causes old new) s command reply t
     pub shows : Shows new t
-    pub size : g.sector_count new.store.disk ≡ g.sector_count old.store.disk
-    pub kept : g.keeps_model new.store.disk → g.keeps_model old.store.disk
-    pub moments : g.keeps_model new.store.disk
-        → LeavesOnly g old.store.disk new.store.disk (StandsForSome (g.sector_count old.store.disk) s.files (HoldsIn s command reply))
+    pub size : g.sector_count new.core.store.disk ≡ g.sector_count old.core.store.disk
+    pub kept : g.keeps_model new.core.store.disk → g.keeps_model old.core.store.disk
+    pub moments : g.keeps_model new.core.store.disk
+        → LeavesOnly g old.core.store.disk new.core.store.disk (StandsForSome (g.sector_count old.core.store.disk) s.files (HoldsIn s command reply))

@@ -11,9 +11,9 @@ ghost use Rattle.file_store.specs.Store.{IsReady, files_of};
 ghost use Rattle.vm_types.specs.StageLimits.{IsOneFile};
 
 use crate::machine::Machine;
-use crate::memory::{Memory, PAGE};
 use disk_model::{DiskFault, SectorDisk};
 use file_store::{FileStore, OpenFault};
+use spaces::{Core, Memory};
 use std::alloc::{AllocError, Global};
 use vm_types::{FileInfo, FilePage};
 
@@ -26,6 +26,9 @@ const MAX_FRAMES: u32 = 1 << 16;
 const MAX_SLOTS: u32 = 1 << 16;
 
 const SLOT_SECTORS: u64 = 8;
+
+/// Bytes of a page.
+const PAGE: u32 = 4096;
 
 /// The sizes of a machine.
 #[derive(Clone, Copy, Debug, PartialEq, Eq)]
@@ -106,15 +109,15 @@ impl<D: SectorDisk, E: SectorDisk + Drop> Machine<D, E> {
 
         ensures sound { IfOk result (λ m. IsSound D.SectorDisk E.SectorDisk m) }
         ensures boots { IfOk result (λ m. Boots D.SectorDisk E.SectorDisk store m) }
-        ensures size { IfOk result (λ m. D.sector_count m.store.disk ≡ D.sector_count store) }
-        ensures kept { IfOk result (λ m. D.keeps_model m.store.disk → D.keeps_model store) }
+        ensures size { IfOk result (λ m. D.sector_count m.core.store.disk ≡ D.sector_count store) }
+        ensures kept { IfOk result (λ m. D.keeps_model m.core.store.disk → D.keeps_model store) }
         ensures frames { OnOk result (HasBadFrames config → ⊥) }
         ensures slots { OnOk result (HasBadSlots config (E.sector_count swap) → ⊥) }
-        ensures layout { IfOk result (λ m. D.keeps_model m.store.disk → IsUnfit (D.sector_count store) (D.content store) → ⊥) }
-        ensures journal { IfOk result (λ m. D.keeps_model m.store.disk → IsBadJournal (D.sector_count store) (D.content store) → ⊥) }
+        ensures layout { IfOk result (λ m. D.keeps_model m.core.store.disk → IsUnfit (D.sector_count store) (D.content store) → ⊥) }
+        ensures journal { IfOk result (λ m. D.keeps_model m.core.store.disk → IsBadJournal (D.sector_count store) (D.content store) → ⊥) }
 
         // At every moment of the call a stop leaves what stood before it.
-        ensures any_moment { IfOk result (λ m. D.keeps_model m.store.disk → LeavesOnly D.SectorDisk store m.store.disk (StandsAs (D.sector_count store) (D.content store))) }
+        ensures any_moment { IfOk result (λ m. D.keeps_model m.core.store.disk → LeavesOnly D.SectorDisk store m.core.store.disk (StandsAs (D.sector_count store) (D.content store))) }
         ensures err_moment { IfErr result (λ e. D.keeps_model e.1 → LeavesOnly D.SectorDisk store e.1 (StandsAs (D.sector_count store) (D.content store))) }
 
         ensures err_kept { IfErr result (λ e. D.keeps_model e.1 → D.keeps_model store) }
@@ -141,9 +144,12 @@ impl<D: SectorDisk, E: SectorDisk + Drop> Machine<D, E> {
         };
         match read_memory(alloc, &mut store, info) {
             Ok(memory) => Ok(Machine {
-                store,
-                swap,
-                memory,
+                core: Core {
+                    store,
+                    swap,
+                    memory,
+                },
+                halted: false,
             }),
             Err(fault) => Err((fault, store.into_disk())),
         }
@@ -156,7 +162,7 @@ fn only_file<D: SectorDisk>(store: &FileStore<D>) -> Option<FileInfo>
     ensures none { IfNone result (IsOneFile (files_of store.now) → ⊥) }
 {
     let info = store.file(0)?;
-    if u64::from(info.length) % PAGE != 0 {
+    if info.length % PAGE != 0 {
         return None;
     }
     for file in 1..64 {
@@ -182,7 +188,7 @@ fn read_memory<D: SectorDisk>(
     ensures device { IsErrOf result BootFault.Device → D.failures store.old.disk < D.failures store.new.disk }
     ensures faults { IfErr result (λ e. (e ≡ BootFault.Device) ⊎ (e ≡ BootFault.OutOfMemory)) }
 {
-    let count = info.length / 4096;
+    let count = info.length / PAGE;
     let mut pages = Vec::with_capacity(alloc, count as usize)?;
     let mut touched = Vec::with_capacity(alloc, count as usize)?;
     for page in 0..count {
@@ -197,12 +203,5 @@ fn read_memory<D: SectorDisk>(
             Err(refused) => return Err(AllocError::from(refused).into()),
         }
     }
-    Ok(Memory {
-        live: false,
-        mapping: None,
-        info,
-        pages,
-        touched,
-        halted: false,
-    })
+    Ok(Memory::new(info, pages, touched))
 }

@@ -1,12 +1,11 @@
 //! The machine: commands in, replies out, over a store that survives stops.
-ghost use Rattle.std.specs.Prelude.{◌≡◌, ◌≤◌, ◌<◌, length};
+ghost use Rattle.std.specs.Prelude.{◌≡◌, ◌≤◌, ◌<◌, length, is_some};
 ghost use Rattle.vm_types.specs.State.{State};
 ghost use Rattle.machine.specs.Machine.{IsSound, Shows, Meets};
 ghost use Rattle.machine.specs.Chain.{Runs};
 
-use crate::memory::Memory;
 use disk_model::SectorDisk;
-use file_store::FileStore;
+use spaces::Core;
 use vm_types::{Command, Reply};
 
 /// A machine over a store device `D` and a swap device `E`, made by `boot`.
@@ -15,17 +14,25 @@ use vm_types::{Command, Reply};
 /// msyncs left, in order and each taken whole (Park, Kelly and Shen, Failure-Atomic msync, EuroSys 2013).
 #[derive(Drop)]
 pub struct Machine<D, E> {
-    pub(crate) store: FileStore<D>,
-    pub(crate) swap: E,
-    pub(crate) memory: Memory,
+    pub(crate) core: Core<D, E>,
+    /// Whether an msync failed.
+    pub(crate) halted: bool,
 }
 
 impl<D: SectorDisk, E: SectorDisk> Machine<D, E> {
     /// The store's device.
     pub fn store(&self) -> &D
-        ensures { result.now ≡ self.now.store.disk }
+        ensures { result.now ≡ self.now.core.store.disk }
     {
-        self.store.disk()
+        self.core.store.disk()
+    }
+
+    /// Whether an msync was answered by `EIO`: every command is then answered by `Halted`, and none otherwise.
+    pub fn is_halted(&self) -> bool
+        ensures halted { result ≡ self.now.halted }
+        ensures ends { (s : State) → Shows D.SectorDisk E.SectorDisk self.now s → result ≡ is_some s.ends }
+    {
+        self.halted
     }
 
     /// Carries out one command. It takes no memory. A failure of the store in an msync is answered by `EIO`, only
@@ -35,26 +42,35 @@ impl<D: SectorDisk, E: SectorDisk> Machine<D, E> {
         ensures sound { IsSound D.SectorDisk E.SectorDisk self.new }
         ensures meets { (s : State) → Shows D.SectorDisk E.SectorDisk self.old s → (t : State) × Meets D.SectorDisk E.SectorDisk self.old self.new s t command result }
     {
-        if self.memory.halted {
+        if self.halted {
             return Reply::Halted;
         }
+        let core = &mut self.core;
         match command {
-            Command::Spawn => self.memory.spawn(),
+            Command::Spawn => spaces::spawn(core),
             Command::Mmap {
                 pid,
                 addr,
                 len,
                 prot,
                 source,
-            } => self.memory.mmap(pid, addr, len, prot, source),
+                placing,
+            } => spaces::mmap(core, pid, addr, len, prot, source, placing),
+            Command::Munmap { pid, addr, len } => spaces::munmap(core, pid, addr, len),
+            Command::Mprotect {
+                pid,
+                addr,
+                len,
+                prot,
+            } => spaces::mprotect(core, pid, addr, len, prot),
             Command::Msync {
                 pid,
                 addr,
                 len,
                 mode,
             } => self.msync(pid, addr, len, mode),
-            Command::Load { pid, addr, width } => self.memory.load(pid, addr, width),
-            Command::Store { pid, addr, stored } => self.memory.store(pid, addr, stored),
+            Command::Load { pid, addr, width } => spaces::load(core, pid, addr, width),
+            Command::Store { pid, addr, stored } => spaces::store(core, pid, addr, stored),
         }
     }
 

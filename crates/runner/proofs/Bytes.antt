@@ -1,10 +1,10 @@
 -- Beginnings and ends of lists of bytes.
-use Rattle.std.proofs.Common.{◌≡◌, ℕ, ◌+◌, ◌-◌, ◌<◌, ◌≤◌, List, [], ◌∷◌, ◌++◌, length, take, drop, set, refl, sym, ap, ◌∙◌, append_assoc, append-nil, arith, length-append, get_or, Option, MatchResult, Result, Ok, Err}
-use Rattle.std.proofs.lemmas.List.{take_all, take_more, take_more_set, take-append-le, length-take-le, take-append-drop, length-take}
+use Rattle.std.proofs.Common.{◌≡◌, ℕ, ◌+◌, ◌<◌, ◌≤◌, List, [], ◌∷◌, ◌++◌, length, take, drop, set, sym, ap, ◌∙◌, arith, length-append, get_or, Option, MatchResult, Result, Ok, Err}
+use Rattle.std.proofs.lemmas.List.{take_all, take_more, take_more_set, take-append-le, take-append-drop, length-take}
 use Rattle.std.proofs.Math.Seq.{take-add}
 use Rattle.std.specs.Io.KnownBytes.{Appends, Keeps}
 use Rattle.std.proofs.KnownBytes.{Appends-trans, Appends-nil, Appends-kept}
-use Rattle.runner.specs.Bytes.{StartsAs, WritesBeginning}
+use Rattle.runner.specs.Bytes.{WritesBeginning}
 
 -- a byte goes on after the first `len` of a buffer
 pub pushed_byte : (bytes : List ℕ) (len byte : ℕ) → len < 257 → length bytes ≡ 257

@@ -1,17 +1,16 @@
 -- How a run ends, after what it did before.
-use Rattle.std.proofs.Common.{◌≡◌, ◌≢◌, ℕ, ◌+◌, ◌<◌, ◌≤◌, ◌==◌, true, false, List, [], ◌∷◌, ◌++◌, length, take, refl, sym, ap, subst, ◌∙◌, append_assoc, append-nil, arith, Option}
+use Rattle.std.proofs.Common.{◌≡◌, ◌≢◌, ℕ, ◌≤◌, List, [], ◌∷◌, ◌++◌, length, refl, sym, ap, subst, ◌∙◌, append_assoc, append-nil, arith, Option}
 use Rattle.std.proofs.lemmas.List.{length-take}
-use Rattle.std.proofs.lemmas.Bool.{eqb-false}
 use Rattle.std.specs.Io.KnownBytes.{Appends}
 use Rattle.std.proofs.KnownBytes.{Appends-trans, Appends-nil}
 use Rattle.disk_model.specs.declared.sector_disk.SectorDisk.{Ghosts}
 use Rattle.machine.specs.declared.machine.Machine.{Machine}
-use Rattle.trace_lang.specs.Lines.{lines_of, HasNoNewline, Cuts}
+use Rattle.trace_lang.specs.Lines.{lines_of, Cuts}
 use Rattle.runner.specs.declared.engine.RunEnd.{RunEnd}
 use Rattle.runner.specs.declared.engine.RunEnd.TheVariants.{Done, ReadFault, WriteFault}
-use Rattle.runner.specs.Bytes.{StartsAs, WritesBeginning}
+use Rattle.runner.specs.Bytes.{WritesBeginning}
 use Rattle.runner.specs.Session.{Answers, CarriesOut}
-use Rattle.runner.specs.Progress.{Stage, stage, IsKept, RunsLast, Advances, Reads, Breaks, Finishes, Stops, Fails, GoesOn, BreaksOff, Ends}
+use Rattle.runner.specs.Progress.{Stage, stage, IsKept, RunsLast, GoesOn, BreaksOff, Ends}
 use Rattle.runner.proofs.Lines.{lines_of-cut, lines_of-unfinished, Cuts-none}
 use Rattle.runner.proofs.Session.{answers_line, CarriesOut-one, CarriesOut-append}
 use Rattle.runner.proofs.Progress.{Advances-trans, wrote_beginning}

@@ -4,5 +4,5 @@ pub mod Session
 pub mod Progress
 pub mod Ends
 pub mod Trace
-pub mod Steps
-pub mod Prefixes
+pub mod Specs
+pub mod Copies

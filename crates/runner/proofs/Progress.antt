@@ -1,5 +1,5 @@
 -- How the engine goes on, byte after byte.
-use Rattle.std.proofs.Common.{◌≡◌, ◌≢◌, ℕ, ◌+◌, ◌<◌, ◌≤◌, ◌⊎◌, List, [], ◌∷◌, ◌++◌, length, take, drop, refl, sym, ap, subst, ◌∙◌, append_assoc, append-nil, inl, inr, arith, Option, length-append}
+use Rattle.std.proofs.Common.{◌≡◌, ◌≢◌, ℕ, ◌≤◌, List, [], ◌∷◌, ◌++◌, length, take, refl, sym, ap, subst, ◌∙◌, append_assoc, append-nil, inl, inr, arith, Option}
 use Rattle.std.proofs.lemmas.List.{take_all, length-take-le, take-append-le}
 use Rattle.std.proofs.lemmas.List.Elements.{All-nil}
 use Rattle.std.proofs.lemmas.Bool.{cases_lt}
@@ -7,10 +7,9 @@ use Rattle.std.specs.Io.KnownBytes.{Appends}
 use Rattle.std.proofs.KnownBytes.{Appends-trans, Appends-nil}
 use Rattle.disk_model.specs.declared.sector_disk.SectorDisk.{Ghosts}
 use Rattle.machine.specs.declared.machine.Machine.{Machine}
-use Rattle.trace_lang.specs.Lines.{HasNoNewline, Cuts}
-use Rattle.runner.specs.Bytes.{StartsAs, WritesBeginning}
-use Rattle.runner.specs.Session.{Answers, CarriesOut}
-use Rattle.runner.specs.Progress.{Stage, stage, IsKept, Advances, Reads, Breaks, GoesOn, BreaksOff}
+use Rattle.runner.specs.Bytes.{WritesBeginning}
+use Rattle.runner.specs.Session.{Answers}
+use Rattle.runner.specs.Progress.{Stage, stage, IsKept, Advances, GoesOn, BreaksOff}
 use Rattle.runner.proofs.Lines.{Cuts-trans, Cuts-none, Cuts-byte, Cuts-newline}
 use Rattle.runner.proofs.Session.{answers_line, CarriesOut-one, CarriesOut-append}
 

@@ -1,12 +1,12 @@
 -- Laws of runs of lines.
-use Rattle.std.proofs.Common.{◌≡◌, ℕ, ◌+◌, ◌<◌, ◌≤◌, ◌⊎◌, List, [], ◌∷◌, ◌++◌, length, take, refl, sym, ap, subst, ◌∙◌, append_assoc, append-nil, inl, inr, arith}
+use Rattle.std.proofs.Common.{ℕ, ◌<◌, ◌≤◌, List, [], ◌∷◌, ◌++◌, length, take, refl, sym, ap, subst, ◌∙◌, append_assoc, append-nil, inl, inr, arith}
 use Rattle.std.proofs.lemmas.List.{take_all, length-take-le}
 use Rattle.std.proofs.lemmas.Bool.{cases_lt}
 use Rattle.vm_types.specs.declared.command.Command.{Command}
 use Rattle.disk_model.specs.declared.sector_disk.SectorDisk.{Ghosts}
 use Rattle.machine.specs.declared.machine.Machine.{Machine}
 use Rattle.trace_lang.specs.Grammar.{IsCommand}
-use Rattle.runner.specs.Session.{IsBadLine, Obeys, Rejects, Answers, CarriesOut}
+use Rattle.runner.specs.Session.{IsBadLine, Answers, CarriesOut}
 
 -- a line of more than 256 bytes is in no form
 too_long : (line : List ℕ) → 256 < length line → IsBadLine line

@@ -1,23 +1,22 @@
 -- From the lines that were carried out to a run of the machine.
 use Rattle.std.proofs.Common.{◌≡◌, ℕ, List, [], ◌∷◌, ◌++◌, refl, sym, ap, subst, ◌∙◌, Option, inl, inr}
-use Rattle.std.specs.Io.KnownBytes.{Appends, Consumes, IsAtEnd}
+use Rattle.std.specs.Io.KnownBytes.{Consumes}
 use Rattle.disk_model.specs.Stop.{Image, MayLeave}
 use Rattle.disk_model.specs.declared.sector_disk.SectorDisk.{Ghosts}
 use Rattle.vm_types.specs.declared.command.Command.{Command}
 use Rattle.vm_types.specs.declared.reply.Reply.{Reply}
 use Rattle.vm_types.specs.Prefix.{Event}
-use Rattle.vm_types.specs.State.{State, IsRunning}
+use Rattle.vm_types.specs.State.{State}
 use Rattle.machine.specs.declared.machine.Machine.{Machine}
 use Rattle.machine.specs.Machine.{Shows, Meets}
-use Rattle.machine.specs.Chain.{event, Chain, LeavesPrefixes, Runs}
-use Rattle.trace_lang.specs.Lines.{lines_of, Cuts}
-use Rattle.trace_lang.specs.Texts.{text_of, bad_line_text}
+use Rattle.machine.specs.Chain.{event, Chain, Runs}
+use Rattle.machine.proofs.Runs.{leaves_prefix}
+use Rattle.trace_lang.specs.Lines.{lines_of}
 use Rattle.runner.specs.declared.engine.RunEnd.{RunEnd}
 use Rattle.runner.specs.declared.engine.RunEnd.TheVariants.{Done, ReadFault, WriteFault}
-use Rattle.runner.specs.Session.{Answers, Obeys, Rejects, CarriesOut, Answered}
-use Rattle.runner.proofs.Prefixes.{prefixes}
-use Rattle.runner.specs.Progress.{Stage, stage, EndsSo, ReadsAll}
-use Rattle.runner.specs.Trace.{Streams, streams, EndsTrace, RunsTrace}
+use Rattle.runner.specs.Session.{Obeys, Rejects, CarriesOut, Answered}
+use Rattle.runner.specs.Progress.{stage, EndsSo, ReadsAll}
+use Rattle.runner.specs.Trace.{streams, RunsTrace}
 
 module _ {D E : Type 0} (g : Ghosts D) (h : Ghosts E)
     (only_now : (d : D) (image : Image) → g.keeps_model d → g.left_since d (g.moment d) image → MayLeave (g.content d) (g.unsynced d) image) where
@@ -97,7 +96,8 @@ module _ {D E : Type 0} (g : Ghosts D) (h : Ghosts E)
     events = a.events;
     chain = a.chain;
     shows = a.shows;
-    prefixes = prefixes g h only_now old s a.commands a.replies a.events new a.last a.chain before;
+    prefixes = λ run keeps.
+        leaves_prefix g h (g.sector_count old.core.store.disk) s.files old s a.commands a.replies a.events new a.last a.chain keeps run refl refl only_now before;
   }
 
   pub runs_trace : (end : RunEnd) (old new : Machine D E) (s : State) (left left_then held held_then : Option (List ℕ)) (bytes : List ℕ)

@@ -1,5 +1,5 @@
 -- What an engine that reads lines and writes replies does with bytes.
-use Rattle.std.specs.Prelude.{◌≡◌, ℕ, List, ◌++◌, take, length, Option}
+use Rattle.std.specs.Prelude.{◌≡◌, ℕ, List, ◌++◌, Option}
 use Rattle.std.specs.Io.KnownBytes.{Appends}
 
 -- these bytes are a beginning of those

@@ -2,3 +2,4 @@ pub mod Bytes
 pub mod Session
 pub mod Progress
 pub mod Trace
+pub mod Specs

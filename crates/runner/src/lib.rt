@@ -7,4 +7,4 @@ mod output_buffer;
 mod programs;
 
 pub use engine::{RunEnd, run};
-pub use programs::{given_words, pagefmt, pagerun};
+pub use programs::{given_words, pagecat, pagefmt, pagerun};

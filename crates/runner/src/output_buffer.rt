@@ -98,8 +98,9 @@ fn append(bytes: &mut [u8; 34816], len: usize, text: &[u8]) -> usize
     end
 }
 
-// Gives the bytes to the writer, in as many calls as it wants.
-fn write_bytes<W: Write>(bytes: &[u8], writer: &mut W) -> Result<(), WriteFault>
+/// Gives the bytes to the writer, in as many calls as it wants. A call that was interrupted is made again. A fault comes
+/// where the writer fails otherwise or takes no bytes; it took a beginning of the bytes then.
+pub(crate) fn write_bytes<W: Write>(bytes: &[u8], writer: &mut W) -> Result<(), WriteFault>
     ensures { MatchResult result
         (λ _. Appends (W.contents writer.old) (W.contents writer.new) bytes.now)
         (λ _. WritesBeginning (W.contents writer.old) (W.contents writer.new) bytes.now) }

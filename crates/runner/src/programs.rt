@@ -3,10 +3,14 @@
 mod faults;
 mod files;
 mod formatting;
+mod numbers;
 mod running;
+mod showing;
+mod sources;
 mod start;
 mod words;
 
 pub use formatting::pagefmt;
 pub use running::pagerun;
+pub use showing::pagecat;
 pub use start::given_words;

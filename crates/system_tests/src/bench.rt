@@ -29,6 +29,18 @@ pub(crate) fn image(alloc: Global, length: u32) -> Result<SimDisk, Fail> {
     Ok(disk)
 }
 
+/// An image of one file of one page.
+pub(crate) fn image_of(alloc: Global, read_only: bool, page: &[u8; 4096]) -> Result<SimDisk, Fail> {
+    let mut disk = SimDisk::new(alloc, 1028)?;
+    let mut files: [FileSource<&[u8]>; 1] = [FileSource {
+        read_only,
+        length: 4096,
+        bytes: Some(page),
+    }];
+    format(&mut disk, &mut files)?;
+    Ok(disk)
+}
+
 /// The fault that a device is to have.
 #[derive(Clone, Copy, Debug, PartialEq, Eq)]
 pub(crate) enum Armed {

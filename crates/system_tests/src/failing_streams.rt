@@ -1,13 +1,14 @@
 //! Readers and writers that fail on the way.
 use crate::bench::{Armed, Bench, image};
 use runner::{RunEnd, run};
+use std::alloc::Global;
 use std::io::{self, ErrorKind, Read, Write};
 use std::test::Fail;
 
 /// Gives its bytes, and then an error.
 #[derive(Drop)]
-struct FailingReader<'a> {
-    rest: &'a [u8],
+pub(crate) struct FailingReader<'a> {
+    pub rest: &'a [u8],
 }
 
 impl Read for FailingReader<'_> {
@@ -21,18 +22,29 @@ impl Read for FailingReader<'_> {
 
 /// What a writer does when it has no room left.
 #[derive(Clone, Copy, Debug, PartialEq, Eq)]
-enum Full {
+pub(crate) enum Full {
     Fails,
     TakesNothing,
 }
 
 /// Takes at most so many bytes a call and so many in all.
 #[derive(Drop)]
-struct LimitedWriter {
-    taken: Vec<u8>,
+pub(crate) struct LimitedWriter {
+    pub taken: Vec<u8>,
     each: usize,
     room: usize,
     full: Full,
+}
+
+impl LimitedWriter {
+    pub(crate) fn new(alloc: Global, each: usize, room: usize, full: Full) -> LimitedWriter {
+        LimitedWriter {
+            taken: Vec::new(alloc),
+            each,
+            room,
+            full,
+        }
+    }
 }
 
 impl Write for LimitedWriter {
@@ -116,12 +128,7 @@ fn written(
 ) -> Result<(RunEnd, Vec<u8>), Fail> {
     let mut bench = Bench::boot(rt.alloc(), &image(rt.alloc(), 4096)?, Armed::Nothing)?;
     let mut reader: &[u8] = b"spawn\nspawn\nspawn\n";
-    let mut writer = LimitedWriter {
-        taken: Vec::new(rt.alloc()),
-        each,
-        room,
-        full,
-    };
+    let mut writer = LimitedWriter::new(rt.alloc(), each, room, full);
     let end = run(&mut reader, &mut writer, &mut bench.machine);
     Ok((end, writer.taken))
 }

@@ -6,6 +6,16 @@ mod bench;
 #[cfg(test)]
 mod failing_streams;
 #[cfg(test)]
+mod mappings;
+#[cfg(test)]
+mod pagecat;
+#[cfg(test)]
+mod pagefmt;
+#[cfg(test)]
+mod pagerun;
+#[cfg(test)]
+mod program_bench;
+#[cfg(test)]
 mod programs;
 #[cfg(test)]
 mod stops;

@@ -1,12 +1,13 @@
 -- Words of a known form stand for no command of another form.
 use Rattle.std.proofs.Common.{◌≡◌, ℕ, ◌<◌, ◌^◌, ◌*◌, List, [], ◌∷◌, codes, Option, Some, get_or, subst, sym, ◌∙◌, ap, lit<, arith}
-use Rattle.trace_lang.specs.Grammar.{IsForm, IsMode, IsNumber, IsPermission, IsSource, IsWidth}
+use Rattle.trace_lang.specs.Grammar.{IsBack, IsForm, IsMode, IsNumber, IsPermission, IsWidth}
 use Rattle.vm_types.specs.Width.{byte_count}
 use Rattle.vm_types.specs.declared.access.StoredValue.{StoredValue}
 use Rattle.vm_types.specs.declared.command.Command.{Command}
-use Rattle.vm_types.specs.declared.command.Command.TheVariants.{Spawn, Mmap, Msync, Load, Store}
+use Rattle.vm_types.specs.declared.command.Command.TheVariants.{Spawn, Mmap, Munmap, Mprotect, Msync, Load, Store}
 use Rattle.vm_types.specs.declared.command.MapSource.{MapSource}
 use Rattle.vm_types.specs.declared.command.MsyncMode.{MsyncMode}
+use Rattle.vm_types.specs.declared.command.Placing.{Placing}
 use Rattle.vm_types.specs.declared.permission.Prot.{Prot}
 use Rattle.vm_types.specs.declared.width.Width.{Width}
 
@@ -25,7 +26,9 @@ pub only_load : (ws : List (List ℕ)) (p a w : List ℕ) (r : Option Command) �
     → ((pid addr : ℕ) (width : Width) → IsNumber p pid → IsNumber a addr → IsWidth w width → r ≡ Some (Load pid addr width))
     → (command : Command) → IsForm ws command → r ≡ Some command
 only_load ws p a w r e only Spawn h = cc
-only_load ws p a w r e only (Mmap pid addr len prot source) h = cc (h.5)
+only_load ws p a w r e only (Mmap pid addr len prot source placing) h = cc (h.5)
+only_load ws p a w r e only (Munmap pid addr len) h = cc (h.3)
+only_load ws p a w r e only (Mprotect pid addr len prot) h = cc (h.4)
 only_load ws p a w r e only (Msync pid addr len mode) h = cc (h.4)
 only_load ws p a w r e only (Load pid addr width) h =
     let ep : h.0 ≡ p = cc (h.3) in let ea : h.1 ≡ a = cc (h.3) in let ew : h.2 ≡ w = cc (h.3) in
@@ -37,7 +40,9 @@ pub only_store : (ws : List (List ℕ)) (p a w v : List ℕ) (r : Option Command
     → stored.value < 2 ^ (8 * byte_count stored.width) → r ≡ Some (Store pid addr stored))
     → (command : Command) → IsForm ws command → r ≡ Some command
 only_store ws p a w v r e only Spawn h = cc
-only_store ws p a w v r e only (Mmap pid addr len prot source) h = cc (h.5)
+only_store ws p a w v r e only (Mmap pid addr len prot source placing) h = cc (h.5)
+only_store ws p a w v r e only (Munmap pid addr len) h = cc (h.3)
+only_store ws p a w v r e only (Mprotect pid addr len prot) h = cc (h.4)
 only_store ws p a w v r e only (Msync pid addr len mode) h = absurd (other_name _ _ (sym h.4 ∙ e))
 only_store ws p a w v r e only (Load pid addr width) h = cc (h.3)
 only_store ws p a w v r e only (Store pid addr stored) h =
@@ -49,7 +54,9 @@ pub only_msync : (ws : List (List ℕ)) (p a l m : List ℕ) (r : Option Command
     → ((pid addr len : ℕ) (mode : MsyncMode) → IsNumber p pid → IsNumber a addr → IsNumber l len → IsMode m mode → r ≡ Some (Msync pid addr len mode))
     → (command : Command) → IsForm ws command → r ≡ Some command
 only_msync ws p a l m r e only Spawn h = cc
-only_msync ws p a l m r e only (Mmap pid addr len prot source) h = cc (h.5)
+only_msync ws p a l m r e only (Mmap pid addr len prot source placing) h = cc (h.5)
+only_msync ws p a l m r e only (Munmap pid addr len) h = cc (h.3)
+only_msync ws p a l m r e only (Mprotect pid addr len prot) h = cc (h.4)
 only_msync ws p a l m r e only (Msync pid addr len mode) h =
     let ep : h.0 ≡ p = cc (h.4) in let ea : h.1 ≡ a = cc (h.4) in let el : h.2 ≡ l = cc (h.4) in let em : h.3 ≡ m = cc (h.4) in
     only pid addr len mode (along (λ t. IsNumber t pid) _ _ ep h.5) (along (λ t. IsNumber t addr) _ _ ea h.6) (along (λ t. IsNumber t len) _ _ el h.7)
@@ -57,15 +64,44 @@ only_msync ws p a l m r e only (Msync pid addr len mode) h =
 only_msync ws p a l m r e only (Load pid addr width) h = cc (h.3)
 only_msync ws p a l m r e only (Store pid addr stored) h = absurd (other_name _ _ (sym e ∙ h.4))
 
-pub only_mmap : (ws : List (List ℕ)) (p a l t : List ℕ) (s : List (List ℕ)) (r : Option Command) → ws ≡ codes "mmap" ∷ p ∷ a ∷ l ∷ t ∷ s
-    → ((pid addr len : ℕ) (prot : Prot) (source : MapSource) → IsNumber p pid → IsNumber a addr → IsNumber l len → IsPermission t prot → IsSource s source
-    → r ≡ Some (Mmap pid addr len prot source))
+pub only_mmap : (ws : List (List ℕ)) (p a l t : List ℕ) (b : List (List ℕ)) (r : Option Command) → ws ≡ codes "mmap" ∷ p ∷ a ∷ l ∷ t ∷ b
+    → ((pid addr len : ℕ) (prot : Prot) (source : MapSource) (placing : Placing) → IsNumber p pid → IsNumber a addr → IsNumber l len → IsPermission t prot → IsBack b source placing
+    → r ≡ Some (Mmap pid addr len prot source placing))
     → (command : Command) → IsForm ws command → r ≡ Some command
-only_mmap ws p a l t s r e only Spawn h = cc
-only_mmap ws p a l t s r e only (Mmap pid addr len prot source) h =
-    let ep : h.0 ≡ p = cc (h.5) in let ea : h.1 ≡ a = cc (h.5) in let el : h.2 ≡ l = cc (h.5) in let et : h.3 ≡ t = cc (h.5) in let es : h.4 ≡ s = cc (h.5) in
-    only pid addr len prot source (along (λ x. IsNumber x pid) _ _ ep h.6) (along (λ x. IsNumber x addr) _ _ ea h.7) (along (λ x. IsNumber x len) _ _ el h.8)
-    (along (λ x. IsPermission x prot) _ _ et h.9) (along (λ x. IsSource x source) _ _ es h.10)
-only_mmap ws p a l t s r e only (Msync pid addr len mode) h = cc (h.4)
-only_mmap ws p a l t s r e only (Load pid addr width) h = cc (h.3)
-only_mmap ws p a l t s r e only (Store pid addr stored) h = cc (h.4)
+only_mmap ws p a l t b r e only Spawn h = cc
+only_mmap ws p a l t b r e only (Mmap pid addr len prot source placing) h =
+    let ep : h.0 ≡ p = cc (h.5) in let ea : h.1 ≡ a = cc (h.5) in let el : h.2 ≡ l = cc (h.5) in let et : h.3 ≡ t = cc (h.5) in let eb : h.4 ≡ b = cc (h.5) in
+    only pid addr len prot source placing (along (λ x. IsNumber x pid) _ _ ep h.6) (along (λ x. IsNumber x addr) _ _ ea h.7) (along (λ x. IsNumber x len) _ _ el h.8)
+    (along (λ x. IsPermission x prot) _ _ et h.9) (along (λ x. IsBack x source placing) _ _ eb h.10)
+only_mmap ws p a l t b r e only (Munmap pid addr len) h = cc (h.3)
+only_mmap ws p a l t b r e only (Mprotect pid addr len prot) h = cc (h.4)
+only_mmap ws p a l t b r e only (Msync pid addr len mode) h = cc (h.4)
+only_mmap ws p a l t b r e only (Load pid addr width) h = cc (h.3)
+only_mmap ws p a l t b r e only (Store pid addr stored) h = cc (h.4)
+
+pub only_munmap : (ws : List (List ℕ)) (p a l : List ℕ) (r : Option Command) → ws ≡ codes "munmap" ∷ p ∷ a ∷ l ∷ []
+    → ((pid addr len : ℕ) → IsNumber p pid → IsNumber a addr → IsNumber l len → r ≡ Some (Munmap pid addr len))
+    → (command : Command) → IsForm ws command → r ≡ Some command
+only_munmap ws p a l r e only Spawn h = cc
+only_munmap ws p a l r e only (Mmap pid addr len prot source placing) h = cc (h.5)
+only_munmap ws p a l r e only (Munmap pid addr len) h =
+    let ep : h.0 ≡ p = cc (h.3) in let ea : h.1 ≡ a = cc (h.3) in let el : h.2 ≡ l = cc (h.3) in
+    only pid addr len (along (λ t. IsNumber t pid) _ _ ep h.4) (along (λ t. IsNumber t addr) _ _ ea h.5) (along (λ t. IsNumber t len) _ _ el h.6)
+only_munmap ws p a l r e only (Mprotect pid addr len prot) h = cc (h.4)
+only_munmap ws p a l r e only (Msync pid addr len mode) h = cc (h.4)
+only_munmap ws p a l r e only (Load pid addr width) h = cc (h.3)
+only_munmap ws p a l r e only (Store pid addr stored) h = cc (h.4)
+
+pub only_mprotect : (ws : List (List ℕ)) (p a l t : List ℕ) (r : Option Command) → ws ≡ codes "mprotect" ∷ p ∷ a ∷ l ∷ t ∷ []
+    → ((pid addr len : ℕ) (prot : Prot) → IsNumber p pid → IsNumber a addr → IsNumber l len → IsPermission t prot → r ≡ Some (Mprotect pid addr len prot))
+    → (command : Command) → IsForm ws command → r ≡ Some command
+only_mprotect ws p a l t r e only Spawn h = cc
+only_mprotect ws p a l t r e only (Mmap pid addr len prot source placing) h = cc (h.5)
+only_mprotect ws p a l t r e only (Munmap pid addr len) h = cc (h.3)
+only_mprotect ws p a l t r e only (Mprotect pid addr len prot) h =
+    let ep : h.0 ≡ p = cc (h.4) in let ea : h.1 ≡ a = cc (h.4) in let el : h.2 ≡ l = cc (h.4) in let et : h.3 ≡ t = cc (h.4) in
+    only pid addr len prot (along (λ x. IsNumber x pid) _ _ ep h.5) (along (λ x. IsNumber x addr) _ _ ea h.6) (along (λ x. IsNumber x len) _ _ el h.7)
+    (along (λ x. IsPermission x prot) _ _ et h.8)
+only_mprotect ws p a l t r e only (Msync pid addr len mode) h = cc (h.4)
+only_mprotect ws p a l t r e only (Load pid addr width) h = cc (h.3)
+only_mprotect ws p a l t r e only (Store pid addr stored) h = cc (h.4)

@@ -7,13 +7,23 @@ use denote.Ref.{Bor}
 abbrev pub texts : List (Bor (List ℕ)) → List (List ℕ)
 texts words = map (λ w. w.now) words
 
-pub three_words : (ws : List (Bor (List ℕ))) (d : Bor (List ℕ)) (name : List ℕ) → length ws ≡ 3 → (get_or ws 0 d).now ≡ name
-    → texts ws ≡ name ∷ (get_or ws 1 d).now ∷ (get_or ws 2 d).now ∷ []
-three_words [] d name n e = absurd (omega arith)
-three_words (a ∷ []) d name n e = absurd (omega arith)
-three_words (a ∷ b ∷ []) d name n e = absurd (omega arith)
-three_words (a ∷ b ∷ x ∷ []) d name n e = ap (λ t. t ∷ b.now ∷ x.now ∷ []) e
-three_words (a ∷ b ∷ x ∷ y ∷ more) d name n e = absurd (omega arith)
+pub one_word : (ws : List (Bor (List ℕ))) (d : Bor (List ℕ)) (name : List ℕ) → length ws ≡ 1 → (get_or ws 0 d).now ≡ name → texts ws ≡ name ∷ []
+one_word [] d name n e = absurd (omega arith)
+one_word (a ∷ []) d name n e = ap (λ t. t ∷ []) e
+one_word (a ∷ b ∷ more) d name n e = absurd (omega arith)
+
+three_places : (ws : List (Bor (List ℕ))) (d : Bor (List ℕ)) (name : List ℕ) → 3 ≤ length ws → (get_or ws 0 d).now ≡ name
+    → texts ws ≡ name ∷ (get_or ws 1 d).now ∷ (get_or ws 2 d).now ∷ texts (drop 3 ws)
+three_places [] d name n e = absurd (omega arith)
+three_places (a ∷ []) d name n e = absurd (omega arith)
+three_places (a ∷ b ∷ []) d name n e = absurd (omega arith)
+three_places (a ∷ b ∷ x ∷ more) d name n e = ap (λ t. t ∷ b.now ∷ x.now ∷ texts more) e
+
+pub three_or_more : (ws : List (Bor (List ℕ))) (d : Bor (List ℕ)) (name : List ℕ) → 3 ≤ length ws → (get_or ws 0 d).now ≡ name
+    → texts ws ≡ name ∷ (get_or ws 1 d).now ∷ (get_or ws 2 d).now ∷ texts (take (length ws - 3) (drop 3 ws))
+three_or_more ws d name n e =
+    let rest : take (length ws - 3) (drop 3 ws) ≡ drop 3 ws = take_all (length ws - 3) (drop 3 ws) (omega (arith, length-drop 3 ws)) in
+    three_places ws d name n e ∙ ap (λ t. name ∷ (get_or ws 1 d).now ∷ (get_or ws 2 d).now ∷ texts t) (sym rest)
 
 pub four_words : (ws : List (Bor (List ℕ))) (d : Bor (List ℕ)) (name : List ℕ) → length ws ≡ 4 → (get_or ws 0 d).now ≡ name
     → texts ws ≡ name ∷ (get_or ws 1 d).now ∷ (get_or ws 2 d).now ∷ (get_or ws 3 d).now ∷ []

@@ -1,14 +1,16 @@
 -- The words of a line are what stands between its spaces.
-use Rattle.std.proofs.Common.{◌≡◌, ◌≢◌, ℕ, zero, suc, ◌<◌, ◌≤◌, Bool, true, false, eqb, eqb-true, List, [], ◌∷◌, length, get_or, All, refl, sym, ◌∙◌, ap, subst, inl, inr, lit<, lit≤, arith}
+use Rattle.std.proofs.Common.{◌≡◌, ◌≢◌, ℕ, zero, suc, ◌<◌, ◌≤◌, Bool, true, false, eqb, eqb-true, List, [], ◌∷◌, length, get_or, All, length-append, refl, sym, ◌∙◌, ap, subst, inl, inr, lit<, lit≤, arith}
 use Rattle.std.proofs.lemmas.Bool.{cases_eq}
 use Rattle.std.specs.List.{onto_first, join_with_byte}
 use Rattle.std.proofs.lemmas.List.Splits.{slice_split-cons_yes, slice_split-cons_no, slice_split_none, slice_split_at, join_with_byte-slice_split}
-use Rattle.trace_lang.specs.Grammar.{HasNoSpace, IsCommand, IsForm, IsSource, IsWords}
+use Rattle.trace_lang.specs.Grammar.{HasNoSpace, IsBack, IsCommand, IsForm, IsPlacing, IsSource, IsWords}
 use Rattle.trace_lang.specs.Words.{words_of}
 use Rattle.vm_types.specs.declared.command.Command.{Command}
-use Rattle.vm_types.specs.declared.command.Command.TheVariants.{Spawn, Mmap, Msync, Load, Store}
+use Rattle.vm_types.specs.declared.command.Command.TheVariants.{Spawn, Mmap, Munmap, Mprotect, Msync, Load, Store}
 use Rattle.vm_types.specs.declared.command.MapSource.{MapSource}
 use Rattle.vm_types.specs.declared.command.MapSource.TheVariants.{Shared}
+use Rattle.vm_types.specs.declared.command.Placing.{Placing}
+use Rattle.vm_types.specs.declared.command.Placing.TheVariants.{Hint, Fixed, NoReplace}
 
 other_byte : (b : ℕ) → b ≢ 32 → eqb b 32 ≡ false
 other_byte b h = elim (eqb b 32) as (λ v. eqb b 32 ≡ v → v ≡ false) [ true ↦ (λ e. absurd (h (eqb-true b 32 e))) | false ↦ (λ e. refl) ] refl
@@ -60,11 +62,23 @@ few_of n words others e l low high = let m = ap length e ∙ l in (omega (arith,
 source_words : (words : List (List ℕ)) (source : MapSource) → IsSource words source → length words ≡ 3
 source_words words (Shared file offset) h = ap length h.2
 
+placing_words : (words : List (List ℕ)) (placing : Placing) → IsPlacing words placing → length words ≤ 1
+placing_words words Hint h = let m = ap length h in omega (arith, m)
+placing_words words Fixed h = let m = ap length h in omega (arith, m)
+placing_words words NoReplace h = let m = ap length h in omega (arith, m)
+
+back_words : (words : List (List ℕ)) (source : MapSource) (placing : Placing) → IsBack words source placing → length words ≤ 4
+back_words words source placing h =
+    let m = ap length h.2 ∙ length-append h.0 h.1 in
+    let n = source_words h.0 source h.3 in let o = placing_words h.1 placing h.4 in omega (arith, m, n, o)
+
 -- a form has one word to nine
 pub form_words : (words : List (List ℕ)) (command : Command) → IsForm words command → (0 < length words) × (length words ≤ 9)
 form_words words Spawn h = few_of 1 words _ h refl (lit< tt) (lit≤ tt)
-form_words words (Mmap pid addr len prot source) h =
-    let m = ap length h.5 in let n = source_words h.4 source h.10 in (omega (arith, m, n), omega (arith, m, n))
+form_words words (Mmap pid addr len prot source placing) h =
+    let m = ap length h.5 in let n = back_words h.4 source placing h.10 in (omega (arith, m, n), omega (arith, m, n))
+form_words words (Munmap pid addr len) h = few_of 4 words _ h.3 refl (lit< tt) (lit≤ tt)
+form_words words (Mprotect pid addr len prot) h = few_of 5 words _ h.4 refl (lit< tt) (lit≤ tt)
 form_words words (Msync pid addr len mode) h = few_of 5 words _ h.4 refl (lit< tt) (lit≤ tt)
 form_words words (Load pid addr width) h = few_of 4 words _ h.3 refl (lit< tt) (lit≤ tt)
 form_words words (Store pid addr stored) h = few_of 5 words _ h.4 refl (lit< tt) (lit≤ tt)

@@ -5,11 +5,13 @@ use Rattle.std.specs.Str.Parse.{IsNumeral, digits_value}
 use Rattle.vm_types.specs.Permission.{with_bits}
 use Rattle.vm_types.specs.Width.{byte_count}
 use Rattle.vm_types.specs.declared.command.Command.{Command}
-use Rattle.vm_types.specs.declared.command.Command.TheVariants.{Spawn, Mmap, Msync, Load, Store}
+use Rattle.vm_types.specs.declared.command.Command.TheVariants.{Spawn, Mmap, Munmap, Mprotect, Msync, Load, Store}
 use Rattle.vm_types.specs.declared.command.MapSource.{MapSource}
 use Rattle.vm_types.specs.declared.command.MapSource.TheVariants.{Shared}
 use Rattle.vm_types.specs.declared.command.MsyncMode.{MsyncMode}
 use Rattle.vm_types.specs.declared.command.MsyncMode.TheVariants.{Sync, Async}
+use Rattle.vm_types.specs.declared.command.Placing.{Placing}
+use Rattle.vm_types.specs.declared.command.Placing.TheVariants.{Hint, Fixed, NoReplace}
 use Rattle.vm_types.specs.declared.permission.Prot.{Prot}
 use Rattle.vm_types.specs.declared.width.Width.{Width}
 
@@ -49,12 +51,29 @@ abbrev pub IsSource : List (List ℕ) → MapSource → Type 0
 IsSource words (Shared file offset) =
     (f o : List ℕ) × (words ≡ codes "shared" ∷ f ∷ o ∷ []) × IsNumber f file × IsNumber o offset
 
+-- the words at the end of a mapping, which say how firmly its address is asked for: none, MAP_FIXED or
+-- MAP_FIXED_NOREPLACE (mmap(2))
+abbrev pub IsPlacing : List (List ℕ) → Placing → Type 0
+IsPlacing words Hint = words ≡ []
+IsPlacing words Fixed = words ≡ codes "fixed" ∷ []
+IsPlacing words NoReplace = words ≡ codes "noreplace" ∷ []
+
+-- the words behind the permission of a mapping: what it is to stand on, and then how firmly its address is asked for
+abbrev pub IsBack : List (List ℕ) → MapSource → Placing → Type 0
+IsBack words source placing = (s e : List (List ℕ)) × (words ≡ s ++ e) × IsSource s source × IsPlacing e placing
+
 -- the words of a line that stand for the command
 abbrev pub IsForm : List (List ℕ) → Command → Type 0
 IsForm words Spawn = words ≡ codes "spawn" ∷ []
-IsForm words (Mmap pid addr len prot source) =
-    (p a l t : List ℕ) × (s : List (List ℕ)) × (words ≡ codes "mmap" ∷ p ∷ a ∷ l ∷ t ∷ s)
-    × IsNumber p pid × IsNumber a addr × IsNumber l len × IsPermission t prot × IsSource s source
+IsForm words (Mmap pid addr len prot source placing) =
+    (p a l t : List ℕ) × (b : List (List ℕ)) × (words ≡ codes "mmap" ∷ p ∷ a ∷ l ∷ t ∷ b)
+    × IsNumber p pid × IsNumber a addr × IsNumber l len × IsPermission t prot × IsBack b source placing
+IsForm words (Munmap pid addr len) =
+    (p a l : List ℕ) × (words ≡ codes "munmap" ∷ p ∷ a ∷ l ∷ [])
+    × IsNumber p pid × IsNumber a addr × IsNumber l len
+IsForm words (Mprotect pid addr len prot) =
+    (p a l t : List ℕ) × (words ≡ codes "mprotect" ∷ p ∷ a ∷ l ∷ t ∷ [])
+    × IsNumber p pid × IsNumber a addr × IsNumber l len × IsPermission t prot
 IsForm words (Msync pid addr len mode) =
     (p a l m : List ℕ) × (words ≡ codes "msync" ∷ p ∷ a ∷ l ∷ m ∷ [])
     × IsNumber p pid × IsNumber a addr × IsNumber l len × IsMode m mode

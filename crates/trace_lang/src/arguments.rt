@@ -1,13 +1,14 @@
 //! Permissions, sources and modes as lines write them.
-ghost use Rattle.std.specs.Prelude.{◌≡◌, ◌≢◌, Bool, map, IfSome};
-ghost use Rattle.trace_lang.specs.Grammar.{IsMode, IsPermission, IsSource, letter_or_dash};
+ghost use Rattle.std.specs.Prelude.{◌≡◌, ◌≢◌, ℕ, ◌∷◌, Bool, map, codes, IfSome};
+ghost use Rattle.trace_lang.specs.Grammar.{IsBack, IsMode, IsNumber, IsPermission, IsPlacing, letter_or_dash};
 ghost use Rattle.vm_types.specs.declared.command.MapSource.{MapSource};
 ghost use Rattle.vm_types.specs.declared.command.MsyncMode.{MsyncMode};
+ghost use Rattle.vm_types.specs.declared.command.Placing.{Placing};
 ghost use Rattle.vm_types.specs.declared.permission.Prot.{Prot};
 
-use crate::numerals::number_of;
+use crate::numerals::parse_number;
 use bitflags::Flags;
-use vm_types::{MapSource, MsyncMode, Prot};
+use vm_types::{MapSource, MsyncMode, Placing, Prot};
 
 /// Whether a permission is given: its letter says so, a dash says no, and `None` is any other byte.
 fn given(byte: u8, letter: u8) -> Option<bool>
@@ -44,21 +45,48 @@ pub(crate) fn permission_of(text: &[u8]) -> Option<Prot>
     Some(Prot::from_bits_retain(u8::from(read) + 2 * u8::from(write) + 4 * u8::from(execute)))
 }
 
-/// What a mapping is to stand on; `None` exactly where the words say nothing of the kind.
-pub(crate) fn source_of(words: &[&[u8]]) -> Option<MapSource>
-    ensures found { IfSome result (λ source. IsSource (map (λ w. w.now) words.now) source) }
-    ensures only { (source : MapSource) → IsSource (map (λ w. w.now) words.now) source → result ≡ Some source }
+/// How firmly the address of a mapping is asked for, by the words at its end; `None` exactly where they say nothing of
+/// the kind.
+fn placing_of(words: &[&[u8]]) -> Option<Placing>
+    ensures found { IfSome result (λ placing. IsPlacing (map (λ w. w.now) words.now) placing) }
+    ensures only { (placing : Placing) → IsPlacing (map (λ w. w.now) words.now) placing → result ≡ Some placing }
 {
-    let [b"shared", file, offset] = words else {
+    match words {
+        [] => Some(Placing::Hint),
+        [b"fixed"] => Some(Placing::Fixed),
+        [b"noreplace"] => Some(Placing::NoReplace),
+        _ => None,
+    }
+}
+
+/// Shared pages of a file, by the words behind `shared`.
+fn shared_of(file: &[u8], offset: &[u8], end: &[&[u8]]) -> Option<(MapSource, Placing)>
+    ensures found { IfSome result (λ back. IsBack (codes "shared" ∷ file.now ∷ offset.now ∷ map (λ w. w.now) end.now) back.0 back.1) }
+    ensures only { (number at : ℕ) (placing : Placing) → IsNumber file.now number → IsNumber offset.now at → IsPlacing (map (λ w. w.now) end.now) placing
+        → result ≡ Some (MapSource.Shared number at, placing) }
+{
+    let Some(file) = parse_number(file) else {
         return None;
     };
-    let Some(file) = number_of(file) else {
+    let Some(offset) = parse_number(offset) else {
         return None;
     };
-    let Some(offset) = number_of(offset) else {
+    let Some(placing) = placing_of(end) else {
         return None;
     };
-    Some(MapSource::Shared { file, offset })
+    Some((MapSource::Shared { file, offset }, placing))
+}
+
+/// What a mapping is to stand on, and how firmly its address is asked for, by the words behind its permission; `None`
+/// exactly where they say nothing of the kind.
+pub(crate) fn back_of(words: &[&[u8]]) -> Option<(MapSource, Placing)>
+    ensures found { IfSome result (λ back. IsBack (map (λ w. w.now) words.now) back.0 back.1) }
+    ensures only { (source : MapSource) (placing : Placing) → IsBack (map (λ w. w.now) words.now) source placing → result ≡ Some (source, placing) }
+{
+    match words {
+        [b"shared", file, offset, end @ ..] => shared_of(file, offset, end),
+        _ => None,
+    }
 }
 
 /// Whether an msync is to wait; `None` exactly where the word says nothing of the kind.

@@ -1,16 +1,17 @@
 //! The forms of a line, one function each, over the words of the line.
 ghost use Rattle.std.specs.Prelude.{◌≡◌, ◌∷◌, [], ℕ, ◌<◌, ◌^◌, ◌*◌, List, map, codes, IfSome};
-ghost use Rattle.trace_lang.specs.Grammar.{IsForm, IsMode, IsNumber, IsPermission, IsSource, IsWidth};
+ghost use Rattle.trace_lang.specs.Grammar.{IsBack, IsForm, IsMode, IsNumber, IsPermission, IsWidth};
 ghost use Rattle.vm_types.specs.Width.{byte_count};
 ghost use Rattle.vm_types.specs.declared.access.StoredValue.{StoredValue};
 ghost use Rattle.vm_types.specs.declared.command.Command.{Command};
 ghost use Rattle.vm_types.specs.declared.command.MapSource.{MapSource};
 ghost use Rattle.vm_types.specs.declared.command.MsyncMode.{MsyncMode};
+ghost use Rattle.vm_types.specs.declared.command.Placing.{Placing};
 ghost use Rattle.vm_types.specs.declared.permission.Prot.{Prot};
 ghost use Rattle.vm_types.specs.declared.width.Width.{Width};
 
-use crate::arguments::{mode_of, permission_of, source_of};
-use crate::numerals::{number_of, stored_of, width_of};
+use crate::arguments::{back_of, mode_of, permission_of};
+use crate::numerals::{parse_number, stored_of, width_of};
 use vm_types::Command;
 
 /// A load, by the words behind its name.
@@ -18,10 +19,10 @@ fn load_of(process: &[u8], address: &[u8], bytes: &[u8]) -> Option<Command>
     ensures found { IfSome result (λ command. IsForm (codes "load" ∷ process.now ∷ address.now ∷ bytes.now ∷ []) command) }
     ensures only { (pid addr : ℕ) (width : Width) → IsNumber process.now pid → IsNumber address.now addr → IsWidth bytes.now width → result ≡ Some (Command.Load pid addr width) }
 {
-    let Some(pid) = number_of(process) else {
+    let Some(pid) = parse_number(process) else {
         return None;
     };
-    let Some(addr) = number_of(address) else {
+    let Some(addr) = parse_number(address) else {
         return None;
     };
     let Some(width) = width_of(bytes) else {
@@ -36,10 +37,10 @@ fn store_of(process: &[u8], address: &[u8], bytes: &[u8], value: &[u8]) -> Optio
     ensures only { (pid addr : ℕ) (stored : StoredValue) → IsNumber process.now pid → IsNumber address.now addr → IsWidth bytes.now stored.width
         → IsNumber value.now stored.value → stored.value < 2 ^ (8 * byte_count stored.width) → result ≡ Some (Command.Store pid addr stored) }
 {
-    let Some(pid) = number_of(process) else {
+    let Some(pid) = parse_number(process) else {
         return None;
     };
-    let Some(addr) = number_of(address) else {
+    let Some(addr) = parse_number(address) else {
         return None;
     };
     let Some(width) = width_of(bytes) else {
@@ -57,13 +58,13 @@ fn msync_of(process: &[u8], address: &[u8], length: &[u8], waits: &[u8]) -> Opti
     ensures only { (pid addr len : ℕ) (mode : MsyncMode) → IsNumber process.now pid → IsNumber address.now addr → IsNumber length.now len
         → IsMode waits.now mode → result ≡ Some (Command.Msync pid addr len mode) }
 {
-    let Some(pid) = number_of(process) else {
+    let Some(pid) = parse_number(process) else {
         return None;
     };
-    let Some(addr) = number_of(address) else {
+    let Some(addr) = parse_number(address) else {
         return None;
     };
-    let Some(len) = number_of(length) else {
+    let Some(len) = parse_number(length) else {
         return None;
     };
     let Some(mode) = mode_of(waits) else {
@@ -86,22 +87,22 @@ fn mmap_of(
     back: &[&[u8]],
 ) -> Option<Command>
     ensures found { IfSome result (λ command. IsForm (codes "mmap" ∷ process.now ∷ address.now ∷ length.now ∷ permission.now ∷ map (λ w. w.now) back.now) command) }
-    ensures only { (pid addr len : ℕ) (prot : Prot) (source : MapSource) → IsNumber process.now pid → IsNumber address.now addr → IsNumber length.now len
-        → IsPermission permission.now prot → IsSource (map (λ w. w.now) back.now) source → result ≡ Some (Command.Mmap pid addr len prot source) }
+    ensures only { (pid addr len : ℕ) (prot : Prot) (source : MapSource) (placing : Placing) → IsNumber process.now pid → IsNumber address.now addr → IsNumber length.now len
+        → IsPermission permission.now prot → IsBack (map (λ w. w.now) back.now) source placing → result ≡ Some (Command.Mmap pid addr len prot source placing) }
 {
-    let Some(pid) = number_of(process) else {
+    let Some(pid) = parse_number(process) else {
         return None;
     };
-    let Some(addr) = number_of(address) else {
+    let Some(addr) = parse_number(address) else {
         return None;
     };
-    let Some(len) = number_of(length) else {
+    let Some(len) = parse_number(length) else {
         return None;
     };
     let Some(prot) = permission_of(permission) else {
         return None;
     };
-    let Some(source) = source_of(back) else {
+    let Some((source, placing)) = back_of(back) else {
         return None;
     };
     Some(Command::Mmap {
@@ -110,6 +111,50 @@ fn mmap_of(
         len,
         prot,
         source,
+        placing,
+    })
+}
+
+/// A munmap, by the words behind its name.
+fn munmap_of(process: &[u8], address: &[u8], length: &[u8]) -> Option<Command>
+    ensures found { IfSome result (λ command. IsForm (codes "munmap" ∷ process.now ∷ address.now ∷ length.now ∷ []) command) }
+    ensures only { (pid addr len : ℕ) → IsNumber process.now pid → IsNumber address.now addr → IsNumber length.now len → result ≡ Some (Command.Munmap pid addr len) }
+{
+    let Some(pid) = parse_number(process) else {
+        return None;
+    };
+    let Some(addr) = parse_number(address) else {
+        return None;
+    };
+    let Some(len) = parse_number(length) else {
+        return None;
+    };
+    Some(Command::Munmap { pid, addr, len })
+}
+
+/// An mprotect, by the words behind its name.
+fn mprotect_of(process: &[u8], address: &[u8], length: &[u8], permission: &[u8]) -> Option<Command>
+    ensures found { IfSome result (λ command. IsForm (codes "mprotect" ∷ process.now ∷ address.now ∷ length.now ∷ permission.now ∷ []) command) }
+    ensures only { (pid addr len : ℕ) (prot : Prot) → IsNumber process.now pid → IsNumber address.now addr → IsNumber length.now len
+        → IsPermission permission.now prot → result ≡ Some (Command.Mprotect pid addr len prot) }
+{
+    let Some(pid) = parse_number(process) else {
+        return None;
+    };
+    let Some(addr) = parse_number(address) else {
+        return None;
+    };
+    let Some(len) = parse_number(length) else {
+        return None;
+    };
+    let Some(prot) = permission_of(permission) else {
+        return None;
+    };
+    Some(Command::Mprotect {
+        pid,
+        addr,
+        len,
+        prot,
     })
 }
 
@@ -125,6 +170,10 @@ pub(crate) fn command_of(words: &[&[u8]]) -> Option<Command>
         [b"msync", process, address, length, waits] => msync_of(process, address, length, waits),
         [b"mmap", process, address, length, permission, back @ ..] => mmap_of(
             process, address, length, permission, back,
+        ),
+        [b"munmap", process, address, length] => munmap_of(process, address, length),
+        [b"mprotect", process, address, length, permission] => mprotect_of(
+            process, address, length, permission,
         ),
         _ => None,
     }

@@ -9,5 +9,6 @@ mod parsing;
 mod texts;
 mod words;
 
+pub use numerals::parse_number;
 pub use parsing::{BadLine, MAX_LINE_BYTES, parse_line};
 pub use texts::{bad_line_text, reply_text};

@@ -1,5 +1,5 @@
 //! Numbers and widths as lines write them.
-ghost use Rattle.std.specs.Prelude.{◌≡◌, ℕ, ◌<◌, ◌≤◌, ◌^◌, ◌*◌, SomeIff, IfSome};
+ghost use Rattle.std.specs.Prelude.{◌≡◌, ℕ, ◌<◌, ◌≤◌, ◌^◌, ◌*◌, SomeIff, IfSome, IfNone};
 ghost use Rattle.std.specs.Str.Parse.{IsNumeral, digits_value};
 ghost use Rattle.trace_lang.specs.Grammar.{IsNumber, IsWidth};
 ghost use Rattle.vm_types.specs.Width.{byte_count};
@@ -34,9 +34,12 @@ fn value_of(digits: &[u8], radix: u32) -> Option<u64>
     Some(value)
 }
 
-/// The number that a word writes, in decimal, or after `0x` in hexadecimal; `None` exactly where it writes none.
-pub(crate) fn number_of(text: &[u8]) -> Option<u64>
+/// The number that a word writes: one decimal digit or more, or `0x` and one hexadecimal digit of either case or more;
+/// leading zeros change nothing. `None` exactly where the word writes none, or one of 2^64 or more.
+pub fn parse_number(text: &[u8]) -> Option<u64>
     ensures found { IfSome result (λ n. IsNumber text.now n) }
+    ensures none { IfNone result ((n : ℕ) → IsNumber text.now n → ⊥) }
+    // So a word writes one number at most.
     ensures only { (n : ℕ) → IsNumber text.now n → result ≡ Some n }
 {
     match text {
@@ -50,7 +53,7 @@ pub(crate) fn width_of(text: &[u8]) -> Option<Width>
     ensures found { IfSome result (λ width. IsWidth text.now width) }
     ensures only { (width : Width) → IsWidth text.now width → result ≡ Some width }
 {
-    let Some(bytes) = number_of(text) else {
+    let Some(bytes) = parse_number(text) else {
         return None;
     };
     Width::from_bytes(bytes)
@@ -61,8 +64,45 @@ pub(crate) fn stored_of(width: Width, text: &[u8]) -> Option<StoredValue>
     ensures found { IfSome result (λ stored. (stored.width ≡ width) × IsNumber text.now stored.value × (stored.value < 2 ^ (8 * byte_count width))) }
     ensures only { (stored : StoredValue) → stored.width ≡ width → IsNumber text.now stored.value → stored.value < 2 ^ (8 * byte_count width) → result ≡ Some stored }
 {
-    let Some(value) = number_of(text) else {
+    let Some(value) = parse_number(text) else {
         return None;
     };
     StoredValue::new(width, value)
+}
+
+#[cfg(test)]
+mod tests {
+    use super::*;
+
+    #[test]
+    fn numbers_are_read(rt: HostRuntime) {
+        for (text, number) in [
+            (b"0".as_slice(), 0),
+            (b"1", 1),
+            (b"0x10", 16),
+            (b"0xAbC", 0xabc),
+            (b"0000000000000000000000012", 12),
+            (b"0x00000000000000000000001f", 31),
+            (b"18446744073709551615", u64::MAX),
+            (b"0xffffffffffffffff", u64::MAX),
+        ] {
+            assert_eq!(rt; parse_number(text), Some(number), "at {text:?}");
+        }
+        for text in [
+            b"".as_slice(),
+            b"x",
+            b"0x",
+            b"0X10",
+            b"+1",
+            b"-1",
+            b" 1",
+            b"1 ",
+            b"1a",
+            b"0xg",
+            b"18446744073709551616",
+            b"0x10000000000000000",
+        ] {
+            assert_eq!(rt; parse_number(text), None, "at {text:?}");
+        }
+    }
 }

@@ -34,7 +34,7 @@ pub fn parse_line(line: &[u8]) -> Result<Command, BadLine>
 #[cfg(test)]
 mod tests {
     use super::*;
-    use vm_types::{MapSource, MsyncMode, Prot, StoredValue, Width};
+    use vm_types::{MapSource, MsyncMode, Placing, Prot, StoredValue, Width};
 
     fn load(addr: u64, width: Width) -> Result<Command, BadLine> {
         Ok(Command::Load {
@@ -44,25 +44,32 @@ mod tests {
         })
     }
 
-    #[test]
-    fn each_form_is_read(rt: HostRuntime) {
-        let prot = Prot::READ | Prot::WRITE;
-        let source = MapSource::Shared {
-            file: 0,
-            offset: 0x2000,
-        };
-        let mapping = Command::Mmap {
+    fn mapping(placing: Placing) -> Result<Command, BadLine> {
+        Ok(Command::Mmap {
             pid: 1,
             addr: 0x22000,
-            len: 4096,
+            len: 0x1000,
+            prot: Prot::READ | Prot::WRITE,
+            source: MapSource::Shared {
+                file: 0,
+                offset: 0x2000,
+            },
+            placing,
+        })
+    }
+
+    fn protection(addr: u64, len: u64, prot: Prot) -> Result<Command, BadLine> {
+        Ok(Command::Mprotect {
+            pid: 1,
+            addr,
+            len,
             prot,
-            source,
-        };
+        })
+    }
+
+    #[test]
+    fn each_form_is_read(rt: HostRuntime) {
         assert_eq!(rt; parse_line(b"spawn"), Ok(Command::Spawn));
-        assert_eq!(rt;
-            parse_line(b"mmap 1 0x22000 4096 rw- shared 0 0x2000"),
-            Ok(mapping)
-        );
         assert_eq!(rt;
             parse_line(b"load 1 0x10ff8 8"),
             load(0x10ff8, Width::Eight)
@@ -100,6 +107,48 @@ mod tests {
     }
 
     #[test]
+    fn mappings_are_read_with_each_placing(rt: HostRuntime) {
+        for (line, placing) in [
+            (
+                b"mmap 1 0x22000 0x1000 rw- shared 0 0x2000".as_slice(),
+                Placing::Hint,
+            ),
+            (
+                b"mmap 1 0x22000 0x1000 rw- shared 0 0x2000 fixed",
+                Placing::Fixed,
+            ),
+            (
+                b"mmap 1 0x22000 4096 rw- shared 0 8192 noreplace",
+                Placing::NoReplace,
+            ),
+        ] {
+            assert_eq!(rt; parse_line(line), mapping(placing));
+        }
+    }
+
+    #[test]
+    fn changes_of_mappings_are_read(rt: HostRuntime) {
+        let removal = Command::Munmap {
+            pid: 1,
+            addr: 0x21000,
+            len: 0x3000,
+        };
+        assert_eq!(rt; parse_line(b"munmap 1 0x21000 0x3000"), Ok(removal));
+        assert_eq!(rt;
+            parse_line(b"mprotect 1 0x20001 0x1000 r--"),
+            protection(0x20001, 0x1000, Prot::READ)
+        );
+        assert_eq!(rt;
+            parse_line(b"mprotect 1 0x20000 0 r--"),
+            protection(0x20000, 0, Prot::READ)
+        );
+        assert_eq!(rt;
+            parse_line(b"mprotect 1 0x10000 4096 rw-"),
+            protection(0x10000, 4096, Prot::READ | Prot::WRITE)
+        );
+    }
+
+    #[test]
     fn other_lines_are_bad(rt: HostRuntime) {
         for line in [
             b"".as_slice(),
@@ -125,6 +174,19 @@ mod tests {
             b"mmap 1 0 4096 rw shared 0 0",
             b"mmap 1 0 4096 rw- shared 0",
             b"mmap 1 0 4096 rw- shared 0 0 fixed twice",
+            b"mmap 1 0 4096 rw- shared 0 0 fixed noreplace",
+            b"mmap 1 0 4096 rw- shared 0 0 Fixed",
+            b"mmap 1 0 4096 rw- shared 0 0 ",
+            b"mmap 1 0 4096 rw- shared 0 fixed",
+            b"mmap 1 0 4096 rw- fixed shared 0 0",
+            b"mmap 1 0 4096 rw- fixed",
+            b"munmap 1 0x10000",
+            b"munmap 1 0x10000 4096 4096",
+            b"munmap 1 0x10000 4096 fixed",
+            b"mprotect 1 0x10000 4096",
+            b"mprotect 1 0x10000 4096 rw",
+            b"mprotect 1 0x10000 4096 rw- rw-",
+            b"mprotect 1 0x10000 0x r--",
         ] {
             assert_eq!(rt; parse_line(line), Err(BadLine), "at {line:?}");
         }

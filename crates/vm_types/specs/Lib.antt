@@ -10,6 +10,7 @@ pub mod Permission
 pub mod Placement
 pub mod Prefix
 pub mod Processes
+pub mod Ranges
 pub mod Refusal
 pub mod Rows
 pub mod Run

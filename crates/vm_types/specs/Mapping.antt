@@ -1,23 +1,34 @@
--- mmap: its checks in their order, and the pages that it leaves. mmap(2).
-use Rattle.std.specs.Prelude.{ℕ, ◌+◌, ◌-◌, ◌/◌, ◌%◌, ◌^◌, Bool, false, not, ◌==◌, ◌&&◌, nat_lt, if◌then◌else◌, List, [], ◌∷◌, Option, Some, None, is_none}
+-- mmap: its checks in their order, and the pages that it leaves. mmap(2): MAP_FIXED, MAP_FIXED_NOREPLACE.
+use Rattle.std.specs.Prelude.{ℕ, ◌+◌, ◌-◌, ◌/◌, ◌%◌, ◌^◌, Bool, true, false, not, ◌==◌, ◌&&◌, nat_lt, if◌then◌else◌, List, [], ◌∷◌, Option, Some, None, is_none}
 use Rattle.vm_types.specs.declared.command.MapSource.{MapSource}
 use Rattle.vm_types.specs.declared.command.MapSource.TheVariants.{Shared}
+use Rattle.vm_types.specs.declared.command.Placing.{Placing}
+use Rattle.vm_types.specs.declared.command.Placing.TheVariants.{Hint, Fixed, NoReplace}
 use Rattle.vm_types.specs.declared.file.FileInfo.{FileInfo}
 use Rattle.vm_types.specs.declared.permission.Prot.{Prot}
 use Rattle.vm_types.specs.declared.refusal.Errno.{Errno}
-use Rattle.vm_types.specs.declared.refusal.Errno.TheVariants.{ESRCH, EBADF, ENOMEM, EACCES, EINVAL, EOVERFLOW}
+use Rattle.vm_types.specs.declared.refusal.Errno.TheVariants.{ESRCH, EBADF, ENOMEM, EACCES, EEXIST, EINVAL, EOVERFLOW}
 use Rattle.vm_types.specs.declared.region.Attr.{Attr}
 use Rattle.vm_types.specs.declared.region.Backing.TheVariants as Backings
 use Rattle.vm_types.specs.Attributes.{attr_after}
 use Rattle.vm_types.specs.Checks.{Check, first_of, page_count}
 use Rattle.vm_types.specs.Files.{Files}
 use Rattle.vm_types.specs.Permission.{can_write, kept}
-use Rattle.vm_types.specs.Placement.{placed}
+use Rattle.vm_types.specs.Placement.{placed, fixed_place, is_free}
 use Rattle.vm_types.specs.Rows.{in_row, replaced}
 use Rattle.vm_types.specs.Runs.{run_count}
-use Rattle.vm_types.specs.StageLimits.{has_mapping}
 use Rattle.vm_types.specs.State.{State}
 use Rattle.vm_types.specs.View.{View, attrs_of}
+
+-- whether the address is one that the mapping must have
+abbrev pub is_exact : Placing → Bool
+is_exact Hint = false
+is_exact Fixed = true
+is_exact NoReplace = true
+
+-- an address that the mapping must have is no multiple of the page size
+abbrev pub is_odd_address : Placing → ℕ → Bool
+is_odd_address placing addr = is_exact placing && not (addr % 4096 == 0)
 
 -- the offset in the file is no multiple of the page size
 abbrev pub is_odd_offset : MapSource → Bool
@@ -44,32 +55,46 @@ abbrev pub first_attr : MapSource → Prot → Attr
 first_attr (Shared file offset) prot =
     record { prot = kept prot; backing = Backings.Shared (record { file = file; page = offset / 4096 }) }
 
+-- a page of the place is mapped, and may not be replaced
+abbrev pub is_taken : Placing → (ℕ → Option View) → ℕ → Option ℕ → Bool
+is_taken Hint space pages place = false
+is_taken Fixed space pages place = false
+is_taken NoReplace space pages None = false
+is_taken NoReplace space pages (Some first) = not (is_free (attrs_of space) first pages)
+
 -- more than 256 runs would result
 abbrev pub has_too_many_runs : (ℕ → Option View) → ℕ → Attr → Option ℕ → Bool
 has_too_many_runs space pages attr None = false
 has_too_many_runs space pages attr (Some first) = nat_lt 256 (run_count (replaced (attrs_of space) first pages attr))
 
 -- the checks in their order
-abbrev pub mmap_checks : State → ℕ → ℕ → ℕ → Prot → MapSource → Option ℕ → List Check
-mmap_checks s pid addr len prot source place =
+abbrev pub mmap_checks : State → ℕ → ℕ → ℕ → Prot → MapSource → Placing → Option ℕ → List Check
+mmap_checks s pid addr len prot source placing place =
     (not (s.live pid), ESRCH)
     ∷ (len == 0, EINVAL)
+    ∷ (is_odd_address placing addr, EINVAL)
     ∷ (is_odd_offset source, EINVAL)
     ∷ (lacks_file s.files source, EBADF)
     ∷ (denies_write s.files source prot, EACCES)
     ∷ (passes_end source (page_count len), EOVERFLOW)
     ∷ (is_none place, ENOMEM)
+    ∷ (is_taken placing (s.views pid) (page_count len) place, EEXIST)
     ∷ (has_too_many_runs (s.views pid) (page_count len) (first_attr source prot) place, ENOMEM)
-    ∷ (has_mapping (s.views pid), ENOMEM)
     ∷ []
 
--- where the mapping goes
-abbrev pub mmap_place : State → ℕ → ℕ → ℕ → Option ℕ
-mmap_place s pid addr len = placed (attrs_of (s.views pid)) addr (page_count len)
+-- where a mapping of so many pages goes
+abbrev pub place_for : Placing → (ℕ → Option View) → ℕ → ℕ → Option ℕ
+place_for Hint space addr pages = placed (attrs_of space) addr pages
+place_for Fixed space addr pages = fixed_place addr pages
+place_for NoReplace space addr pages = fixed_place addr pages
+
+abbrev pub mmap_place : State → ℕ → ℕ → ℕ → Placing → Option ℕ
+mmap_place s pid addr len placing = place_for placing (s.views pid) addr (page_count len)
 
 -- why an mmap is refused, if it is
-abbrev pub mmap_errno : State → ℕ → ℕ → ℕ → Prot → MapSource → Option Errno
-mmap_errno s pid addr len prot source = first_of (mmap_checks s pid addr len prot source (mmap_place s pid addr len))
+abbrev pub mmap_errno : State → ℕ → ℕ → ℕ → Prot → MapSource → Placing → Option Errno
+mmap_errno s pid addr len prot source placing =
+    first_of (mmap_checks s pid addr len prot source placing (mmap_place s pid addr len placing))
 
 -- the pages of the row are new ones without own copies, the file pages rising from the first one's
 abbrev pub mapped : (ℕ → Option View) → ℕ → ℕ → Attr → ℕ → Option View

@@ -1,6 +1,6 @@
 -- Where a mapping goes. mmap(2): an address that isn't fixed is a hint about where to place the mapping; which
 -- place is taken is our choice.
-use Rattle.std.specs.Prelude.{ℕ, suc, zero, ◌+◌, ◌/◌, ◌^◌, Bool, true, false, not, ◌==◌, ◌&&◌, leb, if◌then◌else◌, Option, Some, None, is_none}
+use Rattle.std.specs.Prelude.{ℕ, ◌≡◌, refl, suc, zero, ◌+◌, ◌/◌, ◌^◌, Bool, true, false, not, ◌==◌, ◌&&◌, leb, if◌then◌else◌, Option, Some, None, is_none}
 use Rattle.vm_types.specs.declared.region.Attr.{Attr}
 
 -- whether no page of the row of count pages from first on is mapped
@@ -11,6 +11,14 @@ is_free map first (suc count) = is_none (map (first + count)) && is_free map fir
 -- whether the whole row is in the user pages, which are 16 up to, not including, 2 ^ 26, and free
 unfoldable pub is_place : (ℕ → Option Attr) → ℕ → ℕ → Bool
 is_place map count first = leb 16 first && (leb (first + count) (2 ^ 26) && is_free map first count)
+
+-- whether the whole row is in the user pages
+abbrev pub in_user_pages : ℕ → ℕ → Bool
+in_user_pages first count = leb 16 first && leb (first + count) (2 ^ 26)
+
+-- the place of a mapping that must be at its address, whatever is mapped there
+abbrev pub fixed_place : ℕ → ℕ → Option ℕ
+fixed_place address count = if in_user_pages (address / 4096) count then Some (address / 4096) else None
 
 -- the lowest of so many pages from first on where a row of count pages fits
 unfoldable pub lowest_from : (ℕ → Option Attr) → ℕ → ℕ → ℕ → Option ℕ
@@ -27,3 +35,10 @@ lowest_place map count = lowest_from map count 16 (2 ^ 26)
 unfoldable pub placed : (ℕ → Option Attr) → ℕ → ℕ → Option ℕ
 placed map address count =
     if not (address == 0) && is_place map count (address / 4096) then Some (address / 4096) else lowest_place map count
+
+-- page 1 is no user page, page 32 is one
+pub below_the_user_pages : fixed_place 4096 1 ≡ None
+below_the_user_pages = refl
+
+pub at_its_address : fixed_place 131072 5 ≡ Some 32
+at_its_address = refl

@@ -1,17 +1,11 @@
 -- What is not built yet: limits that hold for a while, each to be raised or dropped.
-use Rattle.std.specs.Prelude.{ℕ, ◌*◌, ◌^◌, ◌≡◌, ◌<◌, Bool, Option, Some, None, is_some}
+use Rattle.std.specs.Prelude.{ℕ, ◌*◌, ◌≡◌, ◌<◌, Some, None}
 use Rattle.vm_types.specs.declared.file.FileInfo.{FileInfo}
-use Rattle.vm_types.specs.Counting.{any_below}
 use Rattle.vm_types.specs.Files.{Files}
-use Rattle.vm_types.specs.View.{View}
 
 -- Process numbers are 1 to this one: a further spawn answers EAGAIN.
 abbrev pub process_limit : ℕ
 process_limit = 1
-
--- Whether a process has its one mapping: another mmap that would succeed answers ENOMEM.
-unfoldable pub has_mapping : (ℕ → Option View) → Bool
-has_mapping space = any_below (λ page. is_some (space page)) (2 ^ 26)
 
 -- An image has one file, number 0, of whole pages: boot answers BADLAYOUT for any other.
 pub record IsOneFile (files : Files) : Type 0 where

@@ -1,11 +1,11 @@
 -- What each command answers and what it leaves.
--- mmap(2), fork(2), msync(2), sigaction(2); the order of the checks is our choice.
-use Rattle.std.specs.Prelude.{ℕ, ◌%◌, ◌*◌, if◌then◌else◌, Option, Some, None}
+-- mmap(2), munmap(2), mprotect(2), fork(2), msync(2), sigaction(2); the order of the checks is our choice.
+use Rattle.std.specs.Prelude.{ℕ, ◌%◌, ◌*◌, ◌/◌, ◌==◌, if◌then◌else◌, Option, Some, None}
 use Rattle.vm_types.specs.declared.access.Access.{Access}
 use Rattle.vm_types.specs.declared.access.Access.TheVariants as Accesses
 use Rattle.vm_types.specs.declared.access.StoredValue.{StoredValue}
 use Rattle.vm_types.specs.declared.command.Command.{Command}
-use Rattle.vm_types.specs.declared.command.Command.TheVariants.{Spawn, Mmap, Msync, Load, Store}
+use Rattle.vm_types.specs.declared.command.Command.TheVariants.{Spawn, Mmap, Munmap, Mprotect, Msync, Load, Store}
 use Rattle.vm_types.specs.declared.command.MapSource.{MapSource}
 use Rattle.vm_types.specs.declared.permission.Prot.{Prot}
 use Rattle.vm_types.specs.declared.refusal.Errno.{Errno}
@@ -14,10 +14,12 @@ use Rattle.vm_types.specs.declared.reply.Reply.{Reply}
 use Rattle.vm_types.specs.declared.reply.Reply.TheVariants.{Process, Address, Done, Value, Faulted, Refused}
 use Rattle.vm_types.specs.declared.width.Width.{Width}
 use Rattle.vm_types.specs.Access.{loaded, stored}
-use Rattle.vm_types.specs.Checks.{page_count}
+use Rattle.vm_types.specs.Checks.{first_of, page_count, pages_from}
 use Rattle.vm_types.specs.Mapping.{mmap_errno, mmap_place, first_attr, with_mapping}
 use Rattle.vm_types.specs.Msync.{Ruling, Refuses, Passes, Takes, msync_ruling, committed, synced}
+use Rattle.vm_types.specs.Permission.{kept}
 use Rattle.vm_types.specs.Processes.{least_free_pid, with_process}
+use Rattle.vm_types.specs.Ranges.{munmap_checks, without_row, asked_checks, row_checks, with_protection}
 use Rattle.vm_types.specs.State.{State}
 use Rattle.vm_types.specs.Verdict.{Verdict, Fine, Faults, verdict, fault_of}
 use Rattle.vm_types.specs.View.{Pages, shown}
@@ -44,6 +46,29 @@ mmap_outcome s pid len prot source None None = answers s (Refused ENOMEM)
 mmap_outcome s pid len prot source None (Some first) =
     record { reply = Address (4096 * first); state = with_mapping s pid first (page_count len) (first_attr source prot) }
 
+-- refused by this check, or else this
+abbrev pub refused_or : State → Option Errno → Outcome → Outcome
+refused_or s (Some errno) outcome = answers s (Refused errno)
+refused_or s None outcome = outcome
+
+-- munmap: refused, or the pages of the range removed
+abbrev pub munmap_outcome : State → ℕ → ℕ → ℕ → Outcome
+munmap_outcome s pid addr len =
+    refused_or s (first_of (munmap_checks s pid addr len))
+    (record { reply = Done; state = without_row s pid (addr / 4096) (pages_from addr len) })
+
+-- mprotect of a row of pages: refused, or the permission given
+abbrev pub protect_outcome : State → ℕ → ℕ → ℕ → Prot → Outcome
+protect_outcome s pid first pages prot =
+    refused_or s (first_of (row_checks s pid first pages prot))
+    (record { reply = Done; state = with_protection s pid first pages (kept prot) })
+
+-- mprotect: a length of 0 is done with before any page is looked at
+abbrev pub mprotect_outcome : State → ℕ → ℕ → ℕ → Prot → Outcome
+mprotect_outcome s pid addr len prot =
+    refused_or s (first_of (asked_checks s pid addr))
+    (if len == 0 then answers s Done else protect_outcome s pid (addr / 4096) (pages_from addr len) prot)
+
 -- msync: refused, done with nothing to make durable, or done
 abbrev pub msync_outcome : State → Ruling → Outcome
 msync_outcome s (Refuses errno) = answers s (Refused errno)
@@ -68,8 +93,10 @@ judged s pid addr width access = verdict s.files (s.views pid) addr (byte_count 
 -- what a machine that runs and lacks nothing answers and leaves
 abbrev pub outcome : State → Command → Outcome
 outcome s Spawn = spawn_outcome s (least_free_pid s.live)
-outcome s (Mmap pid addr len prot source) =
-    mmap_outcome s pid len prot source (mmap_errno s pid addr len prot source) (mmap_place s pid addr len)
+outcome s (Mmap pid addr len prot source placing) =
+    mmap_outcome s pid len prot source (mmap_errno s pid addr len prot source placing) (mmap_place s pid addr len placing)
+outcome s (Munmap pid addr len) = munmap_outcome s pid addr len
+outcome s (Mprotect pid addr len prot) = mprotect_outcome s pid addr len prot
 outcome s (Msync pid addr len mode) = msync_outcome s (msync_ruling s pid addr len mode)
 outcome s (Load pid addr width) =
     if s.live pid then load_outcome s addr width (judged s pid addr width Accesses.Load) else answers s (Refused ESRCH)
@@ -79,7 +106,9 @@ outcome s (Store pid addr value) =
 -- how an msync is judged; any other command makes nothing durable
 abbrev pub ruling : State → Command → Ruling
 ruling s Spawn = Passes
-ruling s (Mmap pid addr len prot source) = Passes
+ruling s (Mmap pid addr len prot source placing) = Passes
+ruling s (Munmap pid addr len) = Passes
+ruling s (Mprotect pid addr len prot) = Passes
 ruling s (Msync pid addr len mode) = msync_ruling s pid addr len mode
 ruling s (Load pid addr width) = Passes
 ruling s (Store pid addr value) = Passes

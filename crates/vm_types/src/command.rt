@@ -11,6 +11,17 @@ pub enum MapSource {
     Shared { file: u64, offset: u64 },
 }
 
+/// How firmly a mapping's address is asked for (mmap(2), MAP_FIXED and MAP_FIXED_NOREPLACE).
+#[derive(Clone, Copy, Debug, PartialEq, Eq)]
+pub enum Placing {
+    /// The address is a hint; 0 is none.
+    Hint,
+    /// At the address, in place of what is mapped there.
+    Fixed,
+    /// At the address, and only where nothing is mapped there.
+    NoReplace,
+}
+
 /// Whether an msync waits (msync(2), MS_SYNC and MS_ASYNC).
 #[derive(Clone, Copy, Debug, PartialEq, Eq)]
 pub enum MsyncMode {
@@ -28,6 +39,18 @@ pub enum Command {
         len: u64,
         prot: Prot,
         source: MapSource,
+        placing: Placing,
+    },
+    Munmap {
+        pid: u64,
+        addr: u64,
+        len: u64,
+    },
+    Mprotect {
+        pid: u64,
+        addr: u64,
+        len: u64,
+        prot: Prot,
     },
     Msync {
         pid: u64,

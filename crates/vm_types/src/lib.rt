@@ -13,7 +13,7 @@ mod reply;
 mod width;
 
 pub use access::{Access, StoredValue};
-pub use command::{Command, MapSource, MsyncMode};
+pub use command::{Command, MapSource, MsyncMode, Placing};
 pub use file::{FileInfo, FilePage};
 pub use number::{FrameNo, NoFree, Phys, Pid, SlotNo, TooManyRuns, Vpn};
 pub use permission::Prot;

@@ -2,7 +2,7 @@
 ghost use Rattle.std.specs.Prelude.{◌≡◌, ◌≤◌, IfOk, OnErr};
 
 use clap::error::ErrorKind;
-use file_store::FormatFault;
+use file_store::{FormatFault, OpenFault};
 use machine::BootFault;
 use std::alloc::AllocError;
 use std::io::Write;
@@ -21,6 +21,10 @@ pub(crate) enum ProgramFault<'a> {
     CannotOpen(&'a str),
     #[error("format {} {}", *.0 as u8, format_fault_name(*.0))]
     Format(FormatFault),
+    #[error("open {} {}", *.0 as u8, open_fault_name(*.0))]
+    Open(OpenFault),
+    #[error("no file {0}")]
+    NoFile(u32),
     #[error("boot {} {}", *.0 as u8, boot_fault_name(*.0))]
     Boot(BootFault),
     #[error("read failed")]
@@ -35,6 +39,14 @@ fn format_fault_name(fault: FormatFault) -> &'static str {
         FormatFault::TooLarge => "TOOLARGE",
         FormatFault::Formatted => "FORMATTED",
         FormatFault::Source => "SOURCE",
+    }
+}
+
+fn open_fault_name(fault: OpenFault) -> &'static str {
+    match fault {
+        OpenFault::Device => "DEVICE",
+        OpenFault::BadLayout => "BADLAYOUT",
+        OpenFault::BadJournal => "BADJOURNAL",
     }
 }
 

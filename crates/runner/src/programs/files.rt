@@ -5,7 +5,7 @@ ghost use Rattle.disk_model.specs.FileRecord.{Unsynced};
 use super::faults::ProgramFault;
 use disk_model::FileDisk;
 use std::fs::{File, Files, OpenOptions};
-use std::io;
+use std::io::{self, ErrorKind};
 
 /// Whether a file that is missing is made.
 #[derive(Clone, Copy, Debug, PartialEq, Eq)]
@@ -27,6 +27,26 @@ pub(crate) fn open_disk<'a, R: Files<File = File>>(
         Ok(disk) => Ok(disk),
         Err(_) => Err(ProgramFault::CannotOpen(path)),
     }
+}
+
+/// The host file of that path, which is only read, and how many bytes it has now. A folder is no such file.
+pub(crate) fn open_to_read<'a, R: Files<File = File>>(
+    rt: &R,
+    path: &'a str,
+) -> Result<(File, u64), ProgramFault<'a>> {
+    match opened_to_read(rt, path) {
+        Ok(opened) => Ok(opened),
+        Err(_) => Err(ProgramFault::CannotOpen(path)),
+    }
+}
+
+fn opened_to_read<R: Files<File = File>>(rt: &R, path: &str) -> io::Result<(File, u64)> {
+    let file = File::open(rt, path)?;
+    let metadata = file.metadata()?;
+    if metadata.is_dir() {
+        return Err(io::Error::from(ErrorKind::IsADirectory));
+    }
+    Ok((file, metadata.len()))
 }
 
 fn open_lengthened<R: Files<File = File>>(

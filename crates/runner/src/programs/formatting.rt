@@ -3,17 +3,16 @@ ghost use Rattle.std.specs.Prelude.{◌≡◌, ◌≤◌, IfOk};
 
 use super::faults::{ProgramFault, report};
 use super::files::{Missing, open_disk};
+use super::sources::{image_bytes, open_sources};
 use super::words::format_words;
-use file_store::{FileSource, format};
+use file_store::format;
 use std::fs::{File, Files};
 use std::io::{Read, Write};
-use vm_types::{PAGE_BYTES, SECTOR_BYTES};
 
-/// The sectors of an image before its first home page.
-const FIRST_HOME: u64 = 1020;
-
-/// `pagefmt new IMAGE SPEC`: makes IMAGE where it is missing, lengthens it to `512 * (1020 + 8 H)` bytes for the `H`
-/// pages of the spec, and formats it. SPEC is `zero:LEN`, a file of LEN zero bytes, a whole number of pages.
+/// `pagefmt new IMAGE SPEC...`: makes IMAGE where it is missing, lengthens it to `512 * (1020 + 8 H)` bytes for the `H`
+/// home pages of the specs, and formats it. The files get numbers and homes in the order of the specs. SPEC is `zero:LEN`,
+/// a writable file of LEN zero bytes, or `rw:PATH` or `ro:PATH`, a writable or a read-only file of the bytes of a host
+/// file, which is read a page at a time. All specs are looked at, and their host files opened, before IMAGE is made.
 ///
 /// Answers the exit status: 0 done; 1 a fault; 2 other words. For 1 and 2 one line on `errors` says why.
 pub fn pagefmt<R: Files<File = File> + AllocGlobal, I: Read, O: Write, X: Write>(
@@ -35,15 +34,10 @@ fn format_image<'a, R: Files<File = File> + AllocGlobal>(
     ensures { IfOk result (λ status. status ≡ 0) }
 {
     let words = format_words(rt.alloc(), words)?;
-    let homes = u64::from(words.length) / PAGE_BYTES as u64;
-    let length = SECTOR_BYTES as u64 * (FIRST_HOME + 8 * homes);
+    let mut sources = open_sources(rt.alloc(), rt, words.specs.as_slice())?;
+    let length = image_bytes(sources.as_slice());
     let mut disk = open_disk(rt, words.image, Missing::Made, length)?;
-    let mut sources: [FileSource<File>; 1] = [FileSource {
-        read_only: false,
-        length: words.length,
-        bytes: None,
-    }];
-    match format(&mut disk, &mut sources) {
+    match format(&mut disk, sources.as_mut_slice()) {
         Ok(()) => Ok(0),
         Err(fault) => Err(ProgramFault::Format(fault)),
     }

@@ -1,16 +1,14 @@
 //! The program that runs traces.
 ghost use Rattle.std.specs.Prelude.{◌≡◌, ◌≤◌, ◌⊎◌, IfOk};
-ghost use Rattle.machine.specs.Machine.{IsSound};
 
 use super::faults::{ProgramFault, report};
 use super::files::{Missing, open_disk};
 use super::words::run_words;
 use crate::engine::{RunEnd, run};
-use disk_model::SectorDisk;
 use machine::Machine;
 use std::fs::{File, Files};
 use std::io::{Read, Write};
-use vm_types::{Command, PAGE_BYTES, Reply, Width};
+use vm_types::PAGE_BYTES;
 
 /// The most slots of a machine.
 const MAX_SLOTS: u32 = 65536;
@@ -57,24 +55,11 @@ fn run_image<'a, R: Files<File = File> + AllocGlobal, I: Read, O: Write>(
         Err((fault, _)) => return Err(ProgramFault::Boot(fault)),
     };
     match run(reader, writer, &mut machine) {
-        RunEnd::Done if has_halted(&mut machine) => Ok(HALTED),
+        RunEnd::Done if machine.is_halted() => Ok(HALTED),
         RunEnd::Done => Ok(0),
         RunEnd::ReadFault => Err(ProgramFault::ReadFailed),
         RunEnd::WriteFault => Err(ProgramFault::WriteFailed),
     }
-}
-
-/// Whether the machine has halted: then, and only then, any command is answered so. This one is of no process, and changes
-/// nothing.
-fn has_halted<D: SectorDisk, E: SectorDisk>(machine: &mut Machine<D, E>) -> bool
-    requires { IsSound D.SectorDisk E.SectorDisk machine.old }
-{
-    let reply = machine.step(Command::Load {
-        pid: 0,
-        addr: 0,
-        width: Width::One,
-    });
-    reply == Reply::Halted
 }
 
 /// The bytes that a swap device is to have at least.

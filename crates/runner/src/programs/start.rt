@@ -1,4 +1,6 @@
 //! How a program comes to its words.
+ghost use Rattle.std.specs.Prelude.{◌≤◌, IfErr};
+
 use super::faults::{ProgramFault, report};
 use std::env::{self, Env};
 use std::io::{self, ErrorKind, Write};
@@ -9,7 +11,9 @@ pub fn given_words<R: Env + AllocGlobal, X: Write>(
     rt: &R,
     program: &str,
     errors: &mut X,
-) -> Result<Vec<String>, u8> {
+) -> Result<Vec<String>, u8>
+    ensures { IfErr result (λ status. (1 ≤ status) × (status ≤ 2)) }
+{
     match collected_words(rt) {
         Ok(words) => Ok(words),
         Err(error) if error.kind() == ErrorKind::OutOfMemory => {

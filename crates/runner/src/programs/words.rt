@@ -1,9 +1,9 @@
 //! What the words after a program's name ask for.
 use super::faults::ProgramFault;
+use super::numbers::number;
 use clap::{Arg, Command};
 use machine::Config;
 use std::alloc::Global;
-use vm_types::PAGE_BYTES;
 
 /// The page frames and slots of a machine where none are named.
 const DEFAULT_CONFIG: Config = Config {
@@ -12,11 +12,17 @@ const DEFAULT_CONFIG: Config = Config {
 };
 
 /// The words of `pagefmt new IMAGE SPEC...`.
-#[derive(Clone, Copy, Debug, PartialEq, Eq)]
+#[derive(Debug, Drop)]
 pub(crate) struct FormatWords<'a> {
     pub image: &'a str,
-    /// The bytes of the one file.
-    pub length: u32,
+    pub specs: Vec<&'a str>,
+}
+
+/// The words of `pagecat IMAGE N`.
+#[derive(Clone, Copy, Debug, PartialEq, Eq)]
+pub(crate) struct CatWords<'a> {
+    pub image: &'a str,
+    pub file: u32,
 }
 
 /// The words of `pagerun IMAGE SWAP` and `pagerun IMAGE SWAP FRAMES SLOTS`.
@@ -27,19 +33,7 @@ pub(crate) struct RunWords<'a> {
     pub config: Config,
 }
 
-/// A number as a trace writes it, under 2^32: decimal digits, or `0x` and hexadecimal digits of either case.
-fn number(text: &str) -> Option<u32> {
-    let (digits, radix) = match text.strip_prefix("0x") {
-        Some(digits) => (digits, 16),
-        None => (text, 10),
-    };
-    if digits.starts_with('+') {
-        return None;
-    }
-    u32::from_str_radix(digits, radix).ok()
-}
-
-/// Reads the words of `pagefmt`. Today a store has one file, of zeros and of whole pages: any other spec is a bad one.
+/// Reads the words of `pagefmt`. The specs are not looked at yet.
 pub(crate) fn format_words<'a>(
     alloc: Global,
     words: &'a [String],
@@ -59,30 +53,8 @@ pub(crate) fn format_words<'a>(
     let specs = new.get_strs("SPEC").ok_or(ProgramFault::Usage)?;
     Ok(FormatWords {
         image,
-        length: only_length(specs)?,
+        specs: Vec::from_slice(alloc, specs)?,
     })
-}
-
-/// The length that the one spec names.
-fn only_length<'a>(specs: &[&'a str]) -> Result<u32, ProgramFault<'a>> {
-    match specs {
-        [] => Err(ProgramFault::Usage),
-        [spec] => zeros_length(spec).ok_or(ProgramFault::BadSpec(spec)),
-        [first, second, ..] => match zeros_length(first) {
-            Some(_) => Err(ProgramFault::BadSpec(second)),
-            None => Err(ProgramFault::BadSpec(first)),
-        },
-    }
-}
-
-/// The length in bytes of a spec `zero:LEN` of whole pages.
-fn zeros_length(spec: &str) -> Option<u32> {
-    let length = number(spec.strip_prefix("zero:")?)?;
-    if length as usize % PAGE_BYTES == 0 {
-        Some(length)
-    } else {
-        None
-    }
 }
 
 /// Reads the words of `pagerun`.
@@ -104,6 +76,24 @@ pub(crate) fn run_words<'a>(
         image,
         swap,
         config,
+    })
+}
+
+/// Reads the words of `pagecat`.
+pub(crate) fn cat_words<'a>(
+    alloc: Global,
+    words: &'a [String],
+) -> Result<CatWords<'a>, ProgramFault<'a>> {
+    let command = Command::new(alloc, "pagecat")
+        .no_binary_name(true)
+        .arg(Arg::new(alloc, "IMAGE").required(true))?
+        .arg(Arg::new(alloc, "N").required(true))?;
+    let matches = command.try_get_matches_from(words)?;
+    let image = matches.get_str("IMAGE").ok_or(ProgramFault::Usage)?;
+    let file = matches.get_str("N").ok_or(ProgramFault::Usage)?;
+    Ok(CatWords {
+        image,
+        file: number(file).ok_or(ProgramFault::Usage)?,
     })
 }
 

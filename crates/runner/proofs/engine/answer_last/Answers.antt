@@ -1,7 +1,7 @@
-use Rattle.std.proofs.Common.{◌≡◌, ◌≢◌, ℕ, length, subst, sym, ◌∙◌}
+use Rattle.std.proofs.Common.{length, subst, sym, ◌∙◌}
 use Rattle.std.proofs.lemmas.Bool.{eqb-false}
 use Rattle.runner.specs.Session.{Answers}
-use Rattle.runner.proofs.Ends.{runs_last, runs_no_last}
+use Rattle.runner.proofs.Ends.{runs_last}
 use Rattle.runner.proofs.engine.answer_last.Goals as goal
 
 pub returns-clause-runs : goal.returns-clause-runs

@@ -1,6 +1,6 @@
-use Rattle.std.proofs.Common.{◌<◌, ◌≤◌, length, take, drop, get_or, subst, ◌+◌, ◌∷◌, [], ◌++◌, arith, sym}
+use Rattle.std.proofs.Common.{◌<◌, ◌≤◌, length, drop, subst, ◌+◌, arith}
 use Rattle.std.proofs.lemmas.List.{take_more, take_all}
-use Rattle.runner.specs.Progress.{stage, GoesOn, BreaksOff}
+use Rattle.runner.specs.Progress.{BreaksOff}
 use Rattle.runner.proofs.Bytes.{around}
 use Rattle.runner.proofs.Progress.{goes_nowhere, GoesOn-trans, breaks_after, breaks_before}
 use Rattle.runner.proofs.engine.run_piece.Goals as goal

@@ -1,7 +1,7 @@
-use Rattle.std.proofs.Common.{length, take, arith}
+use Rattle.std.proofs.Common.{arith}
 use Rattle.std.proofs.KnownBytes.{Appends-kept}
 use Rattle.std.proofs.lemmas.List.{take_rest}
-use Rattle.runner.proofs.Bytes.{taken_more, taken_beginning, taken_all}
+use Rattle.runner.proofs.Bytes.{taken_more, taken_beginning}
 use Rattle.runner.proofs.output_buffer.write_bytes.Goals as goal
 
 pub returns : goal.returns

@@ -2,7 +2,7 @@ use Rattle.std.proofs.Common.{ℕ, List, get_or, codes, IfSome, sym, subst, arit
 use Rattle.std.proofs.lemmas.Slice.Eq.{text_from_reads}
 use Rattle.trace_lang.specs.Grammar.{IsForm}
 use Rattle.trace_lang.proofs.Places.{four_words, five_words, five_or_more}
-use Rattle.trace_lang.proofs.OneCommand.{only_load, only_store, only_msync, only_mmap}
+use Rattle.trace_lang.proofs.OneCommand.{only_load, only_store, only_msync, only_mmap, only_munmap, only_mprotect}
 use Rattle.trace_lang.proofs.forms.command_of.Goals as goal
 
 pub returns-in-load-clause-only : goal.returns-in-load-clause-only
@@ -38,3 +38,20 @@ pub returns-in-mmap-clause-only : goal.returns-in-mmap-clause-only
 returns-in-mmap-clause-only c =
     let name = text_from_reads (get_or c.args.words.now 0 _).now (codes "mmap") (grind arith) (omega arith, (omega arith, (omega arith, (omega arith, tt)))) in
     only_mmap _ _ _ _ _ _ _ (five_or_more c.args.words.now _ _ (grind arith) name) c.mmap_of.ensures.only
+
+pub returns-in-munmap-clause-only : goal.returns-in-munmap-clause-only
+returns-in-munmap-clause-only c =
+    let name = text_from_reads (get_or c.args.words.now 0 _).now (codes "munmap") (grind arith) (omega arith, (omega arith, (omega arith, (omega arith, (omega arith, (omega arith, tt)))))) in
+    only_munmap _ _ _ _ _ (four_words c.args.words.now _ _ (grind arith) name) c.munmap_of.ensures.only
+
+pub returns-in-mprotect-clause-found : goal.returns-in-mprotect-clause-found
+returns-in-mprotect-clause-found c =
+    let name = text_from_reads (get_or c.args.words.now 0 _).now (codes "mprotect") (grind arith) (omega arith, (omega arith, (omega arith, (omega arith, (omega arith, (omega arith, (omega arith, (omega arith, tt)))))))) in
+    let whole = five_words c.args.words.now _ _ (grind arith) name in
+    let P : List (List ℕ) → Type 0 = λ t. IfSome c.mprotect_of.result (λ command. IsForm t command) in
+    subst P (sym whole) c.mprotect_of.ensures.found
+
+pub returns-in-mprotect-clause-only : goal.returns-in-mprotect-clause-only
+returns-in-mprotect-clause-only c =
+    let name = text_from_reads (get_or c.args.words.now 0 _).now (codes "mprotect") (grind arith) (omega arith, (omega arith, (omega arith, (omega arith, (omega arith, (omega arith, (omega arith, (omega arith, tt)))))))) in
+    only_mprotect _ _ _ _ _ _ (five_words c.args.words.now _ _ (grind arith) name) c.mprotect_of.ensures.only

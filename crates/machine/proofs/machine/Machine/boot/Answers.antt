@@ -1,4 +1,4 @@
-use Rattle.std.proofs.Common.{[], length, inl, sym, ap, ◌∙◌, subst}
+use Rattle.std.proofs.Common.{[], length, inl, refl, sym, ap, ◌∙◌, subst}
 use Rattle.vm_types.specs.declared.file.FileInfo.{FileInfo}
 use Rattle.machine.proofs.Boots.{whole_of, was_layout, was_journal, unmoved, unfit, fit, read_after, boots, IsOpened}
 use Rattle.machine.proofs.machine.Machine.boot.Goals as goal
@@ -43,7 +43,7 @@ returns-in-Ok-read_memory-clause-boots g c =
       any_moment = e.any_moment;
       leaves = e.now;
     } in
-    boots g.D.SectorDisk g.E.SectorDisk c.args.store c.in-Ok.store _ c.in-Some.info opened c.in-Some.ensures.found c.in-Ok-read_memory.ensures.fresh c.in-Ok-read_memory.ensures.read
+    boots g.D.SectorDisk g.E.SectorDisk c.args.store c.in-Ok.store _ c.in-Some.info refl opened c.in-Some.ensures.found c.in-Ok-read_memory.ensures.fresh c.in-Ok-read_memory.ensures.read
 
 pub returns-in-Ok-read_memory-clause-layout : goal.returns-in-Ok-read_memory-clause-layout
 returns-in-Ok-read_memory-clause-layout g c =

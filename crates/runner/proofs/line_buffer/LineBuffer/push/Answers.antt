@@ -1,4 +1,4 @@
-use Rattle.std.proofs.Common.{◌≡◌, ℕ, length, take, arith, ap, sym, ◌∙◌, ◌≤◌}
+use Rattle.std.proofs.Common.{◌≡◌, length, take, arith, ap, sym, ◌∙◌, ◌≤◌}
 use Rattle.std.proofs.lemmas.List.{length-take-le}
 use Rattle.runner.proofs.Bytes.{pushed_byte, dropped_byte}
 use Rattle.runner.proofs.line_buffer.LineBuffer.push.Goals as goal

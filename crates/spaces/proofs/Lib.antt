@@ -1,0 +1,14 @@
+pub mod Accessed
+pub mod Appending
+pub mod Calls
+pub mod Committing
+pub mod Guards
+pub mod Maps
+pub mod Marking
+pub mod Pages
+pub mod Placing
+pub mod Protects
+pub mod Rulings
+pub mod Spawning
+pub mod Totals
+pub mod Walking

@@ -1,0 +1,29 @@
+//! The pages that an msync makes durable.
+ghost use Rattle.std.specs.Prelude.{◌≡◌, ◌≤◌, length};
+
+use vm_types::{Errno, FilePage, MSYNC_PAGES};
+
+/// More touched pages than an msync takes.
+#[derive(Clone, Copy, Debug, PartialEq, Eq)]
+pub(crate) struct TooMany;
+
+/// Touched pages of the file, each once.
+#[derive(Debug, Drop)]
+pub(crate) struct Chosen {
+    pub list: [FilePage; MSYNC_PAGES],
+    /// How many pages of the list there are.
+    pub count: usize,
+    pub ghost few: { count ≤ 127 },
+    pub ghost room: { length list ≡ 127 },
+}
+
+/// How an msync is judged.
+#[derive(Debug, Drop)]
+pub(crate) enum Ruling {
+    /// It is refused.
+    Refuses(Errno),
+    /// It is done, with nothing to make durable.
+    Passes,
+    /// These pages are made durable.
+    Takes(Chosen),
+}
