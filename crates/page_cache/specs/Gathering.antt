@@ -1,0 +1,60 @@
+-- Lists of the touched pages of rows: a row is so many pages of one file, from some page on.
+use Rattle.std.specs.Prelude.{◌≡◌, ◌≢◌, ℕ, ◌+◌, ◌<◌, ◌≤◌, ◌⊎◌, Bool, true, not, ◌&&◌, List, slice_index_or, slice_set}
+use Rattle.vm_types.specs.declared.file.FilePage.{FilePage}
+use Rattle.vm_types.specs.Attributes.{file_page_eq}
+use Rattle.vm_types.specs.Counting.{any_below, count_below}
+use Rattle.page_cache.specs.CacheTable.{CacheTable, is_touched}
+
+abbrev pub IsInRow : ℕ → ℕ → ℕ → FilePage → Type 0
+IsInRow file first count page = (page.file ≡ file) × (first ≤ page.page) × (page.page < first + count)
+
+-- a touched page of the row
+pub record IsTouchedIn (t : CacheTable) (file first count : ℕ) (page : FilePage) : Type 0 where
+  pub row : IsInRow file first count page
+  pub touched : is_touched t page ≡ true
+
+-- the page at that place of a list
+abbrev pub entry : List FilePage → ℕ → FilePage
+entry list i = slice_index_or list i (record { file = 0; page = 0 })
+
+-- the page is one of the first n
+abbrev pub IsListed : List FilePage → ℕ → FilePage → Type 0
+IsListed list n page = (i : ℕ) × (i < n) × (entry list i ≡ page)
+
+abbrev pub is_listed : List FilePage → ℕ → FilePage → Bool
+is_listed list n page = any_below (λ i. file_page_eq (entry list i) page) n
+
+-- whether the page is touched and isn't among the first `used`
+abbrev pub is_fresh : CacheTable → List FilePage → ℕ → FilePage → Bool
+is_fresh t list used page = is_touched t page && not (is_listed list used page)
+
+-- how many such pages the row has
+unfoldable pub fresh_count : CacheTable → ℕ → ℕ → ℕ → List FilePage → ℕ → ℕ
+fresh_count t file first count list used = count_below (λ k. is_fresh t list used (record { file = file; page = first + k })) count
+
+-- The list was lengthened from `used` to n entries, at most 127, by touched pages of the row: each once, and none that
+-- was among the first `used`. All other entries are as they were.
+pub record Gathers (t : CacheTable) (file first count used : ℕ) (old new : List FilePage) (n : ℕ) : Type 0 where
+  pub longer : used ≤ n
+  pub most : n ≤ 127
+  pub kept : (i : ℕ) → i < used → entry new i ≡ entry old i
+  pub rest : (i : ℕ) → n ≤ i → entry new i ≡ entry old i
+  pub touched : (i : ℕ) → used ≤ i → i < n → IsTouchedIn t file first count (entry new i)
+  pub once : (i j : ℕ) → i < j → used ≤ j → j < n → entry new i ≢ entry new j
+
+-- each touched page of the row is among the first n
+abbrev pub HasAll : CacheTable → ℕ → ℕ → ℕ → List FilePage → ℕ → Type 0
+HasAll t file first count list n = (page : FilePage) → IsTouchedIn t file first count page → IsListed list n page
+
+-- all 127 entries are used, and a touched page of the row isn't among them
+pub record Overflows (t : CacheTable) (file first count used : ℕ) (old new : List FilePage) : Type 0 where
+  pub full : Gathers t file first count used old new 127
+  pub missing : FilePage
+  pub touched : IsTouchedIn t file first count missing
+  pub absent : IsListed new 127 missing → ⊥
+
+-- the page was among the first `used`, and nothing changed, or it is the entry n now
+abbrev pub Pushes : List FilePage → List FilePage → ℕ → ℕ → FilePage → ℕ → Type 0
+Pushes old new used n page m =
+    ((m ≡ n) × (new ≡ old) × IsListed old used page)
+    ⊎ ((m ≡ n + 1) × (n < 127) × (new ≡ slice_set old n page) × (IsListed old used page → ⊥))

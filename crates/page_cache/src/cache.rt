@@ -1,0 +1,270 @@
+//! The map from file page to place, and the set of touched pages.
+ghost use Rattle.std.specs.Prelude.{◌≡◌, ◌≢◌, ◌+◌, ◌<◌, ◌≤◌, ◌^◌, ◌↔◌, true, false, Some, None, IfOk, IfSome, IfNone, OnErr, IsErr};
+
+use crate::gathering::{is_in_row, push_fresh};
+use crate::index::Index;
+use crate::node_set::NodeSet;
+use crate::place::{Place, TooMany};
+use std::alloc::{AllocError, Global};
+use std::marker::Model;
+use vm_types::{FilePage, FrameNo, MSYNC_PAGES, SlotNo};
+
+/// Where each file page is, and which file pages are touched: stored to through a shared mapping and not made durable
+/// since. A frame and a slot hold at most one file page each; every other file page is at home. In contracts it is that
+/// map and that set.
+#[derive(Drop)]
+pub struct PageCache {
+    /// The number of frames. The nodes of the index are the frames, and then the slots.
+    frames: u32,
+    index: Index,
+    /// The nodes whose page is touched.
+    touched: NodeSet,
+}
+
+impl Model for PageCache {
+    ghost use Rattle.page_cache.specs.CacheTable.{CacheTable};
+
+    ghost Value = { CacheTable };
+
+    ghost use Rattle.page_cache.specs.Inside.{table_of, IsWhole};
+
+    ghost view = { table_of };
+
+    ghost invariant = { IsWhole };
+}
+
+impl PageCache {
+    ghost use Rattle.page_cache.specs.declared.place.Place.TheVariants.{Home, Frame, Slot};
+    ghost use Rattle.page_cache.specs.Gathering.{Gathers, HasAll, Overflows, fresh_count};
+    ghost use Rattle.page_cache.specs.CacheTable.{frame_count, slot_count, place_in, place_of, is_touched, IsInside, IsFreeFor, IsSound, IsFresh, SameButFor};
+
+    /// The cache of a memory of `frames` frames, 8 to 65,536, and of `slots` slots of swap, at most 65,536, with every file
+    /// page at home and untouched. No later call takes memory of the host.
+    ///
+    /// # Errors
+    /// `AllocError` where the host has not enough memory.
+    pub fn new(alloc: Global, frames: u32, slots: u32) -> Result<PageCache, AllocError>
+        requires least_frames { 8 ≤ frames }
+        requires most_frames { frames ≤ 65536 }
+        requires most_slots { slots ≤ 65536 }
+        ensures { IfOk result (λ cache. IsFresh cache frames slots) }
+    {
+        let index = Index::new(alloc, frames + slots)?;
+        let touched = NodeSet::new(alloc, frames + slots)?;
+        Ok(PageCache {
+            frames,
+            index,
+            touched,
+        })
+    }
+
+    /// The number of frames, 8 to 65,536. The second clause is what is true at all times.
+    pub fn frames(&self) -> u32
+        ensures count { result ≡ frame_count self.now }
+        ensures sound { IsSound self.now }
+    {
+        self.frames
+    }
+
+    /// The number of slots, at most 65,536.
+    pub fn slots(&self) -> u32
+        ensures { result ≡ slot_count self.now }
+    {
+        self.index.len() as u32 - self.frames
+    }
+
+    /// Where the file page is.
+    pub fn place(&self, page: FilePage) -> Place
+        ensures { result ≡ place_of self.now page }
+    {
+        match self.index.find(page) {
+            Some(node) if node < self.frames as usize => Place::Frame(FrameNo(node as u32)),
+            Some(node) => Place::Slot(SlotNo(node as u32 - self.frames)),
+            None => Place::Home,
+        }
+    }
+
+    /// Whether the file page is touched.
+    pub fn is_touched(&self, page: FilePage) -> bool
+        ensures { result ≡ is_touched self.now page }
+    {
+        match self.index.find(page) {
+            Some(node) => self.touched.contains(node),
+            None => false,
+        }
+    }
+
+    /// The file page that frame `n` holds; `None` exactly where it holds none.
+    pub fn page_in_frame(&self, n: FrameNo) -> Option<FilePage>
+        requires { n.0 < frame_count self.now }
+        ensures held { IfSome result (λ page. place_of self.now page ≡ Frame n) }
+        ensures none { IfNone result ((page : FilePage) → place_of self.now page ≢ Frame n) }
+    {
+        self.index.page(n.0 as usize)
+    }
+
+    /// The file page that slot `n` holds; `None` exactly where it holds none.
+    pub fn page_in_slot(&self, n: SlotNo) -> Option<FilePage>
+        requires { n.0 < slot_count self.now }
+        ensures held { IfSome result (λ page. place_of self.now page ≡ Slot n) }
+        ensures none { IfNone result ((page : FilePage) → place_of self.now page ≢ Slot n) }
+    {
+        self.index.page(self.frames as usize + n.0 as usize)
+    }
+
+    /// Moves the file page to that place, which no other file page has. It is touched afterwards where it was before; a
+    /// touched page isn't given `Home`.
+    pub fn set_place(&mut self, page: FilePage, place: Place)
+        requires inside { IsInside self.old place }
+        requires free { IsFreeFor self.old page place }
+        requires kept { is_touched self.old page ≡ true → place ≢ Home }
+        ensures placed { place_of self.new page ≡ place }
+        ensures touched { is_touched self.new page ≡ is_touched self.old page }
+        ensures others { SameButFor page self.old self.new }
+    {
+        let touched = self.take_out(page);
+        match place {
+            Place::Home => {}
+            Place::Frame(n) => self.hold(n.0 as usize, page, touched),
+            Place::Slot(n) => self.hold(self.frames as usize + n.0 as usize, page, touched),
+        }
+    }
+
+    /// Puts the file page, which isn't at home, among the touched ones.
+    pub fn mark_dirty(&mut self, page: FilePage)
+        requires { place_of self.old page ≢ Home }
+        ensures touched { is_touched self.new page ≡ true }
+        ensures placed { place_of self.new page ≡ place_of self.old page }
+        ensures others { SameButFor page self.old self.new }
+    {
+        if let Some(node) = self.index.find(page) {
+            self.touched.insert(node);
+        }
+    }
+
+    /// Takes the file page from among the touched ones; it stays where it is.
+    pub fn clean(&mut self, page: FilePage)
+        ensures untouched { is_touched self.new page ≡ false }
+        ensures placed { place_of self.new page ≡ place_of self.old page }
+        ensures others { SameButFor page self.old self.new }
+    {
+        if let Some(node) = self.index.find(page) {
+            self.touched.remove(node);
+        }
+    }
+
+    /// Appends the touched pages among `count` pages of the file from page `first` on, whose numbers are under 2 ^ 32, to the
+    /// first `used` entries of the list, but those that are among these already. Answers how many entries there are then.
+    /// Its time is that of the shorter of two: a look at each page of the row, or at each touched page.
+    ///
+    /// # Errors
+    /// `TooMany` exactly where there would be more than 127. Then the list holds 127, the first `used` of them as before and
+    /// the others touched pages of the row.
+    pub fn dirty_in(
+        &self,
+        file: u8,
+        first: u32,
+        count: u32,
+        list: &mut [FilePage; MSYNC_PAGES],
+        used: usize,
+    ) -> Result<usize, TooMany>
+        requires used { used ≤ 127 }
+        requires row { first + count ≤ 2 ^ 32 }
+        ensures gathered { IfOk result (λ n. Gathers self.now file first count used list.old list.new n) }
+        ensures all { IfOk result (λ n. HasAll self.now file first count list.new n) }
+        ensures number { IfOk result (λ n. n ≡ used + fresh_count self.now file first count list.old used) }
+        ensures exact { IsErr result ↔ (127 < used + fresh_count self.now file first count list.old used) }
+        ensures too_many { OnErr result (Overflows self.now file first count used list.old list.new) }
+    {
+        if count < self.touched.len() {
+            self.gather_row(file, first, count, list, used)
+        } else {
+            self.gather_touched(file, first, count, list, used)
+        }
+    }
+
+    /// `dirty_in` by a look at each page of the row.
+    fn gather_row(
+        &self,
+        file: u8,
+        first: u32,
+        count: u32,
+        list: &mut [FilePage; MSYNC_PAGES],
+        used: usize,
+    ) -> Result<usize, TooMany>
+        requires used { used ≤ 127 }
+        requires row { first + count ≤ 2 ^ 32 }
+        ensures gathered { IfOk result (λ n. Gathers self.now file first count used list.old list.new n) }
+        ensures all { IfOk result (λ n. HasAll self.now file first count list.new n) }
+        ensures too_many { OnErr result (Overflows self.now file first count used list.old list.new) }
+    {
+        let mut n = used;
+        for offset in 0..count {
+            let page = FilePage {
+                file,
+                page: first + offset,
+            };
+            if self.is_touched(page) {
+                n = push_fresh(list, used, n, page)?;
+            }
+        }
+        Ok(n)
+    }
+
+    /// `dirty_in` by a look at each touched page.
+    fn gather_touched(
+        &self,
+        file: u8,
+        first: u32,
+        count: u32,
+        list: &mut [FilePage; MSYNC_PAGES],
+        used: usize,
+    ) -> Result<usize, TooMany>
+        requires { used ≤ 127 }
+        ensures gathered { IfOk result (λ n. Gathers self.now file first count used list.old list.new n) }
+        ensures all { IfOk result (λ n. HasAll self.now file first count list.new n) }
+        ensures too_many { OnErr result (Overflows self.now file first count used list.old list.new) }
+    {
+        let mut n = used;
+        for place in 0..self.touched.len() {
+            if let Some(page) = self.index.page(self.touched.node(place)) {
+                if is_in_row(page, file, first, count) {
+                    n = push_fresh(list, used, n, page)?;
+                }
+            }
+        }
+        Ok(n)
+    }
+
+    /// Sends the file page home and untouched. Answers whether it was touched.
+    fn take_out(&mut self, page: FilePage) -> bool
+        ensures was { result ≡ is_touched self.old page }
+        ensures placed { place_of self.new page ≡ Home }
+        ensures untouched { is_touched self.new page ≡ false }
+        ensures others { SameButFor page self.old self.new }
+    {
+        let Some(node) = self.index.find(page) else {
+            return false;
+        };
+        let touched = self.touched.contains(node);
+        self.touched.remove(node);
+        self.index.remove(node, page);
+        touched
+    }
+
+    /// Gives the file page, which is at home, the node, which holds none.
+    fn hold(&mut self, node: usize, page: FilePage, touched: bool)
+        requires inside { node < frame_count self.old + slot_count self.old }
+        requires home { place_of self.old page ≡ Home }
+        requires untouched { is_touched self.old page ≡ false }
+        requires free { (p : FilePage) → place_of self.old p ≢ place_in (frame_count self.old) (Some node) }
+        ensures placed { place_of self.new page ≡ place_in (frame_count self.old) (Some node) }
+        ensures touched { is_touched self.new page ≡ touched }
+        ensures others { SameButFor page self.old self.new }
+    {
+        self.index.insert(node, page);
+        if touched {
+            self.touched.insert(node);
+        }
+    }
+}

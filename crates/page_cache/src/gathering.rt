@@ -1,0 +1,54 @@
+//! Lists of file pages that an msync gathers row by row.
+ghost use Rattle.std.specs.Prelude.{◌≡◌, ◌+◌, ◌≤◌, ◌^◌, ◌↔◌, IfOk, OnErr, IsTrue};
+ghost use Rattle.page_cache.specs.Gathering.{IsInRow, IsListed, Pushes};
+
+use crate::index::is_same;
+use crate::place::TooMany;
+use vm_types::{FilePage, MSYNC_PAGES};
+
+/// Whether the page is one of `count` pages of the file from page `first` on.
+pub fn is_in_row(page: FilePage, file: u8, first: u32, count: u32) -> bool
+    ensures { IsTrue result ↔ IsInRow file first count page }
+{
+    page.file == file && page.page >= first && page.page - first < count
+}
+
+/// Whether the page is among the first `used` entries.
+fn is_listed(list: &[FilePage; MSYNC_PAGES], used: usize, page: FilePage) -> bool
+    requires { used ≤ 127 }
+    ensures { IsTrue result ↔ IsListed list.now used page }
+{
+    for at in 0..used {
+        if is_same(list[at], page) {
+            return true;
+        }
+    }
+    false
+}
+
+/// Puts the page behind the first `n` entries, unless it is among the first `used`. Answers how many entries there are.
+///
+/// # Errors
+/// `TooMany` exactly where it would be entry 128; then nothing changes.
+pub fn push_fresh(
+    list: &mut [FilePage; MSYNC_PAGES],
+    used: usize,
+    n: usize,
+    page: FilePage,
+) -> Result<usize, TooMany>
+    requires used { used ≤ n }
+    requires most { n ≤ 127 }
+    ensures pushed { IfOk result (λ m. Pushes list.old list.new used n page m) }
+    ensures full { OnErr result (n ≡ 127) }
+    ensures fresh { OnErr result (IsListed list.old used page → ⊥) }
+    ensures err { OnErr result (list.new ≡ list.old) }
+{
+    if is_listed(list, used, page) {
+        return Ok(n);
+    }
+    if n == MSYNC_PAGES {
+        return Err(TooMany);
+    }
+    list[n] = page;
+    Ok(n + 1)
+}
