@@ -1,0 +1,54 @@
+-- What the calls of this layer leave.
+use Rattle.std.specs.Prelude.{◌≡◌, ◌≢◌, ℕ, false, None}
+use Rattle.vm_types.specs.declared.file.FilePage.{FilePage}
+use Rattle.disk_model.specs.Stop.{Image}
+use Rattle.frames.specs.declared.role.Role.TheVariants.{Free}
+use Rattle.frames.specs.FrameTable.{FrameTable, frame_count, bytes_of, role_of, count_of, IsFrame, IsFresh}
+use Rattle.page_cache.specs.declared.place.Place.TheVariants.{Home}
+use Rattle.residency.specs.declared.kernel.Core.{Core}
+use Rattle.residency.specs.Picture.{Picture, picture_of, view, volatile}
+
+-- no process, every file page at home and untouched, and all frames free but the zero page
+pub record IsStart {D E : Type 0} (c : Core D E) (frames : ℕ) : Type 0 where
+  pub fresh : IsFresh c.frames frames
+  pub none : (pid : ℕ) → (picture_of c).root pid ≡ None
+  pub at_home : (p : FilePage) → (picture_of c).place p ≡ Home
+  pub untouched : (p : FilePage) → (picture_of c).touched p ≡ false
+  pub refused : c.refused.number ≡ 0
+
+pub record IsFreeFrame (t : FrameTable) (n : ℕ) : Type 0 where
+  pub inside : IsFrame t n
+  pub free : role_of t n ≡ Free
+
+-- every process has its pages, with the bytes that they show, and every file page its bytes
+pub record KeepsPages (old new : Picture) : Type 0 where
+  pub roots : (pid : ℕ) → new.root pid ≡ old.root pid
+  pub views : (pid page : ℕ) → view new pid page ≡ view old pid page
+  pub volatile : (image : Image) (p : FilePage) → volatile new image p ≡ volatile old image p
+  pub touched : (p : FilePage) → new.touched p ≡ old.touched p
+
+-- memory in which only bytes of free frames changed
+pub record KeepsInUse (old new : FrameTable) : Type 0 where
+  pub frames : frame_count new ≡ frame_count old
+  pub roles : (n : ℕ) → role_of new n ≡ role_of old n
+  pub counts : (n : ℕ) → count_of new n ≡ count_of old n
+  pub bytes : (n : ℕ) → role_of old n ≢ Free → bytes_of new n ≡ bytes_of old n
+
+-- only bytes of free frames changed: every table, page and place is as it was
+pub record KeepsUsed (old new : Picture) : Type 0 where
+  pub memory : KeepsInUse old.frames new.frames
+  pub root : (pid : ℕ) → new.root pid ≡ old.root pid
+  pub at : (pid page : ℕ) → new.at pid page ≡ old.at pid page
+  pub page_of : (n : ℕ) → new.page_of n ≡ old.page_of n
+  pub place : (p : FilePage) → new.place p ≡ old.place p
+  pub touched : (p : FilePage) → new.touched p ≡ old.touched p
+  pub files : (f : ℕ) → new.files f ≡ old.files f
+
+-- all but frames and the count of refused requests is as it was
+pub record KeepsRest {D E : Type 0} (old new : Core D E) : Type 0 where
+  pub store : new.store ≡ old.store
+  pub swap : new.swap ≡ old.swap
+  pub cache : new.cache ≡ old.cache
+  pub roots : new.roots ≡ old.roots
+  pub regions : new.regions ≡ old.regions
+  pub page_of : new.page_of ≡ old.page_of

@@ -1,0 +1,5 @@
+pub mod Picture
+pub mod Parts
+pub mod Calls
+pub mod Room
+pub mod Steps

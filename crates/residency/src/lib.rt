@@ -1,0 +1,11 @@
+//! What is resident: the frames, the tables and regions of the processes, and where each file page is, as one value that the
+//! calls above pass along; and how a frame is had.
+#![tactic(auto)]
+
+mod kernel;
+mod obtaining;
+#[cfg(test)]
+mod tests;
+
+pub use kernel::{Core, PLACES};
+pub use obtaining::obtain;

@@ -1,0 +1,42 @@
+//! A frame for a page.
+ghost use Rattle.std.specs.Prelude.{◌≡◌, ◌+◌, ◌↔◌, IsErr, IfOk, IfErr, OnOk, OnErr};
+ghost use Rattle.vm_types.specs.declared.refusal.Stall.TheVariants.{NoFrames};
+ghost use Rattle.frames.specs.FrameTable.{IsFull};
+ghost use Rattle.residency.specs.Picture.{picture_of};
+ghost use Rattle.residency.specs.Parts.{IsSized, IsSteady};
+ghost use Rattle.residency.specs.Calls.{IsFreeFrame, KeepsPages, KeepsUsed, KeepsRest};
+
+use crate::kernel::Core;
+use frames::Role;
+use vm_types::{FrameNo, NoFree, Stall};
+
+/// A free frame, to be taken at once. The frame to keep isn't given up for it. No process sees a change, and no file does.
+///
+/// # Errors
+/// `NoFrames` exactly where no frame is free: nothing is evicted yet. No other stall comes.
+pub fn obtain<D, E>(core: &mut Core<D, E>, _keep: Option<FrameNo>) -> Result<FrameNo, Stall>
+    requires sized { IsSized core.old }
+    requires steady { IsSteady (picture_of core.old) }
+    ensures sized { IsSized core.new }
+    ensures steady { IsSteady (picture_of core.new) }
+    ensures pages { KeepsPages (picture_of core.old) (picture_of core.new) }
+    ensures used { KeepsUsed (picture_of core.old) (picture_of core.new) }
+    ensures rest { KeepsRest core.old core.new }
+    ensures free { IfOk result (λ n. IsFreeFrame core.new.frames n.0) }
+    ensures stall { IfErr result (λ stall. stall ≡ NoFrames) }
+    ensures none_free { IsErr result ↔ IsFull core.old.frames }
+    ensures not_refused { OnOk result (core.new.refused.number ≡ core.old.refused.number) }
+    ensures refused { OnErr result (core.new.refused.number ≡ core.old.refused.number + 1) }
+{
+    let _ = core.frames.len();
+    match core.frames.take(Role::Cache) {
+        Ok(n) => {
+            core.frames.release(n);
+            Ok(n)
+        }
+        Err(NoFree) => {
+            core.refused.raise();
+            Err(Stall::NoFrames)
+        }
+    }
+}

@@ -1,0 +1,100 @@
+//! Memory over devices in memory.
+ghost use Rattle.std.specs.Prelude.{◌≡◌, ◌≢◌, ◌≤◌, ℕ, IfOk, None};
+ghost use Rattle.residency.specs.Parts.{IsFit, IsSized, IsSteady};
+ghost use Rattle.residency.specs.Picture.{picture_of};
+
+use crate::{Core, obtain};
+use disk_model::{SectorDisk, SimDisk};
+use file_store::{FileStore, OpenFault};
+use page_cache::Place;
+use page_tables::take_table;
+use regions::Regions;
+use std::alloc::{AllocError, Global};
+use std::test::Fail;
+use vm_types::{FilePage, NoFree, Stall};
+
+// A device with the mark of a store that has no file, as a stop leaves it.
+fn image(alloc: Global) -> Result<SimDisk, Fail>
+    ensures { IfOk result (λ disk. (k : ℕ) → ⟦<SimDisk as SectorDisk>⟧.unsynced disk k → ⊥) }
+{
+    let mut disk = SimDisk::new(alloc, 1020)?;
+    let mut mark = [0; 512];
+    for i in 0..512 {
+        mark[i] = b"FAMSYNC1"[i % 8];
+    }
+    disk.write(0, &mark)?;
+    disk.sync()?;
+    Ok(disk.left(alloc, &[])?)
+}
+
+fn opened(disk: SimDisk) -> Result<FileStore<SimDisk>, OpenFault>
+    requires { (k : ℕ) → ⟦<SimDisk as SectorDisk>⟧.unsynced disk k → ⊥ }
+{
+    match FileStore::open(disk) {
+        Ok(store) => Ok(store),
+        Err((fault, _)) => Err(fault),
+    }
+}
+
+// Memory of 8 frames, without swap.
+fn made(alloc: Global, store: FileStore<SimDisk>) -> Result<Core<SimDisk, SimDisk>, AllocError>
+    ensures sized { IfOk result IsSized }
+    ensures fit { IfOk result (λ core. IsFit (picture_of core)) }
+    ensures none { IfOk result (λ core. (pid : ℕ) → (picture_of core).root pid ≡ None) }
+{
+    let swap = SimDisk::new(alloc, 0)?;
+    match Core::new(alloc, store, swap, 8, 0) {
+        Ok(core) => Ok(core),
+        Err((refused, _)) => Err(refused),
+    }
+}
+
+// A process of that number, without a page.
+fn spawn<D, E>(core: &mut Core<D, E>, pid: usize) -> Result<(), Stall>
+    requires sized { IsSized core.old }
+    requires steady { IsSteady (picture_of core.old) }
+    requires number { (1 ≤ pid) × (pid ≤ 64) }
+    requires dead { (picture_of core.old).root pid ≡ None }
+    ensures sized { IsSized core.new }
+    ensures steady { IsSteady (picture_of core.new) }
+    ensures others { (q : ℕ) → q ≢ pid → (picture_of core.new).root q ≡ (picture_of core.old).root q }
+{
+    obtain(core, None)?;
+    let _ = core.frames.len();
+    match take_table(&mut core.frames) {
+        Ok(root) => {
+            core.roots[pid] = Some(root);
+            core.regions[pid] = Regions::new();
+            Ok(())
+        }
+        Err(NoFree) => Err(Stall::NoFrames),
+    }
+}
+
+#[test]
+fn as_it_is_made(rt: HostRuntime) -> Result<(), Fail> {
+    let alloc = rt.alloc();
+    let core = made(alloc, opened(image(alloc)?)?)?;
+    assert_eq!(rt; core.frames.len(), 8);
+    assert_eq!(rt; core.cache.frames(), 8);
+    assert_eq!(rt; core.cache.slots(), 0);
+    assert_eq!(rt; core.roots.len(), 65);
+    assert_eq!(rt;
+        core.cache.place(FilePage { file: 0, page: 0 }),
+        Place::Home
+    );
+    Ok(())
+}
+
+// Frame 0 is the zero page, so 8 frames are enough for the roots of seven processes.
+#[test]
+fn a_frame_until_none_is_free(rt: HostRuntime) -> Result<(), Fail> {
+    let alloc = rt.alloc();
+    let mut core = made(alloc, opened(image(alloc)?)?)?;
+    for pid in 1..8 {
+        spawn(&mut core, pid)?;
+    }
+    assert_eq!(rt; obtain(&mut core, None), Err(Stall::NoFrames));
+    assert_eq!(rt; obtain(&mut core, None), Err(Stall::NoFrames));
+    Ok(())
+}
