@@ -1,5 +1,6 @@
 -- Directory sectors, entry by entry.
 use Rattle.std.proofs.Common.{◌≡◌, ℕ, ◌+◌, ◌<◌, ◌≤◌, ⊎_elim, List, length, get_or, take, set, Option, Some, None, sym, subst, ◌∙◌, arith}
+use Rattle.std.specs.Prelude.{IfSome, ◌^◌}
 use Rattle.std.proofs.lemmas.Bool.{cases_eq, cases_lt}
 use Rattle.std.proofs.lemmas.List.{get_or-take, get_or-set_same, get_or-set_other, get_or_past, length-take-le}
 use Rattle.std.proofs.lemmas.Option.{none-some}
@@ -70,3 +71,6 @@ good_is_sound homes sector entry good same = record {
   within = λ f e is. good.within f e (below_64 sector f e (sym (same f) ∙ is)) (sym (same f) ∙ is);
   apart = λ f g h a b less is is'. good.apart f g h a b less (below_64 sector g b (sym (same g) ∙ is')) (sym (same f) ∙ is) (sym (same g) ∙ is');
 }
+
+pub fits_in : (o : Option Entry) (e : Entry) → IfSome o (λ x. x.info.length < 2 ^ 32) → o ≡ Some e → e.info.length < 2 ^ 32
+fits_in o e h is = subst (λ x. IfSome x (λ y. y.info.length < 2 ^ 32)) is h

@@ -1,5 +1,6 @@
 //! The directory in memory.
-ghost use Rattle.std.specs.Prelude.{◌≡◌, ◌<◌, ◌≤◌, ◌+◌, ◌^◌, ℕ, length, get_or, drop, Option, Some, IfOk, OnOk, OnErr, IsTrue, IsFalse, ◌↔◌};
+ghost use Rattle.std.specs.Prelude.{◌≡◌, ◌<◌, ◌≤◌, ◌+◌, ◌^◌, ℕ, length, get_or, drop, Option, Some, None, IsSome, IfOk, IfSome, OnOk, OnErr, IsTrue, IsFalse, ◌↔◌};
+ghost use Rattle.file_store.specs.declared.directory.Entry.{Entry};
 ghost use Rattle.file_store.specs.Layout.{bytes_inside};
 ghost use Rattle.file_store.specs.Directory.{decoded, entry_in, end_of, IsHomeOf, IsZero, IsBadDirectory, AreGood, AreEntries};
 
@@ -29,7 +30,8 @@ impl Entry {
     #[tactic(auto, unfolding(crate::specs::Directory::decoded))]
     fn decode(bytes: &[u8]) -> Option<Entry>
         requires { 8 ≤ length bytes.now }
-        ensures { result ≡ decoded bytes.now }
+        ensures entry { result ≡ decoded bytes.now }
+        ensures fits { IfSome result (λ e. e.info.length < 2 ^ 32) }
     {
         let word = LittleEndian::read_u32(bytes);
         let length = LittleEndian::read_u32(&bytes[4..]);
@@ -120,6 +122,9 @@ fn overlaps_any(entries: &[Option<Entry>], entry: &Entry) -> bool
 #[derive(Debug, Drop)]
 pub(crate) struct Directory {
     entries: [Option<Entry>; FILES],
+    /// No file has a number past the last place, or more bytes than four bytes can say.
+    pub ghost numbers: { (f : ℕ) (e : Entry) → get_or entries f None ≡ Some e → f < 64 },
+    pub ghost lengths: { (f : ℕ) (e : Entry) → get_or entries f None ≡ Some e → e.info.length < 2 ^ 32 },
 }
 
 impl Directory {
@@ -149,6 +154,7 @@ impl Directory {
         requires read { AreEntries sector.now earlier.now (length earlier.now) }
         requires good { AreGood homes sector.now (length earlier.now) }
         ensures entry { IfOk result (λ entry. entry ≡ entry_in sector.now (length earlier.now)) }
+        ensures fits { IfOk result (λ entry. IfSome entry (λ e. e.info.length < 2 ^ 32)) }
         ensures good { OnOk result (AreGood homes sector.now (length earlier.now + 1)) }
         ensures bad { OnErr result (IsBadDirectory homes sector.now) }
     {
@@ -171,6 +177,14 @@ impl Directory {
         ensures { result ≡ entry_of self.now n }
     {
         *self.entries.get(usize::from(n))?
+    }
+
+    /// The entry of a file of any number.
+    pub(crate) fn entry_at(&self, n: usize) -> Option<Entry>
+        ensures entry { result ≡ entry_of self.now n }
+        ensures number { IsSome result → n < 64 }
+    {
+        *self.entries.get(n)?
     }
 
     /// The home page of a page that begins inside its file.

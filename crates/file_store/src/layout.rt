@@ -21,7 +21,7 @@ pub(crate) const PAGE_SECTORS: usize = 8;
 pub(crate) const SECTOR_BYTES: usize = 512;
 
 /// The bytes of a page.
-pub(crate) const PAGE_BYTES: u64 = 4096;
+pub(crate) const PAGE_BYTES: u64 = vm_types::PAGE_BYTES as u64;
 
 /// The most home pages of a store, however large the device is.
 pub(crate) const MAX_HOMES: u64 = 1 << 30;

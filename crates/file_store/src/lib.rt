@@ -28,7 +28,7 @@ mod trimmed;
 
 pub use faults::{FormatFault, OpenFault};
 pub use formatting::format;
-pub use sources::FileSource;
+pub use sources::{FileSource, image_bytes};
 pub use store::FileStore;
 
 #[cfg(test)]

@@ -1,5 +1,5 @@
 //! What files are made of.
-ghost use Rattle.std.specs.Prelude.{◌≡◌, ◌≤◌, ◌^◌, ◌↔◌, ℕ, List, Some, length, drop, replicate, OnOk, OnErr, IsErrOf, IsTrue};
+ghost use Rattle.std.specs.Prelude.{◌≡◌, ◌+◌, ◌-◌, ◌*◌, ◌≤◌, ◌^◌, ◌↔◌, ℕ, min, List, Some, length, drop, replicate, OnOk, OnErr, IsErrOf, IsTrue};
 ghost use Rattle.file_store.specs.Layout.{page_count, bytes_inside, trimmed};
 ghost use Rattle.file_store.specs.Format.{info_of, told_by, total_pages, IsTooLarge, IsDirectoryOf};
 
@@ -69,14 +69,22 @@ pub(crate) fn is_too_large<R>(sources: &[FileSource<R>], sectors: u64) -> bool
     sources.len() > FILES || sectors < FIRST_HOME || pages_of(sources) > home_count(sectors)
 }
 
-/// How many pages up to 64 files have.
-fn pages_of<R>(sources: &[FileSource<R>]) -> u64
-    requires { length sources.now ≤ 64 }
-    ensures { result ≡ total_pages sources.now }
+/// How many bytes an image of these files has, whose homes end where it ends: `512 * (1020 + 8 H)` for their `H` pages in
+/// all, or 2^64 - 1 where that is more.
+pub fn image_bytes<R>(sources: &[FileSource<R>]) -> u64
+    ensures { result ≡ min (512 * (1020 + 8 * total_pages sources.now)) (2 ^ 64 - 1) }
 {
-    let mut total = 0;
-    for f in 0..sources.len() {
-        total += sources[f].pages();
+    let homes = PAGE_BYTES.saturating_mul(pages_of(sources));
+    (SECTOR_BYTES as u64 * FIRST_HOME).saturating_add(homes)
+}
+
+/// How many pages the files have, or 2^64 - 1 where that is more.
+fn pages_of<R>(sources: &[FileSource<R>]) -> u64
+    ensures { result ≡ min (total_pages sources.now) (2 ^ 64 - 1) }
+{
+    let mut total: u64 = 0;
+    for source in sources {
+        total = total.saturating_add(source.pages());
     }
     total
 }

@@ -1,5 +1,5 @@
 //! An open store.
-ghost use Rattle.std.specs.Prelude.{◌≡◌, ◌<◌, ◌≤◌, ℕ, OnOk};
+ghost use Rattle.std.specs.Prelude.{◌≡◌, ◌<◌, ◌≤◌, ℕ, IsSome, OnOk};
 ghost use Rattle.disk_model.specs.Stop.{HasCause};
 ghost use Rattle.disk_model.specs.Moments.{Touches, Nothing};
 ghost use Rattle.file_store.specs.Standing.{standing_page, IsPageOf};
@@ -26,6 +26,14 @@ impl<D: SectorDisk> FileStore<D> {
         ensures { result ≡ files_of self.now n }
     {
         self.directory.entry(n).map(|entry| entry.info)
+    }
+
+    /// The facts of the file of any number, or none where the store has no such file.
+    pub fn info(&self, n: u64) -> Option<FileInfo>
+        ensures info { result ≡ files_of self.now n }
+        ensures number { IsSome result → n < 64 }
+    {
+        self.directory.entry_at(n as usize).map(|entry| entry.info)
     }
 
     /// The device.

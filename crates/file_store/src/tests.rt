@@ -3,7 +3,7 @@ ghost use Rattle.std.specs.Prelude.{◌≡◌, ◌<◌, ℕ, IfOk, refl};
 ghost use Rattle.std.proofs.Common.{◌∙◌};
 ghost use Rattle.file_store.specs.Store.{IsReady};
 
-use crate::{FileSource, FileStore, FormatFault, OpenFault, format};
+use crate::{FileSource, FileStore, FormatFault, OpenFault, format, image_bytes};
 use disk_model::{DiskFault, SectorDisk, SimDisk};
 use std::alloc::Global;
 use std::test::Fail;
@@ -180,6 +180,8 @@ fn opens_and_reads(rt: HostRuntime) -> Result<(), Fail> {
         })
     );
     assert_eq!(rt; store.file(2), None);
+    assert_eq!(rt; store.info(1), store.file(1));
+    assert_eq!(rt; store.info(65), None);
     assert_eq!(rt; store.file(255), None);
     assert_eq!(rt;
         first_byte(&mut store, FilePage { file: 0, page: 0 }),
@@ -287,6 +289,23 @@ fn looks_at_the_journal(rt: HostRuntime) -> Result<(), Fail> {
     )?)?;
     assert_eq!(rt; store.into_disk().writes(), 0);
     Ok(())
+}
+
+// A file of so many zero bytes.
+fn zeros(length: u32) -> FileSource<&'static [u8]> {
+    FileSource {
+        read_only: false,
+        length,
+        bytes: None,
+    }
+}
+
+// Four home pages behind 1,020 sectors.
+#[test]
+fn an_image_has_room_for_its_files(rt: HostRuntime) {
+    let sources = [zeros(0), zeros(1), zeros(4096), zeros(4097)];
+    assert_eq!(rt; image_bytes(&sources), 538_624);
+    assert_eq!(rt; image_bytes::<&[u8]>(&[]), 522_240);
 }
 
 #[test]

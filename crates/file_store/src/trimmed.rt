@@ -7,10 +7,9 @@ ghost use Rattle.file_store.specs.Layout.{trimmed};
 ghost use Rattle.file_store.specs.Store.{inside_at};
 
 use crate::directory::Directory;
-use crate::layout::PAGE_BYTES;
 use crate::pages::trim;
 use sync_journal::{PageSource, SourceFault};
-use vm_types::FilePage;
+use vm_types::{FilePage, PAGE_BYTES};
 
 /// The pages of a source, which are pages of files: past the end of its file each is zeros.
 #[derive(Drop)]
@@ -26,11 +25,11 @@ impl<S> Trimmed<'_, S> {
         ensures { result ≡ inside_at self.now.directory.now self.now.pages.now i }
     {
         let Some(page) = self.pages.get(i) else {
-            return PAGE_BYTES as usize;
+            return PAGE_BYTES;
         };
         match self.directory.entry(page.file) {
             Some(entry) => entry.bytes_inside(page.page),
-            None => PAGE_BYTES as usize,
+            None => PAGE_BYTES,
         }
     }
 }

@@ -1,6 +1,6 @@
 //! Frames in one block of memory. Free frames are chained through their own first four bytes, so no call but `new`
 //! takes memory, and each touches one frame.
-ghost use Rattle.std.specs.Prelude.{◌≡◌, ◌≢◌, ◌+◌, ◌<◌, ◌≤◌, ◌↔◌, IfOk, OnErr, IsErr, IsTrue};
+ghost use Rattle.std.specs.Prelude.{◌≡◌, ◌≢◌, ◌+◌, ◌<◌, ◌≤◌, ◌↔◌, IfOk, IfSome, IsNone, OnErr, IsErr, IsTrue};
 ghost use Rattle.frames.specs.FrameTable.{zero_bytes};
 
 use crate::role::Role;
@@ -126,6 +126,18 @@ impl Frames {
         self.roles[n as usize] = role;
         self.counts[n as usize] = 1;
         Ok(FrameNo(n))
+    }
+
+    /// A free frame; `None` exactly where no frame is free.
+    pub fn next_free(&self) -> Option<FrameNo>
+        ensures some { IfSome result (λ n. IsFrame self.now n.0 × (role_of self.now n.0 ≡ Free)) }
+        ensures none { IsNone result ↔ IsFull self.now }
+    {
+        if self.first_free == 0 {
+            None
+        } else {
+            Some(FrameNo(self.first_free))
+        }
     }
 
     /// One more process shares the private frame `n`, which fewer than 64 share.

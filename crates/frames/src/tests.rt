@@ -7,6 +7,8 @@ fn a_frame_is_shared_written_copied_and_given_back(rt: HostRuntime) -> Result<()
     let mut frames = Frames::new(rt.alloc(), 8)?;
     assert_eq!(rt; frames.len(), 8);
 
+    let next = frames.next_free().expect(&rt, "a free frame");
+    assert_eq!(rt; frames.role(next), Role::Free);
     let page = frames.take(Role::Private).expect(&rt, "a free frame");
     frames.share(page);
     assert_eq!(rt; frames.count(page), 2);
@@ -35,6 +37,7 @@ fn seven_of_eight_frames_can_be_taken(rt: HostRuntime) -> Result<(), Fail> {
     for _ in 0..7 {
         assert!(rt; frames.take(Role::Table).is_ok());
     }
+    assert_eq!(rt; frames.next_free(), None);
     assert_eq!(rt; frames.take(Role::Table), Err(NoFree));
     Ok(())
 }

@@ -1,16 +1,15 @@
 -- msync on a machine.
 use Rattle.std.proofs.Common.{ℕ, ◌≡◌, ◌<◌, ◌≤◌, ◌⊎◌, inl, inr, ⊎_elim, ◌∷◌, [], Bool, true, false, not, ◌==◌, ◌%◌, ◌/◌, if◌then◌else◌, nat_lt, List, Option, Some, None, is_some, refl, sym, ap, ◌∙◌, subst}
-use Rattle.disk_model.specs.Moments.{LeavesNow}
 use Rattle.disk_model.specs.Stop.{Image, MayLeave}
 use Rattle.disk_model.specs.declared.sector_disk.SectorDisk.{Ghosts}
 use Rattle.disk_model.proofs.Moments.{weaker, holds_now}
 use Rattle.file_store.specs.Commit.{StandsForEither}
-use Rattle.file_store.specs.Standing.{StandsFor}
-use Rattle.spaces.specs.Core as Spaces
-use Rattle.spaces.specs.Core.{Commits, IsEnd, Acknowledged, Failed}
-use Rattle.spaces.specs.Shows.{ShowsPages, Does}
-use Rattle.spaces.specs.declared.memory.Memory.{Memory}
-use Rattle.spaces.specs.declared.state.Core.{Core}
+use Rattle.residency.specs.Picture.{picture_of}
+use Rattle.residency.specs.Shows.{ShowsPages, KeepsDevices}
+use Rattle.residency.specs.declared.kernel.Core.{Core}
+use Rattle.spaces.specs.Calls as Calls
+use Rattle.syncing.specs.Shows as Syncing
+use Rattle.syncing.specs.Core.{KeepsMemory, Commits, Acknowledged, Failed}
 use Rattle.vm_types.specs.declared.command.Command.{Command}
 use Rattle.vm_types.specs.declared.command.Command.TheVariants.{Msync}
 use Rattle.vm_types.specs.declared.command.MsyncMode.{MsyncMode}
@@ -29,7 +28,7 @@ use Rattle.vm_types.specs.Step.{outcome, msync_outcome, ruling, commit_of, commi
 use Rattle.vm_types.specs.View.{Pages, attrs_of}
 use Rattle.machine.specs.declared.machine.Machine.{Machine}
 use Rattle.machine.specs.Machine.{stands_in, MayStand, HoldsIn, StandsForSome, Shows, Meets}
-use Rattle.machine.proofs.Flat.{OnlyNow, is_running, flat}
+use Rattle.machine.proofs.Flat.{OnlyNow, is_running, shows_core, answered, unread}
 use Rattle.machine.proofs.Steps.{outcome_keeps, commit_takes}
 
 -- no check answers EIO
@@ -106,17 +105,6 @@ module _ {D E : Type 0} (g : Ghosts D) (h : Ghosts E) where
   abbrev pub CountsNow : Type 0
   CountsNow = (d : D) (t : ℕ) (c : Image) → g.keeps_model d → t ≤ g.moment d → MayLeave (g.content d) (g.unsynced d) c → g.left_since d t c
 
-  durable_now : (old : Machine D E) (s : State) → Shows g h old s → IsRunning s → g.keeps_model old.core.store.disk
-      → LeavesNow g old.core.store.disk (StandsFor (g.sector_count old.core.store.disk) s.files s.durable)
-  durable_now old s shows run keeps c may =
-      let p = shows.stands keeps c may in
-      let e : p.0 ≡ s.durable = subst (λ (o : Option (List Pages)). stands_in o s.durable p.0) run p.1 in
-      subst (λ (d : Pages). StandsFor (g.sector_count old.core.store.disk) s.files d c) e p.2
-
-  -- a running machine's processes and files
-  shows_core : (old : Machine D E) (s : State) → Shows g h old s → IsRunning s → Spaces.Shows g h old.core s
-  shows_core old s shows run = record { pages = shows.pages; stands = λ k. durable_now old s shows run k }
-
   holds_either : (n : ℕ) (s : State) (command : Command) (reply : Reply) (after : Pages) (c : Image) → IsRunning s
       → commits s command ≡ Some after → may_have_taken reply ≡ true
       → StandsForEither n s.files s.durable after c → StandsForSome n s.files (HoldsIn s command reply) c
@@ -127,8 +115,8 @@ module _ {D E : Type 0} (g : Ghosts D) (h : Ghosts E) where
   -- the commit was made
   commit_done : (old : Machine D E) (core : Core D E) (s : State) (pid addr len : ℕ) (mode : MsyncMode) (reply : Reply) (after : Pages)
       → Shows g h old s → IsRunning s → commits s (Msync pid addr len mode) ≡ Some after
-      → Commits g h old.core core s after (Msync pid addr len mode) reply → reply ≡ Done
-      → Spaces.Shows g h core (outcome s (Msync pid addr len mode)).state
+      → Commits g old.core core s after (Msync pid addr len mode) reply → reply ≡ Done
+      → Syncing.Shows g core (outcome s (Msync pid addr len mode)).state
       → (t : State) × Meets g h old (record { core = core; halted = false }) s t (Msync pid addr len mode) reply
   commit_done old core s pid addr len mode reply after shows run commit made done now =
       let x = Msync pid addr len mode in
@@ -155,25 +143,26 @@ module _ {D E : Type 0} (g : Ghosts D) (h : Ghosts E) where
   -- the store failed in it
   commit_failed : (counts_now : CountsNow) (old : Machine D E) (core : Core D E) (s : State) (pid addr len : ℕ) (mode : MsyncMode) (reply : Reply) (after : Pages)
       → Shows g h old s → IsRunning s → commits s (Msync pid addr len mode) ≡ Some after
-      → Commits g h old.core core s after (Msync pid addr len mode) reply → reply ≡ Refused EIO
-      → g.failures old.core.store.disk < g.failures core.store.disk → core.memory ≡ old.core.memory
+      → Commits g old.core core s after (Msync pid addr len mode) reply → reply ≡ Refused EIO
+      → g.failures old.core.store.disk < g.failures core.store.disk → KeepsMemory old.core core
       → (t : State) × Meets g h old (record { core = core; halted = true }) s t (Msync pid addr len mode) reply
   commit_failed counts_now old core s pid addr len mode reply after shows run commit made failed grew memory =
       let x = Msync pid addr len mode in
       let new : Machine D E = record { core = core; halted = true } in
       let n = g.sector_count old.core.store.disk in
       let t = halted s after in
-      let pages : ShowsPages old.core.memory t = record {
+      let pages : ShowsPages (picture_of old.core) t = record {
         live = shows.pages.live;
         views = shows.pages.views;
         files = shows.pages.files;
-        volatile = shows.pages.volatile;
         touched = shows.pages.touched;
+        framed = shows.pages.framed;
+        home = shows.pages.home;
       } in
       let meets : Meets g h old new s t x reply = record {
         step = Fails after run commit grew failed refl;
         shows = record {
-          pages = subst (λ (m : Memory). ShowsPages m t) (sym memory) pages;
+          pages = rw (memory.frames, memory.cache, memory.roots, memory.regions, memory.page_of, memory.directory) pages;
           running = refl;
           stands = λ k c may.
               subst (λ (sectors : ℕ). StandsForSome sectors s.files (MayStand t) c) (sym made.size)
@@ -192,16 +181,16 @@ module _ {D E : Type 0} (g : Ghosts D) (h : Ghosts E) where
   -- what spaces says of an msync, in a state that they show
   pub record Msynced (old core : Core D E) (s : State) (command : Command) (reply : Reply) : Type 0 where
     pub passes : commits s command ≡ None → (reply ≡ (outcome s command).reply) × (core ≡ old)
-    pub commits_so : (after : Pages) → commits s command ≡ Some after → Commits g h old core s after command reply
+    pub commits_so : (after : Pages) → commits s command ≡ Some after → Commits g old core s after command reply
 
   -- answered by EIO, it halts the machine
   pub msync_halts : (counts_now : CountsNow) (old : Machine D E) (core : Core D E) (s : State) (pid addr len : ℕ) (mode : MsyncMode) (reply : Reply)
-      → Shows g h old s → old.halted ≡ false → (Spaces.Shows g h old.core s → Msynced old.core core s (Msync pid addr len mode) reply)
+      → Shows g h old s → old.halted ≡ false → (Syncing.Shows g old.core s → Msynced old.core core s (Msync pid addr len mode) reply)
       → reply ≡ Refused EIO → (t : State) × Meets g h old (record { core = core; halted = true }) s t (Msync pid addr len mode) reply
   msync_halts counts_now old core s pid addr len mode reply shows live said e =
       let x = Msync pid addr len mode in
       let run = is_running g h old s shows live in
-      let told = said (shows_core old s shows run) in
+      let told = said (shows_core g h old s shows run) in
       ⊎_elim (λ none. absurd (never_fails s pid addr len mode (sym (told.passes none).0 ∙ e)))
       (λ (some : (after : Pages) × (commits s x ≡ Some after)).
       let made = told.commits_so some.0 some.1 in
@@ -213,20 +202,19 @@ module _ {D E : Type 0} (g : Ghosts D) (h : Ghosts E) where
 
   -- answered otherwise, it lets the machine go on
   pub msync_goes_on : (only_now : OnlyNow g h) (old : Machine D E) (core : Core D E) (s : State) (pid addr len : ℕ) (mode : MsyncMode) (reply : Reply)
-      → Shows g h old s → old.halted ≡ false → (Spaces.Shows g h old.core s → Msynced old.core core s (Msync pid addr len mode) reply)
+      → Shows g h old s → old.halted ≡ false → (Syncing.Shows g old.core s → Msynced old.core core s (Msync pid addr len mode) reply)
       → (reply ≡ Refused EIO → ⊥) → (t : State) × Meets g h old (record { core = core; halted = false }) s t (Msync pid addr len mode) reply
   msync_goes_on only_now old core s pid addr len mode reply shows live said otherwise =
       let x = Msync pid addr len mode in
       let run = is_running g h old s shows live in
-      let told = said (shows_core old s shows run) in
+      let told = said (shows_core g h old s shows run) in
       ⊎_elim (λ none.
       let stays = stays_of s (ruling s x) none in
       let same : core ≡ old.core = (told.passes none).1 in
-      let does : Does core.memory s x reply = record {
-        answer = (told.passes none).0;
-        shows = subst (λ (t : State). ShowsPages core.memory t) (sym stays.0) (subst (λ (o : Core D E). ShowsPages o.memory s) (sym same) shows.pages);
-      } in
-      flat g h only_now old core false s x reply shows live refl stays.1 (record { store = ap (λ (o : Core D E). o.store) same; swap = ap (λ (o : Core D E). o.swap) same }) does)
+      let pages : ShowsPages (picture_of core) (outcome s x).state =
+      subst (λ (t : State). ShowsPages (picture_of core) t) (sym stays.0) (subst (λ (o : Core D E). ShowsPages (picture_of o) s) (sym same) shows.pages) in
+      let keeps : KeepsDevices old.core core = record { store = ap (λ (o : Core D E). o.store) same; swap = ap (λ (o : Core D E). o.swap) same } in
+      answered g h only_now old core false s x reply shows live refl stays.1 (unread g h old.core core keeps) (Calls.Does (told.passes none).0 pages))
       (λ (some : (after : Pages) × (commits s x ≡ Some after)).
       let made = told.commits_so some.0 some.1 in
       elim made.end as (λ _. (t : State) × Meets g h old (record { core = core; halted = false }) s t x reply) [
@@ -237,7 +225,7 @@ module _ {D E : Type 0} (g : Ghosts D) (h : Ghosts E) where
 
   -- either way
   pub msync_meets : (only_now : OnlyNow g h) (counts_now : CountsNow) (old : Machine D E) (core : Core D E) (stops : Bool) (s : State) (pid addr len : ℕ) (mode : MsyncMode) (reply : Reply)
-      → Shows g h old s → old.halted ≡ false → (Spaces.Shows g h old.core s → Msynced old.core core s (Msync pid addr len mode) reply)
+      → Shows g h old s → old.halted ≡ false → (Syncing.Shows g old.core s → Msynced old.core core s (Msync pid addr len mode) reply)
       → (stops ≡ true → reply ≡ Refused EIO) → (stops ≡ false → reply ≡ Refused EIO → ⊥)
       → (t : State) × Meets g h old (record { core = core; halted = stops }) s t (Msync pid addr len mode) reply
   msync_meets only_now counts_now old core true s pid addr len mode reply shows live said failed otherwise =

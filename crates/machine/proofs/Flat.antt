@@ -1,27 +1,29 @@
--- Commands that leave the store alone.
-use Rattle.std.proofs.Common.{ℕ, ◌≡◌, inl, Bool, true, false, List, Option, Some, None, is_some, refl, sym, ap, ◌∙◌, subst}
-use Rattle.disk_model.specs.Moments.{LeavesNow, LeavesOnly}
+-- Commands that write nothing to the store.
+use Rattle.std.proofs.Common.{ℕ, ◌≡◌, inl, Bool, true, false, List, Option, Some, None, is_some, refl, sym, ap, ◌∙◌, subst, inr, ⊎_elim, arith}
+use Rattle.disk_model.specs.Moments.{LeavesNow, LeavesOnly, Touches, Nothing}
 use Rattle.disk_model.specs.Stop.{Image, MayLeave}
 use Rattle.disk_model.specs.declared.sector_disk.SectorDisk.{Ghosts}
-use Rattle.disk_model.proofs.Moments.{started}
+use Rattle.disk_model.proofs.Moments.{stays, started, goes_on, still_leaves}
 use Rattle.file_store.specs.Standing.{StandsFor}
-use Rattle.file_store.specs.Store.{IsReady}
-use Rattle.file_store.specs.Store as Stores
 use Rattle.file_store.specs.declared.store.FileStore.{FileStore}
-use Rattle.spaces.specs.Core as Spaces
-use Rattle.spaces.specs.Core.{KeepsDevices}
-use Rattle.spaces.specs.Shows.{Does}
-use Rattle.spaces.specs.declared.memory.Memory.{Memory}
-use Rattle.spaces.specs.declared.state.Core.{Core}
+use Rattle.fault.specs.Files.{ReadsStore}
+use Rattle.residency.specs.Picture.{picture_of}
+use Rattle.residency.specs.Shows.{ShowsPages, KeepsDevices}
+use Rattle.residency.specs.declared.kernel.Core.{Core}
+use Rattle.spaces.specs.Calls as Calls
+use Rattle.syncing.specs.Shows as Syncing
 use Rattle.vm_types.specs.declared.command.Command.{Command}
+use Rattle.vm_types.specs.declared.refusal.Stall.{Stall}
+use Rattle.vm_types.specs.declared.refusal.Stall.TheVariants.{NoFrames, NoSwap, SwapDevice, StoreDevice}
 use Rattle.vm_types.specs.declared.reply.Reply.{Reply}
 use Rattle.vm_types.specs.declared.reply.Reply.TheVariants.{Halted}
 use Rattle.vm_types.specs.Files.{Files}
-use Rattle.vm_types.specs.Run.{Answers, Stays}
+use Rattle.vm_types.specs.Run.{Answers, Stalls, Stays}
+use Rattle.vm_types.specs.Stalls.{MayStall, reads_files}
 use Rattle.vm_types.specs.State.{State, IsRunning}
 use Rattle.vm_types.specs.Step.{outcome, ruling, takes}
 use Rattle.vm_types.specs.View.{Pages}
-use Rattle.machine.specs.Machine.{stands_in, MayStand, HoldsIn, StandsForSome, Shows, Meets}
+use Rattle.machine.specs.Machine.{stands_in, MayStand, HoldsIn, StandsForSome, Shows, Meets, causes}
 use Rattle.machine.specs.declared.machine.Machine.{Machine}
 use Rattle.machine.proofs.Steps.{Keeps, outcome_keeps}
 
@@ -37,12 +39,19 @@ module _ {D E : Type 0} (g : Ghosts D) (h : Ghosts E) where
   abbrev pub OnlyNow : Type 0
   OnlyNow = (d : D) (c : Image) → g.keeps_model d → g.left_since d (g.moment d) c → MayLeave (g.content d) (g.unsynced d) c
 
-  -- the machine with this store and this memory
-  abbrev pub with_memory : FileStore D → E → Memory → Machine D E
-  with_memory store swap memory = record { core = record { store = store; swap = swap; memory = memory }; halted = false }
-
   pub is_running : (m : Machine D E) (s : State) → Shows g h m s → m.halted ≡ false → IsRunning s
   is_running m s shows e = running_of s.ends (shows.running ∙ e)
+
+  durable_now : (old : Machine D E) (s : State) → Shows g h old s → IsRunning s → g.keeps_model old.core.store.disk
+      → LeavesNow g old.core.store.disk (StandsFor (g.sector_count old.core.store.disk) s.files s.durable)
+  durable_now old s shows run keeps c may =
+      let p = shows.stands keeps c may in
+      let e : p.0 ≡ s.durable = subst (λ (o : Option (List Pages)). stands_in o s.durable p.0) run p.1 in
+      subst (λ (d : Pages). StandsFor (g.sector_count old.core.store.disk) s.files d c) e p.2
+
+  -- a running machine's processes and files
+  pub shows_core : (old : Machine D E) (s : State) → Shows g h old s → IsRunning s → Syncing.Shows g old.core s
+  shows_core old s shows run = record { pages = shows.pages; stands = λ k. durable_now old s shows run k }
 
   same_stands : (n : ℕ) (s t : State) (c : Image) → Keeps s t s.durable → StandsForSome n s.files (MayStand s) c → StandsForSome n t.files (MayStand t) c
   same_stands n s t c kept p = (
@@ -57,38 +66,103 @@ module _ {D E : Type 0} (g : Ghosts D) (h : Ghosts E) where
       started g d (StandsForSome n s.files (HoldsIn s command reply)) (λ c left. only_now d c keeps left)
       (λ c may. let p = stands c may in (p.0, inl p.1, p.2))
 
-  -- a call that answers as the flat model does, over the same store
-  same_store : (only_now : OnlyNow) (old : Machine D E) (swap : E) (memory : Memory) (s : State) (command : Command) (reply : Reply)
-      → Shows g h old s → old.halted ≡ false → takes s (ruling s command) s.durable ≡ s.durable → Does memory s command reply
-      → (t : State) × Meets g h old (with_memory old.core.store swap memory) s t command reply
-  same_store only_now old swap memory s command reply shows run d does =
-      let t = (outcome s command).state in
-      let all = outcome_keeps s command in
-      let kept : Keeps s t s.durable = record { files = all.files; ends = all.ends; durable_is = all.durable_is ∙ d } in
-      let running = is_running old s shows run in
-      let n = g.sector_count old.core.store.disk in
-      let goes_on : is_some t.ends ≡ false = rw kept.ends (rw running refl) in
-      let meets : Meets g h old (with_memory old.core.store swap memory) s t command reply = record {
-        step = Answers running does.answer refl;
-        shows = record {
-          pages = does.shows;
-          running = goes_on;
-          stands = λ k c may. same_stands n s t c kept (shows.stands k c may);
-        };
-        size = refl;
-        kept = λ k. k;
-        moments = λ k. no_time only_now old.core.store.disk n s command reply k (shows.stands k);
-      } in
-      (t, meets)
+  -- nothing was written: what stands while the command runs is what stood before it
+  only_read : (only_now : OnlyNow) (old new : D) (n : ℕ) (s : State) (command : Command) (reply : Reply) → g.keeps_model old
+      → LeavesNow g old (StandsForSome n s.files (MayStand s)) → Touches g Nothing old new
+      → LeavesOnly g old new (StandsForSome n s.files (HoldsIn s command reply))
+  only_read only_now old new n s command reply keeps stands run =
+      goes_on g Nothing old old new (StandsForSome n s.files (HoldsIn s command reply)) (no_time only_now old n s command reply keeps stands) run
+      (λ c may. let p = stands c (record { kept = λ k. ⊎_elim (⊎_elim inl (λ none. absurd none)) inr (may.kept k) }) in (p.0, inl p.1, p.2))
 
-  pub flat : (only_now : OnlyNow) (old : Machine D E) (core : Core D E) (halted : Bool) (s : State) (command : Command) (reply : Reply)
+  -- a stall of a call is one of the machine
+  stall_of : (old new : Machine D E) (s : State) (command : Command) (stall : Stall)
+      → MayStall (Calls.causes g old.core new.core) s command stall → MayStall (causes g h old new) s command stall
+  stall_of old new s command NoFrames may = record { otherwise = may.otherwise; open_to = may.open_to; cause = may.cause }
+  stall_of old new s command NoSwap may = record { otherwise = may.otherwise; open_to = may.open_to; cause = may.cause }
+  stall_of old new s command SwapDevice may = absurd may.cause
+  stall_of old new s command StoreDevice may = record { otherwise = may.otherwise; open_to = may.open_to; cause = may.cause }
+
+  -- the state after it, where the store was only read
+  module _ (only_now : OnlyNow) (old : Machine D E) (core : Core D E) (s : State) (command : Command) (reply : Reply)
+      (shows : Shows g h old s) (run : old.halted ≡ false) (reads : ReadsStore g old.core.store core.store) where
+    abbrev new : Machine D E
+    new = record { core = core; halted = false }
+
+    abbrev n : ℕ
+    n = g.sector_count old.core.store.disk
+
+    moved : (t : State) → Keeps s t s.durable → g.keeps_model core.store.disk
+        → LeavesNow g core.store.disk (StandsForSome (g.sector_count core.store.disk) t.files (MayStand t))
+    moved t kept k = λ c may.
+        same_stands (g.sector_count core.store.disk) s t c kept
+        (subst (λ (sectors : ℕ). StandsForSome sectors s.files (MayStand s) c) (sym reads.size)
+        (still_leaves g old.core.store.disk core.store.disk (StandsForSome n s.files (MayStand s)) (reads.touches k) (shows.stands (reads.kept k)) c may))
+
+    goes : (t : State) → Keeps s t s.durable → is_some t.ends ≡ false
+    goes t kept = rw kept.ends (rw (is_running old s shows run) refl)
+
+    during : g.keeps_model core.store.disk → LeavesOnly g old.core.store.disk core.store.disk (StandsForSome n s.files (HoldsIn s command reply))
+    during k = only_read only_now old.core.store.disk core.store.disk n s command reply (reads.kept k) (shows.stands (reads.kept k)) (reads.touches k)
+
+    did : takes s (ruling s command) s.durable ≡ s.durable → reply ≡ (outcome s command).reply → ShowsPages (picture_of core) (outcome s command).state
+        → (t : State) × Meets g h old new s t command reply
+    did none answer pages =
+        let t = (outcome s command).state in
+        let all = outcome_keeps s command in
+        let kept : Keeps s t s.durable = record { files = all.files; ends = all.ends; durable_is = all.durable_is ∙ none } in
+        let meets : Meets g h old new s t command reply = record {
+          step = Answers (is_running old s shows run) answer refl;
+          shows = record { pages = pages; running = goes t kept; stands = moved t kept };
+          size = reads.size;
+          kept = reads.kept;
+          moments = during;
+        } in
+        (t, meets)
+
+    stalled : (stall : Stall) → MayStall (Calls.causes g old.core core) s command stall → reply ≡ Reply.Stalled stall → ShowsPages (picture_of core) s
+        → (t : State) × Meets g h old new s t command reply
+    stalled stall may answer pages =
+        let kept : Keeps s s s.durable = record { files = refl; ends = refl; durable_is = refl } in
+        let meets : Meets g h old new s s command reply = record {
+          step = Stalls stall (is_running old s shows run) (stall_of old new s command stall may) answer refl;
+          shows = record { pages = pages; running = goes s kept; stands = moved s kept };
+          size = reads.size;
+          kept = reads.kept;
+          moments = during;
+        } in
+        (s, meets)
+
+    pub read_meets : takes s (ruling s command) s.durable ≡ s.durable → Calls.Comes g old.core core s command reply
+        → (t : State) × Meets g h old new s t command reply
+    read_meets none (Calls.Does answer pages) = did none answer pages
+    read_meets none (Calls.Stalls stall may answer pages) = stalled stall may answer pages
+
+  -- a call that leaves the devices alone reads the store, too
+  pub unread : (old core : Core D E) → KeepsDevices old core → ReadsStore g old.store core.store
+  unread old core keeps = record {
+    size = ap (λ (store : FileStore D). g.sector_count store.disk) keeps.store;
+    kept = λ k. subst (λ (store : FileStore D). g.keeps_model store.disk) keeps.store k;
+    failures = rw keeps.store (omega arith);
+    touches = λ k. subst (λ (store : FileStore D). Touches g Nothing old.store.disk store.disk) (sym keeps.store) (stays g Nothing old.store.disk);
+    directory = ap (λ (store : FileStore D). store.directory) keeps.store;
+  }
+
+  pub answered : (only_now : OnlyNow) (old : Machine D E) (core : Core D E) (halted : Bool) (s : State) (command : Command) (reply : Reply)
       → Shows g h old s → old.halted ≡ false → halted ≡ false → takes s (ruling s command) s.durable ≡ s.durable
-      → KeepsDevices old.core core → Does core.memory s command reply
+      → ReadsStore g old.core.store core.store → Calls.Comes g old.core core s command reply
       → (t : State) × Meets g h old (record { core = core; halted = halted }) s t command reply
-  flat only_now old core halted s command reply shows run goes_on d keeps does =
+  answered only_now old core halted s command reply shows run goes_on none reads comes =
       subst (λ (b : Bool). (t : State) × Meets g h old (record { core = core; halted = b }) s t command reply) (sym goes_on)
-      (subst (λ (store : FileStore D). (t : State) × Meets g h old (with_memory store core.swap core.memory) s t command reply) (sym keeps.store)
-      (same_store only_now old core.swap core.memory s command reply shows run d does))
+      (read_meets only_now old core s command reply shows run reads none comes)
+
+  -- what a call of spaces says of a machine that runs
+  pub carried : (only_now : OnlyNow) (old : Machine D E) (core : Core D E) (halted : Bool) (s : State) (command : Command) (reply : Reply)
+      → Shows g h old s → old.halted ≡ false → halted ≡ false → takes s (ruling s command) s.durable ≡ s.durable
+      → ReadsStore g old.core.store core.store → Calls.Carries g old.core core command reply → (reads_files command ≡ true → g.keeps_model core.store.disk)
+      → (t : State) × Meets g h old (record { core = core; halted = halted }) s t command reply
+  carried only_now old core halted s command reply shows run goes_on none reads carries readable =
+      answered only_now old core halted s command reply shows run goes_on none reads
+      (carries s (shows_core old s shows (is_running old s shows run)) readable)
 
   pub stays_halted : (only_now : OnlyNow) (old : Machine D E) (s : State) (command : Command) → Shows g h old s → old.halted ≡ true
       → (t : State) × Meets g h old old s t command Halted
@@ -103,10 +177,3 @@ module _ {D E : Type 0} (g : Ghosts D) (h : Ghosts E) where
         moments = λ k. no_time only_now old.core.store.disk n s command Halted k (shows.stands k);
       } in
       (s, meets)
-
-  -- a call over the same store leaves it ready
-  pub still_sound : (old core : Core D E) → Spaces.IsSound g h old → KeepsDevices old core → core.memory.info ≡ old.memory.info → Spaces.IsSound g h core
-  still_sound old core sound keeps info = record {
-    ready = subst (λ (store : FileStore D). IsReady g store) (sym keeps.store) sound.ready;
-    file = subst (λ (store : FileStore D). Stores.files_of store 0 ≡ Some core.memory.info) (sym keeps.store) (sound.file ∙ ap Some (sym info));
-  }

@@ -2,7 +2,7 @@
 use Rattle.std.proofs.Common.{ℕ, zero, suc, ◌+◌, ◌≡◌, ◌≤◌, ◌/◌, ◌==◌, ◌⊎◌, inl, inr, Bool, true, false, if◌then◌else◌, List, [], ◌∷◌, Option, Some, None, refl, sym, ap, ◌∙◌, arith, add-one, add-zero}
 use Rattle.vm_types.specs.declared.access.StoredValue.{StoredValue}
 use Rattle.vm_types.specs.declared.command.Command.{Command}
-use Rattle.vm_types.specs.declared.command.Command.TheVariants.{Spawn, Mmap, Munmap, Mprotect, Msync, Load, Store}
+use Rattle.vm_types.specs.declared.command.Command.TheVariants.{Spawn, Fork, Exit, Mmap, Munmap, Mprotect, Msync, Load, Store, Fetch}
 use Rattle.vm_types.specs.declared.command.MapSource.{MapSource}
 use Rattle.vm_types.specs.declared.permission.Prot.{Prot}
 use Rattle.vm_types.specs.declared.refusal.Errno.{Errno}
@@ -18,7 +18,7 @@ use Rattle.vm_types.specs.Prefix.{Event, is_msync, is_done, may_have_taken, afte
 use Rattle.vm_types.specs.Run.{Step, Answers, Fails, Stalls, Stays}
 use Rattle.vm_types.specs.Stalls.{Causes}
 use Rattle.vm_types.specs.State.{State, IsRunning}
-use Rattle.vm_types.specs.Step.{Outcome, outcome, answers, refused_or, spawn_outcome, mmap_outcome, munmap_outcome, protect_outcome, mprotect_outcome, msync_outcome, load_outcome, store_outcome, ruling, takes, commit_of, commits}
+use Rattle.vm_types.specs.Step.{Outcome, outcome, answers, refused_or, spawn_outcome, fork_outcome, exit_outcome, fetch_outcome, mmap_outcome, munmap_outcome, protect_outcome, mprotect_outcome, msync_outcome, load_outcome, store_outcome, ruling, takes, commit_of, commits}
 use Rattle.vm_types.specs.Checks.{first_of, pages_from}
 use Rattle.vm_types.specs.Permission.{kept}
 use Rattle.vm_types.specs.Processes.{least_free_pid}
@@ -40,6 +40,13 @@ same s = record { files = refl; ends = refl; durable_is = refl }
 keeps_spawn : (s : State) (pid : Option ℕ) → Keeps s (spawn_outcome s pid).state s.durable
 keeps_spawn s None = same s
 keeps_spawn s (Some pid) = record { files = refl; ends = refl; durable_is = refl }
+
+keeps_fork : (s : State) (parent : ℕ) (pid : Option ℕ) → Keeps s (fork_outcome s parent pid).state s.durable
+keeps_fork s parent None = same s
+keeps_fork s parent (Some pid) = record { files = refl; ends = refl; durable_is = refl }
+
+keeps_exit : (s : State) (pid : ℕ) → Keeps s (exit_outcome s pid).state s.durable
+keeps_exit s pid = record { files = refl; ends = refl; durable_is = refl }
 
 keeps_mmap : (s : State) (pid len : ℕ) (prot : Prot) (source : MapSource) (errno : Option Errno) (place : Option ℕ) → Keeps s (mmap_outcome s pid len prot source errno place).state s.durable
 keeps_mmap s pid len prot source (Some errno) place = same s
@@ -69,6 +76,10 @@ keeps_load : (s : State) (addr : ℕ) (width : Width) (v : Verdict) → Keeps s 
 keeps_load s addr width (Faults code) = same s
 keeps_load s addr width (Fine view) = same s
 
+keeps_fetch : (s : State) (addr : ℕ) (v : Verdict) → Keeps s (fetch_outcome s addr v).state s.durable
+keeps_fetch s addr (Faults code) = same s
+keeps_fetch s addr (Fine view) = same s
+
 keeps_bytes : (s : State) (pid page : ℕ) (view : View) (backing : Backing) (bytes : List ℕ) → Keeps s (with_bytes s pid page view backing bytes) s.durable
 keeps_bytes s pid page view Anon bytes = record { files = refl; ends = refl; durable_is = refl }
 keeps_bytes s pid page view (Private p) bytes = record { files = refl; ends = refl; durable_is = refl }
@@ -90,12 +101,15 @@ keeps_mprotect s pid addr len prot =
 
 pub outcome_keeps : (s : State) (command : Command) → Keeps s (outcome s command).state (takes s (ruling s command) s.durable)
 outcome_keeps s Spawn = keeps_spawn s (least_free_pid s.live)
+outcome_keeps s (Fork pid) = keeps_either s (s.live pid) _ _ s.durable (keeps_fork s pid (least_free_pid s.live)) (same s)
+outcome_keeps s (Exit pid) = keeps_either s (s.live pid) _ _ s.durable (keeps_exit s pid) (same s)
 outcome_keeps s (Mmap pid addr len prot source placing) =
     keeps_mmap s pid len prot source (mmap_errno s pid addr len prot source placing) (mmap_place s pid addr len placing)
 outcome_keeps s (Munmap pid addr len) = keeps_munmap s pid addr len
 outcome_keeps s (Mprotect pid addr len prot) = keeps_mprotect s pid addr len prot
 outcome_keeps s (Msync pid addr len mode) = keeps_msync s (msync_ruling s pid addr len mode)
 outcome_keeps s (Load pid addr width) = keeps_either s (s.live pid) _ _ s.durable (keeps_load s addr width _) (same s)
+outcome_keeps s (Fetch pid addr) = keeps_either s (s.live pid) _ _ s.durable (keeps_fetch s addr _) (same s)
 outcome_keeps s (Store pid addr value) = keeps_either s (s.live pid) _ _ s.durable (keeps_store s pid addr value _) (same s)
 
 pub step_files : (causes : Causes) (s : State) (command : Command) (reply : Reply) (t : State) → Step causes s command reply t → t.files ≡ s.files
@@ -116,6 +130,9 @@ msync_event s (Takes pid first count) reply d e = rw e refl
 
 answered_event : (s : State) (command : Command) (reply : Reply) (d : Pages) → reply ≡ (outcome s command).reply
     → after_event (event s command reply) d ≡ takes s (ruling s command) d
+answered_event s (Fork pid) reply d e = either_way (may_have_taken reply) d
+answered_event s (Exit pid) reply d e = either_way (may_have_taken reply) d
+answered_event s (Fetch pid addr) reply d e = either_way (may_have_taken reply) d
 answered_event s Spawn reply d e = either_way (may_have_taken reply) d
 answered_event s (Mmap pid addr len prot source placing) reply d e = either_way (may_have_taken reply) d
 answered_event s (Munmap pid addr len) reply d e = either_way (may_have_taken reply) d
@@ -177,6 +194,9 @@ after_zero d [] = refl
 after_zero d (e ∷ es) = refl
 
 not_msync : (s : State) (command : Command) (reply : Reply) (d : Pages) → is_msync command ≡ false → after_event (event s command reply) d ≡ d
+not_msync s (Fork pid) reply d e = either_way (may_have_taken reply) d
+not_msync s (Exit pid) reply d e = either_way (may_have_taken reply) d
+not_msync s (Fetch pid addr) reply d e = either_way (may_have_taken reply) d
 not_msync s Spawn reply d e = either_way (may_have_taken reply) d
 not_msync s (Mmap pid addr len prot source placing) reply d e = either_way (may_have_taken reply) d
 not_msync s (Munmap pid addr len) reply d e = either_way (may_have_taken reply) d

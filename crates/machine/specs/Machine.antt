@@ -1,17 +1,18 @@
 -- How a machine is a state of the flat model, stops included.
-use Rattle.std.specs.Prelude.{ℕ, ◌≡◌, ◌<◌, ◌⊎◌, true, false, List, [], ◌∷◌, Option, Some, None, is_some}
+use Rattle.std.specs.Prelude.{ℕ, ◌≡◌, ◌+◌, ◌<◌, ◌⊎◌, true, false, List, [], ◌∷◌, Option, Some, None, is_some}
 use Rattle.disk_model.specs.Moments.{LeavesNow, LeavesOnly}
 use Rattle.disk_model.specs.Stop.{Image}
 use Rattle.disk_model.specs.declared.sector_disk.SectorDisk.{Ghosts}
 use Rattle.file_store.specs.Standing.{StandsFor}
-use Rattle.spaces.specs.Core as Spaces
-use Rattle.spaces.specs.Shows.{ShowsPages}
+use Rattle.residency.specs.Picture.{picture_of}
+use Rattle.residency.specs.Shows.{ShowsPages}
+use Rattle.syncing.specs.Shows as Calls
 use Rattle.vm_types.specs.declared.command.Command.{Command}
 use Rattle.vm_types.specs.declared.reply.Reply.{Reply}
 use Rattle.vm_types.specs.Files.{Files}
 use Rattle.vm_types.specs.Prefix.{may_have_taken}
 use Rattle.vm_types.specs.Run.{Step}
-use Rattle.vm_types.specs.Stalls.{Causes}
+use Rattle.vm_types.specs.Stalls.{Causes, reads_files}
 use Rattle.vm_types.specs.State.{State, IsRunning}
 use Rattle.vm_types.specs.Step.{ruling, takes}
 use Rattle.vm_types.specs.View.{Pages}
@@ -40,23 +41,23 @@ abbrev pub StandsForSome : ℕ → Files → (Pages → Type 0) → Image → Ty
 StandsForSome sectors files P image = (pages : Pages) × P pages × StandsFor sectors files pages image
 
 module _ {D E : Type 0} (g : Ghosts D) (h : Ghosts E) where
-  -- The machine may go on: unless it has halted, its store may be committed to, and its file is the one that the memory knows.
+  -- The machine may go on: unless it has halted, its store may be read and committed to, and its memory is fit.
   pub record IsSound (m : Machine D E) : Type 0 where
-    pub going : m.halted ≡ false → Spaces.IsSound g h m.core
+    pub going : m.halted ≡ false → Calls.IsSound g m.core
 
   -- The machine is in that state: its memory shows it, and so does every image that a stop may leave now.
   pub record Shows (m : Machine D E) (s : State) : Type 0 where
-    pub pages : ShowsPages m.core.memory s
+    pub pages : ShowsPages (picture_of m.core) s
     pub running : is_some s.ends ≡ m.halted
     pub stands : g.keeps_model m.core.store.disk
         → LeavesNow g m.core.store.disk (StandsForSome (g.sector_count m.core.store.disk) s.files (MayStand s))
 
-  -- what came to pass between two states of the machine; nothing asks for frames yet
+  -- what came to pass between two states of the machine
   abbrev pub causes : Machine D E → Machine D E → Causes
   causes old new = record {
     store = g.failures old.core.store.disk < g.failures new.core.store.disk;
     swap = h.failures old.core.swap < h.failures new.core.swap;
-    refused = ⊥;
+    refused = new.core.refused.number ≡ old.core.refused.number + 1;
   }
 
   -- A command was carried out: as the flat model does, and with nothing else durable at any moment.
@@ -67,3 +68,7 @@ module _ {D E : Type 0} (g : Ghosts D) (h : Ghosts E) where
     pub kept : g.keeps_model new.core.store.disk → g.keeps_model old.core.store.disk
     pub moments : g.keeps_model new.core.store.disk
         → LeavesOnly g old.core.store.disk new.core.store.disk (StandsForSome (g.sector_count old.core.store.disk) s.files (HoldsIn s command reply))
+
+  -- The premise of a command's contract: a store that it reads keeps its model.
+  abbrev pub IsReadable : Machine D E → Command → Type 0
+  IsReadable m command = reads_files command ≡ true → g.keeps_model m.core.store.disk

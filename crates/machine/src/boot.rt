@@ -1,21 +1,17 @@
 //! Starting a machine.
-ghost use Rattle.std.specs.Prelude.{◌≡◌, ◌≤◌, ◌<◌, ◌%◌, ◌⊎◌, ℕ, Some, [], IfOk, IfErr, OnOk, OnErr, IsErrOf, IfSome, IfNone};
+ghost use Rattle.std.specs.Prelude.{◌≡◌, ◌<◌, ℕ, IfOk, IfErr, OnOk};
 ghost use Rattle.disk_model.specs.Moments.{LeavesOnly};
 ghost use Rattle.file_store.specs.Standing.{StandsAs, IsBadLayout};
 ghost use Rattle.sync_journal.specs.Standing.{IsBadJournal};
 ghost use Rattle.machine.specs.Machine.{IsSound};
-ghost use Rattle.machine.specs.Boot.{HasBadFrames, HasBadSlots, IsUnfit, Boots, IsOnly, IsFresh, AreRead};
+ghost use Rattle.machine.specs.Boot.{HasBadFrames, HasBadSlots, Boots};
 ghost use Rattle.machine.specs.Fault.{fault_number, boot_fault};
-ghost use Rattle.machine.specs.declared.boot.BootFault.TheVariants.{OutOfMemory, Device};
-ghost use Rattle.file_store.specs.Store.{IsReady, files_of};
-ghost use Rattle.vm_types.specs.StageLimits.{IsOneFile};
 
 use crate::machine::Machine;
-use disk_model::{DiskFault, SectorDisk};
+use disk_model::SectorDisk;
 use file_store::{FileStore, OpenFault};
-use spaces::{Core, Memory};
-use std::alloc::{AllocError, Global};
-use vm_types::{FileInfo, FilePage};
+use residency::Core;
+use std::alloc::Global;
 
 /// The fewest and the most frames.
 const MIN_FRAMES: u32 = 8;
@@ -26,9 +22,6 @@ const MAX_FRAMES: u32 = 1 << 16;
 const MAX_SLOTS: u32 = 1 << 16;
 
 const SLOT_SECTORS: u64 = 8;
-
-/// Bytes of a page.
-const PAGE: u32 = 4096;
 
 /// The sizes of a machine.
 #[derive(Clone, Copy, Debug, PartialEq, Eq)]
@@ -50,7 +43,7 @@ pub enum BootFault {
     OutOfMemory = 3,
     /// The store device failed.
     Device = 4,
-    /// The store isn't laid out as one. For now also: it hasn't one file of whole pages, number 0.
+    /// The store isn't laid out as one.
     BadLayout = 5,
     /// The journal is open with a map that no commit writes.
     BadJournal = 6,
@@ -62,22 +55,6 @@ impl BootFault {
         ensures { result ≡ fault_number self }
     {
         self as u8
-    }
-}
-
-impl From<AllocError> for BootFault {
-    ghost from_gives = { λ _ fault. fault ≡ OutOfMemory };
-
-    fn from(_: AllocError) -> Self {
-        BootFault::OutOfMemory
-    }
-}
-
-impl From<DiskFault> for BootFault {
-    ghost from_gives = { λ _ fault. fault ≡ Device };
-
-    fn from(_: DiskFault) -> Self {
-        BootFault::Device
     }
 }
 
@@ -113,7 +90,7 @@ impl<D: SectorDisk, E: SectorDisk + Drop> Machine<D, E> {
         ensures kept { IfOk result (λ m. D.keeps_model m.core.store.disk → D.keeps_model store) }
         ensures frames { OnOk result (HasBadFrames config → ⊥) }
         ensures slots { OnOk result (HasBadSlots config (E.sector_count swap) → ⊥) }
-        ensures layout { IfOk result (λ m. D.keeps_model m.core.store.disk → IsUnfit (D.sector_count store) (D.content store) → ⊥) }
+        ensures layout { IfOk result (λ m. D.keeps_model m.core.store.disk → IsBadLayout (D.sector_count store) (D.content store) → ⊥) }
         ensures journal { IfOk result (λ m. D.keeps_model m.core.store.disk → IsBadJournal (D.sector_count store) (D.content store) → ⊥) }
 
         // At every moment of the call a stop leaves what stood before it.
@@ -126,7 +103,7 @@ impl<D: SectorDisk, E: SectorDisk + Drop> Machine<D, E> {
         ensures bad_slots { IfErr result (λ e. e.0 ≡ BootFault.Slots → HasBadSlots config (E.sector_count swap)) }
         ensures only_slots { IfErr result (λ e. (HasBadFrames config → ⊥) → HasBadSlots config (E.sector_count swap) → e.0 ≡ BootFault.Slots) }
         ensures device { IfErr result (λ e. e.0 ≡ BootFault.Device → D.failures store < D.failures e.1) }
-        ensures bad_layout { IfErr result (λ e. D.keeps_model e.1 → e.0 ≡ BootFault.BadLayout → IsUnfit (D.sector_count store) (D.content store)) }
+        ensures bad_layout { IfErr result (λ e. D.keeps_model e.1 → e.0 ≡ BootFault.BadLayout → IsBadLayout (D.sector_count store) (D.content store)) }
         ensures bad_journal { IfErr result (λ e. D.keeps_model e.1 → e.0 ≡ BootFault.BadJournal → IsBadJournal (D.sector_count store) (D.content store)) }
     {
         if config.frames < MIN_FRAMES || config.frames > MAX_FRAMES {
@@ -135,73 +112,16 @@ impl<D: SectorDisk, E: SectorDisk + Drop> Machine<D, E> {
         if config.slots > MAX_SLOTS || SLOT_SECTORS * u64::from(config.slots) > swap.sectors() {
             return Err((BootFault::Slots, store));
         }
-        let mut store = match FileStore::open(store) {
+        let store = match FileStore::open(store) {
             Ok(store) => store,
             Err((fault, disk)) => return Err((BootFault::from(fault), disk)),
         };
-        let Some(info) = only_file(&store) else {
-            return Err((BootFault::BadLayout, store.into_disk()));
-        };
-        match read_memory(alloc, &mut store, info) {
-            Ok(memory) => Ok(Machine {
-                core: Core {
-                    store,
-                    swap,
-                    memory,
-                },
+        match Core::new(alloc, store, swap, config.frames, config.slots) {
+            Ok(core) => Ok(Machine {
+                core,
                 halted: false,
             }),
-            Err(fault) => Err((fault, store.into_disk())),
+            Err((_, store)) => Err((BootFault::OutOfMemory, store.into_disk())),
         }
     }
-}
-
-/// The facts of the one file of whole pages; none where the store has others or none.
-fn only_file<D: SectorDisk>(store: &FileStore<D>) -> Option<FileInfo>
-    ensures found { IfSome result (IsOnly (files_of store.now)) }
-    ensures none { IfNone result (IsOneFile (files_of store.now) → ⊥) }
-{
-    let info = store.file(0)?;
-    if info.length % PAGE != 0 {
-        return None;
-    }
-    for file in 1..64 {
-        if store.file(file).is_some() {
-            return None;
-        }
-    }
-    Some(info)
-}
-
-/// Reads all pages of the file into memory.
-fn read_memory<D: SectorDisk>(
-    alloc: Global,
-    store: &mut FileStore<D>,
-    info: FileInfo,
-) -> Result<Memory, BootFault>
-    requires ready { IsReady D.SectorDisk store.old }
-    requires file { files_of store.old 0 ≡ Some info }
-    requires whole { info.length % 4096 ≡ 0 }
-    ensures fresh { IfOk result (λ m. IsFresh m info) }
-    ensures read { IfOk result (λ m. AreRead D.SectorDisk store.old store.new m.pages.items) }
-    ensures err { OnErr result (AreRead D.SectorDisk store.old store.new []) }
-    ensures device { IsErrOf result BootFault.Device → D.failures store.old.disk < D.failures store.new.disk }
-    ensures faults { IfErr result (λ e. (e ≡ BootFault.Device) ⊎ (e ≡ BootFault.OutOfMemory)) }
-{
-    let count = info.length / PAGE;
-    let mut pages = Vec::with_capacity(alloc, count as usize)?;
-    let mut touched = Vec::with_capacity(alloc, count as usize)?;
-    for page in 0..count {
-        let mut bytes = [0; 4096];
-        store.read_page(FilePage { file: 0, page }, &mut bytes)?;
-        match pages.push(bytes) {
-            Ok(()) => {}
-            Err(refused) => return Err(AllocError::from(refused).into()),
-        }
-        match touched.push(false) {
-            Ok(()) => {}
-            Err(refused) => return Err(AllocError::from(refused).into()),
-        }
-    }
-    Ok(Memory::new(info, pages, touched))
 }

@@ -1,11 +1,12 @@
 //! The machine: commands in, replies out, over a store that survives stops.
 ghost use Rattle.std.specs.Prelude.{◌≡◌, ◌≤◌, ◌<◌, length, is_some};
 ghost use Rattle.vm_types.specs.State.{State};
-ghost use Rattle.machine.specs.Machine.{IsSound, Shows, Meets};
+ghost use Rattle.machine.specs.Machine.{IsSound, IsReadable, Shows, Meets};
+ghost use Rattle.spaces.specs.Calls.{IsCaused};
 ghost use Rattle.machine.specs.Chain.{Runs};
 
 use disk_model::SectorDisk;
-use spaces::Core;
+use residency::Core;
 use vm_types::{Command, Reply};
 
 /// A machine over a store device `D` and a swap device `E`, made by `boot`.
@@ -35,12 +36,16 @@ impl<D: SectorDisk, E: SectorDisk> Machine<D, E> {
         self.halted
     }
 
-    /// Carries out one command. It takes no memory. A failure of the store in an msync is answered by `EIO`, only
+    /// Carries out one command. It takes no memory of the host. A command that would succeed stalls where a frame or a
+    /// device is wanting, and then has changed nothing. A failure of the store in an msync is answered by `EIO`, only
     /// where the device failed in this call, and halts the machine: from then on every command answers `Halted`.
     pub fn step(&mut self, command: Command) -> Reply
         requires sound { IsSound D.SectorDisk E.SectorDisk self.old }
         ensures sound { IsSound D.SectorDisk E.SectorDisk self.new }
-        ensures meets { (s : State) → Shows D.SectorDisk E.SectorDisk self.old s → (t : State) × Meets D.SectorDisk E.SectorDisk self.old self.new s t command result }
+        ensures kept { D.keeps_model self.new.core.store.disk → D.keeps_model self.old.core.store.disk }
+        ensures caused { IsCaused D.SectorDisk self.old.core self.new.core result }
+        ensures meets { (s : State) → Shows D.SectorDisk E.SectorDisk self.old s → IsReadable D.SectorDisk E.SectorDisk self.new command
+            → (t : State) × Meets D.SectorDisk E.SectorDisk self.old self.new s t command result }
     {
         if self.halted {
             return Reply::Halted;
@@ -48,6 +53,8 @@ impl<D: SectorDisk, E: SectorDisk> Machine<D, E> {
         let core = &mut self.core;
         match command {
             Command::Spawn => spaces::spawn(core),
+            Command::Fork { pid } => spaces::fork(core, pid),
+            Command::Exit { pid } => spaces::exit(core, pid),
             Command::Mmap {
                 pid,
                 addr,
@@ -71,6 +78,7 @@ impl<D: SectorDisk, E: SectorDisk> Machine<D, E> {
             } => self.msync(pid, addr, len, mode),
             Command::Load { pid, addr, width } => spaces::load(core, pid, addr, width),
             Command::Store { pid, addr, stored } => spaces::store(core, pid, addr, stored),
+            Command::Fetch { pid, addr } => spaces::fetch(core, pid, addr),
         }
     }
 
@@ -79,7 +87,9 @@ impl<D: SectorDisk, E: SectorDisk> Machine<D, E> {
         requires sound { IsSound D.SectorDisk E.SectorDisk self.old }
         requires lengths { length replies.old ≡ length commands.now }
         ensures sound { IsSound D.SectorDisk E.SectorDisk self.new }
-        ensures run { (s : State) → Shows D.SectorDisk E.SectorDisk self.old s → Runs D.SectorDisk E.SectorDisk self.old self.new commands.now replies.new s }
+        ensures kept { D.keeps_model self.new.core.store.disk → D.keeps_model self.old.core.store.disk }
+        ensures run { (s : State) → Shows D.SectorDisk E.SectorDisk self.old s → D.keeps_model self.new.core.store.disk
+            → Runs D.SectorDisk E.SectorDisk self.old self.new commands.now replies.new s }
     {
         for (i, command) in commands.iter().enumerate() {
             replies[i] = self.step(*command);

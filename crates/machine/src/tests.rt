@@ -144,10 +144,13 @@ fn commands_are_carried_out(rt: HostRuntime) -> Result<(), Fail> {
 
 #[test]
 fn a_failed_msync_halts(rt: HostRuntime) -> Result<(), Fail> {
-    let at_boot = booted(rt.alloc(), None)?.store().calls();
-    let mut machine = booted(rt.alloc(), Some(at_boot.saturating_add(1)))?;
+    let stored = [Command::Spawn, MAP, PROTECT, storing()?];
     let mut replies = [Reply::Halted; 4];
-    machine.run(&[Command::Spawn, MAP, PROTECT, storing()?], &mut replies);
+    let mut healthy = booted(rt.alloc(), None)?;
+    healthy.run(&stored, &mut replies);
+    let first_of_msync = healthy.store().calls().saturating_add(1);
+    let mut machine = booted(rt.alloc(), Some(first_of_msync))?;
+    machine.run(&stored, &mut replies);
     assert_eq!(rt; replies[3], Reply::Done);
     assert!(rt; !machine.is_halted());
     assert_eq!(rt; machine.step(SYNC), Reply::Refused(Errno::EIO));

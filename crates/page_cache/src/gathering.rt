@@ -7,7 +7,7 @@ use crate::place::TooMany;
 use vm_types::{FilePage, MSYNC_PAGES};
 
 /// Whether the page is one of `count` pages of the file from page `first` on.
-pub fn is_in_row(page: FilePage, file: u8, first: u32, count: u32) -> bool
+pub(crate) fn is_in_row(page: FilePage, file: u8, first: u32, count: u32) -> bool
     ensures { IsTrue result ↔ IsInRow file first count page }
 {
     page.file == file && page.page >= first && page.page - first < count
@@ -30,7 +30,7 @@ fn is_listed(list: &[FilePage; MSYNC_PAGES], used: usize, page: FilePage) -> boo
 ///
 /// # Errors
 /// `TooMany` exactly where it would be entry 128; then nothing changes.
-pub fn push_fresh(
+pub(crate) fn push_fresh(
     list: &mut [FilePage; MSYNC_PAGES],
     used: usize,
     n: usize,

@@ -21,7 +21,7 @@ fn bucket_of(mask: u32, page: FilePage) -> usize
 }
 
 /// Whether these are one file page.
-pub fn is_same(a: FilePage, b: FilePage) -> bool
+pub(crate) fn is_same(a: FilePage, b: FilePage) -> bool
     ensures { result ≡ file_page_eq a b }
 {
     a.file == b.file && a.page == b.page
@@ -39,7 +39,7 @@ fn holds(page: FilePage, held: Option<FilePage>) -> bool
 
 /// The pages that nodes hold. The nodes of a bucket are chained by rising number, so no chain holds a node twice.
 #[derive(Drop)]
-pub struct Index {
+pub(crate) struct Index {
     /// The page of each node.
     pages: Vec<Option<FilePage>>,
     /// The first node of each bucket, and then for each node the next one of its bucket; the number of nodes at the end.
@@ -52,7 +52,7 @@ impl Index {
     ghost use Rattle.page_cache.specs.Chains.{IsEmptyIndex};
 
     /// The index of `nodes` nodes that hold nothing.
-    pub fn new(alloc: Global, nodes: u32) -> Result<Index, AllocError>
+    pub(crate) fn new(alloc: Global, nodes: u32) -> Result<Index, AllocError>
         requires some { 0 < nodes }
         requires few { nodes ≤ 131072 }
         ensures { IfOk result (λ index. IsEmptyIndex index.pages.items index.links.items index.mask nodes) }
@@ -67,14 +67,14 @@ impl Index {
     }
 
     /// The number of nodes.
-    pub fn len(&self) -> usize
+    pub(crate) fn len(&self) -> usize
         ensures { result ≡ length self.now.pages.items }
     {
         self.pages.len()
     }
 
     /// What the node holds.
-    pub fn page(&self, node: usize) -> Option<FilePage>
+    pub(crate) fn page(&self, node: usize) -> Option<FilePage>
         requires { node < length self.now.pages.items }
         ensures { result ≡ page_at self.now.pages.items node }
     {
@@ -82,7 +82,7 @@ impl Index {
     }
 
     /// The node that holds the page.
-    pub fn find(&self, page: FilePage) -> Option<usize>
+    pub(crate) fn find(&self, page: FilePage) -> Option<usize>
         requires { IsChained self.now.pages.items self.now.links.items self.now.mask }
         ensures first { result ≡ first_node self.now.pages.items page }
         ensures held { IfSome result (λ node. page_at self.now.pages.items node ≡ Some page) }
@@ -113,7 +113,7 @@ impl Index {
     }
 
     /// Gives the node, which holds nothing, a page.
-    pub fn insert(&mut self, node: usize, page: FilePage)
+    pub(crate) fn insert(&mut self, node: usize, page: FilePage)
         requires chained { IsChained self.old.pages.items self.old.links.items self.old.mask }
         requires inside { node < length self.old.pages.items }
         requires free { page_at self.old.pages.items node ≡ None }
@@ -128,7 +128,7 @@ impl Index {
     }
 
     /// Takes its page from the node.
-    pub fn remove(&mut self, node: usize, page: FilePage)
+    pub(crate) fn remove(&mut self, node: usize, page: FilePage)
         requires chained { IsChained self.old.pages.items self.old.links.items self.old.mask }
         requires held { page_at self.old.pages.items node ≡ Some page }
         ensures pages { self.new.pages.items ≡ slice_set self.old.pages.items node None }

@@ -7,7 +7,7 @@ use std::alloc::{AllocError, Global};
 
 /// A set of nodes. Each call takes constant time.
 #[derive(Drop)]
-pub struct NodeSet {
+pub(crate) struct NodeSet {
     /// All nodes, those of the set first.
     order: Vec<u32>,
     /// Where each node stands in `order`.
@@ -20,7 +20,7 @@ impl NodeSet {
     ghost use Rattle.page_cache.specs.Sets.{IsEmptySet};
 
     /// The empty set of the nodes below `nodes`.
-    pub fn new(alloc: Global, nodes: u32) -> Result<NodeSet, AllocError>
+    pub(crate) fn new(alloc: Global, nodes: u32) -> Result<NodeSet, AllocError>
         requires { nodes ≤ 131072 }
         ensures { IfOk result (λ set. IsEmptySet set.order.items set.ranks.items set.count nodes) }
     {
@@ -38,14 +38,14 @@ impl NodeSet {
     }
 
     /// How many nodes the set has.
-    pub fn len(&self) -> u32
+    pub(crate) fn len(&self) -> u32
         ensures { result ≡ self.now.count }
     {
         self.count
     }
 
     /// The node of the set at that place, counted from 0 in no order that means anything.
-    pub fn node(&self, place: u32) -> usize
+    pub(crate) fn node(&self, place: u32) -> usize
         requires ordered { IsOrdered self.now.order.items self.now.ranks.items self.now.count }
         requires place { place < self.now.count }
         ensures { result ≡ slice_index self.now.order.items place }
@@ -54,7 +54,7 @@ impl NodeSet {
     }
 
     /// Whether the node is in the set.
-    pub fn contains(&self, node: usize) -> bool
+    pub(crate) fn contains(&self, node: usize) -> bool
         requires { node < length self.now.ranks.items }
         ensures { result ≡ is_member self.now.ranks.items self.now.count node }
     {
@@ -62,7 +62,7 @@ impl NodeSet {
     }
 
     /// Puts the node into the set.
-    pub fn insert(&mut self, node: usize)
+    pub(crate) fn insert(&mut self, node: usize)
         requires ordered { IsOrdered self.old.order.items self.old.ranks.items self.old.count }
         requires inside { node < length self.old.ranks.items }
         ensures ordered { IsOrdered self.new.order.items self.new.ranks.items self.new.count }
@@ -77,7 +77,7 @@ impl NodeSet {
     }
 
     /// Takes the node out of the set.
-    pub fn remove(&mut self, node: usize)
+    pub(crate) fn remove(&mut self, node: usize)
         requires ordered { IsOrdered self.old.order.items self.old.ranks.items self.old.count }
         requires inside { node < length self.old.ranks.items }
         ensures ordered { IsOrdered self.new.order.items self.new.ranks.items self.new.count }

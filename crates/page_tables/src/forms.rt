@@ -26,7 +26,7 @@ const PARKED: u64 = 4;
 const PARKED_PRIVATE: u64 = 260;
 
 // The number that stands for an entry.
-pub fn encode(entry: Entry) -> Pte
+pub(crate) fn encode(entry: Entry) -> Pte
     requires { IsEntry entry }
     ensures { result.0 ≡ number_of entry }
 {
@@ -40,7 +40,7 @@ pub fn encode(entry: Entry) -> Pte
 }
 
 // The entry that a number stands for.
-pub fn decode(number: Pte) -> Entry
+pub(crate) fn decode(number: Pte) -> Entry
     requires { IsPageEntry number.0 }
     ensures number { number_of result ≡ number.0 }
     ensures form { IsEntry result }

@@ -4,13 +4,7 @@ ghost use Rattle.std.specs.Prelude.{◌≡◌, ◌+◌, ◌^◌, ◌<◌, ◌≤
 use crate::RUNS;
 use crate::run::Run;
 use std::marker::Model;
-use vm_types::{Attr, Backing, Prot, TooManyRuns, Vpn};
-
-/// The first user page.
-const USER_START: u64 = 16;
-
-/// The first page past the user pages.
-const USER_END: u64 = 1 << 26;
+use vm_types::{Attr, Backing, Prot, TooManyRuns, USER_END, USER_START, Vpn};
 
 /// Bytes of a page.
 const PAGE_BYTES: u64 = vm_types::PAGE_BYTES as u64;
@@ -85,6 +79,16 @@ impl Regions {
         ensures limit { result ≤ 256 }
     {
         self.as_slice().len()
+    }
+
+    /// The same map again. It is 8 KiB long, so it is never copied unasked.
+    pub fn copied(&self) -> Regions
+        ensures { result ≡ self.now }
+    {
+        Regions {
+            runs: self.runs,
+            len: self.len,
+        }
     }
 
     /// What the page is; `None` where it isn't mapped.

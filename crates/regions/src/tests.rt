@@ -90,3 +90,14 @@ fn more_than_256_runs_are_refused(rt: HostRuntime) -> Result<(), Fail> {
     assert_eq!(rt; regions.runs(), 256);
     Ok(())
 }
+
+#[test]
+fn a_copy_is_the_same_map(rt: HostRuntime) -> Result<(), Fail> {
+    let mut regions = Regions::new();
+    regions.replace(0x20, 5, anonymous(Prot::READ))?;
+    let copy = regions.copied();
+    regions.remove(0x20, 5)?;
+    assert_eq!(rt; regions.runs(), 0);
+    assert_eq!(rt; copy.runs(), 1);
+    Ok(())
+}

@@ -1,13 +1,12 @@
 -- What stays where only bytes of free frames change.
-use Rattle.std.proofs.Common.{◌≡◌, ◌≢◌, ℕ, inl, inr, ◌^◌, ◌≤◌, true, Option, Some, None, refl, sym, ap, ◌∙◌, subst, arith}
-use Rattle.std.proofs.lemmas.Bool.{cases_eq, cases_lt, cases_Bool}
+use Rattle.std.proofs.Common.{◌≡◌, ◌≢◌, ℕ, inl, inr, ◌^◌, ◌≤◌, true, Option, Some, None, refl, sym, ap, ◌∙◌, arith}
+use Rattle.std.proofs.lemmas.Bool.{cases_lt, cases_Bool}
 use Rattle.std.specs.Prelude.{IsSome}
 use Rattle.vm_types.specs.declared.file.FilePage.{FilePage}
 use Rattle.vm_types.specs.declared.region.Attr.{Attr}
 use Rattle.disk_model.specs.Stop.{Image}
-use Rattle.frames.specs.declared.role.Role.{Role}
 use Rattle.frames.specs.declared.role.Role.TheVariants.{Free, Cache, Private}
-use Rattle.frames.specs.FrameTable.{FrameTable, role_of, count_of, bytes_of, IsCountFor, IsSound, Takes, Releases}
+use Rattle.frames.specs.FrameTable.{FrameTable, role_of, bytes_of}
 use Rattle.sv39_walk.specs.Entry.{frame_of}
 use Rattle.page_tables.specs.Tree.{IsPage, IsTight}
 use Rattle.page_tables.proofs.Tight.{tight_same}
@@ -15,7 +14,7 @@ use Rattle.page_cache.specs.declared.place.Place.{Place}
 use Rattle.page_cache.specs.declared.place.Place.TheVariants.{Home, Frame, Slot}
 use Rattle.residency.specs.Picture.{Picture, entry, is_private, own_in, view_in, view, bytes_at, volatile}
 use Rattle.residency.specs.Parts.{IsFit, IsSteady, IsGranting}
-use Rattle.residency.specs.Calls.{KeepsInUse, KeepsUsed, KeepsPages}
+use Rattle.residency.specs.Calls.{KeepsUsed, KeepsPages}
 use Rattle.residency.proofs.Entries.{trees_in_use, entries_kept}
 use Rattle.residency.proofs.Counted.{same_owner, counted_same}
 use Rattle.residency.proofs.Rooted.{rooted_same}
@@ -41,28 +40,6 @@ steady_fit c steady tight = record {
   places = steady.places;
   dirty = steady.dirty;
 }
-
--- a frame that was taken and given back
-pub given_back : (old mid new : FrameTable) (n : ℕ) → IsSound old → Takes old mid Cache n → Releases mid new n
-    → (role_of mid n ≢ Private → role_of new n ≡ Free) → KeepsInUse old new
-given_back old mid new n sound takes releases alone =
-    let free : role_of new n ≡ Free = alone (λ p. let bad : Cache ≡ Private = sym takes.kind_set ∙ p in (cc)) in
-    let none : count_of old n ≡ 0 = let P : Role → Type 0 = λ r. IsCountFor r (count_of old n) in subst P takes.was_free (sound.counted n takes.inside) in
-    record {
-      frames = releases.others.frames ∙ takes.others.frames;
-      roles = λ m. elim (cases_eq m n) [
-        | inl e ↦ ap (role_of new) e ∙ free ∙ sym takes.was_free ∙ sym (ap (role_of old) e)
-        | inr ne ↦ releases.others.roles m ne ∙ takes.others.roles m ne
-      ];
-      counts = λ m. elim (cases_eq m n) [
-        | inl e ↦ (let zero_now : count_of new n ≡ 0 = omega (arith, releases.lowered, takes.counted) in
-            ap (count_of new) e ∙ zero_now ∙ sym none ∙ sym (ap (count_of old) e))
-        | inr ne ↦ releases.others.counts m ne ∙ takes.others.counts m ne
-      ];
-      bytes = λ m used. (
-          let ne : m ≢ n = λ e. used (ap (role_of old) e ∙ takes.was_free) in
-          releases.others.bytes m ne ∙ takes.others.bytes m ne);
-    }
 
 own_in-same : (t t' : FrameTable) (e : ℕ) → (is_private e ≡ true → bytes_of t' (frame_of e) ≡ bytes_of t (frame_of e)) → own_in t' e ≡ own_in t e
 own_in-same t t' e same = elim (cases_Bool (is_private e)) [

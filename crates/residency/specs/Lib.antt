@@ -3,3 +3,4 @@ pub mod Parts
 pub mod Calls
 pub mod Room
 pub mod Steps
+pub mod Shows

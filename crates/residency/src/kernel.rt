@@ -31,8 +31,8 @@ pub struct Core<D, E> {
     pub regions: Vec<Regions>,
     /// The page at which its processes have each private frame. What stands for another frame means nothing.
     pub page_of: Vec<u32>,
-    /// How often `obtain` has refused a frame, for contracts alone.
-    pub refused: Count,
+    /// How often `obtain` has refused a frame, for contracts alone. Nobody else can raise it.
+    pub(crate) refused: Count,
 }
 
 impl<D, E> Core<D, E> {

@@ -7,8 +7,7 @@ ghost use Rattle.residency.specs.Parts.{IsSized, IsSteady};
 ghost use Rattle.residency.specs.Calls.{IsFreeFrame, KeepsPages, KeepsUsed, KeepsRest};
 
 use crate::kernel::Core;
-use frames::Role;
-use vm_types::{FrameNo, NoFree, Stall};
+use vm_types::{FrameNo, Stall};
 
 /// A free frame, to be taken at once. The frame to keep isn't given up for it. No process sees a change, and no file does.
 ///
@@ -22,19 +21,16 @@ pub fn obtain<D, E>(core: &mut Core<D, E>, _keep: Option<FrameNo>) -> Result<Fra
     ensures pages { KeepsPages (picture_of core.old) (picture_of core.new) }
     ensures used { KeepsUsed (picture_of core.old) (picture_of core.new) }
     ensures rest { KeepsRest core.old core.new }
+    ensures kept { core.new.frames ≡ core.old.frames }
     ensures free { IfOk result (λ n. IsFreeFrame core.new.frames n.0) }
     ensures stall { IfErr result (λ stall. stall ≡ NoFrames) }
     ensures none_free { IsErr result ↔ IsFull core.old.frames }
     ensures not_refused { OnOk result (core.new.refused.number ≡ core.old.refused.number) }
     ensures refused { OnErr result (core.new.refused.number ≡ core.old.refused.number + 1) }
 {
-    let _ = core.frames.len();
-    match core.frames.take(Role::Cache) {
-        Ok(n) => {
-            core.frames.release(n);
-            Ok(n)
-        }
-        Err(NoFree) => {
+    match core.frames.next_free() {
+        Some(n) => Ok(n),
+        None => {
             core.refused.raise();
             Err(Stall::NoFrames)
         }

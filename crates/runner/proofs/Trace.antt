@@ -66,9 +66,20 @@ module _ {D E : Type 0} (g : Ghosts D) (h : Ghosts E)
     shows = later.shows;
   }
 
+  -- a store that keeps the disk model to the end kept it from the beginning
+  kept_all : (old new : Machine D E) (lines : List (List ℕ)) (text : List ℕ) → CarriesOut g h old lines text new
+      → g.keeps_model new.core.store.disk → g.keeps_model old.core.store.disk
+  kept_all old new [] text carried keeps = subst (λ m. g.keeps_model m.core.store.disk) carried.1 keeps
+  kept_all old new (line ∷ lines) text carried keeps =
+      let mid = kept_all carried.0 new lines carried.2 carried.4 keeps in
+      elim carried.3 [
+        | inl o ↦ o.kept mid
+        | inr r ↦ subst (λ m. g.keeps_model m.core.store.disk) r.same mid
+      ]
+
   relates : (old new : Machine D E) (s : State) (lines : List (List ℕ)) (text : List ℕ)
-      → CarriesOut g h old lines text new → Shows g h old s → Session old new s lines text
-  relates old new s [] text carried shows = record {
+      → CarriesOut g h old lines text new → Shows g h old s → g.keeps_model new.core.store.disk → Session old new s lines text
+  relates old new s [] text carried shows keeps = record {
     commands = [];
     replies = [];
     events = [];
@@ -77,16 +88,16 @@ module _ {D E : Type 0} (g : Ghosts D) (h : Ghosts E)
     chain = (carried.1, refl);
     shows = subst (λ m. Shows g h m s) (sym carried.1) shows;
   }
-  relates old new s (line ∷ lines) text carried shows =
+  relates old new s (line ∷ lines) text carried shows keeps =
       let mid = carried.0 in
       elim carried.3 [
         | inl o ↦
-            let step = o.steps s shows in
+            let step = o.steps s shows (λ _. kept_all mid new lines carried.2 carried.4 keeps) in
             obeyed old mid new s line lines carried.1 carried.2 text o carried.5 step
-            (relates mid new step.0 lines carried.2 carried.4 step.1.shows)
+            (relates mid new step.0 lines carried.2 carried.4 step.1.shows keeps)
         | inr r ↦
             rejected old mid new s line lines carried.1 carried.2 text r carried.5
-            (relates old new s lines carried.2 (subst (λ m. CarriesOut g h m lines carried.2 new) r.same carried.4) shows)
+            (relates old new s lines carried.2 (subst (λ m. CarriesOut g h m lines carried.2 new) r.same carried.4) shows keeps)
       ]
 
   runs : (old new : Machine D E) (s : State) (lines : List (List ℕ)) (text : List ℕ) (before : Shows g h old s)
@@ -102,9 +113,9 @@ module _ {D E : Type 0} (g : Ghosts D) (h : Ghosts E)
 
   pub runs_trace : (end : RunEnd) (old new : Machine D E) (s : State) (left left_then held held_then : Option (List ℕ)) (bytes : List ℕ)
       → Consumes left left_then bytes → ReadsAll end left_then → EndsSo g h end (stage old [] [] held) (stage new [] [] held_then) bytes []
-      → Shows g h old s → RunsTrace g h end old new (streams left held) (streams left_then held_then) s
-  runs_trace Done old new s left left_then held held_then bytes read all ended shows =
-      let a = relates old new s (lines_of bytes) ended.text ended.runs shows in
+      → Shows g h old s → g.keeps_model new.core.store.disk → RunsTrace g h end old new (streams left held) (streams left_then held_then) s
+  runs_trace Done old new s left left_then held held_then bytes read all ended shows keeps =
+      let a = relates old new s (lines_of bytes) ended.text ended.runs shows keeps in
       record {
         bytes = bytes;
         read = read;
@@ -116,9 +127,9 @@ module _ {D E : Type 0} (g : Ghosts D) (h : Ghosts E)
         runs = runs old new s (lines_of bytes) ended.text shows a;
         ends = (all, refl, ended.wrote);
       }
-  runs_trace ReadFault old new s left left_then held held_then bytes read all ended shows =
+  runs_trace ReadFault old new s left left_then held held_then bytes read all ended shows keeps =
       let lines = ended.advances.lines in
-      let a = relates old new s lines ended.text ended.advances.runs shows in
+      let a = relates old new s lines ended.text ended.advances.runs shows keeps in
       record {
         bytes = bytes;
         read = read;
@@ -130,8 +141,8 @@ module _ {D E : Type 0} (g : Ghosts D) (h : Ghosts E)
         runs = runs old new s lines ended.text shows a;
         ends = ((ended.rest, ended.advances.cuts), ended.wrote);
       }
-  runs_trace WriteFault old new s left left_then held held_then bytes read all ended shows =
-      let a = relates old new s ended.lines ended.text ended.runs shows in
+  runs_trace WriteFault old new s left left_then held held_then bytes read all ended shows keeps =
+      let a = relates old new s ended.lines ended.text ended.runs shows keeps in
       record {
         bytes = bytes;
         read = read;

@@ -5,7 +5,7 @@ use Rattle.vm_types.specs.declared.reply.Reply.{Reply}
 use Rattle.disk_model.specs.declared.sector_disk.SectorDisk.{Ghosts}
 use Rattle.machine.specs.declared.machine.Machine.{Machine}
 use Rattle.vm_types.specs.State.{State}
-use Rattle.machine.specs.Machine.{Shows, Meets}
+use Rattle.machine.specs.Machine.{IsReadable, Shows, Meets}
 use Rattle.trace_lang.specs.Grammar.{IsCommand}
 use Rattle.trace_lang.specs.Texts.{text_of, bad_line_text}
 
@@ -14,9 +14,10 @@ abbrev pub IsBadLine : List ℕ → Type 0
 IsBadLine line = (command : Command) → IsCommand line command → ⊥
 
 module _ {D E : Type 0} (g : Ghosts D) (h : Ghosts E) where
-  -- in whatever state the machine is, it carries the command out
+  -- in whatever state the machine is, it carries the command out, as long as a store that it reads keeps the disk model
   abbrev pub Steps : Machine D E → Command → Reply → Machine D E → Type 0
-  Steps old command reply new = (s : State) → Shows g h old s → (t : State) × Meets g h old new s t command reply
+  Steps old command reply new =
+      (s : State) → Shows g h old s → IsReadable g h new command → (t : State) × Meets g h old new s t command reply
 
   -- the line's command is run and its reply is the text
   pub record Obeys (old : Machine D E) (line text : List ℕ) (new : Machine D E) : Type 0 where
@@ -24,6 +25,7 @@ module _ {D E : Type 0} (g : Ghosts D) (h : Ghosts E) where
     pub reply : Reply
     pub form : IsCommand line command
     pub steps : Steps old command reply new
+    pub kept : g.keeps_model new.core.store.disk → g.keeps_model old.core.store.disk
     pub text_is : text ≡ text_of reply
 
   -- the line stands for no command, and nothing else happens

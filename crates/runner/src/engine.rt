@@ -289,7 +289,7 @@ pub fn run<R: Read, W: Write, D: SectorDisk, E: SectorDisk>(
 ) -> RunEnd
     requires { IsSound D.SectorDisk E.SectorDisk machine.old }
     ensures sound { IsSound D.SectorDisk E.SectorDisk machine.new }
-    ensures runs { (s : State) → Shows D.SectorDisk E.SectorDisk machine.old s
+    ensures runs { (s : State) → Shows D.SectorDisk E.SectorDisk machine.old s → D.keeps_model machine.new.core.store.disk
         → RunsTrace D.SectorDisk E.SectorDisk result machine.old machine.new
         (streams (R.remaining reader.old) (W.contents writer.old)) (streams (R.remaining reader.new) (W.contents writer.new)) s }
 {

@@ -1,5 +1,5 @@
 -- Shared pages of files that may only be read, by a walk over the runs.
-use Rattle.std.proofs.Common.{ℕ, zero, suc, ◌+◌, ◌-◌, ◌≡◌, ◌<◌, ◌≤◌, ◌⊎◌, ⊎_elim, ◌==◌, ◌||◌, Bool, true, false, List, Option, Some, None, option_map, refl, sym, ap, ◌∙◌, subst, arith}
+use Rattle.std.proofs.Common.{ℕ, zero, suc, ◌+◌, ◌-◌, ◌≡◌, ◌<◌, ◌≤◌, ⊎_elim, ◌==◌, ◌&&◌, ◌||◌, Bool, true, false, List, Option, Some, None, option_map, refl, sym, ap, ◌∙◌, subst, arith}
 use Rattle.std.proofs.lemmas.Bool.Decides.{nat_tests}
 use Rattle.regions.specs.declared.run.Run.{Run}
 use Rattle.regions.specs.RunList.{attr_at, IsNextRun}
@@ -10,8 +10,12 @@ use Rattle.vm_types.specs.declared.region.Backing.TheVariants.{Anon, Private, Sh
 use Rattle.vm_types.specs.Attributes.{attr_after, backing_after}
 use Rattle.vm_types.specs.Counting.{any_below}
 use Rattle.vm_types.specs.Files.{Files}
-use Rattle.vm_types.specs.Ranges.{is_guarded, is_guarded_page}
-use Rattle.spaces.specs.Space.{plain, space_of}
+use Rattle.vm_types.specs.declared.permission.Prot.{Prot}
+use Rattle.vm_types.specs.Permission.{can_write}
+use Rattle.vm_types.specs.Ranges.{denies_stores, is_guarded, is_guarded_page}
+use Rattle.vm_types.specs.View.{View, attrs_of}
+use Rattle.ranges.specs.Rows.{plain}
+use Rattle.spaces.specs.Space.{space_of}
 
 none_guarded : (passes : ℕ → Bool) (n : ℕ) → ((i : ℕ) → i < n → passes i ≡ false) → any_below passes n ≡ false
 unfolding any_below
@@ -82,3 +86,21 @@ module _ (files : Files) (runs : List Run) where
       let here : is_guarded_page files (space_of runs (first + (run.first - first))) ≡ true =
       ap (λ (n : ℕ). is_guarded_page files (space_of runs n)) same ∙ of_run run run.first (next.mapped run.first (omega arith) next.nonempty) ∙ e in
       sym (one_guarded (λ i. is_guarded_page files (space_of runs (first + i))) (run.first - first) pages (omega arith) here)
+
+-- whether a page is guarded is asked of its attributes alone
+abbrev is_guarded_attr : Files → Option Attr → Bool
+is_guarded_attr files None = false
+is_guarded_attr files (Some attr) = is_guarded files attr.backing
+
+by_attr : (files : Files) (o : Option View) → is_guarded_page files o ≡ is_guarded_attr files (option_map (λ (view : View). view.attr) o)
+by_attr files None = refl
+by_attr files (Some view) = refl
+
+module _ (files : Files) (a b : ℕ → Option View) (same : attrs_of a ≡ attrs_of b) where
+  guarded_same : (k : ℕ) → is_guarded_page files (a k) ≡ is_guarded_page files (b k)
+  guarded_same k =
+      by_attr files (a k) ∙ ap (λ (m : ℕ → Option Attr). is_guarded_attr files (m k)) same ∙ sym (by_attr files (b k))
+
+  pub denies_same : (first pages : ℕ) (prot : Prot) → denies_stores files a first pages prot ≡ denies_stores files b first pages prot
+  denies_same first pages prot =
+      ap (λ (passes : ℕ → Bool). can_write prot && any_below passes pages) (λ t i. guarded_same (first + i) t)

@@ -1,15 +1,15 @@
--- The pages of the process by its runs, as they change.
-use Rattle.std.proofs.Common.{ℕ, ◌-◌, ◌≡◌, Bool, true, false, if◌then◌else◌, List, Option, Some, None, option_map, refl, sym, ap, ◌∙◌}
+-- The pages of a process by memory, by its runs and in the flat model.
+use Rattle.std.proofs.Common.{ℕ, ◌≡◌, List, Option, Some, None, option_map, refl, sym, ap, ◌∙◌}
+use Rattle.frames.specs.FrameTable.{FrameTable}
 use Rattle.regions.specs.declared.run.Run.{Run}
 use Rattle.regions.specs.RunList.{attr_at}
-use Rattle.vm_types.specs.declared.permission.Prot.{Prot}
+use Rattle.residency.specs.Picture.{Picture, entry, view, view_in}
+use Rattle.residency.specs.Shows.{ShowsPages}
 use Rattle.vm_types.specs.declared.region.Attr.{Attr}
-use Rattle.vm_types.specs.Attributes.{attr_after, with_prot}
-use Rattle.vm_types.specs.Mapping.{mapped}
-use Rattle.vm_types.specs.Ranges.{permitted, reprotected}
-use Rattle.vm_types.specs.Rows.{in_row, replaced, protected}
+use Rattle.vm_types.specs.State.{State}
 use Rattle.vm_types.specs.View.{View, attrs_of}
-use Rattle.spaces.specs.Space.{plain, space_of}
+use Rattle.ranges.specs.Rows.{plain}
+use Rattle.spaces.specs.Space.{space_of}
 
 attr_back : (o : Option Attr) → option_map (λ (view : View). view.attr) (option_map plain o) ≡ o
 attr_back None = refl
@@ -19,38 +19,24 @@ attr_back (Some attr) = refl
 pub attrs_same : (runs : List Run) → attrs_of (space_of runs) ≡ attr_at runs
 attrs_same runs = λ t page. attr_back (attr_at runs page) t
 
-pub empty_space : (runs : List Run) → ((page : ℕ) → attr_at runs page ≡ None) → (let space : ℕ → Option View = λ page. None in space) ≡ space_of runs
-empty_space runs none = λ t page. ap (λ (o : Option Attr). option_map plain o) (sym (none page)) t
+attr_seen : (t : FrameTable) (e : ℕ) (o : Option Attr) → option_map (λ (view : View). view.attr) (view_in t e o) ≡ o
+attr_seen t e None = refl
+attr_seen t e (Some attr) = refl
 
--- a row that is new
-mapped_row : (b : Bool) (new : Attr) (o : Option Attr) → (if b then Some (plain new) else option_map plain o) ≡ option_map plain (if b then Some new else o)
-mapped_row true new o = refl
-mapped_row false new o = refl
+-- what memory shows of a page is what the page is, and perhaps a copy
+attrs_seen : (c : Picture) (pid : ℕ) → attrs_of (view c pid) ≡ c.at pid
+unfolding view
+attrs_seen c pid = λ t page. attr_seen c.frames (entry c pid page) (c.at pid page) t
 
-mapped_at : (old new : List Run) (first pages : ℕ) (attr : Attr) (page : ℕ) → attr_at new page ≡ replaced (attr_at old) first pages attr page
-    → mapped (space_of old) first pages attr page ≡ space_of new page
-mapped_at old new first pages attr page e =
-    mapped_row (in_row first pages page) (attr_after attr (page - first)) (attr_at old page) ∙ ap (λ (o : Option Attr). option_map plain o) (sym e)
+pub views_seen : (c : Picture) (s : State) → ShowsPages c s → (pid : ℕ) → s.views pid ≡ view c pid
+views_seen c s shows pid = λ t page. shows.views pid page t
 
-pub mapped_space : (old new : List Run) (first pages : ℕ) (attr : Attr) → ((page : ℕ) → attr_at new page ≡ replaced (attr_at old) first pages attr page)
-    → mapped (space_of old) first pages attr ≡ space_of new
-mapped_space old new first pages attr e = λ t page. mapped_at old new first pages attr page (e page) t
+-- the pages of a process are those of its runs
+pub attrs_by_runs : (c : Picture) (s : State) (pid : ℕ) (runs : List Run) → ShowsPages c s → ((page : ℕ) → attr_at runs page ≡ c.at pid page)
+    → attrs_of (s.views pid) ≡ attr_at runs
+attrs_by_runs c s pid runs shows same = ap attrs_of (views_seen c s shows pid) ∙ attrs_seen c pid ∙ (λ t page. sym (same page) t)
 
--- a row with another permission
-permitted_page : (prot : Prot) (o : Option Attr) → option_map (permitted prot) (option_map plain o) ≡ option_map plain (option_map (with_prot prot) o)
-permitted_page prot None = refl
-permitted_page prot (Some attr) = refl
-
-reprotected_row : (b : Bool) (prot : Prot) (o : Option Attr)
-    → (if b then option_map (permitted prot) (option_map plain o) else option_map plain o) ≡ option_map plain (if b then option_map (with_prot prot) o else o)
-reprotected_row true prot o = permitted_page prot o
-reprotected_row false prot o = refl
-
-reprotected_at : (old new : List Run) (first pages : ℕ) (prot : Prot) (page : ℕ) → attr_at new page ≡ protected (attr_at old) first pages prot page
-    → reprotected (space_of old) first pages prot page ≡ space_of new page
-reprotected_at old new first pages prot page e =
-    reprotected_row (in_row first pages page) prot (attr_at old page) ∙ ap (λ (o : Option Attr). option_map plain o) (sym e)
-
-pub reprotected_space : (old new : List Run) (first pages : ℕ) (prot : Prot) → ((page : ℕ) → attr_at new page ≡ protected (attr_at old) first pages prot page)
-    → reprotected (space_of old) first pages prot ≡ space_of new
-reprotected_space old new first pages prot e = λ t page. reprotected_at old new first pages prot page (e page) t
+-- as if they had no copies
+pub attrs_as_runs : (c : Picture) (s : State) (pid : ℕ) (runs : List Run) → ShowsPages c s → ((page : ℕ) → attr_at runs page ≡ c.at pid page)
+    → attrs_of (s.views pid) ≡ attrs_of (space_of runs)
+attrs_as_runs c s pid runs shows same = attrs_by_runs c s pid runs shows same ∙ sym (attrs_same runs)

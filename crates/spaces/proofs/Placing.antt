@@ -1,21 +1,12 @@
 -- Where a mapping goes, and whether its place is free.
-use Rattle.std.proofs.Common.{ℕ, zero, suc, ◌+◌, ◌-◌, ◌/◌, ◌≡◌, ◌<◌, ◌≤◌, ◌^◌, ◌==◌, ◌&&◌, not, leb, Bool, true, false, if◌then◌else◌, List, Option, Some, None, refl, sym, ap, ◌∙◌, subst, arith}
+use Rattle.std.proofs.Common.{ℕ, zero, suc, ◌+◌, ◌-◌, ◌/◌, ◌≡◌, ◌<◌, ◌≤◌, ◌^◌, ◌==◌, ◌&&◌, not, leb, Bool, true, false, if◌then◌else◌, Option, Some, None, refl, sym, ◌∙◌, subst, arith}
 use Rattle.std.proofs.lemmas.Bool.Decides.{nat_tests}
 use Rattle.regions.specs.declared.run.Run.{Run}
-use Rattle.regions.specs.RunList.{attr_at, IsNextRun}
+use Rattle.regions.specs.RunList.{IsNextRun}
 use Rattle.regions.proofs.SearchLemmas.{is_free-all, is_free-at, is_place-is}
 use Rattle.vm_types.specs.declared.region.Attr.{Attr}
 use Rattle.vm_types.specs.Attributes.{attr_after}
 use Rattle.vm_types.specs.Placement.{is_free, is_place, lowest_from, lowest_place, placed}
-use Rattle.vm_types.specs.View.{attrs_of}
-use Rattle.spaces.specs.Space.{space_of}
-use Rattle.spaces.proofs.Pages.{attrs_same}
-
-pub placed_same : (runs : List Run) (addr pages : ℕ) → placed (attr_at runs) addr pages ≡ placed (attrs_of (space_of runs)) addr pages
-placed_same runs addr pages = ap (λ (map : ℕ → Option Attr). placed map addr pages) (sym (attrs_same runs))
-
-pub free_same : (runs : List Run) (first pages : ℕ) → is_free (attr_at runs) first pages ≡ is_free (attrs_of (space_of runs)) first pages
-free_same runs first pages = ap (λ (map : ℕ → Option Attr). is_free map first pages) (sym (attrs_same runs))
 
 -- a place lies in the user pages
 pub record InUserPages (first pages : ℕ) : Type 0 where

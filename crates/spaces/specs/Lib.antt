@@ -1,5 +1,5 @@
-pub mod Core
+pub mod Accesses
+pub mod Calls
 pub mod Mappings
-pub mod Msyncs
-pub mod Shows
+pub mod Protections
 pub mod Space

@@ -1,53 +1,23 @@
-//! Loads and stores.
-ghost use Rattle.std.specs.Prelude.{◌≡◌, ◌≤◌, ◌<◌, ◌+◌};
+//! Loads, stores and fetches.
+ghost use Rattle.std.specs.Prelude.{◌≡◌, ◌≤◌, ◌<◌, ◌+◌, ◌/◌, ◌^◌, false};
 ghost use Rattle.vm_types.specs.Access.{loaded, with_number};
-ghost use Rattle.vm_types.specs.State.{State};
-ghost use Rattle.vm_types.specs.Verdict.{cause_of, fault_of, lets};
 ghost use Rattle.vm_types.specs.Width.{byte_count};
-ghost use Rattle.vm_types.specs.declared.command.Command.TheVariants.{Load, Store};
-ghost use Rattle.spaces.specs.Core.{KeepsDevices};
-ghost use Rattle.spaces.specs.Shows.{ShowsPages, Does, Finds, found};
+ghost use Rattle.vm_types.specs.declared.command.Command.TheVariants.{Load, Store, Fetch};
+ghost use Rattle.vm_types.specs.declared.width.Width.TheVariants.{Four};
+ghost use Rattle.frames.specs.FrameTable.{IsFrame};
+ghost use Rattle.sv39_walk.specs.Walk.{is_store};
+ghost use Rattle.fault.specs.Files.{ReadsStore};
+ghost use Rattle.syncing.specs.Shows.{IsSound};
+ghost use Rattle.spaces.specs.Accesses.{reply_of};
+ghost use Rattle.spaces.specs.Calls.{Carries, IsCaused};
 
-use crate::memory::{Memory, PAGE};
-use crate::state::Core;
+use crate::space::PAGE;
 use byteorder::{ByteOrder, LittleEndian};
-use vm_types::{Access, Backing, Code, Errno, Fault, Prot, Reply, StoredValue, Width};
-
-/// The exception code of a fault (RISC-V Privileged Specification, mcause).
-fn cause(access: Access, code: Code) -> u8
-    ensures { result ≡ cause_of access code }
-{
-    match (code, access) {
-        (Code::BusAdraln, Access::Fetch) => 0,
-        (Code::BusAdraln, Access::Load) => 4,
-        (Code::BusAdraln, Access::Store) => 6,
-        (_, Access::Fetch) => 12,
-        (_, Access::Load) => 13,
-        (_, Access::Store) => 15,
-    }
-}
-
-/// A fault, as it is reported.
-fn fault(access: Access, code: Code, addr: u64) -> Reply
-    ensures { result ≡ Reply.Faulted (fault_of access code addr) }
-{
-    Reply::Faulted(Fault {
-        cause: cause(access, code),
-        code,
-        addr,
-    })
-}
-
-/// Whether a permission lets the access.
-fn lets(access: Access, prot: Prot) -> bool
-    ensures { result ≡ lets access prot }
-{
-    match access {
-        Access::Load => prot.is_readable(),
-        Access::Store => prot.is_writable(),
-        Access::Fetch => prot.is_executable(),
-    }
-}
+use disk_model::SectorDisk;
+use fault::{AccessRefusal, access, live};
+use frames::Frames;
+use residency::Core;
+use vm_types::{Access, Errno, FrameNo, Phys, Reply, StoredValue, Width};
 
 /// The little-endian number of that width at that byte of a page.
 fn read_number(page: &[u8; 4096], at: usize, width: Width) -> u64
@@ -69,28 +39,54 @@ fn write_number(page: &mut [u8; 4096], at: usize, stored: StoredValue)
     );
 }
 
-impl Memory {
-    /// The page of the file that an access of the process finds, or why it faults. The mappings are asked once.
-    fn find(&self, addr: u64, width: Width, access: Access) -> Result<usize, Code>
-        ensures finds { Finds self.now (found self.now addr (byte_count width) access) result }
-    {
-        if addr % u64::from(width.bytes()) != 0 {
-            return Err(Code::BusAdraln);
+/// The frame of a place in memory.
+fn frame_of(frames: &Frames, place: Phys) -> FrameNo
+    requires { IsFrame frames.now (place.0 / 4096) }
+    ensures { result.0 ≡ place.0 / 4096 }
+{
+    // The numbers of frames are under 65,536.
+    let _ = frames.len();
+    FrameNo((place.0 / PAGE) as u32)
+}
+
+/// What is answered where an access has no place in memory.
+fn refused(refusal: AccessRefusal) -> Reply
+    ensures { result ≡ reply_of refusal }
+{
+    match refusal {
+        AccessRefusal::Fault(fault) => Reply::Faulted(fault),
+        AccessRefusal::Stall(stall) => Reply::Stalled(stall),
+    }
+}
+
+/// Reads a little-endian number of that width at an address, in bytes, of the process, as data or as an instruction.
+fn read<D: SectorDisk, E>(
+    core: &mut Core<D, E>,
+    pid: u64,
+    addr: u64,
+    width: Width,
+    kind: Access,
+) -> Reply
+    requires sound { IsSound D.SectorDisk core.old }
+    requires kind { is_store kind ≡ false }
+    ensures sound { IsSound D.SectorDisk core.new }
+    ensures load { kind ≡ Access.Load → Carries D.SectorDisk core.old core.new (Load pid addr width) result }
+    ensures fetch { kind ≡ Access.Fetch → width ≡ Four → Carries D.SectorDisk core.old core.new (Fetch pid addr) result }
+    ensures reads { ReadsStore D.SectorDisk core.old.store core.new.store }
+    ensures swap { core.new.swap ≡ core.old.swap }
+    ensures caused { IsCaused D.SectorDisk core.old core.new result }
+{
+    let Some(pid) = live(core, pid) else {
+        return Reply::Refused(Errno::ESRCH);
+    };
+    match access(core, pid, addr, width, kind) {
+        Ok(place) => {
+            let frame = frame_of(&core.frames, place);
+            let page = core.frames.bytes(frame);
+            let value = read_number(page, (addr % PAGE) as usize, width);
+            Reply::Value { width, value }
         }
-        let Some(attr) = self.attr_of(addr) else {
-            return Err(Code::SegvMaperr);
-        };
-        if !lets(access, attr.prot) {
-            return Err(Code::SegvAccerr);
-        }
-        let Backing::Shared(page) = attr.backing else {
-            unreachable!();
-        };
-        let page = page.page as usize;
-        if page >= self.pages.len() {
-            return Err(Code::BusAdrerr);
-        }
-        Ok(page)
+        Err(refusal) => refused(refusal),
     }
 }
 
@@ -98,42 +94,60 @@ impl Memory {
 ///
 /// `ESRCH` where there is no such process. Else the first of these that holds is the fault (its order is our choice;
 /// sigaction(2), si_code): the address is no multiple of the width, its page isn't mapped, the permission lacks the access,
-/// the page lies past the file's end.
-pub fn load<D, E>(core: &Core<D, E>, pid: u64, addr: u64, width: Width) -> Reply
-    ensures does { (s : State) → ShowsPages core.now.memory s → Does core.now.memory s (Load pid addr width) result }
+/// the page lies past the file's end. Where none holds, the load may stall: `NoFrames` where a frame was wanted and
+/// refused, `StoreDevice` where the store failed as the page was read; then nothing is changed that anybody sees.
+pub fn load<D: SectorDisk, E>(core: &mut Core<D, E>, pid: u64, addr: u64, width: Width) -> Reply
+    requires sound { IsSound D.SectorDisk core.old }
+    ensures sound { IsSound D.SectorDisk core.new }
+    ensures comes { Carries D.SectorDisk core.old core.new (Load pid addr width) result }
+    ensures reads { ReadsStore D.SectorDisk core.old.store core.new.store }
+    ensures swap { core.new.swap ≡ core.old.swap }
+    ensures caused { IsCaused D.SectorDisk core.old core.new result }
 {
-    let memory = &core.memory;
-    if !memory.is_live(pid) {
-        return Reply::Refused(Errno::ESRCH);
-    }
-    match memory.find(addr, width, Access::Load) {
-        Ok(page) => {
-            let at = (addr % PAGE) as usize;
-            let value = read_number(&memory.pages[page], at, width);
-            Reply::Value { width, value }
-        }
-        Err(code) => fault(Access::Load, code, addr),
-    }
+    read(core, pid, addr, width, Access::Load)
 }
 
-/// Writes a little-endian number at an address, in bytes, of the process, and notes that its page is touched.
+/// Reads an instruction, the little-endian number of four bytes at an address, in bytes, of the process.
 ///
-/// `ESRCH` and the faults are those of a load; a store that faults changes nothing.
-pub fn store<D, E>(core: &mut Core<D, E>, pid: u64, addr: u64, stored: StoredValue) -> Reply
-    ensures does { (s : State) → ShowsPages core.old.memory s → Does core.new.memory s (Store pid addr stored) result }
-    ensures devices { KeepsDevices core.old core.new }
-    ensures info { core.new.memory.info ≡ core.old.memory.info }
+/// `ESRCH`, faults and stalls are those of a load; the address is to be a multiple of 4 (our choice).
+pub fn fetch<D: SectorDisk, E>(core: &mut Core<D, E>, pid: u64, addr: u64) -> Reply
+    requires sound { IsSound D.SectorDisk core.old }
+    ensures sound { IsSound D.SectorDisk core.new }
+    ensures comes { Carries D.SectorDisk core.old core.new (Fetch pid addr) result }
+    ensures reads { ReadsStore D.SectorDisk core.old.store core.new.store }
+    ensures swap { core.new.swap ≡ core.old.swap }
+    ensures caused { IsCaused D.SectorDisk core.old core.new result }
 {
-    if !core.memory.is_live(pid) {
+    read(core, pid, addr, Width::Four, Access::Fetch)
+}
+
+/// Writes a little-endian number at an address, in bytes, of the process: through a shared page into the file page, which
+/// is touched then, and else into the page's own copy.
+///
+/// `ESRCH`, faults and stalls are those of a load; a store that faults or stalls changes nothing that anybody sees.
+pub fn store<D: SectorDisk, E>(
+    core: &mut Core<D, E>,
+    pid: u64,
+    addr: u64,
+    stored: StoredValue,
+) -> Reply
+    requires sound { IsSound D.SectorDisk core.old }
+    ensures sound { IsSound D.SectorDisk core.new }
+    ensures comes { Carries D.SectorDisk core.old core.new (Store pid addr stored) result }
+    ensures reads { ReadsStore D.SectorDisk core.old.store core.new.store }
+    ensures swap { core.new.swap ≡ core.old.swap }
+    ensures caused { IsCaused D.SectorDisk core.old core.new result }
+{
+    let Some(pid) = live(core, pid) else {
         return Reply::Refused(Errno::ESRCH);
-    }
-    match core.memory.find(addr, stored.width, Access::Store) {
-        Ok(page) => {
-            let at = (addr % PAGE) as usize;
-            write_number(&mut core.memory.pages[page], at, stored);
-            core.memory.touched[page] = true;
+    };
+    match access(core, pid, addr, stored.width, Access::Store) {
+        Ok(place) => {
+            let frame = frame_of(&core.frames, place);
+            let page = core.frames.bytes_mut(frame);
+            write_number(page, (addr % PAGE) as usize, stored);
             Reply::Done
         }
-        Err(code) => fault(Access::Store, code, addr),
+        Err(refusal) => refused(refusal),
     }
 }

@@ -2,23 +2,16 @@
 #![tactic(auto)]
 
 mod accesses;
-mod choosing;
-mod chosen;
-mod mappings;
-mod memory;
-mod msync_source;
-mod msyncs;
-mod processes;
-mod ranges;
-mod state;
+mod births;
+mod maps;
+mod rows;
+mod space;
 
-pub use accesses::{load, store};
-pub use mappings::mmap;
-pub use memory::Memory;
-pub use msyncs::msync;
-pub use processes::spawn;
-pub use ranges::{mprotect, munmap};
-pub use state::Core;
+pub use accesses::{fetch, load, store};
+pub use births::{exit, fork, spawn};
+pub use maps::mmap;
+pub use rows::{mprotect, munmap};
+pub use syncing::msync;
 
 #[cfg(test)]
 mod tests;

@@ -1,22 +1,27 @@
 //! Calls over a formatted store in memory. The expected replies are the manual pages' and our own choices, worked out by
 //! hand.
-ghost use Rattle.std.specs.Prelude.{IfOk};
-ghost use Rattle.spaces.specs.Core.{IsSound};
+ghost use Rattle.std.specs.Prelude.{◌≤◌, IfOk};
+ghost use Rattle.syncing.specs.Shows.{IsSound};
 
-use crate::{Core, Memory, load, mmap, mprotect, msync, munmap, spawn, store};
+use crate::{exit, fetch, fork, load, mmap, mprotect, msync, munmap, spawn, store};
 use disk_model::{SectorDisk, SimDisk};
 use file_store::{FileSource, FileStore, format};
+use residency::Core;
 use std::alloc::Global;
 use std::test::Fail;
 use vm_types::{
-    Code, Errno, Fault, MapSource, MsyncMode, Pid, Placing, Prot, Reply, StoredValue, Width,
+    Code, Errno, Fault, MapSource, MsyncMode, Pid, Placing, Prot, Reply, Stall, StoredValue, Width,
 };
 
-// No process yet, over a file of so many zeros, whole pages of them.
-fn core_over(alloc: Global, length: u32, read_only: bool) -> Result<Core<SimDisk, SimDisk>, Fail>
-    ensures { IfOk result (λ core. IsSound ⟦<SimDisk as SectorDisk>⟧ ⟦<SimDisk as SectorDisk>⟧ core) }
+type Memory = Core<SimDisk, SimDisk>;
+
+// No process yet, in so many frames, over a file of so many zeros.
+fn memory(alloc: Global, frames: u32, length: u32, read_only: bool) -> Result<Memory, Fail>
+    requires least { 8 ≤ frames }
+    requires most { frames ≤ 64 }
+    ensures { IfOk result (λ core. IsSound ⟦<SimDisk as SectorDisk>⟧ core) }
 {
-    let mut disk = SimDisk::new(alloc, 1020 + u64::from(length) / 512)?;
+    let mut disk = SimDisk::new(alloc, 1020 + 8 * u64::from(length).div_ceil(4096))?;
     let mut files: [FileSource<&[u8]>; 1] = [FileSource {
         read_only,
         length,
@@ -27,29 +32,45 @@ fn core_over(alloc: Global, length: u32, read_only: bool) -> Result<Core<SimDisk
         Ok(store) => store,
         Err((fault, _)) => return Err(Fail::new(format_args!("open: {fault:?}"))),
     };
-    let info = store.file(0).ok_or("a file")?;
-    let mut pages = Vec::new(alloc);
-    let mut touched = Vec::new(alloc);
-    for _ in 0..info.length / 4096 {
-        pages.push([0; 4096])?;
-        touched.push(false)?;
+    let swap = SimDisk::new(alloc, 0)?;
+    match Core::new(alloc, store, swap, frames, 0) {
+        Ok(core) => Ok(core),
+        Err((refused, _)) => Err(refused.into()),
     }
-    let count = (info.length / 4096) as usize;
-    if info.length % 4096 != 0 || pages.len() != count || touched.len() != count {
-        return Err(Fail::new(format_args!("no whole pages")));
-    }
-    Ok(Core {
-        store,
-        swap: SimDisk::new(alloc, 8)?,
-        memory: Memory::new(info, pages, touched),
-    })
+}
+
+fn read_write() -> Prot {
+    Prot::READ | Prot::WRITE
 }
 
 // Shared pages of the file, from its first byte on.
 const FILE: MapSource = MapSource::Shared { file: 0, offset: 0 };
 
-fn stored(width: Width, value: u64) -> Result<StoredValue, Fail> {
-    Ok(StoredValue::new(width, value).ok_or("a value that fits")?)
+// Maps pages of process 1 where the hint says.
+fn map(core: &mut Memory, addr: u64, len: u64, prot: Prot, source: MapSource) -> Reply
+    requires { IsSound ⟦<SimDisk as SectorDisk>⟧ core.old }
+    ensures { IsSound ⟦<SimDisk as SectorDisk>⟧ core.new }
+{
+    mmap(core, 1, addr, len, prot, source, Placing::Hint)
+}
+
+// Stores a byte.
+fn put(core: &mut Memory, pid: u64, addr: u64, byte: u8) -> Reply
+    requires { IsSound ⟦<SimDisk as SectorDisk>⟧ core.old }
+    ensures { IsSound ⟦<SimDisk as SectorDisk>⟧ core.new }
+{
+    match StoredValue::new(Width::One, u64::from(byte)) {
+        Some(stored) => store(core, pid, addr, stored),
+        None => Reply::Halted,
+    }
+}
+
+// Loads a byte.
+fn get(core: &mut Memory, pid: u64, addr: u64) -> Reply
+    requires { IsSound ⟦<SimDisk as SectorDisk>⟧ core.old }
+    ensures { IsSound ⟦<SimDisk as SectorDisk>⟧ core.new }
+{
+    load(core, pid, addr, Width::One)
 }
 
 fn value(width: Width, value: u64) -> Reply {
@@ -60,246 +81,180 @@ fn fault(cause: u8, code: Code, addr: u64) -> Reply {
     Reply::Faulted(Fault { cause, code, addr })
 }
 
-#[test]
-fn starts_one_process(rt: HostRuntime) -> Result<(), Fail> {
-    let mut core = core_over(rt.alloc(), 4096, false)?;
-    let pid = Pid::new(1).ok_or("a pid")?;
-    assert_eq!(rt; load(&core, 1, 0, Width::One), Reply::Refused(Errno::ESRCH));
-    assert_eq!(rt; munmap(&mut core, 1, 0, 1), Reply::Refused(Errno::ESRCH));
-    assert_eq!(rt; spawn(&mut core), Reply::Process(pid));
-    assert_eq!(rt; spawn(&mut core), Reply::Refused(Errno::EAGAIN));
-    Ok(())
+fn process(pid: u64) -> Result<Reply, Fail> {
+    Ok(Reply::Process(Pid::new(pid).ok_or("a process number")?))
 }
 
 #[test]
 fn loads_what_was_stored(rt: HostRuntime) -> Result<(), Fail> {
-    let read_write = Prot::READ | Prot::WRITE;
-    let mut core = core_over(rt.alloc(), 4096, false)?;
-    let _ = spawn(&mut core);
-    assert_eq!(rt;
-        mmap(&mut core, 1, 0, 1, read_write, FILE, Placing::Hint),
-        Reply::Address(0x10000)
-    );
-    assert_eq!(rt;
-        load(&core, 1, 0x10ff8, Width::Eight),
-        value(Width::Eight, 0)
-    );
-    let number = stored(Width::Eight, 0x1122_3344_5566_7788)?;
-    assert_eq!(rt; store(&mut core, 1, 0x10000, number), Reply::Done);
-    assert_eq!(rt;
-        load(&core, 1, 0x10000, Width::One),
-        value(Width::One, 0x88)
-    );
-    assert_eq!(rt;
-        load(&core, 1, 0x10002, Width::Two),
-        value(Width::Two, 0x5566)
-    );
-    assert_eq!(rt;
-        load(&core, 1, 0x10004, Width::Four),
-        value(Width::Four, 0x1122_3344)
-    );
+    let mut core = memory(rt.alloc(), 16, 0, false)?;
+    let first = spawn(&mut core);
+    let place = map(&mut core, 0, 1, read_write(), MapSource::Anon);
+    let zeros = load(&mut core, 1, 0x10ff8, Width::Eight);
+    let number = StoredValue::new(Width::Eight, 0x1122_3344_5566_7788).ok_or("a number")?;
+    let done = store(&mut core, 1, 0x10000, number);
+    let low = load(&mut core, 1, 0x10000, Width::One);
+    let middle = load(&mut core, 1, 0x10002, Width::Two);
+    let high = load(&mut core, 1, 0x10004, Width::Four);
+    assert_eq!(rt; first, process(1)?);
+    assert_eq!(rt; place, Reply::Address(0x10000));
+    assert_eq!(rt; zeros, value(Width::Eight, 0));
+    assert_eq!(rt; done, Reply::Done);
+    assert_eq!(rt; low, value(Width::One, 0x88));
+    assert_eq!(rt; middle, value(Width::Two, 0x5566));
+    assert_eq!(rt; high, value(Width::Four, 0x1122_3344));
     Ok(())
 }
 
 #[test]
 fn judges_an_access_in_order(rt: HostRuntime) -> Result<(), Fail> {
-    let mut core = core_over(rt.alloc(), 4096, false)?;
+    let mut core = memory(rt.alloc(), 16, 0, false)?;
     let _ = spawn(&mut core);
-    let zero = stored(Width::Two, 0)?;
-    assert_eq!(rt;
-        load(&core, 1, 0x20004, Width::Eight),
-        fault(4, Code::BusAdraln, 0x20004)
-    );
-    assert_eq!(rt;
-        store(&mut core, 1, 0x20001, zero),
-        fault(6, Code::BusAdraln, 0x20001)
-    );
-    assert_eq!(rt;
-        load(&core, 1, 0xffff_ffc0_0000_0000, Width::Eight),
-        fault(13, Code::SegvMaperr, 0xffff_ffc0_0000_0000)
-    );
-    assert_eq!(rt;
-        mmap(&mut core, 1, 0, 8192, Prot::READ, FILE, Placing::Hint),
-        Reply::Address(0x10000)
-    );
-    assert_eq!(rt;
-        store(&mut core, 1, 0x11000, zero),
-        fault(15, Code::SegvAccerr, 0x11000)
-    );
-    assert_eq!(rt;
-        load(&core, 1, 0x11000, Width::One),
-        fault(13, Code::BusAdrerr, 0x11000)
-    );
+    let low = get(&mut core, 1, 0);
+    let past = load(&mut core, 1, 0x40_0000_0000, Width::Eight);
+    let high = load(&mut core, 1, 0xffff_ffc0_0000_0000, Width::Eight);
+    let odd = fetch(&mut core, 1, 0x20002);
+    let writable = map(&mut core, 0, 4096, Prot::WRITE, MapSource::Anon);
+    let readable = get(&mut core, 1, 0x10000);
+    let runnable = map(&mut core, 0, 4096, Prot::EXECUTE, MapSource::Anon);
+    let fetched = fetch(&mut core, 1, 0x11000);
+    let unread = load(&mut core, 1, 0x11000, Width::Four);
+    let unrun = fetch(&mut core, 1, 0x10000);
+    assert_eq!(rt; low, fault(13, Code::SegvMaperr, 0));
+    assert_eq!(rt; past, fault(13, Code::SegvMaperr, 0x40_0000_0000));
+    assert_eq!(rt; high, fault(13, Code::SegvMaperr, 0xffff_ffc0_0000_0000));
+    assert_eq!(rt; odd, fault(0, Code::BusAdraln, 0x20002));
+    assert_eq!(rt; writable, Reply::Address(0x10000));
+    assert_eq!(rt; readable, value(Width::One, 0));
+    assert_eq!(rt; runnable, Reply::Address(0x11000));
+    assert_eq!(rt; fetched, value(Width::Four, 0));
+    assert_eq!(rt; unread, fault(13, Code::SegvAccerr, 0x11000));
+    assert_eq!(rt; unrun, fault(12, Code::SegvAccerr, 0x10000));
     Ok(())
 }
 
 #[test]
-fn maps_over_and_beside_what_is_mapped(rt: HostRuntime) -> Result<(), Fail> {
-    let read_write = Prot::READ | Prot::WRITE;
-    let mut core = core_over(rt.alloc(), 5 * 4096, false)?;
+fn shares_a_file_and_syncs_it(rt: HostRuntime) -> Result<(), Fail> {
+    let mut core = memory(rt.alloc(), 16, 5000, false)?;
     let _ = spawn(&mut core);
-    assert_eq!(rt;
-        mmap(
-            &mut core,
-            1,
-            0x20000,
-            0x5000,
-            read_write,
-            FILE,
-            Placing::Hint
-        ),
-        Reply::Address(0x20000)
-    );
-    assert_eq!(rt;
-        mmap(
-            &mut core,
-            1,
-            0x22000,
-            0x1000,
-            Prot::READ,
-            FILE,
-            Placing::Fixed
-        ),
-        Reply::Address(0x22000)
-    );
-    assert_eq!(rt; munmap(&mut core, 1, 0x21000, 0x3000), Reply::Done);
-    assert_eq!(rt; load(&core, 1, 0x24000, Width::One), value(Width::One, 0));
-    assert_eq!(rt;
-        load(&core, 1, 0x23fff, Width::One),
-        fault(13, Code::SegvMaperr, 0x23fff)
-    );
-    assert_eq!(rt;
-        mmap(
-            &mut core,
-            1,
-            0x21000,
-            0x3000,
-            read_write,
-            FILE,
-            Placing::NoReplace
-        ),
-        Reply::Address(0x21000)
-    );
-    assert_eq!(rt;
-        mmap(
-            &mut core,
-            1,
-            0x24000,
-            0x1000,
-            Prot::READ,
-            FILE,
-            Placing::NoReplace
-        ),
-        Reply::Refused(Errno::EEXIST)
-    );
-    assert_eq!(rt;
-        mmap(&mut core, 1, 0x1000, 4096, read_write, FILE, Placing::Fixed),
-        Reply::Refused(Errno::ENOMEM)
-    );
-    assert_eq!(rt;
-        mmap(
-            &mut core,
-            1,
-            0x20001,
-            4096,
-            read_write,
-            FILE,
-            Placing::Fixed
-        ),
-        Reply::Refused(Errno::EINVAL)
-    );
+    let place = map(&mut core, 0, 12288, read_write(), FILE);
+    let last = put(&mut core, 1, 0x11387, 0xaa);
+    let behind = put(&mut core, 1, 0x11388, 0xbb);
+    let seen = get(&mut core, 1, 0x11388);
+    let outside = get(&mut core, 1, 0x12000);
+    let synced = msync(&mut core, 1, 0x10000, 12288, MsyncMode::Sync);
+    assert_eq!(rt; place, Reply::Address(0x10000));
+    assert_eq!(rt; last, Reply::Done);
+    assert_eq!(rt; behind, Reply::Done);
+    assert_eq!(rt; seen, value(Width::One, 0xbb));
+    assert_eq!(rt; outside, fault(13, Code::BusAdrerr, 0x12000));
+    assert_eq!(rt; synced, Reply::Done);
+    // Byte 4,999 is byte 391 of the second sector of page 1, whose home begins at sector 1,028.
+    let disk = core.store.disk();
+    assert_eq!(rt; disk.sectors(), 1036);
+    assert_eq!(rt; disk.sector(1029)[391], 0xaa);
+    assert_eq!(rt; disk.sector(1029)[392], 0);
     Ok(())
 }
 
 #[test]
-fn protects_no_page_over_a_hole(rt: HostRuntime) -> Result<(), Fail> {
-    let read_write = Prot::READ | Prot::WRITE;
-    let mut core = core_over(rt.alloc(), 4096, false)?;
+fn forks_and_exits(rt: HostRuntime) -> Result<(), Fail> {
+    let mut core = memory(rt.alloc(), 32, 4096, false)?;
     let _ = spawn(&mut core);
-    let byte = stored(Width::One, 1)?;
-    for addr in [0x20000, 0x22000] {
-        assert_eq!(rt;
-            mmap(&mut core, 1, addr, 0x1000, read_write, FILE, Placing::Hint),
-            Reply::Address(addr)
-        );
-    }
-    assert_eq!(rt;
-        mprotect(&mut core, 1, 0x20000, 0x3000, Prot::READ),
-        Reply::Refused(Errno::ENOMEM)
-    );
-    assert_eq!(rt; store(&mut core, 1, 0x20000, byte), Reply::Done);
-    assert_eq!(rt;
-        mprotect(&mut core, 1, 0x20001, 0x1000, Prot::READ),
-        Reply::Refused(Errno::EINVAL)
-    );
-    assert_eq!(rt; mprotect(&mut core, 1, 0x20000, 0, Prot::READ), Reply::Done);
-    assert_eq!(rt; store(&mut core, 1, 0x20000, byte), Reply::Done);
-    assert_eq!(rt; mprotect(&mut core, 1, 0x20000, 1, Prot::READ), Reply::Done);
-    assert_eq!(rt;
-        store(&mut core, 1, 0x20000, byte),
-        fault(15, Code::SegvAccerr, 0x20000)
-    );
-    assert_eq!(rt; load(&core, 1, 0x22000, Width::One), value(Width::One, 1));
+    let _ = map(&mut core, 0, 4096, read_write(), MapSource::Anon);
+    let _ = map(&mut core, 0, 4096, read_write(), FILE);
+    let _ = put(&mut core, 1, 0x10000, 0x11);
+    let child = fork(&mut core, 1);
+    let _ = put(&mut core, 1, 0x10000, 0x22);
+    let _ = put(&mut core, 2, 0x10000, 0x33);
+    let of_parent = get(&mut core, 1, 0x10000);
+    let of_child = get(&mut core, 2, 0x10000);
+    let _ = put(&mut core, 2, 0x11000, 0x44);
+    let shared = get(&mut core, 1, 0x11000);
+    let ended = exit(&mut core, 2);
+    let gone = get(&mut core, 2, 0x10000);
+    let missing = fork(&mut core, 9);
+    assert_eq!(rt; child, process(2)?);
+    assert_eq!(rt; of_parent, value(Width::One, 0x22));
+    assert_eq!(rt; of_child, value(Width::One, 0x33));
+    assert_eq!(rt; shared, value(Width::One, 0x44));
+    assert_eq!(rt; ended, Reply::Done);
+    assert_eq!(rt; gone, Reply::Refused(Errno::ESRCH));
+    assert_eq!(rt; missing, Reply::Refused(Errno::ESRCH));
+    Ok(())
+}
+
+#[test]
+fn maps_protects_and_unmaps(rt: HostRuntime) -> Result<(), Fail> {
+    let mut core = memory(rt.alloc(), 16, 0, false)?;
+    let _ = spawn(&mut core);
+    let _ = map(&mut core, 0x20000, 0x1000, read_write(), MapSource::Anon);
+    let _ = map(&mut core, 0x22000, 0x1000, read_write(), MapSource::Anon);
+    let over_hole = mprotect(&mut core, 1, 0x20000, 0x3000, Prot::READ);
+    let stored = put(&mut core, 1, 0x20000, 1);
+    let odd = mprotect(&mut core, 1, 0x20001, 0x1000, Prot::READ);
+    let none = mprotect(&mut core, 1, 0x20000, 0, Prot::READ);
+    let protected = mprotect(&mut core, 1, 0x20000, 1, Prot::READ);
+    let denied = put(&mut core, 1, 0x20000, 2);
+    let removed = munmap(&mut core, 1, 0x20000, 0x1000);
+    let missing = get(&mut core, 1, 0x20000);
+    assert_eq!(rt; over_hole, Reply::Refused(Errno::ENOMEM));
+    assert_eq!(rt; stored, Reply::Done);
+    assert_eq!(rt; odd, Reply::Refused(Errno::EINVAL));
+    assert_eq!(rt; none, Reply::Done);
+    assert_eq!(rt; protected, Reply::Done);
+    assert_eq!(rt; denied, fault(15, Code::SegvAccerr, 0x20000));
+    assert_eq!(rt; removed, Reply::Done);
+    assert_eq!(rt; missing, fault(13, Code::SegvMaperr, 0x20000));
     Ok(())
 }
 
 #[test]
 fn refuses_what_a_read_only_file_does_not_allow(rt: HostRuntime) -> Result<(), Fail> {
-    let read_write = Prot::READ | Prot::WRITE;
-    let mut core = core_over(rt.alloc(), 4096, true)?;
-    let _ = spawn(&mut core);
-    let odd = MapSource::Shared { file: 0, offset: 1 };
     let missing = MapSource::Shared { file: 9, offset: 0 };
+    let odd = MapSource::Private { file: 0, offset: 1 };
     let far = MapSource::Shared {
         file: 0,
         offset: 1 << 44,
     };
-    for (len, prot, source, errno) in [
-        (0, Prot::READ, FILE, Errno::EINVAL),
-        (4096, read_write, FILE, Errno::EACCES),
-        (4096, read_write, missing, Errno::EBADF),
-        (4096, Prot::READ, odd, Errno::EINVAL),
-        (4096, Prot::READ, far, Errno::EOVERFLOW),
-        (0x3f_ffff_0001, Prot::READ, FILE, Errno::ENOMEM),
-    ] {
-        assert_eq!(rt;
-            mmap(&mut core, 1, 0, len, prot, source, Placing::Hint),
-            Reply::Refused(errno)
-        );
-    }
-    assert_eq!(rt;
-        mmap(&mut core, 1, 0, 4096, Prot::READ, FILE, Placing::Hint),
-        Reply::Address(0x10000)
-    );
-    assert_eq!(rt;
-        mprotect(&mut core, 1, 0x10000, 4096, read_write),
-        Reply::Refused(Errno::EACCES)
-    );
-    assert_eq!(rt; munmap(&mut core, 1, 0x50000, 4096), Reply::Done);
-    assert_eq!(rt;
-        munmap(&mut core, 1, 0x10000, 0),
-        Reply::Refused(Errno::EINVAL)
-    );
+    let mut core = memory(rt.alloc(), 16, 4096, true)?;
+    let _ = spawn(&mut core);
+    let empty = map(&mut core, 0, 0, Prot::READ, MapSource::Anon);
+    let denied = map(&mut core, 0, 4096, read_write(), FILE);
+    let no_file = map(&mut core, 0, 4096, read_write(), missing);
+    let odd = map(&mut core, 0, 4096, Prot::READ, odd);
+    let far = map(&mut core, 0, 4096, Prot::READ, far);
+    let place = map(&mut core, 0, 4096, Prot::READ, FILE);
+    let guarded = mprotect(&mut core, 1, 0x10000, 4096, read_write());
+    let nothing = munmap(&mut core, 1, 0x50000, 4096);
+    assert_eq!(rt; empty, Reply::Refused(Errno::EINVAL));
+    assert_eq!(rt; denied, Reply::Refused(Errno::EACCES));
+    assert_eq!(rt; no_file, Reply::Refused(Errno::EBADF));
+    assert_eq!(rt; odd, Reply::Refused(Errno::EINVAL));
+    assert_eq!(rt; far, Reply::Refused(Errno::EOVERFLOW));
+    assert_eq!(rt; place, Reply::Address(0x10000));
+    assert_eq!(rt; guarded, Reply::Refused(Errno::EACCES));
+    assert_eq!(rt; nothing, Reply::Done);
     Ok(())
 }
 
+// Frame 0 is the zero page, so 8 frames are enough for the root tables of seven processes.
 #[test]
-fn syncs_what_was_stored(rt: HostRuntime) -> Result<(), Fail> {
-    let read_write = Prot::READ | Prot::WRITE;
-    let mut core = core_over(rt.alloc(), 8192, false)?;
+fn stalls_for_want_of_a_frame(rt: HostRuntime) -> Result<(), Fail> {
+    let mut core = memory(rt.alloc(), 8, 0, false)?;
     let _ = spawn(&mut core);
-    let _ = mmap(&mut core, 1, 0, 8192, read_write, FILE, Placing::Hint);
-    let _ = store(&mut core, 1, 0x11000, stored(Width::One, 0x5a)?);
-    assert_eq!(rt;
-        msync(&mut core, 1, 0x10000, 8192, MsyncMode::Sync),
-        Reply::Done
-    );
-    assert_eq!(rt;
-        load(&core, 1, 0x11000, Width::One),
-        value(Width::One, 0x5a)
-    );
-    let disk = core.store.disk();
-    assert_eq!(rt; disk.sectors(), 1036);
-    assert_eq!(rt; disk.sector(1028)[0], 0x5a);
+    let _ = spawn(&mut core);
+    let _ = spawn(&mut core);
+    let _ = spawn(&mut core);
+    let _ = spawn(&mut core);
+    let _ = spawn(&mut core);
+    let seventh = spawn(&mut core);
+    let eighth = spawn(&mut core);
+    let ended = exit(&mut core, 7);
+    let again = spawn(&mut core);
+    assert_eq!(rt; seventh, process(7)?);
+    assert_eq!(rt; eighth, Reply::Stalled(Stall::NoFrames));
+    assert_eq!(rt; ended, Reply::Done);
+    assert_eq!(rt; again, process(7)?);
     Ok(())
 }

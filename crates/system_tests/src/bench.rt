@@ -1,4 +1,5 @@
 //! What the tests share: a formatted image, and a trace that is run on it.
+ghost use Rattle.std.specs.Prelude.{IfOk};
 ghost use Rattle.machine.specs.Machine.{IsSound};
 
 use disk_model::{SectorDisk, SimDisk};
@@ -17,9 +18,9 @@ pub(crate) const SYNCED: &[u8] = b"msync 1 0x10000 4096 sync\n";
 /// Shows the first eight bytes of the file in a new process.
 pub(crate) const SHOWN: &[u8] = b"spawn\nmmap 1 0 4096 r-- shared 0 0\nload 1 0x10000 8\n";
 
-/// An image of one file of so many zeros, whole pages of them.
+/// An image of one file of so many zeros.
 pub(crate) fn image(alloc: Global, length: u32) -> Result<SimDisk, Fail> {
-    let mut disk = SimDisk::new(alloc, 1020 + u64::from(length) / 512)?;
+    let mut disk = SimDisk::new(alloc, 1020 + 8 * u64::from(length).div_ceil(4096))?;
     let mut files: [FileSource<&[u8]>; 1] = [FileSource {
         read_only: false,
         length,
@@ -41,6 +42,25 @@ pub(crate) fn image_of(alloc: Global, read_only: bool, page: &[u8; 4096]) -> Res
     Ok(disk)
 }
 
+/// An image of two files of a page of zeros each.
+pub(crate) fn image_of_two(alloc: Global) -> Result<SimDisk, Fail> {
+    let mut disk = SimDisk::new(alloc, 1036)?;
+    let mut files: [FileSource<&[u8]>; 2] = [
+        FileSource {
+            read_only: false,
+            length: 4096,
+            bytes: None,
+        },
+        FileSource {
+            read_only: false,
+            length: 4096,
+            bytes: None,
+        },
+    ];
+    format(&mut disk, &mut files)?;
+    Ok(disk)
+}
+
 /// The fault that a device is to have.
 #[derive(Clone, Copy, Debug, PartialEq, Eq)]
 pub(crate) enum Armed {
@@ -58,26 +78,42 @@ pub(crate) const CONFIG: Config = Config {
 #[derive(Drop)]
 pub(crate) struct Bench {
     pub machine: Machine<SimDisk, SimDisk>,
-    ghost sound: { IsSound ⟦<SimDisk as SectorDisk>⟧ ⟦<SimDisk as SectorDisk>⟧ machine },
 }
 
 impl Bench {
-    /// A machine on the image as it was last synced.
-    pub(crate) fn boot(alloc: Global, image: &SimDisk, armed: Armed) -> Result<Bench, Fail> {
+    /// A machine of 64 frames on the image as it was last synced.
+    pub(crate) fn boot(alloc: Global, image: &SimDisk, armed: Armed) -> Result<Bench, Fail>
+        ensures { IfOk result (λ bench. IsSound ⟦<SimDisk as SectorDisk>⟧ ⟦<SimDisk as SectorDisk>⟧ bench.machine) }
+    {
+        Bench::sized(alloc, image, armed, CONFIG)
+    }
+
+    /// A machine of that size on the image as it was last synced.
+    pub(crate) fn sized(
+        alloc: Global,
+        image: &SimDisk,
+        armed: Armed,
+        config: Config,
+    ) -> Result<Bench, Fail>
+        ensures { IfOk result (λ bench. IsSound ⟦<SimDisk as SectorDisk>⟧ ⟦<SimDisk as SectorDisk>⟧ bench.machine) }
+    {
         let mut store = image.left(alloc, &[])?;
         match armed {
             Armed::Nothing => {}
             Armed::StopAtWrite(write) => store.stop_at(write),
             Armed::FailAtCall(call) => store.fail_at(call),
         }
-        match Machine::boot(alloc, CONFIG, store, SimDisk::new(alloc, 128)?) {
+        match Machine::boot(alloc, config, store, SimDisk::new(alloc, 128)?) {
             Ok(machine) => Ok(Bench { machine }),
             Err((fault, _)) => Err(Fail::new(format_args!("boot: {fault:?}"))),
         }
     }
 
     /// The trace's replies, and how the run ended.
-    pub(crate) fn replies(&mut self, alloc: Global, trace: &[u8]) -> (RunEnd, Vec<u8>) {
+    pub(crate) fn replies(&mut self, alloc: Global, trace: &[u8]) -> (RunEnd, Vec<u8>)
+        requires { IsSound ⟦<SimDisk as SectorDisk>⟧ ⟦<SimDisk as SectorDisk>⟧ self.old.machine }
+        ensures { IsSound ⟦<SimDisk as SectorDisk>⟧ ⟦<SimDisk as SectorDisk>⟧ self.new.machine }
+    {
         let mut reader = trace;
         let mut writer = Vec::new(alloc);
         let end = run(&mut reader, &mut writer, &mut self.machine);

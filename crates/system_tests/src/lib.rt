@@ -1,22 +1,20 @@
-//! Tests that cross crates: whole traces over simulated devices, with stops and faults, and the programs over files.
+//! Tests that cross crates: whole traces over simulated devices, with stops and faults.
 #![tactic(auto)]
 
 #[cfg(test)]
 mod bench;
 #[cfg(test)]
+mod failing_devices;
+#[cfg(test)]
 mod failing_streams;
+#[cfg(test)]
+mod files;
 #[cfg(test)]
 mod mappings;
 #[cfg(test)]
-mod pagecat;
+mod memory;
 #[cfg(test)]
-mod pagefmt;
-#[cfg(test)]
-mod pagerun;
-#[cfg(test)]
-mod program_bench;
-#[cfg(test)]
-mod programs;
+mod processes;
 #[cfg(test)]
 mod stops;
 #[cfg(test)]

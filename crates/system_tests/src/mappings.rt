@@ -2,6 +2,8 @@
 ghost use Rattle.std.specs.Prelude.{◌≤◌};
 
 use crate::bench::{Armed, Bench, image, image_of};
+use disk_model::SimDisk;
+use machine::Config;
 use runner::RunEnd;
 use std::alloc::Global;
 use std::test::Fail;
@@ -93,63 +95,93 @@ fn a_process_has_at_most_256_runs(rt: HostRuntime) -> Result<(), Fail> {
     let mut bench = Bench::boot(rt.alloc(), &image(rt.alloc(), 4096)?, Armed::Nothing)?;
     let (_, output) = bench.replies(rt.alloc(), b"spawn\nmmap 1 0 0x1ff000 rw- shared 0 0\n");
     assert_eq!(rt; output.as_slice(), b"pid 1\naddr 0x10000\n".as_slice());
+    let mut trace = Vec::new(rt.alloc());
+    let mut wanted = Vec::new(rt.alloc());
     for pair in 0..127_u64 {
         let line = format!(in rt.alloc(); "mprotect 1 {} 4096 r--\n", 0x11000 + 8192 * pair)?;
-        let (_, output) = bench.replies(rt.alloc(), line.as_bytes());
-        assert_eq!(rt; output.as_slice(), b"ok\n".as_slice());
+        trace.extend_from_slice(line.as_bytes())?;
+        wanted.extend_from_slice(b"ok\n")?;
     }
+    let (_, output) = bench.replies(rt.alloc(), trace.as_slice());
+    assert_eq!(rt; output.as_slice(), wanted.as_slice());
     let last = b"mprotect 1 0x10f000 4096 r--\nmprotect 1 0x20e000 4096 r--\n";
     let (_, output) = bench.replies(rt.alloc(), last.as_slice());
     assert_eq!(rt; output.as_slice(), b"error 12 ENOMEM\nok\n".as_slice());
     Ok(())
 }
 
-/// Stores a byte at the start of so many pages of the mapping at the first user page.
-fn store_each(bench: &mut Bench, alloc: Global, pages: u64, byte: u64) -> Result<bool, Fail>
+/// Room for 128 pages of the file.
+const ROOMY: Config = Config {
+    frames: 256,
+    slots: 0,
+};
+
+/// The lines that store a byte at the start of so many pages of the mapping at the first user page.
+fn stores(alloc: Global, pages: u64, byte: u64) -> Result<Vec<u8>, Fail>
     requires { pages ≤ 128 }
 {
-    let mut fine = true;
+    let mut trace = Vec::new(alloc);
     for page in 0..pages {
         let line = format!(in alloc; "store 1 {} 1 {byte}\n", 0x10000 + 4096 * page)?;
-        let (_, output) = bench.replies(alloc, line.as_bytes());
-        fine = fine && output.as_slice() == b"ok\n".as_slice();
+        trace.extend_from_slice(line.as_bytes())?;
     }
-    Ok(fine)
+    Ok(trace)
+}
+
+/// So many replies that tell of success.
+fn successes(alloc: Global, count: u64) -> Result<Vec<u8>, Fail> {
+    let mut text = Vec::new(alloc);
+    for _ in 0..count {
+        text.extend_from_slice(b"ok\n")?;
+    }
+    Ok(text)
 }
 
 /// Whether a file of 128 pages, as it stands, has one byte at the start of the first `pages` pages and another at the
 /// start of the others.
-fn begin_with(alloc: Global, bench: &Bench, pages: u64, byte: u8, rest: u8) -> Result<bool, Fail> {
-    let mut next = Bench::boot(alloc, bench.store(), Armed::Nothing)?;
-    let (_, mapped) = next.replies(alloc, b"spawn\nmmap 1 0 0x80000 r-- shared 0 0\n");
-    let mut fine = mapped.as_slice() == b"pid 1\naddr 0x10000\n".as_slice();
+fn begin_with(
+    alloc: Global,
+    store: &SimDisk,
+    pages: u64,
+    byte: u8,
+    rest: u8,
+) -> Result<bool, Fail> {
+    let mut trace = Vec::new(alloc);
+    let mut wanted = Vec::new(alloc);
+    trace.extend_from_slice(b"spawn\nmmap 1 0 0x80000 r-- shared 0 0\n")?;
+    wanted.extend_from_slice(b"pid 1\naddr 0x10000\n")?;
     for page in 0..128_u64 {
         let line = format!(in alloc; "load 1 {} 1\n", 0x10000 + 4096 * page)?;
-        let (_, output) = next.replies(alloc, line.as_bytes());
+        trace.extend_from_slice(line.as_bytes())?;
         let shown = if page < pages { byte } else { rest };
-        let wanted = format!(in alloc; "value 0x{shown:02x}\n")?;
-        fine = fine && output.as_slice() == wanted.as_bytes();
+        let reply = format!(in alloc; "value 0x{shown:02x}\n")?;
+        wanted.extend_from_slice(reply.as_bytes())?;
     }
-    Ok(fine)
+    let mut next = Bench::sized(alloc, store, Armed::Nothing, ROOMY)?;
+    let (_, output) = next.replies(alloc, trace.as_slice());
+    Ok(output.as_slice() == wanted.as_slice())
 }
 
 /// An msync takes 127 touched pages, however many are mapped, and refuses 128 without taking any.
 #[test]
 fn an_msync_takes_127_pages(rt: HostRuntime) -> Result<(), Fail> {
-    let mut bench = Bench::boot(rt.alloc(), &image(rt.alloc(), 524288)?, Armed::Nothing)?;
+    let image = image(rt.alloc(), 524288)?;
+    let mut bench = Bench::sized(rt.alloc(), &image, Armed::Nothing, ROOMY)?;
     let (_, mapped) = bench.replies(rt.alloc(), b"spawn\nmmap 1 0 0x80000 rw- shared 0 0\n");
     assert_eq!(rt; mapped.as_slice(), b"pid 1\naddr 0x10000\n".as_slice());
-    assert!(rt; store_each(&mut bench, rt.alloc(), 127, 1)?);
+    let (_, output) = bench.replies(rt.alloc(), stores(rt.alloc(), 127, 1)?.as_slice());
+    assert_eq!(rt; output.as_slice(), successes(rt.alloc(), 127)?.as_slice());
     let (_, output) = bench.replies(rt.alloc(), b"msync 1 0x10000 0x80000 sync\n");
     assert_eq!(rt; output.as_slice(), b"ok\n".as_slice());
-    assert!(rt; store_each(&mut bench, rt.alloc(), 128, 2)?);
+    let (_, output) = bench.replies(rt.alloc(), stores(rt.alloc(), 128, 2)?.as_slice());
+    assert_eq!(rt; output.as_slice(), successes(rt.alloc(), 128)?.as_slice());
     let (_, output) = bench.replies(rt.alloc(), b"msync 1 0x10000 0x80000 sync\n");
     assert_eq!(rt; output.as_slice(), b"error 28 ENOSPC\n".as_slice());
-    assert!(rt; begin_with(rt.alloc(), &bench, 127, 1, 0)?);
+    assert!(rt; begin_with(rt.alloc(), bench.store(), 127, 1, 0)?);
     let halves = b"msync 1 0x10000 0x40000 sync\nmsync 1 0x50000 0x40000 sync\n";
     let (_, output) = bench.replies(rt.alloc(), halves.as_slice());
     assert_eq!(rt; output.as_slice(), b"ok\nok\n".as_slice());
-    assert!(rt; begin_with(rt.alloc(), &bench, 128, 2, 0)?);
+    assert!(rt; begin_with(rt.alloc(), bench.store(), 128, 2, 0)?);
     Ok(())
 }
 

@@ -110,13 +110,17 @@ fn a_stop_at_each_write_leaves_the_old_file_or_the_new_one(rt: HostRuntime) -> R
     Ok(())
 }
 
-/// A machine on an image whose call so many after boot fails, once it has run an msync and two commands more.
+/// The reads that bring a page in.
+const PAGE_READS: u64 = 8;
+
+/// A machine on an image whose call so many after boot and the reads of its page fails, once it has run an msync and three
+/// lines more.
 fn failed_at<R: AllocGlobal + Abort>(rt: &R, call: u64) -> Result<Bench, Fail> {
     let disk = image(rt.alloc(), 4096)?;
     let at_boot = Bench::boot(rt.alloc(), &disk, Armed::Nothing)?
         .store()
         .calls();
-    let armed = Armed::FailAtCall(at_boot.saturating_add(call));
+    let armed = Armed::FailAtCall(at_boot.saturating_add(PAGE_READS).saturating_add(call));
     let mut bench = Bench::boot(rt.alloc(), &disk, armed)?;
     let (_, output) = bench.replies(rt.alloc(), STORED);
     assert_eq!(rt; output.as_slice(), b"pid 1\naddr 0x10000\nok\n".as_slice());

@@ -12,6 +12,32 @@ one_word [] d name n e = absurd (omega arith)
 one_word (a ∷ []) d name n e = ap (λ t. t ∷ []) e
 one_word (a ∷ b ∷ more) d name n e = absurd (omega arith)
 
+-- the first word is the name, whatever follows
+one_place : (ws : List (Bor (List ℕ))) (d : Bor (List ℕ)) (name : List ℕ) → 1 ≤ length ws → (get_or ws 0 d).now ≡ name → texts ws ≡ name ∷ texts (drop 1 ws)
+one_place [] d name n e = absurd (omega arith)
+one_place (a ∷ more) d name n e = ap (λ t. t ∷ texts more) e
+
+pub one_or_more : (ws : List (Bor (List ℕ))) (d : Bor (List ℕ)) (name : List ℕ) → 1 ≤ length ws → (get_or ws 0 d).now ≡ name
+    → texts ws ≡ name ∷ texts (take (length ws - 1) (drop 1 ws))
+one_or_more ws d name n e =
+    let rest : take (length ws - 1) (drop 1 ws) ≡ drop 1 ws = take_all (length ws - 1) (drop 1 ws) (omega (arith, length-drop 1 ws)) in
+    one_place ws d name n e ∙ ap (λ t. name ∷ texts t) (sym rest)
+
+pub two_words : (ws : List (Bor (List ℕ))) (d : Bor (List ℕ)) (name : List ℕ) → length ws ≡ 2 → (get_or ws 0 d).now ≡ name
+    → texts ws ≡ name ∷ (get_or ws 1 d).now ∷ []
+two_words [] d name n e = absurd (omega arith)
+two_words (a ∷ []) d name n e = absurd (omega arith)
+two_words (a ∷ b ∷ []) d name n e = ap (λ t. t ∷ b.now ∷ []) e
+two_words (a ∷ b ∷ x ∷ more) d name n e = absurd (omega arith)
+
+pub three_words : (ws : List (Bor (List ℕ))) (d : Bor (List ℕ)) (name : List ℕ) → length ws ≡ 3 → (get_or ws 0 d).now ≡ name
+    → texts ws ≡ name ∷ (get_or ws 1 d).now ∷ (get_or ws 2 d).now ∷ []
+three_words [] d name n e = absurd (omega arith)
+three_words (a ∷ []) d name n e = absurd (omega arith)
+three_words (a ∷ b ∷ []) d name n e = absurd (omega arith)
+three_words (a ∷ b ∷ x ∷ []) d name n e = ap (λ t. t ∷ b.now ∷ x.now ∷ []) e
+three_words (a ∷ b ∷ x ∷ y ∷ more) d name n e = absurd (omega arith)
+
 three_places : (ws : List (Bor (List ℕ))) (d : Bor (List ℕ)) (name : List ℕ) → 3 ≤ length ws → (get_or ws 0 d).now ≡ name
     → texts ws ≡ name ∷ (get_or ws 1 d).now ∷ (get_or ws 2 d).now ∷ texts (drop 3 ws)
 three_places [] d name n e = absurd (omega arith)

@@ -6,9 +6,9 @@ use Rattle.std.proofs.lemmas.List.Splits.{slice_split-cons_yes, slice_split-cons
 use Rattle.trace_lang.specs.Grammar.{HasNoSpace, IsBack, IsCommand, IsForm, IsPlacing, IsSource, IsWords}
 use Rattle.trace_lang.specs.Words.{words_of}
 use Rattle.vm_types.specs.declared.command.Command.{Command}
-use Rattle.vm_types.specs.declared.command.Command.TheVariants.{Spawn, Mmap, Munmap, Mprotect, Msync, Load, Store}
+use Rattle.vm_types.specs.declared.command.Command.TheVariants.{Spawn, Fork, Exit, Mmap, Munmap, Mprotect, Msync, Load, Store, Fetch}
 use Rattle.vm_types.specs.declared.command.MapSource.{MapSource}
-use Rattle.vm_types.specs.declared.command.MapSource.TheVariants.{Shared}
+use Rattle.vm_types.specs.declared.command.MapSource.TheVariants.{Anon, Private, Shared}
 use Rattle.vm_types.specs.declared.command.Placing.{Placing}
 use Rattle.vm_types.specs.declared.command.Placing.TheVariants.{Hint, Fixed, NoReplace}
 
@@ -59,8 +59,10 @@ words_of_line line (word ∷ words) h some = ap words_of h.joined ∙ split-join
 few_of : (n : ℕ) (words others : List (List ℕ)) → words ≡ others → length others ≡ n → 0 < n → n ≤ 9 → (0 < length words) × (length words ≤ 9)
 few_of n words others e l low high = let m = ap length e ∙ l in (omega (arith, m), omega (arith, m))
 
-source_words : (words : List (List ℕ)) (source : MapSource) → IsSource words source → length words ≡ 3
-source_words words (Shared file offset) h = ap length h.2
+source_words : (words : List (List ℕ)) (source : MapSource) → IsSource words source → length words ≤ 3
+source_words words Anon h = let m = ap length h in omega (arith, m)
+source_words words (Private file offset) h = let m = ap length h.2 in omega (arith, m)
+source_words words (Shared file offset) h = let m = ap length h.2 in omega (arith, m)
 
 placing_words : (words : List (List ℕ)) (placing : Placing) → IsPlacing words placing → length words ≤ 1
 placing_words words Hint h = let m = ap length h in omega (arith, m)
@@ -75,6 +77,8 @@ back_words words source placing h =
 -- a form has one word to nine
 pub form_words : (words : List (List ℕ)) (command : Command) → IsForm words command → (0 < length words) × (length words ≤ 9)
 form_words words Spawn h = few_of 1 words _ h refl (lit< tt) (lit≤ tt)
+form_words words (Fork pid) h = few_of 2 words _ h.1 refl (lit< tt) (lit≤ tt)
+form_words words (Exit pid) h = few_of 2 words _ h.1 refl (lit< tt) (lit≤ tt)
 form_words words (Mmap pid addr len prot source placing) h =
     let m = ap length h.5 in let n = back_words h.4 source placing h.10 in (omega (arith, m, n), omega (arith, m, n))
 form_words words (Munmap pid addr len) h = few_of 4 words _ h.3 refl (lit< tt) (lit≤ tt)
@@ -82,6 +86,7 @@ form_words words (Mprotect pid addr len prot) h = few_of 5 words _ h.4 refl (lit
 form_words words (Msync pid addr len mode) h = few_of 5 words _ h.4 refl (lit< tt) (lit≤ tt)
 form_words words (Load pid addr width) h = few_of 4 words _ h.3 refl (lit< tt) (lit≤ tt)
 form_words words (Store pid addr stored) h = few_of 5 words _ h.4 refl (lit< tt) (lit≤ tt)
+form_words words (Fetch pid addr) h = few_of 3 words _ h.2 refl (lit< tt) (lit≤ tt)
 
 pub same_words : (line : List ℕ) (command : Command) (h : IsCommand line command) → words_of line ≡ h.words
 same_words line command h = words_of_line line h.words h.parted (form_words h.words command h.form).0

@@ -5,9 +5,9 @@ use Rattle.std.specs.Str.Parse.{IsNumeral, digits_value}
 use Rattle.vm_types.specs.Permission.{with_bits}
 use Rattle.vm_types.specs.Width.{byte_count}
 use Rattle.vm_types.specs.declared.command.Command.{Command}
-use Rattle.vm_types.specs.declared.command.Command.TheVariants.{Spawn, Mmap, Munmap, Mprotect, Msync, Load, Store}
+use Rattle.vm_types.specs.declared.command.Command.TheVariants.{Spawn, Fork, Exit, Mmap, Munmap, Mprotect, Msync, Load, Store, Fetch}
 use Rattle.vm_types.specs.declared.command.MapSource.{MapSource}
-use Rattle.vm_types.specs.declared.command.MapSource.TheVariants.{Shared}
+use Rattle.vm_types.specs.declared.command.MapSource.TheVariants.{Anon, Private, Shared}
 use Rattle.vm_types.specs.declared.command.MsyncMode.{MsyncMode}
 use Rattle.vm_types.specs.declared.command.MsyncMode.TheVariants.{Sync, Async}
 use Rattle.vm_types.specs.declared.command.Placing.{Placing}
@@ -48,6 +48,9 @@ IsMode text Async = text ≡ codes "async"
 
 -- the words that say what a mapping is to stand on
 abbrev pub IsSource : List (List ℕ) → MapSource → Type 0
+IsSource words Anon = words ≡ codes "anon" ∷ []
+IsSource words (Private file offset) =
+    (f o : List ℕ) × (words ≡ codes "private" ∷ f ∷ o ∷ []) × IsNumber f file × IsNumber o offset
 IsSource words (Shared file offset) =
     (f o : List ℕ) × (words ≡ codes "shared" ∷ f ∷ o ∷ []) × IsNumber f file × IsNumber o offset
 
@@ -65,6 +68,8 @@ IsBack words source placing = (s e : List (List ℕ)) × (words ≡ s ++ e) × I
 -- the words of a line that stand for the command
 abbrev pub IsForm : List (List ℕ) → Command → Type 0
 IsForm words Spawn = words ≡ codes "spawn" ∷ []
+IsForm words (Fork pid) = (p : List ℕ) × (words ≡ codes "fork" ∷ p ∷ []) × IsNumber p pid
+IsForm words (Exit pid) = (p : List ℕ) × (words ≡ codes "exit" ∷ p ∷ []) × IsNumber p pid
 IsForm words (Mmap pid addr len prot source placing) =
     (p a l t : List ℕ) × (b : List (List ℕ)) × (words ≡ codes "mmap" ∷ p ∷ a ∷ l ∷ t ∷ b)
     × IsNumber p pid × IsNumber a addr × IsNumber l len × IsPermission t prot × IsBack b source placing
@@ -84,6 +89,8 @@ IsForm words (Store pid addr stored) =
     (p a w v : List ℕ) × (words ≡ codes "store" ∷ p ∷ a ∷ w ∷ v ∷ [])
     × IsNumber p pid × IsNumber a addr × IsWidth w stored.width × IsNumber v stored.value
     × (stored.value < 2 ^ (8 * byte_count stored.width))
+IsForm words (Fetch pid addr) =
+    (p a : List ℕ) × (words ≡ codes "fetch" ∷ p ∷ a ∷ []) × IsNumber p pid × IsNumber a addr
 
 -- no space stands in it
 abbrev pub HasNoSpace : List ℕ → Type 0

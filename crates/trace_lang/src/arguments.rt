@@ -59,6 +59,35 @@ fn placing_of(words: &[&[u8]]) -> Option<Placing>
     }
 }
 
+/// Anonymous pages, by the words behind `anon`.
+fn anon_of(end: &[&[u8]]) -> Option<(MapSource, Placing)>
+    ensures found { IfSome result (λ back. IsBack (codes "anon" ∷ map (λ w. w.now) end.now) back.0 back.1) }
+    ensures only { (placing : Placing) → IsPlacing (map (λ w. w.now) end.now) placing → result ≡ Some (MapSource.Anon, placing) }
+{
+    let Some(placing) = placing_of(end) else {
+        return None;
+    };
+    Some((MapSource::Anon, placing))
+}
+
+/// Private pages of a file, by the words behind `private`.
+fn private_of(file: &[u8], offset: &[u8], end: &[&[u8]]) -> Option<(MapSource, Placing)>
+    ensures found { IfSome result (λ back. IsBack (codes "private" ∷ file.now ∷ offset.now ∷ map (λ w. w.now) end.now) back.0 back.1) }
+    ensures only { (number at : ℕ) (placing : Placing) → IsNumber file.now number → IsNumber offset.now at → IsPlacing (map (λ w. w.now) end.now) placing
+        → result ≡ Some (MapSource.Private number at, placing) }
+{
+    let Some(file) = parse_number(file) else {
+        return None;
+    };
+    let Some(offset) = parse_number(offset) else {
+        return None;
+    };
+    let Some(placing) = placing_of(end) else {
+        return None;
+    };
+    Some((MapSource::Private { file, offset }, placing))
+}
+
 /// Shared pages of a file, by the words behind `shared`.
 fn shared_of(file: &[u8], offset: &[u8], end: &[&[u8]]) -> Option<(MapSource, Placing)>
     ensures found { IfSome result (λ back. IsBack (codes "shared" ∷ file.now ∷ offset.now ∷ map (λ w. w.now) end.now) back.0 back.1) }
@@ -84,6 +113,8 @@ pub(crate) fn back_of(words: &[&[u8]]) -> Option<(MapSource, Placing)>
     ensures only { (source : MapSource) (placing : Placing) → IsBack (map (λ w. w.now) words.now) source placing → result ≡ Some (source, placing) }
 {
     match words {
+        [b"anon", end @ ..] => anon_of(end),
+        [b"private", file, offset, end @ ..] => private_of(file, offset, end),
         [b"shared", file, offset, end @ ..] => shared_of(file, offset, end),
         _ => None,
     }

@@ -14,6 +14,28 @@ use crate::arguments::{back_of, mode_of, permission_of};
 use crate::numerals::{parse_number, stored_of, width_of};
 use vm_types::Command;
 
+/// A fork, by the word behind its name.
+fn fork_of(process: &[u8]) -> Option<Command>
+    ensures found { IfSome result (λ command. IsForm (codes "fork" ∷ process.now ∷ []) command) }
+    ensures only { (pid : ℕ) → IsNumber process.now pid → result ≡ Some (Command.Fork pid) }
+{
+    let Some(pid) = parse_number(process) else {
+        return None;
+    };
+    Some(Command::Fork { pid })
+}
+
+/// An exit, by the word behind its name.
+fn exit_of(process: &[u8]) -> Option<Command>
+    ensures found { IfSome result (λ command. IsForm (codes "exit" ∷ process.now ∷ []) command) }
+    ensures only { (pid : ℕ) → IsNumber process.now pid → result ≡ Some (Command.Exit pid) }
+{
+    let Some(pid) = parse_number(process) else {
+        return None;
+    };
+    Some(Command::Exit { pid })
+}
+
 /// A load, by the words behind its name.
 fn load_of(process: &[u8], address: &[u8], bytes: &[u8]) -> Option<Command>
     ensures found { IfSome result (λ command. IsForm (codes "load" ∷ process.now ∷ address.now ∷ bytes.now ∷ []) command) }
@@ -50,6 +72,20 @@ fn store_of(process: &[u8], address: &[u8], bytes: &[u8], value: &[u8]) -> Optio
         return None;
     };
     Some(Command::Store { pid, addr, stored })
+}
+
+/// A fetch, by the words behind its name.
+fn fetch_of(process: &[u8], address: &[u8]) -> Option<Command>
+    ensures found { IfSome result (λ command. IsForm (codes "fetch" ∷ process.now ∷ address.now ∷ []) command) }
+    ensures only { (pid addr : ℕ) → IsNumber process.now pid → IsNumber address.now addr → result ≡ Some (Command.Fetch pid addr) }
+{
+    let Some(pid) = parse_number(process) else {
+        return None;
+    };
+    let Some(addr) = parse_number(address) else {
+        return None;
+    };
+    Some(Command::Fetch { pid, addr })
 }
 
 /// An msync, by the words behind its name.
@@ -165,6 +201,9 @@ pub(crate) fn command_of(words: &[&[u8]]) -> Option<Command>
 {
     match words {
         [b"spawn"] => Some(Command::Spawn),
+        [b"fork", process] => fork_of(process),
+        [b"exit", process] => exit_of(process),
+        [b"fetch", process, address] => fetch_of(process, address),
         [b"load", process, address, bytes] => load_of(process, address, bytes),
         [b"store", process, address, bytes, value] => store_of(process, address, bytes, value),
         [b"msync", process, address, length, waits] => msync_of(process, address, length, waits),

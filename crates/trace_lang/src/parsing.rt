@@ -44,16 +44,13 @@ mod tests {
         })
     }
 
-    fn mapping(placing: Placing) -> Result<Command, BadLine> {
+    fn mapping(prot: Prot, source: MapSource, placing: Placing) -> Result<Command, BadLine> {
         Ok(Command::Mmap {
             pid: 1,
             addr: 0x22000,
             len: 0x1000,
-            prot: Prot::READ | Prot::WRITE,
-            source: MapSource::Shared {
-                file: 0,
-                offset: 0x2000,
-            },
+            prot,
+            source,
             placing,
         })
     }
@@ -70,6 +67,13 @@ mod tests {
     #[test]
     fn each_form_is_read(rt: HostRuntime) {
         assert_eq!(rt; parse_line(b"spawn"), Ok(Command::Spawn));
+        assert_eq!(rt; parse_line(b"fork 1"), Ok(Command::Fork { pid: 1 }));
+        assert_eq!(rt; parse_line(b"exit 0x07"), Ok(Command::Exit { pid: 7 }));
+        let fetch = Command::Fetch {
+            pid: 1,
+            addr: 0x20002,
+        };
+        assert_eq!(rt; parse_line(b"fetch 1 0x20002"), Ok(fetch));
         assert_eq!(rt;
             parse_line(b"load 1 0x10ff8 8"),
             load(0x10ff8, Width::Eight)
@@ -122,7 +126,46 @@ mod tests {
                 Placing::NoReplace,
             ),
         ] {
-            assert_eq!(rt; parse_line(line), mapping(placing));
+            let shared = MapSource::Shared {
+                file: 0,
+                offset: 0x2000,
+            };
+            assert_eq!(rt;
+                parse_line(line),
+                mapping(Prot::READ | Prot::WRITE, shared, placing)
+            );
+        }
+    }
+
+    #[test]
+    fn mappings_are_read_with_each_source(rt: HostRuntime) {
+        let private = MapSource::Private {
+            file: 63,
+            offset: 0x100000000000,
+        };
+        for (line, source, placing) in [
+            (
+                b"mmap 1 0x22000 4096 -w- anon".as_slice(),
+                MapSource::Anon,
+                Placing::Hint,
+            ),
+            (
+                b"mmap 1 0x22000 0x1000 -w- anon noreplace",
+                MapSource::Anon,
+                Placing::NoReplace,
+            ),
+            (
+                b"mmap 1 0x22000 0x1000 -w- private 63 0x100000000000",
+                private,
+                Placing::Hint,
+            ),
+            (
+                b"mmap 1 0x22000 0x1000 -w- private 0x3f 0x100000000000 fixed",
+                private,
+                Placing::Fixed,
+            ),
+        ] {
+            assert_eq!(rt; parse_line(line), mapping(Prot::WRITE, source, placing));
         }
     }
 
@@ -157,6 +200,19 @@ mod tests {
             b" spawn",
             b"spawn\r",
             b"SPAWN",
+            b"fork",
+            b"fork ",
+            b"fork  1",
+            b"fork 1 1",
+            b"fork 18446744073709551616",
+            b"exit",
+            b"exit all",
+            b"exit 1 ",
+            b"exit 1 1",
+            b"fetch 1",
+            b"fetch 1  0x10000",
+            b"fetch 1 0x10000 4",
+            b"fetch 1 0x10000000000000000",
             b"load  1 0x10000 1",
             b"load 1 0x10000 1 ",
             b"load 1 0x10000",
@@ -180,6 +236,19 @@ mod tests {
             b"mmap 1 0 4096 rw- shared 0 fixed",
             b"mmap 1 0 4096 rw- fixed shared 0 0",
             b"mmap 1 0 4096 rw- fixed",
+            b"mmap 1 0 1 rw-",
+            b"mmap 1 0 1 rw-  anon",
+            b"mmap 1 0 1 rw- ANON",
+            b"mmap 1 0 1 rw- anonymous",
+            b"mmap 1 0 1 rw- anon 0",
+            b"mmap 1 0 1 rw- anon 0 0",
+            b"mmap 1 0 1 rw- anon fixed noreplace",
+            b"mmap 1 0 1 rw- private",
+            b"mmap 1 0 1 rw- private 0",
+            b"mmap 1 0 1 rw- private 0 0 0",
+            b"mmap 1 0 1 rw- private fixed 0 0",
+            b"mmap 1 0 1 rw- private 0 18446744073709551616",
+            b"mmap 1 0 1 rw- anon shared 0 0",
             b"munmap 1 0x10000",
             b"munmap 1 0x10000 4096 4096",
             b"munmap 1 0x10000 4096 fixed",

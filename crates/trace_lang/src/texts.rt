@@ -183,6 +183,8 @@ mod tests {
             Reply::Refused(Errno::EOVERFLOW),
             b"error 75 EOVERFLOW\n",
         );
+        expect(&rt, Reply::Refused(Errno::EAGAIN), b"error 11 EAGAIN\n");
+        expect(&rt, Reply::Stalled(Stall::NoFrames), b"stall 1 NOFRAMES\n");
         expect(&rt, Reply::Stalled(Stall::SwapDevice), b"stall 3 SWAPDEV\n");
         expect(&rt, Reply::Halted, b"halted\n");
         assert_eq!(rt; bad_line_text(), b"bad line\n".as_slice());

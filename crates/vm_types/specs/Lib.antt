@@ -15,7 +15,6 @@ pub mod Refusal
 pub mod Rows
 pub mod Run
 pub mod Runs
-pub mod StageLimits
 pub mod Stalls
 pub mod State
 pub mod Step

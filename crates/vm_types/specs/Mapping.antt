@@ -1,7 +1,7 @@
 -- mmap: its checks in their order, and the pages that it leaves. mmap(2): MAP_FIXED, MAP_FIXED_NOREPLACE.
-use Rattle.std.specs.Prelude.{ℕ, ◌+◌, ◌-◌, ◌/◌, ◌%◌, ◌^◌, Bool, true, false, not, ◌==◌, ◌&&◌, nat_lt, if◌then◌else◌, List, [], ◌∷◌, Option, Some, None, is_none}
+use Rattle.std.specs.Prelude.{ℕ, ◌≡◌, refl, ◌+◌, ◌-◌, ◌/◌, ◌%◌, ◌^◌, Bool, true, false, not, ◌==◌, ◌&&◌, nat_lt, if◌then◌else◌, List, [], ◌∷◌, Option, Some, None, is_none}
 use Rattle.vm_types.specs.declared.command.MapSource.{MapSource}
-use Rattle.vm_types.specs.declared.command.MapSource.TheVariants.{Shared}
+use Rattle.vm_types.specs.declared.command.MapSource.TheVariants.{Anon, Private, Shared}
 use Rattle.vm_types.specs.declared.command.Placing.{Placing}
 use Rattle.vm_types.specs.declared.command.Placing.TheVariants.{Hint, Fixed, NoReplace}
 use Rattle.vm_types.specs.declared.file.FileInfo.{FileInfo}
@@ -9,11 +9,12 @@ use Rattle.vm_types.specs.declared.permission.Prot.{Prot}
 use Rattle.vm_types.specs.declared.refusal.Errno.{Errno}
 use Rattle.vm_types.specs.declared.refusal.Errno.TheVariants.{ESRCH, EBADF, ENOMEM, EACCES, EEXIST, EINVAL, EOVERFLOW}
 use Rattle.vm_types.specs.declared.region.Attr.{Attr}
+use Rattle.vm_types.specs.declared.region.Backing.{Backing}
 use Rattle.vm_types.specs.declared.region.Backing.TheVariants as Backings
 use Rattle.vm_types.specs.Attributes.{attr_after}
 use Rattle.vm_types.specs.Checks.{Check, first_of, page_count}
 use Rattle.vm_types.specs.Files.{Files}
-use Rattle.vm_types.specs.Permission.{can_write, kept}
+use Rattle.vm_types.specs.Permission.{can_write, kept, with_bits}
 use Rattle.vm_types.specs.Placement.{placed, fixed_place, is_free}
 use Rattle.vm_types.specs.Rows.{in_row, replaced}
 use Rattle.vm_types.specs.Runs.{run_count}
@@ -32,6 +33,8 @@ is_odd_address placing addr = is_exact placing && not (addr % 4096 == 0)
 
 -- the offset in the file is no multiple of the page size
 abbrev pub is_odd_offset : MapSource → Bool
+is_odd_offset Anon = false
+is_odd_offset (Private file offset) = not (offset % 4096 == 0)
 is_odd_offset (Shared file offset) = not (offset % 4096 == 0)
 
 abbrev pub is_unwritable : Option FileInfo → Bool
@@ -40,20 +43,31 @@ is_unwritable (Some info) = info.read_only
 
 -- there is no such file
 abbrev pub lacks_file : Files → MapSource → Bool
+lacks_file files Anon = false
+lacks_file files (Private file offset) = is_none (files file)
 lacks_file files (Shared file offset) = is_none (files file)
 
--- stores to a file that may only be read are asked for
+-- stores to a file that may only be read are asked for; a private mapping's stores never reach its file
 abbrev pub denies_write : Files → MapSource → Prot → Bool
+denies_write files Anon prot = false
+denies_write files (Private file offset) prot = false
 denies_write files (Shared file offset) prot = can_write prot && is_unwritable (files file)
 
 -- the mapping would pass the last page that a file can have
 abbrev pub passes_end : MapSource → ℕ → Bool
+passes_end Anon pages = false
+passes_end (Private file offset) pages = nat_lt (2 ^ 32) (offset / 4096 + pages)
 passes_end (Shared file offset) pages = nat_lt (2 ^ 32) (offset / 4096 + pages)
+
+-- what stands behind the first page of the mapping
+abbrev pub first_backing : MapSource → Backing
+first_backing Anon = Backings.Anon
+first_backing (Private file offset) = Backings.Private (record { file = file; page = offset / 4096 })
+first_backing (Shared file offset) = Backings.Shared (record { file = file; page = offset / 4096 })
 
 -- the first page of the mapping
 abbrev pub first_attr : MapSource → Prot → Attr
-first_attr (Shared file offset) prot =
-    record { prot = kept prot; backing = Backings.Shared (record { file = file; page = offset / 4096 }) }
+first_attr source prot = record { prot = kept prot; backing = first_backing source }
 
 -- a page of the place is mapped, and may not be replaced
 abbrev pub is_taken : Placing → (ℕ → Option View) → ℕ → Option ℕ → Bool
@@ -104,3 +118,17 @@ mapped space first pages attr page =
 -- the state with such a row in one process
 abbrev pub with_mapping : State → ℕ → ℕ → ℕ → Attr → State
 with_mapping s pid first pages attr = record s { views = λ p. if p == pid then mapped (s.views pid) first pages attr else s.views p }
+
+-- the last page that a file can have is number 2 ^ 32 - 1, whoever sees the stores
+pub private_past_the_end : passes_end (Private 0 0x100000000000) 1 ≡ true
+private_past_the_end = refl
+
+pub last_page_of_a_file : passes_end (Private 0 0xffffffff000) 1 ≡ false
+last_page_of_a_file = refl
+
+-- a file that may only be read, to be written: refused where the stores would reach it
+pub shared_of_a_read_only_file : denies_write (λ f. Some (record { length = 4096; read_only = true })) (Shared 0 0) (with_bits 3) ≡ true
+shared_of_a_read_only_file = refl
+
+pub private_of_a_read_only_file : denies_write (λ f. Some (record { length = 4096; read_only = true })) (Private 0 0) (with_bits 3) ≡ false
+private_of_a_read_only_file = refl

@@ -2,7 +2,7 @@
 -- Park, Kelly and Shen, Failure-Atomic msync, EuroSys 2013.
 use Rattle.std.specs.Prelude.{ℕ, zero, suc, ◌≤◌, ◌≡◌, Bool, true, false, if◌then◌else◌, List, [], ◌∷◌}
 use Rattle.vm_types.specs.declared.command.Command.{Command}
-use Rattle.vm_types.specs.declared.command.Command.TheVariants.{Spawn, Mmap, Munmap, Mprotect, Msync, Load, Store}
+use Rattle.vm_types.specs.declared.command.Command.TheVariants.{Spawn, Fork, Exit, Mmap, Munmap, Mprotect, Msync, Load, Store, Fetch}
 use Rattle.vm_types.specs.declared.refusal.Errno.{Errno}
 use Rattle.vm_types.specs.declared.refusal.Errno.TheVariants.{ESRCH, EIO, EBADF, EAGAIN, ENOMEM, EACCES, EEXIST, EINVAL, ENOSPC, EOVERFLOW}
 use Rattle.vm_types.specs.declared.reply.Reply.{Reply}
@@ -20,11 +20,14 @@ pub record Event : Type 0 where
 abbrev pub is_msync : Command → Bool
 is_msync (Msync pid addr len mode) = true
 is_msync Spawn = false
+is_msync (Fork pid) = false
+is_msync (Exit pid) = false
 is_msync (Mmap pid addr len prot source placing) = false
 is_msync (Munmap pid addr len) = false
 is_msync (Mprotect pid addr len prot) = false
 is_msync (Load pid addr width) = false
 is_msync (Store pid addr value) = false
+is_msync (Fetch pid addr) = false
 
 abbrev pub is_io_error : Errno → Bool
 is_io_error EIO = true

@@ -1,7 +1,7 @@
 -- When a command may stall: it would succeed, but memory or a device is wanting. Our own choice.
 use Rattle.std.specs.Prelude.{◌≡◌, Bool, true, false, is_some}
 use Rattle.vm_types.specs.declared.command.Command.{Command}
-use Rattle.vm_types.specs.declared.command.Command.TheVariants.{Spawn, Mmap, Munmap, Mprotect, Msync, Load, Store}
+use Rattle.vm_types.specs.declared.command.Command.TheVariants.{Spawn, Fork, Exit, Mmap, Munmap, Mprotect, Msync, Load, Store, Fetch}
 use Rattle.vm_types.specs.declared.refusal.Stall.{Stall}
 use Rattle.vm_types.specs.declared.refusal.Stall.TheVariants.{NoFrames, NoSwap, SwapDevice, StoreDevice}
 use Rattle.vm_types.specs.declared.reply.Reply.{Reply}
@@ -29,32 +29,41 @@ is_success Halted = false
 -- whether a command needs frames
 abbrev pub needs_frames : Command → Bool
 needs_frames Spawn = true
+needs_frames (Fork pid) = true
+needs_frames (Exit pid) = false
 needs_frames (Mmap pid addr len prot source placing) = false
 needs_frames (Munmap pid addr len) = false
 needs_frames (Mprotect pid addr len prot) = false
 needs_frames (Msync pid addr len mode) = false
 needs_frames (Load pid addr width) = true
 needs_frames (Store pid addr value) = true
+needs_frames (Fetch pid addr) = true
 
 -- whether a command may read a file page from the store
 abbrev pub reads_files : Command → Bool
 reads_files Spawn = false
+reads_files (Fork pid) = false
+reads_files (Exit pid) = false
 reads_files (Mmap pid addr len prot source placing) = false
 reads_files (Munmap pid addr len) = false
 reads_files (Mprotect pid addr len prot) = false
 reads_files (Msync pid addr len mode) = false
 reads_files (Load pid addr width) = true
 reads_files (Store pid addr value) = true
+reads_files (Fetch pid addr) = true
 
 -- whether a command may read the swap device
 abbrev pub reads_swap : State → Command → Bool
 reads_swap s Spawn = true
+reads_swap s (Fork pid) = true
+reads_swap s (Exit pid) = false
 reads_swap s (Mmap pid addr len prot source placing) = false
 reads_swap s (Munmap pid addr len) = false
 reads_swap s (Mprotect pid addr len prot) = false
 reads_swap s (Msync pid addr len mode) = is_some (commits s (Msync pid addr len mode))
 reads_swap s (Load pid addr width) = true
 reads_swap s (Store pid addr value) = true
+reads_swap s (Fetch pid addr) = true
 
 -- whether that stall may come of that command
 abbrev pub is_open_to : State → Command → Stall → Bool

@@ -1,28 +1,31 @@
 -- What each command answers and what it leaves.
--- mmap(2), munmap(2), mprotect(2), fork(2), msync(2), sigaction(2); the order of the checks is our choice.
-use Rattle.std.specs.Prelude.{ℕ, ◌%◌, ◌*◌, ◌/◌, ◌==◌, if◌then◌else◌, Option, Some, None}
+-- mmap(2), munmap(2), mprotect(2), fork(2), _exit(2), msync(2), sigaction(2); the order of the checks is our choice.
+use Rattle.std.specs.Prelude.{ℕ, ◌≡◌, refl, ◌+◌, ◌%◌, ◌*◌, ◌/◌, ◌==◌, ◌&&◌, not, false, nat_lt, if◌then◌else◌, [], ◌∷◌, Option, Some, None}
 use Rattle.vm_types.specs.declared.access.Access.{Access}
 use Rattle.vm_types.specs.declared.access.Access.TheVariants as Accesses
 use Rattle.vm_types.specs.declared.access.StoredValue.{StoredValue}
 use Rattle.vm_types.specs.declared.command.Command.{Command}
-use Rattle.vm_types.specs.declared.command.Command.TheVariants.{Spawn, Mmap, Munmap, Mprotect, Msync, Load, Store}
+use Rattle.vm_types.specs.declared.command.Command.TheVariants.{Spawn, Fork, Exit, Mmap, Munmap, Mprotect, Msync, Load, Store, Fetch}
 use Rattle.vm_types.specs.declared.command.MapSource.{MapSource}
 use Rattle.vm_types.specs.declared.permission.Prot.{Prot}
+use Rattle.vm_types.specs.declared.refusal.Code.TheVariants.{BusAdraln, SegvAccerr}
 use Rattle.vm_types.specs.declared.refusal.Errno.{Errno}
 use Rattle.vm_types.specs.declared.refusal.Errno.TheVariants.{ESRCH, EAGAIN, ENOMEM}
+use Rattle.vm_types.specs.declared.region.Backing.TheVariants.{Anon}
 use Rattle.vm_types.specs.declared.reply.Reply.{Reply}
 use Rattle.vm_types.specs.declared.reply.Reply.TheVariants.{Process, Address, Done, Value, Faulted, Refused}
 use Rattle.vm_types.specs.declared.width.Width.{Width}
+use Rattle.vm_types.specs.declared.width.Width.TheVariants.{Four}
 use Rattle.vm_types.specs.Access.{loaded, stored}
 use Rattle.vm_types.specs.Checks.{first_of, page_count, pages_from}
 use Rattle.vm_types.specs.Mapping.{mmap_errno, mmap_place, first_attr, with_mapping}
 use Rattle.vm_types.specs.Msync.{Ruling, Refuses, Passes, Takes, msync_ruling, committed, synced}
-use Rattle.vm_types.specs.Permission.{kept}
-use Rattle.vm_types.specs.Processes.{least_free_pid, with_process}
+use Rattle.vm_types.specs.Permission.{kept, with_bits}
+use Rattle.vm_types.specs.Processes.{least_free_from, least_free_pid, with_process, forked, without_process}
 use Rattle.vm_types.specs.Ranges.{munmap_checks, without_row, asked_checks, row_checks, with_protection}
 use Rattle.vm_types.specs.State.{State}
 use Rattle.vm_types.specs.Verdict.{Verdict, Fine, Faults, verdict, fault_of}
-use Rattle.vm_types.specs.View.{Pages, shown}
+use Rattle.vm_types.specs.View.{Pages, View, shown, zero_page}
 use Rattle.vm_types.specs.Width.{byte_count}
 
 -- a reply, and the state after it
@@ -38,6 +41,15 @@ answers s reply = record { reply = reply; state = s }
 abbrev pub spawn_outcome : State → Option ℕ → Outcome
 spawn_outcome s None = answers s (Refused EAGAIN)
 spawn_outcome s (Some pid) = record { reply = Process pid; state = with_process s pid (λ page. None) }
+
+-- fork of a live process: the least free number gets the pages of the parent, own copies included
+abbrev pub fork_outcome : State → ℕ → Option ℕ → Outcome
+fork_outcome s parent None = answers s (Refused EAGAIN)
+fork_outcome s parent (Some child) = record { reply = Process child; state = forked s parent child }
+
+-- exit of a live process: its number is free, and its pages are gone
+abbrev pub exit_outcome : State → ℕ → Outcome
+exit_outcome s pid = record { reply = Done; state = without_process s pid }
 
 -- mmap: refused, or placed
 abbrev pub mmap_outcome : State → ℕ → ℕ → Prot → MapSource → Option Errno → Option ℕ → Outcome
@@ -86,6 +98,11 @@ store_outcome s pid addr value (Faults code) = answers s (Faulted (fault_of Acce
 store_outcome s pid addr value (Fine view) =
     record { reply = Done; state = stored s pid addr view (byte_count value.width) value.value }
 
+-- fetch: the number of four bytes that the page shows
+abbrev pub fetch_outcome : State → ℕ → Verdict → Outcome
+fetch_outcome s addr (Faults code) = answers s (Faulted (fault_of Accesses.Fetch code addr))
+fetch_outcome s addr (Fine view) = answers s (Value Four (loaded (shown s.volatile view) (addr % 4096) (byte_count Four)))
+
 -- what a process's access comes to
 abbrev pub judged : State → ℕ → ℕ → Width → Access → Verdict
 judged s pid addr width access = verdict s.files (s.views pid) addr (byte_count width) access
@@ -93,6 +110,8 @@ judged s pid addr width access = verdict s.files (s.views pid) addr (byte_count 
 -- what a machine that runs and lacks nothing answers and leaves
 abbrev pub outcome : State → Command → Outcome
 outcome s Spawn = spawn_outcome s (least_free_pid s.live)
+outcome s (Fork pid) = if s.live pid then fork_outcome s pid (least_free_pid s.live) else answers s (Refused ESRCH)
+outcome s (Exit pid) = if s.live pid then exit_outcome s pid else answers s (Refused ESRCH)
 outcome s (Mmap pid addr len prot source placing) =
     mmap_outcome s pid len prot source (mmap_errno s pid addr len prot source placing) (mmap_place s pid addr len placing)
 outcome s (Munmap pid addr len) = munmap_outcome s pid addr len
@@ -102,16 +121,21 @@ outcome s (Load pid addr width) =
     if s.live pid then load_outcome s addr width (judged s pid addr width Accesses.Load) else answers s (Refused ESRCH)
 outcome s (Store pid addr value) =
     if s.live pid then store_outcome s pid addr value (judged s pid addr value.width Accesses.Store) else answers s (Refused ESRCH)
+outcome s (Fetch pid addr) =
+    if s.live pid then fetch_outcome s addr (judged s pid addr Four Accesses.Fetch) else answers s (Refused ESRCH)
 
 -- how an msync is judged; any other command makes nothing durable
 abbrev pub ruling : State → Command → Ruling
 ruling s Spawn = Passes
+ruling s (Fork pid) = Passes
+ruling s (Exit pid) = Passes
 ruling s (Mmap pid addr len prot source placing) = Passes
 ruling s (Munmap pid addr len) = Passes
 ruling s (Mprotect pid addr len prot) = Passes
 ruling s (Msync pid addr len mode) = msync_ruling s pid addr len mode
 ruling s (Load pid addr width) = Passes
 ruling s (Store pid addr value) = Passes
+ruling s (Fetch pid addr) = Passes
 
 -- the durable pages with what is taken made durable, all of it at once
 abbrev pub takes : State → Ruling → Pages → Pages
@@ -128,3 +152,61 @@ commit_of s (Takes pid first count) = Some (committed s pid first count s.durabl
 -- the same of a command
 abbrev pub commits : State → Command → Option Pages
 commits s command = commit_of s (ruling s command)
+
+-- a process with two pages of anonymous memory: page 16 to be read and written, with its first byte stored, and page 17
+-- to be run alone
+abbrev pub sample_space : ℕ → Option View
+sample_space page =
+    if page == 16 then Some (record { attr = record { prot = with_bits 3; backing = Anon }; own = Some (0x11 ∷ []) })
+    else (if page == 17 then Some (record { attr = record { prot = with_bits 4; backing = Anon }; own = None }) else None)
+
+-- so many processes of such pages, and no file
+abbrev pub sample_state : ℕ → State
+sample_state count = record {
+  live = λ pid. not (pid == 0) && nat_lt pid (count + 1);
+  views = λ pid. sample_space;
+  files = λ file. None;
+  volatile = λ file page. zero_page;
+  durable = λ file page. zero_page;
+  touched = λ file page. false;
+  ends = None;
+}
+
+-- the child of the only process is number 2, and sees what its parent stored
+pub child : (outcome (sample_state 1) (Fork 1)).reply ≡ Process 2
+unfolding least_free_from
+child = refl
+
+pub child_page : (outcome (sample_state 1) (Fork 1)).state.views 2 16 ≡ sample_space 16
+unfolding least_free_from
+child_page = refl
+
+-- with 64 processes there is no number, which is looked at after the parent
+pub no_child : (outcome (sample_state 64) (Fork 64)).reply ≡ Refused EAGAIN
+unfolding least_free_from
+no_child = refl
+
+pub no_parent : (outcome (sample_state 64) (Fork 65)).reply ≡ Refused ESRCH
+no_parent = refl
+
+-- the number of the process that ends is the next one's, and a second end finds none
+pub next_number : (outcome (outcome (sample_state 7) (Exit 3)).state Spawn).reply ≡ Process 3
+unfolding least_free_from
+next_number = refl
+
+pub ended_twice : (outcome (outcome (sample_state 7) (Exit 3)).state (Exit 3)).reply ≡ Refused ESRCH
+ended_twice = refl
+
+-- the page that may be run alone is zeros to a fetch and faults at a load; the other one faults at a fetch
+pub fetched : (outcome (sample_state 1) (Fetch 1 0x11000)).reply ≡ Value Four 0
+unfolding zero_page
+fetched = refl
+
+pub not_read : (outcome (sample_state 1) (Load 1 0x11000 Four)).reply ≡ Faulted record { cause = 13; code = SegvAccerr; addr = 0x11000 }
+not_read = refl
+
+pub not_run : (outcome (sample_state 1) (Fetch 1 0x10000)).reply ≡ Faulted record { cause = 12; code = SegvAccerr; addr = 0x10000 }
+not_run = refl
+
+pub odd_fetch : (outcome (sample_state 1) (Fetch 1 0x20002)).reply ≡ Faulted record { cause = 0; code = BusAdraln; addr = 0x20002 }
+odd_fetch = refl

@@ -4,10 +4,14 @@ use crate::access::StoredValue;
 use crate::permission::Prot;
 use crate::width::Width;
 
-/// What a mapping is to stand on, as it was asked for.
+/// What a mapping is to stand on, as it was asked for (mmap(2), MAP_ANONYMOUS, MAP_PRIVATE and MAP_SHARED).
 #[derive(Clone, Copy, Debug, PartialEq, Eq)]
 pub enum MapSource {
-    /// Shared pages of a file, from a byte offset on.
+    /// Pages of zeros. Stores are seen by the process alone (MAP_ANONYMOUS with MAP_PRIVATE).
+    Anon,
+    /// Pages of a file, from a byte offset on. Stores are seen by the process alone (MAP_PRIVATE).
+    Private { file: u64, offset: u64 },
+    /// Pages of a file, from a byte offset on. Stores are seen by all mappings of the file (MAP_SHARED).
     Shared { file: u64, offset: u64 },
 }
 
@@ -32,7 +36,17 @@ pub enum MsyncMode {
 /// A command. Addresses and lengths are in bytes.
 #[derive(Clone, Copy, Debug, PartialEq, Eq)]
 pub enum Command {
+    /// Begins a process with no page mapped.
     Spawn,
+    /// Begins a process with the pages of another, own copies included (fork(2)).
+    Fork {
+        pid: u64,
+    },
+    /// Ends a process (_exit(2)).
+    Exit {
+        pid: u64,
+    },
+    /// Maps pages (mmap(2)).
     Mmap {
         pid: u64,
         addr: u64,
@@ -41,31 +55,41 @@ pub enum Command {
         source: MapSource,
         placing: Placing,
     },
+    /// Maps pages no more (munmap(2)).
     Munmap {
         pid: u64,
         addr: u64,
         len: u64,
     },
+    /// Gives mapped pages another permission (mprotect(2)).
     Mprotect {
         pid: u64,
         addr: u64,
         len: u64,
         prot: Prot,
     },
+    /// Makes stores to shared pages durable, all at once (msync(2)).
     Msync {
         pid: u64,
         addr: u64,
         len: u64,
         mode: MsyncMode,
     },
+    /// Reads a number.
     Load {
         pid: u64,
         addr: u64,
         width: Width,
     },
+    /// Writes a number.
     Store {
         pid: u64,
         addr: u64,
         stored: StoredValue,
+    },
+    /// Reads an instruction, of four bytes.
+    Fetch {
+        pid: u64,
+        addr: u64,
     },
 }

@@ -28,6 +28,12 @@ pub const PAGE_BYTES: usize = 4096;
 /// Bytes of a sector of a device.
 pub const SECTOR_BYTES: usize = 512;
 
+/// The first user page, at address `0x10000`.
+pub const USER_START: u64 = 16;
+
+/// One past the last user page, which ends at address `0x3fffffffff`.
+pub const USER_END: u64 = 1 << 26;
+
 /// The most processes that live at once; their numbers are 1 to this one.
 pub const PROCESSES: usize = 64;
 

@@ -1,6 +1,7 @@
 //! Numbers that are no mere numbers: processes, pages, frames, slots and physical addresses.
 ghost use Rattle.std.specs.Prelude.{◌≡◌, ◌<◌, ◌≤◌, ◌^◌, IfSome, IsSome, ◌↔◌};
 
+use crate::{USER_END, USER_START};
 use std::marker::Model;
 
 /// A process number, 1 to 64. In contracts it is that number.
@@ -67,7 +68,7 @@ impl Vpn {
         ensures found { IfSome result (λ page. page ≡ number) }
         ensures known { IsSome result ↔ ((16 ≤ number) × (number < 2 ^ 26)) }
     {
-        if number >= 16 && number < 1 << 26 {
+        if number >= USER_START && number < USER_END {
             Some(Vpn { page: number })
         } else {
             None

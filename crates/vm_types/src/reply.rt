@@ -7,13 +7,13 @@ use crate::width::Width;
 /// The answer to a command.
 #[derive(Clone, Copy, Debug, PartialEq, Eq)]
 pub enum Reply {
-    /// The process that a spawn made.
+    /// The process that a spawn or a fork made.
     Process(Pid),
     /// Where a mapping begins, in bytes.
     Address(u64),
     /// Done.
     Done,
-    /// What a load of that width read.
+    /// What a load of that width, or a fetch of four bytes, read.
     Value { width: Width, value: u64 },
     /// The access faulted.
     Faulted(Fault),

@@ -34,6 +34,8 @@ fn numbers_have_ranges(rt: HostRuntime) -> Result<(), Fail> {
     );
     assert_eq!(rt; Vpn::new(0xf), None);
     assert_eq!(rt; Vpn::new(0x400_0000), None);
+    assert_eq!(rt; USER_START * PAGE_BYTES as u64, 0x10000);
+    assert_eq!(rt; USER_END * PAGE_BYTES as u64, 0x3f_ffff_ffff + 1);
     Ok(())
 }
 

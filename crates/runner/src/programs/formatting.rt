@@ -3,9 +3,9 @@ ghost use Rattle.std.specs.Prelude.{◌≡◌, ◌≤◌, IfOk};
 
 use super::faults::{ProgramFault, report};
 use super::files::{Missing, open_disk};
-use super::sources::{image_bytes, open_sources};
+use super::sources::open_sources;
 use super::words::format_words;
-use file_store::format;
+use file_store::{format, image_bytes};
 use std::fs::{File, Files};
 use std::io::{Read, Write};
 

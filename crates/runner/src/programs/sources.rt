@@ -1,6 +1,5 @@
 //! The files of a new image, as their specs name them.
-ghost use Rattle.std.specs.Prelude.{◌≡◌, ◌+◌, ◌*◌, ◌<◌, ◌^◌, IfOk, IfSome, IfNone, IsSome, map};
-ghost use Rattle.file_store.specs.Format.{total_pages};
+ghost use Rattle.std.specs.Prelude.{◌≡◌, IfOk, IfSome, IfNone, IsSome, map};
 ghost use Rattle.runner.specs.declared.programs.sources.FileSpec.{FileSpec};
 ghost use Rattle.runner.specs.Specs.{IsSpec, IsSourceOf, AreSources};
 
@@ -10,10 +9,6 @@ use super::numbers::number;
 use file_store::FileSource;
 use std::alloc::Global;
 use std::fs::{File, Files};
-use vm_types::{PAGE_BYTES, SECTOR_BYTES};
-
-/// The sectors of an image before its first home page.
-const FIRST_HOME: u64 = 1020;
 
 /// What a spec asks for.
 #[derive(Clone, Copy, Debug, PartialEq, Eq)]
@@ -104,22 +99,4 @@ fn open_host<'a, R: Files<File = File>>(
         }),
         Err(_) => Err(ProgramFault::BadSpec(spec)),
     }
-}
-
-/// The bytes of an image for these files: the sectors before the first home page, and the home pages.
-pub(crate) fn image_bytes<R>(sources: &[FileSource<R>]) -> u64
-    ensures { total_pages sources.now < 2 ^ 50 → result ≡ 512 * (1020 + 8 * total_pages sources.now) }
-{
-    let homes = home_pages(sources);
-    (SECTOR_BYTES as u64 * FIRST_HOME).saturating_add(homes.saturating_mul(PAGE_BYTES as u64))
-}
-
-fn home_pages<R>(sources: &[FileSource<R>]) -> u64
-    ensures { total_pages sources.now < 2 ^ 50 → result ≡ total_pages sources.now }
-{
-    let mut homes: u64 = 0;
-    for source in sources {
-        homes = homes.saturating_add(u64::from(source.length).div_ceil(PAGE_BYTES as u64));
-    }
-    homes
 }

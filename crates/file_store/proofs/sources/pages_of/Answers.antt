@@ -2,16 +2,15 @@ use Rattle.std.proofs.Common.{arith}
 use Rattle.file_store.proofs.Totals.{total_pages-rest, total_pages-end}
 use Rattle.file_store.proofs.sources.pages_of.Goals as goal
 
-pub loop-f-preserved : goal.loop-f-preserved
-loop-f-preserved g c =
-    let e = total_pages-rest c.args.sources.now c.loop-f.f c.index-sources-f.result c.loop-f-test.true c.index-sources-f.is in
+pub loop-source-preserved : goal.loop-source-preserved
+loop-source-preserved g c =
+    let e = total_pages-rest c.args.sources.now c.loop-source.source-index c.source-item.result c.loop-source-test.true c.source-item.is in
     record {
-      rest = omega (arith, e, c.loop-f.invariant.rest, c.pages-total.ensures.count);
-      fits = omega (arith, c.loop-f.invariant.fits, c.pages-total.ensures.bound);
+      rest = omega (arith, e, c.loop-source.invariant.rest, c.pages.ensures.count, c.saturating_add-total.ensures);
+      fits = omega (arith, c.saturating_add-total.ensures);
     }
 
-pub overflow_add-total : goal.overflow_add-total
-overflow_add-total g c = omega (arith, c.requires, c.loop-f.invariant.fits, c.loop-f-test.true, c.pages-total.ensures.bound)
-
 pub returns : goal.returns
-returns g c = let e = total_pages-end c.args.sources.now c.loop-f.f c.loop-f-test.false in omega (arith, e, c.loop-f.invariant.rest)
+returns g c =
+    let e = total_pages-end c.args.sources.now c.loop-source.source-index c.loop-source-test.false in
+    omega (arith, e, c.loop-source.invariant.rest, c.loop-source.invariant.fits)

@@ -1,9 +1,10 @@
-use Rattle.std.proofs.Common.{◌≡◌, ◌+◌, ◌*◌, ◌≤◌, drop}
+use Rattle.std.proofs.Common.{◌≡◌, ◌+◌, ◌-◌, ◌^◌, ◌≤◌, drop}
+use Rattle.std.specs.Prelude.{min}
 use Rattle.file_store.specs.Format.{total_pages}
 use Rattle.file_store.proofs.sources.pages_of.Given as goal
 
-abbrev pub invariant-loop-f : goal.invariant-loop-f
-invariant-loop-f g l = record {
-  rest : l.total + total_pages (drop l.f l.sources) ≡ total_pages l.sources;
-  fits : l.total ≤ 1048576 * l.f;
+abbrev pub invariant-loop-source : goal.invariant-loop-source
+invariant-loop-source g l = record {
+  rest : min (l.total + total_pages (drop l.source-index l.sources)) (2 ^ 64 - 1) ≡ min (total_pages l.sources) (2 ^ 64 - 1);
+  fits : l.total ≤ 2 ^ 64 - 1;
 }

@@ -2,6 +2,6 @@ use Rattle.runner.proofs.Trace.{runs_trace}
 use Rattle.runner.proofs.engine.run.Goals as goal
 
 pub returns-clause-runs : goal.returns-clause-runs
-returns-clause-runs g c s shows =
+returns-clause-runs g c s shows keeps =
     let r = c.run_turns.ensures.reads in
-    runs_trace g.D.SectorDisk g.E.SectorDisk (λ d image kept left. g.met.D.SectorDisk.only_now d image kept left) c.run_turns.result _ _ s _ _ _ _ r.0 r.1 r.2 r.3 shows
+    runs_trace g.D.SectorDisk g.E.SectorDisk (λ d image kept left. g.met.D.SectorDisk.only_now d image kept left) c.run_turns.result _ _ s _ _ _ _ r.0 r.1 r.2 r.3 shows keeps

@@ -1,34 +1,59 @@
-use Rattle.std.proofs.Common.{List, ℕ, [], ◌%◌, ◌≡◌, ◌∙◌, ap, get_or, set, length, true, arith, refl}
-use Rattle.std.proofs.lemmas.List.{get_or_read}
+use Rattle.std.proofs.Common.{ℕ, ◌/◌, ◌%◌, List, refl, sym, ap, ◌∙◌, subst}
+use Rattle.fault.specs.Outcome.{Grants, IsReadyToStore, IsRefusal}
+use Rattle.frames.proofs.FrameLemmas.{with_bytes-others}
+use Rattle.residency.specs.Picture.{picture_of}
+use Rattle.vm_types.specs.declared.access.Access.TheVariants as Accesses
+use Rattle.vm_types.specs.declared.command.Command.TheVariants.{Store}
+use Rattle.vm_types.specs.declared.reply.Reply.{Reply}
 use Rattle.vm_types.specs.Access.{with_number}
 use Rattle.vm_types.specs.Width.{byte_count}
-use Rattle.spaces.proofs.Accessed.{store_meets, store_faulted, found_below}
-use Rattle.spaces.proofs.Calls.{live_is}
+use Rattle.spaces.specs.Calls.{Comes}
+use Rattle.spaces.proofs.Writing.{fit_stored, store_refused, stores}
 use Rattle.spaces.proofs.accesses.store.Goals as goal
 
-pub returns-in-Ok-clause-does : goal.returns-in-Ok-clause-does
-returns-in-Ok-clause-does g c = λ s shows.
-    let m = c.args.core.now.memory in
-    let finds = c.in-Ok.ensures.finds in
-    let below = found_below m _ c.in-Ok.page finds in
-    let value = c.args.stored in
-    let at = c.args.addr % 4096 in
-    let e : c.write_number.new.page ≡ with_number (get_or m.pages.items c.in-Ok.page []) at (byte_count value.width) value.value =
-    c.write_number.ensures
-    ∙ ap (λ (b : List ℕ). with_number b at (byte_count value.width) value.value) (get_or_read m.pages.items _ _ below c.index_mut.ensures.value []) in
-    store_meets m _ s c.args.pid c.args.addr value c.in-Ok.page shows
-    (live_is m c.args.pid c.is_live.result true c.is_live.ensures c.if-not-is_live.false) finds below
-    (let k : length m.touched.items ≡ length m.pages.items = omega (arith, m.touched.ok.0, m.pages.ok.0, m.marks) in k)
-    (record {
-      live = refl;
-      regions = refl;
-      info = refl;
-      pages = ap (λ (b : List ℕ). set m.pages.items c.in-Ok.page b) e;
-      touched = refl;
-    })
+pub returns-in-Err-clause-comes : goal.returns-in-Err-clause-comes
+returns-in-Err-clause-comes g c = λ s shows keeps.
+    let a = c.args in
+    let refusal = subst (λ (p : ℕ). IsRefusal g.D.SectorDisk a.core.now c.access.new.core p a.addr a.stored.width Accesses.Store c.in-Err.refusal) c.in-Some.ensures.found.0
+    c.in-Err.ensures.refusal in
+    subst (λ (r : Reply). Comes g.D.SectorDisk a.core.now c.access.new.core s (Store a.pid a.addr a.stored) r) (sym c.refused.ensures)
+    (store_refused g.D.SectorDisk a.core.now c.access.new.core s shows (keeps refl) c.access.ensures.reads c.access.ensures.brings c.requires.sound.fit c.access.ensures.fit c.access.ensures.spaces
+    a.pid a.addr c.in-Some.ensures.found.1 a.stored c.in-Err.refusal refusal)
 
-pub returns-in-Err-clause-does : goal.returns-in-Err-clause-does
-returns-in-Err-clause-does g c = λ s shows.
-    let m = c.args.core.now.memory in
-    rw c.fault.ensures (store_faulted m s c.args.pid c.args.addr c.args.stored c.in-Err.code shows
-    (live_is m c.args.pid c.is_live.result true c.is_live.ensures c.if-not-is_live.false) c.in-Err.ensures.finds)
+pub returns-in-Ok-clause-sound : goal.returns-in-Ok-clause-sound
+returns-in-Ok-clause-sound g c =
+    let a = c.args in
+    let mid = c.access.new.core in
+    let n = c.frame_of-frame.result.0 in
+    let granted = c.in-Ok.ensures.granted in
+    let ready = subst (λ (k : ℕ). IsReadyToStore (picture_of a.core.now) (picture_of mid) c.in-Some.pid (a.addr / 4096) granted.seen granted.seen.attr.backing k)
+    (sym c.frame_of-frame.ensures) granted.ready in
+    let count = (with_bytes-others mid.frames n c.write_number.new.page).frames in
+    record {
+      ready = c.access.ensures.store;
+      sized = record {
+        roots = c.access.ensures.sized.roots;
+        regions = c.access.ensures.sized.regions;
+        pages = c.access.ensures.sized.pages ∙ sym count;
+        nodes = c.access.ensures.sized.nodes ∙ sym count;
+      };
+      fit = fit_stored (picture_of a.core.now) (picture_of mid) _ c.in-Some.pid (a.addr / 4096) granted.seen granted.seen.attr.backing n c.write_number.new.page
+          c.access.ensures.fit ready refl
+          (record { root = λ q. refl; at = λ q k. refl; page_of = λ m. refl; place = λ p. refl; touched = λ p. refl; files = λ f. refl });
+    }
+
+pub returns-in-Ok-clause-comes : goal.returns-in-Ok-clause-comes
+returns-in-Ok-clause-comes g c = λ s shows keeps.
+    let a = c.args in
+    let mid = c.access.new.core in
+    let n = c.frame_of-frame.result.0 in
+    let granted = subst (λ (p : ℕ). Grants (picture_of a.core.now) (picture_of mid) p a.addr a.stored.width Accesses.Store c.in-Ok.place) c.in-Some.ensures.found.0
+    c.in-Ok.ensures.granted in
+    let ready = subst (λ (k : ℕ). IsReadyToStore (picture_of a.core.now) (picture_of mid) a.pid (a.addr / 4096) granted.seen granted.seen.attr.backing k)
+    (sym c.frame_of-frame.ensures) granted.ready in
+    stores g.D.SectorDisk a.core.now mid s shows (keeps refl) c.access.ensures.reads c.access.ensures.brings c.requires.sound.fit c.access.ensures.fit c.access.ensures.spaces
+    a.pid a.addr c.in-Some.ensures.found.1 a.stored granted.seen granted.fine n _ c.write_number.new.page refl
+    (record { root = λ q. refl; at = λ q k. refl; page_of = λ m. refl; place = λ p. refl; touched = λ p. refl; files = λ f. refl })
+    ready
+    (c.write_number.ensures
+    ∙ ap (λ (b : List ℕ). with_number b (a.addr % 4096) (byte_count a.stored.width) a.stored.value) c.bytes_mut-page.ensures.value)

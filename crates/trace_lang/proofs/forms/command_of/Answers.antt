@@ -1,9 +1,24 @@
 use Rattle.std.proofs.Common.{ℕ, List, get_or, codes, IfSome, sym, subst, arith}
 use Rattle.std.proofs.lemmas.Slice.Eq.{text_from_reads}
 use Rattle.trace_lang.specs.Grammar.{IsForm}
-use Rattle.trace_lang.proofs.Places.{four_words, five_words, five_or_more}
-use Rattle.trace_lang.proofs.OneCommand.{only_load, only_store, only_msync, only_mmap, only_munmap, only_mprotect}
+use Rattle.trace_lang.proofs.Places.{two_words, three_words, four_words, five_words, five_or_more}
+use Rattle.trace_lang.proofs.OneCommand.{only_fork, only_exit, only_fetch, only_load, only_store, only_msync, only_mmap, only_munmap, only_mprotect}
 use Rattle.trace_lang.proofs.forms.command_of.Goals as goal
+
+pub returns-in-fork-clause-only : goal.returns-in-fork-clause-only
+returns-in-fork-clause-only c =
+    let name = text_from_reads (get_or c.args.words.now 0 _).now (codes "fork") (grind arith) (omega arith, (omega arith, (omega arith, (omega arith, tt)))) in
+    only_fork _ _ _ (two_words c.args.words.now _ _ (grind arith) name) c.fork_of.ensures.only
+
+pub returns-in-exit-clause-only : goal.returns-in-exit-clause-only
+returns-in-exit-clause-only c =
+    let name = text_from_reads (get_or c.args.words.now 0 _).now (codes "exit") (grind arith) (omega arith, (omega arith, (omega arith, (omega arith, tt)))) in
+    only_exit _ _ _ (two_words c.args.words.now _ _ (grind arith) name) c.exit_of.ensures.only
+
+pub returns-in-fetch-clause-only : goal.returns-in-fetch-clause-only
+returns-in-fetch-clause-only c =
+    let name = text_from_reads (get_or c.args.words.now 0 _).now (codes "fetch") (grind arith) (omega arith, (omega arith, (omega arith, (omega arith, (omega arith, tt))))) in
+    only_fetch _ _ _ _ (three_words c.args.words.now _ _ (grind arith) name) c.fetch_of.ensures.only
 
 pub returns-in-load-clause-only : goal.returns-in-load-clause-only
 returns-in-load-clause-only c =

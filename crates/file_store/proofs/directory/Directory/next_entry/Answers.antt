@@ -10,12 +10,12 @@ use Rattle.file_store.proofs.directory.Directory.next_entry.Goals as goal
 
 pub returns-then-is_zero-clause-entry : goal.returns-then-is_zero-clause-entry
 returns-then-is_zero-clause-entry c =
-    let here : c.decode.result ≡ entry_in c.args.sector.now (length c.args.earlier.now) = c.decode.ensures ∙ ap decoded (take_rest c.args.sector.now (8 * length c.args.earlier.now)) ∙ sym (entry_in-inside c.args.sector.now (length c.args.earlier.now) c.requires.room) in
+    let here : c.decode.result ≡ entry_in c.args.sector.now (length c.args.earlier.now) = c.decode.ensures.entry ∙ ap decoded (take_rest c.args.sector.now (8 * length c.args.earlier.now)) ∙ sym (entry_in-inside c.args.sector.now (length c.args.earlier.now) c.requires.room) in
     sym c.in_default.is ∙ here
 
 pub returns-then-is_zero-clause-good : goal.returns-then-is_zero-clause-good
 returns-then-is_zero-clause-good c =
-    let here : c.decode.result ≡ entry_in c.args.sector.now (length c.args.earlier.now) = c.decode.ensures ∙ ap decoded (take_rest c.args.sector.now (8 * length c.args.earlier.now)) ∙ sym (entry_in-inside c.args.sector.now (length c.args.earlier.now) c.requires.room) in
+    let here : c.decode.result ≡ entry_in c.args.sector.now (length c.args.earlier.now) = c.decode.ensures.entry ∙ ap decoded (take_rest c.args.sector.now (8 * length c.args.earlier.now)) ∙ sym (entry_in-inside c.args.sector.now (length c.args.earlier.now) c.requires.room) in
     good_more c.args.homes c.args.sector.now (length c.args.earlier.now) c.requires.good
     (λ _. subst (λ (bytes : List ℕ). IsZero bytes) (take_rest c.args.sector.now (8 * length c.args.earlier.now)) (c.if-is_zero.ensures.0 refl))
     (λ e is. absurd (none-some e (sym c.in_default.is ∙ here ∙ is)))
@@ -23,13 +23,13 @@ returns-then-is_zero-clause-good c =
 
 pub returns-else-is_zero-clause-bad : goal.returns-else-is_zero-clause-bad
 returns-else-is_zero-clause-bad c =
-    let here : c.decode.result ≡ entry_in c.args.sector.now (length c.args.earlier.now) = c.decode.ensures ∙ ap decoded (take_rest c.args.sector.now (8 * length c.args.earlier.now)) ∙ sym (entry_in-inside c.args.sector.now (length c.args.earlier.now) c.requires.room) in
+    let here : c.decode.result ≡ entry_in c.args.sector.now (length c.args.earlier.now) = c.decode.ensures.entry ∙ ap decoded (take_rest c.args.sector.now (8 * length c.args.earlier.now)) ∙ sym (entry_in-inside c.args.sector.now (length c.args.earlier.now) c.requires.room) in
     NotZero (length c.args.earlier.now) c.requires.room (sym here ∙ c.in_default.is)
     (λ zero. absurd (false≢true (c.if-is_zero.ensures.1 (subst (λ (bytes : List ℕ). IsZero bytes) (sym (take_rest c.args.sector.now (8 * length c.args.earlier.now))) zero))))
 
 pub returns-then-end-homes-clause-bad : goal.returns-then-end-homes-clause-bad
 returns-then-end-homes-clause-bad c =
-    let here : c.decode.result ≡ entry_in c.args.sector.now (length c.args.earlier.now) = c.decode.ensures ∙ ap decoded (take_rest c.args.sector.now (8 * length c.args.earlier.now)) ∙ sym (entry_in-inside c.args.sector.now (length c.args.earlier.now) c.requires.room) in
+    let here : c.decode.result ≡ entry_in c.args.sector.now (length c.args.earlier.now) = c.decode.ensures.entry ∙ ap decoded (take_rest c.args.sector.now (8 * length c.args.earlier.now)) ∙ sym (entry_in-inside c.args.sector.now (length c.args.earlier.now) c.requires.room) in
     elim c.then-end-homes.branch [
       | then-end-homes-via-then-end-homes w ↦ Outside (length c.args.earlier.now) c.in-Some.entry (sym here ∙ c.in-Some.is) (omega (arith, w.if-end-homes.true, c.end.ensures))
       | then-end-homes-via-else-end-homes+then-overlaps_any w ↦
@@ -39,12 +39,12 @@ returns-then-end-homes-clause-bad c =
 
 pub returns-clause-entry : goal.returns-clause-entry
 returns-clause-entry c =
-    let here : c.decode.result ≡ entry_in c.args.sector.now (length c.args.earlier.now) = c.decode.ensures ∙ ap decoded (take_rest c.args.sector.now (8 * length c.args.earlier.now)) ∙ sym (entry_in-inside c.args.sector.now (length c.args.earlier.now) c.requires.room) in
+    let here : c.decode.result ≡ entry_in c.args.sector.now (length c.args.earlier.now) = c.decode.ensures.entry ∙ ap decoded (take_rest c.args.sector.now (8 * length c.args.earlier.now)) ∙ sym (entry_in-inside c.args.sector.now (length c.args.earlier.now) c.requires.room) in
     sym c.in-Some.is ∙ here
 
 pub returns-clause-good : goal.returns-clause-good
 returns-clause-good c =
-    let here : c.decode.result ≡ entry_in c.args.sector.now (length c.args.earlier.now) = c.decode.ensures ∙ ap decoded (take_rest c.args.sector.now (8 * length c.args.earlier.now)) ∙ sym (entry_in-inside c.args.sector.now (length c.args.earlier.now) c.requires.room) in
+    let here : c.decode.result ≡ entry_in c.args.sector.now (length c.args.earlier.now) = c.decode.ensures.entry ∙ ap decoded (take_rest c.args.sector.now (8 * length c.args.earlier.now)) ∙ sym (entry_in-inside c.args.sector.now (length c.args.earlier.now) c.requires.room) in
     let fits : end_of c.in-Some.entry ≤ c.args.homes = omega (arith, c.if-end-homes.false, c.end.ensures) in
     good_more c.args.homes c.args.sector.now (length c.args.earlier.now) c.requires.good
     (λ none. absurd (none-some c.in-Some.entry (sym none ∙ sym here ∙ c.in-Some.is)))

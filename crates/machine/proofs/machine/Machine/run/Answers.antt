@@ -21,20 +21,21 @@ loop-i-preserved g c =
     record {
       sound = c.step.ensures.sound;
       lengths = length-set _ _ _ ∙ inv.lengths;
-      ran = λ s shows.
+      kept = λ k. inv.kept (c.step.ensures.kept k);
+      ran = λ s shows keeps.
           let old = c.args.self.now in
-          let one = ran_more g.D.SectorDisk g.E.SectorDisk old c.loop-i.self c.step.new.self s (take i commands) (take i replies) x r (inv.ran s shows) (λ u at. c.step.ensures.meets u at) in
+          let one = ran_more g.D.SectorDisk g.E.SectorDisk old c.loop-i.self c.step.new.self s (take i commands) (take i replies) x r (inv.ran s shows (c.step.ensures.kept keeps)) (λ u at. c.step.ensures.meets u at (λ _. keeps)) in
           subst (λ (zs : List Command). RanSoFar g.D.SectorDisk g.E.SectorDisk old c.step.new.self s zs (take (i + 1) (set replies i r))) (sym xs)
           (subst (λ (zs : List Reply). RanSoFar g.D.SectorDisk g.E.SectorDisk old c.step.new.self s (take i commands ++ x ∷ []) zs) (sym ys) one);
     }
 
 pub returns-clause-run : goal.returns-clause-run
-returns-clause-run g c = λ s shows.
+returns-clause-run g c = λ s shows keeps.
     let commands = c.args.commands.now in
     let replies = c.loop-i.replies in
     let all : take c.loop-i.i commands ≡ commands = take_all c.loop-i.i commands (omega arith) in
     let every : take c.loop-i.i replies ≡ replies = take_all c.loop-i.i replies (omega (arith, c.loop-i.invariant.lengths)) in
-    let ran = c.loop-i.invariant.ran s shows in
+    let ran = c.loop-i.invariant.ran s shows keeps in
     all_ran g.D.SectorDisk g.E.SectorDisk c.args.self.now c.loop-i.self s commands replies (λ d i k left. g.met.D.SectorDisk.only_now d i k left) shows
     (subst (λ (xs : List Command). RanSoFar g.D.SectorDisk g.E.SectorDisk c.args.self.now c.loop-i.self s xs replies) all
     (subst (λ (ys : List Reply). RanSoFar g.D.SectorDisk g.E.SectorDisk c.args.self.now c.loop-i.self s (take c.loop-i.i commands) ys) every ran))

@@ -8,6 +8,7 @@ abbrev pub invariant-loop-i : goal.invariant-loop-i
 invariant-loop-i g l = record {
   sound : IsSound g.D.SectorDisk g.E.SectorDisk l.self;
   lengths : length l.replies ≡ length l.commands;
-  ran : (s : State) → Shows g.D.SectorDisk g.E.SectorDisk l.fn.self s
+  kept : g.D.SectorDisk.keeps_model l.self.core.store.disk → g.D.SectorDisk.keeps_model l.fn.self.core.store.disk;
+  ran : (s : State) → Shows g.D.SectorDisk g.E.SectorDisk l.fn.self s → g.D.SectorDisk.keeps_model l.self.core.store.disk
       → RanSoFar g.D.SectorDisk g.E.SectorDisk l.fn.self l.self s (take l.i l.commands) (take l.i l.replies);
 }

@@ -1,0 +1,11 @@
+pub mod Answers
+pub mod Walks
+pub mod Ready
+pub mod Verdicts
+pub mod Steps
+pub mod Opening
+pub mod Arrivals
+pub mod Settled
+pub mod Pages
+pub mod Storing
+pub mod Showing

@@ -1,0 +1,33 @@
+-- What an access finds before anything changes.
+use Rattle.std.specs.Prelude.{◌≡◌, ℕ, ◌/◌, true, false, Some}
+use Rattle.vm_types.specs.declared.access.Access.{Access}
+use Rattle.vm_types.specs.declared.region.Attr.{Attr}
+use Rattle.vm_types.specs.declared.width.Width.{Width}
+use Rattle.vm_types.specs.Verdict.{Fine, Faults, lets, is_past_end, page_verdict}
+use Rattle.residency.specs.Picture.{Picture, view}
+use Rattle.fault.specs.declared.finding.Finding.{Finding}
+use Rattle.fault.specs.Entered.{seen_at}
+use Rattle.fault.specs.Outcome.{verdict_of, Grants}
+
+-- a mapped page that lets the access
+pub record IsOpenTo (c : Picture) (pid page : ℕ) (access : Access) (attr : Attr) : Type 0 where
+  pub mapped : c.at pid page ≡ Some attr
+  pub lets : lets access attr.prot ≡ true
+  pub inside : is_past_end c.files attr.backing ≡ false
+
+-- what a page is and what an access to it comes to, by region and file
+abbrev pub Judges : Picture → ℕ → ℕ → Access → Finding → Type 0
+Judges c pid page access (Finding.Place phys) = ⊥
+Judges c pid page access (Finding.Page found attr) = (found ≡ page) × IsOpenTo c pid page access attr
+Judges c pid page access (Finding.Fault code) = page_verdict c.files (view c pid page) access ≡ Faults code
+
+-- the page of an access that is fine
+pub record IsFineAt (c : Picture) (pid addr : ℕ) (width : Width) (access : Access) (page : ℕ) (attr : Attr) : Type 0 where
+  pub page_is : page ≡ addr / 4096
+  pub allowed : IsOpenTo c pid page access attr
+  pub fine : verdict_of c pid addr width access ≡ Fine (seen_at c pid page attr)
+
+abbrev pub Finds : Picture → ℕ → ℕ → Width → Access → Finding → Type 0
+Finds c pid addr width access (Finding.Place phys) = Grants c c pid addr width access phys
+Finds c pid addr width access (Finding.Page page attr) = IsFineAt c pid addr width access page attr
+Finds c pid addr width access (Finding.Fault code) = verdict_of c pid addr width access ≡ Faults code

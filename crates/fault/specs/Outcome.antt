@@ -1,0 +1,99 @@
+-- What an access comes to: a place in memory that holds the page, a fault, or a stall.
+use Rattle.std.specs.Prelude.{◌≡◌, ◌≢◌, ◌<◌, ◌⊎◌, ◌+◌, ◌/◌, ◌%◌, ℕ, true, Some, Ok}
+use Rattle.vm_types.specs.declared.access.Access.{Access}
+use Rattle.vm_types.specs.declared.access.Access.TheVariants.{Load, Store, Fetch}
+use Rattle.vm_types.specs.declared.file.FilePage.{FilePage}
+use Rattle.vm_types.specs.declared.number.Phys.{Phys}
+use Rattle.vm_types.specs.declared.refusal.Code.{Code}
+use Rattle.vm_types.specs.declared.refusal.Stall.{Stall}
+use Rattle.vm_types.specs.declared.refusal.Stall.TheVariants.{NoFrames, NoSwap, SwapDevice, StoreDevice}
+use Rattle.vm_types.specs.declared.region.Backing.{Backing}
+use Rattle.vm_types.specs.declared.region.Backing.TheVariants.{Anon, Private, Shared}
+use Rattle.vm_types.specs.declared.width.Width.{Width}
+use Rattle.vm_types.specs.Verdict.{Verdict, Fine, Faults, verdict, fault_of}
+use Rattle.vm_types.specs.View.{View}
+use Rattle.vm_types.specs.Width.{byte_count}
+use Rattle.disk_model.specs.declared.sector_disk.SectorDisk.{Ghosts}
+use Rattle.frames.specs.FrameTable.{IsFrame, IsHeld, bytes_of}
+use Rattle.sv39_walk.specs.Walk.{translated}
+use Rattle.page_cache.specs.declared.place.Place.TheVariants.{Frame}
+use Rattle.residency.specs.declared.kernel.Core.{Core}
+use Rattle.residency.specs.Picture.{Picture, picture_of, view}
+use Rattle.fault.specs.declared.refusal.AccessRefusal.{AccessRefusal}
+use Rattle.fault.specs.declared.refusal.AccessRefusal.TheVariants as Refusal
+use Rattle.fault.specs.Shown.{AreShown, IsSoleOwner}
+
+-- what the flat model says of the access
+abbrev pub verdict_of : Picture → ℕ → ℕ → Width → Access → Verdict
+verdict_of c pid addr width access = verdict c.files (view c pid) addr (byte_count width) access
+
+-- no process sees a change, and no file page became touched or clean
+pub record KeepsViews (old new : Picture) : Type 0 where
+  pub views : (q k : ℕ) → view new q k ≡ view old q k
+  pub touched : (p : FilePage) → new.touched p ≡ old.touched p
+
+-- A load or a fetch: frame n holds what the page shows.
+pub record Reads (old new : Picture) (v : View) (n : ℕ) : Type 0 where
+  pub keeps : KeepsViews old new
+  pub inside : IsFrame new.frames n
+  pub shown : AreShown new v (bytes_of new.frames n)
+
+-- A store to a shared page: frame n is that of the file page, which is touched now, and else all is as it was.
+pub record Touches (old new : Picture) (p : FilePage) (n : ℕ) : Type 0 where
+  pub views : (q k : ℕ) → view new q k ≡ view old q k
+  pub held : IsHeld new.frames n
+  pub place : new.place p ≡ Frame (record { 0 = n })
+  pub touched : new.touched p ≡ true
+  pub others : (q : FilePage) → q ≢ p → new.touched q ≡ old.touched q
+
+-- Any other store: frame n is the page's own copy now, which no other page has, with the bytes that the page showed.
+pub record Owns (old new : Picture) (pid page : ℕ) (v : View) (n : ℕ) : Type 0 where
+  pub own : view new pid page ≡ Some (record v { own = Some (bytes_of new.frames n) })
+  pub shown : AreShown new v (bytes_of new.frames n)
+  pub others : (q k : ℕ) → (q ≢ pid) ⊎ (k ≢ page) → view new q k ≡ view old q k
+  pub touched : (p : FilePage) → new.touched p ≡ old.touched p
+  pub held : IsHeld new.frames n
+  pub sole : IsSoleOwner new pid page n
+
+abbrev pub IsReadyToStore : Picture → Picture → ℕ → ℕ → View → Backing → ℕ → Type 0
+IsReadyToStore old new pid page v Anon n = Owns old new pid page v n
+IsReadyToStore old new pid page v (Private p) n = Owns old new pid page v n
+IsReadyToStore old new pid page v (Shared p) n = Touches old new p n
+
+-- frame n is ready for the access to the page, of which this was the view
+abbrev pub IsReadyFor : Access → Picture → Picture → ℕ → ℕ → View → ℕ → Type 0
+IsReadyFor Load old new pid page v n = Reads old new v n
+IsReadyFor Store old new pid page v n = IsReadyToStore old new pid page v v.attr.backing n
+IsReadyFor Fetch old new pid page v n = Reads old new v n
+
+-- The access is fine. Its place is that of the walk from the process's root in memory as it is left, and the frame there is ready.
+pub record Grants (old new : Picture) (pid addr : ℕ) (width : Width) (access : Access) (phys : Phys) : Type 0 where
+  pub seen : View
+  pub fine : verdict_of old pid addr width access ≡ Fine seen
+  pub root : ℕ
+  pub lives : new.root pid ≡ Some root
+  pub place : translated 2 new.frames root addr access ≡ Ok phys
+  pub offset : phys.0 % 4096 ≡ addr % 4096
+  pub ready : IsReadyFor access old new pid (addr / 4096) seen (phys.0 / 4096)
+
+module _ {D : Type 0} (g : Ghosts D) where
+  module _ {E : Type 0} where
+    -- what a stall comes from; there is no other yet
+    abbrev pub StallCause : Core D E → Core D E → Stall → Type 0
+    StallCause old new NoFrames = new.refused.number ≡ old.refused.number + 1
+    StallCause old new NoSwap = ⊥
+    StallCause old new SwapDevice = ⊥
+    StallCause old new StoreDevice = (new.refused.number ≡ old.refused.number) × (g.failures old.store.disk < g.failures new.store.disk)
+
+    -- a stall: the access is fine, and no process sees a change
+    pub record Stalls (old new : Core D E) (pid addr : ℕ) (width : Width) (access : Access) (stall : Stall) : Type 0 where
+      pub seen : View
+      pub fine : verdict_of (picture_of old) pid addr width access ≡ Fine seen
+      pub keeps : KeepsViews (picture_of old) (picture_of new)
+      pub cause : StallCause old new stall
+
+    -- why there is no place: a fault is the verdict's, and nothing changed
+    abbrev pub IsRefusal : Core D E → Core D E → ℕ → ℕ → Width → Access → AccessRefusal → Type 0
+    IsRefusal old new pid addr width access (Refusal.Fault fault) =
+        (code : Code) × (verdict_of (picture_of old) pid addr width access ≡ Faults code) × (fault ≡ fault_of access code addr) × (new ≡ old)
+    IsRefusal old new pid addr width access (Refusal.Stall stall) = Stalls old new pid addr width access stall

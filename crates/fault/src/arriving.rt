@@ -1,0 +1,70 @@
+//! File pages brought into memory.
+ghost use Rattle.std.specs.Prelude.{◌≡◌, true, IfOk, IfErr, OnOk};
+ghost use Rattle.file_store.specs.Standing.{IsPageOf};
+ghost use Rattle.file_store.specs.Store.{IsReady};
+ghost use Rattle.page_cache.specs.declared.place.Place.TheVariants.{Home, Frame};
+ghost use Rattle.residency.specs.Picture.{picture_of};
+ghost use Rattle.residency.specs.Parts.{IsSized, IsFit};
+ghost use Rattle.fault.specs.Entered.{Proceeds};
+ghost use Rattle.fault.specs.Outcome.{KeepsViews, StallCause};
+
+use disk_model::{DiskFault, SectorDisk};
+use frames::Role;
+use page_cache::Place;
+use residency::{Core, obtain};
+use vm_types::{FilePage, FrameNo, Stall};
+
+/// The frame of a file page that begins inside its file. At the first access by anyone the page is read from its home.
+///
+/// # Errors
+/// `NoFrames` where no frame is to be had, `StoreDevice` where the device failed. Then the page stays at home.
+pub(crate) fn cached<D: SectorDisk, E>(
+    core: &mut Core<D, E>,
+    page: FilePage,
+) -> Result<FrameNo, Stall>
+    requires sized { IsSized core.old }
+    requires fit { IsFit (picture_of core.old) }
+    requires store { IsReady D.SectorDisk core.old.store }
+    requires inside { IsPageOf (picture_of core.old).files page.file page.page }
+    ensures proceeds { Proceeds D.SectorDisk core.old core.new }
+    ensures keeps { KeepsViews (picture_of core.old) (picture_of core.new) }
+    ensures placed { IfOk result (λ n. (picture_of core.new).place page ≡ Frame n) }
+    ensures not_refused { OnOk result (core.new.refused.number ≡ core.old.refused.number) }
+    ensures cause { IfErr result (StallCause D.SectorDisk core.old core.new) }
+{
+    match core.cache.place(page) {
+        Place::Frame(frame) => Ok(frame),
+        Place::Home => brought(core, page),
+        Place::Slot(_) => unreachable!(),
+    }
+}
+
+/// Reads a file page from its home into a frame.
+fn brought<D: SectorDisk, E>(core: &mut Core<D, E>, page: FilePage) -> Result<FrameNo, Stall>
+    requires sized { IsSized core.old }
+    requires fit { IsFit (picture_of core.old) }
+    requires store { IsReady D.SectorDisk core.old.store }
+    requires inside { IsPageOf (picture_of core.old).files page.file page.page }
+    requires home { (picture_of core.old).place page ≡ Home }
+    ensures proceeds { Proceeds D.SectorDisk core.old core.new }
+    ensures keeps { KeepsViews (picture_of core.old) (picture_of core.new) }
+    ensures placed { IfOk result (λ n. (picture_of core.new).place page ≡ Frame n) }
+    ensures not_refused { OnOk result (core.new.refused.number ≡ core.old.refused.number) }
+    ensures cause { IfErr result (StallCause D.SectorDisk core.old core.new) }
+{
+    obtain(core, None)?;
+    let _ = core.frames.len();
+    let Ok(frame) = core.frames.take(Role::Cache) else {
+        unreachable!();
+    };
+    match core.store.read_page(page, core.frames.bytes_mut(frame)) {
+        Ok(()) => {
+            core.cache.set_place(page, Place::Frame(frame));
+            Ok(frame)
+        }
+        Err(DiskFault) => {
+            core.frames.release(frame);
+            Err(Stall::StoreDevice)
+        }
+    }
+}

@@ -1,0 +1,18 @@
+//! Accesses to pages: the place in memory that an access goes to, the fault that it comes to, or the stall for want of a
+//! frame or of a page's bytes.
+#![tactic(auto)]
+
+mod accesses;
+mod arriving;
+mod entering;
+mod faults;
+mod finding;
+mod granting;
+mod processes;
+mod refusal;
+#[cfg(test)]
+mod tests;
+
+pub use accesses::access;
+pub use processes::live;
+pub use refusal::AccessRefusal;

@@ -1,0 +1,7 @@
+pub mod Skips
+pub mod Sharers
+pub mod Weaker
+pub mod Lowered
+pub mod Shared
+pub mod Passing
+pub mod Alike

@@ -1,0 +1,145 @@
+-- An entry without W.
+use Rattle.std.proofs.Common.{◌≡◌, ℕ, ◌+◌, ◌-◌, ◌*◌, ◌/◌, ◌%◌, ◌^◌, ◌<◌, ◌≤◌, inl, inr, ◌⊎◌, ◌==◌, Bool, true, false, Option, refl, sym, ap, ◌∙◌, subst, arith, eqb-true}
+use Rattle.std.proofs.lemmas.Bool.{false≢true}
+use Rattle.vm_types.specs.declared.number.FrameNo.{FrameNo}
+use Rattle.vm_types.specs.declared.number.SlotNo.{SlotNo}
+use Rattle.sv39_walk.specs.Entry.{has_bit, is_valid, can_write, is_leaf, frame_of}
+use Rattle.page_tables.specs.Entry.{number_of}
+use Rattle.page_tables.specs.declared.forms.Entry.{Entry}
+use Rattle.page_tables.specs.declared.forms.Entry.TheVariants.{None, Swapped, Parked}
+use Rattle.vm_types.specs.declared.region.Attr.{Attr}
+use Rattle.residency.specs.Picture.{Picture, is_private}
+use Rattle.residency.specs.Parts.{IsEntryFor, Nothing, Resident}
+use Rattle.residency.proofs.Start.{no_bit}
+use Rattle.forks.specs.Steps.{Weakens}
+
+bit_set : (e : ℕ) → can_write e ≡ true → e / 4 % 2 ≡ 1
+unfolding has_bit
+bit_set e write = eqb-true (e / 4 % 2) 1 write
+
+pub least_written : (e : ℕ) → can_write e ≡ true → 4 ≤ e
+least_written e write = let set = bit_set e write in omega (arith, set)
+
+bit_zero : (e : ℕ) → e / 4 % 2 ≡ 1 → has_bit (e - 4) 0 ≡ has_bit e 0
+unfolding has_bit
+bit_zero e set = let same : (e - 4) / 1 % 2 ≡ e / 1 % 2 = omega (arith, set) in ap (λ x. x == 1) same
+
+bit_one : (e : ℕ) → e / 4 % 2 ≡ 1 → has_bit (e - 4) 1 ≡ has_bit e 1
+unfolding has_bit
+bit_one e set = let same : (e - 4) / 2 % 2 ≡ e / 2 % 2 = omega (arith, set) in ap (λ x. x == 1) same
+
+bit_two : (e : ℕ) → e / 4 % 2 ≡ 1 → has_bit (e - 4) 2 ≡ false
+unfolding has_bit
+bit_two e set = let same : (e - 4) / 4 % 2 ≡ 0 = omega (arith, set) in ap (λ x. x == 1) same
+
+bit_three : (e : ℕ) → e / 4 % 2 ≡ 1 → has_bit (e - 4) 3 ≡ has_bit e 3
+unfolding has_bit
+bit_three e set = let same : (e - 4) / 8 % 2 ≡ e / 8 % 2 = omega (arith, set) in ap (λ x. x == 1) same
+
+bit_eight : (e : ℕ) → e / 4 % 2 ≡ 1 → has_bit (e - 4) 8 ≡ has_bit e 8
+unfolding has_bit
+bit_eight e set = let same : (e - 4) / 256 % 2 ≡ e / 256 % 2 = omega (arith, set) in ap (λ x. x == 1) same
+
+same_frame : (e : ℕ) → e / 4 % 2 ≡ 1 → frame_of (e - 4) ≡ frame_of e
+unfolding frame_of
+same_frame e set = let same : (e - 4) / 1024 ≡ e / 1024 = omega (arith, set) in ap (λ x. x % 2 ^ 44) same
+
+-- a leaf that lets stores through
+pub weaker_leaf : (e : ℕ) → can_write e ≡ true → Weakens e (e - 4)
+weaker_leaf e write =
+    let set = bit_set e write in
+    record {
+      valid = bit_zero e set;
+      reads = bit_one e set;
+      executes = bit_three e set;
+      private = bit_eight e set;
+      frame = same_frame e set;
+      unwritten = λ valid. bit_two e set;
+    }
+
+pub still_leaf : (e e' : ℕ) → Weakens e e' → is_valid e ≡ true → is_leaf e ≡ true → (is_valid e' ≡ true) × (is_leaf e' ≡ true)
+still_leaf e e' weaker valid leaf = (weaker.valid ∙ valid, rw (weaker.reads, weaker.executes) leaf)
+
+-- an entry of another form, or a leaf without W
+unchanged : (e : ℕ) → (is_valid e ≡ true → can_write e ≡ false) → Weakens e e
+unchanged e unwritten = record { valid = refl; reads = refl; executes = refl; private = refl; frame = refl; unwritten = unwritten }
+
+nothing_valid : is_valid 0 ≡ true → ⊥
+unfolding has_bit
+nothing_valid e = false≢true e
+
+swapped_valid : (n : ℕ) → is_valid (n * 1024 + 2) ≡ true → ⊥
+unfolding has_bit
+swapped_valid n e = let even : (n * 1024 + 2) / 1 % 2 ≡ 0 = omega arith in false≢true (sym (ap (λ x. x == 1) even) ∙ e)
+
+parked_valid : (n : ℕ) → is_valid (n * 1024 + 4) ≡ true → ⊥
+unfolding has_bit
+parked_valid n e = let even : (n * 1024 + 4) / 1 % 2 ≡ 0 = omega arith in false≢true (sym (ap (λ x. x == 1) even) ∙ e)
+
+own_valid : (n : ℕ) → is_valid (n * 1024 + 260) ≡ true → ⊥
+unfolding has_bit
+own_valid n e = let even : (n * 1024 + 260) / 1 % 2 ≡ 0 = omega arith in false≢true (sym (ap (λ x. x == 1) even) ∙ e)
+
+own_same : (frame : FrameNo) (private : Bool) → Weakens (number_of (Parked frame private)) (number_of (Parked frame private))
+own_same frame true = unchanged (frame.0 * 1024 + 260) (λ valid. absurd (own_valid frame.0 valid))
+own_same frame false = unchanged (frame.0 * 1024 + 4) (λ valid. absurd (parked_valid frame.0 valid))
+
+pub weaker_other : (entry : Entry)
+    → (entry ≡ None) ⊎ (((slot : SlotNo) × (entry ≡ Swapped slot)) ⊎ ((frame : FrameNo) × (private : Bool) × (entry ≡ Parked frame private)))
+    → Weakens (number_of entry) (number_of entry)
+weaker_other entry other =
+    let W : Entry → Type 0 = λ x. Weakens (number_of x) (number_of x) in
+    elim other [
+      | inl is ↦ subst W (sym is) (unchanged 0 (λ valid. absurd (nothing_valid valid)))
+      | inr more ↦ elim more [
+        | inl is ↦ subst W (sym is.1) (unchanged (is.0.0 * 1024 + 2) (λ valid. absurd (swapped_valid is.0.0 valid)))
+        | inr is ↦ subst W (sym is.2) (own_same is.0 is.1)
+      ]
+    ]
+
+-- it stands for the page as before
+pub weaker_for : (c : Picture) (attr : Option Attr) (e e' : ℕ) → is_private e ≡ true → Weakens e e' → IsEntryFor c attr e → IsEntryFor c attr e'
+weaker_for c attr e e' own weaker (Nothing none) = absurd (false≢true (sym no_bit ∙ sym (ap is_private none) ∙ own))
+weaker_for c attr e e' own weaker (Resident a at resident) =
+    let own' : is_private e' ≡ true = weaker.private ∙ own in
+    Resident a at (record {
+      framed = λ invalid. weaker.reads ∙ resident.framed (sym weaker.valid ∙ invalid);
+      inside = resident.inside;
+      private = λ private. resident.private own;
+      behind = λ common. absurd (false≢true (sym common ∙ own'));
+      leaf = λ valid. (
+          let was : is_valid e ≡ true = sym weaker.valid ∙ valid in
+          let leaf = resident.leaf was in
+          let unwritten = weaker.unwritten was in
+          record {
+            within = record {
+              reads = λ reads. leaf.within.reads (sym weaker.reads ∙ reads);
+              writes = λ writes. absurd (false≢true (sym unwritten ∙ writes));
+              executes = λ executes. leaf.within.executes (sym weaker.executes ∙ executes);
+            };
+            sole = λ private writes. absurd (false≢true (sym unwritten ∙ writes));
+            common = λ common. absurd (false≢true (sym common ∙ own'));
+          });
+    })
+
+swapped_own : (n : ℕ) → is_private (n * 1024 + 2) ≡ false
+unfolding has_bit
+swapped_own n = let off : (n * 1024 + 2) / 256 % 2 ≡ 0 = omega arith in ap (λ x. x == 1) off
+
+-- a page of a process's own has an entry, and lies in a frame
+pub own_framed : (entry : Entry) → is_private (number_of entry) ≡ true → (entry ≡ None) ⊎ ((slot : SlotNo) × (entry ≡ Swapped slot)) → ⊥
+own_framed entry own other = elim other [
+  | inl is ↦ false≢true (sym no_bit ∙ sym (ap (λ x. is_private (number_of x)) is) ∙ own)
+  | inr is ↦ false≢true (sym (swapped_own is.0.0) ∙ sym (ap (λ x. is_private (number_of x)) is.1) ∙ own)
+]
+
+parked_frame : (n low : ℕ) → n < 2 ^ 32 → low < 1024 → frame_of (n * 1024 + low) ≡ n
+unfolding frame_of
+parked_frame n low small few =
+    let at : (n * 1024 + low) / 1024 ≡ n = omega (arith, few) in
+    let whole : n % 17592186044416 ≡ n = omega (arith, small) in
+    ap (λ x. x % 2 ^ 44) at ∙ whole
+
+pub frame_parked : (frame : FrameNo) (private : Bool) → frame.0 < 2 ^ 32 → frame_of (number_of (Parked frame private)) ≡ frame.0
+frame_parked frame true small = parked_frame frame.0 260 small (omega arith)
+frame_parked frame false small = parked_frame frame.0 4 small (omega arith)

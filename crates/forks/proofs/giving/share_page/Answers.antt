@@ -1,0 +1,127 @@
+use Rattle.std.proofs.Common.{◌≡◌, ℕ, false, inl, refl, sym, ap, ◌∙◌, subst, arith}
+use Rattle.page_tables.specs.Entry.{number_of}
+use Rattle.page_tables.specs.Tree.{IsPage}
+use Rattle.frames.specs.FrameTable.{Shares}
+use Rattle.sv39_walk.specs.Entry.{frame_of}
+use Rattle.residency.specs.Picture.{Picture, picture_of, entry, is_private}
+use Rattle.residency.proofs.Entries.{entry-of}
+use Rattle.residency.proofs.Start.{no_bit}
+use Rattle.processes.proofs.Keeping.{live_root}
+use Rattle.forks.proofs.Sharers.{may_share}
+use Rattle.forks.proofs.Shared.{own_role, own_noted, forest_shared, root_shared, whole_shared, common_gives, page_given}
+use Rattle.forks.proofs.giving.share_page.Goals as goal
+
+pub entry_number-requires-clause-root : goal.entry_number-requires-clause-root
+entry_number-requires-clause-root g c = c.requires.fit.tree.rooted.roots c.args.parent c.root_of-root.result.0 c.root_of-root.ensures
+
+pub returns-then-not-is_private-clause-given : goal.returns-then-not-is_private-clause-given
+returns-then-not-is_private-clause-given g c =
+    let old : Picture = picture_of c.args.core.now in
+    let number : entry old c.args.parent c.args.page ≡ c.entry_number.result.0 =
+    entry-of old c.args.parent c.root_of-root.result.0 c.args.page c.root_of-root.ensures ∙ sym c.entry_number.ensures in
+    record {
+      shown = common_gives old c.args.parent c.args.child c.args.page c.requires.same (ap is_private number ∙ sym c.if-not-is_private.ensures) c.requires.bare;
+      others = λ q p other. refl;
+      bare = λ p h ne. refl;
+    }
+
+pub withdraw_write-entry-requires-clause-own : goal.withdraw_write-entry-requires-clause-own
+withdraw_write-entry-requires-clause-own g c =
+    let old : Picture = picture_of c.args.core.now in
+    ap is_private (entry-of old c.args.parent c.root_of-root.result.0 c.args.page c.root_of-root.ensures ∙ sym c.entry_number.ensures)
+    ∙ sym c.if-not-is_private.ensures
+
+pub share-requires-clause-room : goal.share-requires-clause-room
+share-requires-clause-room g c =
+    let linked : Picture = picture_of c.link_tables.new.core in
+    let e = number_of c.withdraw_write-entry.result in
+    let withdrawn = c.withdraw_write-entry.ensures.withdrawn in
+    let ready = c.in_ok-link_tables.ensures.ready in
+    let small : IsPage 2 c.args.page = omega (arith, c.get.ensures) in
+    let source : entry linked c.args.parent c.args.page ≡ e = c.link_tables.ensures.entries c.args.parent c.args.page ∙ withdrawn.here in
+    let bare : entry linked c.args.child c.args.page ≡ 0 =
+    c.link_tables.ensures.entries c.args.child c.args.page
+    ∙ withdrawn.others c.args.child c.args.page small (inl (λ is. c.requires.apart (sym is))) ∙ c.requires.bare in
+    let noted = own_noted linked c.args.parent c.args.page e ready.steady small source withdrawn.private in
+    let common : is_private (entry linked c.args.child (linked.page_of (frame_of e))) ≡ false =
+    ap (λ x. is_private (entry linked c.args.child x)) noted ∙ ap is_private bare ∙ no_bit in
+    let lives = live_root ((picture_of c.args.core.now).root c.args.child) c.requires.child in
+    let number = c.requires.fit.tree.rooted.numbers c.args.child lives.0 lives.1 in
+    let few = may_share linked (frame_of e) 0 c.args.child ready.steady.counted ready.steady.rooted
+    (own_role linked c.args.parent c.args.page e ready.steady small source withdrawn.private) (omega (arith, number.0)) number.1 common in
+    rw c.frame_of.ensures few
+
+pub set-requires-clause-forest : goal.set-requires-clause-forest
+set-requires-clause-forest g c =
+    let linked : Picture = picture_of c.link_tables.new.core in
+    let mid : Picture = record linked { frames = c.share.new.self } in
+    let e = number_of c.withdraw_write-entry.result in
+    let withdrawn = c.withdraw_write-entry.ensures.withdrawn in
+    let ready = c.in_ok-link_tables.ensures.ready in
+    let small : IsPage 2 c.args.page = omega (arith, c.get.ensures) in
+    let source : entry linked c.args.parent c.args.page ≡ e = c.link_tables.ensures.entries c.args.parent c.args.page ∙ withdrawn.here in
+    let role = own_role linked c.args.parent c.args.page e ready.steady small source withdrawn.private in
+    let S : ℕ → Type 0 = λ x. Shares linked.frames c.share.new.self x in
+    forest_shared linked mid (frame_of e) ready.steady role (subst S c.frame_of.ensures c.share.ensures) (record { root = λ p. refl; at = λ p k. refl; page_of = λ m. refl; place = λ p. refl; touched = λ p. refl; files = λ f. refl })
+
+pub set-requires-clause-root : goal.set-requires-clause-root
+set-requires-clause-root g c =
+    let linked : Picture = picture_of c.link_tables.new.core in
+    let mid : Picture = record linked { frames = c.share.new.self } in
+    let e = number_of c.withdraw_write-entry.result in
+    let withdrawn = c.withdraw_write-entry.ensures.withdrawn in
+    let ready = c.in_ok-link_tables.ensures.ready in
+    let small : IsPage 2 c.args.page = omega (arith, c.get.ensures) in
+    let source : entry linked c.args.parent c.args.page ≡ e = c.link_tables.ensures.entries c.args.parent c.args.page ∙ withdrawn.here in
+    let role = own_role linked c.args.parent c.args.page e ready.steady small source withdrawn.private in
+    let S : ℕ → Type 0 = λ x. Shares linked.frames c.share.new.self x in
+    root_shared linked mid (frame_of e) ready.steady role (subst S c.frame_of.ensures c.share.ensures) (record { root = λ p. refl; at = λ p k. refl; page_of = λ m. refl; place = λ p. refl; touched = λ p. refl; files = λ f. refl }) c.root_of-root-2.result.0
+    (ready.steady.rooted.roots c.args.child c.root_of-root-2.result.0 c.root_of-root-2.ensures)
+
+pub set-requires-clause-whole : goal.set-requires-clause-whole
+set-requires-clause-whole g c =
+    let linked : Picture = picture_of c.link_tables.new.core in
+    let mid : Picture = record linked { frames = c.share.new.self } in
+    let e = number_of c.withdraw_write-entry.result in
+    let withdrawn = c.withdraw_write-entry.ensures.withdrawn in
+    let ready = c.in_ok-link_tables.ensures.ready in
+    let small : IsPage 2 c.args.page = omega (arith, c.get.ensures) in
+    let source : entry linked c.args.parent c.args.page ≡ e = c.link_tables.ensures.entries c.args.parent c.args.page ∙ withdrawn.here in
+    let role = own_role linked c.args.parent c.args.page e ready.steady small source withdrawn.private in
+    let S : ℕ → Type 0 = λ x. Shares linked.frames c.share.new.self x in
+    whole_shared linked mid (frame_of e) ready.steady role (subst S c.frame_of.ensures c.share.ensures) (record { root = λ p. refl; at = λ p k. refl; page_of = λ m. refl; place = λ p. refl; touched = λ p. refl; files = λ f. refl }) c.root_of-root-2.result.0 c.args.page
+    (ready.steady.rooted.roots c.args.child c.root_of-root-2.result.0 c.root_of-root-2.ensures)
+    (ready.whole c.root_of-root-2.result.0 c.root_of-root-2.ensures)
+
+pub returns-clause-fit : goal.returns-clause-fit
+returns-clause-fit g c =
+    let e = number_of c.withdraw_write-entry.result in
+    let ready = c.in_ok-link_tables.ensures.ready in
+    let linked = c.link_tables.ensures in
+    (page_given (picture_of c.args.core.now) (picture_of c.withdraw_write-entry.new.core) (picture_of c.link_tables.new.core) c.share.new.self c.set.new.frames
+    c.args.parent c.args.child c.root_of-root-2.result.0 c.args.page e c.frame_of.result.0
+    c.withdraw_write-entry.ensures.withdrawn c.withdraw_write-entry.ensures.spaces c.withdraw_write-entry.ensures.files
+    ready linked.entries linked.views linked.spaces linked.files (omega (arith, c.get.ensures)) c.requires.apart c.requires.same c.requires.bare
+    c.root_of-root-2.ensures c.frame_of.ensures c.share.ensures c.set.ensures).fit
+
+pub returns-clause-given : goal.returns-clause-given
+returns-clause-given g c =
+    let e = number_of c.withdraw_write-entry.result in
+    let ready = c.in_ok-link_tables.ensures.ready in
+    let linked = c.link_tables.ensures in
+    (page_given (picture_of c.args.core.now) (picture_of c.withdraw_write-entry.new.core) (picture_of c.link_tables.new.core) c.share.new.self c.set.new.frames
+    c.args.parent c.args.child c.root_of-root-2.result.0 c.args.page e c.frame_of.result.0
+    c.withdraw_write-entry.ensures.withdrawn c.withdraw_write-entry.ensures.spaces c.withdraw_write-entry.ensures.files
+    ready linked.entries linked.views linked.spaces linked.files (omega (arith, c.get.ensures)) c.requires.apart c.requires.same c.requires.bare
+    c.root_of-root-2.ensures c.frame_of.ensures c.share.ensures c.set.ensures).gives
+
+pub returns-clause-files : goal.returns-clause-files
+returns-clause-files g c =
+    let e = number_of c.withdraw_write-entry.result in
+    let ready = c.in_ok-link_tables.ensures.ready in
+    let linked = c.link_tables.ensures in
+    (page_given (picture_of c.args.core.now) (picture_of c.withdraw_write-entry.new.core) (picture_of c.link_tables.new.core) c.share.new.self c.set.new.frames
+    c.args.parent c.args.child c.root_of-root-2.result.0 c.args.page e c.frame_of.result.0
+    c.withdraw_write-entry.ensures.withdrawn c.withdraw_write-entry.ensures.spaces c.withdraw_write-entry.ensures.files
+    ready linked.entries linked.views linked.spaces linked.files (omega (arith, c.get.ensures)) c.requires.apart c.requires.same c.requires.bare
+    c.root_of-root-2.ensures c.frame_of.ensures c.share.ensures c.set.ensures).files

@@ -1,0 +1,124 @@
+//! The parent's own pages, given to the child.
+ghost use Rattle.std.specs.Prelude.{◌≡◌, ◌≢◌, ℕ, ◌+◌, ◌*◌, ◌/◌, ◌<◌, ◌≤◌, ◌^◌, true, OnOk, OnErr, IfOk, IfErr};
+ghost use Rattle.vm_types.specs.declared.refusal.Stall.TheVariants.{NoFrames};
+ghost use Rattle.residency.specs.Picture.{picture_of, entry, is_live, view};
+ghost use Rattle.residency.specs.Parts.{IsSized, IsFit};
+ghost use Rattle.residency.specs.Calls.{KeepsRest};
+ghost use Rattle.residency.specs.Shows.{KeepsFiles};
+ghost use Rattle.page_entries.specs.Changes.{KeepsSpaces, KeepsViews};
+ghost use Rattle.forks.specs.Steps.{GivesPage, GivesPages, GivesUpTo};
+
+use crate::withdrawing::{frame_of, withdraw_write};
+use page_entries::{is_private, link_tables, root_of};
+use page_tables::{entry_number, missing_tables, set};
+use residency::Core;
+use vm_types::{Pid, Stall, USER_START, Vpn};
+
+/// The entries of a table.
+const TABLE_ENTRIES: u64 = 512;
+
+/// Gives the child, whose pages are mapped as the parent's and have no entry, a share of each page that the parent has of
+/// its own. It costs the tables of the parent and their entries, and no page.
+pub(crate) fn share_pages<D, E>(core: &mut Core<D, E>, parent: Pid, child: Pid) -> Result<(), Stall>
+    requires sized { IsSized core.old }
+    requires fit { IsFit (picture_of core.old) }
+    requires parent { is_live (picture_of core.old) parent ≡ true }
+    requires child { is_live (picture_of core.old) child ≡ true }
+    requires apart { parent ≢ child }
+    requires same { (page : ℕ) → (picture_of core.old).at child page ≡ (picture_of core.old).at parent page }
+    requires bare { (page : ℕ) → page < 2 ^ 26 → entry (picture_of core.old) child page ≡ 0 }
+    ensures sized { IsSized core.new }
+    ensures fit { IsFit (picture_of core.new) }
+    ensures given { OnOk result (GivesPages (picture_of core.old) (picture_of core.new) parent child) }
+    ensures others { (q page : ℕ) → q ≢ child → view (picture_of core.new) q page ≡ view (picture_of core.old) q page }
+    ensures spaces { KeepsSpaces (picture_of core.old) (picture_of core.new) }
+    ensures files { KeepsFiles (picture_of core.old) (picture_of core.new) }
+    ensures rest { KeepsRest core.old core.new }
+    ensures stall { IfErr result (λ stall. stall ≡ NoFrames) }
+    ensures not_refused { OnOk result (core.new.refused.number ≡ core.old.refused.number) }
+    ensures refused { OnErr result (core.new.refused.number ≡ core.old.refused.number + 1) }
+{
+    let mut number = USER_START;
+    while let Some(page) = Vpn::new(number) {
+        number = share_next(core, parent, child, page)?;
+    }
+    Ok(())
+}
+
+// Gives the child a share of one page, if the parent has it of its own, and answers the first page that isn't done then:
+// where a table of the parent is missing, the pages of that table are passed over.
+fn share_next<D, E>(core: &mut Core<D, E>, parent: Pid, child: Pid, page: Vpn) -> Result<u64, Stall>
+    requires sized { IsSized core.old }
+    requires fit { IsFit (picture_of core.old) }
+    requires parent { is_live (picture_of core.old) parent ≡ true }
+    requires child { is_live (picture_of core.old) child ≡ true }
+    requires apart { parent ≢ child }
+    requires same { (p : ℕ) → (picture_of core.old).at child p ≡ (picture_of core.old).at parent p }
+    requires bare { (p : ℕ) → page ≤ p → p < 2 ^ 26 → entry (picture_of core.old) child p ≡ 0 }
+    ensures sized { IsSized core.new }
+    ensures fit { IsFit (picture_of core.new) }
+    ensures given { IfOk result (λ next. GivesUpTo (picture_of core.old) (picture_of core.new) parent child page next) }
+    ensures others { (q p : ℕ) → q ≢ child → view (picture_of core.new) q p ≡ view (picture_of core.old) q p }
+    ensures spaces { KeepsSpaces (picture_of core.old) (picture_of core.new) }
+    ensures files { KeepsFiles (picture_of core.old) (picture_of core.new) }
+    ensures rest { KeepsRest core.old core.new }
+    ensures stall { IfErr result (λ stall. stall ≡ NoFrames) }
+    ensures not_refused { OnOk result (core.new.refused.number ≡ core.old.refused.number) }
+    ensures refused { OnErr result (core.new.refused.number ≡ core.old.refused.number + 1) }
+{
+    let number = page.get();
+    let root = root_of(core, parent);
+    let missing = missing_tables(&core.frames, root, page);
+    if missing > 0 {
+        return Ok(page_after(number, missing));
+    }
+    share_page(core, parent, child, page)?;
+    Ok(number + 1)
+}
+
+// The first page past those of the highest of so many missing tables on the way to a page.
+fn page_after(page: u64, missing: u8) -> u64
+    requires page { page < 2 ^ 26 }
+    requires missing { (1 ≤ missing) × (missing ≤ 2) }
+    ensures { result ≡ (page / 512 ^ missing + 1) * 512 ^ missing }
+{
+    let span = match missing {
+        1 => TABLE_ENTRIES,
+        _ => TABLE_ENTRIES * TABLE_ENTRIES,
+    };
+    (page / span + 1) * span
+}
+
+// Gives the child a share of one page, if the parent has it of its own.
+fn share_page<D, E>(core: &mut Core<D, E>, parent: Pid, child: Pid, page: Vpn) -> Result<(), Stall>
+    requires sized { IsSized core.old }
+    requires fit { IsFit (picture_of core.old) }
+    requires parent { is_live (picture_of core.old) parent ≡ true }
+    requires child { is_live (picture_of core.old) child ≡ true }
+    requires apart { parent ≢ child }
+    requires same { (picture_of core.old).at child page ≡ (picture_of core.old).at parent page }
+    requires bare { entry (picture_of core.old) child page ≡ 0 }
+    ensures sized { IsSized core.new }
+    ensures fit { IsFit (picture_of core.new) }
+    ensures given { OnOk result (GivesPage (picture_of core.old) (picture_of core.new) parent child page) }
+    ensures same { OnErr result (KeepsViews (picture_of core.old) (picture_of core.new)) }
+    ensures spaces { KeepsSpaces (picture_of core.old) (picture_of core.new) }
+    ensures files { KeepsFiles (picture_of core.old) (picture_of core.new) }
+    ensures rest { KeepsRest core.old core.new }
+    ensures stall { IfErr result (λ stall. stall ≡ NoFrames) }
+    ensures not_refused { OnOk result (core.new.refused.number ≡ core.old.refused.number) }
+    ensures refused { OnErr result (core.new.refused.number ≡ core.old.refused.number + 1) }
+{
+    let root = root_of(core, parent);
+    if !is_private(entry_number(&core.frames, root, page)) {
+        return Ok(());
+    }
+    let entry = withdraw_write(core, parent, page);
+    let _ = page.get();
+    link_tables(core, child, page)?;
+    let _ = core.frames.len();
+    core.frames.share(frame_of(entry));
+    let root = root_of(core, child);
+    set(&mut core.frames, root, page, entry);
+    Ok(())
+}

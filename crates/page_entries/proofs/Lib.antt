@@ -1,0 +1,5 @@
+pub mod Bits
+pub mod Building
+pub mod Forms
+pub mod EntrySteps
+pub mod OwnSteps

@@ -1,0 +1,203 @@
+//! Frames that stand behind a page, shown at it.
+ghost use Rattle.std.specs.Prelude.{◌≡◌, ◌≢◌, ℕ, None, Some, true, false};
+ghost use Rattle.vm_types.specs.Permission.{can_read, can_write};
+ghost use Rattle.vm_types.specs.declared.region.Backing.TheVariants.{Anon, Shared};
+ghost use Rattle.vm_types.specs.Verdict.{is_past_end};
+ghost use Rattle.frames.specs.FrameTable.{IsFrame};
+ghost use Rattle.sv39_walk.specs.Entry.{frame_of};
+ghost use Rattle.page_tables.specs.Tree.{IsForest, IsRoot, missing_of};
+ghost use Rattle.page_tables.specs.Change.{SetsEntry};
+ghost use Rattle.page_cache.specs.declared.place.Place.TheVariants.{Frame};
+ghost use Rattle.residency.specs.Picture.{picture_of, entry, is_private};
+ghost use Rattle.residency.specs.Parts.{IsSized, IsFit, is_shared, IsBehind};
+ghost use Rattle.residency.specs.Calls.{KeepsRest};
+ghost use Rattle.residency.specs.Shows.{KeepsFiles, KeepsDevices};
+ghost use Rattle.page_entries.specs.Leaves.{IsEntryOver, IsFullEntry, full_write, full_dirty, is_touched_behind};
+ghost use Rattle.page_entries.specs.Changes.{IsReady, KeepsDataFrames, KeepsSpaces, KeepsViews, KeepsOtherEntries, Touches};
+
+use crate::leaves::{Grant, entry_over, is_private};
+use crate::linking::root_of;
+use page_tables::{entry_number, set};
+use residency::Core;
+use vm_types::{Attr, Backing, FilePage, FrameNo, Pid, Vpn};
+
+/// The zero page.
+pub(crate) const ZERO_PAGE: FrameNo = FrameNo(0);
+
+/// Shows the zero page at an anonymous page that has no entry.
+pub fn show_zero<D, E>(core: &mut Core<D, E>, pid: Pid, page: Vpn, attr: Attr)
+    requires sized { IsSized core.old }
+    requires ready { IsReady (picture_of core.old) pid page }
+    requires attr { (picture_of core.old).at pid page ≡ Some attr }
+    requires anonymous { attr.backing ≡ Anon }
+    requires none { entry (picture_of core.old) pid page ≡ 0 }
+    ensures sized { IsSized core.new }
+    ensures fit { IsFit (picture_of core.new) }
+    ensures entry { IsEntryOver (entry (picture_of core.new) pid page) attr.prot 0 false false false }
+    ensures others { KeepsOtherEntries (picture_of core.old) (picture_of core.new) pid page }
+    ensures views { KeepsViews (picture_of core.old) (picture_of core.new) }
+    ensures spaces { KeepsSpaces (picture_of core.old) (picture_of core.new) }
+    ensures files { KeepsFiles (picture_of core.old) (picture_of core.new) }
+    ensures kept { KeepsDataFrames core.old.frames core.new.frames }
+    ensures rest { KeepsRest core.old core.new }
+    ensures not_refused { core.new.refused.number ≡ core.old.refused.number }
+{
+    let _ = core.frames.len();
+    let root = root_of(core, pid);
+    set_full(core, root, page, attr, ZERO_PAGE, false);
+}
+
+/// Shows the frame of its file page at a page of a file without an own copy. Stores are let through to a shared page of a
+/// touched file page alone, so that the first one to any other is noticed.
+pub fn show_cached<D, E>(core: &mut Core<D, E>, pid: Pid, page: Vpn, attr: Attr, frame: FrameNo)
+    requires sized { IsSized core.old }
+    requires ready { IsReady (picture_of core.old) pid page }
+    requires attr { (picture_of core.old).at pid page ≡ Some attr }
+    requires behind { IsBehind (picture_of core.old) attr.backing frame.0 }
+    requires inside { is_past_end (picture_of core.old).files attr.backing ≡ false }
+    requires common { is_private (entry (picture_of core.old) pid page) ≡ false }
+    ensures sized { IsSized core.new }
+    ensures fit { IsFit (picture_of core.new) }
+    ensures entry { IsFullEntry (picture_of core.old) attr frame.0 false (entry (picture_of core.new) pid page) }
+    ensures others { KeepsOtherEntries (picture_of core.old) (picture_of core.new) pid page }
+    ensures views { KeepsViews (picture_of core.old) (picture_of core.new) }
+    ensures spaces { KeepsSpaces (picture_of core.old) (picture_of core.new) }
+    ensures files { KeepsFiles (picture_of core.old) (picture_of core.new) }
+    ensures kept { KeepsDataFrames core.old.frames core.new.frames }
+    ensures rest { KeepsRest core.old core.new }
+    ensures not_refused { core.new.refused.number ≡ core.old.refused.number }
+{
+    let _ = core.frames.len();
+    let root = root_of(core, pid);
+    set_full(core, root, page, attr, frame, false);
+}
+
+/// Gives a page that lies in a frame the entry that lets be done all that its permission and the sharing of its frame
+/// allow.
+pub fn regrant<D, E>(core: &mut Core<D, E>, pid: Pid, page: Vpn, attr: Attr)
+    requires sized { IsSized core.old }
+    requires ready { IsReady (picture_of core.old) pid page }
+    requires attr { (picture_of core.old).at pid page ≡ Some attr }
+    requires resident { entry (picture_of core.old) pid page ≢ 0 }
+    ensures sized { IsSized core.new }
+    ensures fit { IsFit (picture_of core.new) }
+    ensures entry { let was = entry (picture_of core.old) pid page in
+        IsFullEntry (picture_of core.old) attr (frame_of was) (is_private was) (entry (picture_of core.new) pid page) }
+    ensures others { KeepsOtherEntries (picture_of core.old) (picture_of core.new) pid page }
+    ensures views { KeepsViews (picture_of core.old) (picture_of core.new) }
+    ensures spaces { KeepsSpaces (picture_of core.old) (picture_of core.new) }
+    ensures files { KeepsFiles (picture_of core.old) (picture_of core.new) }
+    ensures kept { KeepsDataFrames core.old.frames core.new.frames }
+    ensures rest { KeepsRest core.old core.new }
+    ensures not_refused { core.new.refused.number ≡ core.old.refused.number }
+{
+    let _ = core.frames.len();
+    let root = root_of(core, pid);
+    let entry = entry_number(&core.frames, root, page);
+    set_full(
+        core,
+        root,
+        page,
+        attr,
+        FrameNo(entry.frame() as u32),
+        is_private(entry),
+    );
+}
+
+/// Marks the file page of a shared page touched, and shows its frame there with stores let through: one follows at once.
+pub fn touch<D, E>(
+    core: &mut Core<D, E>,
+    pid: Pid,
+    page: Vpn,
+    attr: Attr,
+    file_page: FilePage,
+    frame: FrameNo,
+)
+    requires sized { IsSized core.old }
+    requires ready { IsReady (picture_of core.old) pid page }
+    requires attr { (picture_of core.old).at pid page ≡ Some attr }
+    requires shared { attr.backing ≡ Shared file_page }
+    requires writable { can_write attr.prot ≡ true }
+    requires inside { is_past_end (picture_of core.old).files attr.backing ≡ false }
+    requires cached { (picture_of core.old).place file_page ≡ Frame frame }
+    ensures sized { IsSized core.new }
+    ensures fit { IsFit (picture_of core.new) }
+    ensures entry { IsEntryOver (entry (picture_of core.new) pid page) attr.prot frame.0 false true true }
+    ensures others { KeepsOtherEntries (picture_of core.old) (picture_of core.new) pid page }
+    ensures views { KeepsViews (picture_of core.old) (picture_of core.new) }
+    ensures spaces { KeepsSpaces (picture_of core.old) (picture_of core.new) }
+    ensures touches { Touches (picture_of core.old) (picture_of core.new) file_page }
+    ensures devices { KeepsDevices core.old core.new }
+    ensures kept { KeepsDataFrames core.old.frames core.new.frames }
+    ensures not_refused { core.new.refused.number ≡ core.old.refused.number }
+{
+    let _ = core.frames.len();
+    let root = root_of(core, pid);
+    core.cache.mark_dirty(file_page);
+    set_full(core, root, page, attr, frame, false);
+}
+
+/// Sets the fullest entry for a page over a frame.
+pub(crate) fn set_full<D, E>(
+    core: &mut Core<D, E>,
+    root: FrameNo,
+    page: Vpn,
+    attr: Attr,
+    frame: FrameNo,
+    private: bool,
+)
+    requires forest { IsForest core.old.frames }
+    requires root { IsRoot 2 core.old.frames root.0 }
+    requires whole { missing_of core.old.frames 2 root.0 page ≡ 0 }
+    requires inside { IsFrame core.old.frames frame.0 }
+    requires readable { can_write attr.prot ≡ true → can_read attr.prot ≡ true }
+    ensures sets { (number : ℕ) × IsFullEntry (picture_of core.old) attr frame.0 private number
+        × SetsEntry core.old.frames core.new.frames 2 root.0 page number }
+    ensures rest { KeepsRest core.old core.new }
+    ensures not_refused { core.new.refused.number ≡ core.old.refused.number }
+{
+    let grant = full_grant(core, attr, frame, private);
+    set(&mut core.frames, root, page, entry_over(attr.prot, grant));
+}
+
+// What the fullest entry of a page over a frame lets be done.
+fn full_grant<D, E>(core: &Core<D, E>, attr: Attr, frame: FrameNo, private: bool) -> Grant
+    requires { IsFrame core.now.frames frame.0 }
+    ensures frame { result.frame ≡ frame }
+    ensures private { result.private ≡ private }
+    ensures write { result.write ≡ full_write (picture_of core.now) attr frame.0 private }
+    ensures dirty { result.dirty ≡ full_dirty (picture_of core.now) attr frame.0 private }
+{
+    let writable = attr.prot.is_writable();
+    let (reached, stored) = if private {
+        let sole = core.frames.count(frame) == 1;
+        (sole, sole)
+    } else {
+        (
+            is_shared(attr.backing),
+            is_touched_behind(core, attr.backing),
+        )
+    };
+    Grant {
+        frame,
+        private,
+        write: reached && writable,
+        dirty: stored && writable,
+    }
+}
+
+fn is_shared(backing: Backing) -> bool
+    ensures { result ≡ is_shared backing }
+{
+    matches!(backing, Backing::Shared(_))
+}
+
+// Whether stores through such a page reach a touched file page.
+fn is_touched_behind<D, E>(core: &Core<D, E>, backing: Backing) -> bool
+    ensures { result ≡ is_touched_behind (picture_of core.now) backing }
+{
+    match backing {
+        Backing::Shared(page) => core.cache.is_touched(page),
+        Backing::Anon | Backing::Private(_) => false,
+    }
+}

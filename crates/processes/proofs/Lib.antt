@@ -1,0 +1,4 @@
+pub mod Keeping
+pub mod FreeNumbers
+pub mod Starting
+pub mod Ending

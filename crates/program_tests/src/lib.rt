@@ -1,0 +1,13 @@
+//! Tests of the programs over files: words, images, streams and exit statuses.
+#![tactic(auto)]
+
+#[cfg(test)]
+mod pagecat;
+#[cfg(test)]
+mod pagefmt;
+#[cfg(test)]
+mod pagerun;
+#[cfg(test)]
+mod program_bench;
+#[cfg(test)]
+mod programs;

@@ -1,0 +1,83 @@
+-- The pages of one table: the ways to them are the same, and so is what is missing on them.
+use Rattle.std.proofs.Common.{◌≡◌, ◌≢◌, ℕ, zero, suc, ◌-◌, ◌/◌, ◌%◌, ◌≤◌, inl, inr, Some, refl, sym, ap, ◌∙◌, subst, arith}
+use Rattle.std.proofs.lemmas.Bool.{cases_eq}
+use Rattle.frames.specs.FrameTable.{FrameTable}
+use Rattle.sv39_walk.specs.Entry.{entry_at, frame_of, is_pointer}
+use Rattle.sv39_walk.specs.Walk.{index_of}
+use Rattle.page_tables.specs.Tree.{Points, Way, IsTightBut, last_table, missing_of}
+use Rattle.page_tables.proofs.Ways.{cases_bool, last_table-next, last_table-stop, last_table-zero}
+use Rattle.page_tables.proofs.Ends.{missing_of-is, page_entry-missing}
+use Rattle.residency.specs.Picture.{Picture, entry}
+use Rattle.residency.proofs.Entries.{entry-of}
+
+same_one : (p q : ℕ) → p / 512 ≡ q / 512 → index_of p 1 ≡ index_of q 1
+unfolding index_of
+same_one p q same = ap (λ x. x % 512) same
+
+same_two : (p q : ℕ) → p / 262144 ≡ q / 262144 → index_of p 2 ≡ index_of q 2
+unfolding index_of
+same_two p q same = ap (λ x. x % 512) same
+
+higher : (p q : ℕ) → p / 512 ≡ q / 512 → p / 262144 ≡ q / 262144
+higher p q same = omega arith
+
+-- pages of one lowest table have the same end of the way
+pub last_same : (t : FrameTable) (p q r : ℕ) → p / 512 ≡ q / 512 → last_table t q 2 r ≡ last_table t p 2 r
+unfolding last_table
+last_same t p q r same =
+    let one = same_one p q same in
+    let two = same_two p q (higher p q same) in
+    rw (one, two) refl
+
+pub missing_same : (t : FrameTable) (p q r : ℕ) → p / 512 ≡ q / 512 → missing_of t 2 r q ≡ missing_of t 2 r p
+missing_same t p q r same = missing_of-is t 2 r q ∙ ap (λ x. x.0) (last_same t p q r same) ∙ sym (missing_of-is t 2 r p)
+
+low_end : (t : FrameTable) (p n : ℕ) → (last_table t p 1 n).0 ≤ 1
+low_end t p n = elim (cases_bool (is_pointer (entry_at t n (index_of p 1)))) [
+  | inl pointer ↦ (
+      let e : (last_table t p 1 n).0 ≡ 0 =
+      ap (λ x. x.0) (last_table-next t p 0 n pointer ∙ last_table-zero t p (frame_of (entry_at t n (index_of p 1)))) in
+      omega (arith, e))
+  | inr stop ↦ (let e : (last_table t p 1 n).0 ≡ 1 = ap (λ x. x.0) (last_table-stop t p 0 n stop) in omega (arith, e))
+]
+
+-- and where two tables are missing on the way to a page, so are they for all pages of the missing one
+pub two_missing : (t : FrameTable) (p q r : ℕ) → p / 262144 ≡ q / 262144 → missing_of t 2 r p ≡ 2 → missing_of t 2 r q ≡ 2
+two_missing t p q r same two = elim (cases_bool (is_pointer (entry_at t r (index_of p 2)))) [
+  | inl pointer ↦ (
+      let low = low_end t p (frame_of (entry_at t r (index_of p 2))) in
+      let e : missing_of t 2 r p ≡ (last_table t p 1 (frame_of (entry_at t r (index_of p 2)))).0 =
+      missing_of-is t 2 r p ∙ ap (λ x. x.0) (last_table-next t p 1 r pointer) in
+      absurd (omega (arith, low, e, two)))
+  | inr stop ↦ missing_of-is t 2 r q
+      ∙ ap (λ x. x.0) (last_table-stop t q 1 r (ap (λ j. is_pointer (entry_at t r j)) (sym (same_two p q same)) ∙ stop))
+]
+
+-- no page has an entry in the place of a missing lowest table
+pub gap_low : (c : Picture) (pid r p q : ℕ) → c.root pid ≡ Some r → missing_of c.frames 2 r p ≢ 0 → p / 512 ≡ q / 512 → entry c pid q ≡ 0
+gap_low c pid r p q root missing same =
+    entry-of c pid r q root ∙ page_entry-missing c.frames 2 r q (λ e. missing (sym (missing_same c.frames p q r same) ∙ e))
+
+-- nor in that of a missing table of the level above
+pub gap_high : (c : Picture) (pid r p q : ℕ) → c.root pid ≡ Some r → missing_of c.frames 2 r p ≡ 2 → p / 262144 ≡ q / 262144 → entry c pid q ≡ 0
+gap_high c pid r p q root missing same =
+    entry-of c pid r q root
+    ∙ page_entry-missing c.frames 2 r q (λ e. let two = two_missing c.frames p q r same missing in omega (arith, two, e))
+
+way_same : (t : FrameTable) (r p q d n : ℕ) → p / 512 ≡ q / 512 → d ≤ 2 → Way t 2 r p d n → Way t 2 r q d n
+way_same t r p q zero n same least w = w
+way_same t r p q (suc d) n same least w =
+    let P : ℕ → Type 0 = λ j. Points t w.0 j n in
+    let index : index_of p (2 - d) ≡ index_of q (2 - d) = elim (cases_eq d 0) [
+      | inl e ↦ (let at : 2 - d ≡ 2 = omega (arith, e) in
+          ap (index_of p) at ∙ same_two p q (higher p q same) ∙ sym (ap (index_of q) at))
+      | inr ne ↦ (let at : 2 - d ≡ 1 = omega (arith, ne, least) in
+          ap (index_of p) at ∙ same_one p q same ∙ sym (ap (index_of q) at))
+    ] in
+    (w.0, way_same t r p q d w.0 same (omega arith) w.1, subst P index w.2)
+
+-- the tables on the ways to them are the same
+pub tight_moved : (t : FrameTable) (r p q : ℕ) → p / 512 ≡ q / 512 → IsTightBut t 2 r p → IsTightBut t 2 r q
+tight_moved t r p q same tight n i m points empty =
+    let way = tight n i m points empty in
+    (way.0, way.1, way_same t r p q way.0 m same way.1 way.2)

@@ -1,0 +1,8 @@
+pub mod Gaps
+pub mod Releasing
+pub mod ClearedPages
+pub mod Emptied
+pub mod NewRegions
+pub mod LeafBits
+pub mod PermittedRows
+pub mod Reprotected

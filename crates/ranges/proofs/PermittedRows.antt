@@ -1,0 +1,130 @@
+-- Rows of pages that get another permission: one page after the other.
+use Rattle.std.proofs.Common.{◌≡◌, ◌≢◌, ℕ, inl, inr, ◌+◌, ◌<◌, ◌≤◌, Bool, true, Option, Some, get_or, refl, sym, ap, ◌∙◌, subst, arith}
+use Rattle.std.proofs.lemmas.Bool.{cases_eq, cases_lt, cases_Bool}
+use Rattle.vm_types.specs.declared.permission.Prot.{Prot}
+use Rattle.vm_types.specs.declared.region.Attr.{Attr}
+use Rattle.vm_types.specs.declared.region.Backing.{Backing}
+use Rattle.frames.specs.declared.role.Role.TheVariants.{Free, Private}
+use Rattle.frames.specs.FrameTable.{FrameTable, frame_count, role_of, IsFrame, IsSound}
+use Rattle.sv39_walk.specs.Entry.{frame_of}
+use Rattle.page_tables.specs.Change.{KeepsFrames, SetsEntry}
+use Rattle.page_tables.specs.Tree.{IsPage, IsTight, missing_of}
+use Rattle.page_tables.proofs.Tight.{tight_but, tight_filled}
+use Rattle.residency.specs.Parts.{IsRootedBut, IsBehind, IsEntryFor, Nothing, Resident, HasPlaces, IsFit}
+use Rattle.residency.specs.Picture.{Picture, entry, is_private}
+use Rattle.residency.specs.Steps.{SameBeside, SetsPage}
+use Rattle.residency.proofs.TableSteps.{sets_page, rooted_set}
+use Rattle.ranges.specs.Leaves.{TakesStores, IsPermitted, Permits, Empty, Kept, NamesFrames, PermitsRow}
+use Rattle.ranges.specs.Steps.{IsWhole}
+use Rattle.ranges.proofs.Releasing.{inside_memory, private_used, cache_used}
+use Rattle.ranges.proofs.ClearedPages.{beside-refl, beside_then, out_front, out_back, other_page}
+
+frames-refl : (t : FrameTable) → KeepsFrames t t
+frames-refl t = record { frames = refl; roles = refl; counts = refl; bytes = λ n other. refl }
+
+frames_then : (a b c : FrameTable) → KeepsFrames a b → KeepsFrames b c → KeepsFrames a c
+frames_then a b c one two = record {
+  frames = two.frames ∙ one.frames;
+  roles = two.roles ∙ one.roles;
+  counts = two.counts ∙ one.counts;
+  bytes = λ n other. two.bytes n (λ e. other (ap (λ rs. get_or rs n Free) (sym one.roles) ∙ e)) ∙ one.bytes n other;
+}
+
+-- pages without entries
+pub permits_none : (c : Picture) (pid low high : ℕ) (prot : Prot) → ((page : ℕ) → IsPage 2 page → low ≤ page → page < high → entry c pid page ≡ 0)
+    → PermitsRow c c pid low high prot
+permits_none c pid low high prot none = record {
+  beside = beside-refl c;
+  memory = frames-refl c.frames;
+  kept = λ q page h out. refl;
+  changed = λ page h least below. Empty (none page h least below) (none page h least below);
+}
+
+counts_moved : (t t' : FrameTable) (o : Option Attr) (prot : Prot) (e x : ℕ) → t'.counts ≡ t.counts → Permits t' o prot e x → Permits t o prot e x
+counts_moved t t' o prot e x counts (Empty z z') = Empty z z'
+counts_moved t t' o prot e x counts (Kept some writable stores is) = Kept some writable (λ w. (let s = stores w in record {
+  permitted = s.permitted;
+  sole = λ own. ap (λ cs. get_or cs (frame_of e) 0) (sym counts) ∙ s.sole own;
+  common = s.common;
+})) is
+
+-- one row after the other
+pub permits_then : (a b c : Picture) (pid low mid high : ℕ) (prot : Prot) → low ≤ mid → mid ≤ high → PermitsRow a b pid low mid prot → PermitsRow b c pid mid high prot
+    → PermitsRow a c pid low high prot
+permits_then a b c pid low mid high prot le le' one two = record {
+  beside = beside_then a b c one.beside two.beside;
+  memory = frames_then a.frames b.frames c.frames one.memory two.memory;
+  kept = λ q page h out. two.kept q page h (out_back pid low mid high q page le out) ∙ one.kept q page h (out_front pid low mid high q page le' out);
+  changed = λ page h least below. elim (cases_lt page mid) [
+    | inl front ↦ (
+        let P : ℕ → Type 0 = λ x. Permits a.frames (a.at pid page) prot (entry a pid page) x in
+        subst P (sym (two.kept pid page h (inr (inl front)))) (one.changed page h least front))
+    | inr back ↦ (
+        let P : Option Attr → Type 0 = λ o. Permits b.frames o prot (entry b pid page) (entry c pid page) in
+        let Q : ℕ → Type 0 = λ e. Permits b.frames (a.at pid page) prot e (entry c pid page) in
+        counts_moved a.frames b.frames (a.at pid page) prot (entry a pid page) (entry c pid page) one.memory.counts
+        (subst Q (one.kept pid page h (inr (inr back))) (subst P (one.beside.at pid page) (two.changed page h back below))))
+  ];
+}
+
+-- the entry of a page was set to one of that permission
+module _ (old new : Picture) (pid r page number : ℕ) (prot : Prot) (rooted : IsRootedBut old 0) (root : old.root pid ≡ Some r) (h : IsPage 2 page)
+    (sets : SetsEntry old.frames new.frames 2 r page number) (beside : SameBeside old new) where
+  page_permitted : SetsPage old new pid page number
+  page_permitted = sets_page old new 0 pid r page number rooted root h sets beside
+
+  pub rooted_permitted : IsRootedBut new 0
+  rooted_permitted = rooted_set old new 0 r page number rooted sets beside.root
+
+  pub whole_permitted : (p : ℕ) → IsWhole old pid p → IsWhole new pid p
+  whole_permitted p whole x e = let was : old.root pid ≡ Some x = sym (beside.root pid) ∙ e in sets.missing x p (rooted.roots pid x was) ∙ whole x was
+
+  module _ (writable : Bool) (some : entry old pid page ≢ 0) (stores : writable ≡ true → TakesStores old.frames (old.at pid page) prot (entry old pid page))
+      (is : IsPermitted prot writable (entry old pid page) number) where
+    pub tight_permitted : missing_of old.frames 2 r page ≡ 0 → IsTight old.frames → IsTight new.frames
+    tight_permitted whole tight =
+        tight_filled old.frames new.frames 2 r page number rooted.forest (rooted.roots pid r root) whole is.some sets (tight_but old.frames 2 r page tight)
+
+    pub named_permitted : NamesFrames old pid → NamesFrames new pid
+    named_permitted named p h' used = elim (cases_eq p page) [
+      | inl e ↦ (
+          let here : IsFrame old.frames (frame_of (entry old pid page)) = named page h some in
+          let frame : frame_of (entry new pid p) ≡ frame_of (entry old pid page) = ap (λ x. frame_of (entry new pid x)) e ∙ ap frame_of page_permitted.changed ∙ is.frame in
+          let count : frame_count new.frames ≡ frame_count old.frames = sets.kept.frames in
+          rw (frame, count) here)
+      | inr ne ↦ (
+          let same : entry new pid p ≡ entry old pid p = page_permitted.others pid p h' (inr ne) in
+          let there : IsFrame old.frames (frame_of (entry old pid p)) = named p h' (λ z. used (same ∙ z)) in
+          let count : frame_count new.frames ≡ frame_count old.frames = sets.kept.frames in
+          rw (same, count) there)
+    ]
+
+    pub permits_set : PermitsRow old new pid page (page + 1) prot
+    permits_set = record {
+      beside = beside;
+      memory = sets.kept;
+      kept = λ q k hk out. page_permitted.others q k hk (other_page pid page q k out);
+      changed = λ k hk low high. (
+          let at : page ≡ k = omega arith in
+          let P : ℕ → Type 0 = λ x. Permits old.frames (old.at pid x) prot (entry old pid x) (entry new pid x) in
+          let Q : ℕ → Type 0 = λ x. Permits old.frames (old.at pid page) prot (entry old pid page) x in
+          subst P at (subst Q (sym page_permitted.changed) (Kept some writable stores is)));
+    }
+
+behind_inside : (c : Picture) (b : Backing) (n : ℕ) → IsSound c.frames → HasPlaces c → IsBehind c b n → IsFrame c.frames n
+behind_inside c Backing.Anon n sound places behind = let least = sound.least in omega (arith, least, behind)
+behind_inside c (Backing.Private p) n sound places behind = inside_memory c.frames n sound (cache_used (role_of c.frames n) (places.cached p n behind))
+behind_inside c (Backing.Shared p) n sound places behind = inside_memory c.frames n sound (cache_used (role_of c.frames n) (places.cached p n behind))
+
+named_for : (c : Picture) (o : Option Attr) (e : ℕ) → IsSound c.frames → HasPlaces c → IsEntryFor c o e → (is_private e ≡ true → role_of c.frames (frame_of e) ≡ Private)
+    → e ≢ 0 → IsFrame c.frames (frame_of e)
+named_for c o e sound places (Nothing none) private some = absurd (some none)
+named_for c o e sound places (Resident a at resident) private some = elim (cases_Bool (is_private e)) [
+  | inl own ↦ inside_memory c.frames (frame_of e) sound (private_used (role_of c.frames (frame_of e)) (private own))
+  | inr common ↦ behind_inside c a.backing (frame_of e) sound places (resident.behind common)
+]
+
+-- each entry names a frame of memory
+pub named_entries : (c : Picture) (pid : ℕ) → IsSound c.frames → IsFit c → NamesFrames c pid
+named_entries c pid sound fit page h some =
+    named_for c (c.at pid page) (entry c pid page) sound fit.places (fit.granting.entries pid page h) (fit.counted.private pid page h) some

@@ -1,0 +1,20 @@
+use Rattle.std.proofs.Common.{◌≡◌, ◌-◌, ◌≤◌, ◌⊎◌}
+use Rattle.residency.specs.Calls.{KeepsRest}
+use Rattle.residency.specs.Parts.{IsSized, IsFit}
+use Rattle.residency.specs.Picture.{picture_of}
+use Rattle.ranges.specs.Steps.{Clears}
+use Rattle.ranges.proofs.clearing.clear_row.Given as goal
+
+abbrev pub invariant-loop-page : goal.invariant-loop-page
+invariant-loop-page g l = record {
+  sized : IsSized l.core;
+  fit : IsFit (picture_of l.core);
+  low : l.initial.page ≤ l.page;
+  high : (l.page ≡ l.initial.page) ⊎ (l.page ≤ l.end);
+  clears : Clears (picture_of l.initial.core) (picture_of l.core) l.pid l.initial.page l.page;
+  rest : KeepsRest l.initial.core l.core;
+  refused : l.core.refused ≡ l.initial.core.refused;
+}
+
+abbrev pub decreases-loop-page : goal.decreases-loop-page
+decreases-loop-page g l = l.end - l.page

@@ -1,0 +1,59 @@
+use Rattle.std.proofs.Common.{◌≡◌, ℕ, ◌+◌, ◌*◌, ◌/◌, ◌<◌, ◌≤◌, refl, sym, ap, ◌∙◌, subst, arith}
+use Rattle.residency.specs.Picture.{Picture, picture_of}
+use Rattle.ranges.specs.Leaves.{PermitsRow}
+use Rattle.ranges.proofs.ClearedPages.{rest-refl, rest_then}
+use Rattle.ranges.proofs.Emptied.{whole_moved}
+use Rattle.ranges.proofs.PermittedRows.{permits_none, permits_then}
+use Rattle.ranges.proofs.permitting.permit_table.Goals as goal
+
+same_table : (start page stop : ℕ) → start ≤ page → page < stop → stop ≤ (start / 512 + 1) * 512 → start / 512 ≡ page / 512
+same_table start page stop from below end = omega arith
+
+pub loop-page-init : goal.loop-page-init
+loop-page-init g c =
+    let old : Picture = picture_of c.args.core.now in
+    record {
+      sized = c.requires.sized;
+      rooted = c.requires.rooted;
+      tight = c.requires.tight;
+      named = c.requires.named;
+      whole = c.requires.whole;
+      permits = permits_none old c.args.pid c.args.start c.get-page.result c.args.prot
+          (λ page h least below. absurd (omega (arith, c.get-page.ensures.number, least, below)));
+      rest = rest-refl c.args.core.now;
+      refused = refl;
+    }
+
+pub permit_page-requires-clause-whole : goal.permit_page-requires-clause-whole
+permit_page-requires-clause-whole g c =
+    let same = same_table c.args.start c.loop-page.page c.args.stop (omega (arith, c.get-page.ensures.number, c.loop-page.auto.page)) c.loop-page-test.true c.requires.one_table in
+    whole_moved (picture_of c.loop-page.core) c.args.pid c.args.start c.user_page.result (same ∙ ap (λ x. x / 512) (sym c.user_page.ensures)) c.loop-page.invariant.whole
+
+pub loop-page-preserved : goal.loop-page-preserved
+loop-page-preserved g c =
+    let old : Picture = picture_of c.args.core.now in
+    let mid : Picture = picture_of c.loop-page.core in
+    let new : Picture = picture_of c.permit_page.new.core in
+    let page = c.loop-page.page in
+    let k = c.loop-page.invariant in
+    let P : ℕ → Type 0 = λ x. PermitsRow mid new c.args.pid x (x + 1) c.args.prot in
+    let one : PermitsRow mid new c.args.pid page (page + 1) c.args.prot = subst P c.user_page.ensures c.permit_page.ensures.permits in
+    record {
+      sized = c.permit_page.ensures.sized;
+      rooted = c.permit_page.ensures.rooted;
+      tight = c.permit_page.ensures.tight;
+      named = c.permit_page.ensures.named;
+      whole = c.permit_page.ensures.whole c.args.start k.whole;
+      permits = permits_then old mid new c.args.pid c.args.start page (page + 1) c.args.prot
+          (omega (arith, c.get-page.ensures.number, c.loop-page.auto.page)) (omega arith) k.permits one;
+      rest = rest_then c.args.core.now c.loop-page.core c.permit_page.new.core k.rest c.permit_page.ensures.rest;
+      refused = c.permit_page.ensures.refused ∙ k.refused;
+    }
+
+pub returns-clause-permits : goal.returns-clause-permits
+returns-clause-permits g c =
+    let old : Picture = picture_of c.args.core.now in
+    let mid : Picture = picture_of c.loop-page.core in
+    let end : c.loop-page.page ≡ c.args.stop = omega (arith, c.get-page.ensures.number, c.requires.some, c.loop-page.auto.page-end, c.loop-page-test.false) in
+    let P : ℕ → Type 0 = λ x. PermitsRow old mid c.args.pid c.args.start x c.args.prot in
+    subst P end c.loop-page.invariant.permits

@@ -1,0 +1,109 @@
+//! Pages without entries.
+ghost use Rattle.std.specs.Prelude.{◌≡◌, ℕ, ◌+◌, ◌*◌, ◌/◌, ◌<◌, ◌≤◌, ◌^◌, true};
+ghost use Rattle.page_tables.specs.Tree.{IsPage};
+ghost use Rattle.residency.specs.Picture.{picture_of, is_live};
+ghost use Rattle.residency.specs.Parts.{IsSized, IsSteady, IsFit};
+ghost use Rattle.residency.specs.Calls.{KeepsRest};
+ghost use Rattle.ranges.specs.Rows.{RemapsRow};
+ghost use Rattle.ranges.specs.Steps.{Clears, IsWhole, IsTightFor};
+
+use crate::rows::{frame_in, gap_end, is_own, root_of, table_end, user_page};
+use page_tables::{Entry, entry_number, prune, set};
+use residency::Core;
+use vm_types::{Pid, USER_START, Vpn};
+
+/// Takes the entries of the `pages` pages from `first` on out of the tables of a live process, with the own copies that
+/// they name; the pages stay mapped. A frame that nobody shares any more is free, and so is a table without entries.
+pub fn clear_row<D, E>(core: &mut Core<D, E>, pid: Pid, first: u64, pages: u64)
+    requires sized { IsSized core.old }
+    requires fit { IsFit (picture_of core.old) }
+    requires live { is_live (picture_of core.old) pid ≡ true }
+    requires row { first + pages ≤ 2 ^ 26 }
+    ensures sized { IsSized core.new }
+    ensures fit { IsFit (picture_of core.new) }
+    ensures row { RemapsRow (picture_of core.old) (picture_of core.new) pid first pages ((picture_of core.old).at pid) }
+    ensures rest { KeepsRest core.old core.new }
+    ensures refused { core.new.refused ≡ core.old.refused }
+{
+    let end = first + pages;
+    let mut page = first.max(USER_START);
+    while page < end {
+        page = clear_next(core, pid, user_page(page), end);
+    }
+}
+
+/// Clears the pages from `start` on whose entries stand in one table, as far as `end`. The result is the first page
+/// past them. Where a table is missing on the way, there is nothing to clear on all its pages.
+fn clear_next<D, E>(core: &mut Core<D, E>, pid: Pid, start: Vpn, end: u64) -> u64
+    requires sized { IsSized core.old }
+    requires fit { IsFit (picture_of core.old) }
+    requires live { is_live (picture_of core.old) pid ≡ true }
+    requires some { start < end }
+    requires high { end ≤ 2 ^ 26 }
+    ensures sized { IsSized core.new }
+    ensures fit { IsFit (picture_of core.new) }
+    ensures further { start < result }
+    ensures within { result ≤ end }
+    ensures clears { Clears (picture_of core.old) (picture_of core.new) pid start result }
+    ensures rest { KeepsRest core.old core.new }
+    ensures refused { core.new.refused ≡ core.old.refused }
+{
+    match gap_end(core, pid, start) {
+        Some(gap) => end.min(gap),
+        None => {
+            let stop = end.min(table_end(start));
+            clear_table(core, pid, start, stop);
+            stop
+        }
+    }
+}
+
+/// Clears the pages from `start` up to, not including, `stop`, whose entries stand in one table, and releases the tables
+/// that are without entries then.
+fn clear_table<D, E>(core: &mut Core<D, E>, pid: Pid, start: Vpn, stop: u64)
+    requires sized { IsSized core.old }
+    requires fit { IsFit (picture_of core.old) }
+    requires live { is_live (picture_of core.old) pid ≡ true }
+    requires whole { IsWhole (picture_of core.old) pid start }
+    requires some { start < stop }
+    requires one_table { stop ≤ (start / 512 + 1) * 512 }
+    requires high { stop ≤ 2 ^ 26 }
+    ensures sized { IsSized core.new }
+    ensures fit { IsFit (picture_of core.new) }
+    ensures clears { Clears (picture_of core.old) (picture_of core.new) pid start stop }
+    ensures rest { KeepsRest core.old core.new }
+    ensures refused { core.new.refused ≡ core.old.refused }
+{
+    for page in start.get()..stop {
+        clear_page(core, pid, user_page(page));
+    }
+    let root = root_of(core, pid);
+    let _ = core.frames.len();
+    prune(&mut core.frames, root, start);
+}
+
+/// Takes the entry of a page out, to which no table is missing, and gives back the share of the frame that it names as
+/// the process's own. The table may be without entries then.
+fn clear_page<D, E>(core: &mut Core<D, E>, pid: Pid, page: Vpn)
+    requires sized { IsSized core.old }
+    requires steady { IsSteady (picture_of core.old) }
+    requires live { is_live (picture_of core.old) pid ≡ true }
+    requires inside { IsPage 2 page }
+    requires whole { IsWhole (picture_of core.old) pid page }
+    ensures sized { IsSized core.new }
+    ensures steady { IsSteady (picture_of core.new) }
+    ensures clears { Clears (picture_of core.old) (picture_of core.new) pid page (page + 1) }
+    ensures whole { (p : ℕ) → IsWhole (picture_of core.old) pid p → IsWhole (picture_of core.new) pid p }
+    ensures tight { IsTightFor (picture_of core.old) pid page → IsTightFor (picture_of core.new) pid page }
+    ensures rest { KeepsRest core.old core.new }
+    ensures refused { core.new.refused ≡ core.old.refused }
+{
+    let root = root_of(core, pid);
+    let _ = core.frames.len();
+    let number = entry_number(&core.frames, root, page);
+    set(&mut core.frames, root, page, Entry::None);
+    if !is_own(number) {
+        return;
+    }
+    core.frames.release(frame_in(number));
+}

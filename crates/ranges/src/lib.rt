@@ -1,0 +1,16 @@
+//! What happens to the resident pages of a row of neighbouring pages of a live process: their entries and own copies go,
+//! other pages come in their place, or they get another permission. No call takes a frame, and none can fail. A row
+//! costs the tables and the entries that it meets, not its pages.
+#![tactic(auto)]
+
+mod clearing;
+mod leaves;
+mod permitting;
+mod remapping;
+mod rows;
+#[cfg(test)]
+mod tests;
+
+pub use clearing::clear_row;
+pub use permitting::reprotect;
+pub use remapping::remap;

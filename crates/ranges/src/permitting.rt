@@ -1,0 +1,166 @@
+//! Another permission for the pages of a row.
+ghost use Rattle.std.specs.Prelude.{◌≡◌, ◌≢◌, ℕ, ◌+◌, ◌*◌, ◌/◌, ◌<◌, ◌≤◌, ◌^◌, true};
+ghost use Rattle.vm_types.specs.Rows.{protected};
+ghost use Rattle.frames.specs.FrameTable.{IsFrame};
+ghost use Rattle.sv39_walk.specs.Entry.{frame_of};
+ghost use Rattle.page_tables.specs.Tree.{IsPage, IsTight};
+ghost use Rattle.regions.specs.Permission.{ReadsToo};
+ghost use Rattle.regions.specs.RunList.{attr_at};
+ghost use Rattle.residency.specs.Picture.{picture_of, is_live, entry};
+ghost use Rattle.residency.specs.Parts.{IsSized, IsRootedBut, IsFit};
+ghost use Rattle.residency.specs.Calls.{KeepsRest};
+ghost use Rattle.residency.specs.Shows.{KeepsDevices};
+ghost use Rattle.ranges.specs.Leaves.{TakesStores, PermitsRow, NamesFrames};
+ghost use Rattle.ranges.specs.Rows.{ReprotectsRow};
+ghost use Rattle.ranges.specs.Steps.{IsWhole};
+
+use crate::leaves::{is_shared, permitted};
+use crate::remapping::set_regions;
+use crate::rows::{frame_in, gap_end, is_own, root_of, table_end, user_page};
+use page_tables::{entry_number, set};
+use regions::Regions;
+use residency::Core;
+use sv39_walk::Pte;
+use vm_types::{Pid, Prot, USER_START, Vpn};
+
+/// Gives the `pages` pages from `first` on of a live process the permission `prot`, which lets read what it lets write,
+/// and the process the regions that say so. A resident page stays in its frame, where it can be read and run at once, as
+/// the permission says; a store that the permission lets may need another fault.
+pub fn reprotect<D, E>(
+    core: &mut Core<D, E>,
+    pid: Pid,
+    first: u64,
+    pages: u64,
+    prot: Prot,
+    regions: Regions,
+)
+    requires sized { IsSized core.old }
+    requires fit { IsFit (picture_of core.old) }
+    requires live { is_live (picture_of core.old) pid ≡ true }
+    requires row { first + pages ≤ 2 ^ 26 }
+    requires reads { ReadsToo prot }
+    requires map { (page : ℕ) → attr_at regions page ≡ protected ((picture_of core.old).at pid) first pages prot page }
+    ensures sized { IsSized core.new }
+    ensures fit { IsFit (picture_of core.new) }
+    ensures row { ReprotectsRow (picture_of core.old) (picture_of core.new) pid first pages prot }
+    ensures devices { KeepsDevices core.old core.new }
+    ensures roots { core.new.roots ≡ core.old.roots }
+    ensures cache { core.new.cache ≡ core.old.cache }
+    ensures refused { core.new.refused ≡ core.old.refused }
+{
+    let _ = core.frames.len();
+    let end = first + pages;
+    let mut page = first.max(USER_START);
+    while page < end {
+        page = permit_next(core, pid, user_page(page), end, prot);
+    }
+    set_regions(core, pid, regions);
+}
+
+/// Gives the permission to the pages from `start` on whose entries stand in one table, as far as `end`. The result is
+/// the first page past them. Where a table is missing on the way, there is nothing to do on all its pages.
+fn permit_next<D, E>(core: &mut Core<D, E>, pid: Pid, start: Vpn, end: u64, prot: Prot) -> u64
+    requires sized { IsSized core.old }
+    requires rooted { IsRootedBut (picture_of core.old) 0 }
+    requires tight { IsTight core.old.frames }
+    requires named { NamesFrames (picture_of core.old) pid }
+    requires live { is_live (picture_of core.old) pid ≡ true }
+    requires some { start < end }
+    requires high { end ≤ 2 ^ 26 }
+    requires reads { ReadsToo prot }
+    ensures sized { IsSized core.new }
+    ensures rooted { IsRootedBut (picture_of core.new) 0 }
+    ensures tight { IsTight core.new.frames }
+    ensures named { NamesFrames (picture_of core.new) pid }
+    ensures further { start < result }
+    ensures within { result ≤ end }
+    ensures permits { PermitsRow (picture_of core.old) (picture_of core.new) pid start result prot }
+    ensures rest { KeepsRest core.old core.new }
+    ensures refused { core.new.refused ≡ core.old.refused }
+{
+    match gap_end(core, pid, start) {
+        Some(gap) => end.min(gap),
+        None => {
+            let stop = end.min(table_end(start));
+            permit_table(core, pid, start, stop, prot);
+            stop
+        }
+    }
+}
+
+/// Gives the permission to the pages from `start` up to, not including, `stop`, whose entries stand in one table.
+fn permit_table<D, E>(core: &mut Core<D, E>, pid: Pid, start: Vpn, stop: u64, prot: Prot)
+    requires sized { IsSized core.old }
+    requires rooted { IsRootedBut (picture_of core.old) 0 }
+    requires tight { IsTight core.old.frames }
+    requires named { NamesFrames (picture_of core.old) pid }
+    requires live { is_live (picture_of core.old) pid ≡ true }
+    requires whole { IsWhole (picture_of core.old) pid start }
+    requires some { start < stop }
+    requires one_table { stop ≤ (start / 512 + 1) * 512 }
+    requires high { stop ≤ 2 ^ 26 }
+    requires reads { ReadsToo prot }
+    ensures sized { IsSized core.new }
+    ensures rooted { IsRootedBut (picture_of core.new) 0 }
+    ensures tight { IsTight core.new.frames }
+    ensures named { NamesFrames (picture_of core.new) pid }
+    ensures permits { PermitsRow (picture_of core.old) (picture_of core.new) pid start stop prot }
+    ensures rest { KeepsRest core.old core.new }
+    ensures refused { core.new.refused ≡ core.old.refused }
+{
+    for page in start.get()..stop {
+        permit_page(core, pid, user_page(page), prot);
+    }
+}
+
+/// Gives the permission to a page to which no table is missing.
+fn permit_page<D, E>(core: &mut Core<D, E>, pid: Pid, page: Vpn, prot: Prot)
+    requires sized { IsSized core.old }
+    requires rooted { IsRootedBut (picture_of core.old) 0 }
+    requires tight { IsTight core.old.frames }
+    requires named { NamesFrames (picture_of core.old) pid }
+    requires live { is_live (picture_of core.old) pid ≡ true }
+    requires inside { IsPage 2 page }
+    requires whole { IsWhole (picture_of core.old) pid page }
+    requires reads { ReadsToo prot }
+    ensures sized { IsSized core.new }
+    ensures rooted { IsRootedBut (picture_of core.new) 0 }
+    ensures tight { IsTight core.new.frames }
+    ensures named { NamesFrames (picture_of core.new) pid }
+    ensures whole { (p : ℕ) → IsWhole (picture_of core.old) pid p → IsWhole (picture_of core.new) pid p }
+    ensures permits { PermitsRow (picture_of core.old) (picture_of core.new) pid page (page + 1) prot }
+    ensures rest { KeepsRest core.old core.new }
+    ensures refused { core.new.refused ≡ core.old.refused }
+{
+    let root = root_of(core, pid);
+    let _ = core.frames.len();
+    let number = entry_number(&core.frames, root, page);
+    if number.to_u64() == 0 {
+        return;
+    }
+    let writable = takes_stores(core, pid, page, number, prot);
+    set(
+        &mut core.frames,
+        root,
+        page,
+        permitted(number, prot, writable),
+    );
+}
+
+/// Whether a store may go to the frame that a page's entry names: the permission lets it, and nobody else has the frame,
+/// or the page is a shared one.
+fn takes_stores<D, E>(core: &Core<D, E>, pid: Pid, page: Vpn, number: Pte, prot: Prot) -> bool
+    requires sized { IsSized core.now }
+    requires live { is_live (picture_of core.now) pid ≡ true }
+    requires named { IsFrame core.now.frames (frame_of number.0) }
+    ensures { result ≡ true → TakesStores core.now.frames ((picture_of core.now).at pid page) prot number.0 }
+{
+    if !prot.is_writable() {
+        return false;
+    }
+    let _ = core.frames.len();
+    if is_own(number) {
+        return core.frames.count(frame_in(number)) == 1;
+    }
+    is_shared(core.regions[usize::from(pid.get())].at(page))
+}

@@ -1,0 +1,87 @@
+//! Rows of pages, and the tables that their entries stand in.
+ghost use Rattle.std.specs.Prelude.{◌≡◌, ℕ, ◌<◌, ◌≤◌, ◌+◌, ◌*◌, ◌/◌, ◌^◌, true, IfNone, IfSome};
+ghost use Rattle.sv39_walk.specs.Entry.{frame_of};
+ghost use Rattle.residency.specs.Picture.{picture_of, is_live, entry, is_private};
+ghost use Rattle.residency.specs.Parts.{IsSized, IsRootedBut};
+ghost use Rattle.ranges.specs.Steps.{IsWhole};
+
+use page_tables::missing_tables;
+use residency::Core;
+use sv39_walk::Pte;
+use vm_types::{FrameNo, Pid, Vpn};
+
+/// The entries of a table.
+const TABLE_ENTRIES: u64 = 512;
+
+/// The root table of a live process.
+pub(crate) fn root_of<D, E>(core: &Core<D, E>, pid: Pid) -> FrameNo
+    requires sized { IsSized core.now }
+    requires live { is_live (picture_of core.now) pid ≡ true }
+    ensures { (picture_of core.now).root pid ≡ Some result.0 }
+{
+    let Some(root) = core.roots[usize::from(pid.get())] else {
+        unreachable!();
+    };
+    root
+}
+
+/// The user page of that number.
+pub(crate) fn user_page(number: u64) -> Vpn
+    requires low { 16 ≤ number }
+    requires high { number < 2 ^ 26 }
+    ensures { result ≡ number }
+{
+    let Some(page) = Vpn::new(number) else {
+        unreachable!();
+    };
+    page
+}
+
+/// The first page past those of the same lowest table.
+pub(crate) fn table_end(page: Vpn) -> u64
+    ensures { result ≡ (page / 512 + 1) * 512 }
+{
+    (page.get() / TABLE_ENTRIES + 1) * TABLE_ENTRIES
+}
+
+/// The first page past those of the same table of the level above the lowest.
+fn middle_end(page: Vpn) -> u64
+    ensures { result ≡ (page / 262144 + 1) * 262144 }
+{
+    let span = TABLE_ENTRIES * TABLE_ENTRIES;
+    (page.get() / span + 1) * span
+}
+
+/// Where a table is missing on the way to a page, the first page past those that have no entry for that reason; `None`
+/// where none is missing.
+pub(crate) fn gap_end<D, E>(core: &Core<D, E>, pid: Pid, page: Vpn) -> Option<u64>
+    requires sized { IsSized core.now }
+    requires rooted { IsRootedBut (picture_of core.now) 0 }
+    requires live { is_live (picture_of core.now) pid ≡ true }
+    ensures whole { IfNone result (IsWhole (picture_of core.now) pid page) }
+    ensures further { IfSome result (λ end. page < end) }
+    ensures gap { IfSome result (λ end. (p : ℕ) → page ≤ p → p < end → entry (picture_of core.now) pid p ≡ 0) }
+{
+    let root = root_of(core, pid);
+    match missing_tables(&core.frames, root, page) {
+        0 => None,
+        2 => Some(middle_end(page)),
+        _ => Some(table_end(page)),
+    }
+}
+
+/// Whether an entry names a frame as the process's own (bit 8).
+#[tactic(auto, using(std::proofs::lemmas::Nat::Bits::shr_and_one), unfolding(sv39_walk::specs::Entry::has_bit))]
+pub(crate) fn is_own(number: Pte) -> bool
+    ensures { result ≡ is_private number.0 }
+{
+    number.to_u64() >> 8 & 1 == 1
+}
+
+/// The frame that an entry names.
+pub(crate) fn frame_in(number: Pte) -> FrameNo
+    requires { frame_of number.0 < 2 ^ 32 }
+    ensures { result.0 ≡ frame_of number.0 }
+{
+    FrameNo(number.frame() as u32)
+}

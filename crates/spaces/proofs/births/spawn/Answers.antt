@@ -1,0 +1,16 @@
+use Rattle.spaces.proofs.Living.{spawn_refused, spawns, spawn_stalls}
+use Rattle.spaces.proofs.births.spawn.Goals as goal
+
+pub returns-in_default-clause-comes : goal.returns-in_default-clause-comes
+returns-in_default-clause-comes g c = λ s shows reads.
+    spawn_refused g.D.SectorDisk c.args.core.now s shows.pages c.free_pid.result c.free_pid.ensures.least c.in_default.is
+
+pub returns-in-Ok-clause-comes : goal.returns-in-Ok-clause-comes
+returns-in-Ok-clause-comes g c = λ s shows reads.
+    spawns g.D.SectorDisk c.args.core.now s shows.pages c.free_pid.result c.free_pid.ensures.least c.in-Some.pid c.in-Some.is
+    c.spawn.new.core c.spawn.ensures.files c.in-Ok.ensures.ok
+
+pub returns-in-Err-clause-comes : goal.returns-in-Err-clause-comes
+returns-in-Err-clause-comes g c = λ s shows reads.
+    spawn_stalls g.D.SectorDisk c.args.core.now s shows.pages c.free_pid.result c.free_pid.ensures.least c.in-Some.pid c.in-Some.is
+    c.spawn.new.core c.in-Err.stall c.in-Err.ensures.stall c.in-Err.ensures.refused c.spawn.ensures.files c.in-Err.ensures.err

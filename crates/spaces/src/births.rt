@@ -1,0 +1,73 @@
+//! Processes that come and go.
+ghost use Rattle.std.specs.Prelude.{◌≡◌};
+ghost use Rattle.vm_types.specs.declared.command.Command.TheVariants.{Spawn, Fork, Exit};
+ghost use Rattle.residency.specs.Shows.{KeepsDevices};
+ghost use Rattle.syncing.specs.Shows.{IsSound};
+ghost use Rattle.spaces.specs.Calls.{Carries, IsCaused};
+
+use disk_model::SectorDisk;
+use fault::live;
+use processes::free_pid;
+use residency::Core;
+use vm_types::{Errno, Reply};
+
+/// Starts a process with an empty space, and answers its number, the least that is free.
+///
+/// `EAGAIN` where 64 processes live (fork(2)). It may stall: `NoFrames` where a frame was wanted and refused; then there is
+/// no such process.
+pub fn spawn<D: SectorDisk, E>(core: &mut Core<D, E>) -> Reply
+    requires sound { IsSound D.SectorDisk core.old }
+    ensures sound { IsSound D.SectorDisk core.new }
+    ensures comes { Carries D.SectorDisk core.old core.new Spawn result }
+    ensures devices { KeepsDevices core.old core.new }
+    ensures caused { IsCaused D.SectorDisk core.old core.new result }
+{
+    let Some(pid) = free_pid(core) else {
+        return Reply::Refused(Errno::EAGAIN);
+    };
+    match processes::spawn(core, pid) {
+        Ok(()) => Reply::Process(pid),
+        Err(stall) => Reply::Stalled(stall),
+    }
+}
+
+/// Starts a process with the pages of another, own copies included (fork(2)), and answers its number, the least that is
+/// free. Each of the two sees its own later stores alone, but for those through shared pages.
+///
+/// In this order: `ESRCH` where there is no such parent, `EAGAIN` where 64 processes live. It may stall: `NoFrames` where a
+/// frame was wanted and refused; then there is no child.
+pub fn fork<D: SectorDisk, E>(core: &mut Core<D, E>, pid: u64) -> Reply
+    requires sound { IsSound D.SectorDisk core.old }
+    ensures sound { IsSound D.SectorDisk core.new }
+    ensures comes { Carries D.SectorDisk core.old core.new (Fork pid) result }
+    ensures devices { KeepsDevices core.old core.new }
+    ensures caused { IsCaused D.SectorDisk core.old core.new result }
+{
+    let Some(parent) = live(core, pid) else {
+        return Reply::Refused(Errno::ESRCH);
+    };
+    let Some(child) = free_pid(core) else {
+        return Reply::Refused(Errno::EAGAIN);
+    };
+    match forks::fork(core, parent, child) {
+        Ok(()) => Reply::Process(child),
+        Err(stall) => Reply::Stalled(stall),
+    }
+}
+
+/// Ends a process (_exit(2)): its space is gone and its number free. What it stored to files through shared pages stays.
+///
+/// `ESRCH` where there is no such process.
+pub fn exit<D: SectorDisk, E>(core: &mut Core<D, E>, pid: u64) -> Reply
+    requires sound { IsSound D.SectorDisk core.old }
+    ensures sound { IsSound D.SectorDisk core.new }
+    ensures comes { Carries D.SectorDisk core.old core.new (Exit pid) result }
+    ensures devices { KeepsDevices core.old core.new }
+    ensures caused { IsCaused D.SectorDisk core.old core.new result }
+{
+    let Some(pid) = live(core, pid) else {
+        return Reply::Refused(Errno::ESRCH);
+    };
+    processes::exit(core, pid);
+    Reply::Done
+}

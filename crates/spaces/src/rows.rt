@@ -1,0 +1,169 @@
+//! munmap and mprotect.
+ghost use Rattle.std.specs.Prelude.{◌≡◌, ◌+◌, ◌<◌, ◌^◌, Some, IfOk, IfErr};
+ghost use Rattle.file_store.specs.Store.{files_of};
+ghost use Rattle.vm_types.specs.Checks.{first_of};
+ghost use Rattle.vm_types.specs.Counting.{any_below};
+ghost use Rattle.vm_types.specs.Ranges.{denies_stores, is_guarded, is_guarded_page};
+ghost use Rattle.vm_types.specs.declared.command.Command.TheVariants.{Munmap, Mprotect};
+ghost use Rattle.residency.specs.Shows.{KeepsDevices};
+ghost use Rattle.syncing.specs.Shows.{IsSound};
+ghost use Rattle.spaces.specs.Calls.{Carries, IsCaused};
+ghost use Rattle.spaces.specs.Protections.{permit_checks, IsPermitted};
+ghost use Rattle.spaces.specs.Space.{space_of};
+
+use crate::space::{PAGE, regions_of};
+use disk_model::SectorDisk;
+use fault::live;
+use file_store::FileStore;
+use ranges::{remap, reprotect};
+use regions::Regions;
+use residency::Core;
+use vm_types::{Backing, Errno, Prot, Reply, TooManyRuns, USER_END};
+
+/// Whether stores through a backing go to a file that may only be read.
+fn is_guarded<D: SectorDisk>(store: &FileStore<D>, backing: Backing) -> bool
+    ensures { result ≡ is_guarded (files_of store.now) backing }
+{
+    match backing {
+        Backing::Anon | Backing::Private(_) => false,
+        Backing::Shared(page) => match store.file(page.file) {
+            Some(info) => info.read_only,
+            None => false,
+        },
+    }
+}
+
+/// Whether some page of the row is a shared one of a file that may only be read.
+fn has_guarded<D: SectorDisk>(
+    store: &FileStore<D>,
+    regions: &Regions,
+    first: u64,
+    pages: u64,
+) -> bool
+    requires { first + pages < 2 ^ 64 }
+    ensures { result ≡ any_below (λ i. is_guarded_page (files_of store.now) (space_of regions.now (first + i))) pages }
+{
+    let end = first + pages;
+    let mut page = first;
+    while let Some(run) = regions.next_run(page) {
+        if run.first >= end {
+            return false;
+        }
+        if is_guarded(store, run.attr.backing) {
+            return true;
+        }
+        page = run.end;
+    }
+    false
+}
+
+/// Whether stores are asked for, and some page of the row is a shared one of a file that may only be read.
+fn denies_stores<D: SectorDisk>(
+    store: &FileStore<D>,
+    regions: &Regions,
+    first: u64,
+    pages: u64,
+    prot: Prot,
+) -> bool
+    requires { first + pages < 2 ^ 64 }
+    ensures { result ≡ denies_stores (files_of store.now) (space_of regions.now) first pages prot }
+{
+    prot.is_writable() && has_guarded(store, regions, first, pages)
+}
+
+/// The regions with the permission for the pages of the row, or why that is refused.
+fn permitted<D: SectorDisk>(
+    store: &FileStore<D>,
+    regions: &Regions,
+    first: u64,
+    pages: u64,
+    prot: Prot,
+) -> Result<Regions, Errno>
+    requires some { 0 < pages }
+    requires row { first + pages < 2 ^ 64 }
+    ensures ok { IfOk result (λ next. IsPermitted (files_of store.now) regions.now first pages prot next) }
+    ensures err { IfErr result (λ errno. first_of (permit_checks (files_of store.now) (space_of regions.now) first pages prot) ≡ Some errno) }
+{
+    if !regions.covers(first, pages) {
+        return Err(Errno::ENOMEM);
+    }
+    if denies_stores(store, regions, first, pages, prot) {
+        return Err(Errno::EACCES);
+    }
+    let mut next = regions.copied();
+    match next.protect(first, pages, prot.kept()) {
+        Ok(()) => Ok(next),
+        Err(TooManyRuns) => Err(Errno::ENOMEM),
+    }
+}
+
+/// Removes the pages of the range of `len` bytes from `addr` on (munmap(2)), with their own copies; those that aren't
+/// mapped are no error. What was stored to a file through a shared page stays.
+///
+/// In this order: `ESRCH` where there is no such process, `EINVAL` where the length is 0 or the address is no multiple of
+/// the page size, `ENOMEM` where more than 256 runs would result. A refused call changes nothing.
+pub fn munmap<D: SectorDisk, E>(core: &mut Core<D, E>, pid: u64, addr: u64, len: u64) -> Reply
+    requires sound { IsSound D.SectorDisk core.old }
+    ensures sound { IsSound D.SectorDisk core.new }
+    ensures comes { Carries D.SectorDisk core.old core.new (Munmap pid addr len) result }
+    ensures devices { KeepsDevices core.old core.new }
+    ensures caused { IsCaused D.SectorDisk core.old core.new result }
+{
+    let Some(pid) = live(core, pid) else {
+        return Reply::Refused(Errno::ESRCH);
+    };
+    if len == 0 || addr % PAGE != 0 {
+        return Reply::Refused(Errno::EINVAL);
+    }
+    let first = addr / PAGE;
+    let pages = len.div_ceil(PAGE);
+    let mut next = regions_of(core, pid).copied();
+    match next.remove(first, pages) {
+        Ok(()) => {
+            let start = first.min(USER_END);
+            let end = (first + pages).min(USER_END);
+            remap(core, pid, start, end - start, next);
+            Reply::Done
+        }
+        Err(TooManyRuns) => Reply::Refused(Errno::ENOMEM),
+    }
+}
+
+/// Gives the pages of the range of `len` bytes from `addr` on another permission (mprotect(2)). Who may write there may
+/// read there as well (our choice).
+///
+/// In this order: `ESRCH` where there is no such process, `EINVAL` where the address is no multiple of the page size; a
+/// length of 0 is done with; `ENOMEM` where a page isn't mapped, `EACCES` where stores to a file that may only be read
+/// are asked for, `ENOMEM` where more than 256 runs would result. A refused call changes nothing, also over a hole.
+pub fn mprotect<D: SectorDisk, E>(
+    core: &mut Core<D, E>,
+    pid: u64,
+    addr: u64,
+    len: u64,
+    prot: Prot,
+) -> Reply
+    requires sound { IsSound D.SectorDisk core.old }
+    ensures sound { IsSound D.SectorDisk core.new }
+    ensures comes { Carries D.SectorDisk core.old core.new (Mprotect pid addr len prot) result }
+    ensures devices { KeepsDevices core.old core.new }
+    ensures caused { IsCaused D.SectorDisk core.old core.new result }
+{
+    let Some(pid) = live(core, pid) else {
+        return Reply::Refused(Errno::ESRCH);
+    };
+    if addr % PAGE != 0 {
+        return Reply::Refused(Errno::EINVAL);
+    }
+    if len == 0 {
+        return Reply::Done;
+    }
+    let first = addr / PAGE;
+    let pages = len.div_ceil(PAGE);
+    match permitted(&core.store, regions_of(core, pid), first, pages, prot) {
+        Ok(regions) => {
+            reprotect(core, pid, first, pages, prot.kept(), regions);
+            Reply::Done
+        }
+        Err(errno) => Reply::Refused(errno),
+    }
+}

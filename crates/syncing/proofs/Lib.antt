@@ -1,0 +1,14 @@
+pub mod Appending
+pub mod Totals
+pub mod Walking
+pub mod Gathering
+pub mod Rulings
+pub mod Dropping
+pub mod Leaves
+pub mod Cutting
+pub mod Cleaning
+pub mod Besides
+pub mod Caching
+pub mod Settled
+pub mod Committing
+pub mod Trying

@@ -1,0 +1,14 @@
+use Rattle.std.proofs.Common.{ℕ, ◌<◌}
+use Rattle.residency.specs.Picture.{picture_of}
+use Rattle.residency.specs.Parts.{IsSized, IsFit}
+use Rattle.syncing.specs.Settling.{KeepsAllButFrames, ClearsDirty, AreClear}
+use Rattle.syncing.proofs.settling.clear_dirty.Given as goal
+
+abbrev pub invariant-loop-pid : goal.invariant-loop-pid
+invariant-loop-pid g l = record {
+  sized : IsSized l.core;
+  fit : IsFit (picture_of l.core);
+  beside : KeepsAllButFrames l.fn.core l.core;
+  clears : ClearsDirty (picture_of l.fn.core) (picture_of l.core);
+  clear : (q : ℕ) → q < l.pid → AreClear (picture_of l.core) q l.pages;
+}

@@ -1,0 +1,4 @@
+pub mod Choice
+pub mod Settling
+pub mod Shows
+pub mod Core

@@ -1,0 +1,157 @@
+//! D is cleared in the entries over the frames of file pages: those of every process, whatever mapping they are in.
+ghost use Rattle.std.specs.Prelude.{◌≡◌, ◌≤◌, ◌<◌, ◌-◌, ◌^◌, ℕ, true, Some, IfSome, IfNone};
+ghost use Rattle.vm_types.specs.Attributes.{attr_after};
+ghost use Rattle.sv39_walk.specs.Entry.{is_dirty};
+ghost use Rattle.regions.specs.RunList.{IsNextRun};
+ghost use Rattle.residency.specs.Picture.{picture_of};
+ghost use Rattle.residency.specs.Parts.{IsSized, IsFit};
+ghost use Rattle.syncing.specs.Settling.{IsCached, AreCached, KeepsAllButFrames, ClearsDirty, AreClear, AreClearIn, IsClearAt, DropsDirty, backed_by, IsRunOf, IsPageOver};
+
+use crate::chosen::CachedPage;
+use page_tables::{Entry, entry, set};
+use regions::Run;
+use residency::Core;
+use sv39_walk::Pte;
+use vm_types::{Backing, FilePage, FrameNo, Vpn};
+
+/// D, the bit of an entry that says that the page was written (RISC-V Privileged Specification, "Sv39 page table entry").
+const DIRTY: u64 = 1 << 7;
+
+/// Clears D in each entry of a process, where it lives, over the frames of these file pages: run by run, each file page has
+/// at most one page of a run.
+pub(crate) fn clear_dirty_of<D, E>(core: &mut Core<D, E>, pid: usize, pages: &[CachedPage])
+    requires sized { IsSized core.old }
+    requires fit { IsFit (picture_of core.old) }
+    requires cached { AreCached (picture_of core.old) pages.now }
+    requires number { pid < 65 }
+    ensures sized { IsSized core.new }
+    ensures fit { IsFit (picture_of core.new) }
+    ensures beside { KeepsAllButFrames core.old core.new }
+    ensures clears { ClearsDirty (picture_of core.old) (picture_of core.new) }
+    ensures clear { AreClear (picture_of core.new) pid pages.now }
+{
+    let Some(root) = core.roots[pid] else {
+        return;
+    };
+    let mut page = 0;
+    while let Some(run) = core.regions[pid].next_run(page) {
+        clear_dirty_in(core, pid, root, run, pages);
+        page = run.end;
+    }
+}
+
+/// The same within one run of a live process.
+fn clear_dirty_in<D, E>(
+    core: &mut Core<D, E>,
+    pid: usize,
+    root: FrameNo,
+    run: Run,
+    pages: &[CachedPage],
+)
+    requires sized { IsSized core.old }
+    requires fit { IsFit (picture_of core.old) }
+    requires cached { AreCached (picture_of core.old) pages.now }
+    requires lives { (picture_of core.old).root pid ≡ Some root.0 }
+    requires run { IsRunOf (picture_of core.old) pid run }
+    ensures sized { IsSized core.new }
+    ensures fit { IsFit (picture_of core.new) }
+    ensures beside { KeepsAllButFrames core.old core.new }
+    ensures clears { ClearsDirty (picture_of core.old) (picture_of core.new) }
+    ensures clear { AreClearIn (picture_of core.new) pid run.first run.end pages.now }
+{
+    let Some(first) = file_page_of(run.attr.backing) else {
+        return;
+    };
+    for i in 0..pages.len() {
+        clear_dirty_over(core, pid, root, run, first, pages[i]);
+    }
+}
+
+/// The same of one file page, in a run the first page of which stands on `first`.
+fn clear_dirty_over<D, E>(
+    core: &mut Core<D, E>,
+    pid: usize,
+    root: FrameNo,
+    run: Run,
+    first: FilePage,
+    cached: CachedPage,
+)
+    requires sized { IsSized core.old }
+    requires fit { IsFit (picture_of core.old) }
+    requires cached { IsCached (picture_of core.old) cached }
+    requires lives { (picture_of core.old).root pid ≡ Some root.0 }
+    requires run { IsRunOf (picture_of core.old) pid run }
+    requires first { backed_by run.attr.backing ≡ Some first }
+    ensures sized { IsSized core.new }
+    ensures fit { IsFit (picture_of core.new) }
+    ensures beside { KeepsAllButFrames core.old core.new }
+    ensures clears { ClearsDirty (picture_of core.old) (picture_of core.new) }
+    ensures clear { (k : ℕ) → run.first ≤ k → k < run.end → IsClearAt (picture_of core.new) pid k cached.frame.0 }
+{
+    match page_over(run, first, cached.page) {
+        Some(page) => clear_dirty_at(core, pid, root, page, cached.frame),
+        None => {}
+    }
+}
+
+/// The same at one page.
+fn clear_dirty_at<D, E>(core: &mut Core<D, E>, pid: usize, root: FrameNo, page: Vpn, frame: FrameNo)
+    requires sized { IsSized core.old }
+    requires fit { IsFit (picture_of core.old) }
+    requires lives { (picture_of core.old).root pid ≡ Some root.0 }
+    requires user { page < 2 ^ 26 }
+    ensures sized { IsSized core.new }
+    ensures fit { IsFit (picture_of core.new) }
+    ensures beside { KeepsAllButFrames core.old core.new }
+    ensures clears { ClearsDirty (picture_of core.old) (picture_of core.new) }
+    ensures clear { IsClearAt (picture_of core.new) pid page frame.0 }
+{
+    if let Entry::Leaf(leaf) = entry(&core.frames, root, page) {
+        if leaf.is_dirty() && leaf.frame() == u64::from(frame.0) {
+            set(
+                &mut core.frames,
+                root,
+                page,
+                Entry::Leaf(without_dirty(leaf)),
+            );
+        }
+    }
+}
+
+/// The entry with D clear.
+fn without_dirty(leaf: Pte) -> Pte
+    requires { is_dirty leaf.0 ≡ true }
+    ensures { DropsDirty leaf.0 result.0 }
+{
+    Pte::from_u64(leaf.to_u64() - DIRTY)
+}
+
+/// The file page that stands behind a page, shared or private.
+fn file_page_of(backing: Backing) -> Option<FilePage>
+    ensures { result ≡ backed_by backing }
+{
+    match backing {
+        Backing::Anon => None,
+        Backing::Private(page) | Backing::Shared(page) => Some(page),
+    }
+}
+
+/// The page of a run, the first of which stands on `first`, that stands on this file page.
+fn page_over(run: Run, first: FilePage, page: FilePage) -> Option<Vpn>
+    requires low { 16 ≤ run.first }
+    requires order { run.first ≤ run.end }
+    requires high { run.end ≤ 2 ^ 26 }
+    requires first { backed_by run.attr.backing ≡ Some first }
+    ensures some { IfSome result (λ k. IsPageOver run page k) }
+    ensures none { IfNone result ((k : ℕ) → IsPageOver run page k → ⊥) }
+{
+    if page.file != first.file || page.page < first.page {
+        return None;
+    }
+    let offset = u64::from(page.page - first.page);
+    if offset < run.end - run.first {
+        Vpn::new(run.first + offset)
+    } else {
+        None
+    }
+}

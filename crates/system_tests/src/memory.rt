@@ -1,0 +1,117 @@
+//! Anonymous and private memory, and who may do what with a page.
+use crate::bench::{Armed, Bench, image, image_of};
+use runner::RunEnd;
+use std::test::Fail;
+
+/// Traces on an image of a page of zeros, each from a new start, and their replies.
+const ROWS: [(&[u8], &[u8]); 9] = [
+    // Anonymous memory begins with zeros.
+    (
+        b"spawn\nmmap 1 0 1 rw- anon\nload 1 0x10ff8 8\n",
+        b"pid 1\naddr 0x10000\nvalue 0x0000000000000000\n",
+    ),
+    // A byte that is stored is loaded by each width.
+    (
+        b"spawn\nmmap 1 0 1 rw- anon\nload 1 0x10ff8 8\nstore 1 0x10000 8 0x1122334455667788\n\
+load 1 0x10000 1\nload 1 0x10002 2\nload 1 0x10004 4\n",
+        b"pid 1\naddr 0x10000\nvalue 0x0000000000000000\nok\nvalue 0x88\nvalue 0x5566\nvalue 0x11223344\n",
+    ),
+    // Misaligned accesses, before it is asked whether the page is mapped.
+    (
+        b"spawn\nload 1 0x20004 8\nstore 1 0x20001 2 0\nfetch 1 0x20002\n",
+        b"pid 1\nfault 4 BUS_ADRALN 0x20004\nfault 6 BUS_ADRALN 0x20001\nfault 0 BUS_ADRALN 0x20002\n",
+    ),
+    // Pages that are not mapped, outside the user pages too.
+    (
+        b"spawn\nload 1 0x0 1\nload 1 0x4000000000 8\nload 1 0xffffffc000000000 8\n",
+        b"pid 1\nfault 13 SEGV_MAPERR 0x0\nfault 13 SEGV_MAPERR 0x4000000000\n\
+fault 13 SEGV_MAPERR 0xffffffc000000000\n",
+    ),
+    // Who may write may read, and who may only run may not.
+    (
+        b"spawn\nmmap 1 0 4096 -w- anon\nload 1 0x10000 1\nmmap 1 0 4096 --x anon\nfetch 1 0x11000\n\
+load 1 0x11000 4\nfetch 1 0x10000\n",
+        b"pid 1\naddr 0x10000\nvalue 0x00\naddr 0x11000\nvalue 0x00000000\nfault 13 SEGV_ACCERR 0x11000\n\
+fault 12 SEGV_ACCERR 0x10000\n",
+    ),
+    // A private page shows the file until its process stores to it.
+    (
+        b"spawn\nspawn\nmmap 1 0 4096 rw- private 0 0\nmmap 2 0 4096 rw- shared 0 0\nload 1 0x10000 1\n\
+store 2 0x10000 1 0x55\nload 1 0x10000 1\nstore 1 0x10001 1 0x66\nstore 2 0x10000 1 0x77\n\
+load 1 0x10000 2\nload 2 0x10000 2\n",
+        b"pid 1\npid 2\naddr 0x10000\naddr 0x10000\nvalue 0x00\nok\nvalue 0x55\nok\nok\nvalue 0x6655\n\
+value 0x0077\n",
+    ),
+    // A part of a mapping is replaced and removed, and its place is taken again.
+    (
+        b"spawn\nmmap 1 0x20000 0x5000 rw- anon\nmmap 1 0x22000 0x1000 r-- anon fixed\n\
+munmap 1 0x21000 0x3000\nload 1 0x24000 1\nload 1 0x23fff 1\n\
+mmap 1 0x21000 0x3000 rw- anon noreplace\nmmap 1 0x24000 0x1000 r-- anon noreplace\n",
+        b"pid 1\naddr 0x20000\naddr 0x22000\nok\nvalue 0x00\nfault 13 SEGV_MAPERR 0x23fff\naddr 0x21000\n\
+error 17 EEXIST\n",
+    ),
+    // An mprotect that is refused changes nothing, before a hole neither.
+    (
+        b"spawn\nmmap 1 0x20000 0x1000 rw- anon\nmmap 1 0x22000 0x1000 rw- anon\n\
+mprotect 1 0x20000 0x3000 r--\nstore 1 0x20000 1 1\nmprotect 1 0x20001 0x1000 r--\n\
+mprotect 1 0x20000 0 r--\nstore 1 0x20000 1 2\n",
+        b"pid 1\naddr 0x20000\naddr 0x22000\nerror 12 ENOMEM\nok\nerror 22 EINVAL\nok\nok\n",
+    ),
+    // All user pages at once.
+    (
+        b"spawn\nmmap 1 0 0x3fffff0001 r-- anon\nmmap 1 0 0x3fffff0000 r-- anon\nload 1 0x3fffffffff 1\n\
+mmap 1 0 1 r-- anon\nmunmap 1 0x10000 0x3fffff0000\nload 1 0x3fffffffff 1\n",
+        b"pid 1\nerror 12 ENOMEM\naddr 0x10000\nvalue 0x00\nerror 12 ENOMEM\nok\n\
+fault 13 SEGV_MAPERR 0x3fffffffff\n",
+    ),
+];
+
+#[test]
+fn memory_is_mapped_and_accessed(rt: HostRuntime) -> Result<(), Fail> {
+    for (trace, wanted) in ROWS {
+        let mut bench = Bench::boot(rt.alloc(), &image(rt.alloc(), 4096)?, Armed::Nothing)?;
+        let (end, output) = bench.replies(rt.alloc(), trace);
+        assert_eq!(rt; end, RunEnd::Done);
+        assert_eq!(rt; output.as_slice(), wanted);
+    }
+    Ok(())
+}
+
+/// What is taken from a page by mprotect and given back: its bytes stay, those of its own and those of the file.
+#[test]
+fn a_permission_comes_and_goes(rt: HostRuntime) -> Result<(), Fail> {
+    let mut bench = Bench::boot(rt.alloc(), &image(rt.alloc(), 4096)?, Armed::Nothing)?;
+    let trace =
+        b"spawn\nmmap 1 0 4096 rw- anon\nmmap 1 0 4096 rw- shared 0 0\nstore 1 0x10000 1 1\n\
+store 1 0x11000 1 2\nmprotect 1 0x10000 0x2000 ---\nload 1 0x10000 1\nstore 1 0x11000 1 3\n\
+mprotect 1 0x10000 0x2000 r--\nload 1 0x10000 1\nload 1 0x11000 1\nstore 1 0x10000 1 4\n\
+mprotect 1 0x10000 0x2000 rwx\nstore 1 0x10001 1 5\nfetch 1 0x10000\nload 1 0x11000 1\n";
+    let wanted = b"pid 1\naddr 0x10000\naddr 0x11000\nok\nok\nok\nfault 13 SEGV_ACCERR 0x10000\n\
+fault 15 SEGV_ACCERR 0x11000\nok\nvalue 0x01\nvalue 0x02\nfault 15 SEGV_ACCERR 0x10000\nok\nok\n\
+value 0x00000501\nvalue 0x02\n";
+    let (end, output) = bench.replies(rt.alloc(), trace.as_slice());
+    assert_eq!(rt; end, RunEnd::Done);
+    assert_eq!(rt; output.as_slice(), wanted.as_slice());
+    Ok(())
+}
+
+/// Refused calls, over a file that may only be read.
+#[test]
+fn calls_are_refused_in_order(rt: HostRuntime) -> Result<(), Fail> {
+    let image = image_of(rt.alloc(), true, &[0x41; 4096])?;
+    let mut bench = Bench::boot(rt.alloc(), &image, Armed::Nothing)?;
+    let trace =
+        b"spawn\nmmap 1 0 0 rw- anon\nmmap 1 0 4096 rw- shared 0 0\nmmap 1 0 4096 rw- shared 9 0\n\
+mmap 1 0 4096 r-- shared 0 1\nmmap 1 0x1000 4096 rw- anon fixed\nmmap 1 0x20001 4096 rw- anon fixed\n\
+mmap 1 0 4096 r-- shared 0 0x100000000000\nmmap 1 0 4096 r-- shared 0 0\nload 1 0x10000 1\n\
+mprotect 1 0x10000 4096 rw-\nmunmap 1 0x50000 4096\nfork 9\nexit 9\nfetch 9 0x10000\n\
+mmap 1 0 4096 rw- private 0 0\nstore 1 0x11000 1 0x42\nload 1 0x11000 2\nload 1 0x10000 2\n";
+    let wanted =
+        b"pid 1\nerror 22 EINVAL\nerror 13 EACCES\nerror 9 EBADF\nerror 22 EINVAL\nerror 12 ENOMEM\n\
+error 22 EINVAL\nerror 75 EOVERFLOW\naddr 0x10000\nvalue 0x41\nerror 13 EACCES\nok\nerror 3 ESRCH\n\
+error 3 ESRCH\nerror 3 ESRCH\naddr 0x11000\nok\nvalue 0x4142\nvalue 0x4141\n";
+    let (end, output) = bench.replies(rt.alloc(), trace.as_slice());
+    assert_eq!(rt; end, RunEnd::Done);
+    assert_eq!(rt; output.as_slice(), wanted.as_slice());
+    Ok(())
+}

@@ -1,0 +1,112 @@
+//! Processes: made, copied and ended.
+use crate::bench::{Armed, Bench, image};
+use machine::Config;
+use runner::RunEnd;
+use std::test::Fail;
+
+/// Traces on an image of a page of zeros, each from a new start, and their replies.
+const ROWS: [(&[u8], &[u8]); 4] = [
+    // After a fork each has its own memory, and the file is that of both.
+    (
+        b"spawn\nmmap 1 0 4096 rw- anon\nmmap 1 0 4096 rw- shared 0 0\nstore 1 0x10000 1 0x11\nfork 1\n\
+store 1 0x10000 1 0x22\nstore 2 0x10000 1 0x33\nload 1 0x10000 1\nload 2 0x10000 1\nstore 2 0x11000 1 0x44\n\
+load 1 0x11000 1\n",
+        b"pid 1\naddr 0x10000\naddr 0x11000\nok\npid 2\nok\nok\nvalue 0x22\nvalue 0x33\nok\nvalue 0x44\n",
+    ),
+    // A copy outlives the process that it was copied from.
+    (
+        b"spawn\nmmap 1 0 4096 rw- private 0 0\nstore 1 0x10000 1 7\nfork 1\nexit 1\nload 2 0x10000 1\nfork 2\n\
+store 1 0x10000 1 8\nload 2 0x10000 1\nexit 3\n",
+        b"pid 1\naddr 0x10000\nok\npid 2\nok\nvalue 0x07\npid 1\nok\nvalue 0x07\nerror 3 ESRCH\n",
+    ),
+    // What was stored through a shared page stays touched when its process ends.
+    (
+        b"spawn\nmmap 1 0 4096 rw- shared 0 0\nstore 1 0x10000 1 9\nexit 1\nload 1 0x10000 1\nspawn\n\
+mmap 1 0 4096 rw- shared 0 0\nload 1 0x10000 1\nmsync 1 0x10000 4096 sync\n",
+        b"pid 1\naddr 0x10000\nok\nok\nerror 3 ESRCH\npid 1\naddr 0x10000\nvalue 0x09\nok\n",
+    ),
+    // A copy of a copy, and who stores last has the page alone.
+    (
+        b"spawn\nmmap 1 0 8192 rw- anon\nstore 1 0x10000 1 1\nstore 1 0x11000 1 2\nfork 1\nfork 2\n\
+store 2 0x10000 1 3\nstore 3 0x11000 1 4\nexit 2\nstore 1 0x10000 1 5\nload 1 0x11000 1\nload 3 0x10000 1\n\
+load 3 0x11000 1\nmunmap 3 0x10000 4096\nload 1 0x10000 1\nload 3 0x10000 1\n",
+        b"pid 1\naddr 0x10000\nok\nok\npid 2\npid 3\nok\nok\nok\nok\nvalue 0x02\nvalue 0x01\nvalue 0x04\nok\n\
+value 0x05\nfault 13 SEGV_MAPERR 0x10000\n",
+    ),
+];
+
+#[test]
+fn processes_have_spaces_of_their_own(rt: HostRuntime) -> Result<(), Fail> {
+    for (trace, wanted) in ROWS {
+        let mut bench = Bench::boot(rt.alloc(), &image(rt.alloc(), 4096)?, Armed::Nothing)?;
+        let (end, output) = bench.replies(rt.alloc(), trace);
+        assert_eq!(rt; end, RunEnd::Done);
+        assert_eq!(rt; output.as_slice(), wanted);
+    }
+    Ok(())
+}
+
+/// Each process takes a frame for its root table, and gives it back.
+#[test]
+fn a_process_needs_a_frame(rt: HostRuntime) -> Result<(), Fail> {
+    let config = Config {
+        frames: 8,
+        slots: 16,
+    };
+    let image = image(rt.alloc(), 4096)?;
+    let mut bench = Bench::sized(rt.alloc(), &image, Armed::Nothing, config)?;
+    let trace = b"spawn\nspawn\nspawn\nspawn\nspawn\nspawn\nspawn\nspawn\nfork 1\nexit 7\nspawn\n";
+    let wanted =
+        b"pid 1\npid 2\npid 3\npid 4\npid 5\npid 6\npid 7\nstall 1 NOFRAMES\nstall 1 NOFRAMES\nok\npid 7\n";
+    let (end, output) = bench.replies(rt.alloc(), trace.as_slice());
+    assert_eq!(rt; end, RunEnd::Done);
+    assert_eq!(rt; output.as_slice(), wanted.as_slice());
+    Ok(())
+}
+
+/// A fork for which there are too few frames leaves no table behind.
+#[test]
+fn a_fork_that_stalls_gives_its_tables_back(rt: HostRuntime) -> Result<(), Fail> {
+    let config = Config {
+        frames: 8,
+        slots: 0,
+    };
+    let image = image(rt.alloc(), 4096)?;
+    let mut bench = Bench::sized(rt.alloc(), &image, Armed::Nothing, config)?;
+    // The zero page, three tables and a page of process 1, and the root of process 2 leave two frames; a copy needs three.
+    let trace =
+        b"spawn\nmmap 1 0 4096 rw- anon\nstore 1 0x10000 1 1\nspawn\nfork 1\nfork 1\nload 1 0x10000 1\nexit 2\n\
+fork 1\nload 2 0x10000 1\nstore 2 0x10000 1 2\nexit 1\nstore 2 0x10000 1 3\nload 2 0x10000 1\n";
+    let wanted =
+        b"pid 1\naddr 0x10000\nok\npid 2\nstall 1 NOFRAMES\nstall 1 NOFRAMES\nvalue 0x01\nok\npid 2\nvalue 0x01\n\
+stall 1 NOFRAMES\nok\nok\nvalue 0x03\n";
+    let (end, output) = bench.replies(rt.alloc(), trace.as_slice());
+    assert_eq!(rt; end, RunEnd::Done);
+    assert_eq!(rt; output.as_slice(), wanted.as_slice());
+    Ok(())
+}
+
+#[test]
+fn there_are_64_processes(rt: HostRuntime) -> Result<(), Fail> {
+    let config = Config {
+        frames: 128,
+        slots: 0,
+    };
+    let image = image(rt.alloc(), 4096)?;
+    let mut bench = Bench::sized(rt.alloc(), &image, Armed::Nothing, config)?;
+    let mut trace = Vec::new(rt.alloc());
+    let mut wanted = Vec::new(rt.alloc());
+    for pid in 1..65_u64 {
+        trace.extend_from_slice(b"spawn\n")?;
+        let reply = format!(in rt.alloc(); "pid {pid}\n")?;
+        wanted.extend_from_slice(reply.as_bytes())?;
+    }
+    let (_, output) = bench.replies(rt.alloc(), trace.as_slice());
+    assert_eq!(rt; output.as_slice(), wanted.as_slice());
+    let (_, output) = bench.replies(rt.alloc(), b"spawn\nfork 1\nexit 9\nfork 64\n");
+    assert_eq!(rt;
+        output.as_slice(),
+        b"error 11 EAGAIN\nerror 11 EAGAIN\nok\npid 9\n".as_slice()
+    );
+    Ok(())
+}
