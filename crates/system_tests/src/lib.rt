@@ -14,7 +14,7 @@ mod mappings;
 #[cfg(test)]
 mod memory;
 #[cfg(test)]
-mod processes;
+mod process_traces;
 #[cfg(test)]
 mod stops;
 #[cfg(test)]
