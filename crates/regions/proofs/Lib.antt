@@ -4,6 +4,7 @@ pub mod ListLemmas
 pub mod MapLemmas
 pub mod CountLemmas
 pub mod SearchLemmas
+pub mod BehindLemmas
 pub mod PasteLemmas
 pub mod PushLemmas
 pub mod ResultLemmas

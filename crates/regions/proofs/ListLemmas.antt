@@ -7,17 +7,6 @@ use Rattle.regions.specs.Run.{IsRun, attr_in, joins, joined, cut, part_of}
 use Rattle.regions.specs.RunList.{or_else, attr_at, joins_first, IsMaximal, end_of, pushed, pushed_part, pasted}
 use Rattle.regions.proofs.RunLemmas.{clipped-none, lt_or_le, apart, attr_in-below, attr_in-above, attr_in-joined, or_else-none, or_else-swap, joins-true, joined-run, clipped, clipped-or, clipped-empty, attr_in-cut, IsPart, cut-run}
 
--- runs in order, from some page on
-pub record InOrder (runs : List Run) : Type 0 where
-  pub from : ℕ
-  pub maximal : IsMaximal from runs
-
-pub in_order_rest : (run : Run) (runs : List Run) → InOrder (run ∷ runs) → InOrder runs
-in_order_rest run runs o = record { from = run.end; maximal = o.maximal.3 }
-
-pub in_order_run : (run : Run) (runs : List Run) → InOrder (run ∷ runs) → IsRun run
-in_order_run run runs o = o.maximal.1
-
 pub end_of-from : (from : ℕ) (runs : List Run) → IsMaximal from runs → from ≤ end_of from runs
 end_of-from from [] m = omega arith
 end_of-from from (run ∷ runs) m =

@@ -3,6 +3,11 @@ use Rattle.std.specs.Prelude.{ℕ, ◌+◌, ◌^◌, Bool, true, leb, ltb, max, 
 use Rattle.regions.specs.declared.run.Run.{Run}
 use Rattle.regions.specs.Run.{part_of}
 
+-- the runs from the first one on that ends behind the page
+abbrev pub runs_behind : ℕ → List Run → List Run
+runs_behind page [] = []
+runs_behind page (run ∷ runs) = if leb run.end page then runs_behind page runs else run ∷ runs
+
 -- the first page from this one on that isn't mapped
 abbrev pub gap_from : ℕ → List Run → ℕ
 gap_from page [] = page

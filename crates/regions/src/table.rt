@@ -36,7 +36,7 @@ impl Regions {
     ghost use Rattle.vm_types.specs.Runs.{run_count};
     ghost use Rattle.regions.specs.Run.{IsRun};
     ghost use Rattle.regions.specs.RunList.{attr_at, end_of, IsMaximal, IsNextRun, joins_last, list_protected, list_removed, list_replaced, pasted, pushed};
-    ghost use Rattle.regions.specs.Search.{first_part, gap_from, is_clear, lowest_gap};
+    ghost use Rattle.regions.specs.Search.{first_part, gap_from, is_clear, lowest_gap, runs_behind};
 
     /// No page is mapped.
     pub fn new() -> Regions
@@ -73,6 +73,16 @@ impl Regions {
         &self.runs[..self.len]
     }
 
+    /// The runs from the first one on that ends behind the page. It is found by halves, in at most nine steps.
+    fn runs_behind(&self, page: u64) -> &[Run]
+        ensures runs { result.now ≡ runs_behind page self.now }
+        ensures maximal { IsMaximal 16 self.now }
+    {
+        let runs = self.as_slice();
+        let ended = runs.partition_point(|run| run.end <= page);
+        &runs[ended..]
+    }
+
     /// How many runs the map has, at most 256.
     pub fn runs(&self) -> usize
         ensures count { result ≡ run_count (attr_at self.now) }
@@ -97,16 +107,13 @@ impl Regions {
         ensures user { IsUserMap (attr_at self.now) }
     {
         let page = page.get();
-        for run in self.as_slice() {
-            if let Some(attr) = run.at(page) {
-                return Some(attr);
-            }
-        }
-        None
+        let run = self.runs_behind(page).first()?;
+        run.at(page)
     }
 
     /// The pages of one run that come first from `page` on, which may be the rest of a run: so a caller walks over
-    /// the mapped pages of a row in at most 256 steps. `None` exactly where no page from `page` on is mapped.
+    /// the mapped pages of a row in at most 256 steps, each a search by halves. `None` exactly where no page from
+    /// `page` on is mapped.
     pub fn next_run(&self, page: u64) -> Option<Run>
         ensures none { IfNone result ((k : ℕ) → page ≤ k → attr_at self.now k ≡ None) }
         ensures some { IfSome result (IsNextRun (attr_at self.now) page) }
@@ -119,12 +126,8 @@ impl Regions {
         ensures part { result ≡ first_part page self.now }
         ensures maximal { IsMaximal 16 self.now }
     {
-        for run in self.as_slice() {
-            if let Some(part) = run.part(page, USER_END, None) {
-                return Some(part);
-            }
-        }
-        None
+        let run = self.runs_behind(page).first()?;
+        run.part(page, USER_END, None)
     }
 
     /// Whether each of the `pages` pages from `first` on is mapped.
@@ -141,7 +144,7 @@ impl Regions {
         ensures maximal { IsMaximal 16 self.now }
     {
         let mut gap = page;
-        for run in self.as_slice() {
+        for run in self.runs_behind(page) {
             if gap < run.first {
                 return gap;
             }
@@ -179,12 +182,10 @@ impl Regions {
         ensures clear { result ≡ is_clear first end self.now }
         ensures maximal { IsMaximal 16 self.now }
     {
-        for run in self.as_slice() {
-            if run.first < end && first < run.end {
-                return false;
-            }
+        match self.runs_behind(first).first() {
+            Some(run) => end <= run.first,
+            None => true,
         }
-        true
     }
 
     /// The lowest page where `pages` pages lie between two runs or behind the last.

@@ -1,0 +1,10 @@
+use Rattle.std.proofs.Common.{◌∙◌, List, ap}
+use Rattle.regions.specs.declared.run.Run.{Run}
+use Rattle.regions.specs.Search.{gap_from}
+use Rattle.regions.proofs.BehindLemmas.{gap_behind}
+use Rattle.regions.proofs.table.Regions.gap_from.Goals as goal
+
+pub loop-run-init : goal.loop-run-init
+loop-run-init c =
+    ap (λ (l : List Run). gap_from c.args.page l) c.runs_behind-run-items.ensures.runs
+    ∙ gap_behind 16 c.args.page c.args.self.now c.runs_behind-run-items.ensures.maximal

@@ -1,0 +1,18 @@
+use Rattle.std.proofs.Common.{◌∙◌, List, ap, leb, sym, subst, rules}
+use Rattle.std.proofs.lemmas.List.{take_rest}
+use Rattle.std.proofs.lemmas.List.Sorted.{IsPartitionPoint-from_clause, IsPartitionedBy-leb}
+use Rattle.regions.specs.declared.run.Run.{Run}
+use Rattle.regions.specs.RunList.{IsMaximal}
+use Rattle.regions.specs.Search.{runs_behind}
+use Rattle.regions.proofs.BehindLemmas.{ends_rise, point_behind}
+use Rattle.regions.proofs.table.Regions.runs_behind.Goals as goal
+
+pub returns-clause-runs : goal.returns-clause-runs
+returns-clause-runs c =
+    let order : IsMaximal 16 c.as_slice-runs.result.now =
+    subst (λ (l : List Run). IsMaximal 16 l) (sym c.as_slice-runs.ensures.runs) c.as_slice-runs.ensures.maximal in
+    let parted = IsPartitionedBy-leb (λ run. run.end) _ c.args.page (ends_rise 16 c.as_slice-runs.result.now order) in
+    let point = IsPartitionPoint-from_clause (λ run. leb run.end c.args.page) _ _ c.partition_point-ended.ensures.partitioned parted (λ a r q k. search rules) in
+    take_rest c.as_slice-runs.result.now c.partition_point-ended.result
+    ∙ point_behind c.args.page c.as_slice-runs.result.now c.partition_point-ended.result c.partition_point-ended.ensures.bound point
+    ∙ ap (λ (l : List Run). runs_behind c.args.page l) c.as_slice-runs.ensures.runs
