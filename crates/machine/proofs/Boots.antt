@@ -100,8 +100,8 @@ module _ {D E : Type 0} (g : Ghosts D) (h : Ghosts E) where
     same = λ f k is. refl;
   }
 
-  starts_so : (image : Image) (m : Machine D E) (frames : ℕ) → IsStart m.core frames → ShowsPages (picture_of m.core) (start m image)
-  starts_so image m frames fresh = record {
+  starts_so : (image : Image) (m : Machine D E) (frames slots : ℕ) → IsStart m.core frames slots → ShowsPages (picture_of m.core) (start m image)
+  starts_so image m frames slots fresh = record {
     live = λ pid. sym (ap is_some (fresh.none pid));
     views = λ pid page. sym (unmapped (picture_of m.core) pid page (rw (fresh.none pid) refl));
     files = λ f. refl;
@@ -110,11 +110,11 @@ module _ {D E : Type 0} (g : Ghosts D) (h : Ghosts E) where
     home = λ p e inside. refl;
   }
 
-  pub boots : (entry : D) (m : Machine D E) (frames : ℕ) → m.halted ≡ false → IsOpened g entry m.core.store → IsStart m.core frames → Boots g h entry m
-  boots entry m frames goes opened fresh = record {
+  pub boots : (entry : D) (m : Machine D E) (frames slots : ℕ) → m.halted ≡ false → IsOpened g entry m.core.store → IsStart m.core frames slots → Boots g h entry m
+  boots entry m frames slots goes opened fresh = record {
     state = start m (g.content entry);
     shows = record {
-      pages = starts_so (g.content entry) m frames fresh;
+      pages = starts_so (g.content entry) m frames slots fresh;
       running = sym goes;
       stands = λ keeps c may. (
         standing_page (g.content entry),

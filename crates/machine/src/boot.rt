@@ -4,7 +4,7 @@ ghost use Rattle.disk_model.specs.Moments.{LeavesOnly};
 ghost use Rattle.file_store.specs.Standing.{StandsAs, IsBadLayout};
 ghost use Rattle.sync_journal.specs.Standing.{IsBadJournal};
 ghost use Rattle.machine.specs.Machine.{IsSound};
-ghost use Rattle.machine.specs.Boot.{HasBadFrames, HasBadSlots, Boots};
+ghost use Rattle.machine.specs.Boot.{HasBadFrames, HasBadSlots, HasRoom, Boots};
 ghost use Rattle.machine.specs.Fault.{fault_number, boot_fault};
 
 use crate::machine::Machine;
@@ -86,6 +86,7 @@ impl<D: SectorDisk, E: SectorDisk + Drop> Machine<D, E> {
 
         ensures sound { IfOk result (λ m. IsSound D.SectorDisk E.SectorDisk m) }
         ensures boots { IfOk result (λ m. Boots D.SectorDisk E.SectorDisk store m) }
+        ensures room { IfOk result (λ m. HasRoom m config) }
         ensures size { IfOk result (λ m. D.sector_count m.core.store.disk ≡ D.sector_count store) }
         ensures kept { IfOk result (λ m. D.keeps_model m.core.store.disk → D.keeps_model store) }
         ensures frames { OnOk result (HasBadFrames config → ⊥) }

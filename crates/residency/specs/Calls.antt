@@ -4,13 +4,15 @@ use Rattle.vm_types.specs.declared.file.FilePage.{FilePage}
 use Rattle.disk_model.specs.Stop.{Image}
 use Rattle.frames.specs.declared.role.Role.TheVariants.{Free}
 use Rattle.frames.specs.FrameTable.{FrameTable, frame_count, bytes_of, role_of, count_of, IsFrame, IsFresh}
+use Rattle.page_cache.specs.CacheTable.{slot_count}
 use Rattle.page_cache.specs.declared.place.Place.TheVariants.{Home}
 use Rattle.residency.specs.declared.kernel.Core.{Core}
 use Rattle.residency.specs.Picture.{Picture, picture_of, view, volatile}
 
--- no process, every file page at home and untouched, and all frames free but the zero page
-pub record IsStart {D E : Type 0} (c : Core D E) (frames : ℕ) : Type 0 where
+-- so many frames, all free but the zero page, room for so many slots, no process, and every file page at home and untouched
+pub record IsStart {D E : Type 0} (c : Core D E) (frames slots : ℕ) : Type 0 where
   pub fresh : IsFresh c.frames frames
+  pub slots_are : slot_count c.cache ≡ slots
   pub none : (pid : ℕ) → (picture_of c).root pid ≡ None
   pub at_home : (p : FilePage) → (picture_of c).place p ≡ Home
   pub untouched : (p : FilePage) → (picture_of c).touched p ≡ false

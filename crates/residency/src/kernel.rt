@@ -59,7 +59,7 @@ impl<D, E> Core<D, E> {
         requires most_slots { slots ≤ 65536 }
         ensures sized { IfOk result IsSized }
         ensures fit { IfOk result (λ core. IsFit (picture_of core)) }
-        ensures start { IfOk result (λ core. IsStart core frames) }
+        ensures start { IfOk result (λ core. IsStart core frames slots) }
         ensures store { IfOk result (λ core. core.store ≡ store) }
         ensures swap { IfOk result (λ core. core.swap ≡ swap) }
         ensures err { IfErr result (λ e. e.1 ≡ store) }
@@ -106,13 +106,14 @@ impl Room {
         requires least_frames { 8 ≤ frames }
         requires most_frames { frames ≤ 65536 }
         requires most_slots { slots ≤ 65536 }
-        ensures { IfOk result (λ room. IsEmptyRoom room frames) }
+        ensures { IfOk result (λ room. IsEmptyRoom room frames slots) }
     {
         let page_of = zeros(alloc, frames)?;
         let roots = no_roots(alloc)?;
         let regions = no_regions(alloc)?;
         let cache = PageCache::new(alloc, frames, slots)?;
         let frames = Frames::new(alloc, frames)?;
+        // (brings in that the table of frames is sound)
         let _ = frames.len();
         Ok(Room {
             frames,

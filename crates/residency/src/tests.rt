@@ -60,6 +60,7 @@ fn spawn<D, E>(core: &mut Core<D, E>, pid: usize) -> Result<(), Stall>
     ensures others { (q : ℕ) → q ≢ pid → (picture_of core.new).root q ≡ (picture_of core.old).root q }
 {
     obtain(core, None)?;
+    // (brings in that the table of frames is sound)
     let _ = core.frames.len();
     match take_table(&mut core.frames) {
         Ok(root) => {

@@ -30,7 +30,7 @@ returns-in-Ok-new-clause-boots g c =
       leaves = e.now;
     } in
     let made = c.in-Ok-new.ensures in
-    boots g.D.SectorDisk g.E.SectorDisk c.args.store _ c.args.config.frames refl
+    boots g.D.SectorDisk g.E.SectorDisk c.args.store _ c.args.config.frames c.args.config.slots refl
     (subst (λ store. IsOpened g.D.SectorDisk c.args.store store) (sym made.store) opened) made.start
 
 pub returns-in-Ok-new-clause-layout : goal.returns-in-Ok-new-clause-layout
