@@ -16,9 +16,10 @@ use residency::Core;
 use vm_types::{Access, Phys, Pid, Width};
 
 /// The place in memory of an access of a live process to the address, in bytes: of its first byte, and the others follow
-/// in the same frame. A fetch is of width `Four`. The place is what the walk gives from the process's root, and the frame there
-/// holds the bytes that the page shows. After a store's access it holds a copy that no other page has, or is that of the
-/// shared file page, which is touched now: the caller writes the bytes.
+/// in the same frame. A fetch is of width `Four`. The place is what the walk gives from the process's root (RISC-V Privileged
+/// Specification, "Virtual Address Translation Process"), and the frame there holds the bytes that the page shows. After a
+/// store's access it holds a copy that no other page has, or is that of the shared file page, which is touched now: the caller
+/// writes the bytes.
 ///
 /// # Errors
 /// `Fault` exactly where the access faults; then nothing changes. `Stall` only where the access is fine: `NoFrames` where a

@@ -53,6 +53,7 @@ fn brought<D: SectorDisk, E>(core: &mut Core<D, E>, page: FilePage) -> Result<Fr
     ensures cause { IfErr result (StallCause D.SectorDisk core.old core.new) }
 {
     obtain(core, None)?;
+    // (brings in that the table of frames is sound)
     let _ = core.frames.len();
     let Ok(frame) = core.frames.take(Role::Cache) else {
         unreachable!();

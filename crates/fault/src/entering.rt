@@ -12,12 +12,9 @@ ghost use Rattle.page_entries.specs.Leaves.{IsEntryOver};
 ghost use Rattle.fault.specs.Entered.{Enters, IsRefused, IsOver, seen_at};
 ghost use Rattle.fault.specs.Outcome.{KeepsViews, Owns, Touches};
 
-use page_entries::{link_tables, own_frame, regrant, show_cached, show_zero, touch};
+use page_entries::{ZERO_PAGE, link_tables, own_frame, regrant, show_cached, show_zero, touch};
 use residency::Core;
 use vm_types::{Attr, FilePage, FrameNo, Pid, Stall, Vpn};
-
-/// The frame of zeros, which nothing is written to.
-const ZERO_PAGE: FrameNo = FrameNo(0);
 
 /// Shows an anonymous page that has no entry as zeros.
 pub(crate) fn enter_zeros<D, E>(
@@ -41,6 +38,7 @@ pub(crate) fn enter_zeros<D, E>(
 {
     link_tables(core, pid, page)?;
     show_zero(core, pid, page, attr);
+    // (brings in that the table of frames is sound)
     let _ = core.frames.len();
     Ok(ZERO_PAGE)
 }
@@ -69,6 +67,7 @@ pub(crate) fn enter_cached<D, E>(
 {
     link_tables(core, pid, page)?;
     show_cached(core, pid, page, attr, frame);
+    // (brings in that the table of frames is sound)
     let _ = core.frames.len();
     Ok(frame)
 }
@@ -96,6 +95,7 @@ pub(crate) fn enter_again<D, E>(
 {
     link_tables(core, pid, page)?;
     regrant(core, pid, page, attr);
+    // (brings in that the table of frames is sound)
     let _ = core.frames.len();
     Ok(frame)
 }
@@ -125,6 +125,7 @@ pub(crate) fn enter_touched<D, E>(
 {
     link_tables(core, pid, page)?;
     touch(core, pid, page, attr, file_page, frame);
+    // (brings in that the table of frames is sound)
     let _ = core.frames.len();
     Ok(frame)
 }
@@ -152,8 +153,10 @@ pub(crate) fn enter_own<D, E>(
     ensures refused { IfErr result (IsRefused core.old core.new) }
 {
     link_tables(core, pid, page)?;
+    // (brings in that the table of frames is sound)
     let _ = core.frames.len();
     let own = own_frame(core, pid, page, attr)?;
+    // (brings in that the table of frames is sound)
     let _ = core.frames.len();
     Ok(own)
 }

@@ -47,6 +47,7 @@ pub(crate) fn find<D: SectorDisk, E>(
     let Some(page) = Vpn::new(addr / PAGE) else {
         return Finding::Fault(Code::SegvMaperr);
     };
+    // (brings in that the table of frames is sound)
     let _ = core.frames.len();
     if let Ok(place) = walk(&core.frames, root_of(core, pid), addr, access) {
         return Finding::Place(place);

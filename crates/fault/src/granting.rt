@@ -68,6 +68,7 @@ fn grant_read<D: SectorDisk, E>(
     ensures cause { IfErr result (StallCause D.SectorDisk core.old core.new) }
 {
     let entry = entry_at(core, pid, page);
+    // (brings in that the table of frames is sound)
     let _ = core.frames.len();
     if entry.to_u64() != 0 {
         return enter_again(core, pid, page, attr, FrameNo(entry.frame() as u32));

@@ -9,7 +9,8 @@ use residency::Core;
 use sv39_walk::Pte;
 use vm_types::{Attr, Pid, Vpn};
 
-/// The process of that number, exactly where it lives.
+/// The process of that number, exactly where it lives; the calls answer ESRCH for any other number (our choice, as kill(2)
+/// has it).
 pub fn live<D, E>(core: &Core<D, E>, pid: u64) -> Option<Pid>
     requires sized { IsSized core.now }
     requires fit { IsFit (picture_of core.now) }

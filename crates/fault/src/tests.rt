@@ -121,6 +121,7 @@ fn spawn(core: &mut Core<SimDisk, SimDisk>, regions: Regions) -> Result<(), Stal
     ensures lives { OnOk result (is_live (picture_of core.new) 1 ≡ true) }
 {
     obtain(core, None)?;
+    // (brings in that the table of frames is sound)
     let _ = core.frames.len();
     match take_table(&mut core.frames) {
         Ok(root) => {

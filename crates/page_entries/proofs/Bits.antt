@@ -1,5 +1,5 @@
 -- The bits of the entries that this crate writes.
-use Rattle.std.proofs.Common.{◌≡◌, ◌≢◌, ℕ, inl, inr, ◌+◌, ◌*◌, ◌/◌, ◌%◌, ◌^◌, ◌<◌, ◌≤◌, ◌⊎◌, Bool, true, false, refl, sym, ap, ◌∙◌, subst, arith, eq-eqb, ne_eqb}
+use Rattle.std.proofs.Common.{◌≡◌, ◌≢◌, ℕ, inl, inr, ◌+◌, ◌*◌, ◌/◌, ◌%◌, ◌^◌, ◌<◌, ◌≤◌, Bool, true, false, refl, sym, ap, ◌∙◌, subst, arith, eq-eqb, ne_eqb}
 use Rattle.std.proofs.lemmas.Bool.{cases_Bool, false≢true}
 use Rattle.std.specs.Prelude.{◌||◌, ◌&&◌, not, ◌==◌}
 use Rattle.vm_types.specs.declared.permission.Prot.{Prot}
@@ -147,6 +147,10 @@ pub parked_framed : (f : ℕ) (private : Bool) → has_bit (number_of (Parked (r
 parked_framed f true = bit_is (f * 1024 + 260) 1 false (let h : (f * 1024 + 260) / 2 % 2 ≡ 0 = omega arith in h)
 parked_framed f false = bit_is (f * 1024 + 4) 1 false (let h : (f * 1024 + 4) / 2 % 2 ≡ 0 = omega arith in h)
 
+pub parked_unexecutable : (f : ℕ) (private : Bool) → can_execute (number_of (Parked (record { 0 = f }) private)) ≡ false
+parked_unexecutable f true = bit_is (f * 1024 + 260) 3 false (let h : (f * 1024 + 260) / 8 % 2 ≡ 0 = omega arith in h)
+parked_unexecutable f false = bit_is (f * 1024 + 4) 3 false (let h : (f * 1024 + 4) / 8 % 2 ≡ 0 = omega arith in h)
+
 parked_some : (f : ℕ) (private : Bool) → number_of (Parked (record { 0 = f }) private) ≢ 0
 parked_some f true e = omega (arith, e)
 parked_some f false e = omega (arith, e)
@@ -161,17 +165,6 @@ over_some e prot f private write stored over none = elim (cases_Bool (is_barred 
   | inl barred ↦ parked_some f private (sym (over.parked barred) ∙ none)
   | inr useful ↦ false≢true (sym zero_invalid ∙ ap is_valid (sym none) ∙ (over.leaf useful).valid)
 ]
-
--- a permission to read or to run lets something be done
-pub opened : (prot : Prot) → (Permission.can_read prot ≡ true) ⊎ (Permission.can_execute prot ≡ true) → is_barred prot ≡ false
-opened prot (inl r) = rw r refl
-opened prot (inr x) = elim (cases_Bool (Permission.can_read prot)) [
-  | inl r ↦ rw r refl
-  | inr f ↦ rw (f, x) refl
-]
-
-pub shut : (prot : Prot) → Permission.can_read prot ≡ false → Permission.can_execute prot ≡ false → is_barred prot ≡ true
-shut prot r x = rw (r, x) refl
 
 pub leaf_over : (prot : Prot) (f : ℕ) (private write stored : Bool) (e : ℕ) → e ≡ leaf_number prot f private write stored → f < 2 ^ 32
     → (write ≡ true → Permission.can_read prot ≡ true) → is_barred prot ≡ false → IsEntryOver e prot f private write stored

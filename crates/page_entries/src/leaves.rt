@@ -11,13 +11,14 @@ use vm_types::{FrameNo, Prot};
 
 /// Where a page lies, and what an entry for it lets be done beside what its permission says.
 #[derive(Clone, Copy, Debug, PartialEq, Eq)]
-pub(crate) struct Grant {
+pub struct Grant {
+    /// The frame.
     pub frame: FrameNo,
     /// The frame is the process's own.
     pub private: bool,
-    /// W.
+    /// W: stores are let through.
     pub write: bool,
-    /// D.
+    /// D: a store needs no further mark.
     pub dirty: bool,
 }
 
@@ -35,18 +36,25 @@ const DIRTY: u64 = 0x80;
 
 const PRIVATE: u64 = 0x100;
 
-/// The entry of a page of that permission: a leaf, or, where the permission lets nothing be done, a parked frame.
-pub(crate) fn entry_over(prot: Prot, grant: Grant) -> Entry
+/// The entry of a page of that permission (RISC-V Privileged Specification, "Sv39 page table entry"): a leaf with A, or,
+/// where the permission lets nothing be done, a parked frame, whose V is clear.
+pub fn entry_over(prot: Prot, grant: Grant) -> Entry
     requires readable { can_write prot ≡ true → can_read prot ≡ true }
     requires writable { grant.write ≡ true → can_write prot ≡ true }
     ensures form { IsEntry result }
     ensures over { IsEntryOver (number_of result) prot grant.frame.0 grant.private grant.write grant.dirty }
 {
-    if prot.is_readable() || prot.is_executable() {
-        Entry::Leaf(leaf(prot, grant))
-    } else {
-        Entry::Parked(grant.frame, grant.private)
+    if is_barred(prot) {
+        return Entry::Parked(grant.frame, grant.private);
     }
+    Entry::Leaf(leaf(prot, grant))
+}
+
+// Whether a permission lets nothing be done: who may write may read.
+fn is_barred(prot: Prot) -> bool
+    ensures { result ≡ is_barred prot }
+{
+    !(prot.is_readable() || prot.is_executable())
 }
 
 // The leaf of a user page that was accessed. R and X are as the permission has them.
@@ -75,7 +83,8 @@ fn bit(set: bool, value: u64) -> u64
     if set { value } else { 0 }
 }
 
-/// Whether an entry names a frame as the process's own: bit 8, which is the software's.
+/// Whether an entry names a frame as the process's own: bit 8, which is the software's (RISC-V Privileged Specification,
+/// "Sv39 page table entry", RSW).
 #[tactic(auto, using(std::proofs::lemmas::Nat::Bits::shr_and_one), unfolding(sv39_walk::specs::Entry::has_bit))]
 pub fn is_private(entry: Pte) -> bool
     ensures { result ≡ is_private entry.0 }

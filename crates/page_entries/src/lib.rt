@@ -1,4 +1,7 @@
 //! One page's entry of a live process: the tables on its way are made, and the frame in which the page lies is put there.
+//! The form is that of the RISC-V Privileged Specification, "Sv39 page table entry". Each leaf has A from the start, so that
+//! no access stops at it for that. D is set as soon as a store needs no further mark: the first store to a shared page of a
+//! file page that isn't touched finds it clear, and stops (the scheme of Svade, where the walk sets neither).
 #![tactic(auto)]
 
 mod leaves;
@@ -8,7 +11,7 @@ mod showing;
 #[cfg(test)]
 mod tests;
 
-pub use leaves::is_private;
+pub use leaves::{Grant, entry_over, is_private};
 pub use linking::{link_tables, root_of};
 pub use owning::own_frame;
-pub use showing::{regrant, show_cached, show_zero, touch};
+pub use showing::{ZERO_PAGE, is_shared, regrant, show_cached, show_zero, touch};

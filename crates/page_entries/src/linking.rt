@@ -26,7 +26,8 @@ pub fn root_of<D, E>(core: &Core<D, E>, pid: Pid) -> FrameNo
 }
 
 /// Makes the tables that are missing on the way to a page of a live process; the page's entry is to be set at once. Every
-/// page keeps its entry, and no process sees a change.
+/// page keeps its entry, and no process sees a change (RISC-V Privileged Specification, "Virtual Address Translation
+/// Process").
 ///
 /// # Errors
 /// `NoFrames` where not enough frames can be had. The tables that were made are given back.
@@ -52,6 +53,7 @@ pub fn link_tables<D, E>(core: &mut Core<D, E>, pid: Pid, page: Vpn) -> Result<(
     match link_missing(core, root, page) {
         Ok(()) => Ok(()),
         Err(stall) => {
+            // (brings in that the table of frames is sound)
             let _ = core.frames.len();
             prune(&mut core.frames, root, page);
             Err(stall)
@@ -92,6 +94,7 @@ fn link_one<D, E>(core: &mut Core<D, E>, root: FrameNo, page: Vpn) -> Result<(),
     ensures refused { OnErr result (core.new.refused.number ≡ core.old.refused.number + 1) }
 {
     obtain(core, None)?;
+    // (brings in that the table of frames is sound)
     let _ = core.frames.len();
     match take_table(&mut core.frames) {
         Ok(table) => {

@@ -24,7 +24,8 @@ use sv39_walk::Pte;
 use vm_types::{Attr, Backing, FrameNo, NoFree, Pid, Stall, Vpn};
 
 /// Gives a page that may be written, and that isn't shared, a frame of its own that shows the same bytes and lets stores
-/// through. Where it is the only one to have its private frame, that is the one. What stands behind the page is in memory.
+/// through, by W and D (RISC-V Privileged Specification, "Sv39 page table entry"). Where it is the only one to have its
+/// private frame, that is the one. What stands behind the page is in memory.
 ///
 /// # Errors
 /// `NoFrames` exactly where a frame is wanted and none is free. Then the page is seen as before, and tables without entries
@@ -67,6 +68,7 @@ pub fn own_frame<D, E>(
     ensures not_refused { OnOk result (core.new.refused.number ≡ core.old.refused.number) }
     ensures refused { OnErr result (core.new.refused.number ≡ core.old.refused.number + 1) }
 {
+    // (brings in that the table of frames is sound)
     let _ = core.frames.len();
     let root = root_of(core, pid);
     let entry = entry_number(&core.frames, root, page);
@@ -84,6 +86,7 @@ pub fn own_frame<D, E>(
             Ok(own)
         }
         Err(stall) => {
+            // (brings in that the table of frames is sound)
             let _ = core.frames.len();
             prune(&mut core.frames, root, page);
             Err(stall)
@@ -126,6 +129,7 @@ fn take_copy<D, E>(core: &mut Core<D, E>, from: FrameNo, page: Vpn) -> Result<Fr
     ensures refused { OnErr result (core.new.refused.number ≡ core.old.refused.number + 1) }
 {
     obtain(core, Some(from))?;
+    // (brings in that the table of frames is sound)
     let _ = core.frames.len();
     match core.frames.take(Role::Private) {
         Ok(own) => {

@@ -21,10 +21,11 @@ use page_tables::{entry_number, set};
 use residency::Core;
 use vm_types::{Attr, Backing, FilePage, FrameNo, Pid, Vpn};
 
-/// The zero page.
-pub(crate) const ZERO_PAGE: FrameNo = FrameNo(0);
+/// The zero page, the frame of zeros that nothing is written to.
+pub const ZERO_PAGE: FrameNo = FrameNo(0);
 
-/// Shows the zero page at an anonymous page that has no entry.
+/// Shows the zero page at an anonymous page that has no entry. Its leaf is without W and D (RISC-V Privileged Specification,
+/// "Sv39 page table entry"): each store asks for a frame first.
 pub fn show_zero<D, E>(core: &mut Core<D, E>, pid: Pid, page: Vpn, attr: Attr)
     requires sized { IsSized core.old }
     requires ready { IsReady (picture_of core.old) pid page }
@@ -42,13 +43,15 @@ pub fn show_zero<D, E>(core: &mut Core<D, E>, pid: Pid, page: Vpn, attr: Attr)
     ensures rest { KeepsRest core.old core.new }
     ensures not_refused { core.new.refused.number ≡ core.old.refused.number }
 {
+    // (brings in that the table of frames is sound)
     let _ = core.frames.len();
     let root = root_of(core, pid);
     set_full(core, root, page, attr, ZERO_PAGE, false);
 }
 
 /// Shows the frame of its file page at a page of a file without an own copy. Stores are let through to a shared page of a
-/// touched file page alone, so that the first one to any other is noticed.
+/// touched file page alone, so that the first one to any other is noticed: it finds D clear (RISC-V Privileged
+/// Specification, "Sv39 page table entry", the scheme of Svade).
 pub fn show_cached<D, E>(core: &mut Core<D, E>, pid: Pid, page: Vpn, attr: Attr, frame: FrameNo)
     requires sized { IsSized core.old }
     requires ready { IsReady (picture_of core.old) pid page }
@@ -67,13 +70,15 @@ pub fn show_cached<D, E>(core: &mut Core<D, E>, pid: Pid, page: Vpn, attr: Attr,
     ensures rest { KeepsRest core.old core.new }
     ensures not_refused { core.new.refused.number ≡ core.old.refused.number }
 {
+    // (brings in that the table of frames is sound)
     let _ = core.frames.len();
     let root = root_of(core, pid);
     set_full(core, root, page, attr, frame, false);
 }
 
 /// Gives a page that lies in a frame the entry that lets be done all that its permission and the sharing of its frame
-/// allow.
+/// allow: W over a frame that nobody else has and over that of a shared page, D there where the file page is touched
+/// (RISC-V Privileged Specification, "Sv39 page table entry").
 pub fn regrant<D, E>(core: &mut Core<D, E>, pid: Pid, page: Vpn, attr: Attr)
     requires sized { IsSized core.old }
     requires ready { IsReady (picture_of core.old) pid page }
@@ -91,6 +96,7 @@ pub fn regrant<D, E>(core: &mut Core<D, E>, pid: Pid, page: Vpn, attr: Attr)
     ensures rest { KeepsRest core.old core.new }
     ensures not_refused { core.new.refused.number ≡ core.old.refused.number }
 {
+    // (brings in that the table of frames is sound)
     let _ = core.frames.len();
     let root = root_of(core, pid);
     let entry = entry_number(&core.frames, root, page);
@@ -104,7 +110,8 @@ pub fn regrant<D, E>(core: &mut Core<D, E>, pid: Pid, page: Vpn, attr: Attr)
     );
 }
 
-/// Marks the file page of a shared page touched, and shows its frame there with stores let through: one follows at once.
+/// Marks the file page of a shared page touched, and shows its frame there with stores let through, by W and D: one follows
+/// at once (RISC-V Privileged Specification, "Sv39 page table entry").
 pub fn touch<D, E>(
     core: &mut Core<D, E>,
     pid: Pid,
@@ -131,6 +138,7 @@ pub fn touch<D, E>(
     ensures kept { KeepsDataFrames core.old.frames core.new.frames }
     ensures not_refused { core.new.refused.number ≡ core.old.refused.number }
 {
+    // (brings in that the table of frames is sound)
     let _ = core.frames.len();
     let root = root_of(core, pid);
     core.cache.mark_dirty(file_page);
@@ -186,7 +194,8 @@ fn full_grant<D, E>(core: &Core<D, E>, attr: Attr, frame: FrameNo, private: bool
     }
 }
 
-fn is_shared(backing: Backing) -> bool
+/// Whether a page on that backing is a shared one (mmap(2), MAP_SHARED).
+pub fn is_shared(backing: Backing) -> bool
     ensures { result ≡ is_shared backing }
 {
     matches!(backing, Backing::Shared(_))

@@ -69,6 +69,7 @@ fn spawn<D, E>(core: &mut Core<D, E>, pid: Pid) -> Result<(), Stall>
 {
     let place = usize::from(pid.get());
     obtain(core, None)?;
+    // (brings in that the table of frames is sound)
     let _ = core.frames.len();
     match take_table(&mut core.frames) {
         Ok(root) => {

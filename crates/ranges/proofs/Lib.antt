@@ -3,6 +3,6 @@ pub mod Releasing
 pub mod ClearedPages
 pub mod Emptied
 pub mod NewRegions
-pub mod LeafBits
+pub mod LeafEntries
 pub mod PermittedRows
 pub mod Reprotected

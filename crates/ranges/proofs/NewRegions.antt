@@ -2,6 +2,7 @@
 use Rattle.std.proofs.Common.{◌≡◌, ◌≢◌, ℕ, ◌<◌, [], true, false, List, Option, Some, None, length, get_or, refl, sym, ap, ◌∙◌, subst, inl, inr, get_or-set_same, get_or-set_other}
 use Rattle.std.specs.Prelude.{slice_set, is_some, option_map}
 use Rattle.std.proofs.lemmas.Bool.{cases_Bool, false≢true}
+use Rattle.std.proofs.lemmas.List.{get_or_read}
 use Rattle.vm_types.specs.declared.number.FrameNo.{FrameNo}
 use Rattle.vm_types.specs.declared.region.Attr.{Attr}
 use Rattle.vm_types.specs.Rows.{in_row, IsUserMap}
@@ -24,6 +25,13 @@ use Rattle.ranges.proofs.Emptied.{view-bare}
 pub where_some : (o : Option ℕ) (runs : List Run) (page : ℕ) → is_some o ≡ true → attr_where o runs page ≡ attr_at runs page
 where_some None runs page some = absurd (false≢true some)
 where_some (Some r) runs page some = refl
+
+-- what a page of a live process is, by the regions that were read
+pub attr-read : (roots : List (Option FrameNo)) (regions : List (List Run)) (runs : List Run) (pid index page : ℕ) → index ≡ pid → is_some (root_in roots pid) ≡ true
+    → index < length regions → runs ≡ get_or regions index runs → attr_at runs page ≡ attr_where (root_in roots pid) (get_or regions pid []) page
+attr-read roots regions runs pid index page at live inside read =
+    ap (λ r. attr_at r page) (get_or_read regions index runs inside read [] ∙ ap (λ i. get_or regions i []) at)
+    ∙ sym (where_some (root_in roots pid) (get_or regions pid []) page live)
 
 pub attr-here : (roots : List (Option FrameNo)) (regions : List (List Run)) (next : List Run) (pid index page : ℕ) → index ≡ pid → is_some (root_in roots pid) ≡ true
     → pid < length regions → attr_where (root_in roots pid) (get_or (slice_set regions index next) pid []) page ≡ attr_at next page

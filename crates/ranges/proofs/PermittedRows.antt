@@ -1,5 +1,5 @@
 -- Rows of pages that get another permission: one page after the other.
-use Rattle.std.proofs.Common.{◌≡◌, ◌≢◌, ℕ, inl, inr, ◌+◌, ◌<◌, ◌≤◌, Bool, true, Option, Some, get_or, refl, sym, ap, ◌∙◌, subst, arith}
+use Rattle.std.proofs.Common.{◌≡◌, ◌≢◌, ℕ, inl, inr, ◌+◌, ◌<◌, ◌≤◌, ◌↔◌, Bool, true, Option, Some, get_or, refl, sym, ap, ◌∙◌, subst, arith}
 use Rattle.std.proofs.lemmas.Bool.{cases_eq, cases_lt, cases_Bool}
 use Rattle.vm_types.specs.declared.permission.Prot.{Prot}
 use Rattle.vm_types.specs.declared.region.Attr.{Attr}
@@ -40,13 +40,17 @@ permits_none c pid low high prot none = record {
   changed = λ page h least below. Empty (none page h least below) (none page h least below);
 }
 
-counts_moved : (t t' : FrameTable) (o : Option Attr) (prot : Prot) (e x : ℕ) → t'.counts ≡ t.counts → Permits t' o prot e x → Permits t o prot e x
-counts_moved t t' o prot e x counts (Empty z z') = Empty z z'
-counts_moved t t' o prot e x counts (Kept some writable stores is) = Kept some writable (λ w. (let s = stores w in record {
+stores_moved : (t t' : FrameTable) (o : Option Attr) (prot : Prot) (e : ℕ) → t'.counts ≡ t.counts → TakesStores t' o prot e → TakesStores t o prot e
+stores_moved t t' o prot e counts s = record {
   permitted = s.permitted;
   sole = λ own. ap (λ cs. get_or cs (frame_of e) 0) (sym counts) ∙ s.sole own;
   common = s.common;
-})) is
+}
+
+counts_moved : (t t' : FrameTable) (o : Option Attr) (prot : Prot) (e x : ℕ) → t'.counts ≡ t.counts → Permits t' o prot e x → Permits t o prot e x
+counts_moved t t' o prot e x counts (Empty z z') = Empty z z'
+counts_moved t t' o prot e x counts (Kept some writable stores is) =
+    Kept some writable (λ w. stores_moved t t' o prot e counts (stores.0 w), λ s. stores.1 (stores_moved t' t o prot e (sym counts) s)) is
 
 -- one row after the other
 pub permits_then : (a b c : Picture) (pid low mid high : ℕ) (prot : Prot) → low ≤ mid → mid ≤ high → PermitsRow a b pid low mid prot → PermitsRow b c pid mid high prot
@@ -79,7 +83,7 @@ module _ (old new : Picture) (pid r page number : ℕ) (prot : Prot) (rooted : I
   pub whole_permitted : (p : ℕ) → IsWhole old pid p → IsWhole new pid p
   whole_permitted p whole x e = let was : old.root pid ≡ Some x = sym (beside.root pid) ∙ e in sets.missing x p (rooted.roots pid x was) ∙ whole x was
 
-  module _ (writable : Bool) (some : entry old pid page ≢ 0) (stores : writable ≡ true → TakesStores old.frames (old.at pid page) prot (entry old pid page))
+  module _ (writable : Bool) (some : entry old pid page ≢ 0) (stores : (writable ≡ true) ↔ TakesStores old.frames (old.at pid page) prot (entry old pid page))
       (is : IsPermitted prot writable (entry old pid page) number) where
     pub tight_permitted : missing_of old.frames 2 r page ≡ 0 → IsTight old.frames → IsTight new.frames
     tight_permitted whole tight =

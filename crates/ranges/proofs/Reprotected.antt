@@ -1,5 +1,5 @@
 -- A row of pages with another permission, and the regions that say so.
-use Rattle.std.proofs.Common.{◌≡◌, ◌≢◌, ℕ, inl, inr, ◌⊎◌, ◌+◌, ◌<◌, ◌≤◌, ◌^◌, Bool, true, false, Option, Some, None, get_or, refl, sym, ap, ◌∙◌, subst, arith}
+use Rattle.std.proofs.Common.{◌≡◌, ◌≢◌, ℕ, inl, inr, ◌⊎◌, ◌+◌, ◌<◌, ◌≤◌, ◌^◌, ◌↔◌, Bool, true, false, Option, Some, None, get_or, refl, sym, ap, ◌∙◌, subst, arith}
 use Rattle.std.specs.Prelude.{IsSome, IfSome, leb, ltb, option_map, if◌then◌else◌}
 use Rattle.std.proofs.lemmas.Bool.{cases_eq, cases_lt, cases_Bool, and_from, le-leb, lt-ltb, false≢true}
 use Rattle.vm_types.specs.declared.file.FilePage.{FilePage}
@@ -11,7 +11,7 @@ use Rattle.vm_types.specs.Ranges.{permitted}
 use Rattle.vm_types.specs.Rows.{in_row, protected, IsUserMap}
 use Rattle.frames.specs.declared.role.Role.TheVariants.{Free, Table}
 use Rattle.frames.specs.FrameTable.{FrameTable, role_of, count_of, bytes_of}
-use Rattle.sv39_walk.specs.Entry.{is_valid, is_dirty, frame_of}
+use Rattle.sv39_walk.specs.Entry.{is_valid, can_write, is_dirty, frame_of}
 use Rattle.page_tables.specs.Tree.{IsPage, IsTight, page_entry}
 use Rattle.page_cache.specs.declared.place.Place.TheVariants.{Frame}
 use Rattle.regions.specs.Permission.{ReadsToo, IsReadableMap}
@@ -30,7 +30,7 @@ use Rattle.ranges.specs.Rows.{ReprotectsRow}
 use Rattle.ranges.specs.Steps.{IsBeside}
 use Rattle.ranges.proofs.ClearedPages.{not_valid}
 use Rattle.ranges.proofs.Emptied.{row_parts, none_here, low_zero}
-use Rattle.ranges.proofs.LeafBits.{none_of}
+use Rattle.ranges.proofs.LeafEntries.{none_of}
 use Rattle.ranges.proofs.Releasing.{private_data, cache_data}
 
 mapped_before : (o : Option Attr) (prot : Prot) (b : Bool) → IsSome (if b then option_map (with_prot prot) o else o) → IsSome o
@@ -61,7 +61,7 @@ shared_one o a is shared = ap is_shared_page (sym is) ∙ shared
 
 -- what the page is now, with the entry that it has now
 resident_permitted : (new : Picture) (t : FrameTable) (o : Option Attr) (a : Attr) (prot : Prot) (writable : Bool) (e e' : ℕ) → o ≡ Some a
-    → new.frames.counts ≡ t.counts → (writable ≡ true → TakesStores t o prot e) → IsPermitted prot writable e e' → IsResident new a e → IsResident new (with_prot prot a) e'
+    → new.frames.counts ≡ t.counts → ((writable ≡ true) ↔ TakesStores t o prot e) → IsPermitted prot writable e e' → IsResident new a e → IsResident new (with_prot prot a) e'
 resident_permitted new t o a prot writable e e' at counts stores is resident =
     let behind : is_private e' ≡ false → IsBehind new a.backing (frame_of e') = λ common. (
     let P : ℕ → Type 0 = λ n. IsBehind new a.backing n in
@@ -74,12 +74,12 @@ resident_permitted new t o a prot writable e e' at counts stores is resident =
       leaf = λ valid. record {
         within = record {
           reads = λ b. sym is.grants.reads ∙ b;
-          writes = λ b. (stores (sym (is.writes valid) ∙ b)).permitted;
+          writes = λ b. (stores.0 (sym (is.writes valid) ∙ b)).permitted;
           executes = λ b. sym is.grants.executes ∙ b;
         };
         sole = λ own b. ap (λ cs. get_or cs (frame_of e') 0) counts ∙ ap (count_of t) is.frame
-            ∙ (stores (sym (is.writes valid) ∙ b)).sole (sym is.private ∙ own);
-        common = λ common b. shared_one o a at ((stores (sym (is.writes valid) ∙ b)).common (sym is.private ∙ common));
+            ∙ (stores.0 (sym (is.writes valid) ∙ b)).sole (sym is.private ∙ own);
+        common = λ common b. shared_one o a at ((stores.0 (sym (is.writes valid) ∙ b)).common (sym is.private ∙ common));
       };
     }
 
@@ -103,6 +103,11 @@ was_dirty t o prot e e' (Kept some writable stores is) valid common dirty = let 
 granted_by : (t : FrameTable) (o : Option Attr) (prot : Prot) (e e' : ℕ) → e ≢ 0 → Permits t o prot e e' → Grants prot e'
 granted_by t o prot e e' some (Empty none none') = absurd (some none)
 granted_by t o prot e e' some (Kept used writable stores is) = is.grants
+
+writes_by : (t : FrameTable) (o : Option Attr) (prot : Prot) (e e' : ℕ) → is_valid e' ≡ true → Permits t o prot e e'
+    → (can_write e' ≡ true) ↔ TakesStores t o prot e
+writes_by t o prot e e' valid (Empty none none') = absurd (not_valid (sym (ap is_valid none') ∙ valid))
+writes_by t o prot e e' valid (Kept some writable stores is) = (λ w. stores.0 (sym (is.writes valid) ∙ w), λ s. is.writes valid ∙ stores.1 s)
 
 frame_still : (t : FrameTable) (o : Option Attr) (prot : Prot) (e e' : ℕ) → Permits t o prot e e' → frame_of e' ≡ frame_of e
 frame_still t o prot e e' (Empty none none') = ap frame_of (none' ∙ sym none)
@@ -320,9 +325,12 @@ module _ (old mid new : Picture) (pid first pages low high : ℕ) (prot : Prot) 
         view-none new q page (at_beside q page out ∙ none) ∙ sym (view-none old q page none))
   ]
 
+  page_here : (page : ℕ) → in_row first pages page ≡ true → IsPage 2 page
+  page_here page e = let under = (row_parts first pages page e).1 in let it : page < 134217728 = omega (arith, under, row) in it
+
   view_here : (page : ℕ) → in_row first pages page ≡ true → view new pid page ≡ option_map (permitted prot) (view old pid page)
   view_here page e =
-      let h : IsPage 2 page = (let parts = (row_parts first pages page e).1 in let it : page < 134217728 = omega (arith, parts, row) in it) in
+      let h = page_here page e in
       view-is new pid page ∙ ap (λ o. view_in new.frames (entry new pid page) o) (at_row page e)
       ∙ view_permitted old.frames new.frames prot (entry old pid page) (entry new pid page) (old.at pid page)
       (own_still old.frames new.frames (entry old pid page) (entry new pid page) (owner pid page h) (own_bytes pid page h))
@@ -330,12 +338,19 @@ module _ (old mid new : Picture) (pid first pages low high : ℕ) (prot : Prot) 
 
   grants_here : (page : ℕ) → in_row first pages page ≡ true → entry old pid page ≢ 0 → Grants prot (entry new pid page)
   grants_here page e some =
-      let parts = row_parts first pages page e in
-      let under = parts.1 in
-      let h : IsPage 2 page = (let it : page < 134217728 = omega (arith, under, row) in it) in
+      let h = page_here page e in
       elim (by_row pid page) [
         | inl out ↦ absurd (some (entry_none page h out e))
         | inr here ↦ granted_by old.frames (old.at pid page) prot (entry old pid page) (entry new pid page) some (changed page h here.1 here.2)
+      ]
+
+  writes_here : (page : ℕ) → in_row first pages page ≡ true → is_valid (entry new pid page) ≡ true
+      → (can_write (entry new pid page) ≡ true) ↔ TakesStores old.frames (old.at pid page) prot (entry old pid page)
+  writes_here page e valid =
+      let h = page_here page e in
+      elim (by_row pid page) [
+        | inl out ↦ absurd (not_valid (sym (ap is_valid (kept pid page h out ∙ entry_none page h out e)) ∙ valid))
+        | inr here ↦ writes_by old.frames (old.at pid page) prot (entry old pid page) (entry new pid page) valid (changed page h here.1 here.2)
       ]
 
   out_of_row : (page : ℕ) → in_row first pages page ≡ false → IsBeside pid low high pid page
@@ -354,6 +369,7 @@ module _ (old mid new : Picture) (pid first pages low high : ℕ) (prot : Prot) 
       | inr e ↦ rw e (view_beside pid page (out_of_row page e))
     ];
     granted = grants_here;
+    writes = writes_here;
     others = λ q page ne. view_beside q page (inl ne);
     files = record {
       place = place;

@@ -1,5 +1,5 @@
 -- Entries of pages that get another permission.
-use Rattle.std.specs.Prelude.{◌≡◌, ◌≢◌, ℕ, ◌+◌, ◌*◌, ◌<◌, ◌≤◌, Bool, true, false, ◌||◌, Option, Some, None}
+use Rattle.std.specs.Prelude.{◌≡◌, ◌≢◌, ℕ, ◌<◌, ◌≤◌, ◌↔◌, Bool, true, false, ◌||◌, Option, Some, None}
 use Rattle.vm_types.specs.declared.permission.Prot.{Prot}
 use Rattle.vm_types.specs.declared.region.Attr.{Attr}
 use Rattle.vm_types.specs.Permission as Permission
@@ -11,16 +11,6 @@ use Rattle.residency.specs.Parts.{is_shared}
 use Rattle.residency.specs.Picture.{Picture, entry, is_private}
 use Rattle.residency.specs.Steps.{SameBeside}
 use Rattle.ranges.specs.Steps.{IsBeside}
-
--- a bit as a number
-abbrev pub digit : Bool → ℕ
-digit false = 0
-digit true = 1
-
--- an accessed leaf of user mode over frame n: whether the frame is the process's own, D, X, W and R
-unfoldable pub leaf_of : ℕ → Bool → Bool → Bool → Bool → Bool → ℕ
-leaf_of n own dirty executes writes reads =
-    n * 1024 + digit own * 256 + digit dirty * 128 + 80 + digit executes * 8 + digit writes * 4 + digit reads * 2 + 1
 
 -- whether an entry lets anything be done
 abbrev pub lets_anything : Prot → Bool
@@ -48,17 +38,18 @@ abbrev pub is_shared_page : Option Attr → Bool
 is_shared_page None = false
 is_shared_page (Some attr) = is_shared attr.backing
 
--- A store may go to the frame that the entry names: the permission lets it, and nobody else has the frame, or the page is a
--- shared one.
+-- A store may go to the frame that the entry names: the permission lets it, and either the frame is the process's own and
+-- nobody else has it, or it is not, and the page is a shared one.
 pub record TakesStores (t : FrameTable) (attr : Option Attr) (prot : Prot) (e : ℕ) : Type 0 where
   pub permitted : Permission.can_write prot ≡ true
   pub sole : is_private e ≡ true → count_of t (frame_of e) ≡ 1
   pub common : is_private e ≡ false → is_shared_page attr ≡ true
 
--- a page's entry before and after: nothing stands for it, or what does is as the permission says
+-- A page's entry before and after: nothing stands for it, or what does is as the permission says, and has W exactly where a
+-- store may go to its frame.
 pub data Permits (t : FrameTable) (attr : Option Attr) (prot : Prot) (e e' : ℕ) : Type 0 where
   Empty : e ≡ 0 → e' ≡ 0 → Permits t attr prot e e'
-  Kept : e ≢ 0 → (writable : Bool) → (writable ≡ true → TakesStores t attr prot e) → IsPermitted prot writable e e' → Permits t attr prot e e'
+  Kept : e ≢ 0 → (writable : Bool) → ((writable ≡ true) ↔ TakesStores t attr prot e) → IsPermitted prot writable e e' → Permits t attr prot e e'
 
 -- each entry of a process names a frame of memory
 abbrev pub NamesFrames : Picture → ℕ → Type 0

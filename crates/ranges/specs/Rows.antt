@@ -1,13 +1,14 @@
 -- What the calls on rows of pages leave.
-use Rattle.std.specs.Prelude.{◌≡◌, ◌≢◌, ℕ, true, if◌then◌else◌, Option, None, option_map}
+use Rattle.std.specs.Prelude.{◌≡◌, ◌≢◌, ℕ, ◌↔◌, true, if◌then◌else◌, Option, None, option_map}
 use Rattle.vm_types.specs.declared.permission.Prot.{Prot}
 use Rattle.vm_types.specs.declared.region.Attr.{Attr}
 use Rattle.vm_types.specs.Ranges.{reprotected}
 use Rattle.vm_types.specs.Rows.{in_row, protected}
 use Rattle.vm_types.specs.View.{View}
+use Rattle.sv39_walk.specs.Entry.{is_valid, can_write}
 use Rattle.residency.specs.Picture.{Picture, entry, view}
 use Rattle.residency.specs.Shows.{KeepsFiles}
-use Rattle.ranges.specs.Leaves.{Grants}
+use Rattle.ranges.specs.Leaves.{Grants, TakesStores}
 
 -- a mapped page without a copy of its own
 abbrev pub plain : Attr → View
@@ -28,12 +29,15 @@ pub record RemapsRow (old new : Picture) (pid first pages : ℕ) (map : ℕ → 
   pub files : KeepsFiles old new
 
 -- The mapped pages of a row of one process have the permission, and keep their own copies. Those that lie in frames can be
--- read and run at once, as it says. All else is as it was.
+-- read and run at once, as it says, and a leaf among their entries has W exactly where a store may go to its frame. All else
+-- is as it was.
 pub record ReprotectsRow (old new : Picture) (pid first pages : ℕ) (prot : Prot) : Type 0 where
   pub root : (q : ℕ) → new.root q ≡ old.root q
   pub at : (page : ℕ) → new.at pid page ≡ protected (old.at pid) first pages prot page
   pub others_at : (q page : ℕ) → q ≢ pid → new.at q page ≡ old.at q page
   pub views : (page : ℕ) → view new pid page ≡ reprotected (view old pid) first pages prot page
   pub granted : (page : ℕ) → in_row first pages page ≡ true → entry old pid page ≢ 0 → Grants prot (entry new pid page)
+  pub writes : (page : ℕ) → in_row first pages page ≡ true → is_valid (entry new pid page) ≡ true
+      → (can_write (entry new pid page) ≡ true) ↔ TakesStores old.frames (old.at pid page) prot (entry old pid page)
   pub others : (q page : ℕ) → q ≢ pid → view new q page ≡ view old q page
   pub files : KeepsFiles old new

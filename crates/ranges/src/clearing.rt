@@ -7,13 +7,15 @@ ghost use Rattle.residency.specs.Calls.{KeepsRest};
 ghost use Rattle.ranges.specs.Rows.{RemapsRow};
 ghost use Rattle.ranges.specs.Steps.{Clears, IsWhole, IsTightFor};
 
-use crate::rows::{frame_in, gap_end, is_own, root_of, table_end, user_page};
+use crate::rows::{frame_in, gap_end, table_end, user_page};
+use page_entries::{is_private, root_of};
 use page_tables::{Entry, entry_number, prune, set};
 use residency::Core;
 use vm_types::{Pid, USER_START, Vpn};
 
 /// Takes the entries of the `pages` pages from `first` on out of the tables of a live process, with the own copies that
-/// they name; the pages stay mapped. A frame that nobody shares any more is free, and so is a table without entries.
+/// they name; the pages stay mapped. A frame that nobody shares any more is free, and so is a table without entries
+/// (munmap(2), for the part that lies in memory).
 pub fn clear_row<D, E>(core: &mut Core<D, E>, pid: Pid, first: u64, pages: u64)
     requires sized { IsSized core.old }
     requires fit { IsFit (picture_of core.old) }
@@ -78,12 +80,13 @@ fn clear_table<D, E>(core: &mut Core<D, E>, pid: Pid, start: Vpn, stop: u64)
         clear_page(core, pid, user_page(page));
     }
     let root = root_of(core, pid);
+    // (brings in that the table of frames is sound)
     let _ = core.frames.len();
     prune(&mut core.frames, root, start);
 }
 
 /// Takes the entry of a page out, to which no table is missing, and gives back the share of the frame that it names as
-/// the process's own. The table may be without entries then.
+/// the process's own. The table may be without entries then. Where the page has none, nothing is written.
 fn clear_page<D, E>(core: &mut Core<D, E>, pid: Pid, page: Vpn)
     requires sized { IsSized core.old }
     requires steady { IsSteady (picture_of core.old) }
@@ -99,10 +102,14 @@ fn clear_page<D, E>(core: &mut Core<D, E>, pid: Pid, page: Vpn)
     ensures refused { core.new.refused ≡ core.old.refused }
 {
     let root = root_of(core, pid);
+    // (brings in that the table of frames is sound)
     let _ = core.frames.len();
     let number = entry_number(&core.frames, root, page);
+    if number.to_u64() == 0 {
+        return;
+    }
     set(&mut core.frames, root, page, Entry::None);
-    if !is_own(number) {
+    if !is_private(number) {
         return;
     }
     core.frames.release(frame_in(number));

@@ -1,5 +1,5 @@
 //! Another permission for the pages of a row.
-ghost use Rattle.std.specs.Prelude.{◌≡◌, ◌≢◌, ℕ, ◌+◌, ◌*◌, ◌/◌, ◌<◌, ◌≤◌, ◌^◌, true};
+ghost use Rattle.std.specs.Prelude.{◌≡◌, ◌≢◌, ◌↔◌, ℕ, ◌+◌, ◌*◌, ◌/◌, ◌<◌, ◌≤◌, ◌^◌, true};
 ghost use Rattle.vm_types.specs.Rows.{protected};
 ghost use Rattle.frames.specs.FrameTable.{IsFrame};
 ghost use Rattle.sv39_walk.specs.Entry.{frame_of};
@@ -14,9 +14,10 @@ ghost use Rattle.ranges.specs.Leaves.{TakesStores, PermitsRow, NamesFrames};
 ghost use Rattle.ranges.specs.Rows.{ReprotectsRow};
 ghost use Rattle.ranges.specs.Steps.{IsWhole};
 
-use crate::leaves::{is_shared, permitted};
+use crate::leaves::permitted;
 use crate::remapping::set_regions;
-use crate::rows::{frame_in, gap_end, is_own, root_of, table_end, user_page};
+use crate::rows::{frame_in, gap_end, table_end, user_page};
+use page_entries::{is_private, is_shared, root_of};
 use page_tables::{entry_number, set};
 use regions::Regions;
 use residency::Core;
@@ -25,7 +26,9 @@ use vm_types::{Pid, Prot, USER_START, Vpn};
 
 /// Gives the `pages` pages from `first` on of a live process the permission `prot`, which lets read what it lets write,
 /// and the process the regions that say so. A resident page stays in its frame, where it can be read and run at once, as
-/// the permission says; a store that the permission lets may need another fault.
+/// the permission says. Its leaf has W exactly where the permission lets stores, and either the frame is the process's own
+/// and nobody else has it, or the page is a shared one; a store that finds no W or no D needs a fault first (mprotect(2);
+/// RISC-V Privileged Specification, "Sv39 page table entry").
 pub fn reprotect<D, E>(
     core: &mut Core<D, E>,
     pid: Pid,
@@ -48,6 +51,7 @@ pub fn reprotect<D, E>(
     ensures cache { core.new.cache ≡ core.old.cache }
     ensures refused { core.new.refused ≡ core.old.refused }
 {
+    // (brings in that the table of frames is sound)
     let _ = core.frames.len();
     let end = first + pages;
     let mut page = first.max(USER_START);
@@ -133,6 +137,7 @@ fn permit_page<D, E>(core: &mut Core<D, E>, pid: Pid, page: Vpn, prot: Prot)
     ensures refused { core.new.refused ≡ core.old.refused }
 {
     let root = root_of(core, pid);
+    // (brings in that the table of frames is sound)
     let _ = core.frames.len();
     let number = entry_number(&core.frames, root, page);
     if number.to_u64() == 0 {
@@ -147,20 +152,24 @@ fn permit_page<D, E>(core: &mut Core<D, E>, pid: Pid, page: Vpn, prot: Prot)
     );
 }
 
-/// Whether a store may go to the frame that a page's entry names: the permission lets it, and nobody else has the frame,
-/// or the page is a shared one.
+/// Whether a store may go to the frame that a page's entry names: the permission lets it, and either the frame is the
+/// process's own and nobody else has it, or it is not, and the page is a shared one.
 fn takes_stores<D, E>(core: &Core<D, E>, pid: Pid, page: Vpn, number: Pte, prot: Prot) -> bool
     requires sized { IsSized core.now }
     requires live { is_live (picture_of core.now) pid ≡ true }
     requires named { IsFrame core.now.frames (frame_of number.0) }
-    ensures { result ≡ true → TakesStores core.now.frames ((picture_of core.now).at pid page) prot number.0 }
+    ensures { (result ≡ true) ↔ TakesStores core.now.frames ((picture_of core.now).at pid page) prot number.0 }
 {
     if !prot.is_writable() {
         return false;
     }
+    // (brings in that the table of frames is sound)
     let _ = core.frames.len();
-    if is_own(number) {
+    if is_private(number) {
         return core.frames.count(frame_in(number)) == 1;
     }
-    is_shared(core.regions[usize::from(pid.get())].at(page))
+    match core.regions[usize::from(pid.get())].at(page) {
+        Some(attr) => is_shared(attr.backing),
+        None => false,
+    }
 }

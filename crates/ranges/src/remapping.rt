@@ -15,7 +15,8 @@ use residency::Core;
 use vm_types::Pid;
 
 /// Gives a live process these regions, which are the ones that it has but for the `pages` pages from `first` on. Those
-/// have no own copies afterwards, and no entries: the next access to one finds what it is now.
+/// have no own copies afterwards, and no entries: the next access to one finds what it is now (mmap(2), MAP_FIXED, and
+/// munmap(2)).
 pub fn remap<D, E>(core: &mut Core<D, E>, pid: Pid, first: u64, pages: u64, regions: Regions)
     requires sized { IsSized core.old }
     requires fit { IsFit (picture_of core.old) }

@@ -1,10 +1,11 @@
 //! Rows of pages, and the tables that their entries stand in.
 ghost use Rattle.std.specs.Prelude.{◌≡◌, ℕ, ◌<◌, ◌≤◌, ◌+◌, ◌*◌, ◌/◌, ◌^◌, true, IfNone, IfSome};
 ghost use Rattle.sv39_walk.specs.Entry.{frame_of};
-ghost use Rattle.residency.specs.Picture.{picture_of, is_live, entry, is_private};
+ghost use Rattle.residency.specs.Picture.{picture_of, is_live, entry};
 ghost use Rattle.residency.specs.Parts.{IsSized, IsRootedBut};
 ghost use Rattle.ranges.specs.Steps.{IsWhole};
 
+use page_entries::root_of;
 use page_tables::missing_tables;
 use residency::Core;
 use sv39_walk::Pte;
@@ -12,18 +13,6 @@ use vm_types::{FrameNo, Pid, Vpn};
 
 /// The entries of a table.
 const TABLE_ENTRIES: u64 = 512;
-
-/// The root table of a live process.
-pub(crate) fn root_of<D, E>(core: &Core<D, E>, pid: Pid) -> FrameNo
-    requires sized { IsSized core.now }
-    requires live { is_live (picture_of core.now) pid ≡ true }
-    ensures { (picture_of core.now).root pid ≡ Some result.0 }
-{
-    let Some(root) = core.roots[usize::from(pid.get())] else {
-        unreachable!();
-    };
-    root
-}
 
 /// The user page of that number.
 pub(crate) fn user_page(number: u64) -> Vpn
@@ -52,9 +41,10 @@ fn middle_end(page: Vpn) -> u64
     (page.get() / span + 1) * span
 }
 
-/// Where a table is missing on the way to a page, the first page past those that have no entry for that reason; `None`
-/// where none is missing.
-pub(crate) fn gap_end<D, E>(core: &Core<D, E>, pid: Pid, page: Vpn) -> Option<u64>
+/// Where a table is missing on the way to a page of a live process, the first page past those that have no entry for that
+/// reason, which can lie past the user pages; `None` where none is missing. So a search over a row of pages goes from table
+/// to table (RISC-V Privileged Specification, "Virtual Address Translation Process").
+pub fn gap_end<D, E>(core: &Core<D, E>, pid: Pid, page: Vpn) -> Option<u64>
     requires sized { IsSized core.now }
     requires rooted { IsRootedBut (picture_of core.now) 0 }
     requires live { is_live (picture_of core.now) pid ≡ true }
@@ -70,16 +60,9 @@ pub(crate) fn gap_end<D, E>(core: &Core<D, E>, pid: Pid, page: Vpn) -> Option<u6
     }
 }
 
-/// Whether an entry names a frame as the process's own (bit 8).
-#[tactic(auto, using(std::proofs::lemmas::Nat::Bits::shr_and_one), unfolding(sv39_walk::specs::Entry::has_bit))]
-pub(crate) fn is_own(number: Pte) -> bool
-    ensures { result ≡ is_private number.0 }
-{
-    number.to_u64() >> 8 & 1 == 1
-}
-
-/// The frame that an entry names.
-pub(crate) fn frame_in(number: Pte) -> FrameNo
+/// The frame that an entry names: its bits 10 to 53, of which 32 are used here (RISC-V Privileged Specification, "Sv39 page
+/// table entry").
+pub fn frame_in(number: Pte) -> FrameNo
     requires { frame_of number.0 < 2 ^ 32 }
     ensures { result.0 ≡ frame_of number.0 }
 {

@@ -11,7 +11,9 @@ use crate::leaves::permitted;
 use crate::{clear_row, remap, reprotect};
 use disk_model::{SectorDisk, SimDisk};
 use file_store::{FileStore, OpenFault};
-use page_tables::{Entry, take_table};
+use frames::Role;
+use page_entries::{link_tables, own_frame, root_of};
+use page_tables::{Entry, entry_number, take_table};
 use regions::Regions;
 use residency::{Core, obtain};
 use std::alloc::{AllocError, Global};
@@ -68,6 +70,7 @@ fn spawn<D, E>(core: &mut Core<D, E>, pid: Pid) -> Result<(), Stall>
 {
     let place = usize::from(pid.get());
     obtain(core, None)?;
+    // (brings in that the table of frames is sound)
     let _ = core.frames.len();
     match take_table(&mut core.frames) {
         Ok(root) => {
@@ -121,6 +124,25 @@ fn first_process() -> Pid
     pid
 }
 
+fn first_page() -> Vpn
+    ensures { result ≡ 32 }
+{
+    let Some(page) = Vpn::new(32) else {
+        unreachable!();
+    };
+    page
+}
+
+// The number that stands for page 32 of process 1.
+fn number<D, E>(core: &Core<D, E>) -> Pte
+    requires sized { IsSized core.now }
+    requires fit { IsFit (picture_of core.now) }
+    requires live { is_live (picture_of core.now) 1 ≡ true }
+{
+    let root = root_of(core, first_process());
+    entry_number(&core.frames, root, first_page())
+}
+
 fn user_page(rt: &impl Abort, number: u64) -> Vpn {
     Vpn::new(number).expect(rt, "a user page")
 }
@@ -150,6 +172,26 @@ fn a_row_gets_another_permission(rt: HostRuntime) -> Result<(), Fail> {
         backing: Backing::Anon,
     };
     assert_eq!(rt; core.regions[1].at(user_page(&rt, 35)), Some(read_only));
+    Ok(())
+}
+
+// The page may be written no more, and lies in the same frame; the frame is free once the row is cleared.
+#[test]
+fn a_page_keeps_its_frame_until_its_row_is_cleared(rt: HostRuntime) -> Result<(), Fail> {
+    let mut core = with_five_pages(rt.alloc())?;
+    let pid = first_process();
+    link_tables(&mut core, pid, first_page())?;
+    let own = own_frame(&mut core, pid, first_page(), zeros())?;
+    let leaf = u64::from(own.0) * 1024;
+    let mut read_only = five_pages()?;
+    read_only.protect(32, 2, Prot::READ)?;
+    reprotect(&mut core, pid, 32, 2, Prot::READ, read_only);
+    assert_eq!(rt; number(&core).to_u64(), leaf + 0x1d3);
+    clear_row(&mut core, pid, 32, 5);
+    assert_eq!(rt; number(&core).to_u64(), 0);
+    if own.0 < core.frames.len() {
+        assert_eq!(rt; core.frames.role(own), Role::Free);
+    }
     Ok(())
 }
 

@@ -1,11 +1,11 @@
-use Rattle.std.proofs.Common.{◌≡◌, ℕ, true, get_or, sym, ap, ◌∙◌, subst, arith}
+use Rattle.std.proofs.Common.{◌≡◌, ℕ, ◌+◌, true, get_or, sym, ap, ◌∙◌, subst, arith}
 use Rattle.frames.specs.declared.role.Role.TheVariants.{Free, Private}
 use Rattle.frames.specs.FrameTable.{Releases, role_of}
 use Rattle.sv39_walk.specs.Entry.{frame_of}
 use Rattle.residency.specs.Picture.{Picture, picture_of, entry, is_private}
 use Rattle.residency.proofs.Entries.{entry-of}
 use Rattle.ranges.proofs.Releasing.{inside_memory, private_used, held_private}
-use Rattle.ranges.proofs.ClearedPages.{same_beside, tight_out, clears_out, steady_out, steady_freed, clears_freed, whole_freed, tight_freed}
+use Rattle.ranges.proofs.ClearedPages.{same_beside, clears_none, tight_out, clears_out, steady_out, steady_freed, clears_freed, whole_freed, tight_freed}
 use Rattle.ranges.proofs.clearing.clear_page.Given.{Over}
 use Rattle.ranges.proofs.clearing.clear_page.Goals as goal
 
@@ -15,24 +15,32 @@ entry_number-number-requires-clause-root g c = c.requires.steady.rooted.roots c.
 pub set-requires-clause-root : goal.set-requires-clause-root
 set-requires-clause-root g c = c.requires.steady.rooted.roots c.args.pid c.root_of-root.result.0 c.root_of-root.ensures
 
-pub returns-then-not-is_own-clause-steady : goal.returns-then-not-is_own-clause-steady
-returns-then-not-is_own-clause-steady g c =
+pub returns-then-to_u64-eq0-clause-clears : goal.returns-then-to_u64-eq0-clause-clears
+returns-then-to_u64-eq0-clause-clears g c =
+    let old : Picture = picture_of c.args.core.now in
+    clears_none old c.args.pid c.args.page (c.args.page + 1) (λ page h from below.
+    let at : page ≡ c.args.page = omega (arith, from, below) in
+    ap (entry old c.args.pid) at ∙ entry-of old c.args.pid c.root_of-root.result.0 c.args.page c.root_of-root.ensures
+    ∙ sym c.entry_number-number.ensures ∙ sym c.to_u64.ensures ∙ c.if-to_u64-eq0.true)
+
+pub returns-then-not-is_private-clause-steady : goal.returns-then-not-is_private-clause-steady
+returns-then-not-is_private-clause-steady g c =
     let old : Picture = picture_of c.args.core.now in
     let mid : Picture = record old { frames = c.set.new.frames } in
     let root = c.root_of-root.ensures in
     let is = entry-of old c.args.pid c.root_of-root.result.0 c.args.page root in
     steady_out old mid c.args.pid c.root_of-root.result.0 c.args.page c.requires.steady root c.requires.inside c.set.ensures (same_beside old c.set.new.frames)
-    (ap is_private (is ∙ sym c.entry_number-number.ensures) ∙ sym c.is_own.ensures ∙ c.if-not-is_own.true)
+    (ap is_private (is ∙ sym c.entry_number-number.ensures) ∙ sym c.is_private.ensures ∙ c.if-not-is_private.true)
 
-pub returns-then-not-is_own-clause-clears : goal.returns-then-not-is_own-clause-clears
-returns-then-not-is_own-clause-clears g c =
+pub returns-then-not-is_private-clause-clears : goal.returns-then-not-is_private-clause-clears
+returns-then-not-is_private-clause-clears g c =
     let old : Picture = picture_of c.args.core.now in
     let mid : Picture = record old { frames = c.set.new.frames } in
     clears_out old mid c.args.pid c.root_of-root.result.0 c.args.page c.requires.steady c.root_of-root.ensures c.requires.inside c.set.ensures
     (same_beside old c.set.new.frames)
 
-pub returns-then-not-is_own-clause-tight : goal.returns-then-not-is_own-clause-tight
-returns-then-not-is_own-clause-tight g c =
+pub returns-then-not-is_private-clause-tight : goal.returns-then-not-is_private-clause-tight
+returns-then-not-is_private-clause-tight g c =
     let old : Picture = picture_of c.args.core.now in
     let mid : Picture = record old { frames = c.set.new.frames } in
     tight_out old mid c.args.pid c.root_of-root.result.0 c.args.page c.requires.steady c.root_of-root.ensures c.requires.inside c.set.ensures
@@ -42,7 +50,7 @@ is_entry : (g : Over) (c : goal.After-release g) → c.entry_number-number.resul
 is_entry g c = c.entry_number-number.ensures ∙ sym (entry-of (picture_of c.args.core.now) c.args.pid c.root_of-root.result.0 c.args.page c.root_of-root.ensures)
 
 is_own : (g : Over) (c : goal.After-release g) → is_private (entry (picture_of c.args.core.now) c.args.pid c.args.page) ≡ true
-is_own g c = ap is_private (sym (is_entry g c)) ∙ sym c.is_own.ensures ∙ c.if-not-is_own.false
+is_own g c = ap is_private (sym (is_entry g c)) ∙ sym c.is_private.ensures ∙ c.if-not-is_private.false
 
 releases : (g : Over) (c : goal.After-release g) → Releases c.set.new.frames c.release.new.self (frame_of (entry (picture_of c.args.core.now) c.args.pid c.args.page))
 releases g c =
@@ -55,7 +63,7 @@ frame_in-requires g c =
     let old : Picture = picture_of c.args.core.now in
     let root = c.root_of-root.ensures in
     let is = c.entry_number-number.ensures ∙ sym (entry-of old c.args.pid c.root_of-root.result.0 c.args.page root) in
-    let own : is_private (entry old c.args.pid c.args.page) ≡ true = ap is_private (sym is) ∙ sym c.is_own.ensures ∙ c.if-not-is_own.false in
+    let own : is_private (entry old c.args.pid c.args.page) ≡ true = ap is_private (sym is) ∙ sym c.is_private.ensures ∙ c.if-not-is_private.false in
     let role : role_of c.args.core.now.frames (frame_of c.entry_number-number.result.0) ≡ Private =
     ap (λ x. role_of c.args.core.now.frames (frame_of x)) is ∙ c.requires.steady.counted.private c.args.pid c.args.page c.requires.inside own in
     let inside = inside_memory c.args.core.now.frames (frame_of c.entry_number-number.result.0) c.len.ensures.sound (private_used _ role) in
@@ -67,7 +75,7 @@ release-requires g c =
     let old : Picture = picture_of c.args.core.now in
     let root = c.root_of-root.ensures in
     let is = c.entry_number-number.ensures ∙ sym (entry-of old c.args.pid c.root_of-root.result.0 c.args.page root) in
-    let own : is_private (entry old c.args.pid c.args.page) ≡ true = ap is_private (sym is) ∙ sym c.is_own.ensures ∙ c.if-not-is_own.false in
+    let own : is_private (entry old c.args.pid c.args.page) ≡ true = ap is_private (sym is) ∙ sym c.is_private.ensures ∙ c.if-not-is_private.false in
     let at : c.frame_in.result.0 ≡ frame_of (entry old c.args.pid c.args.page) = c.frame_in.ensures ∙ ap frame_of is in
     let role : role_of c.args.core.now.frames c.frame_in.result.0 ≡ Private =
     ap (role_of c.args.core.now.frames) at ∙ c.requires.steady.counted.private c.args.pid c.args.page c.requires.inside own in

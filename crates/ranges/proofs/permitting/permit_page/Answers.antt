@@ -1,4 +1,4 @@
-use Rattle.std.proofs.Common.{◌≡◌, ◌≢◌, ℕ, ◌+◌, true, sym, ap, ◌∙◌, subst, arith}
+use Rattle.std.proofs.Common.{◌≡◌, ◌≢◌, ℕ, ◌+◌, ◌↔◌, true, sym, ap, ◌∙◌, subst, arith}
 use Rattle.frames.specs.FrameTable.{IsFrame}
 use Rattle.sv39_walk.specs.Entry.{frame_of}
 use Rattle.page_tables.specs.Entry.{number_of}
@@ -53,11 +53,11 @@ is_entry g c = c.entry_number-number.ensures ∙ sym (entry-of (picture_of c.arg
 some : (g : Over) (c : goal.After-set g) → entry (picture_of c.args.core.now) c.args.pid c.args.page ≢ 0
 some g c z = c.if-to_u64-eq0.false (c.to_u64.ensures ∙ is_entry g c ∙ z)
 
-stores : (g : Over) (c : goal.After-set g) → c.takes_stores-writable.result ≡ true
-    → TakesStores c.args.core.now.frames ((picture_of c.args.core.now).at c.args.pid c.args.page) c.args.prot (entry (picture_of c.args.core.now) c.args.pid c.args.page)
-stores g c w =
-    let P : ℕ → Type 0 = λ x. TakesStores c.args.core.now.frames ((picture_of c.args.core.now).at c.args.pid c.args.page) c.args.prot x in
-    subst P (is_entry g c) (c.takes_stores-writable.ensures w)
+stores : (g : Over) (c : goal.After-set g) → (c.takes_stores-writable.result ≡ true)
+    ↔ TakesStores c.args.core.now.frames ((picture_of c.args.core.now).at c.args.pid c.args.page) c.args.prot (entry (picture_of c.args.core.now) c.args.pid c.args.page)
+stores g c =
+    let P : ℕ → Type 0 = λ x. (c.takes_stores-writable.result ≡ true) ↔ TakesStores c.args.core.now.frames ((picture_of c.args.core.now).at c.args.pid c.args.page) c.args.prot x in
+    subst P (is_entry g c) c.takes_stores-writable.ensures
 
 becomes : (g : Over) (c : goal.After-set g)
     → IsPermitted c.args.prot c.takes_stores-writable.result (entry (picture_of c.args.core.now) c.args.pid c.args.page) (number_of c.permitted.result)
