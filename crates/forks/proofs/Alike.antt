@@ -20,7 +20,7 @@ unmapped_in : (t : FrameTable) (e : ℕ) (attr : Option Attr) → view_in t e at
 unmapped_in t e None none = refl
 unmapped_in t e (Some a) none = absurd (let bad : Some (record { attr = a; own = own_in t e }) ≡ None = none in (cc))
 
-unmapped_view : (c : Picture) (pid page : ℕ) → view c pid page ≡ None → c.at pid page ≡ None
+pub unmapped_view : (c : Picture) (pid page : ℕ) → view c pid page ≡ None → c.at pid page ≡ None
 unfolding view
 unmapped_view c pid page none = unmapped_in c.frames (entry c pid page) (c.at pid page) none
 

@@ -126,12 +126,20 @@ swapped_own : (n : ℕ) → is_private (n * 1024 + 2) ≡ false
 unfolding has_bit
 swapped_own n = let off : (n * 1024 + 2) / 256 % 2 ≡ 0 = omega arith in ap (λ x. x == 1) off
 
+pub parked_own : (frame : FrameNo) (private : Bool) → is_private (number_of (Parked frame private)) ≡ private
+unfolding has_bit
+parked_own frame true = let on : (frame.0 * 1024 + 260) / 256 % 2 ≡ 1 = omega arith in ap (λ x. x == 1) on
+parked_own frame false = let off : (frame.0 * 1024 + 4) / 256 % 2 ≡ 0 = omega arith in ap (λ x. x == 1) off
+
+pub not_own : (entry : Entry) → (entry ≡ None) ⊎ ((slot : SlotNo) × (entry ≡ Swapped slot)) → is_private (number_of entry) ≡ false
+not_own entry other = elim other [
+  | inl is ↦ ap (λ x. is_private (number_of x)) is ∙ no_bit
+  | inr is ↦ ap (λ x. is_private (number_of x)) is.1 ∙ swapped_own is.0.0
+]
+
 -- a page of a process's own has an entry, and lies in a frame
 pub own_framed : (entry : Entry) → is_private (number_of entry) ≡ true → (entry ≡ None) ⊎ ((slot : SlotNo) × (entry ≡ Swapped slot)) → ⊥
-own_framed entry own other = elim other [
-  | inl is ↦ false≢true (sym no_bit ∙ sym (ap (λ x. is_private (number_of x)) is) ∙ own)
-  | inr is ↦ false≢true (sym (swapped_own is.0.0) ∙ sym (ap (λ x. is_private (number_of x)) is.1) ∙ own)
-]
+own_framed entry own other = false≢true (sym (not_own entry other) ∙ own)
 
 parked_frame : (n low : ℕ) → n < 2 ^ 32 → low < 1024 → frame_of (n * 1024 + low) ≡ n
 unfolding frame_of

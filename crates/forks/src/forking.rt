@@ -4,7 +4,7 @@ ghost use Rattle.vm_types.specs.declared.refusal.Stall.TheVariants.{NoFrames};
 ghost use Rattle.residency.specs.Picture.{picture_of, is_live, view};
 ghost use Rattle.residency.specs.Parts.{IsSized, IsFit};
 ghost use Rattle.residency.specs.Shows.{KeepsFiles, KeepsDevices};
-ghost use Rattle.processes.specs.Changes.{AddsProcess, KeepsProcesses};
+ghost use Rattle.processes.specs.Changes.{AddsProcess, KeepsProcesses, TakesNoCopy};
 ghost use Rattle.forks.specs.Steps.{MapsAlike};
 
 use crate::giving::share_pages;
@@ -30,6 +30,7 @@ pub fn fork<D, E>(core: &mut Core<D, E>, parent: Pid, child: Pid) -> Result<(), 
     ensures err { OnErr result (KeepsProcesses (picture_of core.old) (picture_of core.new)) }
     ensures files { KeepsFiles (picture_of core.old) (picture_of core.new) }
     ensures devices { KeepsDevices core.old core.new }
+    ensures copies { OnOk result (TakesNoCopy core.old.frames core.new.frames) }
     ensures stall { IfErr result (λ stall. stall ≡ NoFrames) }
     ensures not_refused { OnOk result (core.new.refused.number ≡ core.old.refused.number) }
     ensures refused { OnErr result (core.new.refused.number ≡ core.old.refused.number + 1) }
@@ -57,6 +58,7 @@ fn map_alike<D, E>(core: &mut Core<D, E>, parent: Pid, child: Pid)
     ensures fit { IsFit (picture_of core.new) }
     ensures mapped { MapsAlike (picture_of core.old) (picture_of core.new) parent child }
     ensures devices { KeepsDevices core.old core.new }
+    ensures kept { core.new.frames ≡ core.old.frames }
     ensures not_refused { core.new.refused ≡ core.old.refused }
 {
     let regions = core.regions[usize::from(parent.get())].copied();

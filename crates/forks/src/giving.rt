@@ -6,11 +6,12 @@ ghost use Rattle.residency.specs.Parts.{IsSized, IsFit};
 ghost use Rattle.residency.specs.Calls.{KeepsRest};
 ghost use Rattle.residency.specs.Shows.{KeepsFiles};
 ghost use Rattle.page_entries.specs.Changes.{KeepsSpaces, KeepsViews};
+ghost use Rattle.processes.specs.Changes.{TakesNoCopy};
 ghost use Rattle.forks.specs.Steps.{GivesPage, GivesPages, GivesUpTo};
 
-use crate::withdrawing::{frame_of, withdraw_write};
-use page_entries::{is_private, link_tables, root_of};
-use page_tables::{entry_number, missing_tables, set};
+use crate::withdrawing::{frame_of, is_own, withdraw_write};
+use page_entries::{link_tables, root_of};
+use page_tables::{entry, missing_tables, set};
 use residency::Core;
 use vm_types::{Pid, Stall, USER_START, Vpn};
 
@@ -18,7 +19,7 @@ use vm_types::{Pid, Stall, USER_START, Vpn};
 const TABLE_ENTRIES: u64 = 512;
 
 /// Gives the child, whose pages are mapped as the parent's and have no entry, a share of each page that the parent has of
-/// its own. It costs the tables of the parent and their entries, and no page.
+/// its own (fork(2), copy-on-write). It costs the tables of the parent and their entries, and no page.
 pub(crate) fn share_pages<D, E>(core: &mut Core<D, E>, parent: Pid, child: Pid) -> Result<(), Stall>
     requires sized { IsSized core.old }
     requires fit { IsFit (picture_of core.old) }
@@ -34,6 +35,7 @@ pub(crate) fn share_pages<D, E>(core: &mut Core<D, E>, parent: Pid, child: Pid) 
     ensures spaces { KeepsSpaces (picture_of core.old) (picture_of core.new) }
     ensures files { KeepsFiles (picture_of core.old) (picture_of core.new) }
     ensures rest { KeepsRest core.old core.new }
+    ensures copies { TakesNoCopy core.old.frames core.new.frames }
     ensures stall { IfErr result (λ stall. stall ≡ NoFrames) }
     ensures not_refused { OnOk result (core.new.refused.number ≡ core.old.refused.number) }
     ensures refused { OnErr result (core.new.refused.number ≡ core.old.refused.number + 1) }
@@ -62,6 +64,7 @@ fn share_next<D, E>(core: &mut Core<D, E>, parent: Pid, child: Pid, page: Vpn) -
     ensures spaces { KeepsSpaces (picture_of core.old) (picture_of core.new) }
     ensures files { KeepsFiles (picture_of core.old) (picture_of core.new) }
     ensures rest { KeepsRest core.old core.new }
+    ensures copies { TakesNoCopy core.old.frames core.new.frames }
     ensures stall { IfErr result (λ stall. stall ≡ NoFrames) }
     ensures not_refused { OnOk result (core.new.refused.number ≡ core.old.refused.number) }
     ensures refused { OnErr result (core.new.refused.number ≡ core.old.refused.number + 1) }
@@ -105,17 +108,21 @@ fn share_page<D, E>(core: &mut Core<D, E>, parent: Pid, child: Pid, page: Vpn) -
     ensures spaces { KeepsSpaces (picture_of core.old) (picture_of core.new) }
     ensures files { KeepsFiles (picture_of core.old) (picture_of core.new) }
     ensures rest { KeepsRest core.old core.new }
+    ensures copies { TakesNoCopy core.old.frames core.new.frames }
     ensures stall { IfErr result (λ stall. stall ≡ NoFrames) }
     ensures not_refused { OnOk result (core.new.refused.number ≡ core.old.refused.number) }
     ensures refused { OnErr result (core.new.refused.number ≡ core.old.refused.number + 1) }
 {
     let root = root_of(core, parent);
-    if !is_private(entry_number(&core.frames, root, page)) {
+    let before = entry(&core.frames, root, page);
+    if !is_own(before) {
         return Ok(());
     }
-    let entry = withdraw_write(core, parent, page);
+    let entry = withdraw_write(core, parent, root, page, before);
+    // (brings in that it is a user page)
     let _ = page.get();
     link_tables(core, child, page)?;
+    // (brings in that the table of frames is sound)
     let _ = core.frames.len();
     core.frames.share(frame_of(entry));
     let root = root_of(core, child);

@@ -1,16 +1,17 @@
 //! A page of a process's own that is about to be shared.
-ghost use Rattle.std.specs.Prelude.{◌≡◌, ◌<◌, ◌^◌, true};
+ghost use Rattle.std.specs.Prelude.{◌≡◌, ◌<◌, ◌^◌, Some, true};
 ghost use Rattle.sv39_walk.specs.Entry.{frame_of};
 ghost use Rattle.page_tables.specs.Entry.{number_of, IsEntry};
-ghost use Rattle.residency.specs.Picture.{picture_of, entry, is_live, is_private};
+ghost use Rattle.residency.specs.Picture.{picture_of, entry, is_private};
 ghost use Rattle.residency.specs.Parts.{IsSized, IsFit};
 ghost use Rattle.residency.specs.Calls.{KeepsRest};
 ghost use Rattle.residency.specs.Shows.{KeepsFiles};
 ghost use Rattle.page_entries.specs.Changes.{KeepsSpaces};
+ghost use Rattle.processes.specs.Changes.{TakesNoCopy};
 ghost use Rattle.forks.specs.Steps.{Weakens, Withdraws};
 
-use page_entries::root_of;
-use page_tables::{Entry, entry, set};
+use page_entries::is_private;
+use page_tables::{Entry, set};
 use residency::Core;
 use sv39_walk::Pte;
 use vm_types::{FrameNo, Pid, Vpn};
@@ -18,12 +19,33 @@ use vm_types::{FrameNo, Pid, Vpn};
 /// W of a leaf, by its weight (RISC-V Privileged Specification, "Sv39 page table entry").
 const WRITE: u64 = 4;
 
+/// Whether a page lies in a frame of the process's own, by the bit that is the software's (RISC-V Privileged Specification,
+/// "Sv39 page table entry", RSW).
+pub(crate) fn is_own(entry: Entry) -> bool
+    ensures { result ≡ is_private (number_of entry) }
+{
+    match entry {
+        Entry::Leaf(leaf) => is_private(leaf),
+        Entry::Parked(_, private) => private,
+        Entry::None | Entry::Swapped(_) => false,
+    }
+}
+
 /// Lets no store through to a page of which a live process has a copy of its own, and answers the page's entry. The frame
-/// may be shared then, and the next store is noticed.
-pub(crate) fn withdraw_write<D, E>(core: &mut Core<D, E>, pid: Pid, page: Vpn) -> Entry
+/// may be shared then, and the next store is noticed (fork(2), copy-on-write). `root` is the process's root table, and
+/// `before` the page's entry so far.
+pub(crate) fn withdraw_write<D, E>(
+    core: &mut Core<D, E>,
+    pid: Pid,
+    root: FrameNo,
+    page: Vpn,
+    before: Entry,
+) -> Entry
     requires sized { IsSized core.old }
     requires fit { IsFit (picture_of core.old) }
-    requires live { is_live (picture_of core.old) pid ≡ true }
+    requires root { (picture_of core.old).root pid ≡ Some root.0 }
+    requires form { IsEntry before }
+    requires before { number_of before ≡ entry (picture_of core.old) pid page }
     requires own { is_private (entry (picture_of core.old) pid page) ≡ true }
     ensures sized { IsSized core.new }
     ensures fit { IsFit (picture_of core.new) }
@@ -32,11 +54,11 @@ pub(crate) fn withdraw_write<D, E>(core: &mut Core<D, E>, pid: Pid, page: Vpn) -
     ensures spaces { KeepsSpaces (picture_of core.old) (picture_of core.new) }
     ensures files { KeepsFiles (picture_of core.old) (picture_of core.new) }
     ensures rest { KeepsRest core.old core.new }
+    ensures copies { TakesNoCopy core.old.frames core.new.frames }
     ensures not_refused { core.new.refused ≡ core.old.refused }
 {
+    // (brings in that it is a user page)
     let _ = page.get();
-    let root = root_of(core, pid);
-    let before = entry(&core.frames, root, page);
     let after = without_write(before);
     set(&mut core.frames, root, page, after);
     after
@@ -64,7 +86,8 @@ fn leaf_without_write(leaf: Pte) -> Pte
     }
 }
 
-/// The frame of a page that lies in one.
+/// The frame of a page that lies in one (RISC-V Privileged Specification, "Sv39 page table entry"; our own form where the
+/// page is parked).
 pub(crate) fn frame_of(entry: Entry) -> FrameNo
     requires form { IsEntry entry }
     requires own { is_private (number_of entry) ≡ true }

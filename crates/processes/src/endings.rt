@@ -9,8 +9,8 @@ use ranges::clear_row;
 use residency::Core;
 use vm_types::{Pid, USER_END};
 
-/// Ends a live process: its own copies are lost, its tables are free, and so is its number. File pages that it stored to
-/// stay touched, with their bytes.
+/// Ends a live process: its own copies are lost, its tables are free, and so is its number (exit(2)). File pages that it
+/// stored to stay touched, with their bytes (mmap(2), `MAP_SHARED`).
 pub fn exit<D, E>(core: &mut Core<D, E>, pid: Pid)
     requires sized { IsSized core.old }
     requires fit { IsFit (picture_of core.old) }
@@ -24,6 +24,7 @@ pub fn exit<D, E>(core: &mut Core<D, E>, pid: Pid)
 {
     clear_row(core, pid, 0, USER_END);
     let place = usize::from(pid.get());
+    // (brings in that the table of frames is sound)
     let _ = core.frames.len();
     if let Some(root) = core.roots[place] {
         core.frames.release(root);

@@ -11,25 +11,29 @@ use Rattle.forks.proofs.Sharers.{may_share}
 use Rattle.forks.proofs.Shared.{own_role, own_noted, forest_shared, root_shared, whole_shared, common_gives, page_given}
 use Rattle.forks.proofs.giving.share_page.Goals as goal
 
-pub entry_number-requires-clause-root : goal.entry_number-requires-clause-root
-entry_number-requires-clause-root g c = c.requires.fit.tree.rooted.roots c.args.parent c.root_of-root.result.0 c.root_of-root.ensures
+pub entry-before-requires-clause-root : goal.entry-before-requires-clause-root
+entry-before-requires-clause-root g c = c.requires.fit.tree.rooted.roots c.args.parent c.root_of-root.result.0 c.root_of-root.ensures
 
-pub returns-then-not-is_private-clause-given : goal.returns-then-not-is_private-clause-given
-returns-then-not-is_private-clause-given g c =
+pub returns-then-not-is_own-clause-given : goal.returns-then-not-is_own-clause-given
+returns-then-not-is_own-clause-given g c =
     let old : Picture = picture_of c.args.core.now in
-    let number : entry old c.args.parent c.args.page ≡ c.entry_number.result.0 =
-    entry-of old c.args.parent c.root_of-root.result.0 c.args.page c.root_of-root.ensures ∙ sym c.entry_number.ensures in
+    let number : entry old c.args.parent c.args.page ≡ number_of c.entry-before.result =
+    entry-of old c.args.parent c.root_of-root.result.0 c.args.page c.root_of-root.ensures ∙ sym c.entry-before.ensures.entry in
     record {
-      shown = common_gives old c.args.parent c.args.child c.args.page c.requires.same (ap is_private number ∙ sym c.if-not-is_private.ensures) c.requires.bare;
+      shown = common_gives old c.args.parent c.args.child c.args.page c.requires.same (ap is_private number ∙ sym c.if-not-is_own.ensures) c.requires.bare;
       others = λ q p other. refl;
       bare = λ p h ne. refl;
     }
 
+pub withdraw_write-entry-requires-clause-before : goal.withdraw_write-entry-requires-clause-before
+withdraw_write-entry-requires-clause-before g c =
+    c.entry-before.ensures.entry ∙ sym (entry-of (picture_of c.args.core.now) c.args.parent c.root_of-root.result.0 c.args.page c.root_of-root.ensures)
+
 pub withdraw_write-entry-requires-clause-own : goal.withdraw_write-entry-requires-clause-own
 withdraw_write-entry-requires-clause-own g c =
     let old : Picture = picture_of c.args.core.now in
-    ap is_private (entry-of old c.args.parent c.root_of-root.result.0 c.args.page c.root_of-root.ensures ∙ sym c.entry_number.ensures)
-    ∙ sym c.if-not-is_private.ensures
+    ap is_private (entry-of old c.args.parent c.root_of-root.result.0 c.args.page c.root_of-root.ensures ∙ sym c.entry-before.ensures.entry)
+    ∙ sym c.if-not-is_own.ensures
 
 pub share-requires-clause-room : goal.share-requires-clause-room
 share-requires-clause-room g c =

@@ -10,6 +10,7 @@ loop-page-init g c = (
   c.requires.fit,
   passed_none (picture_of c.args.core.now) c.args.parent c.args.child c.requires.fit.granting c.requires.bare,
   record { store = refl; swap = refl; cache = refl; roots = refl; regions = refl; page_of = refl },
+  λ n private. private,
   refl,
 )
 

@@ -1,22 +1,18 @@
-use Rattle.std.proofs.Common.{◌≡◌, ℕ, refl, sym, ◌∙◌, subst, arith}
+use Rattle.std.proofs.Common.{ℕ, refl, subst, arith}
 use Rattle.page_tables.specs.Entry.{number_of}
 use Rattle.page_tables.specs.Tree.{IsPage}
-use Rattle.residency.specs.Picture.{Picture, picture_of, entry}
+use Rattle.residency.specs.Picture.{Picture, picture_of}
 use Rattle.residency.specs.Steps.{SameBeside}
-use Rattle.residency.proofs.Entries.{entry-of}
 use Rattle.forks.specs.Steps.{Weakens}
 use Rattle.forks.proofs.Lowered.{own_whole, fit_lowered, withdraws}
 use Rattle.forks.proofs.withdrawing.withdraw_write.Goals as goal
 
-pub entry-before-requires-clause-root : goal.entry-before-requires-clause-root
-entry-before-requires-clause-root g c = c.requires.fit.tree.rooted.roots c.args.pid c.root_of-root.result.0 c.root_of-root.ensures
-
 pub set-requires-clause-root : goal.set-requires-clause-root
-set-requires-clause-root g c = c.requires.fit.tree.rooted.roots c.args.pid c.root_of-root.result.0 c.root_of-root.ensures
+set-requires-clause-root g c = c.requires.fit.tree.rooted.roots c.args.pid c.args.root.0 c.requires.root
 
 pub set-requires-clause-whole : goal.set-requires-clause-whole
 set-requires-clause-whole g c =
-    own_whole (picture_of c.args.core.now) c.args.pid c.root_of-root.result.0 c.args.page c.root_of-root.ensures c.requires.own
+    own_whole (picture_of c.args.core.now) c.args.pid c.args.root.0 c.args.page c.requires.root c.requires.own
 
 pub returns-clause-fit : goal.returns-clause-fit
 returns-clause-fit g c =
@@ -32,11 +28,9 @@ returns-clause-fit g c =
     } in
     let e = number_of c.without_write-after.result in
     let small : IsPage 2 c.args.page = omega (arith, c.get.ensures) in
-    let before : number_of c.entry-before.result ≡ entry old c.args.pid c.args.page =
-    c.entry-before.ensures.entry ∙ sym (entry-of old c.args.pid c.root_of-root.result.0 c.args.page c.root_of-root.ensures) in
     let W : ℕ → Type 0 = λ x. Weakens x e in
-    fit_lowered old new c.args.pid c.root_of-root.result.0 c.args.page e c.requires.fit c.root_of-root.ensures small c.requires.own
-    (subst W before c.without_write-after.ensures.weaker) c.set.ensures beside
+    fit_lowered old new c.args.pid c.args.root.0 c.args.page e c.requires.fit c.requires.root small c.requires.own
+    (subst W c.requires.before c.without_write-after.ensures.weaker) c.set.ensures beside
 
 pub returns-clause-withdrawn : goal.returns-clause-withdrawn
 returns-clause-withdrawn g c =
@@ -52,8 +46,6 @@ returns-clause-withdrawn g c =
     } in
     let e = number_of c.without_write-after.result in
     let small : IsPage 2 c.args.page = omega (arith, c.get.ensures) in
-    let before : number_of c.entry-before.result ≡ entry old c.args.pid c.args.page =
-    c.entry-before.ensures.entry ∙ sym (entry-of old c.args.pid c.root_of-root.result.0 c.args.page c.root_of-root.ensures) in
     let W : ℕ → Type 0 = λ x. Weakens x e in
-    withdraws old new c.args.pid c.root_of-root.result.0 c.args.page e c.requires.fit c.root_of-root.ensures small c.requires.own
-    (subst W before c.without_write-after.ensures.weaker) c.set.ensures beside
+    withdraws old new c.args.pid c.args.root.0 c.args.page e c.requires.fit c.requires.root small c.requires.own
+    (subst W c.requires.before c.without_write-after.ensures.weaker) c.set.ensures beside
