@@ -9,14 +9,21 @@ use Rattle.vm_types.specs.Prefix.{Event, after_event, acknowledged, IsPrefixHold
 use Rattle.vm_types.specs.State.{State, IsRunning}
 use Rattle.vm_types.specs.Step.{ruling, takes}
 use Rattle.vm_types.specs.View.{Pages}
-use Rattle.machine.specs.Chain.{event, Chain, after, Runs}
-use Rattle.machine.specs.Machine.{IsOneOf, stands_in, MayStand, HoldsIn, StandsForSome, Shows, Meets, causes}
+use Rattle.machine.specs.Chain.{event, Caused, Chain, after, Runs}
+use Rattle.machine.specs.Machine.{IsCaused, IsOneOf, stands_in, MayStand, HoldsIn, StandsForSome, Shows, Meets, causes}
 use Rattle.machine.specs.declared.machine.Machine.{Machine}
 use Rattle.machine.proofs.Steps.{step_files, Failed, goes_on_or_fails, halted_stays, failed_event, prefix_here, prefix_more, prefix_from_start, prefix_during, failed_before, failed_after, halted_event}
 
 -- the same image stands for contents of which Q holds
 pub some_more : (sectors : ℕ) (files : Files) (P Q : Pages → Type 0) (c : Image) → ((p : Pages) → P p → Q p) → StandsForSome sectors files P c → StandsForSome sectors files Q c
 some_more sectors files P Q c more h = (h.0, more h.0 h.1, h.2)
+
+module _ {D E : Type 0} (g : Ghosts D) where
+  -- one reply more
+  pub caused_more : (old mid new : Machine D E) (replies : List Reply) (r : Reply) → Caused g old replies mid → IsCaused g mid new r
+      → Caused g old (replies ++ r ∷ []) new
+  caused_more old mid new [] r c is = (new, subst (λ (m : Machine D E). IsCaused g m new r) c is, refl)
+  caused_more old mid new (q ∷ qs) r c is = (c.0, c.1, caused_more c.0 mid new qs r c.2 is)
 
 module _ {D E : Type 0} (g : Ghosts D) (h : Ghosts E) where
   -- commands carried out so far

@@ -7,11 +7,18 @@ use Rattle.vm_types.specs.declared.reply.Reply.{Reply}
 use Rattle.vm_types.specs.Prefix.{Event, IsPrefixHolding}
 use Rattle.vm_types.specs.State.{State, IsRunning}
 use Rattle.machine.specs.declared.machine.Machine.{Machine}
-use Rattle.machine.specs.Machine.{Shows, Meets, StandsForSome}
+use Rattle.machine.specs.Machine.{IsCaused, Shows, Meets, StandsForSome}
 
 -- a command and its reply, in the state before it
 abbrev pub event : State → Command → Reply → Event
 event s command reply = record { state = s; command = command; reply = reply }
+
+module _ {D E : Type 0} (g : Ghosts D) where
+  -- Whatever the devices do: there is a machine after each reply, up to the last one, and what the reply names came to pass
+  -- between the machine before it and that one.
+  abbrev pub Caused : Machine D E → List Reply → Machine D E → Type 0
+  Caused old [] new = new ≡ old
+  Caused old (reply ∷ replies) new = (mid : Machine D E) × IsCaused g old mid reply × Caused mid replies new
 
 module _ {D E : Type 0} (g : Ghosts D) (h : Ghosts E) where
   -- the machine goes from one state to another by these commands with these replies, each carried out

@@ -6,6 +6,7 @@ use Rattle.disk_model.specs.declared.sector_disk.SectorDisk.{Ghosts}
 use Rattle.file_store.specs.Standing.{StandsFor}
 use Rattle.residency.specs.Picture.{picture_of}
 use Rattle.residency.specs.Shows.{ShowsPages}
+use Rattle.spaces.specs.Calls as Spaces
 use Rattle.syncing.specs.Shows as Calls
 use Rattle.vm_types.specs.declared.command.Command.{Command}
 use Rattle.vm_types.specs.declared.reply.Reply.{Reply}
@@ -39,6 +40,11 @@ HoldsIn s command reply pages =
 -- the image stands for contents of which P holds
 abbrev pub StandsForSome : ℕ → Files → (Pages → Type 0) → Image → Type 0
 StandsForSome sectors files P image = (pages : Pages) × P pages × StandsFor sectors files pages image
+
+module _ {D E : Type 0} (g : Ghosts D) where
+  -- whatever the devices do: what the reply names came to pass between the two machines
+  abbrev pub IsCaused : Machine D E → Machine D E → Reply → Type 0
+  IsCaused old new reply = Spaces.IsCaused g old.core new.core reply
 
 module _ {D E : Type 0} (g : Ghosts D) (h : Ghosts E) where
   -- The machine may go on: unless it has halted, its store may be read and committed to, and its memory is fit.

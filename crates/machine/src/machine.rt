@@ -1,9 +1,8 @@
 //! The machine: commands in, replies out, over a store that survives stops.
 ghost use Rattle.std.specs.Prelude.{◌≡◌, ◌≤◌, ◌<◌, length, is_some};
 ghost use Rattle.vm_types.specs.State.{State};
-ghost use Rattle.machine.specs.Machine.{IsSound, IsReadable, Shows, Meets};
-ghost use Rattle.spaces.specs.Calls.{IsCaused};
-ghost use Rattle.machine.specs.Chain.{Runs};
+ghost use Rattle.machine.specs.Machine.{IsCaused, IsSound, IsReadable, Shows, Meets};
+ghost use Rattle.machine.specs.Chain.{Caused, Runs};
 
 use disk_model::SectorDisk;
 use residency::Core;
@@ -43,7 +42,7 @@ impl<D: SectorDisk, E: SectorDisk> Machine<D, E> {
         requires sound { IsSound D.SectorDisk E.SectorDisk self.old }
         ensures sound { IsSound D.SectorDisk E.SectorDisk self.new }
         ensures kept { D.keeps_model self.new.core.store.disk → D.keeps_model self.old.core.store.disk }
-        ensures caused { IsCaused D.SectorDisk self.old.core self.new.core result }
+        ensures caused { IsCaused D.SectorDisk self.old self.new result }
         ensures meets { (s : State) → Shows D.SectorDisk E.SectorDisk self.old s → IsReadable D.SectorDisk E.SectorDisk self.new command
             → (t : State) × Meets D.SectorDisk E.SectorDisk self.old self.new s t command result }
     {
@@ -82,12 +81,14 @@ impl<D: SectorDisk, E: SectorDisk> Machine<D, E> {
         }
     }
 
-    /// Carries out commands one after another, and writes the reply to each.
+    /// Carries out commands one after another, and writes the reply to each. Whatever the devices do, a reply names the
+    /// store or the want of a frame only where the store failed as its command was carried out, or a frame was refused.
     pub fn run(&mut self, commands: &[Command], replies: &mut [Reply])
         requires sound { IsSound D.SectorDisk E.SectorDisk self.old }
         requires lengths { length replies.old ≡ length commands.now }
         ensures sound { IsSound D.SectorDisk E.SectorDisk self.new }
         ensures kept { D.keeps_model self.new.core.store.disk → D.keeps_model self.old.core.store.disk }
+        ensures caused { Caused D.SectorDisk self.old replies.new self.new }
         ensures run { (s : State) → Shows D.SectorDisk E.SectorDisk self.old s → D.keeps_model self.new.core.store.disk
             → Runs D.SectorDisk E.SectorDisk self.old self.new commands.now replies.new s }
     {

@@ -2,8 +2,7 @@
 ghost use Rattle.std.specs.Prelude.{◌≡◌, false};
 ghost use Rattle.vm_types.specs.State.{State};
 ghost use Rattle.vm_types.specs.declared.command.Command.TheVariants.{Msync};
-ghost use Rattle.machine.specs.Machine.{IsSound, Shows, Meets};
-ghost use Rattle.spaces.specs.Calls.{IsCaused};
+ghost use Rattle.machine.specs.Machine.{IsCaused, IsSound, Shows, Meets};
 
 use crate::machine::Machine;
 use disk_model::SectorDisk;
@@ -16,7 +15,7 @@ impl<D: SectorDisk, E: SectorDisk> Machine<D, E> {
         requires running { self.old.halted ≡ false }
         ensures sound { IsSound D.SectorDisk E.SectorDisk self.new }
         ensures kept { D.keeps_model self.new.core.store.disk → D.keeps_model self.old.core.store.disk }
-        ensures caused { IsCaused D.SectorDisk self.old.core self.new.core result }
+        ensures caused { IsCaused D.SectorDisk self.old self.new result }
         ensures meets { (s : State) → Shows D.SectorDisk E.SectorDisk self.old s → (t : State) × Meets D.SectorDisk E.SectorDisk self.old self.new s t (Msync pid addr len mode) result }
     {
         let reply = spaces::msync(&mut self.core, pid, addr, len, mode);

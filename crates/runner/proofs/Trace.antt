@@ -9,14 +9,90 @@ use Rattle.vm_types.specs.Prefix.{Event}
 use Rattle.vm_types.specs.State.{State}
 use Rattle.machine.specs.declared.machine.Machine.{Machine}
 use Rattle.machine.specs.Machine.{Shows, Meets}
-use Rattle.machine.specs.Chain.{event, Chain, Runs}
+use Rattle.machine.specs.Chain.{event, Caused, Chain, Runs}
 use Rattle.machine.proofs.Runs.{leaves_prefix}
 use Rattle.trace_lang.specs.Lines.{lines_of}
 use Rattle.runner.specs.declared.engine.RunEnd.{RunEnd}
 use Rattle.runner.specs.declared.engine.RunEnd.TheVariants.{Done, ReadFault, WriteFault}
 use Rattle.runner.specs.Session.{Obeys, Rejects, CarriesOut, Answered}
 use Rattle.runner.specs.Progress.{stage, EndsSo, ReadsAll}
-use Rattle.runner.specs.Trace.{streams, RunsTrace}
+use Rattle.runner.specs.Trace.{Streams, streams, EndsTrace, CausedTrace, RunsTrace}
+
+module _ {D E : Type 0} (g : Ghosts D) (h : Ghosts E) where
+  -- a line more, of a command
+  answered_more : (old mid : Machine D E) (line : List ℕ) (lines : List (List ℕ)) (commands : List Command) (replies : List Reply) (first rest text : List ℕ)
+      → (o : Obeys g h old line first mid) → text ≡ first ++ rest → Answered lines commands replies rest
+      → Answered (line ∷ lines) (o.command ∷ commands) (o.reply ∷ replies) text
+  answered_more old mid line lines commands replies first rest text o is later =
+      inr (o.command, o.reply, commands, replies, rest, o.form, refl, refl, is ∙ ap (λ t. t ++ rest) o.text_is, later)
+
+  -- a line more, of none
+  answered_none : (old mid : Machine D E) (line : List ℕ) (lines : List (List ℕ)) (commands : List Command) (replies : List Reply) (first rest text : List ℕ)
+      → Rejects g h old line first mid → text ≡ first ++ rest → Answered lines commands replies rest
+      → Answered (line ∷ lines) commands replies text
+  answered_none old mid line lines commands replies first rest text r is later =
+      inl (r.bad, (rest, is ∙ ap (λ t. t ++ rest) r.text_is, later))
+
+  -- the replies to the lines' commands, each caused
+  record Replied (old new : Machine D E) (lines : List (List ℕ)) (text : List ℕ) : Type 0 where
+    commands : List Command
+    replies : List Reply
+    answered : Answered lines commands replies text
+    caused : Caused g old replies new
+
+  replied : (old new : Machine D E) (lines : List (List ℕ)) (text : List ℕ) → CarriesOut g h old lines text new → Replied old new lines text
+  replied old new [] text carried = record { commands = []; replies = []; answered = (refl, refl, carried.0); caused = carried.1 }
+  replied old new (line ∷ lines) text carried =
+      let later = replied carried.0 new lines carried.2 carried.4 in
+      elim carried.3 [
+        | inl o ↦ record {
+          commands = o.command ∷ later.commands;
+          replies = o.reply ∷ later.replies;
+          answered = answered_more old carried.0 line lines later.commands later.replies carried.1 carried.2 text o carried.5 later.answered;
+          caused = (carried.0, o.caused, later.caused);
+        }
+        | inr r ↦ record {
+          commands = later.commands;
+          replies = later.replies;
+          answered = answered_none old carried.0 line lines later.commands later.replies carried.1 carried.2 text r carried.5 later.answered;
+          caused = subst (λ m. Caused g m later.replies new) r.same later.caused;
+        }
+      ]
+
+  -- the lines that were run until the end
+  record Ran (end : RunEnd) (old new : Machine D E) (bytes : List ℕ) (before after : Streams) : Type 0 where
+    lines : List (List ℕ)
+    text : List ℕ
+    runs : CarriesOut g h old lines text new
+    ends : EndsTrace end bytes lines text before after
+
+  ran : (end : RunEnd) (old new : Machine D E) (left left_then held held_then : Option (List ℕ)) (bytes : List ℕ)
+      → ReadsAll end left_then → EndsSo g h end (stage old [] [] held) (stage new [] [] held_then) bytes []
+      → Ran end old new bytes (streams left held) (streams left_then held_then)
+  ran Done old new left left_then held held_then bytes all ended =
+      record { lines = lines_of bytes; text = ended.text; runs = ended.runs; ends = (all, refl, ended.wrote) }
+  ran ReadFault old new left left_then held held_then bytes all ended =
+      record { lines = ended.advances.lines; text = ended.text; runs = ended.advances.runs; ends = ((ended.rest, ended.advances.cuts), ended.wrote) }
+  ran WriteFault old new left left_then held held_then bytes all ended =
+      record { lines = ended.lines; text = ended.text; runs = ended.runs; ends = (ended.first, ended.wrote) }
+
+  pub caused_trace : (end : RunEnd) (old new : Machine D E) (left left_then held held_then : Option (List ℕ)) (bytes : List ℕ)
+      → Consumes left left_then bytes → ReadsAll end left_then → EndsSo g h end (stage old [] [] held) (stage new [] [] held_then) bytes []
+      → CausedTrace g end old new (streams left held) (streams left_then held_then)
+  caused_trace end old new left left_then held held_then bytes read all ended =
+      let r = ran end old new left left_then held held_then bytes all ended in
+      let a = replied old new r.lines r.text r.runs in
+      record {
+        bytes = bytes;
+        read = read;
+        lines = r.lines;
+        commands = a.commands;
+        replies = a.replies;
+        text = r.text;
+        answered = a.answered;
+        caused = a.caused;
+        ends = r.ends;
+      }
 
 module _ {D E : Type 0} (g : Ghosts D) (h : Ghosts E)
     (only_now : (d : D) (image : Image) → g.keeps_model d → g.left_since d (g.moment d) image → MayLeave (g.content d) (g.unsynced d) image) where
@@ -38,18 +114,7 @@ module _ {D E : Type 0} (g : Ghosts D) (h : Ghosts E)
     replies = o.reply ∷ later.replies;
     events = event s o.command o.reply ∷ later.events;
     last = later.last;
-    answered = inr (
-      o.command,
-      o.reply,
-      later.commands,
-      later.replies,
-      rest,
-      o.form,
-      refl,
-      refl,
-      is ∙ ap (λ t. t ++ rest) o.text_is,
-      later.answered,
-    );
+    answered = answered_more g h old mid line lines later.commands later.replies first rest text o is later.answered;
     chain = (mid, step.0, refl, step.1, later.chain);
     shows = later.shows;
   }
@@ -61,7 +126,7 @@ module _ {D E : Type 0} (g : Ghosts D) (h : Ghosts E)
     replies = later.replies;
     events = later.events;
     last = later.last;
-    answered = inl (r.bad, (rest, is ∙ ap (λ t. t ++ rest) r.text_is, later.answered));
+    answered = answered_none g h old mid line lines later.commands later.replies first rest text r is later.answered;
     chain = later.chain;
     shows = later.shows;
   }
@@ -114,43 +179,17 @@ module _ {D E : Type 0} (g : Ghosts D) (h : Ghosts E)
   pub runs_trace : (end : RunEnd) (old new : Machine D E) (s : State) (left left_then held held_then : Option (List ℕ)) (bytes : List ℕ)
       → Consumes left left_then bytes → ReadsAll end left_then → EndsSo g h end (stage old [] [] held) (stage new [] [] held_then) bytes []
       → Shows g h old s → g.keeps_model new.core.store.disk → RunsTrace g h end old new (streams left held) (streams left_then held_then) s
-  runs_trace Done old new s left left_then held held_then bytes read all ended shows keeps =
-      let a = relates old new s (lines_of bytes) ended.text ended.runs shows keeps in
+  runs_trace end old new s left left_then held held_then bytes read all ended shows keeps =
+      let r = ran g h end old new left left_then held held_then bytes all ended in
+      let a = relates old new s r.lines r.text r.runs shows keeps in
       record {
         bytes = bytes;
         read = read;
-        lines = lines_of bytes;
+        lines = r.lines;
         commands = a.commands;
         replies = a.replies;
-        text = ended.text;
+        text = r.text;
         answered = a.answered;
-        runs = runs old new s (lines_of bytes) ended.text shows a;
-        ends = (all, refl, ended.wrote);
-      }
-  runs_trace ReadFault old new s left left_then held held_then bytes read all ended shows keeps =
-      let lines = ended.advances.lines in
-      let a = relates old new s lines ended.text ended.advances.runs shows keeps in
-      record {
-        bytes = bytes;
-        read = read;
-        lines = lines;
-        commands = a.commands;
-        replies = a.replies;
-        text = ended.text;
-        answered = a.answered;
-        runs = runs old new s lines ended.text shows a;
-        ends = ((ended.rest, ended.advances.cuts), ended.wrote);
-      }
-  runs_trace WriteFault old new s left left_then held held_then bytes read all ended shows keeps =
-      let a = relates old new s ended.lines ended.text ended.runs shows keeps in
-      record {
-        bytes = bytes;
-        read = read;
-        lines = ended.lines;
-        commands = a.commands;
-        replies = a.replies;
-        text = ended.text;
-        answered = a.answered;
-        runs = runs old new s ended.lines ended.text shows a;
-        ends = (ended.first, ended.wrote);
+        runs = runs old new s r.lines r.text shows a;
+        ends = r.ends;
       }

@@ -6,7 +6,7 @@ use Rattle.vm_types.specs.declared.command.Command.{Command}
 use Rattle.vm_types.specs.declared.reply.Reply.{Reply}
 use Rattle.vm_types.specs.State.{State}
 use Rattle.machine.specs.declared.machine.Machine.{Machine}
-use Rattle.machine.specs.Chain.{Runs}
+use Rattle.machine.specs.Chain.{Caused, Runs}
 use Rattle.trace_lang.specs.Lines.{lines_of, Cuts}
 use Rattle.runner.specs.declared.engine.RunEnd.{RunEnd}
 use Rattle.runner.specs.declared.engine.RunEnd.TheVariants.{Done, ReadFault, WriteFault}
@@ -28,6 +28,20 @@ abbrev pub EndsTrace : RunEnd → List ℕ → List (List ℕ) → List ℕ → 
 EndsTrace Done bytes lines text old new = IsAtEnd new.left × (lines ≡ lines_of bytes) × Appends old.held new.held text
 EndsTrace ReadFault bytes lines text old new = ((rest : List ℕ) × Cuts bytes lines rest) × Appends old.held new.held text
 EndsTrace WriteFault bytes lines text old new = StartsAs lines (lines_of bytes) × WritesBeginning old.held new.held text
+
+module _ {D E : Type 0} (g : Ghosts D) where
+  -- Whatever the devices do: the lines that were run are answered by replies to their commands, and a reply names a device
+  -- or the want of a frame only where it failed as its command was carried out, or was refused.
+  pub record CausedTrace (end : RunEnd) (old new : Machine D E) (before after : Streams) : Type 0 where
+    pub bytes : List ℕ
+    pub read : Consumes before.left after.left bytes
+    pub lines : List (List ℕ)
+    pub commands : List Command
+    pub replies : List Reply
+    pub text : List ℕ
+    pub answered : Answered lines commands replies text
+    pub caused : Caused g old replies new
+    pub ends : EndsTrace end bytes lines text before after
 
 module _ {D E : Type 0} (g : Ghosts D) (h : Ghosts E) where
   -- The lines that were run are answered as the flat model answers their commands, and every image of a stop meanwhile

@@ -5,7 +5,7 @@ ghost use Rattle.machine.specs.Machine.{IsSound, Shows};
 ghost use Rattle.vm_types.specs.State.{State};
 ghost use Rattle.runner.specs.Progress.{stage, IsKept, RunsLast, GoesOn, BreaksOff, Ends, EndsSo, ReadsAll};
 ghost use Rattle.runner.specs.Session.{Answers};
-ghost use Rattle.runner.specs.Trace.{streams, RunsTrace};
+ghost use Rattle.runner.specs.Trace.{streams, CausedTrace, RunsTrace};
 
 use crate::line_buffer::LineBuffer;
 use crate::output_buffer::{OutputBuffer, WriteFault};
@@ -281,6 +281,9 @@ fn run_turns<R: Read, W: Write, D: SectorDisk, E: SectorDisk>(
 /// - `WriteFault`: the writer failed or took no bytes. What it took is a beginning of the answers to the lines that were
 ///   run, which are the first of those read.
 ///
+/// Whatever the devices do, a reply names the store or the want of a frame only where the store failed as its command was
+/// carried out, or a frame was refused.
+///
 /// Where a reader or a writer does not tell its bytes, as a file or a terminal, the contract claims nothing of these.
 pub fn run<R: Read, W: Write, D: SectorDisk, E: SectorDisk>(
     reader: &mut R,
@@ -289,6 +292,8 @@ pub fn run<R: Read, W: Write, D: SectorDisk, E: SectorDisk>(
 ) -> RunEnd
     requires { IsSound D.SectorDisk E.SectorDisk machine.old }
     ensures sound { IsSound D.SectorDisk E.SectorDisk machine.new }
+    ensures caused { CausedTrace D.SectorDisk result machine.old machine.new
+        (streams (R.remaining reader.old) (W.contents writer.old)) (streams (R.remaining reader.new) (W.contents writer.new)) }
     ensures runs { (s : State) → Shows D.SectorDisk E.SectorDisk machine.old s → D.keeps_model machine.new.core.store.disk
         → RunsTrace D.SectorDisk E.SectorDisk result machine.old machine.new
         (streams (R.remaining reader.old) (W.contents writer.old)) (streams (R.remaining reader.new) (W.contents writer.new)) s }

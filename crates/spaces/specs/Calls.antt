@@ -1,5 +1,5 @@
 -- What a call comes to.
-use Rattle.std.specs.Prelude.{◌≡◌, ◌+◌, ◌<◌, true}
+use Rattle.std.specs.Prelude.{◌≡◌, ◌+◌, ◌<◌, ◌≤◌, true}
 use Rattle.disk_model.specs.declared.sector_disk.SectorDisk.{Ghosts}
 use Rattle.residency.specs.declared.kernel.Core.{Core}
 use Rattle.residency.specs.Picture.{picture_of}
@@ -42,7 +42,10 @@ module _ {D E : Type 0} (g : Ghosts D) where
   StallCause old new SwapDevice = ⊥
   StallCause old new StoreDevice = g.failures old.store.disk < g.failures new.store.disk
 
-  -- whatever the devices do: a reply names a device or the want of a frame only where it failed in the call, or was refused
+  -- Whatever the devices do: a reply names a device or the want of a frame only where it failed in the call, or was refused.
+  -- No failure and no refusal is forgotten.
   pub record IsCaused (old new : Core D E) (reply : Reply) : Type 0 where
+    pub later : g.failures old.store.disk ≤ g.failures new.store.disk
+    pub counted : old.refused.number ≤ new.refused.number
     pub failed : reply ≡ Refused EIO → g.failures old.store.disk < g.failures new.store.disk
     pub stalled : (stall : Stall) → reply ≡ Stalled stall → StallCause old new stall

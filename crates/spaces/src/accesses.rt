@@ -44,7 +44,7 @@ fn frame_of(frames: &Frames, place: Phys) -> FrameNo
     requires { IsFrame frames.now (place.0 / 4096) }
     ensures { result.0 ≡ place.0 / 4096 }
 {
-    // The numbers of frames are under 65,536.
+    // The numbers of frames are under 65,536 (brings in that the table of frames is sound).
     let _ = frames.len();
     FrameNo((place.0 / PAGE) as u32)
 }

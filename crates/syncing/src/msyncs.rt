@@ -52,6 +52,7 @@ pub fn msync<D: SectorDisk, E>(
     ensures kept { D.keeps_model core.new.store.disk → D.keeps_model core.old.store.disk }
     ensures size { D.sector_count core.new.store.disk ≡ D.sector_count core.old.store.disk }
     ensures swap { core.new.swap ≡ core.old.swap }
+    ensures later { D.failures core.old.store.disk ≤ D.failures core.new.store.disk }
     ensures cause { result ≡ Reply.Refused EIO → D.failures core.old.store.disk < D.failures core.new.store.disk }
     ensures no_stall { (stall : Stall) → result ≡ Reply.Stalled stall → ⊥ }
     ensures refused { core.new.refused ≡ core.old.refused }
@@ -76,6 +77,7 @@ fn commit<D: SectorDisk, E>(core: &mut Core<D, E>, chosen: &Chosen) -> Reply
     ensures kept { D.keeps_model core.new.store.disk → D.keeps_model core.old.store.disk }
     ensures size { D.sector_count core.new.store.disk ≡ D.sector_count core.old.store.disk }
     ensures swap { core.new.swap ≡ core.old.swap }
+    ensures later { D.failures core.old.store.disk ≤ D.failures core.new.store.disk }
     ensures cause { result ≡ Reply.Refused EIO → D.failures core.old.store.disk < D.failures core.new.store.disk }
     ensures no_stall { (stall : Stall) → result ≡ Reply.Stalled stall → ⊥ }
     ensures refused { core.new.refused ≡ core.old.refused }
@@ -125,6 +127,7 @@ fn cached_page<D, E>(core: &Core<D, E>, page: FilePage) -> CachedPage
     let Place::Frame(frame) = core.cache.place(page) else {
         unreachable!();
     };
+    // (brings in that the table of frames is sound)
     let _ = core.frames.len();
     let _ = whole(core.frames.bytes(frame));
     CachedPage { page, frame }

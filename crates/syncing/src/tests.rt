@@ -55,6 +55,7 @@ fn spawn<D, E>(core: &mut Core<D, E>, pid: usize) -> Result<(), NoFree>
     ensures live { OnOk result (is_live (picture_of core.new) pid ≡ true) }
     ensures bare { OnOk result ((page : ℕ) → entry (picture_of core.new) pid page ≡ 0) }
 {
+    // (brings in that the table of frames is sound)
     let _ = core.frames.len();
     let root = take_table(&mut core.frames)?;
     core.roots[pid] = Some(root);

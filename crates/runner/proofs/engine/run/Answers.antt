@@ -1,5 +1,10 @@
-use Rattle.runner.proofs.Trace.{runs_trace}
+use Rattle.runner.proofs.Trace.{caused_trace, runs_trace}
 use Rattle.runner.proofs.engine.run.Goals as goal
+
+pub returns-clause-caused : goal.returns-clause-caused
+returns-clause-caused g c =
+    let r = c.run_turns.ensures.reads in
+    caused_trace g.D.SectorDisk g.E.SectorDisk c.run_turns.result _ _ _ _ _ _ r.0 r.1 r.2 r.3
 
 pub returns-clause-runs : goal.returns-clause-runs
 returns-clause-runs g c s shows keeps =

@@ -2,7 +2,8 @@ use Rattle.std.proofs.Common.{◌≡◌, ◌+◌, ◌++◌, ◌∷◌, [], ◌<�
 use Rattle.std.proofs.lemmas.List.{take_more, take_more_set}
 use Rattle.vm_types.specs.declared.command.Command.{Command}
 use Rattle.vm_types.specs.declared.reply.Reply.{Reply}
-use Rattle.machine.proofs.Runs.{all_ran, ran_more, RanSoFar}
+use Rattle.machine.specs.Chain.{Caused}
+use Rattle.machine.proofs.Runs.{all_ran, caused_more, ran_more, RanSoFar}
 use Rattle.machine.proofs.machine.Machine.run.Goals as goal
 
 pub loop-i-preserved : goal.loop-i-preserved
@@ -22,12 +23,21 @@ loop-i-preserved g c =
       sound = c.step.ensures.sound;
       lengths = length-set _ _ _ ∙ inv.lengths;
       kept = λ k. inv.kept (c.step.ensures.kept k);
+      caused =
+          let old = c.args.self.now in
+          subst (λ (zs : List Reply). Caused g.D.SectorDisk old zs c.step.new.self) (sym ys)
+          (caused_more g.D.SectorDisk old c.loop-i.self c.step.new.self (take i replies) r inv.caused c.step.ensures.caused);
       ran = λ s shows keeps.
           let old = c.args.self.now in
           let one = ran_more g.D.SectorDisk g.E.SectorDisk old c.loop-i.self c.step.new.self s (take i commands) (take i replies) x r (inv.ran s shows (c.step.ensures.kept keeps)) (λ u at. c.step.ensures.meets u at (λ _. keeps)) in
           subst (λ (zs : List Command). RanSoFar g.D.SectorDisk g.E.SectorDisk old c.step.new.self s zs (take (i + 1) (set replies i r))) (sym xs)
           (subst (λ (zs : List Reply). RanSoFar g.D.SectorDisk g.E.SectorDisk old c.step.new.self s (take i commands ++ x ∷ []) zs) (sym ys) one);
     }
+
+pub returns-clause-caused : goal.returns-clause-caused
+returns-clause-caused g c =
+    let every : take c.loop-i.i c.loop-i.replies ≡ c.loop-i.replies = take_all c.loop-i.i c.loop-i.replies (omega (arith, c.loop-i.invariant.lengths)) in
+    subst (λ (zs : List Reply). Caused g.D.SectorDisk c.args.self.now zs c.loop-i.self) every c.loop-i.invariant.caused
 
 pub returns-clause-run : goal.returns-clause-run
 returns-clause-run g c = λ s shows keeps.
