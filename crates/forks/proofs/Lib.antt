@@ -1,4 +1,3 @@
-pub mod Skips
 pub mod Sharers
 pub mod Weaker
 pub mod Lowered

@@ -1,21 +1,17 @@
 -- The pages of the parent, one after another.
-use Rattle.std.proofs.Common.{◌≡◌, ◌≢◌, ℕ, inl, inr, ◌+◌, ◌*◌, ◌/◌, ◌^◌, ◌<◌, ◌≤◌, Option, Some, None, refl, sym, ap, ◌∙◌, subst, arith}
+use Rattle.std.proofs.Common.{◌≡◌, ◌≢◌, ℕ, inl, inr, ◌+◌, ◌^◌, ◌<◌, ◌≤◌, Option, Some, None, refl, sym, ap, ◌∙◌, arith}
 use Rattle.std.specs.Prelude.{IsSome}
-use Rattle.std.proofs.lemmas.Bool.{cases_eq, cases_lt}
+use Rattle.std.proofs.lemmas.Bool.{cases_lt}
 use Rattle.vm_types.specs.declared.region.Attr.{Attr}
-use Rattle.page_tables.specs.Tree.{missing_of}
-use Rattle.page_tables.proofs.Ends.{page_entry-missing}
 use Rattle.residency.specs.Picture.{Picture, entry, is_private, view}
 use Rattle.residency.specs.Parts.{IsGranting}
 use Rattle.residency.specs.Shows.{KeepsFiles}
-use Rattle.residency.proofs.Entries.{entry-of}
 use Rattle.residency.proofs.Start.{no_bit}
 use Rattle.residency.proofs.Used.{view-none}
 use Rattle.page_entries.specs.Changes.{KeepsSpaces}
 use Rattle.processes.proofs.Keeping.{files_then}
 use Rattle.forks.specs.Steps.{GivesPage, GivesPages, GivesUpTo, GivesBelow}
 use Rattle.forks.proofs.Shared.{common_gives}
-use Rattle.forks.proofs.Skips.{skipped}
 
 none_where : (o : Option Attr) → (IsSome o → ⊥) → o ≡ None
 none_where None h = refl
@@ -25,39 +21,20 @@ none_where (Some a) h = absurd (h refl)
 unmapped : (c : Picture) (pid page : ℕ) → IsGranting c → ((16 ≤ page) × (page < 2 ^ 26) → ⊥) → c.at pid page ≡ None
 unmapped c pid page granting out = none_where (c.at pid page) (λ some. out ((granting.user pid).user_pages page some))
 
-after_bounds : (page m : ℕ) → m ≤ 2 → page < 2 ^ 26 → (page < (page / 512 ^ m + 1) * 512 ^ m) × ((page / 512 ^ m + 1) * 512 ^ m ≤ 2 ^ 26)
-after_bounds page m few low =
-    let P : ℕ → Type 0 = λ x. (page < (page / 512 ^ x + 1) * 512 ^ x) × ((page / 512 ^ x + 1) * 512 ^ x ≤ 2 ^ 26) in
-    let zero_missing : P 0 = (let a : page < (page / 1 + 1) * 1 = omega arith in let b : (page / 1 + 1) * 1 ≤ 67108864 = omega (arith, low) in (a, b)) in
-    let one_missing : P 1 = (let a : page < (page / 512 + 1) * 512 = omega arith in let b : (page / 512 + 1) * 512 ≤ 67108864 = omega (arith, low) in (a, b)) in
-    let two_missing : P 2 = (let a : page < (page / 262144 + 1) * 262144 = omega arith in let b : (page / 262144 + 1) * 262144 ≤ 67108864 = omega (arith, low) in (a, b)) in
-    elim (cases_eq m 0) [
-      | inl is ↦ subst P (sym is) zero_missing
-      | inr some ↦ elim (cases_eq m 1) [
-        | inl is ↦ subst P (sym is) one_missing
-        | inr more ↦ (let is : m ≡ 2 = omega (arith, few, some, more) in subst P (sym is) two_missing)
-      ]
-    ]
-
 -- where a table is missing the parent has nothing of its own
-pub table_passed : (c : Picture) (parent child r page m : ℕ) → c.root parent ≡ Some r → m ≤ 2 → 0 < m → missing_of c.frames 2 r page ≡ m → page < 2 ^ 26
+pub table_passed : (c : Picture) (parent child page next : ℕ) → IsGranting c → page < next → ((p : ℕ) → page ≤ p → p < next → entry c parent p ≡ 0)
     → ((p : ℕ) → c.at child p ≡ c.at parent p) → ((p : ℕ) → page ≤ p → p < 2 ^ 26 → entry c child p ≡ 0)
-    → GivesUpTo c c parent child page ((page / 512 ^ m + 1) * 512 ^ m)
-table_passed c parent child r page m root few some missing low alike bare =
-    let next = (page / 512 ^ m + 1) * 512 ^ m in
-    let bounds : (page < next) × (next ≤ 2 ^ 26) = after_bounds page m few low in
-    record {
-      later = bounds.0;
-      shown = λ p from below. (
-          let inside : p < 2 ^ 26 = omega (arith, below, bounds.1) in
-          let nothing : entry c parent p ≡ 0 = entry-of c parent r p root ∙ elim (cases_eq p page) [
-            | inl is ↦ page_entry-missing c.frames 2 r p (λ none. (let here : m ≡ 0 = sym missing ∙ ap (missing_of c.frames 2 r) (sym is) ∙ none in omega (arith, here, some)))
-            | inr ne ↦ skipped c.frames r p page m few missing (omega (arith, from, ne)) below
-          ] in
-          common_gives c parent child p (alike p) (ap is_private nothing ∙ no_bit) (bare p from inside));
-      below = λ p _. refl;
-      bare = λ p from inside. bare p (omega (arith, from, bounds.0)) inside;
-    }
+    → GivesUpTo c c parent child page next
+table_passed c parent child page next granting later gap alike bare = record {
+  later = later;
+  shown = λ p from below. elim (cases_lt p (2 ^ 26)) [
+    | inl inside ↦ common_gives c parent child p (alike p) (ap is_private (gap p from below) ∙ no_bit) (bare p from inside)
+    | inr past ↦ view-none c child p (unmapped c child p granting (λ user. (omega (arith, past, user.1))))
+        ∙ sym (view-none c parent p (unmapped c parent p granting (λ user. (omega (arith, past, user.1)))))
+  ];
+  below = λ p _. refl;
+  bare = λ p from inside. bare p (omega (arith, from, later)) inside;
+}
 
 -- the one page
 pub page_passed : (old new : Picture) (parent child page : ℕ) → GivesPage old new parent child page → ((p : ℕ) → page ≤ p → p < 2 ^ 26 → entry old child p ≡ 0)

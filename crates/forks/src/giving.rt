@@ -1,5 +1,5 @@
 //! The parent's own pages, given to the child.
-ghost use Rattle.std.specs.Prelude.{◌≡◌, ◌≢◌, ℕ, ◌+◌, ◌*◌, ◌/◌, ◌<◌, ◌≤◌, ◌^◌, true, OnOk, OnErr, IfOk, IfErr};
+ghost use Rattle.std.specs.Prelude.{◌≡◌, ◌≢◌, ℕ, ◌+◌, ◌<◌, ◌≤◌, ◌^◌, true, OnOk, OnErr, IfOk, IfErr};
 ghost use Rattle.vm_types.specs.declared.refusal.Stall.TheVariants.{NoFrames};
 ghost use Rattle.residency.specs.Picture.{picture_of, entry, is_live, view};
 ghost use Rattle.residency.specs.Parts.{IsSized, IsFit};
@@ -11,12 +11,10 @@ ghost use Rattle.forks.specs.Steps.{GivesPage, GivesPages, GivesUpTo};
 
 use crate::withdrawing::{frame_of, is_own, withdraw_write};
 use page_entries::{link_tables, root_of};
-use page_tables::{entry, missing_tables, set};
+use page_tables::{entry, set};
+use ranges::gap_end;
 use residency::Core;
 use vm_types::{Pid, Stall, USER_START, Vpn};
-
-/// The entries of a table.
-const TABLE_ENTRIES: u64 = 512;
 
 /// Gives the child, whose pages are mapped as the parent's and have no entry, a share of each page that the parent has of
 /// its own (fork(2), copy-on-write). It costs the tables of the parent and their entries, and no page.
@@ -69,27 +67,11 @@ fn share_next<D, E>(core: &mut Core<D, E>, parent: Pid, child: Pid, page: Vpn) -
     ensures not_refused { OnOk result (core.new.refused.number ≡ core.old.refused.number) }
     ensures refused { OnErr result (core.new.refused.number ≡ core.old.refused.number + 1) }
 {
-    let number = page.get();
-    let root = root_of(core, parent);
-    let missing = missing_tables(&core.frames, root, page);
-    if missing > 0 {
-        return Ok(page_after(number, missing));
+    if let Some(next) = gap_end(core, parent, page) {
+        return Ok(next);
     }
     share_page(core, parent, child, page)?;
-    Ok(number + 1)
-}
-
-// The first page past those of the highest of so many missing tables on the way to a page.
-fn page_after(page: u64, missing: u8) -> u64
-    requires page { page < 2 ^ 26 }
-    requires missing { (1 ≤ missing) × (missing ≤ 2) }
-    ensures { result ≡ (page / 512 ^ missing + 1) * 512 ^ missing }
-{
-    let span = match missing {
-        1 => TABLE_ENTRIES,
-        _ => TABLE_ENTRIES * TABLE_ENTRIES,
-    };
-    (page / span + 1) * span
+    Ok(page.get() + 1)
 }
 
 // Gives the child a share of one page, if the parent has it of its own.
