@@ -1,42 +1,61 @@
 //! Entries over devices in memory.
 ghost use Rattle.std.specs.Prelude.{◌≡◌, ◌≢◌, ℕ, true, None, Some, IfOk, OnOk};
 ghost use Rattle.vm_types.specs.Permission.{can_read, can_write};
+ghost use Rattle.vm_types.specs.Attributes.{backing_fits};
 ghost use Rattle.vm_types.specs.Rows.{IsUserMap};
-ghost use Rattle.vm_types.specs.declared.region.Backing.TheVariants.{Anon};
+ghost use Rattle.vm_types.specs.declared.region.Backing.TheVariants.{Anon, Shared};
+ghost use Rattle.file_store.specs.Standing.{IsPageOf};
+ghost use Rattle.file_store.specs.Store.{IsReady};
 ghost use Rattle.page_tables.specs.Tree.{IsPage};
-ghost use Rattle.regions.specs.Permission.{IsReadableMap};
+ghost use Rattle.page_cache.specs.declared.place.Place.TheVariants.{Frame};
+ghost use Rattle.regions.specs.Permission.{IsReadableMap, ReadsToo};
 ghost use Rattle.regions.specs.RunList.{attr_at};
 ghost use Rattle.residency.specs.Parts.{IsFit, IsSized};
 ghost use Rattle.residency.specs.Picture.{picture_of, entry};
 
 use crate::leaves::{Grant, entry_over};
-use crate::{is_private, link_tables, own_frame, regrant, root_of, show_zero};
+use crate::{
+    is_private, is_shared, link_tables, own_frame, regrant, root_of, show_cached, show_zero, touch,
+};
 use disk_model::{SectorDisk, SimDisk};
 use file_store::{FileStore, OpenFault};
+use frames::Role;
+use page_cache::Place;
 use page_tables::{Entry, entry_number, take_table};
 use regions::Regions;
 use residency::{Core, obtain};
 use std::alloc::{AllocError, Global};
 use std::test::Fail;
 use sv39_walk::Pte;
-use vm_types::{Attr, Backing, FrameNo, NoFree, Pid, Prot, Stall, Vpn};
+use vm_types::{Attr, Backing, FilePage, FrameNo, NoFree, Pid, Prot, Stall, Vpn};
 
-// A device with the mark of a store that has no file, as a stop leaves it.
+// The one page of the one file.
+const FILE_PAGE: FilePage = FilePage { file: 0, page: 0 };
+
+// A device with a file of 4,096 bytes, which begins with 7, as a stop leaves it.
 fn image(alloc: Global) -> Result<SimDisk, Fail>
     ensures { IfOk result (λ disk. (k : ℕ) → ⟦<SimDisk as SectorDisk>⟧.unsynced disk k → ⊥) }
 {
-    let mut disk = SimDisk::new(alloc, 1020)?;
+    let mut disk = SimDisk::new(alloc, 1028)?;
     let mut mark = [0; 512];
     for i in 0..512 {
         mark[i] = b"FAMSYNC1"[i % 8];
     }
     disk.write(0, &mark)?;
+    let mut directory = [0; 512];
+    directory[3] = 0x80;
+    directory[5] = 0x10;
+    disk.write(1, &directory)?;
+    let mut home = [0; 512];
+    home[0] = 7;
+    disk.write(1020, &home)?;
     disk.sync()?;
     Ok(disk.left(alloc, &[])?)
 }
 
 fn opened(disk: SimDisk) -> Result<FileStore<SimDisk>, OpenFault>
     requires { (k : ℕ) → ⟦<SimDisk as SectorDisk>⟧.unsynced disk k → ⊥ }
+    ensures { IfOk result (λ store. IsReady ⟦<SimDisk as SectorDisk>⟧ store) }
 {
     match FileStore::open(disk) {
         Ok(store) => Ok(store),
@@ -46,8 +65,10 @@ fn opened(disk: SimDisk) -> Result<FileStore<SimDisk>, OpenFault>
 
 // Memory of 8 frames, without swap.
 fn made(alloc: Global, store: FileStore<SimDisk>) -> Result<Core<SimDisk, SimDisk>, AllocError>
+    requires { IsReady ⟦<SimDisk as SectorDisk>⟧ store }
     ensures sized { IfOk result IsSized }
     ensures fit { IfOk result (λ core. IsFit (picture_of core)) }
+    ensures store { IfOk result (λ core. IsReady ⟦<SimDisk as SectorDisk>⟧ core.store) }
     ensures none { IfOk result (λ core. (pid : ℕ) → (picture_of core).root pid ≡ None) }
 {
     let swap = SimDisk::new(alloc, 0)?;
@@ -66,6 +87,8 @@ fn spawn<D, E>(core: &mut Core<D, E>, pid: Pid) -> Result<(), Stall>
     ensures fit { OnOk result (IsFit (picture_of core.new)) }
     ensures live { OnOk result ((picture_of core.new).root pid ≢ None) }
     ensures unmapped { OnOk result ((page : ℕ) → (picture_of core.new).at pid page ≡ None) }
+    ensures store { core.new.store ≡ core.old.store }
+    ensures cache { core.new.cache ≡ core.old.cache }
 {
     let place = usize::from(pid.get());
     obtain(core, None)?;
@@ -94,6 +117,8 @@ fn map<D, E>(core: &mut Core<D, E>, pid: Pid, regions: Regions)
     ensures live { (picture_of core.new).root pid ≢ None }
     ensures at { (page : ℕ) → (picture_of core.new).at pid page ≡ attr_at regions page }
     ensures nothing { (page : ℕ) → IsPage 2 page → entry (picture_of core.new) pid page ≡ 0 }
+    ensures store { core.new.store ≡ core.old.store }
+    ensures cache { core.new.cache ≡ core.old.cache }
 {
     let place = usize::from(pid.get());
     core.regions[place] = regions;
@@ -107,6 +132,44 @@ fn zeros() -> Attr
         prot: Prot::WRITE.kept(),
         backing: Backing::Anon,
     }
+}
+
+// The page of the file, to be read and written, shared.
+fn shared() -> Attr
+    ensures { result ≡ record { prot = record { 0 = 3 }; backing = Shared (record { file = 0; page = 0 }) } }
+{
+    Attr {
+        prot: Prot::WRITE.kept(),
+        backing: Backing::Shared(FILE_PAGE),
+    }
+}
+
+// Reads a file page from its home into a frame.
+fn bring<D: SectorDisk, E>(core: &mut Core<D, E>, page: FilePage) -> Result<FrameNo, Fail>
+    requires sized { IsSized core.old }
+    requires fit { IsFit (picture_of core.old) }
+    requires store { IsReady D.SectorDisk core.old.store }
+    ensures sized { OnOk result (IsSized core.new) }
+    ensures fit { OnOk result (IsFit (picture_of core.new)) }
+    ensures inside { OnOk result (IsPageOf (picture_of core.new).files page.file page.page) }
+    ensures placed { IfOk result (λ n. (picture_of core.new).place page ≡ Frame n) }
+    ensures roots { core.new.roots ≡ core.old.roots }
+{
+    let Some(info) = core.store.file(page.file) else {
+        return Err(Fail::new(format_args!("no file")));
+    };
+    if u64::from(info.length) <= 4096 * u64::from(page.page) {
+        return Err(Fail::new(format_args!("past the end")));
+    }
+    let Place::Home = core.cache.place(page) else {
+        return Err(Fail::new(format_args!("in memory")));
+    };
+    let Ok(n) = core.frames.take(Role::Cache) else {
+        return Err(Fail::new(format_args!("no frame")));
+    };
+    core.store.read_page(page, core.frames.bytes_mut(n))?;
+    core.cache.set_place(page, Place::Frame(n));
+    Ok(n)
 }
 
 fn first_process() -> Pid
@@ -127,20 +190,26 @@ fn first_page() -> Vpn
     page
 }
 
-// Process 1 with that page.
-fn with_zeros(alloc: Global) -> Result<Core<SimDisk, SimDisk>, Fail>
-    ensures sized { IfOk result IsSized }
-    ensures fit { IfOk result (λ core. IsFit (picture_of core)) }
-    ensures live { IfOk result (λ core. (picture_of core).root 1 ≢ None) }
-    ensures at { IfOk result (λ core. (picture_of core).at 1 32 ≡ Some (record { prot = record { 0 = 3 }; backing = Anon })) }
-    ensures nothing { IfOk result (λ core. entry (picture_of core) 1 32 ≡ 0) }
+// Makes process 1, with that page and no other.
+fn add<D, E>(core: &mut Core<D, E>, attr: Attr) -> Result<(), Fail>
+    requires sized { IsSized core.old }
+    requires fit { IsFit (picture_of core.old) }
+    requires dead { (picture_of core.old).root 1 ≡ None }
+    requires file_pages { backing_fits attr.backing 1 }
+    requires readable { ReadsToo attr.prot }
+    ensures sized { OnOk result (IsSized core.new) }
+    ensures fit { OnOk result (IsFit (picture_of core.new)) }
+    ensures live { OnOk result ((picture_of core.new).root 1 ≢ None) }
+    ensures at { OnOk result ((picture_of core.new).at 1 32 ≡ Some attr) }
+    ensures nothing { OnOk result (entry (picture_of core.new) 1 32 ≡ 0) }
+    ensures store { core.new.store ≡ core.old.store }
+    ensures cache { core.new.cache ≡ core.old.cache }
 {
-    let mut core = made(alloc, opened(image(alloc)?)?)?;
-    spawn(&mut core, first_process())?;
+    spawn(core, first_process())?;
     let mut regions = Regions::new();
-    regions.replace(32, 1, zeros())?;
-    map(&mut core, first_process(), regions);
-    Ok(core)
+    regions.replace(32, 1, attr)?;
+    map(core, first_process(), regions);
+    Ok(())
 }
 
 // The number that stands for the page.
@@ -179,8 +248,17 @@ fn numbers_of_entries(rt: HostRuntime) {
 }
 
 #[test]
+fn shared_pages(rt: HostRuntime) {
+    assert!(rt; is_shared(Backing::Shared(FILE_PAGE)));
+    assert!(rt; !is_shared(Backing::Private(FILE_PAGE)));
+    assert!(rt; !is_shared(Backing::Anon));
+}
+
+#[test]
 fn a_page_of_zeros_gets_a_frame_of_its_own(rt: HostRuntime) -> Result<(), Fail> {
-    let mut core = with_zeros(rt.alloc())?;
+    let alloc = rt.alloc();
+    let mut core = made(alloc, opened(image(alloc)?)?)?;
+    add(&mut core, zeros())?;
     let (pid, page) = (first_process(), first_page());
     link_tables(&mut core, pid, page)?;
     show_zero(&mut core, pid, page, zeros());
@@ -192,5 +270,27 @@ fn a_page_of_zeros_gets_a_frame_of_its_own(rt: HostRuntime) -> Result<(), Fail> 
     link_tables(&mut core, pid, page)?;
     regrant(&mut core, pid, page, zeros());
     assert_eq!(rt; number(&core).to_u64(), u64::from(own.0) * 1024 + 0x1d7);
+    Ok(())
+}
+
+// V, R, W, U and A weigh 1, 2, 4, 16 and 64; D, which weighs 128, is clear until the file page is touched.
+#[test]
+fn a_shared_page_is_shown_and_touched(rt: HostRuntime) -> Result<(), Fail> {
+    let alloc = rt.alloc();
+    let mut core = made(alloc, opened(image(alloc)?)?)?;
+    let frame = bring(&mut core, FILE_PAGE)?;
+    add(&mut core, shared())?;
+    let (pid, page) = (first_process(), first_page());
+    link_tables(&mut core, pid, page)?;
+    show_cached(&mut core, pid, page, shared(), frame);
+    assert_eq!(rt; number(&core).to_u64(), u64::from(frame.0) * 1024 + 0x57);
+    assert!(rt; !core.cache.is_touched(FILE_PAGE));
+    link_tables(&mut core, pid, page)?;
+    touch(&mut core, pid, page, shared(), FILE_PAGE, frame);
+    assert_eq!(rt; number(&core).to_u64(), u64::from(frame.0) * 1024 + 0xd7);
+    assert!(rt; core.cache.is_touched(FILE_PAGE));
+    if frame.0 < core.frames.len() {
+        assert_eq!(rt; core.frames.bytes(frame)[0], 7);
+    }
     Ok(())
 }

@@ -1,5 +1,5 @@
 -- What the steps of the calls change.
-use Rattle.std.specs.Prelude.{◌≡◌, ◌≢◌, ℕ, ◌<◌, ◌≤◌, ◌⊎◌, Some}
+use Rattle.std.specs.Prelude.{◌≡◌, ◌≢◌, ℕ, ◌+◌, ◌*◌, ◌/◌, ◌^◌, ◌<◌, ◌≤◌, ◌⊎◌, Some}
 use Rattle.page_tables.specs.Tree.{IsPage, IsTightBut, missing_of}
 use Rattle.residency.specs.Picture.{Picture, entry, view}
 use Rattle.residency.specs.Shows.{KeepsFiles}
@@ -20,6 +20,12 @@ pub record Clears (old new : Picture) (pid low high : ℕ) : Type 0 where
 -- no table is missing on the way to the page of a process
 abbrev pub IsWhole : Picture → ℕ → ℕ → Type 0
 IsWhole c pid page = (r : ℕ) → c.root pid ≡ Some r → missing_of c.frames 2 r page ≡ 0
+
+-- tables are missing on the way to a page, and there end the pages that the highest of them would hold
+abbrev pub IsGapEnd : Picture → ℕ → ℕ → ℕ → Type 0
+IsGapEnd c pid page end =
+    (r : ℕ) → c.root pid ≡ Some r
+    → (missing_of c.frames 2 r page ≢ 0) × (end ≡ (page / 512 ^ missing_of c.frames 2 r page + 1) * 512 ^ missing_of c.frames 2 r page)
 
 -- no table that is pointed to is without entries, but those on the way to that page of the process
 abbrev pub IsTightFor : Picture → ℕ → ℕ → Type 0

@@ -3,7 +3,7 @@ ghost use Rattle.std.specs.Prelude.{◌≡◌, ℕ, ◌<◌, ◌≤◌, ◌+◌,
 ghost use Rattle.sv39_walk.specs.Entry.{frame_of};
 ghost use Rattle.residency.specs.Picture.{picture_of, is_live, entry};
 ghost use Rattle.residency.specs.Parts.{IsSized, IsRootedBut};
-ghost use Rattle.ranges.specs.Steps.{IsWhole};
+ghost use Rattle.ranges.specs.Steps.{IsGapEnd, IsWhole};
 
 use page_entries::root_of;
 use page_tables::missing_tables;
@@ -50,6 +50,7 @@ pub fn gap_end<D, E>(core: &Core<D, E>, pid: Pid, page: Vpn) -> Option<u64>
     requires live { is_live (picture_of core.now) pid ≡ true }
     ensures whole { IfNone result (IsWhole (picture_of core.now) pid page) }
     ensures further { IfSome result (λ end. page < end) }
+    ensures end { IfSome result (IsGapEnd (picture_of core.now) pid page) }
     ensures gap { IfSome result (λ end. (p : ℕ) → page ≤ p → p < end → entry (picture_of core.now) pid p ≡ 0) }
 {
     let root = root_of(core, pid);

@@ -1,10 +1,7 @@
-use Rattle.std.proofs.Common.{◌≡◌, ◌≢◌, ℕ, ◌<◌, [], Option, Some, None, length, get_or, refl, sym, ap, ◌∙◌, subst, arith, get_or-set_same, get_or-set_other}
+use Rattle.std.proofs.Common.{◌≡◌, ◌≢◌, ℕ, ◌<◌, [], Option, Some, None, length, get_or, refl, sym, ap, ◌∙◌, arith, get_or-set_same, get_or-set_other}
 use Rattle.std.specs.Prelude.{slice_set, List}
 use Rattle.regions.specs.declared.run.Run.{Run}
 use Rattle.vm_types.specs.declared.region.Attr.{Attr}
-use Rattle.vm_types.specs.Rows.{IsUserMap}
-use Rattle.page_tables.specs.Tree.{IsPage}
-use Rattle.regions.specs.Permission.{IsReadableMap}
 use Rattle.regions.specs.RunList.{attr_at}
 use Rattle.residency.specs.Picture.{Picture, picture_of, attr_where, root_in, entry}
 use Rattle.residency.specs.Parts.{IsEntryFor, Nothing, Resident}

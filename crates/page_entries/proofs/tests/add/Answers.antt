@@ -1,10 +1,10 @@
-use Rattle.std.proofs.Common.{◌≡◌, ℕ, Bool, true, false, Option, Some, None, refl, sym, subst}
+use Rattle.std.proofs.Common.{◌≡◌, ℕ, Bool, true, false, Option, Some, None, sym, subst}
 use Rattle.std.specs.Prelude.{IfSome, if◌then◌else◌}
 use Rattle.vm_types.specs.declared.region.Attr.{Attr}
 use Rattle.vm_types.specs.Rows.{replaced}
 use Rattle.regions.specs.Permission.{ReadsToo, IsReadableMap}
 use Rattle.regions.specs.RunList.{attr_at}
-use Rattle.page_entries.proofs.tests.with_zeros.Goals as goal
+use Rattle.page_entries.proofs.tests.add.Goals as goal
 
 abbrev Reads : Option Attr → Type 0
 Reads o = IfSome o (λ attr. ReadsToo attr.prot)
@@ -17,7 +17,5 @@ one_readable : (map m : ℕ → Option Attr) (a : Attr) → ReadsToo a.prot → 
 one_readable map m a reads none is page = subst Reads (sym (is page)) (one_or _ _ _ reads (none page))
 
 pub map-requires-clause-readable : goal.map-requires-clause-readable
-map-requires-clause-readable c =
-    let P : Attr → Type 0 = λ a. ReadsToo a.prot in
-    one_readable (attr_at c.replace.new.self) (attr_at c.new-regions.result) c.zeros.result (subst P (sym c.zeros.ensures) (λ write. refl))
-    c.new-regions.ensures.empty c.in_ok-replace.ensures.ok
+map-requires-clause-readable g c =
+    one_readable (attr_at c.replace.new.self) (attr_at c.new-regions.result) c.args.attr c.requires.readable c.new-regions.ensures.empty c.in_ok-replace.ensures.ok
