@@ -3,3 +3,4 @@ pub mod Session
 pub mod Progress
 pub mod Trace
 pub mod Specs
+pub mod Programs

@@ -1,5 +1,7 @@
 //! Why a program gives up, and how it says so.
-ghost use Rattle.std.specs.Prelude.{◌≡◌, ◌≤◌, IfOk, OnErr};
+ghost use Rattle.std.specs.Prelude.{◌≡◌, IfOk, IfErr};
+ghost use Rattle.clap.specs.Values.{kind_of};
+ghost use Rattle.runner.specs.Programs.{fault_status, words_fault};
 
 use clap::error::ErrorKind;
 use file_store::{FormatFault, OpenFault};
@@ -62,12 +64,18 @@ fn boot_fault_name(fault: BootFault) -> &'static str {
 }
 
 impl From<AllocError> for ProgramFault<'_> {
+    ghost use Rattle.runner.specs.declared.programs.faults.ProgramFault.TheVariants.{OutOfMemory as NoMemory};
+
+    ghost from_gives = { λ _ fault. fault ≡ NoMemory };
+
     fn from(_: AllocError) -> Self {
         ProgramFault::OutOfMemory
     }
 }
 
 impl From<clap::Error> for ProgramFault<'_> {
+    ghost from_gives = { λ error fault. fault ≡ words_fault (kind_of error) };
+
     fn from(error: clap::Error) -> Self {
         match error.kind() {
             ErrorKind::OutOfMemory => ProgramFault::OutOfMemory,
@@ -79,7 +87,7 @@ impl From<clap::Error> for ProgramFault<'_> {
 impl ProgramFault<'_> {
     /// 2 for other words than the program takes, else 1.
     fn status(&self) -> u8
-        ensures { (1 ≤ result) × (result ≤ 2) }
+        ensures { result ≡ fault_status self.now }
     {
         match self {
             ProgramFault::Usage => 2,
@@ -95,7 +103,7 @@ pub(crate) fn report<X: Write>(
     errors: &mut X,
 ) -> u8
     ensures ok { IfOk outcome.entry (λ status. result ≡ status) }
-    ensures err { OnErr outcome.entry ((1 ≤ result) × (result ≤ 2)) }
+    ensures err { IfErr outcome.entry (λ fault. result ≡ fault_status fault) }
 {
     match outcome {
         Ok(status) => status,

@@ -1,9 +1,8 @@
 //! The files that a program works on, as devices.
 ghost use Rattle.std.specs.Prelude.{ℕ, IfOk};
-ghost use Rattle.disk_model.specs.FileRecord.{Unsynced};
 
 use super::faults::ProgramFault;
-use disk_model::FileDisk;
+use disk_model::{FileDisk, SectorDisk};
 use std::fs::{File, Files, OpenOptions};
 use std::io::{self, ErrorKind};
 
@@ -21,7 +20,8 @@ pub(crate) fn open_disk<'a, R: Files<File = File>>(
     missing: Missing,
     length: u64,
 ) -> Result<FileDisk, ProgramFault<'a>>
-    ensures { IfOk result (λ disk. (k : ℕ) → Unsynced disk.calls.notes k → ⊥) }
+    ensures kept { IfOk result (λ disk. ⟦<FileDisk as SectorDisk>⟧.keeps_model disk) }
+    ensures synced { IfOk result (λ disk. (k : ℕ) → ⟦<FileDisk as SectorDisk>⟧.unsynced disk k → ⊥) }
 {
     match open_lengthened(rt, path, missing, length) {
         Ok(disk) => Ok(disk),
@@ -55,7 +55,8 @@ fn open_lengthened<R: Files<File = File>>(
     missing: Missing,
     length: u64,
 ) -> io::Result<FileDisk>
-    ensures { IfOk result (λ disk. (k : ℕ) → Unsynced disk.calls.notes k → ⊥) }
+    ensures kept { IfOk result (λ disk. ⟦<FileDisk as SectorDisk>⟧.keeps_model disk) }
+    ensures synced { IfOk result (λ disk. (k : ℕ) → ⟦<FileDisk as SectorDisk>⟧.unsynced disk k → ⊥) }
 {
     let mut options = OpenOptions::new();
     options

@@ -1,10 +1,12 @@
 //! The program that makes images.
-ghost use Rattle.std.specs.Prelude.{◌≡◌, ◌≤◌, IfOk};
+ghost use Rattle.std.specs.Prelude.{◌≡◌, ◌≤◌, ◌⊎◌, IfOk};
+ghost use Rattle.runner.specs.Programs.{MadeStore};
 
 use super::faults::{ProgramFault, report};
 use super::files::{Missing, open_disk};
 use super::sources::open_sources;
 use super::words::format_words;
+use disk_model::{FileDisk, SectorDisk};
 use file_store::{format, image_bytes};
 use std::fs::{File, Files};
 use std::io::{Read, Write};
@@ -22,7 +24,9 @@ pub fn pagefmt<R: Files<File = File> + AllocGlobal, I: Read, O: Write, X: Write>
     _writer: &mut O,
     errors: &mut X,
 ) -> u8
-    ensures { result ≤ 2 }
+    ensures statuses { result ≤ 2 }
+    ensures made { (result ≡ 1) ⊎ ((result ≡ 2) ⊎ ((result ≡ 0)
+        × MadeStore ⟦<FileDisk as SectorDisk>⟧ ⟦<File as Read>⟧.remaining)) }
 {
     report("pagefmt", format_image(rt, words), errors)
 }
@@ -31,7 +35,7 @@ fn format_image<'a, R: Files<File = File> + AllocGlobal>(
     rt: &R,
     words: &'a [String],
 ) -> Result<u8, ProgramFault<'a>>
-    ensures { IfOk result (λ status. status ≡ 0) }
+    ensures { IfOk result (λ status. (status ≡ 0) × MadeStore ⟦<FileDisk as SectorDisk>⟧ ⟦<File as Read>⟧.remaining) }
 {
     let words = format_words(rt.alloc(), words)?;
     let mut sources = open_sources(rt.alloc(), rt, words.specs.as_slice())?;

@@ -1,10 +1,13 @@
 //! The program that runs traces.
 ghost use Rattle.std.specs.Prelude.{◌≡◌, ◌≤◌, ◌⊎◌, IfOk};
+ghost use Rattle.runner.specs.Programs.{RanTrace};
+ghost use Rattle.runner.specs.Trace.{streams};
 
 use super::faults::{ProgramFault, report};
 use super::files::{Missing, open_disk};
 use super::words::run_words;
 use crate::engine::{RunEnd, run};
+use disk_model::{FileDisk, SectorDisk};
 use machine::Machine;
 use std::fs::{File, Files};
 use std::io::{Read, Write};
@@ -29,7 +32,9 @@ pub fn pagerun<R: Files<File = File> + AllocGlobal, I: Read, O: Write, X: Write>
     writer: &mut O,
     errors: &mut X,
 ) -> u8
-    ensures { result ≤ 3 }
+    ensures statuses { result ≤ 3 }
+    ensures ran { (result ≡ 1) ⊎ ((result ≡ 2) ⊎ RanTrace ⟦<FileDisk as SectorDisk>⟧ ⟦<FileDisk as SectorDisk>⟧ result
+        (streams (I.remaining reader.old) (O.contents writer.old)) (streams (I.remaining reader.new) (O.contents writer.new))) }
 {
     report("pagerun", run_image(rt, words, reader, writer), errors)
 }
@@ -40,7 +45,8 @@ fn run_image<'a, R: Files<File = File> + AllocGlobal, I: Read, O: Write>(
     reader: &mut I,
     writer: &mut O,
 ) -> Result<u8, ProgramFault<'a>>
-    ensures { IfOk result (λ status. (status ≡ 0) ⊎ (status ≡ 3)) }
+    ensures { IfOk result (λ status. RanTrace ⟦<FileDisk as SectorDisk>⟧ ⟦<FileDisk as SectorDisk>⟧ status
+        (streams (I.remaining reader.old) (O.contents writer.old)) (streams (I.remaining reader.new) (O.contents writer.new))) }
 {
     let words = run_words(rt.alloc(), words)?;
     let store = open_disk(rt, words.image, Missing::Refused, 0)?;

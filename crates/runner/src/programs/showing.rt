@@ -1,17 +1,18 @@
 //! The program that writes a file of an image out.
-ghost use Rattle.std.specs.Prelude.{◌≡◌, ◌≤◌, ◌<◌, ◌*◌, ◌-◌, ℕ, List, Option, Some, IfOk, IsErrOf, MatchResult, min, take};
+ghost use Rattle.std.specs.Prelude.{◌≡◌, ◌≤◌, ◌<◌, ◌⊎◌, ◌*◌, ◌-◌, ℕ, List, Option, Some, IfOk, IsErrOf, MatchResult, min, take};
 ghost use Rattle.std.specs.Io.KnownBytes.{Appends};
 ghost use Rattle.disk_model.specs.Moments.{Touches, Nothing};
 ghost use Rattle.vm_types.specs.declared.file.FileInfo.{FileInfo};
 ghost use Rattle.file_store.specs.Standing.{IsPageOf, StandsFor, bytes_of_pages, standing_page, standing_file};
 ghost use Rattle.file_store.specs.Store.{IsReady, files_of};
 ghost use Rattle.runner.specs.Bytes.{WritesBeginning};
+ghost use Rattle.runner.specs.Programs.{ShowedFile};
 
 use super::faults::{ProgramFault, report};
 use super::files::{Missing, open_disk};
 use super::words::cat_words;
 use crate::output_buffer::{WriteFault, write_bytes};
-use disk_model::{DiskFault, SectorDisk};
+use disk_model::{DiskFault, FileDisk, SectorDisk};
 use file_store::FileStore;
 use std::fs::{File, Files};
 use std::io::{Read, Write};
@@ -28,7 +29,9 @@ pub fn pagecat<R: Files<File = File> + AllocGlobal, I: Read, O: Write, X: Write>
     writer: &mut O,
     errors: &mut X,
 ) -> u8
-    ensures { result ≤ 2 }
+    ensures statuses { result ≤ 2 }
+    ensures shown { (result ≡ 1) ⊎ ((result ≡ 2) ⊎ ((result ≡ 0)
+        × ShowedFile ⟦<FileDisk as SectorDisk>⟧ (O.contents writer.old) (O.contents writer.new))) }
 {
     report("pagecat", show_file(rt, words, writer), errors)
 }
@@ -38,14 +41,12 @@ fn show_file<'a, R: Files<File = File> + AllocGlobal, O: Write>(
     words: &'a [String],
     writer: &mut O,
 ) -> Result<u8, ProgramFault<'a>>
-    ensures { IfOk result (λ status. status ≡ 0) }
+    ensures { IfOk result (λ status. (status ≡ 0) × ShowedFile ⟦<FileDisk as SectorDisk>⟧ (O.contents writer.old) (O.contents writer.new)) }
 {
     let words = cat_words(rt.alloc(), words)?;
     let disk = open_disk(rt, words.image, Missing::Refused, 0)?;
-    match show(disk, words.file, writer) {
-        Ok(_) => Ok(0),
-        Err(fault) => Err(fault),
-    }
+    let _store = show(disk, words.file, writer)?;
+    Ok(0)
 }
 
 /// Opens the image on a device that has nothing unsynced and writes the bytes of a file, as the image stood for them, to
