@@ -10,11 +10,10 @@ use crate::faults::FormatFault;
 use crate::layout::{
     DIRECTORY_SECTOR, GATE_SECTOR, MARK_SECTOR, SECTOR_BYTES, is_mark, mark_bytes,
 };
-use crate::pages::write_sectors;
 use crate::sources::{FileSource, directory_of, is_too_large};
 use disk_model::{DiskFault, SectorDisk};
 use std::io::Read;
-use sync_journal::{FIRST_HOME, PAGE_SECTORS};
+use sync_journal::{FIRST_HOME, PAGE_SECTORS, write_page};
 
 /// Makes a store of these files, which get numbers and homes in the order of the sources. Homes, directory and a
 /// closed gate are written and synced before the layout mark is, so that a stop leaves an image without the mark or a
@@ -135,7 +134,7 @@ fn write_file<D: SectorDisk, R: Read>(
     for k in 0..source.pages() {
         let mut page = [0; 4096];
         source.read_page(k, &mut page)?;
-        write_sectors(disk, FIRST_HOME + PAGE_SECTORS * (first + k), &page)?;
+        write_page(disk, FIRST_HOME + PAGE_SECTORS * (first + k), &page)?;
     }
     Ok(())
 }

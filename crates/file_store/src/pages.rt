@@ -1,10 +1,7 @@
 //! Pages of eight sectors.
-ghost use Rattle.std.specs.Prelude.{◌≡◌, ◌<◌, ◌≤◌, ◌+◌, ◌^◌, ℕ, [], OnOk, IsErr, length, replicate, slice_index_or};
+ghost use Rattle.std.specs.Prelude.{◌≡◌, ◌<◌, ◌≤◌, ◌+◌, ◌^◌, OnOk, length, replicate};
 ghost use Rattle.disk_model.specs.Stop.{HasCause};
 ghost use Rattle.disk_model.specs.Moments.{Touches, Nothing};
-ghost use Rattle.sync_journal.specs.Layout.{IsPageSector};
-ghost use Rattle.sync_journal.specs.Runs.{Runs};
-ghost use Rattle.sync_journal.specs.Standing.{sector_of};
 ghost use Rattle.file_store.specs.Layout.{trimmed, joined};
 
 use crate::layout::{PAGE_SECTORS, SECTOR_BYTES};
@@ -31,32 +28,6 @@ pub(crate) fn read_sectors<D: SectorDisk>(
         to[at..at + SECTOR_BYTES].copy_from_slice(&sector);
     }
     Ok(())
-}
-
-/// Writes the eight sectors from `first` on.
-pub(crate) fn write_sectors<D: SectorDisk>(
-    disk: &mut D,
-    first: u64,
-    page: &[u8; 4096],
-) -> Result<(), DiskFault>
-    requires room { first + 8 ≤ D.sector_count disk.old }
-    requires fits { first < 2 ^ 60 }
-    ensures run { Runs D.SectorDisk (IsPageSector first) disk.old disk.new }
-    ensures failed { IsErr result → D.failures disk.old < D.failures disk.new }
-    ensures written { D.keeps_model disk.new → OnOk result ((i : ℕ) → i < 8 → D.content disk.new (first + i) ≡ sector_of page.now i) }
-{
-    for (i, sector) in sectors_of(page).iter().enumerate() {
-        disk.write(first + i as u64, sector)?;
-    }
-    Ok(())
-}
-
-/// The eight sectors of a page.
-fn sectors_of(page: &[u8; 4096]) -> &[[u8; 512]]
-    ensures len { length result.now ≡ 8 }
-    ensures each { (i : ℕ) → i < 8 → slice_index_or result.now i [] ≡ sector_of page.now i }
-{
-    page.as_chunks::<512>().0
 }
 
 /// Leaves the first `inside` bytes of a page, and puts zeros in place of the others.

@@ -30,6 +30,7 @@ mod stage;
 pub use commits::Journal;
 pub use faults::{CommitFault, RecoverFault};
 pub use layout::{FIRST_HOME, MAX_HOMES, PAGE_LIMIT, PAGE_SECTORS, home_count};
+pub use pages::write_page;
 pub use recovery::recover;
 pub use source::{PageSource, SourceFault};
 

@@ -7,8 +7,11 @@ ghost use Rattle.sync_journal.specs.Standing.{sector_of};
 use crate::layout::PAGE_SECTORS;
 use disk_model::{DiskFault, SectorDisk};
 
-/// Writes a page into the eight sectors from `first` on.
-pub(crate) fn write_page<D: SectorDisk>(
+/// Writes a page into the eight sectors from `first` on, in their order, and syncs nothing.
+///
+/// # Errors
+/// Where a write fails, the first one ends the call. It comes only where the device failed in this call.
+pub fn write_page<D: SectorDisk>(
     disk: &mut D,
     first: u64,
     page: &[u8; 4096],

@@ -12,14 +12,14 @@ pub loop-k-preserved : goal.loop-k-preserved
 loop-k-preserved g c =
     let inv = c.loop-k.invariant in
     let r = c.in_ok-read_page.ensures in
-    let w = c.write_sectors.ensures in
+    let w = c.write_page.ensures in
     let remaining = g.R.Read.remaining in
     let content = g.D.SectorDisk.content in
     let length : c.loop-k.source.length ≡ c.args.source.now.length = ap (λ i. i.length) inv.info in
     let more : 4096 * c.loop-k.k < c.args.source.now.length = omega (arith, c.loop-k-test.true, c.pages-k-end.ensures.count) in
     record {
-      run = one_more g.D.SectorDisk (IsFrom (home_sector c.args.first)) c.args.disk.now c.loop-k.disk c.write_sectors.new.disk inv.run
-          (of_more g.D.SectorDisk (IsPageSector (1020 + 8 * (c.args.first + c.loop-k.k))) (IsFrom (home_sector c.args.first)) c.loop-k.disk c.write_sectors.new.disk
+      run = one_more g.D.SectorDisk (IsFrom (home_sector c.args.first)) c.args.disk.now c.loop-k.disk c.write_page.new.disk inv.run
+          (of_more g.D.SectorDisk (IsPageSector (1020 + 8 * (c.args.first + c.loop-k.k))) (IsFrom (home_sector c.args.first)) c.loop-k.disk c.write_page.new.disk
           (λ k inside. omega (arith, inside.0)) w.run);
       info = c.read_page.ensures.info ∙ inv.info;
       left = λ told is.
@@ -35,8 +35,8 @@ loop-k-preserved g c =
           ∙ ap (λ n. trimmed (bytes_inside n c.loop-k.k) (drop (min c.args.source.now.length (4096 * c.loop-k.k)) told.bytes)) length
           ∙ ap (λ n. trimmed (bytes_inside c.args.source.now.length c.loop-k.k) (drop n told.bytes)) reached
           ∙ sym told.page_is in
-          ap (λ n. content c.write_sectors.new.disk (home_sector (c.args.first + n) + i)) same
-          ∙ c.in_ok-write_sectors.ensures.written keeps i inside
+          ap (λ n. content c.write_page.new.disk (home_sector (c.args.first + n) + i)) same
+          ∙ c.in_ok-write_page.ensures.written keeps i inside
           ∙ ap (λ (p : List ℕ). sector_of p i) page_is)
           (λ other.
           let mid = w.run.kept keeps in
