@@ -79,3 +79,20 @@ pub run_of_row : (first pages : ℕ) (attr : Attr) → 0 < pages → 16 ≤ firs
 run_of_row first pages attr some low high fits =
     let d : pages ≡ (first + pages) - first = omega arith in
     record { low = low; nonempty = omega arith; high = high; file_pages = subst (λ (n : ℕ). backing_fits attr.backing n) d fits }
+
+-- the same of the maps that the finished lists stand for
+pub many_removed : (runs : List Run) (first pages : ℕ) → IsMaximal 16 runs → 256 < length (list_removed runs first (first + pages)) → 256 < run_count (removed (attr_at runs) first pages)
+many_removed runs first pages m l = subst (λ (n : ℕ). 256 < n) (sym (count_removed runs first pages m)) l
+
+pub many_removed_front : (runs : List Run) (first pages : ℕ) → IsMaximal 16 runs → 256 < length (pasted 0 first None [] runs) → 256 < run_count (removed (attr_at runs) first pages)
+many_removed_front runs first pages m l = many_removed runs first pages m (long_removed runs first (first + pages) m (omega arith) l)
+
+module _ (runs : List Run) (first pages : ℕ) (attr : Attr) (m : IsMaximal 16 runs) (r : IsRun (row_run first pages attr)) where
+  pub many_replaced : 256 < length (list_replaced runs (row_run first pages attr)) → 256 < run_count (replaced (attr_at runs) first pages attr)
+  many_replaced l = subst (λ (n : ℕ). 256 < n) (sym (count_replaced runs first pages attr m r)) l
+
+  pub many_replaced_front : 256 < length (pasted 0 first None [] runs) → 256 < run_count (replaced (attr_at runs) first pages attr)
+  many_replaced_front l = many_replaced (long_replaced_front runs (row_run first pages attr) m r l)
+
+  pub many_replaced_middle : 256 < length (pushed (pasted 0 first None [] runs) (row_run first pages attr)) → 256 < run_count (replaced (attr_at runs) first pages attr)
+  many_replaced_middle l = many_replaced (long_replaced runs (row_run first pages attr) m r l)

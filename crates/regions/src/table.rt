@@ -35,7 +35,7 @@ impl Regions {
     ghost use Rattle.vm_types.specs.Rows.{IsUserMap, is_covered, protected, removed, replaced};
     ghost use Rattle.vm_types.specs.Runs.{run_count};
     ghost use Rattle.regions.specs.Run.{IsRun};
-    ghost use Rattle.regions.specs.RunList.{attr_at, end_of, IsMaximal, IsNextRun, joins_last, list_protected, list_removed, list_replaced, pasted, pushed};
+    ghost use Rattle.regions.specs.RunList.{attr_at, end_of, IsMaximal, IsNextRun, joins_last, pasted, pushed};
     ghost use Rattle.regions.specs.Search.{first_part, gap_from, is_clear, lowest_gap, runs_behind};
 
     /// No page is mapped.
@@ -221,13 +221,7 @@ impl Regions {
         ensures err { OnErr result (self.new ≡ self.old) }
         ensures user { IsUserMap (attr_at self.new) }
     {
-        let run = Run {
-            first,
-            end: first + pages,
-            attr,
-        };
-        let next = self.replaced(run)?;
-        *self = next;
+        *self = self.replaced(first, pages, attr)?;
         Ok(())
     }
 
@@ -242,8 +236,7 @@ impl Regions {
         ensures err { OnErr result (self.new ≡ self.old) }
         ensures user { IsUserMap (attr_at self.new) }
     {
-        let next = self.removed(first, first + pages)?;
-        *self = next;
+        *self = self.removed(first, pages)?;
         Ok(())
     }
 
@@ -258,43 +251,57 @@ impl Regions {
         ensures err { OnErr result (self.new ≡ self.old) }
         ensures user { IsUserMap (attr_at self.new) }
     {
-        let next = self.protected(first, pages, prot)?;
-        *self = next;
+        *self = self.protected(first, pages, prot)?;
         Ok(())
     }
 
-    /// The runs with this one in the place of its pages.
-    fn replaced(&self, run: Run) -> Result<Regions, TooManyRuns>
-        requires { IsRun run }
-        ensures ok { IfOk result (λ next. next ≡ list_replaced self.now run) }
-        ensures few { IfOk result (λ next. length next ≤ 256) }
-        ensures maximal { IsMaximal 16 self.now }
-        ensures err { OnErr result (256 < length (list_replaced self.now run)) }
+    /// The map with the `pages` pages from `first` on mapped anew, as `replace` maps them.
+    /// `TooManyRuns` exactly where it would have more than 256 runs.
+    pub fn replaced(&self, first: u64, pages: u64, attr: Attr) -> Result<Regions, TooManyRuns>
+        requires some { 0 < pages }
+        requires low { 16 ≤ first }
+        requires high { first + pages ≤ 2 ^ 26 }
+        requires file_pages { backing_fits attr.backing pages }
+        ensures ok { IfOk result (λ next. (page : ℕ) → attr_at next page ≡ replaced (attr_at self.now) first pages attr page) }
+        ensures few { OnOk result (run_count (replaced (attr_at self.now) first pages attr) ≤ 256) }
+        ensures too_many { OnErr result (256 < run_count (replaced (attr_at self.now) first pages attr)) }
+        ensures user_before { IsUserMap (attr_at self.now) }
+        ensures user_after { IfOk result (λ next. IsUserMap (attr_at next)) }
     {
+        let run = Run {
+            first,
+            end: first + pages,
+            attr,
+        };
         let mut next = Regions::empty();
-        next.paste(self.as_slice(), 0, run.first, None)?;
+        next.paste(self.as_slice(), 0, first, None)?;
         next.push(run)?;
         next.paste(self.as_slice(), run.end, USER_END, None)?;
         Ok(next)
     }
 
-    /// The runs without the pages from `first` up to, not including, `end`.
-    fn removed(&self, first: u64, end: u64) -> Result<Regions, TooManyRuns>
-        requires { first ≤ end }
-        ensures ok { IfOk result (λ next. next ≡ list_removed self.now first end) }
-        ensures few { IfOk result (λ next. length next ≤ 256) }
-        ensures maximal { IsMaximal 16 self.now }
-        ensures err { OnErr result (256 < length (list_removed self.now first end)) }
+    /// The map without the `pages` pages from `first` on; a page that isn't mapped is no error.
+    /// `TooManyRuns` exactly where it would have more than 256 runs.
+    pub fn removed(&self, first: u64, pages: u64) -> Result<Regions, TooManyRuns>
+        requires some { 0 < pages }
+        requires row { first + pages < 2 ^ 64 }
+        ensures ok { IfOk result (λ next. (page : ℕ) → attr_at next page ≡ removed (attr_at self.now) first pages page) }
+        ensures few { OnOk result (run_count (removed (attr_at self.now) first pages) ≤ 256) }
+        ensures too_many { OnErr result (256 < run_count (removed (attr_at self.now) first pages)) }
+        ensures user_before { IsUserMap (attr_at self.now) }
+        ensures user_after { IfOk result (λ next. IsUserMap (attr_at next)) }
     {
         let mut next = Regions::empty();
         next.paste(self.as_slice(), 0, first, None)?;
-        next.paste(self.as_slice(), end, USER_END, None)?;
+        next.paste(self.as_slice(), first + pages, USER_END, None)?;
         Ok(next)
     }
 
-    /// The runs with another permission for those of the `pages` pages from `first` on that are mapped.
-    fn protected(&self, first: u64, pages: u64, prot: Prot) -> Result<Regions, TooManyRuns>
-        requires { first + pages < 2 ^ 64 }
+    /// The map with the permission for those of the `pages` pages from `first` on that are mapped.
+    /// `TooManyRuns` exactly where it would have more than 256 runs.
+    pub fn protected(&self, first: u64, pages: u64, prot: Prot) -> Result<Regions, TooManyRuns>
+        requires some { 0 < pages }
+        requires row { first + pages < 2 ^ 64 }
         ensures ok { IfOk result (λ next. (page : ℕ) → attr_at next page ≡ protected (attr_at self.now) first pages prot page) }
         ensures few { OnOk result (run_count (protected (attr_at self.now) first pages prot) ≤ 256) }
         ensures too_many { OnErr result (256 < run_count (protected (attr_at self.now) first pages prot)) }

@@ -55,6 +55,21 @@ fn anonymous_pages_split_and_merge(rt: HostRuntime) -> Result<(), Fail> {
 }
 
 #[test]
+fn changed_maps_leave_the_old_one(rt: HostRuntime) -> Result<(), Fail> {
+    let nothing = Regions::new();
+    let mapped = nothing.replaced(0x20, 5, anonymous(Prot::READ))?;
+    let executable = mapped.protected(0x22, 1, Prot::EXECUTE)?;
+    let cut = executable.removed(0x21, 2)?;
+    assert_eq!(rt; nothing.runs(), 0);
+    assert_eq!(rt; mapped.runs(), 1);
+    assert_eq!(rt; executable.runs(), 3);
+    assert_eq!(rt; cut.runs(), 2);
+    assert!(rt; cut.covers(0x23, 2));
+    assert!(rt; !cut.covers(0x21, 1));
+    Ok(())
+}
+
+#[test]
 fn file_pages_that_follow_one_another_are_one_run(rt: HostRuntime) -> Result<(), Fail> {
     let read_write = Prot::READ | Prot::WRITE;
     let mut regions = Regions::new();

@@ -198,12 +198,8 @@ fn planned(
     if is_taken(regions, first, pages, placing) {
         return Err(Errno::EEXIST);
     }
-    let mut next = regions.copied();
-    match next.replace(first, pages, attr) {
-        Ok(()) => Ok(Plan {
-            first,
-            regions: next,
-        }),
+    match regions.replaced(first, pages, attr) {
+        Ok(regions) => Ok(Plan { first, regions }),
         Err(TooManyRuns) => Err(Errno::ENOMEM),
     }
 }

@@ -90,9 +90,8 @@ fn permitted<D: SectorDisk>(
     if denies_stores(store, regions, first, pages, prot) {
         return Err(Errno::EACCES);
     }
-    let mut next = regions.copied();
-    match next.protect(first, pages, prot.kept()) {
-        Ok(()) => Ok(next),
+    match regions.protected(first, pages, prot.kept()) {
+        Ok(next) => Ok(next),
         Err(TooManyRuns) => Err(Errno::ENOMEM),
     }
 }
@@ -117,9 +116,8 @@ pub fn munmap<D: SectorDisk, E>(core: &mut Core<D, E>, pid: u64, addr: u64, len:
     }
     let first = addr / PAGE;
     let pages = len.div_ceil(PAGE);
-    let mut next = regions_of(core, pid).copied();
-    match next.remove(first, pages) {
-        Ok(()) => {
+    match regions_of(core, pid).removed(first, pages) {
+        Ok(next) => {
             let start = first.min(USER_END);
             let end = (first + pages).min(USER_END);
             remap(core, pid, start, end - start, next);

@@ -1,5 +1,4 @@
-use Rattle.std.proofs.Common.{ℕ, ◌+◌, ◌-◌, ◌/◌, ◌%◌, ◌≡◌, ◌≢◌, ◌<◌, ◌≤◌, ◌^◌, min, List, sym, subst, arith}
-use Rattle.regions.specs.declared.run.Run.{Run}
+use Rattle.std.proofs.Common.{ℕ, ◌+◌, ◌-◌, ◌/◌, ◌%◌, ◌≡◌, ◌≢◌, ◌<◌, ◌≤◌, ◌^◌, min, subst, arith}
 use Rattle.regions.specs.RunList.{attr_at}
 use Rattle.regions.proofs.PermissionLemmas.{reads_removed, reads_same}
 use Rattle.ranges.specs.Rows.{RemapsRow}
@@ -14,19 +13,17 @@ pub remap-requires-clause-others : goal.remap-requires-clause-others
 remap-requires-clause-others g c =
     let old = picture_of c.args.core.now in
     let runs = c.regions_of.result.now in
-    let map : (page : ℕ) → attr_at c.remove.new.self page ≡ removed (attr_at runs) (c.args.addr / 4096) c.div_ceil-pages.result page =
-    subst (λ (l : List Run). (page : ℕ) → attr_at c.remove.new.self page ≡ removed (attr_at l) (c.args.addr / 4096) c.div_ceil-pages.result page) c.copied-next.ensures c.in-Ok.ensures.ok in
+    let map : (page : ℕ) → attr_at c.in-Ok.next page ≡ removed (attr_at runs) (c.args.addr / 4096) c.div_ceil-pages.result page = c.in-Ok.ensures.ok in
     others_stay (c.args.addr / 4096) c.div_ceil-pages.result c.min-start.result (c.min-end.result - c.min-start.result) (omega (arith, c.min-start.ensures)) (omega (arith, c.min-end.ensures))
-    old c.in-Some.pid runs c.remove.new.self (c.requires.sound.fit.granting.user c.in-Some.pid) c.regions_of.ensures map
+    old c.in-Some.pid runs c.in-Ok.next (c.requires.sound.fit.granting.user c.in-Some.pid) c.regions_of.ensures map
 
 pub remap-requires-clause-readable : goal.remap-requires-clause-readable
 remap-requires-clause-readable g c =
     let old = picture_of c.args.core.now in
-    let runs = c.copied-next.result in
-    reads_same (removed (attr_at runs) (c.args.addr / 4096) c.div_ceil-pages.result) (attr_at c.remove.new.self) c.in-Ok.ensures.ok
+    let runs = c.regions_of.result.now in
+    reads_same (removed (attr_at runs) (c.args.addr / 4096) c.div_ceil-pages.result) (attr_at c.in-Ok.next) c.in-Ok.ensures.ok
     (reads_removed (attr_at runs) (c.args.addr / 4096) c.div_ceil-pages.result
-    (reads_same (old.at c.in-Some.pid) (attr_at runs)
-    (subst (λ (l : List Run). (page : ℕ) → attr_at l page ≡ old.at c.in-Some.pid page) (sym c.copied-next.ensures) c.regions_of.ensures)
+    (reads_same (old.at c.in-Some.pid) (attr_at runs) c.regions_of.ensures
     (c.requires.sound.fit.granting.readable c.in-Some.pid)))
 
 pub returns-in-Ok-clause-comes : goal.returns-in-Ok-clause-comes
@@ -40,16 +37,14 @@ returns-in-Ok-clause-comes g c = λ s shows reads.
     let size = c.min-end.result - c.min-start.result in
     let count : pages ≡ page_count a.len = omega (arith, c.div_ceil-pages.ensures) in
     let same : c.in-Some.pid ≡ a.pid = c.in-Some.ensures.found.0 in
-    let few : run_count (removed (attr_at runs) first pages) ≤ 256 =
-    subst (λ (l : List Run). run_count (removed (attr_at l) first pages) ≤ 256) c.copied-next.ensures c.in-Ok.ensures.few in
-    let map : (page : ℕ) → attr_at c.remove.new.self page ≡ removed (attr_at runs) first pages page =
-    subst (λ (l : List Run). (page : ℕ) → attr_at c.remove.new.self page ≡ removed (attr_at l) first pages page) c.copied-next.ensures c.in-Ok.ensures.ok in
+    let few : run_count (removed (attr_at runs) first pages) ≤ 256 = c.in-Ok.ensures.few in
+    let map : (page : ℕ) → attr_at c.in-Ok.next page ≡ removed (attr_at runs) first pages page = c.in-Ok.ensures.ok in
     unmaps g.D.SectorDisk a.core.now s a.pid a.addr a.len shows.pages c.in-Some.ensures.found.1
     (let some : a.len ≢ 0 = omega arith in some) (let aligned : a.addr % 4096 ≡ 0 = omega arith in aligned)
     runs (subst (λ (p : ℕ). (page : ℕ) → attr_at runs page ≡ old.at p page) same c.regions_of.ensures) pages count
-    few c.remove.new.self map (c.requires.sound.fit.granting.user a.pid) start size
+    few c.in-Ok.next map (c.requires.sound.fit.granting.user a.pid) start size
     (let from : start ≡ min first (2 ^ 26) = c.min-start.ensures in from) (let to : size ≡ min (first + pages) (2 ^ 26) - start = omega (arith, c.min-end.ensures) in to)
-    c.remap.new.core (subst (λ (p : ℕ). RemapsRow old (picture_of c.remap.new.core) p start size (attr_at c.remove.new.self)) same c.remap.ensures.row)
+    c.remap.new.core (subst (λ (p : ℕ). RemapsRow old (picture_of c.remap.new.core) p start size (attr_at c.in-Ok.next)) same c.remap.ensures.row)
 
 pub returns-in-Err-clause-comes : goal.returns-in-Err-clause-comes
 returns-in-Err-clause-comes g c = λ s shows reads.
@@ -59,8 +54,7 @@ returns-in-Err-clause-comes g c = λ s shows reads.
     let pages = c.div_ceil-pages.result in
     let first = a.addr / 4096 in
     let count : pages ≡ page_count a.len = omega (arith, c.div_ceil-pages.ensures) in
-    let many : 256 < run_count (removed (attr_at runs) first pages) =
-    subst (λ (l : List Run). 256 < run_count (removed (attr_at l) first pages)) c.copied-next.ensures c.in-Err.ensures.too_many in
+    let many : 256 < run_count (removed (attr_at runs) first pages) = c.in-Err.ensures.too_many in
     refused_many g.D.SectorDisk a.core.now s a.pid a.addr a.len shows.pages c.in-Some.ensures.found.1
     (let some : a.len ≢ 0 = omega arith in some) (let aligned : a.addr % 4096 ≡ 0 = omega arith in aligned)
     runs (subst (λ (p : ℕ). (page : ℕ) → attr_at runs page ≡ old.at p page) c.in-Some.ensures.found.0 c.regions_of.ensures) pages count many
