@@ -1,9 +1,16 @@
 -- How runs of device calls go on.
-use Rattle.std.proofs.Common.{inl, inr, ⊎_elim, ◌≡◌, ◌⊎◌, ◌≤◌, ℕ, refl, sym, ap, subst, ◌∙◌, arith}
-use Rattle.std.proofs.lemmas.Bool.{cases_eq}
-use Rattle.disk_model.specs.Stop.{Image, MayLeave, ChangesOnly, Elapses}
+use Rattle.std.proofs.Common.{inl, inr, ⊎_elim, ◌≡◌, ◌⊎◌, ◌≤◌, ◌+◌, ℕ, refl, sym, ap, subst, ◌∙◌, arith}
+use Rattle.std.proofs.lemmas.Bool.{cases_eq, cases_lt}
+use Rattle.disk_model.specs.Stop.{Image, MayLeave, ChangesOnly, ChangesPage, IsOfPage, Elapses}
 use Rattle.disk_model.specs.Moments.{Nothing, Touches, LeavesNow, LeavesOnly}
 use Rattle.disk_model.specs.declared.sector_disk.SectorDisk.{Ghosts}
+
+-- a sector is of a page or not
+of_page : (n k : ℕ) → IsOfPage n k ⊎ (IsOfPage n k → ⊥)
+of_page n k = ⊎_elim
+    (λ before. inr (λ inside. omega (arith, before, inside.0)))
+    (λ from. ⊎_elim (λ inside. inl (from, inside)) (λ behind. inr (λ inside. omega (arith, behind, inside.1))) (cases_lt k (n + 8)))
+    (cases_lt k n)
 
 module _ {D : Type 0} (g : Ghosts D) where
   -- no call at all
@@ -67,6 +74,26 @@ module _ {D : Type 0} (g : Ghosts D) where
 
       marked : (k : ℕ) → g.unsynced new k → g.unsynced old k ⊎ W k
       marked k u = ⊎_elim (λ o. inl o) (λ e. inr (here k e)) (marks k u)
+
+  -- a page written to sectors of W
+  pub after_page : (W : ℕ → Type 0) (n : ℕ) (old new : D) → ((k : ℕ) → IsOfPage n k → W k) → ChangesPage n (g.content old) (g.content new)
+      → ((k : ℕ) → g.unsynced new k → g.unsynced old k ⊎ IsOfPage n k)
+      → Elapses (g.moment old) (g.moment new) (g.left_since old) (g.left_since new) (g.content new) (g.unsynced new)
+      → Touches g W old new
+  after_page W n old new inside changes marks time = record {
+    content = same;
+    unsynced = marked;
+    later = time.later;
+    moments = λ t c le left. ⊎_elim (λ o. inl o)
+        (λ may. inr (record { kept = λ k. ⊎_elim (λ u. inl (marked k u)) (λ e. ⊎_elim (λ w. inl (inr w)) (λ e'. inr (e ∙ e')) (same k)) (may.kept k) }))
+        (time.nothing_else t c le left);
+  }
+    where
+      same : (k : ℕ) → W k ⊎ (g.content new k ≡ g.content old k)
+      same k = ⊎_elim (λ w. inl (inside k w)) (λ out. inr (changes.others k out)) (of_page n k)
+
+      marked : (k : ℕ) → g.unsynced new k → g.unsynced old k ⊎ W k
+      marked k u = ⊎_elim (λ o. inl o) (λ w. inr (inside k w)) (marks k u)
 
   -- a read or a sync
   pub after_none : (W : ℕ → Type 0) (old new : D) → g.content new ≡ g.content old

@@ -1,6 +1,6 @@
 -- What a file holds and what a stop may leave of it, told from the calls noted on it, the newest first.
--- After POSIX pread(2), pwrite(2) and fsync(2).
-use Rattle.std.specs.Prelude.{◌≡◌, ◌⊎◌, ◌≤◌, ℕ, ◌+◌, Bool, false, not, ◌&&◌, ◌||◌, ◌==◌, if◌then◌else◌, IsTrue, List, [], ◌∷◌, length, slice_index, slice_index_or}
+-- After POSIX pread(2), pwrite(2) and fdatasync(2).
+use Rattle.std.specs.Prelude.{◌≡◌, ◌⊎◌, ◌≤◌, ℕ, ◌+◌, ◌-◌, nat_lt, Bool, false, not, ◌&&◌, ◌||◌, ◌==◌, if◌then◌else◌, IsTrue, List, [], ◌∷◌, length, slice_index, slice_index_or}
 use Rattle.std.proofs.Common.{inl, ⊎_elim, arith}
 use Rattle.disk_model.specs.Note.{Note}
 use Rattle.disk_model.specs.Stop.{Image, MayLeave}
@@ -18,8 +18,12 @@ is_sync call = slice_index call.0 0 == 2
 abbrev pub sector_called : Note → ℕ
 sector_called call = slice_index call.0 1
 
-abbrev pub bytes_moved : Note → List ℕ
-bytes_moved call = slice_index_or call.1 0 []
+-- a call of several sectors has them from that one on
+abbrev pub concerns : Note → ℕ → Bool
+concerns call k = not (nat_lt k (sector_called call)) && nat_lt k (sector_called call + length call.1)
+
+abbrev pub bytes_moved : Note → ℕ → List ℕ
+bytes_moved call k = slice_index_or call.1 (k - sector_called call) []
 
 abbrev pub succeeded : Note → Bool
 succeeded call = slice_index_or call.2 0 false
@@ -37,25 +41,27 @@ failed_calls (call ∷ earlier) = if succeeded call then failed_calls earlier el
 abbrev pub is_unsynced : List Note → ℕ → Bool
 is_unsynced [] k = false
 is_unsynced (call ∷ earlier) k =
-    if is_write call then (k == sector_called call) || is_unsynced earlier k
+    if is_write call then concerns call k || is_unsynced earlier k
     else (if is_sync call && succeeded call && not (is_lost earlier) then false else is_unsynced earlier k)
 
 -- the sectors written since the last sync that counts
 abbrev pub Unsynced : List Note → ℕ → Type 0
 Unsynced calls k = IsTrue (is_unsynced calls k)
 
--- Over what each sector held at first, and what a write that failed left in its sector, by the number of calls before it.
-module _ (at_first : Image) (after_fault : Image) where
+-- Over what each sector held at first, and what a write that failed left in its sectors, by the number of calls before it.
+module _ (at_first : Image) (after_fault : ℕ → Image) where
   -- what each sector holds
   abbrev pub held : List Note → Image
   held [] k = at_first k
   held (call ∷ earlier) k =
-      if is_write call && k == sector_called call then (if succeeded call then bytes_moved call else after_fault (length earlier)) else held earlier k
+      if is_write call && concerns call k then (if succeeded call then bytes_moved call k else after_fault (length earlier) k) else held earlier k
 
-  -- Each read that succeeded gave what was held: the calls are those of an honest file.
+  -- Each read that succeeded gave what was held: the calls are those of an honest file. It speaks of reads alone. Writes and
+  -- syncs may have answered anything, and what a stop leaves is no call: that it is what LeftAfter says is defined here, and
+  -- taken of the system and its disk.
   abbrev pub IsHonest : List Note → Type 0
   IsHonest [] = Unit {0}
-  IsHonest (call ∷ earlier) = IsHonest earlier × (IsTrue (is_read call && succeeded call) → bytes_moved call ≡ held earlier (sector_called call))
+  IsHonest (call ∷ earlier) = IsHonest earlier × (IsTrue (is_read call && succeeded call) → (k : ℕ) → IsTrue (concerns call k) → bytes_moved call k ≡ held earlier k)
 
   -- what a stop after some call from the t-th on might have left
   abbrev pub LeftAfter : List Note → ℕ → Image → Type 0

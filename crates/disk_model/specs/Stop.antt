@@ -1,6 +1,6 @@
 -- What a device holds, and what a stop may leave in it.
 -- After POSIX write(2) and fsync(2): until a sync succeeds, nothing is known of what a stop leaves where a write was made.
-use Rattle.std.specs.Prelude.{ℕ, List, ◌≡◌, ◌≢◌, ◌⊎◌, ◌≤◌, ◌<◌, Result, IsErr}
+use Rattle.std.specs.Prelude.{ℕ, List, take, drop, ◌+◌, ◌*◌, ◌≡◌, ◌≢◌, ◌⊎◌, ◌≤◌, ◌<◌, Result, OnOk, IsErr}
 
 -- the bytes of each sector
 abbrev pub Image : Type 0
@@ -14,13 +14,26 @@ pub record MayLeave (content : Image) (unsynced : ℕ → Type 0) (image : Image
 pub record ChangesOnly (n : ℕ) (old new : Image) : Type 0 where
   pub others : (k : ℕ) → k ≢ n → new k ≡ old k
 
+-- one of the eight sectors of the page that begins at sector n
+abbrev pub IsOfPage : ℕ → ℕ → Type 0
+IsOfPage n k = (n ≤ k) × (k < n + 8)
+
+-- sector i of a page of 4,096 bytes
+abbrev pub part_of : List ℕ → ℕ → List ℕ
+part_of page i = take 512 (drop (512 * i) page)
+
+-- no sector but those of the page at n holds other bytes
+pub record ChangesPage (n : ℕ) (old new : Image) : Type 0 where
+  pub others : (k : ℕ) → (IsOfPage n k → ⊥) → new k ≡ old k
+
 -- Time goes on: a stop since t might have left what it might have left before, or what it may leave now.
 pub record Elapses (before now : ℕ) (past since : ℕ → Image → Type 0) (content : Image) (unsynced : ℕ → Type 0) : Type 0 where
   pub later : before ≤ now
   pub nothing_else : (t : ℕ) (c : Image) → t ≤ before → since t c → past t c ⊎ MayLeave content unsynced c
   pub keeps : (t : ℕ) (c : Image) → t ≤ before → past t c → since t c
 
--- An error is told only where the device failed in this call.
+-- An error is told exactly where the device failed in this call.
 pub record HasCause {T E : Type 0} (before now : ℕ) (result : Result T E) : Type 0 where
   pub later : before ≤ now
   pub failed : IsErr result → before < now
+  pub calm : OnOk result (now ≡ before)

@@ -4,6 +4,7 @@ ghost use Rattle.disk_model.specs.Unknown.{unknown_bytes};
 ghost use Rattle.disk_model.specs.FileRecord.{is_lost};
 
 use crate::ghost_data::Log;
+use crate::sim_disk::parts;
 use crate::{DiskFault, SECTOR_BYTES, SectorDisk};
 use std::fs::File;
 use std::io;
@@ -25,8 +26,8 @@ pub trait FileContents: Drop {
     /// The bytes of each sector as the file was opened.
     ghost at_first: { ℕ → List ℕ };
 
-    /// The bytes that a failed write leaves in its sector, by the number of calls before it.
-    ghost after_fault: { ℕ → List ℕ };
+    /// The bytes that a failed write leaves in each of its sectors, by the number of calls before it.
+    ghost after_fault: { ℕ → ℕ → List ℕ };
 }
 
 /// For programs to name. No proof can tell which bytes these are.
@@ -36,15 +37,18 @@ pub struct Unknown;
 impl FileContents for Unknown {
     ghost at_first = { unknown_bytes };
 
-    ghost after_fault = { unknown_bytes };
+    ghost after_fault = { λ call. unknown_bytes };
 }
 
 /// A device in a file: sector `n` is the file's 512 bytes from byte `512 n` on, by `pread`, `pwrite` and
-/// `fsync`. Its model is told from the record of its calls and their answers, which contracts alone see.
+/// `fdatasync`. Its model is told from the record of its calls and their answers, which contracts alone see.
 ///
-/// That the file keeps the model cannot be proved of any real file. It is a premise of what is promised of the
-/// contents: each read gave what the last write of its sector took, and a stop leaves what
-/// `SectorDisk::left_since` says.
+/// That the file keeps the model cannot be proved of any real file, and is a premise of what is promised of the contents.
+/// `keeps_model` speaks of reads alone: each read that succeeded gave, in each of its sectors, what the last write of that
+/// sector took (what `FileContents` says, where that write failed or there was none). Of stops it says nothing, since no
+/// record of calls can show them: which bytes a stop may leave is defined from the record. That a file which really
+/// stopped holds such bytes, and so that a successful sync had reached the disk and that no other sector changed, is taken
+/// of the system and its disk.
 #[derive(Drop)]
 pub struct FileDisk<C: FileContents = Unknown> {
     file: File,
@@ -56,6 +60,7 @@ pub struct FileDisk<C: FileContents = Unknown> {
     ghost lost_by_calls: { lost ≡ is_lost calls.notes },
 }
 
+/// What a call answers that the system carried out, or didn't.
 fn answer(done: bool) -> Result<(), DiskFault>
     ensures { is_ok result ≡ done }
 {
@@ -126,9 +131,22 @@ impl<C: FileContents> SectorDisk for FileDisk<C> {
         answer(done)
     }
 
-    /// After a failed sync all later ones fail: the system may then take pages for written that are not.
+    fn read_page(&mut self, n: u64, to: &mut [u8; 4096]) -> Result<(), DiskFault> {
+        let done = self.file.read_exact_at(to, n * SECTOR).is_ok();
+        self.calls.note(&[READ, n], parts(to), &[done]);
+        answer(done)
+    }
+
+    fn write_page(&mut self, n: u64, from: &[u8; 4096]) -> Result<(), DiskFault> {
+        let done = self.file.write_all_at(from, n * SECTOR).is_ok();
+        self.calls.note(&[WRITE, n], parts(from), &[done]);
+        answer(done)
+    }
+
+    /// By `fdatasync`, as the file's length never changes. After a failed sync all later ones fail: the system may then take
+    /// pages for written that are not.
     fn sync(&mut self) -> Result<(), DiskFault> {
-        let done = !self.lost && self.file.sync_all().is_ok();
+        let done = !self.lost && self.file.sync_data().is_ok();
         self.lost = !done;
         self.calls.note(&[SYNC, 0], &[], &[done]);
         answer(done)

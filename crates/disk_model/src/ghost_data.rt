@@ -45,7 +45,7 @@ impl Model for Log {
 
 impl Log {
     /// Nothing has been noted yet.
-    pub(crate) fn new() -> Log
+    pub fn new() -> Log
         ensures { result.notes ≡ [] }
     {
         Log {
@@ -54,7 +54,7 @@ impl Log {
     }
 
     /// Notes these values.
-    pub(crate) fn note(&mut self, _numbers: &[u64], _rows: &[[u8; 512]], _marks: &[bool])
+    pub fn note(&mut self, _numbers: &[u64], _rows: &[[u8; 512]], _marks: &[bool])
         ensures { self.new.notes ≡ (_numbers.now, _rows.now, _marks.now) ∷ self.old.notes }
     {}
 }

@@ -13,6 +13,6 @@ mod sim_disk;
 mod tests;
 
 pub use file_disk::{FileContents, FileDisk, Unknown};
-pub use ghost_data::Count;
+pub use ghost_data::{Count, Log};
 pub use sector_disk::{DiskFault, SECTOR_BYTES, SectorDisk};
-pub use sim_disk::SimDisk;
+pub use sim_disk::{SimDisk, parts};

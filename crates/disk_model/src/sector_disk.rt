@@ -1,6 +1,6 @@
 //! A row of sectors that can be read, written and synced.
-ghost use Rattle.std.specs.Prelude.{◌≡◌, ◌⊎◌, ◌<◌, ◌≤◌, ℕ, List, OnOk, OnErr};
-ghost use Rattle.disk_model.specs.Stop.{Image, MayLeave, ChangesOnly, Elapses, HasCause};
+ghost use Rattle.std.specs.Prelude.{◌≡◌, ◌⊎◌, ◌<◌, ◌≤◌, ◌+◌, ◌^◌, ℕ, List, OnOk, OnErr};
+ghost use Rattle.disk_model.specs.Stop.{Image, MayLeave, ChangesOnly, ChangesPage, IsOfPage, part_of, Elapses, HasCause};
 
 use std::fmt;
 
@@ -66,6 +66,19 @@ pub trait SectorDisk {
         ensures still { keeps_model self.new → (k : ℕ) → unsynced self.old k → unsynced self.new k }
         ensures time { keeps_model self.new → Elapses (moment self.old) (moment self.new) (left_since self.old) (left_since self.new) (content self.new) (unsynced self.new) };
 
+    /// Reads the eight sectors from `n` on. On a fault nothing is said of `to`.
+    fn read_page(&mut self, n: u64, to: &mut [u8; 4096]) -> Result<(), DiskFault>
+        requires room { n + 8 ≤ sector_count self.old }
+        requires fits { n < 2 ^ 60 }
+        ensures size { sector_count self.new ≡ sector_count self.old }
+        ensures kept { keeps_model self.new → keeps_model self.old }
+        ensures cause { HasCause (failures self.old) (failures self.new) result }
+        ensures gives { keeps_model self.new → OnOk result ((i : ℕ) → i < 8 → part_of to.new i ≡ content self.old (n + i)) }
+        ensures same { keeps_model self.new → content self.new ≡ content self.old }
+        ensures unsynced { keeps_model self.new → (k : ℕ) → unsynced self.new k → unsynced self.old k }
+        ensures still { keeps_model self.new → (k : ℕ) → unsynced self.old k → unsynced self.new k }
+        ensures time { keeps_model self.new → Elapses (moment self.old) (moment self.new) (left_since self.old) (left_since self.new) (content self.new) (unsynced self.new) };
+
     /// Writes sector `n`. On a fault it holds unknown bytes, and is unsynced all the same.
     fn write(&mut self, n: u64, from: &[u8; 512]) -> Result<(), DiskFault>
         requires { n < sector_count self.old }
@@ -76,6 +89,21 @@ pub trait SectorDisk {
         ensures others { keeps_model self.new → ChangesOnly n (content self.old) (content self.new) }
         ensures unsynced { keeps_model self.new → (k : ℕ) → unsynced self.new k → unsynced self.old k ⊎ (k ≡ n) }
         ensures marked { keeps_model self.new → unsynced self.new n }
+        ensures still { keeps_model self.new → (k : ℕ) → unsynced self.old k → unsynced self.new k }
+        ensures time { keeps_model self.new → Elapses (moment self.old) (moment self.new) (left_since self.old) (left_since self.new) (content self.new) (unsynced self.new) };
+
+    /// Writes the eight sectors from `n` on, each as `write` does: a stop may leave any bytes in each of them, whatever it
+    /// leaves in the others. On a fault they hold unknown bytes, and are unsynced all the same.
+    fn write_page(&mut self, n: u64, from: &[u8; 4096]) -> Result<(), DiskFault>
+        requires room { n + 8 ≤ sector_count self.old }
+        requires fits { n < 2 ^ 60 }
+        ensures size { sector_count self.new ≡ sector_count self.old }
+        ensures kept { keeps_model self.new → keeps_model self.old }
+        ensures cause { HasCause (failures self.old) (failures self.new) result }
+        ensures written { keeps_model self.new → OnOk result ((i : ℕ) → i < 8 → content self.new (n + i) ≡ part_of from.now i) }
+        ensures others { keeps_model self.new → ChangesPage n (content self.old) (content self.new) }
+        ensures unsynced { keeps_model self.new → (k : ℕ) → unsynced self.new k → unsynced self.old k ⊎ IsOfPage n k }
+        ensures marked { keeps_model self.new → (k : ℕ) → IsOfPage n k → unsynced self.new k }
         ensures still { keeps_model self.new → (k : ℕ) → unsynced self.old k → unsynced self.new k }
         ensures time { keeps_model self.new → Elapses (moment self.old) (moment self.new) (left_since self.old) (left_since self.new) (content self.new) (unsynced self.new) };
 

@@ -1,7 +1,7 @@
 //! A device in memory whose failures and stops are chosen.
-ghost use Rattle.std.specs.Prelude.{◌≡◌, ◌⊎◌, ◌<◌, ℕ, replicate, length, is_err, IfOk, OnOk, OnErr};
+ghost use Rattle.std.specs.Prelude.{◌≡◌, ◌⊎◌, ◌<◌, ℕ, [], slice_index_or, replicate, length, is_err, IfOk, OnOk, OnErr};
 ghost use Rattle.std.proofs.Common.{inl};
-ghost use Rattle.disk_model.specs.Stop.{MayLeave, ChangesOnly, Elapses, HasCause};
+ghost use Rattle.disk_model.specs.Stop.{MayLeave, ChangesOnly, Elapses, HasCause, part_of};
 ghost use Rattle.disk_model.specs.Plan.{is_at, one_more, first_listed};
 
 use crate::ghost_data::{Count, Log};
@@ -60,6 +60,21 @@ fn answer(fails: bool, failures: &mut Count) -> Result<(), DiskFault>
         return Err(DiskFault);
     }
     Ok(())
+}
+
+/// A fault where some part of a call failed.
+fn fault_if(failed: bool) -> Result<(), DiskFault>
+    ensures { is_err result ≡ failed }
+{
+    if failed { Err(DiskFault) } else { Ok(()) }
+}
+
+/// The eight sectors of a page.
+pub fn parts(page: &[u8; 4096]) -> &[[u8; 512]]
+    ensures len { length result.now ≡ 8 }
+    ensures each { (i : ℕ) → i < 8 → slice_index_or result.now i [] ≡ part_of page.now i }
+{
+    page.as_chunks::<512>().0
 }
 
 /// The bytes that `chosen` lists first for sector `n`, or else `bytes`.
@@ -277,6 +292,27 @@ impl SectorDisk for SimDisk {
         )?;
         self.sectors[n as usize] = *from;
         Ok(())
+    }
+
+    fn read_page(&mut self, n: u64, to: &mut [u8; 4096]) -> Result<(), DiskFault> {
+        let mut sector = [0; SECTOR_BYTES];
+        for i in 0..8 {
+            self.read(n + i as u64, &mut sector)?;
+            let at = 512 * i;
+            to[at..at + 512].copy_from_slice(&sector);
+        }
+        Ok(())
+    }
+
+    /// It is eight writes, of which each may stop the device or fail.
+    fn write_page(&mut self, n: u64, from: &[u8; 4096]) -> Result<(), DiskFault> {
+        let mut failed = false;
+        for (i, sector) in parts(from).iter().enumerate() {
+            if self.write(n + i as u64, sector).is_err() {
+                failed = true;
+            }
+        }
+        fault_if(failed)
     }
 
     fn sync(&mut self) -> Result<(), DiskFault>

@@ -13,7 +13,7 @@ use Rattle.page_tables.proofs.Tight.{tight_same}
 use Rattle.page_cache.specs.declared.place.Place.TheVariants.{Home, Frame}
 use Rattle.residency.specs.declared.kernel.Core.{Core}
 use Rattle.residency.specs.Picture.{Picture, picture_of}
-use Rattle.residency.specs.Parts.{IsSized, IsFit, HasPlaces}
+use Rattle.residency.specs.Parts.{IsFit, HasPlaces}
 use Rattle.residency.specs.Calls.{KeepsInUse, KeepsUsed, KeepsRest}
 use Rattle.residency.specs.Steps.{BringsIn}
 use Rattle.residency.proofs.Places.{cases_page, one_frame}
@@ -23,7 +23,7 @@ use Rattle.residency.proofs.Views.{views_brought}
 use Rattle.page_entries.specs.Changes.{KeepsSpaces}
 use Rattle.fault.specs.Files.{KeepsPlaces, IsRead, BringsPages}
 use Rattle.fault.specs.Entered.{Enters}
-use Rattle.fault.specs.Outcome.{KeepsViews}
+use Rattle.fault.specs.Outcome.{KeepsSeen}
 
 -- a frame that was taken and written, as the other frames see it
 pub frames_written : (old mid : FrameTable) (n : ℕ) (w : List ℕ) → Takes old mid Cache n → SameButFor n old (with_bytes mid n w)
@@ -91,13 +91,12 @@ places_used old new fit used = record {
 pub spaces_used : (old new : Picture) → KeepsUsed old new → KeepsSpaces old new
 spaces_used old new used = record { root = used.root; at = used.at }
 
-pub views_used : (old new : Picture) → IsFit old → KeepsUsed old new → KeepsViews old new
+pub views_used : (old new : Picture) → IsFit old → KeepsUsed old new → KeepsSeen old new
 views_used old new fit used = record { views = (pages_used old new used (fit_steady old fit)).views; touched = used.touched }
 
 module _ {D E : Type 0} where
-  pub enters_used : (old new : Core D E) → IsFit (picture_of old) → IsSized new → KeepsUsed (picture_of old) (picture_of new) → KeepsRest old new → Enters old new
-  enters_used old new fit sized used rest = record {
-    sized = sized;
+  pub enters_used : (old new : Core D E) → IsFit (picture_of old) → KeepsUsed (picture_of old) (picture_of new) → KeepsRest old new → Enters old new
+  enters_used old new fit used rest = record {
     fit = fit_used (picture_of old) (picture_of new) used fit;
     spaces = spaces_used (picture_of old) (picture_of new) used;
     places = places_used (picture_of old) (picture_of new) fit used;
@@ -117,7 +116,7 @@ module _ (old mid new : Picture) (page : FilePage) (n : ℕ) (fit : IsFit old) (
       steady_fit new (steady_brought mid new 0 n page steady brings)
       (tight_same mid.frames new.frames steady.rooted.forest trees.forest trees.same there.tree.tight)
 
-  pub views_arrived : KeepsViews old new
+  pub views_arrived : KeepsSeen old new
   views_arrived =
       let steady = fit_steady mid (fit_used old mid used fit) in
       let before = views_used old mid fit used in

@@ -9,3 +9,4 @@ pub mod Settled
 pub mod Pages
 pub mod Storing
 pub mod Showing
+pub mod Wanted

@@ -16,7 +16,7 @@ use Rattle.residency.specs.Picture.{Picture, entry, is_private, own_in, view_in,
 use Rattle.residency.specs.Parts.{IsFit, IsEntryFor, Nothing, Resident, IsResident, IsBehind, HasPlaces, is_shared}
 use Rattle.residency.proofs.Views.{view-own}
 use Rattle.fault.specs.Shown.{AreBehind, AreOwnOrBehind, AreShown, IsSoleOwner}
-use Rattle.fault.specs.Outcome.{KeepsViews, Reads, Touches, Owns}
+use Rattle.fault.specs.Outcome.{KeepsSeen, Reads, MarksTouchedIn, Owns}
 
 pub zero_same : zero_bytes ≡ zero_page
 unfolding zero_bytes zero_page
@@ -129,7 +129,7 @@ module _ (c : Picture) (pid page : ℕ) (a : Attr) (fit : IsFit c) (sound : IsSo
 
 -- a page that may be read, in memory as it is left
 pub reads : (old new : Picture) (pid page : ℕ) (a : Attr) (fit : IsFit new) (sound : IsSound new.frames) (h : IsPage 2 page) (mapped : new.at pid page ≡ Some a)
-    (some : entry new pid page ≢ 0) (keeps : KeepsViews old new)
+    (some : entry new pid page ≢ 0) (keeps : KeepsSeen old new)
     → Reads old new (record { attr = a; own = own_in new.frames (entry new pid page) }) (frame_of (entry new pid page))
 reads old new pid page a fit sound h mapped some keeps = record {
   keeps = keeps;
@@ -141,7 +141,7 @@ reads old new pid page a fit sound h mapped some keeps = record {
 pub touches : (old new : Picture) (pid page : ℕ) (a : Attr) (p : FilePage) (fit : IsFit new) (sound : IsSound new.frames) (h : IsPage 2 page) (mapped : new.at pid page ≡ Some a)
     (valid : is_valid (entry new pid page) ≡ true) → is_dirty (entry new pid page) ≡ true → a.backing ≡ Shared p
     → ((q k : ℕ) → view new q k ≡ view old q k) → ((q : FilePage) → q ≢ p → new.touched q ≡ old.touched q)
-    → Touches old new p (frame_of (entry new pid page))
+    → MarksTouchedIn old new p (frame_of (entry new pid page))
 touches old new pid page a p fit sound h mapped valid dirty shared views others =
     let some = valid_some (entry new pid page) valid in
     let place = shared_place new pid page a fit sound h mapped some p shared in

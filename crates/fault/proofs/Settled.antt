@@ -22,11 +22,11 @@ use Rattle.residency.specs.Picture.{Picture, entry, is_private, own_in, view}
 use Rattle.residency.specs.Parts.{IsFit, IsBehind, is_shared}
 use Rattle.residency.specs.Shows.{KeepsFiles}
 use Rattle.page_entries.specs.Leaves.{IsEntryOver, is_barred}
-use Rattle.page_entries.specs.Changes.{frame_at, frame_behind, shown_frame, shown_bytes}
+use Rattle.page_entries.specs.Changes.{frame_of_place, frame_behind, shown_frame, shown_bytes}
 use Rattle.fault.specs.Shown.{AreBehind, AreOwnOrBehind, AreShown}
 use Rattle.fault.specs.Entered.{IsOver, seen_at}
 use Rattle.fault.specs.Granted.{IsGranted, IsReadable}
-use Rattle.fault.specs.Outcome.{KeepsViews, Reads, Touches, Owns, IsReadyToStore}
+use Rattle.fault.specs.Outcome.{KeepsSeen, Reads, MarksTouchedIn, Owns, IsReadyToStore}
 use Rattle.fault.proofs.Opening.{opens_load, opens_fetch, opens_store, reads_too}
 use Rattle.fault.proofs.Verdicts.{page_user, page_small}
 use Rattle.fault.proofs.Ready.{zero_same, view-mapped, own_in-private, own_in-common, valid_some, reads, touches, owns}
@@ -56,7 +56,7 @@ over_some e prot n private write stored over = elim (cases_Bool (is_barred prot)
 
 -- a page that was made to be read
 pub readable : (old new : Picture) (pid page : ℕ) (a : Attr) (n : ℕ) → IsFit new → IsSound new.frames → IsPage 2 page → old.at pid page ≡ Some a → new.at pid page ≡ Some a
-    → KeepsViews old new → IsOver new pid page a n → IsReadable old new pid page a n
+    → KeepsSeen old new → IsOver new pid page a n → IsReadable old new pid page a n
 readable old new pid page a n fit sound h was now keeps over =
     let some = over_some (entry new pid page) a.prot n over.private over.write over.stored over.over in
     let here = reads old new pid page a fit sound h now some keeps in
@@ -81,7 +81,7 @@ granted_fetch old new pid page a n allowed is = record {
   ready = is.reads;
 }
 
-ready_shared : (old new : Picture) (pid page : ℕ) (v : View) (b : Backing) (p : FilePage) (n : ℕ) → b ≡ Shared p → Touches old new p n → IsReadyToStore old new pid page v b n
+ready_shared : (old new : Picture) (pid page : ℕ) (v : View) (b : Backing) (p : FilePage) (n : ℕ) → b ≡ Shared p → MarksTouchedIn old new p n → IsReadyToStore old new pid page v b n
 ready_shared old new pid page v b p n is touched =
     let P : Backing → Type 0 = λ x. IsReadyToStore old new pid page v x n in subst P (sym is) touched
 
@@ -92,7 +92,7 @@ ready_own old new pid page v (Shared p) n is own = absurd (false≢true (sym is)
 
 -- a shared page that was made to be written
 pub granted_shared : (old new : Picture) (pid page : ℕ) (a : Attr) (p : FilePage) (n : ℕ) → Permission.can_read a.prot ≡ true → a.backing ≡ Shared p
-    → IsEntryOver (entry new pid page) a.prot n false true true → Touches old new p n → IsGranted old new pid page a Store n
+    → IsEntryOver (entry new pid page) a.prot n false true true → MarksTouchedIn old new p n → IsGranted old new pid page a Store n
 granted_shared old new pid page a p n readable shared over touched = record {
   opens = opens_store (entry new pid page) a.prot n false over readable;
   frame = over.names;
@@ -109,7 +109,7 @@ granted_own old new pid page a n readable private over own = record {
 }
 
 -- what was seen as it was before
-pub owns_then : (old mid new : Picture) (pid page : ℕ) (a : Attr) (n : ℕ) → old.at pid page ≡ Some a → mid.at pid page ≡ Some a → KeepsViews old mid
+pub owns_then : (old mid new : Picture) (pid page : ℕ) (a : Attr) (n : ℕ) → old.at pid page ≡ Some a → mid.at pid page ≡ Some a → KeepsSeen old mid
     → Owns mid new pid page (seen_at mid pid page a) n → Owns old new pid page (seen_at old pid page a) n
 owns_then old mid new pid page a n was now keeps own =
     let same = seen_same old mid pid page a was now (keeps.views pid page) in
@@ -123,7 +123,7 @@ owns_then old mid new pid page a n was now keeps own =
       sole = own.sole;
     }
 
-pub touches_then : (old mid new : Picture) (p : FilePage) (n : ℕ) → KeepsViews old mid → Touches mid new p n → Touches old new p n
+pub touches_then : (old mid new : Picture) (p : FilePage) (n : ℕ) → KeepsSeen old mid → MarksTouchedIn mid new p n → MarksTouchedIn old new p n
 touches_then old mid new p n keeps touched = record {
   views = λ q k. touched.views q k ∙ keeps.views q k;
   held = touched.held;
@@ -132,8 +132,8 @@ touches_then old mid new p n keeps touched = record {
   others = λ q ne. touched.others q ne ∙ keeps.touched q;
 }
 
-frame_at-place : (place : Place) (n : ℕ) → place ≡ Frame (record { 0 = n }) → frame_at place ≡ n
-frame_at-place place n is = ap frame_at is
+frame_at-place : (place : Place) (n : ℕ) → place ≡ Frame (record { 0 = n }) → frame_of_place place ≡ n
+frame_at-place place n is = ap frame_of_place is
 
 -- the bytes of the frame behind a page stand behind it, also after other frames changed
 behind_bytes : (old new : Picture) (b : Backing) (n : ℕ) (bytes : List ℕ) → IsSound old.frames → KeepsFiles old new → IsBehind old b n
@@ -167,10 +167,10 @@ copy_shown old new pid page a bytes sound files memory is =
 -- a shared page of which the entry lets stores through
 pub touched_entry : (old new : Picture) (pid page : ℕ) (a : Attr) (p : FilePage) (n : ℕ) → IsFit new → IsSound new.frames → IsPage 2 page → new.at pid page ≡ Some a
     → a.backing ≡ Shared p → Permission.can_read a.prot ≡ true → IsEntryOver (entry new pid page) a.prot n false true true
-    → ((q k : ℕ) → view new q k ≡ view old q k) → ((q : FilePage) → q ≢ p → new.touched q ≡ old.touched q) → Touches old new p n
+    → ((q k : ℕ) → view new q k ≡ view old q k) → ((q : FilePage) → q ≢ p → new.touched q ≡ old.touched q) → MarksTouchedIn old new p n
 touched_entry old new pid page a p n fit sound h now shared readable over views others =
     let opens = opens_store (entry new pid page) a.prot n false over readable in
-    let P : ℕ → Type 0 = λ x. Touches old new p x in
+    let P : ℕ → Type 0 = λ x. MarksTouchedIn old new p x in
     subst P over.names (touches old new pid page a p fit sound h now opens.valid (opens.dirty refl) shared views others)
 
 -- any other page of which it does
@@ -205,21 +205,21 @@ common_same old new pid page a was now same common = elim (cases_Bool (is_privat
 
 -- where a frame was answered
 pub readable_ok : (old new : Picture) (pid page : ℕ) (a : Attr) (r : Result FrameNo Stall) → IsFit old → IsFit new → old.at pid page ≡ Some a → new.at pid page ≡ Some a
-    → KeepsViews old new → OnOk r (IsSound new.frames) → IfOk r (λ n. IsOver new pid page a n.0) → IfOk r (λ n. IsReadable old new pid page a n.0)
+    → KeepsSeen old new → OnOk r (IsSound new.frames) → IfOk r (λ n. IsOver new pid page a n.0) → IfOk r (λ n. IsReadable old new pid page a n.0)
 readable_ok old new pid page a (Ok n) fit fit' was now keeps sound over =
     readable old new pid page a n.0 fit' sound (page_small page (page_user old pid page a fit was).1) was now keeps over
 readable_ok old new pid page a (Err stall) fit fit' was now keeps sound over = tt
 
 pub own_ok : (old mid new : Picture) (pid page : ℕ) (a : Attr) (r : Result FrameNo Stall) → IsFit old → Permission.can_write a.prot ≡ true → is_shared a.backing ≡ false
-    → old.at pid page ≡ Some a → mid.at pid page ≡ Some a → KeepsViews old mid → IfOk r (λ n. IsEntryOver (entry new pid page) a.prot n.0 true true true)
+    → old.at pid page ≡ Some a → mid.at pid page ≡ Some a → KeepsSeen old mid → IfOk r (λ n. IsEntryOver (entry new pid page) a.prot n.0 true true true)
     → IfOk r (λ n. Owns mid new pid page (seen_at mid pid page a) n.0) → IfOk r (λ n. IsGranted old new pid page a Store n.0)
 own_ok old mid new pid page a (Ok n) fit write private was now keeps over owned =
     granted_own old new pid page a n.0 (reads_too old pid page a fit was write) private over (owns_then old mid new pid page a n.0 was now keeps owned)
 own_ok old mid new pid page a (Err stall) fit write private was now keeps over owned = tt
 
 pub shared_ok : (old mid new : Picture) (pid page : ℕ) (a : Attr) (p : FilePage) (r : Result FrameNo Stall) → IsFit old → Permission.can_write a.prot ≡ true → a.backing ≡ Shared p
-    → old.at pid page ≡ Some a → KeepsViews old mid → IfOk r (λ n. IsEntryOver (entry new pid page) a.prot n.0 false true true)
-    → IfOk r (λ n. Touches mid new p n.0) → IfOk r (λ n. IsGranted old new pid page a Store n.0)
+    → old.at pid page ≡ Some a → KeepsSeen old mid → IfOk r (λ n. IsEntryOver (entry new pid page) a.prot n.0 false true true)
+    → IfOk r (λ n. MarksTouchedIn mid new p n.0) → IfOk r (λ n. IsGranted old new pid page a Store n.0)
 shared_ok old mid new pid page a p (Ok n) fit write shared was keeps over touched =
     granted_shared old new pid page a p n.0 (reads_too old pid page a fit was write) shared over (touches_then old mid new p n.0 keeps touched)
 shared_ok old mid new pid page a p (Err stall) fit write shared was keeps over touched = tt

@@ -6,7 +6,7 @@ use Rattle.vm_types.specs.declared.file.FilePage.{FilePage}
 use Rattle.vm_types.specs.declared.number.FrameNo.{FrameNo}
 use Rattle.vm_types.specs.declared.region.Backing.{Backing}
 use Rattle.vm_types.specs.declared.region.Backing.TheVariants.{Anon, Private, Shared}
-use Rattle.vm_types.specs.Access.{with_bytes}
+use Rattle.vm_types.specs.Access.{with_shown_bytes}
 use Rattle.vm_types.specs.State.{State, with_view}
 use Rattle.vm_types.specs.View.{View, behind, copy_or_behind, shown}
 use Rattle.disk_model.specs.declared.sector_disk.SectorDisk.{Ghosts}
@@ -24,7 +24,7 @@ use Rattle.residency.proofs.Ways.{by_page}
 use Rattle.page_entries.specs.Changes.{KeepsSpaces}
 use Rattle.fault.specs.Files.{BringsPages}
 use Rattle.fault.specs.Shown.{AreBehind, AreOwnOrBehind, AreShown}
-use Rattle.fault.specs.Outcome.{KeepsViews, Owns, Touches}
+use Rattle.fault.specs.Outcome.{KeepsSeen, Owns, MarksTouchedIn}
 use Rattle.fault.proofs.Storing.{bytes_there, view_own, views_others, files_own, views_same_file, bytes_others}
 
 -- the processes and the files of a state, without what each process sees and what is touched
@@ -76,7 +76,7 @@ module _ {D : Type 0} (g : Ghosts D) (before after : D) (old new : Picture) (s :
   }
 
   -- after a load, a fetch and a stall
-  pub shows_kept : KeepsViews old new → ShowsPages old s → ShowsPages new s
+  pub shows_kept : KeepsSeen old new → ShowsPages old s → ShowsPages new s
   shows_kept keeps shows =
       let files = shows_files shows in
       record {
@@ -131,7 +131,7 @@ view_other views pid page q k v (inr ne) = elim (cases_eq q pid) [
 ]
 
 state_own : (s : State) (pid page : ℕ) (v : View) (w : List ℕ) (b : Backing) → is_shared b ≡ false
-    → with_bytes s pid page v b w ≡ record s { views = with_view s.views pid page (record v { own = Some w }) }
+    → with_shown_bytes s pid page v b w ≡ record s { views = with_view s.views pid page (record v { own = Some w }) }
 state_own s pid page v w Anon private = refl
 state_own s pid page v w (Private p) private = refl
 state_own s pid page v w (Shared p) shared = (cc)
@@ -139,7 +139,7 @@ state_own s pid page v w (Shared p) shared = (cc)
 -- A store to a page of the process's own: old is before the access, mid after it, and new has the bytes written.
 module _ (old mid new : Picture) (s : State) (pid page n : ℕ) (v : View) (w : List ℕ) (fit : IsFit mid) (frames : new.frames ≡ Frames.with_bytes mid.frames n w)
     (beside : SameBeside mid new) (shows : ShowsPages old s) (files : ShowsFiles mid s) where
-  pub shows_own : is_shared v.attr.backing ≡ false → Owns old mid pid page v n → ShowsPages new (with_bytes s pid page v v.attr.backing w)
+  pub shows_own : is_shared v.attr.backing ≡ false → Owns old mid pid page v n → ShowsPages new (with_shown_bytes s pid page v v.attr.backing w)
   shows_own private owns =
       let kept = files_own mid new n w fit owns.held frames beside pid page owns.sole in
       let P : State → Type 0 = λ x. ShowsPages new x in
@@ -159,7 +159,7 @@ module _ (old mid new : Picture) (s : State) (pid page n : ℕ) (v : View) (w : 
       })
 
   -- A store to a shared page.
-  pub shows_shared : (p : FilePage) → Touches old mid p n → ShowsPages new (with_bytes s pid page v (Shared p) w)
+  pub shows_shared : (p : FilePage) → MarksTouchedIn old mid p n → ShowsPages new (with_shown_bytes s pid page v (Shared p) w)
   shows_shared p touched = record {
     live = λ q. files.live q ∙ sym (ap is_some (beside.root q));
     views = λ q k. shows.views q k ∙ sym (touched.views q k) ∙ sym (views_same_file mid new n w fit touched.held frames beside p touched.place q k);

@@ -3,17 +3,17 @@ use Rattle.std.proofs.Common.{◌≡◌, inl, inr, refl, sym, ◌∙◌, subst, 
 use Rattle.disk_model.specs.declared.sector_disk.SectorDisk.{Ghosts}
 use Rattle.disk_model.specs.Moments.{Touches, Nothing}
 use Rattle.file_store.specs.declared.store.FileStore.{FileStore}
-use Rattle.file_store.specs.Store.{IsReady}
+use Rattle.file_store.specs.Store.{IsReadyStore}
 use Rattle.page_cache.specs.declared.place.Place.TheVariants.{Home, Frame}
 use Rattle.residency.specs.declared.kernel.Core.{Core}
 use Rattle.residency.specs.Picture.{Picture, picture_of}
-use Rattle.residency.specs.Parts.{IsSized, IsFit}
+use Rattle.residency.specs.Parts.{IsFit}
 use Rattle.residency.specs.Calls.{KeepsRest}
 use Rattle.residency.specs.Shows.{KeepsFiles, KeepsDevices}
 use Rattle.page_entries.specs.Changes.{KeepsSpaces}
 use Rattle.fault.specs.Files.{KeepsPlaces, ReadsStore, BringsPages}
 use Rattle.fault.specs.Entered.{Enters, Proceeds}
-use Rattle.fault.specs.Outcome.{KeepsViews}
+use Rattle.fault.specs.Outcome.{KeepsSeen}
 
 pub keeps_places : (old new : Picture) → KeepsFiles old new → KeepsPlaces old new
 keeps_places old new files = record { place = files.place; bytes = files.bytes; files = files.files }
@@ -28,16 +28,15 @@ places_then old mid new a b = record {
 pub spaces_then : (old mid new : Picture) → KeepsSpaces old mid → KeepsSpaces mid new → KeepsSpaces old new
 spaces_then old mid new a b = record { root = λ pid. b.root pid ∙ a.root pid; at = λ pid page. b.at pid page ∙ a.at pid page }
 
-pub views_then : (old mid new : Picture) → KeepsViews old mid → KeepsViews mid new → KeepsViews old new
+pub views_then : (old mid new : Picture) → KeepsSeen old mid → KeepsSeen mid new → KeepsSeen old new
 views_then old mid new a b = record { views = λ q k. b.views q k ∙ a.views q k; touched = λ p. b.touched p ∙ a.touched p }
 
 module _ {D E : Type 0} where
   -- tables were linked and an entry was set
-  pub enters_linked : (old mid new : Core D E) → IsSized new → IsFit (picture_of new) → KeepsSpaces (picture_of old) (picture_of mid)
+  pub enters_linked : (old mid new : Core D E) → IsFit (picture_of new) → KeepsSpaces (picture_of old) (picture_of mid)
       → KeepsFiles (picture_of old) (picture_of mid) → KeepsRest old mid → KeepsSpaces (picture_of mid) (picture_of new)
       → KeepsPlaces (picture_of mid) (picture_of new) → KeepsDevices mid new → Enters old new
-  enters_linked old mid new sized fit spaces files rest spaces' places' devices = record {
-    sized = sized;
+  enters_linked old mid new fit spaces files rest spaces' places' devices = record {
     fit = fit;
     spaces = spaces_then (picture_of old) (picture_of mid) (picture_of new) spaces spaces';
     places = places_then (picture_of old) (picture_of mid) (picture_of new) (keeps_places (picture_of old) (picture_of mid) files) places';
@@ -45,10 +44,9 @@ module _ {D E : Type 0} where
   }
 
   -- nothing but tables that were given back
-  pub enters_refused : (old new : Core D E) → IsSized new → IsFit (picture_of new) → KeepsSpaces (picture_of old) (picture_of new)
+  pub enters_refused : (old new : Core D E) → IsFit (picture_of new) → KeepsSpaces (picture_of old) (picture_of new)
       → KeepsFiles (picture_of old) (picture_of new) → KeepsRest old new → Enters old new
-  enters_refused old new sized fit spaces files rest = record {
-    sized = sized;
+  enters_refused old new fit spaces files rest = record {
     fit = fit;
     spaces = spaces;
     places = keeps_places (picture_of old) (picture_of new) files;
@@ -100,12 +98,11 @@ module _ {D : Type 0} (g : Ghosts D) where
   }
 
   module _ {E : Type 0} where
-    pub proceeds_enters : (old new : Core D E) → IsReady g old.store → Enters old new → Proceeds g old new
+    pub proceeds_enters : (old new : Core D E) → IsReadyStore g old.store → Enters old new → Proceeds g old new
     proceeds_enters old new ready enters =
-        let P : FileStore D → Type 0 = λ s. IsReady g s in
+        let P : FileStore D → Type 0 = λ s. IsReadyStore g s in
         let Q : FileStore D → Type 0 = λ s. ReadsStore g old.store s in
         record {
-          sized = enters.sized;
           fit = enters.fit;
           ready = subst P (sym enters.devices.store) ready;
           spaces = enters.spaces;
@@ -116,11 +113,10 @@ module _ {D : Type 0} (g : Ghosts D) where
 
     pub proceeds_then : (old mid new : Core D E) → Proceeds g old mid → Enters mid new → Proceeds g old new
     proceeds_then old mid new proceeds enters =
-        let P : FileStore D → Type 0 = λ s. IsReady g s in
+        let P : FileStore D → Type 0 = λ s. IsReadyStore g s in
         let Q : FileStore D → Type 0 = λ s. ReadsStore g old.store s in
         let R : FileStore D → Type 0 = λ s. BringsPages g old.store.disk s.disk (picture_of old) (picture_of new) in
         record {
-          sized = enters.sized;
           fit = enters.fit;
           ready = subst P (sym enters.devices.store) proceeds.ready;
           spaces = spaces_then (picture_of old) (picture_of mid) (picture_of new) proceeds.spaces enters.spaces;

@@ -23,8 +23,8 @@ use Rattle.residency.specs.Parts.{IsFit, IsEntryFor, Nothing, Resident, IsLeafFo
 use Rattle.residency.proofs.Entries.{entry-of}
 use Rattle.residency.proofs.Used.{view-none}
 use Rattle.fault.specs.declared.finding.Finding.{Finding}
-use Rattle.fault.specs.Found.{IsOpenTo, Judges, Finds}
-use Rattle.fault.specs.Outcome.{verdict_of, KeepsViews, IsReadyToStore, IsReadyFor, Grants}
+use Rattle.fault.specs.Found.{IsOpenTo, Judges, Finds, IsUnwalked}
+use Rattle.fault.specs.Outcome.{verdict_of, KeepsSeen, IsReadyToStore, IsReadyFor, Grants}
 use Rattle.fault.specs.Granted.{Opens, IsGranted}
 use Rattle.fault.proofs.Answers.{Places, answer-ok, answer-places}
 use Rattle.fault.proofs.Walks.{translated-entry}
@@ -145,7 +145,7 @@ nothing_in c o e none valid (Resident a at lies) = none_some a (sym none ∙ at)
 nothing_valid : (c : Picture) (pid page : ℕ) → IsFit c → IsPage 2 page → c.at pid page ≡ None → is_valid (entry c pid page) ≡ true → ⊥
 nothing_valid c pid page fit h none valid = nothing_in c (c.at pid page) (entry c pid page) none valid (fit.granting.entries pid page h)
 
-keeps_all : (c : Picture) → KeepsViews c c
+keeps_all : (c : Picture) → KeepsSeen c c
 keeps_all c = record { views = λ q k. refl; touched = λ p. refl }
 
 module _ (c : Picture) (pid page : ℕ) (a : Attr) (fit : IsFit c) (sound : IsSound c.frames) (h : IsPage 2 page) (mapped : c.at pid page ≡ Some a) where
@@ -197,9 +197,9 @@ grants_found c pid root addr width access phys fit sound lives user aligned walk
 
 -- what is known of a page by region and file says what the access finds
 pub finds_judged : (c : Picture) (pid addr : ℕ) (width : Width) (access : Access) (page : ℕ) (found : Finding) → page ≡ addr / 4096 → addr % byte_count width ≡ 0
-    → Judges c pid page access found → Finds c pid addr width access found
-finds_judged c pid addr width access page (Finding.Place phys) is aligned judges = absurd judges
-finds_judged c pid addr width access page (Finding.Page found attr) is aligned judges =
+    → IsUnwalked c pid addr access → Judges c pid page access found → Finds c pid addr width access found
+finds_judged c pid addr width access page (Finding.Place phys) is aligned unwalked judges = absurd judges
+finds_judged c pid addr width access page (Finding.Page found attr) is aligned unwalked judges =
     let there : found ≡ addr / 4096 = judges.0 ∙ is in
     let P : ℕ → Type 0 = λ x. IsOpenTo c pid x access attr in
     let allowed = subst P (sym judges.0) judges.1 in
@@ -208,8 +208,9 @@ finds_judged c pid addr width access page (Finding.Page found attr) is aligned j
       allowed = allowed;
       fine = verdict-aligned c pid addr width access aligned ∙ ap (λ k. page_verdict c.files (view c pid k) access) (sym there)
           ∙ verdict-fine c pid found access attr allowed.mapped allowed.lets allowed.inside;
+      unwalked = unwalked;
     }
-finds_judged c pid addr width access page (Finding.Fault code) is aligned judges =
+finds_judged c pid addr width access page (Finding.Fault code) is aligned unwalked judges =
     verdict-aligned c pid addr width access aligned ∙ ap (λ k. page_verdict c.files (view c pid k) access) (sym is) ∙ judges
 
 -- an address of no user page

@@ -5,15 +5,15 @@ use Rattle.vm_types.specs.declared.refusal.Stall.{Stall}
 use Rattle.vm_types.specs.declared.refusal.Stall.TheVariants.{NoFrames}
 use Rattle.vm_types.specs.View.{View}
 use Rattle.disk_model.specs.declared.sector_disk.SectorDisk.{Ghosts}
-use Rattle.file_store.specs.Store.{IsReady}
+use Rattle.file_store.specs.Store.{IsReadyStore}
 use Rattle.residency.specs.declared.kernel.Core.{Core}
 use Rattle.residency.specs.Picture.{Picture, picture_of, entry, own_in}
-use Rattle.residency.specs.Parts.{IsSized, IsFit}
+use Rattle.residency.specs.Parts.{IsFit}
 use Rattle.residency.specs.Shows.{KeepsDevices}
 use Rattle.page_entries.specs.Leaves.{IsEntryOver}
 use Rattle.page_entries.specs.Changes.{KeepsSpaces}
 use Rattle.fault.specs.Files.{KeepsPlaces, ReadsStore, BringsFiles}
-use Rattle.fault.specs.Outcome.{KeepsViews}
+use Rattle.fault.specs.Outcome.{KeepsSeen}
 
 -- the page's entry is one over frame n that gives what the permission lets be done but for stores, which it may let through or not
 pub record IsOver (c : Picture) (pid page : ℕ) (attr : Attr) (n : ℕ) : Type 0 where
@@ -29,7 +29,6 @@ seen_at c pid page attr = record { attr = attr; own = own_in c.frames (entry c p
 module _ {D E : Type 0} where
   -- only frames, entries and which file pages are touched changed
   pub record Enters (old new : Core D E) : Type 0 where
-    pub sized : IsSized new
     pub fit : IsFit (picture_of new)
     pub spaces : KeepsSpaces (picture_of old) (picture_of new)
     pub places : KeepsPlaces (picture_of old) (picture_of new)
@@ -37,7 +36,7 @@ module _ {D E : Type 0} where
 
   -- no frame was to be had
   pub record IsRefused (old new : Core D E) (stall : Stall) : Type 0 where
-    pub keeps : KeepsViews (picture_of old) (picture_of new)
+    pub keeps : KeepsSeen (picture_of old) (picture_of new)
     pub stall_is : stall ≡ NoFrames
     pub refused : new.refused.number ≡ old.refused.number + 1
 
@@ -45,9 +44,8 @@ module _ {D : Type 0} (g : Ghosts D) where
   module _ {E : Type 0} where
     -- and file pages were read from the store into frames
     pub record Proceeds (old new : Core D E) : Type 0 where
-      pub sized : IsSized new
       pub fit : IsFit (picture_of new)
-      pub ready : IsReady g new.store
+      pub ready : IsReadyStore g new.store
       pub spaces : KeepsSpaces (picture_of old) (picture_of new)
       pub reads : ReadsStore g old.store new.store
       pub swap : new.swap ≡ old.swap

@@ -1,9 +1,11 @@
 -- What an access finds before anything changes.
-use Rattle.std.specs.Prelude.{◌≡◌, ℕ, ◌/◌, true, false, Some}
+use Rattle.std.specs.Prelude.{◌≡◌, ◌≢◌, ℕ, ◌/◌, true, false, Some, Ok}
 use Rattle.vm_types.specs.declared.access.Access.{Access}
 use Rattle.vm_types.specs.declared.region.Attr.{Attr}
 use Rattle.vm_types.specs.declared.width.Width.{Width}
 use Rattle.vm_types.specs.Verdict.{Fine, Faults, lets, is_past_end, page_verdict}
+use Rattle.vm_types.specs.declared.number.Phys.{Phys}
+use Rattle.sv39_walk.specs.Walk.{translated}
 use Rattle.residency.specs.Picture.{Picture, view}
 use Rattle.fault.specs.declared.finding.Finding.{Finding}
 use Rattle.fault.specs.Entered.{seen_at}
@@ -21,11 +23,16 @@ Judges c pid page access (Finding.Place phys) = ⊥
 Judges c pid page access (Finding.Page found attr) = (found ≡ page) × IsOpenTo c pid page access attr
 Judges c pid page access (Finding.Fault code) = page_verdict c.files (view c pid page) access ≡ Faults code
 
--- the page of an access that is fine
+-- the walk from the process's root answers no place
+abbrev pub IsUnwalked : Picture → ℕ → ℕ → Access → Type 0
+IsUnwalked c pid addr access = (root : ℕ) (phys : Phys) → c.root pid ≡ Some root → translated 2 c.frames root addr access ≢ Ok phys
+
+-- the page of an access that is fine, and that the tables don't grant
 pub record IsFineAt (c : Picture) (pid addr : ℕ) (width : Width) (access : Access) (page : ℕ) (attr : Attr) : Type 0 where
   pub page_is : page ≡ addr / 4096
   pub allowed : IsOpenTo c pid page access attr
   pub fine : verdict_of c pid addr width access ≡ Fine (seen_at c pid page attr)
+  pub unwalked : IsUnwalked c pid addr access
 
 abbrev pub Finds : Picture → ℕ → ℕ → Width → Access → Finding → Type 0
 Finds c pid addr width access (Finding.Place phys) = Grants c c pid addr width access phys

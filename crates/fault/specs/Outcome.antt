@@ -21,6 +21,7 @@ use Rattle.residency.specs.declared.kernel.Core.{Core}
 use Rattle.residency.specs.Picture.{Picture, picture_of, view}
 use Rattle.fault.specs.declared.refusal.AccessRefusal.{AccessRefusal}
 use Rattle.fault.specs.declared.refusal.AccessRefusal.TheVariants as Refusal
+use Rattle.page_entries.specs.Wants.{Wants, ReadsHome}
 use Rattle.fault.specs.Shown.{AreShown, IsSoleOwner}
 
 -- what the flat model says of the access
@@ -28,18 +29,18 @@ abbrev pub verdict_of : Picture → ℕ → ℕ → Width → Access → Verdict
 verdict_of c pid addr width access = verdict c.files (view c pid) addr (byte_count width) access
 
 -- no process sees a change, and no file page became touched or clean
-pub record KeepsViews (old new : Picture) : Type 0 where
+pub record KeepsSeen (old new : Picture) : Type 0 where
   pub views : (q k : ℕ) → view new q k ≡ view old q k
   pub touched : (p : FilePage) → new.touched p ≡ old.touched p
 
 -- A load or a fetch: frame n holds what the page shows.
 pub record Reads (old new : Picture) (v : View) (n : ℕ) : Type 0 where
-  pub keeps : KeepsViews old new
+  pub keeps : KeepsSeen old new
   pub inside : IsFrame new.frames n
   pub shown : AreShown new v (bytes_of new.frames n)
 
 -- A store to a shared page: frame n is that of the file page, which is touched now, and else all is as it was.
-pub record Touches (old new : Picture) (p : FilePage) (n : ℕ) : Type 0 where
+pub record MarksTouchedIn (old new : Picture) (p : FilePage) (n : ℕ) : Type 0 where
   pub views : (q k : ℕ) → view new q k ≡ view old q k
   pub held : IsHeld new.frames n
   pub place : new.place p ≡ Frame (record { 0 = n })
@@ -58,7 +59,7 @@ pub record Owns (old new : Picture) (pid page : ℕ) (v : View) (n : ℕ) : Type
 abbrev pub IsReadyToStore : Picture → Picture → ℕ → ℕ → View → Backing → ℕ → Type 0
 IsReadyToStore old new pid page v Anon n = Owns old new pid page v n
 IsReadyToStore old new pid page v (Private p) n = Owns old new pid page v n
-IsReadyToStore old new pid page v (Shared p) n = Touches old new p n
+IsReadyToStore old new pid page v (Shared p) n = MarksTouchedIn old new p n
 
 -- frame n is ready for the access to the page, of which this was the view
 abbrev pub IsReadyFor : Access → Picture → Picture → ℕ → ℕ → View → ℕ → Type 0
@@ -76,6 +77,14 @@ pub record Grants (old new : Picture) (pid addr : ℕ) (width : Width) (access :
   pub offset : phys.0 % 4096 ≡ addr % 4096
   pub ready : IsReadyFor access old new pid (addr / 4096) seen (phys.0 / 4096)
 
+-- The access is fine, and the walk from the process's root answers that place: the tables grant it.
+pub record IsWalked (c : Picture) (pid addr : ℕ) (width : Width) (access : Access) (phys : Phys) : Type 0 where
+  pub seen : View
+  pub fine : verdict_of c pid addr width access ≡ Fine seen
+  pub root : ℕ
+  pub lives : c.root pid ≡ Some root
+  pub place : translated 2 c.frames root addr access ≡ Ok phys
+
 module _ {D : Type 0} (g : Ghosts D) where
   module _ {E : Type 0} where
     -- what a stall comes from; there is no other yet
@@ -85,12 +94,15 @@ module _ {D : Type 0} (g : Ghosts D) where
     StallCause old new SwapDevice = ⊥
     StallCause old new StoreDevice = (new.refused.number ≡ old.refused.number) × (g.failures old.store.disk < g.failures new.store.disk)
 
-    -- a stall: the access is fine, and no process sees a change
+    -- A stall: the access is fine, and no process sees a change. A frame was wanted, or the page from its home: the store device
+    -- fails an access to no other page.
     pub record Stalls (old new : Core D E) (pid addr : ℕ) (width : Width) (access : Access) (stall : Stall) : Type 0 where
       pub seen : View
       pub fine : verdict_of (picture_of old) pid addr width access ≡ Fine seen
-      pub keeps : KeepsViews (picture_of old) (picture_of new)
+      pub keeps : KeepsSeen (picture_of old) (picture_of new)
       pub cause : StallCause old new stall
+      pub wanted : Wants (picture_of old) pid (addr / 4096) access
+      pub home : stall ≡ StoreDevice → ReadsHome (picture_of old) pid (addr / 4096)
 
     -- why there is no place: a fault is the verdict's, and nothing changed
     abbrev pub IsRefusal : Core D E → Core D E → ℕ → ℕ → Width → Access → AccessRefusal → Type 0

@@ -1,12 +1,14 @@
 //! File pages brought into memory.
-ghost use Rattle.std.specs.Prelude.{◌≡◌, true, IfOk, IfErr, OnOk};
+ghost use Rattle.std.specs.Prelude.{◌≡◌, ◌≢◌, true, IfOk, IfErr, OnOk, OnErr};
+ghost use Rattle.vm_types.specs.declared.file.FilePage.{FilePage};
+ghost use Rattle.vm_types.specs.declared.number.FrameNo.{FrameNo};
 ghost use Rattle.file_store.specs.Standing.{IsPageOf};
-ghost use Rattle.file_store.specs.Store.{IsReady};
+ghost use Rattle.file_store.specs.Store.{IsReadyStore};
 ghost use Rattle.page_cache.specs.declared.place.Place.TheVariants.{Home, Frame};
 ghost use Rattle.residency.specs.Picture.{picture_of};
-ghost use Rattle.residency.specs.Parts.{IsSized, IsFit};
+ghost use Rattle.residency.specs.Parts.{IsFit};
 ghost use Rattle.fault.specs.Entered.{Proceeds};
-ghost use Rattle.fault.specs.Outcome.{KeepsViews, StallCause};
+ghost use Rattle.fault.specs.Outcome.{KeepsSeen, StallCause};
 
 use disk_model::{DiskFault, SectorDisk};
 use frames::Role;
@@ -22,14 +24,16 @@ pub(crate) fn cached<D: SectorDisk, E>(
     core: &mut Core<D, E>,
     page: FilePage,
 ) -> Result<FrameNo, Stall>
-    requires sized { IsSized core.old }
     requires fit { IsFit (picture_of core.old) }
-    requires store { IsReady D.SectorDisk core.old.store }
+    requires store { IsReadyStore D.SectorDisk core.old.store }
     requires inside { IsPageOf (picture_of core.old).files page.file page.page }
     ensures proceeds { Proceeds D.SectorDisk core.old core.new }
-    ensures keeps { KeepsViews (picture_of core.old) (picture_of core.new) }
+    ensures keeps { KeepsSeen (picture_of core.old) (picture_of core.new) }
     ensures placed { IfOk result (λ n. (picture_of core.new).place page ≡ Frame n) }
     ensures not_refused { OnOk result (core.new.refused.number ≡ core.old.refused.number) }
+    ensures idle { (n : FrameNo) → (picture_of core.old).place page ≡ Frame n → core.new ≡ core.old }
+    ensures wanted { OnErr result ((n : FrameNo) → (picture_of core.old).place page ≢ Frame n) }
+    ensures alone { (p : FilePage) → p ≢ page → (picture_of core.new).place p ≡ (picture_of core.old).place p }
     ensures cause { IfErr result (StallCause D.SectorDisk core.old core.new) }
 {
     match core.cache.place(page) {
@@ -41,20 +45,18 @@ pub(crate) fn cached<D: SectorDisk, E>(
 
 /// Reads a file page from its home into a frame.
 fn brought<D: SectorDisk, E>(core: &mut Core<D, E>, page: FilePage) -> Result<FrameNo, Stall>
-    requires sized { IsSized core.old }
     requires fit { IsFit (picture_of core.old) }
-    requires store { IsReady D.SectorDisk core.old.store }
+    requires store { IsReadyStore D.SectorDisk core.old.store }
     requires inside { IsPageOf (picture_of core.old).files page.file page.page }
     requires home { (picture_of core.old).place page ≡ Home }
     ensures proceeds { Proceeds D.SectorDisk core.old core.new }
-    ensures keeps { KeepsViews (picture_of core.old) (picture_of core.new) }
+    ensures keeps { KeepsSeen (picture_of core.old) (picture_of core.new) }
     ensures placed { IfOk result (λ n. (picture_of core.new).place page ≡ Frame n) }
     ensures not_refused { OnOk result (core.new.refused.number ≡ core.old.refused.number) }
+    ensures alone { (p : FilePage) → p ≢ page → (picture_of core.new).place p ≡ (picture_of core.old).place p }
     ensures cause { IfErr result (StallCause D.SectorDisk core.old core.new) }
 {
     obtain(core, None)?;
-    // (brings in that the table of frames is sound)
-    let _ = core.frames.len();
     let Ok(frame) = core.frames.take(Role::Cache) else {
         unreachable!();
     };

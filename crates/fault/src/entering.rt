@@ -7,10 +7,13 @@ ghost use Rattle.sv39_walk.specs.Entry.{frame_of};
 ghost use Rattle.page_cache.specs.declared.place.Place.TheVariants.{Frame};
 ghost use Rattle.frames.specs.FrameTable.{IsSound};
 ghost use Rattle.residency.specs.Picture.{picture_of, is_live, entry, is_private};
-ghost use Rattle.residency.specs.Parts.{IsSized, IsFit, IsBehind, is_shared};
+ghost use Rattle.residency.specs.Parts.{IsFit, IsBehind, is_shared};
 ghost use Rattle.page_entries.specs.Leaves.{IsEntryOver};
+ghost use Rattle.vm_types.specs.declared.access.Access.{Access};
+ghost use Rattle.vm_types.specs.declared.access.Access.TheVariants as Access;
+ghost use Rattle.page_entries.specs.Wants.{Wants, IsCalm};
 ghost use Rattle.fault.specs.Entered.{Enters, IsRefused, IsOver, seen_at};
-ghost use Rattle.fault.specs.Outcome.{KeepsViews, Owns, Touches};
+ghost use Rattle.fault.specs.Outcome.{KeepsSeen, Owns, MarksTouchedIn};
 
 use page_entries::{ZERO_PAGE, link_tables, own_frame, regrant, show_cached, show_zero, touch};
 use residency::Core;
@@ -23,7 +26,6 @@ pub(crate) fn enter_zeros<D, E>(
     page: Vpn,
     attr: Attr,
 ) -> Result<FrameNo, Stall>
-    requires sized { IsSized core.old }
     requires fit { IsFit (picture_of core.old) }
     requires lives { is_live (picture_of core.old) pid ≡ true }
     requires mapped { (picture_of core.old).at pid page ≡ Some attr }
@@ -31,15 +33,15 @@ pub(crate) fn enter_zeros<D, E>(
     requires none { entry (picture_of core.old) pid page ≡ 0 }
     ensures enters { Enters core.old core.new }
     ensures sound { OnOk result (IsSound core.new.frames) }
-    ensures keeps { KeepsViews (picture_of core.old) (picture_of core.new) }
+    ensures keeps { KeepsSeen (picture_of core.old) (picture_of core.new) }
     ensures over { IfOk result (λ n. IsOver (picture_of core.new) pid page attr n.0) }
     ensures not_refused { OnOk result (core.new.refused.number ≡ core.old.refused.number) }
+    ensures calm { (access : Access) → (Wants (picture_of core.old) pid page access → ⊥) → IsCalm core.old core.new pid page }
+    ensures wanted { OnErr result ((access : Access) → Wants (picture_of core.old) pid page access) }
     ensures refused { IfErr result (IsRefused core.old core.new) }
 {
     link_tables(core, pid, page)?;
     show_zero(core, pid, page, attr);
-    // (brings in that the table of frames is sound)
-    let _ = core.frames.len();
     Ok(ZERO_PAGE)
 }
 
@@ -51,7 +53,6 @@ pub(crate) fn enter_cached<D, E>(
     attr: Attr,
     frame: FrameNo,
 ) -> Result<FrameNo, Stall>
-    requires sized { IsSized core.old }
     requires fit { IsFit (picture_of core.old) }
     requires lives { is_live (picture_of core.old) pid ≡ true }
     requires mapped { (picture_of core.old).at pid page ≡ Some attr }
@@ -60,15 +61,15 @@ pub(crate) fn enter_cached<D, E>(
     requires inside { is_past_end (picture_of core.old).files attr.backing ≡ false }
     ensures enters { Enters core.old core.new }
     ensures sound { OnOk result (IsSound core.new.frames) }
-    ensures keeps { KeepsViews (picture_of core.old) (picture_of core.new) }
+    ensures keeps { KeepsSeen (picture_of core.old) (picture_of core.new) }
     ensures over { IfOk result (λ n. IsOver (picture_of core.new) pid page attr n.0) }
     ensures not_refused { OnOk result (core.new.refused.number ≡ core.old.refused.number) }
+    ensures calm { (access : Access) → (Wants (picture_of core.old) pid page access → ⊥) → IsCalm core.old core.new pid page }
+    ensures wanted { OnErr result ((access : Access) → Wants (picture_of core.old) pid page access) }
     ensures refused { IfErr result (IsRefused core.old core.new) }
 {
     link_tables(core, pid, page)?;
     show_cached(core, pid, page, attr, frame);
-    // (brings in that the table of frames is sound)
-    let _ = core.frames.len();
     Ok(frame)
 }
 
@@ -80,7 +81,6 @@ pub(crate) fn enter_again<D, E>(
     attr: Attr,
     frame: FrameNo,
 ) -> Result<FrameNo, Stall>
-    requires sized { IsSized core.old }
     requires fit { IsFit (picture_of core.old) }
     requires lives { is_live (picture_of core.old) pid ≡ true }
     requires mapped { (picture_of core.old).at pid page ≡ Some attr }
@@ -88,15 +88,15 @@ pub(crate) fn enter_again<D, E>(
     requires frame { frame.0 ≡ frame_of (entry (picture_of core.old) pid page) }
     ensures enters { Enters core.old core.new }
     ensures sound { OnOk result (IsSound core.new.frames) }
-    ensures keeps { KeepsViews (picture_of core.old) (picture_of core.new) }
+    ensures keeps { KeepsSeen (picture_of core.old) (picture_of core.new) }
     ensures over { IfOk result (λ n. IsOver (picture_of core.new) pid page attr n.0) }
     ensures not_refused { OnOk result (core.new.refused.number ≡ core.old.refused.number) }
+    ensures calm { (access : Access) → (Wants (picture_of core.old) pid page access → ⊥) → IsCalm core.old core.new pid page }
+    ensures wanted { OnErr result ((access : Access) → Wants (picture_of core.old) pid page access) }
     ensures refused { IfErr result (IsRefused core.old core.new) }
 {
     link_tables(core, pid, page)?;
     regrant(core, pid, page, attr);
-    // (brings in that the table of frames is sound)
-    let _ = core.frames.len();
     Ok(frame)
 }
 
@@ -109,7 +109,6 @@ pub(crate) fn enter_touched<D, E>(
     file_page: FilePage,
     frame: FrameNo,
 ) -> Result<FrameNo, Stall>
-    requires sized { IsSized core.old }
     requires fit { IsFit (picture_of core.old) }
     requires lives { is_live (picture_of core.old) pid ≡ true }
     requires mapped { (picture_of core.old).at pid page ≡ Some attr }
@@ -118,15 +117,15 @@ pub(crate) fn enter_touched<D, E>(
     requires inside { is_past_end (picture_of core.old).files attr.backing ≡ false }
     requires cached { (picture_of core.old).place file_page ≡ Frame frame }
     ensures enters { Enters core.old core.new }
-    ensures touches { IfOk result (λ n. Touches (picture_of core.old) (picture_of core.new) file_page n.0) }
+    ensures touches { IfOk result (λ n. MarksTouchedIn (picture_of core.old) (picture_of core.new) file_page n.0) }
     ensures over { IfOk result (λ n. IsEntryOver (entry (picture_of core.new) pid page) attr.prot n.0 false true true) }
     ensures not_refused { OnOk result (core.new.refused.number ≡ core.old.refused.number) }
+    ensures calm { (Wants (picture_of core.old) pid page Access.Store → ⊥) → IsCalm core.old core.new pid page }
+    ensures wanted { OnErr result (Wants (picture_of core.old) pid page Access.Store) }
     ensures refused { IfErr result (IsRefused core.old core.new) }
 {
     link_tables(core, pid, page)?;
     touch(core, pid, page, attr, file_page, frame);
-    // (brings in that the table of frames is sound)
-    let _ = core.frames.len();
     Ok(frame)
 }
 
@@ -137,7 +136,6 @@ pub(crate) fn enter_own<D, E>(
     page: Vpn,
     attr: Attr,
 ) -> Result<FrameNo, Stall>
-    requires sized { IsSized core.old }
     requires fit { IsFit (picture_of core.old) }
     requires lives { is_live (picture_of core.old) pid ≡ true }
     requires mapped { (picture_of core.old).at pid page ≡ Some attr }
@@ -150,13 +148,11 @@ pub(crate) fn enter_own<D, E>(
     ensures owns { IfOk result (λ n. Owns (picture_of core.old) (picture_of core.new) pid page (seen_at (picture_of core.old) pid page attr) n.0) }
     ensures over { IfOk result (λ n. IsEntryOver (entry (picture_of core.new) pid page) attr.prot n.0 true true true) }
     ensures not_refused { OnOk result (core.new.refused.number ≡ core.old.refused.number) }
+    ensures calm { (Wants (picture_of core.old) pid page Access.Store → ⊥) → IsCalm core.old core.new pid page }
+    ensures wanted { OnErr result (Wants (picture_of core.old) pid page Access.Store) }
     ensures refused { IfErr result (IsRefused core.old core.new) }
 {
     link_tables(core, pid, page)?;
-    // (brings in that the table of frames is sound)
-    let _ = core.frames.len();
     let own = own_frame(core, pid, page, attr)?;
-    // (brings in that the table of frames is sound)
-    let _ = core.frames.len();
     Ok(own)
 }

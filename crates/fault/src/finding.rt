@@ -1,7 +1,7 @@
 //! What an access finds.
 ghost use Rattle.std.specs.Prelude.{◌≡◌, true};
 ghost use Rattle.residency.specs.Picture.{picture_of, is_live};
-ghost use Rattle.residency.specs.Parts.{IsSized, IsFit};
+ghost use Rattle.residency.specs.Parts.{IsFit};
 ghost use Rattle.fault.specs.Found.{Finds, Judges};
 
 use crate::faults::{is_past_end, lets};
@@ -36,7 +36,6 @@ pub(crate) fn find<D: SectorDisk, E>(
     width: Width,
     access: Access,
 ) -> Finding
-    requires sized { IsSized core.now }
     requires fit { IsFit (picture_of core.now) }
     requires lives { is_live (picture_of core.now) pid ≡ true }
     ensures { Finds (picture_of core.now) pid addr width access result }
@@ -47,8 +46,6 @@ pub(crate) fn find<D: SectorDisk, E>(
     let Some(page) = Vpn::new(addr / PAGE) else {
         return Finding::Fault(Code::SegvMaperr);
     };
-    // (brings in that the table of frames is sound)
-    let _ = core.frames.len();
     if let Ok(place) = walk(&core.frames, root_of(core, pid), addr, access) {
         return Finding::Place(place);
     }
@@ -57,7 +54,6 @@ pub(crate) fn find<D: SectorDisk, E>(
 
 /// What is known of a page by its region and its file.
 fn judge<D: SectorDisk, E>(core: &Core<D, E>, pid: Pid, page: Vpn, access: Access) -> Finding
-    requires sized { IsSized core.now }
     requires lives { is_live (picture_of core.now) pid ≡ true }
     ensures { Judges (picture_of core.now) pid page access result }
 {

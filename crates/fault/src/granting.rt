@@ -1,15 +1,19 @@
 //! A page brought in, so that its entry grants an access.
-ghost use Rattle.std.specs.Prelude.{◌≡◌, true, false, Some, IfOk, IfErr, OnOk, OnErr};
+ghost use Rattle.std.specs.Prelude.{◌≡◌, ◌⊎◌, true, false, Some, IfOk, IfErr, OnOk, OnErr};
+ghost use Rattle.vm_types.specs.declared.access.Access.{Access};
 ghost use Rattle.vm_types.specs.declared.access.Access.TheVariants as Access;
+ghost use Rattle.vm_types.specs.declared.file.FilePage.{FilePage};
+ghost use Rattle.vm_types.specs.declared.refusal.Stall.TheVariants as Stall;
 ghost use Rattle.vm_types.specs.declared.region.Backing.TheVariants.{Anon, Private, Shared};
 ghost use Rattle.vm_types.specs.Permission.{can_write};
 ghost use Rattle.vm_types.specs.Verdict.{is_past_end};
-ghost use Rattle.file_store.specs.Store.{IsReady};
+ghost use Rattle.file_store.specs.Store.{IsReadyStore};
 ghost use Rattle.residency.specs.Picture.{picture_of, is_live, entry, is_private};
-ghost use Rattle.residency.specs.Parts.{IsSized, IsFit, is_shared};
+ghost use Rattle.residency.specs.Parts.{IsFit, is_shared};
+ghost use Rattle.page_entries.specs.Wants.{Wants, ReadsHome, ShowsFile, IsCalm};
 ghost use Rattle.fault.specs.Entered.{Proceeds};
 ghost use Rattle.fault.specs.Found.{IsOpenTo};
-ghost use Rattle.fault.specs.Outcome.{KeepsViews, StallCause};
+ghost use Rattle.fault.specs.Outcome.{KeepsSeen, StallCause};
 ghost use Rattle.fault.specs.Granted.{IsGranted, IsReadable};
 
 use crate::arriving::cached;
@@ -31,15 +35,19 @@ pub(crate) fn grant<D: SectorDisk, E>(
     attr: Attr,
     access: Access,
 ) -> Result<FrameNo, Stall>
-    requires sized { IsSized core.old }
     requires fit { IsFit (picture_of core.old) }
-    requires store { IsReady D.SectorDisk core.old.store }
+    requires store { IsReadyStore D.SectorDisk core.old.store }
     requires lives { is_live (picture_of core.old) pid ≡ true }
     requires allowed { IsOpenTo (picture_of core.old) pid page access attr }
     ensures proceeds { Proceeds D.SectorDisk core.old core.new }
     ensures granted { IfOk result (λ frame. IsGranted (picture_of core.old) (picture_of core.new) pid page attr access frame.0) }
     ensures not_refused { OnOk result (core.new.refused.number ≡ core.old.refused.number) }
-    ensures keeps { OnErr result (KeepsViews (picture_of core.old) (picture_of core.new)) }
+    ensures keeps { OnErr result (KeepsSeen (picture_of core.old) (picture_of core.new)) }
+    ensures calm { (Wants (picture_of core.old) pid page access → ⊥) → IsCalm core.old core.new pid page }
+    ensures wanted { OnErr result (Wants (picture_of core.old) pid page access) }
+    ensures read { (core.new.store ≡ core.old.store) ⊎ ReadsHome (picture_of core.old) pid page }
+    ensures home { IfErr result (λ stall. stall ≡ Stall.StoreDevice → ReadsHome (picture_of core.old) pid page) }
+    ensures alone { (p : FilePage) → (ShowsFile (picture_of core.old) pid page p → ⊥) → (picture_of core.new).place p ≡ (picture_of core.old).place p }
     ensures cause { IfErr result (StallCause D.SectorDisk core.old core.new) }
 {
     match access {
@@ -55,21 +63,23 @@ fn grant_read<D: SectorDisk, E>(
     page: Vpn,
     attr: Attr,
 ) -> Result<FrameNo, Stall>
-    requires sized { IsSized core.old }
     requires fit { IsFit (picture_of core.old) }
-    requires store { IsReady D.SectorDisk core.old.store }
+    requires store { IsReadyStore D.SectorDisk core.old.store }
     requires lives { is_live (picture_of core.old) pid ≡ true }
     requires mapped { (picture_of core.old).at pid page ≡ Some attr }
     requires inside { is_past_end (picture_of core.old).files attr.backing ≡ false }
     ensures proceeds { Proceeds D.SectorDisk core.old core.new }
     ensures readable { IfOk result (λ frame. IsReadable (picture_of core.old) (picture_of core.new) pid page attr frame.0) }
     ensures not_refused { OnOk result (core.new.refused.number ≡ core.old.refused.number) }
-    ensures keeps { OnErr result (KeepsViews (picture_of core.old) (picture_of core.new)) }
+    ensures keeps { OnErr result (KeepsSeen (picture_of core.old) (picture_of core.new)) }
+    ensures calm { (access : Access) → (Wants (picture_of core.old) pid page access → ⊥) → IsCalm core.old core.new pid page }
+    ensures wanted { OnErr result ((access : Access) → Wants (picture_of core.old) pid page access) }
+    ensures read { (core.new.store ≡ core.old.store) ⊎ ReadsHome (picture_of core.old) pid page }
+    ensures home { IfErr result (λ stall. stall ≡ Stall.StoreDevice → ReadsHome (picture_of core.old) pid page) }
+    ensures alone { (p : FilePage) → (ShowsFile (picture_of core.old) pid page p → ⊥) → (picture_of core.new).place p ≡ (picture_of core.old).place p }
     ensures cause { IfErr result (StallCause D.SectorDisk core.old core.new) }
 {
     let entry = entry_at(core, pid, page);
-    // (brings in that the table of frames is sound)
-    let _ = core.frames.len();
     if entry.to_u64() != 0 {
         return enter_again(core, pid, page, attr, FrameNo(entry.frame() as u32));
     }
@@ -89,9 +99,8 @@ fn grant_store<D: SectorDisk, E>(
     page: Vpn,
     attr: Attr,
 ) -> Result<FrameNo, Stall>
-    requires sized { IsSized core.old }
     requires fit { IsFit (picture_of core.old) }
-    requires store { IsReady D.SectorDisk core.old.store }
+    requires store { IsReadyStore D.SectorDisk core.old.store }
     requires lives { is_live (picture_of core.old) pid ≡ true }
     requires mapped { (picture_of core.old).at pid page ≡ Some attr }
     requires writable { can_write attr.prot ≡ true }
@@ -99,7 +108,12 @@ fn grant_store<D: SectorDisk, E>(
     ensures proceeds { Proceeds D.SectorDisk core.old core.new }
     ensures granted { IfOk result (λ frame. IsGranted (picture_of core.old) (picture_of core.new) pid page attr Access.Store frame.0) }
     ensures not_refused { OnOk result (core.new.refused.number ≡ core.old.refused.number) }
-    ensures keeps { OnErr result (KeepsViews (picture_of core.old) (picture_of core.new)) }
+    ensures keeps { OnErr result (KeepsSeen (picture_of core.old) (picture_of core.new)) }
+    ensures calm { (Wants (picture_of core.old) pid page Access.Store → ⊥) → IsCalm core.old core.new pid page }
+    ensures wanted { OnErr result (Wants (picture_of core.old) pid page Access.Store) }
+    ensures read { (core.new.store ≡ core.old.store) ⊎ ReadsHome (picture_of core.old) pid page }
+    ensures home { IfErr result (λ stall. stall ≡ Stall.StoreDevice → ReadsHome (picture_of core.old) pid page) }
+    ensures alone { (p : FilePage) → (ShowsFile (picture_of core.old) pid page p → ⊥) → (picture_of core.new).place p ≡ (picture_of core.old).place p }
     ensures cause { IfErr result (StallCause D.SectorDisk core.old core.new) }
 {
     match attr.backing {
@@ -123,9 +137,8 @@ fn grant_own<D: SectorDisk, E>(
     page: Vpn,
     attr: Attr,
 ) -> Result<FrameNo, Stall>
-    requires sized { IsSized core.old }
     requires fit { IsFit (picture_of core.old) }
-    requires store { IsReady D.SectorDisk core.old.store }
+    requires store { IsReadyStore D.SectorDisk core.old.store }
     requires lives { is_live (picture_of core.old) pid ≡ true }
     requires mapped { (picture_of core.old).at pid page ≡ Some attr }
     requires writable { can_write attr.prot ≡ true }
@@ -135,7 +148,12 @@ fn grant_own<D: SectorDisk, E>(
     ensures proceeds { Proceeds D.SectorDisk core.old core.new }
     ensures granted { IfOk result (λ frame. IsGranted (picture_of core.old) (picture_of core.new) pid page attr Access.Store frame.0) }
     ensures not_refused { OnOk result (core.new.refused.number ≡ core.old.refused.number) }
-    ensures keeps { OnErr result (KeepsViews (picture_of core.old) (picture_of core.new)) }
+    ensures keeps { OnErr result (KeepsSeen (picture_of core.old) (picture_of core.new)) }
+    ensures calm { (Wants (picture_of core.old) pid page Access.Store → ⊥) → IsCalm core.old core.new pid page }
+    ensures wanted { OnErr result (Wants (picture_of core.old) pid page Access.Store) }
+    ensures read { (core.new.store ≡ core.old.store) ⊎ ReadsHome (picture_of core.old) pid page }
+    ensures home { IfErr result (λ stall. stall ≡ Stall.StoreDevice → ReadsHome (picture_of core.old) pid page) }
+    ensures alone { (p : FilePage) → (ShowsFile (picture_of core.old) pid page p → ⊥) → (picture_of core.new).place p ≡ (picture_of core.old).place p }
     ensures cause { IfErr result (StallCause D.SectorDisk core.old core.new) }
 {
     enter_own(core, pid, page, attr)
@@ -149,18 +167,23 @@ fn grant_copy<D: SectorDisk, E>(
     attr: Attr,
     file_page: FilePage,
 ) -> Result<FrameNo, Stall>
-    requires sized { IsSized core.old }
     requires fit { IsFit (picture_of core.old) }
-    requires store { IsReady D.SectorDisk core.old.store }
+    requires store { IsReadyStore D.SectorDisk core.old.store }
     requires lives { is_live (picture_of core.old) pid ≡ true }
     requires mapped { (picture_of core.old).at pid page ≡ Some attr }
     requires writable { can_write attr.prot ≡ true }
     requires inside { is_past_end (picture_of core.old).files attr.backing ≡ false }
     requires private { attr.backing ≡ Private file_page }
+    requires common { is_private (entry (picture_of core.old) pid page) ≡ false }
     ensures proceeds { Proceeds D.SectorDisk core.old core.new }
     ensures granted { IfOk result (λ frame. IsGranted (picture_of core.old) (picture_of core.new) pid page attr Access.Store frame.0) }
     ensures not_refused { OnOk result (core.new.refused.number ≡ core.old.refused.number) }
-    ensures keeps { OnErr result (KeepsViews (picture_of core.old) (picture_of core.new)) }
+    ensures keeps { OnErr result (KeepsSeen (picture_of core.old) (picture_of core.new)) }
+    ensures calm { (Wants (picture_of core.old) pid page Access.Store → ⊥) → IsCalm core.old core.new pid page }
+    ensures wanted { OnErr result (Wants (picture_of core.old) pid page Access.Store) }
+    ensures read { (core.new.store ≡ core.old.store) ⊎ ReadsHome (picture_of core.old) pid page }
+    ensures home { IfErr result (λ stall. stall ≡ Stall.StoreDevice → ReadsHome (picture_of core.old) pid page) }
+    ensures alone { (p : FilePage) → (ShowsFile (picture_of core.old) pid page p → ⊥) → (picture_of core.new).place p ≡ (picture_of core.old).place p }
     ensures cause { IfErr result (StallCause D.SectorDisk core.old core.new) }
 {
     cached(core, file_page)?;
@@ -175,9 +198,8 @@ fn grant_shared<D: SectorDisk, E>(
     attr: Attr,
     file_page: FilePage,
 ) -> Result<FrameNo, Stall>
-    requires sized { IsSized core.old }
     requires fit { IsFit (picture_of core.old) }
-    requires store { IsReady D.SectorDisk core.old.store }
+    requires store { IsReadyStore D.SectorDisk core.old.store }
     requires lives { is_live (picture_of core.old) pid ≡ true }
     requires mapped { (picture_of core.old).at pid page ≡ Some attr }
     requires writable { can_write attr.prot ≡ true }
@@ -186,7 +208,12 @@ fn grant_shared<D: SectorDisk, E>(
     ensures proceeds { Proceeds D.SectorDisk core.old core.new }
     ensures granted { IfOk result (λ frame. IsGranted (picture_of core.old) (picture_of core.new) pid page attr Access.Store frame.0) }
     ensures not_refused { OnOk result (core.new.refused.number ≡ core.old.refused.number) }
-    ensures keeps { OnErr result (KeepsViews (picture_of core.old) (picture_of core.new)) }
+    ensures keeps { OnErr result (KeepsSeen (picture_of core.old) (picture_of core.new)) }
+    ensures calm { (Wants (picture_of core.old) pid page Access.Store → ⊥) → IsCalm core.old core.new pid page }
+    ensures wanted { OnErr result (Wants (picture_of core.old) pid page Access.Store) }
+    ensures read { (core.new.store ≡ core.old.store) ⊎ ReadsHome (picture_of core.old) pid page }
+    ensures home { IfErr result (λ stall. stall ≡ Stall.StoreDevice → ReadsHome (picture_of core.old) pid page) }
+    ensures alone { (p : FilePage) → (ShowsFile (picture_of core.old) pid page p → ⊥) → (picture_of core.new).place p ≡ (picture_of core.old).place p }
     ensures cause { IfErr result (StallCause D.SectorDisk core.old core.new) }
 {
     let frame = cached(core, file_page)?;

@@ -1,7 +1,7 @@
 //! Live processes.
 ghost use Rattle.std.specs.Prelude.{◌≡◌, true, IfSome, is_some};
 ghost use Rattle.residency.specs.Picture.{picture_of, is_live, entry};
-ghost use Rattle.residency.specs.Parts.{IsSized, IsFit};
+ghost use Rattle.residency.specs.Parts.{IsFit};
 
 use page_entries::root_of;
 use page_tables::entry_number;
@@ -12,7 +12,6 @@ use vm_types::{Attr, Pid, Vpn};
 /// The process of that number, exactly where it lives; the calls answer ESRCH for any other number (our choice, as kill(2)
 /// has it).
 pub fn live<D, E>(core: &Core<D, E>, pid: u64) -> Option<Pid>
-    requires sized { IsSized core.now }
     requires fit { IsFit (picture_of core.now) }
     ensures known { is_some result ≡ is_live (picture_of core.now) pid }
     ensures found { IfSome result (λ found. (found ≡ pid) × (is_live (picture_of core.now) pid ≡ true)) }
@@ -23,7 +22,6 @@ pub fn live<D, E>(core: &Core<D, E>, pid: u64) -> Option<Pid>
 
 /// What a page of a live process is.
 pub(crate) fn attr_at<D, E>(core: &Core<D, E>, pid: Pid, page: Vpn) -> Option<Attr>
-    requires sized { IsSized core.now }
     requires lives { is_live (picture_of core.now) pid ≡ true }
     ensures { result ≡ (picture_of core.now).at pid page }
 {
@@ -32,7 +30,6 @@ pub(crate) fn attr_at<D, E>(core: &Core<D, E>, pid: Pid, page: Vpn) -> Option<At
 
 /// The number that stands for a page of a live process.
 pub(crate) fn entry_at<D, E>(core: &Core<D, E>, pid: Pid, page: Vpn) -> Pte
-    requires sized { IsSized core.now }
     requires fit { IsFit (picture_of core.now) }
     requires lives { is_live (picture_of core.now) pid ≡ true }
     ensures { result.0 ≡ entry (picture_of core.now) pid page }

@@ -4,8 +4,8 @@ ghost use Rattle.vm_types.specs.Attributes.{backing_fits};
 ghost use Rattle.vm_types.specs.Rows.{IsUserMap};
 ghost use Rattle.regions.specs.RunList.{attr_at};
 ghost use Rattle.regions.specs.Permission.{IsReadableMap};
-ghost use Rattle.file_store.specs.Store.{IsReady};
-ghost use Rattle.residency.specs.Parts.{IsFit, IsSized};
+ghost use Rattle.file_store.specs.Store.{IsReadyStore};
+ghost use Rattle.residency.specs.Parts.{IsFit};
 ghost use Rattle.residency.specs.Picture.{picture_of, is_live};
 
 use crate::{AccessRefusal, access, live};
@@ -45,7 +45,7 @@ fn image(alloc: Global) -> Result<SimDisk, Fail>
 
 fn opened(disk: SimDisk) -> Result<FileStore<SimDisk>, OpenFault>
     requires { (k : ℕ) → ⟦<SimDisk as SectorDisk>⟧.unsynced disk k → ⊥ }
-    ensures { IfOk result (λ store. IsReady ⟦<SimDisk as SectorDisk>⟧ store) }
+    ensures { IfOk result (λ store. IsReadyStore ⟦<SimDisk as SectorDisk>⟧ store) }
 {
     match FileStore::open(disk) {
         Ok(store) => Ok(store),
@@ -55,10 +55,9 @@ fn opened(disk: SimDisk) -> Result<FileStore<SimDisk>, OpenFault>
 
 // Memory of 8 frames, without swap.
 fn made(alloc: Global, store: FileStore<SimDisk>) -> Result<Core<SimDisk, SimDisk>, AllocError>
-    requires { IsReady ⟦<SimDisk as SectorDisk>⟧ store }
-    ensures sized { IfOk result IsSized }
+    requires { IsReadyStore ⟦<SimDisk as SectorDisk>⟧ store }
     ensures fit { IfOk result (λ core. IsFit (picture_of core)) }
-    ensures store { IfOk result (λ core. IsReady ⟦<SimDisk as SectorDisk>⟧ core.store) }
+    ensures store { IfOk result (λ core. IsReadyStore ⟦<SimDisk as SectorDisk>⟧ core.store) }
     ensures none { IfOk result (λ core. (pid : ℕ) → (picture_of core).root pid ≡ None) }
 {
     let swap = SimDisk::new(alloc, 0)?;
@@ -109,20 +108,16 @@ fn mappings() -> Result<Regions, TooManyRuns>
 
 // Process 1 with these pages.
 fn spawn(core: &mut Core<SimDisk, SimDisk>, regions: Regions) -> Result<(), Stall>
-    requires sized { IsSized core.old }
     requires fit { IsFit (picture_of core.old) }
-    requires store { IsReady ⟦<SimDisk as SectorDisk>⟧ core.old.store }
+    requires store { IsReadyStore ⟦<SimDisk as SectorDisk>⟧ core.old.store }
     requires dead { (picture_of core.old).root 1 ≡ None }
     requires readable { IsReadableMap (attr_at regions) }
     requires user { IsUserMap (attr_at regions) }
-    ensures sized { OnOk result (IsSized core.new) }
     ensures fit { OnOk result (IsFit (picture_of core.new)) }
-    ensures store { OnOk result (IsReady ⟦<SimDisk as SectorDisk>⟧ core.new.store) }
+    ensures store { OnOk result (IsReadyStore ⟦<SimDisk as SectorDisk>⟧ core.new.store) }
     ensures lives { OnOk result (is_live (picture_of core.new) 1 ≡ true) }
 {
     obtain(core, None)?;
-    // (brings in that the table of frames is sound)
-    let _ = core.frames.len();
     match take_table(&mut core.frames) {
         Ok(root) => {
             core.roots[1] = Some(root);
@@ -140,13 +135,11 @@ fn go(
     width: Width,
     kind: Access,
 ) -> Result<Phys, AccessRefusal>
-    requires sized { IsSized core.old }
     requires fit { IsFit (picture_of core.old) }
-    requires store { IsReady ⟦<SimDisk as SectorDisk>⟧ core.old.store }
+    requires store { IsReadyStore ⟦<SimDisk as SectorDisk>⟧ core.old.store }
     requires lives { is_live (picture_of core.old) 1 ≡ true }
-    ensures sized { IsSized core.new }
     ensures fit { IsFit (picture_of core.new) }
-    ensures store { IsReady ⟦<SimDisk as SectorDisk>⟧ core.new.store }
+    ensures store { IsReadyStore ⟦<SimDisk as SectorDisk>⟧ core.new.store }
     ensures lives { is_live (picture_of core.new) 1 ≡ true }
 {
     match live(core, 1) {

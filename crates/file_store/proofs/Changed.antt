@@ -1,6 +1,6 @@
 -- What a commit makes of the files.
 use Rattle.std.proofs.Common.{◌≡◌, ◌≢◌, ℕ, zero, suc, ◌+◌, ◌*◌, ◌<◌, ◌≤◌, ◌⊎◌, ⊎_elim, inl, inr, List, length, get_or, take, slice_get, slice_index, Option, Some, None, cond, false, eqb, refl, sym, ap, subst, ◌∙◌, arith}
-use Rattle.std.proofs.lemmas.Bool.{cases_eq, eq-eqb}
+use Rattle.std.proofs.lemmas.Bool.{cases_eq, cases_lt, eq-eqb}
 use Rattle.std.proofs.lemmas.Bool.Decides.{nat_tests}
 use Rattle.std.proofs.lemmas.List.{length-take-le, get_or-take}
 use Rattle.std.proofs.lemmas.Option.{same_Some, slice_get-get_or, slice_get_within}
@@ -16,11 +16,12 @@ use Rattle.vm_types.specs.declared.file.FilePage.{FilePage}
 use Rattle.file_store.specs.declared.directory.Entry.{Entry}
 use Rattle.file_store.specs.declared.directory.Directory.{Directory}
 use Rattle.file_store.specs.Layout.{trimmed, bytes_inside}
-use Rattle.file_store.specs.Directory.{IsSound, IsHomeOf}
+use Rattle.file_store.specs.Directory.{IsSoundDirectory, IsHomeOf}
 use Rattle.file_store.specs.Standing.{IsPageOf, StandsFor, directory_entry, file_info, page_standing, standing_page}
-use Rattle.file_store.specs.Store.{entry_of, home_of, inside_of, inside_at, IsEntryPage}
+use Rattle.file_store.specs.Store.{entry_of, home_of, inside_of, inside_at, IsEntryPage, PutsHomes, PutsHomesOrNone}
 use Rattle.file_store.specs.Commit.{cut_page, ArePages, Changes, StandsForEither}
-use Rattle.file_store.proofs.Pieces.{joined-same, joined_sectors, trimmed-trimmed, length-trimmed}
+use Rattle.sync_journal.proofs.Pieces.{joined-same}
+use Rattle.file_store.proofs.Pieces.{joined_sectors, trimmed-trimmed, length-trimmed}
 use Rattle.file_store.proofs.Homes.{entry_behind, home_of-entry, is_home, one_file, one_page, home_inside, inside_of-entry}
 use Rattle.file_store.proofs.Images.{bad_layout_moves, stands_kept}
 
@@ -62,7 +63,7 @@ at_place : (list : List FilePage) (i : ℕ) → i < length list → (p : FilePag
 at_place list i lt = (get_or list i no_page, slice_get-get_or list i no_page lt)
 
 pub are_homes : (sectors : ℕ) (directory : Directory) (files : ℕ → Option FileInfo) (list : List FilePage) (homes : List ℕ)
-    → IsSound (home_count sectors) (entry_of directory) → ArePages files list → AreHomesOf directory list homes → AreHomes (home_count sectors) homes
+    → IsSoundDirectory (home_count sectors) (entry_of directory) → ArePages files list → AreHomesOf directory list homes → AreHomes (home_count sectors) homes
 are_homes sectors directory files list homes sound pages of_list = record {
   few = omega (arith, pages.few, of_list.size);
   inside = λ j lt.
@@ -84,7 +85,7 @@ are_homes sectors directory files list homes sound pages of_list = record {
 
 -- A page of which the list names the home is that page of the list.
 module _ (sectors : ℕ) (directory : Directory) (list : List FilePage) (homes : List ℕ) (given : ℕ → List ℕ) (old new : Image)
-    (sound : IsSound (home_count sectors) (entry_of directory)) (same_directory : (f : ℕ) → entry_of directory f ≡ directory_entry old f)
+    (sound : IsSoundDirectory (home_count sectors) (entry_of directory)) (same_directory : (f : ℕ) → entry_of directory f ≡ directory_entry old f)
     (of_list : AreHomesOf directory list homes)
     (kept : IsKept sectors old (HomesStandFor (changed (standing old) homes (λ i. trimmed (inside_at directory list i) (given i)))) new) where
   abbrev cut : ℕ → List ℕ
@@ -122,6 +123,36 @@ module _ (sectors : ℕ) (directory : Directory) (list : List FilePage) (homes :
       ∙ ap (trimmed (bytes_inside e.info.length k)) (joined-same 8 (standing new (e.first + k)) (sector_of (cut j)) sectors_are
       ∙ joined_sectors (cut j) (ap length cut_is ∙ length-trimmed (bytes_inside e.info.length k) (given j) small) ∙ cut_is)
       ∙ trimmed-trimmed (bytes_inside e.info.length k) (given j) small
+
+  -- what stands for the homes
+  pub homes_put : AreHomes (home_count sectors) homes → PutsHomes sectors directory list given old new
+  unfolding changed
+  homes_put are = record {
+    listed = λ i j p at lt.
+        let inside : i < length homes = (let w = slice_get_within list i p at in omega (arith, w, of_list.size)) in
+        let home : slice_index homes i ≡ home_of directory p = of_list.each i p at in
+        ⊎_elim
+        (λ none. absurd (none.1 i inside home))
+        (λ some.
+        let same : some.0 ≡ i = ⊎_elim (λ e. e) (λ ne. absurd (⊎_elim
+        (λ less. are.distinct some.0 i less inside (some.3 ∙ sym home))
+        (λ more. are.distinct i some.0 more some.2 (home ∙ sym some.3))
+        (apart some.0 i ne))) (cases_eq some.0 i) in
+        kept.stands.each (home_of directory p) j lt
+        ∙ ap (sector_or cut (standing old (home_of directory p) j) j) some.1
+        ∙ ap (λ n. sector_of (cut n) j) same)
+        (place_cases (λ n. slice_index homes n) (home_of directory p) (length homes));
+    others = λ h j other lt. ⊎_elim
+        (λ none. kept.stands.each h j lt ∙ ap (sector_or cut (standing old h j) j) none.0)
+        (λ some.
+        let at = at_place list some.0 (omega (arith, some.2, of_list.size)) in
+        absurd (other some.0 at.0 at.1 (sym (of_list.each some.0 at.0 at.1) ∙ some.3)))
+        (place_cases (λ n. slice_index homes n) h (length homes));
+    outside = kept.outside;
+  }
+    where
+      apart : (m n : ℕ) → m ≢ n → (m < n) ⊎ (n < m)
+      apart m n ne = ⊎_elim (λ less. inl less) (λ more. inr (omega (arith, more, ne))) (cases_lt m n)
 
   -- so the image stands for the files after
   pub stands_changed : (files : ℕ → Option FileInfo) (before after : ℕ → ℕ → List ℕ) → StandsFor sectors files before old → Changes files list given before after → StandsFor sectors files after new
@@ -165,7 +196,7 @@ module _ (sectors : ℕ) (directory : Directory) (list : List FilePage) (homes :
 
 -- at any moment the image stands for the files before or after
 pub stands_either : (sectors : ℕ) (directory : Directory) (list : List FilePage) (homes : List ℕ) (given : ℕ → List ℕ) (old new : Image)
-    → IsSound (home_count sectors) (entry_of directory) → ((f : ℕ) → entry_of directory f ≡ directory_entry old f) → AreHomesOf directory list homes
+    → IsSoundDirectory (home_count sectors) (entry_of directory) → ((f : ℕ) → entry_of directory f ≡ directory_entry old f) → AreHomesOf directory list homes
     → (files : ℕ → Option FileInfo) (before after : ℕ → ℕ → List ℕ) → StandsFor sectors files before old → Changes files list given before after
     → IsKept sectors old (HomesStandForEither (standing old) (changed (standing old) homes (λ i. trimmed (inside_at directory list i) (given i)))) new
     → StandsForEither sectors files before after new
@@ -173,4 +204,16 @@ stands_either sectors directory list homes given old new sound same_directory of
     (λ stands. inl (stands_kept sectors old new (record { stands = stands; journal = kept.journal; outside = kept.outside }) files before was))
     (λ stands. inr (stands_changed sectors directory list homes given old new sound same_directory of_list
     (record { stands = stands; journal = kept.journal; outside = kept.outside }) files before after was changes))
+    kept.stands
+
+-- and so do the homes
+pub homes_either : (sectors : ℕ) (directory : Directory) (list : List FilePage) (homes : List ℕ) (given : ℕ → List ℕ) (old new : Image)
+    → IsSoundDirectory (home_count sectors) (entry_of directory) → ((f : ℕ) → entry_of directory f ≡ directory_entry old f) → AreHomesOf directory list homes
+    → AreHomes (home_count sectors) homes
+    → IsKept sectors old (HomesStandForEither (standing old) (changed (standing old) homes (λ i. trimmed (inside_at directory list i) (given i)))) new
+    → PutsHomesOrNone sectors directory list given old new
+homes_either sectors directory list homes given old new sound same_directory of_list are kept = ⊎_elim
+    (λ stands. inl (record { stands = stands; journal = kept.journal; outside = kept.outside }))
+    (λ stands. inr (homes_put sectors directory list homes given old new sound same_directory of_list
+    (record { stands = stands; journal = kept.journal; outside = kept.outside }) are))
     kept.stands

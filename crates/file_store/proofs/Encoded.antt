@@ -13,7 +13,7 @@ use Rattle.file_store.specs.Directory.{word_of, length_of, decoded, IsZero, byte
 use Rattle.file_store.specs.declared.sources.FileSource.{FileSource}
 use Rattle.file_store.specs.Format.{info_of, first_home, entry_given}
 use Rattle.file_store.proofs.Entries.{entry_in-inside, entry_in-outside}
-use Rattle.file_store.proofs.Pieces.{length_put}
+use Rattle.sync_journal.proofs.Pieces.{length_put}
 
 -- what two numbers say
 abbrev entry_from : ℕ → ℕ → Option Entry

@@ -6,7 +6,7 @@ use Rattle.std.proofs.lemmas.List.{get_or-take, get_or-set_same, get_or-set_othe
 use Rattle.std.proofs.lemmas.Option.{none-some}
 use Rattle.std.proofs.lemmas.Bool.Decides.{nat_tests}
 use Rattle.file_store.specs.declared.directory.Entry.{Entry}
-use Rattle.file_store.specs.Directory.{decoded, entry_in, bytes_in, IsZero, end_of, IsHomeOf, IsBadDirectory, IsSound, AreGood, AreEntries}
+use Rattle.file_store.specs.Directory.{decoded, entry_in, bytes_in, IsZero, end_of, IsHomeOf, IsBadDirectory, IsSoundDirectory, AreGood, AreEntries}
 use Rattle.file_store.specs.Directory.IsBadDirectory.{NotZero, Outside, Overlap}
 
 pub entry_in-inside : (sector : List ℕ) (f : ℕ) → f < 64 → entry_in sector f ≡ decoded (bytes_in sector f)
@@ -66,7 +66,7 @@ good_directory homes sector good (Outside f e is past) = omega (arith, good.with
 good_directory homes sector good (Overlap f g h a b less is is' in_a in_b) = good.apart f g h a b less (below_64 sector g b is') is is' in_a in_b
 
 -- and its entries are sound
-pub good_is_sound : (homes : ℕ) (sector : List ℕ) (entry : ℕ → Option Entry) → AreGood homes sector 64 → ((f : ℕ) → entry f ≡ entry_in sector f) → IsSound homes entry
+pub good_is_sound : (homes : ℕ) (sector : List ℕ) (entry : ℕ → Option Entry) → AreGood homes sector 64 → ((f : ℕ) → entry f ≡ entry_in sector f) → IsSoundDirectory homes entry
 good_is_sound homes sector entry good same = record {
   within = λ f e is. good.within f e (below_64 sector f e (sym (same f) ∙ is)) (sym (same f) ∙ is);
   apart = λ f g h a b less is is'. good.apart f g h a b less (below_64 sector g b (sym (same g) ∙ is')) (sym (same f) ∙ is) (sym (same g) ∙ is');

@@ -4,6 +4,7 @@ use Rattle.std.proofs.lemmas.List.{take_all, take_at, drop-replicate}
 use Rattle.std.proofs.lemmas.Option.{none-some, same_Some}
 use Rattle.std.specs.Io.KnownBytes.{Consumes}
 use Rattle.file_store.specs.Layout.{trimmed}
+use Rattle.file_store.proofs.Pieces.{trimmed-trimmed}
 
 -- the front of what is told, and zeros
 pub trimmed_front : (n : ℕ) (given rest : List ℕ) → length given ≡ n → n ≤ 4096 → given ++ drop n (replicate 4096 0) ≡ trimmed n (given ++ rest)
@@ -28,3 +29,7 @@ pub is_read : (old new : Option (List ℕ)) (told given : List ℕ) → old ≡ 
 is_read None new told given is consumes = absurd (none-some told is)
 is_read (Some xs) None told given is consumes = absurd consumes
 is_read (Some xs) (Some ys) told given is consumes = record { rest = ys; is_left = refl; whole = sym (same_Some xs told is) ∙ consumes }
+
+-- a page that is cut is so again
+pub trimmed_is : (n : ℕ) (page bytes : List ℕ) → n ≤ 4096 → page ≡ trimmed n bytes → trimmed n page ≡ page
+trimmed_is n page bytes small is = ap (trimmed n) is ∙ trimmed-trimmed n bytes small ∙ sym is

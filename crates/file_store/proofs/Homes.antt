@@ -8,7 +8,7 @@ use Rattle.vm_types.specs.declared.file.FileInfo.{FileInfo}
 use Rattle.vm_types.specs.declared.file.FilePage.{FilePage}
 use Rattle.file_store.specs.declared.directory.Entry.{Entry}
 use Rattle.file_store.specs.declared.directory.Directory.{Directory}
-use Rattle.file_store.specs.Directory.{IsHomeOf, IsSound}
+use Rattle.file_store.specs.Directory.{IsHomeOf, IsSoundDirectory}
 use Rattle.file_store.specs.Standing.{IsPageOf}
 use Rattle.file_store.specs.Store.{entry_of, home_in, home_of, inside_in, inside_of, IsEntryPage}
 use Rattle.file_store.specs.Layout.{bytes_inside}
@@ -26,7 +26,7 @@ home_of-entry directory p e is = ap (λ o. home_in o p.page) is
 pub is_home : (e : Entry) (k : ℕ) → 4096 * k < e.info.length → IsHomeOf e (e.first + k)
 is_home e k inside = (omega arith, omega (arith, inside))
 
-pub entry_page : (sectors : ℕ) (directory : Directory) → IsSound (home_count sectors) (entry_of directory) → (p : FilePage)
+pub entry_page : (sectors : ℕ) (directory : Directory) → IsSoundDirectory (home_count sectors) (entry_of directory) → (p : FilePage)
     → IsPageOf (λ f. option_map (λ e. e.info) (entry_of directory f)) p.file p.page → IsEntryPage directory p
 entry_page sectors directory sound p inside =
     let b = entry_behind (entry_of directory p.file) inside.0 inside.1 in
@@ -34,19 +34,19 @@ entry_page sectors directory sound p inside =
     let lt : 4096 * p.page < b.0.info.length = subst (λ (i : FileInfo). 4096 * p.page < i.length) (sym b.2) inside.2 in
     record { entry = b.0; is = b.1; inside = lt; fits = omega (arith, within, lt) }
 
-pub home_inside : (sectors : ℕ) (directory : Directory) → IsSound (home_count sectors) (entry_of directory) → (p : FilePage) → (at : IsEntryPage directory p) → at.entry.first + p.page < home_count sectors
+pub home_inside : (sectors : ℕ) (directory : Directory) → IsSoundDirectory (home_count sectors) (entry_of directory) → (p : FilePage) → (at : IsEntryPage directory p) → at.entry.first + p.page < home_count sectors
 home_inside sectors directory sound p at =
     let within = sound.within p.file at.entry at.is in
     omega (arith, within, at.inside)
 
 -- a home belongs to one page of one file
-pub one_file : (homes : ℕ) (entry : ℕ → Option Entry) → IsSound homes entry → (f g h : ℕ) (a b : Entry) → entry f ≡ Some a → entry g ≡ Some b → IsHomeOf a h → IsHomeOf b h → f ≡ g
+pub one_file : (homes : ℕ) (entry : ℕ → Option Entry) → IsSoundDirectory homes entry → (f g h : ℕ) (a b : Entry) → entry f ≡ Some a → entry g ≡ Some b → IsHomeOf a h → IsHomeOf b h → f ≡ g
 one_file homes entry sound f g h a b is is' in_a in_b = ⊎_elim (λ e. e)
     (λ ne. ⊎_elim (λ lt. absurd (sound.apart f g h a b lt is is' in_a in_b))
     (λ le. absurd (sound.apart g f h b a (omega (arith, ne, le)) is' is in_b in_a)) (cases_lt f g))
     (cases_eq f g)
 
-pub one_page : (homes : ℕ) (directory : Directory) → IsSound homes (entry_of directory) → (p q : FilePage) → (a : IsEntryPage directory p) → (b : IsEntryPage directory q)
+pub one_page : (homes : ℕ) (directory : Directory) → IsSoundDirectory homes (entry_of directory) → (p q : FilePage) → (a : IsEntryPage directory p) → (b : IsEntryPage directory q)
     → a.entry.first + p.page ≡ b.entry.first + q.page → p ≡ q
 one_page homes directory sound p q a b same =
     let file = one_file homes (entry_of directory) sound p.file q.file (a.entry.first + p.page) a.entry b.entry a.is b.is

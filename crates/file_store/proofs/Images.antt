@@ -7,11 +7,12 @@ use Rattle.sync_journal.specs.Standing.{standing, standing_under, IsBadJournal}
 use Rattle.sync_journal.specs.Standing.{StandsFor as HomesStandFor}
 use Rattle.sync_journal.specs.Commit.{IsKept}
 use Rattle.file_store.specs.declared.directory.Entry.{Entry}
-use Rattle.file_store.specs.Layout.{mark, trimmed, joined, bytes_inside}
+use Rattle.sync_journal.specs.Standing.{joined}
+use Rattle.file_store.specs.Layout.{mark, trimmed, bytes_inside}
 use Rattle.file_store.specs.Directory.{entry_in, IsBadDirectory, AreGood}
 use Rattle.file_store.specs.Standing.{IsBadLayout, directory_entry, file_info, page_standing, standing_page, StandsFor, StandsAs}
 use Rattle.file_store.specs.Standing.IsBadLayout.{TooSmall, Unmarked, BadDirectory}
-use Rattle.file_store.proofs.Pieces.{joined-same}
+use Rattle.sync_journal.proofs.Pieces.{joined-same}
 use Rattle.file_store.proofs.Entries.{good_directory}
 
 -- under a closed gate a home page stands in its home
@@ -51,14 +52,11 @@ layout_is_good sectors image room is_mark good (TooSmall few) = omega (arith, ro
 layout_is_good sectors image room is_mark good (Unmarked other) = other is_mark
 layout_is_good sectors image room is_mark good (BadDirectory bad) = good_directory (home_count sectors) (image 1) good bad
 
--- a page read from its home, and trimmed
-pub page_read : (image : Image) (f k : ℕ) (e : Entry) (at inside : ℕ) (bytes page : List ℕ) → is_open image ≡ false → directory_entry image f ≡ Some e
-    → at ≡ home_sector (e.first + k) → inside ≡ bytes_inside e.info.length k → bytes ≡ joined (λ i. image (at + i)) 8 → page ≡ trimmed inside bytes → page ≡ standing_page image f k
-page_read image f k e at inside bytes page closed entry_is at_is inside_is bytes_is page_is =
-    page_is ∙ ap (λ (n : ℕ). trimmed n bytes) inside_is
-    ∙ ap (trimmed (bytes_inside e.info.length k)) (bytes_is ∙ joined-same 8 (λ i. image (at + i)) (standing image (e.first + k))
-    (λ i lt. ap (λ (a : ℕ). image (a + i)) at_is ∙ sym (standing_closed image (e.first + k) i closed)))
-    ∙ sym (ap (page_standing image k) entry_is)
+-- a page as it stands for its home, trimmed
+pub page_read : (image : Image) (f k : ℕ) (e : Entry) (inside : ℕ) (bytes page : List ℕ) → directory_entry image f ≡ Some e
+    → inside ≡ bytes_inside e.info.length k → bytes ≡ joined (standing image (e.first + k)) 8 → page ≡ trimmed inside bytes → page ≡ standing_page image f k
+page_read image f k e inside bytes page entry_is inside_is bytes_is page_is =
+    page_is ∙ ap (λ (n : ℕ). trimmed n bytes) inside_is ∙ ap (trimmed (bytes_inside e.info.length k)) bytes_is ∙ sym (ap (page_standing image k) entry_is)
 
 -- a device with nothing unsynced
 pub synced_stands : (sectors : ℕ) (content : Image) (unsynced : ℕ → Type 0) → ((k : ℕ) → unsynced k → ⊥) → (image : Image) → MayLeave content unsynced image → StandsAs sectors content image

@@ -1,6 +1,7 @@
 pub mod Entries
 pub mod Pieces
 pub mod Reading
+pub mod Rests
 pub mod Images
 pub mod Homes
 pub mod Openings
@@ -12,3 +13,4 @@ pub mod NewStores
 pub mod Formats
 pub mod Encoded
 pub mod Filled
+pub mod Stops

@@ -6,17 +6,19 @@ use Rattle.std.proofs.lemmas.Option.{none-some, same_Some, slice_get_within, sli
 use Rattle.vm_types.specs.declared.file.FileInfo.{FileInfo}
 use Rattle.disk_model.specs.Stop.{Image}
 use Rattle.sync_journal.specs.Layout.{home_count, home_sector}
-use Rattle.sync_journal.specs.Gate.{is_open, is_open_sector}
+use Rattle.sync_journal.specs.Gate.{is_open}
 use Rattle.sync_journal.specs.Standing.{sector_of, standing}
 use Rattle.sync_journal.proofs.Changes.{closed_not_bad}
+use Rattle.sync_journal.proofs.Gates.{closed}
 use Rattle.file_store.specs.declared.directory.Entry.{Entry}
 use Rattle.file_store.specs.declared.sources.FileSource.{FileSource}
 use Rattle.file_store.specs.Layout.{mark, page_count, bytes_inside, trimmed}
 use Rattle.file_store.specs.Directory.{AreGood}
 use Rattle.file_store.specs.Standing.{directory_entry, page_standing, standing_page}
-use Rattle.file_store.specs.Format.{page_told, info_of, files_given, total_pages, told_by, first_home, entry_given, HoldsPage, IsTooLarge, IsDirectoryOf, IsUnmarkedStoreOf, IsStoreOf}
+use Rattle.file_store.specs.Format.{page_told, page_given, info_of, files_given, total_pages, told_by, first_home, entry_given, HoldsPage, HoldsCut, IsTooLarge, IsDirectoryOf, IsUnmarkedStoreOf, IsStoreOf}
 use Rattle.file_store.specs.Format.IsTooLarge.{TooFewSectors, TooManyPages}
-use Rattle.file_store.proofs.Pieces.{joined-same, joined_sectors, trimmed-trimmed, length-trimmed}
+use Rattle.sync_journal.proofs.Pieces.{joined-same}
+use Rattle.file_store.proofs.Pieces.{joined_sectors, trimmed-trimmed, length-trimmed}
 use Rattle.file_store.proofs.Images.{standing_closed, layout_is_good}
 
 -- where a list goes on
@@ -159,24 +161,34 @@ told_size n k told page is =
     let small : bytes_inside n k ≤ 4096 = omega arith in
     ap length is.page_is ∙ length-trimmed (bytes_inside n k) (drop (4096 * k) is.bytes) small
 
+-- a home that is not written
+pub cut_moves : (h inside : ℕ) (given : Option (List ℕ)) (old new : Image) → ((i : ℕ) → i < 8 → new (home_sector h + i) ≡ old (home_sector h + i))
+    → HoldsCut h inside given old → HoldsCut h inside given new
+cut_moves h inside given old new same cut = record { page = cut.page; zeros = cut.zeros; holds = λ i lt. same i lt ∙ cut.holds i lt; is = cut.is }
+
+-- a home that holds a given page
+cut_given : (h inside : ℕ) (given : Option (List ℕ)) (page : List ℕ) (image : Image) → HoldsCut h inside given image → given ≡ Some page → HoldsPage h page image
+cut_given h inside given page image cut is i lt = cut.holds i lt ∙ ap (λ (p : List ℕ). sector_of p i) (cut.is page is)
+
 module _ {R : Type 0} (remaining : R → Option (List ℕ)) (sources : List (FileSource R)) where
   -- the mark is no part of it
   pub unmarked_moves : (old new : Image) → ((k : ℕ) → 1 ≤ k → new k ≡ old k) → IsUnmarkedStoreOf remaining sources old → IsUnmarkedStoreOf remaining sources new
   unmarked_moves old new same all = record {
     directory = subst (λ (s : List ℕ). IsDirectoryOf sources s) (sym (same 1 (omega arith))) all.directory;
-    gate = ap is_open_sector (same 2 (omega arith)) ∙ all.gate;
-    files = λ f source lt at k page below given i inside. same (home_sector (first_home sources f + k) + i) (omega arith) ∙ all.files f source lt at k page below given i inside;
+    gate = same 2 (omega arith) ∙ all.gate;
+    files = λ f source lt at k below. cut_moves (first_home sources f + k) (bytes_inside source.length k) (page_given remaining source k) old new
+        (λ i inside. same (home_sector (first_home sources f + k) + i) (omega arith)) (all.files f source lt at k below);
   }
 
   -- a page of it
   page_stands : (image : Image) (f k : ℕ) (source : FileSource R) (page : List ℕ) → is_open image ≡ false
       → directory_entry image f ≡ Some (record { first = first_home sources f; info = info_of source })
       → HoldsPage (first_home sources f + k) page image → IsTold source.length k (told_by remaining source.bytes) page → standing_page image f k ≡ page
-  page_stands image f k source page closed entry holds told =
+  page_stands image f k source page is_closed entry holds told =
       let first = first_home sources f in
       ap (page_standing image k) entry
       ∙ ap (trimmed (bytes_inside source.length k)) (joined-same 8 (standing image (first + k)) (sector_of page)
-      (λ i inside. standing_closed image (first + k) i closed ∙ holds i inside) ∙ joined_sectors page (told_size source.length k (told_by remaining source.bytes) page told))
+      (λ i inside. standing_closed image (first + k) i is_closed ∙ holds i inside) ∙ joined_sectors page (told_size source.length k (told_by remaining source.bytes) page told))
       ∙ told_trimmed source.length k (told_by remaining source.bytes) page told
 
   -- with the mark it is the store
@@ -184,12 +196,14 @@ module _ {R : Type 0} (remaining : R → Option (List ℕ)) (sources : List (Fil
       → IsUnmarkedStoreOf remaining sources image → image 0 ≡ mark → IsStoreOf remaining sectors sources image
   store_if_marked sectors image room fit all marked = record {
     layout = layout_is_good sectors image room marked (good_given (home_count sectors) sources (image 1) fit (omega arith) all.directory);
-    journal = closed_not_bad sectors image all.gate;
+    journal = closed_not_bad sectors image (closed (image 2) all.gate);
     facts = λ f. ap (option_map (λ (e : Entry). e.info)) (all.directory.entries f) ∙ info_given sources f;
     pages = λ f k source page at inside given.
         let end = first_home-fits sources f source at in
         let first : first_home sources f < 1073741824 = omega (arith, end, fit, inside) in
-        page_stands image f k source page all.gate (all.directory.entries f ∙ entry_of_pages sources f source at first)
-        (all.files f source (slice_get_within sources f source at) at k page (omega (arith, inside)) given)
+        page_stands image f k source page (closed (image 2) all.gate) (all.directory.entries f ∙ entry_of_pages sources f source at first)
+        (cut_given (first_home sources f + k) (bytes_inside source.length k) (page_given remaining source k) page image
+        (all.files f source (slice_get_within sources f source at) at k (omega (arith, inside))) given)
         (is_told source.length k (told_by remaining source.bytes) page given);
+    made = all;
   }

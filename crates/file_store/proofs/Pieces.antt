@@ -6,40 +6,13 @@ use Rattle.std.proofs.Math.Seq.{take-add}
 use Rattle.sync_journal.specs.Standing.{sector_of}
 use Rattle.std.proofs.lemmas.Slice.{put_mid-paste}
 use borrow.Rule.Slice.PartMut.{put_mid, mid_of}
-use Rattle.file_store.specs.Layout.{joined, trimmed}
-
-pub joined-none : (pieces : ℕ → List ℕ) → joined pieces 0 ≡ []
-unfolding joined
-joined-none pieces = refl
-
-pub joined-more : (pieces : ℕ → List ℕ) (n : ℕ) → joined pieces (n + 1) ≡ joined pieces n ++ pieces n
-unfolding joined
-joined-more pieces n = rw add-one refl
-
--- equal pieces
-pub joined-same : (n : ℕ) (xs ys : ℕ → List ℕ) → ((i : ℕ) → i < n → xs i ≡ ys i) → joined xs n ≡ joined ys n
-unfolding joined
-joined-same zero xs ys same = refl
-joined-same (suc n) xs ys same =
-    ap (λ (s : List ℕ). s ++ xs n) (joined-same n xs ys (λ i lt. same i (omega (arith, lt)))) ∙ ap (λ (s : List ℕ). joined ys n ++ s) (same n (omega arith))
-
--- a page with one more sector in place
-pub page_step : (page sector : List ℕ) (i : ℕ) → length sector ≡ 512 → 512 * i + 512 ≤ length page
-    → take (512 * (i + 1)) (take (512 * i) page ++ sector ++ drop (512 * i + 512) page) ≡ take (512 * i) page ++ sector
-page_step page sector i size room =
-    let front : length (take (512 * i) page ++ sector) ≡ 512 * (i + 1) = omega (arith, length-append (take (512 * i) page) sector, length-take-le (512 * i) page (omega (arith, room)), size) in
-    take_at (take (512 * i) page ++ sector) (drop (512 * i + 512) page) (512 * (i + 1)) front
+use Rattle.sync_journal.specs.Standing.{joined}
+use Rattle.file_store.specs.Layout.{trimmed}
 
 -- trimmed to as many bytes as the page has in the file
 pub trimmed_fill : (n : ℕ) (page : List ℕ) → length page ≡ 4096 → n ≤ 4096 → take n page ++ replicate (4096 - n) 0 ≡ trimmed n page
 unfolding trimmed
 trimmed_fill n page size le = ap (λ (k : ℕ). take n page ++ replicate (4096 - k) 0) (sym (length-take-le n page (omega (arith, size, le))))
-
--- a part of a page written over
-pub length_put : (a k : ℕ) (xs ys : List ℕ) → a + k ≤ length xs → length ys ≡ k → length (put_mid a k xs ys) ≡ length xs
-length_put a k xs ys room size =
-    ap length (put_mid-paste a k xs ys ys k refl refl (sym size))
-    ∙ simp (length-append, length-take, length-drop) (omega (arith, room, size))
 
 pub trimmed_put : (n : ℕ) (page zeros : List ℕ) → length page ≡ 4096 → n ≤ 4096 → zeros ≡ replicate (4096 - n) 0 → put_mid n (4096 - n) page zeros ≡ trimmed n page
 trimmed_put n page zeros size le is =

@@ -48,7 +48,7 @@ pub data IsBadDirectory (homes : ℕ) (sector : List ℕ) : Type 0 where
   Overlap : (f g h : ℕ) (a b : Entry) → f < g → entry_in sector f ≡ Some a → entry_in sector g ≡ Some b → IsHomeOf a h → IsHomeOf b h → IsBadDirectory homes sector
 
 -- entries whose homes lie within the store, none in two files
-pub record IsSound (homes : ℕ) (entry : ℕ → Option Entry) : Type 0 where
+pub record IsSoundDirectory (homes : ℕ) (entry : ℕ → Option Entry) : Type 0 where
   pub within : (f : ℕ) (e : Entry) → entry f ≡ Some e → end_of e ≤ homes
   pub apart : (f g h : ℕ) (a b : Entry) → f < g → entry f ≡ Some a → entry g ≡ Some b → IsHomeOf a h → IsHomeOf b h → ⊥
 

@@ -1,10 +1,9 @@
 -- What a new store is made of.
-use Rattle.std.specs.Prelude.{ℕ, ◌+◌, ◌*◌, ◌%◌, ◌<◌, ◌≤◌, ◌≡◌, ◌⊎◌, false, List, [], ◌∷◌, take, drop, length, slice_get, Option, Some, None}
+use Rattle.std.specs.Prelude.{ℕ, ◌+◌, ◌*◌, ◌%◌, ◌<◌, ◌≤◌, ◌≡◌, ◌⊎◌, List, [], ◌∷◌, take, drop, length, slice_get, replicate, Option, Some, None, IsSome}
 use Rattle.std.specs.Option.{option_map}
 use Rattle.vm_types.specs.declared.file.FileInfo.{FileInfo}
 use Rattle.disk_model.specs.Stop.{Image}
-use Rattle.sync_journal.specs.Layout.{home_count, home_sector}
-use Rattle.sync_journal.specs.Gate.{is_open}
+use Rattle.sync_journal.specs.Layout.{home_count, home_sector, gate_sector}
 use Rattle.sync_journal.specs.Standing.{IsBadJournal, sector_of}
 use Rattle.file_store.specs.declared.directory.Entry.{Entry}
 use Rattle.file_store.specs.declared.sources.FileSource.{FileSource}
@@ -32,6 +31,13 @@ IsLayoutSector k = (k ≡ 1) ⊎ (k ≡ 2)
 abbrev pub HoldsPage : ℕ → List ℕ → Image → Type 0
 HoldsPage h page image = (i : ℕ) → i < 8 → image (home_sector h + i) ≡ sector_of page i
 
+-- Home page h holds a page of which so many bytes lie inside its file, and zeros past them: the given page, if one is given.
+pub record HoldsCut (h inside : ℕ) (given : Option (List ℕ)) (image : Image) : Type 0 where
+  pub page : List ℕ
+  pub zeros : trimmed inside page ≡ page
+  pub holds : HoldsPage h page image
+  pub is : (told : List ℕ) → given ≡ Some told → page ≡ told
+
 module _ {R : Type 0} where
   abbrev pub info_of : FileSource R → FileInfo
   info_of source = record { length = source.length; read_only = source.read_only }
@@ -56,21 +62,23 @@ module _ {R : Type 0} where
   told_by remaining None = Some []
   told_by remaining (Some reader) = remaining reader
 
+  -- the bytes that a source's reader tells, where there is a reader that tells them
+  abbrev pub reader_tells : (R → Option (List ℕ)) → Option R → Option (List ℕ)
+  reader_tells remaining None = None
+  reader_tells remaining (Some reader) = remaining reader
+
+  -- The first n of the sources have as many bytes as they are long, where there is a reader that tells them.
+  abbrev pub AreWhole : (R → Option (List ℕ)) → List (FileSource R) → ℕ → Type 0
+  AreWhole remaining sources n = (f : ℕ) (source : FileSource R) (told : List ℕ) → f < n → slice_get sources f ≡ Some source
+      → reader_tells remaining source.bytes ≡ Some told → source.length ≤ length told
+
+  -- one of the sources has bytes that a reader gives
+  abbrev pub HasReader : List (FileSource R) → Type 0
+  HasReader sources = (f : ℕ) × (source : FileSource R) × (slice_get sources f ≡ Some source) × IsSome source.bytes × (0 < source.length)
+
   -- page k of a source, where it tells its bytes
   abbrev pub page_given : (R → Option (List ℕ)) → FileSource R → ℕ → Option (List ℕ)
   page_given remaining source k = page_told source.length k (told_by remaining source.bytes)
-
-  -- The image is a store of the sources' files: with their facts and, where they tell them, their bytes.
-  pub record IsStoreOf (remaining : R → Option (List ℕ)) (sectors : ℕ) (sources : List (FileSource R)) (image : Image) : Type 0 where
-    pub layout : IsBadLayout sectors image → ⊥
-    pub journal : IsBadJournal sectors image → ⊥
-    pub facts : (f : ℕ) → file_info image f ≡ files_given sources f
-    pub pages : (f k : ℕ) (source : FileSource R) (page : List ℕ) → slice_get sources f ≡ Some source → 4096 * k < source.length
-        → page_given remaining source k ≡ Some page → standing_page image f k ≡ page
-
-  -- An image that has the mark is such a store.
-  abbrev pub IsStoreIfMarked : (R → Option (List ℕ)) → ℕ → List (FileSource R) → Image → Type 0
-  IsStoreIfMarked remaining sectors sources image = image 0 ≡ mark → IsStoreOf remaining sectors sources image
 
   -- the first home of file f: the homes of the files before it come first
   abbrev pub first_home : List (FileSource R) → ℕ → ℕ
@@ -85,9 +93,10 @@ module _ {R : Type 0} where
     pub entries : (f : ℕ) → entry_in sector f ≡ entry_given sources f
     pub rest : (f : ℕ) → f < 64 → length sources ≤ f → IsZero (bytes_in sector f)
 
-  -- The homes from first on hold the first n pages of the source, where it tells them.
+  -- The homes from first on hold the first n pages of the source: the pages that it tells, where it does, and zeros past
+  -- its end.
   abbrev pub HoldsPages : (R → Option (List ℕ)) → FileSource R → ℕ → ℕ → Image → Type 0
-  HoldsPages remaining source first n image = (k : ℕ) (page : List ℕ) → k < n → page_given remaining source k ≡ Some page → HoldsPage (first + k) page image
+  HoldsPages remaining source first n image = (k : ℕ) → k < n → HoldsCut (first + k) (bytes_inside source.length k) (page_given remaining source k) image
 
   -- The homes hold the first n of the sources' files.
   abbrev pub HoldsFiles : (R → Option (List ℕ)) → List (FileSource R) → ℕ → Image → Type 0
@@ -97,5 +106,19 @@ module _ {R : Type 0} where
   -- The image has all of the sources' store but the mark.
   pub record IsUnmarkedStoreOf (remaining : R → Option (List ℕ)) (sources : List (FileSource R)) (image : Image) : Type 0 where
     pub directory : IsDirectoryOf sources (image 1)
-    pub gate : is_open image ≡ false
+    pub gate : image gate_sector ≡ replicate 512 0
     pub files : HoldsFiles remaining sources (length sources) image
+
+  -- The image is a store of the sources' files: with their facts and, where they tell them, their bytes.
+  pub record IsStoreOf (remaining : R → Option (List ℕ)) (sectors : ℕ) (sources : List (FileSource R)) (image : Image) : Type 0 where
+    pub layout : IsBadLayout sectors image → ⊥
+    pub journal : IsBadJournal sectors image → ⊥
+    pub facts : (f : ℕ) → file_info image f ≡ files_given sources f
+    pub pages : (f k : ℕ) (source : FileSource R) (page : List ℕ) → slice_get sources f ≡ Some source → 4096 * k < source.length
+        → page_given remaining source k ≡ Some page → standing_page image f k ≡ page
+    -- byte for byte: the directory, a gate of zeros, and the homes one after the other in the order of the sources
+    pub made : IsUnmarkedStoreOf remaining sources image
+
+  -- An image that has the mark is such a store.
+  abbrev pub IsStoreIfMarked : (R → Option (List ℕ)) → ℕ → List (FileSource R) → Image → Type 0
+  IsStoreIfMarked remaining sectors sources image = image 0 ≡ mark → IsStoreOf remaining sectors sources image

@@ -1,5 +1,5 @@
 -- Pages of files, and the mark of a store. The format is our own.
-use Rattle.std.specs.Prelude.{ℕ, zero, suc, ◌+◌, ◌-◌, ◌*◌, ◌/◌, min, List, [], ◌∷◌, ◌++◌, take, length, replicate}
+use Rattle.std.specs.Prelude.{ℕ, ◌+◌, ◌-◌, ◌*◌, ◌/◌, min, List, [], ◌∷◌, ◌++◌, take, length, replicate}
 use Rattle.sync_journal.specs.Gate.{repeated}
 
 -- sector 0 of every store: the bytes `FAMSYNC1`, 64 times
@@ -17,8 +17,3 @@ bytes_inside length k = min 4096 (length - 4096 * k)
 -- a page of 4,096 bytes that has the first n of these and then zeros
 unfoldable pub trimmed : ℕ → List ℕ → List ℕ
 trimmed n page = take n page ++ replicate (4096 - length (take n page)) 0
-
--- the first n pieces, one after another
-unfoldable pub joined : (ℕ → List ℕ) → ℕ → List ℕ
-joined pieces zero = []
-joined pieces (suc n) = joined pieces n ++ pieces n

@@ -6,3 +6,4 @@ pub mod Format
 pub mod Standing
 pub mod Store
 pub mod Commit
+pub mod Stops

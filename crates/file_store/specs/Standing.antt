@@ -1,12 +1,12 @@
 -- The files that an image of a store stands for. The format is our own.
-use Rattle.std.specs.Prelude.{ℕ, ◌+◌, ◌*◌, ◌<◌, ◌≡◌, ◌≢◌, List, [], take, Option, Some, None}
+use Rattle.std.specs.Prelude.{ℕ, ◌+◌, ◌*◌, ◌^◌, ◌<◌, ◌≡◌, ◌≢◌, List, [], take, Option, Some, None}
 use Rattle.std.specs.Option.{option_map}
 use Rattle.vm_types.specs.declared.file.FileInfo.{FileInfo}
 use Rattle.disk_model.specs.Stop.{Image}
 use Rattle.sync_journal.specs.Layout.{home_count}
-use Rattle.sync_journal.specs.Standing.{standing, IsBadJournal}
+use Rattle.sync_journal.specs.Standing.{standing, joined, IsBadJournal}
 use Rattle.file_store.specs.declared.directory.Entry.{Entry}
-use Rattle.file_store.specs.Layout.{mark, page_count, bytes_inside, trimmed, joined}
+use Rattle.file_store.specs.Layout.{mark, page_count, bytes_inside, trimmed}
 use Rattle.file_store.specs.Directory.{entry_in, IsBadDirectory}
 
 -- An image without the layout of a store: the device is too small, the mark is missing, or the directory is bad.
@@ -35,6 +35,10 @@ standing_page image f k = page_standing image k (directory_entry image f)
 -- page k begins inside file f
 abbrev pub IsPageOf : (ℕ → Option FileInfo) → ℕ → ℕ → Type 0
 IsPageOf files f k = (info : FileInfo) × (files f ≡ Some info) × (4096 * k < info.length)
+
+-- Files that a directory can say: their numbers are under 64, and their lengths are of four bytes.
+pub record AreBounded (files : ℕ → Option FileInfo) : Type 0 where
+  pub each : (f k : ℕ) → IsPageOf files f k → (f < 64) × (k < 2 ^ 20)
 
 -- The image stands for these files, with these bytes in each of their pages: it has the layout of a store, and its
 -- journal is one that a commit wrote.

@@ -1,19 +1,22 @@
 -- An open store.
-use Rattle.std.specs.Prelude.{ℕ, ◌+◌, ◌*◌, ◌^◌, ◌<◌, ◌≤◌, ◌≡◌, List, slice_get, Option, Some, None, get_or}
+use Rattle.std.specs.Prelude.{ℕ, ◌+◌, ◌*◌, ◌^◌, ◌<◌, ◌≤◌, ◌≡◌, ◌⊎◌, List, slice_get, Option, Some, None, get_or}
 use Rattle.std.specs.Option.{option_map}
 use Rattle.vm_types.specs.declared.file.FileInfo.{FileInfo}
 use Rattle.disk_model.specs.declared.sector_disk.SectorDisk.{Ghosts}
-use Rattle.sync_journal.specs.Layout.{home_count}
-use Rattle.sync_journal.specs.Commit.{IsQuiet}
+use Rattle.sync_journal.specs.Layout.{home_count, IsOutside}
+use Rattle.sync_journal.specs.Commit.{HomesStandAs, IsQuiet, IsAtRest as IsJournalAtRest}
+use Rattle.sync_journal.specs.Journal.{live_homes}
+use Rattle.sync_journal.specs.Map.{AreHomes}
 use Rattle.file_store.specs.declared.directory.Entry.{Entry}
 use Rattle.file_store.specs.declared.directory.Directory.{Directory}
 use Rattle.file_store.specs.declared.store.FileStore.{FileStore}
 use Rattle.vm_types.specs.declared.file.FilePage.{FilePage}
-use Rattle.file_store.specs.Layout.{bytes_inside}
-use Rattle.file_store.specs.Directory.{IsSound}
-use Rattle.file_store.specs.Standing.{directory_entry, IsBadLayout, StandsAs}
+use Rattle.file_store.specs.Layout.{bytes_inside, trimmed}
+use Rattle.file_store.specs.Directory.{IsSoundDirectory}
+use Rattle.file_store.specs.Standing.{directory_entry, IsBadLayout}
+use Rattle.disk_model.specs.Stop.{Image}
 use Rattle.disk_model.specs.Moments.{LeavesNow}
-use Rattle.sync_journal.specs.Standing.{IsBadJournal}
+use Rattle.sync_journal.specs.Standing.{IsBadJournal, standing, sector_of}
 
 -- the entry of file f
 abbrev pub entry_of : Directory → ℕ → Option Entry
@@ -25,15 +28,17 @@ module _ {D : Type 0} where
   files_of store f = option_map (λ e. e.info) (entry_of store.directory f)
 
 module _ {D : Type 0} (g : Ghosts D) where
-  -- what the store's device holds, as long as it keeps its model: the directory is the store's, and no journal is open
+  -- what the store's device holds, as long as it keeps its model: the directory is the store's, and the journal open is
+  -- the one that the store knows of, if any
   pub record IsAtRest (store : FileStore D) : Type 0 where
-    pub quiet : IsQuiet g store.disk
+    pub journal : IsJournalAtRest g (live_homes store.journal) store.disk
     pub directory : (f : ℕ) → entry_of store.directory f ≡ directory_entry (g.content store.disk) f
 
   -- The store may be read and committed to.
-  pub record IsReady (store : FileStore D) : Type 0 where
+  pub record IsReadyStore (store : FileStore D) : Type 0 where
     pub room : 1020 ≤ g.sector_count store.disk
-    pub sound : IsSound (home_count (g.sector_count store.disk)) (entry_of store.directory)
+    pub sound : IsSoundDirectory (home_count (g.sector_count store.disk)) (entry_of store.directory)
+    pub live : AreHomes (home_count (g.sector_count store.disk)) (live_homes store.journal)
     pub at_rest : g.keeps_model store.disk → IsAtRest store
 
 -- how many bytes of the page at place i of a list lie inside its file, where it has one
@@ -64,12 +69,25 @@ unfoldable pub home_of : Directory → FilePage → ℕ
 home_of directory p = home_in (entry_of directory p.file) p.page
 
 module _ {D : Type 0} (g : Ghosts D) where
-  -- What opening leaves: the device at rest with this directory, and what it stood for.
+  -- What opening leaves: the device at rest with this directory, and what stood for its homes.
   pub record IsMounted (old new : D) (directory : Directory) : Type 0 where
     pub room : 1020 ≤ g.sector_count old
-    pub sound : IsSound (home_count (g.sector_count old)) (entry_of directory)
+    pub sound : IsSoundDirectory (home_count (g.sector_count old)) (entry_of directory)
     pub quiet : g.keeps_model new → IsQuiet g new
     pub same : g.keeps_model new → (f : ℕ) → entry_of directory f ≡ directory_entry (g.content new) f
     pub layout : g.keeps_model new → IsBadLayout (g.sector_count old) (g.content old) → ⊥
     pub journal : g.keeps_model new → IsBadJournal (g.sector_count old) (g.content old) → ⊥
-    pub stands : g.keeps_model new → LeavesNow g new (StandsAs (g.sector_count old) (g.content old))
+    pub stands : g.keeps_model new → LeavesNow g new (HomesStandAs (g.sector_count old) (g.content old))
+
+-- What a commit of these pages makes of the homes: a page of the list stands for its home whole, with zeros past its
+-- file's end, and every other home stands as it did, the bytes past a file's end too. The mark, the directory and what
+-- lies behind the last home are as they were.
+pub record PutsHomes (sectors : ℕ) (directory : Directory) (list : List FilePage) (given : ℕ → List ℕ) (old new : Image) : Type 0 where
+  pub listed : (i j : ℕ) (p : FilePage) → slice_get list i ≡ Some p → j < 8
+      → standing new (home_of directory p) j ≡ sector_of (trimmed (inside_at directory list i) (given i)) j
+  pub others : (h j : ℕ) → ((i : ℕ) (p : FilePage) → slice_get list i ≡ Some p → home_of directory p ≡ h → ⊥) → j < 8 → standing new h j ≡ standing old h j
+  pub outside : (k : ℕ) → IsOutside sectors k → new k ≡ old k
+
+-- the homes stand as they did, or as the commit makes them
+abbrev pub PutsHomesOrNone : ℕ → Directory → List FilePage → (ℕ → List ℕ) → Image → Image → Type 0
+PutsHomesOrNone sectors directory list given old new = HomesStandAs sectors old new ⊎ PutsHomes sectors directory list given old new

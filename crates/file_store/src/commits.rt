@@ -3,17 +3,17 @@ ghost use Rattle.std.specs.Prelude.{◌≡◌, ◌<◌, ◌≤◌, ℕ, List, Op
 ghost use Rattle.vm_types.specs.declared.file.FileInfo.{FileInfo};
 ghost use Rattle.vm_types.specs.declared.file.FilePage.{FilePage};
 ghost use Rattle.disk_model.specs.Moments.{LeavesOnly, LeavesNow};
+ghost use Rattle.sync_journal.specs.Commit.{HomesStandAs};
 ghost use Rattle.sync_journal.specs.Source.{HasCauses, Asks};
 ghost use Rattle.file_store.specs.Standing.{StandsFor};
-ghost use Rattle.file_store.specs.Store.{files_of, home_of, IsEntryPage, IsReady};
+ghost use Rattle.file_store.specs.Store.{files_of, home_of, IsEntryPage, IsReadyStore, PutsHomes, PutsHomesOrNone};
 ghost use Rattle.file_store.specs.Commit.{ArePages, Changes, StandsForEither};
 
 use crate::directory::Directory;
-use crate::layout::COMMIT_PAGES;
 use crate::store::FileStore;
 use crate::trimmed::Trimmed;
 use disk_model::SectorDisk;
-use sync_journal::{CommitFault, PageSource};
+use sync_journal::{CommitFault, PAGE_LIMIT, PageSource};
 use vm_types::FilePage;
 
 impl<D: SectorDisk> FileStore<D> {
@@ -28,7 +28,7 @@ impl<D: SectorDisk> FileStore<D> {
         pages: &[FilePage],
         source: &mut S,
     ) -> Result<(), CommitFault>
-        requires ready { IsReady D.SectorDisk self.old }
+        requires ready { IsReadyStore D.SectorDisk self.old }
         requires pages { ArePages (files_of self.old) pages.now }
         requires gives { (i : ℕ) → i < length pages.now → S.gives source.old i }
 
@@ -37,8 +37,8 @@ impl<D: SectorDisk> FileStore<D> {
         ensures asks { Asks S.PageSource source.old source.new }
         ensures causes { HasCauses (D.failures self.old.disk) (D.failures self.new.disk) (S.failures source.old) (S.failures source.new) result }
         ensures files { self.new.directory ≡ self.old.directory }
-        ensures ready { OnOk result (IsReady D.SectorDisk self.new) }
-        ensures ready_after_source { IsErrOf result CommitFault.Source → IsReady D.SectorDisk self.new }
+        ensures ready { OnOk result (IsReadyStore D.SectorDisk self.new) }
+        ensures ready_after_source { IsErrOf result CommitFault.Source → IsReadyStore D.SectorDisk self.new }
 
         // Every image of a stop at any moment of the call stands for the files before or after.
         ensures any_moment { D.keeps_model self.new.disk → S.keeps_model source.new
@@ -51,6 +51,15 @@ impl<D: SectorDisk> FileStore<D> {
             → (files : ℕ → Option FileInfo) (before after : ℕ → ℕ → List ℕ) → LeavesNow D.SectorDisk self.old.disk (StandsFor (D.sector_count self.old.disk) files before)
             → Changes files pages.now (S.pages source.old) before after
             → OnOk result (LeavesNow D.SectorDisk self.new.disk (StandsFor (D.sector_count self.old.disk) files after)) }
+
+        // What stands for the homes, meanwhile and then: the pages, with zeros past their files' ends, and for every other
+        // home what stood for it.
+        ensures homes_moment { D.keeps_model self.new.disk → S.keeps_model source.new
+            → LeavesOnly D.SectorDisk self.old.disk self.new.disk (PutsHomesOrNone (D.sector_count self.old.disk) self.old.directory pages.now (S.pages source.old) (D.content self.old.disk)) }
+        ensures homes { D.keeps_model self.new.disk → S.keeps_model source.new
+            → OnOk result (LeavesNow D.SectorDisk self.new.disk (PutsHomes (D.sector_count self.old.disk) self.old.directory pages.now (S.pages source.old) (D.content self.old.disk))) }
+        ensures source_homes { D.keeps_model self.new.disk → IsErrOf result CommitFault.Source
+            → LeavesNow D.SectorDisk self.new.disk (HomesStandAs (D.sector_count self.old.disk) (D.content self.old.disk)) }
 
         // After a source's fault they stand for the files before, as at every moment of the call.
         ensures source { D.keeps_model self.new.disk → IsErrOf result CommitFault.Source
@@ -72,12 +81,12 @@ impl<D: SectorDisk> FileStore<D> {
 }
 
 /// The home pages of these pages, which begin inside their files, one after the other.
-fn homes_of(directory: &Directory, pages: &[FilePage]) -> [u32; COMMIT_PAGES]
+fn homes_of(directory: &Directory, pages: &[FilePage]) -> [u32; PAGE_LIMIT]
     requires few { length pages.now ≤ 127 }
     requires inside { (i : ℕ) (p : FilePage) → slice_get pages.now i ≡ Some p → IsEntryPage directory.now p }
     ensures { (i : ℕ) (p : FilePage) → slice_get pages.now i ≡ Some p → slice_index result i ≡ home_of directory.now p }
 {
-    let mut homes = [0; COMMIT_PAGES];
+    let mut homes = [0; PAGE_LIMIT];
     for i in 0..pages.len() {
         homes[i] = directory.home_of(pages[i]);
     }

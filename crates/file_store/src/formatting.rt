@@ -1,17 +1,15 @@
 //! New stores.
-ghost use Rattle.std.specs.Prelude.{◌≡◌, ◌≢◌, ◌+◌, ◌<◌, ◌≤◌, ◌⊎◌, ◌↔◌, ℕ, OnOk, OnErr, IsErr, IsErrOf, length, replicate};
+ghost use Rattle.std.specs.Prelude.{◌≡◌, ◌≢◌, ◌+◌, ◌<◌, ◌≤◌, ◌⊎◌, ◌↔◌, ℕ, List, Some, OnOk, OnErr, IsErr, IsErrOf, IsSome, length, replicate};
 ghost use Rattle.disk_model.specs.Moments.{Touches, Nothing, LeavesOnly};
 ghost use Rattle.sync_journal.specs.Layout.{home_count, home_sector};
 ghost use Rattle.sync_journal.specs.Runs.{Runs};
 ghost use Rattle.file_store.specs.Layout.{mark, page_count};
-ghost use Rattle.file_store.specs.Format.{info_of, total_pages, IsTooLarge, IsStoreOf, IsStoreIfMarked, IsUnmarkedStoreOf, HoldsFiles, HoldsPages, IsFrom, IsMarkSector, IsLayoutSector};
+ghost use Rattle.file_store.specs.Format.{info_of, total_pages, IsTooLarge, IsStoreOf, IsStoreIfMarked, IsUnmarkedStoreOf, HoldsFiles, HoldsPages, HasReader, AreWhole, reader_tells, IsFrom, IsMarkSector, IsLayoutSector};
 
 use crate::faults::FormatFault;
-use crate::layout::{
-    DIRECTORY_SECTOR, GATE_SECTOR, MARK_SECTOR, SECTOR_BYTES, is_mark, mark_bytes,
-};
+use crate::layout::{DIRECTORY_SECTOR, GATE_SECTOR, MARK_SECTOR, is_mark, mark_bytes};
 use crate::sources::{FileSource, directory_of, is_too_large};
-use disk_model::{DiskFault, SectorDisk};
+use disk_model::{DiskFault, SECTOR_BYTES, SectorDisk};
 use std::io::Read;
 use sync_journal::{FIRST_HOME, PAGE_SECTORS, write_page};
 
@@ -38,6 +36,10 @@ pub fn format<D: SectorDisk, R: Read>(
         → IsErrOf result FormatFault.TooLarge ⊎ (IsErrOf result FormatFault.Formatted ⊎ IsErrOf result FormatFault.Device) }
     ensures unwritten { D.keeps_model disk.new → IsErrOf result FormatFault.TooLarge ⊎ IsErrOf result FormatFault.Formatted
         → Touches D.SectorDisk Nothing disk.old disk.new }
+
+    // Source only where a reader was asked for bytes; and after Ok each reader that tells its bytes told enough of them.
+    ensures source { IsErrOf result FormatFault.Source → HasReader sources.old }
+    ensures whole { OnOk result (AreWhole R.remaining sources.old (length sources.old)) }
 
     // After Ok the device holds the store, with its mark, and all of it is synced.
     ensures ok { D.keeps_model disk.new → OnOk result (IsStoreOf R.remaining (D.sector_count disk.old) sources.old (D.content disk.new)) }
@@ -89,6 +91,8 @@ fn write_unmarked<D: SectorDisk, R: Read>(
     ensures run { Runs D.SectorDisk (IsFrom 1) disk.old disk.new }
     ensures device { IsErrOf result FormatFault.Device → D.failures disk.old < D.failures disk.new }
     ensures others { OnErr result (IsErrOf result FormatFault.Source ⊎ IsErrOf result FormatFault.Device) }
+    ensures source { IsErrOf result FormatFault.Source → HasReader sources.old }
+    ensures whole { OnOk result (AreWhole R.remaining sources.old (length sources.old)) }
     ensures written { D.keeps_model disk.new → OnOk result (IsUnmarkedStoreOf R.remaining sources.old (D.content disk.new)) }
     ensures synced { D.keeps_model disk.new → OnOk result ((k : ℕ) → D.unsynced disk.new k → ⊥) }
 {
@@ -107,6 +111,8 @@ fn write_homes<D: SectorDisk, R: Read>(
     ensures run { Runs D.SectorDisk (IsFrom 1020) disk.old disk.new }
     ensures device { IsErrOf result FormatFault.Device → D.failures disk.old < D.failures disk.new }
     ensures others { OnErr result (IsErrOf result FormatFault.Source ⊎ IsErrOf result FormatFault.Device) }
+    ensures source { IsErrOf result FormatFault.Source → HasReader sources.old }
+    ensures whole { OnOk result (AreWhole R.remaining sources.old (length sources.old)) }
     ensures files { D.keeps_model disk.new → OnOk result (HoldsFiles R.remaining sources.old (length sources.old) (D.content disk.new)) }
 {
     let mut first = 0;
@@ -129,6 +135,8 @@ fn write_file<D: SectorDisk, R: Read>(
     ensures run { Runs D.SectorDisk (IsFrom (home_sector first)) disk.old disk.new }
     ensures device { IsErrOf result FormatFault.Device → D.failures disk.old < D.failures disk.new }
     ensures others { OnErr result (IsErrOf result FormatFault.Source ⊎ IsErrOf result FormatFault.Device) }
+    ensures source { IsErrOf result FormatFault.Source → IsSome source.old.bytes × (0 < source.old.length) }
+    ensures whole { OnOk result ((told : List ℕ) → reader_tells R.remaining source.old.bytes ≡ Some told → source.old.length ≤ length told) }
     ensures pages { D.keeps_model disk.new → OnOk result (HoldsPages R.remaining source.old first (page_count source.old.length) (D.content disk.new)) }
 {
     for k in 0..source.pages() {

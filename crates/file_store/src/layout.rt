@@ -11,26 +11,11 @@ pub(crate) const DIRECTORY_SECTOR: u64 = 1;
 /// The gate of the journal.
 pub(crate) const GATE_SECTOR: u64 = 2;
 
-/// The first sector of the first home page, and the fewest sectors of a store.
-pub(crate) const FIRST_HOME: u64 = 1020;
-
-/// The sectors of a page.
-pub(crate) const PAGE_SECTORS: usize = 8;
-
-/// The bytes of a sector.
-pub(crate) const SECTOR_BYTES: usize = 512;
-
 /// The bytes of a page.
 pub(crate) const PAGE_BYTES: u64 = vm_types::PAGE_BYTES as u64;
 
-/// The most home pages of a store, however large the device is.
-pub(crate) const MAX_HOMES: u64 = 1 << 30;
-
 /// The entries of the directory.
 pub(crate) const FILES: usize = 64;
-
-/// The most pages of one commit.
-pub(crate) const COMMIT_PAGES: usize = 127;
 
 const MARK: &[u8; 512] = b"\
     FAMSYNC1FAMSYNC1FAMSYNC1FAMSYNC1FAMSYNC1FAMSYNC1FAMSYNC1FAMSYNC1\

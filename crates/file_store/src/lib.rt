@@ -28,6 +28,7 @@ mod trimmed;
 
 pub use faults::{FormatFault, OpenFault};
 pub use formatting::format;
+pub use opening::stops_in_a_row;
 pub use sources::{FileSource, image_bytes};
 pub use store::FileStore;
 

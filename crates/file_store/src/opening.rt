@@ -1,32 +1,35 @@
 //! A store found on a device.
 ghost use Rattle.std.specs.Prelude.{◌≡◌, ◌<◌, ◌≤◌, ℕ, IfOk, IfErr, OnOk, OnErr, IsErrOf};
+ghost use Rattle.disk_model.specs.Stop.{Image};
 ghost use Rattle.disk_model.specs.Moments.{Touches, Nothing, LeavesOnly, LeavesNow};
 ghost use Rattle.sync_journal.specs.Standing.{IsBadJournal};
-ghost use Rattle.sync_journal.specs.Layout.{home_count};
-ghost use Rattle.file_store.specs.Directory.{IsSound};
-ghost use Rattle.file_store.specs.Standing.{IsBadLayout, StandsAs, directory_entry};
-ghost use Rattle.file_store.specs.Store.{IsReady, IsMounted, entry_of};
+ghost use Rattle.sync_journal.specs.Layout.{home_count as homes_of};
+ghost use Rattle.sync_journal.specs.Commit.{HomesStandAs, KeepsHomes};
+ghost use Rattle.file_store.specs.Directory.{IsSoundDirectory};
+ghost use Rattle.file_store.specs.Standing.{IsBadLayout, StandsAs, AreBounded, directory_entry};
+ghost use Rattle.file_store.specs.Stops.{LeftInARow};
+ghost use Rattle.file_store.specs.Store.{IsReadyStore, IsMounted, entry_of, files_of};
 
 use crate::directory::Directory;
 use crate::faults::OpenFault;
-use crate::layout::{
-    DIRECTORY_SECTOR, FIRST_HOME, MARK_SECTOR, MAX_HOMES, PAGE_SECTORS, SECTOR_BYTES, is_mark,
-};
+use crate::layout::{DIRECTORY_SECTOR, MARK_SECTOR, is_mark};
 use crate::store::FileStore;
-use disk_model::SectorDisk;
-use sync_journal::{Journal, recover};
+use disk_model::{SECTOR_BYTES, SectorDisk};
+use sync_journal::{FIRST_HOME, Journal, home_count, recover};
 
 impl<D: SectorDisk> FileStore<D> {
-    /// Opens the store on a device that has nothing unsynced, as after a stop. The layout is looked at first, then the
-    /// journal, and then an open journal is carried out. Every image that a stop might leave meanwhile stands for what
-    /// the device did at first.
+    /// Opens the store on a device, as a stop left it or as whoever had it last in this program: what he wrote may be
+    /// unsynced still. The layout is looked at first, then all is synced, and then an open journal is carried out. What
+    /// the device did at first is what it does now, and after every stop from now on; and where nothing was unsynced, so
+    /// does every image that a stop might leave meanwhile, any number of times in a row.
+    ///
+    /// # Errors
     ///
     /// `BadLayout` and `BadJournal` come exactly where the image is so, unless the device fails first; nothing was
     /// written then. `Device` comes only where the device failed. Each fault hands the device back.
     pub fn open(disk: D) -> Result<FileStore<D>, (OpenFault, D)>
-        requires { D.keeps_model disk → (k : ℕ) → D.unsynced disk k → ⊥ }
-
-        ensures ready { IfOk result (λ store. IsReady D.SectorDisk store) }
+        ensures ready { IfOk result (λ store. IsReadyStore D.SectorDisk store) }
+        ensures bounded { IfOk result (λ store. AreBounded (files_of store)) }
         ensures size { IfOk result (λ store. D.sector_count store.disk ≡ D.sector_count disk) }
         ensures kept { IfOk result (λ store. D.keeps_model store.disk → D.keeps_model disk) }
         ensures later { IfOk result (λ store. D.failures disk ≤ D.failures store.disk) }
@@ -35,9 +38,16 @@ impl<D: SectorDisk> FileStore<D> {
         ensures good_layout { IfOk result (λ store. D.keeps_model store.disk → IsBadLayout (D.sector_count disk) (D.content disk) → ⊥) }
         ensures good_journal { IfOk result (λ store. D.keeps_model store.disk → IsBadJournal (D.sector_count disk) (D.content disk) → ⊥) }
 
-        // It stands for what it did, at every moment of the call and from then on.
-        ensures any_moment { IfOk result (λ store. D.keeps_model store.disk → LeavesOnly D.SectorDisk disk store.disk (StandsAs (D.sector_count disk) (D.content disk))) }
+        // It stands for what it did, from now on, and so does every home, the bytes past its file's end too.
         ensures now { IfOk result (λ store. D.keeps_model store.disk → LeavesNow D.SectorDisk store.disk (StandsAs (D.sector_count disk) (D.content disk))) }
+        ensures homes { IfOk result (λ store. D.keeps_model store.disk → LeavesNow D.SectorDisk store.disk (HomesStandAs (D.sector_count disk) (D.content disk))) }
+
+        // Where nothing was unsynced, as after a stop, it does so at every moment of the call: as it did at first, and as it
+        // did before any earlier stop.
+        ensures any_moment { IfOk result (λ store. D.keeps_model store.disk → ((k : ℕ) → D.unsynced disk k → ⊥)
+            → LeavesOnly D.SectorDisk disk store.disk (StandsAs (D.sector_count disk) (D.content disk))) }
+        ensures in_a_row { IfOk result (λ store. D.keeps_model store.disk → ((k : ℕ) → D.unsynced disk k → ⊥) → (first : Image) → StandsAs (D.sector_count disk) first (D.content disk)
+            → LeavesOnly D.SectorDisk disk store.disk (StandsAs (D.sector_count disk) first)) }
 
         ensures err_size { IfErr result (λ e. D.sector_count e.1 ≡ D.sector_count disk) }
         ensures err_kept { IfErr result (λ e. D.keeps_model e.1 → D.keeps_model disk) }
@@ -48,7 +58,10 @@ impl<D: SectorDisk> FileStore<D> {
         // A bad layout is told before a bad journal.
         ensures layout_first { IfErr result (λ e. D.keeps_model e.1 → e.0 ≡ OpenFault.BadJournal → IsBadLayout (D.sector_count disk) (D.content disk) → ⊥) }
         ensures unwritten { IfErr result (λ e. D.keeps_model e.1 → (e.0 ≡ OpenFault.Device → ⊥) → Touches D.SectorDisk Nothing disk e.1) }
-        ensures err_moment { IfErr result (λ e. D.keeps_model e.1 → LeavesOnly D.SectorDisk disk e.1 (StandsAs (D.sector_count disk) (D.content disk))) }
+        ensures err_moment { IfErr result (λ e. D.keeps_model e.1 → ((k : ℕ) → D.unsynced disk k → ⊥)
+            → LeavesOnly D.SectorDisk disk e.1 (StandsAs (D.sector_count disk) (D.content disk))) }
+        ensures err_in_a_row { IfErr result (λ e. D.keeps_model e.1 → ((k : ℕ) → D.unsynced disk k → ⊥) → (first : Image) → StandsAs (D.sector_count disk) first (D.content disk)
+            → LeavesOnly D.SectorDisk disk e.1 (StandsAs (D.sector_count disk) first)) }
     {
         let mut disk = disk;
         match mount(&mut disk) {
@@ -62,9 +75,14 @@ impl<D: SectorDisk> FileStore<D> {
     }
 }
 
+/// It does nothing: its contract is a law. Whatever image any number of stops in a row leave, each within an opening of
+/// what the one before left, stands for the files of the first image.
+pub fn stops_in_a_row<D: SectorDisk>(_disk: &D)
+    ensures { (sectors n : ℕ) (first last : Image) → LeftInARow D.SectorDisk sectors n first last → StandsAs sectors first last }
+{}
+
 /// Reads the directory and carries out an open journal.
 fn mount<D: SectorDisk>(disk: &mut D) -> Result<Directory, OpenFault>
-    requires { D.keeps_model disk.old → (k : ℕ) → D.unsynced disk.old k → ⊥ }
     ensures size { D.sector_count disk.new ≡ D.sector_count disk.old }
     ensures kept { D.keeps_model disk.new → D.keeps_model disk.old }
     ensures later { D.failures disk.old ≤ D.failures disk.new }
@@ -73,7 +91,7 @@ fn mount<D: SectorDisk>(disk: &mut D) -> Result<Directory, OpenFault>
     ensures bad_layout { D.keeps_model disk.new → IsErrOf result OpenFault.BadLayout → IsBadLayout (D.sector_count disk.old) (D.content disk.old) }
     ensures bad_journal { D.keeps_model disk.new → IsErrOf result OpenFault.BadJournal → IsBadJournal (D.sector_count disk.old) (D.content disk.old) × (IsBadLayout (D.sector_count disk.old) (D.content disk.old) → ⊥) }
     ensures unwritten { D.keeps_model disk.new → OnErr result ((IsErrOf result OpenFault.Device → ⊥) → Touches D.SectorDisk Nothing disk.old disk.new) }
-    ensures any_moment { D.keeps_model disk.new → LeavesOnly D.SectorDisk disk.old disk.new (StandsAs (D.sector_count disk.old) (D.content disk.old)) }
+    ensures any_moment { D.keeps_model disk.new → ((k : ℕ) → D.unsynced disk.old k → ⊥) → KeepsHomes D.SectorDisk disk.old disk.new }
 {
     let directory = read_layout(disk)?;
     recover(disk)?;
@@ -87,7 +105,7 @@ fn read_layout<D: SectorDisk>(disk: &mut D) -> Result<Directory, OpenFault>
     ensures later { D.failures disk.old ≤ D.failures disk.new }
     ensures touches { D.keeps_model disk.new → Touches D.SectorDisk Nothing disk.old disk.new }
     ensures room { OnOk result (1020 ≤ D.sector_count disk.old) }
-    ensures sound { IfOk result (λ directory. IsSound (home_count (D.sector_count disk.old)) (entry_of directory)) }
+    ensures sound { IfOk result (λ directory. IsSoundDirectory (homes_of (D.sector_count disk.old)) (entry_of directory)) }
     ensures entries { D.keeps_model disk.new → IfOk result (λ directory. (f : ℕ) → entry_of directory f ≡ directory_entry (D.content disk.old) f) }
     ensures good { D.keeps_model disk.new → OnOk result (IsBadLayout (D.sector_count disk.old) (D.content disk.old) → ⊥) }
     ensures device { IsErrOf result OpenFault.Device → D.failures disk.old < D.failures disk.new }
@@ -104,7 +122,6 @@ fn read_layout<D: SectorDisk>(disk: &mut D) -> Result<Directory, OpenFault>
         return Err(OpenFault::BadLayout);
     }
     disk.read(DIRECTORY_SECTOR, &mut sector)?;
-    let homes = ((sectors - FIRST_HOME) / PAGE_SECTORS as u64).min(MAX_HOMES);
-    let directory = Directory::from_sector(&sector, homes)?;
+    let directory = Directory::from_sector(&sector, home_count(sectors))?;
     Ok(directory)
 }

@@ -1,11 +1,12 @@
 //! What files are made of.
-ghost use Rattle.std.specs.Prelude.{◌≡◌, ◌+◌, ◌-◌, ◌*◌, ◌≤◌, ◌^◌, ◌↔◌, ℕ, min, List, Some, length, drop, replicate, OnOk, OnErr, IsErrOf, IsTrue};
+ghost use Rattle.std.specs.Prelude.{◌≡◌, ◌+◌, ◌-◌, ◌*◌, ◌≤◌, ◌^◌, ◌↔◌, ℕ, min, List, Some, length, drop, replicate, OnOk, OnErr, IsErrOf, IsSome, IsTrue};
 ghost use Rattle.file_store.specs.Layout.{page_count, bytes_inside, trimmed};
-ghost use Rattle.file_store.specs.Format.{info_of, told_by, total_pages, IsTooLarge, IsDirectoryOf};
+ghost use Rattle.file_store.specs.Format.{info_of, told_by, reader_tells, total_pages, IsTooLarge, IsDirectoryOf};
 
 use crate::directory::Entry;
 use crate::faults::FormatFault;
-use crate::layout::{FILES, PAGE_BYTES, SECTOR_BYTES};
+use crate::layout::{FILES, PAGE_BYTES};
+use disk_model::SECTOR_BYTES;
 use std::io::Read;
 use sync_journal::{FIRST_HOME, MAX_HOMES, home_count};
 use vm_types::FileInfo;
@@ -45,9 +46,13 @@ impl<R: Read> FileSource<R> {
         requires bound { k ≤ 2 ^ 20 }
         requires zeros { page.old ≡ replicate 4096 0 }
         ensures info { info_of self.new ≡ info_of self.old }
-        ensures cause { OnErr result (IsErrOf result FormatFault.Source) }
+        ensures cause { OnErr result (IsErrOf result FormatFault.Source × IsSome self.old.bytes) }
+        ensures reader { IsSome self.new.bytes → IsSome self.old.bytes }
+        ensures zeros { OnOk result (trimmed (bytes_inside self.old.length k) page.new ≡ page.new) }
         ensures page { OnOk result ((told : List ℕ) → told_by R.remaining self.old.bytes ≡ Some told → page.new ≡ trimmed (bytes_inside self.old.length k) told) }
         ensures rest { OnOk result ((told : List ℕ) → told_by R.remaining self.old.bytes ≡ Some told → told_by R.remaining self.new.bytes ≡ Some (drop (bytes_inside self.old.length k) told)) }
+        ensures tells { OnOk result ((told : List ℕ) → reader_tells R.remaining self.old.bytes ≡ Some told
+            → (bytes_inside self.old.length k ≤ length told) × (reader_tells R.remaining self.new.bytes ≡ Some (drop (bytes_inside self.old.length k) told))) }
     {
         let inside = u64::from(self.length)
             .saturating_sub(PAGE_BYTES * k)

@@ -3,11 +3,10 @@ ghost use Rattle.std.specs.Prelude.{◌≡◌, ◌<◌, ◌≤◌, ℕ, IsSome, 
 ghost use Rattle.disk_model.specs.Stop.{HasCause};
 ghost use Rattle.disk_model.specs.Moments.{Touches, Nothing};
 ghost use Rattle.file_store.specs.Standing.{standing_page, IsPageOf};
-ghost use Rattle.file_store.specs.Store.{files_of, IsReady};
+ghost use Rattle.file_store.specs.Store.{files_of, IsReadyStore};
 
 use crate::directory::Directory;
-use crate::layout::{FIRST_HOME, PAGE_SECTORS};
-use crate::pages::{read_sectors, trim};
+use crate::pages::trim;
 use disk_model::{DiskFault, SectorDisk};
 use sync_journal::Journal;
 use vm_types::{FileInfo, FilePage};
@@ -53,21 +52,21 @@ impl<D: SectorDisk> FileStore<D> {
     /// Reads a page that begins inside its file: the file's bytes, and zeros past its end. A fault comes only where
     /// the device failed, and nothing is then said of `to`.
     pub fn read_page(&mut self, page: FilePage, to: &mut [u8; 4096]) -> Result<(), DiskFault>
-        requires ready { IsReady D.SectorDisk self.old }
+        requires ready { IsReadyStore D.SectorDisk self.old }
         requires inside { IsPageOf (files_of self.old) page.file page.page }
         ensures size { D.sector_count self.new.disk ≡ D.sector_count self.old.disk }
         ensures kept { D.keeps_model self.new.disk → D.keeps_model self.old.disk }
         ensures cause { HasCause (D.failures self.old.disk) (D.failures self.new.disk) result }
         ensures files { self.new.directory ≡ self.old.directory }
-        ensures ready { IsReady D.SectorDisk self.new }
+        ensures ready { IsReadyStore D.SectorDisk self.new }
         ensures touches { D.keeps_model self.new.disk → Touches D.SectorDisk Nothing self.old.disk self.new.disk }
         ensures page { D.keeps_model self.new.disk → OnOk result (to.new ≡ standing_page (D.content self.old.disk) page.file page.page) }
     {
         let Some(entry) = self.directory.entry(page.file) else {
             unreachable!();
         };
-        let home = u64::from(entry.first) + u64::from(page.page);
-        read_sectors(&mut self.disk, FIRST_HOME + PAGE_SECTORS as u64 * home, to)?;
+        self.journal
+            .read(&mut self.disk, self.directory.home_of(page), to)?;
         trim(to, entry.bytes_inside(page.page));
         Ok(())
     }

@@ -1,9 +1,9 @@
 //! Stores on a device in memory. The expected bytes are the format's own, worked out by hand.
 ghost use Rattle.std.specs.Prelude.{◌≡◌, ◌<◌, ℕ, IfOk, refl};
 ghost use Rattle.std.proofs.Common.{◌∙◌};
-ghost use Rattle.file_store.specs.Store.{IsReady};
+ghost use Rattle.file_store.specs.Store.{IsReadyStore};
 
-use crate::{FileSource, FileStore, FormatFault, OpenFault, format, image_bytes};
+use crate::{FileSource, FileStore, FormatFault, OpenFault, format, image_bytes, stops_in_a_row};
 use disk_model::{DiskFault, SectorDisk, SimDisk};
 use std::alloc::Global;
 use std::test::Fail;
@@ -54,21 +54,24 @@ fn sync<D: SectorDisk>(disk: &mut D) -> Result<(), DiskFault> {
 }
 
 // A device of so many sectors with a mark and these sectors, as a stop leaves it.
-fn image(alloc: Global, sectors: u64, changes: &[(u64, [u8; 512])]) -> Result<SimDisk, Fail>
-    ensures { IfOk result (λ disk. (k : ℕ) → ⟦<SimDisk as SectorDisk>⟧.unsynced disk k → ⊥) }
-{
+fn image(alloc: Global, sectors: u64, changes: &[(u64, [u8; 512])]) -> Result<SimDisk, Fail> {
+    let mut disk = written(alloc, sectors, changes)?;
+    sync(&mut disk)?;
+    Ok(disk.left(alloc, &[])?)
+}
+
+// The same device, before it syncs.
+fn written(alloc: Global, sectors: u64, changes: &[(u64, [u8; 512])]) -> Result<SimDisk, Fail> {
     let mut disk = SimDisk::new(alloc, sectors)?;
     put(&mut disk, 0, &repeated(b"FAMSYNC1"))?;
     for (n, bytes) in changes {
         put(&mut disk, *n, bytes)?;
     }
-    sync(&mut disk)?;
-    Ok(disk.left(alloc, &[])?)
+    Ok(disk)
 }
 
 fn opened(disk: SimDisk) -> Result<FileStore<SimDisk>, OpenFault>
-    requires { (k : ℕ) → ⟦<SimDisk as SectorDisk>⟧.unsynced disk k → ⊥ }
-    ensures { IfOk result (λ store. IsReady ⟦<SimDisk as SectorDisk>⟧ store) }
+    ensures { IfOk result (λ store. IsReadyStore ⟦<SimDisk as SectorDisk>⟧ store) }
 {
     match FileStore::open(disk) {
         Ok(store) => Ok(store),
@@ -76,16 +79,14 @@ fn opened(disk: SimDisk) -> Result<FileStore<SimDisk>, OpenFault>
     }
 }
 
-fn fault_of(disk: SimDisk) -> Option<OpenFault>
-    requires { (k : ℕ) → ⟦<SimDisk as SectorDisk>⟧.unsynced disk k → ⊥ }
-{
+fn fault_of(disk: SimDisk) -> Option<OpenFault> {
     opened(disk).err()
 }
 
 // The first byte of a page, or none where it does not begin inside its file.
 fn first_byte<D: SectorDisk>(store: &mut FileStore<D>, page: FilePage) -> Option<u8>
-    requires { IsReady D.SectorDisk store.old }
-    ensures { IsReady D.SectorDisk store.new }
+    requires { IsReadyStore D.SectorDisk store.old }
+    ensures { IsReadyStore D.SectorDisk store.new }
 {
     let info = store.file(page.file)?;
     if 4096 * u64::from(page.page) >= u64::from(info.length) {
@@ -125,7 +126,7 @@ impl PageSource for Same {
 
 // Fills a page, and answers its first byte.
 fn filled<D: SectorDisk>(store: &mut FileStore<D>, page: FilePage, byte: u8) -> Option<u8>
-    requires { IsReady D.SectorDisk store.old }
+    requires { IsReadyStore D.SectorDisk store.old }
 {
     let info = store.file(page.file)?;
     if 4096 * u64::from(page.page) >= u64::from(info.length) {
@@ -144,11 +145,13 @@ fn commits_up_to_the_end(rt: HostRuntime) -> Result<(), Fail> {
         Some(0x77)
     );
     let disk = store.into_disk();
-    assert_eq!(rt; (disk.writes(), disk.syncs()), (19, 4));
+    // Opening syncs once, and a first commit twice.
+    assert_eq!(rt; (disk.writes(), disk.syncs()), (10, 3));
     assert_eq!(rt; disk.sectors(), 1044);
-    // The file ends 904 bytes into this page.
-    assert_eq!(rt; disk.sector(1029)[391], 0x77);
-    assert_eq!(rt; disk.sector(1029)[392], 0);
+    // The file ends 904 bytes into this page, which stands in the journal's body.
+    assert_eq!(rt; disk.sector(5)[391], 0x77);
+    assert_eq!(rt; disk.sector(5)[392], 0);
+    assert_eq!(rt; disk.sector(1028)[0], 0);
     assert_eq!(rt; disk.sector(1020)[0], 0);
     Ok(())
 }
@@ -196,7 +199,22 @@ fn opens_and_reads(rt: HostRuntime) -> Result<(), Fail> {
         Some(0x62)
     );
     assert_eq!(rt; store.disk().sectors(), 1044);
+    stops_in_a_row(store.disk());
     assert_eq!(rt; store.into_disk().writes(), 0);
+    Ok(())
+}
+
+// A device that another machine of the program has written to is synced before it is used.
+#[test]
+fn opens_a_device_with_unsynced_writes(rt: HostRuntime) -> Result<(), Fail> {
+    let alloc = rt.alloc();
+    let mut store = opened(written(alloc, 1044, &[(1, directory()), (1036, single(0, 0x62))])?)?;
+    let page = FilePage { file: 1, page: 0 };
+    assert_eq!(rt; first_byte(&mut store, page), Some(0x62));
+    let disk = store.into_disk();
+    assert_eq!(rt; (disk.writes(), disk.syncs()), (3, 1));
+    let mut after = opened(disk.left(alloc, &[])?)?;
+    assert_eq!(rt; first_byte(&mut after, page), Some(0x62));
     Ok(())
 }
 
@@ -417,7 +435,8 @@ fn a_stop_leaves_no_mark_or_a_whole_store(rt: HostRuntime) -> Result<(), Fail> {
         let mut disk = SimDisk::new(rt.alloc(), 1028)?;
         disk.stop_at(write);
         assert_eq!(rt; format(&mut disk, &mut [source]), Err(FormatFault::Device));
-        assert_eq!(rt; disk.writes(), write);
+        // All eight sectors of a page are tried.
+        assert_eq!(rt; disk.writes(), write.max(8));
         // The mark's own write may be lost, or reach the device.
         assert_eq!(rt;
             fault_of(disk.left(rt.alloc(), &[])?),

@@ -76,6 +76,7 @@ alike old roots regions parent child place to r r' item runs fit apart empty roo
         root = λ q. refl;
         same = λ page. same page ∙ sym (others parent page apart);
         bare = λ page h. entries child page ∙ bare page h;
+        entries = entries;
         views = λ q page ne. view-same old new q page (entries q page) (others q page ne) (λ private. refl);
         files = record { place = λ p. refl; bytes = λ p n at. refl; touched = λ p. refl; files = λ f. refl };
       };

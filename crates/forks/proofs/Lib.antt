@@ -4,3 +4,4 @@ pub mod Lowered
 pub mod Shared
 pub mod Passing
 pub mod Alike
+pub mod Copied

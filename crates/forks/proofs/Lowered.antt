@@ -87,6 +87,7 @@ module _ (old new : Picture) (pid r page e : ℕ) (fit : IsFit old) (root : old.
   pub withdraws : Withdraws old new pid page e
   withdraws = record {
     here = page_set.changed;
+    lowered = weaker.number;
     private = own_now;
     frame = weaker.frame;
     unwritten = λ valid. weaker.unwritten (sym weaker.valid ∙ valid);

@@ -1,7 +1,7 @@
 -- The pages of the parent, one after another.
-use Rattle.std.proofs.Common.{◌≡◌, ◌≢◌, ℕ, inl, inr, ◌+◌, ◌^◌, ◌<◌, ◌≤◌, Option, Some, None, refl, sym, ap, ◌∙◌, arith}
+use Rattle.std.proofs.Common.{◌≡◌, ◌≢◌, ℕ, inl, inr, ◌+◌, ◌^◌, ◌<◌, ◌≤◌, Option, Some, None, refl, sym, ap, ◌∙◌, subst, arith}
 use Rattle.std.specs.Prelude.{IsSome}
-use Rattle.std.proofs.lemmas.Bool.{cases_lt}
+use Rattle.std.proofs.lemmas.Bool.{cases_eq, cases_lt}
 use Rattle.vm_types.specs.declared.region.Attr.{Attr}
 use Rattle.residency.specs.Picture.{Picture, entry, is_private, view}
 use Rattle.residency.specs.Parts.{IsGranting}
@@ -10,8 +10,11 @@ use Rattle.residency.proofs.Start.{no_bit}
 use Rattle.residency.proofs.Used.{view-none}
 use Rattle.page_entries.specs.Changes.{KeepsSpaces}
 use Rattle.processes.proofs.Keeping.{files_then}
-use Rattle.forks.specs.Steps.{GivesPage, GivesPages, GivesUpTo, GivesBelow}
-use Rattle.forks.proofs.Shared.{common_gives}
+use Rattle.page_tables.specs.Tree.{IsPage}
+use Rattle.ranges.proofs.Emptied.{low_zero}
+use Rattle.processes.proofs.Ending.{beyond}
+use Rattle.forks.specs.Steps.{lowered_entry, given_entry, LowersPage, LowersSome, CopiesEntries, CopiesUpTo, CopiesBelow, GivesPage, GivesPages, GivesUpTo, GivesBelow}
+use Rattle.forks.proofs.Shared.{common_gives, lowered_common, given_common}
 
 none_where : (o : Option Attr) → (IsSome o → ⊥) → o ≡ None
 none_where None h = refl
@@ -81,3 +84,94 @@ passed_all start now parent child page granting granting' past below = record {
   ];
   others = below.others;
 }
+
+lowered_none : (e : ℕ) → e ≡ 0 → e ≡ lowered_entry e
+lowered_none e none = lowered_common e (ap is_private none ∙ no_bit)
+
+given_none : (e n : ℕ) → e ≡ 0 → n ≡ 0 → n ≡ given_entry e
+given_none e n none bare = given_common e n (ap is_private none ∙ no_bit) bare
+
+-- the entries, where a table of the parent is missing
+pub table_copied : (c : Picture) (parent child page next : ℕ) → ((p : ℕ) → page ≤ p → p < next → entry c parent p ≡ 0)
+    → ((p : ℕ) → page ≤ p → p < 2 ^ 26 → entry c child p ≡ 0) → CopiesUpTo c c parent child page next
+table_copied c parent child page next gap bare = record {
+  lowered = λ p from below inside. lowered_none (entry c parent p) (gap p from below);
+  beside = λ p h out. refl;
+  given = λ p from below inside. given_none (entry c parent p) (entry c child p) (gap p from below) (bare p from inside);
+  below = λ p under inside. refl;
+  others = λ q p h ne ne'. refl;
+}
+
+-- of the one page
+pub page_copied : (old new : Picture) (parent child page : ℕ) → parent ≢ child → GivesPage old new parent child page → LowersPage old new parent child page
+    → CopiesUpTo old new parent child page (page + 1)
+page_copied old new parent child page apart gives lowers = record {
+  lowered = λ p from below inside. (let is : p ≡ page = omega arith in rw is lowers.here);
+  beside = λ p h out. lowers.others parent p h apart (inr (λ is. elim out [
+    | inl under ↦ omega (arith, under, is)
+    | inr over ↦ omega (arith, over, is)
+  ]));
+  given = λ p from below inside. (let is : p ≡ page = omega arith in rw is gives.given);
+  below = λ p under inside. gives.bare p (let it : p < 134217728 = omega (arith, inside) in it) (λ is. (omega arith));
+  others = λ q p h ne ne'. lowers.others q p h ne' (inl ne);
+}
+
+pub copied_none : (c : Picture) (parent child : ℕ) → IsGranting c → ((page : ℕ) → page < 2 ^ 26 → entry c child page ≡ 0) → CopiesBelow c c parent child 16
+copied_none c parent child granting bare = record {
+  lowered = λ p low inside. lowered_none (entry c parent p) (low_zero c parent p granting low);
+  above = λ p h from. refl;
+  given = λ p low inside. given_none (entry c parent p) (entry c child p) (low_zero c parent p granting low) (bare p inside);
+  others = λ q p h ne ne'. refl;
+}
+
+pub copied_more : (start old new : Picture) (parent child page next : ℕ) → page < next → CopiesBelow start old parent child page → CopiesUpTo old new parent child page next
+    → CopiesBelow start new parent child next
+copied_more start old new parent child page next later before step = record {
+  lowered = λ p under inside. elim (cases_lt p page) [
+    | inl below ↦ step.beside p (let it : p < 134217728 = omega (arith, inside) in it) (inl below) ∙ before.lowered p below inside
+    | inr from ↦ step.lowered p from under inside ∙ ap lowered_entry (before.above p (let it : p < 134217728 = omega (arith, inside) in it) from)
+  ];
+  above = λ p h from. step.beside p h (inr from) ∙ before.above p h (omega (arith, later, from));
+  given = λ p under inside. elim (cases_lt p page) [
+    | inl below ↦ step.below p below inside ∙ before.given p below inside
+    | inr from ↦ step.given p from under inside ∙ ap given_entry (before.above p (let it : p < 134217728 = omega (arith, inside) in it) from)
+  ];
+  others = λ q p h ne ne'. step.others q p h ne ne' ∙ before.others q p h ne ne';
+}
+
+pub copied_all : (start now : Picture) (parent child page : ℕ) → IsGranting start → IsGranting now → 2 ^ 26 ≤ page → CopiesBelow start now parent child page
+    → CopiesEntries start now parent child
+copied_all start now parent child page granting granting' past below = record {
+  lowered = λ p h. elim (cases_lt p (2 ^ 26)) [
+    | inl inside ↦ below.lowered p (omega (arith, inside, past)) inside
+    | inr out ↦ (
+        let none = beyond start parent p granting (λ user. (omega (arith, out, user.1))) (granting.entries parent p h) in
+        let none' = beyond now parent p granting' (λ user. (omega (arith, out, user.1))) (granting'.entries parent p h) in
+        none' ∙ sym none ∙ lowered_none (entry start parent p) none)
+  ];
+  given = λ p h. elim (cases_lt p (2 ^ 26)) [
+    | inl inside ↦ below.given p (omega (arith, inside, past)) inside
+    | inr out ↦ (
+        let none = beyond start parent p granting (λ user. (omega (arith, out, user.1))) (granting.entries parent p h) in
+        given_none (entry start parent p) (entry now child p) none
+        (beyond now child p granting' (λ user. (omega (arith, out, user.1))) (granting'.entries child p h)))
+  ];
+}
+
+-- a page of the parent was lowered, and then no frame could be had
+pub some_lowered : (start old new : Picture) (parent child page : ℕ) → parent ≢ child → CopiesBelow start old parent child page → LowersPage old new parent child page → IsGranting start → IsGranting old
+    → LowersSome start new parent
+some_lowered start old new parent child page apart before lowers granting granting' p h = elim (cases_eq p page) [
+  | inl is ↦ (
+      let P : ℕ → Type 0 = λ x. entry new parent x ≡ lowered_entry (entry start parent x) in
+      inr (subst P (sym is) (lowers.here ∙ ap lowered_entry (before.above page (let Q : ℕ → Type 0 = λ x. IsPage 2 x in subst Q is h) (omega arith)))))
+  | inr ne ↦ elim (cases_lt p page) [
+    | inr from ↦ inl (lowers.others parent p h apart (inr ne) ∙ before.above p h from)
+    | inl under ↦ elim (cases_lt p (2 ^ 26)) [
+      | inl inside ↦ inr (lowers.others parent p h apart (inr ne) ∙ before.lowered p under inside)
+      | inr out ↦ inl (lowers.others parent p h apart (inr ne)
+          ∙ beyond old parent p granting' (λ user. (omega (arith, out, user.1))) (granting'.entries parent p h)
+          ∙ sym (beyond start parent p granting (λ user. (omega (arith, out, user.1))) (granting.entries parent p h)))
+    ]
+  ]
+]

@@ -31,7 +31,8 @@ use Rattle.residency.proofs.Used.{steady_fit, view-none}
 use Rattle.residency.proofs.Views.{view-common, views_same, views_set, sole_page}
 use Rattle.page_entries.specs.Changes.{IsReady, KeepsEntries, KeepsViews, KeepsSpaces}
 use Rattle.processes.proofs.Keeping.{files_then}
-use Rattle.forks.specs.Steps.{Withdraws, GivesPage}
+use Rattle.std.specs.Prelude.{◌&&◌, if◌then◌else◌}
+use Rattle.forks.specs.Steps.{without_write, lowered_entry, given_entry, LowersPage, Withdraws, GivesPage}
 use Rattle.forks.proofs.Lowered.{own_some, own_mapped, files_set, view_alike}
 
 -- a private frame is one of memory's
@@ -230,13 +231,18 @@ module _ (old mid new : Picture) (parent child r page e : ℕ) (ready : IsReady 
       (ap (bytes_of new.frames) frame ∙ page_set.bytes (frame_of (entry mid parent page)) (not_table mid.frames (frame_of (entry mid parent page)) role))
       ∙ views_shared old mid (frame_of e) ready.steady (own_role old parent page e ready.steady h source own) shares beside parent page
 
-  pub gives : GivesPage old new parent child page
-  gives = record {
-    shown = view_child;
-    others = λ q p other. views_set mid new (frame_of e) 1 0 child page e steady_mid page_set q p other
-        ∙ views_shared old mid (frame_of e) ready.steady role shares beside q p;
-    bare = λ p h' ne. page_set.others child p h' (inr ne) ∙ entries_shared old mid (frame_of e) ready.steady role shares beside child p;
-  }
+  pub shares_entries : (q p : ℕ) → IsPage 2 p → (q ≢ child) ⊎ (p ≢ page) → entry new q p ≡ entry old q p
+  shares_entries q p h' other = page_set.others q p h' other ∙ entries_shared old mid (frame_of e) ready.steady role shares beside q p
+
+  pub child_is : entry new child page ≡ e
+  child_is = page_set.changed
+
+  pub shown_is : view new child page ≡ view old parent page
+  shown_is = view_child
+
+  pub gives_rest : (q p : ℕ) → (q ≢ child) ⊎ (p ≢ page) → view new q p ≡ view old q p
+  gives_rest q p other = views_set mid new (frame_of e) 1 0 child page e steady_mid page_set q p other
+      ∙ views_shared old mid (frame_of e) ready.steady role shares beside q p
 
   pub files_given : KeepsFiles old new
   files_given = files_then old mid new (files_shared old mid (frame_of e) ready.steady role shares beside) (files_set mid new child page e steady_mid.places page_set)
@@ -251,18 +257,39 @@ common_gives c parent child page alike common bare =
       | inr some ↦ view-common c child page some.0 (alike ∙ some.1) here ∙ sym (view-common c parent page some.0 some.1 common)
     ]
 
+lowered_own : (e n : ℕ) → is_private e ≡ true → n ≡ without_write e → n ≡ lowered_entry e
+lowered_own e n own is = rw own is
+
+given_own : (e n : ℕ) → is_private e ≡ true → n ≡ without_write e → n ≡ given_entry e
+given_own e n own is = rw own is
+
+-- a page that isn't the parent's own
+pub lowered_common : (e : ℕ) → is_private e ≡ false → e ≡ lowered_entry e
+lowered_common e common = rw common refl
+
+pub given_common : (e n : ℕ) → is_private e ≡ false → n ≡ 0 → n ≡ given_entry e
+given_common e n common none = rw common none
+
+-- the parent's entry was lowered
+pub page_lowered : (old lowered : Picture) (parent child page e : ℕ) → Withdraws old lowered parent page e → is_private (entry old parent page) ≡ true → LowersPage old lowered parent child page
+page_lowered old lowered parent child page e withdraws own = record {
+  here = lowered_own (entry old parent page) (entry lowered parent page) own (withdraws.here ∙ withdraws.lowered);
+  others = λ q p h ne other. withdraws.others q p h other;
+}
+
 -- what the step on one page leaves
 pub record IsGiven (old new : Picture) (parent child page : ℕ) : Type 0 where
   pub fit : IsFit new
+  pub lowers : LowersPage old new parent child page
   pub gives : GivesPage old new parent child page
   pub files : KeepsFiles old new
 
 -- The parent's leaf was made one without W, the child's tables were made, the frame was shared, and the child's entry was set.
 pub page_given : (old lowered linked : Picture) (t t' : FrameTable) (parent child r page e n : ℕ) → Withdraws old lowered parent page e → KeepsSpaces old lowered → KeepsFiles old lowered
     → IsReady linked child page → KeepsEntries lowered linked → KeepsViews lowered linked → KeepsSpaces lowered linked → KeepsFiles lowered linked
-    → IsPage 2 page → parent ≢ child → old.at child page ≡ old.at parent page → entry old child page ≡ 0 → linked.root child ≡ Some r → n ≡ frame_of e
+    → IsPage 2 page → parent ≢ child → is_private (entry old parent page) ≡ true → old.at child page ≡ old.at parent page → entry old child page ≡ 0 → linked.root child ≡ Some r → n ≡ frame_of e
     → Shares linked.frames t n → SetsEntry t t' 2 r page e → IsGiven old (record linked { frames = t' }) parent child page
-page_given old lowered linked t t' parent child r page e n withdraws spaces files ready entries views spaces' files' h apart alike bare root is_frame shares sets =
+page_given old lowered linked t t' parent child r page e n withdraws spaces files ready entries views spaces' files' h apart was_own alike bare root is_frame shares sets =
     let mid : Picture = record linked { frames = t } in
     let new : Picture = record linked { frames = t' } in
     let beside : SameBeside linked mid = record {
@@ -287,13 +314,23 @@ page_given old lowered linked t t' parent child r page e n withdraws spaces file
     spaces'.at child page ∙ spaces.at child page ∙ alike ∙ sym (spaces.at parent page) ∙ sym (spaces'.at parent page) in
     let S : ℕ → Type 0 = λ x. Shares linked.frames t x in
     let shares' : Shares linked.frames t (frame_of e) = subst S is_frame shares in
-    let given = gives linked mid new parent child r page e ready h source withdraws.private withdraws.unwritten bare' alike' root shares' beside sets beside' in
+    let same : (q p : ℕ) → IsPage 2 p → (q ≢ child) ⊎ (p ≢ page) → entry new q p ≡ entry linked q p =
+    shares_entries linked mid new parent child r page e ready h source withdraws.private withdraws.unwritten bare' alike' root shares' beside sets beside' in
+    let seen : (q p : ℕ) → (q ≢ child) ⊎ (p ≢ page) → view new q p ≡ view linked q p = gives_rest linked mid new parent child r page e ready h source withdraws.private withdraws.unwritten bare' alike' root shares' beside sets beside' in
+    let is_given : entry new child page ≡ e = child_is linked mid new parent child r page e ready h source withdraws.private withdraws.unwritten bare' alike' root shares' beside sets beside' in
+    let is_shown : view new child page ≡ view linked parent page = shown_is linked mid new parent child r page e ready h source withdraws.private withdraws.unwritten bare' alike' root shares' beside sets beside' in
+    let first = page_lowered old lowered parent child page e withdraws was_own in
     record {
       fit = fit_given linked mid new parent child r page e ready h source withdraws.private withdraws.unwritten bare' alike' root shares' beside sets beside';
+      lowers = record {
+        here = same parent page h (inl apart) ∙ entries parent page ∙ first.here;
+        others = λ q p h' ne other. same q p h' (inl ne) ∙ entries q p ∙ first.others q p h' ne other;
+      };
       gives = record {
-        shown = given.shown ∙ views parent page ∙ withdraws.views parent page;
-        others = λ q p other. given.others q p other ∙ views q p ∙ withdraws.views q p;
-        bare = λ p h' ne. given.bare p h' ne ∙ entries child p ∙ withdraws.others child p h' (inr ne);
+        shown = is_shown ∙ views parent page ∙ withdraws.views parent page;
+        given = given_own (entry old parent page) (entry new child page) was_own (is_given ∙ withdraws.lowered);
+        others = λ q p other. seen q p other ∙ views q p ∙ withdraws.views q p;
+        bare = λ p h' ne. same child p h' (inr ne) ∙ entries child p ∙ withdraws.others child p h' (inr ne);
       };
       files = files_then old lowered new files (files_then lowered linked new files'
           (files_given linked mid new parent child r page e ready h source withdraws.private withdraws.unwritten bare' alike' root shares' beside sets beside'));

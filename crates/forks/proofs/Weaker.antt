@@ -11,7 +11,9 @@ use Rattle.vm_types.specs.declared.region.Attr.{Attr}
 use Rattle.residency.specs.Picture.{Picture, is_private}
 use Rattle.residency.specs.Parts.{IsEntryFor, Nothing, Resident}
 use Rattle.residency.proofs.Start.{no_bit}
-use Rattle.forks.specs.Steps.{Weakens}
+use Rattle.std.proofs.lemmas.Bool.{cases_Bool}
+use Rattle.std.specs.Prelude.{◌&&◌, if◌then◌else◌}
+use Rattle.forks.specs.Steps.{Weakens, without_write}
 
 bit_set : (e : ℕ) → can_write e ≡ true → e / 4 % 2 ≡ 1
 unfolding has_bit
@@ -44,11 +46,21 @@ same_frame : (e : ℕ) → e / 4 % 2 ≡ 1 → frame_of (e - 4) ≡ frame_of e
 unfolding frame_of
 same_frame e set = let same : (e - 4) / 1024 ≡ e / 1024 = omega (arith, set) in ap (λ x. x % 2 ^ 44) same
 
+number_less : (e : ℕ) → is_valid e ≡ true → can_write e ≡ true → e - 4 ≡ without_write e
+number_less e valid write = rw (valid, write) refl
+
+number_same : (e : ℕ) → (is_valid e ≡ true → can_write e ≡ false) → e ≡ without_write e
+number_same e unwritten = elim (cases_Bool (is_valid e)) [
+  | inl valid ↦ (let none = unwritten valid in rw (valid, none) refl)
+  | inr invalid ↦ rw invalid refl
+]
+
 -- a leaf that lets stores through
-pub weaker_leaf : (e : ℕ) → can_write e ≡ true → Weakens e (e - 4)
-weaker_leaf e write =
+pub weaker_leaf : (e : ℕ) → is_valid e ≡ true → can_write e ≡ true → Weakens e (e - 4)
+weaker_leaf e valid write =
     let set = bit_set e write in
     record {
+      number = number_less e valid write;
       valid = bit_zero e set;
       reads = bit_one e set;
       executes = bit_three e set;
@@ -61,8 +73,8 @@ pub still_leaf : (e e' : ℕ) → Weakens e e' → is_valid e ≡ true → is_le
 still_leaf e e' weaker valid leaf = (weaker.valid ∙ valid, rw (weaker.reads, weaker.executes) leaf)
 
 -- an entry of another form, or a leaf without W
-unchanged : (e : ℕ) → (is_valid e ≡ true → can_write e ≡ false) → Weakens e e
-unchanged e unwritten = record { valid = refl; reads = refl; executes = refl; private = refl; frame = refl; unwritten = unwritten }
+pub unchanged : (e : ℕ) → (is_valid e ≡ true → can_write e ≡ false) → Weakens e e
+unchanged e unwritten = record { number = number_same e unwritten; valid = refl; reads = refl; executes = refl; private = refl; frame = refl; unwritten = unwritten }
 
 nothing_valid : is_valid 0 ≡ true → ⊥
 unfolding has_bit

@@ -1,13 +1,13 @@
 //! The parent's own pages, given to the child.
 ghost use Rattle.std.specs.Prelude.{◌≡◌, ◌≢◌, ℕ, ◌+◌, ◌<◌, ◌≤◌, ◌^◌, true, OnOk, OnErr, IfOk, IfErr};
 ghost use Rattle.vm_types.specs.declared.refusal.Stall.TheVariants.{NoFrames};
-ghost use Rattle.residency.specs.Picture.{picture_of, entry, is_live, view};
-ghost use Rattle.residency.specs.Parts.{IsSized, IsFit};
+ghost use Rattle.residency.specs.Picture.{picture_of, entry, is_private, is_live, view};
+ghost use Rattle.residency.specs.Parts.{IsFit};
 ghost use Rattle.residency.specs.Calls.{KeepsRest};
 ghost use Rattle.residency.specs.Shows.{KeepsFiles};
 ghost use Rattle.page_entries.specs.Changes.{KeepsSpaces, KeepsViews};
 ghost use Rattle.processes.specs.Changes.{TakesNoCopy};
-ghost use Rattle.forks.specs.Steps.{GivesPage, GivesPages, GivesUpTo};
+ghost use Rattle.forks.specs.Steps.{HasCopy, LowersPage, LowersSome, KeepsEntriesBut, IsNextPage, CopiesEntries, CopiesUpTo, GivesPage, GivesPages, GivesUpTo};
 
 use crate::withdrawing::{frame_of, is_own, withdraw_write};
 use page_entries::{link_tables, root_of};
@@ -19,21 +19,23 @@ use vm_types::{Pid, Stall, USER_START, Vpn};
 /// Gives the child, whose pages are mapped as the parent's and have no entry, a share of each page that the parent has of
 /// its own (fork(2), copy-on-write). It costs the tables of the parent and their entries, and no page.
 pub(crate) fn share_pages<D, E>(core: &mut Core<D, E>, parent: Pid, child: Pid) -> Result<(), Stall>
-    requires sized { IsSized core.old }
     requires fit { IsFit (picture_of core.old) }
     requires parent { is_live (picture_of core.old) parent ≡ true }
     requires child { is_live (picture_of core.old) child ≡ true }
     requires apart { parent ≢ child }
     requires same { (page : ℕ) → (picture_of core.old).at child page ≡ (picture_of core.old).at parent page }
     requires bare { (page : ℕ) → page < 2 ^ 26 → entry (picture_of core.old) child page ≡ 0 }
-    ensures sized { IsSized core.new }
     ensures fit { IsFit (picture_of core.new) }
     ensures given { OnOk result (GivesPages (picture_of core.old) (picture_of core.new) parent child) }
+    ensures copied { OnOk result (CopiesEntries (picture_of core.old) (picture_of core.new) parent child) }
+    ensures lowered { OnErr result (LowersSome (picture_of core.old) (picture_of core.new) parent) }
+    ensures beside { KeepsEntriesBut (picture_of core.old) (picture_of core.new) parent child }
     ensures others { (q page : ℕ) → q ≢ child → view (picture_of core.new) q page ≡ view (picture_of core.old) q page }
     ensures spaces { KeepsSpaces (picture_of core.old) (picture_of core.new) }
     ensures files { KeepsFiles (picture_of core.old) (picture_of core.new) }
     ensures rest { KeepsRest core.old core.new }
     ensures copies { TakesNoCopy core.old.frames core.new.frames }
+    ensures wanted { OnErr result (HasCopy (picture_of core.old) parent) }
     ensures stall { IfErr result (λ stall. stall ≡ NoFrames) }
     ensures not_refused { OnOk result (core.new.refused.number ≡ core.old.refused.number) }
     ensures refused { OnErr result (core.new.refused.number ≡ core.old.refused.number + 1) }
@@ -48,21 +50,23 @@ pub(crate) fn share_pages<D, E>(core: &mut Core<D, E>, parent: Pid, child: Pid) 
 // Gives the child a share of one page, if the parent has it of its own, and answers the first page that isn't done then:
 // where a table of the parent is missing, the pages of that table are passed over.
 fn share_next<D, E>(core: &mut Core<D, E>, parent: Pid, child: Pid, page: Vpn) -> Result<u64, Stall>
-    requires sized { IsSized core.old }
     requires fit { IsFit (picture_of core.old) }
     requires parent { is_live (picture_of core.old) parent ≡ true }
     requires child { is_live (picture_of core.old) child ≡ true }
     requires apart { parent ≢ child }
     requires same { (p : ℕ) → (picture_of core.old).at child p ≡ (picture_of core.old).at parent p }
     requires bare { (p : ℕ) → page ≤ p → p < 2 ^ 26 → entry (picture_of core.old) child p ≡ 0 }
-    ensures sized { IsSized core.new }
     ensures fit { IsFit (picture_of core.new) }
     ensures given { IfOk result (λ next. GivesUpTo (picture_of core.old) (picture_of core.new) parent child page next) }
+    ensures next { IfOk result (IsNextPage (picture_of core.old) parent page) }
+    ensures copied { IfOk result (λ next. CopiesUpTo (picture_of core.old) (picture_of core.new) parent child page next) }
+    ensures lowered { OnErr result (LowersPage (picture_of core.old) (picture_of core.new) parent child page) }
     ensures others { (q p : ℕ) → q ≢ child → view (picture_of core.new) q p ≡ view (picture_of core.old) q p }
     ensures spaces { KeepsSpaces (picture_of core.old) (picture_of core.new) }
     ensures files { KeepsFiles (picture_of core.old) (picture_of core.new) }
     ensures rest { KeepsRest core.old core.new }
     ensures copies { TakesNoCopy core.old.frames core.new.frames }
+    ensures wanted { OnErr result (is_private (entry (picture_of core.old) parent page) ≡ true) }
     ensures stall { IfErr result (λ stall. stall ≡ NoFrames) }
     ensures not_refused { OnOk result (core.new.refused.number ≡ core.old.refused.number) }
     ensures refused { OnErr result (core.new.refused.number ≡ core.old.refused.number + 1) }
@@ -76,21 +80,21 @@ fn share_next<D, E>(core: &mut Core<D, E>, parent: Pid, child: Pid, page: Vpn) -
 
 // Gives the child a share of one page, if the parent has it of its own.
 fn share_page<D, E>(core: &mut Core<D, E>, parent: Pid, child: Pid, page: Vpn) -> Result<(), Stall>
-    requires sized { IsSized core.old }
     requires fit { IsFit (picture_of core.old) }
     requires parent { is_live (picture_of core.old) parent ≡ true }
     requires child { is_live (picture_of core.old) child ≡ true }
     requires apart { parent ≢ child }
     requires same { (picture_of core.old).at child page ≡ (picture_of core.old).at parent page }
     requires bare { entry (picture_of core.old) child page ≡ 0 }
-    ensures sized { IsSized core.new }
     ensures fit { IsFit (picture_of core.new) }
     ensures given { OnOk result (GivesPage (picture_of core.old) (picture_of core.new) parent child page) }
+    ensures lowered { LowersPage (picture_of core.old) (picture_of core.new) parent child page }
     ensures same { OnErr result (KeepsViews (picture_of core.old) (picture_of core.new)) }
     ensures spaces { KeepsSpaces (picture_of core.old) (picture_of core.new) }
     ensures files { KeepsFiles (picture_of core.old) (picture_of core.new) }
     ensures rest { KeepsRest core.old core.new }
     ensures copies { TakesNoCopy core.old.frames core.new.frames }
+    ensures wanted { OnErr result (is_private (entry (picture_of core.old) parent page) ≡ true) }
     ensures stall { IfErr result (λ stall. stall ≡ NoFrames) }
     ensures not_refused { OnOk result (core.new.refused.number ≡ core.old.refused.number) }
     ensures refused { OnErr result (core.new.refused.number ≡ core.old.refused.number + 1) }
@@ -104,8 +108,6 @@ fn share_page<D, E>(core: &mut Core<D, E>, parent: Pid, child: Pid, page: Vpn) -
     // (brings in that it is a user page)
     let _ = page.get();
     link_tables(core, child, page)?;
-    // (brings in that the table of frames is sound)
-    let _ = core.frames.len();
     core.frames.share(frame_of(entry));
     let root = root_of(core, child);
     set(&mut core.frames, root, page, entry);

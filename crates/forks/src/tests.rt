@@ -3,7 +3,7 @@ ghost use Rattle.std.specs.Prelude.{◌≡◌, ℕ, true, false, None, Some, IfO
 ghost use Rattle.vm_types.specs.Rows.{IsUserMap, replaced};
 ghost use Rattle.vm_types.specs.declared.region.Backing.TheVariants.{Anon};
 ghost use Rattle.regions.specs.RunList.{attr_at};
-ghost use Rattle.residency.specs.Parts.{IsFit, IsSized};
+ghost use Rattle.residency.specs.Parts.{IsFit};
 ghost use Rattle.residency.specs.Picture.{picture_of, is_live};
 
 use crate::fork;
@@ -45,7 +45,6 @@ fn opened(disk: SimDisk) -> Result<FileStore<SimDisk>, OpenFault>
 
 // Memory of 8 frames, without swap.
 fn made(alloc: Global, store: FileStore<SimDisk>) -> Result<Core<SimDisk, SimDisk>, AllocError>
-    ensures sized { IfOk result IsSized }
     ensures fit { IfOk result (λ core. IsFit (picture_of core)) }
     ensures none { IfOk result (λ core. (pid : ℕ) → (picture_of core).root pid ≡ None) }
 {
@@ -58,9 +57,7 @@ fn made(alloc: Global, store: FileStore<SimDisk>) -> Result<Core<SimDisk, SimDis
 
 // A process of the least free number.
 fn started<D, E>(core: &mut Core<D, E>) -> Result<Option<Pid>, Stall>
-    requires sized { IsSized core.old }
     requires fit { IsFit (picture_of core.old) }
-    ensures sized { IsSized core.new }
     ensures fit { IsFit (picture_of core.new) }
     ensures lives { IfOk result (λ number. IfSome number (λ pid. is_live (picture_of core.new) pid ≡ true)) }
 {
@@ -73,10 +70,8 @@ fn started<D, E>(core: &mut Core<D, E>) -> Result<Option<Pid>, Stall>
 
 // A copy of a process, of the least free number.
 fn copied<D, E>(core: &mut Core<D, E>, parent: Pid) -> Result<Option<Pid>, Stall>
-    requires sized { IsSized core.old }
     requires fit { IsFit (picture_of core.old) }
     requires live { is_live (picture_of core.old) parent ≡ true }
-    ensures sized { IsSized core.new }
     ensures fit { IsFit (picture_of core.new) }
     ensures kept { (q : ℕ) → is_live (picture_of core.old) q ≡ true → is_live (picture_of core.new) q ≡ true }
     ensures lives { IfOk result (λ number. IfSome number (λ pid. is_live (picture_of core.new) pid ≡ true)) }
@@ -128,7 +123,6 @@ fn first_page() -> Vpn
 
 // Process 1 with that page.
 fn with_zeros(alloc: Global) -> Result<Core<SimDisk, SimDisk>, Fail>
-    ensures sized { IfOk result IsSized }
     ensures fit { IfOk result (λ core. IsFit (picture_of core)) }
     ensures live { IfOk result (λ core. is_live (picture_of core) 1 ≡ true) }
     ensures at { IfOk result (λ core. (picture_of core).at 1 32 ≡ Some (record { prot = record { 0 = 3 }; backing = Anon })) }
@@ -141,7 +135,6 @@ fn with_zeros(alloc: Global) -> Result<Core<SimDisk, SimDisk>, Fail>
 
 // The number that stands for the page.
 fn number<D, E>(core: &Core<D, E>, pid: Pid) -> Pte
-    requires sized { IsSized core.now }
     requires fit { IsFit (picture_of core.now) }
     requires live { is_live (picture_of core.now) pid ≡ true }
 {

@@ -1,9 +1,9 @@
 //! A page of a process's own that is about to be shared.
 ghost use Rattle.std.specs.Prelude.{◌≡◌, ◌<◌, ◌^◌, Some, true};
-ghost use Rattle.sv39_walk.specs.Entry.{frame_of};
+ghost use Rattle.sv39_walk.specs.Entry.{is_valid, frame_of};
 ghost use Rattle.page_tables.specs.Entry.{number_of, IsEntry};
 ghost use Rattle.residency.specs.Picture.{picture_of, entry, is_private};
-ghost use Rattle.residency.specs.Parts.{IsSized, IsFit};
+ghost use Rattle.residency.specs.Parts.{IsFit};
 ghost use Rattle.residency.specs.Calls.{KeepsRest};
 ghost use Rattle.residency.specs.Shows.{KeepsFiles};
 ghost use Rattle.page_entries.specs.Changes.{KeepsSpaces};
@@ -41,13 +41,11 @@ pub(crate) fn withdraw_write<D, E>(
     page: Vpn,
     before: Entry,
 ) -> Entry
-    requires sized { IsSized core.old }
     requires fit { IsFit (picture_of core.old) }
     requires root { (picture_of core.old).root pid ≡ Some root.0 }
     requires form { IsEntry before }
     requires before { number_of before ≡ entry (picture_of core.old) pid page }
     requires own { is_private (entry (picture_of core.old) pid page) ≡ true }
-    ensures sized { IsSized core.new }
     ensures fit { IsFit (picture_of core.new) }
     ensures form { IsEntry result }
     ensures withdrawn { Withdraws (picture_of core.old) (picture_of core.new) pid page (number_of result) }
@@ -77,6 +75,7 @@ fn without_write(entry: Entry) -> Entry
 }
 
 fn leaf_without_write(leaf: Pte) -> Pte
+    requires { is_valid leaf.0 ≡ true }
     ensures { Weakens leaf.0 result.0 }
 {
     if leaf.is_writable() {

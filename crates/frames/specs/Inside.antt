@@ -7,5 +7,5 @@ abbrev pub table_of : Inside → FrameTable
 table_of f = record { bytes = f.bytes.items; roles = f.roles.items; counts = f.counts.items }
 
 -- sound, and the free frames hang together
-abbrev pub IsWhole : Inside → Type 0
-IsWhole f = IsSound (table_of f) × IsChained (table_of f) f.first_free
+abbrev pub IsWholeMemory : Inside → Type 0
+IsWholeMemory f = IsSound (table_of f) × IsChained (table_of f) f.first_free

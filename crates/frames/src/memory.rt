@@ -27,11 +27,11 @@ impl Model for Frames {
 
     ghost Value = { FrameTable };
 
-    ghost use Rattle.frames.specs.Inside.{table_of, IsWhole};
+    ghost use Rattle.frames.specs.Inside.{table_of, IsWholeMemory};
 
     ghost view = { table_of };
 
-    ghost invariant = { IsWhole };
+    ghost invariant = { IsWholeMemory };
 }
 
 impl Frames {
@@ -46,6 +46,7 @@ impl Frames {
         requires least { 8 ≤ count }
         requires most { count ≤ 65536 }
         ensures fresh { IfOk result (λ frames. IsFresh frames count) }
+        ensures sound { IfOk result IsSound }
     {
         let mut frames = Frames::all_tables(alloc, count)?;
         for n in (1..count).rev() {
@@ -100,7 +101,8 @@ impl Frames {
     pub fn copy(&mut self, from: FrameNo, to: FrameNo)
         requires source { IsFrame self.old from.0 }
         requires target { IsHeld self.old to.0 }
-        ensures { self.new ≡ with_bytes self.old to.0 (bytes_of self.old from.0) }
+        ensures copied { self.new ≡ with_bytes self.old to.0 (bytes_of self.old from.0) }
+        ensures sound { IsSound self.new }
     {
         let from = from.0 as usize;
         self.bytes.copy_within(from..from + 1, to.0 as usize);
@@ -115,6 +117,7 @@ impl Frames {
         ensures taken { IfOk result (λ n. Takes self.old self.new role n.0) }
         ensures none_free { IsErr result ↔ IsFull self.old }
         ensures err { OnErr result (self.new ≡ self.old) }
+        ensures sound { IsSound self.new }
     {
         let n = self.first_free;
         if n == 0 {
@@ -145,7 +148,8 @@ impl Frames {
         requires inside { IsFrame self.old n.0 }
         requires private { role_of self.old n.0 ≡ Private }
         requires room { count_of self.old n.0 < 64 }
-        ensures { Shares self.old self.new n.0 }
+        ensures change { Shares self.old self.new n.0 }
+        ensures sound { IsSound self.new }
     {
         let at = n.0 as usize;
         self.counts[at] += 1;
@@ -157,6 +161,7 @@ impl Frames {
         requires { IsHeld self.old n.0 }
         ensures change { Releases self.old self.new n.0 }
         ensures alone { role_of self.old n.0 ≢ Private → role_of self.new n.0 ≡ Free }
+        ensures sound { IsSound self.new }
     {
         let at = n.0 as usize;
         self.counts[at] -= 1;
@@ -172,6 +177,7 @@ impl Frames {
         requires least { 8 ≤ count }
         requires most { count ≤ 65536 }
         ensures tables { IfOk result (λ frames. IsAllTables frames count 1 count) }
+        ensures sound { IfOk result IsSound }
     {
         let mut bytes = Vec::with_capacity(alloc, count as usize)?;
         let mut roles = Vec::with_capacity(alloc, count as usize)?;

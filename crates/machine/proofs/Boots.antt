@@ -1,12 +1,12 @@
 -- What a boot leaves, from what the store's opening says.
-use Rattle.std.proofs.Common.{ℕ, ◌≡◌, inr, ⊎_elim, false, None, is_some, refl, sym, ap, ◌∙◌, subst}
+use Rattle.std.proofs.Common.{ℕ, ◌≡◌, ◌⊎◌, inl, inr, ⊎_elim, false, None, is_some, [], refl, sym, ap, ◌∙◌, subst}
 use Rattle.std.specs.Option.{option_map}
 use Rattle.disk_model.specs.Moments.{LeavesNow, LeavesOnly}
 use Rattle.disk_model.specs.Stop.{Image, MayLeave}
 use Rattle.disk_model.specs.declared.sector_disk.SectorDisk.{Ghosts}
 use Rattle.disk_model.proofs.Moments.{started}
 use Rattle.file_store.specs.Standing.{StandsFor, StandsAs, IsBadLayout, file_info, standing_page}
-use Rattle.file_store.specs.Store.{IsReady}
+use Rattle.file_store.specs.Store.{IsReadyStore}
 use Rattle.file_store.specs.Store as Stores
 use Rattle.file_store.specs.declared.faults.OpenFault.{OpenFault}
 use Rattle.file_store.specs.declared.faults.OpenFault.TheVariants.{Device as StoreDevice, BadLayout as StoreLayout, BadJournal as StoreJournal}
@@ -17,7 +17,8 @@ use Rattle.residency.specs.Picture.{Picture, picture_of, view}
 use Rattle.residency.specs.Shows.{ShowsPages}
 use Rattle.sync_journal.specs.Standing.{IsBadJournal}
 use Rattle.vm_types.specs.State.{State}
-use Rattle.machine.specs.declared.boot.BootFault.TheVariants.{BadLayout, BadJournal}
+use Rattle.machine.specs.declared.boot.BootFault.{BootFault}
+use Rattle.machine.specs.declared.boot.BootFault.TheVariants.{Frames, Slots, Device, BadLayout, BadJournal}
 use Rattle.machine.specs.declared.machine.Machine.{Machine}
 use Rattle.machine.specs.Boot.{Boots}
 use Rattle.machine.specs.Fault.{boot_fault}
@@ -32,24 +33,40 @@ was_journal StoreDevice e = cc
 was_journal StoreLayout e = cc
 was_journal StoreJournal e = refl
 
+-- once the store is opened, the sizes were fine
+pub sized : (fault : OpenFault) → (boot_fault fault ≡ Frames) ⊎ (boot_fault fault ≡ Slots) → ⊥
+sized StoreDevice (inl e) = cc
+sized StoreDevice (inr e) = cc
+sized StoreLayout (inl e) = cc
+sized StoreLayout (inr e) = cc
+sized StoreJournal (inl e) = cc
+sized StoreJournal (inr e) = cc
+
+-- a bad store is no failed device
+pub no_device : (fault : OpenFault) → (boot_fault fault ≡ BadLayout) ⊎ (boot_fault fault ≡ BadJournal) → fault ≡ StoreDevice → ⊥
+no_device StoreDevice (inl e) same = cc
+no_device StoreDevice (inr e) same = cc
+no_device StoreLayout e same = cc
+no_device StoreJournal e same = cc
+
 module _ {D : Type 0} (g : Ghosts D) where
   -- what the opening of a store says
   pub record IsOpened (entry : D) (store : FileStore D) : Type 0 where
-    pub ready : IsReady g store
+    pub ready : IsReadyStore g store
     pub size : g.sector_count store.disk ≡ g.sector_count entry
     pub layout : g.keeps_model store.disk → IsBadLayout (g.sector_count entry) (g.content entry) → ⊥
     pub journal : g.keeps_model store.disk → IsBadJournal (g.sector_count entry) (g.content entry) → ⊥
-    pub any_moment : g.keeps_model store.disk → LeavesOnly g entry store.disk (StandsAs (g.sector_count entry) (g.content entry))
     pub leaves : g.keeps_model store.disk → LeavesNow g store.disk (StandsAs (g.sector_count entry) (g.content entry))
 
   -- no time passed, and nothing is unsynced
   pub unmoved : (d : D) → ((c : Image) → g.left_since d (g.moment d) c → MayLeave (g.content d) (g.unsynced d) c)
-      → ((k : ℕ) → g.unsynced d k → ⊥) → LeavesOnly g d d (StandsAs (g.sector_count d) (g.content d))
-  unmoved d only_now synced =
-      started g d (StandsAs (g.sector_count d) (g.content d)) only_now
-      (λ c may files pages stands.
+      → ((k : ℕ) → g.unsynced d k → ⊥) → (first : Image) → StandsAs (g.sector_count d) first (g.content d)
+      → LeavesOnly g d d (StandsAs (g.sector_count d) first)
+  unmoved d only_now synced first stands =
+      started g d (StandsAs (g.sector_count d) first) only_now
+      (λ c may.
       let same : c ≡ g.content d = λ i k. ⊎_elim (λ u. absurd (synced k u)) (λ (e : c k ≡ g.content d k). e) (may.kept k) i in
-      subst (StandsFor (g.sector_count d) files pages) (sym same) stands)
+      subst (StandsAs (g.sector_count d) first) (sym same) stands)
 
   -- the image at entry stands for its own files and pages
   at_entry : (entry : D) (store : FileStore D) → IsOpened entry store → g.keeps_model store.disk
@@ -88,6 +105,7 @@ module _ {D E : Type 0} (g : Ghosts D) (h : Ghosts E) where
     volatile = standing_page image;
     durable = standing_page image;
     touched = λ file page. false;
+    past = [];
     ends = None;
   }
 
@@ -110,12 +128,13 @@ module _ {D E : Type 0} (g : Ghosts D) (h : Ghosts E) where
     home = λ p e inside. refl;
   }
 
-  pub boots : (entry : D) (m : Machine D E) (frames slots : ℕ) → m.halted ≡ false → IsOpened g entry m.core.store → IsStart m.core frames slots → Boots g h entry m
-  boots entry m frames slots goes opened fresh = record {
+  pub boots : (entry : D) (m : Machine D E) (frames slots : ℕ) → m.halted ≡ false → m.past ≡ [] → IsOpened g entry m.core.store → IsStart m.core frames slots → Boots g h entry m
+  boots entry m frames slots goes bare opened fresh = record {
     state = start m (g.content entry);
     shows = record {
       pages = starts_so (g.content entry) m frames slots fresh;
       running = sym goes;
+      past = bare;
       stands = λ keeps c may. (
         standing_page (g.content entry),
         refl,
@@ -128,6 +147,7 @@ module _ {D E : Type 0} (g : Ghosts D) (h : Ghosts E) where
       views = λ pid page. refl;
       same = λ file page. refl;
       touched = λ file page. refl;
+      past = refl;
       running = refl;
     };
     stands = λ keeps. held entry m opened keeps;

@@ -8,6 +8,7 @@ use Rattle.residency.specs.Picture.{picture_of}
 use Rattle.residency.specs.Shows.{ShowsPages, KeepsDevices}
 use Rattle.residency.specs.declared.kernel.Core.{Core}
 use Rattle.spaces.specs.Calls as Calls
+use Rattle.spaces.specs.Idle.{is_denial, is_idle}
 use Rattle.syncing.specs.Shows as Syncing
 use Rattle.syncing.specs.Core.{KeepsMemory, Commits, Acknowledged, Failed}
 use Rattle.vm_types.specs.declared.command.Command.{Command}
@@ -24,11 +25,11 @@ use Rattle.vm_types.specs.Prefix.{is_io_error, may_have_taken}
 use Rattle.vm_types.specs.Rows.{is_covered}
 use Rattle.vm_types.specs.Run.{Answers, Fails}
 use Rattle.vm_types.specs.State.{State, IsRunning, halted}
-use Rattle.vm_types.specs.Step.{outcome, msync_outcome, ruling, commit_of, commits, takes}
+use Rattle.vm_types.specs.Step.{noted, outcome, msync_outcome, ruling, commit_of, commits, takes}
 use Rattle.vm_types.specs.View.{Pages, attrs_of}
 use Rattle.machine.specs.declared.machine.Machine.{Machine}
 use Rattle.machine.specs.Machine.{stands_in, MayStand, HoldsIn, StandsForSome, Shows, Meets}
-use Rattle.machine.proofs.Flat.{OnlyNow, is_running, shows_core, answered, unread}
+use Rattle.machine.proofs.Flat.{with_past, OnlyNow, is_running, shows_core, answered, unread}
 use Rattle.machine.proofs.Steps.{outcome_keeps, commit_takes}
 
 -- no check answers EIO
@@ -97,6 +98,15 @@ stays_of s (Refuses errno) e = (refl, refl)
 stays_of s Passes e = (refl, refl)
 stays_of s (Takes pid first count) e = absurd (let k : Some (committed s pid first count s.durable) ≡ None = e in cc)
 
+-- an msync that makes pages durable is not idle, however it ends
+never_idle : (s : State) (pid addr len : ℕ) (mode : MsyncMode) (reply : Reply) (after : Pages) → commits s (Msync pid addr len mode) ≡ Some after
+    → is_denial reply ≡ false → is_idle s (Msync pid addr len mode) reply ≡ true → ⊥
+never_idle s pid addr len mode reply after commit taken idle =
+    let asked : (if is_some (Some after) then is_denial reply else true) ≡ true =
+    subst (λ (o : Option Pages). (if is_some o then is_denial reply else true) ≡ true) commit idle in
+    let never : false ≡ true = sym taken ∙ asked in
+    cc
+
 none_or_some : (o : Option Pages) → (o ≡ None) ⊎ ((after : Pages) × (o ≡ Some after))
 none_or_some None = inl refl
 none_or_some (Some after) = inr (after, refl)
@@ -117,23 +127,25 @@ module _ {D E : Type 0} (g : Ghosts D) (h : Ghosts E) where
       → Shows g h old s → IsRunning s → commits s (Msync pid addr len mode) ≡ Some after
       → Commits g old.core core s after (Msync pid addr len mode) reply → reply ≡ Done
       → Syncing.Shows g core (outcome s (Msync pid addr len mode)).state
-      → (t : State) × Meets g h old (record { core = core; halted = false }) s t (Msync pid addr len mode) reply
+      → (t : State) × Meets g h old (record { core = core; halted = false; past = old.past }) s t (Msync pid addr len mode) reply
   commit_done old core s pid addr len mode reply after shows run commit made done now =
       let x = Msync pid addr len mode in
-      let new : Machine D E = record { core = core; halted = false } in
+      let new : Machine D E = record { core = core; halted = false; past = old.past } in
       let n = g.sector_count old.core.store.disk in
-      let t = (outcome s x).state in
+      let t = noted x reply (outcome s x).state in
       let all = outcome_keeps s x in
       let goes_on : IsRunning t = all.ends ∙ run in
       let meets : Meets g h old new s t x reply = record {
         step = Answers run (done ∙ sym (done_of s (ruling s x) after commit)) refl;
         shows = record {
-          pages = now.pages;
+          pages = with_past g h (picture_of core) (outcome s x).state _ now.pages;
           running = ap is_some goes_on;
+          past = shows.past ∙ sym all.past;
           stands = λ k c may. (t.durable, subst (λ (o : Option (List Pages)). stands_in o t.durable t.durable) (sym goes_on) refl, now.stands k c may);
         };
         size = made.size;
         kept = made.kept;
+        idle = λ e. absurd (never_idle s pid addr len mode reply after commit (ap is_denial done) e);
         moments = λ k. weaker g old.core.store.disk core.store.disk (StandsForEither n s.files s.durable after) (StandsForSome n s.files (HoldsIn s x reply))
             (λ c either. holds_either n s x reply after c run commit (ap may_have_taken done) either)
             (made.either k);
@@ -145,10 +157,10 @@ module _ {D E : Type 0} (g : Ghosts D) (h : Ghosts E) where
       → Shows g h old s → IsRunning s → commits s (Msync pid addr len mode) ≡ Some after
       → Commits g old.core core s after (Msync pid addr len mode) reply → reply ≡ Refused EIO
       → g.failures old.core.store.disk < g.failures core.store.disk → KeepsMemory old.core core
-      → (t : State) × Meets g h old (record { core = core; halted = true }) s t (Msync pid addr len mode) reply
+      → (t : State) × Meets g h old (record { core = core; halted = true; past = old.past }) s t (Msync pid addr len mode) reply
   commit_failed counts_now old core s pid addr len mode reply after shows run commit made failed grew memory =
       let x = Msync pid addr len mode in
-      let new : Machine D E = record { core = core; halted = true } in
+      let new : Machine D E = record { core = core; halted = true; past = old.past } in
       let n = g.sector_count old.core.store.disk in
       let t = halted s after in
       let pages : ShowsPages (picture_of old.core) t = record {
@@ -164,6 +176,7 @@ module _ {D E : Type 0} (g : Ghosts D) (h : Ghosts E) where
         shows = record {
           pages = rw (memory.frames, memory.cache, memory.roots, memory.regions, memory.page_of, memory.directory) pages;
           running = refl;
+          past = shows.past;
           stands = λ k c may.
               subst (λ (sectors : ℕ). StandsForSome sectors s.files (MayStand t) c) (sym made.size)
               (⊎_elim (λ b. (s.durable, inl refl, b)) (λ a. (after, inr (inl refl), a))
@@ -172,6 +185,7 @@ module _ {D E : Type 0} (g : Ghosts D) (h : Ghosts E) where
         };
         size = made.size;
         kept = made.kept;
+        idle = λ e. absurd (never_idle s pid addr len mode reply after commit (ap is_denial failed) e);
         moments = λ k. weaker g old.core.store.disk core.store.disk (StandsForEither n s.files s.durable after) (StandsForSome n s.files (HoldsIn s x reply))
             (λ c either. holds_either n s x reply after c run commit (ap may_have_taken failed) either)
             (made.either k);
@@ -186,7 +200,7 @@ module _ {D E : Type 0} (g : Ghosts D) (h : Ghosts E) where
   -- answered by EIO, it halts the machine
   pub msync_halts : (counts_now : CountsNow) (old : Machine D E) (core : Core D E) (s : State) (pid addr len : ℕ) (mode : MsyncMode) (reply : Reply)
       → Shows g h old s → old.halted ≡ false → (Syncing.Shows g old.core s → Msynced old.core core s (Msync pid addr len mode) reply)
-      → reply ≡ Refused EIO → (t : State) × Meets g h old (record { core = core; halted = true }) s t (Msync pid addr len mode) reply
+      → reply ≡ Refused EIO → (t : State) × Meets g h old (record { core = core; halted = true; past = old.past }) s t (Msync pid addr len mode) reply
   msync_halts counts_now old core s pid addr len mode reply shows live said e =
       let x = Msync pid addr len mode in
       let run = is_running g h old s shows live in
@@ -194,7 +208,7 @@ module _ {D E : Type 0} (g : Ghosts D) (h : Ghosts E) where
       ⊎_elim (λ none. absurd (never_fails s pid addr len mode (sym (told.passes none).0 ∙ e)))
       (λ (some : (after : Pages) × (commits s x ≡ Some after)).
       let made = told.commits_so some.0 some.1 in
-      elim made.end as (λ _. (t : State) × Meets g h old (record { core = core; halted = true }) s t x reply) [
+      elim made.end as (λ _. (t : State) × Meets g h old (record { core = core; halted = true; past = old.past }) s t x reply) [
         | Acknowledged done now sound ↦ absurd (let never : Done ≡ Refused EIO = sym done ∙ e in cc)
         | Failed failed grew memory ↦ commit_failed counts_now old core s pid addr len mode reply some.0 shows run some.1 made e grew memory
       ])
@@ -203,7 +217,7 @@ module _ {D E : Type 0} (g : Ghosts D) (h : Ghosts E) where
   -- answered otherwise, it lets the machine go on
   pub msync_goes_on : (only_now : OnlyNow g h) (old : Machine D E) (core : Core D E) (s : State) (pid addr len : ℕ) (mode : MsyncMode) (reply : Reply)
       → Shows g h old s → old.halted ≡ false → (Syncing.Shows g old.core s → Msynced old.core core s (Msync pid addr len mode) reply)
-      → (reply ≡ Refused EIO → ⊥) → (t : State) × Meets g h old (record { core = core; halted = false }) s t (Msync pid addr len mode) reply
+      → (reply ≡ Refused EIO → ⊥) → (t : State) × Meets g h old (record { core = core; halted = false; past = old.past }) s t (Msync pid addr len mode) reply
   msync_goes_on only_now old core s pid addr len mode reply shows live said otherwise =
       let x = Msync pid addr len mode in
       let run = is_running g h old s shows live in
@@ -214,10 +228,10 @@ module _ {D E : Type 0} (g : Ghosts D) (h : Ghosts E) where
       let pages : ShowsPages (picture_of core) (outcome s x).state =
       subst (λ (t : State). ShowsPages (picture_of core) t) (sym stays.0) (subst (λ (o : Core D E). ShowsPages (picture_of o) s) (sym same) shows.pages) in
       let keeps : KeepsDevices old.core core = record { store = ap (λ (o : Core D E). o.store) same; swap = ap (λ (o : Core D E). o.swap) same } in
-      answered g h only_now old core false s x reply shows live refl stays.1 (unread g h old.core core keeps) (Calls.Does (told.passes none).0 pages))
+      answered g h only_now old core false old.past s x reply shows live refl stays.1 refl (unread g h old.core core keeps) (λ _. keeps) (Calls.Does (told.passes none).0 pages))
       (λ (some : (after : Pages) × (commits s x ≡ Some after)).
       let made = told.commits_so some.0 some.1 in
-      elim made.end as (λ _. (t : State) × Meets g h old (record { core = core; halted = false }) s t x reply) [
+      elim made.end as (λ _. (t : State) × Meets g h old (record { core = core; halted = false; past = old.past }) s t x reply) [
         | Acknowledged done now sound ↦ commit_done old core s pid addr len mode reply some.0 shows run some.1 made done now
         | Failed failed grew memory ↦ absurd (otherwise failed)
       ])
@@ -227,7 +241,7 @@ module _ {D E : Type 0} (g : Ghosts D) (h : Ghosts E) where
   pub msync_meets : (only_now : OnlyNow g h) (counts_now : CountsNow) (old : Machine D E) (core : Core D E) (stops : Bool) (s : State) (pid addr len : ℕ) (mode : MsyncMode) (reply : Reply)
       → Shows g h old s → old.halted ≡ false → (Syncing.Shows g old.core s → Msynced old.core core s (Msync pid addr len mode) reply)
       → (stops ≡ true → reply ≡ Refused EIO) → (stops ≡ false → reply ≡ Refused EIO → ⊥)
-      → (t : State) × Meets g h old (record { core = core; halted = stops }) s t (Msync pid addr len mode) reply
+      → (t : State) × Meets g h old (record { core = core; halted = stops; past = old.past }) s t (Msync pid addr len mode) reply
   msync_meets only_now counts_now old core true s pid addr len mode reply shows live said failed otherwise =
       msync_halts counts_now old core s pid addr len mode reply shows live said (failed refl)
   msync_meets only_now counts_now old core false s pid addr len mode reply shows live said failed otherwise =

@@ -7,10 +7,11 @@ use Rattle.disk_model.proofs.Moments.{stays, started, goes_on, still_leaves}
 use Rattle.file_store.specs.Standing.{StandsFor}
 use Rattle.file_store.specs.declared.store.FileStore.{FileStore}
 use Rattle.fault.specs.Files.{ReadsStore}
-use Rattle.residency.specs.Picture.{picture_of}
+use Rattle.residency.specs.Picture.{Picture, picture_of}
 use Rattle.residency.specs.Shows.{ShowsPages, KeepsDevices}
 use Rattle.residency.specs.declared.kernel.Core.{Core}
 use Rattle.spaces.specs.Calls as Calls
+use Rattle.spaces.specs.Idle.{is_idle}
 use Rattle.syncing.specs.Shows as Syncing
 use Rattle.vm_types.specs.declared.command.Command.{Command}
 use Rattle.vm_types.specs.declared.refusal.Stall.{Stall}
@@ -18,14 +19,15 @@ use Rattle.vm_types.specs.declared.refusal.Stall.TheVariants.{NoFrames, NoSwap, 
 use Rattle.vm_types.specs.declared.reply.Reply.{Reply}
 use Rattle.vm_types.specs.declared.reply.Reply.TheVariants.{Halted}
 use Rattle.vm_types.specs.Files.{Files}
+use Rattle.vm_types.specs.History.{Past}
 use Rattle.vm_types.specs.Run.{Answers, Stalls, Stays}
 use Rattle.vm_types.specs.Stalls.{MayStall, reads_files}
 use Rattle.vm_types.specs.State.{State, IsRunning}
-use Rattle.vm_types.specs.Step.{outcome, ruling, takes}
+use Rattle.vm_types.specs.Step.{outcome, noted, past_after, ruling, takes}
 use Rattle.vm_types.specs.View.{Pages}
 use Rattle.machine.specs.Machine.{stands_in, MayStand, HoldsIn, StandsForSome, Shows, Meets, causes}
 use Rattle.machine.specs.declared.machine.Machine.{Machine}
-use Rattle.machine.proofs.Steps.{Keeps, outcome_keeps}
+use Rattle.machine.proofs.Steps.{outcome_keeps, past_stalled}
 
 running_of : (o : Option (List Pages)) → is_some o ≡ false → o ≡ None
 running_of None e = refl
@@ -49,11 +51,17 @@ module _ {D E : Type 0} (g : Ghosts D) (h : Ghosts E) where
       let e : p.0 ≡ s.durable = subst (λ (o : Option (List Pages)). stands_in o s.durable p.0) run p.1 in
       subst (λ (d : Pages). StandsFor (g.sector_count old.core.store.disk) s.files d c) e p.2
 
+  -- the same files, running or halted as before, and the same durable pages
+  record Leaves (s t : State) : Type 0 where
+    pub files : t.files ≡ s.files
+    pub ends : t.ends ≡ s.ends
+    pub durable_is : t.durable ≡ s.durable
+
   -- a running machine's processes and files
   pub shows_core : (old : Machine D E) (s : State) → Shows g h old s → IsRunning s → Syncing.Shows g old.core s
   shows_core old s shows run = record { pages = shows.pages; stands = λ k. durable_now old s shows run k }
 
-  same_stands : (n : ℕ) (s t : State) (c : Image) → Keeps s t s.durable → StandsForSome n s.files (MayStand s) c → StandsForSome n t.files (MayStand t) c
+  same_stands : (n : ℕ) (s t : State) (c : Image) → Leaves s t → StandsForSome n s.files (MayStand s) c → StandsForSome n t.files (MayStand t) c
   same_stands n s t c kept p = (
     p.0,
     subst (λ (o : Option (List Pages)). stands_in o t.durable p.0) (sym kept.ends) (subst (λ (d : Pages). stands_in s.ends d p.0) (sym kept.durable_is) p.1),
@@ -82,23 +90,28 @@ module _ {D E : Type 0} (g : Ghosts D) (h : Ghosts E) where
   stall_of old new s command SwapDevice may = absurd may.cause
   stall_of old new s command StoreDevice may = record { otherwise = may.otherwise; open_to = may.open_to; cause = may.cause }
 
+  -- memory knows nothing of the history
+  pub with_past : (c : Picture) (s : State) (past : Past) → ShowsPages c s → ShowsPages c (record s { past = past })
+  with_past c s past shows = record { live = shows.live; views = shows.views; files = shows.files; touched = shows.touched; framed = shows.framed; home = shows.home }
+
   -- the state after it, where the store was only read
-  module _ (only_now : OnlyNow) (old : Machine D E) (core : Core D E) (s : State) (command : Command) (reply : Reply)
-      (shows : Shows g h old s) (run : old.halted ≡ false) (reads : ReadsStore g old.core.store core.store) where
+  module _ (only_now : OnlyNow) (old : Machine D E) (core : Core D E) (past : Past) (s : State) (command : Command) (reply : Reply)
+      (shows : Shows g h old s) (run : old.halted ≡ false) (reads : ReadsStore g old.core.store core.store)
+      (kept_past : past ≡ past_after command reply old.past) (idle : is_idle s command reply ≡ true → KeepsDevices old.core core) where
     abbrev new : Machine D E
-    new = record { core = core; halted = false }
+    new = record { core = core; halted = false; past = past }
 
     abbrev n : ℕ
     n = g.sector_count old.core.store.disk
 
-    moved : (t : State) → Keeps s t s.durable → g.keeps_model core.store.disk
+    moved : (t : State) → Leaves s t → g.keeps_model core.store.disk
         → LeavesNow g core.store.disk (StandsForSome (g.sector_count core.store.disk) t.files (MayStand t))
     moved t kept k = λ c may.
         same_stands (g.sector_count core.store.disk) s t c kept
         (subst (λ (sectors : ℕ). StandsForSome sectors s.files (MayStand s) c) (sym reads.size)
         (still_leaves g old.core.store.disk core.store.disk (StandsForSome n s.files (MayStand s)) (reads.touches k) (shows.stands (reads.kept k)) c may))
 
-    goes : (t : State) → Keeps s t s.durable → is_some t.ends ≡ false
+    goes : (t : State) → Leaves s t → is_some t.ends ≡ false
     goes t kept = rw kept.ends (rw (is_running old s shows run) refl)
 
     during : g.keeps_model core.store.disk → LeavesOnly g old.core.store.disk core.store.disk (StandsForSome n s.files (HoldsIn s command reply))
@@ -107,14 +120,20 @@ module _ {D E : Type 0} (g : Ghosts D) (h : Ghosts E) where
     did : takes s (ruling s command) s.durable ≡ s.durable → reply ≡ (outcome s command).reply → ShowsPages (picture_of core) (outcome s command).state
         → (t : State) × Meets g h old new s t command reply
     did none answer pages =
-        let t = (outcome s command).state in
+        let t = noted command reply (outcome s command).state in
         let all = outcome_keeps s command in
-        let kept : Keeps s t s.durable = record { files = all.files; ends = all.ends; durable_is = all.durable_is ∙ none } in
+        let kept : Leaves s t = record { files = all.files; ends = all.ends; durable_is = all.durable_is ∙ none } in
         let meets : Meets g h old new s t command reply = record {
           step = Answers (is_running old s shows run) answer refl;
-          shows = record { pages = pages; running = goes t kept; stands = moved t kept };
+          shows = record {
+            pages = with_past (picture_of core) (outcome s command).state _ pages;
+            running = goes t kept;
+            past = kept_past ∙ ap (past_after command reply) (shows.past ∙ sym all.past);
+            stands = moved t kept;
+          };
           size = reads.size;
           kept = reads.kept;
+          idle = idle;
           moments = during;
         } in
         (t, meets)
@@ -122,12 +141,18 @@ module _ {D E : Type 0} (g : Ghosts D) (h : Ghosts E) where
     stalled : (stall : Stall) → MayStall (Calls.causes g old.core core) s command stall → reply ≡ Reply.Stalled stall → ShowsPages (picture_of core) s
         → (t : State) × Meets g h old new s t command reply
     stalled stall may answer pages =
-        let kept : Keeps s s s.durable = record { files = refl; ends = refl; durable_is = refl } in
+        let kept : Leaves s s = record { files = refl; ends = refl; durable_is = refl } in
         let meets : Meets g h old new s s command reply = record {
           step = Stalls stall (is_running old s shows run) (stall_of old new s command stall may) answer refl;
-          shows = record { pages = pages; running = goes s kept; stands = moved s kept };
+          shows = record {
+            pages = pages;
+            running = goes s kept;
+            past = kept_past ∙ ap (λ (r : Reply). past_after command r old.past) answer ∙ past_stalled command stall old.past ∙ shows.past;
+            stands = moved s kept;
+          };
           size = reads.size;
           kept = reads.kept;
+          idle = idle;
           moments = during;
         } in
         (s, meets)
@@ -147,21 +172,22 @@ module _ {D E : Type 0} (g : Ghosts D) (h : Ghosts E) where
     directory = ap (λ (store : FileStore D). store.directory) keeps.store;
   }
 
-  pub answered : (only_now : OnlyNow) (old : Machine D E) (core : Core D E) (halted : Bool) (s : State) (command : Command) (reply : Reply)
+  pub answered : (only_now : OnlyNow) (old : Machine D E) (core : Core D E) (halted : Bool) (past : Past) (s : State) (command : Command) (reply : Reply)
       → Shows g h old s → old.halted ≡ false → halted ≡ false → takes s (ruling s command) s.durable ≡ s.durable
-      → ReadsStore g old.core.store core.store → Calls.Comes g old.core core s command reply
-      → (t : State) × Meets g h old (record { core = core; halted = halted }) s t command reply
-  answered only_now old core halted s command reply shows run goes_on none reads comes =
-      subst (λ (b : Bool). (t : State) × Meets g h old (record { core = core; halted = b }) s t command reply) (sym goes_on)
-      (read_meets only_now old core s command reply shows run reads none comes)
+      → past ≡ past_after command reply old.past → ReadsStore g old.core.store core.store → (is_idle s command reply ≡ true → KeepsDevices old.core core) → Calls.Comes g old.core core s command reply
+      → (t : State) × Meets g h old (record { core = core; halted = halted; past = past }) s t command reply
+  answered only_now old core halted past s command reply shows run goes_on none kept_past reads idle comes =
+      subst (λ (b : Bool). (t : State) × Meets g h old (record { core = core; halted = b; past = past }) s t command reply) (sym goes_on)
+      (read_meets only_now old core past s command reply shows run reads kept_past idle none comes)
 
   -- what a call of spaces says of a machine that runs
-  pub carried : (only_now : OnlyNow) (old : Machine D E) (core : Core D E) (halted : Bool) (s : State) (command : Command) (reply : Reply)
+  pub carried : (only_now : OnlyNow) (old : Machine D E) (core : Core D E) (halted : Bool) (past : Past) (s : State) (command : Command) (reply : Reply)
       → Shows g h old s → old.halted ≡ false → halted ≡ false → takes s (ruling s command) s.durable ≡ s.durable
-      → ReadsStore g old.core.store core.store → Calls.Carries g old.core core command reply → (reads_files command ≡ true → g.keeps_model core.store.disk)
-      → (t : State) × Meets g h old (record { core = core; halted = halted }) s t command reply
-  carried only_now old core halted s command reply shows run goes_on none reads carries readable =
-      answered only_now old core halted s command reply shows run goes_on none reads
+      → past ≡ past_after command reply old.past → ReadsStore g old.core.store core.store → (is_idle s command reply ≡ true → KeepsDevices old.core core)
+      → Calls.Carries g old.core core command reply → (reads_files command ≡ true → g.keeps_model core.store.disk)
+      → (t : State) × Meets g h old (record { core = core; halted = halted; past = past }) s t command reply
+  carried only_now old core halted past s command reply shows run goes_on none kept_past reads idle carries readable =
+      answered only_now old core halted past s command reply shows run goes_on none kept_past reads idle
       (carries s (shows_core old s shows (is_running old s shows run)) readable)
 
   pub stays_halted : (only_now : OnlyNow) (old : Machine D E) (s : State) (command : Command) → Shows g h old s → old.halted ≡ true
@@ -174,6 +200,7 @@ module _ {D E : Type 0} (g : Ghosts D) (h : Ghosts E) where
         shows = shows;
         size = refl;
         kept = λ k. k;
+        idle = λ _. record { store = refl; swap = refl };
         moments = λ k. no_time only_now old.core.store.disk n s command Halted k (shows.stands k);
       } in
       (s, meets)

@@ -1,5 +1,5 @@
 -- What a boot leaves, and when it gives up.
-use Rattle.std.specs.Prelude.{ℕ, ◌*◌, ◌^◌, ◌≡◌, ◌<◌, ◌⊎◌, false, None}
+use Rattle.std.specs.Prelude.{ℕ, ◌*◌, ◌^◌, ◌≡◌, ◌<◌, ◌⊎◌, false, None, []}
 use Rattle.disk_model.specs.declared.sector_disk.SectorDisk.{Ghosts}
 use Rattle.file_store.specs.Standing.{StandsFor}
 use Rattle.frames.specs.FrameTable.{frame_count}
@@ -28,6 +28,7 @@ pub record IsBootState (s : State) : Type 0 where
   pub views : (pid page : ℕ) → s.views pid page ≡ None
   pub same : (file page : ℕ) → s.volatile file page ≡ s.durable file page
   pub touched : (file page : ℕ) → s.touched file page ≡ false
+  pub past : s.past ≡ []
   pub running : IsRunning s
 
 module _ {D E : Type 0} (g : Ghosts D) (h : Ghosts E) where

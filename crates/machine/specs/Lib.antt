@@ -1,4 +1,5 @@
 pub mod Boot
 pub mod Chain
+pub mod Counts
 pub mod Fault
 pub mod Machine

@@ -5,8 +5,9 @@ use Rattle.disk_model.specs.Stop.{Image}
 use Rattle.disk_model.specs.declared.sector_disk.SectorDisk.{Ghosts}
 use Rattle.file_store.specs.Standing.{StandsFor}
 use Rattle.residency.specs.Picture.{picture_of}
-use Rattle.residency.specs.Shows.{ShowsPages}
+use Rattle.residency.specs.Shows.{ShowsPages, KeepsDevices}
 use Rattle.spaces.specs.Calls as Spaces
+use Rattle.spaces.specs.Idle.{is_idle}
 use Rattle.syncing.specs.Shows as Calls
 use Rattle.vm_types.specs.declared.command.Command.{Command}
 use Rattle.vm_types.specs.declared.reply.Reply.{Reply}
@@ -48,13 +49,14 @@ module _ {D E : Type 0} (g : Ghosts D) where
 
 module _ {D E : Type 0} (g : Ghosts D) (h : Ghosts E) where
   -- The machine may go on: unless it has halted, its store may be read and committed to, and its memory is fit.
-  pub record IsSound (m : Machine D E) : Type 0 where
-    pub going : m.halted ≡ false → Calls.IsSound g m.core
+  pub record IsSoundMachine (m : Machine D E) : Type 0 where
+    pub going : m.halted ≡ false → Calls.IsSoundCore g m.core
 
   -- The machine is in that state: its memory shows it, and so does every image that a stop may leave now.
   pub record Shows (m : Machine D E) (s : State) : Type 0 where
     pub pages : ShowsPages (picture_of m.core) s
     pub running : is_some s.ends ≡ m.halted
+    pub past : m.past ≡ s.past
     pub stands : g.keeps_model m.core.store.disk
         → LeavesNow g m.core.store.disk (StandsForSome (g.sector_count m.core.store.disk) s.files (MayStand s))
 
@@ -72,6 +74,7 @@ module _ {D E : Type 0} (g : Ghosts D) (h : Ghosts E) where
     pub shows : Shows new t
     pub size : g.sector_count new.core.store.disk ≡ g.sector_count old.core.store.disk
     pub kept : g.keeps_model new.core.store.disk → g.keeps_model old.core.store.disk
+    pub idle : is_idle s command reply ≡ true → KeepsDevices old.core new.core
     pub moments : g.keeps_model new.core.store.disk
         → LeavesOnly g old.core.store.disk new.core.store.disk (StandsForSome (g.sector_count old.core.store.disk) s.files (HoldsIn s command reply))
 

@@ -1,12 +1,14 @@
 //! Starting a machine.
-ghost use Rattle.std.specs.Prelude.{◌≡◌, ◌<◌, ℕ, IfOk, IfErr, OnOk};
-ghost use Rattle.disk_model.specs.Moments.{LeavesOnly};
+ghost use Rattle.std.specs.Prelude.{◌≡◌, ◌<◌, ◌≤◌, ◌⊎◌, ℕ, IfOk, IfErr, OnOk};
+ghost use Rattle.disk_model.specs.Moments.{Touches, Nothing, LeavesOnly};
+ghost use Rattle.disk_model.specs.Stop.{Image};
 ghost use Rattle.file_store.specs.Standing.{StandsAs, IsBadLayout};
 ghost use Rattle.sync_journal.specs.Standing.{IsBadJournal};
-ghost use Rattle.machine.specs.Machine.{IsSound};
+ghost use Rattle.machine.specs.Machine.{IsSoundMachine};
 ghost use Rattle.machine.specs.Boot.{HasBadFrames, HasBadSlots, HasRoom, Boots};
 ghost use Rattle.machine.specs.Fault.{fault_number, boot_fault};
 
+use crate::fault_log::FaultLog;
 use crate::machine::Machine;
 use disk_model::SectorDisk;
 use file_store::{FileStore, OpenFault};
@@ -71,8 +73,9 @@ impl From<OpenFault> for BootFault {
 }
 
 impl<D: SectorDisk, E: SectorDisk + Drop> Machine<D, E> {
-    /// Starts a machine over a store that comes without unsynced writes, as after a stop: opens it, recovering it, and
-    /// takes all memory that the machine will ever need. The checks come in the order of the faults' numbers.
+    /// Starts a machine over a store as a stop left it, or as whoever had it last in this program, who may have left writes
+    /// unsynced: opens it, recovering it, and takes all memory that the machine will ever need. The sizes are looked at
+    /// before the store is asked.
     ///
     /// `Frames`, `Slots`, `BadLayout` and `BadJournal` come exactly where their texts say, unless an earlier one
     /// comes; `Device` only where the store device failed in this call. Each fault hands the store back.
@@ -82,23 +85,32 @@ impl<D: SectorDisk, E: SectorDisk + Drop> Machine<D, E> {
         store: D,
         swap: E,
     ) -> Result<Machine<D, E>, (BootFault, D)>
-        requires { D.keeps_model store → (k : ℕ) → D.unsynced store k → ⊥ }
-
-        ensures sound { IfOk result (λ m. IsSound D.SectorDisk E.SectorDisk m) }
+        ensures sound { IfOk result (λ m. IsSoundMachine D.SectorDisk E.SectorDisk m) }
         ensures boots { IfOk result (λ m. Boots D.SectorDisk E.SectorDisk store m) }
         ensures room { IfOk result (λ m. HasRoom m config) }
+        ensures swap { IfOk result (λ m. m.core.swap ≡ swap) }
         ensures size { IfOk result (λ m. D.sector_count m.core.store.disk ≡ D.sector_count store) }
         ensures kept { IfOk result (λ m. D.keeps_model m.core.store.disk → D.keeps_model store) }
+        ensures later { IfOk result (λ m. D.failures store ≤ D.failures m.core.store.disk) }
         ensures frames { OnOk result (HasBadFrames config → ⊥) }
         ensures slots { OnOk result (HasBadSlots config (E.sector_count swap) → ⊥) }
         ensures layout { IfOk result (λ m. D.keeps_model m.core.store.disk → IsBadLayout (D.sector_count store) (D.content store) → ⊥) }
         ensures journal { IfOk result (λ m. D.keeps_model m.core.store.disk → IsBadJournal (D.sector_count store) (D.content store) → ⊥) }
 
-        // At every moment of the call a stop leaves what stood before it.
-        ensures any_moment { IfOk result (λ m. D.keeps_model m.core.store.disk → LeavesOnly D.SectorDisk store m.core.store.disk (StandsAs (D.sector_count store) (D.content store))) }
-        ensures err_moment { IfErr result (λ e. D.keeps_model e.1 → LeavesOnly D.SectorDisk store e.1 (StandsAs (D.sector_count store) (D.content store))) }
+        // Where the store came without unsynced writes, a stop at any moment of the call leaves what stood before it, and what
+        // stood before any earlier stop.
+        ensures any_moment { IfOk result (λ m. D.keeps_model m.core.store.disk → ((k : ℕ) → D.unsynced store k → ⊥)
+            → LeavesOnly D.SectorDisk store m.core.store.disk (StandsAs (D.sector_count store) (D.content store))) }
+        ensures in_a_row { IfOk result (λ m. D.keeps_model m.core.store.disk → ((k : ℕ) → D.unsynced store k → ⊥) → (first : Image) → StandsAs (D.sector_count store) first (D.content store)
+            → LeavesOnly D.SectorDisk store m.core.store.disk (StandsAs (D.sector_count store) first)) }
+        ensures err_moment { IfErr result (λ e. D.keeps_model e.1 → ((k : ℕ) → D.unsynced store k → ⊥)
+            → LeavesOnly D.SectorDisk store e.1 (StandsAs (D.sector_count store) (D.content store))) }
+        ensures err_in_a_row { IfErr result (λ e. D.keeps_model e.1 → ((k : ℕ) → D.unsynced store k → ⊥) → (first : Image) → StandsAs (D.sector_count store) first (D.content store)
+            → LeavesOnly D.SectorDisk store e.1 (StandsAs (D.sector_count store) first)) }
 
+        ensures err_size { IfErr result (λ e. D.sector_count e.1 ≡ D.sector_count store) }
         ensures err_kept { IfErr result (λ e. D.keeps_model e.1 → D.keeps_model store) }
+        ensures err_later { IfErr result (λ e. D.failures store ≤ D.failures e.1) }
         ensures bad_frames { IfErr result (λ e. e.0 ≡ BootFault.Frames → HasBadFrames config) }
         ensures only_frames { IfErr result (λ e. HasBadFrames config → e.0 ≡ BootFault.Frames) }
         ensures bad_slots { IfErr result (λ e. e.0 ≡ BootFault.Slots → HasBadSlots config (E.sector_count swap)) }
@@ -106,6 +118,11 @@ impl<D: SectorDisk, E: SectorDisk + Drop> Machine<D, E> {
         ensures device { IfErr result (λ e. e.0 ≡ BootFault.Device → D.failures store < D.failures e.1) }
         ensures bad_layout { IfErr result (λ e. D.keeps_model e.1 → e.0 ≡ BootFault.BadLayout → IsBadLayout (D.sector_count store) (D.content store)) }
         ensures bad_journal { IfErr result (λ e. D.keeps_model e.1 → e.0 ≡ BootFault.BadJournal → IsBadJournal (D.sector_count store) (D.content store)) }
+        // A bad layout is told before a bad journal.
+        ensures layout_first { IfErr result (λ e. D.keeps_model e.1 → e.0 ≡ BootFault.BadJournal → IsBadLayout (D.sector_count store) (D.content store) → ⊥) }
+        // Nothing was asked of the store, or nothing written to it.
+        ensures unasked { IfErr result (λ e. (e.0 ≡ BootFault.Frames) ⊎ (e.0 ≡ BootFault.Slots) → e.1 ≡ store) }
+        ensures unwritten { IfErr result (λ e. D.keeps_model e.1 → (e.0 ≡ BootFault.BadLayout) ⊎ (e.0 ≡ BootFault.BadJournal) → Touches D.SectorDisk Nothing store e.1) }
     {
         if config.frames < MIN_FRAMES || config.frames > MAX_FRAMES {
             return Err((BootFault::Frames, store));
@@ -117,10 +134,14 @@ impl<D: SectorDisk, E: SectorDisk + Drop> Machine<D, E> {
             Ok(store) => store,
             Err((fault, disk)) => return Err((BootFault::from(fault), disk)),
         };
+        let Ok(past) = FaultLog::new(alloc) else {
+            return Err((BootFault::OutOfMemory, store.into_disk()));
+        };
         match Core::new(alloc, store, swap, config.frames, config.slots) {
             Ok(core) => Ok(Machine {
                 core,
                 halted: false,
+                past,
             }),
             Err((_, store)) => Err((BootFault::OutOfMemory, store.into_disk())),
         }

@@ -2,6 +2,7 @@
 #![tactic(auto)]
 
 mod boot;
+mod fault_log;
 mod machine;
 mod msync;
 #[cfg(test)]

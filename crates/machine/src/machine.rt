@@ -1,12 +1,20 @@
 //! The machine: commands in, replies out, over a store that survives stops.
-ghost use Rattle.std.specs.Prelude.{◌≡◌, ◌≤◌, ◌<◌, length, is_some};
+ghost use Rattle.std.specs.Prelude.{◌≡◌, ◌≤◌, ◌<◌, length, is_some, true};
 ghost use Rattle.vm_types.specs.State.{State};
-ghost use Rattle.machine.specs.Machine.{IsCaused, IsSound, IsReadable, Shows, Meets};
+ghost use Rattle.machine.specs.Machine.{IsCaused, IsSoundMachine, IsReadable, Shows, Meets};
+ghost use Rattle.residency.specs.Parts.{IsFit};
+ghost use Rattle.residency.specs.Picture.{picture_of, is_live};
+ghost use Rattle.vm_types.specs.Replies.{reply_of, told};
+ghost use Rattle.vm_types.specs.Step.{noted_fault};
+ghost use Rattle.vm_types.specs.declared.refusal.Fault.{Fault};
 ghost use Rattle.machine.specs.Chain.{Caused, Runs};
+ghost use Rattle.machine.specs.Counts.{Counts};
 
+use crate::fault_log::FaultLog;
 use disk_model::SectorDisk;
+use fault::live;
 use residency::Core;
-use vm_types::{Command, Reply};
+use vm_types::{Answer, Command, History, Reply};
 
 /// A machine over a store device `D` and a swap device `E`, made by `boot`.
 ///
@@ -17,6 +25,8 @@ pub struct Machine<D, E> {
     pub(crate) core: Core<D, E>,
     /// Whether an msync failed.
     pub(crate) halted: bool,
+    /// The last faults of accesses.
+    pub(crate) past: FaultLog,
 }
 
 impl<D: SectorDisk, E: SectorDisk> Machine<D, E> {
@@ -27,6 +37,15 @@ impl<D: SectorDisk, E: SectorDisk> Machine<D, E> {
         self.core.store.disk()
     }
 
+    /// The store's device, given back. What was stored and not made durable is lost.
+    pub fn into_store(self) -> D
+    where
+        E: Drop,
+        ensures { result ≡ self.core.store.disk }
+    {
+        self.core.store.into_disk()
+    }
+
     /// Whether an msync was answered by `EIO`: every command is then answered by `Halted`, and none otherwise.
     pub fn is_halted(&self) -> bool
         ensures halted { result ≡ self.now.halted }
@@ -35,25 +54,24 @@ impl<D: SectorDisk, E: SectorDisk> Machine<D, E> {
         self.halted
     }
 
-    /// Carries out one command. It takes no memory of the host. A command that would succeed stalls where a frame or a
-    /// device is wanting, and then has changed nothing. A failure of the store in an msync is answered by `EIO`, only
-    /// where the device failed in this call, and halts the machine: from then on every command answers `Halted`.
-    pub fn step(&mut self, command: Command) -> Reply
-        requires sound { IsSound D.SectorDisk E.SectorDisk self.old }
-        ensures sound { IsSound D.SectorDisk E.SectorDisk self.new }
+    /// Carries out one command, as `step` does, and tells the reply in the few bytes that all but a history take. `None` where
+    /// the reply is the history, which `history` tells. It takes no memory of the host.
+    pub fn carry_out(&mut self, command: Command) -> Option<Answer>
+        requires sound { IsSoundMachine D.SectorDisk E.SectorDisk self.old }
+        ensures sound { IsSoundMachine D.SectorDisk E.SectorDisk self.new }
         ensures kept { D.keeps_model self.new.core.store.disk → D.keeps_model self.old.core.store.disk }
-        ensures caused { IsCaused D.SectorDisk self.old self.new result }
+        ensures caused { IsCaused D.SectorDisk self.old self.new (told self.new.past result) }
         ensures meets { (s : State) → Shows D.SectorDisk E.SectorDisk self.old s → IsReadable D.SectorDisk E.SectorDisk self.new command
-            → (t : State) × Meets D.SectorDisk E.SectorDisk self.old self.new s t command result }
+            → (t : State) × Meets D.SectorDisk E.SectorDisk self.old self.new s t command (told self.new.past result) }
     {
         if self.halted {
-            return Reply::Halted;
+            return Some(Answer::Halted);
         }
         let core = &mut self.core;
         match command {
-            Command::Spawn => spaces::spawn(core),
-            Command::Fork { pid } => spaces::fork(core, pid),
-            Command::Exit { pid } => spaces::exit(core, pid),
+            Command::Spawn => Some(spaces::spawn(core)),
+            Command::Fork { pid } => Some(spaces::fork(core, pid)),
+            Command::Exit { pid } => Some(spaces::exit(core, pid)),
             Command::Mmap {
                 pid,
                 addr,
@@ -61,34 +79,87 @@ impl<D: SectorDisk, E: SectorDisk> Machine<D, E> {
                 prot,
                 source,
                 placing,
-            } => spaces::mmap(core, pid, addr, len, prot, source, placing),
-            Command::Munmap { pid, addr, len } => spaces::munmap(core, pid, addr, len),
+            } => Some(spaces::mmap(core, pid, addr, len, prot, source, placing)),
+            Command::Munmap { pid, addr, len } => Some(spaces::munmap(core, pid, addr, len)),
             Command::Mprotect {
                 pid,
                 addr,
                 len,
                 prot,
-            } => spaces::mprotect(core, pid, addr, len, prot),
+            } => Some(spaces::mprotect(core, pid, addr, len, prot)),
             Command::Msync {
                 pid,
                 addr,
                 len,
                 mode,
-            } => self.msync(pid, addr, len, mode),
-            Command::Load { pid, addr, width } => spaces::load(core, pid, addr, width),
-            Command::Store { pid, addr, stored } => spaces::store(core, pid, addr, stored),
-            Command::Fetch { pid, addr } => spaces::fetch(core, pid, addr),
+            } => Some(self.msync(pid, addr, len, mode)),
+            Command::Dontneed { pid, addr, len } => Some(spaces::dontneed(core, pid, addr, len)),
+            Command::Load { pid, addr, width } => {
+                let answer = spaces::load(core, pid, addr, width);
+                Some(self.noted(pid, answer))
+            }
+            Command::Store { pid, addr, stored } => {
+                let answer = spaces::store(core, pid, addr, stored);
+                Some(self.noted(pid, answer))
+            }
+            Command::Fetch { pid, addr } => {
+                let answer = spaces::fetch(core, pid, addr);
+                Some(self.noted(pid, answer))
+            }
+            Command::PastFaults => None,
         }
     }
 
-    /// Carries out commands one after another, and writes the reply to each. Whatever the devices do, a reply names the
-    /// store or the want of a frame only where the store failed as its command was carried out, or a frame was refused.
+    /// The last faults of accesses, oldest first, each with its process: 16 at most.
+    pub fn history(&self) -> History
+        ensures { result ≡ self.now.past }
+    {
+        self.past.history()
+    }
+
+    /// Carries out one command. It takes no memory of the host. A command that would succeed stalls where a frame or a
+    /// device is wanting, and then has changed nothing. A failure of the store in an msync is answered by `EIO`, only
+    /// where the device failed in this call, and halts the machine: from then on every command answers `Halted`.
+    pub fn step(&mut self, command: Command) -> Reply
+        requires sound { IsSoundMachine D.SectorDisk E.SectorDisk self.old }
+        ensures sound { IsSoundMachine D.SectorDisk E.SectorDisk self.new }
+        ensures kept { D.keeps_model self.new.core.store.disk → D.keeps_model self.old.core.store.disk }
+        ensures caused { IsCaused D.SectorDisk self.old self.new result }
+        ensures meets { (s : State) → Shows D.SectorDisk E.SectorDisk self.old s → IsReadable D.SectorDisk E.SectorDisk self.new command
+            → (t : State) × Meets D.SectorDisk E.SectorDisk self.old self.new s t command result }
+    {
+        match self.carry_out(command) {
+            Some(answer) => answer.reply(),
+            None => Reply::Past(self.past.history()),
+        }
+    }
+
+    /// The answer to an access of a process. The fault of one that faulted is kept.
+    fn noted(&mut self, pid: u64, answer: Answer) -> Answer
+        requires fit { IsFit (picture_of self.old.core) }
+        ensures answer { result ≡ answer }
+        ensures core { self.new.core ≡ self.old.core }
+        ensures halted { self.new.halted ≡ self.old.halted }
+        ensures past { ((fault : Fault) → answer ≡ Answer.Faulted fault → is_live (picture_of self.old.core) pid ≡ true)
+            → self.new.past ≡ noted_fault pid (reply_of answer) self.old.past }
+    {
+        if let Answer::Faulted(fault) = answer {
+            if let Some(pid) = live(&self.core, pid) {
+                self.past.note(pid, fault);
+            }
+        }
+        answer
+    }
+
+    /// Carries out commands one after another, and writes the reply to each. Whatever the devices do, the store failed at
+    /// least once for each reply that names it, and as many requests for a frame were refused as replies name the want of one.
     pub fn run(&mut self, commands: &[Command], replies: &mut [Reply])
-        requires sound { IsSound D.SectorDisk E.SectorDisk self.old }
+        requires sound { IsSoundMachine D.SectorDisk E.SectorDisk self.old }
         requires lengths { length replies.old ≡ length commands.now }
-        ensures sound { IsSound D.SectorDisk E.SectorDisk self.new }
+        ensures sound { IsSoundMachine D.SectorDisk E.SectorDisk self.new }
         ensures kept { D.keeps_model self.new.core.store.disk → D.keeps_model self.old.core.store.disk }
         ensures caused { Caused D.SectorDisk self.old replies.new self.new }
+        ensures counts { Counts D.SectorDisk self.old self.new replies.new }
         ensures run { (s : State) → Shows D.SectorDisk E.SectorDisk self.old s → D.keeps_model self.new.core.store.disk
             → Runs D.SectorDisk E.SectorDisk self.old self.new commands.now replies.new s }
     {

@@ -1,25 +1,26 @@
 //! msync: pages made durable through the store.
 ghost use Rattle.std.specs.Prelude.{◌≡◌, false};
+ghost use Rattle.vm_types.specs.Replies.{reply_of};
 ghost use Rattle.vm_types.specs.State.{State};
 ghost use Rattle.vm_types.specs.declared.command.Command.TheVariants.{Msync};
-ghost use Rattle.machine.specs.Machine.{IsCaused, IsSound, Shows, Meets};
+ghost use Rattle.machine.specs.Machine.{IsCaused, IsSoundMachine, Shows, Meets};
 
 use crate::machine::Machine;
 use disk_model::SectorDisk;
-use vm_types::{Errno, MsyncMode, Reply};
+use vm_types::{Answer, Errno, MsyncMode};
 
 impl<D: SectorDisk, E: SectorDisk> Machine<D, E> {
     /// Makes the touched pages of a range durable, all at once; `EIO` halts the machine.
-    pub(crate) fn msync(&mut self, pid: u64, addr: u64, len: u64, mode: MsyncMode) -> Reply
-        requires sound { IsSound D.SectorDisk E.SectorDisk self.old }
+    pub(crate) fn msync(&mut self, pid: u64, addr: u64, len: u64, mode: MsyncMode) -> Answer
+        requires sound { IsSoundMachine D.SectorDisk E.SectorDisk self.old }
         requires running { self.old.halted ≡ false }
-        ensures sound { IsSound D.SectorDisk E.SectorDisk self.new }
+        ensures sound { IsSoundMachine D.SectorDisk E.SectorDisk self.new }
         ensures kept { D.keeps_model self.new.core.store.disk → D.keeps_model self.old.core.store.disk }
-        ensures caused { IsCaused D.SectorDisk self.old self.new result }
-        ensures meets { (s : State) → Shows D.SectorDisk E.SectorDisk self.old s → (t : State) × Meets D.SectorDisk E.SectorDisk self.old self.new s t (Msync pid addr len mode) result }
+        ensures caused { IsCaused D.SectorDisk self.old self.new (reply_of result) }
+        ensures meets { (s : State) → Shows D.SectorDisk E.SectorDisk self.old s → (t : State) × Meets D.SectorDisk E.SectorDisk self.old self.new s t (Msync pid addr len mode) (reply_of result) }
     {
-        let reply = spaces::msync(&mut self.core, pid, addr, len, mode);
-        self.halted = reply == Reply::Refused(Errno::EIO);
-        reply
+        let answer = spaces::msync(&mut self.core, pid, addr, len, mode);
+        self.halted = answer == Answer::Refused(Errno::EIO);
+        answer
     }
 }

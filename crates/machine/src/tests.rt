@@ -1,6 +1,6 @@
 //! Each call of a machine over devices in memory.
 ghost use Rattle.std.specs.Prelude.{ℕ, IfOk};
-ghost use Rattle.machine.specs.Machine.{IsSound};
+ghost use Rattle.machine.specs.Machine.{IsSoundMachine};
 
 use crate::{BootFault, Config, Machine};
 use disk_model::{SectorDisk, SimDisk};
@@ -32,7 +32,7 @@ fn image(alloc: Global, failing: Option<u64>) -> Result<SimDisk, Fail>
 
 /// A machine over that image.
 fn booted(alloc: Global, failing: Option<u64>) -> Result<Machine<SimDisk, SimDisk>, Fail>
-    ensures { IfOk result (λ m. IsSound ⟦<SimDisk as SectorDisk>⟧ ⟦<SimDisk as SectorDisk>⟧ m) }
+    ensures { IfOk result (λ m. IsSoundMachine ⟦<SimDisk as SectorDisk>⟧ ⟦<SimDisk as SectorDisk>⟧ m) }
 {
     let config = Config {
         frames: 8,
@@ -89,6 +89,15 @@ fn storing() -> Result<Command, Fail> {
     })
 }
 
+/// Stores another byte there.
+fn storing_more() -> Result<Command, Fail> {
+    Ok(Command::Store {
+        pid: 1,
+        addr: 0x10000,
+        stored: StoredValue::new(Width::One, 0x6b).ok_or("a byte")?,
+    })
+}
+
 /// The fault of an access to an address that isn't mapped.
 fn unmapped(cause: u8) -> Reply {
     Reply::Faulted(Fault {
@@ -102,6 +111,7 @@ fn unmapped(cause: u8) -> Reply {
 fn commands_are_carried_out(rt: HostRuntime) -> Result<(), Fail> {
     let mut machine = booted(rt.alloc(), None)?;
     let pid = Pid::new(1).ok_or("1 is a process")?;
+    let at_boot = machine.store().syncs();
     let mut replies = [Reply::Halted; 7];
     let commands = [
         Command::Spawn,
@@ -134,8 +144,9 @@ fn commands_are_carried_out(rt: HostRuntime) -> Result<(), Fail> {
             value
         ]
     );
-    // The map and the page's body, the gate opened, the page's home, the gate closed.
-    assert_eq!(rt; machine.store().writes(), 19);
+    // The map and the page's body, and the gate opened: the page's home is written with a later msync.
+    assert_eq!(rt; machine.store().writes(), 10);
+    assert_eq!(rt; machine.store().syncs(), at_boot.saturating_add(2));
     assert_eq!(rt; machine.step(UNMAP), Reply::Done);
     assert_eq!(rt; machine.step(LOAD), unmapped(13));
     assert!(rt; !machine.is_halted());
@@ -175,4 +186,113 @@ fn faults_are_numbered(rt: HostRuntime) -> Result<(), Fail> {
             Ok(())
         }
     }
+}
+
+/// A device on which no store was made.
+fn blank(alloc: Global) -> Result<SimDisk, Fail>
+    ensures { IfOk result (λ disk. (k : ℕ) → ⟦<SimDisk as SectorDisk>⟧.unsynced disk k → ⊥) }
+{
+    let disk = SimDisk::new(alloc, 1028)?;
+    Ok(disk.left(alloc, &[])?)
+}
+
+#[test]
+fn a_store_that_is_none_is_handed_back(rt: HostRuntime) -> Result<(), Fail> {
+    let config = Config {
+        frames: 8,
+        slots: 16,
+    };
+    let swap = SimDisk::new(rt.alloc(), 128)?;
+    match Machine::boot(rt.alloc(), config, blank(rt.alloc())?, swap) {
+        Ok(_) => Err(Fail::new("it booted")),
+        Err((fault, store)) => {
+            assert_eq!(rt; fault, BootFault::BadLayout);
+            assert_eq!(rt; fault.number(), 5);
+            assert_eq!(rt; store.writes(), 0);
+            Ok(())
+        }
+    }
+}
+
+#[test]
+fn slots_need_sectors(rt: HostRuntime) -> Result<(), Fail> {
+    let config = Config {
+        frames: 8,
+        slots: 17,
+    };
+    let store = image(rt.alloc(), None)?;
+    match Machine::boot(rt.alloc(), config, store, SimDisk::new(rt.alloc(), 135)?) {
+        Ok(_) => Err(Fail::new("it booted")),
+        Err((fault, store)) => {
+            assert_eq!(rt; fault, BootFault::Slots);
+            assert_eq!(rt; fault.number(), 2);
+            assert_eq!(rt; store.calls(), 0);
+            Ok(())
+        }
+    }
+}
+
+/// Another machine over the store of one that is done with: what was synced stands, and what was only stored doesn't.
+#[test]
+fn a_store_is_handed_on(rt: HostRuntime) -> Result<(), Fail> {
+    let mut first = booted(rt.alloc(), None)?;
+    let mut replies = [Reply::Halted; 6];
+    first.run(
+        &[
+            Command::Spawn,
+            MAP,
+            PROTECT,
+            storing()?,
+            SYNC,
+            storing_more()?,
+        ],
+        &mut replies,
+    );
+    assert_eq!(rt; replies[4], Reply::Done);
+    assert_eq!(rt; replies[5], Reply::Done);
+    let config = Config {
+        frames: 8,
+        slots: 16,
+    };
+    let swap = SimDisk::new(rt.alloc(), 128)?;
+    let Ok(mut second) = Machine::boot(rt.alloc(), config, first.into_store(), swap) else {
+        return Err(Fail::new("it didn't boot"));
+    };
+    let mut replies = [Reply::Halted; 3];
+    second.run(&[Command::Spawn, MAP, LOAD], &mut replies);
+    let value = Reply::Value {
+        width: Width::One,
+        value: 0x5a,
+    };
+    assert_eq!(rt; replies[2], value);
+    Ok(())
+}
+
+/// After a failed msync the store has unsynced writes; it is handed on all the same.
+#[test]
+fn the_store_of_a_halted_machine_is_handed_on(rt: HostRuntime) -> Result<(), Fail> {
+    let stored = [Command::Spawn, MAP, PROTECT, storing()?];
+    let mut replies = [Reply::Halted; 4];
+    let mut healthy = booted(rt.alloc(), None)?;
+    healthy.run(&stored, &mut replies);
+    let first_of_msync = healthy.store().calls().saturating_add(1);
+    let mut machine = booted(rt.alloc(), Some(first_of_msync))?;
+    machine.run(&stored, &mut replies);
+    assert_eq!(rt; machine.step(SYNC), Reply::Refused(Errno::EIO));
+    let config = Config {
+        frames: 8,
+        slots: 16,
+    };
+    let swap = SimDisk::new(rt.alloc(), 128)?;
+    let Ok(mut second) = Machine::boot(rt.alloc(), config, machine.into_store(), swap) else {
+        return Err(Fail::new("it didn't boot"));
+    };
+    let mut replies = [Reply::Halted; 3];
+    second.run(&[Command::Spawn, MAP, LOAD], &mut replies);
+    let value = Reply::Value {
+        width: Width::One,
+        value: 0,
+    };
+    assert_eq!(rt; replies[2], value);
+    Ok(())
 }

@@ -10,7 +10,7 @@ use Rattle.page_cache.specs.Nodes.{page_at, first_node, IsOneToOne}
 use Rattle.page_cache.specs.Chains.{IsChained}
 use Rattle.page_cache.specs.Sets.{is_member, members, IsOrdered, SameMembersBut}
 use Rattle.page_cache.specs.CacheTable.{CacheTable, place_in, place_of, SameButFor}
-use Rattle.page_cache.specs.Inside.{table_of, IsWhole}
+use Rattle.page_cache.specs.Inside.{table_of, IsWholeCache}
 use Rattle.page_cache.proofs.NodeLemmas.{none≢some, first_node-of, IsOneToOne-removed, IsOneToOne-inserted}
 use Rattle.page_cache.proofs.SetLemmas.{members-at}
 use Rattle.page_cache.proofs.TableLemmas.{some-same, place_of-first, place_of-held, place_in-held, SameButFor-marks, SameButFor-set}
@@ -33,11 +33,11 @@ nothing_held t n one free = by_held (page_at t.pages n) refl where
   by_held (Some p) e = absurd (free p (place_of-held t p n one e))
 
 -- the node gave up its page and its mark
-pub IsWhole-taken : (c : Inside) (index : Index) (touched : NodeSet) (node : ℕ) (page : FilePage) → IsWhole c → page_at c.index.pages.items node ≡ Some page
+pub IsWhole-taken : (c : Inside) (index : Index) (touched : NodeSet) (node : ℕ) (page : FilePage) → IsWholeCache c → page_at c.index.pages.items node ≡ Some page
     → index.pages.items ≡ set c.index.pages.items node None → IsChained index.pages.items index.links.items index.mask
     → IsOrdered touched.order.items touched.ranks.items touched.count → is_member touched.ranks.items touched.count node ≡ false
     → SameMembersBut node c.touched.ranks.items c.touched.count touched.ranks.items touched.count
-    → IsWhole (record { frames = c.frames; index = index; touched = touched })
+    → IsWholeCache (record { frames = c.frames; index = index; touched = touched })
 IsWhole-taken c index touched node page whole held pages chained ordered unmarked same =
     let nodes : length index.pages.items ≡ length c.index.pages.items = ap length pages ∙ length-set c.index.pages.items node None in
     record {
@@ -57,12 +57,12 @@ IsWhole-taken c index touched node page whole held pages chained ordered unmarke
     }
 
 -- the node was given a page that was nowhere
-pub IsWhole-given : (c : Inside) (index : Index) (touched : NodeSet) (node : ℕ) (page : FilePage) → IsWhole c → node < length c.index.pages.items
+pub IsWhole-given : (c : Inside) (index : Index) (touched : NodeSet) (node : ℕ) (page : FilePage) → IsWholeCache c → node < length c.index.pages.items
     → place_of (table_of c) page ≡ Home
     → index.pages.items ≡ set c.index.pages.items node (Some page) → IsChained index.pages.items index.links.items index.mask
     → IsOrdered touched.order.items touched.ranks.items touched.count
     → SameMembersBut node c.touched.ranks.items c.touched.count touched.ranks.items touched.count
-    → IsWhole (record { frames = c.frames; index = index; touched = touched })
+    → IsWholeCache (record { frames = c.frames; index = index; touched = touched })
 IsWhole-given c index touched node page whole inside home pages chained ordered same =
     let nodes : length index.pages.items ≡ length c.index.pages.items = ap length pages ∙ length-set c.index.pages.items node (Some page) in
     record {
@@ -83,7 +83,7 @@ IsWhole-given c index touched node page whole inside home pages chained ordered 
     }
 
 -- the clauses of `hold` on the page itself
-pub given-placed : (c : Inside) (index : Index) (touched : NodeSet) (node : ℕ) (page : FilePage) → IsWhole c → node < length c.index.pages.items
+pub given-placed : (c : Inside) (index : Index) (touched : NodeSet) (node : ℕ) (page : FilePage) → IsWholeCache c → node < length c.index.pages.items
     → place_of (table_of c) page ≡ Home → index.pages.items ≡ set c.index.pages.items node (Some page)
     → first_node index.pages.items page ≡ Some node
 given-placed c index touched node page whole inside home pages =
@@ -92,7 +92,7 @@ given-placed c index touched node page whole inside home pages =
     (get_or-set_same c.index.pages.items node (Some page) None inside))
 
 -- a node that holds nothing isn't marked
-pub unmarked : (c : Inside) (node : ℕ) → IsWhole c → page_at c.index.pages.items node ≡ None → is_member c.touched.ranks.items c.touched.count node ≡ false
+pub unmarked : (c : Inside) (node : ℕ) → IsWholeCache c → page_at c.index.pages.items node ≡ None → is_member c.touched.ranks.items c.touched.count node ≡ false
 unmarked c node whole none = false_from_ne_true (is_member c.touched.ranks.items c.touched.count node) (λ member. whole.touched_held node member none)
 
 pub SameButFor-given : (c : Inside) (index : Index) (touched : NodeSet) (node : ℕ) (page : FilePage) → page_at c.index.pages.items node ≡ None

@@ -1,6 +1,6 @@
 -- Places and touched pages, by the nodes that hold them.
 use Rattle.std.proofs.Common.{◌≡◌, ◌≢◌, ℕ, zero, suc, ◌+◌, ◌-◌, ◌<◌, ◌≤◌, ◌⊎◌, Bool, false, List, length, get_or, Option, Some, None, IfSome, IfNone, refl, sym, ap, ◌∙◌, subst, inl, inr, arith, set, length-set, replicate}
-use Rattle.std.proofs.lemmas.Bool.{cases_Bool, cases_lt, both_ways, lt-ltb, le-ltb}
+use Rattle.std.proofs.lemmas.Bool.{false≢true, cases_Bool, cases_lt, both_ways, lt-ltb, le-ltb}
 use Rattle.std.proofs.lemmas.List.{length-replicate}
 use Rattle.vm_types.specs.declared.file.FilePage.{FilePage}
 use Rattle.vm_types.specs.declared.number.FrameNo.{FrameNo}
@@ -10,8 +10,8 @@ use Rattle.page_cache.specs.declared.place.Place.{Place}
 use Rattle.page_cache.specs.declared.place.Place.TheVariants.{Home, Frame, Slot}
 use Rattle.page_cache.specs.declared.cache.PageCache.TheInside.{Inside}
 use Rattle.page_cache.specs.Nodes.{page_at, first_node, IsOneToOne}
-use Rattle.page_cache.specs.CacheTable.{CacheTable, place_in, place_of, is_marked, is_touched, IsInside, IsSound, IsFresh, SameButFor}
-use Rattle.page_cache.specs.Inside.{table_of, IsWhole}
+use Rattle.page_cache.specs.CacheTable.{CacheTable, frame_count, slot_count, place_in, place_of, is_marked, is_touched, IsInside, IsSoundCache, IsFresh, SameButFor}
+use Rattle.page_cache.specs.Inside.{table_of, IsWholeCache}
 use Rattle.page_cache.proofs.NodeLemmas.{same_page, same_page_true, holds-true, false-holds, none≢some, page_at-within, first_node-holds, first_node-no_node, first_node-none, first_node-of, first_node-kept}
 
 -- two file pages are one or not
@@ -162,7 +162,7 @@ empty_at (suc n) zero = refl
 empty_at (suc n) (suc m) = empty_at n m
 
 -- what is true of every cache
-pub IsSound-whole : (c : Inside) → IsWhole c → IsSound (table_of c)
+pub IsSound-whole : (c : Inside) → IsWholeCache c → IsSoundCache (table_of c)
 IsSound-whole c whole = record {
   least_frames = whole.least_frames;
   most_frames = whole.most_frames;
@@ -198,4 +198,17 @@ IsFresh-empty t slots empty =
       slots_are = omega arith;
       at_home = λ page. place_of-first t page None (nowhere page);
       untouched = λ page. is_touched-first t page None (nowhere page);
+    }
+
+pub IsSound-fresh : (t : CacheTable) (frames slots : ℕ) → 8 ≤ frames → frames ≤ 65536 → slots ≤ 65536 → IsFresh t frames slots → IsSoundCache t
+IsSound-fresh t frames slots least most most_slots fresh =
+    let count : frame_count t ≡ frames = fresh.frames_are in
+    let places : slot_count t ≡ slots = fresh.slots_are in
+    record {
+      least_frames = omega (arith, count, least);
+      most_frames = omega (arith, count, most);
+      most_slots = omega (arith, places, most_slots);
+      inside = λ page. (let P : Place → Type 0 = λ place. IsInside t place in subst P (sym (fresh.at_home page)) tt);
+      apart = λ p q e away. absurd (away (fresh.at_home p));
+      touched_held = λ page touched. absurd (false≢true (sym (fresh.untouched page) ∙ touched));
     }

@@ -47,7 +47,7 @@ IsFreeFor t page (Frame n) = (p : FilePage) → p ≢ page → place_of t p ≢ 
 IsFreeFor t page (Slot n) = (p : FilePage) → p ≢ page → place_of t p ≢ Slot n
 
 -- what is true at all times
-pub record IsSound (t : CacheTable) : Type 0 where
+pub record IsSoundCache (t : CacheTable) : Type 0 where
   pub least_frames : 8 ≤ frame_count t
   pub most_frames : frame_count t ≤ 65536
   pub most_slots : slot_count t ≤ 65536

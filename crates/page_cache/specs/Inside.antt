@@ -10,7 +10,7 @@ abbrev pub table_of : Inside → CacheTable
 table_of c = record { frames = c.frames; pages = c.index.pages.items; touched = members c.touched.ranks.items c.touched.count }
 
 -- the hash table finds each page at its one node, and the touched nodes hold pages
-pub record IsWhole (c : Inside) : Type 0 where
+pub record IsWholeCache (c : Inside) : Type 0 where
   pub least_frames : 8 ≤ c.frames
   pub most_frames : c.frames ≤ 65536
   pub least_nodes : c.frames ≤ length c.index.pages.items

@@ -26,17 +26,17 @@ impl Model for PageCache {
 
     ghost Value = { CacheTable };
 
-    ghost use Rattle.page_cache.specs.Inside.{table_of, IsWhole};
+    ghost use Rattle.page_cache.specs.Inside.{table_of, IsWholeCache};
 
     ghost view = { table_of };
 
-    ghost invariant = { IsWhole };
+    ghost invariant = { IsWholeCache };
 }
 
 impl PageCache {
     ghost use Rattle.page_cache.specs.declared.place.Place.TheVariants.{Home, Frame, Slot};
     ghost use Rattle.page_cache.specs.Gathering.{Gathers, HasAll, Overflows, fresh_count};
-    ghost use Rattle.page_cache.specs.CacheTable.{frame_count, slot_count, place_in, place_of, is_touched, IsInside, IsFreeFor, IsSound, IsFresh, SameButFor};
+    ghost use Rattle.page_cache.specs.CacheTable.{frame_count, slot_count, place_in, place_of, is_touched, IsInside, IsFreeFor, IsSoundCache, IsFresh, SameButFor};
 
     /// The cache of a memory of `frames` frames, 8 to 65,536, and of `slots` slots of swap, at most 65,536, with every file
     /// page at home and untouched. No later call takes memory of the host.
@@ -47,7 +47,8 @@ impl PageCache {
         requires least_frames { 8 ≤ frames }
         requires most_frames { frames ≤ 65536 }
         requires most_slots { slots ≤ 65536 }
-        ensures { IfOk result (λ cache. IsFresh cache frames slots) }
+        ensures fresh { IfOk result (λ cache. IsFresh cache frames slots) }
+        ensures sound { IfOk result IsSoundCache }
     {
         let index = Index::new(alloc, frames + slots)?;
         let touched = NodeSet::new(alloc, frames + slots)?;
@@ -61,7 +62,7 @@ impl PageCache {
     /// The number of frames, 8 to 65,536. The second clause is what is true at all times.
     pub fn frames(&self) -> u32
         ensures count { result ≡ frame_count self.now }
-        ensures sound { IsSound self.now }
+        ensures sound { IsSoundCache self.now }
     {
         self.frames
     }

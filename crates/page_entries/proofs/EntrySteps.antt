@@ -11,7 +11,10 @@ use Rattle.page_tables.specs.Tree.{IsPage, IsTight, IsTightBut, missing_of, page
 use Rattle.page_tables.specs.Change.{SetsEntry}
 use Rattle.page_tables.proofs.Tight.{tight_filled}
 use Rattle.page_cache.specs.declared.place.Place.TheVariants.{Home, Frame}
-use Rattle.residency.specs.Picture.{Picture, entry, is_private, own_in, view_in, view}
+use Rattle.page_cache.specs.CacheTable.{place_of}
+use Rattle.residency.specs.declared.kernel.Core.{Core}
+use Rattle.residency.specs.Picture.{Picture, picture_of, entry, is_private, own_in, view_in, view}
+use Rattle.residency.specs.Calls.{KeepsRest}
 use Rattle.residency.specs.Parts.{IsFit, IsSteady, IsRootedBut, IsEntryFor, IsBehind, is_shared}
 use Rattle.residency.specs.Shows.{KeepsFiles}
 use Rattle.residency.specs.Steps.{SameBeside, SetsPage}
@@ -28,7 +31,8 @@ use Rattle.page_entries.specs.Leaves.{IsFullEntry}
 use Rattle.page_entries.proofs.Bits.{over_some}
 use Rattle.page_entries.proofs.Building.{files_kept}
 use Rattle.page_entries.proofs.Forms.{full_entry, full_dirty_sound, mapped_page}
-use Rattle.page_entries.specs.Changes.{IsReady, KeepsDataFrames, KeepsViews, KeepsOtherEntries, Touches}
+use Rattle.page_entries.specs.Changes.{IsReady, KeepsDataFrames, KeepsViews, KeepsOtherEntries, MarksTouched}
+use Rattle.page_entries.specs.Wants.{IsCalm}
 
 own_same : (t t' : FrameTable) (e e' : ℕ) → SameOwner e e' → (is_private e ≡ true → bytes_of t' (frame_of e) ≡ bytes_of t (frame_of e)) → own_in t' e' ≡ own_in t e
 own_same t t' e e' same bytes = elim (cases_Bool (is_private e)) [
@@ -153,7 +157,7 @@ module _ (old mid : Picture) (fp : FilePage) (frame : ℕ) (frames : mid.frames 
   pub view_marked : (q k : ℕ) → view mid q k ≡ view old q k
   view_marked q k = view-same old mid q k (entry_marked q k) (at q k) (λ _. ap (λ t. bytes_of t (frame_of (entry old q k))) frames)
 
-  pub touches_set : (new : Picture) → SameBeside mid new → KeepsDataFrames mid.frames new.frames → IsSteady old → Touches old new fp
+  pub touches_set : (new : Picture) → SameBeside mid new → KeepsDataFrames mid.frames new.frames → IsSteady old → MarksTouched old new fp
   touches_set new beside kept steady = record {
     place = λ p. beside.place p ∙ place p;
     bytes = λ p n here.
@@ -161,4 +165,17 @@ module _ (old mid : Picture) (fp : FilePage) (frame : ℕ) (frames : mid.frames 
     touched = beside.touched fp ∙ touched;
     others = λ p ne. beside.touched p ∙ others p ne;
     files = λ f. beside.files f ∙ files f;
+  }
+
+module _ {D E : Type 0} where
+  -- a call that sets one page's entry alone
+  pub calm_set : (old new : Core D E) (pid page root number : ℕ) → SetsEntry old.frames new.frames 2 root page number → KeepsRest old new
+      → new.refused.number ≡ old.refused.number → KeepsOtherEntries (picture_of old) (picture_of new) pid page → IsCalm old new pid page
+  calm_set old new pid page root number sets rest refused others = record {
+    store = rest.store;
+    swap = rest.swap;
+    refused = refused;
+    frames = sets.kept;
+    place = λ p. ap (λ t. place_of t p) rest.cache;
+    others = others;
   }

@@ -29,7 +29,8 @@ use Rattle.residency.proofs.TableSteps.{sets_page, rooted_set, behind_kept, shar
 use Rattle.residency.proofs.Used.{steady_used, steady_fit, view-same, view-none, unmapped_past}
 use Rattle.residency.proofs.Views.{view-own}
 use Rattle.page_entries.specs.Leaves.{IsEntryOver, IsFullEntry}
-use Rattle.page_entries.specs.Changes.{IsReady, KeepsSpaces, KeepsOtherViews, KeepsOtherEntries, TakesCopy, is_sole, frame_at, frame_behind, shown_frame}
+use Rattle.page_entries.specs.Changes.{IsReady, KeepsSpaces, KeepsOtherViews, KeepsOtherEntries, TakesCopy, frame_of_place, frame_behind, shown_frame}
+use Rattle.page_entries.specs.Wants.{is_sole}
 use Rattle.page_entries.proofs.Bits.{over_some}
 use Rattle.page_entries.proofs.Building.{tight_but_same, entries_used, tight_but_used, beside_then}
 use Rattle.page_entries.proofs.Forms.{full_entry, mapped_page, behind_used}
@@ -278,8 +279,8 @@ shown_common c e b common = rw common refl
 
 behind_is : (c : Picture) (b : Backing) (n : ℕ) → IsBehind c b n → frame_behind c b ≡ n
 behind_is c Backing.Anon n behind = sym behind
-behind_is c (Backing.Private p) n behind = ap frame_at behind
-behind_is c (Backing.Shared p) n behind = ap frame_at behind
+behind_is c (Backing.Private p) n behind = ap frame_of_place behind
+behind_is c (Backing.Shared p) n behind = ap frame_of_place behind
 
 -- is in use
 pub shown_used : (c : Picture) (pid page : ℕ) (b : Backing) → IsSound c.frames → IsSteady c → IsPage 2 page

@@ -1,5 +1,5 @@
 -- What the calls on one page's entry need and leave.
-use Rattle.std.specs.Prelude.{Bool, ◌&&◌, ◌==◌, ◌≡◌, ◌≢◌, ℕ, ◌⊎◌, true, if◌then◌else◌, List, Some, None}
+use Rattle.std.specs.Prelude.{◌≡◌, ◌≢◌, ℕ, ◌⊎◌, true, if◌then◌else◌, List, Some, None}
 use Rattle.vm_types.specs.declared.file.FilePage.{FilePage}
 use Rattle.vm_types.specs.declared.number.FrameNo.{FrameNo}
 use Rattle.vm_types.specs.declared.region.Attr.{Attr}
@@ -12,7 +12,6 @@ use Rattle.page_cache.specs.declared.place.Place.{Place}
 use Rattle.page_cache.specs.declared.place.Place.TheVariants.{Home, Frame, Slot}
 use Rattle.residency.specs.Picture.{Picture, entry, is_private, view}
 use Rattle.sv39_walk.specs.Entry.{frame_of}
-use Rattle.residency.specs.declared.kernel.Core.{Core}
 use Rattle.residency.specs.Parts.{IsSteadyBut, IsSteady}
 use Rattle.residency.specs.Steps.{SameBeside, KeepsShares}
 
@@ -51,21 +50,17 @@ KeepsEntries old new = (pid page : ℕ) → entry new pid page ≡ entry old pid
 abbrev pub KeepsOtherEntries : Picture → Picture → ℕ → ℕ → Type 0
 KeepsOtherEntries old new pid page = (q p : ℕ) → IsPage 2 p → (q ≢ pid) ⊎ (p ≢ page) → entry new q p ≡ entry old q p
 
--- whether the process with that entry is the only one to have its private frame
-abbrev pub is_sole : Picture → ℕ → Bool
-is_sole c e = is_private e && (count_of c.frames (frame_of e) == 1)
-
 -- the frame of a file page at that place
-abbrev pub frame_at : Place → ℕ
-frame_at Home = 0
-frame_at (Frame n) = n.0
-frame_at (Slot n) = 0
+abbrev pub frame_of_place : Place → ℕ
+frame_of_place Home = 0
+frame_of_place (Frame n) = n.0
+frame_of_place (Slot n) = 0
 
 -- the frame that holds what stands behind a page, where it is in memory: the zero page, or that of the file page
 abbrev pub frame_behind : Picture → Backing → ℕ
 frame_behind c Anon = 0
-frame_behind c (Private p) = frame_at (c.place p)
-frame_behind c (Shared p) = frame_at (c.place p)
+frame_behind c (Private p) = frame_of_place (c.place p)
+frame_behind c (Shared p) = frame_of_place (c.place p)
 
 -- the frame whose bytes a page shows
 abbrev pub shown_frame : Picture → ℕ → Backing → ℕ
@@ -89,7 +84,7 @@ pub record Builds (old new : Picture) (root page : ℕ) : Type 0 where
   pub kept : KeepsDataFrames old.frames new.frames
 
 -- the file page, which lies in a frame, is among the touched ones, and no other came, went or changed
-pub record Touches (old new : Picture) (page : FilePage) : Type 0 where
+pub record MarksTouched (old new : Picture) (page : FilePage) : Type 0 where
   pub place : (p : FilePage) → new.place p ≡ old.place p
   pub bytes : (p : FilePage) (n : FrameNo) → old.place p ≡ Frame n → bytes_of new.frames n.0 ≡ bytes_of old.frames n.0
   pub touched : new.touched page ≡ true
@@ -119,12 +114,3 @@ pub record TakesCopy (old new : Picture) (n page m : ℕ) : Type 0 where
   pub cache_bytes : (k : ℕ) → role_of old.frames k ≡ Role.Cache → bytes_of new.frames k ≡ bytes_of old.frames k
   pub missing : (r p : ℕ) → IsRoot 2 old.frames r → missing_of new.frames 2 r p ≡ missing_of old.frames 2 r p
   pub tight : (r p : ℕ) → IsTightBut old.frames 2 r p → IsTightBut new.frames 2 r p
-
-module _ {D E : Type 0} where
-  -- all but the frames, the pages at which processes have them, and the count of refused requests is as it was
-  pub record KeepsAround (old new : Core D E) : Type 0 where
-    pub store : new.store ≡ old.store
-    pub swap : new.swap ≡ old.swap
-    pub cache : new.cache ≡ old.cache
-    pub roots : new.roots ≡ old.roots
-    pub regions : new.regions ≡ old.regions

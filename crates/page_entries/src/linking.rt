@@ -4,10 +4,11 @@ ghost use Rattle.vm_types.specs.declared.refusal.Stall.TheVariants.{NoFrames};
 ghost use Rattle.frames.specs.FrameTable.{FrameTable};
 ghost use Rattle.page_tables.specs.Tree.{missing_of};
 ghost use Rattle.residency.specs.Picture.{picture_of};
-ghost use Rattle.residency.specs.Parts.{IsSized, IsFit};
-ghost use Rattle.residency.specs.Calls.{KeepsRest};
+ghost use Rattle.residency.specs.Parts.{IsFit};
+ghost use Rattle.residency.specs.Calls.{Stalls, KeepsRest};
 ghost use Rattle.residency.specs.Shows.{KeepsFiles};
 ghost use Rattle.page_entries.specs.Changes.{IsReady, KeepsDataFrames, KeepsSpaces, KeepsViews, KeepsEntries, IsUnderWay, Builds};
+ghost use Rattle.page_entries.specs.Wants.{IsWhole};
 
 use page_tables::{link_table, missing_tables, prune, take_table};
 use residency::{Core, obtain};
@@ -15,7 +16,6 @@ use vm_types::{FrameNo, NoFree, Pid, Stall, Vpn};
 
 /// The root table of a live process.
 pub fn root_of<D, E>(core: &Core<D, E>, pid: Pid) -> FrameNo
-    requires sized { IsSized core.now }
     requires live { (picture_of core.now).root pid ≢ None }
     ensures { (picture_of core.now).root pid ≡ Some result.0 }
 {
@@ -32,10 +32,8 @@ pub fn root_of<D, E>(core: &Core<D, E>, pid: Pid) -> FrameNo
 /// # Errors
 /// `NoFrames` where not enough frames can be had. The tables that were made are given back.
 pub fn link_tables<D, E>(core: &mut Core<D, E>, pid: Pid, page: Vpn) -> Result<(), Stall>
-    requires sized { IsSized core.old }
     requires fit { IsFit (picture_of core.old) }
     requires live { (picture_of core.old).root pid ≢ None }
-    ensures sized { IsSized core.new }
     ensures ready { OnOk result (IsReady (picture_of core.new) pid page) }
     ensures fit { OnErr result (IsFit (picture_of core.new)) }
     ensures entries { KeepsEntries (picture_of core.old) (picture_of core.new) }
@@ -44,17 +42,14 @@ pub fn link_tables<D, E>(core: &mut Core<D, E>, pid: Pid, page: Vpn) -> Result<(
     ensures files { KeepsFiles (picture_of core.old) (picture_of core.new) }
     ensures kept { KeepsDataFrames core.old.frames core.new.frames }
     ensures rest { KeepsRest core.old core.new }
-    ensures stall { IfErr result (λ stall. stall ≡ NoFrames) }
+    ensures stalls { Stalls core.old core.new result }
+    ensures idle { IsWhole (picture_of core.old) pid page → core.new ≡ core.old }
     ensures wanted { OnErr result ((r : ℕ) → (picture_of core.old).root pid ≡ Some r → missing_of core.old.frames 2 r page ≢ 0) }
-    ensures not_refused { OnOk result (core.new.refused.number ≡ core.old.refused.number) }
-    ensures refused { OnErr result (core.new.refused.number ≡ core.old.refused.number + 1) }
 {
     let root = root_of(core, pid);
     match link_missing(core, root, page) {
         Ok(()) => Ok(()),
         Err(stall) => {
-            // (brings in that the table of frames is sound)
-            let _ = core.frames.len();
             prune(&mut core.frames, root, page);
             Err(stall)
         }
@@ -63,16 +58,13 @@ pub fn link_tables<D, E>(core: &mut Core<D, E>, pid: Pid, page: Vpn) -> Result<(
 
 // Links a table in each missing place on the way to a page, the highest first, while frames can be had.
 fn link_missing<D, E>(core: &mut Core<D, E>, root: FrameNo, page: Vpn) -> Result<(), Stall>
-    requires sized { IsSized core.old }
     requires under_way { IsUnderWay (picture_of core.old) root.0 page }
-    ensures sized { IsSized core.new }
     ensures built { Builds (picture_of core.old) (picture_of core.new) root.0 page }
     ensures whole { OnOk result (missing_of core.new.frames 2 root.0 page ≡ 0) }
     ensures rest { KeepsRest core.old core.new }
-    ensures stall { IfErr result (λ stall. stall ≡ NoFrames) }
+    ensures stalls { Stalls core.old core.new result }
+    ensures idle { missing_of core.old.frames 2 root.0 page ≡ 0 → core.new ≡ core.old }
     ensures wanted { OnErr result (missing_of core.old.frames 2 root.0 page ≢ 0) }
-    ensures not_refused { OnOk result (core.new.refused.number ≡ core.old.refused.number) }
-    ensures refused { OnErr result (core.new.refused.number ≡ core.old.refused.number + 1) }
 {
     while missing_tables(&core.frames, root, page) > 0 {
         link_one(core, root, page)?;
@@ -82,20 +74,14 @@ fn link_missing<D, E>(core: &mut Core<D, E>, root: FrameNo, page: Vpn) -> Result
 
 // Links a table in the highest missing place.
 fn link_one<D, E>(core: &mut Core<D, E>, root: FrameNo, page: Vpn) -> Result<(), Stall>
-    requires sized { IsSized core.old }
     requires under_way { IsUnderWay (picture_of core.old) root.0 page }
     requires missing { missing_of core.old.frames 2 root.0 page ≢ 0 }
-    ensures sized { IsSized core.new }
     ensures built { Builds (picture_of core.old) (picture_of core.new) root.0 page }
     ensures lowered { OnOk result (missing_of core.new.frames 2 root.0 page + 1 ≡ missing_of core.old.frames 2 root.0 page) }
     ensures rest { KeepsRest core.old core.new }
-    ensures stall { IfErr result (λ stall. stall ≡ NoFrames) }
-    ensures not_refused { OnOk result (core.new.refused.number ≡ core.old.refused.number) }
-    ensures refused { OnErr result (core.new.refused.number ≡ core.old.refused.number + 1) }
+    ensures stalls { Stalls core.old core.new result }
 {
     obtain(core, None)?;
-    // (brings in that the table of frames is sound)
-    let _ = core.frames.len();
     match take_table(&mut core.frames) {
         Ok(table) => {
             link_table(&mut core.frames, root, page, table);

@@ -7,21 +7,22 @@ ghost use Rattle.frames.specs.declared.role.Role.TheVariants.{Free};
 ghost use Rattle.frames.specs.FrameTable.{IsFull, IsFrame, IsHeld, bytes_of, role_of, zero_bytes, with_bytes};
 ghost use Rattle.sv39_walk.specs.Entry.{frame_of};
 ghost use Rattle.residency.specs.Picture.{picture_of, entry, is_private, view};
-ghost use Rattle.residency.specs.Parts.{IsSized, IsFit, IsSteady, is_shared, IsBehind};
-ghost use Rattle.residency.specs.Calls.{KeepsUsed};
+ghost use Rattle.residency.specs.Parts.{IsFit, IsSteady, is_shared, IsBehind};
+ghost use Rattle.residency.specs.Calls.{Stalls, KeepsAround, KeepsUsed};
 ghost use Rattle.residency.specs.Shows.{KeepsFiles, KeepsDevices};
 ghost use Rattle.page_entries.specs.Leaves.{IsEntryOver};
-ghost use Rattle.page_entries.specs.Changes.{IsReady, KeepsSpaces, KeepsOtherViews, KeepsOtherEntries, is_sole, shown_frame, shown_bytes, TakesCopy, KeepsAround};
+ghost use Rattle.page_entries.specs.Changes.{IsReady, KeepsSpaces, KeepsOtherViews, KeepsOtherEntries, shown_frame, shown_bytes, TakesCopy};
+ghost use Rattle.page_entries.specs.Wants.{is_sole, IsCalm};
 
 use crate::leaves::is_private;
 use crate::linking::root_of;
 use crate::showing::{ZERO_PAGE, regrant, set_full};
-use frames::{Frames, Role};
+use frames::Frames;
 use page_cache::Place;
 use page_tables::{entry_number, prune};
-use residency::{Core, obtain};
+use residency::Core;
 use sv39_walk::Pte;
-use vm_types::{Attr, Backing, FrameNo, NoFree, Pid, Stall, Vpn};
+use vm_types::{Attr, Backing, FrameNo, Pid, Stall, Vpn};
 
 /// Gives a page that may be written, and that isn't shared, a frame of its own that shows the same bytes and lets stores
 /// through, by W and D (RISC-V Privileged Specification, "Sv39 page table entry"). Where it is the only one to have its
@@ -36,7 +37,6 @@ pub fn own_frame<D, E>(
     page: Vpn,
     attr: Attr,
 ) -> Result<FrameNo, Stall>
-    requires sized { IsSized core.old }
     requires ready { IsReady (picture_of core.old) pid page }
     requires attr { (picture_of core.old).at pid page ≡ Some attr }
     requires writable { can_write attr.prot ≡ true }
@@ -44,7 +44,6 @@ pub fn own_frame<D, E>(
     requires inside { is_past_end (picture_of core.old).files attr.backing ≡ false }
     requires in_memory { is_private (entry (picture_of core.old) pid page) ≡ false
         → (n : ℕ) × IsBehind (picture_of core.old) attr.backing n }
-    ensures sized { IsSized core.new }
     ensures fit { IsFit (picture_of core.new) }
     ensures own { IfOk result (λ n. view (picture_of core.new) pid page
         ≡ Some (record { attr = attr; own = Some (shown_bytes (picture_of core.old) pid page attr) })) }
@@ -58,18 +57,15 @@ pub fn own_frame<D, E>(
     ensures files { KeepsFiles (picture_of core.old) (picture_of core.new) }
     ensures devices { KeepsDevices core.old core.new }
     ensures cache { core.new.cache ≡ core.old.cache }
-    ensures stall { IfErr result (λ stall. stall ≡ NoFrames) }
+    ensures stalls { Stalls core.old core.new result }
     ensures none_free { OnErr result (IsFull core.old.frames) }
     ensures wanted { OnErr result (is_sole (picture_of core.old) (entry (picture_of core.old) pid page) ≡ false) }
+    ensures calm { is_sole (picture_of core.old) (entry (picture_of core.old) pid page) ≡ true → IsCalm core.old core.new pid page }
     ensures sole { is_sole (picture_of core.old) (entry (picture_of core.old) pid page) ≡ true
         → IfOk result (λ n. n.0 ≡ frame_of (entry (picture_of core.old) pid page)) }
     ensures fresh { is_sole (picture_of core.old) (entry (picture_of core.old) pid page) ≡ false
         → IfOk result (λ n. role_of core.old.frames n.0 ≡ Free) }
-    ensures not_refused { OnOk result (core.new.refused.number ≡ core.old.refused.number) }
-    ensures refused { OnErr result (core.new.refused.number ≡ core.old.refused.number + 1) }
 {
-    // (brings in that the table of frames is sound)
-    let _ = core.frames.len();
     let root = root_of(core, pid);
     let entry = entry_number(&core.frames, root, page);
     let shown = shown_frame(core, entry, attr.backing);
@@ -86,8 +82,6 @@ pub fn own_frame<D, E>(
             Ok(own)
         }
         Err(stall) => {
-            // (brings in that the table of frames is sound)
-            let _ = core.frames.len();
             prune(&mut core.frames, root, page);
             Err(stall)
         }
@@ -114,31 +108,21 @@ fn shown_frame<D, E>(core: &Core<D, E>, entry: Pte, backing: Backing) -> FrameNo
 
 // A free frame, taken for that page as a process's own, with the bytes of frame `from`. No entry names it yet.
 fn take_copy<D, E>(core: &mut Core<D, E>, from: FrameNo, page: Vpn) -> Result<FrameNo, Stall>
-    requires sized { IsSized core.old }
     requires steady { IsSteady (picture_of core.old) }
     requires source { IsFrame core.old.frames from.0 }
     requires in_use { role_of core.old.frames from.0 ≢ Free }
-    ensures sized { IsSized core.new }
     ensures taken { IfOk result (λ n. TakesCopy (picture_of core.old) (picture_of core.new) n.0 page from.0) }
     ensures rest { KeepsAround core.old core.new }
     ensures steady { OnErr result (IsSteady (picture_of core.new)) }
     ensures used { OnErr result (KeepsUsed (picture_of core.old) (picture_of core.new)) }
-    ensures stall { IfErr result (λ stall. stall ≡ NoFrames) }
+    ensures stalls { Stalls core.old core.new result }
     ensures none_free { OnErr result (IsFull core.old.frames) }
-    ensures not_refused { OnOk result (core.new.refused.number ≡ core.old.refused.number) }
-    ensures refused { OnErr result (core.new.refused.number ≡ core.old.refused.number + 1) }
 {
-    obtain(core, Some(from))?;
-    // (brings in that the table of frames is sound)
-    let _ = core.frames.len();
-    match core.frames.take(Role::Private) {
-        Ok(own) => {
-            core.page_of[own.0 as usize] = page.get() as u32;
-            fill(&mut core.frames, from, own);
-            Ok(own)
-        }
-        Err(NoFree) => unreachable!(),
-    }
+    let own = core.take_own(page, Some(from))?;
+    // (brings in that it is a user page)
+    let _ = page.get();
+    fill(&mut core.frames, from, own);
+    Ok(own)
 }
 
 // Gives a frame of zeros the bytes of another. Those of the zero page aren't copied.

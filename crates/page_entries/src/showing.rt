@@ -9,11 +9,12 @@ ghost use Rattle.page_tables.specs.Tree.{IsForest, IsRoot, missing_of};
 ghost use Rattle.page_tables.specs.Change.{SetsEntry};
 ghost use Rattle.page_cache.specs.declared.place.Place.TheVariants.{Frame};
 ghost use Rattle.residency.specs.Picture.{picture_of, entry, is_private};
-ghost use Rattle.residency.specs.Parts.{IsSized, IsFit, is_shared, IsBehind};
+ghost use Rattle.residency.specs.Parts.{IsFit, is_shared, IsBehind};
 ghost use Rattle.residency.specs.Calls.{KeepsRest};
 ghost use Rattle.residency.specs.Shows.{KeepsFiles, KeepsDevices};
 ghost use Rattle.page_entries.specs.Leaves.{IsEntryOver, IsFullEntry, full_write, full_dirty, is_touched_behind};
-ghost use Rattle.page_entries.specs.Changes.{IsReady, KeepsDataFrames, KeepsSpaces, KeepsViews, KeepsOtherEntries, Touches};
+ghost use Rattle.page_entries.specs.Changes.{IsReady, KeepsDataFrames, KeepsSpaces, KeepsViews, KeepsOtherEntries, MarksTouched};
+ghost use Rattle.page_entries.specs.Wants.{IsCalm};
 
 use crate::leaves::{Grant, entry_over, is_private};
 use crate::linking::root_of;
@@ -27,12 +28,10 @@ pub const ZERO_PAGE: FrameNo = FrameNo(0);
 /// Shows the zero page at an anonymous page that has no entry. Its leaf is without W and D (RISC-V Privileged Specification,
 /// "Sv39 page table entry"): each store asks for a frame first.
 pub fn show_zero<D, E>(core: &mut Core<D, E>, pid: Pid, page: Vpn, attr: Attr)
-    requires sized { IsSized core.old }
     requires ready { IsReady (picture_of core.old) pid page }
     requires attr { (picture_of core.old).at pid page ≡ Some attr }
     requires anonymous { attr.backing ≡ Anon }
     requires none { entry (picture_of core.old) pid page ≡ 0 }
-    ensures sized { IsSized core.new }
     ensures fit { IsFit (picture_of core.new) }
     ensures entry { IsEntryOver (entry (picture_of core.new) pid page) attr.prot 0 false false false }
     ensures others { KeepsOtherEntries (picture_of core.old) (picture_of core.new) pid page }
@@ -41,10 +40,9 @@ pub fn show_zero<D, E>(core: &mut Core<D, E>, pid: Pid, page: Vpn, attr: Attr)
     ensures files { KeepsFiles (picture_of core.old) (picture_of core.new) }
     ensures kept { KeepsDataFrames core.old.frames core.new.frames }
     ensures rest { KeepsRest core.old core.new }
+    ensures calm { IsCalm core.old core.new pid page }
     ensures not_refused { core.new.refused.number ≡ core.old.refused.number }
 {
-    // (brings in that the table of frames is sound)
-    let _ = core.frames.len();
     let root = root_of(core, pid);
     set_full(core, root, page, attr, ZERO_PAGE, false);
 }
@@ -53,13 +51,11 @@ pub fn show_zero<D, E>(core: &mut Core<D, E>, pid: Pid, page: Vpn, attr: Attr)
 /// touched file page alone, so that the first one to any other is noticed: it finds D clear (RISC-V Privileged
 /// Specification, "Sv39 page table entry", the scheme of Svade).
 pub fn show_cached<D, E>(core: &mut Core<D, E>, pid: Pid, page: Vpn, attr: Attr, frame: FrameNo)
-    requires sized { IsSized core.old }
     requires ready { IsReady (picture_of core.old) pid page }
     requires attr { (picture_of core.old).at pid page ≡ Some attr }
     requires behind { IsBehind (picture_of core.old) attr.backing frame.0 }
     requires inside { is_past_end (picture_of core.old).files attr.backing ≡ false }
     requires common { is_private (entry (picture_of core.old) pid page) ≡ false }
-    ensures sized { IsSized core.new }
     ensures fit { IsFit (picture_of core.new) }
     ensures entry { IsFullEntry (picture_of core.old) attr frame.0 false (entry (picture_of core.new) pid page) }
     ensures others { KeepsOtherEntries (picture_of core.old) (picture_of core.new) pid page }
@@ -68,10 +64,9 @@ pub fn show_cached<D, E>(core: &mut Core<D, E>, pid: Pid, page: Vpn, attr: Attr,
     ensures files { KeepsFiles (picture_of core.old) (picture_of core.new) }
     ensures kept { KeepsDataFrames core.old.frames core.new.frames }
     ensures rest { KeepsRest core.old core.new }
+    ensures calm { IsCalm core.old core.new pid page }
     ensures not_refused { core.new.refused.number ≡ core.old.refused.number }
 {
-    // (brings in that the table of frames is sound)
-    let _ = core.frames.len();
     let root = root_of(core, pid);
     set_full(core, root, page, attr, frame, false);
 }
@@ -80,11 +75,9 @@ pub fn show_cached<D, E>(core: &mut Core<D, E>, pid: Pid, page: Vpn, attr: Attr,
 /// allow: W over a frame that nobody else has and over that of a shared page, D there where the file page is touched
 /// (RISC-V Privileged Specification, "Sv39 page table entry").
 pub fn regrant<D, E>(core: &mut Core<D, E>, pid: Pid, page: Vpn, attr: Attr)
-    requires sized { IsSized core.old }
     requires ready { IsReady (picture_of core.old) pid page }
     requires attr { (picture_of core.old).at pid page ≡ Some attr }
     requires resident { entry (picture_of core.old) pid page ≢ 0 }
-    ensures sized { IsSized core.new }
     ensures fit { IsFit (picture_of core.new) }
     ensures entry { let was = entry (picture_of core.old) pid page in
         IsFullEntry (picture_of core.old) attr (frame_of was) (is_private was) (entry (picture_of core.new) pid page) }
@@ -94,10 +87,9 @@ pub fn regrant<D, E>(core: &mut Core<D, E>, pid: Pid, page: Vpn, attr: Attr)
     ensures files { KeepsFiles (picture_of core.old) (picture_of core.new) }
     ensures kept { KeepsDataFrames core.old.frames core.new.frames }
     ensures rest { KeepsRest core.old core.new }
+    ensures calm { IsCalm core.old core.new pid page }
     ensures not_refused { core.new.refused.number ≡ core.old.refused.number }
 {
-    // (brings in that the table of frames is sound)
-    let _ = core.frames.len();
     let root = root_of(core, pid);
     let entry = entry_number(&core.frames, root, page);
     set_full(
@@ -120,26 +112,23 @@ pub fn touch<D, E>(
     file_page: FilePage,
     frame: FrameNo,
 )
-    requires sized { IsSized core.old }
     requires ready { IsReady (picture_of core.old) pid page }
     requires attr { (picture_of core.old).at pid page ≡ Some attr }
     requires shared { attr.backing ≡ Shared file_page }
     requires writable { can_write attr.prot ≡ true }
     requires inside { is_past_end (picture_of core.old).files attr.backing ≡ false }
     requires cached { (picture_of core.old).place file_page ≡ Frame frame }
-    ensures sized { IsSized core.new }
     ensures fit { IsFit (picture_of core.new) }
     ensures entry { IsEntryOver (entry (picture_of core.new) pid page) attr.prot frame.0 false true true }
     ensures others { KeepsOtherEntries (picture_of core.old) (picture_of core.new) pid page }
     ensures views { KeepsViews (picture_of core.old) (picture_of core.new) }
     ensures spaces { KeepsSpaces (picture_of core.old) (picture_of core.new) }
-    ensures touches { Touches (picture_of core.old) (picture_of core.new) file_page }
+    ensures touches { MarksTouched (picture_of core.old) (picture_of core.new) file_page }
     ensures devices { KeepsDevices core.old core.new }
     ensures kept { KeepsDataFrames core.old.frames core.new.frames }
+    ensures calm { IsCalm core.old core.new pid page }
     ensures not_refused { core.new.refused.number ≡ core.old.refused.number }
 {
-    // (brings in that the table of frames is sound)
-    let _ = core.frames.len();
     let root = root_of(core, pid);
     core.cache.mark_dirty(file_page);
     set_full(core, root, page, attr, frame, false);

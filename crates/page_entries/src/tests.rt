@@ -5,12 +5,12 @@ ghost use Rattle.vm_types.specs.Attributes.{backing_fits};
 ghost use Rattle.vm_types.specs.Rows.{IsUserMap};
 ghost use Rattle.vm_types.specs.declared.region.Backing.TheVariants.{Anon, Shared};
 ghost use Rattle.file_store.specs.Standing.{IsPageOf};
-ghost use Rattle.file_store.specs.Store.{IsReady};
+ghost use Rattle.file_store.specs.Store.{IsReadyStore};
 ghost use Rattle.page_tables.specs.Tree.{IsPage};
 ghost use Rattle.page_cache.specs.declared.place.Place.TheVariants.{Frame};
 ghost use Rattle.regions.specs.Permission.{IsReadableMap, ReadsToo};
 ghost use Rattle.regions.specs.RunList.{attr_at};
-ghost use Rattle.residency.specs.Parts.{IsFit, IsSized};
+ghost use Rattle.residency.specs.Parts.{IsFit};
 ghost use Rattle.residency.specs.Picture.{picture_of, entry};
 
 use crate::leaves::{Grant, entry_over};
@@ -55,7 +55,7 @@ fn image(alloc: Global) -> Result<SimDisk, Fail>
 
 fn opened(disk: SimDisk) -> Result<FileStore<SimDisk>, OpenFault>
     requires { (k : ℕ) → ⟦<SimDisk as SectorDisk>⟧.unsynced disk k → ⊥ }
-    ensures { IfOk result (λ store. IsReady ⟦<SimDisk as SectorDisk>⟧ store) }
+    ensures { IfOk result (λ store. IsReadyStore ⟦<SimDisk as SectorDisk>⟧ store) }
 {
     match FileStore::open(disk) {
         Ok(store) => Ok(store),
@@ -65,10 +65,9 @@ fn opened(disk: SimDisk) -> Result<FileStore<SimDisk>, OpenFault>
 
 // Memory of 8 frames, without swap.
 fn made(alloc: Global, store: FileStore<SimDisk>) -> Result<Core<SimDisk, SimDisk>, AllocError>
-    requires { IsReady ⟦<SimDisk as SectorDisk>⟧ store }
-    ensures sized { IfOk result IsSized }
+    requires { IsReadyStore ⟦<SimDisk as SectorDisk>⟧ store }
     ensures fit { IfOk result (λ core. IsFit (picture_of core)) }
-    ensures store { IfOk result (λ core. IsReady ⟦<SimDisk as SectorDisk>⟧ core.store) }
+    ensures store { IfOk result (λ core. IsReadyStore ⟦<SimDisk as SectorDisk>⟧ core.store) }
     ensures none { IfOk result (λ core. (pid : ℕ) → (picture_of core).root pid ≡ None) }
 {
     let swap = SimDisk::new(alloc, 0)?;
@@ -80,10 +79,8 @@ fn made(alloc: Global, store: FileStore<SimDisk>) -> Result<Core<SimDisk, SimDis
 
 // A process of that number, without a page.
 fn spawn<D, E>(core: &mut Core<D, E>, pid: Pid) -> Result<(), Stall>
-    requires sized { IsSized core.old }
     requires fit { IsFit (picture_of core.old) }
     requires dead { (picture_of core.old).root pid ≡ None }
-    ensures sized { OnOk result (IsSized core.new) }
     ensures fit { OnOk result (IsFit (picture_of core.new)) }
     ensures live { OnOk result ((picture_of core.new).root pid ≢ None) }
     ensures unmapped { OnOk result ((page : ℕ) → (picture_of core.new).at pid page ≡ None) }
@@ -92,8 +89,6 @@ fn spawn<D, E>(core: &mut Core<D, E>, pid: Pid) -> Result<(), Stall>
 {
     let place = usize::from(pid.get());
     obtain(core, None)?;
-    // (brings in that the table of frames is sound)
-    let _ = core.frames.len();
     match take_table(&mut core.frames) {
         Ok(root) => {
             core.roots[place] = Some(root);
@@ -106,13 +101,11 @@ fn spawn<D, E>(core: &mut Core<D, E>, pid: Pid) -> Result<(), Stall>
 
 // Gives a process without a page these regions.
 fn map<D, E>(core: &mut Core<D, E>, pid: Pid, regions: Regions)
-    requires sized { IsSized core.old }
     requires fit { IsFit (picture_of core.old) }
     requires live { (picture_of core.old).root pid ≢ None }
     requires unmapped { (page : ℕ) → (picture_of core.old).at pid page ≡ None }
     requires user { IsUserMap (attr_at regions) }
     requires readable { IsReadableMap (attr_at regions) }
-    ensures sized { IsSized core.new }
     ensures fit { IsFit (picture_of core.new) }
     ensures live { (picture_of core.new).root pid ≢ None }
     ensures at { (page : ℕ) → (picture_of core.new).at pid page ≡ attr_at regions page }
@@ -146,10 +139,8 @@ fn shared() -> Attr
 
 // Reads a file page from its home into a frame.
 fn bring<D: SectorDisk, E>(core: &mut Core<D, E>, page: FilePage) -> Result<FrameNo, Fail>
-    requires sized { IsSized core.old }
     requires fit { IsFit (picture_of core.old) }
-    requires store { IsReady D.SectorDisk core.old.store }
-    ensures sized { OnOk result (IsSized core.new) }
+    requires store { IsReadyStore D.SectorDisk core.old.store }
     ensures fit { OnOk result (IsFit (picture_of core.new)) }
     ensures inside { OnOk result (IsPageOf (picture_of core.new).files page.file page.page) }
     ensures placed { IfOk result (λ n. (picture_of core.new).place page ≡ Frame n) }
@@ -192,12 +183,10 @@ fn first_page() -> Vpn
 
 // Makes process 1, with that page and no other.
 fn add<D, E>(core: &mut Core<D, E>, attr: Attr) -> Result<(), Fail>
-    requires sized { IsSized core.old }
     requires fit { IsFit (picture_of core.old) }
     requires dead { (picture_of core.old).root 1 ≡ None }
     requires file_pages { backing_fits attr.backing 1 }
     requires readable { ReadsToo attr.prot }
-    ensures sized { OnOk result (IsSized core.new) }
     ensures fit { OnOk result (IsFit (picture_of core.new)) }
     ensures live { OnOk result ((picture_of core.new).root 1 ≢ None) }
     ensures at { OnOk result ((picture_of core.new).at 1 32 ≡ Some attr) }
@@ -214,7 +203,6 @@ fn add<D, E>(core: &mut Core<D, E>, attr: Attr) -> Result<(), Fail>
 
 // The number that stands for the page.
 fn number<D, E>(core: &Core<D, E>) -> Pte
-    requires sized { IsSized core.now }
     requires fit { IsFit (picture_of core.now) }
     requires live { (picture_of core.now).root 1 ≢ None }
 {

@@ -10,3 +10,4 @@ pub mod Pruning
 pub mod Data
 pub mod Tight
 pub mod Hollow
+pub mod Places

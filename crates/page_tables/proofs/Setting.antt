@@ -193,6 +193,7 @@ module _ (old new : FrameTable) (top root page n e : ℕ) (forest : IsForest old
           | inr other ↦ other_entries old new n (index_of page 0) e change l.1 (index_of p l.0) (index_of-lt p l.0) other ∙ sym (last_entry-is old top r p)
         ]);
     missing = λ r p root'. missing_kept r p root'.table;
+    ends = last_same;
   }
 
   -- the change undone

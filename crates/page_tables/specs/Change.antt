@@ -59,6 +59,7 @@ pub record SetsEntry (old new : FrameTable) (top root page number : ℕ) : Type 
   pub changed : page_entry new top root page ≡ number
   pub entries : (r p : ℕ) → IsRoot top old r → IsPage top p → (r ≢ root) ⊎ (p ≢ page) → page_entry new top r p ≡ page_entry old top r p
   pub missing : (r p : ℕ) → IsRoot top old r → missing_of new top r p ≡ missing_of old top r p
+  pub ends : (r p : ℕ) → IsTable old r → last_table new p top r ≡ last_table old p top r
 
 -- one table less is missing on the way to the page, nowhere one more, and no entry of any tree changed
 pub record LinksTable (old new : FrameTable) (top root page table : ℕ) : Type 0 where

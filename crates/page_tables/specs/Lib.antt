@@ -1,3 +1,4 @@
 pub mod Entry
 pub mod Tree
 pub mod Change
+pub mod Places

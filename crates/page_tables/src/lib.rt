@@ -8,4 +8,7 @@ mod tables;
 mod tests;
 
 pub use forms::Entry;
-pub use tables::{entry, entry_number, link_table, missing_tables, prune, set, take_table};
+pub use tables::{
+    entry, entry_number, link_table, missing_tables, number_in, prune, set, set_in, table_of,
+    take_table,
+};

@@ -1,10 +1,11 @@
 //! The calls on trees of tables.
-ghost use Rattle.std.specs.Prelude.{◌≡◌, ◌≢◌, ◌+◌, ◌≤◌, ◌<◌, ◌⊎◌, ◌↔◌, IsTrue, IsErr, IfOk, OnErr, true, false};
-ghost use Rattle.frames.specs.FrameTable.{IsFull};
+ghost use Rattle.std.specs.Prelude.{ℕ, ◌≡◌, ◌≢◌, ◌+◌, ◌/◌, ◌%◌, ◌≤◌, IfErr, ◌<◌, ◌⊎◌, ◌↔◌, IsTrue, IsErr, IfOk, OnErr, true, false};
+ghost use Rattle.frames.specs.FrameTable.{IsFull, IsSound};
 ghost use Rattle.sv39_walk.specs.Walk.{index_of};
 ghost use Rattle.page_tables.specs.Entry.{number_of, IsEntry};
-ghost use Rattle.page_tables.specs.Tree.{IsTable, Points, IsForest, IsRoot, IsSpare, IsEmptyTable, last_table, missing_of, page_entry};
-ghost use Rattle.page_tables.specs.Change.{AddsTable, PutsNumber, ChangesEntry, Unlinks, SetsEntry, LinksTable, Prunes, IsPruned};
+ghost use Rattle.page_tables.specs.Tree.{IsPage, IsTable, Points, IsForest, IsRoot, IsSpare, IsEmptyTable, last_table, missing_of, page_entry};
+ghost use Rattle.page_tables.specs.Places.{IsTableOf};
+ghost use Rattle.page_tables.specs.Change.{KeepsFrames, AddsTable, PutsNumber, ChangesEntry, Unlinks, SetsEntry, LinksTable, Prunes, IsPruned};
 
 use crate::forms::{Entry, decode, encode};
 use byteorder::{ByteOrder, LittleEndian};
@@ -21,6 +22,7 @@ pub fn take_table(frames: &mut Frames) -> Result<FrameNo, NoFree>
     ensures taken { IfOk result (λ n. AddsTable frames.old frames.new 2 n.0) }
     ensures none_free { IsErr result ↔ IsFull frames.old }
     ensures err { OnErr result (frames.new ≡ frames.old) }
+    ensures sound { IsSound frames.new }
 {
     frames.take(Role::Table)
 }
@@ -66,7 +68,8 @@ pub fn set(frames: &mut Frames, root: FrameNo, page: Vpn, entry: Entry)
     requires root { IsRoot 2 frames.old root.0 }
     requires whole { missing_of frames.old 2 root.0 page ≡ 0 }
     requires form { IsEntry entry }
-    ensures { SetsEntry frames.old frames.new 2 root.0 page (number_of entry) }
+    ensures sets { SetsEntry frames.old frames.new 2 root.0 page (number_of entry) }
+    ensures sound { IsSound frames.new }
 {
     let (_, table, _) = end_of_way(frames, root, page.get());
     write_entry(frames, table, table_index(page.get(), 0), encode(entry));
@@ -79,7 +82,8 @@ pub fn link_table(frames: &mut Frames, root: FrameNo, page: Vpn, table: FrameNo)
     requires missing { missing_of frames.old 2 root.0 page ≢ 0 }
     requires spare { IsSpare frames.old table.0 }
     requires other { table.0 ≢ root.0 }
-    ensures { LinksTable frames.old frames.new 2 root.0 page table.0 }
+    ensures links { LinksTable frames.old frames.new 2 root.0 page table.0 }
+    ensures sound { IsSound frames.new }
 {
     let (level, parent, _) = end_of_way(frames, root, page.get());
     write_entry(
@@ -96,8 +100,10 @@ pub fn prune(frames: &mut Frames, root: FrameNo, page: Vpn)
     requires root { IsRoot 2 frames.old root.0 }
     ensures prunes { Prunes frames.old frames.new 2 root.0 page }
     ensures pruned { IsPruned frames.new 2 root.0 page }
+    ensures sound { IsSound frames.new }
 {
     while prune_last(frames, root, page) {}
+    let _ = frames.len();
 }
 
 // Releases the last table on the way to a page, where it isn't the root and has no entry; whether it did.
@@ -145,6 +151,47 @@ fn is_empty(frames: &Frames, table: FrameNo) -> bool
     true
 }
 
+/// The lowest table on the way to a page, in which the entries of its row of 512 pages stand.
+///
+/// # Errors
+/// How many tables are missing on the way, 1 or 2.
+pub fn table_of(frames: &Frames, root: FrameNo, page: Vpn) -> Result<FrameNo, u8>
+    requires forest { IsForest frames.now }
+    requires root { IsRoot 2 frames.now root.0 }
+    ensures found { IfOk result (λ n. IsTableOf frames.now root.0 (page / 512) n.0) }
+    ensures missing { IfErr result (λ missing. (missing ≡ missing_of frames.now 2 root.0 page) × (1 ≤ missing) × (missing ≤ 2)) }
+{
+    let (level, table, _) = end_of_way(frames, root, page.get());
+    if level > 0 {
+        return Err(level as u8);
+    }
+    Ok(table)
+}
+
+/// The number at place `index` of a lowest table: that of the page that stands there, in each tree.
+pub fn number_in(frames: &Frames, table: FrameNo, index: usize) -> Pte
+    requires table { IsTable frames.now table.0 }
+    requires below { index < 512 }
+    ensures { (root page : ℕ) → IsTableOf frames.now root (page / 512) table.0 → page % 512 ≡ index
+        → result.0 ≡ page_entry frames.now 2 root page }
+{
+    read_entry(frames, table, index)
+}
+
+/// Makes `entry` what stands at place `index` of a lowest table: that of the page there, and of no other page.
+pub fn set_in(frames: &mut Frames, table: FrameNo, index: usize, entry: Entry)
+    requires forest { IsForest frames.old }
+    requires table { IsTable frames.old table.0 }
+    requires below { index < 512 }
+    requires form { IsEntry entry }
+    ensures sets { (root page : ℕ) → IsRoot 2 frames.old root → IsPage 2 page → IsTableOf frames.old root (page / 512) table.0
+        → page % 512 ≡ index → SetsEntry frames.old frames.new 2 root page (number_of entry) }
+    ensures kept { KeepsFrames frames.old frames.new }
+    ensures sound { IsSound frames.new }
+{
+    write_entry(frames, table, index, encode(entry));
+}
+
 // Where the way to a page ends: the level, the table, and the table before it, if it isn't the root.
 fn end_of_way(frames: &Frames, root: FrameNo, page: u64) -> (u32, FrameNo, FrameNo)
     requires forest { IsForest frames.now }
@@ -176,9 +223,11 @@ fn end_of_way(frames: &Frames, root: FrameNo, page: u64) -> (u32, FrameNo, Frame
 fn write_entry(frames: &mut Frames, table: FrameNo, index: usize, number: Pte)
     requires table { IsTable frames.old table.0 }
     requires below { index < 512 }
-    ensures { ChangesEntry frames.old frames.new table.0 index number.0 }
+    ensures change { ChangesEntry frames.old frames.new table.0 index number.0 }
+    ensures sound { IsSound frames.new }
 {
     put_number(frames.bytes_mut(table), index, number.to_u64());
+    let _ = frames.len();
 }
 
 // Writes one number of a frame's 512.

@@ -3,8 +3,8 @@ use Rattle.std.proofs.Common.{◌≡◌, ◌≢◌, ℕ, ◌<◌, ◌≤◌, Lis
 use Rattle.std.specs.Prelude.{is_some, slice_set, slice_index_or}
 use Rattle.std.specs.Option.{option_map}
 use Rattle.vm_types.specs.declared.number.FrameNo.{FrameNo}
-use Rattle.frames.specs.declared.role.Role.TheVariants.{Zero, Table}
-use Rattle.frames.specs.FrameTable.{FrameTable, role_of, bytes_of, IsSound}
+use Rattle.frames.specs.declared.role.Role.TheVariants.{Free, Zero, Table}
+use Rattle.frames.specs.FrameTable.{FrameTable, role_of, count_of, bytes_of, IsSound}
 use Rattle.sv39_walk.specs.Entry.{frame_of}
 use Rattle.page_tables.specs.Change.{AddsTable}
 use Rattle.page_tables.specs.Tree.{IsTight, page_entry}
@@ -16,11 +16,12 @@ use Rattle.residency.specs.Parts.{IsFit}
 use Rattle.residency.specs.Calls.{KeepsUsed}
 use Rattle.residency.specs.Steps.{SameBeside, Spawns}
 use Rattle.residency.specs.Shows.{KeepsFiles}
-use Rattle.residency.proofs.Entries.{entry-same}
+use Rattle.residency.proofs.Entries.{entries_kept, entry-same, trees_in_use}
 use Rattle.residency.proofs.ProcessSteps.{steady_spawned}
 use Rattle.residency.proofs.TableSteps.{steady_taken, loose_table}
 use Rattle.residency.proofs.Used.{fit_steady, steady_fit, fit_used, pages_used, view-same, view-none}
-use Rattle.processes.specs.Changes.{AddsProcess}
+use Rattle.ranges.specs.Steps.{KeepsEntriesOfOthers}
+use Rattle.processes.specs.Changes.{AddsProcess, TakesRoot}
 use Rattle.processes.proofs.Keeping.{live_same, dead_root, views_taken, files_taken, files_used, files_then}
 
 -- A table was taken, and it is the root of a new process.
@@ -34,6 +35,20 @@ module _ (old mid new : Picture) (pid n : ℕ) (fit : IsFit old) (zero_page : ro
       let tight : IsTight mid.frames =
       tight_same old.frames mid.frames steady.rooted.forest adds.forest (same_taken old.frames mid.frames n steady.rooted.forest adds.takes) fit.tree.tight in
       steady_fit new spawned (let P : FrameTable → Type 0 = λ t. IsTight t in subst P (sym spawns.frames) tight)
+
+  pub others_started : KeepsEntriesOfOthers old new pid
+  others_started q page h ne =
+      entry-same mid new q page (spawns.others q ne) (λ x e. ap (λ t. page_entry t 2 x page) spawns.frames)
+      ∙ entries_kept old mid 0 fit.tree.rooted adds.entries beside.root q page
+
+  pub root_started : TakesRoot old new pid n
+  root_started = record {
+    was_free = adds.takes.was_free;
+    table = ap (λ t. role_of t n) spawns.frames ∙ adds.takes.kind_set;
+    root = spawns.lives;
+    roles = λ m ne. ap (λ t. role_of t m) spawns.frames ∙ adds.takes.others.roles m ne;
+    counts = λ m ne. ap (λ t. count_of t m) spawns.frames ∙ adds.takes.others.counts m ne;
+  }
 
   others_seen : (q page : ℕ) → q ≢ pid → view new q page ≡ view old q page
   others_seen q page ne =
@@ -57,10 +72,16 @@ module _ (old mid new : Picture) (pid n : ℕ) (fit : IsFit old) (zero_page : ro
     files = spawns.files;
   })
 
+-- only bytes of free frames changed
+pub entries_used : (old new : Picture) → IsFit old → KeepsUsed old new → (q page : ℕ) → entry new q page ≡ entry old q page
+entries_used old new fit used = entries_kept old new 0 fit.tree.rooted (trees_in_use old.frames new.frames fit.tree.rooted.forest used.memory).entries used.root
+
 -- what spawn leaves
 pub record IsStarted (old new : Picture) (pid : ℕ) : Type 0 where
   pub fit : IsFit new
   pub added : AddsProcess old new pid (λ page. None)
+  pub others : KeepsEntriesOfOthers old new pid
+  pub taken : (n : ℕ) × TakesRoot old new pid n
   pub files : KeepsFiles old new
 
 -- A frame was obtained and taken for a table, and roots and regions were set at the place of a process.
@@ -115,6 +136,10 @@ started first old t roots regions pid place n runs fit used sound adds is_place 
     let added : AddsProcess old new place (λ page. None) = process_added old mid new place n.0 now zero_page adds beside spawns in
     let A : ℕ → Type 0 = λ x. AddsProcess old new x (λ page. None) in
     let here = subst A is_place added in
+    let O : ℕ → Type 0 = λ x. KeepsEntriesOfOthers old new x in
+    let others = subst O is_place (others_started old mid new place n.0 now zero_page adds beside spawns) in
+    let R : ℕ → Type 0 = λ x. TakesRoot old new x n.0 in
+    let taken = subst R is_place (root_started old mid new place n.0 now zero_page adds beside spawns) in
     record {
       fit = fit_started old mid new place n.0 now zero_page adds beside spawns;
       added = record {
@@ -123,5 +148,16 @@ started first old t roots regions pid place n runs fit used sound adds is_place 
         others_live = λ q ne. here.others_live q ne ∙ live_same first old q (pages.roots q);
         others = λ q page ne. here.others q page ne ∙ pages.views q page;
       };
+      others = λ q page h ne. others q page h ne ∙ entries_used first old fit used q page;
+      taken = (
+        n.0,
+        record {
+          was_free = sym (used.memory.roles n.0) ∙ taken.was_free;
+          table = taken.table;
+          root = taken.root;
+          roles = λ m ne. taken.roles m ne ∙ used.memory.roles m;
+          counts = λ m ne. taken.counts m ne ∙ used.memory.counts m;
+        },
+      );
       files = files_then first old new (files_used first old fit.places used) (files_started old mid new place n.0 now zero_page adds beside spawns);
     }

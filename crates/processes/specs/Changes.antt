@@ -1,8 +1,9 @@
 -- What the calls do to the processes. fork(2), exit(2).
-use Rattle.std.specs.Prelude.{◌≡◌, ◌≢◌, ℕ, true, false, Option, None}
+use Rattle.std.specs.Prelude.{◌≡◌, ◌≢◌, ℕ, ◌⊎◌, true, false, Option, Some, None}
 use Rattle.vm_types.specs.View.{View}
-use Rattle.frames.specs.declared.role.Role.TheVariants.{Private}
-use Rattle.frames.specs.FrameTable.{FrameTable, role_of}
+use Rattle.frames.specs.declared.role.Role.TheVariants.{Free, Table, Private}
+use Rattle.frames.specs.FrameTable.{FrameTable, role_of, count_of}
+use Rattle.page_tables.specs.Tree.{IsTable, IsOnWay}
 use Rattle.residency.specs.Picture.{Picture, is_live, view}
 
 -- a process came, with these pages, and every other process is as it was
@@ -23,6 +24,22 @@ pub record RemovesProcess (old new : Picture) (pid : ℕ) : Type 0 where
 pub record KeepsProcesses (old new : Picture) : Type 0 where
   pub live : (pid : ℕ) → is_live new pid ≡ is_live old pid
   pub views : (pid page : ℕ) → view new pid page ≡ view old pid page
+
+-- A frame that was free is a table now, the root of that process, and every other frame has the use that it had: no other
+-- one was asked for.
+pub record TakesRoot (old new : Picture) (pid n : ℕ) : Type 0 where
+  pub was_free : role_of old.frames n ≡ Free
+  pub table : role_of new.frames n ≡ Table
+  pub root : new.root pid ≡ Some n
+  pub roles : (m : ℕ) → m ≢ n → role_of new.frames m ≡ role_of old.frames m
+  pub counts : (m : ℕ) → m ≢ n → count_of new.frames m ≡ count_of old.frames m
+
+-- The tables of a process are free, its root and those below it, and every other table stays one. No free frame is used.
+pub record FreesTables (old new : Picture) (pid : ℕ) : Type 0 where
+  pub own : (r page n : ℕ) → old.root pid ≡ Some r → IsOnWay old.frames 2 r page n → role_of new.frames n ≡ Free
+  pub others : (n : ℕ) → IsTable old.frames n
+      → IsTable new.frames n ⊎ ((r : ℕ) × (page : ℕ) × (old.root pid ≡ Some r) × IsOnWay old.frames 2 r page n)
+  pub free : (n : ℕ) → role_of old.frames n ≡ Free → role_of new.frames n ≡ Free
 
 -- no frame came to hold a page of a process's own
 abbrev pub TakesNoCopy : FrameTable → FrameTable → Type 0

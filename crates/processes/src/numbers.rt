@@ -2,7 +2,6 @@
 ghost use Rattle.std.specs.Prelude.{◌≡◌, false, IfSome};
 ghost use Rattle.vm_types.specs.Processes.{least_free_from};
 ghost use Rattle.residency.specs.Picture.{picture_of, is_live};
-ghost use Rattle.residency.specs.Parts.{IsSized};
 
 use residency::{Core, PLACES};
 use vm_types::Pid;
@@ -10,7 +9,6 @@ use vm_types::Pid;
 /// The least number of 1 to 64 that no live process has; `None` exactly where 64 processes live (our choice, as fork(2) has
 /// it with EAGAIN).
 pub fn free_pid<D, E>(core: &Core<D, E>) -> Option<Pid>
-    requires sized { IsSized core.now }
     ensures least { result ≡ least_free_from (is_live (picture_of core.now)) 1 64 }
     ensures free { IfSome result (λ pid. is_live (picture_of core.now) pid ≡ false) }
 {

@@ -1,6 +1,6 @@
 //! Processes over devices in memory.
 ghost use Rattle.std.specs.Prelude.{◌≡◌, ℕ, true, false, IfOk, IfSome};
-ghost use Rattle.residency.specs.Parts.{IsFit, IsSized};
+ghost use Rattle.residency.specs.Parts.{IsFit};
 ghost use Rattle.residency.specs.Picture.{picture_of, is_live};
 
 use crate::{exit, free_pid, spawn};
@@ -36,7 +36,6 @@ fn opened(disk: SimDisk) -> Result<FileStore<SimDisk>, OpenFault>
 
 // Memory of 8 frames, without swap.
 fn made(alloc: Global, store: FileStore<SimDisk>) -> Result<Core<SimDisk, SimDisk>, AllocError>
-    ensures sized { IfOk result IsSized }
     ensures fit { IfOk result (λ core. IsFit (picture_of core)) }
 {
     let swap = SimDisk::new(alloc, 0)?;
@@ -48,9 +47,7 @@ fn made(alloc: Global, store: FileStore<SimDisk>) -> Result<Core<SimDisk, SimDis
 
 // A process of the least free number.
 fn started<D, E>(core: &mut Core<D, E>) -> Result<Option<Pid>, Stall>
-    requires sized { IsSized core.old }
     requires fit { IsFit (picture_of core.old) }
-    ensures sized { IsSized core.new }
     ensures fit { IsFit (picture_of core.new) }
     ensures lives { IfOk result (λ number. IfSome number (λ pid. is_live (picture_of core.new) pid ≡ true)) }
     ensures kept { (q : ℕ) → is_live (picture_of core.old) q ≡ true → is_live (picture_of core.new) q ≡ true }

@@ -2,6 +2,8 @@
 #![tactic(auto)]
 
 #[cfg(test)]
+mod edges;
+#[cfg(test)]
 mod pagecat;
 #[cfg(test)]
 mod pagefmt;
@@ -11,3 +13,7 @@ mod pagerun;
 mod program_bench;
 #[cfg(test)]
 mod programs;
+#[cfg(test)]
+mod rows;
+#[cfg(test)]
+mod turns;

@@ -143,9 +143,6 @@ fn an_image_that_may_not_be_written_is_told(rt: HostRuntime) -> Result<(), Fail>
         let line = format!(in rt.alloc(); "pagerun: cannot open {image}\n")?;
         let outcome = ran(&rt, Program::Run, &[image, swap], b"")?;
         expect(&rt, outcome, 1, b"", line.as_bytes());
-        let line = format!(in rt.alloc(); "pagecat: cannot open {image}\n")?;
-        let outcome = ran(&rt, Program::Cat, &[image, "0"], b"")?;
-        expect(&rt, outcome, 1, b"", line.as_bytes());
         let line = format!(in rt.alloc(); "pagefmt: cannot open {image}\n")?;
         let outcome = ran(&rt, Program::Format, &["new", image, "zero:4096"], b"")?;
         expect(&rt, outcome, 1, b"", line.as_bytes());

@@ -1,10 +1,12 @@
 -- Rows without entries: tables given back, and what the processes see.
-use Rattle.std.proofs.Common.{◌≡◌, ℕ, inl, inr, ◌⊎◌, ◌+◌, ◌/◌, ◌<◌, ◌≤◌, ◌^◌, true, false, Option, Some, None, refl, sym, ap, ◌∙◌, arith}
+use Rattle.std.proofs.Common.{◌≡◌, ◌≢◌, ℕ, inl, inr, ◌⊎◌, ◌+◌, ◌/◌, ◌<◌, ◌≤◌, ◌^◌, true, false, Option, Some, None, refl, sym, ap, ◌∙◌, arith}
 use Rattle.std.specs.Prelude.{leb, ltb, is_some, option_map}
 use Rattle.std.proofs.lemmas.Bool.{cases_lt, cases_Bool, and_parts, and_cases, leb-true, leb-false, ltb-true, ltb-false}
 use Rattle.vm_types.specs.declared.region.Attr.{Attr}
 use Rattle.vm_types.specs.Rows.{in_row}
-use Rattle.frames.specs.FrameTable.{FrameTable, role_of, IsSound}
+use Rattle.frames.specs.declared.role.Role.{Role}
+use Rattle.frames.specs.declared.role.Role.TheVariants.{Free, Zero, Table, Private, Cache}
+use Rattle.frames.specs.FrameTable.{FrameTable, IsFrame, role_of, IsSound}
 use Rattle.sv39_walk.specs.Entry.{frame_of}
 use Rattle.page_tables.specs.Tree.{IsPage}
 use Rattle.page_tables.specs.Change.{Prunes, IsPruned}
@@ -20,7 +22,7 @@ use Rattle.residency.proofs.Start.{no_bit}
 use Rattle.ranges.specs.Rows.{plain, RemapsRow}
 use Rattle.ranges.specs.Steps.{IsBeside, Clears, IsWhole, IsTightFor}
 use Rattle.ranges.proofs.Gaps.{missing_same, tight_moved}
-use Rattle.ranges.proofs.Releasing.{private_data, cache_data}
+use Rattle.ranges.proofs.Releasing.{inside_memory, private_used, private_data, cache_data}
 
 -- a page of the same table
 pub whole_moved : (c : Picture) (pid p q : ℕ) → p / 512 ≡ q / 512 → IsWhole c pid p → IsWhole c pid q
@@ -32,6 +34,19 @@ tight_for_moved c pid p q same tight r e = tight_moved c.frames r p q same (tigh
 -- where a process lives, it goes on living
 pub still_live : (a b : Picture) (pid : ℕ) → SameBeside a b → is_live a pid ≡ true → is_live b pid ≡ true
 still_live a b pid beside live = ap is_some (beside.root pid) ∙ live
+
+is_table : (r : Role) → (r ≡ Table) ⊎ (r ≢ Table)
+is_table Free = inr (λ e. (cc))
+is_table Zero = inr (λ e. (cc))
+is_table Table = inl refl
+is_table Private = inr (λ e. (cc))
+is_table Cache = inr (λ e. (cc))
+
+table_inside : (t : FrameTable) (n : ℕ) → IsSound t → role_of t n ≡ Table → IsFrame t n
+table_inside t n sound table = inside_memory t n sound (λ f. (let bad : Free ≡ Table = sym f ∙ table in (cc)))
+
+free_no_table : (r : Role) → r ≡ Free → r ≢ Table
+free_no_table r e t = let bad : Free ≡ Table = sym e ∙ t in (cc)
 
 -- tables without entries were given back
 module _ (old new : Picture) (pid r page : ℕ) (steady : IsSteady old) (sound : IsSound old.frames) (root : old.root pid ≡ Some r)
@@ -46,6 +61,21 @@ module _ (old new : Picture) (pid r page : ℕ) (steady : IsSteady old) (sound :
       let same : (q p : ℕ) → entry new q p ≡ entry old q p = λ q p. entries_kept old new 0 steady.rooted prunes.entries beside.root q p in
       record {
         beside = beside;
+        returned = record {
+          tables = λ n table. elim (prunes.gone n table) [
+            | inl still ↦ inl still
+            | inr gone ↦ inr (gone.0, (r, page, root, gone.1))
+          ];
+          free = λ n e. prunes.kept.roles n (free_no_table (role_of old.frames n) e) ∙ e;
+          copies = λ n e. elim (is_table (role_of old.frames n)) [
+            | inr other ↦ sym (prunes.kept.roles n other) ∙ e
+            | inl table ↦ absurd (elim (prunes.gone n (record { inside = table_inside old.frames n sound table; role = table })) [
+              | inl still ↦ private_data (role_of new.frames n) e still.role
+              | inr gone ↦ private_used (role_of new.frames n) e gone.0
+            ])
+          ];
+          pointers = prunes.pointers;
+        };
         gone = λ p h least below. absurd (omega (arith, least, below));
         kept = λ q p h out. same q p;
         views = λ q p out. views_same old new steady.granting beside.at (λ q p h. same q p)
@@ -132,6 +162,7 @@ module _ (old new : Picture) (pid first pages low high : ℕ) (granting : IsGran
     at = λ page. clears.beside.at pid page;
     others_at = λ q page ne. clears.beside.at q page;
     entries = entry_gone;
+    kept = λ page h e. clears.kept pid page h (beside_row page e);
     views = λ page. elim (cases_Bool (in_row first pages page)) [
       | inl e ↦ rw e (view-bare new pid page (entry_gone page e) ∙ ap (option_map plain) (clears.beside.at pid page))
       | inr e ↦ rw e (clears.views pid page (beside_row page e))

@@ -1,5 +1,6 @@
 -- The pages of one table: the ways to them are the same, and so is what is missing on them.
-use Rattle.std.proofs.Common.{◌≡◌, ◌≢◌, ℕ, zero, suc, ◌-◌, ◌/◌, ◌%◌, ◌≤◌, inl, inr, Some, refl, sym, ap, ◌∙◌, subst, arith}
+use Rattle.std.proofs.Common.{◌≡◌, ◌≢◌, ℕ, zero, suc, ◌+◌, ◌-◌, ◌*◌, ◌/◌, ◌%◌, ◌^◌, ◌≤◌, inl, inr, Some, refl, sym, ap, ◌∙◌, subst, arith}
+use Rattle.std.specs.Prelude.{min, max}
 use Rattle.std.proofs.lemmas.Bool.{cases_eq}
 use Rattle.frames.specs.FrameTable.{FrameTable}
 use Rattle.sv39_walk.specs.Entry.{entry_at, frame_of, is_pointer}
@@ -81,3 +82,17 @@ pub tight_moved : (t : FrameTable) (r p q : ℕ) → p / 512 ≡ q / 512 → IsT
 tight_moved t r p q same tight n i m points empty =
     let way = tight n i m points empty in
     (way.0, way.1, way_same t r p q way.0 m same way.1 way.2)
+
+-- where a step over a row ends: past the pages of a lowest table
+pub step_whole : (page end next m : ℕ) → m ≡ 0 → next ≡ min end ((page / 512 + 1) * 512) → next ≡ min end ((page / 512 ^ max 1 m + 1) * 512 ^ max 1 m)
+step_whole page end next m none is =
+    let P : ℕ → Type 0 = λ x. next ≡ min end ((page / 512 ^ max 1 x + 1) * 512 ^ max 1 x) in
+    subst P (sym none) is
+
+-- or past those of a missing one
+pub step_gap : (page end next gap m : ℕ) → m ≢ 0 → gap ≡ (page / 512 ^ m + 1) * 512 ^ m → next ≡ min end gap
+    → next ≡ min end ((page / 512 ^ max 1 m + 1) * 512 ^ max 1 m)
+step_gap page end next gap m some past is =
+    let same : m ≡ max 1 m = omega arith in
+    let P : ℕ → Type 0 = λ x. next ≡ min end ((page / 512 ^ x + 1) * 512 ^ x) in
+    subst P same (is ∙ ap (min end) past)

@@ -20,6 +20,7 @@ use Rattle.residency.proofs.Granting.{user_map-same, readable-same}
 use Rattle.residency.proofs.RegionSteps.{entries_remapped, steady_remapped}
 use Rattle.residency.proofs.Used.{fit_steady, steady_fit, view-same}
 use Rattle.ranges.specs.Rows.{plain, RemapsRow}
+use Rattle.ranges.specs.Steps.{KeepsEntriesOfOthers}
 use Rattle.ranges.proofs.Emptied.{view-bare}
 
 pub where_some : (o : Option ℕ) (runs : List Run) (page : ℕ) → is_some o ≡ true → attr_where o runs page ≡ attr_at runs page
@@ -76,12 +77,16 @@ module _ (old mid new : Picture) (pid first pages : ℕ) (map : ℕ → Option A
       ]))
       (subst P (sym remaps.frames) fit.tree.tight)
 
+  pub others_remapped : KeepsEntriesOfOthers old mid pid → KeepsEntriesOfOthers old new pid
+  others_remapped same q page h ne = same_entry q page ∙ same q page h ne
+
   pub row_remapped : RemapsRow old new pid first pages map
   row_remapped = record {
     root = λ q. remaps.root q ∙ row.root q;
     at = at;
     others_at = λ q page ne. remaps.others q page ne ∙ row.others_at q page ne;
     entries = λ page e. same_entry pid page ∙ row.entries page e;
+    kept = λ page h e. same_entry pid page ∙ row.kept page h e;
     views = λ page. elim (cases_Bool (in_row first pages page)) [
       | inl e ↦ rw e (view-bare new pid page (same_entry pid page ∙ row.entries page e) ∙ ap (option_map plain) (at page))
       | inr e ↦ (

@@ -9,13 +9,16 @@ use Rattle.frames.specs.FrameTable.{FrameTable, frame_count, role_of, IsFrame, I
 use Rattle.sv39_walk.specs.Entry.{frame_of}
 use Rattle.page_tables.specs.Change.{KeepsFrames, SetsEntry}
 use Rattle.page_tables.specs.Tree.{IsPage, IsTight, missing_of}
+use Rattle.page_tables.specs.Places.{IsTableOf}
+use Rattle.page_tables.proofs.Places.{row_stays}
 use Rattle.page_tables.proofs.Tight.{tight_but, tight_filled}
 use Rattle.residency.specs.Parts.{IsRootedBut, IsBehind, IsEntryFor, Nothing, Resident, HasPlaces, IsFit}
 use Rattle.residency.specs.Picture.{Picture, entry, is_private}
 use Rattle.residency.specs.Steps.{SameBeside, SetsPage}
 use Rattle.residency.proofs.TableSteps.{sets_page, rooted_set}
-use Rattle.ranges.specs.Leaves.{TakesStores, IsPermitted, Permits, Empty, Kept, NamesFrames, PermitsRow}
+use Rattle.ranges.specs.Leaves.{TakesStores, IsPermittedEntry, Permits, Empty, Kept, NamesFrames, PermitsRow}
 use Rattle.ranges.specs.Steps.{IsWhole}
+use Rattle.ranges.proofs.LeafEntries.{allowed}
 use Rattle.ranges.proofs.Releasing.{inside_memory, private_used, cache_used}
 use Rattle.ranges.proofs.ClearedPages.{beside-refl, beside_then, out_front, out_back, other_page}
 
@@ -83,17 +86,20 @@ module _ (old new : Picture) (pid r page number : ℕ) (prot : Prot) (rooted : I
   pub whole_permitted : (p : ℕ) → IsWhole old pid p → IsWhole new pid p
   whole_permitted p whole x e = let was : old.root pid ≡ Some x = sym (beside.root pid) ∙ e in sets.missing x p (rooted.roots pid x was) ∙ whole x was
 
+  pub places_permitted : (row n : ℕ) → IsTableOf old.frames r row n → IsTableOf new.frames r row n
+  places_permitted row n = row_stays old.frames new.frames r page number sets r row n (rooted.roots pid r root)
+
   module _ (writable : Bool) (some : entry old pid page ≢ 0) (stores : (writable ≡ true) ↔ TakesStores old.frames (old.at pid page) prot (entry old pid page))
-      (is : IsPermitted prot writable (entry old pid page) number) where
+      (is : IsPermittedEntry prot writable (entry old pid page) number) where
     pub tight_permitted : missing_of old.frames 2 r page ≡ 0 → IsTight old.frames → IsTight new.frames
     tight_permitted whole tight =
-        tight_filled old.frames new.frames 2 r page number rooted.forest (rooted.roots pid r root) whole is.some sets (tight_but old.frames 2 r page tight)
+        tight_filled old.frames new.frames 2 r page number rooted.forest (rooted.roots pid r root) whole (allowed prot writable (entry old pid page) number is).some sets (tight_but old.frames 2 r page tight)
 
     pub named_permitted : NamesFrames old pid → NamesFrames new pid
     named_permitted named p h' used = elim (cases_eq p page) [
       | inl e ↦ (
           let here : IsFrame old.frames (frame_of (entry old pid page)) = named page h some in
-          let frame : frame_of (entry new pid p) ≡ frame_of (entry old pid page) = ap (λ x. frame_of (entry new pid x)) e ∙ ap frame_of page_permitted.changed ∙ is.frame in
+          let frame : frame_of (entry new pid p) ≡ frame_of (entry old pid page) = ap (λ x. frame_of (entry new pid x)) e ∙ ap frame_of page_permitted.changed ∙ is.over.names in
           let count : frame_count new.frames ≡ frame_count old.frames = sets.kept.frames in
           rw (frame, count) here)
       | inr ne ↦ (

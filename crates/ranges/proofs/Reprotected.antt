@@ -1,5 +1,5 @@
 -- A row of pages with another permission, and the regions that say so.
-use Rattle.std.proofs.Common.{◌≡◌, ◌≢◌, ℕ, inl, inr, ◌⊎◌, ◌+◌, ◌<◌, ◌≤◌, ◌^◌, ◌↔◌, Bool, true, false, Option, Some, None, get_or, refl, sym, ap, ◌∙◌, subst, arith}
+use Rattle.std.proofs.Common.{◌≡◌, ℕ, inl, inr, ◌⊎◌, ◌+◌, ◌<◌, ◌≤◌, ◌^◌, ◌↔◌, Bool, true, false, Option, Some, None, get_or, refl, sym, ap, ◌∙◌, subst, arith}
 use Rattle.std.specs.Prelude.{IsSome, IfSome, leb, ltb, option_map, if◌then◌else◌}
 use Rattle.std.proofs.lemmas.Bool.{cases_eq, cases_lt, cases_Bool, and_from, le-leb, lt-ltb, false≢true}
 use Rattle.vm_types.specs.declared.file.FilePage.{FilePage}
@@ -11,7 +11,7 @@ use Rattle.vm_types.specs.Ranges.{permitted}
 use Rattle.vm_types.specs.Rows.{in_row, protected, IsUserMap}
 use Rattle.frames.specs.declared.role.Role.TheVariants.{Free, Table}
 use Rattle.frames.specs.FrameTable.{FrameTable, role_of, count_of, bytes_of}
-use Rattle.sv39_walk.specs.Entry.{is_valid, can_write, is_dirty, frame_of}
+use Rattle.sv39_walk.specs.Entry.{is_valid, is_dirty, frame_of}
 use Rattle.page_tables.specs.Tree.{IsPage, IsTight, page_entry}
 use Rattle.page_cache.specs.declared.place.Place.TheVariants.{Frame}
 use Rattle.regions.specs.Permission.{ReadsToo, IsReadableMap}
@@ -25,12 +25,12 @@ use Rattle.residency.proofs.Granting.{KeepsBehind, entry_for-same, user_map-same
 use Rattle.residency.proofs.Places.{places_same}
 use Rattle.residency.proofs.Rooted.{rooted_frames}
 use Rattle.residency.proofs.Used.{view-same, view-none, unmapped_past}
-use Rattle.ranges.specs.Leaves.{Grants, is_shared_page, TakesStores, IsPermitted, Permits, Empty, Kept, PermitsRow}
+use Rattle.ranges.specs.Leaves.{is_mapped_shared, TakesStores, IsPermittedEntry, Permits, Empty, Kept, PermitsRow}
 use Rattle.ranges.specs.Rows.{ReprotectsRow}
-use Rattle.ranges.specs.Steps.{IsBeside}
+use Rattle.ranges.specs.Steps.{IsBeside, KeepsEntriesOfOthers}
 use Rattle.ranges.proofs.ClearedPages.{not_valid}
 use Rattle.ranges.proofs.Emptied.{row_parts, none_here, low_zero}
-use Rattle.ranges.proofs.LeafEntries.{none_of}
+use Rattle.ranges.proofs.LeafEntries.{none_of, allowed}
 use Rattle.ranges.proofs.Releasing.{private_data, cache_data}
 
 mapped_before : (o : Option Attr) (prot : Prot) (b : Bool) → IsSome (if b then option_map (with_prot prot) o else o) → IsSome o
@@ -54,28 +54,29 @@ user_protected map first pages prot user = record {
 
 owner_of : (t : FrameTable) (o : Option Attr) (prot : Prot) (e e' : ℕ) → Permits t o prot e e' → SameOwner e e'
 owner_of t o prot e e' (Empty none none') = same_owner e e' (none' ∙ sym none)
-owner_of t o prot e e' (Kept some writable stores is) = record { private = is.private; frame = λ _. is.frame }
+owner_of t o prot e e' (Kept some writable stores is) = record { private = is.over.owned; frame = λ _. is.over.names }
 
-shared_one : (o : Option Attr) (a : Attr) → o ≡ Some a → is_shared_page o ≡ true → is_shared a.backing ≡ true
-shared_one o a is shared = ap is_shared_page (sym is) ∙ shared
+shared_one : (o : Option Attr) (a : Attr) → o ≡ Some a → is_mapped_shared o ≡ true → is_shared a.backing ≡ true
+shared_one o a is shared = ap is_mapped_shared (sym is) ∙ shared
 
 -- what the page is now, with the entry that it has now
 resident_permitted : (new : Picture) (t : FrameTable) (o : Option Attr) (a : Attr) (prot : Prot) (writable : Bool) (e e' : ℕ) → o ≡ Some a
-    → new.frames.counts ≡ t.counts → ((writable ≡ true) ↔ TakesStores t o prot e) → IsPermitted prot writable e e' → IsResident new a e → IsResident new (with_prot prot a) e'
-resident_permitted new t o a prot writable e e' at counts stores is resident =
+    → new.frames.counts ≡ t.counts → ((writable ≡ true) ↔ TakesStores t o prot e) → IsPermittedEntry prot writable e e' → IsResident new a e → IsResident new (with_prot prot a) e'
+resident_permitted new t o a prot writable e e' at counts stores permitted resident =
+    let is = allowed prot writable e e' permitted in
     let behind : is_private e' ≡ false → IsBehind new a.backing (frame_of e') = λ common. (
     let P : ℕ → Type 0 = λ n. IsBehind new a.backing n in
     subst P (sym is.frame) (resident.behind (sym is.private ∙ common))) in
     record {
-      framed = λ invalid. is.grants.reads ∙ (none_of (Permission.can_read prot) (Permission.can_execute prot) (sym is.grants.valid ∙ invalid)).0;
+      framed = λ invalid. is.reads ∙ (none_of (Permission.can_read prot) (Permission.can_execute prot) (sym is.valid ∙ invalid)).0;
       inside = resident.inside;
       private = λ own. resident.private (sym is.private ∙ own);
       behind = behind;
       leaf = λ valid. record {
         within = record {
-          reads = λ b. sym is.grants.reads ∙ b;
+          reads = λ b. sym is.reads ∙ b;
           writes = λ b. (stores.0 (sym (is.writes valid) ∙ b)).permitted;
-          executes = λ b. sym is.grants.executes ∙ b;
+          executes = λ b. sym is.executes ∙ b;
         };
         sole = λ own b. ap (λ cs. get_or cs (frame_of e') 0) counts ∙ ap (count_of t) is.frame
             ∙ (stores.0 (sym (is.writes valid) ∙ b)).sole (sym is.private ∙ own);
@@ -98,20 +99,11 @@ pub record WasDirty (e : ℕ) : Type 0 where
 was_dirty : (t : FrameTable) (o : Option Attr) (prot : Prot) (e e' : ℕ) → Permits t o prot e e' → is_valid e' ≡ true → is_private e' ≡ false → is_dirty e' ≡ true
     → WasDirty e
 was_dirty t o prot e e' (Empty none none') valid common dirty = absurd (not_valid (sym (ap is_valid none') ∙ valid))
-was_dirty t o prot e e' (Kept some writable stores is) valid common dirty = let was = is.dirty valid common dirty in record { valid = was.0; dirty = was.1 }
-
-granted_by : (t : FrameTable) (o : Option Attr) (prot : Prot) (e e' : ℕ) → e ≢ 0 → Permits t o prot e e' → Grants prot e'
-granted_by t o prot e e' some (Empty none none') = absurd (some none)
-granted_by t o prot e e' some (Kept used writable stores is) = is.grants
-
-writes_by : (t : FrameTable) (o : Option Attr) (prot : Prot) (e e' : ℕ) → is_valid e' ≡ true → Permits t o prot e e'
-    → (can_write e' ≡ true) ↔ TakesStores t o prot e
-writes_by t o prot e e' valid (Empty none none') = absurd (not_valid (sym (ap is_valid none') ∙ valid))
-writes_by t o prot e e' valid (Kept some writable stores is) = (λ w. stores.0 (sym (is.writes valid) ∙ w), λ s. is.writes valid ∙ stores.1 s)
+was_dirty t o prot e e' (Kept some writable stores is) valid common dirty = let was = (allowed prot writable e e' is).dirty valid common dirty in record { valid = was.0; dirty = was.1 }
 
 frame_still : (t : FrameTable) (o : Option Attr) (prot : Prot) (e e' : ℕ) → Permits t o prot e e' → frame_of e' ≡ frame_of e
 frame_still t o prot e e' (Empty none none') = ap frame_of (none' ∙ sym none)
-frame_still t o prot e e' (Kept some writable stores is) = is.frame
+frame_still t o prot e e' (Kept some writable stores is) = is.over.names
 
 own_still : (t t' : FrameTable) (e e' : ℕ) → SameOwner e e' → (is_private e ≡ true → bytes_of t' (frame_of e) ≡ bytes_of t (frame_of e)) → own_in t' e' ≡ own_in t e
 own_still t t' e e' same bytes = elim (cases_Bool (is_private e)) [
@@ -336,21 +328,12 @@ module _ (old mid new : Picture) (pid first pages low high : ℕ) (prot : Prot) 
       (own_still old.frames new.frames (entry old pid page) (entry new pid page) (owner pid page h) (own_bytes pid page h))
       ∙ ap (option_map (permitted prot)) (sym (view-is old pid page))
 
-  grants_here : (page : ℕ) → in_row first pages page ≡ true → entry old pid page ≢ 0 → Grants prot (entry new pid page)
-  grants_here page e some =
+  permits_here : (page : ℕ) → in_row first pages page ≡ true → Permits old.frames (old.at pid page) prot (entry old pid page) (entry new pid page)
+  permits_here page e =
       let h = page_here page e in
       elim (by_row pid page) [
-        | inl out ↦ absurd (some (entry_none page h out e))
-        | inr here ↦ granted_by old.frames (old.at pid page) prot (entry old pid page) (entry new pid page) some (changed page h here.1 here.2)
-      ]
-
-  writes_here : (page : ℕ) → in_row first pages page ≡ true → is_valid (entry new pid page) ≡ true
-      → (can_write (entry new pid page) ≡ true) ↔ TakesStores old.frames (old.at pid page) prot (entry old pid page)
-  writes_here page e valid =
-      let h = page_here page e in
-      elim (by_row pid page) [
-        | inl out ↦ absurd (not_valid (sym (ap is_valid (kept pid page h out ∙ entry_none page h out e)) ∙ valid))
-        | inr here ↦ writes_by old.frames (old.at pid page) prot (entry old pid page) (entry new pid page) valid (changed page h here.1 here.2)
+        | inl out ↦ Empty (entry_none page h out e) (kept pid page h out ∙ entry_none page h out e)
+        | inr here ↦ changed page h here.1 here.2
       ]
 
   out_of_row : (page : ℕ) → in_row first pages page ≡ false → IsBeside pid low high pid page
@@ -358,6 +341,9 @@ module _ (old mid new : Picture) (pid first pages low high : ℕ) (prot : Prot) 
     | inl out ↦ out
     | inr here ↦ absurd (false≢true (sym e ∙ in_here page here.1 here.2))
   ]
+
+  pub others_reprotected : KeepsEntriesOfOthers old new pid
+  others_reprotected q page h ne = kept q page h (inl ne)
 
   pub row_reprotected : ReprotectsRow old new pid first pages prot
   row_reprotected = record {
@@ -368,8 +354,8 @@ module _ (old mid new : Picture) (pid first pages low high : ℕ) (prot : Prot) 
       | inl e ↦ rw e (view_here page e)
       | inr e ↦ rw e (view_beside pid page (out_of_row page e))
     ];
-    granted = grants_here;
-    writes = writes_here;
+    entries = permits_here;
+    kept = λ page h e. kept pid page h (out_of_row page e);
     others = λ q page ne. view_beside q page (inl ne);
     files = record {
       place = place;

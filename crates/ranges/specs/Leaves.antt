@@ -1,55 +1,44 @@
 -- Entries of pages that get another permission.
-use Rattle.std.specs.Prelude.{◌≡◌, ◌≢◌, ℕ, ◌<◌, ◌≤◌, ◌↔◌, Bool, true, false, ◌||◌, Option, Some, None}
+use Rattle.std.specs.Prelude.{◌≡◌, ◌≢◌, ℕ, ◌<◌, ◌≤◌, ◌↔◌, Bool, true, false, ◌||◌, ◌&&◌, Option, Some, None}
 use Rattle.vm_types.specs.declared.permission.Prot.{Prot}
 use Rattle.vm_types.specs.declared.region.Attr.{Attr}
 use Rattle.vm_types.specs.Permission as Permission
 use Rattle.frames.specs.FrameTable.{FrameTable, count_of, IsFrame}
-use Rattle.sv39_walk.specs.Entry.{is_valid, can_read, can_write, can_execute, is_user, is_accessed, is_dirty, frame_of}
+use Rattle.sv39_walk.specs.Entry.{is_valid, is_dirty, frame_of}
 use Rattle.page_tables.specs.Change.{KeepsFrames}
 use Rattle.page_tables.specs.Tree.{IsPage}
 use Rattle.residency.specs.Parts.{is_shared}
 use Rattle.residency.specs.Picture.{Picture, entry, is_private}
 use Rattle.residency.specs.Steps.{SameBeside}
+use Rattle.page_entries.specs.Leaves.{IsEntryOver}
 use Rattle.ranges.specs.Steps.{IsBeside}
 
--- whether an entry lets anything be done
-abbrev pub lets_anything : Prot → Bool
-lets_anything prot = Permission.can_read prot || Permission.can_execute prot
+-- whether stores to the frame that an entry names need no further mark: it is the process's own, or D is set
+abbrev pub needs_no_mark : ℕ → Bool
+needs_no_mark e = is_private e || (is_valid e && is_dirty e)
 
--- whether an entry lets the page be read and run, as a permission says
-pub record Grants (prot : Prot) (e : ℕ) : Type 0 where
-  pub valid : is_valid e ≡ lets_anything prot
-  pub reads : can_read e ≡ Permission.can_read prot
-  pub executes : can_execute e ≡ Permission.can_execute prot
-  pub user : is_valid e ≡ true → is_user e ≡ true
-  pub accessed : is_valid e ≡ true → is_accessed e ≡ true
+-- The entry e' in the place of e, which names a frame: that of the permission over the same frame, the process's own or not
+-- as before. Where anything is permitted it is a leaf with V, U and A, with R and X as the permission has them, with W where
+-- `writable` says so, and with D exactly where the frame is the process's own or D was set; else the frame is parked.
+pub record IsPermittedEntry (prot : Prot) (writable : Bool) (e e' : ℕ) : Type 0 where
+  pub over : IsEntryOver e' prot (frame_of e) (is_private e) writable (needs_no_mark e)
 
--- The entry e' in the place of e, which names a frame: it names the same one, and lets the page be read and run as the
--- permission says, and stores through where `writable` says so.
-pub record IsPermitted (prot : Prot) (writable : Bool) (e e' : ℕ) : Type 0 where
-  pub private : is_private e' ≡ is_private e
-  pub frame : frame_of e' ≡ frame_of e
-  pub grants : Grants prot e'
-  pub writes : is_valid e' ≡ true → can_write e' ≡ writable
-  pub dirty : is_valid e' ≡ true → is_private e' ≡ false → is_dirty e' ≡ true → (is_valid e ≡ true) × (is_dirty e ≡ true)
-  pub some : e' ≢ 0
-
-abbrev pub is_shared_page : Option Attr → Bool
-is_shared_page None = false
-is_shared_page (Some attr) = is_shared attr.backing
+abbrev pub is_mapped_shared : Option Attr → Bool
+is_mapped_shared None = false
+is_mapped_shared (Some attr) = is_shared attr.backing
 
 -- A store may go to the frame that the entry names: the permission lets it, and either the frame is the process's own and
 -- nobody else has it, or it is not, and the page is a shared one.
 pub record TakesStores (t : FrameTable) (attr : Option Attr) (prot : Prot) (e : ℕ) : Type 0 where
   pub permitted : Permission.can_write prot ≡ true
   pub sole : is_private e ≡ true → count_of t (frame_of e) ≡ 1
-  pub common : is_private e ≡ false → is_shared_page attr ≡ true
+  pub common : is_private e ≡ false → is_mapped_shared attr ≡ true
 
 -- A page's entry before and after: nothing stands for it, or what does is as the permission says, and has W exactly where a
 -- store may go to its frame.
 pub data Permits (t : FrameTable) (attr : Option Attr) (prot : Prot) (e e' : ℕ) : Type 0 where
   Empty : e ≡ 0 → e' ≡ 0 → Permits t attr prot e e'
-  Kept : e ≢ 0 → (writable : Bool) → ((writable ≡ true) ↔ TakesStores t attr prot e) → IsPermitted prot writable e e' → Permits t attr prot e e'
+  Kept : e ≢ 0 → (writable : Bool) → ((writable ≡ true) ↔ TakesStores t attr prot e) → IsPermittedEntry prot writable e e' → Permits t attr prot e e'
 
 -- each entry of a process names a frame of memory
 abbrev pub NamesFrames : Picture → ℕ → Type 0

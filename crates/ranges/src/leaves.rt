@@ -5,7 +5,7 @@ ghost use Rattle.sv39_walk.specs.Entry.{frame_of, is_valid, is_dirty};
 ghost use Rattle.page_tables.specs.Entry.{IsEntry, number_of};
 ghost use Rattle.regions.specs.Permission.{ReadsToo};
 ghost use Rattle.residency.specs.Picture.{is_private};
-ghost use Rattle.ranges.specs.Leaves.{IsPermitted};
+ghost use Rattle.ranges.specs.Leaves.{IsPermittedEntry};
 
 use crate::rows::frame_in;
 use page_entries::{Grant, entry_over, is_private};
@@ -20,7 +20,7 @@ pub(crate) fn permitted(number: Pte, prot: Prot, writable: bool) -> Entry
     requires reads { ReadsToo prot }
     requires writes { writable ≡ true → can_write prot ≡ true }
     ensures form { IsEntry result }
-    ensures permitted { IsPermitted prot writable number.0 (number_of result) }
+    ensures permitted { IsPermittedEntry prot writable number.0 (number_of result) }
 {
     let grant = Grant {
         frame: frame_in(number),

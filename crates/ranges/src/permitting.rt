@@ -4,29 +4,30 @@ ghost use Rattle.vm_types.specs.Rows.{protected};
 ghost use Rattle.frames.specs.FrameTable.{IsFrame};
 ghost use Rattle.sv39_walk.specs.Entry.{frame_of};
 ghost use Rattle.page_tables.specs.Tree.{IsPage, IsTight};
+ghost use Rattle.page_tables.specs.Places.{IsTableOf};
 ghost use Rattle.regions.specs.Permission.{ReadsToo};
 ghost use Rattle.regions.specs.RunList.{attr_at};
 ghost use Rattle.residency.specs.Picture.{picture_of, is_live, entry};
-ghost use Rattle.residency.specs.Parts.{IsSized, IsRootedBut, IsFit};
+ghost use Rattle.residency.specs.Parts.{IsRootedBut, IsFit};
 ghost use Rattle.residency.specs.Calls.{KeepsRest};
 ghost use Rattle.residency.specs.Shows.{KeepsDevices};
 ghost use Rattle.ranges.specs.Leaves.{TakesStores, PermitsRow, NamesFrames};
 ghost use Rattle.ranges.specs.Rows.{ReprotectsRow};
-ghost use Rattle.ranges.specs.Steps.{IsWhole};
+ghost use Rattle.ranges.specs.Steps.{KeepsEntriesOfOthers, IsWhole, IsStepEnd};
 
 use crate::leaves::permitted;
 use crate::remapping::set_regions;
 use crate::rows::{frame_in, gap_end, table_end, user_page};
 use page_entries::{is_private, is_shared, root_of};
-use page_tables::{entry_number, set};
+use page_tables::{number_in, set_in, table_of};
 use regions::Regions;
 use residency::Core;
 use sv39_walk::Pte;
-use vm_types::{Pid, Prot, USER_START, Vpn};
+use vm_types::{FrameNo, Pid, Prot, USER_START, Vpn};
 
 /// Gives the `pages` pages from `first` on of a live process the permission `prot`, which lets read what it lets write,
 /// and the process the regions that say so. A resident page stays in its frame, where it can be read and run at once, as
-/// the permission says. Its leaf has W exactly where the permission lets stores, and either the frame is the process's own
+/// the permission says: its leaf has A, and D where it needs no further mark. It has W exactly where the permission lets stores, and either the frame is the process's own
 /// and nobody else has it, or the page is a shared one; a store that finds no W or no D needs a fault first (mprotect(2);
 /// RISC-V Privileged Specification, "Sv39 page table entry").
 pub fn reprotect<D, E>(
@@ -37,22 +38,19 @@ pub fn reprotect<D, E>(
     prot: Prot,
     regions: Regions,
 )
-    requires sized { IsSized core.old }
     requires fit { IsFit (picture_of core.old) }
     requires live { is_live (picture_of core.old) pid ≡ true }
     requires row { first + pages ≤ 2 ^ 26 }
     requires reads { ReadsToo prot }
     requires map { (page : ℕ) → attr_at regions page ≡ protected ((picture_of core.old).at pid) first pages prot page }
-    ensures sized { IsSized core.new }
     ensures fit { IsFit (picture_of core.new) }
     ensures row { ReprotectsRow (picture_of core.old) (picture_of core.new) pid first pages prot }
+    ensures others { KeepsEntriesOfOthers (picture_of core.old) (picture_of core.new) pid }
     ensures devices { KeepsDevices core.old core.new }
     ensures roots { core.new.roots ≡ core.old.roots }
     ensures cache { core.new.cache ≡ core.old.cache }
     ensures refused { core.new.refused ≡ core.old.refused }
 {
-    // (brings in that the table of frames is sound)
-    let _ = core.frames.len();
     let end = first + pages;
     let mut page = first.max(USER_START);
     while page < end {
@@ -64,7 +62,6 @@ pub fn reprotect<D, E>(
 /// Gives the permission to the pages from `start` on whose entries stand in one table, as far as `end`. The result is
 /// the first page past them. Where a table is missing on the way, there is nothing to do on all its pages.
 fn permit_next<D, E>(core: &mut Core<D, E>, pid: Pid, start: Vpn, end: u64, prot: Prot) -> u64
-    requires sized { IsSized core.old }
     requires rooted { IsRootedBut (picture_of core.old) 0 }
     requires tight { IsTight core.old.frames }
     requires named { NamesFrames (picture_of core.old) pid }
@@ -72,12 +69,12 @@ fn permit_next<D, E>(core: &mut Core<D, E>, pid: Pid, start: Vpn, end: u64, prot
     requires some { start < end }
     requires high { end ≤ 2 ^ 26 }
     requires reads { ReadsToo prot }
-    ensures sized { IsSized core.new }
     ensures rooted { IsRootedBut (picture_of core.new) 0 }
     ensures tight { IsTight core.new.frames }
     ensures named { NamesFrames (picture_of core.new) pid }
     ensures further { start < result }
     ensures within { result ≤ end }
+    ensures ends { IsStepEnd (picture_of core.old) pid start end result }
     ensures permits { PermitsRow (picture_of core.old) (picture_of core.new) pid start result prot }
     ensures rest { KeepsRest core.old core.new }
     ensures refused { core.new.refused ≡ core.old.refused }
@@ -94,7 +91,6 @@ fn permit_next<D, E>(core: &mut Core<D, E>, pid: Pid, start: Vpn, end: u64, prot
 
 /// Gives the permission to the pages from `start` up to, not including, `stop`, whose entries stand in one table.
 fn permit_table<D, E>(core: &mut Core<D, E>, pid: Pid, start: Vpn, stop: u64, prot: Prot)
-    requires sized { IsSized core.old }
     requires rooted { IsRootedBut (picture_of core.old) 0 }
     requires tight { IsTight core.old.frames }
     requires named { NamesFrames (picture_of core.old) pid }
@@ -104,7 +100,6 @@ fn permit_table<D, E>(core: &mut Core<D, E>, pid: Pid, start: Vpn, stop: u64, pr
     requires one_table { stop ≤ (start / 512 + 1) * 512 }
     requires high { stop ≤ 2 ^ 26 }
     requires reads { ReadsToo prot }
-    ensures sized { IsSized core.new }
     ensures rooted { IsRootedBut (picture_of core.new) 0 }
     ensures tight { IsTight core.new.frames }
     ensures named { NamesFrames (picture_of core.new) pid }
@@ -112,42 +107,50 @@ fn permit_table<D, E>(core: &mut Core<D, E>, pid: Pid, start: Vpn, stop: u64, pr
     ensures rest { KeepsRest core.old core.new }
     ensures refused { core.new.refused ≡ core.old.refused }
 {
+    let root = root_of(core, pid);
+    let Ok(table) = table_of(&core.frames, root, start) else {
+        unreachable!();
+    };
     for page in start.get()..stop {
-        permit_page(core, pid, user_page(page), prot);
+        permit_page(core, pid, root, table, user_page(page), prot);
     }
 }
 
-/// Gives the permission to a page to which no table is missing.
-fn permit_page<D, E>(core: &mut Core<D, E>, pid: Pid, page: Vpn, prot: Prot)
-    requires sized { IsSized core.old }
+/// Gives the permission to a page whose entry stands in that table of a process.
+fn permit_page<D, E>(
+    core: &mut Core<D, E>,
+    pid: Pid,
+    root: FrameNo,
+    table: FrameNo,
+    page: Vpn,
+    prot: Prot,
+)
     requires rooted { IsRootedBut (picture_of core.old) 0 }
     requires tight { IsTight core.old.frames }
     requires named { NamesFrames (picture_of core.old) pid }
     requires live { is_live (picture_of core.old) pid ≡ true }
+    requires root { (picture_of core.old).root pid ≡ Some root.0 }
     requires inside { IsPage 2 page }
-    requires whole { IsWhole (picture_of core.old) pid page }
+    requires place { IsTableOf core.old.frames root.0 (page / 512) table.0 }
     requires reads { ReadsToo prot }
-    ensures sized { IsSized core.new }
     ensures rooted { IsRootedBut (picture_of core.new) 0 }
     ensures tight { IsTight core.new.frames }
     ensures named { NamesFrames (picture_of core.new) pid }
-    ensures whole { (p : ℕ) → IsWhole (picture_of core.old) pid p → IsWhole (picture_of core.new) pid p }
+    ensures places { (row n : ℕ) → IsTableOf core.old.frames root.0 row n → IsTableOf core.new.frames root.0 row n }
     ensures permits { PermitsRow (picture_of core.old) (picture_of core.new) pid page (page + 1) prot }
     ensures rest { KeepsRest core.old core.new }
     ensures refused { core.new.refused ≡ core.old.refused }
 {
-    let root = root_of(core, pid);
-    // (brings in that the table of frames is sound)
-    let _ = core.frames.len();
-    let number = entry_number(&core.frames, root, page);
+    let index = (page.get() % 512) as usize;
+    let number = number_in(&core.frames, table, index);
     if number.to_u64() == 0 {
         return;
     }
     let writable = takes_stores(core, pid, page, number, prot);
-    set(
+    set_in(
         &mut core.frames,
-        root,
-        page,
+        table,
+        index,
         permitted(number, prot, writable),
     );
 }
@@ -155,7 +158,6 @@ fn permit_page<D, E>(core: &mut Core<D, E>, pid: Pid, page: Vpn, prot: Prot)
 /// Whether a store may go to the frame that a page's entry names: the permission lets it, and either the frame is the
 /// process's own and nobody else has it, or it is not, and the page is a shared one.
 fn takes_stores<D, E>(core: &Core<D, E>, pid: Pid, page: Vpn, number: Pte, prot: Prot) -> bool
-    requires sized { IsSized core.now }
     requires live { is_live (picture_of core.now) pid ≡ true }
     requires named { IsFrame core.now.frames (frame_of number.0) }
     ensures { (result ≡ true) ↔ TakesStores core.now.frames ((picture_of core.now).at pid page) prot number.0 }
@@ -163,8 +165,6 @@ fn takes_stores<D, E>(core: &Core<D, E>, pid: Pid, page: Vpn, number: Pte, prot:
     if !prot.is_writable() {
         return false;
     }
-    // (brings in that the table of frames is sound)
-    let _ = core.frames.len();
     if is_private(number) {
         return core.frames.count(frame_in(number)) == 1;
     }

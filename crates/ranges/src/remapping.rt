@@ -4,10 +4,11 @@ ghost use Rattle.vm_types.specs.Rows.{in_row, IsUserMap};
 ghost use Rattle.regions.specs.Permission.{IsReadableMap};
 ghost use Rattle.regions.specs.RunList.{attr_at};
 ghost use Rattle.residency.specs.Picture.{picture_of, is_live};
-ghost use Rattle.residency.specs.Parts.{IsSized, IsFit};
+ghost use Rattle.residency.specs.Parts.{IsFit};
 ghost use Rattle.residency.specs.Shows.{KeepsDevices};
 ghost use Rattle.residency.specs.Steps.{Remaps};
 ghost use Rattle.ranges.specs.Rows.{RemapsRow};
+ghost use Rattle.ranges.specs.Steps.{KeepsEntriesOfOthers};
 
 use crate::clearing::clear_row;
 use regions::Regions;
@@ -18,16 +19,15 @@ use vm_types::Pid;
 /// have no own copies afterwards, and no entries: the next access to one finds what it is now (mmap(2), MAP_FIXED, and
 /// munmap(2)).
 pub fn remap<D, E>(core: &mut Core<D, E>, pid: Pid, first: u64, pages: u64, regions: Regions)
-    requires sized { IsSized core.old }
     requires fit { IsFit (picture_of core.old) }
     requires live { is_live (picture_of core.old) pid ≡ true }
     requires row { first + pages ≤ 2 ^ 26 }
     requires others { (page : ℕ) → in_row first pages page ≡ false → attr_at regions page ≡ (picture_of core.old).at pid page }
     requires user { IsUserMap (attr_at regions) }
     requires readable { IsReadableMap (attr_at regions) }
-    ensures sized { IsSized core.new }
     ensures fit { IsFit (picture_of core.new) }
     ensures row { RemapsRow (picture_of core.old) (picture_of core.new) pid first pages (attr_at regions) }
+    ensures others { KeepsEntriesOfOthers (picture_of core.old) (picture_of core.new) pid }
     ensures devices { KeepsDevices core.old core.new }
     ensures roots { core.new.roots ≡ core.old.roots }
     ensures cache { core.new.cache ≡ core.old.cache }
@@ -39,9 +39,7 @@ pub fn remap<D, E>(core: &mut Core<D, E>, pid: Pid, first: u64, pages: u64, regi
 
 /// Gives a live process these regions, whatever entries its pages have.
 pub(crate) fn set_regions<D, E>(core: &mut Core<D, E>, pid: Pid, regions: Regions)
-    requires sized { IsSized core.old }
     requires live { is_live (picture_of core.old) pid ≡ true }
-    ensures sized { IsSized core.new }
     ensures remaps { Remaps (picture_of core.old) (picture_of core.new) pid }
     ensures at { (page : ℕ) → (picture_of core.new).at pid page ≡ attr_at regions page }
     ensures devices { KeepsDevices core.old core.new }

@@ -2,7 +2,7 @@
 ghost use Rattle.std.specs.Prelude.{◌≡◌, ℕ, ◌<◌, ◌≤◌, ◌+◌, ◌*◌, ◌/◌, ◌^◌, true, IfNone, IfSome};
 ghost use Rattle.sv39_walk.specs.Entry.{frame_of};
 ghost use Rattle.residency.specs.Picture.{picture_of, is_live, entry};
-ghost use Rattle.residency.specs.Parts.{IsSized, IsRootedBut};
+ghost use Rattle.residency.specs.Parts.{IsRootedBut};
 ghost use Rattle.ranges.specs.Steps.{IsGapEnd, IsWhole};
 
 use page_entries::root_of;
@@ -45,7 +45,6 @@ fn middle_end(page: Vpn) -> u64
 /// reason, which can lie past the user pages; `None` where none is missing. So a search over a row of pages goes from table
 /// to table (RISC-V Privileged Specification, "Virtual Address Translation Process").
 pub fn gap_end<D, E>(core: &Core<D, E>, pid: Pid, page: Vpn) -> Option<u64>
-    requires sized { IsSized core.now }
     requires rooted { IsRootedBut (picture_of core.now) 0 }
     requires live { is_live (picture_of core.now) pid ≡ true }
     ensures whole { IfNone result (IsWhole (picture_of core.now) pid page) }

@@ -3,7 +3,7 @@ ghost use Rattle.std.specs.Prelude.{◌≡◌, ◌≢◌, ℕ, true, IfOk, OnOk,
 ghost use Rattle.vm_types.specs.Rows.{IsUserMap};
 ghost use Rattle.vm_types.specs.declared.region.Backing.TheVariants.{Anon};
 ghost use Rattle.regions.specs.RunList.{attr_at};
-ghost use Rattle.residency.specs.Parts.{IsFit, IsSized};
+ghost use Rattle.residency.specs.Parts.{IsFit};
 ghost use Rattle.residency.specs.Picture.{picture_of, is_live};
 ghost use Rattle.ranges.specs.Tests.{five_pages};
 
@@ -47,7 +47,6 @@ fn opened(disk: SimDisk) -> Result<FileStore<SimDisk>, OpenFault>
 
 // Memory of 8 frames, without swap.
 fn made(alloc: Global, store: FileStore<SimDisk>) -> Result<Core<SimDisk, SimDisk>, AllocError>
-    ensures sized { IfOk result IsSized }
     ensures fit { IfOk result (λ core. IsFit (picture_of core)) }
     ensures none { IfOk result (λ core. (pid : ℕ) → (picture_of core).root pid ≡ None) }
 {
@@ -60,18 +59,14 @@ fn made(alloc: Global, store: FileStore<SimDisk>) -> Result<Core<SimDisk, SimDis
 
 // A process of that number, without a page.
 fn spawn<D, E>(core: &mut Core<D, E>, pid: Pid) -> Result<(), Stall>
-    requires sized { IsSized core.old }
     requires fit { IsFit (picture_of core.old) }
     requires dead { (picture_of core.old).root pid ≡ None }
-    ensures sized { OnOk result (IsSized core.new) }
     ensures fit { OnOk result (IsFit (picture_of core.new)) }
     ensures live { OnOk result (is_live (picture_of core.new) pid ≡ true) }
     ensures unmapped { OnOk result ((page : ℕ) → (picture_of core.new).at pid page ≡ None) }
 {
     let place = usize::from(pid.get());
     obtain(core, None)?;
-    // (brings in that the table of frames is sound)
-    let _ = core.frames.len();
     match take_table(&mut core.frames) {
         Ok(root) => {
             core.roots[place] = Some(root);
@@ -104,7 +99,6 @@ fn five_pages() -> Result<Regions, TooManyRuns>
 
 // Process 1 with those pages.
 fn with_five_pages(alloc: Global) -> Result<Core<SimDisk, SimDisk>, Fail>
-    ensures sized { IfOk result IsSized }
     ensures fit { IfOk result (λ core. IsFit (picture_of core)) }
     ensures live { IfOk result (λ core. is_live (picture_of core) 1 ≡ true) }
     ensures map { IfOk result (λ core. (page : ℕ) → (picture_of core).at 1 page ≡ five_pages page) }
@@ -135,7 +129,6 @@ fn first_page() -> Vpn
 
 // The number that stands for page 32 of process 1.
 fn number<D, E>(core: &Core<D, E>) -> Pte
-    requires sized { IsSized core.now }
     requires fit { IsFit (picture_of core.now) }
     requires live { is_live (picture_of core.now) 1 ≡ true }
 {
@@ -204,19 +197,36 @@ fn the_whole_user_range_is_cleared(rt: HostRuntime) -> Result<(), Fail> {
     Ok(())
 }
 
+// Process 1 with those pages, the first of which has a frame of its own.
+fn with_own_page(alloc: Global) -> Result<Core<SimDisk, SimDisk>, Fail>
+    ensures fit { IfOk result (λ core. IsFit (picture_of core)) }
+    ensures live { IfOk result (λ core. is_live (picture_of core) 1 ≡ true) }
+{
+    let mut core = with_five_pages(alloc)?;
+    link_tables(&mut core, first_process(), first_page())?;
+    own_frame(&mut core, first_process(), first_page(), zeros())?;
+    Ok(core)
+}
+
+// Where the table ends that is missing on the way to a page of process 1.
+fn gap<D, E>(core: &Core<D, E>, page: Vpn) -> Option<u64>
+    requires fit { IsFit (picture_of core.now) }
+    requires live { is_live (picture_of core.now) 1 ≡ true }
+{
+    gap_end(core, first_process(), page)
+}
+
 // A lowest table has the entries of 512 pages, one of the level above it those of 512 * 512.
 #[test]
 fn missing_tables_end_where_the_next_begins(rt: HostRuntime) -> Result<(), Fail> {
-    let mut core = with_five_pages(rt.alloc())?;
-    let pid = first_process();
-    assert_eq!(rt; gap_end(&core, pid, first_page()), Some(262_144));
-    link_tables(&mut core, pid, first_page())?;
-    own_frame(&mut core, pid, first_page(), zeros())?;
-    assert_eq!(rt; gap_end(&core, pid, first_page()), None);
-    assert_eq!(rt; gap_end(&core, pid, user_page(&rt, 511)), None);
-    assert_eq!(rt; gap_end(&core, pid, user_page(&rt, 512)), Some(1024));
-    assert_eq!(rt; gap_end(&core, pid, user_page(&rt, 262_143)), Some(262_144));
-    assert_eq!(rt; gap_end(&core, pid, user_page(&rt, 262_144)), Some(524_288));
+    let none = with_five_pages(rt.alloc())?;
+    assert_eq!(rt; gap(&none, first_page()), Some(262_144));
+    let core = with_own_page(rt.alloc())?;
+    assert_eq!(rt; gap(&core, first_page()), None);
+    assert_eq!(rt; gap(&core, user_page(&rt, 511)), None);
+    assert_eq!(rt; gap(&core, user_page(&rt, 512)), Some(1024));
+    assert_eq!(rt; gap(&core, user_page(&rt, 262_143)), Some(262_144));
+    assert_eq!(rt; gap(&core, user_page(&rt, 262_144)), Some(524_288));
     Ok(())
 }
 

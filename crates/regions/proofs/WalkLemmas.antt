@@ -1,13 +1,13 @@
 -- What is public of a list's map: where it is mapped, and what a walk over its runs finds.
-use Rattle.std.proofs.Common.{◌≡◌, ℕ, ◌+◌, ◌-◌, ◌^◌, ◌<◌, ◌≤◌, ⊎_elim, max, min, Bool, true, false, if◌then◌else◌, ltb, refl, sym, ◌∙◌, ap, subst, arith, List, [], ◌∷◌, Option, Some, None, IsSome, IfSome, IfNone, ltb-true, ltb-false}
+use Rattle.std.proofs.Common.{◌≡◌, ℕ, ◌+◌, ◌-◌, ◌^◌, ◌<◌, ◌≤◌, ◌&&◌, eq-eqb, ⊎_elim, max, min, Bool, true, false, if◌then◌else◌, ltb, refl, sym, ◌∙◌, ap, subst, arith, List, [], ◌∷◌, Option, Some, None, IsSome, IfSome, IfNone, ltb-true, ltb-false}
 use Rattle.vm_types.specs.declared.region.Attr.{Attr}
-use Rattle.vm_types.specs.Attributes.{attr_after, backing_fits}
+use Rattle.vm_types.specs.Attributes.{attr_after, attr_eq, backing_fits}
 use Rattle.vm_types.specs.Rows.{IsUserMap}
 use Rattle.regions.specs.declared.run.Run.{Run}
 use Rattle.regions.specs.Run.{IsRun, attr_in, cut}
-use Rattle.regions.specs.RunList.{or_else, attr_at, IsMaximal, IsNextRun}
+use Rattle.regions.specs.RunList.{or_else, attr_at, joins_first, IsMaximal, IsNextRun}
 use Rattle.regions.specs.Search.{first_part, run_or}
-use Rattle.regions.proofs.AttrLemmas.{backing_fits-after, backing_fits-less}
+use Rattle.regions.proofs.AttrLemmas.{attr_after-add, attr_after-zero, backing_fits-after, backing_fits-less}
 use Rattle.regions.proofs.RunLemmas.{lt_or_le, attr_in-inside, attr_in-below, attr_in-above, attr_in-cut, clipped-inside, changed-none, IsPart, cut-run}
 use Rattle.regions.proofs.ListLemmas.{attr_at-before}
 
@@ -58,8 +58,34 @@ abbrev pub IsNext : (ℕ → Option Attr) → ℕ → Option Run → Type 0
 IsNext map page None = (k : ℕ) → page ≤ k → map k ≡ None
 IsNext map page (Some run) = IsNextRun map page run
 
-next_here : (page : ℕ) (run : Run) (runs : List Run) → IsRun run → IsMaximal run.end runs → max run.first page < min run.end (2 ^ 26) → IsNextRun (attr_at (run ∷ runs)) page (cut None run (max run.first page) (min run.end (2 ^ 26)))
-next_here page run runs r rest h =
+some_attr : (a b : Attr) → Some a ≡ Some b → a ≡ b
+some_attr a b e = cc
+
+none_attr : (a : Attr) → None ≡ Some a → ⊥
+none_attr a e = cc
+
+-- where a run of the list ends, the next doesn't go on with it
+not_joined : (run : Run) (runs : List Run) (attr : Attr) → IsMaximal run.end runs → joins_first run runs ≡ false → attr_at runs run.end ≡ Some attr
+    → attr_eq (attr_after run.attr (run.end - run.first)) attr ≡ false
+not_joined run [] attr rest apart there = absurd (none_attr attr there)
+not_joined run (next ∷ runs) attr rest apart there =
+    ⊎_elim
+    (λ (behind : run.end < next.first). absurd (none_attr attr (sym (attr_at-before next.first (next ∷ runs) run.end (omega arith, rest.1, rest.2, rest.3) behind) ∙ there)))
+    (λ (here : next.first ≤ run.end).
+    let low : run.end ≤ next.first = rest.0 in
+    let some : next.first < next.end = rest.1.nonempty in
+    let e : run.end ≡ next.first = omega (arith, low, here) in
+    let none : run.end - next.first ≡ 0 = omega (arith, e) in
+    let is : attr_in next run.end ≡ Some next.attr =
+    attr_in-inside next run.end here (omega (arith, e, some)) ∙ ap (λ (n : ℕ). Some (attr_after next.attr n)) none ∙ ap (λ (a : Attr). Some a) (attr_after-zero next.attr) in
+    let same : next.attr ≡ attr = some_attr next.attr attr (sym (ap (λ (o : Option Attr). or_else o (attr_at runs run.end)) is) ∙ there) in
+    let P : Bool → Type 0 = λ b. (b && attr_eq (attr_after run.attr (run.end - run.first)) next.attr) ≡ false in
+    let Q : Attr → Type 0 = λ a. attr_eq (attr_after run.attr (run.end - run.first)) a ≡ false in
+    subst Q same (subst P (eq-eqb run.end next.first e) apart))
+    (lt_or_le run.end next.first)
+
+next_here : (page : ℕ) (run : Run) (runs : List Run) → IsRun run → joins_first run runs ≡ false → IsMaximal run.end runs → max run.first page < min run.end (2 ^ 26) → IsNextRun (attr_at (run ∷ runs)) page (cut None run (max run.first page) (min run.end (2 ^ 26)))
+next_here page run runs r apart rest h =
     let part : IsPart page (2 ^ 26) run (cut None run (max run.first page) (min run.end (2 ^ 26))) = cut-run page (2 ^ 26) None run r h in
     let high : run.end ≤ 2 ^ 26 = r.high in
     let low : 16 ≤ run.first = r.low in
@@ -79,6 +105,15 @@ next_here page run runs r rest h =
           ∙ sym (attr_in-cut page (2 ^ 26) None run k)
           ∙ attr_in-inside (cut None run (max run.first page) (min run.end (2 ^ 26))) k a b in
           ap (λ (o : Option Attr). or_else o (attr_at runs k)) same;
+      ends = λ attr there.
+          let end : min run.end (2 ^ 26) ≡ run.end = omega (arith, high) in
+          let behind : attr_at (run ∷ runs) run.end ≡ attr_at runs run.end = ap (λ (o : Option Attr). or_else o (attr_at runs run.end)) (attr_in-above run run.end (omega arith)) in
+          let at_end : attr_at runs run.end ≡ Some attr = sym behind ∙ ap (attr_at (run ∷ runs)) (sym end) ∙ there in
+          let count : (max run.first page - run.first) + (min run.end (2 ^ 26) - max run.first page) ≡ run.end - run.first = omega (arith, h, end) in
+          let long : attr_after (attr_after run.attr (max run.first page - run.first)) (min run.end (2 ^ 26) - max run.first page) ≡ attr_after run.attr (run.end - run.first) =
+          attr_after-add run.attr (max run.first page - run.first) (min run.end (2 ^ 26) - max run.first page) ∙ ap (attr_after run.attr) count in
+          let P : Attr → Type 0 = λ a. attr_eq a attr ≡ false in
+          subst P (sym long) (not_joined run runs attr rest apart at_end);
     }
 
 next_later : (page : ℕ) (run : Run) (runs : List Run) (next : Option Run) → run.end ≤ page → IsNext (attr_at runs) page next → IsNext (attr_at (run ∷ runs)) page next
@@ -92,11 +127,14 @@ next_later page run runs (Some next) h n =
       high = n.high;
       none_before = λ k a b. ap (λ (o : Option Attr). or_else o (attr_at runs k)) (attr_in-above run k (omega arith)) ∙ n.none_before k a b;
       mapped = λ k a b. ap (λ (o : Option Attr). or_else o (attr_at runs k)) (attr_in-above run k (omega arith)) ∙ n.mapped k a b;
+      ends = λ attr there. (
+          let some : next.first < next.end = n.nonempty in
+          n.ends attr (sym (ap (λ (o : Option Attr). or_else o (attr_at runs next.end)) (attr_in-above run next.end (omega arith))) ∙ there));
     }
 
-next_test : (page : ℕ) (run : Run) (runs : List Run) (b : Bool) → ltb (max run.first page) (min run.end (2 ^ 26)) ≡ b → IsRun run → IsMaximal run.end runs → IsNext (attr_at runs) page (first_part page runs) → IsNext (attr_at (run ∷ runs)) page (run_or (if b then Some (cut None run (max run.first page) (min run.end (2 ^ 26))) else None) (first_part page runs))
-next_test page run runs true e r rest n = next_here page run runs r rest (ltb-true (max run.first page) (min run.end (2 ^ 26)) e)
-next_test page run runs false e r rest n =
+next_test : (page : ℕ) (run : Run) (runs : List Run) (b : Bool) → ltb (max run.first page) (min run.end (2 ^ 26)) ≡ b → IsRun run → joins_first run runs ≡ false → IsMaximal run.end runs → IsNext (attr_at runs) page (first_part page runs) → IsNext (attr_at (run ∷ runs)) page (run_or (if b then Some (cut None run (max run.first page) (min run.end (2 ^ 26))) else None) (first_part page runs))
+next_test page run runs true e r apart rest n = next_here page run runs r apart rest (ltb-true (max run.first page) (min run.end (2 ^ 26)) e)
+next_test page run runs false e r apart rest n =
     let empty : min run.end (2 ^ 26) ≤ max run.first page = ltb-false (max run.first page) (min run.end (2 ^ 26)) e in
     let high : run.end ≤ 2 ^ 26 = r.high in
     let some : run.first < run.end = r.nonempty in
@@ -105,7 +143,7 @@ next_test page run runs false e r rest n =
 pub first_part-is : (from page : ℕ) (runs : List Run) → IsMaximal from runs → IsNext (attr_at runs) page (first_part page runs)
 first_part-is from page [] m = λ k a. refl
 first_part-is from page (run ∷ runs) m =
-    next_test page run runs (ltb (max run.first page) (min run.end (2 ^ 26))) refl m.1 m.3 (first_part-is run.end page runs m.3)
+    next_test page run runs (ltb (max run.first page) (min run.end (2 ^ 26))) refl m.1 m.2 m.3 (first_part-is run.end page runs m.3)
 
 pub next_none : (map : ℕ → Option Attr) (page : ℕ) (o : Option Run) → IsNext map page o → IfNone o ((k : ℕ) → page ≤ k → map k ≡ None)
 next_none map page None n = n

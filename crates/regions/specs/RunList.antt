@@ -2,7 +2,7 @@
 use Rattle.std.specs.Prelude.{ℕ, ◌-◌, ◌<◌, ◌^◌, ◌≡◌, ◌≤◌, Bool, false, if◌then◌else◌, List, [], ◌∷◌, Option, Some, None}
 use Rattle.vm_types.specs.declared.permission.Prot.{Prot}
 use Rattle.vm_types.specs.declared.region.Attr.{Attr}
-use Rattle.vm_types.specs.Attributes.{attr_after}
+use Rattle.vm_types.specs.Attributes.{attr_after, attr_eq}
 use Rattle.regions.specs.declared.run.Run.{Run}
 use Rattle.regions.specs.Run.{IsRun, attr_in, joins, joined, part_of}
 
@@ -21,7 +21,8 @@ abbrev pub joins_first : Run → List Run → Bool
 joins_first run [] = false
 joins_first run (next ∷ _) = joins run next
 
--- what a walk over mapped pages finds from a page on: no page is mapped before the run, and the run's are its own
+-- what a walk over mapped pages finds from a page on: no page is mapped before the run, the run's are its own, and behind it
+-- the map does not go on with it
 pub record IsNextRun (map : ℕ → Option Attr) (page : ℕ) (run : Run) : Type 0 where
   pub from : page ≤ run.first
   pub low : 16 ≤ run.first
@@ -29,6 +30,7 @@ pub record IsNextRun (map : ℕ → Option Attr) (page : ℕ) (run : Run) : Type
   pub high : run.end ≤ 2 ^ 26
   pub none_before : (k : ℕ) → page ≤ k → k < run.first → map k ≡ None
   pub mapped : (k : ℕ) → run.first ≤ k → k < run.end → map k ≡ Some (attr_after run.attr (k - run.first))
+  pub ends : (attr : Attr) → map run.end ≡ Some attr → attr_eq (attr_after run.attr (run.end - run.first)) attr ≡ false
 
 -- runs from a page on, in order, of which no two neighbours are one
 abbrev pub IsMaximal : ℕ → List Run → Type 0

@@ -111,9 +111,8 @@ impl Regions {
         run.at(page)
     }
 
-    /// The pages of one run that come first from `page` on, which may be the rest of a run: so a caller walks over
-    /// the mapped pages of a row in at most 256 steps, each a search by halves. `None` exactly where no page from
-    /// `page` on is mapped.
+    /// The pages of one run that come first from `page` on, to the run's end: so a caller walks over the mapped pages of a
+    /// row in at most 256 steps, each a search by halves. `None` exactly where no page from `page` on is mapped.
     pub fn next_run(&self, page: u64) -> Option<Run>
         ensures none { IfNone result ((k : ℕ) → page ≤ k → attr_at self.now k ≡ None) }
         ensures some { IfSome result (IsNextRun (attr_at self.now) page) }

@@ -1,5 +1,7 @@
 -- What the calls of this layer leave.
-use Rattle.std.specs.Prelude.{◌≡◌, ◌≢◌, ℕ, false, None}
+use Rattle.std.specs.Prelude.{◌≡◌, ◌≢◌, ℕ, ◌+◌, false, None, Result, OnOk, OnErr, IfErr}
+use Rattle.vm_types.specs.declared.refusal.Stall.{Stall}
+use Rattle.vm_types.specs.declared.refusal.Stall.TheVariants.{NoFrames}
 use Rattle.vm_types.specs.declared.file.FilePage.{FilePage}
 use Rattle.disk_model.specs.Stop.{Image}
 use Rattle.frames.specs.declared.role.Role.TheVariants.{Free}
@@ -8,6 +10,7 @@ use Rattle.page_cache.specs.CacheTable.{slot_count}
 use Rattle.page_cache.specs.declared.place.Place.TheVariants.{Home}
 use Rattle.residency.specs.declared.kernel.Core.{Core}
 use Rattle.residency.specs.Picture.{Picture, picture_of, view, volatile}
+use Rattle.residency.specs.Steps.{TakesOwn}
 
 -- so many frames, all free but the zero page, room for so many slots, no process, and every file page at home and untouched
 pub record IsStart {D E : Type 0} (c : Core D E) (frames slots : ℕ) : Type 0 where
@@ -54,3 +57,23 @@ pub record KeepsRest {D E : Type 0} (old new : Core D E) : Type 0 where
   pub roots : new.roots ≡ old.roots
   pub regions : new.regions ≡ old.regions
   pub page_of : new.page_of ≡ old.page_of
+
+-- a call that asks for frames stalls for the want of one alone, and the refused requests are counted
+pub record Stalls {D E T : Type 0} (old new : Core D E) (result : Result T Stall) : Type 0 where
+  pub stall : IfErr result (λ stall. stall ≡ NoFrames)
+  pub not_refused : OnOk result (new.refused.number ≡ old.refused.number)
+  pub refused : OnErr result (new.refused.number ≡ old.refused.number + 1)
+
+-- a frame was obtained, and taken for one page
+pub record ObtainsOwn (old new : Picture) (n page : ℕ) : Type 0 where
+  pub found : Picture
+  pub used : KeepsUsed old found
+  pub own : TakesOwn found new n page
+
+-- all but the frames, the pages at which processes have them, and the count of refused requests is as it was
+pub record KeepsAround {D E : Type 0} (old new : Core D E) : Type 0 where
+  pub store : new.store ≡ old.store
+  pub swap : new.swap ≡ old.swap
+  pub cache : new.cache ≡ old.cache
+  pub roots : new.roots ≡ old.roots
+  pub regions : new.regions ≡ old.regions

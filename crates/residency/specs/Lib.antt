@@ -4,3 +4,4 @@ pub mod Calls
 pub mod Room
 pub mod Steps
 pub mod Shows
+pub mod Sound

@@ -18,14 +18,6 @@ use Rattle.page_cache.specs.CacheTable as CacheTable
 use Rattle.residency.specs.declared.kernel.Core.{Core}
 use Rattle.residency.specs.Picture.{Picture, entry, is_private, holders}
 
-module _ {D E : Type 0} where
-  -- each list has its length, and frames and cache are of one memory
-  pub record IsSized (c : Core D E) : Type 0 where
-    pub roots : length c.roots.items ≡ 65
-    pub regions : length c.regions.items ≡ 65
-    pub pages : length c.page_of.items ≡ frame_count c.frames
-    pub nodes : CacheTable.frame_count c.cache ≡ frame_count c.frames
-
 -- d where the frame is n, else nothing
 abbrev pub off : ℕ → ℕ → ℕ → ℕ
 off n d m = if m == n then d else 0

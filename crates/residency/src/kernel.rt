@@ -1,6 +1,9 @@
 //! The values under all calls.
 ghost use Rattle.std.specs.Prelude.{◌≡◌, ◌≤◌, IfOk, IfErr, length};
+ghost use Rattle.frames.specs.FrameTable.{IsSound, frame_count};
+ghost use Rattle.page_cache.specs.CacheTable as CacheTable;
 ghost use Rattle.residency.specs.Room.{HasNoRoots};
+ghost use Rattle.residency.specs.Sound.{IsSound-prop};
 
 use disk_model::Count;
 use file_store::FileStore;
@@ -13,8 +16,9 @@ use vm_types::{FrameNo, PROCESSES};
 /// The places for processes: a process has the place of its number, and place 0 stays free.
 pub const PLACES: usize = PROCESSES + 1;
 
-/// Files, memory and processes, over a store device `D` and a swap device `E`. What holds of it between two calls is said
-/// by `IsSized` and `IsFit`; a function may break `IsFit` on its way.
+/// Files, memory and processes, over a store device `D` and a swap device `E`. How much of each there is, and that
+/// the table of frames is sound, always holds. What else holds between two calls is said by `IsFit`; a function may break that
+/// on its way.
 #[derive(Drop)]
 pub struct Core<D, E> {
     /// The files, as they stand on their device.
@@ -30,14 +34,19 @@ pub struct Core<D, E> {
     /// The regions of each live process. Those at the place of another process number mean nothing.
     pub regions: Vec<Regions>,
     /// The page at which its processes have each private frame. What stands for another frame means nothing.
-    pub page_of: Vec<u32>,
+    pub(crate) page_of: Vec<u32>,
     /// How often `obtain` has refused a frame, for contracts alone. Nobody else can raise it.
     pub(crate) refused: Count,
+    pub ghost sound: { IsSound frames } by { IsSound-prop frames },
+    pub ghost root_count: { length roots.items ≡ 65 },
+    pub ghost region_count: { length regions.items ≡ 65 },
+    pub ghost page_count: { length page_of.items ≡ frame_count frames },
+    pub ghost node_count: { CacheTable.frame_count cache ≡ frame_count frames },
 }
 
 impl<D, E> Core<D, E> {
     ghost use Rattle.residency.specs.Picture.{picture_of};
-    ghost use Rattle.residency.specs.Parts.{IsSized, IsFit};
+    ghost use Rattle.residency.specs.Parts.{IsFit};
     ghost use Rattle.residency.specs.Calls.{IsStart};
 
     /// Files, `frames` frames of memory, 8 to 65,536, and room for 64 processes and for `slots` slots of swap, at most
@@ -57,7 +66,6 @@ impl<D, E> Core<D, E> {
         requires least_frames { 8 ≤ frames }
         requires most_frames { frames ≤ 65536 }
         requires most_slots { slots ≤ 65536 }
-        ensures sized { IfOk result IsSized }
         ensures fit { IfOk result (λ core. IsFit (picture_of core)) }
         ensures start { IfOk result (λ core. IsStart core frames slots) }
         ensures store { IfOk result (λ core. core.store ≡ store) }

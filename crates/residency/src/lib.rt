@@ -4,6 +4,7 @@
 
 mod kernel;
 mod obtaining;
+mod steps;
 #[cfg(test)]
 mod tests;
 

@@ -3,8 +3,8 @@ ghost use Rattle.std.specs.Prelude.{◌≡◌, ◌+◌, ◌↔◌, IsErr, IfOk, 
 ghost use Rattle.vm_types.specs.declared.refusal.Stall.TheVariants.{NoFrames};
 ghost use Rattle.frames.specs.FrameTable.{IsFull};
 ghost use Rattle.residency.specs.Picture.{picture_of};
-ghost use Rattle.residency.specs.Parts.{IsSized, IsSteady};
-ghost use Rattle.residency.specs.Calls.{IsFreeFrame, KeepsPages, KeepsUsed, KeepsRest};
+ghost use Rattle.residency.specs.Parts.{IsSteady};
+ghost use Rattle.residency.specs.Calls.{Stalls, IsFreeFrame, KeepsPages, KeepsUsed, KeepsRest};
 
 use crate::kernel::Core;
 use vm_types::{FrameNo, Stall};
@@ -14,19 +14,15 @@ use vm_types::{FrameNo, Stall};
 /// # Errors
 /// `NoFrames` exactly where no frame is free: nothing is evicted yet. No other stall comes.
 pub fn obtain<D, E>(core: &mut Core<D, E>, _keep: Option<FrameNo>) -> Result<FrameNo, Stall>
-    requires sized { IsSized core.old }
     requires steady { IsSteady (picture_of core.old) }
-    ensures sized { IsSized core.new }
     ensures steady { IsSteady (picture_of core.new) }
     ensures pages { KeepsPages (picture_of core.old) (picture_of core.new) }
     ensures used { KeepsUsed (picture_of core.old) (picture_of core.new) }
     ensures rest { KeepsRest core.old core.new }
     ensures kept { core.new.frames ≡ core.old.frames }
     ensures free { IfOk result (λ n. IsFreeFrame core.new.frames n.0) }
-    ensures stall { IfErr result (λ stall. stall ≡ NoFrames) }
+    ensures stalls { Stalls core.old core.new result }
     ensures none_free { IsErr result ↔ IsFull core.old.frames }
-    ensures not_refused { OnOk result (core.new.refused.number ≡ core.old.refused.number) }
-    ensures refused { OnErr result (core.new.refused.number ≡ core.old.refused.number + 1) }
 {
     match core.frames.next_free() {
         Some(n) => Ok(n),

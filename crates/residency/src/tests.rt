@@ -1,6 +1,6 @@
 //! Memory over devices in memory.
 ghost use Rattle.std.specs.Prelude.{◌≡◌, ◌≢◌, ◌≤◌, ℕ, IfOk, None};
-ghost use Rattle.residency.specs.Parts.{IsFit, IsSized, IsSteady};
+ghost use Rattle.residency.specs.Parts.{IsFit, IsSteady};
 ghost use Rattle.residency.specs.Picture.{picture_of};
 
 use crate::{Core, obtain};
@@ -38,7 +38,6 @@ fn opened(disk: SimDisk) -> Result<FileStore<SimDisk>, OpenFault>
 
 // Memory of 8 frames, without swap.
 fn made(alloc: Global, store: FileStore<SimDisk>) -> Result<Core<SimDisk, SimDisk>, AllocError>
-    ensures sized { IfOk result IsSized }
     ensures fit { IfOk result (λ core. IsFit (picture_of core)) }
     ensures none { IfOk result (λ core. (pid : ℕ) → (picture_of core).root pid ≡ None) }
 {
@@ -51,17 +50,13 @@ fn made(alloc: Global, store: FileStore<SimDisk>) -> Result<Core<SimDisk, SimDis
 
 // A process of that number, without a page.
 fn spawn<D, E>(core: &mut Core<D, E>, pid: usize) -> Result<(), Stall>
-    requires sized { IsSized core.old }
     requires steady { IsSteady (picture_of core.old) }
     requires number { (1 ≤ pid) × (pid ≤ 64) }
     requires dead { (picture_of core.old).root pid ≡ None }
-    ensures sized { IsSized core.new }
     ensures steady { IsSteady (picture_of core.new) }
     ensures others { (q : ℕ) → q ≢ pid → (picture_of core.new).root q ≡ (picture_of core.old).root q }
 {
     obtain(core, None)?;
-    // (brings in that the table of frames is sound)
-    let _ = core.frames.len();
     match take_table(&mut core.frames) {
         Ok(root) => {
             core.roots[pid] = Some(root);

@@ -1,5 +1,5 @@
 -- A file written out page by page.
-use Rattle.std.proofs.Common.{◌≡◌, ℕ, zero, suc, ◌+◌, ◌-◌, ◌*◌, ◌<◌, ◌≤◌, List, ◌++◌, length, take, drop, min, Option, Some, None, refl, sym, ap, ◌∙◌, inr, ⊎_elim, arith, append_assoc, length-append, length-take}
+use Rattle.std.proofs.Common.{◌≡◌, ℕ, zero, suc, ◌+◌, ◌-◌, ◌*◌, ◌<◌, ◌≤◌, List, ◌++◌, length, take, drop, min, Option, Some, None, refl, sym, ap, ◌∙◌, inl, inr, ⊎_elim, arith, append_assoc, length-append, length-take}
 use Rattle.std.proofs.lemmas.Bool.{cases_lt}
 use Rattle.std.proofs.lemmas.List.{take_all, take-take, drop-take, take-append-le, drop-append-le, drop_at, length-drop}
 use Rattle.std.proofs.lemmas.Option.{same_Some, none-some}
@@ -8,17 +8,31 @@ use Rattle.std.specs.Option.{option_map}
 use Rattle.std.specs.Io.KnownBytes.{Appends}
 use Rattle.std.proofs.KnownBytes.{Appends-trans}
 use Rattle.disk_model.specs.Stop.{Image}
-use Rattle.disk_model.specs.Moments.{Touches, Nothing, LeavesNow}
+use Rattle.disk_model.specs.Moments.{Touches, Nothing, LeavesNow, LeavesOnly}
+use Rattle.disk_model.proofs.Moments.{goes_on}
 use Rattle.disk_model.specs.declared.sector_disk.SectorDisk.{Ghosts}
 use Rattle.vm_types.specs.declared.file.FileInfo.{FileInfo}
-use Rattle.sync_journal.specs.Standing.{standing}
+use Rattle.sync_journal.specs.Standing.{standing, joined}
 use Rattle.file_store.specs.declared.directory.Entry.{Entry}
+use Rattle.file_store.specs.declared.faults.OpenFault.{OpenFault}
 use Rattle.file_store.specs.declared.store.FileStore.{FileStore}
-use Rattle.file_store.specs.Layout.{joined, page_count, bytes_inside}
+use Rattle.file_store.specs.Layout.{page_count, bytes_inside}
 use Rattle.file_store.specs.Standing.{StandsFor, StandsAs, bytes_of_pages, directory_entry, file_info, standing_page, page_standing, standing_file}
-use Rattle.file_store.specs.Store.{IsReady, files_of, entry_of}
+use Rattle.file_store.specs.Store.{IsReadyStore, files_of, entry_of}
 use Rattle.runner.specs.Bytes.{WritesBeginning}
-use Rattle.file_store.proofs.Pieces.{joined-none, joined-same, joined-more, length-trimmed}
+use Rattle.sync_journal.proofs.Pieces.{joined-none, joined-same, joined-more}
+use Rattle.file_store.proofs.Pieces.{length-trimmed}
+use Rattle.runner.specs.declared.programs.showing.ShowFault.{ShowFault}
+use Rattle.runner.specs.declared.programs.showing.ShowFault.TheVariants.{Open as OpenFailed}
+
+-- why an image could not be opened, or another fault where it was
+opened_with : OpenFault → ShowFault → OpenFault
+opened_with other (OpenFailed fault) = fault
+opened_with other _ = other
+
+pub same_open : (fault other : OpenFault) → OpenFailed fault ≡ OpenFailed other → fault ≡ other
+unfolding opened_with
+same_open fault other is = ap (opened_with fault) is
 
 -- pages of 4,096 bytes each
 pub record AreWhole (pages : ℕ → List ℕ) : Type 0 where
@@ -108,7 +122,7 @@ module _ {D : Type 0} (g : Ghosts D) where
   same_content old new run = λ t k. (⊎_elim (λ (none : ⊥). absurd none) (λ (e : g.content new k ≡ g.content old k). e) (run.content k)) t
 
   -- the bytes of a file of an open store
-  pub standing_bytes : (store : FileStore D) (f : ℕ) (info : FileInfo) (bytes : List ℕ) → IsReady g store → g.keeps_model store.disk → files_of store f ≡ Some info
+  pub standing_bytes : (store : FileStore D) (f : ℕ) (info : FileInfo) (bytes : List ℕ) → IsReadyStore g store → g.keeps_model store.disk → files_of store f ≡ Some info
       → standing_file (g.content store.disk) f ≡ Some bytes → (bytes ≡ bytes_of_pages (standing_page (g.content store.disk) f) info) × AreWhole (standing_page (g.content store.disk) f)
   standing_bytes store f info bytes ready keeps file is =
       let image = g.content store.disk in
@@ -118,7 +132,7 @@ module _ {D : Type 0} (g : Ghosts D) where
       (same_Some bytes (bytes_of_pages (standing_page image f) info) (sym is ∙ ap (option_map (bytes_of_pages (standing_page image f))) facts), whole_entry image f entry.0 entry.1)
 
   -- how the bytes of a page continue those of the pages before
-  pub next_piece : (store : FileStore D) (mid : D) (f k length : ℕ) (info : FileInfo) (bytes : List ℕ) → IsReady g store → g.keeps_model store.disk → files_of store f ≡ Some info → info.length ≡ length
+  pub next_piece : (store : FileStore D) (mid : D) (f k length : ℕ) (info : FileInfo) (bytes : List ℕ) → IsReadyStore g store → g.keeps_model store.disk → files_of store f ≡ Some info → info.length ≡ length
       → standing_file (g.content store.disk) f ≡ Some bytes → Touches g Nothing store.disk mid → 4096 * k < length
       → take (4096 * (k + 1)) bytes ≡ take (4096 * k) bytes ++ take (min 4096 (length - 4096 * k)) (standing_page (g.content mid) f k)
   next_piece store mid f k length info bytes ready keeps file size is run inside =
@@ -131,7 +145,7 @@ module _ {D : Type 0} (g : Ghosts D) where
       ∙ ap (λ (n : ℕ). take (4096 * k) bytes ++ take (min 4096 (n - 4096 * k)) (standing_page (g.content mid) f k)) size
 
   -- all pages were written
-  pub all_pages : (store : FileStore D) (f k : ℕ) (info : FileInfo) (bytes : List ℕ) → IsReady g store → g.keeps_model store.disk → files_of store f ≡ Some info
+  pub all_pages : (store : FileStore D) (f k : ℕ) (info : FileInfo) (bytes : List ℕ) → IsReadyStore g store → g.keeps_model store.disk → files_of store f ≡ Some info
       → standing_file (g.content store.disk) f ≡ Some bytes → page_count info.length ≤ k → take (4096 * k) bytes ≡ bytes
   all_pages store f k info bytes ready keeps file is past =
       let known = standing_bytes store f info bytes ready keeps file is in
@@ -139,7 +153,7 @@ module _ {D : Type 0} (g : Ghosts D) where
       ap (take (4096 * k)) known.0 ∙ all_bytes pages info k past ∙ sym known.0
 
   -- what an image stood for before its store was opened is what is read of it
-  pub opened_bytes : (old : D) (store : FileStore D) (n f : ℕ) (info : FileInfo) → IsReady g store → g.keeps_model store.disk → LeavesNow g store.disk (StandsAs n (g.content old))
+  pub opened_bytes : (old : D) (store : FileStore D) (n f : ℕ) (info : FileInfo) → IsReadyStore g store → g.keeps_model store.disk → LeavesNow g store.disk (StandsAs n (g.content old))
       → files_of store f ≡ Some info → (files : ℕ → Option FileInfo) (pages : ℕ → ℕ → List ℕ) → StandsFor n files pages (g.content old)
       → (files f ≡ Some info) × (standing_file (g.content store.disk) f ≡ Some (bytes_of_pages (pages f) info))
   opened_bytes old store n f info ready keeps now file files pages stood =
@@ -156,3 +170,16 @@ module _ {D : Type 0} (g : Ghosts D) where
     where
       inside : (info : FileInfo) (k : ℕ) → k < page_count info.length → 4096 * k < info.length
       inside info k lt = omega (arith, lt)
+
+  -- a store that was just opened has the files that its device stood for
+  pub opened_info : (old : D) (store : FileStore D) (n f : ℕ) → IsReadyStore g store → g.keeps_model store.disk → LeavesNow g store.disk (StandsAs n (g.content old))
+      → (files : ℕ → Option FileInfo) (pages : ℕ → ℕ → List ℕ) → StandsFor n files pages (g.content old) → files_of store f ≡ files f
+  opened_info old store n f ready keeps now files pages stood =
+      let image = g.content store.disk in
+      let stands = now image (record { kept = λ k. inr refl }) files pages stood in
+      ap (option_map (λ e. e.info)) ((ready.at_rest keeps).directory f) ∙ stands.facts f
+
+  -- what is only read goes on standing for what it did
+  pub still_stands : (old mid new : D) (P : Image → Type 0) → LeavesOnly g old mid P → LeavesNow g mid P → Touches g Nothing mid new → LeavesOnly g old new P
+  still_stands old mid new P opened now run =
+      goes_on g Nothing old mid new P opened run (λ c may. now c (record { kept = λ k. ⊎_elim (λ u. ⊎_elim (λ o. inl o) (λ none. absurd none) u) (λ e. inr e) (may.kept k) }))

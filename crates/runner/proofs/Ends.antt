@@ -1,7 +1,7 @@
 -- How a run ends, after what it did before.
-use Rattle.std.proofs.Common.{◌≡◌, ◌≢◌, ℕ, ◌≤◌, List, [], ◌∷◌, ◌++◌, length, refl, sym, ap, subst, ◌∙◌, append_assoc, append-nil, arith, Option}
+use Rattle.std.proofs.Common.{◌≡◌, ◌≢◌, ℕ, ◌≤◌, List, [], ◌∷◌, ◌++◌, length, refl, sym, ap, subst, ◌∙◌, append_assoc, append-nil, arith, Option, inl, inr}
 use Rattle.std.proofs.lemmas.List.{length-take}
-use Rattle.std.specs.Io.KnownBytes.{Appends}
+use Rattle.std.specs.Io.KnownBytes.{Appends, IsAtEnd}
 use Rattle.std.proofs.KnownBytes.{Appends-trans, Appends-nil}
 use Rattle.disk_model.specs.declared.sector_disk.SectorDisk.{Ghosts}
 use Rattle.machine.specs.declared.machine.Machine.{Machine}
@@ -10,10 +10,10 @@ use Rattle.runner.specs.declared.engine.RunEnd.{RunEnd}
 use Rattle.runner.specs.declared.engine.RunEnd.TheVariants.{Done, ReadFault, WriteFault}
 use Rattle.runner.specs.Bytes.{WritesBeginning}
 use Rattle.runner.specs.Session.{Answers, CarriesOut}
-use Rattle.runner.specs.Progress.{Stage, stage, IsKept, RunsLast, GoesOn, BreaksOff, Ends}
+use Rattle.runner.specs.Progress.{Stage, stage, IsKept, Reads, RunsLast, Fails, GoesOn, BreaksOff, Ends}
 use Rattle.runner.proofs.Lines.{lines_of-cut, lines_of-unfinished, Cuts-none}
 use Rattle.runner.proofs.Session.{answers_line, CarriesOut-one, CarriesOut-append}
-use Rattle.runner.proofs.Progress.{Advances-trans, wrote_beginning}
+use Rattle.runner.proofs.Progress.{Advances-trans, breaks_later, wrote_beginning}
 
 -- an open line of which something is kept is a line of the trace
 pub lines_of-open : (kept open_line : List ℕ) → IsKept kept open_line → length kept ≢ 0 → lines_of open_line ≡ open_line ∷ []
@@ -63,51 +63,43 @@ module _ {D E : Type 0} (g : Ghosts D) (h : Ghosts E) where
 
   pub finishes : (old new : Machine D E) (kept pending more left : List ℕ) (held held_then : Option (List ℕ))
       → ((open_line : List ℕ) → IsKept kept open_line → RunsLast g h old new open_line pending more) → Appends held held_then more
-      → Ends g h Done (stage old kept pending held) (stage new kept left held_then) []
-  finishes old new kept pending more left held held_then last wrote open_line begun =
-      let runs = last open_line begun in
-      record {
-        text = runs.text;
-        runs = subst (λ l. CarriesOut g h old (lines_of l) runs.text new) (sym (append-nil open_line)) runs.runs;
-        wrote = subst (Appends held held_then) runs.sent wrote;
-      }
+      → (remaining : Option (List ℕ)) → IsAtEnd remaining → Ends g h Done remaining (stage old kept pending held) (stage new kept left held_then) []
+  finishes old new kept pending more left held held_then last wrote remaining all open_line begun =
+      let runs = last open_line begun in (
+        all,
+        record {
+          text = runs.text;
+          runs = subst (λ l. CarriesOut g h old (lines_of l) runs.text new) (sym (append-nil open_line)) runs.runs;
+          wrote = subst (Appends held held_then) runs.sent wrote;
+        },
+      )
 
   pub finishes_badly : (old new : Machine D E) (kept pending more left : List ℕ) (held held_then : Option (List ℕ))
       → ((open_line : List ℕ) → IsKept kept open_line → RunsLast g h old new open_line pending more) → WritesBeginning held held_then more
-      → Ends g h WriteFault (stage old kept pending held) (stage new kept left held_then) []
-  finishes_badly old new kept pending more left held held_then last wrote open_line begun =
+      → (remaining : Option (List ℕ)) → IsAtEnd remaining → Ends g h WriteFault remaining (stage old kept pending held) (stage new kept left held_then) []
+  finishes_badly old new kept pending more left held held_then last wrote remaining all open_line begun =
       let runs = last open_line begun in
-      record {
-        lines = lines_of open_line;
-        text = runs.text;
-        first = ([], ap lines_of (append-nil open_line) ∙ sym (append-nil (lines_of open_line)));
-        runs = runs.runs;
-        wrote = subst (WritesBeginning held held_then) runs.sent wrote;
-      }
+      inr (
+        all,
+        record {
+          text = runs.text;
+          runs = subst (λ l. CarriesOut g h old (lines_of l) runs.text new) (sym (append-nil open_line)) runs.runs;
+          wrote = subst (WritesBeginning held held_then) runs.sent wrote;
+        },
+      )
 
   -- the reader failed where nothing is pending
-  pub stops_here : (machine : Machine D E) (kept pending left : List ℕ) (held : Option (List ℕ)) → pending ≡ []
-      → Ends g h ReadFault (stage machine kept pending held) (stage machine kept left held) []
-  stops_here machine kept pending left held none open_line begun = record {
+  pub stops_here : (remaining : Option (List ℕ)) (machine : Machine D E) (kept pending left : List ℕ) (held : Option (List ℕ)) → pending ≡ []
+      → Ends g h ReadFault remaining (stage machine kept pending held) (stage machine kept left held) []
+  stops_here remaining machine kept pending left held none open_line begun = record {
     text = [];
     rest = open_line;
     advances = record { lines = []; cuts = Cuts-none open_line begun.unfinished; runs = (refl, refl) };
     wrote = subst (Appends held held) (sym (append-nil pending ∙ none)) (Appends-nil held);
   }
 
-  pub break_ends : (old new : Stage D E) (bytes : List ℕ) → BreaksOff g h old new bytes → Ends g h WriteFault old new bytes
-  break_ends old new bytes broke open_line begun =
-      let b = broke open_line begun in
-      record {
-        lines = b.advances.lines;
-        text = b.text;
-        first = (
-          lines_of (b.rest ++ b.more),
-          ap (λ l. lines_of (open_line ++ l)) b.split ∙ lines_of-more open_line b.front b.more b.advances.lines b.rest b.advances.cuts,
-        );
-        runs = b.advances.runs;
-        wrote = b.wrote;
-      }
+  pub break_ends : (remaining : Option (List ℕ)) (old new : Stage D E) (bytes : List ℕ) → BreaksOff g h old new bytes → Ends g h WriteFault remaining old new bytes
+  break_ends remaining old new bytes broke open_line begun = inl (broke open_line begun)
 
   -- what was pending is written out
   pub written_out : (old : Stage D E) (machine : Machine D E) (kept pending left : List ℕ) (held held_then : Option (List ℕ)) (bytes : List ℕ)
@@ -127,18 +119,16 @@ module _ {D E : Type 0} (g : Ghosts D) (h : Ghosts E) where
 
   pub not_written_out : (old : Stage D E) (machine : Machine D E) (kept pending left : List ℕ) (held held_then : Option (List ℕ)) (bytes : List ℕ)
       → GoesOn g h old (stage machine kept pending held) bytes → WritesBeginning held held_then pending
-      → Ends g h WriteFault old (stage machine kept left held_then) bytes
+      → BreaksOff g h old (stage machine kept left held_then) bytes
   not_written_out old machine kept pending left held held_then bytes reads wrote open_line begun =
       let r = reads open_line begun in
       record {
-        lines = r.advances.lines;
         text = r.text;
-        first = (
-          lines_of (r.rest ++ []),
-          ap (λ l. lines_of (open_line ++ l)) (sym (append-nil bytes))
-              ∙ lines_of-more open_line bytes [] r.advances.lines r.rest r.advances.cuts,
-        );
-        runs = r.advances.runs;
+        rest = r.rest;
+        front = bytes;
+        more = [];
+        split = sym (append-nil bytes);
+        advances = r.advances;
         wrote = (
           r.written ++ wrote.0,
           Appends-trans old.held held held_then r.written wrote.0 r.wrote wrote.1,
@@ -146,18 +136,33 @@ module _ {D E : Type 0} (g : Ghosts D) (h : Ghosts E) where
         );
       }
 
-  pub ends_after : (end : RunEnd) (old mid new : Stage D E) (bytes more : List ℕ) → GoesOn g h old mid bytes → Ends g h end mid new more → Ends g h end old new (bytes ++ more)
-  ends_after Done old mid new bytes more p q open_line begun =
+  -- the writer failed at the end of the reader
+  fails_after : (old mid new : Stage D E) (bytes more open_line : List ℕ) → (first : Reads g h old mid bytes open_line) → Fails g h mid new more first.rest
+      → Fails g h old new (bytes ++ more) open_line
+  fails_after old mid new bytes more open_line first second = record {
+    text = first.text ++ second.text;
+    runs = subst (λ ls. CarriesOut g h old.machine ls (first.text ++ second.text) new.machine)
+        (sym (lines_of-more open_line bytes more first.advances.lines first.rest first.advances.cuts))
+        (CarriesOut-append g h old.machine mid.machine new.machine first.advances.lines (lines_of (first.rest ++ more)) first.text second.text first.advances.runs second.runs);
+    wrote = wrote_beginning old.held mid.held new.held old.pending first.text first.written mid.pending second.text first.sent first.wrote second.wrote;
+  }
+
+  pub ends_after : (end : RunEnd) (remaining : Option (List ℕ)) (old mid new : Stage D E) (bytes more : List ℕ)
+      → GoesOn g h old mid bytes → Ends g h end remaining mid new more → Ends g h end remaining old new (bytes ++ more)
+  ends_after Done remaining old mid new bytes more p q open_line begun =
       let first = p open_line begun in
-      let second = q first.rest first.kept in
-      record {
-        text = first.text ++ second.text;
-        runs = subst (λ ls. CarriesOut g h old.machine ls (first.text ++ second.text) new.machine)
-            (sym (lines_of-more open_line bytes more first.advances.lines first.rest first.advances.cuts))
-            (CarriesOut-append g h old.machine mid.machine new.machine first.advances.lines (lines_of (first.rest ++ more)) first.text second.text first.advances.runs second.runs);
-        wrote = wrote_all old.held mid.held new.held old.pending first.text first.written mid.pending second.text first.sent first.wrote second.wrote;
-      }
-  ends_after ReadFault old mid new bytes more p q open_line begun =
+      let ended = q first.rest first.kept in
+      let second = ended.1 in (
+        ended.0,
+        record {
+          text = first.text ++ second.text;
+          runs = subst (λ ls. CarriesOut g h old.machine ls (first.text ++ second.text) new.machine)
+              (sym (lines_of-more open_line bytes more first.advances.lines first.rest first.advances.cuts))
+              (CarriesOut-append g h old.machine mid.machine new.machine first.advances.lines (lines_of (first.rest ++ more)) first.text second.text first.advances.runs second.runs);
+          wrote = wrote_all old.held mid.held new.held old.pending first.text first.written mid.pending second.text first.sent first.wrote second.wrote;
+        },
+      )
+  ends_after ReadFault remaining old mid new bytes more p q open_line begun =
       let first = p open_line begun in
       let second = q first.rest first.kept in
       record {
@@ -166,27 +171,22 @@ module _ {D E : Type 0} (g : Ghosts D) (h : Ghosts E) where
         advances = Advances-trans g h old.machine mid.machine new.machine open_line bytes more first.text second.text first.rest second.rest first.advances second.advances;
         wrote = wrote_all old.held mid.held new.held old.pending first.text first.written mid.pending second.text first.sent first.wrote second.wrote;
       }
-  ends_after WriteFault old mid new bytes more p q open_line begun =
+  ends_after WriteFault remaining old mid new bytes more p q open_line begun =
       let first = p open_line begun in
-      let second = q first.rest first.kept in
-      record {
-        lines = first.advances.lines ++ second.lines;
-        text = first.text ++ second.text;
-        first = (
-          second.first.0,
-          lines_of-more open_line bytes more first.advances.lines first.rest first.advances.cuts
-              ∙ ap (λ ls. first.advances.lines ++ ls) second.first.1 ∙ sym (append_assoc first.advances.lines second.lines second.first.0),
-        );
-        runs = CarriesOut-append g h old.machine mid.machine new.machine first.advances.lines second.lines first.text second.text first.advances.runs second.runs;
-        wrote = wrote_beginning old.held mid.held new.held old.pending first.text first.written mid.pending second.text first.sent first.wrote second.wrote;
-      }
+      elim (q first.rest first.kept) [
+        | inl second ↦ inl (breaks_later g h old mid new bytes more open_line first second)
+        | inr ended ↦ inr (ended.0, fails_after old mid new bytes more open_line first ended.1)
+      ]
 
   -- of what it leaves, a run's end knows the machine and the writer alone
-  pub ends_alike : (end : RunEnd) (old : Stage D E) (machine : Machine D E) (kept other_kept left other_left : List ℕ) (held : Option (List ℕ)) (bytes : List ℕ)
-      → Ends g h end old (stage machine kept left held) bytes → Ends g h end old (stage machine other_kept other_left held) bytes
-  ends_alike Done old machine kept other_kept left other_left held bytes p open_line begun =
-      let e = p open_line begun in record { text = e.text; runs = e.runs; wrote = e.wrote }
-  ends_alike ReadFault old machine kept other_kept left other_left held bytes p open_line begun =
+  pub ends_alike : (end : RunEnd) (remaining : Option (List ℕ)) (old : Stage D E) (machine : Machine D E) (kept other_kept left other_left : List ℕ) (held : Option (List ℕ)) (bytes : List ℕ)
+      → Ends g h end remaining old (stage machine kept left held) bytes → Ends g h end remaining old (stage machine other_kept other_left held) bytes
+  ends_alike Done remaining old machine kept other_kept left other_left held bytes p open_line begun =
+      let e = p open_line begun in (e.0, record { text = e.1.text; runs = e.1.runs; wrote = e.1.wrote })
+  ends_alike ReadFault remaining old machine kept other_kept left other_left held bytes p open_line begun =
       let e = p open_line begun in record { text = e.text; rest = e.rest; advances = e.advances; wrote = e.wrote }
-  ends_alike WriteFault old machine kept other_kept left other_left held bytes p open_line begun =
-      let e = p open_line begun in record { lines = e.lines; text = e.text; first = e.first; runs = e.runs; wrote = e.wrote }
+  ends_alike WriteFault remaining old machine kept other_kept left other_left held bytes p open_line begun =
+      elim (p open_line begun) [
+        | inl e ↦ inl (record { text = e.text; rest = e.rest; front = e.front; more = e.more; split = e.split; advances = e.advances; wrote = e.wrote })
+        | inr e ↦ inr (e.0, record { text = e.1.text; runs = e.1.runs; wrote = e.1.wrote })
+      ]

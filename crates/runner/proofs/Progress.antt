@@ -9,7 +9,7 @@ use Rattle.disk_model.specs.declared.sector_disk.SectorDisk.{Ghosts}
 use Rattle.machine.specs.declared.machine.Machine.{Machine}
 use Rattle.runner.specs.Bytes.{WritesBeginning}
 use Rattle.runner.specs.Session.{Answers}
-use Rattle.runner.specs.Progress.{Stage, stage, IsKept, Advances, GoesOn, BreaksOff}
+use Rattle.runner.specs.Progress.{Stage, stage, IsKept, Advances, Reads, Breaks, GoesOn, BreaksOff}
 use Rattle.runner.proofs.Lines.{Cuts-trans, Cuts-none, Cuts-byte, Cuts-newline}
 use Rattle.runner.proofs.Session.{answers_line, CarriesOut-one, CarriesOut-append}
 
@@ -146,19 +146,22 @@ module _ {D E : Type 0} (g : Ghosts D) (h : Ghosts E) where
         wrote = Appends-trans old.held mid.held new.held first.written second.written first.wrote second.wrote;
       }
 
+  pub breaks_later : (old mid new : Stage D E) (bytes more open_line : List ℕ) → (first : Reads g h old mid bytes open_line) → Breaks g h mid new more first.rest
+      → Breaks g h old new (bytes ++ more) open_line
+  breaks_later old mid new bytes more open_line first second = record {
+    text = first.text ++ second.text;
+    rest = second.rest;
+    front = bytes ++ second.front;
+    more = second.more;
+    split = ap (λ b. bytes ++ b) second.split ∙ sym (append_assoc bytes second.front second.more);
+    advances = Advances-trans old.machine mid.machine new.machine open_line bytes second.front first.text second.text first.rest second.rest first.advances second.advances;
+    wrote = wrote_beginning old.held mid.held new.held old.pending first.text first.written mid.pending second.text first.sent first.wrote second.wrote;
+  }
+
   pub breaks_after : (old mid new : Stage D E) (bytes more : List ℕ) → GoesOn g h old mid bytes → BreaksOff g h mid new more → BreaksOff g h old new (bytes ++ more)
   breaks_after old mid new bytes more p q open_line begun =
       let first = p open_line begun in
-      let second = q first.rest first.kept in
-      record {
-        text = first.text ++ second.text;
-        rest = second.rest;
-        front = bytes ++ second.front;
-        more = second.more;
-        split = ap (λ b. bytes ++ b) second.split ∙ sym (append_assoc bytes second.front second.more);
-        advances = Advances-trans old.machine mid.machine new.machine open_line bytes second.front first.text second.text first.rest second.rest first.advances second.advances;
-        wrote = wrote_beginning old.held mid.held new.held old.pending first.text first.written mid.pending second.text first.sent first.wrote second.wrote;
-      }
+      breaks_later old mid new bytes more open_line first (q first.rest first.kept)
 
   -- the bytes after a break stay unread
   pub breaks_before : (old new : Stage D E) (bytes more : List ℕ) → BreaksOff g h old new bytes → BreaksOff g h old new (bytes ++ more)

@@ -15,7 +15,7 @@ use Rattle.trace_lang.specs.Lines.{lines_of}
 use Rattle.runner.specs.declared.engine.RunEnd.{RunEnd}
 use Rattle.runner.specs.declared.engine.RunEnd.TheVariants.{Done, ReadFault, WriteFault}
 use Rattle.runner.specs.Session.{Obeys, Rejects, CarriesOut, Answered}
-use Rattle.runner.specs.Progress.{stage, EndsSo, ReadsAll}
+use Rattle.runner.specs.Progress.{stage, EndsSo}
 use Rattle.runner.specs.Trace.{Streams, streams, EndsTrace, CausedTrace, RunsTrace}
 
 module _ {D E : Type 0} (g : Ghosts D) (h : Ghosts E) where
@@ -67,20 +67,28 @@ module _ {D E : Type 0} (g : Ghosts D) (h : Ghosts E) where
     ends : EndsTrace end bytes lines text before after
 
   ran : (end : RunEnd) (old new : Machine D E) (left left_then held held_then : Option (List ℕ)) (bytes : List ℕ)
-      → ReadsAll end left_then → EndsSo g h end (stage old [] [] held) (stage new [] [] held_then) bytes []
+      → EndsSo g h end left_then (stage old [] [] held) (stage new [] [] held_then) bytes []
       → Ran end old new bytes (streams left held) (streams left_then held_then)
-  ran Done old new left left_then held held_then bytes all ended =
-      record { lines = lines_of bytes; text = ended.text; runs = ended.runs; ends = (all, refl, ended.wrote) }
-  ran ReadFault old new left left_then held held_then bytes all ended =
+  ran Done old new left left_then held held_then bytes ended =
+      record { lines = lines_of bytes; text = ended.1.text; runs = ended.1.runs; ends = (ended.0, refl, ended.1.wrote) }
+  ran ReadFault old new left left_then held held_then bytes ended =
       record { lines = ended.advances.lines; text = ended.text; runs = ended.advances.runs; ends = ((ended.rest, ended.advances.cuts), ended.wrote) }
-  ran WriteFault old new left left_then held held_then bytes all ended =
-      record { lines = ended.lines; text = ended.text; runs = ended.runs; ends = (ended.first, ended.wrote) }
+  ran WriteFault old new left left_then held held_then bytes ended =
+      elim ended [
+        | inl e ↦ record {
+          lines = e.advances.lines;
+          text = e.text;
+          runs = e.advances.runs;
+          ends = (inl (e.front, e.more, e.rest, e.split, e.advances.cuts), e.wrote);
+        }
+        | inr e ↦ record { lines = lines_of bytes; text = e.1.text; runs = e.1.runs; ends = (inr (e.0, refl), e.1.wrote) }
+      ]
 
   pub caused_trace : (end : RunEnd) (old new : Machine D E) (left left_then held held_then : Option (List ℕ)) (bytes : List ℕ)
-      → Consumes left left_then bytes → ReadsAll end left_then → EndsSo g h end (stage old [] [] held) (stage new [] [] held_then) bytes []
+      → Consumes left left_then bytes → EndsSo g h end left_then (stage old [] [] held) (stage new [] [] held_then) bytes []
       → CausedTrace g end old new (streams left held) (streams left_then held_then)
-  caused_trace end old new left left_then held held_then bytes read all ended =
-      let r = ran end old new left left_then held held_then bytes all ended in
+  caused_trace end old new left left_then held held_then bytes read ended =
+      let r = ran end old new left left_then held held_then bytes ended in
       let a = replied old new r.lines r.text r.runs in
       record {
         bytes = bytes;
@@ -93,6 +101,24 @@ module _ {D E : Type 0} (g : Ghosts D) (h : Ghosts E) where
         caused = a.caused;
         ends = r.ends;
       }
+
+  -- a store that keeps the disk model to the end kept it from the beginning
+  kept_all : (old new : Machine D E) (lines : List (List ℕ)) (text : List ℕ) → CarriesOut g h old lines text new
+      → g.keeps_model new.core.store.disk → g.keeps_model old.core.store.disk
+  kept_all old new [] text carried keeps = subst (λ m. g.keeps_model m.core.store.disk) carried.1 keeps
+  kept_all old new (line ∷ lines) text carried keeps =
+      let mid = kept_all carried.0 new lines carried.2 carried.4 keeps in
+      elim carried.3 [
+        | inl o ↦ o.kept mid
+        | inr r ↦ subst (λ m. g.keeps_model m.core.store.disk) r.same mid
+      ]
+
+  pub kept_trace : (end : RunEnd) (old new : Machine D E) (left left_then held held_then : Option (List ℕ)) (bytes : List ℕ)
+      → EndsSo g h end left_then (stage old [] [] held) (stage new [] [] held_then) bytes []
+      → g.keeps_model new.core.store.disk → g.keeps_model old.core.store.disk
+  kept_trace end old new left left_then held held_then bytes ended keeps =
+      let r = ran end old new left left_then held held_then bytes ended in
+      kept_all old new r.lines r.text r.runs keeps
 
 module _ {D E : Type 0} (g : Ghosts D) (h : Ghosts E)
     (only_now : (d : D) (image : Image) → g.keeps_model d → g.left_since d (g.moment d) image → MayLeave (g.content d) (g.unsynced d) image) where
@@ -131,17 +157,6 @@ module _ {D E : Type 0} (g : Ghosts D) (h : Ghosts E)
     shows = later.shows;
   }
 
-  -- a store that keeps the disk model to the end kept it from the beginning
-  kept_all : (old new : Machine D E) (lines : List (List ℕ)) (text : List ℕ) → CarriesOut g h old lines text new
-      → g.keeps_model new.core.store.disk → g.keeps_model old.core.store.disk
-  kept_all old new [] text carried keeps = subst (λ m. g.keeps_model m.core.store.disk) carried.1 keeps
-  kept_all old new (line ∷ lines) text carried keeps =
-      let mid = kept_all carried.0 new lines carried.2 carried.4 keeps in
-      elim carried.3 [
-        | inl o ↦ o.kept mid
-        | inr r ↦ subst (λ m. g.keeps_model m.core.store.disk) r.same mid
-      ]
-
   relates : (old new : Machine D E) (s : State) (lines : List (List ℕ)) (text : List ℕ)
       → CarriesOut g h old lines text new → Shows g h old s → g.keeps_model new.core.store.disk → Session old new s lines text
   relates old new s [] text carried shows keeps = record {
@@ -157,7 +172,7 @@ module _ {D E : Type 0} (g : Ghosts D) (h : Ghosts E)
       let mid = carried.0 in
       elim carried.3 [
         | inl o ↦
-            let step = o.steps s shows (λ _. kept_all mid new lines carried.2 carried.4 keeps) in
+            let step = o.steps s shows (λ _. kept_all g h mid new lines carried.2 carried.4 keeps) in
             obeyed old mid new s line lines carried.1 carried.2 text o carried.5 step
             (relates mid new step.0 lines carried.2 carried.4 step.1.shows keeps)
         | inr r ↦
@@ -177,10 +192,10 @@ module _ {D E : Type 0} (g : Ghosts D) (h : Ghosts E)
   }
 
   pub runs_trace : (end : RunEnd) (old new : Machine D E) (s : State) (left left_then held held_then : Option (List ℕ)) (bytes : List ℕ)
-      → Consumes left left_then bytes → ReadsAll end left_then → EndsSo g h end (stage old [] [] held) (stage new [] [] held_then) bytes []
+      → Consumes left left_then bytes → EndsSo g h end left_then (stage old [] [] held) (stage new [] [] held_then) bytes []
       → Shows g h old s → g.keeps_model new.core.store.disk → RunsTrace g h end old new (streams left held) (streams left_then held_then) s
-  runs_trace end old new s left left_then held held_then bytes read all ended shows keeps =
-      let r = ran g h end old new left left_then held held_then bytes all ended in
+  runs_trace end old new s left left_then held held_then bytes read ended shows keeps =
+      let r = ran g h end old new left left_then held held_then bytes ended in
       let a = relates old new s r.lines r.text r.runs shows keeps in
       record {
         bytes = bytes;

@@ -2,5 +2,6 @@ pub mod Bytes
 pub mod Session
 pub mod Progress
 pub mod Trace
+pub mod Starting
 pub mod Specs
 pub mod Programs

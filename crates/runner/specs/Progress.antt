@@ -1,13 +1,13 @@
 -- How far the engine has come, by what it holds: the machine, the beginning of the open line, the bytes that the writer
 -- has not taken yet, and what the writer holds where that is known.
-use Rattle.std.specs.Prelude.{◌≡◌, ℕ, List, ◌++◌, take, Option}
+use Rattle.std.specs.Prelude.{◌≡◌, ◌⊎◌, ℕ, List, ◌++◌, take, Option}
 use Rattle.std.specs.Io.KnownBytes.{Appends, IsAtEnd}
 use Rattle.disk_model.specs.declared.sector_disk.SectorDisk.{Ghosts}
 use Rattle.machine.specs.declared.machine.Machine.{Machine}
 use Rattle.trace_lang.specs.Lines.{Cuts, HasNoNewline, lines_of}
 use Rattle.runner.specs.declared.engine.RunEnd.{RunEnd}
 use Rattle.runner.specs.declared.engine.RunEnd.TheVariants.{Done, ReadFault, WriteFault}
-use Rattle.runner.specs.Bytes.{StartsAs, WritesBeginning}
+use Rattle.runner.specs.Bytes.{WritesBeginning}
 use Rattle.runner.specs.Session.{CarriesOut}
 
 pub record Stage (D E : Type 0) : Type 0 where
@@ -77,25 +77,19 @@ module _ {D E : Type 0} (g : Ghosts D) (h : Ghosts E) where
     pub advances : Advances old.machine open_line bytes text rest new.machine
     pub wrote : Appends old.held new.held (old.pending ++ text)
 
-  -- the first lines were run, and the writer took a beginning of their texts
+  -- the reader is at its end: all lines were run, and the writer took a beginning of their texts
   pub record Fails (old new : Stage D E) (bytes open_line : List ℕ) : Type 0 where
-    pub lines : List (List ℕ)
     pub text : List ℕ
-    pub first : StartsAs lines (lines_of (open_line ++ bytes))
-    pub runs : CarriesOut g h old.machine lines text new.machine
+    pub runs : CarriesOut g h old.machine (lines_of (open_line ++ bytes)) text new.machine
     pub wrote : WritesBeginning old.held new.held (old.pending ++ text)
 
-  abbrev pub EndsSo : RunEnd → Stage D E → Stage D E → List ℕ → List ℕ → Type 0
-  EndsSo Done old new bytes open_line = Finishes old new bytes open_line
-  EndsSo ReadFault old new bytes open_line = Stops old new bytes open_line
-  EndsSo WriteFault old new bytes open_line = Fails old new bytes open_line
+  -- How a run ends after these bytes, which leave this to the reader. Only a reader at its end lets an unfinished line be
+  -- run.
+  abbrev pub EndsSo : RunEnd → Option (List ℕ) → Stage D E → Stage D E → List ℕ → List ℕ → Type 0
+  EndsSo Done left old new bytes open_line = IsAtEnd left × Finishes old new bytes open_line
+  EndsSo ReadFault left old new bytes open_line = Stops old new bytes open_line
+  EndsSo WriteFault left old new bytes open_line = Breaks old new bytes open_line ⊎ (IsAtEnd left × Fails old new bytes open_line)
 
   -- the run ends after these bytes, whatever the open line is that the buffer holds the beginning of
-  abbrev pub Ends : RunEnd → Stage D E → Stage D E → List ℕ → Type 0
-  Ends end old new bytes = (open_line : List ℕ) → IsKept old.kept open_line → EndsSo end old new bytes open_line
-
--- a run is done only where the reader is at its end
-abbrev pub ReadsAll : RunEnd → Option (List ℕ) → Type 0
-ReadsAll Done remaining = IsAtEnd remaining
-ReadsAll ReadFault remaining = Unit {0}
-ReadsAll WriteFault remaining = Unit {0}
+  abbrev pub Ends : RunEnd → Option (List ℕ) → Stage D E → Stage D E → List ℕ → Type 0
+  Ends end left old new bytes = (open_line : List ℕ) → IsKept old.kept open_line → EndsSo end left old new bytes open_line

@@ -1,5 +1,5 @@
 -- A trace that was run: which of its lines, with which replies, and what a stop leaves.
-use Rattle.std.specs.Prelude.{◌≡◌, ℕ, List, Option}
+use Rattle.std.specs.Prelude.{◌≡◌, ◌⊎◌, ℕ, List, ◌++◌, Option}
 use Rattle.std.specs.Io.KnownBytes.{Appends, Consumes, IsAtEnd}
 use Rattle.disk_model.specs.declared.sector_disk.SectorDisk.{Ghosts}
 use Rattle.vm_types.specs.declared.command.Command.{Command}
@@ -10,7 +10,7 @@ use Rattle.machine.specs.Chain.{Caused, Runs}
 use Rattle.trace_lang.specs.Lines.{lines_of, Cuts}
 use Rattle.runner.specs.declared.engine.RunEnd.{RunEnd}
 use Rattle.runner.specs.declared.engine.RunEnd.TheVariants.{Done, ReadFault, WriteFault}
-use Rattle.runner.specs.Bytes.{StartsAs, WritesBeginning}
+use Rattle.runner.specs.Bytes.{WritesBeginning}
 use Rattle.runner.specs.Session.{Answered}
 
 -- What a reader has left, and what a writer holds, where they tell.
@@ -23,11 +23,14 @@ streams l h = record { left = l; held = h }
 
 -- Which of the lines of the bytes that were read were run, and what was written of the texts that answer them.
 -- Done: the reader is at its end, and all was run and written. A read fault: the complete lines were run, an unfinished
--- one was not, and all was written. A write fault: the first lines were run, and a beginning was written.
+-- one was not, and all was written. A write fault: a beginning was written, and the lines that were run are the complete
+-- ones of a beginning of the bytes, or all where the reader is at its end.
 abbrev pub EndsTrace : RunEnd → List ℕ → List (List ℕ) → List ℕ → Streams → Streams → Type 0
 EndsTrace Done bytes lines text old new = IsAtEnd new.left × (lines ≡ lines_of bytes) × Appends old.held new.held text
 EndsTrace ReadFault bytes lines text old new = ((rest : List ℕ) × Cuts bytes lines rest) × Appends old.held new.held text
-EndsTrace WriteFault bytes lines text old new = StartsAs lines (lines_of bytes) × WritesBeginning old.held new.held text
+EndsTrace WriteFault bytes lines text old new =
+    (((front more rest : List ℕ) × (bytes ≡ front ++ more) × Cuts front lines rest) ⊎ (IsAtEnd new.left × (lines ≡ lines_of bytes)))
+    × WritesBeginning old.held new.held text
 
 module _ {D E : Type 0} (g : Ghosts D) where
   -- Whatever the devices do: the lines that were run are answered by replies to their commands, and a reply names a device

@@ -1,10 +1,12 @@
 //! Runs the lines of a trace.
-ghost use Rattle.std.specs.Prelude.{◌≡◌, ℕ, List, [], ◌∷◌, ◌++◌, ◌+◌, ◌<◌, ◌≤◌, length, take, IfNone, IfOk, IfSome, MatchOption, MatchResult, OnOk};
+ghost use Rattle.std.specs.Prelude.{◌≡◌, ℕ, List, Option, [], ◌∷◌, ◌++◌, ◌+◌, ◌<◌, ◌≤◌, length, take, IfNone, IfOk, IfSome, MatchOption, MatchResult, OnOk};
 ghost use Rattle.std.specs.Io.KnownBytes.{Consumes, IsAtEnd};
-ghost use Rattle.machine.specs.Machine.{IsSound, Shows};
+ghost use Rattle.machine.specs.Machine.{IsSoundMachine, Shows};
 ghost use Rattle.vm_types.specs.State.{State};
-ghost use Rattle.runner.specs.Progress.{stage, IsKept, RunsLast, GoesOn, BreaksOff, Ends, EndsSo, ReadsAll};
+ghost use Rattle.runner.specs.Progress.{stage, IsKept, RunsLast, GoesOn, BreaksOff, Ends, EndsSo};
 ghost use Rattle.runner.specs.Session.{Answers};
+ghost use Rattle.trace_lang.specs.Texts.{text_of};
+ghost use Rattle.vm_types.specs.declared.reply.Reply.TheVariants.{Past};
 ghost use Rattle.runner.specs.Trace.{streams, CausedTrace, RunsTrace};
 
 use crate::line_buffer::LineBuffer;
@@ -32,6 +34,17 @@ pub enum RunEnd {
 #[derive(Drop)]
 struct ReadFault;
 
+// Adds the text of the history. (It stays out of the way of the other answers, since a history takes some 400 bytes.)
+#[cold]
+#[inline(never)]
+fn answer_history<D: SectorDisk, E: SectorDisk>(output: &mut OutputBuffer, machine: &Machine<D, E>)
+    requires room { length output.old < 32768 }
+    ensures room { length output.new ≤ length output.old + 1024 }
+    ensures text { output.new ≡ output.old ++ text_of (Past machine.now.past) }
+{
+    output.push_history(&machine.history());
+}
+
 // Runs one line and adds the text that answers it to the output.
 fn answer<D: SectorDisk, E: SectorDisk>(
     line: &[u8],
@@ -39,17 +52,17 @@ fn answer<D: SectorDisk, E: SectorDisk>(
     machine: &mut Machine<D, E>,
 )
     requires room { length output.old < 32768 }
-    requires sound { IsSound D.SectorDisk E.SectorDisk machine.old }
+    requires sound { IsSoundMachine D.SectorDisk E.SectorDisk machine.old }
     ensures room { length output.new ≤ length output.old + 1024 }
-    ensures sound { IsSound D.SectorDisk E.SectorDisk machine.new }
+    ensures sound { IsSoundMachine D.SectorDisk E.SectorDisk machine.new }
     ensures answers { (text : List ℕ) × Answers D.SectorDisk E.SectorDisk machine.old line.now text machine.new
         × (output.new ≡ output.old ++ text) }
 {
     match parse_line(line) {
-        Ok(command) => {
-            let reply = machine.step(command);
-            output.push_reply(&reply);
-        }
+        Ok(command) => match machine.carry_out(command) {
+            Some(answer) => output.push_answer(&answer),
+            None => answer_history(output, machine),
+        },
         Err(_) => output.push(bad_line_text()),
     }
 }
@@ -62,9 +75,9 @@ fn end_line<W: Write, D: SectorDisk, E: SectorDisk>(
     machine: &mut Machine<D, E>,
 ) -> Result<(), WriteFault>
     requires room { length output.old < 32768 }
-    requires sound { IsSound D.SectorDisk E.SectorDisk machine.old }
+    requires sound { IsSoundMachine D.SectorDisk E.SectorDisk machine.old }
     ensures room { OnOk result (length output.new < 32768) }
-    ensures sound { IsSound D.SectorDisk E.SectorDisk machine.new }
+    ensures sound { IsSoundMachine D.SectorDisk E.SectorDisk machine.new }
     ensures reads { MatchResult result
         (λ _. GoesOn D.SectorDisk E.SectorDisk (stage machine.old line.old output.old (W.contents writer.old))
         (stage machine.new line.new output.new (W.contents writer.new)) (10 ∷ []))
@@ -88,9 +101,9 @@ fn run_byte<W: Write, D: SectorDisk, E: SectorDisk>(
     machine: &mut Machine<D, E>,
 ) -> Result<(), WriteFault>
     requires room { length output.old < 32768 }
-    requires sound { IsSound D.SectorDisk E.SectorDisk machine.old }
+    requires sound { IsSoundMachine D.SectorDisk E.SectorDisk machine.old }
     ensures room { OnOk result (length output.new < 32768) }
-    ensures sound { IsSound D.SectorDisk E.SectorDisk machine.new }
+    ensures sound { IsSoundMachine D.SectorDisk E.SectorDisk machine.new }
     ensures reads { MatchResult result
         (λ _. GoesOn D.SectorDisk E.SectorDisk (stage machine.old line.old output.old (W.contents writer.old))
         (stage machine.new line.new output.new (W.contents writer.new)) (byte ∷ []))
@@ -113,9 +126,9 @@ fn run_piece<W: Write, D: SectorDisk, E: SectorDisk>(
     machine: &mut Machine<D, E>,
 ) -> Result<(), WriteFault>
     requires room { length output.old < 32768 }
-    requires sound { IsSound D.SectorDisk E.SectorDisk machine.old }
+    requires sound { IsSoundMachine D.SectorDisk E.SectorDisk machine.old }
     ensures room { OnOk result (length output.new < 32768) }
-    ensures sound { IsSound D.SectorDisk E.SectorDisk machine.new }
+    ensures sound { IsSoundMachine D.SectorDisk E.SectorDisk machine.new }
     ensures reads { MatchResult result
         (λ _. GoesOn D.SectorDisk E.SectorDisk (stage machine.old line.old output.old (W.contents writer.old))
         (stage machine.new line.new output.new (W.contents writer.new)) piece.now)
@@ -131,31 +144,31 @@ fn run_piece<W: Write, D: SectorDisk, E: SectorDisk>(
     Ok(())
 }
 
-// Goes on by a piece and gives the replies to the writer. `None`: the run goes on.
+// Goes on by a piece and gives the replies to the writer.
 fn take_piece<W: Write, D: SectorDisk, E: SectorDisk>(
     piece: &[u8],
     line: &mut LineBuffer,
     output: &mut OutputBuffer,
     writer: &mut W,
     machine: &mut Machine<D, E>,
-) -> Option<RunEnd>
+) -> Result<(), WriteFault>
     requires room { length output.old < 32768 }
-    requires sound { IsSound D.SectorDisk E.SectorDisk machine.old }
-    ensures empty { IfNone result (output.new ≡ []) }
-    ensures sound { IsSound D.SectorDisk E.SectorDisk machine.new }
-    ensures reads { MatchOption result
-        (GoesOn D.SectorDisk E.SectorDisk (stage machine.old line.old output.old (W.contents writer.old))
+    requires sound { IsSoundMachine D.SectorDisk E.SectorDisk machine.old }
+    ensures empty { OnOk result (output.new ≡ []) }
+    ensures sound { IsSoundMachine D.SectorDisk E.SectorDisk machine.new }
+    ensures reads { MatchResult result
+        (λ _. GoesOn D.SectorDisk E.SectorDisk (stage machine.old line.old output.old (W.contents writer.old))
         (stage machine.new line.new output.new (W.contents writer.new)) piece.now)
-        (λ end. (end ≡ RunEnd.WriteFault) × Ends D.SectorDisk E.SectorDisk RunEnd.WriteFault (stage machine.old line.old output.old (W.contents writer.old))
+        (λ _. BreaksOff D.SectorDisk E.SectorDisk (stage machine.old line.old output.old (W.contents writer.old))
         (stage machine.new line.new output.new (W.contents writer.new)) piece.now) }
 {
     match run_piece(piece, line, output, writer, machine) {
         Ok(()) => {}
-        Err(_) => return Some(RunEnd::WriteFault),
+        Err(fault) => return Err(fault),
     }
     match output.write_out(writer) {
-        Ok(()) => None,
-        Err(_) => Some(RunEnd::WriteFault),
+        Ok(()) => Ok(()),
+        Err(fault) => Err(fault),
     }
 }
 
@@ -166,8 +179,8 @@ fn answer_last<D: SectorDisk, E: SectorDisk>(
     machine: &mut Machine<D, E>,
 )
     requires room { length output.old < 32768 }
-    requires sound { IsSound D.SectorDisk E.SectorDisk machine.old }
-    ensures sound { IsSound D.SectorDisk E.SectorDisk machine.new }
+    requires sound { IsSoundMachine D.SectorDisk E.SectorDisk machine.old }
+    ensures sound { IsSoundMachine D.SectorDisk E.SectorDisk machine.new }
     ensures runs { (open_line : List ℕ) → IsKept line.now open_line
         → RunsLast D.SectorDisk E.SectorDisk machine.old machine.new open_line output.old output.new }
 {
@@ -185,10 +198,10 @@ fn finish<W: Write, D: SectorDisk, E: SectorDisk>(
     machine: &mut Machine<D, E>,
 ) -> RunEnd
     requires room { length output.old < 32768 }
-    requires sound { IsSound D.SectorDisk E.SectorDisk machine.old }
-    ensures sound { IsSound D.SectorDisk E.SectorDisk machine.new }
-    ensures ends { Ends D.SectorDisk E.SectorDisk result (stage machine.old line.now output.old (W.contents writer.old))
-        (stage machine.new line.now output.new (W.contents writer.new)) [] }
+    requires sound { IsSoundMachine D.SectorDisk E.SectorDisk machine.old }
+    ensures sound { IsSoundMachine D.SectorDisk E.SectorDisk machine.new }
+    ensures ends { (left : Option (List ℕ)) → IsAtEnd left → Ends D.SectorDisk E.SectorDisk result left
+        (stage machine.old line.now output.old (W.contents writer.old)) (stage machine.new line.now output.new (W.contents writer.new)) [] }
 {
     answer_last(line, output, machine);
     match output.write_out(writer) {
@@ -226,19 +239,21 @@ fn turn<R: Read, W: Write, D: SectorDisk, E: SectorDisk>(
 ) -> Option<RunEnd>
     requires input { 0 < length input.old }
     requires empty { output.old ≡ [] }
-    requires sound { IsSound D.SectorDisk E.SectorDisk machine.old }
+    requires sound { IsSoundMachine D.SectorDisk E.SectorDisk machine.old }
     ensures empty { IfNone result (output.new ≡ []) }
-    ensures sound { IsSound D.SectorDisk E.SectorDisk machine.new }
+    ensures sound { IsSoundMachine D.SectorDisk E.SectorDisk machine.new }
     ensures reads { (bytes : List ℕ) × Consumes (R.remaining reader.old) (R.remaining reader.new) bytes
         × MatchOption result
         (GoesOn D.SectorDisk E.SectorDisk (stage machine.old line.old output.old (W.contents writer.old))
         (stage machine.new line.new output.new (W.contents writer.new)) bytes)
-        (λ end. ReadsAll end (R.remaining reader.new)
-        × Ends D.SectorDisk E.SectorDisk end (stage machine.old line.old output.old (W.contents writer.old))
+        (λ end. Ends D.SectorDisk E.SectorDisk end (R.remaining reader.new) (stage machine.old line.old output.old (W.contents writer.old))
         (stage machine.new line.new output.new (W.contents writer.new)) bytes) }
 {
     match read_once(reader, input) {
-        Ok(Some(count)) => take_piece(&input[..count], line, output, writer, machine),
+        Ok(Some(count)) => match take_piece(&input[..count], line, output, writer, machine) {
+            Ok(()) => None,
+            Err(_) => Some(RunEnd::WriteFault),
+        },
         Ok(None) => Some(finish(line, output, writer, machine)),
         Err(_) => Some(RunEnd::ReadFault),
     }
@@ -250,11 +265,10 @@ fn run_turns<R: Read, W: Write, D: SectorDisk, E: SectorDisk>(
     writer: &mut W,
     machine: &mut Machine<D, E>,
 ) -> RunEnd
-    requires { IsSound D.SectorDisk E.SectorDisk machine.old }
-    ensures sound { IsSound D.SectorDisk E.SectorDisk machine.new }
+    requires { IsSoundMachine D.SectorDisk E.SectorDisk machine.old }
+    ensures sound { IsSoundMachine D.SectorDisk E.SectorDisk machine.new }
     ensures reads { (bytes : List ℕ) × Consumes (R.remaining reader.old) (R.remaining reader.new) bytes
-        × ReadsAll result (R.remaining reader.new)
-        × EndsSo D.SectorDisk E.SectorDisk result (stage machine.old [] [] (W.contents writer.old))
+        × EndsSo D.SectorDisk E.SectorDisk result (R.remaining reader.new) (stage machine.old [] [] (W.contents writer.old))
         (stage machine.new [] [] (W.contents writer.new)) bytes [] }
 {
     let mut input = [0; READ_BYTES];
@@ -279,7 +293,7 @@ fn run_turns<R: Read, W: Write, D: SectorDisk, E: SectorDisk>(
 /// - `ReadFault`: the reader failed, or was called 2^64 - 1 times. The complete lines read before were answered; an
 ///   unfinished one was not run.
 /// - `WriteFault`: the writer failed or took no bytes. What it took is a beginning of the answers to the lines that were
-///   run, which are the first of those read.
+///   run, which are the first of the complete ones read, or all where the reader is at its end.
 ///
 /// Whatever the devices do, a reply names the store or the want of a frame only where the store failed as its command was
 /// carried out, or a frame was refused.
@@ -290,8 +304,9 @@ pub fn run<R: Read, W: Write, D: SectorDisk, E: SectorDisk>(
     writer: &mut W,
     machine: &mut Machine<D, E>,
 ) -> RunEnd
-    requires { IsSound D.SectorDisk E.SectorDisk machine.old }
-    ensures sound { IsSound D.SectorDisk E.SectorDisk machine.new }
+    requires { IsSoundMachine D.SectorDisk E.SectorDisk machine.old }
+    ensures sound { IsSoundMachine D.SectorDisk E.SectorDisk machine.new }
+    ensures kept { D.keeps_model machine.new.core.store.disk → D.keeps_model machine.old.core.store.disk }
     ensures caused { CausedTrace D.SectorDisk result machine.old machine.new
         (streams (R.remaining reader.old) (W.contents writer.old)) (streams (R.remaining reader.new) (W.contents writer.new)) }
     ensures runs { (s : State) → Shows D.SectorDisk E.SectorDisk machine.old s → D.keeps_model machine.new.core.store.disk

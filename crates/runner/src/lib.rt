@@ -5,6 +5,8 @@ mod engine;
 mod line_buffer;
 mod output_buffer;
 mod programs;
+mod starting;
 
 pub use engine::{RunEnd, run};
-pub use programs::{given_words, pagecat, pagefmt, pagerun};
+pub use programs::{ShowFault, given_words, pagecat, pagefmt, pagerun, show};
+pub use starting::run_on;

@@ -2,12 +2,14 @@
 ghost use Rattle.std.specs.Prelude.{◌≡◌, [], ◌++◌, ◌+◌, ◌<◌, ◌≤◌, length, take, IfOk, MatchResult, IsTrue, ◌↔◌};
 ghost use Rattle.std.specs.Io.KnownBytes.{Appends, Keeps};
 ghost use Rattle.trace_lang.specs.Texts.{text_of};
+ghost use Rattle.vm_types.specs.Replies.{reply_of};
+ghost use Rattle.vm_types.specs.declared.reply.Reply.TheVariants.{Past};
 ghost use Rattle.runner.specs.Bytes.{WritesBeginning};
 
 use std::io::{ErrorKind, Write};
 use std::marker::Model;
-use trace_lang::reply_text;
-use vm_types::Reply;
+use trace_lang::{answer_text, history_text};
+use vm_types::{Answer, History};
 
 /// The writer failed, or took no bytes.
 #[derive(Clone, Copy, Debug, PartialEq, Eq)]
@@ -62,13 +64,24 @@ impl OutputBuffer {
         self.len = end;
     }
 
-    /// Adds the text of a reply, for which there must be room.
-    pub(crate) fn push_reply(&mut self, reply: &Reply)
+    /// Adds the text of an answer, for which there must be room.
+    pub(crate) fn push_answer(&mut self, answer: &Answer)
         requires { length self.old + 1024 ≤ 34816 }
-        ensures text { self.new ≡ self.old ++ text_of reply.now }
+        ensures text { self.new ≡ self.old ++ text_of (reply_of answer.now) }
         ensures room { length self.new ≤ length self.old + 1024 }
     {
-        let count = reply_text(reply, &mut self.text);
+        let count = answer_text(answer, &mut self.text);
+        let end = append(&mut self.bytes, self.len, &self.text[..count]);
+        self.len = end;
+    }
+
+    /// Adds the text of a history, for which there must be room.
+    pub(crate) fn push_history(&mut self, history: &History)
+        requires { length self.old + 1024 ≤ 34816 }
+        ensures text { self.new ≡ self.old ++ text_of (Past history.now) }
+        ensures room { length self.new ≤ length self.old + 1024 }
+    {
+        let count = history_text(history, &mut self.text);
         let end = append(&mut self.bytes, self.len, &self.text[..count]);
         self.len = end;
     }

@@ -4,6 +4,7 @@ mod faults;
 mod files;
 mod formatting;
 mod numbers;
+mod places;
 mod running;
 mod showing;
 mod sources;
@@ -12,5 +13,5 @@ mod words;
 
 pub use formatting::pagefmt;
 pub use running::pagerun;
-pub use showing::pagecat;
+pub use showing::{ShowFault, pagecat, show};
 pub use start::given_words;

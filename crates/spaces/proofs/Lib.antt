@@ -8,6 +8,8 @@ pub mod Placing
 pub mod Planning
 pub mod Protects
 pub mod Reading
+pub mod Refusals
 pub mod Shown
+pub mod Uncopied
 pub mod Unmapped
 pub mod Writing

@@ -29,7 +29,7 @@ use Rattle.vm_types.specs.State.{State}
 use Rattle.vm_types.specs.Step.{outcome, mmap_outcome}
 use Rattle.vm_types.specs.View.{View, attrs_of}
 use Rattle.spaces.specs.Calls.{Comes}
-use Rattle.spaces.specs.Mappings.{asked_checks, place_checks, IsMapped}
+use Rattle.spaces.specs.Mappings.{mmap_asked_checks, place_checks, IsMapped}
 use Rattle.spaces.specs.Space.{space_of}
 use Rattle.spaces.proofs.Calls.{does, does_answer, with_pages, shows_pages}
 use Rattle.spaces.proofs.Checks.{first_of-append, first_of-some}
@@ -92,20 +92,20 @@ module _ {D E : Type 0} (g : Ghosts D) (old : Core D E) (s : State) (pid addr le
     abbrev late : List Rattle.vm_types.specs.Checks.Check
     late = place_checks placing (s.views pid) (page_count len) (first_attr source prot) (mmap_place s pid addr len placing)
 
-    ruled : mmap_errno s pid addr len prot source placing ≡ first_of (asked_checks s.files addr len prot source placing ++ late)
-    ruled = live_first (s.live pid) (asked_checks s.files addr len prot source placing ++ late) (shows.live pid ∙ live)
+    ruled : mmap_errno s pid addr len prot source placing ≡ first_of (mmap_asked_checks s.files addr len prot source placing ++ late)
+    ruled = live_first (s.live pid) (mmap_asked_checks s.files addr len prot source placing ++ late) (shows.live pid ∙ live)
 
-    asked_same : first_of (asked_checks s.files addr len prot source placing) ≡ first_of (asked_checks (picture_of old).files addr len prot source placing)
+    asked_same : first_of (mmap_asked_checks s.files addr len prot source placing) ≡ first_of (mmap_asked_checks (picture_of old).files addr len prot source placing)
     asked_same =
         let e : s.files ≡ (picture_of old).files = λ t f. shows.files f t in
-        ap (λ (files : Files). first_of (asked_checks files addr len prot source placing)) e
+        ap (λ (files : Files). first_of (mmap_asked_checks files addr len prot source placing)) e
 
-    pub refused_as_asked : (errno : Errno) → Some errno ≡ first_of (asked_checks (picture_of old).files addr len prot source placing)
+    pub refused_as_asked : (errno : Errno) → Some errno ≡ first_of (mmap_asked_checks (picture_of old).files addr len prot source placing)
         → Comes g old old s (Mmap pid addr len prot source placing) (Refused errno)
     refused_as_asked errno e =
-        refuses errno (ruled ∙ first_of-some (asked_checks s.files addr len prot source placing) errno (asked_same ∙ sym e) late)
+        refuses errno (ruled ∙ first_of-some (mmap_asked_checks s.files addr len prot source placing) errno (asked_same ∙ sym e) late)
 
-    module _ (asked : None ≡ first_of (asked_checks (picture_of old).files addr len prot source placing))
+    module _ (asked : None ≡ first_of (mmap_asked_checks (picture_of old).files addr len prot source placing))
         (runs : List Run) (here : (page : ℕ) → attr_at runs page ≡ (picture_of old).at pid page) (pages : ℕ) (count : pages ≡ page_count len) where
       place_is : mmap_place s pid addr len placing ≡ place_for placing (space_of runs) addr pages
       place_is =
@@ -115,7 +115,7 @@ module _ {D E : Type 0} (g : Ghosts D) (old : Core D E) (s : State) (pid addr le
       late_is : (place : Option ℕ) → place_for placing (space_of runs) addr pages ≡ place
           → mmap_errno s pid addr len prot source placing ≡ first_of (place_checks placing (space_of runs) pages (first_attr source prot) place)
       late_is place e =
-          ruled ∙ first_of-append (asked_checks s.files addr len prot source placing) late (asked_same ∙ sym asked)
+          ruled ∙ first_of-append (mmap_asked_checks s.files addr len prot source placing) late (asked_same ∙ sym asked)
           ∙ ap (λ (o : Option ℕ). first_of (place_checks placing (s.views pid) (page_count len) (first_attr source prot) o)) (place_is ∙ e)
           ∙ checks_same (s.views pid) (space_of runs) (attrs_as_runs (picture_of old) s pid runs shows here) placing (page_count len) (first_attr source prot) place
           ∙ ap (λ (n : ℕ). first_of (place_checks placing (space_of runs) n (first_attr source prot) place)) (sym count)

@@ -32,7 +32,7 @@ use Rattle.spaces.proofs.Guards.{denies_same}
 use Rattle.spaces.proofs.Pages.{attrs_as_runs, attrs_same}
 
 -- a row of mapped pages lies in the user pages
-covered_last : (map : ℕ → Option Attr) (first count : ℕ) → is_covered map first (suc count) ≡ true → is_some (map (first + count)) ≡ true
+pub covered_last : (map : ℕ → Option Attr) (first count : ℕ) → is_covered map first (suc count) ≡ true → is_some (map (first + count)) ≡ true
 unfolding is_covered
 covered_last map first count e =
     elim (is_some (map (first + count))) as (λ (b : Bool). (b && is_covered map first count) ≡ true → b ≡ true) [

@@ -5,7 +5,7 @@ use Rattle.fault.specs.declared.refusal.AccessRefusal.{AccessRefusal}
 use Rattle.fault.specs.declared.refusal.AccessRefusal.TheVariants as Refusal
 use Rattle.fault.specs.Files.{ReadsStore, BringsFiles}
 use Rattle.fault.proofs.Showing.{ShowsFiles, shows_files, shows_kept, bytes_shown}
-use Rattle.fault.specs.Outcome.{KeepsViews, Reads, IsReadyFor, StallCause, IsRefusal, verdict_of}
+use Rattle.fault.specs.Outcome.{KeepsSeen, Reads, IsReadyFor, StallCause, IsRefusal, verdict_of}
 use Rattle.frames.specs.FrameTable.{bytes_of}
 use Rattle.page_entries.specs.Changes.{KeepsSpaces}
 use Rattle.residency.specs.declared.kernel.Core.{Core}
@@ -28,12 +28,13 @@ use Rattle.vm_types.specs.declared.width.Width.{Width}
 use Rattle.vm_types.specs.declared.width.Width.TheVariants.{Four}
 use Rattle.vm_types.specs.Access.{loaded}
 use Rattle.vm_types.specs.Stalls.{is_success, needs_frames, reads_files}
+use Rattle.vm_types.specs.Replies.{reply_of}
 use Rattle.vm_types.specs.State.{State}
 use Rattle.vm_types.specs.Step.{Outcome, outcome, answers, judged, load_outcome, fetch_outcome}
 use Rattle.vm_types.specs.Verdict.{Verdict, Fine, Faults, fault_of}
 use Rattle.vm_types.specs.View.{View}
 use Rattle.vm_types.specs.Width.{byte_count}
-use Rattle.spaces.specs.Accesses.{reply_of}
+use Rattle.spaces.specs.Accesses.{answer_of}
 use Rattle.spaces.specs.Calls.{Comes, Stalls}
 use Rattle.spaces.proofs.Calls.{does, does_answer}
 use Rattle.spaces.proofs.Shown.{judged_is, homes}
@@ -60,7 +61,7 @@ module _ {D E : Type 0} (g : Ghosts D) (old new : Core D E) (s : State) (pid add
   stalls StoreDevice v is cause shows = Stalls StoreDevice (record { otherwise = fine v is; open_to = files; cause = cause.1 }) refl shows
 
   pub refused : (refusal : AccessRefusal) → IsRefusal g old new pid addr width kind refusal → ShowsPages (picture_of old) s
-      → (KeepsViews (picture_of old) (picture_of new) → ShowsPages (picture_of new) s) → Comes g old new s command (reply_of refusal)
+      → (KeepsSeen (picture_of old) (picture_of new) → ShowsPages (picture_of new) s) → Comes g old new s command (reply_of (answer_of refusal))
   refused (Refusal.Fault fault) is shows same =
       subst (λ (f : Fault). Comes g old new s command (Faulted f)) (sym is.2)
       (does_answer g old new s command (Faulted (fault_of kind is.0 addr)) (subst (λ (c : Core D E). ShowsPages (picture_of c) s) (sym is.3) shows) (faults is.0 is.1))
@@ -79,7 +80,7 @@ module _ {D E : Type 0} (g : Ghosts D) (old new : Core D E) (s : State) (shows :
       live_outcome (picture_of old) s pid (fetch_outcome s addr (judged s pid addr Four Accesses.Fetch)) (answers s (Refused ESRCH)) shows.pages live
       ∙ ap (fetch_outcome s addr) (judged_is old s shows.pages pid addr Four Accesses.Fetch ∙ e)
 
-  same : KeepsViews (picture_of old) (picture_of new) → ShowsPages (picture_of new) s
+  same : KeepsSeen (picture_of old) (picture_of new) → ShowsPages (picture_of new) s
   same kept =
       shows_kept g old.store.disk new.store.disk (picture_of old) (picture_of new) s before after brings spaces keeps (homes g old new s shows reads keeps) kept shows.pages
 
@@ -102,13 +103,13 @@ module _ {D E : Type 0} (g : Ghosts D) (old new : Core D E) (s : State) (shows :
       (same read.keeps)
 
   pub load_refused : (width : Width) (refusal : AccessRefusal) → IsRefusal g old new pid addr width Accesses.Load refusal
-      → Comes g old new s (Load pid addr width) (reply_of refusal)
+      → Comes g old new s (Load pid addr width) (reply_of (answer_of refusal))
   load_refused width refusal is =
       refused g old new s pid addr width Accesses.Load (Load pid addr width) (λ v e. ap (λ (o : Outcome). is_success o.reply) (load_is width (Fine v) e))
       (λ code e. load_is width (Faults code) e) refl refl refusal is shows.pages same
 
   pub fetch_refused : (refusal : AccessRefusal) → IsRefusal g old new pid addr Four Accesses.Fetch refusal
-      → Comes g old new s (Fetch pid addr) (reply_of refusal)
+      → Comes g old new s (Fetch pid addr) (reply_of (answer_of refusal))
   fetch_refused refusal is =
       refused g old new s pid addr Four Accesses.Fetch (Fetch pid addr) (λ v e. ap (λ (o : Outcome). is_success o.reply) (fetch_is (Fine v) e))
       (λ code e. fetch_is (Faults code) e) refl refl refusal is shows.pages same

@@ -32,15 +32,16 @@ use Rattle.vm_types.specs.declared.region.Backing.{Backing}
 use Rattle.vm_types.specs.declared.region.Backing.TheVariants.{Anon, Private, Shared}
 use Rattle.vm_types.specs.declared.reply.Reply.TheVariants.{Done, Refused}
 use Rattle.vm_types.specs.declared.width.Width.{Width}
-use Rattle.vm_types.specs.Access.{with_number, with_bytes}
+use Rattle.vm_types.specs.Access.{with_number, with_shown_bytes}
 use Rattle.vm_types.specs.Files.{Files}
 use Rattle.vm_types.specs.Stalls.{is_success}
+use Rattle.vm_types.specs.Replies.{reply_of}
 use Rattle.vm_types.specs.State.{State}
 use Rattle.vm_types.specs.Step.{Outcome, outcome, answers, judged, store_outcome}
 use Rattle.vm_types.specs.Verdict.{Verdict, Fine, Faults, lets, is_past_end, page_verdict}
 use Rattle.vm_types.specs.View.{View, shown, copy_or_behind}
 use Rattle.vm_types.specs.Width.{byte_count}
-use Rattle.spaces.specs.Accesses.{reply_of}
+use Rattle.spaces.specs.Accesses.{answer_of}
 use Rattle.spaces.specs.Calls.{Comes}
 use Rattle.spaces.proofs.Calls.{does}
 use Rattle.spaces.proofs.Reading.{live_outcome, refused}
@@ -113,7 +114,7 @@ module _ {D E : Type 0} (g : Ghosts D) (old mid : Core D E) (s : State) (shows :
       shows_files g old.store.disk mid.store.disk (picture_of old) (picture_of mid) s before after brings spaces keeps (homes g old mid s shows reads keeps) shows.pages
 
   pub store_refused : (refusal : AccessRefusal) → IsRefusal g old mid pid addr value.width Accesses.Store refusal
-      → Comes g old mid s (Store pid addr value) (reply_of refusal)
+      → Comes g old mid s (Store pid addr value) (reply_of (answer_of refusal))
   store_refused refusal is =
       refused g old mid s pid addr value.width Accesses.Store (Store pid addr value) (λ v e. ap (λ (o : Outcome). is_success o.reply) (store_is (Fine v) e))
       (λ code e. store_is (Faults code) e) refl refl refusal is shows.pages
@@ -133,13 +134,13 @@ module _ {D E : Type 0} (g : Ghosts D) (old mid : Core D E) (s : State) (shows :
 
     module _ (new : Core D E) (w : List ℕ) (frames : new.frames ≡ Frames.with_bytes mid.frames n w) (beside : SameBeside (picture_of mid) (picture_of new)) where
       shows_stored : (b : Backing) → v.attr.backing ≡ b → IsReadyToStore (picture_of old) (picture_of mid) pid (addr / 4096) v b n
-          → ShowsPages (picture_of new) (with_bytes s pid (addr / 4096) v v.attr.backing w)
+          → ShowsPages (picture_of new) (with_shown_bytes s pid (addr / 4096) v v.attr.backing w)
       shows_stored Anon is owns =
           shows_own (picture_of old) (picture_of mid) (picture_of new) s pid (addr / 4096) n v w after frames beside shows.pages files (ap is_shared is) owns
       shows_stored (Private p) is owns =
           shows_own (picture_of old) (picture_of mid) (picture_of new) s pid (addr / 4096) n v w after frames beside shows.pages files (ap is_shared is) owns
       shows_stored (Shared p) is touches =
-          subst (λ (b : Backing). ShowsPages (picture_of new) (with_bytes s pid (addr / 4096) v b w)) (sym is)
+          subst (λ (b : Backing). ShowsPages (picture_of new) (with_shown_bytes s pid (addr / 4096) v b w)) (sym is)
           (shows_shared (picture_of old) (picture_of mid) (picture_of new) s pid (addr / 4096) n v w after frames beside shows.pages files p touches)
 
       pub stores : IsReadyToStore (picture_of old) (picture_of mid) pid (addr / 4096) v v.attr.backing n
@@ -148,4 +149,4 @@ module _ {D E : Type 0} (g : Ghosts D) (old mid : Core D E) (s : State) (shows :
           let bytes : w ≡ with_number (shown s.volatile v) (addr % 4096) (byte_count value.width) value.value =
           is ∙ ap (λ (b : List ℕ). with_number b (addr % 4096) (byte_count value.width) value.value) (shown_there v.attr.backing refl ready) in
           does g old new s (Store pid addr value) Done (store_outcome s pid addr value (Fine v)) (store_is (Fine v) fine) refl
-          (subst (λ (b : List ℕ). ShowsPages (picture_of new) (with_bytes s pid (addr / 4096) v v.attr.backing b)) bytes (shows_stored v.attr.backing refl ready))
+          (subst (λ (b : List ℕ). ShowsPages (picture_of new) (with_shown_bytes s pid (addr / 4096) v v.attr.backing b)) bytes (shows_stored v.attr.backing refl ready))

@@ -1,9 +1,9 @@
 -- What an access without a place answers.
 use Rattle.fault.specs.declared.refusal.AccessRefusal.{AccessRefusal}
 use Rattle.fault.specs.declared.refusal.AccessRefusal.TheVariants.{Fault, Stall}
-use Rattle.vm_types.specs.declared.reply.Reply.{Reply}
-use Rattle.vm_types.specs.declared.reply.Reply.TheVariants.{Faulted, Stalled}
+use Rattle.vm_types.specs.declared.reply.Answer.{Answer}
+use Rattle.vm_types.specs.declared.reply.Answer.TheVariants.{Faulted, Stalled}
 
-abbrev pub reply_of : AccessRefusal → Reply
-reply_of (Fault fault) = Faulted fault
-reply_of (Stall stall) = Stalled stall
+abbrev pub answer_of : AccessRefusal → Answer
+answer_of (Fault fault) = Faulted fault
+answer_of (Stall stall) = Stalled stall

@@ -14,6 +14,7 @@ use Rattle.vm_types.specs.declared.reply.Reply.TheVariants.{Refused, Stalled}
 use Rattle.vm_types.specs.Stalls.{Causes, MayStall, reads_files}
 use Rattle.vm_types.specs.State.{State}
 use Rattle.vm_types.specs.Step.{outcome}
+use Rattle.spaces.specs.Idle.{refused_count}
 
 module _ {D E : Type 0} (g : Ghosts D) where
   -- what came to pass between two states of memory; nothing is swapped yet
@@ -43,9 +44,9 @@ module _ {D E : Type 0} (g : Ghosts D) where
   StallCause old new StoreDevice = g.failures old.store.disk < g.failures new.store.disk
 
   -- Whatever the devices do: a reply names a device or the want of a frame only where it failed in the call, or was refused.
-  -- No failure and no refusal is forgotten.
+  -- No failure is forgotten, and a request for a frame was refused exactly where the reply says so, and no more than one.
   pub record IsCaused (old new : Core D E) (reply : Reply) : Type 0 where
     pub later : g.failures old.store.disk ≤ g.failures new.store.disk
-    pub counted : old.refused.number ≤ new.refused.number
+    pub counted : new.refused.number ≡ old.refused.number + refused_count reply
     pub failed : reply ≡ Refused EIO → g.failures old.store.disk < g.failures new.store.disk
     pub stalled : (stall : Stall) → reply ≡ Stalled stall → StallCause old new stall

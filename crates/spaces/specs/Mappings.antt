@@ -17,8 +17,8 @@ use Rattle.vm_types.specs.View.{View}
 use Rattle.spaces.specs.Space.{space_of}
 
 -- those that ask for no page
-abbrev pub asked_checks : Files → ℕ → ℕ → Prot → MapSource → Placing → List Check
-asked_checks files addr len prot source placing =
+abbrev pub mmap_asked_checks : Files → ℕ → ℕ → Prot → MapSource → Placing → List Check
+mmap_asked_checks files addr len prot source placing =
     (len == 0, EINVAL)
     ∷ (is_odd_address placing addr, EINVAL)
     ∷ (is_odd_offset source, EINVAL)

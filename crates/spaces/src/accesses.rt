@@ -1,5 +1,6 @@
 //! Loads, stores and fetches.
-ghost use Rattle.std.specs.Prelude.{◌≡◌, ◌≤◌, ◌<◌, ◌+◌, ◌/◌, ◌^◌, false};
+ghost use Rattle.std.specs.Prelude.{◌≡◌, ◌≤◌, ◌<◌, ◌+◌, ◌/◌, ◌^◌, true, false};
+ghost use Rattle.vm_types.specs.Replies.{reply_of};
 ghost use Rattle.vm_types.specs.Access.{loaded, with_number};
 ghost use Rattle.vm_types.specs.Width.{byte_count};
 ghost use Rattle.vm_types.specs.declared.command.Command.TheVariants.{Load, Store, Fetch};
@@ -7,9 +8,11 @@ ghost use Rattle.vm_types.specs.declared.width.Width.TheVariants.{Four};
 ghost use Rattle.frames.specs.FrameTable.{IsFrame};
 ghost use Rattle.sv39_walk.specs.Walk.{is_store};
 ghost use Rattle.fault.specs.Files.{ReadsStore};
-ghost use Rattle.syncing.specs.Shows.{IsSound};
-ghost use Rattle.spaces.specs.Accesses.{reply_of};
+ghost use Rattle.residency.specs.Shows.{KeepsDevices};
+ghost use Rattle.syncing.specs.Shows.{IsSoundCore};
+ghost use Rattle.spaces.specs.Accesses.{answer_of};
 ghost use Rattle.spaces.specs.Calls.{Carries, IsCaused};
+ghost use Rattle.spaces.specs.Idle.{is_denial};
 
 use crate::space::PAGE;
 use byteorder::{ByteOrder, LittleEndian};
@@ -17,7 +20,7 @@ use disk_model::SectorDisk;
 use fault::{AccessRefusal, access, live};
 use frames::Frames;
 use residency::Core;
-use vm_types::{Access, Errno, FrameNo, Phys, Reply, StoredValue, Width};
+use vm_types::{Access, Answer, Errno, FrameNo, Phys, StoredValue, Width};
 
 /// The little-endian number of that width at that byte of a page.
 fn read_number(page: &[u8; 4096], at: usize, width: Width) -> u64
@@ -50,12 +53,12 @@ fn frame_of(frames: &Frames, place: Phys) -> FrameNo
 }
 
 /// What is answered where an access has no place in memory.
-fn refused(refusal: AccessRefusal) -> Reply
-    ensures { result ≡ reply_of refusal }
+fn refused(refusal: AccessRefusal) -> Answer
+    ensures { result ≡ answer_of refusal }
 {
     match refusal {
-        AccessRefusal::Fault(fault) => Reply::Faulted(fault),
-        AccessRefusal::Stall(stall) => Reply::Stalled(stall),
+        AccessRefusal::Fault(fault) => Answer::Faulted(fault),
+        AccessRefusal::Stall(stall) => Answer::Stalled(stall),
     }
 }
 
@@ -66,25 +69,26 @@ fn read<D: SectorDisk, E>(
     addr: u64,
     width: Width,
     kind: Access,
-) -> Reply
-    requires sound { IsSound D.SectorDisk core.old }
+) -> Answer
+    requires sound { IsSoundCore D.SectorDisk core.old }
     requires kind { is_store kind ≡ false }
-    ensures sound { IsSound D.SectorDisk core.new }
-    ensures load { kind ≡ Access.Load → Carries D.SectorDisk core.old core.new (Load pid addr width) result }
-    ensures fetch { kind ≡ Access.Fetch → width ≡ Four → Carries D.SectorDisk core.old core.new (Fetch pid addr) result }
+    ensures sound { IsSoundCore D.SectorDisk core.new }
+    ensures load { kind ≡ Access.Load → Carries D.SectorDisk core.old core.new (Load pid addr width) (reply_of result) }
+    ensures fetch { kind ≡ Access.Fetch → width ≡ Four → Carries D.SectorDisk core.old core.new (Fetch pid addr) (reply_of result) }
     ensures reads { ReadsStore D.SectorDisk core.old.store core.new.store }
     ensures swap { core.new.swap ≡ core.old.swap }
-    ensures caused { IsCaused D.SectorDisk core.old core.new result }
+    ensures idle { is_denial (reply_of result) ≡ true → KeepsDevices core.old core.new }
+    ensures caused { IsCaused D.SectorDisk core.old core.new (reply_of result) }
 {
     let Some(pid) = live(core, pid) else {
-        return Reply::Refused(Errno::ESRCH);
+        return Answer::Refused(Errno::ESRCH);
     };
     match access(core, pid, addr, width, kind) {
         Ok(place) => {
             let frame = frame_of(&core.frames, place);
             let page = core.frames.bytes(frame);
             let value = read_number(page, (addr % PAGE) as usize, width);
-            Reply::Value { width, value }
+            Answer::Value { width, value }
         }
         Err(refusal) => refused(refusal),
     }
@@ -96,13 +100,14 @@ fn read<D: SectorDisk, E>(
 /// sigaction(2), si_code): the address is no multiple of the width, its page isn't mapped, the permission lacks the access,
 /// the page lies past the file's end. Where none holds, the load may stall: `NoFrames` where a frame was wanted and
 /// refused, `StoreDevice` where the store failed as the page was read; then nothing is changed that anybody sees.
-pub fn load<D: SectorDisk, E>(core: &mut Core<D, E>, pid: u64, addr: u64, width: Width) -> Reply
-    requires sound { IsSound D.SectorDisk core.old }
-    ensures sound { IsSound D.SectorDisk core.new }
-    ensures comes { Carries D.SectorDisk core.old core.new (Load pid addr width) result }
+pub fn load<D: SectorDisk, E>(core: &mut Core<D, E>, pid: u64, addr: u64, width: Width) -> Answer
+    requires sound { IsSoundCore D.SectorDisk core.old }
+    ensures sound { IsSoundCore D.SectorDisk core.new }
+    ensures comes { Carries D.SectorDisk core.old core.new (Load pid addr width) (reply_of result) }
     ensures reads { ReadsStore D.SectorDisk core.old.store core.new.store }
     ensures swap { core.new.swap ≡ core.old.swap }
-    ensures caused { IsCaused D.SectorDisk core.old core.new result }
+    ensures idle { is_denial (reply_of result) ≡ true → KeepsDevices core.old core.new }
+    ensures caused { IsCaused D.SectorDisk core.old core.new (reply_of result) }
 {
     read(core, pid, addr, width, Access::Load)
 }
@@ -110,13 +115,14 @@ pub fn load<D: SectorDisk, E>(core: &mut Core<D, E>, pid: u64, addr: u64, width:
 /// Reads an instruction, the little-endian number of four bytes at an address, in bytes, of the process.
 ///
 /// `ESRCH`, faults and stalls are those of a load; the address is to be a multiple of 4 (our choice).
-pub fn fetch<D: SectorDisk, E>(core: &mut Core<D, E>, pid: u64, addr: u64) -> Reply
-    requires sound { IsSound D.SectorDisk core.old }
-    ensures sound { IsSound D.SectorDisk core.new }
-    ensures comes { Carries D.SectorDisk core.old core.new (Fetch pid addr) result }
+pub fn fetch<D: SectorDisk, E>(core: &mut Core<D, E>, pid: u64, addr: u64) -> Answer
+    requires sound { IsSoundCore D.SectorDisk core.old }
+    ensures sound { IsSoundCore D.SectorDisk core.new }
+    ensures comes { Carries D.SectorDisk core.old core.new (Fetch pid addr) (reply_of result) }
     ensures reads { ReadsStore D.SectorDisk core.old.store core.new.store }
     ensures swap { core.new.swap ≡ core.old.swap }
-    ensures caused { IsCaused D.SectorDisk core.old core.new result }
+    ensures idle { is_denial (reply_of result) ≡ true → KeepsDevices core.old core.new }
+    ensures caused { IsCaused D.SectorDisk core.old core.new (reply_of result) }
 {
     read(core, pid, addr, Width::Four, Access::Fetch)
 }
@@ -130,23 +136,24 @@ pub fn store<D: SectorDisk, E>(
     pid: u64,
     addr: u64,
     stored: StoredValue,
-) -> Reply
-    requires sound { IsSound D.SectorDisk core.old }
-    ensures sound { IsSound D.SectorDisk core.new }
-    ensures comes { Carries D.SectorDisk core.old core.new (Store pid addr stored) result }
+) -> Answer
+    requires sound { IsSoundCore D.SectorDisk core.old }
+    ensures sound { IsSoundCore D.SectorDisk core.new }
+    ensures comes { Carries D.SectorDisk core.old core.new (Store pid addr stored) (reply_of result) }
     ensures reads { ReadsStore D.SectorDisk core.old.store core.new.store }
     ensures swap { core.new.swap ≡ core.old.swap }
-    ensures caused { IsCaused D.SectorDisk core.old core.new result }
+    ensures idle { is_denial (reply_of result) ≡ true → KeepsDevices core.old core.new }
+    ensures caused { IsCaused D.SectorDisk core.old core.new (reply_of result) }
 {
     let Some(pid) = live(core, pid) else {
-        return Reply::Refused(Errno::ESRCH);
+        return Answer::Refused(Errno::ESRCH);
     };
     match access(core, pid, addr, stored.width, Access::Store) {
         Ok(place) => {
             let frame = frame_of(&core.frames, place);
             let page = core.frames.bytes_mut(frame);
             write_number(page, (addr % PAGE) as usize, stored);
-            Reply::Done
+            Answer::Done
         }
         Err(refusal) => refused(refusal),
     }

@@ -2,12 +2,14 @@
 #![tactic(auto)]
 
 mod accesses;
+mod advice;
 mod births;
 mod maps;
 mod rows;
 mod space;
 
 pub use accesses::{fetch, load, store};
+pub use advice::dontneed;
 pub use births::{exit, fork, spawn};
 pub use maps::mmap;
 pub use rows::{mprotect, munmap};

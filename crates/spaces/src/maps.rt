@@ -2,15 +2,16 @@
 ghost use Rattle.std.specs.Prelude.{◌≡◌, ◌≤◌, ◌<◌, ◌+◌, ◌/◌, ◌^◌, Some, IfNone, IfSome, IfOk, IfErr, IsSome};
 ghost use Rattle.file_store.specs.Store.{files_of};
 ghost use Rattle.regions.specs.RunList.{attr_at};
+ghost use Rattle.vm_types.specs.Replies.{reply_of};
 ghost use Rattle.vm_types.specs.Attributes.{backing_fits};
 ghost use Rattle.vm_types.specs.Checks.{first_of, page_count};
 ghost use Rattle.vm_types.specs.Mapping.{first_attr, first_backing, is_exact, is_taken, place_for};
 ghost use Rattle.vm_types.specs.Placement.{fixed_place, is_free};
 ghost use Rattle.vm_types.specs.declared.command.Command.TheVariants.{Mmap};
 ghost use Rattle.residency.specs.Shows.{KeepsDevices};
-ghost use Rattle.syncing.specs.Shows.{IsSound};
+ghost use Rattle.syncing.specs.Shows.{IsSoundCore};
 ghost use Rattle.spaces.specs.Calls.{Carries, IsCaused};
-ghost use Rattle.spaces.specs.Mappings.{asked_checks, file_checks, place_checks, IsAsked, IsMapped, IsNumbered};
+ghost use Rattle.spaces.specs.Mappings.{mmap_asked_checks, file_checks, place_checks, IsAsked, IsMapped, IsNumbered};
 ghost use Rattle.spaces.specs.Space.{space_of};
 
 use crate::space::{PAGE, regions_of};
@@ -21,7 +22,7 @@ use ranges::remap;
 use regions::Regions;
 use residency::Core;
 use vm_types::{
-    Attr, Backing, Errno, FilePage, MapSource, Placing, Prot, Reply, TooManyRuns, USER_END,
+    Answer, Attr, Backing, Errno, FilePage, MapSource, Placing, Prot, TooManyRuns, USER_END,
     USER_START,
 };
 
@@ -54,7 +55,7 @@ fn refusal<D: SectorDisk>(
     source: MapSource,
     placing: Placing,
 ) -> Option<Errno>
-    ensures asked { result ≡ first_of (asked_checks (files_of store.now) addr len prot source placing) }
+    ensures asked { result ≡ first_of (mmap_asked_checks (files_of store.now) addr len prot source placing) }
     ensures fine { IfNone result (IsAsked len source) }
 {
     if len == 0 {
@@ -220,26 +221,26 @@ pub fn mmap<D: SectorDisk, E>(
     prot: Prot,
     source: MapSource,
     placing: Placing,
-) -> Reply
-    requires sound { IsSound D.SectorDisk core.old }
-    ensures sound { IsSound D.SectorDisk core.new }
-    ensures comes { Carries D.SectorDisk core.old core.new (Mmap pid addr len prot source placing) result }
+) -> Answer
+    requires sound { IsSoundCore D.SectorDisk core.old }
+    ensures sound { IsSoundCore D.SectorDisk core.new }
+    ensures comes { Carries D.SectorDisk core.old core.new (Mmap pid addr len prot source placing) (reply_of result) }
     ensures devices { KeepsDevices core.old core.new }
-    ensures caused { IsCaused D.SectorDisk core.old core.new result }
+    ensures caused { IsCaused D.SectorDisk core.old core.new (reply_of result) }
 {
     let Some(pid) = live(core, pid) else {
-        return Reply::Refused(Errno::ESRCH);
+        return Answer::Refused(Errno::ESRCH);
     };
     if let Some(errno) = refusal(&core.store, addr, len, prot, source, placing) {
-        return Reply::Refused(errno);
+        return Answer::Refused(errno);
     }
     let pages = len.div_ceil(PAGE);
     let attr = first_attr(source, prot);
     match planned(regions_of(core, pid), addr, pages, attr, placing) {
         Ok(Plan { first, regions }) => {
             remap(core, pid, first, pages, regions);
-            Reply::Address(first * PAGE)
+            Answer::Address(first * PAGE)
         }
-        Err(errno) => Reply::Refused(errno),
+        Err(errno) => Answer::Refused(errno),
     }
 }

@@ -1,12 +1,13 @@
 //! munmap and mprotect.
 ghost use Rattle.std.specs.Prelude.{◌≡◌, ◌+◌, ◌<◌, ◌^◌, Some, IfOk, IfErr};
 ghost use Rattle.file_store.specs.Store.{files_of};
+ghost use Rattle.vm_types.specs.Replies.{reply_of};
 ghost use Rattle.vm_types.specs.Checks.{first_of};
 ghost use Rattle.vm_types.specs.Counting.{any_below};
 ghost use Rattle.vm_types.specs.Ranges.{denies_stores, is_guarded, is_guarded_page};
 ghost use Rattle.vm_types.specs.declared.command.Command.TheVariants.{Munmap, Mprotect};
 ghost use Rattle.residency.specs.Shows.{KeepsDevices};
-ghost use Rattle.syncing.specs.Shows.{IsSound};
+ghost use Rattle.syncing.specs.Shows.{IsSoundCore};
 ghost use Rattle.spaces.specs.Calls.{Carries, IsCaused};
 ghost use Rattle.spaces.specs.Protections.{permit_checks, IsPermitted};
 ghost use Rattle.spaces.specs.Space.{space_of};
@@ -18,7 +19,7 @@ use file_store::FileStore;
 use ranges::{remap, reprotect};
 use regions::Regions;
 use residency::Core;
-use vm_types::{Backing, Errno, Prot, Reply, TooManyRuns, USER_END};
+use vm_types::{Answer, Backing, Errno, Prot, TooManyRuns, USER_END};
 
 /// Whether stores through a backing go to a file that may only be read.
 fn is_guarded<D: SectorDisk>(store: &FileStore<D>, backing: Backing) -> bool
@@ -101,18 +102,18 @@ fn permitted<D: SectorDisk>(
 ///
 /// In this order: `ESRCH` where there is no such process, `EINVAL` where the length is 0 or the address is no multiple of
 /// the page size, `ENOMEM` where more than 256 runs would result. A refused call changes nothing.
-pub fn munmap<D: SectorDisk, E>(core: &mut Core<D, E>, pid: u64, addr: u64, len: u64) -> Reply
-    requires sound { IsSound D.SectorDisk core.old }
-    ensures sound { IsSound D.SectorDisk core.new }
-    ensures comes { Carries D.SectorDisk core.old core.new (Munmap pid addr len) result }
+pub fn munmap<D: SectorDisk, E>(core: &mut Core<D, E>, pid: u64, addr: u64, len: u64) -> Answer
+    requires sound { IsSoundCore D.SectorDisk core.old }
+    ensures sound { IsSoundCore D.SectorDisk core.new }
+    ensures comes { Carries D.SectorDisk core.old core.new (Munmap pid addr len) (reply_of result) }
     ensures devices { KeepsDevices core.old core.new }
-    ensures caused { IsCaused D.SectorDisk core.old core.new result }
+    ensures caused { IsCaused D.SectorDisk core.old core.new (reply_of result) }
 {
     let Some(pid) = live(core, pid) else {
-        return Reply::Refused(Errno::ESRCH);
+        return Answer::Refused(Errno::ESRCH);
     };
     if len == 0 || addr % PAGE != 0 {
-        return Reply::Refused(Errno::EINVAL);
+        return Answer::Refused(Errno::EINVAL);
     }
     let first = addr / PAGE;
     let pages = len.div_ceil(PAGE);
@@ -121,9 +122,9 @@ pub fn munmap<D: SectorDisk, E>(core: &mut Core<D, E>, pid: u64, addr: u64, len:
             let start = first.min(USER_END);
             let end = (first + pages).min(USER_END);
             remap(core, pid, start, end - start, next);
-            Reply::Done
+            Answer::Done
         }
-        Err(TooManyRuns) => Reply::Refused(Errno::ENOMEM),
+        Err(TooManyRuns) => Answer::Refused(Errno::ENOMEM),
     }
 }
 
@@ -139,29 +140,29 @@ pub fn mprotect<D: SectorDisk, E>(
     addr: u64,
     len: u64,
     prot: Prot,
-) -> Reply
-    requires sound { IsSound D.SectorDisk core.old }
-    ensures sound { IsSound D.SectorDisk core.new }
-    ensures comes { Carries D.SectorDisk core.old core.new (Mprotect pid addr len prot) result }
+) -> Answer
+    requires sound { IsSoundCore D.SectorDisk core.old }
+    ensures sound { IsSoundCore D.SectorDisk core.new }
+    ensures comes { Carries D.SectorDisk core.old core.new (Mprotect pid addr len prot) (reply_of result) }
     ensures devices { KeepsDevices core.old core.new }
-    ensures caused { IsCaused D.SectorDisk core.old core.new result }
+    ensures caused { IsCaused D.SectorDisk core.old core.new (reply_of result) }
 {
     let Some(pid) = live(core, pid) else {
-        return Reply::Refused(Errno::ESRCH);
+        return Answer::Refused(Errno::ESRCH);
     };
     if addr % PAGE != 0 {
-        return Reply::Refused(Errno::EINVAL);
+        return Answer::Refused(Errno::EINVAL);
     }
     if len == 0 {
-        return Reply::Done;
+        return Answer::Done;
     }
     let first = addr / PAGE;
     let pages = len.div_ceil(PAGE);
     match permitted(&core.store, regions_of(core, pid), first, pages, prot) {
         Ok(regions) => {
             reprotect(core, pid, first, pages, prot.kept(), regions);
-            Reply::Done
+            Answer::Done
         }
-        Err(errno) => Reply::Refused(errno),
+        Err(errno) => Answer::Refused(errno),
     }
 }

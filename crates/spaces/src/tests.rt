@@ -1,7 +1,7 @@
 //! Calls over a formatted store in memory. The expected replies are the manual pages' and our own choices, worked out by
 //! hand.
 ghost use Rattle.std.specs.Prelude.{◌≤◌, IfOk};
-ghost use Rattle.syncing.specs.Shows.{IsSound};
+ghost use Rattle.syncing.specs.Shows.{IsSoundCore};
 
 use crate::{exit, fetch, fork, load, mmap, mprotect, msync, munmap, spawn, store};
 use disk_model::{SectorDisk, SimDisk};
@@ -10,7 +10,7 @@ use residency::Core;
 use std::alloc::Global;
 use std::test::Fail;
 use vm_types::{
-    Code, Errno, Fault, MapSource, MsyncMode, Pid, Placing, Prot, Reply, Stall, StoredValue, Width,
+    Answer, Code, Errno, Fault, MapSource, MsyncMode, Pid, Placing, Prot, Stall, StoredValue, Width,
 };
 
 type Memory = Core<SimDisk, SimDisk>;
@@ -19,7 +19,7 @@ type Memory = Core<SimDisk, SimDisk>;
 fn memory(alloc: Global, frames: u32, length: u32, read_only: bool) -> Result<Memory, Fail>
     requires least { 8 ≤ frames }
     requires most { frames ≤ 64 }
-    ensures { IfOk result (λ core. IsSound ⟦<SimDisk as SectorDisk>⟧ core) }
+    ensures { IfOk result (λ core. IsSoundCore ⟦<SimDisk as SectorDisk>⟧ core) }
 {
     let mut disk = SimDisk::new(alloc, 1020 + 8 * u64::from(length).div_ceil(4096))?;
     let mut files: [FileSource<&[u8]>; 1] = [FileSource {
@@ -47,42 +47,42 @@ fn read_write() -> Prot {
 const FILE: MapSource = MapSource::Shared { file: 0, offset: 0 };
 
 // Maps pages of process 1 where the hint says.
-fn map(core: &mut Memory, addr: u64, len: u64, prot: Prot, source: MapSource) -> Reply
-    requires { IsSound ⟦<SimDisk as SectorDisk>⟧ core.old }
-    ensures { IsSound ⟦<SimDisk as SectorDisk>⟧ core.new }
+fn map(core: &mut Memory, addr: u64, len: u64, prot: Prot, source: MapSource) -> Answer
+    requires { IsSoundCore ⟦<SimDisk as SectorDisk>⟧ core.old }
+    ensures { IsSoundCore ⟦<SimDisk as SectorDisk>⟧ core.new }
 {
     mmap(core, 1, addr, len, prot, source, Placing::Hint)
 }
 
 // Stores a byte.
-fn put(core: &mut Memory, pid: u64, addr: u64, byte: u8) -> Reply
-    requires { IsSound ⟦<SimDisk as SectorDisk>⟧ core.old }
-    ensures { IsSound ⟦<SimDisk as SectorDisk>⟧ core.new }
+fn put(core: &mut Memory, pid: u64, addr: u64, byte: u8) -> Answer
+    requires { IsSoundCore ⟦<SimDisk as SectorDisk>⟧ core.old }
+    ensures { IsSoundCore ⟦<SimDisk as SectorDisk>⟧ core.new }
 {
     match StoredValue::new(Width::One, u64::from(byte)) {
         Some(stored) => store(core, pid, addr, stored),
-        None => Reply::Halted,
+        None => Answer::Halted,
     }
 }
 
 // Loads a byte.
-fn get(core: &mut Memory, pid: u64, addr: u64) -> Reply
-    requires { IsSound ⟦<SimDisk as SectorDisk>⟧ core.old }
-    ensures { IsSound ⟦<SimDisk as SectorDisk>⟧ core.new }
+fn get(core: &mut Memory, pid: u64, addr: u64) -> Answer
+    requires { IsSoundCore ⟦<SimDisk as SectorDisk>⟧ core.old }
+    ensures { IsSoundCore ⟦<SimDisk as SectorDisk>⟧ core.new }
 {
     load(core, pid, addr, Width::One)
 }
 
-fn value(width: Width, value: u64) -> Reply {
-    Reply::Value { width, value }
+fn value(width: Width, value: u64) -> Answer {
+    Answer::Value { width, value }
 }
 
-fn fault(cause: u8, code: Code, addr: u64) -> Reply {
-    Reply::Faulted(Fault { cause, code, addr })
+fn fault(cause: u8, code: Code, addr: u64) -> Answer {
+    Answer::Faulted(Fault { cause, code, addr })
 }
 
-fn process(pid: u64) -> Result<Reply, Fail> {
-    Ok(Reply::Process(Pid::new(pid).ok_or("a process number")?))
+fn process(pid: u64) -> Result<Answer, Fail> {
+    Ok(Answer::Process(Pid::new(pid).ok_or("a process number")?))
 }
 
 #[test]
@@ -97,9 +97,9 @@ fn loads_what_was_stored(rt: HostRuntime) -> Result<(), Fail> {
     let middle = load(&mut core, 1, 0x10002, Width::Two);
     let high = load(&mut core, 1, 0x10004, Width::Four);
     assert_eq!(rt; first, process(1)?);
-    assert_eq!(rt; place, Reply::Address(0x10000));
+    assert_eq!(rt; place, Answer::Address(0x10000));
     assert_eq!(rt; zeros, value(Width::Eight, 0));
-    assert_eq!(rt; done, Reply::Done);
+    assert_eq!(rt; done, Answer::Done);
     assert_eq!(rt; low, value(Width::One, 0x88));
     assert_eq!(rt; middle, value(Width::Two, 0x5566));
     assert_eq!(rt; high, value(Width::Four, 0x1122_3344));
@@ -124,9 +124,9 @@ fn judges_an_access_in_order(rt: HostRuntime) -> Result<(), Fail> {
     assert_eq!(rt; past, fault(13, Code::SegvMaperr, 0x40_0000_0000));
     assert_eq!(rt; high, fault(13, Code::SegvMaperr, 0xffff_ffc0_0000_0000));
     assert_eq!(rt; odd, fault(0, Code::BusAdraln, 0x20002));
-    assert_eq!(rt; writable, Reply::Address(0x10000));
+    assert_eq!(rt; writable, Answer::Address(0x10000));
     assert_eq!(rt; readable, value(Width::One, 0));
-    assert_eq!(rt; runnable, Reply::Address(0x11000));
+    assert_eq!(rt; runnable, Answer::Address(0x11000));
     assert_eq!(rt; fetched, value(Width::Four, 0));
     assert_eq!(rt; unread, fault(13, Code::SegvAccerr, 0x11000));
     assert_eq!(rt; unrun, fault(12, Code::SegvAccerr, 0x10000));
@@ -143,17 +143,17 @@ fn shares_a_file_and_syncs_it(rt: HostRuntime) -> Result<(), Fail> {
     let seen = get(&mut core, 1, 0x11388);
     let outside = get(&mut core, 1, 0x12000);
     let synced = msync(&mut core, 1, 0x10000, 12288, MsyncMode::Sync);
-    assert_eq!(rt; place, Reply::Address(0x10000));
-    assert_eq!(rt; last, Reply::Done);
-    assert_eq!(rt; behind, Reply::Done);
+    assert_eq!(rt; place, Answer::Address(0x10000));
+    assert_eq!(rt; last, Answer::Done);
+    assert_eq!(rt; behind, Answer::Done);
     assert_eq!(rt; seen, value(Width::One, 0xbb));
     assert_eq!(rt; outside, fault(13, Code::BusAdrerr, 0x12000));
-    assert_eq!(rt; synced, Reply::Done);
-    // Byte 4,999 is byte 391 of the second sector of page 1, whose home begins at sector 1,028.
+    assert_eq!(rt; synced, Answer::Done);
+    // Byte 4,999 is byte 391 of the second sector of page 1, which stands in the journal's body, from sector 4 on.
     let disk = core.store.disk();
     assert_eq!(rt; disk.sectors(), 1036);
-    assert_eq!(rt; disk.sector(1029)[391], 0xaa);
-    assert_eq!(rt; disk.sector(1029)[392], 0);
+    assert_eq!(rt; disk.sector(5)[391], 0xaa);
+    assert_eq!(rt; disk.sector(5)[392], 0);
     Ok(())
 }
 
@@ -178,9 +178,9 @@ fn forks_and_exits(rt: HostRuntime) -> Result<(), Fail> {
     assert_eq!(rt; of_parent, value(Width::One, 0x22));
     assert_eq!(rt; of_child, value(Width::One, 0x33));
     assert_eq!(rt; shared, value(Width::One, 0x44));
-    assert_eq!(rt; ended, Reply::Done);
-    assert_eq!(rt; gone, Reply::Refused(Errno::ESRCH));
-    assert_eq!(rt; missing, Reply::Refused(Errno::ESRCH));
+    assert_eq!(rt; ended, Answer::Done);
+    assert_eq!(rt; gone, Answer::Refused(Errno::ESRCH));
+    assert_eq!(rt; missing, Answer::Refused(Errno::ESRCH));
     Ok(())
 }
 
@@ -198,13 +198,13 @@ fn maps_protects_and_unmaps(rt: HostRuntime) -> Result<(), Fail> {
     let denied = put(&mut core, 1, 0x20000, 2);
     let removed = munmap(&mut core, 1, 0x20000, 0x1000);
     let missing = get(&mut core, 1, 0x20000);
-    assert_eq!(rt; over_hole, Reply::Refused(Errno::ENOMEM));
-    assert_eq!(rt; stored, Reply::Done);
-    assert_eq!(rt; odd, Reply::Refused(Errno::EINVAL));
-    assert_eq!(rt; none, Reply::Done);
-    assert_eq!(rt; protected, Reply::Done);
+    assert_eq!(rt; over_hole, Answer::Refused(Errno::ENOMEM));
+    assert_eq!(rt; stored, Answer::Done);
+    assert_eq!(rt; odd, Answer::Refused(Errno::EINVAL));
+    assert_eq!(rt; none, Answer::Done);
+    assert_eq!(rt; protected, Answer::Done);
     assert_eq!(rt; denied, fault(15, Code::SegvAccerr, 0x20000));
-    assert_eq!(rt; removed, Reply::Done);
+    assert_eq!(rt; removed, Answer::Done);
     assert_eq!(rt; missing, fault(13, Code::SegvMaperr, 0x20000));
     Ok(())
 }
@@ -227,14 +227,14 @@ fn refuses_what_a_read_only_file_does_not_allow(rt: HostRuntime) -> Result<(), F
     let place = map(&mut core, 0, 4096, Prot::READ, FILE);
     let guarded = mprotect(&mut core, 1, 0x10000, 4096, read_write());
     let nothing = munmap(&mut core, 1, 0x50000, 4096);
-    assert_eq!(rt; empty, Reply::Refused(Errno::EINVAL));
-    assert_eq!(rt; denied, Reply::Refused(Errno::EACCES));
-    assert_eq!(rt; no_file, Reply::Refused(Errno::EBADF));
-    assert_eq!(rt; odd, Reply::Refused(Errno::EINVAL));
-    assert_eq!(rt; far, Reply::Refused(Errno::EOVERFLOW));
-    assert_eq!(rt; place, Reply::Address(0x10000));
-    assert_eq!(rt; guarded, Reply::Refused(Errno::EACCES));
-    assert_eq!(rt; nothing, Reply::Done);
+    assert_eq!(rt; empty, Answer::Refused(Errno::EINVAL));
+    assert_eq!(rt; denied, Answer::Refused(Errno::EACCES));
+    assert_eq!(rt; no_file, Answer::Refused(Errno::EBADF));
+    assert_eq!(rt; odd, Answer::Refused(Errno::EINVAL));
+    assert_eq!(rt; far, Answer::Refused(Errno::EOVERFLOW));
+    assert_eq!(rt; place, Answer::Address(0x10000));
+    assert_eq!(rt; guarded, Answer::Refused(Errno::EACCES));
+    assert_eq!(rt; nothing, Answer::Done);
     Ok(())
 }
 
@@ -253,8 +253,8 @@ fn stalls_for_want_of_a_frame(rt: HostRuntime) -> Result<(), Fail> {
     let ended = exit(&mut core, 7);
     let again = spawn(&mut core);
     assert_eq!(rt; seventh, process(7)?);
-    assert_eq!(rt; eighth, Reply::Stalled(Stall::NoFrames));
-    assert_eq!(rt; ended, Reply::Done);
+    assert_eq!(rt; eighth, Answer::Stalled(Stall::NoFrames));
+    assert_eq!(rt; ended, Answer::Done);
     assert_eq!(rt; again, process(7)?);
     Ok(())
 }

@@ -1,6 +1,8 @@
 -- What images stand for.
-use Rattle.std.proofs.Common.{◌≡◌, ◌≢◌, ◌⊎◌, ◌<◌, ◌+◌, ℕ, zero, suc, Bool, true, false, List, length, get_or, Option, Some, None, if◌then◌else◌, ◌==◌, refl, sym, ap, subst, ◌∙◌, ⊎_elim, arith}
-use Rattle.std.proofs.lemmas.Bool.{cases_eq, eqb-true, eqb-false}
+use Rattle.std.proofs.Common.{◌≡◌, ◌≢◌, ◌⊎◌, ◌<◌, ◌+◌, ℕ, zero, suc, Bool, true, false, List, length, get_or, Option, Some, None, if◌then◌else◌, ◌==◌, refl, sym, ap, subst, ◌∙◌, ⊎_elim, arith, add-one}
+use Rattle.std.specs.Prelude.{IfSome}
+use Rattle.std.proofs.lemmas.Bool.{cases_eq, eqb-true, eqb-false, eq-eqb}
+use Rattle.std.proofs.lemmas.Bool.Decides.{nat_tests}
 use Rattle.disk_model.specs.Stop.{Image}
 use Rattle.sync_journal.specs.Layout.{gate_sector, map_sector, body_sector, home_sector, home_count, IsHomeSector, IsOutside}
 use Rattle.sync_journal.specs.Gate.{is_open}
@@ -15,6 +17,26 @@ place_same f g h zero same = refl
 place_same f g h (suc n) same =
     ap (λ name. if name == h then Some n else place_among f h n) (same n (omega arith))
     ∙ ap (λ rest. if g n == h then Some n else rest) (place_same f g h n (λ j below. same j (omega arith)))
+
+-- the places of no home, and of one home more
+pub no_place : (names : ℕ → ℕ) (h : ℕ) → place_among names h 0 ≡ None
+unfolding place_among
+no_place names h = refl
+
+eqb-ne : (m n : ℕ) → m ≢ n → (m == n) ≡ false
+eqb-ne m n other = grind (arith, nat_tests)
+
+pub named_next : (names : ℕ → ℕ) (h n : ℕ) → names n ≡ h → place_among names h (n + 1) ≡ Some n
+unfolding place_among
+named_next names h n here = rw add-one (ap (λ b. if b then Some n else place_among names h n) (eq-eqb (names n) h here))
+
+pub other_next : (names : ℕ → ℕ) (h n : ℕ) → names n ≢ h → place_among names h (n + 1) ≡ place_among names h n
+unfolding place_among
+other_next names h n other = rw add-one (ap (λ b. if b then Some n else place_among names h n) (eqb-ne (names n) h other))
+
+pub within_more : (o : Option ℕ) (n : ℕ) → IfSome o (λ k. k < n) → IfSome o (λ k. k < n + 1)
+within_more None n within = tt
+within_more (Some k) n within = omega (arith, within)
 
 -- what a place means
 abbrev pub Means : (ℕ → ℕ) → ℕ → ℕ → Option ℕ → Type 0

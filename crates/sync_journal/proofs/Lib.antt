@@ -4,7 +4,11 @@ pub mod Gates
 pub mod Images
 pub mod Maps
 pub mod Phases
+pub mod Pieces
 pub mod Recoveries
+pub mod Stops
 pub mod Replays
+pub mod Rests
 pub mod Runs
 pub mod Sectors
+pub mod Since

@@ -1,17 +1,18 @@
--- The moments of a commit: the pages and the map staged, the gate opened, and a replay.
-use Rattle.std.proofs.Common.{◌≡◌, ◌≢◌, ◌⊎◌, ◌≤◌, ◌<◌, ◌+◌, ◌^◌, ℕ, true, false, List, length, get_or, Option, Some, None, sym, ap, subst, ◌∙◌, ⊎_elim, inl, inr, arith}
+-- The moments of a commit's own part: the pages and the map staged, and the gate opened.
+use Rattle.std.proofs.Common.{◌≡◌, ◌≢◌, ◌⊎◌, ◌≤◌, ◌<◌, ◌+◌, ◌^◌, ℕ, true, false, List, [], length, get_or, Option, Some, None, refl, sym, ap, ◌∙◌, ⊎_elim, inl, inr, arith}
 use Rattle.disk_model.specs.Stop.{Image, MayLeave}
 use Rattle.disk_model.specs.Moments.{Touches, LeavesOnly}
-use Rattle.disk_model.proofs.Moments.{started, goes_on, joined, weaker}
+use Rattle.disk_model.proofs.Moments.{started, goes_on, weaker}
 use Rattle.disk_model.specs.declared.sector_disk.SectorDisk.{Ghosts}
 use Rattle.sync_journal.specs.Layout.{gate_sector, map_sector, home_sector, body_sector, home_count, IsGate, IsJournalSector, IsOutside}
 use Rattle.sync_journal.specs.Gate.{is_open, is_open_sector}
 use Rattle.sync_journal.specs.Map.{map_bytes, place_of, count_in, home_in, AreHomes, IsBadMap}
 use Rattle.sync_journal.specs.Standing.{place_or_home, standing, StandsFor, IsOpenFor, HoldsPages}
-use Rattle.sync_journal.specs.Commit.{sector_or, changed, StandsForEither, IsKept, IsQuiet, IsSettled}
+use Rattle.sync_journal.specs.Commit.{sector_or, changed, StandsForEither, IsKept, IsQuiet, IsLive, IsSettled}
 use Rattle.sync_journal.proofs.Maps.{counted, named}
 use Rattle.sync_journal.proofs.Images.{Means, place_means, standing_closed, standing_open}
 use Rattle.sync_journal.proofs.Replays.{open_or_closed}
+use Rattle.sync_journal.proofs.Rests.{live_at_rest}
 
 -- the sectors outside are neither the gate nor the journal's
 pub not_gate : (sectors k : ℕ) → IsOutside sectors k → k ≢ gate_sector
@@ -104,18 +105,7 @@ module _ (sectors : ℕ) (homes : List ℕ) (are : AreHomes (home_count sectors)
       record { stands = inl kept.stands; journal = kept.journal; outside = kept.outside })
       (open_or_closed image)
 
-  -- what is kept once the gate is open is the pages after
-  pub kept_since : (opened image : Image) → is_open opened ≡ true → ((k : ℕ) → k ≢ gate_sector → opened k ≡ staged k)
-      → IsKept sectors opened (StandsFor (standing opened)) image → IsKept sectors content (StandsFor After) image
-  kept_since opened image gate same kept =
-      let here = after_kept opened gate same in
-      record {
-        stands = record { each = λ h i below. kept.stands.each h i below ∙ here.stands.each h i below };
-        journal = λ bad. here.journal (kept.journal bad);
-        outside = λ k outside. kept.outside k outside ∙ here.outside k outside;
-      }
-
--- The states of a commit: before, staged, with the gate open, and at the end of the replay.
+-- The states: before, staged, and with the gate open.
 module _ {D : Type 0} (g : Ghosts D) (homes : List ℕ) (pages : ℕ → List ℕ) (old staged : D)
     (only_now : (image : Image) → g.left_since old (g.moment old) image → MayLeave (g.content old) (g.unsynced old) image)
     (are : AreHomes (home_count (g.sector_count old)) homes) (quiet : IsQuiet g old) (stages : Touches g IsJournalSector old staged) where
@@ -140,11 +130,11 @@ module _ {D : Type 0} (g : Ghosts D) (homes : List ℕ) (pages : ℕ → List �
       stages around_staging
 
   -- where the source failed
-  pub staged_settled : IsSettled g (g.sector_count old) (g.content old) staged (standing (g.content old))
+  pub staged_settled : IsSettled g (g.sector_count old) (g.content old) [] staged (standing (g.content old))
   staged_settled =
       let here = as_before (g.content staged) stages.content in
       record {
-        quiet = record {
+        rest = record {
           closed = ap is_open_sector (⊎_elim (λ inside. absurd (omega (arith, inside.0))) (λ e. e) (stages.content gate_sector)) ∙ quiet.closed;
           synced = unsynced;
         };
@@ -160,7 +150,7 @@ module _ {D : Type 0} (g : Ghosts D) (homes : List ℕ) (pages : ℕ → List �
   while_staging_either = weaker g old staged Before Either
       (λ image kept. record { stands = inl kept.stands; journal = kept.journal; outside = kept.outside }) while_staging
 
-  module _ (opened new : D) (body : HoldsPages (length homes) pages (g.content staged)) (map : g.content staged map_sector ≡ map_bytes homes)
+  module _ (opened : D) (body : HoldsPages (length homes) pages (g.content staged)) (map : g.content staged map_sector ≡ map_bytes homes)
       (staged_synced : (k : ℕ) → g.unsynced staged k → ⊥) (opens : Touches g IsGate staged opened) where
     counts : count_in (g.content staged map_sector) ≡ length homes
     counts = ap count_in map ∙ counted homes are.few
@@ -175,33 +165,27 @@ module _ {D : Type 0} (g : Ghosts D) (homes : List ℕ) (pages : ℕ → List �
     pub while_opening : LeavesOnly g old opened Either
     while_opening = goes_on g IsGate old staged opened Either while_staging_either opens around_opening
 
-    module _ (gate : is_open (g.content opened) ≡ true) where
-      as_staged : (k : ℕ) → k ≢ gate_sector → g.content opened k ≡ g.content staged k
-      as_staged k other = ⊎_elim (λ at. absurd (other at)) (λ e. e) (opens.content k)
+    module _ (gate : is_open (g.content opened) ≡ true) (opened_synced : (k : ℕ) → g.unsynced opened k → ⊥) (some : 0 < length homes) where
+      -- an image with the content as the gate was opened
+      after : (image : Image) → ((k : ℕ) → image k ≡ g.content opened k) → IsKept (g.sector_count old) (g.content old) (StandsFor (changed (standing (g.content old)) homes pages)) image
+      after image same = after_kept (g.sector_count old) homes are pages (g.content old) (g.content staged) quiet.closed stages.content counts names body image
+          (ap is_open_sector (same gate_sector) ∙ gate)
+          (λ k other. same k ∙ ⊎_elim (λ at. absurd (other at)) (λ e. e) (opens.content k))
 
-      since : (image : Image) → IsKept (g.sector_count old) (g.content opened) (StandsFor (standing (g.content opened))) image
-          → IsKept (g.sector_count old) (g.content old) (StandsFor (changed (standing (g.content old)) homes pages)) image
-      since image kept = kept_since (g.sector_count old) homes are pages (g.content old) (g.content staged) quiet.closed stages.content counts names body
-          (g.content opened) image gate as_staged kept
+      pub opened_settled : IsLive g homes opened → IsSettled g (g.sector_count old) (g.content old) homes opened (changed (standing (g.content old)) homes pages)
+      opened_settled live = let here = after (g.content opened) (λ k. refl) in record {
+        rest = live_at_rest g homes opened some live;
+        stands = here.stands;
+        outside = here.outside;
+        left = λ image may. after image (λ k. ⊎_elim (λ u. absurd (opened_synced k u)) (λ e. e) (may.kept k));
+      }
 
-      here : IsKept (g.sector_count old) (g.content old) (StandsFor (changed (standing (g.content old)) homes pages)) (g.content opened)
-      here = after_kept (g.sector_count old) homes are pages (g.content old) (g.content staged) quiet.closed stages.content counts names body (g.content opened) gate as_staged
-
-      pub while_replaying : g.sector_count opened ≡ g.sector_count old
-          → LeavesOnly g opened new (IsKept (g.sector_count opened) (g.content opened) (StandsFor (standing (g.content opened)))) → LeavesOnly g old new Either
-      while_replaying size replayed = joined g old opened new Either while_opening
-          (weaker g opened new (IsKept (g.sector_count old) (g.content opened) (StandsFor (standing (g.content opened)))) Either
-          (λ image kept. let after = since image kept in record { stands = inr after.stands; journal = after.journal; outside = after.outside })
-          (subst (λ sectors. LeavesOnly g opened new (IsKept sectors (g.content opened) (StandsFor (standing (g.content opened))))) size replayed))
-
-      pub replay_settled : g.sector_count opened ≡ g.sector_count old
-          → IsSettled g (g.sector_count opened) (g.content opened) new (standing (g.content opened))
-          → IsSettled g (g.sector_count old) (g.content old) new (changed (standing (g.content old)) homes pages)
-      replay_settled size replayed =
-          let settled = subst (λ sectors. IsSettled g sectors (g.content opened) new (standing (g.content opened))) size replayed in
-          record {
-            quiet = settled.quiet;
-            stands = record { each = λ h i below. settled.stands.each h i below ∙ here.stands.each h i below };
-            outside = λ k outside. settled.outside k outside ∙ here.outside k outside;
-            left = λ image may. since image (settled.left image may);
-          }
+-- With the gate open the journal is live, whatever the source gave.
+pub opened_live : {D : Type 0} (g : Ghosts D) (homes : List ℕ) (old staged opened : D) → AreHomes (home_count (g.sector_count old)) homes
+    → g.content staged map_sector ≡ map_bytes homes → Touches g IsGate staged opened → is_open (g.content opened) ≡ true
+    → ((k : ℕ) → g.unsynced opened k → ⊥) → IsLive g homes opened
+opened_live g homes old staged opened are map opens gate synced = record {
+  opened = opens_for (home_count (g.sector_count old)) homes (g.content opened) are (omega arith) gate
+      (⊎_elim {C = g.content opened map_sector ≡ g.content staged map_sector} (λ at. absurd (omega (arith, at))) (λ e. e) (opens.content map_sector) ∙ map);
+  synced = synced;
+}

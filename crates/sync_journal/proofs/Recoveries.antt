@@ -1,11 +1,11 @@
 -- The moments of a recovery: a look at gate and map, and a replay.
-use Rattle.std.proofs.Common.{◌≡◌, ℕ, refl, sym, subst, ⊎_elim}
+use Rattle.std.proofs.Common.{◌≡◌, ℕ, [], refl, sym, subst, ◌∙◌, ⊎_elim}
 use Rattle.disk_model.specs.Stop.{Image, MayLeave}
 use Rattle.disk_model.specs.Moments.{Nothing, Touches, LeavesOnly}
-use Rattle.disk_model.proofs.Moments.{started, goes_on, joined}
+use Rattle.disk_model.proofs.Moments.{started, goes_on, joined, weaker}
 use Rattle.disk_model.specs.declared.sector_disk.SectorDisk.{Ghosts}
-use Rattle.sync_journal.specs.Standing.{standing, StandsFor}
-use Rattle.sync_journal.specs.Commit.{IsKept, IsSettled}
+use Rattle.sync_journal.specs.Standing.{standing, StandsFor, IsBadJournal}
+use Rattle.sync_journal.specs.Commit.{IsKept, IsSettled, HomesStandAs, KeepsHomes}
 
 -- an image of the same sectors stands for the same
 pub same_kept : (sectors : ℕ) (content image : Image) → image ≡ content → IsKept sectors content (StandsFor (standing content)) image
@@ -14,6 +14,15 @@ same_kept sectors content image same = subst (IsKept sectors content (StandsFor 
   journal = λ bad. bad;
   outside = λ k outside. refl;
 })
+
+-- what is kept of what was kept
+pub kept_again : (sectors : ℕ) (first content image : Image) → IsKept sectors first (StandsFor (standing first)) content
+    → IsKept sectors content (StandsFor (standing content)) image → IsKept sectors first (StandsFor (standing first)) image
+kept_again sectors first content image was kept = record {
+  stands = record { each = λ h i below. kept.stands.each h i below ∙ was.stands.each h i below };
+  journal = λ bad. was.journal (kept.journal bad);
+  outside = λ k outside. kept.outside k outside ∙ was.outside k outside;
+}
 
 module _ {D : Type 0} (g : Ghosts D) (old read new : D) (reads : Touches g Nothing old read) where
   pub read_same : g.content read ≡ g.content old
@@ -40,8 +49,21 @@ module _ {D : Type 0} (g : Ghosts D) (old read new : D) (reads : Touches g Nothi
       (subst (λ sectors. LeavesOnly g read new (IsKept sectors (g.content old) (StandsFor (standing (g.content old))))) size
       (subst (λ content. LeavesOnly g read new (IsKept (g.sector_count read) content (StandsFor (standing content)))) read_same second))
 
-  pub settled_since : g.sector_count read ≡ g.sector_count old → IsSettled g (g.sector_count read) (g.content read) new (standing (g.content read))
-      → IsSettled g (g.sector_count old) (g.content old) new (standing (g.content old))
+  pub settled_since : g.sector_count read ≡ g.sector_count old → IsSettled g (g.sector_count read) (g.content read) [] new (standing (g.content read))
+      → IsSettled g (g.sector_count old) (g.content old) [] new (standing (g.content old))
   settled_since size here =
-      subst (λ sectors. IsSettled g sectors (g.content old) new (standing (g.content old))) size
-      (subst (λ content. IsSettled g (g.sector_count read) content new (standing content)) read_same here)
+      subst (λ sectors. IsSettled g sectors (g.content old) [] new (standing (g.content old))) size
+      (subst (λ content. IsSettled g (g.sector_count read) content [] new (standing content)) read_same here)
+
+  -- the journal is as bad as it was
+  pub bad_since : g.sector_count read ≡ g.sector_count old → IsBadJournal (g.sector_count read) (g.content read) → IsBadJournal (g.sector_count old) (g.content old)
+  bad_since size bad = subst (λ sectors. IsBadJournal sectors (g.content old)) size (subst (λ content. IsBadJournal (g.sector_count read) content) read_same bad)
+
+  pub bad_still : g.sector_count read ≡ g.sector_count old → IsBadJournal (g.sector_count old) (g.content old) → IsBadJournal (g.sector_count read) (g.content read)
+  bad_still size bad = subst (λ sectors. IsBadJournal sectors (g.content read)) (sym size) (subst (λ content. IsBadJournal (g.sector_count old) content) (sym read_same) bad)
+
+-- what stood for an earlier image still does
+pub since_first : {D : Type 0} (g : Ghosts D) (old new : D) (first : Image) → HomesStandAs (g.sector_count old) first (g.content old)
+    → KeepsHomes g old new → LeavesOnly g old new (HomesStandAs (g.sector_count old) first)
+since_first g old new first was run = weaker g old new (HomesStandAs (g.sector_count old) (g.content old)) (HomesStandAs (g.sector_count old) first)
+    (λ image kept. kept_again (g.sector_count old) first (g.content old) image was kept) run

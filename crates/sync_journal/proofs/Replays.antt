@@ -1,5 +1,5 @@
 -- The moments of a replay.
-use Rattle.std.proofs.Common.{Result, Ok, Err, OnOk, ◌≡◌, ◌≢◌, ◌⊎◌, ◌+◌, ℕ, Bool, true, false, List, length, get_or, refl, ap, ◌∙◌, ⊎_elim, inl, inr, arith}
+use Rattle.std.proofs.Common.{Result, Ok, Err, OnOk, ◌≡◌, ◌≢◌, ◌⊎◌, ◌+◌, ℕ, Bool, true, false, List, [], length, get_or, refl, ap, ◌∙◌, ⊎_elim, inl, inr, arith}
 use Rattle.disk_model.specs.Stop.{Image, MayLeave}
 use Rattle.disk_model.specs.Moments.{Touches, LeavesOnly}
 use Rattle.disk_model.proofs.Moments.{started, goes_on}
@@ -70,9 +70,9 @@ module _ {D : Type 0} (g : Ghosts D) (homes : List ℕ) (old copied new : D)
     after : (image : Image) → ((k : ℕ) → image k ≡ g.content new k) → Stays image
     after image same = with_copies image (λ k other. same k ∙ ⊎_elim (λ at. absurd (other at)) (λ e. e) (closes.content k))
 
-    pub settled : is_open (g.content new) ≡ false → ((k : ℕ) → g.unsynced new k → ⊥) → IsSettled g (g.sector_count old) (g.content old) new (standing (g.content old))
+    pub settled : is_open (g.content new) ≡ false → ((k : ℕ) → g.unsynced new k → ⊥) → IsSettled g (g.sector_count old) (g.content old) [] new (standing (g.content old))
     settled closed new_synced = let here = after (g.content new) (λ k. refl) in record {
-      quiet = record { closed = closed; synced = λ k u. absurd (new_synced k u) };
+      rest = record { closed = closed; synced = λ k u. absurd (new_synced k u) };
       stands = here.stands;
       outside = here.outside;
       left = λ image may. after image (λ k. ⊎_elim (λ u. absurd (new_synced k u)) (λ e. e) (may.kept k));

@@ -1,15 +1,13 @@
 -- How runs of device calls go on.
-use Rattle.std.proofs.Common.{◌≡◌, ◌⊎◌, ◌≤◌, ℕ, refl, ◌∙◌, arith}
-use Rattle.disk_model.specs.Stop.{ChangesOnly, Elapses}
-use Rattle.disk_model.proofs.Moments.{stays, wider, then, after_write, after_none}
+use Rattle.std.proofs.Common.{◌≡◌, ◌⊎◌, ◌≤◌, ℕ, List, ◌∙◌, inl, inr, ⊎_elim, arith}
+use Rattle.disk_model.specs.Moments.{Touches, Nothing}
+use Rattle.disk_model.specs.Stop.{ChangesOnly, ChangesPage, IsOfPage, Elapses}
+use Rattle.disk_model.proofs.Moments.{wider, then, after_write, after_page, after_none}
 use Rattle.disk_model.specs.declared.sector_disk.SectorDisk.{Ghosts}
+use Rattle.sync_journal.specs.Layout.{IsGate, IsJournalSector, IsReplayed, IsPublished, IsCommitted, IsRecovered}
 use Rattle.sync_journal.specs.Runs.{Runs}
 
 module _ {D : Type 0} (g : Ghosts D) where
-  -- no call at all
-  pub no_call : (W : ℕ → Type 0) (d : D) → Runs g W d d
-  no_call W d = record { size = refl; kept = λ h. h; later = omega arith; touches = λ h. stays g W d }
-
   -- one run after another
   pub one_more : (W : ℕ → Type 0) (old mid new : D) → Runs g W old mid → Runs g W mid new → Runs g W old new
   one_more W old mid new first second = record {
@@ -41,20 +39,13 @@ module _ {D : Type 0} (g : Ghosts D) where
     touches = λ h. after_none g W old new (same h) (marks h) (time h);
   }
 
-  -- a sync behind a run, and one before it
+  -- a sync behind a run
   pub and_no_write : (W : ℕ → Type 0) (old mid new : D) → Runs g W old mid → g.sector_count new ≡ g.sector_count mid
       → (g.keeps_model new → g.keeps_model mid) → g.failures mid ≤ g.failures new → (g.keeps_model new → g.content new ≡ g.content mid)
       → (g.keeps_model new → (k : ℕ) → g.unsynced new k → g.unsynced mid k)
       → (g.keeps_model new → Elapses (g.moment mid) (g.moment new) (g.left_since mid) (g.left_since new) (g.content new) (g.unsynced new))
       → Runs g W old new
   and_no_write W old mid new run size kept later same marks time = one_more W old mid new run (no_write W mid new size kept later same marks time)
-
-  pub no_write_and : (W : ℕ → Type 0) (old mid new : D) → Runs g W mid new → g.sector_count mid ≡ g.sector_count old
-      → (g.keeps_model mid → g.keeps_model old) → g.failures old ≤ g.failures mid → (g.keeps_model mid → g.content mid ≡ g.content old)
-      → (g.keeps_model mid → (k : ℕ) → g.unsynced mid k → g.unsynced old k)
-      → (g.keeps_model mid → Elapses (g.moment old) (g.moment mid) (g.left_since old) (g.left_since mid) (g.content mid) (g.unsynced mid))
-      → Runs g W old new
-  no_write_and W old mid new run size kept later same marks time = one_more W old mid new (no_write W old mid size kept later same marks time) run
 
   -- a write to a sector of W
   pub one_write : (W : ℕ → Type 0) (n : ℕ) (old new : D) → W n → g.sector_count new ≡ g.sector_count old → (g.keeps_model new → g.keeps_model old)
@@ -68,3 +59,36 @@ module _ {D : Type 0} (g : Ghosts D) where
     later = later;
     touches = λ h. after_write g W n old new here (changes h) (marks h) (time h);
   }
+
+  -- a page written to sectors of W
+  pub one_page : (W : ℕ → Type 0) (n : ℕ) (old new : D) → ((k : ℕ) → IsOfPage n k → W k) → g.sector_count new ≡ g.sector_count old → (g.keeps_model new → g.keeps_model old)
+      → g.failures old ≤ g.failures new → (g.keeps_model new → ChangesPage n (g.content old) (g.content new))
+      → (g.keeps_model new → (k : ℕ) → g.unsynced new k → g.unsynced old k ⊎ IsOfPage n k)
+      → (g.keeps_model new → Elapses (g.moment old) (g.moment new) (g.left_since old) (g.left_since new) (g.content new) (g.unsynced new))
+      → Runs g W old new
+  one_page W n old new inside size kept later changes marks time = record {
+    size = size;
+    kept = kept;
+    later = later;
+    touches = λ h. after_page g W n old new inside (changes h) (marks h) (time h);
+  }
+
+  -- what the parts of a commit write
+  pub published : (old staged opened : D) → Touches g IsJournalSector old staged → Touches g IsGate staged opened → Touches g IsPublished old opened
+  published old staged opened stages opens = then g IsPublished old staged opened
+      (wider g IsJournalSector IsPublished old staged (λ k inside. inr inside) stages)
+      (wider g IsGate IsPublished staged opened (λ k gate. inl gate) opens)
+
+  pub finished : (homes : List ℕ) (old new : D) → Touches g (IsReplayed homes) old new → Touches g (IsCommitted homes) old new
+  finished homes old new = wider g (IsReplayed homes) (IsCommitted homes) old new (λ k. ⊎_elim (λ gate. inl (inl gate)) (λ at_home. inr at_home))
+
+  pub committed : (homes : List ℕ) (old mid new : D) → Touches g (IsReplayed homes) old mid → Touches g IsPublished mid new → Touches g (IsCommitted homes) old new
+  committed homes old mid new first second = then g (IsCommitted homes) old mid new (finished homes old mid first)
+      (wider g IsPublished (IsCommitted homes) mid new (λ k own. inl own) second)
+
+  -- what a recovery writes
+  pub read_only : (W : ℕ → Type 0) (old new : D) → Touches g Nothing old new → Touches g W old new
+  read_only W old new = wider g Nothing W old new (λ k none. absurd none)
+
+  pub replayed : (homes : List ℕ) (old new : D) → Touches g (IsReplayed homes) old new → Touches g IsRecovered old new
+  replayed homes old new = wider g (IsReplayed homes) IsRecovered old new (λ k. ⊎_elim (λ gate. inl gate) (λ at_home. inr (omega (arith, at_home.2.0))))

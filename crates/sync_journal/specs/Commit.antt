@@ -1,13 +1,13 @@
 -- What a commit and a recovery leave, at every moment and at their end.
 -- All or nothing over all pages at once: failure-atomic msync (Park, Kelly and Shen, EuroSys 2013).
-use Rattle.std.specs.Prelude.{ℕ, ◌≡◌, ◌⊎◌, false, List, Option, Some, None}
+use Rattle.std.specs.Prelude.{ℕ, ◌≡◌, ◌⊎◌, false, List, [], ◌∷◌, Option, Some, None}
 use Rattle.disk_model.specs.Stop.{Image}
-use Rattle.disk_model.specs.Moments.{LeavesNow}
+use Rattle.disk_model.specs.Moments.{LeavesNow, LeavesOnly}
 use Rattle.disk_model.specs.declared.sector_disk.SectorDisk.{Ghosts}
 use Rattle.sync_journal.specs.Layout.{IsJournalSector, IsOutside}
 use Rattle.sync_journal.specs.Gate.{is_open}
 use Rattle.sync_journal.specs.Map.{place_of}
-use Rattle.sync_journal.specs.Standing.{StandsFor, IsBadJournal, sector_of}
+use Rattle.sync_journal.specs.Standing.{standing, StandsFor, IsOpenFor, IsBadJournal, sector_of}
 
 -- sector i of a page: of page j where there is a place j, otherwise the old one
 abbrev pub sector_or : (ℕ → List ℕ) → List ℕ → ℕ → Option ℕ → List ℕ
@@ -29,16 +29,34 @@ pub record IsKept (sectors : ℕ) (content : Image) (Stands : Image → Type 0) 
   pub journal : IsBadJournal sectors image → IsBadJournal sectors content
   pub outside : (k : ℕ) → IsOutside sectors k → image k ≡ content k
 
+-- An image that a stop may leave where the device held the old one, and that stands for the same home pages.
+abbrev pub HomesStandAs : ℕ → Image → Image → Type 0
+HomesStandAs sectors old image = IsKept sectors old (StandsFor (standing old)) image
+
 module _ {D : Type 0} (g : Ghosts D) where
+  -- Every image that a stop at some moment from old to new might have left stands for the home pages of old.
+  abbrev pub KeepsHomes : D → D → Type 0
+  KeepsHomes old new = LeavesOnly g old new (HomesStandAs (g.sector_count old) (g.content old))
+
   -- The gate is closed, and nothing is unsynced but in map and body.
   pub record IsQuiet (d : D) : Type 0 where
     pub closed : is_open (g.content d) ≡ false
     pub synced : (k : ℕ) → g.unsynced d k → IsJournalSector k
 
-  -- The device is quiet again, and stands for these pages now and after every stop. Outside the gate, the journal and
+  -- The gate is open before a map that names these homes, whose pages stand in the body, and nothing is unsynced.
+  pub record IsLive (homes : List ℕ) (d : D) : Type 0 where
+    pub opened : IsOpenFor homes (g.content d)
+    pub synced : (k : ℕ) → g.unsynced d k → ⊥
+
+  -- What the device holds between two commits of a journal with these live homes.
+  abbrev pub IsAtRest : List ℕ → D → Type 0
+  IsAtRest [] d = IsQuiet d
+  IsAtRest (home ∷ homes) d = IsLive (home ∷ homes) d
+
+  -- The device is at rest again, and stands for these pages now and after every stop. Outside the gate, the journal and
   -- the homes it holds this content.
-  pub record IsSettled (sectors : ℕ) (content : Image) (new : D) (pages : ℕ → ℕ → List ℕ) : Type 0 where
-    pub quiet : IsQuiet new
+  pub record IsSettled (sectors : ℕ) (content : Image) (live : List ℕ) (new : D) (pages : ℕ → ℕ → List ℕ) : Type 0 where
+    pub rest : IsAtRest live new
     pub stands : StandsFor pages (g.content new)
     pub outside : (k : ℕ) → IsOutside sectors k → g.content new k ≡ content k
     pub left : LeavesNow g new (IsKept sectors content (StandsFor pages))

@@ -1,5 +1,5 @@
 -- The gate of the journal. The format is our own.
-use Rattle.std.specs.Prelude.{ℕ, zero, suc, Bool, List, [], ◌∷◌, ◌++◌}
+use Rattle.std.specs.Prelude.{ℕ, zero, suc, Bool, List, [], ◌∷◌, ◌++◌, replicate, if◌then◌else◌}
 use Rattle.std.specs.Str.{bytes_eq}
 use Rattle.disk_model.specs.Stop.{Image}
 use Rattle.sync_journal.specs.Layout.{gate_sector}
@@ -13,9 +13,17 @@ repeated (suc n) word = word ++ repeated n word
 unfoldable pub open_sector : List ℕ
 open_sector = repeated 64 (71 ∷ 65 ∷ 84 ∷ 69 ∷ 79 ∷ 80 ∷ 69 ∷ 78 ∷ [])
 
--- every other content of the sector is a closed gate
+-- a closed gate as it is written: zeros
+abbrev pub closed_sector : List ℕ
+closed_sector = replicate 512 0
+
+-- every content of the sector but that of an open gate is a closed one
 unfoldable pub is_open_sector : List ℕ → Bool
 is_open_sector sector = bytes_eq sector open_sector
 
 abbrev pub is_open : Image → Bool
 is_open image = is_open_sector (image gate_sector)
+
+-- what closing leaves in the gate: zeros where it was open, otherwise what it held
+abbrev pub closed_gate : Image → List ℕ
+closed_gate image = if is_open image then closed_sector else image gate_sector

@@ -42,6 +42,18 @@ IsReplayed homes k = IsGate k ⊎ IsHomeSector homes k
 abbrev pub IsJournalSector : ℕ → Type 0
 IsJournalSector k = (3 ≤ k) × (k < 1020)
 
+-- what a commit of new pages writes: the gate, the map and the body
+abbrev pub IsPublished : ℕ → Type 0
+IsPublished k = IsGate k ⊎ IsJournalSector k
+
+-- what a commit over these live homes writes: its own part, and those homes
+abbrev pub IsCommitted : List ℕ → ℕ → Type 0
+IsCommitted homes k = IsPublished k ⊎ IsHomeSector homes k
+
+-- what a recovery writes: the gate, and homes
+abbrev pub IsRecovered : ℕ → Type 0
+IsRecovered k = IsGate k ⊎ (1020 ≤ k)
+
 -- the layout mark, the directory, and what lies behind the last home page
 abbrev pub IsOutside : ℕ → ℕ → Type 0
 IsOutside sectors k = (k < 2) ⊎ (home_sector (home_count sectors) ≤ k)

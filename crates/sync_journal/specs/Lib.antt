@@ -3,6 +3,8 @@ pub mod Gate
 pub mod Map
 pub mod Standing
 pub mod Commit
+pub mod Journal
 pub mod Source
 pub mod Runs
 pub mod Recovery
+pub mod Stops

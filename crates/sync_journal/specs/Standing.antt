@@ -1,5 +1,5 @@
 -- What an image stands for: its home pages, but for those that an open journal holds. The format is our own.
-use Rattle.std.specs.Prelude.{ℕ, ◌+◌, ◌*◌, ◌<◌, ◌≡◌, Bool, true, List, length, slice_index, Option, Some, None, if◌then◌else◌, take, drop}
+use Rattle.std.specs.Prelude.{ℕ, zero, suc, ◌+◌, ◌*◌, ◌<◌, ◌≡◌, Bool, true, List, [], ◌++◌, length, slice_index, Option, Some, None, if◌then◌else◌, take, drop}
 use Rattle.disk_model.specs.Stop.{Image}
 use Rattle.sync_journal.specs.Layout.{map_sector, body_sector, home_sector, home_count}
 use Rattle.sync_journal.specs.Gate.{is_open}
@@ -21,6 +21,11 @@ standing_at image h = standing_under (is_open image) (image map_sector) h
 -- sector i of the page that stands for home page h
 abbrev pub standing : Image → ℕ → ℕ → List ℕ
 standing image h i = image (standing_at image h + i)
+
+-- the first n pieces, one after another
+unfoldable pub joined : (ℕ → List ℕ) → ℕ → List ℕ
+joined pieces zero = []
+joined pieces (suc n) = joined pieces n ++ pieces n
 
 -- The image stands for these pages, of eight sectors each.
 pub record StandsFor (pages : ℕ → ℕ → List ℕ) (image : Image) : Type 0 where

@@ -1,7 +1,7 @@
 //! The gate of the journal: one sector, written and synced by itself.
 ghost use Rattle.std.specs.Prelude.{◌≡◌, ◌<◌, ◌≤◌, ℕ, true, false, List, OnOk, IsErr};
 ghost use Rattle.sync_journal.specs.Layout.{gate_sector, IsGate};
-ghost use Rattle.sync_journal.specs.Gate.{open_sector, is_open_sector, is_open};
+ghost use Rattle.sync_journal.specs.Gate.{open_sector, closed_sector, is_open_sector, is_open};
 ghost use Rattle.sync_journal.specs.Runs.{Runs};
 
 use crate::layout::GATE;
@@ -47,6 +47,7 @@ pub(crate) fn close_gate<D: SectorDisk>(disk: &mut D) -> Result<(), DiskFault>
     requires { 1020 ≤ D.sector_count disk.old }
     ensures run { Runs D.SectorDisk IsGate disk.old disk.new }
     ensures failed { IsErr result → D.failures disk.old < D.failures disk.new }
+    ensures zeros { D.keeps_model disk.new → OnOk result (D.content disk.new gate_sector ≡ closed_sector) }
     ensures closed { D.keeps_model disk.new → OnOk result (is_open (D.content disk.new) ≡ false) }
     ensures synced { D.keeps_model disk.new → OnOk result ((k : ℕ) → D.unsynced disk.new k → ⊥) }
 {

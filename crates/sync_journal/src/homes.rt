@@ -1,10 +1,10 @@
 //! The pages of an open journal, copied to their homes.
-ghost use Rattle.std.specs.Prelude.{◌≡◌, ◌<◌, ◌≤◌, ℕ, length, OnOk, IsErr};
-ghost use Rattle.disk_model.specs.Moments.{LeavesOnly};
-ghost use Rattle.sync_journal.specs.Layout.{home_count, IsHomeSector, IsReplayed};
+ghost use Rattle.std.specs.Prelude.{◌≡◌, ◌<◌, ◌≤◌, ℕ, [], length, OnOk, IsErr};
+ghost use Rattle.sync_journal.specs.Layout.{gate_sector, home_count, IsHomeSector, IsReplayed};
+ghost use Rattle.sync_journal.specs.Gate.{closed_sector};
 ghost use Rattle.sync_journal.specs.Map.{AreHomes};
-ghost use Rattle.sync_journal.specs.Standing.{IsOpenFor, AreCopied, StandsFor, standing};
-ghost use Rattle.sync_journal.specs.Commit.{IsKept, IsSettled};
+ghost use Rattle.sync_journal.specs.Standing.{IsOpenFor, AreCopied, standing};
+ghost use Rattle.sync_journal.specs.Commit.{KeepsHomes, IsSettled};
 ghost use Rattle.sync_journal.specs.Runs.{Runs};
 
 use crate::gate::close_gate;
@@ -20,13 +20,10 @@ pub(crate) fn replay<D: SectorDisk>(disk: &mut D, homes: &[u32]) -> Result<(), D
     requires synced { D.keeps_model disk.old → (k : ℕ) → D.unsynced disk.old k → ⊥ }
     ensures run { Runs D.SectorDisk (IsReplayed homes.now) disk.old disk.new }
     ensures failed { IsErr result → D.failures disk.old < D.failures disk.new }
-
-    // Every image of a stop at any moment of the call stands for the same pages.
-    ensures any_moment { D.keeps_model disk.new → LeavesOnly D.SectorDisk disk.old disk.new
-        (IsKept (D.sector_count disk.old) (D.content disk.old) (StandsFor (standing (D.content disk.old)))) }
-
+    ensures any_moment { D.keeps_model disk.new → KeepsHomes D.SectorDisk disk.old disk.new }
     ensures settled { D.keeps_model disk.new → OnOk result
-        (IsSettled D.SectorDisk (D.sector_count disk.old) (D.content disk.old) disk.new (standing (D.content disk.old))) }
+        (IsSettled D.SectorDisk (D.sector_count disk.old) (D.content disk.old) [] disk.new (standing (D.content disk.old))) }
+    ensures zeros { D.keeps_model disk.new → OnOk result (D.content disk.new gate_sector ≡ closed_sector) }
     ensures all_synced { D.keeps_model disk.new → OnOk result ((k : ℕ) → D.unsynced disk.new k → ⊥) }
 {
     copy_homes(disk, homes)?;

@@ -20,18 +20,20 @@ mod commits;
 mod faults;
 mod gate;
 mod homes;
+mod journal;
 mod layout;
 mod map;
 mod pages;
+mod publish;
 mod recovery;
 mod source;
 mod stage;
 
-pub use commits::Journal;
 pub use faults::{CommitFault, RecoverFault};
+pub use journal::Journal;
 pub use layout::{FIRST_HOME, MAX_HOMES, PAGE_LIMIT, PAGE_SECTORS, home_count};
-pub use pages::write_page;
-pub use recovery::recover;
+pub use pages::{read_page, write_page};
+pub use recovery::{recover, stops_in_a_row};
 pub use source::{PageSource, SourceFault};
 
 #[cfg(test)]

@@ -1,16 +1,18 @@
-//! Pages of eight sectors.
-ghost use Rattle.std.specs.Prelude.{◌≡◌, ◌<◌, ◌≤◌, ◌+◌, ◌^◌, ℕ, [], length, slice_index_or, OnOk, IsErr};
+//! Pages of eight sectors, each in one call of the device.
+ghost use Rattle.std.specs.Prelude.{◌≡◌, ◌<◌, ◌≤◌, ◌+◌, ◌^◌, ℕ, OnOk, IsErr};
+ghost use Rattle.disk_model.specs.Stop.{HasCause};
+ghost use Rattle.disk_model.specs.Moments.{Touches, Nothing};
 ghost use Rattle.sync_journal.specs.Layout.{IsPageSector};
 ghost use Rattle.sync_journal.specs.Runs.{Runs};
-ghost use Rattle.sync_journal.specs.Standing.{sector_of};
+ghost use Rattle.sync_journal.specs.Standing.{sector_of, joined};
 
-use crate::layout::PAGE_SECTORS;
 use disk_model::{DiskFault, SectorDisk};
 
-/// Writes a page into the eight sectors from `first` on, in their order, and syncs nothing.
+/// Writes a page into the eight sectors from `first` on, and syncs nothing.
 ///
 /// # Errors
-/// Where a write fails, the first one ends the call. It comes only where the device failed in this call.
+///
+/// Only where the device failed in this call. The eight sectors then hold unknown bytes.
 pub fn write_page<D: SectorDisk>(
     disk: &mut D,
     first: u64,
@@ -22,18 +24,28 @@ pub fn write_page<D: SectorDisk>(
     ensures failed { IsErr result → D.failures disk.old < D.failures disk.new }
     ensures written { D.keeps_model disk.new → OnOk result ((i : ℕ) → i < 8 → D.content disk.new (first + i) ≡ sector_of page.now i) }
 {
-    for (i, sector) in sectors_of(page).iter().enumerate() {
-        disk.write(first + i as u64, sector)?;
-    }
-    Ok(())
+    disk.write_page(first, page)
 }
 
-/// The eight sectors of a page.
-fn sectors_of(page: &[u8; 4096]) -> &[[u8; 512]]
-    ensures len { length result.now ≡ 8 }
-    ensures each { (i : ℕ) → i < 8 → slice_index_or result.now i [] ≡ sector_of page.now i }
+/// Reads the page in the eight sectors from `first` on.
+///
+/// # Errors
+///
+/// Only where the device failed in this call. Nothing is then said of `to`.
+pub fn read_page<D: SectorDisk>(
+    disk: &mut D,
+    first: u64,
+    to: &mut [u8; 4096],
+) -> Result<(), DiskFault>
+    requires room { first + 8 ≤ D.sector_count disk.old }
+    requires fits { first < 2 ^ 60 }
+    ensures size { D.sector_count disk.new ≡ D.sector_count disk.old }
+    ensures kept { D.keeps_model disk.new → D.keeps_model disk.old }
+    ensures cause { HasCause (D.failures disk.old) (D.failures disk.new) result }
+    ensures touches { D.keeps_model disk.new → Touches D.SectorDisk Nothing disk.old disk.new }
+    ensures read { D.keeps_model disk.new → OnOk result (to.new ≡ joined (λ i. D.content disk.old (first + i)) 8) }
 {
-    page.as_chunks::<512>().0
+    disk.read_page(first, to)
 }
 
 /// Copies the eight sectors from `from` on to those from `to` on, which lie behind them.
@@ -45,10 +57,7 @@ pub(crate) fn copy_page<D: SectorDisk>(disk: &mut D, from: u64, to: u64) -> Resu
     ensures failed { IsErr result → D.failures disk.old < D.failures disk.new }
     ensures copied { D.keeps_model disk.new → OnOk result ((i : ℕ) → i < 8 → D.content disk.new (to + i) ≡ D.content disk.old (from + i)) }
 {
-    let mut sector = [0; 512];
-    for i in 0..PAGE_SECTORS {
-        disk.read(from + i, &mut sector)?;
-        disk.write(to + i, &sector)?;
-    }
-    Ok(())
+    let mut page = [0; 4096];
+    disk.read_page(from, &mut page)?;
+    disk.write_page(to, &page)
 }

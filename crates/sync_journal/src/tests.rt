@@ -1,10 +1,10 @@
-ghost use Rattle.std.specs.Prelude.{◌≡◌, ◌<◌, ◌+◌, ℕ, replicate, if◌then◌else◌, IfOk};
-ghost use Rattle.disk_model.specs.SimDisk.{sectors_in, IsUnsynced};
+ghost use Rattle.std.specs.Prelude.{◌≡◌, ◌<◌, ◌+◌, replicate, if◌then◌else◌, IfOk};
+ghost use Rattle.disk_model.specs.SimDisk.{sectors_in};
 
 use crate::layout::{BODY, GATE, MAP, home_count};
 use crate::map::are_homes;
 use crate::pages::write_page;
-use crate::{CommitFault, Journal, PageSource, RecoverFault, SourceFault, recover};
+use crate::{CommitFault, Journal, PageSource, RecoverFault, SourceFault, recover, stops_in_a_row};
 use disk_model::{SectorDisk, SimDisk};
 use std::alloc::Global;
 use std::test::Fail;
@@ -41,9 +41,9 @@ impl PageSource for Filled {
 }
 
 /// A device of 1,044 sectors, which has 3 homes, whose gate is open before a map that begins with these bytes. Page 0 of
-/// the body is `5a`.
+/// the body is `5a`. None of it is synced.
 fn with_open_gate(alloc: Global, map_front: [u8; 12]) -> Result<SimDisk, Fail>
-    ensures { IfOk result (λ disk. (sectors_in disk ≡ 1044) × ((k : ℕ) → IsUnsynced disk k → ⊥)) }
+    ensures { IfOk result (λ disk. sectors_in disk ≡ 1044) }
 {
     let mut disk = SimDisk::new(alloc, 1044)?;
     write_page(&mut disk, BODY, &[0x5a; 4096])?;
@@ -55,7 +55,6 @@ fn with_open_gate(alloc: Global, map_front: [u8; 12]) -> Result<SimDisk, Fail>
         gate[i] = b"GATEOPEN"[i % 8];
     }
     disk.write(GATE, &gate)?;
-    disk.sync()?;
     Ok(disk)
 }
 
@@ -65,12 +64,24 @@ fn commits_one_page(rt: HostRuntime) -> Result<(), Fail> {
     recover(&mut disk)?;
     let homes = [1];
     assert!(rt; are_homes(&homes, home_count(disk.sectors())));
-    Journal::closed().commit(&mut disk, &homes, &mut Filled { fails: false })?;
-    assert_eq!(rt; (disk.writes(), disk.syncs()), (19, 4));
+    let mut journal = Journal::closed();
+    journal.commit(&mut disk, &homes, &mut Filled { fails: false })?;
+    // Recovery made the first sync.
+    assert_eq!(rt; (disk.writes(), disk.syncs()), (10, 1 + 2));
+    // The page stands in the body; its home is as it was.
+    assert_eq!(rt; *disk.sector(4), [1; 512]);
+    assert_eq!(rt; *disk.sector(1028), [0; 512]);
+    let mut page = [0; 4096];
+    journal.read(&mut disk, 1, &mut page)?;
+    assert_eq!(rt; page, [1; 4096]);
+    journal.read(&mut disk, 0, &mut page)?;
+    assert_eq!(rt; page, [0; 4096]);
+    // The next commit writes it home first.
+    journal.commit(&mut disk, &homes, &mut Filled { fails: false })?;
+    assert_eq!(rt; (disk.writes(), disk.syncs()), (29, 1 + 6));
     assert_eq!(rt; *disk.sector(1027), [0; 512]);
     assert_eq!(rt; *disk.sector(1028), [1; 512]);
     assert_eq!(rt; *disk.sector(1035), [1; 512]);
-    assert_eq!(rt; *disk.sector(2), [0; 512]);
     Ok(())
 }
 
@@ -89,7 +100,17 @@ fn commits_after_a_source_fault(rt: HostRuntime) -> Result<(), Fail> {
     assert_eq!(rt; *disk.sector(1036), [0; 512]);
     journal.commit(&mut disk, &homes, &mut source)?;
     // Eight writes for the page before the fault.
-    assert_eq!(rt; (disk.writes(), disk.syncs()), (8 + 35, 4));
+    assert_eq!(rt; (disk.writes(), disk.syncs()), (8 + 18, 1 + 2));
+    assert_eq!(rt; *disk.sector(4), [1; 512]);
+    assert_eq!(rt; *disk.sector(12), [2; 512]);
+    // A fault of the source in the next one comes when these pages are home, and no journal is live then.
+    source.fails = true;
+    match journal.commit(&mut disk, &homes, &mut source) {
+        Err(CommitFault::Source) => {}
+        _ => panic!(rt; "the source's fault is told"),
+    }
+    assert_eq!(rt; (disk.writes(), disk.syncs()), (26 + 17 + 8, 1 + 4));
+    assert_eq!(rt; *disk.sector(2), [0; 512]);
     assert_eq!(rt; *disk.sector(1036), [1; 512]);
     assert_eq!(rt; *disk.sector(1020), [2; 512]);
     assert_eq!(rt; *disk.sector(1028), [0; 512]);
@@ -100,6 +121,7 @@ fn commits_after_a_source_fault(rt: HostRuntime) -> Result<(), Fail> {
 fn recovers_an_open_journal(rt: HostRuntime) -> Result<(), Fail> {
     // One page, home 0.
     let mut disk = with_open_gate(rt.alloc(), [1, 0, 0, 0, 0, 0, 0, 0, 0, 0, 0, 0])?;
+    stops_in_a_row(&disk);
     assert_eq!(rt; recover(&mut disk), Ok(()));
     assert_eq!(rt; *disk.sector(1020), [0x5a; 512]);
     assert_eq!(rt; *disk.sector(1027), [0x5a; 512]);

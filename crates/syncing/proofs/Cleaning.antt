@@ -9,7 +9,7 @@ use Rattle.page_cache.specs.CacheTable as CacheTable
 use Rattle.page_cache.specs.declared.place.Place.TheVariants.{Frame}
 use Rattle.residency.specs.declared.kernel.Core.{Core}
 use Rattle.residency.specs.Picture.{Picture, picture_of, entry_in, root_in, entry, is_private}
-use Rattle.residency.specs.Parts.{IsFit, IsSized}
+use Rattle.residency.specs.Parts.{IsFit}
 use Rattle.residency.proofs.Counted.{same_owner, counted_same}
 use Rattle.residency.proofs.Entries.{entries_kept}
 use Rattle.residency.proofs.Granting.{granting_same}
@@ -17,7 +17,8 @@ use Rattle.residency.proofs.Places.{cases_page, one_frame, places_same}
 use Rattle.residency.proofs.Rooted.{rooted_frames}
 use Rattle.residency.proofs.Used.{fit_steady, steady_fit}
 use Rattle.syncing.specs.declared.chosen.CachedPage.{CachedPage}
-use Rattle.syncing.specs.Settling.{cached_at, frame_at, AreCached, AreClear, Cleans}
+use Rattle.syncing.specs.Settling.{cached_at, AreCached, AreClear, KeepsBeside, Cleans}
+use Rattle.syncing.proofs.Besides.{beside_none, beside_then}
 
 -- nothing but the touched set changed
 pub record Untouches (old new : Picture) (page : FilePage) : Type 0 where
@@ -68,7 +69,7 @@ fit_untouched old new page n fit u placed clear =
 -- no page at all
 pub cleans_none : {D E : Type 0} (c : Core D E) (list : List CachedPage) → Cleans c c list 0
 cleans_none c list = record {
-  beside = record { store = refl; swap = refl; roots = refl; regions = refl; page_of = refl; refused = refl };
+  beside = beside_none c;
   frames = refl;
   nodes = refl;
   place = λ p. refl;
@@ -98,49 +99,27 @@ module _ {D E : Type 0} (a b : Core D E) (list : List CachedPage) (n : ℕ) (cle
     once = cached.once;
   }
 
+-- no place changed
+pub all_placed : (t u : CacheTable.CacheTable) (page : FilePage) → CacheTable.SameButFor page t u → CacheTable.place_of u page ≡ CacheTable.place_of t page
+    → (p : FilePage) → CacheTable.place_of u p ≡ CacheTable.place_of t p
+all_placed t u page same placed p = elim (cases_page p page) [
+  | inl is ↦ ap (CacheTable.place_of u) is ∙ placed ∙ sym (ap (CacheTable.place_of t) is)
+  | inr ne ↦ same.places p ne
+]
+
 -- one page more
-module _ {D E : Type 0} (a b : Core D E) (list : List CachedPage) (i : ℕ) (t : CacheTable.CacheTable) (cleans : Cleans a b list i)
-    (same : CacheTable.SameButFor (cached_at list i).page b.cache t) (untouched : CacheTable.is_touched t (cached_at list i).page ≡ false)
-    (placed : CacheTable.place_of t (cached_at list i).page ≡ CacheTable.place_of b.cache (cached_at list i).page) where
-  all_placed : (p : FilePage) → CacheTable.place_of t p ≡ CacheTable.place_of b.cache p
-  all_placed p = elim (cases_page p (cached_at list i).page) [
-    | inl is ↦ ap (CacheTable.place_of t) is ∙ placed ∙ sym (ap (CacheTable.place_of b.cache) is)
-    | inr ne ↦ same.places p ne
-  ]
-
-  pub sized_cleaned : IsSized b → IsSized (record b { cache = t })
-  sized_cleaned sized = record { roots = sized.roots; regions = sized.regions; pages = sized.pages; nodes = same.frames ∙ sized.nodes }
-
-  pub fit_cleaned : i < length list → IsFit (picture_of b) → AreCached (picture_of b) list → ((pid : ℕ) → AreClear (picture_of b) pid list) → IsFit (picture_of (record b { cache = t }))
-  fit_cleaned less fit cached clear =
-      fit_untouched (picture_of b) (picture_of (record b { cache = t })) (cached_at list i).page (frame_at list i) fit
-      (record {
-        frames = refl;
-        root = λ p. refl;
-        at = λ p k. refl;
-        page_of = λ x. refl;
-        files = λ f. refl;
-        place = all_placed;
-        now = untouched;
-        others = same.touched;
-      })
-      (cached.each i less).placed (λ pid k h. clear pid i k less h)
-
-  pub cleans_more : AreCached (picture_of a) list → i < length list → Cleans a (record b { cache = t }) list (i + 1)
+module _ {D E : Type 0} (a b c : Core D E) (list : List CachedPage) (i : ℕ) (cleans : Cleans a b list i) (beside : KeepsBeside b c)
+    (frames : c.frames ≡ b.frames) (same : CacheTable.SameButFor (cached_at list i).page b.cache c.cache)
+    (untouched : CacheTable.is_touched c.cache (cached_at list i).page ≡ false)
+    (placed : CacheTable.place_of c.cache (cached_at list i).page ≡ CacheTable.place_of b.cache (cached_at list i).page) where
+  pub cleans_more : AreCached (picture_of a) list → i < length list → Cleans a c list (i + 1)
   cleans_more cached less = record {
-    beside = record {
-      store = cleans.beside.store;
-      swap = cleans.beside.swap;
-      roots = cleans.beside.roots;
-      regions = cleans.beside.regions;
-      page_of = cleans.beside.page_of;
-      refused = cleans.beside.refused;
-    };
-    frames = cleans.frames;
+    beside = beside_then a b c cleans.beside beside;
+    frames = frames ∙ cleans.frames;
     nodes = same.frames ∙ cleans.nodes;
-    place = λ p. all_placed p ∙ cleans.place p;
+    place = λ p. all_placed b.cache c.cache (cached_at list i).page same placed p ∙ cleans.place p;
     cleaned = λ j below. elim (cases_eq j i) [
-      | inl is ↦ ap (λ x. CacheTable.is_touched t (cached_at list x).page) is ∙ untouched
+      | inl is ↦ ap (λ x. CacheTable.is_touched c.cache (cached_at list x).page) is ∙ untouched
       | inr ne ↦ same.touched (cached_at list j).page (cached.once j i (omega arith) less) ∙ cleans.cleaned j (omega arith)
     ];
     others = λ p none. same.touched p (λ e. none i (omega arith) (sym e)) ∙ cleans.others p (λ j below. none j (omega arith));

@@ -2,7 +2,9 @@
 use Rattle.std.proofs.Common.{ℕ, zero, suc, inl, inr, ◌⊎◌, ◌-◌, ◌*◌, ◌≡◌, ◌≢◌, ◌<◌, ◌&&◌, ◌++◌, not, Bool, true, false, min, List, [], ◌∷◌, length, take, replicate, slice_get, Option, Some, Err, refl, sym, ap, ◌∙◌, subst, arith, lt_irrefl, get_or-take}
 use Rattle.std.specs.Option.{option_map}
 use Rattle.std.specs.Prelude.{is_some}
+use Rattle.std.proofs.lemmas.Bool.{cases_Bool}
 use Rattle.std.proofs.lemmas.List.{length-take-le}
+use Rattle.sv39_walk.specs.Entry.{frame_of}
 use Rattle.disk_model.specs.Moments.{LeavesNow, LeavesOnly}
 use Rattle.disk_model.specs.declared.sector_disk.SectorDisk.{Ghosts}
 use Rattle.file_store.specs.declared.directory.Directory.{Directory}
@@ -14,6 +16,7 @@ use Rattle.file_store.specs.Store.{entry_of}
 use Rattle.sync_journal.specs.Source.{HasCauses}
 use Rattle.sync_journal.specs.declared.faults.CommitFault.{CommitFault}
 use Rattle.sync_journal.specs.declared.faults.CommitFault.TheVariants.{Source, Device}
+use Rattle.frames.specs.declared.role.Role.TheVariants.{Private, Cache}
 use Rattle.frames.specs.FrameTable.{bytes_of}
 use Rattle.page_cache.specs.declared.place.Place.TheVariants.{Home, Frame}
 use Rattle.vm_types.specs.declared.command.Command.TheVariants.{Msync}
@@ -30,7 +33,7 @@ use Rattle.vm_types.specs.State.{State}
 use Rattle.vm_types.specs.Step.{msync_outcome, commit_of, commits}
 use Rattle.vm_types.specs.View.{Pages}
 use Rattle.residency.specs.declared.kernel.Core.{Core}
-use Rattle.residency.specs.Picture.{Picture, picture_of}
+use Rattle.residency.specs.Picture.{Picture, picture_of, entry, is_private}
 use Rattle.residency.specs.Parts.{IsFit}
 use Rattle.residency.specs.Shows.{ShowsPages}
 use Rattle.residency.proofs.Places.{one_frame}
@@ -38,8 +41,8 @@ use Rattle.syncing.specs.declared.chosen.CachedPage.{CachedPage}
 use Rattle.syncing.specs.declared.chosen.Chosen.{Chosen}
 use Rattle.syncing.specs.Choice.{page_at, Lists, TakesSame, IsListed}
 use Rattle.syncing.specs.Core.{KeepsMemory, Acknowledged, Failed, Commits}
-use Rattle.syncing.specs.Settling.{cached_at, frame_at, AreCached, HasFrames, Settles}
-use Rattle.syncing.specs.Shows.{IsSound, Shows}
+use Rattle.syncing.specs.Settling.{cached_at, frame_at, AreCached, HasFrames, Settles, KeepsEntries}
+use Rattle.syncing.specs.Shows.{IsSoundCore, Shows}
 
 -- what stands at a place of a list
 some_get : (xs : List FilePage) (i : ℕ) (p : FilePage) → slice_get xs i ≡ Some p → (i < length xs) × (p ≡ page_at xs i)
@@ -241,6 +244,30 @@ module _ (c : Picture) (s : State) (pid first count : ℕ) (pages : List FilePag
       ];
     }
 
+-- of all entries only leaves over the pages that were taken lost D
+pub entries_synced : (c new : Picture) (chosen : Chosen) (list : List CachedPage) → IsFit c → IsListed c chosen
+    → HasFrames c (take chosen.count chosen.list) list → Settles c new list → KeepsEntries c new
+entries_synced c new chosen list fit listed frames settles pid page h = elim (settles.entries pid page h) [
+  | inl same ↦ inl same
+  | inr lost ↦ (
+      let i = lost.frame.0 in
+      let below : i < length (take chosen.count chosen.list) = omega (arith, lost.frame.1, frames.count) in
+      let e = entry c pid page in
+      let there : c.place (cached_at list i).page ≡ Frame (record { 0 = frame_of e }) = (frames.cached i below).placed ∙ ap (λ n. Frame (record { 0 = n })) lost.frame.2 in
+      inr (record {
+        leaf = lost.leaf;
+        common = elim (cases_Bool (is_private e)) [
+          | inl own ↦ absurd (let bad : Private ≡ Cache = sym (fit.counted.private pid page h own) ∙ fit.places.cached (cached_at list i).page (frame_of e) there in (cc))
+          | inr common ↦ common
+        ];
+        loses = lost.loses;
+        page = (cached_at list i).page;
+        over = there;
+        was = ap c.touched (frames.same i below) ∙ front_touched c chosen listed i below;
+        now = settles.cleaned i lost.frame.1;
+      }))
+]
+
 -- the source never fails, so the device did
 pub device_failed : (before now : ℕ) (f : CommitFault) → HasCauses before now 0 0 (Err f) → before < now
 device_failed before now Source causes = absurd (lt_irrefl _ (causes.source refl))
@@ -279,7 +306,7 @@ module _ {D E : Type 0} (g : Ghosts D) where
       → StoreCommits g (g.sector_count old.store.disk) s.files s.durable (committed s pid same.first same.count s.durable) old.store new.store
       → (g.keeps_model new.store.disk → LeavesNow g old.store.disk (StandsFor (g.sector_count old.store.disk) s.files s.durable)
       → LeavesNow g new.store.disk (StandsFor (g.sector_count old.store.disk) s.files (committed s pid same.first same.count s.durable)))
-      → ShowsPages (picture_of new) (synced s pid same.first same.count) → IsSound g new
+      → ShowsPages (picture_of new) (synced s pid same.first same.count) → IsSoundCore g new
       → Commits g old new s after (Msync pid addr len mode) Done
   commit_done old new s after pid addr len mode chosen shows same takes swap store ok pages sound =
       let taken = committed s pid same.first same.count s.durable in

@@ -10,12 +10,12 @@ use Rattle.page_tables.specs.Tree.{IsTight}
 use Rattle.page_tables.proofs.Data.{data_written}
 use Rattle.page_tables.proofs.Tight.{tight_same}
 use Rattle.page_cache.specs.declared.place.Place.TheVariants.{Frame}
-use Rattle.residency.specs.Picture.{Picture, view}
+use Rattle.residency.specs.Picture.{Picture, entry, view}
 use Rattle.residency.specs.Parts.{IsFit}
 use Rattle.residency.specs.Steps.{SameBeside}
 use Rattle.residency.proofs.FrameSteps.{steady_written}
 use Rattle.residency.proofs.Used.{fit_steady, steady_fit}
-use Rattle.residency.proofs.Views.{views_file}
+use Rattle.residency.proofs.Views.{entries_written, views_file}
 use Rattle.syncing.specs.declared.chosen.CachedPage.{CachedPage}
 use Rattle.syncing.specs.Settling.{cached_at, frame_at, AreCached, CutsTails}
 use Rattle.syncing.proofs.Leaves.{beside_frames}
@@ -36,6 +36,9 @@ module _ (old new : Picture) (k : ℕ) (w : List ℕ) (fit : IsFit old) (cache :
   pub views_cut : (q p : ℕ) → view new q p ≡ view old q p
   views_cut = views_file old new 0 k w (fit_steady old fit) is beside cache
 
+  pub entries_cut : (q p : ℕ) → entry new q p ≡ entry old q p
+  entries_cut = entries_written old new 0 k w (fit_steady old fit) is beside (cache_is_data (role_of old.frames k) cache)
+
   pub cached_cut : (list : List CachedPage) → AreCached old list → AreCached new list
   cached_cut list cached = record {
     each = λ i less. (let was = cached.each i less in record {
@@ -52,6 +55,7 @@ cuts_none c list = record {
   beside = beside_frames c c.frames;
   frames = refl;
   views = λ q p. refl;
+  entries = λ q p. refl;
   cut = λ i less. absurd (omega arith);
   kept = λ m none. refl;
 }
@@ -88,6 +92,7 @@ cuts_more a b c list i w fit_a fit_b cached_a cached_b less cuts cache is beside
       };
       frames = ap frame_count is ∙ (with_bytes-others b.frames n w).frames ∙ cuts.frames;
       views = λ q p. views_cut b c n w fit_b cache is beside q p ∙ cuts.views q p;
+      entries = λ q p. entries_cut b c n w fit_b cache is beside q p ∙ cuts.entries q p;
       cut = λ j below. elim (cases_eq j i) [
         | inl same ↦ (
             let P : ℕ → Type 0 = λ y. bytes_of t (frame_at list y) ≡ trimmed a.files (cached_at list y).page.file (cached_at list y).page.page (bytes_of a.frames (frame_at list y)) in

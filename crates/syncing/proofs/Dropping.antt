@@ -1,8 +1,19 @@
 -- An entry of which D is cleared.
-use Rattle.std.proofs.Common.{◌≡◌, ℕ, ◌-◌, ◌/◌, ◌%◌, ◌^◌, ◌==◌, true, false, refl, ap, arith}
+use Rattle.std.proofs.Common.{◌≡◌, ℕ, ◌/◌, ◌%◌, ◌^◌, ◌==◌, true, false, refl, ap, arith}
 use Rattle.std.proofs.lemmas.Bool.Decides.{nat_tests}
-use Rattle.sv39_walk.specs.Entry.{has_bit, is_valid, is_dirty, frame_of}
-use Rattle.syncing.specs.Settling.{DropsDirty}
+use Rattle.sv39_walk.specs.Entry.{has_bit, is_valid, can_read, can_write, can_execute, is_dirty, frame_of}
+use Rattle.residency.specs.Picture.{is_private}
+use Rattle.syncing.specs.Settling.{LosesDirty}
+
+-- what an entry that lost D says
+pub record DropsDirty (old new : ℕ) : Type 0 where
+  pub valid : is_valid new ≡ is_valid old
+  pub reads : can_read new ≡ can_read old
+  pub writes : can_write new ≡ can_write old
+  pub executes : can_execute new ≡ can_execute old
+  pub private : is_private new ≡ is_private old
+  pub frame : frame_of new ≡ frame_of old
+  pub clean : is_dirty new ≡ false
 
 bit_same : (e d k : ℕ) → e / 2 ^ k % 2 ≡ d / 2 ^ k % 2 → has_bit e k ≡ has_bit d k
 unfolding has_bit
@@ -20,18 +31,19 @@ frame_same : (e d : ℕ) → e / 1024 ≡ d / 1024 → frame_of e ≡ frame_of d
 unfolding frame_of
 frame_same e d same = ap (λ x. x % 2 ^ 44) same
 
--- bit 7 is set, and so taking 128 from the number clears it alone
-pub dropped : (e : ℕ) → is_dirty e ≡ true → DropsDirty e (e - 128)
-dropped e dirty =
-    let bit = bit_is e dirty in
+-- bit 7 was set, and so 128 less clears it alone
+pub dropped : (e d : ℕ) → LosesDirty e d → DropsDirty e d
+dropped e d loses =
+    let bit = bit_is e loses.had in
+    let number = loses.number in
     record {
-      valid = bit_same (e - 128) e 0 (omega arith);
-      reads = bit_same (e - 128) e 1 (omega arith);
-      writes = bit_same (e - 128) e 2 (omega arith);
-      executes = bit_same (e - 128) e 3 (omega arith);
-      private = bit_same (e - 128) e 8 (omega arith);
-      frame = frame_same (e - 128) e (omega arith);
-      clean = bit_clear (e - 128) 7 (omega arith);
+      valid = bit_same d e 0 (omega arith);
+      reads = bit_same d e 1 (omega arith);
+      writes = bit_same d e 2 (omega arith);
+      executes = bit_same d e 3 (omega arith);
+      private = bit_same d e 8 (omega arith);
+      frame = frame_same d e (omega arith);
+      clean = bit_clear d 7 (omega arith);
     }
 
 pub valid_zero : is_valid 0 ≡ false

@@ -7,11 +7,11 @@ use Rattle.vm_types.specs.declared.region.Backing.TheVariants.{Shared}
 use Rattle.page_cache.specs.CacheTable.{CacheTable, is_touched}
 use Rattle.page_cache.specs.Gathering.{IsTouchedIn, Gathers, HasAll}
 use Rattle.page_cache.specs.Gathering as Cache
-use Rattle.syncing.specs.Choice.{page_at, in_file_row, is_touched_behind, Appends, Overflows}
+use Rattle.syncing.specs.Choice.{page_at, in_file_row, is_taken_behind, Appends, Overflows}
 use Rattle.syncing.proofs.Walking.{both_true, and_true}
 
 -- a touched page of a row, by tests
-behind : (t : CacheTable) (first : FilePage) (count : ℕ) (p : FilePage) → IsTouchedIn t first.file first.page count p → is_touched_behind (is_touched t) (Shared first) count p ≡ true
+behind : (t : CacheTable) (first : FilePage) (count : ℕ) (p : FilePage) → IsTouchedIn t first.file first.page count p → is_taken_behind (is_touched t) (Shared first) count p ≡ true
 behind t first count p in_row =
     let same = in_row.row.0 in
     let low = in_row.row.1 in
@@ -20,7 +20,7 @@ behind t first count p in_row =
     let row : (leb first.page p.page && ltb p.page (first.page + count)) ≡ true = grind (arith, nat_tests) in
     and_true (is_touched t p) (in_file_row first count p) in_row.touched (and_true (p.file == first.file) (leb first.page p.page && ltb p.page (first.page + count)) file row)
 
-in_row_of : (t : CacheTable) (first : FilePage) (count : ℕ) (p : FilePage) → is_touched_behind (is_touched t) (Shared first) count p ≡ true → IsTouchedIn t first.file first.page count p
+in_row_of : (t : CacheTable) (first : FilePage) (count : ℕ) (p : FilePage) → is_taken_behind (is_touched t) (Shared first) count p ≡ true → IsTouchedIn t first.file first.page count p
 in_row_of t first count p e =
     let a = both_true (is_touched t p) (in_file_row first count p) e in
     let d = both_true (p.file == first.file) (leb first.page p.page && ltb p.page (first.page + count)) a.1 in
@@ -32,7 +32,7 @@ in_row_of t first count p e =
     record { row = (same, low, high); touched = a.0 }
 
 pub gathered : (t : CacheTable) (first : FilePage) (count used n : ℕ) (x y : List FilePage) → Gathers t first.file first.page count used x y n
-    → HasAll t first.file first.page count y n → Appends (is_touched_behind (is_touched t) (Shared first) count) x y used n
+    → HasAll t first.file first.page count y n → Appends (is_taken_behind (is_touched t) (Shared first) count) x y used n
 gathered t first count used n x y gathers all = record {
   order = gathers.longer;
   few = gathers.most;
@@ -43,12 +43,12 @@ gathered t first count used n x y gathers all = record {
 }
 
 pub overflown : (t : CacheTable) (first : FilePage) (count used : ℕ) (x y : List FilePage) → used ≤ 127 → Cache.Overflows t first.file first.page count used x y
-    → Overflows (is_touched_behind (is_touched t) (Shared first) count) x used
+    → Overflows (is_taken_behind (is_touched t) (Shared first) count) x used
 overflown t first count used x y few over =
     let at : ℕ → FilePage = λ i. if ltb i 127 then page_at y i else over.missing in
     let old : (i : ℕ) → i < 127 → at i ≡ page_at y i = λ i less. let t : ltb i 127 ≡ true = grind (arith, nat_tests) in rw t refl in
     let new : (i : ℕ) → 127 ≤ i → at i ≡ over.missing = λ i more. let t : ltb i 127 ≡ false = grind (arith, nat_tests) in rw t refl in
-    let passes = is_touched_behind (is_touched t) (Shared first) count in
+    let passes = is_taken_behind (is_touched t) (Shared first) count in
     record {
       at = at;
       kept = λ i less. old i (omega (arith, less, few)) ∙ over.full.kept i less;

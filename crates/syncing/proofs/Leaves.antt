@@ -31,8 +31,8 @@ use Rattle.residency.proofs.Used.{fit_steady, steady_fit}
 use Rattle.residency.proofs.Views.{views_set}
 use Rattle.residency.proofs.Ways.{by_page}
 use Rattle.syncing.specs.declared.chosen.CachedPage.{CachedPage}
-use Rattle.syncing.specs.Settling.{cached_at, IsCached, AreCached, DropsDirty, ClearsDirty, IsClearAt, backed_by, IsRunOf, IsPageOver}
-use Rattle.syncing.proofs.Dropping.{valid_zero}
+use Rattle.syncing.specs.Settling.{cached_at, IsCached, AreCached, LosesDirty, ClearsLeaf, ClearsDirty, IsClearAt, backed_by, IsRunOf, IsPageOver}
+use Rattle.syncing.proofs.Dropping.{DropsDirty, dropped, valid_zero}
 
 -- the same with other frames
 abbrev pub with_frames : Picture → FrameTable → Picture
@@ -109,7 +109,10 @@ view_dropped old new pid page at drops bytes =
 -- The entry of one page of a live process, a leaf, lost D.
 module _ (old new : Picture) (pid r page number : ℕ) (fit : IsFit old) (root : old.root pid ≡ Some r) (h : IsPage 2 page)
     (whole : missing_of old.frames 2 r page ≡ 0) (sets : SetsEntry old.frames new.frames 2 r page number) (beside : SameBeside old new)
-    (valid : is_valid (entry old pid page) ≡ true) (drops : DropsDirty (entry old pid page) number) where
+    (valid : is_valid (entry old pid page) ≡ true) (loses : LosesDirty (entry old pid page) number) where
+  drops : DropsDirty (entry old pid page) number
+  drops = dropped (entry old pid page) number loses
+
   steady : IsSteady old
   steady = fit_steady old fit
 
@@ -135,8 +138,8 @@ module _ (old new : Picture) (pid r page number : ℕ) (fit : IsFit old) (root :
   now : DropsDirty (entry old pid page) (entry new pid page)
   now = let P : ℕ → Type 0 = λ e. DropsDirty (entry old pid page) e in subst P (sym one_page.changed) drops
 
-  pub clears_dropped : ClearsDirty old new
-  clears_dropped = record {
+  pub clears_dropped : (over : ℕ → Type 0) → over (frame_of (entry old pid page)) → ClearsDirty over old new
+  clears_dropped over there = record {
     beside = beside;
     frames = sets.kept.frames;
     bytes = sets.kept.bytes;
@@ -153,9 +156,11 @@ module _ (old new : Picture) (pid r page number : ℕ) (fit : IsFit old) (root :
     ];
     entries = λ q p h'. elim (by_page q p pid page) [
       | inl e ↦ (
-          let P : ℕ → Type 0 = λ x. is_dirty (entry new x page) ≡ false in
-          let Q : ℕ → Type 0 = λ x. is_dirty (entry new q x) ≡ false in
-          inr (subst Q (sym e.1) (subst P (sym e.0) now.clean)))
+          let here : ClearsLeaf over (entry old pid page) (entry new pid page) =
+          record { leaf = valid; frame = there; loses = (let R : ℕ → Type 0 = λ x. LosesDirty (entry old pid page) x in subst R (sym one_page.changed) loses) } in
+          let P : ℕ → Type 0 = λ x. ClearsLeaf over (entry old x page) (entry new x page) in
+          let Q : ℕ → Type 0 = λ x. ClearsLeaf over (entry old q x) (entry new q x) in
+          inr (subst Q (sym e.1) (subst P (sym e.0) here)))
       | inr other ↦ inl (one_page.others q p h' other)
     ];
   }
@@ -164,8 +169,8 @@ module _ (old new : Picture) (pid r page number : ℕ) (fit : IsFit old) (root :
   clear_dropped n v dirty frame = false≢true (sym now.clean ∙ dirty)
 
 -- no entry at all
-pub clears_none : (c : Picture) → ClearsDirty c c
-clears_none c = record {
+pub clears_none : (over : ℕ → Type 0) (c : Picture) → ClearsDirty over c c
+clears_none over c = record {
   beside = record { root = λ p. refl; at = λ p k. refl; page_of = λ m. refl; place = λ p. refl; touched = λ p. refl; files = λ f. refl };
   frames = refl;
   bytes = λ n used. refl;
@@ -175,8 +180,8 @@ clears_none c = record {
 }
 
 -- some entries, and then others
-pub clears_then : (a b c : Picture) → ClearsDirty a b → ClearsDirty b c → ClearsDirty a c
-clears_then a b c f g = record {
+pub clears_then : (over : ℕ → Type 0) (a b c : Picture) → ClearsDirty over a b → ClearsDirty over b c → ClearsDirty over a c
+clears_then over a b c f g = record {
   beside = record {
     root = λ p. g.beside.root p ∙ f.beside.root p;
     at = λ p k. g.beside.at p k ∙ f.beside.at p k;
@@ -192,21 +197,38 @@ clears_then a b c f g = record {
   entries = λ q p h. elim (g.entries q p h) [
     | inl same ↦ elim (f.entries q p h) [
       | inl was ↦ inl (same ∙ was)
-      | inr clean ↦ inr (ap is_dirty same ∙ clean)
+      | inr lost ↦ inr (let P : ℕ → Type 0 = λ e. ClearsLeaf over (entry a q p) e in subst P (sym same) lost)
     ]
-    | inr clean ↦ inr clean
+    | inr lost ↦ elim (f.entries q p h) [
+      | inl was ↦ inr (let P : ℕ → Type 0 = λ e. ClearsLeaf over e (entry c q p) in subst P was lost)
+      | inr before ↦ absurd (false≢true (sym (dropped (entry a q p) (entry b q p) before.loses).clean ∙ lost.loses.had))
+    ]
+  ];
+}
+
+-- over more frames
+pub clears_wider : (over more : ℕ → Type 0) (a b : Picture) → ((n : ℕ) → over n → more n) → ClearsDirty over a b → ClearsDirty more a b
+clears_wider over more a b wider f = record {
+  beside = f.beside;
+  frames = f.frames;
+  bytes = f.bytes;
+  roles = f.roles;
+  views = f.views;
+  entries = λ q p h. elim (f.entries q p h) [
+    | inl same ↦ inl same
+    | inr lost ↦ inr (record { leaf = lost.leaf; frame = wider (frame_of (entry a q p)) lost.frame; loses = lost.loses })
   ];
 }
 
 -- what was clear is clear still
-pub still_clear : (old new : Picture) (pid k n : ℕ) → ClearsDirty old new → IsPage 2 k → IsClearAt old pid k n → IsClearAt new pid k n
-still_clear old new pid k n clears h clear valid dirty frame = elim (clears.entries pid k h) [
+pub still_clear : (over : ℕ → Type 0) (old new : Picture) (pid k n : ℕ) → ClearsDirty over old new → IsPage 2 k → IsClearAt old pid k n → IsClearAt new pid k n
+still_clear over old new pid k n clears h clear valid dirty frame = elim (clears.entries pid k h) [
   | inl same ↦ clear (sym (ap is_valid same) ∙ valid) (sym (ap is_dirty same) ∙ dirty) (sym (ap frame_of same) ∙ frame)
-  | inr clean ↦ false≢true (sym clean ∙ dirty)
+  | inr lost ↦ false≢true (sym (dropped (entry old pid k) (entry new pid k) lost.loses).clean ∙ dirty)
 ]
 
-pub cached_kept : (old new : Picture) (list : List CachedPage) → ClearsDirty old new → AreCached old list → AreCached new list
-cached_kept old new list clears cached = record {
+pub cached_kept : (over : ℕ → Type 0) (old new : Picture) (list : List CachedPage) → ClearsDirty over old new → AreCached old list → AreCached new list
+cached_kept over old new list clears cached = record {
   each = λ i less. (let was = cached.each i less in record {
     placed = clears.beside.place (cached_at list i).page ∙ was.placed;
     above = was.above;
@@ -276,8 +298,8 @@ clear_other c pid k run x fit cached of low high other =
     clear_mapped c pid k (attr_after run.attr (k - run.first)) x fit (omega (arith, high, of.high)) cached (of.mapped k low high)
     (λ is. other (record { from = low; below = high; is = is }))
 
-pub run_kept : (old new : Picture) (pid : ℕ) (run : Run) → ClearsDirty old new → IsRunOf old pid run → IsRunOf new pid run
-run_kept old new pid run clears of = record {
+pub run_kept : (over : ℕ → Type 0) (old new : Picture) (pid : ℕ) (run : Run) → ClearsDirty over old new → IsRunOf old pid run → IsRunOf new pid run
+run_kept over old new pid run clears of = record {
   low = of.low;
   nonempty = of.nonempty;
   high = of.high;

@@ -11,7 +11,7 @@ use Rattle.vm_types.specs.declared.region.Backing.TheVariants.{Anon, Private, Sh
 use Rattle.vm_types.specs.Attributes.{backing_after}
 use Rattle.vm_types.specs.Counting.{any_below}
 use Rattle.vm_types.specs.Msync.{is_shared_page}
-use Rattle.syncing.specs.Choice.{stands_behind, is_touched_behind, shares_page, is_shared_in, is_chosen, Appends, Overflows}
+use Rattle.syncing.specs.Choice.{stands_behind, is_taken_behind, shares_page, is_shared_in, is_chosen, Appends, Overflows}
 use Rattle.syncing.proofs.Appending.{nothing, in_turn, renamed, over}
 
 -- tests
@@ -92,7 +92,7 @@ share_none map k p e = ap (λ (o : Option Attr). shares_page o p) e
 
 -- the part of a run that lies in the row
 run_to_row : (touched : FilePage → Bool) (map : ℕ → Option Attr) (first page stop : ℕ) (run : Run) (p : FilePage) → IsNextRun map page run → first ≤ page → stop ≤ run.end
-    → is_touched_behind touched run.attr.backing (stop - run.first) p ≡ true → is_chosen touched map first (stop - first) p ≡ true
+    → is_taken_behind touched run.attr.backing (stop - run.first) p ≡ true → is_chosen touched map first (stop - first) p ≡ true
 run_to_row touched map first page stop run p next from end e =
     let parts = both_true (touched p) (stands_behind run.attr.backing (stop - run.first) p) e in
     let r = stands_at run.attr.backing (stop - run.first) p parts.1 in
@@ -109,7 +109,7 @@ run_to_row touched map first page stop run p next from end e =
 
 row_to_run : (touched : FilePage → Bool) (map : ℕ → Option Attr) (first page stop : ℕ) (run : Run) (p : FilePage) → IsNextRun map page run → first ≤ page → stop ≤ run.end
     → is_chosen touched map first (stop - first) p ≡ true
-    → (is_chosen touched map first (page - first) p ≡ true) ⊎ (is_touched_behind touched run.attr.backing (stop - run.first) p ≡ true)
+    → (is_chosen touched map first (page - first) p ≡ true) ⊎ (is_taken_behind touched run.attr.backing (stop - run.first) p ≡ true)
 row_to_run touched map first page stop run p next from end e =
     let parts = both_true (touched p) (is_shared_in map first (stop - first) p) e in
     let r = any_true (λ i. shares_page (map (first + i)) p) (stop - first) parts.1 in
@@ -132,10 +132,10 @@ row_to_run touched map first page stop run p next from end e =
 -- one run further
 pub walk_on : (touched : FilePage → Bool) (map : ℕ → Option Attr) (first page stop : ℕ) (run : Run) (x y z : List FilePage) (v w : ℕ)
     → IsNextRun map page run → first ≤ page → page ≤ stop → stop ≤ run.end
-    → Appends (is_chosen touched map first (page - first)) x y 0 v → Appends (is_touched_behind touched run.attr.backing (stop - run.first)) y z v w
+    → Appends (is_chosen touched map first (page - first)) x y 0 v → Appends (is_taken_behind touched run.attr.backing (stop - run.first)) y z v w
     → Appends (is_chosen touched map first (stop - first)) x z 0 w
 walk_on touched map first page stop run x y z v w next from more end f g =
-    in_turn (is_chosen touched map first (page - first)) (is_touched_behind touched run.attr.backing (stop - run.first)) (is_chosen touched map first (stop - first)) x y z 0 v w
+    in_turn (is_chosen touched map first (page - first)) (is_taken_behind touched run.attr.backing (stop - run.first)) (is_chosen touched map first (stop - first)) x y z 0 v w
     (λ p e. chosen_longer touched map first (page - first) (stop - first) p (omega arith) e)
     (λ p e. run_to_row touched map first page stop run p next from end e)
     (λ p e. row_to_run touched map first page stop run p next from end e)
@@ -143,10 +143,10 @@ walk_on touched map first page stop run x y z v w next from more end f g =
 
 pub walk_over : (touched : FilePage → Bool) (map : ℕ → Option Attr) (first page stop end : ℕ) (run : Run) (x y : List FilePage) (v : ℕ)
     → IsNextRun map page run → first ≤ page → page ≤ end → stop ≤ run.end → stop ≤ end
-    → Appends (is_chosen touched map first (page - first)) x y 0 v → Overflows (is_touched_behind touched run.attr.backing (stop - run.first)) y v
+    → Appends (is_chosen touched map first (page - first)) x y 0 v → Overflows (is_taken_behind touched run.attr.backing (stop - run.first)) y v
     → Overflows (is_chosen touched map first (end - first)) x 0
 walk_over touched map first page stop end run x y v next from order high within f g =
-    over (is_chosen touched map first (page - first)) (is_touched_behind touched run.attr.backing (stop - run.first)) (is_chosen touched map first (end - first)) x y 0 v
+    over (is_chosen touched map first (page - first)) (is_taken_behind touched run.attr.backing (stop - run.first)) (is_chosen touched map first (end - first)) x y 0 v
     (λ p e. chosen_longer touched map first (page - first) (end - first) p (omega arith) e)
     (λ p e. chosen_longer touched map first (stop - first) (end - first) p (omega arith) (run_to_row touched map first page stop run p next from high e))
     f g

@@ -35,8 +35,8 @@ stands_behind (Private first) count page = false
 stands_behind (Shared first) count page = in_file_row first count page
 
 -- the same of touched file pages alone
-abbrev pub is_touched_behind : (FilePage → Bool) → Backing → ℕ → FilePage → Bool
-is_touched_behind touched first count page = touched page && stands_behind first count page
+abbrev pub is_taken_behind : (FilePage → Bool) → Backing → ℕ → FilePage → Bool
+is_taken_behind touched first count page = touched page && stands_behind first count page
 
 -- whether a page that is this shares the file page
 abbrev pub shares_page : Option Attr → FilePage → Bool

@@ -11,7 +11,7 @@ use Rattle.vm_types.specs.State.{State}
 use Rattle.vm_types.specs.Step.{outcome}
 use Rattle.vm_types.specs.View.{Pages}
 use Rattle.residency.specs.declared.kernel.Core.{Core}
-use Rattle.syncing.specs.Shows.{IsSound, Shows}
+use Rattle.syncing.specs.Shows.{IsSoundCore, Shows}
 
 module _ {D E : Type 0} where
   -- all but the store is as it was, and the store has the same files
@@ -28,7 +28,7 @@ module _ {D E : Type 0} where
 module _ {D E : Type 0} (g : Ghosts D) where
   -- the commit was made, or the store failed in it and the memory is as it was
   pub data IsEnd (old new : Core D E) (s : State) (command : Command) (reply : Reply) : Type 0 where
-    Acknowledged : reply ≡ Done → Shows g new (outcome s command).state → IsSound g new → IsEnd old new s command reply
+    Acknowledged : reply ≡ Done → Shows g new (outcome s command).state → IsSoundCore g new → IsEnd old new s command reply
     Failed : reply ≡ Refused EIO → g.failures old.store.disk < g.failures new.store.disk → KeepsMemory old new → IsEnd old new s command reply
 
   -- What an msync that makes pages durable comes to: at every moment a stop leaves the files as they were, or with all of

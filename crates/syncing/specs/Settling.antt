@@ -1,5 +1,5 @@
 -- What becomes of memory once file pages were committed.
-use Rattle.std.specs.Prelude.{◌≡◌, ◌≢◌, ℕ, ◌-◌, ◌<◌, ◌≤◌, ◌^◌, ◌⊎◌, true, false, List, length, get_or, Option, Some, None}
+use Rattle.std.specs.Prelude.{◌≡◌, ◌≢◌, ℕ, ◌+◌, ◌-◌, ◌<◌, ◌≤◌, ◌^◌, ◌⊎◌, true, false, List, length, get_or, Option, Some, None}
 use Rattle.vm_types.specs.declared.file.FilePage.{FilePage}
 use Rattle.vm_types.specs.declared.region.Backing.{Backing}
 use Rattle.vm_types.specs.declared.region.Backing.TheVariants.{Anon, Private, Shared}
@@ -7,7 +7,7 @@ use Rattle.vm_types.specs.Attributes.{attr_after}
 use Rattle.vm_types.specs.Files.{trimmed}
 use Rattle.frames.specs.declared.role.Role.TheVariants.{Table}
 use Rattle.frames.specs.FrameTable.{frame_count, bytes_of, role_of, IsFrame}
-use Rattle.sv39_walk.specs.Entry.{is_valid, can_read, can_write, can_execute, is_dirty, frame_of}
+use Rattle.sv39_walk.specs.Entry.{is_valid, is_dirty, frame_of}
 use Rattle.page_tables.specs.Tree.{IsPage}
 use Rattle.regions.specs.declared.run.Run.{Run}
 use Rattle.page_cache.specs.declared.place.Place.TheVariants.{Frame}
@@ -74,28 +74,34 @@ pub record CutsTails (old new : Picture) (list : List CachedPage) (n : ℕ) : Ty
   pub beside : SameBeside old new
   pub frames : frame_count new.frames ≡ frame_count old.frames
   pub views : (pid page : ℕ) → view new pid page ≡ view old pid page
+  pub entries : (pid page : ℕ) → entry new pid page ≡ entry old pid page
   pub cut : (i : ℕ) → i < n → let p = (cached_at list i).page in
       bytes_of new.frames (frame_at list i) ≡ trimmed old.files p.file p.page (bytes_of old.frames (frame_at list i))
   pub kept : (m : ℕ) → ((i : ℕ) → i < n → frame_at list i ≢ m) → bytes_of new.frames m ≡ bytes_of old.frames m
 
--- an entry with D clear
-pub record DropsDirty (old new : ℕ) : Type 0 where
-  pub valid : is_valid new ≡ is_valid old
-  pub reads : can_read new ≡ can_read old
-  pub writes : can_write new ≡ can_write old
-  pub executes : can_execute new ≡ can_execute old
-  pub private : is_private new ≡ is_private old
-  pub frame : frame_of new ≡ frame_of old
-  pub clean : is_dirty new ≡ false
+-- The second is the first, which has D, without it: 128 less, and every other bit the same.
+pub record LosesDirty (old new : ℕ) : Type 0 where
+  pub had : is_dirty old ≡ true
+  pub number : new + 128 ≡ old
 
--- entries lost D, and nothing else changed
-pub record ClearsDirty (old new : Picture) : Type 0 where
+-- a leaf over one of these frames lost D
+pub record ClearsLeaf (over : ℕ → Type 0) (old new : ℕ) : Type 0 where
+  pub leaf : is_valid old ≡ true
+  pub frame : over (frame_of old)
+  pub loses : LosesDirty old new
+
+-- leaves over these frames lost D, and nothing else changed
+pub record ClearsDirty (over : ℕ → Type 0) (old new : Picture) : Type 0 where
   pub beside : SameBeside old new
   pub frames : frame_count new.frames ≡ frame_count old.frames
   pub bytes : (n : ℕ) → role_of old.frames n ≢ Table → bytes_of new.frames n ≡ bytes_of old.frames n
   pub roles : (n : ℕ) → role_of new.frames n ≡ role_of old.frames n
   pub views : (pid page : ℕ) → view new pid page ≡ view old pid page
-  pub entries : (pid page : ℕ) → IsPage 2 page → (entry new pid page ≡ entry old pid page) ⊎ (is_dirty (entry new pid page) ≡ false)
+  pub entries : (pid page : ℕ) → IsPage 2 page → (entry new pid page ≡ entry old pid page) ⊎ ClearsLeaf over (entry old pid page) (entry new pid page)
+
+-- the frame is that of one of these pages
+abbrev pub IsFrameIn : List CachedPage → ℕ → Type 0
+IsFrameIn list n = (i : ℕ) × (i < length list) × (frame_at list i ≡ n)
 
 -- no leaf over frame n stands for the page with D
 abbrev pub IsClearAt : Picture → ℕ → ℕ → ℕ → Type 0
@@ -133,6 +139,7 @@ pub record IsPageOver (run : Run) (p : FilePage) (k : ℕ) : Type 0 where
 pub record Settles (old new : Picture) (list : List CachedPage) : Type 0 where
   pub root : (pid : ℕ) → new.root pid ≡ old.root pid
   pub views : (pid page : ℕ) → view new pid page ≡ view old pid page
+  pub entries : (pid page : ℕ) → IsPage 2 page → (entry new pid page ≡ entry old pid page) ⊎ ClearsLeaf (IsFrameIn list) (entry old pid page) (entry new pid page)
   pub place : (p : FilePage) → new.place p ≡ old.place p
   pub files : (f : ℕ) → new.files f ≡ old.files f
   pub cleaned : (i : ℕ) → i < length list → new.touched (cached_at list i).page ≡ false
@@ -141,3 +148,17 @@ pub record Settles (old new : Picture) (list : List CachedPage) : Type 0 where
       bytes_of new.frames (frame_at list i) ≡ trimmed old.files p.file p.page (bytes_of old.frames (frame_at list i))
   pub kept : (p : FilePage) (n : ℕ) → ((i : ℕ) → i < length list → (cached_at list i).page ≢ p) → old.place p ≡ Frame (record { 0 = n })
       → bytes_of new.frames n ≡ bytes_of old.frames n
+
+-- A leaf over the frame of a file page that was touched, and is no more, lost D. It is no process's own copy.
+pub record LosesTouched (old new : Picture) (e e' : ℕ) : Type 0 where
+  pub leaf : is_valid e ≡ true
+  pub common : is_private e ≡ false
+  pub loses : LosesDirty e e'
+  pub page : FilePage
+  pub over : old.place page ≡ Frame (record { 0 = frame_of e })
+  pub was : old.touched page ≡ true
+  pub now : new.touched page ≡ false
+
+-- Every entry of every process is the number that it was, but for D of leaves over file pages that were made durable.
+abbrev pub KeepsEntries : Picture → Picture → Type 0
+KeepsEntries old new = (pid page : ℕ) → IsPage 2 page → (entry new pid page ≡ entry old pid page) ⊎ LosesTouched old new (entry old pid page) (entry new pid page)

@@ -2,18 +2,17 @@
 use Rattle.disk_model.specs.Moments.{LeavesNow}
 use Rattle.disk_model.specs.declared.sector_disk.SectorDisk.{Ghosts}
 use Rattle.file_store.specs.Standing.{StandsFor}
-use Rattle.file_store.specs.Store.{IsReady}
+use Rattle.file_store.specs.Store.{IsReadyStore}
 use Rattle.vm_types.specs.State.{State}
 use Rattle.residency.specs.declared.kernel.Core.{Core}
-use Rattle.residency.specs.Parts.{IsSized, IsFit}
+use Rattle.residency.specs.Parts.{IsFit}
 use Rattle.residency.specs.Picture.{picture_of}
 use Rattle.residency.specs.Shows.{ShowsPages}
 
 module _ {D E : Type 0} (g : Ghosts D) where
   -- between two calls: the store may be read and committed to, and memory is fit
-  pub record IsSound (c : Core D E) : Type 0 where
-    pub ready : IsReady g c.store
-    pub sized : IsSized c
+  pub record IsSoundCore (c : Core D E) : Type 0 where
+    pub ready : IsReadyStore g c.store
     pub fit : IsFit (picture_of c)
 
   -- The memory shows the state, and every image that a stop may leave now stands for its durable files.

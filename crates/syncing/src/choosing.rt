@@ -6,9 +6,9 @@ ghost use Rattle.vm_types.specs.State.{State};
 ghost use Rattle.regions.specs.RunList.{attr_at};
 ghost use Rattle.page_cache.specs.CacheTable.{is_touched};
 ghost use Rattle.residency.specs.Picture.{picture_of, is_live};
-ghost use Rattle.residency.specs.Parts.{IsSized, IsFit};
+ghost use Rattle.residency.specs.Parts.{IsFit};
 ghost use Rattle.residency.specs.Shows.{ShowsPages};
-ghost use Rattle.syncing.specs.Choice.{is_touched_behind, is_chosen, Appends, Overflows, IsChoice, RulesSame, AreListed, IsNoDeviceFault};
+ghost use Rattle.syncing.specs.Choice.{is_taken_behind, is_chosen, Appends, Overflows, IsChoice, RulesSame, AreListed, IsNoDeviceFault};
 
 use crate::chosen::{Chosen, Ruling};
 use page_cache::{PageCache, TooMany};
@@ -27,7 +27,6 @@ pub(crate) fn rule<D, E>(
     len: u64,
     mode: MsyncMode,
 ) -> Ruling
-    requires sized { IsSized core.now }
     requires fit { IsFit (picture_of core.now) }
     ensures same { (s : State) → ShowsPages (picture_of core.now) s → RulesSame s pid addr len mode result }
     ensures listed { AreListed (picture_of core.now) result }
@@ -56,7 +55,6 @@ pub(crate) fn rule<D, E>(
 
 /// Whether a process of that number lives.
 fn lives<D, E>(core: &Core<D, E>, pid: u64) -> bool
-    requires { IsSized core.now }
     ensures live { result ≡ is_live (picture_of core.now) pid }
     ensures number { result ≡ true → pid < 65 }
 {
@@ -116,8 +114,8 @@ fn choose_behind(
     requires count { count < 2 ^ 32 }
     requires row { backing_fits backing count }
     requires few { used ≤ 127 }
-    ensures ok { IfOk result (Appends (is_touched_behind (is_touched cache.now) backing count) list.old list.new used) }
-    ensures too_many { OnErr result (Overflows (is_touched_behind (is_touched cache.now) backing count) list.old used) }
+    ensures ok { IfOk result (Appends (is_taken_behind (is_touched cache.now) backing count) list.old list.new used) }
+    ensures too_many { OnErr result (Overflows (is_taken_behind (is_touched cache.now) backing count) list.old used) }
 {
     match backing {
         Backing::Anon | Backing::Private(_) => Ok(used),

@@ -4,8 +4,8 @@ ghost use Rattle.vm_types.specs.Attributes.{attr_after};
 ghost use Rattle.sv39_walk.specs.Entry.{is_dirty};
 ghost use Rattle.regions.specs.RunList.{IsNextRun};
 ghost use Rattle.residency.specs.Picture.{picture_of};
-ghost use Rattle.residency.specs.Parts.{IsSized, IsFit};
-ghost use Rattle.syncing.specs.Settling.{IsCached, AreCached, KeepsAllButFrames, ClearsDirty, AreClear, AreClearIn, IsClearAt, DropsDirty, backed_by, IsRunOf, IsPageOver};
+ghost use Rattle.residency.specs.Parts.{IsFit};
+ghost use Rattle.syncing.specs.Settling.{IsCached, AreCached, KeepsAllButFrames, ClearsDirty, AreClear, AreClearIn, IsClearAt, IsFrameIn, LosesDirty, backed_by, IsRunOf, IsPageOver};
 
 use crate::chosen::CachedPage;
 use page_tables::{Entry, entry, set};
@@ -20,14 +20,12 @@ const DIRTY: u64 = 1 << 7;
 /// Clears D in each entry of a process, where it lives, over the frames of these file pages: run by run, each file page has
 /// at most one page of a run.
 pub(crate) fn clear_dirty_of<D, E>(core: &mut Core<D, E>, pid: usize, pages: &[CachedPage])
-    requires sized { IsSized core.old }
     requires fit { IsFit (picture_of core.old) }
     requires cached { AreCached (picture_of core.old) pages.now }
     requires number { pid < 65 }
-    ensures sized { IsSized core.new }
     ensures fit { IsFit (picture_of core.new) }
     ensures beside { KeepsAllButFrames core.old core.new }
-    ensures clears { ClearsDirty (picture_of core.old) (picture_of core.new) }
+    ensures clears { ClearsDirty (IsFrameIn pages.now) (picture_of core.old) (picture_of core.new) }
     ensures clear { AreClear (picture_of core.new) pid pages.now }
 {
     let Some(root) = core.roots[pid] else {
@@ -48,15 +46,13 @@ fn clear_dirty_in<D, E>(
     run: Run,
     pages: &[CachedPage],
 )
-    requires sized { IsSized core.old }
     requires fit { IsFit (picture_of core.old) }
     requires cached { AreCached (picture_of core.old) pages.now }
     requires lives { (picture_of core.old).root pid ≡ Some root.0 }
     requires run { IsRunOf (picture_of core.old) pid run }
-    ensures sized { IsSized core.new }
     ensures fit { IsFit (picture_of core.new) }
     ensures beside { KeepsAllButFrames core.old core.new }
-    ensures clears { ClearsDirty (picture_of core.old) (picture_of core.new) }
+    ensures clears { ClearsDirty (IsFrameIn pages.now) (picture_of core.old) (picture_of core.new) }
     ensures clear { AreClearIn (picture_of core.new) pid run.first run.end pages.now }
 {
     let Some(first) = file_page_of(run.attr.backing) else {
@@ -76,16 +72,14 @@ fn clear_dirty_over<D, E>(
     first: FilePage,
     cached: CachedPage,
 )
-    requires sized { IsSized core.old }
     requires fit { IsFit (picture_of core.old) }
     requires cached { IsCached (picture_of core.old) cached }
     requires lives { (picture_of core.old).root pid ≡ Some root.0 }
     requires run { IsRunOf (picture_of core.old) pid run }
     requires first { backed_by run.attr.backing ≡ Some first }
-    ensures sized { IsSized core.new }
     ensures fit { IsFit (picture_of core.new) }
     ensures beside { KeepsAllButFrames core.old core.new }
-    ensures clears { ClearsDirty (picture_of core.old) (picture_of core.new) }
+    ensures clears { ClearsDirty (λ n. n ≡ cached.frame.0) (picture_of core.old) (picture_of core.new) }
     ensures clear { (k : ℕ) → run.first ≤ k → k < run.end → IsClearAt (picture_of core.new) pid k cached.frame.0 }
 {
     match page_over(run, first, cached.page) {
@@ -96,14 +90,12 @@ fn clear_dirty_over<D, E>(
 
 /// The same at one page.
 fn clear_dirty_at<D, E>(core: &mut Core<D, E>, pid: usize, root: FrameNo, page: Vpn, frame: FrameNo)
-    requires sized { IsSized core.old }
     requires fit { IsFit (picture_of core.old) }
     requires lives { (picture_of core.old).root pid ≡ Some root.0 }
     requires user { page < 2 ^ 26 }
-    ensures sized { IsSized core.new }
     ensures fit { IsFit (picture_of core.new) }
     ensures beside { KeepsAllButFrames core.old core.new }
-    ensures clears { ClearsDirty (picture_of core.old) (picture_of core.new) }
+    ensures clears { ClearsDirty (λ n. n ≡ frame.0) (picture_of core.old) (picture_of core.new) }
     ensures clear { IsClearAt (picture_of core.new) pid page frame.0 }
 {
     if let Entry::Leaf(leaf) = entry(&core.frames, root, page) {
@@ -121,7 +113,7 @@ fn clear_dirty_at<D, E>(core: &mut Core<D, E>, pid: usize, root: FrameNo, page: 
 /// The entry with D clear.
 fn without_dirty(leaf: Pte) -> Pte
     requires { is_dirty leaf.0 ≡ true }
-    ensures { DropsDirty leaf.0 result.0 }
+    ensures { LosesDirty leaf.0 result.0 }
 {
     Pte::from_u64(leaf.to_u64() - DIRTY)
 }

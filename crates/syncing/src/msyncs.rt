@@ -1,19 +1,21 @@
 //! msync: file pages made durable through the store.
-ghost use Rattle.std.specs.Prelude.{◌≡◌, ◌≢◌, ◌≤◌, ◌<◌, ℕ, true, Some, None, length, take};
+ghost use Rattle.std.specs.Prelude.{◌≡◌, ◌≢◌, ◌≤◌, ◌<◌, ◌⊎◌, ℕ, true, Some, None, length, take};
+ghost use Rattle.vm_types.specs.Replies.{reply_of};
 ghost use Rattle.vm_types.specs.State.{State};
 ghost use Rattle.vm_types.specs.Step.{outcome, commits};
 ghost use Rattle.vm_types.specs.View.{Pages};
 ghost use Rattle.vm_types.specs.declared.command.Command.TheVariants.{Msync};
+ghost use Rattle.vm_types.specs.declared.refusal.Errno.{Errno};
 ghost use Rattle.vm_types.specs.declared.refusal.Errno.TheVariants.{EIO};
 ghost use Rattle.vm_types.specs.declared.refusal.Stall.{Stall};
 ghost use Rattle.vm_types.specs.declared.command.MsyncMode.{MsyncMode as Mode};
 ghost use Rattle.frames.specs.FrameTable.{bytes_of};
 ghost use Rattle.residency.specs.Picture.{picture_of};
-ghost use Rattle.residency.specs.Parts.{IsSized, IsFit};
+ghost use Rattle.residency.specs.Parts.{IsFit};
 ghost use Rattle.syncing.specs.Core.{Commits};
-ghost use Rattle.syncing.specs.Shows.{IsSound, Shows};
+ghost use Rattle.syncing.specs.Shows.{IsSoundCore, Shows};
 ghost use Rattle.syncing.specs.Choice.{IsListed, TakesSame, page_at};
-ghost use Rattle.syncing.specs.Settling.{HasFrames, IsCached};
+ghost use Rattle.syncing.specs.Settling.{HasFrames, IsCached, KeepsEntries};
 
 use crate::choosing::rule;
 use crate::chosen::{CachedPage, Chosen, Ruling};
@@ -22,7 +24,7 @@ use crate::settling::settle;
 use disk_model::SectorDisk;
 use page_cache::Place;
 use residency::Core;
-use vm_types::{Errno, FilePage, FrameNo, MSYNC_PAGES, MsyncMode, Reply};
+use vm_types::{Answer, Errno, FilePage, FrameNo, MSYNC_PAGES, MsyncMode};
 
 /// Makes the touched pages of a range durable, all at once and over all files (msync(2); Park, Kelly and Shen, Failure-Atomic
 /// msync, EuroSys 2013): the file pages, stored to and not made durable since, that stand behind the shared pages which hold
@@ -40,47 +42,49 @@ pub fn msync<D: SectorDisk, E>(
     addr: u64,
     len: u64,
     mode: MsyncMode,
-) -> Reply
-    requires sound { IsSound D.SectorDisk core.old }
+) -> Answer
+    requires sound { IsSoundCore D.SectorDisk core.old }
     ensures passes { (s : State) → Shows D.SectorDisk core.old s → commits s (Msync pid addr len mode) ≡ None
-        → (result ≡ (outcome s (Msync pid addr len mode)).reply) × (core.new ≡ core.old) }
+        → (reply_of result ≡ (outcome s (Msync pid addr len mode)).reply) × (core.new ≡ core.old) }
     ensures commits { (s : State) (after : Pages) → Shows D.SectorDisk core.old s → commits s (Msync pid addr len mode) ≡ Some after
-        → Commits D.SectorDisk core.old core.new s after (Msync pid addr len mode) result }
-    ensures ready { result ≢ Reply.Refused EIO → IsSound D.SectorDisk core.new }
-    ensures sized { IsSized core.new }
+        → Commits D.SectorDisk core.old core.new s after (Msync pid addr len mode) (reply_of result) }
+    ensures ready { result ≢ Answer.Refused EIO → IsSoundCore D.SectorDisk core.new }
     ensures fit { IsFit (picture_of core.new) }
     ensures kept { D.keeps_model core.new.store.disk → D.keeps_model core.old.store.disk }
     ensures size { D.sector_count core.new.store.disk ≡ D.sector_count core.old.store.disk }
     ensures swap { core.new.swap ≡ core.old.swap }
     ensures later { D.failures core.old.store.disk ≤ D.failures core.new.store.disk }
-    ensures cause { result ≡ Reply.Refused EIO → D.failures core.old.store.disk < D.failures core.new.store.disk }
-    ensures no_stall { (stall : Stall) → result ≡ Reply.Stalled stall → ⊥ }
+    ensures cause { result ≡ Answer.Refused EIO → D.failures core.old.store.disk < D.failures core.new.store.disk }
+    ensures no_stall { (stall : Stall) → result ≡ Answer.Stalled stall → ⊥ }
     ensures refused { core.new.refused ≡ core.old.refused }
+    ensures entries { KeepsEntries (picture_of core.old) (picture_of core.new) }
+    ensures unasked { (errno : Errno) → result ≡ Answer.Refused errno → errno ≢ EIO → core.new ≡ core.old }
 {
     match rule(core, pid, addr, len, mode) {
-        Ruling::Refuses(errno) => Reply::Refused(errno),
-        Ruling::Passes => Reply::Done,
+        Ruling::Refuses(errno) => Answer::Refused(errno),
+        Ruling::Passes => Answer::Done,
         Ruling::Takes(chosen) => commit(core, &chosen),
     }
 }
 
 /// Commits pages to the store, which are touched no more then. Where the store fails, memory is left as it was.
-fn commit<D: SectorDisk, E>(core: &mut Core<D, E>, chosen: &Chosen) -> Reply
-    requires sound { IsSound D.SectorDisk core.old }
+fn commit<D: SectorDisk, E>(core: &mut Core<D, E>, chosen: &Chosen) -> Answer
+    requires sound { IsSoundCore D.SectorDisk core.old }
     requires listed { IsListed (picture_of core.old) chosen.now }
     ensures commits { (s : State) (after : Pages) (pid addr len : ℕ) (mode : Mode) → Shows D.SectorDisk core.old s
         → commits s (Msync pid addr len mode) ≡ Some after → TakesSame s pid addr len mode chosen.now
-        → Commits D.SectorDisk core.old core.new s after (Msync pid addr len mode) result }
-    ensures ready { result ≢ Reply.Refused EIO → IsSound D.SectorDisk core.new }
-    ensures sized { IsSized core.new }
+        → Commits D.SectorDisk core.old core.new s after (Msync pid addr len mode) (reply_of result) }
+    ensures ready { result ≢ Answer.Refused EIO → IsSoundCore D.SectorDisk core.new }
     ensures fit { IsFit (picture_of core.new) }
     ensures kept { D.keeps_model core.new.store.disk → D.keeps_model core.old.store.disk }
     ensures size { D.sector_count core.new.store.disk ≡ D.sector_count core.old.store.disk }
     ensures swap { core.new.swap ≡ core.old.swap }
     ensures later { D.failures core.old.store.disk ≤ D.failures core.new.store.disk }
-    ensures cause { result ≡ Reply.Refused EIO → D.failures core.old.store.disk < D.failures core.new.store.disk }
-    ensures no_stall { (stall : Stall) → result ≡ Reply.Stalled stall → ⊥ }
+    ensures cause { result ≡ Answer.Refused EIO → D.failures core.old.store.disk < D.failures core.new.store.disk }
+    ensures no_stall { (stall : Stall) → result ≡ Answer.Stalled stall → ⊥ }
     ensures refused { core.new.refused ≡ core.old.refused }
+    ensures entries { KeepsEntries (picture_of core.old) (picture_of core.new) }
+    ensures answers { (result ≡ Answer.Done) ⊎ (result ≡ Answer.Refused EIO) }
 {
     let list = &chosen.list[..chosen.count];
     let cached = cached_pages(core, list);
@@ -92,9 +96,9 @@ fn commit<D: SectorDisk, E>(core: &mut Core<D, E>, chosen: &Chosen) -> Reply
     match core.store.commit(list, &mut source) {
         Ok(()) => {
             settle(core, cached);
-            Reply::Done
+            Answer::Done
         }
-        Err(_) => Reply::Refused(Errno::EIO),
+        Err(_) => Answer::Refused(Errno::EIO),
     }
 }
 
@@ -127,8 +131,6 @@ fn cached_page<D, E>(core: &Core<D, E>, page: FilePage) -> CachedPage
     let Place::Frame(frame) = core.cache.place(page) else {
         unreachable!();
     };
-    // (brings in that the table of frames is sound)
-    let _ = core.frames.len();
     let _ = whole(core.frames.bytes(frame));
     CachedPage { page, frame }
 }

@@ -3,8 +3,8 @@ ghost use Rattle.std.specs.Prelude.{◌≡◌, ◌≤◌, ◌<◌, ◌-◌, ℕ,
 ghost use Rattle.vm_types.specs.Files.{inside_of, cut};
 ghost use Rattle.frames.specs.FrameTable.{IsHeld, bytes_of, with_bytes};
 ghost use Rattle.residency.specs.Picture.{picture_of};
-ghost use Rattle.residency.specs.Parts.{IsSized, IsFit};
-ghost use Rattle.syncing.specs.Settling.{AreCached, IsCached, KeepsBeside, KeepsAllButFrames, ClearsDirty, AreClear, CutsTails, Cleans, Settles, cached_at};
+ghost use Rattle.residency.specs.Parts.{IsFit};
+ghost use Rattle.syncing.specs.Settling.{AreCached, IsCached, KeepsBeside, KeepsAllButFrames, ClearsDirty, AreClear, IsFrameIn, CutsTails, Cleans, Settles, cached_at};
 
 use crate::chosen::CachedPage;
 use crate::clearing::clear_dirty_of;
@@ -15,10 +15,8 @@ use vm_types::{FileInfo, PAGE_BYTES};
 /// Pages that were committed: bytes past the end of their files become zero, no entry says D of them, and they are touched
 /// no more. Every page keeps its own copy.
 pub(crate) fn settle<D: SectorDisk, E>(core: &mut Core<D, E>, pages: &[CachedPage])
-    requires sized { IsSized core.old }
     requires fit { IsFit (picture_of core.old) }
     requires cached { AreCached (picture_of core.old) pages.now }
-    ensures sized { IsSized core.new }
     ensures fit { IsFit (picture_of core.new) }
     ensures beside { KeepsBeside core.old core.new }
     ensures settles { Settles (picture_of core.old) (picture_of core.new) pages.now }
@@ -30,10 +28,8 @@ pub(crate) fn settle<D: SectorDisk, E>(core: &mut Core<D, E>, pages: &[CachedPag
 
 /// Bytes past the end of a page's file become zero.
 fn cut_tails<D: SectorDisk, E>(core: &mut Core<D, E>, pages: &[CachedPage])
-    requires sized { IsSized core.old }
     requires fit { IsFit (picture_of core.old) }
     requires cached { AreCached (picture_of core.old) pages.now }
-    ensures sized { IsSized core.new }
     ensures fit { IsFit (picture_of core.new) }
     ensures beside { KeepsAllButFrames core.old core.new }
     ensures cuts { CutsTails (picture_of core.old) (picture_of core.new) pages.now (length pages.now) }
@@ -45,10 +41,8 @@ fn cut_tails<D: SectorDisk, E>(core: &mut Core<D, E>, pages: &[CachedPage])
 
 /// The same of one page.
 fn cut_tail<D: SectorDisk, E>(core: &mut Core<D, E>, cached: CachedPage)
-    requires sized { IsSized core.old }
     requires fit { IsFit (picture_of core.old) }
     requires cached { IsCached (picture_of core.old) cached }
-    ensures sized { IsSized core.new }
     ensures fit { IsFit (picture_of core.new) }
     ensures beside { KeepsAllButFrames core.old core.new }
     ensures cuts { core.new.frames ≡ with_bytes core.old.frames cached.frame.0
@@ -88,13 +82,11 @@ fn clear(bytes: &mut [u8])
 
 /// No entry of any process says D of the pages.
 fn clear_dirty<D, E>(core: &mut Core<D, E>, pages: &[CachedPage])
-    requires sized { IsSized core.old }
     requires fit { IsFit (picture_of core.old) }
     requires cached { AreCached (picture_of core.old) pages.now }
-    ensures sized { IsSized core.new }
     ensures fit { IsFit (picture_of core.new) }
     ensures beside { KeepsAllButFrames core.old core.new }
-    ensures clears { ClearsDirty (picture_of core.old) (picture_of core.new) }
+    ensures clears { ClearsDirty (IsFrameIn pages.now) (picture_of core.old) (picture_of core.new) }
     ensures clear { (pid : ℕ) → AreClear (picture_of core.new) pid pages.now }
 {
     for pid in 1..PLACES {
@@ -104,11 +96,9 @@ fn clear_dirty<D, E>(core: &mut Core<D, E>, pages: &[CachedPage])
 
 /// The pages, of which no entry says D, are touched no more.
 fn clean<D, E>(core: &mut Core<D, E>, pages: &[CachedPage])
-    requires sized { IsSized core.old }
     requires fit { IsFit (picture_of core.old) }
     requires cached { AreCached (picture_of core.old) pages.now }
     requires clear { (pid : ℕ) → AreClear (picture_of core.old) pid pages.now }
-    ensures sized { IsSized core.new }
     ensures fit { IsFit (picture_of core.new) }
     ensures cleans { Cleans core.old core.new pages.now (length pages.now) }
 {

@@ -1,9 +1,9 @@
 //! msync over a formatted store in memory. The expected replies and bytes are the manual page's and our own choices, worked
 //! out by hand.
 ghost use Rattle.std.specs.Prelude.{◌≡◌, ◌≤◌, ◌<◌, ◌+◌, ◌^◌, ℕ, true, None, IfOk, OnOk};
-ghost use Rattle.residency.specs.Parts.{IsFit, IsSized};
+ghost use Rattle.residency.specs.Parts.{IsFit};
 ghost use Rattle.residency.specs.Picture.{picture_of, entry, is_live};
-ghost use Rattle.syncing.specs.Shows.{IsSound};
+ghost use Rattle.syncing.specs.Shows.{IsSoundCore};
 
 use crate::msync;
 use disk_model::{SectorDisk, SimDisk};
@@ -15,14 +15,14 @@ use regions::Regions;
 use residency::Core;
 use std::alloc::Global;
 use std::test::Fail;
-use vm_types::{Attr, Backing, Errno, FilePage, MsyncMode, NoFree, Prot, Reply, TooManyRuns};
+use vm_types::{Answer, Attr, Backing, Errno, FilePage, MsyncMode, NoFree, Prot, TooManyRuns};
 
 // The file of the tests, of 5,000 bytes, has two pages: 904 bytes of the second are inside.
 const LENGTH: u32 = 5000;
 
 // No process yet, over a file of zeros, with 16 frames and without swap.
 fn core_over(alloc: Global) -> Result<Core<SimDisk, SimDisk>, Fail>
-    ensures sound { IfOk result (λ core. IsSound ⟦<SimDisk as SectorDisk>⟧ core) }
+    ensures sound { IfOk result (λ core. IsSoundCore ⟦<SimDisk as SectorDisk>⟧ core) }
     ensures none { IfOk result (λ core. (pid : ℕ) → (picture_of core).root pid ≡ None) }
 {
     let mut disk = SimDisk::new(alloc, 1020 + 16)?;
@@ -45,18 +45,14 @@ fn core_over(alloc: Global) -> Result<Core<SimDisk, SimDisk>, Fail>
 
 // A process of that number, without a page.
 fn spawn<D, E>(core: &mut Core<D, E>, pid: usize) -> Result<(), NoFree>
-    requires sized { IsSized core.old }
     requires fit { IsFit (picture_of core.old) }
     requires number { (1 ≤ pid) × (pid ≤ 64) }
     requires dead { (picture_of core.old).root pid ≡ None }
-    ensures sized { IsSized core.new }
     ensures fit { OnOk result (IsFit (picture_of core.new)) }
     ensures store { core.new.store ≡ core.old.store }
     ensures live { OnOk result (is_live (picture_of core.new) pid ≡ true) }
     ensures bare { OnOk result ((page : ℕ) → entry (picture_of core.new) pid page ≡ 0) }
 {
-    // (brings in that the table of frames is sound)
-    let _ = core.frames.len();
     let root = take_table(&mut core.frames)?;
     core.roots[pid] = Some(root);
     core.regions[pid] = Regions::new();
@@ -65,7 +61,6 @@ fn spawn<D, E>(core: &mut Core<D, E>, pid: usize) -> Result<(), NoFree>
 
 // Maps pages of the file, shared, into a process that has no entry yet.
 fn map<D, E>(core: &mut Core<D, E>, pid: usize, first: u64, pages: u64) -> Result<(), TooManyRuns>
-    requires sized { IsSized core.old }
     requires fit { IsFit (picture_of core.old) }
     requires number { pid ≤ 64 }
     requires low { 16 ≤ first }
@@ -73,7 +68,6 @@ fn map<D, E>(core: &mut Core<D, E>, pid: usize, first: u64, pages: u64) -> Resul
     requires high { first + pages ≤ 2 ^ 26 }
     requires live { is_live (picture_of core.old) pid ≡ true }
     requires bare { (page : ℕ) → entry (picture_of core.old) pid page ≡ 0 }
-    ensures sized { IsSized core.new }
     ensures fit { OnOk result (IsFit (picture_of core.new)) }
     ensures store { core.new.store ≡ core.old.store }
 {
@@ -86,9 +80,7 @@ fn map<D, E>(core: &mut Core<D, E>, pid: usize, first: u64, pages: u64) -> Resul
 
 // A page of the file is brought into a frame and stored to: that byte everywhere.
 fn touch<D: SectorDisk, E>(core: &mut Core<D, E>, page: FilePage, byte: u8) -> Result<(), Fail>
-    requires sized { IsSized core.old }
     requires fit { IsFit (picture_of core.old) }
-    ensures sized { IsSized core.new }
     ensures fit { OnOk result (IsFit (picture_of core.new)) }
     ensures store { core.new.store ≡ core.old.store }
 {
@@ -117,23 +109,23 @@ fn refuses_in_order(rt: HostRuntime) -> Result<(), Fail> {
     map(&mut core, 1, 16, 2)?;
     assert_eq!(rt;
         msync(&mut core, 2, 1, 0, MsyncMode::Sync),
-        Reply::Refused(Errno::ESRCH)
+        Answer::Refused(Errno::ESRCH)
     );
     assert_eq!(rt;
         msync(&mut core, 1, 0x10001, 0, MsyncMode::Sync),
-        Reply::Refused(Errno::EINVAL)
+        Answer::Refused(Errno::EINVAL)
     );
     assert_eq!(rt;
         msync(&mut core, 1, 0x20000, 0, MsyncMode::Sync),
-        Reply::Done
+        Answer::Done
     );
     assert_eq!(rt;
         msync(&mut core, 1, 0x11000, 0x1001, MsyncMode::Async),
-        Reply::Refused(Errno::ENOMEM)
+        Answer::Refused(Errno::ENOMEM)
     );
     assert_eq!(rt;
         msync(&mut core, 1, 0x10000, 0x2000, MsyncMode::Sync),
-        Reply::Done
+        Answer::Done
     );
     Ok(())
 }
@@ -148,18 +140,18 @@ fn commits_what_was_stored(rt: HostRuntime) -> Result<(), Fail> {
     touch(&mut core, page, 0xaa)?;
     assert_eq!(rt;
         msync(&mut core, 1, 0x10000, 0x2000, MsyncMode::Async),
-        Reply::Done
+        Answer::Done
     );
     assert!(rt; core.cache.is_touched(page));
     assert_eq!(rt;
         msync(&mut core, 1, 0x10000, 0x2000, MsyncMode::Sync),
-        Reply::Done
+        Answer::Done
     );
     assert!(rt; !core.cache.is_touched(page));
-    // home page 1 begins at sector 1028, byte 903 is byte 391 of its second sector, and 904 bytes are inside
+    // the journal's first page begins at sector 4, byte 903 is byte 391 of its second sector, and 904 bytes are inside
     let disk = core.store.disk();
     assert_eq!(rt; disk.sectors(), 1036);
-    assert_eq!(rt; disk.sector(1029)[391], 0xaa);
-    assert_eq!(rt; disk.sector(1029)[392], 0);
+    assert_eq!(rt; disk.sector(5)[391], 0xaa);
+    assert_eq!(rt; disk.sector(5)[392], 0);
     Ok(())
 }

@@ -1,6 +1,6 @@
 //! What the tests share: a formatted image, and a trace that is run on it.
 ghost use Rattle.std.specs.Prelude.{IfOk};
-ghost use Rattle.machine.specs.Machine.{IsSound};
+ghost use Rattle.machine.specs.Machine.{IsSoundMachine};
 
 use disk_model::{SectorDisk, SimDisk};
 use file_store::{FileSource, format};
@@ -83,7 +83,7 @@ pub(crate) struct Bench {
 impl Bench {
     /// A machine of 64 frames on the image as it was last synced.
     pub(crate) fn boot(alloc: Global, image: &SimDisk, armed: Armed) -> Result<Bench, Fail>
-        ensures { IfOk result (λ bench. IsSound ⟦<SimDisk as SectorDisk>⟧ ⟦<SimDisk as SectorDisk>⟧ bench.machine) }
+        ensures { IfOk result (λ bench. IsSoundMachine ⟦<SimDisk as SectorDisk>⟧ ⟦<SimDisk as SectorDisk>⟧ bench.machine) }
     {
         Bench::sized(alloc, image, armed, CONFIG)
     }
@@ -95,7 +95,7 @@ impl Bench {
         armed: Armed,
         config: Config,
     ) -> Result<Bench, Fail>
-        ensures { IfOk result (λ bench. IsSound ⟦<SimDisk as SectorDisk>⟧ ⟦<SimDisk as SectorDisk>⟧ bench.machine) }
+        ensures { IfOk result (λ bench. IsSoundMachine ⟦<SimDisk as SectorDisk>⟧ ⟦<SimDisk as SectorDisk>⟧ bench.machine) }
     {
         let mut store = image.left(alloc, &[])?;
         match armed {
@@ -111,8 +111,8 @@ impl Bench {
 
     /// The trace's replies, and how the run ended.
     pub(crate) fn replies(&mut self, alloc: Global, trace: &[u8]) -> (RunEnd, Vec<u8>)
-        requires { IsSound ⟦<SimDisk as SectorDisk>⟧ ⟦<SimDisk as SectorDisk>⟧ self.old.machine }
-        ensures { IsSound ⟦<SimDisk as SectorDisk>⟧ ⟦<SimDisk as SectorDisk>⟧ self.new.machine }
+        requires { IsSoundMachine ⟦<SimDisk as SectorDisk>⟧ ⟦<SimDisk as SectorDisk>⟧ self.old.machine }
+        ensures { IsSoundMachine ⟦<SimDisk as SectorDisk>⟧ ⟦<SimDisk as SectorDisk>⟧ self.new.machine }
     {
         let mut reader = trace;
         let mut writer = Vec::new(alloc);

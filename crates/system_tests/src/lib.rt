@@ -10,6 +10,8 @@ mod failing_streams;
 #[cfg(test)]
 mod files;
 #[cfg(test)]
+mod histories;
+#[cfg(test)]
 mod mappings;
 #[cfg(test)]
 mod memory;

@@ -197,6 +197,6 @@ load 1 0x10000 1\nmsync 1 0x10000 0x2000 sync\n";
         output.as_slice(),
         b"pid 1\naddr 0x10000\naddr 0x11000\nok\nvalue 0x07\nok\n".as_slice()
     );
-    assert_eq!(rt; bench.store().writes(), 19);
+    assert_eq!(rt; bench.store().writes(), 10);
     Ok(())
 }

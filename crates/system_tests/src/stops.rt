@@ -10,10 +10,11 @@ use std::test::Fail;
 /// What opens the gate, 64 times.
 const OPEN: &[u8; 8] = b"GATEOPEN";
 
-/// The sectors that an msync of one page writes: gate, map and first body page, and the first home page.
-const WRITTEN: [u64; 18] = [
-    2, 3, 4, 5, 6, 7, 8, 9, 10, 11, 1020, 1021, 1022, 1023, 1024, 1025, 1026, 1027,
-];
+/// The sectors that an msync of one page writes: the gate, the map and the first page of the body.
+const WRITTEN: [u64; 10] = [2, 3, 4, 5, 6, 7, 8, 9, 10, 11];
+
+/// The last of its writes, that of the gate.
+const GATE: u64 = 10;
 
 /// What the unsynced sectors hold after a stop.
 #[derive(Clone, Copy, Debug, PartialEq, Eq)]
@@ -59,7 +60,7 @@ fn filled(filling: Filling) -> Option<[u8; 512]> {
 fn left_with(alloc: Global, disk: &SimDisk, filling: Filling) -> Result<SimDisk, Fail> {
     let mut chosen = Vec::new(alloc);
     if let Some(bytes) = filled(filling) {
-        for sector in WRITTEN {
+        for sector in WRITTEN.into_iter().chain(HOME) {
             chosen.push((sector, bytes))?;
         }
     }
@@ -76,10 +77,9 @@ const OLD: &[u8] = b"pid 1\naddr 0x10000\nvalue 0x0000000000000000\n";
 
 const NEW: &[u8] = b"pid 1\naddr 0x10000\nvalue 0x000000000000005a\n";
 
-/// Until the gate's write the old file stands, from the write after it on the new one, and at the gate's write what its
-/// bytes say.
+/// Until the gate's write the old file stands, and at the gate's write what its bytes say.
 fn standing_after(write: u64, filling: Filling) -> &'static [u8] {
-    if write > 10 || (write == 10 && filling == Filling::Open) {
+    if write == GATE && filling == Filling::Open {
         NEW
     } else {
         OLD
@@ -96,7 +96,7 @@ fn stopped_at(alloc: Global, write: u64) -> Result<Bench, Fail> {
 
 #[test]
 fn a_stop_at_each_write_leaves_the_old_file_or_the_new_one(rt: HostRuntime) -> Result<(), Fail> {
-    for write in 1..20 {
+    for write in 1..11 {
         let bench = stopped_at(rt.alloc(), write)?;
         for filling in FILLINGS {
             let output = shown(rt.alloc(), &left_with(rt.alloc(), bench.store(), filling)?)?;
@@ -110,10 +110,46 @@ fn a_stop_at_each_write_leaves_the_old_file_or_the_new_one(rt: HostRuntime) -> R
     Ok(())
 }
 
+/// What an msync of a second byte of the page writes as well: the home of the first msync's page.
+const HOME: [u64; 8] = [1020, 1021, 1022, 1023, 1024, 1025, 1026, 1027];
+
+/// The replies that show both bytes, or the first alone.
+const BOTH: &[u8] = b"pid 1\naddr 0x10000\nvalue 0x0000000000006b5a\n";
+
+/// An acknowledged msync outlives a stop at each write of the next one: first the home of its page is written, then the gate
+/// is closed, and only then the map and the body of the next one, and its gate.
+#[test]
+fn a_stop_in_a_second_msync_keeps_the_first(rt: HostRuntime) -> Result<(), Fail> {
+    for write in 11..30 {
+        let mut bench = Bench::boot(
+            rt.alloc(),
+            &image(rt.alloc(), 4096)?,
+            Armed::StopAtWrite(write),
+        )?;
+        bench.replies(rt.alloc(), STORED);
+        let (_, output) = bench.replies(rt.alloc(), SYNCED);
+        assert_eq!(rt; output.as_slice(), b"ok\n".as_slice());
+        bench.replies(rt.alloc(), b"store 1 0x10001 1 0x6b\n");
+        let (_, output) = bench.replies(rt.alloc(), SYNCED);
+        assert_eq!(rt; output.as_slice(), b"error 5 EIO\n".as_slice());
+        for filling in FILLINGS {
+            let wanted = if write == 29 && filling == Filling::Open {
+                BOTH
+            } else {
+                NEW
+            };
+            let left = left_with(rt.alloc(), bench.store(), filling)?;
+            let output = shown(rt.alloc(), &left)?;
+            assert_eq!(rt; output.as_slice(), wanted, "at write {write}");
+        }
+    }
+    Ok(())
+}
+
 /// The reads that bring a page in.
 const PAGE_READS: u64 = 8;
 
-/// A machine on an image whose call so many after boot and the reads of its page fails, once it has run an msync and three
+/// A machine on an image whose call so many after boot and the reads of its page fails, once it has run an msync and four
 /// lines more.
 fn failed_at<R: AllocGlobal + Abort>(rt: &R, call: u64) -> Result<Bench, Fail> {
     let disk = image(rt.alloc(), 4096)?;
@@ -126,8 +162,11 @@ fn failed_at<R: AllocGlobal + Abort>(rt: &R, call: u64) -> Result<Bench, Fail> {
     assert_eq!(rt; output.as_slice(), b"pid 1\naddr 0x10000\nok\n".as_slice());
     let (_, output) = bench.replies(rt.alloc(), SYNCED);
     assert_eq!(rt; output.as_slice(), b"error 5 EIO\n".as_slice());
-    let (end, output) = bench.replies(rt.alloc(), b"load 1 0x10000 1\nspawn\nfork\n");
-    assert_eq!(rt; output.as_slice(), b"halted\nhalted\nbad line\n".as_slice());
+    let (end, output) = bench.replies(rt.alloc(), b"load 1 0x10000 1\nfaults\nspawn\nfork\n");
+    assert_eq!(rt;
+        output.as_slice(),
+        b"halted\nhalted\nhalted\nbad line\n".as_slice()
+    );
     assert_eq!(rt; end, RunEnd::Done);
     Ok(bench)
 }
@@ -144,7 +183,7 @@ fn a_failed_sync_halts_the_machine(rt: HostRuntime) -> Result<(), Fail> {
     let bench = failed_at(&rt, 12)?;
     for filling in FILLINGS {
         let output = shown(rt.alloc(), &left_with(rt.alloc(), bench.store(), filling)?)?;
-        assert_eq!(rt; output.as_slice(), standing_after(10, filling));
+        assert_eq!(rt; output.as_slice(), standing_after(GATE, filling));
     }
     Ok(())
 }

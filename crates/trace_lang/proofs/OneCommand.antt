@@ -4,7 +4,7 @@ use Rattle.trace_lang.specs.Grammar.{IsBack, IsForm, IsMode, IsNumber, IsPermiss
 use Rattle.vm_types.specs.Width.{byte_count}
 use Rattle.vm_types.specs.declared.access.StoredValue.{StoredValue}
 use Rattle.vm_types.specs.declared.command.Command.{Command}
-use Rattle.vm_types.specs.declared.command.Command.TheVariants.{Spawn, Fork, Exit, Mmap, Munmap, Mprotect, Msync, Load, Store, Fetch}
+use Rattle.vm_types.specs.declared.command.Command.TheVariants.{Spawn, Fork, Exit, Mmap, Munmap, Mprotect, Dontneed, Msync, Load, Store, Fetch, PastFaults}
 use Rattle.vm_types.specs.declared.command.MapSource.{MapSource}
 use Rattle.vm_types.specs.declared.command.MsyncMode.{MsyncMode}
 use Rattle.vm_types.specs.declared.command.Placing.{Placing}
@@ -36,6 +36,8 @@ only_fork ws p r e only (Fork pid) h = let ep : h.0 ≡ p = cc (h.1) in only pid
 only_fork ws p r e only (Exit pid) h = absurd (other_call _ _ (sym h.1 ∙ e))
 only_fork ws p r e only (Mmap pid addr len prot source placing) h = cc (h.5)
 only_fork ws p r e only (Munmap pid addr len) h = cc (h.3)
+only_fork ws p r e only (Dontneed pid addr len) h = cc (h.3)
+only_fork ws p r e only PastFaults h = cc
 only_fork ws p r e only (Mprotect pid addr len prot) h = cc (h.4)
 only_fork ws p r e only (Msync pid addr len mode) h = cc (h.4)
 only_fork ws p r e only (Load pid addr width) h = cc (h.3)
@@ -49,6 +51,8 @@ only_exit ws p r e only (Fork pid) h = absurd (other_call _ _ (sym e ∙ h.1))
 only_exit ws p r e only (Exit pid) h = let ep : h.0 ≡ p = cc (h.1) in only pid (along (λ t. IsNumber t pid) _ _ ep h.2)
 only_exit ws p r e only (Mmap pid addr len prot source placing) h = cc (h.5)
 only_exit ws p r e only (Munmap pid addr len) h = cc (h.3)
+only_exit ws p r e only (Dontneed pid addr len) h = cc (h.3)
+only_exit ws p r e only PastFaults h = cc
 only_exit ws p r e only (Mprotect pid addr len prot) h = cc (h.4)
 only_exit ws p r e only (Msync pid addr len mode) h = cc (h.4)
 only_exit ws p r e only (Load pid addr width) h = cc (h.3)
@@ -62,6 +66,8 @@ only_fetch ws p a r e only (Fork pid) h = cc (h.1)
 only_fetch ws p a r e only (Exit pid) h = cc (h.1)
 only_fetch ws p a r e only (Mmap pid addr len prot source placing) h = cc (h.5)
 only_fetch ws p a r e only (Munmap pid addr len) h = cc (h.3)
+only_fetch ws p a r e only (Dontneed pid addr len) h = cc (h.3)
+only_fetch ws p a r e only PastFaults h = cc
 only_fetch ws p a r e only (Mprotect pid addr len prot) h = cc (h.4)
 only_fetch ws p a r e only (Msync pid addr len mode) h = cc (h.4)
 only_fetch ws p a r e only (Load pid addr width) h = cc (h.3)
@@ -78,6 +84,8 @@ only_load ws p a w r e only (Fork pid) h = cc (h.1)
 only_load ws p a w r e only (Exit pid) h = cc (h.1)
 only_load ws p a w r e only (Mmap pid addr len prot source placing) h = cc (h.5)
 only_load ws p a w r e only (Munmap pid addr len) h = cc (h.3)
+only_load ws p a w r e only (Dontneed pid addr len) h = cc (h.3)
+only_load ws p a w r e only PastFaults h = cc
 only_load ws p a w r e only (Mprotect pid addr len prot) h = cc (h.4)
 only_load ws p a w r e only (Msync pid addr len mode) h = cc (h.4)
 only_load ws p a w r e only (Load pid addr width) h =
@@ -95,6 +103,8 @@ only_store ws p a w v r e only (Fork pid) h = cc (h.1)
 only_store ws p a w v r e only (Exit pid) h = cc (h.1)
 only_store ws p a w v r e only (Mmap pid addr len prot source placing) h = cc (h.5)
 only_store ws p a w v r e only (Munmap pid addr len) h = cc (h.3)
+only_store ws p a w v r e only (Dontneed pid addr len) h = cc (h.3)
+only_store ws p a w v r e only PastFaults h = cc
 only_store ws p a w v r e only (Mprotect pid addr len prot) h = cc (h.4)
 only_store ws p a w v r e only (Msync pid addr len mode) h = absurd (other_name _ _ (sym h.4 ∙ e))
 only_store ws p a w v r e only (Load pid addr width) h = cc (h.3)
@@ -112,6 +122,8 @@ only_msync ws p a l m r e only (Fork pid) h = cc (h.1)
 only_msync ws p a l m r e only (Exit pid) h = cc (h.1)
 only_msync ws p a l m r e only (Mmap pid addr len prot source placing) h = cc (h.5)
 only_msync ws p a l m r e only (Munmap pid addr len) h = cc (h.3)
+only_msync ws p a l m r e only (Dontneed pid addr len) h = cc (h.3)
+only_msync ws p a l m r e only PastFaults h = cc
 only_msync ws p a l m r e only (Mprotect pid addr len prot) h = cc (h.4)
 only_msync ws p a l m r e only (Msync pid addr len mode) h =
     let ep : h.0 ≡ p = cc (h.4) in let ea : h.1 ≡ a = cc (h.4) in let el : h.2 ≡ l = cc (h.4) in let em : h.3 ≡ m = cc (h.4) in
@@ -133,6 +145,8 @@ only_mmap ws p a l t b r e only (Mmap pid addr len prot source placing) h =
     only pid addr len prot source placing (along (λ x. IsNumber x pid) _ _ ep h.6) (along (λ x. IsNumber x addr) _ _ ea h.7) (along (λ x. IsNumber x len) _ _ el h.8)
     (along (λ x. IsPermission x prot) _ _ et h.9) (along (λ x. IsBack x source placing) _ _ eb h.10)
 only_mmap ws p a l t b r e only (Munmap pid addr len) h = cc (h.3)
+only_mmap ws p a l t b r e only (Dontneed pid addr len) h = cc (h.3)
+only_mmap ws p a l t b r e only PastFaults h = cc
 only_mmap ws p a l t b r e only (Mprotect pid addr len prot) h = cc (h.4)
 only_mmap ws p a l t b r e only (Msync pid addr len mode) h = cc (h.4)
 only_mmap ws p a l t b r e only (Load pid addr width) h = cc (h.3)
@@ -143,6 +157,8 @@ pub only_munmap : (ws : List (List ℕ)) (p a l : List ℕ) (r : Option Command)
     → ((pid addr len : ℕ) → IsNumber p pid → IsNumber a addr → IsNumber l len → r ≡ Some (Munmap pid addr len))
     → (command : Command) → IsForm ws command → r ≡ Some command
 only_munmap ws p a l r e only Spawn h = cc
+only_munmap ws p a l r e only (Dontneed pid addr len) h = cc (h.3)
+only_munmap ws p a l r e only PastFaults h = cc
 only_munmap ws p a l r e only (Fork pid) h = cc (h.1)
 only_munmap ws p a l r e only (Exit pid) h = cc (h.1)
 only_munmap ws p a l r e only (Mmap pid addr len prot source placing) h = cc (h.5)
@@ -155,6 +171,24 @@ only_munmap ws p a l r e only (Load pid addr width) h = cc (h.3)
 only_munmap ws p a l r e only (Store pid addr stored) h = cc (h.4)
 only_munmap ws p a l r e only (Fetch pid addr) h = cc (h.2)
 
+pub only_dontneed : (ws : List (List ℕ)) (p a l : List ℕ) (r : Option Command) → ws ≡ codes "dontneed" ∷ p ∷ a ∷ l ∷ []
+    → ((pid addr len : ℕ) → IsNumber p pid → IsNumber a addr → IsNumber l len → r ≡ Some (Dontneed pid addr len))
+    → (command : Command) → IsForm ws command → r ≡ Some command
+only_dontneed ws p a l r e only Spawn h = cc
+only_dontneed ws p a l r e only (Munmap pid addr len) h = cc (h.3)
+only_dontneed ws p a l r e only PastFaults h = cc
+only_dontneed ws p a l r e only (Fork pid) h = cc (h.1)
+only_dontneed ws p a l r e only (Exit pid) h = cc (h.1)
+only_dontneed ws p a l r e only (Mmap pid addr len prot source placing) h = cc (h.5)
+only_dontneed ws p a l r e only (Dontneed pid addr len) h =
+    let ep : h.0 ≡ p = cc (h.3) in let ea : h.1 ≡ a = cc (h.3) in let el : h.2 ≡ l = cc (h.3) in
+    only pid addr len (along (λ t. IsNumber t pid) _ _ ep h.4) (along (λ t. IsNumber t addr) _ _ ea h.5) (along (λ t. IsNumber t len) _ _ el h.6)
+only_dontneed ws p a l r e only (Mprotect pid addr len prot) h = cc (h.4)
+only_dontneed ws p a l r e only (Msync pid addr len mode) h = cc (h.4)
+only_dontneed ws p a l r e only (Load pid addr width) h = cc (h.3)
+only_dontneed ws p a l r e only (Store pid addr stored) h = cc (h.4)
+only_dontneed ws p a l r e only (Fetch pid addr) h = cc (h.2)
+
 pub only_mprotect : (ws : List (List ℕ)) (p a l t : List ℕ) (r : Option Command) → ws ≡ codes "mprotect" ∷ p ∷ a ∷ l ∷ t ∷ []
     → ((pid addr len : ℕ) (prot : Prot) → IsNumber p pid → IsNumber a addr → IsNumber l len → IsPermission t prot → r ≡ Some (Mprotect pid addr len prot))
     → (command : Command) → IsForm ws command → r ≡ Some command
@@ -163,6 +197,8 @@ only_mprotect ws p a l t r e only (Fork pid) h = cc (h.1)
 only_mprotect ws p a l t r e only (Exit pid) h = cc (h.1)
 only_mprotect ws p a l t r e only (Mmap pid addr len prot source placing) h = cc (h.5)
 only_mprotect ws p a l t r e only (Munmap pid addr len) h = cc (h.3)
+only_mprotect ws p a l t r e only (Dontneed pid addr len) h = cc (h.3)
+only_mprotect ws p a l t r e only PastFaults h = cc
 only_mprotect ws p a l t r e only (Mprotect pid addr len prot) h =
     let ep : h.0 ≡ p = cc (h.4) in let ea : h.1 ≡ a = cc (h.4) in let el : h.2 ≡ l = cc (h.4) in let et : h.3 ≡ t = cc (h.4) in
     only pid addr len prot (along (λ x. IsNumber x pid) _ _ ep h.5) (along (λ x. IsNumber x addr) _ _ ea h.6) (along (λ x. IsNumber x len) _ _ el h.7)

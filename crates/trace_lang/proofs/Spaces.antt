@@ -6,7 +6,7 @@ use Rattle.std.proofs.lemmas.List.Splits.{slice_split-cons_yes, slice_split-cons
 use Rattle.trace_lang.specs.Grammar.{HasNoSpace, IsBack, IsCommand, IsForm, IsPlacing, IsSource, IsWords}
 use Rattle.trace_lang.specs.Words.{words_of}
 use Rattle.vm_types.specs.declared.command.Command.{Command}
-use Rattle.vm_types.specs.declared.command.Command.TheVariants.{Spawn, Fork, Exit, Mmap, Munmap, Mprotect, Msync, Load, Store, Fetch}
+use Rattle.vm_types.specs.declared.command.Command.TheVariants.{Spawn, Fork, Exit, Mmap, Munmap, Mprotect, Dontneed, Msync, Load, Store, Fetch, PastFaults}
 use Rattle.vm_types.specs.declared.command.MapSource.{MapSource}
 use Rattle.vm_types.specs.declared.command.MapSource.TheVariants.{Anon, Private, Shared}
 use Rattle.vm_types.specs.declared.command.Placing.{Placing}
@@ -83,6 +83,8 @@ form_words words (Mmap pid addr len prot source placing) h =
     let m = ap length h.5 in let n = back_words h.4 source placing h.10 in (omega (arith, m, n), omega (arith, m, n))
 form_words words (Munmap pid addr len) h = few_of 4 words _ h.3 refl (lit< tt) (lit≤ tt)
 form_words words (Mprotect pid addr len prot) h = few_of 5 words _ h.4 refl (lit< tt) (lit≤ tt)
+form_words words (Dontneed pid addr len) h = few_of 4 words _ h.3 refl (lit< tt) (lit≤ tt)
+form_words words PastFaults h = few_of 1 words _ h refl (lit< tt) (lit≤ tt)
 form_words words (Msync pid addr len mode) h = few_of 5 words _ h.4 refl (lit< tt) (lit≤ tt)
 form_words words (Load pid addr width) h = few_of 4 words _ h.3 refl (lit< tt) (lit≤ tt)
 form_words words (Store pid addr stored) h = few_of 5 words _ h.4 refl (lit< tt) (lit≤ tt)

@@ -5,7 +5,7 @@ use Rattle.std.specs.Str.Parse.{IsNumeral, digits_value}
 use Rattle.vm_types.specs.Permission.{with_bits}
 use Rattle.vm_types.specs.Width.{byte_count}
 use Rattle.vm_types.specs.declared.command.Command.{Command}
-use Rattle.vm_types.specs.declared.command.Command.TheVariants.{Spawn, Fork, Exit, Mmap, Munmap, Mprotect, Msync, Load, Store, Fetch}
+use Rattle.vm_types.specs.declared.command.Command.TheVariants.{Spawn, Fork, Exit, Mmap, Munmap, Mprotect, Dontneed, Msync, Load, Store, Fetch, PastFaults}
 use Rattle.vm_types.specs.declared.command.MapSource.{MapSource}
 use Rattle.vm_types.specs.declared.command.MapSource.TheVariants.{Anon, Private, Shared}
 use Rattle.vm_types.specs.declared.command.MsyncMode.{MsyncMode}
@@ -79,6 +79,9 @@ IsForm words (Munmap pid addr len) =
 IsForm words (Mprotect pid addr len prot) =
     (p a l t : List ℕ) × (words ≡ codes "mprotect" ∷ p ∷ a ∷ l ∷ t ∷ [])
     × IsNumber p pid × IsNumber a addr × IsNumber l len × IsPermission t prot
+IsForm words (Dontneed pid addr len) =
+    (p a l : List ℕ) × (words ≡ codes "dontneed" ∷ p ∷ a ∷ l ∷ [])
+    × IsNumber p pid × IsNumber a addr × IsNumber l len
 IsForm words (Msync pid addr len mode) =
     (p a l m : List ℕ) × (words ≡ codes "msync" ∷ p ∷ a ∷ l ∷ m ∷ [])
     × IsNumber p pid × IsNumber a addr × IsNumber l len × IsMode m mode
@@ -91,6 +94,7 @@ IsForm words (Store pid addr stored) =
     × (stored.value < 2 ^ (8 * byte_count stored.width))
 IsForm words (Fetch pid addr) =
     (p a : List ℕ) × (words ≡ codes "fetch" ∷ p ∷ a ∷ []) × IsNumber p pid × IsNumber a addr
+IsForm words PastFaults = words ≡ codes "faults" ∷ []
 
 -- no space stands in it
 abbrev pub HasNoSpace : List ℕ → Type 0

@@ -1,6 +1,6 @@
 -- The texts of replies, each a line that a newline ends: our own. The numbers and names of errors are those of errno(3),
 -- the names of faults those of sigaction(2), si_code.
-use Rattle.std.specs.Prelude.{◌≡◌, ℕ, zero, suc, ◌*◌, ◌/◌, ◌%◌, false, List, [], ◌∷◌, ◌++◌, codes, decimal, refl}
+use Rattle.std.specs.Prelude.{◌≡◌, ℕ, zero, suc, ◌*◌, ◌/◌, ◌%◌, false, List, [], ◌∷◌, ◌++◌, codes, decimal, flat_map, length, replicate, refl}
 use Rattle.std.specs.Fmt.{digits, digit_glyph}
 use Rattle.vm_types.specs.Refusal.{errno_number, stall_number}
 use Rattle.vm_types.specs.Width.{byte_count}
@@ -12,7 +12,7 @@ use Rattle.vm_types.specs.declared.refusal.Fault.{Fault}
 use Rattle.vm_types.specs.declared.refusal.Stall.{Stall}
 use Rattle.vm_types.specs.declared.refusal.Stall.TheVariants.{NoFrames, NoSwap, SwapDevice, StoreDevice}
 use Rattle.vm_types.specs.declared.reply.Reply.{Reply}
-use Rattle.vm_types.specs.declared.reply.Reply.TheVariants.{Process, Address, Done, Value, Faulted, Refused, Stalled, Halted}
+use Rattle.vm_types.specs.declared.reply.Reply.TheVariants.{Process, Address, Done, Value, Faulted, Refused, Stalled, Halted, Past}
 use Rattle.vm_types.specs.declared.width.Width.TheVariants.{Two, Eight}
 
 -- 0x and the hexadecimal digits, in lower case and with no leading zeros; zero is 0x0
@@ -53,7 +53,11 @@ code_name BusAdrerr = codes "BUS_ADRERR"
 abbrev pub fault_text : Fault → List ℕ
 fault_text fault = decimal fault.cause ++ codes " " ++ code_name fault.code ++ codes " " ++ hexadecimal fault.addr
 
--- the words of a reply
+-- a line of the history: the process, and its fault
+abbrev pub past_line : ℕ × Fault → List ℕ
+past_line past = codes "\npast " ++ decimal past.0 ++ codes " " ++ fault_text past.1
+
+-- the words of a reply; those of a history are of several lines
 abbrev pub words_of_reply : Reply → List ℕ
 words_of_reply (Process pid) = codes "pid " ++ decimal pid
 words_of_reply (Address addr) = codes "addr " ++ hexadecimal addr
@@ -63,6 +67,7 @@ words_of_reply (Faulted fault) = codes "fault " ++ fault_text fault
 words_of_reply (Refused errno) = codes "error " ++ decimal (errno_number errno) ++ codes " " ++ errno_name errno
 words_of_reply (Stalled stall) = codes "stall " ++ decimal (stall_number stall) ++ codes " " ++ stall_name stall
 words_of_reply Halted = codes "halted"
+words_of_reply (Past faults) = codes "faults " ++ decimal (length faults) ++ flat_map past_line faults
 
 -- the text of a reply, with the newline that ends it
 abbrev pub text_of : Reply → List ℕ
@@ -94,3 +99,20 @@ refusal_row = refl
 pub stall_row : text_of (Stalled StoreDevice) ≡ codes "stall 4 STOREDEV\n"
 unfolding digits
 stall_row = refl
+
+pub history_row : text_of (Past ((1, record { cause = 13; code = SegvMaperr; addr = 0 }) ∷ (1, record { cause = 6; code = BusAdraln; addr = 0x20001 }) ∷ []))
+    ≡ codes "faults 2\npast 1 13 SEGV_MAPERR 0x0\npast 1 6 BUS_ADRALN 0x20001\n"
+unfolding digits
+history_row = refl
+
+pub no_history_row : text_of (Past []) ≡ codes "faults 0\n"
+unfolding digits
+no_history_row = refl
+
+abbrev pub longest : List (ℕ × Fault)
+longest = replicate 16 (64, record { cause = 13; code = SegvMaperr; addr = 0xffffffffffffffff })
+
+-- the longest text of a history
+pub longest_row : length (text_of (Past longest)) ≡ 682
+unfolding digits
+longest_row = refl

@@ -168,6 +168,23 @@ fn munmap_of(process: &[u8], address: &[u8], length: &[u8]) -> Option<Command>
     Some(Command::Munmap { pid, addr, len })
 }
 
+/// A dontneed, by the words behind its name.
+fn dontneed_of(process: &[u8], address: &[u8], length: &[u8]) -> Option<Command>
+    ensures found { IfSome result (λ command. IsForm (codes "dontneed" ∷ process.now ∷ address.now ∷ length.now ∷ []) command) }
+    ensures only { (pid addr len : ℕ) → IsNumber process.now pid → IsNumber address.now addr → IsNumber length.now len → result ≡ Some (Command.Dontneed pid addr len) }
+{
+    let Some(pid) = parse_number(process) else {
+        return None;
+    };
+    let Some(addr) = parse_number(address) else {
+        return None;
+    };
+    let Some(len) = parse_number(length) else {
+        return None;
+    };
+    Some(Command::Dontneed { pid, addr, len })
+}
+
 /// An mprotect, by the words behind its name.
 fn mprotect_of(process: &[u8], address: &[u8], length: &[u8], permission: &[u8]) -> Option<Command>
     ensures found { IfSome result (λ command. IsForm (codes "mprotect" ∷ process.now ∷ address.now ∷ length.now ∷ permission.now ∷ []) command) }
@@ -201,6 +218,7 @@ pub(crate) fn command_of(words: &[&[u8]]) -> Option<Command>
 {
     match words {
         [b"spawn"] => Some(Command::Spawn),
+        [b"faults"] => Some(Command::PastFaults),
         [b"fork", process] => fork_of(process),
         [b"exit", process] => exit_of(process),
         [b"fetch", process, address] => fetch_of(process, address),
@@ -210,6 +228,7 @@ pub(crate) fn command_of(words: &[&[u8]]) -> Option<Command>
         [b"mmap", process, address, length, permission, back @ ..] => mmap_of(
             process, address, length, permission, back,
         ),
+        [b"dontneed", process, address, length] => dontneed_of(process, address, length),
         [b"munmap", process, address, length] => munmap_of(process, address, length),
         [b"mprotect", process, address, length, permission] => mprotect_of(
             process, address, length, permission,

@@ -11,4 +11,4 @@ mod words;
 
 pub use numerals::parse_number;
 pub use parsing::{BadLine, MAX_LINE_BYTES, parse_line};
-pub use texts::{bad_line_text, reply_text};
+pub use texts::{answer_text, bad_line_text, history_text, reply_text};

@@ -24,6 +24,16 @@ pub(crate) fn push_decimal(out: &mut [u8; 1024], at: usize, number: u64) -> usiz
     push(out, at, buffer.format(number).as_bytes())
 }
 
+/// Writes a number below 256 in decimal, with no leading zeros, which takes at most 3 bytes.
+pub(crate) fn push_small(out: &mut [u8; 1024], at: usize, number: u8) -> usize
+    requires { at + 3 ≤ 1024 }
+    ensures end { result ≤ at + 3 }
+    ensures text { take result out.new ≡ take at out.old ++ decimal number }
+{
+    let mut buffer = itoa::Buffer::new();
+    push(out, at, buffer.format(number).as_bytes())
+}
+
 /// The hexadecimal digit of a number below 16, in lower case.
 fn hex_digit(digit: u8) -> u8
     requires { digit < 16 }

@@ -21,16 +21,16 @@ with_touched s file page = λ f k. (f == file && k == page) || s.touched f k
 
 -- the state with these bytes as the page of a process: mmap(2), a store through MAP_SHARED is seen by all mappings of the file
 -- page, any other by its process alone
-abbrev pub with_bytes : State → ℕ → ℕ → View → Backing → List ℕ → State
-with_bytes s pid page view (Shared p) bytes =
+abbrev pub with_shown_bytes : State → ℕ → ℕ → View → Backing → List ℕ → State
+with_shown_bytes s pid page view (Shared p) bytes =
     record s { volatile = with_page s.volatile p.file p.page bytes; touched = with_touched s p.file p.page }
-with_bytes s pid page view (Private p) bytes = record s { views = with_view s.views pid page (record view { own = Some bytes }) }
-with_bytes s pid page view Anon bytes = record s { views = with_view s.views pid page (record view { own = Some bytes }) }
+with_shown_bytes s pid page view (Private p) bytes = record s { views = with_view s.views pid page (record view { own = Some bytes }) }
+with_shown_bytes s pid page view Anon bytes = record s { views = with_view s.views pid page (record view { own = Some bytes }) }
 
 -- the state after a store to that page of that process
 abbrev pub stored : State → ℕ → ℕ → View → ℕ → ℕ → State
 stored s pid addr view width value =
-    with_bytes s pid (addr / 4096) view view.attr.backing (with_number (shown s.volatile view) (addr % 4096) width value)
+    with_shown_bytes s pid (addr / 4096) view view.attr.backing (with_number (shown s.volatile view) (addr % 4096) width value)
 
 -- the lowest byte stands first
 pub lowest_first : loaded (136 ∷ 119 ∷ 102 ∷ 85 ∷ 68 ∷ 51 ∷ 34 ∷ 17 ∷ []) 2 2 ≡ 0x5566

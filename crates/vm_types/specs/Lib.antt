@@ -1,9 +1,11 @@
 pub mod Access
 pub mod Attributes
+pub mod Blank
 pub mod Capacity
 pub mod Checks
 pub mod Counting
 pub mod Files
+pub mod History
 pub mod Mapping
 pub mod Msync
 pub mod Permission
@@ -11,6 +13,7 @@ pub mod Placement
 pub mod Prefix
 pub mod Processes
 pub mod Ranges
+pub mod Replies
 pub mod Refusal
 pub mod Rows
 pub mod Run

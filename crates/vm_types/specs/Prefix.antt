@@ -2,11 +2,11 @@
 -- Park, Kelly and Shen, Failure-Atomic msync, EuroSys 2013.
 use Rattle.std.specs.Prelude.{ℕ, zero, suc, ◌≤◌, ◌≡◌, Bool, true, false, if◌then◌else◌, List, [], ◌∷◌}
 use Rattle.vm_types.specs.declared.command.Command.{Command}
-use Rattle.vm_types.specs.declared.command.Command.TheVariants.{Spawn, Fork, Exit, Mmap, Munmap, Mprotect, Msync, Load, Store, Fetch}
+use Rattle.vm_types.specs.declared.command.Command.TheVariants.{Spawn, Fork, Exit, Mmap, Munmap, Mprotect, Dontneed, Msync, Load, Store, Fetch, PastFaults}
 use Rattle.vm_types.specs.declared.refusal.Errno.{Errno}
 use Rattle.vm_types.specs.declared.refusal.Errno.TheVariants.{ESRCH, EIO, EBADF, EAGAIN, ENOMEM, EACCES, EEXIST, EINVAL, ENOSPC, EOVERFLOW}
 use Rattle.vm_types.specs.declared.reply.Reply.{Reply}
-use Rattle.vm_types.specs.declared.reply.Reply.TheVariants.{Process, Address, Done, Value, Faulted, Refused, Stalled, Halted}
+use Rattle.vm_types.specs.declared.reply.Reply.TheVariants.{Process, Address, Done, Value, Faulted, Refused, Stalled, Halted, Past}
 use Rattle.vm_types.specs.State.{State}
 use Rattle.vm_types.specs.Step.{ruling, takes}
 use Rattle.vm_types.specs.View.{Pages}
@@ -28,6 +28,8 @@ is_msync (Mprotect pid addr len prot) = false
 is_msync (Load pid addr width) = false
 is_msync (Store pid addr value) = false
 is_msync (Fetch pid addr) = false
+is_msync (Dontneed pid addr len) = false
+is_msync PastFaults = false
 
 abbrev pub is_io_error : Errno → Bool
 is_io_error EIO = true
@@ -50,6 +52,7 @@ is_done (Faulted fault) = false
 is_done (Refused errno) = false
 is_done (Stalled stall) = false
 is_done Halted = false
+is_done (Past past) = false
 
 -- whether an msync so answered may have made pages durable
 abbrev pub may_have_taken : Reply → Bool
@@ -61,6 +64,7 @@ may_have_taken (Value width value) = false
 may_have_taken (Faulted fault) = false
 may_have_taken (Stalled stall) = false
 may_have_taken Halted = false
+may_have_taken (Past past) = false
 
 -- the durable pages with this command taken as done, whole
 abbrev pub after_event : Event → Pages → Pages

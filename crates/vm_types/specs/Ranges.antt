@@ -1,4 +1,4 @@
--- munmap and mprotect: their checks in their order, and the pages that they leave. munmap(2), mprotect(2).
+-- munmap, mprotect and madvise with MADV_DONTNEED: their checks in their order, and the pages that they leave. munmap(2), mprotect(2), madvise(2).
 use Rattle.std.specs.Prelude.{ℕ, ◌+◌, ◌/◌, ◌%◌, Bool, false, not, ◌==◌, ◌&&◌, ◌||◌, nat_lt, if◌then◌else◌, List, [], ◌∷◌, Option, Some, None, option_map}
 use Rattle.vm_types.specs.declared.permission.Prot.{Prot}
 use Rattle.vm_types.specs.declared.refusal.Errno.TheVariants.{ESRCH, ENOMEM, EACCES, EINVAL}
@@ -72,3 +72,20 @@ row_checks s pid first pages prot =
     ∷ (denies_stores s.files (s.views pid) first pages prot, EACCES)
     ∷ (nat_lt 256 (run_count (protected (attrs_of (s.views pid)) first pages (kept prot))), ENOMEM)
     ∷ []
+
+-- a page without a copy of its own
+abbrev pub uncopied : View → View
+uncopied view = record view { own = None }
+
+-- the pages of the row lose their own copies: each shows what stands behind it
+abbrev pub without_own : (ℕ → Option View) → ℕ → ℕ → ℕ → Option View
+without_own space first pages page = if in_row first pages page then option_map uncopied (space page) else space page
+
+-- the state with such a row in one process; no file page changes
+abbrev pub without_copies : State → ℕ → ℕ → ℕ → State
+without_copies s pid first pages =
+    record s { views = λ p. if p == pid then without_own (s.views pid) first pages else s.views p }
+
+-- the check of a row of pages of which each has to be mapped
+abbrev pub covered_checks : State → ℕ → ℕ → ℕ → List Check
+covered_checks s pid first pages = (not (is_covered (attrs_of (s.views pid)) first pages), ENOMEM) ∷ []

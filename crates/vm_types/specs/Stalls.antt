@@ -1,11 +1,11 @@
 -- When a command may stall: it would succeed, but memory or a device is wanting. Our own choice.
 use Rattle.std.specs.Prelude.{◌≡◌, Bool, true, false, is_some}
 use Rattle.vm_types.specs.declared.command.Command.{Command}
-use Rattle.vm_types.specs.declared.command.Command.TheVariants.{Spawn, Fork, Exit, Mmap, Munmap, Mprotect, Msync, Load, Store, Fetch}
+use Rattle.vm_types.specs.declared.command.Command.TheVariants.{Spawn, Fork, Exit, Mmap, Munmap, Mprotect, Dontneed, Msync, Load, Store, Fetch, PastFaults}
 use Rattle.vm_types.specs.declared.refusal.Stall.{Stall}
 use Rattle.vm_types.specs.declared.refusal.Stall.TheVariants.{NoFrames, NoSwap, SwapDevice, StoreDevice}
 use Rattle.vm_types.specs.declared.reply.Reply.{Reply}
-use Rattle.vm_types.specs.declared.reply.Reply.TheVariants.{Process, Address, Done, Value, Faulted, Refused, Stalled, Halted}
+use Rattle.vm_types.specs.declared.reply.Reply.TheVariants.{Process, Address, Done, Value, Faulted, Refused, Stalled, Halted, Past}
 use Rattle.vm_types.specs.State.{State}
 use Rattle.vm_types.specs.Step.{outcome, commits}
 
@@ -25,6 +25,7 @@ is_success (Faulted fault) = false
 is_success (Refused errno) = false
 is_success (Stalled stall) = false
 is_success Halted = false
+is_success (Past past) = true
 
 -- whether a command needs frames
 abbrev pub needs_frames : Command → Bool
@@ -38,6 +39,8 @@ needs_frames (Msync pid addr len mode) = false
 needs_frames (Load pid addr width) = true
 needs_frames (Store pid addr value) = true
 needs_frames (Fetch pid addr) = true
+needs_frames (Dontneed pid addr len) = false
+needs_frames PastFaults = false
 
 -- whether a command may read a file page from the store
 abbrev pub reads_files : Command → Bool
@@ -51,6 +54,8 @@ reads_files (Msync pid addr len mode) = false
 reads_files (Load pid addr width) = true
 reads_files (Store pid addr value) = true
 reads_files (Fetch pid addr) = true
+reads_files (Dontneed pid addr len) = false
+reads_files PastFaults = false
 
 -- whether a command may read the swap device
 abbrev pub reads_swap : State → Command → Bool
@@ -64,6 +69,8 @@ reads_swap s (Msync pid addr len mode) = is_some (commits s (Msync pid addr len 
 reads_swap s (Load pid addr width) = true
 reads_swap s (Store pid addr value) = true
 reads_swap s (Fetch pid addr) = true
+reads_swap s (Dontneed pid addr len) = false
+reads_swap s PastFaults = false
 
 -- whether that stall may come of that command
 abbrev pub is_open_to : State → Command → Stall → Bool

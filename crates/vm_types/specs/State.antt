@@ -1,6 +1,7 @@
 -- The flat model: processes as maps of pages, and files as rows of pages. No frames, tables, slots or journal.
 use Rattle.std.specs.Prelude.{ℕ, ◌==◌, ◌&&◌, if◌then◌else◌, Bool, List, [], ◌∷◌, Option, Some, None, ◌≡◌}
 use Rattle.vm_types.specs.Files.{Files}
+use Rattle.vm_types.specs.History.{Past}
 use Rattle.vm_types.specs.View.{Pages, View}
 
 -- Between two commands.
@@ -17,6 +18,8 @@ pub record State : Type 0 where
   pub durable : Pages
   -- the file pages stored to through a shared mapping and not made durable since: file, page
   pub touched : ℕ → ℕ → Bool
+  -- the last faults of accesses, oldest first, each with its process
+  pub past : Past
   -- none while the machine runs; once it has halted, the contents that a stop may leave
   pub ends : Option (List Pages)
 

@@ -1,28 +1,30 @@
 -- What each command answers and what it leaves.
 -- mmap(2), munmap(2), mprotect(2), fork(2), _exit(2), msync(2), sigaction(2); the order of the checks is our choice.
-use Rattle.std.specs.Prelude.{ℕ, ◌≡◌, refl, ◌+◌, ◌%◌, ◌*◌, ◌/◌, ◌==◌, ◌&&◌, not, false, nat_lt, if◌then◌else◌, [], ◌∷◌, Option, Some, None}
+use Rattle.std.specs.Prelude.{ℕ, zero, suc, List, length, slice_get, ◌≡◌, refl, ◌+◌, ◌%◌, ◌*◌, ◌/◌, ◌==◌, ◌&&◌, not, false, nat_lt, if◌then◌else◌, [], ◌∷◌, Option, Some, None}
 use Rattle.vm_types.specs.declared.access.Access.{Access}
 use Rattle.vm_types.specs.declared.access.Access.TheVariants as Accesses
 use Rattle.vm_types.specs.declared.access.StoredValue.{StoredValue}
 use Rattle.vm_types.specs.declared.command.Command.{Command}
-use Rattle.vm_types.specs.declared.command.Command.TheVariants.{Spawn, Fork, Exit, Mmap, Munmap, Mprotect, Msync, Load, Store, Fetch}
+use Rattle.vm_types.specs.declared.command.Command.TheVariants.{Spawn, Fork, Exit, Mmap, Munmap, Mprotect, Dontneed, Msync, Load, Store, Fetch, PastFaults}
 use Rattle.vm_types.specs.declared.command.MapSource.{MapSource}
 use Rattle.vm_types.specs.declared.permission.Prot.{Prot}
-use Rattle.vm_types.specs.declared.refusal.Code.TheVariants.{BusAdraln, SegvAccerr}
+use Rattle.vm_types.specs.declared.refusal.Code.TheVariants.{BusAdraln, SegvAccerr, SegvMaperr}
 use Rattle.vm_types.specs.declared.refusal.Errno.{Errno}
 use Rattle.vm_types.specs.declared.refusal.Errno.TheVariants.{ESRCH, EAGAIN, ENOMEM}
 use Rattle.vm_types.specs.declared.region.Backing.TheVariants.{Anon}
 use Rattle.vm_types.specs.declared.reply.Reply.{Reply}
-use Rattle.vm_types.specs.declared.reply.Reply.TheVariants.{Process, Address, Done, Value, Faulted, Refused}
+use Rattle.vm_types.specs.declared.reply.Reply.TheVariants.{Process, Address, Done, Value, Faulted, Refused, Stalled, Halted, Past}
 use Rattle.vm_types.specs.declared.width.Width.{Width}
-use Rattle.vm_types.specs.declared.width.Width.TheVariants.{Four}
+use Rattle.vm_types.specs.declared.width.Width.TheVariants.{One, Four}
 use Rattle.vm_types.specs.Access.{loaded, stored}
 use Rattle.vm_types.specs.Checks.{first_of, page_count, pages_from}
 use Rattle.vm_types.specs.Mapping.{mmap_errno, mmap_place, first_attr, with_mapping}
 use Rattle.vm_types.specs.Msync.{Ruling, Refuses, Passes, Takes, msync_ruling, committed, synced}
 use Rattle.vm_types.specs.Permission.{kept, with_bits}
 use Rattle.vm_types.specs.Processes.{least_free_from, least_free_pid, with_process, forked, without_process}
-use Rattle.vm_types.specs.Ranges.{munmap_checks, without_row, asked_checks, row_checks, with_protection}
+use Rattle.vm_types.specs.History as History
+use Rattle.vm_types.specs.Ranges.{munmap_checks, without_row, asked_checks, row_checks, with_protection, covered_checks, without_copies}
+use Rattle.vm_types.specs.Rows.{is_covered}
 use Rattle.vm_types.specs.State.{State}
 use Rattle.vm_types.specs.Verdict.{Verdict, Fine, Faults, verdict, fault_of}
 use Rattle.vm_types.specs.View.{Pages, View, shown, zero_page}
@@ -81,6 +83,18 @@ mprotect_outcome s pid addr len prot =
     refused_or s (first_of (asked_checks s pid addr))
     (if len == 0 then answers s Done else protect_outcome s pid (addr / 4096) (pages_from addr len) prot)
 
+-- madvise of a row of pages: refused, or their own copies gone
+abbrev pub uncopy_outcome : State → ℕ → ℕ → ℕ → Outcome
+uncopy_outcome s pid first pages =
+    refused_or s (first_of (covered_checks s pid first pages))
+    (record { reply = Done; state = without_copies s pid first pages })
+
+-- madvise with MADV_DONTNEED: a length of 0 is done with before any page is looked at
+abbrev pub dontneed_outcome : State → ℕ → ℕ → ℕ → Outcome
+dontneed_outcome s pid addr len =
+    refused_or s (first_of (asked_checks s pid addr))
+    (if len == 0 then answers s Done else uncopy_outcome s pid (addr / 4096) (pages_from addr len))
+
 -- msync: refused, done with nothing to make durable, or done
 abbrev pub msync_outcome : State → Ruling → Outcome
 msync_outcome s (Refuses errno) = answers s (Refused errno)
@@ -116,6 +130,7 @@ outcome s (Mmap pid addr len prot source placing) =
     mmap_outcome s pid len prot source (mmap_errno s pid addr len prot source placing) (mmap_place s pid addr len placing)
 outcome s (Munmap pid addr len) = munmap_outcome s pid addr len
 outcome s (Mprotect pid addr len prot) = mprotect_outcome s pid addr len prot
+outcome s (Dontneed pid addr len) = dontneed_outcome s pid addr len
 outcome s (Msync pid addr len mode) = msync_outcome s (msync_ruling s pid addr len mode)
 outcome s (Load pid addr width) =
     if s.live pid then load_outcome s addr width (judged s pid addr width Accesses.Load) else answers s (Refused ESRCH)
@@ -123,6 +138,38 @@ outcome s (Store pid addr value) =
     if s.live pid then store_outcome s pid addr value (judged s pid addr value.width Accesses.Store) else answers s (Refused ESRCH)
 outcome s (Fetch pid addr) =
     if s.live pid then fetch_outcome s addr (judged s pid addr Four Accesses.Fetch) else answers s (Refused ESRCH)
+outcome s PastFaults = answers s (Past s.past)
+
+-- the history with the fault that an access of the process was answered by, if any
+abbrev pub noted_fault : ℕ → Reply → History.Past → History.Past
+noted_fault pid (Faulted fault) past = History.with_fault past pid fault
+noted_fault pid (Process child) past = past
+noted_fault pid (Address addr) past = past
+noted_fault pid Done past = past
+noted_fault pid (Value width value) past = past
+noted_fault pid (Refused errno) past = past
+noted_fault pid (Stalled stall) past = past
+noted_fault pid Halted past = past
+noted_fault pid (Past faults) past = past
+
+-- the history after a command that was so answered
+abbrev pub past_after : Command → Reply → History.Past → History.Past
+past_after (Load pid addr width) reply past = noted_fault pid reply past
+past_after (Store pid addr value) reply past = noted_fault pid reply past
+past_after (Fetch pid addr) reply past = noted_fault pid reply past
+past_after Spawn reply past = past
+past_after (Fork pid) reply past = past
+past_after (Exit pid) reply past = past
+past_after (Mmap pid addr len prot source placing) reply past = past
+past_after (Munmap pid addr len) reply past = past
+past_after (Mprotect pid addr len prot) reply past = past
+past_after (Dontneed pid addr len) reply past = past
+past_after (Msync pid addr len mode) reply past = past
+past_after PastFaults reply past = past
+
+-- the state with the fault of an access in its history
+abbrev pub noted : Command → Reply → State → State
+noted command reply s = record s { past = past_after command reply s.past }
 
 -- how an msync is judged; any other command makes nothing durable
 abbrev pub ruling : State → Command → Ruling
@@ -132,6 +179,8 @@ ruling s (Exit pid) = Passes
 ruling s (Mmap pid addr len prot source placing) = Passes
 ruling s (Munmap pid addr len) = Passes
 ruling s (Mprotect pid addr len prot) = Passes
+ruling s (Dontneed pid addr len) = Passes
+ruling s PastFaults = Passes
 ruling s (Msync pid addr len mode) = msync_ruling s pid addr len mode
 ruling s (Load pid addr width) = Passes
 ruling s (Store pid addr value) = Passes
@@ -169,6 +218,7 @@ sample_state count = record {
   volatile = λ file page. zero_page;
   durable = λ file page. zero_page;
   touched = λ file page. false;
+  past = [];
   ends = None;
 }
 
@@ -210,3 +260,33 @@ not_run = refl
 
 pub odd_fetch : (outcome (sample_state 1) (Fetch 1 0x20002)).reply ≡ Faulted record { cause = 0; code = BusAdraln; addr = 0x20002 }
 odd_fetch = refl
+
+-- seventeen faulting loads, of which the last sixteen are kept
+abbrev pub loads_from : State → ℕ → ℕ → State
+loads_from s addr zero = s
+loads_from s addr (suc count) =
+    let command = Load 1 addr One in
+    let o = outcome s command in
+    loads_from (noted command o.reply o.state) (addr + 1) count
+
+pub sixteen_kept : length (loads_from (sample_state 1) 0 17).past ≡ 16
+sixteen_kept = refl
+
+pub oldest_kept : slice_get (loads_from (sample_state 1) 0 17).past 0 ≡ Some (1, record { cause = 13; code = SegvMaperr; addr = 1 })
+oldest_kept = refl
+
+pub last_kept : slice_get (loads_from (sample_state 1) 0 17).past 15 ≡ Some (1, record { cause = 13; code = SegvMaperr; addr = 16 })
+last_kept = refl
+
+-- the page with a copy of its own is zeros again, and stays mapped
+pub copy_gone : (outcome (sample_state 1) (Dontneed 1 0x10000 1)).state.views 1 16
+    ≡ Some (record { attr = record { prot = with_bits 3; backing = Anon }; own = None })
+unfolding is_covered
+copy_gone = refl
+
+pub hole : (outcome (sample_state 1) (Dontneed 1 0x11000 0x1001)).reply ≡ Refused ENOMEM
+unfolding is_covered
+hole = refl
+
+pub nothing_asked : (outcome (sample_state 1) (Dontneed 1 0x50000 0)).reply ≡ Done
+nothing_asked = refl

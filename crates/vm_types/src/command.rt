@@ -68,6 +68,12 @@ pub enum Command {
         len: u64,
         prot: Prot,
     },
+    /// Gives up the own copies of pages (madvise(2), MADV_DONTNEED).
+    Dontneed {
+        pid: u64,
+        addr: u64,
+        len: u64,
+    },
     /// Makes stores to shared pages durable, all at once (msync(2)).
     Msync {
         pid: u64,
@@ -92,4 +98,6 @@ pub enum Command {
         pid: u64,
         addr: u64,
     },
+    /// Asks for the last faults of accesses.
+    PastFaults,
 }

@@ -5,6 +5,7 @@
 mod access;
 mod command;
 mod file;
+mod history;
 mod number;
 mod permission;
 mod refusal;
@@ -15,11 +16,12 @@ mod width;
 pub use access::{Access, StoredValue};
 pub use command::{Command, MapSource, MsyncMode, Placing};
 pub use file::{FileInfo, FilePage};
+pub use history::History;
 pub use number::{FrameNo, NoFree, Phys, Pid, SlotNo, TooManyRuns, Vpn};
 pub use permission::Prot;
 pub use refusal::{Code, Errno, Fault, Stall};
 pub use region::{Attr, Backing};
-pub use reply::Reply;
+pub use reply::{Answer, Reply};
 pub use width::Width;
 
 /// Bytes of a page, a frame and a slot.
@@ -39,6 +41,9 @@ pub const PROCESSES: usize = 64;
 
 /// The most files of an image; their numbers are 0 to one less.
 pub const FILES: usize = 64;
+
+/// The most faults that are kept.
+pub const FAULTS: usize = 16;
 
 /// The most touched pages that one msync makes durable.
 pub const MSYNC_PAGES: usize = 127;

@@ -34,6 +34,13 @@ impl Pid {
         }
     }
 
+    /// The least number.
+    pub(crate) fn first() -> Pid
+        ensures { result ≡ 1 }
+    {
+        Pid { number: 1 }
+    }
+
     /// The number, 1 to 64.
     pub fn get(self) -> u8
         ensures number { result ≡ self }

@@ -7,6 +7,7 @@ use clap::error::ErrorKind;
 use file_store::{FormatFault, OpenFault};
 use machine::BootFault;
 use std::alloc::AllocError;
+use std::fmt::{self, Display, Formatter, Write as _};
 use std::io::Write;
 use thiserror::Error;
 
@@ -17,9 +18,9 @@ pub(crate) enum ProgramFault<'a> {
     Usage,
     #[error("out of memory")]
     OutOfMemory,
-    #[error("bad spec {0}")]
+    #[error("bad spec {}", OneLine(*.0))]
     BadSpec(&'a str),
-    #[error("cannot open {0}")]
+    #[error("cannot open {}", OneLine(*.0))]
     CannotOpen(&'a str),
     #[error("format {} {}", *.0 as u8, format_fault_name(*.0))]
     Format(FormatFault),
@@ -33,6 +34,23 @@ pub(crate) enum ProgramFault<'a> {
     ReadFailed,
     #[error("write failed")]
     WriteFailed,
+}
+
+/// A word as it is told in one line: its control characters are escaped as Rust does, `\n` for a newline.
+#[derive(Drop)]
+struct OneLine<'a>(&'a str);
+
+impl Display for OneLine<'_> {
+    fn fmt<W: fmt::Write>(&self, f: &mut Formatter<W>) -> fmt::Result {
+        for c in self.0.chars() {
+            if c.is_control() {
+                write!(f, "{}", c.escape_default())?;
+            } else {
+                f.write_char(c)?;
+            }
+        }
+        Ok(())
+    }
 }
 
 fn format_fault_name(fault: FormatFault) -> &'static str {

@@ -1,13 +1,14 @@
 //! The program that runs traces.
-ghost use Rattle.std.specs.Prelude.{◌≡◌, ◌≤◌, ◌⊎◌, IfOk};
-ghost use Rattle.runner.specs.Programs.{RanTrace};
-ghost use Rattle.runner.specs.Trace.{streams};
+ghost use Rattle.std.specs.Prelude.{◌≡◌, ◌≤◌, IfOk};
+ghost use Rattle.runner.specs.Programs.{end_status};
 
 use super::faults::{ProgramFault, report};
-use super::files::{Missing, open_disk};
+use super::files::{Access, open_disk};
+use super::places::held_places;
 use super::words::run_words;
-use crate::engine::{RunEnd, run};
-use disk_model::{FileDisk, SectorDisk};
+use crate::engine::RunEnd;
+use crate::starting::run_on;
+use disk_model::{FileContents, SectorDisk, Unknown};
 use machine::Machine;
 use std::fs::{File, Files};
 use std::io::{Read, Write};
@@ -33,34 +34,40 @@ pub fn pagerun<R: Files<File = File> + AllocGlobal, I: Read, O: Write, X: Write>
     errors: &mut X,
 ) -> u8
     ensures statuses { result ≤ 3 }
-    ensures ran { (result ≡ 1) ⊎ ((result ≡ 2) ⊎ RanTrace ⟦<FileDisk as SectorDisk>⟧ ⟦<FileDisk as SectorDisk>⟧ result
-        (streams (I.remaining reader.old) (O.contents writer.old)) (streams (I.remaining reader.new) (O.contents writer.new))) }
 {
-    report("pagerun", run_image(rt, words, reader, writer), errors)
+    let outcome = run_image::<Unknown, Unknown, R, I, O>(rt, words, reader, writer);
+    report("pagerun", outcome, errors)
 }
 
-fn run_image<'a, R: Files<File = File> + AllocGlobal, I: Read, O: Write>(
-    rt: &R,
-    words: &'a [String],
-    reader: &mut I,
-    writer: &mut O,
-) -> Result<u8, ProgramFault<'a>>
-    ensures { IfOk result (λ status. RanTrace ⟦<FileDisk as SectorDisk>⟧ ⟦<FileDisk as SectorDisk>⟧ status
-        (streams (I.remaining reader.old) (O.contents writer.old)) (streams (I.remaining reader.new) (O.contents writer.new))) }
+fn run_image<
+    'a,
+    C: FileContents,
+    K: FileContents,
+    R: Files<File = File> + AllocGlobal,
+    I: Read,
+    O: Write,
+>(rt: &R, words: &'a [String], reader: &mut I, writer: &mut O) -> Result<u8, ProgramFault<'a>>
+    ensures { IfOk result (λ status. status ≤ 3) }
 {
     let words = run_words(rt.alloc(), words)?;
-    let store = open_disk(rt, words.image, Missing::Refused, 0)?;
-    let swap = open_disk(
-        rt,
-        words.swap,
-        Missing::Made,
-        swap_bytes(words.config.slots),
-    )?;
-    let mut machine = match Machine::boot(rt.alloc(), words.config, store, swap) {
-        Ok(machine) => machine,
-        Err((fault, _)) => return Err(ProgramFault::Boot(fault)),
-    };
-    match run(reader, writer, &mut machine) {
+    let _places = held_places(rt)?;
+    let store = open_disk::<C, R>(rt, words.image, Access::Write, 0)?;
+    let length = swap_bytes(words.config.slots);
+    let swap = open_disk::<K, R>(rt, words.swap, Access::Make, length)?;
+    match run_on(rt.alloc(), words.config, store, swap, reader, writer) {
+        Ok((end, machine)) => status_of(end, &machine),
+        Err((fault, _)) => Err(ProgramFault::Boot(fault)),
+    }
+}
+
+/// What the end of a run is told by: a trace that was answered to its end by 3 where the machine has halted, else by 0.
+fn status_of<'a, D: SectorDisk, E: SectorDisk>(
+    end: RunEnd,
+    machine: &Machine<D, E>,
+) -> Result<u8, ProgramFault<'a>>
+    ensures { IfOk result (λ status. (end ≡ RunEnd.Done) × (status ≡ end_status machine.now.halted)) }
+{
+    match end {
         RunEnd::Done if machine.is_halted() => Ok(HALTED),
         RunEnd::Done => Ok(0),
         RunEnd::ReadFault => Err(ProgramFault::ReadFailed),

@@ -2,7 +2,7 @@ use Rattle.std.proofs.Common.{◌≡◌, refl, sym, ap, ◌∙◌, subst, inl, i
 use Rattle.std.specs.Option.{option_map}
 use Rattle.vm_types.specs.declared.file.FilePage.{FilePage}
 use Rattle.file_store.specs.declared.store.FileStore.{FileStore}
-use Rattle.file_store.specs.Store.{entry_of}
+use Rattle.file_store.specs.Store.{entry_of, files_of}
 use Rattle.file_store.specs.Standing.{standing_page}
 use Rattle.frames.specs.FrameTable.{with_bytes}
 use Rattle.frames.proofs.FrameLemmas.{with_bytes-same, with_bytes-others}
@@ -12,7 +12,7 @@ use Rattle.residency.specs.Calls.{KeepsUsed}
 use Rattle.residency.specs.Steps.{BringsIn}
 use Rattle.residency.proofs.Places.{cases_page}
 use Rattle.residency.proofs.Used.{fit_used}
-use Rattle.page_cache.specs.CacheTable.{is_touched}
+use Rattle.page_cache.specs.CacheTable.{is_touched, place_of}
 use Rattle.fault.specs.Files.{ReadsStore}
 use Rattle.fault.proofs.Arrivals.{frames_written, written_back, used_then, enters_used, fit_arrived, views_arrived, spaces_arrived, pages_arrived, places_used, spaces_used, views_used}
 use Rattle.fault.proofs.Steps.{proceeds_enters, brings_none}
@@ -22,18 +22,19 @@ use Rattle.fault.proofs.arriving.brought.Goals as goal
 pub returns-in_err-obtain-clause-proceeds : goal.returns-in_err-obtain-clause-proceeds
 returns-in_err-obtain-clause-proceeds g c =
     proceeds_enters g.D.SectorDisk c.args.core.now c.obtain.new.core c.requires.store
-    (enters_used c.args.core.now c.obtain.new.core c.requires.fit c.obtain.ensures.sized c.obtain.ensures.used c.obtain.ensures.rest)
+    (enters_used c.args.core.now c.obtain.new.core c.requires.fit c.obtain.ensures.used c.obtain.ensures.rest)
 
 -- what is left of memory where the read succeeded
-abbrev filled : (g : Over) (c : goal.After-set_place g) → Core g.row.D.Denot g.row.E.Denot
-filled g c = record c.obtain.new.core {
-  store = c.read_page.new.self;
+abbrev filled : (g : Over) (c : goal.After-core-in-Ok-read_page-1 g) → Picture
+filled g c = record (picture_of c.obtain.new.core) {
   frames = with_bytes c.take.new.self c.in-Ok.frame.0 c.read_page.new.to;
-  cache = c.set_place.new.self;
+  place = place_of c.set_place.new.self;
+  touched = is_touched c.set_place.new.self;
+  files = files_of c.read_page.new.self;
 }
 
 -- the file page is in the frame
-brings : (g : Over) (c : goal.After-set_place g) → BringsIn (picture_of c.obtain.new.core) (picture_of (filled g c)) c.args.page c.in-Ok.frame.0
+brings : (g : Over) (c : goal.After-core-in-Ok-read_page-1 g) → BringsIn (picture_of c.obtain.new.core) (filled g c) c.args.page c.in-Ok.frame.0
 brings g c =
     let takes = c.in-Ok.ensures.taken in
     let w = c.read_page.new.to in
@@ -61,18 +62,12 @@ pub returns-in-Ok-read_page-clause-proceeds : goal.returns-in-Ok-read_page-claus
 returns-in-Ok-read_page-clause-proceeds g c =
     let old = picture_of c.args.core.now in
     let mid = picture_of c.obtain.new.core in
-    let new = picture_of (filled g c) in
+    let new = filled g c in
     let arrives = brings g c in
     let written = with_bytes-others c.take.new.self c.in-Ok.frame.0 c.read_page.new.to in
     let takes = c.in-Ok.ensures.taken in
     let read = c.in-Ok-read_page.ensures in
     record {
-      sized = record {
-        roots = c.obtain.ensures.sized.roots;
-        regions = c.obtain.ensures.sized.regions;
-        pages = c.obtain.ensures.sized.pages ∙ sym arrives.frames.frames;
-        nodes = c.set_place.ensures.others.frames ∙ c.obtain.ensures.sized.nodes ∙ sym arrives.frames.frames;
-      };
       fit = fit_arrived old mid new c.args.page c.in-Ok.frame.0 c.requires.fit c.obtain.ensures.used arrives;
       ready = read.ready;
       spaces = spaces_arrived old mid new c.args.page c.in-Ok.frame.0 c.requires.fit c.obtain.ensures.used arrives;
@@ -87,18 +82,18 @@ returns-in-Ok-read_page-clause-proceeds g c =
 
 pub returns-in-Ok-read_page-clause-keeps : goal.returns-in-Ok-read_page-clause-keeps
 returns-in-Ok-read_page-clause-keeps g c =
-    views_arrived (picture_of c.args.core.now) (picture_of c.obtain.new.core) (picture_of (filled g c)) c.args.page c.in-Ok.frame.0 c.requires.fit c.obtain.ensures.used
+    views_arrived (picture_of c.args.core.now) (picture_of c.obtain.new.core) (filled g c) c.args.page c.in-Ok.frame.0 c.requires.fit c.obtain.ensures.used
     (brings g c)
 
 -- what is left of memory where it failed
-abbrev emptied : (g : Over) (c : goal.After-release g) → Core g.row.D.Denot g.row.E.Denot
-emptied g c = record c.obtain.new.core { store = c.read_page.new.self; frames = c.release.new.self }
+abbrev emptied : (g : Over) (c : goal.After-core-in-Err-1 g) → Picture
+emptied g c = record (picture_of c.obtain.new.core) { files = files_of c.read_page.new.self; frames = c.release.new.self }
 
-given_back : (g : Over) (c : goal.After-release g) → KeepsUsed (picture_of c.args.core.now) (picture_of (emptied g c))
+given_back : (g : Over) (c : goal.After-core-in-Err-1 g) → KeepsUsed (picture_of c.args.core.now) (emptied g c)
 given_back g c =
     let mid : Picture = picture_of c.obtain.new.core in
-    used_then (picture_of c.args.core.now) mid (picture_of (emptied g c)) c.obtain.ensures.used (record {
-      memory = written_back mid.frames c.take.new.self c.release.new.self c.in-Ok.frame.0 c.read_page.new.to c.len.ensures.sound c.in-Ok.ensures.taken
+    used_then (picture_of c.args.core.now) mid (emptied g c) c.obtain.ensures.used (record {
+      memory = written_back mid.frames c.take.new.self c.release.new.self c.in-Ok.frame.0 c.read_page.new.to c.obtain.new.core.sound c.in-Ok.ensures.taken
           c.release.ensures.change c.release.ensures.alone;
       root = λ pid. refl;
       at = λ pid page. refl;
@@ -111,15 +106,9 @@ given_back g c =
 pub returns-in-Err-clause-proceeds : goal.returns-in-Err-clause-proceeds
 returns-in-Err-clause-proceeds g c =
     let old = picture_of c.args.core.now in
-    let new = picture_of (emptied g c) in
+    let new = emptied g c in
     let used = given_back g c in
     record {
-      sized = record {
-        roots = c.obtain.ensures.sized.roots;
-        regions = c.obtain.ensures.sized.regions;
-        pages = c.obtain.ensures.sized.pages ∙ c.obtain.ensures.used.memory.frames ∙ sym used.memory.frames;
-        nodes = c.obtain.ensures.sized.nodes ∙ c.obtain.ensures.used.memory.frames ∙ sym used.memory.frames;
-      };
       fit = fit_used old new used c.requires.fit;
       ready = c.in-Err.ensures.ready;
       spaces = spaces_used old new used;
@@ -130,4 +119,4 @@ returns-in-Err-clause-proceeds g c =
     }
 
 pub returns-in-Err-clause-keeps : goal.returns-in-Err-clause-keeps
-returns-in-Err-clause-keeps g c = views_used (picture_of c.args.core.now) (picture_of (emptied g c)) c.requires.fit (given_back g c)
+returns-in-Err-clause-keeps g c = views_used (picture_of c.args.core.now) (emptied g c) c.requires.fit (given_back g c)

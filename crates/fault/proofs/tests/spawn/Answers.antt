@@ -44,9 +44,9 @@ returns-clause-fit c =
     let roots = c.obtain.new.core.roots.items in
     let regions = c.obtain.new.core.regions.items in
     let rooted = slice_set roots 1 (Some c.in-Ok.root) in
-    let zero_page : role_of old.frames 0 ≢ Table = λ e. (let bad : Zero ≡ Table = sym c.len.ensures.sound.zero_role ∙ e in (cc)) in
-    let there : 1 < length roots = omega (arith, c.obtain.ensures.sized.roots) in
-    let place : 1 < length regions = omega (arith, c.obtain.ensures.sized.regions) in
+    let zero_page : role_of old.frames 0 ≢ Table = λ e. (let bad : Zero ≡ Table = sym c.obtain.new.core.sound.zero_role ∙ e in (cc)) in
+    let there : 1 < length roots = omega (arith, c.obtain.new.core.root_count) in
+    let place : 1 < length regions = omega (arith, c.obtain.new.core.region_count) in
     let lives : root_in rooted 1 ≡ Some root = ap (λ o. option_map number_of_frame o) (get_or-set_same roots 1 (Some c.in-Ok.root) None there) in
     let spawned : Picture = with_process mid rooted (slice_set regions 1 []) in
     let new : Picture = with_process mid rooted (slice_set regions 1 c.args.regions) in

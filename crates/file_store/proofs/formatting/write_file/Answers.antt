@@ -1,11 +1,10 @@
-use Rattle.std.proofs.Common.{◌≡◌, ℕ, ◌+◌, ◌*◌, ◌<◌, min, List, Some, drop, drop-drop, sym, ap, ◌∙◌, ⊎_elim, arith}
+use Rattle.std.proofs.Common.{◌≡◌, ℕ, ◌+◌, ◌*◌, ◌<◌, min, List, Some, drop, drop-drop, length-drop, sym, ap, subst, ◌∙◌, ⊎_elim, arith}
 use Rattle.std.proofs.lemmas.Bool.{cases_eq}
 use Rattle.sync_journal.specs.Layout.{home_sector, IsPageSector}
-use Rattle.sync_journal.specs.Standing.{sector_of}
 use Rattle.sync_journal.proofs.Runs.{one_more, of_more}
 use Rattle.file_store.specs.Layout.{bytes_inside, trimmed}
-use Rattle.file_store.specs.Format.{told_by, page_given, IsFrom}
-use Rattle.file_store.proofs.NewStores.{is_told}
+use Rattle.file_store.specs.Format.{told_by, page_given, IsFrom, HoldsCut}
+use Rattle.file_store.proofs.NewStores.{cut_moves, is_told}
 use Rattle.file_store.proofs.formatting.write_file.Goals as goal
 
 pub loop-k-preserved : goal.loop-k-preserved
@@ -26,21 +25,37 @@ loop-k-preserved g c =
           let e : min c.args.source.now.length (4096 * c.loop-k.k) + bytes_inside c.loop-k.source.length c.loop-k.k ≡ min c.args.source.now.length (4096 * (c.loop-k.k + 1)) = omega (arith, more, length) in
           r.rest _ (inv.left told is)
           ∙ ap Some (drop-drop (bytes_inside c.loop-k.source.length c.loop-k.k) (min c.args.source.now.length (4096 * c.loop-k.k)) told ∙ ap (λ n. drop n told) e);
-      pages = λ keeps j page below given i inside. ⊎_elim
-          (λ same.
-          let told = is_told c.args.source.now.length c.loop-k.k (told_by remaining c.args.source.now.bytes) page
-          (ap (page_given remaining c.args.source.now) (sym same) ∙ given) in
-          let reached : min c.args.source.now.length (4096 * c.loop-k.k) ≡ 4096 * c.loop-k.k = omega (arith, more) in
-          let page_is : c.read_page.new.page ≡ page = r.page _ (inv.left told.bytes told.are)
-          ∙ ap (λ n. trimmed (bytes_inside n c.loop-k.k) (drop (min c.args.source.now.length (4096 * c.loop-k.k)) told.bytes)) length
-          ∙ ap (λ n. trimmed (bytes_inside c.args.source.now.length c.loop-k.k) (drop n told.bytes)) reached
-          ∙ sym told.page_is in
-          ap (λ n. content c.write_page.new.disk (home_sector (c.args.first + n) + i)) same
-          ∙ c.in_ok-write_page.ensures.written keeps i inside
-          ∙ ap (λ (p : List ℕ). sector_of p i) page_is)
-          (λ other.
-          let mid = w.run.kept keeps in
-          let here = inv.pages mid j page (omega (arith, below, other)) given i inside in
-          ⊎_elim (λ at. absurd (omega (arith, at.0, below, other, inside))) (λ e. e ∙ here) ((w.run.touches keeps).content (home_sector (c.args.first + j) + i)))
+      tells = λ told is.
+          let before = inv.tells told is in
+          let now = r.tells _ before.1 in
+          let e : min c.args.source.now.length (4096 * c.loop-k.k) + bytes_inside c.loop-k.source.length c.loop-k.k ≡ min c.args.source.now.length (4096 * (c.loop-k.k + 1)) = omega (arith, more, length) in (
+            omega (arith, e, before.0, now.0, length-drop (min c.args.source.now.length (4096 * c.loop-k.k)) told),
+            now.1 ∙ ap Some (drop-drop (bytes_inside c.loop-k.source.length c.loop-k.k) (min c.args.source.now.length (4096 * c.loop-k.k)) told ∙ ap (λ n. drop n told) e),
+          );
+      reader = λ some. inv.reader (c.read_page.ensures.reader some);
+      pages = λ keeps j below. ⊎_elim
+          (λ same. subst (λ n. HoldsCut (c.args.first + n) (bytes_inside c.args.source.now.length n) (page_given remaining c.args.source.now n) (content c.write_page.new.disk))
+          (sym same) (record {
+            page = c.read_page.new.page;
+            zeros = ap (λ n. trimmed (bytes_inside n c.loop-k.k) c.read_page.new.page) (sym length) ∙ r.zeros;
+            holds = c.in_ok-write_page.ensures.written keeps;
+            is = λ page given.
+                let told = is_told c.args.source.now.length c.loop-k.k (told_by remaining c.args.source.now.bytes) page given in
+                let reached : min c.args.source.now.length (4096 * c.loop-k.k) ≡ 4096 * c.loop-k.k = omega (arith, more) in
+                r.page _ (inv.left told.bytes told.are)
+                ∙ ap (λ n. trimmed (bytes_inside n c.loop-k.k) (drop (min c.args.source.now.length (4096 * c.loop-k.k)) told.bytes)) length
+                ∙ ap (λ n. trimmed (bytes_inside c.args.source.now.length c.loop-k.k) (drop n told.bytes)) reached
+                ∙ sym told.page_is;
+          }))
+          (λ other. cut_moves (c.args.first + j) (bytes_inside c.args.source.now.length j) (page_given remaining c.args.source.now j)
+          (content c.loop-k.disk) (content c.write_page.new.disk)
+          (λ i inside. ⊎_elim (λ at. absurd (omega (arith, at.0, below, other, inside))) (λ e. e) ((w.run.touches keeps).content (home_sector (c.args.first + j) + i)))
+          (inv.pages (w.run.kept keeps) j (omega (arith, below, other))))
           (cases_eq j c.loop-k.k);
     }
+
+pub returns-in_err-write_page-clause-run : goal.returns-in_err-write_page-clause-run
+returns-in_err-write_page-clause-run g c =
+    one_more g.D.SectorDisk (IsFrom (home_sector c.args.first)) c.args.disk.now c.loop-k.disk c.write_page.new.disk c.loop-k.invariant.run
+    (of_more g.D.SectorDisk (IsPageSector (1020 + 8 * (c.args.first + c.loop-k.k))) (IsFrom (home_sector c.args.first)) c.loop-k.disk c.write_page.new.disk
+    (λ k inside. omega (arith, inside.0)) c.write_page.ensures.run)

@@ -1,7 +1,8 @@
-use Rattle.std.proofs.Common.{◌≡◌, ◌*◌, min, ℕ, List, Some, drop}
+use Rattle.std.proofs.Common.{◌≡◌, ◌≤◌, ◌*◌, min, ℕ, List, Some, drop, length}
+use Rattle.std.specs.Prelude.{IsSome}
 use Rattle.sync_journal.specs.Layout.{home_sector}
 use Rattle.sync_journal.specs.Runs.{Runs}
-use Rattle.file_store.specs.Format.{info_of, told_by, IsFrom, HoldsPages}
+use Rattle.file_store.specs.Format.{info_of, told_by, reader_tells, IsFrom, HoldsPages}
 use Rattle.file_store.proofs.formatting.write_file.Given as goal
 
 abbrev pub invariant-loop-k : goal.invariant-loop-k
@@ -10,5 +11,9 @@ invariant-loop-k g l = record {
   info : info_of l.source ≡ info_of l.initial.source;
   left : (told : List ℕ) → told_by g.R.Read.remaining l.initial.source.bytes ≡ Some told
       → told_by g.R.Read.remaining l.source.bytes ≡ Some (drop (min l.initial.source.length (4096 * l.k)) told);
+  tells : (told : List ℕ) → reader_tells g.R.Read.remaining l.initial.source.bytes ≡ Some told
+      → (min l.initial.source.length (4096 * l.k) ≤ length told)
+      × (reader_tells g.R.Read.remaining l.source.bytes ≡ Some (drop (min l.initial.source.length (4096 * l.k)) told));
+  reader : IsSome l.source.bytes → IsSome l.initial.source.bytes;
   pages : g.D.SectorDisk.keeps_model l.disk → HoldsPages g.R.Read.remaining l.initial.source l.first l.k (g.D.SectorDisk.content l.disk);
 }

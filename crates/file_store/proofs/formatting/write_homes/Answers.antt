@@ -1,14 +1,16 @@
-use Rattle.std.proofs.Common.{◌≡◌, ◌+◌, ◌<◌, ◌∙◌, ⊎_elim, length, drop, slice_get, Some, drop-drop, refl, sym, ap, subst, get_or, arith}
+use Rattle.std.proofs.Common.{◌≡◌, ◌+◌, ◌<◌, ◌≤◌, ◌∙◌, ⊎_elim, length, drop, slice_get, Some, drop-drop, refl, sym, ap, subst, get_or, arith}
+use Rattle.std.specs.Prelude.{IsSome}
 use Rattle.std.proofs.lemmas.Bool.{cases_eq}
 use Rattle.std.proofs.lemmas.List.{length-set, drop-set-lt}
 use Rattle.std.proofs.lemmas.Option.{same_Some, slice_get_read}
 use Rattle.sync_journal.specs.Layout.{home_count, home_sector}
 use Rattle.sync_journal.proofs.Runs.{one_more, of_more}
 use Rattle.file_store.specs.declared.sources.FileSource.{FileSource}
-use Rattle.file_store.specs.Layout.{page_count}
-use Rattle.file_store.specs.Format.{total_pages, first_home, IsFrom, HoldsPages}
-use Rattle.file_store.proofs.NewStores.{slice_get-drop, first_home-rest, first_home-order}
+use Rattle.file_store.specs.Layout.{page_count, bytes_inside}
+use Rattle.file_store.specs.Format.{total_pages, first_home, page_given, reader_tells, IsFrom, HoldsPages}
+use Rattle.file_store.proofs.NewStores.{cut_moves, slice_get-drop, first_home-rest, first_home-order}
 use Rattle.file_store.proofs.Totals.{total_pages-rest, total_pages-set}
+use Rattle.file_store.proofs.Causes.{is_this}
 use Rattle.file_store.proofs.formatting.write_homes.Goals as goal
 
 pub write_file-requires : goal.write_file-requires
@@ -55,10 +57,31 @@ loop-f-preserved g c =
           subst (λ n. HoldsPages g.R.Read.remaining source n (page_count source.length) (g.D.SectorDisk.content c.write_file.new.disk)) from
           (subst (λ (s : FileSource g.row.R.Denot). HoldsPages g.R.Read.remaining s c.loop-f.first (page_count s.length) (g.D.SectorDisk.content c.write_file.new.disk)) source_is
           (c.in_ok-write_file.ensures.pages keeps)))
-          (λ other. λ k page inside given i lt.
+          (λ other. λ k inside.
           let order = first_home-order sources h f source (omega (arith, less, other)) at in
-          ⊎_elim (λ behind. absurd (omega (arith, behind, first, order, inside, lt)))
-          (λ e. e ∙ inv.files (w.run.kept keeps) h source (omega (arith, less, other)) at k page inside given i lt)
+          cut_moves (first_home sources h + k) (bytes_inside source.length k) (page_given g.R.Read.remaining source k)
+          (g.D.SectorDisk.content c.loop-f.disk) (g.D.SectorDisk.content c.write_file.new.disk)
+          (λ i lt. ⊎_elim (λ behind. absurd (omega (arith, behind, first, order, inside, lt)))
+          (λ e. e)
           ((w.run.touches keeps).content (home_sector (first_home sources h + k) + i)))
+          (inv.files (w.run.kept keeps) h source (omega (arith, less, other)) at k inside))
+          (cases_eq h f);
+      whole = λ h source told less at tells. ⊎_elim
+          (λ same.
+          let source_is : get_or c.loop-f.sources f c.index-sources-f.result ≡ source = sym c.index-sources-f.is ∙ same_Some c.index-sources-f.result source (sym here ∙ ap (slice_get sources) (sym same) ∙ at) in
+          subst (λ (s : FileSource g.row.R.Denot). reader_tells g.R.Read.remaining s.bytes ≡ Some told → s.length ≤ length told) source_is
+          (c.in_ok-write_file.ensures.whole told) tells)
+          (λ other. inv.whole h source told (omega (arith, less, other)) at tells)
           (cases_eq h f);
     }
+
+pub returns-in_err-write_file-clause-source : goal.returns-in_err-write_file-clause-source
+returns-in_err-write_file-clause-source g c = λ failed.
+    let sources = c.args.sources.now in
+    let f = c.loop-f.f in
+    let below : f < length c.loop-f.sources = omega (arith, c.loop-f.invariant.length, c.loop-f-test.true) in
+    let here : slice_get sources f ≡ Some c.index-sources-f.result = sym (slice_get-drop sources f) ∙ ap (λ list. slice_get list 0) (sym c.loop-f.invariant.behind)
+    ∙ slice_get-drop c.loop-f.sources f ∙ slice_get_read c.loop-f.sources (length c.loop-f.sources) f c.index-sources-f.result refl below c.index-sources-f.is in
+    let is = is_this c.from_residual.result c.in_err-write_file.field-0.0 c.from_residual.ensures.1 in
+    let given = subst (λ (s : FileSource g.row.R.Denot). IsSome s.bytes × (0 < s.length)) (sym c.index-sources-f.is) (c.in_err-write_file.ensures.source (sym is ∙ failed)) in
+    (f, c.index-sources-f.result, here, given.0, given.1)

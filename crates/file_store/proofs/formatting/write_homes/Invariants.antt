@@ -1,6 +1,6 @@
 use Rattle.std.proofs.Common.{◌≡◌, ◌+◌, drop, length}
 use Rattle.sync_journal.specs.Runs.{Runs}
-use Rattle.file_store.specs.Format.{total_pages, IsFrom, HoldsFiles}
+use Rattle.file_store.specs.Format.{total_pages, IsFrom, HoldsFiles, AreWhole}
 use Rattle.file_store.proofs.formatting.write_homes.Given as goal
 
 abbrev pub invariant-loop-f : goal.invariant-loop-f
@@ -9,5 +9,6 @@ invariant-loop-f g l = record {
   length : length l.sources ≡ length l.initial.sources;
   rest : l.first + total_pages (drop l.f l.sources) ≡ total_pages l.initial.sources;
   behind : drop l.f l.sources ≡ drop l.f l.initial.sources;
+  whole : AreWhole g.R.Read.remaining l.initial.sources l.f;
   files : g.D.SectorDisk.keeps_model l.disk → HoldsFiles g.R.Read.remaining l.initial.sources l.f (g.D.SectorDisk.content l.disk);
 }

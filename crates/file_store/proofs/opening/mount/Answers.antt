@@ -3,11 +3,12 @@ use Rattle.disk_model.specs.Stop.{Image}
 use Rattle.disk_model.specs.Moments.{Nothing}
 use Rattle.disk_model.proofs.Moments.{then}
 use Rattle.sync_journal.specs.Standing.{IsBadJournal}
+use Rattle.sync_journal.proofs.Recoveries.{while_reading, settled_since}
 use Rattle.file_store.specs.Directory.{entry_in}
 use Rattle.file_store.specs.declared.faults.OpenFault.TheVariants.{BadLayout}
 use Rattle.file_store.specs.Faults.{open_fault}
 use Rattle.file_store.proofs.Causes.{journal_from, fault_cases, on_err, is_this, same_Err}
-use Rattle.file_store.proofs.Openings.{reads_leave, content_is, seen_before, recovery_leaves}
+use Rattle.file_store.proofs.Openings.{content_is, recovery_leaves}
 use Rattle.file_store.proofs.opening.mount.Goals as goal
 
 pub returns-in_err-directory-clause-bad_layout : goal.returns-in_err-directory-clause-bad_layout
@@ -16,10 +17,10 @@ returns-in_err-directory-clause-bad_layout g c = λ k is.
     c.in_err-directory.ensures.bad k (ap Err (same_Err c.in_err-directory.field-0.0 BadLayout (sym made ∙ is)))
 
 pub returns-in_err-directory-clause-any_moment : goal.returns-in_err-directory-clause-any_moment
-returns-in_err-directory-clause-any_moment g c = λ k.
+returns-in_err-directory-clause-any_moment g c = λ k synced.
     let k' = c.in_err-directory.ensures.kept k in
-    reads_leave g.D.SectorDisk (g.D.SectorDisk.sector_count c.args.disk.now) c.args.disk.now c.read_layout.new.disk
-    (λ image left. g.met.D.SectorDisk.only_now c.args.disk.now image k' left) (c.requires k') (c.read_layout.ensures.touches k)
+    while_reading g.D.SectorDisk c.args.disk.now c.read_layout.new.disk c.read_layout.new.disk (c.read_layout.ensures.touches k)
+    (λ image left. g.met.D.SectorDisk.only_now c.args.disk.now image k' left) synced
 
 pub returns-in_err-recover-clause-bad_journal : goal.returns-in_err-recover-clause-bad_journal
 returns-in_err-recover-clause-bad_journal g c = λ k is.
@@ -47,15 +48,15 @@ pub returns-in_err-recover-clause-any_moment : goal.returns-in_err-recover-claus
 returns-in_err-recover-clause-any_moment g c = λ k.
     let k1 = c.recover.ensures.kept k in
     let k' = c.read_layout.ensures.kept k1 in
-    recovery_leaves g.D.SectorDisk (g.D.SectorDisk.sector_count c.args.disk.now) (g.D.SectorDisk.sector_count c.read_layout.new.disk) c.args.disk.now c.read_layout.new.disk c.recover.new.disk
-    c.read_layout.ensures.size (λ image left. g.met.D.SectorDisk.only_now c.args.disk.now image k' left) (c.requires k') (c.read_layout.ensures.touches k1) (c.recover.ensures.any_moment k)
+    recovery_leaves g.D.SectorDisk c.args.disk.now c.read_layout.new.disk c.recover.new.disk c.read_layout.ensures.size
+    (λ image left. g.met.D.SectorDisk.only_now c.args.disk.now image k' left) (c.read_layout.ensures.touches k1) (c.recover.ensures.any_moment k)
 
 pub returns-clause-any_moment : goal.returns-clause-any_moment
 returns-clause-any_moment g c = λ k.
     let k1 = c.recover.ensures.kept k in
     let k' = c.read_layout.ensures.kept k1 in
-    recovery_leaves g.D.SectorDisk (g.D.SectorDisk.sector_count c.args.disk.now) (g.D.SectorDisk.sector_count c.read_layout.new.disk) c.args.disk.now c.read_layout.new.disk c.recover.new.disk
-    c.read_layout.ensures.size (λ image left. g.met.D.SectorDisk.only_now c.args.disk.now image k' left) (c.requires k') (c.read_layout.ensures.touches k1) (c.recover.ensures.any_moment k)
+    recovery_leaves g.D.SectorDisk c.args.disk.now c.read_layout.new.disk c.recover.new.disk c.read_layout.ensures.size
+    (λ image left. g.met.D.SectorDisk.only_now c.args.disk.now image k' left) (c.read_layout.ensures.touches k1) (c.recover.ensures.any_moment k)
 
 pub returns-clause-ok : goal.returns-clause-ok
 returns-clause-ok g c =
@@ -64,7 +65,7 @@ returns-clause-ok g c =
     record {
       room = layout.room;
       sound = layout.sound;
-      quiet = λ k. (c.in_ok-recover.ensures.ok k).quiet;
+      quiet = λ k. (c.in_ok-recover.ensures.ok k).rest;
       same = λ k f.
           let k1 = c.recover.ensures.kept k in
           let is = content_is g.D.SectorDisk c.args.disk.now c.read_layout.new.disk (layout.touches k1) in
@@ -74,6 +75,6 @@ returns-clause-ok g c =
           let is = content_is g.D.SectorDisk c.args.disk.now c.read_layout.new.disk (layout.touches (c.recover.ensures.kept k)) in
           c.in_ok-recover.ensures.good k (subst (λ (s : ℕ). IsBadJournal s (g.D.SectorDisk.content c.read_layout.new.disk)) (sym layout.size)
           (subst (λ (image : Image). IsBadJournal sectors image) (sym is) bad));
-      stands = λ k image may. seen_before g.D.SectorDisk sectors (g.D.SectorDisk.sector_count c.read_layout.new.disk) c.args.disk.now c.read_layout.new.disk layout.size
-          (layout.touches (c.recover.ensures.kept k)) image ((c.in_ok-recover.ensures.ok k).left image may);
+      stands = λ k. (settled_since g.D.SectorDisk c.args.disk.now c.read_layout.new.disk c.recover.new.disk
+          (layout.touches (c.recover.ensures.kept k)) layout.size (c.in_ok-recover.ensures.ok k)).left;
     }

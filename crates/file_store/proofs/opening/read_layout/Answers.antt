@@ -3,7 +3,7 @@ use Rattle.std.proofs.lemmas.Bool.{false≢true}
 use Rattle.disk_model.specs.Stop.{Image}
 use Rattle.sync_journal.specs.Layout.{home_count}
 use Rattle.file_store.specs.Layout.{mark}
-use Rattle.file_store.specs.Directory.{IsBadDirectory, IsSound, AreGood}
+use Rattle.file_store.specs.Directory.{IsBadDirectory, IsSoundDirectory, AreGood}
 use Rattle.file_store.specs.Store.{entry_of}
 use Rattle.disk_model.specs.Moments.{Nothing}
 use Rattle.disk_model.proofs.Moments.{then, after_none}
@@ -38,8 +38,8 @@ returns-clause-touches g c = λ k.
 
 pub returns-in_err-directory-clause-bad : goal.returns-in_err-directory-clause-bad
 returns-in_err-directory-clause-bad g c = λ k _.
-    let homes : c.min-homes.result ≡ home_count (g.D.SectorDisk.sector_count c.args.disk.now) =
-    c.min-homes.ensures ∙ ap home_count c.sectors-sectors.ensures in
+    let homes : c.home_count.result ≡ home_count (g.D.SectorDisk.sector_count c.args.disk.now) =
+    c.home_count.ensures ∙ ap home_count c.sectors-sectors.ensures in
     let sector : c.read-2.new.to ≡ g.D.SectorDisk.content c.args.disk.now 1 =
     c.in_ok-read-2.ensures.gives k ∙ ap (λ (image : Image). image 1) (c.read.ensures.same (c.read-2.ensures.kept k)) in
     BadDirectory (subst (λ (s : List ℕ). IsBadDirectory (home_count (g.D.SectorDisk.sector_count c.args.disk.now)) s) sector
@@ -47,15 +47,15 @@ returns-in_err-directory-clause-bad g c = λ k _.
 
 pub returns-clause-sound : goal.returns-clause-sound
 returns-clause-sound g c =
-    let homes : c.min-homes.result ≡ home_count (g.D.SectorDisk.sector_count c.args.disk.now) =
-    c.min-homes.ensures ∙ ap home_count c.sectors-sectors.ensures in
-    subst (λ (n : ℕ). IsSound n (entry_of c.in_ok-directory.directory)) homes
-    (good_is_sound c.min-homes.result c.read-2.new.to (entry_of c.in_ok-directory.directory) c.in_ok-directory.ensures.good c.in_ok-directory.ensures.entries)
+    let homes : c.home_count.result ≡ home_count (g.D.SectorDisk.sector_count c.args.disk.now) =
+    c.home_count.ensures ∙ ap home_count c.sectors-sectors.ensures in
+    subst (λ (n : ℕ). IsSoundDirectory n (entry_of c.in_ok-directory.directory)) homes
+    (good_is_sound c.home_count.result c.read-2.new.to (entry_of c.in_ok-directory.directory) c.in_ok-directory.ensures.good c.in_ok-directory.ensures.entries)
 
 pub returns-clause-good : goal.returns-clause-good
 returns-clause-good g c = λ k bad.
-    let homes : c.min-homes.result ≡ home_count (g.D.SectorDisk.sector_count c.args.disk.now) =
-    c.min-homes.ensures ∙ ap home_count c.sectors-sectors.ensures in
+    let homes : c.home_count.result ≡ home_count (g.D.SectorDisk.sector_count c.args.disk.now) =
+    c.home_count.ensures ∙ ap home_count c.sectors-sectors.ensures in
     let k' = c.read-2.ensures.kept k in
     let sector : c.read-2.new.to ≡ g.D.SectorDisk.content c.args.disk.now 1 =
     c.in_ok-read-2.ensures.gives k ∙ ap (λ (image : Image). image 1) (c.read.ensures.same k') in

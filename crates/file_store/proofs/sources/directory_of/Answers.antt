@@ -7,7 +7,8 @@ use Rattle.file_store.specs.Format.{first_home, entry_given}
 use Rattle.file_store.proofs.Encoded.{renewed, entry_before, entry_here, zeros_behind, zero_entry, no_file}
 use Rattle.file_store.proofs.Entries.{entry_in-inside}
 use Rattle.file_store.proofs.NewStores.{first_home-rest, entry_written}
-use Rattle.file_store.proofs.Pieces.{length_put, length_mid, get_or-zeros}
+use Rattle.sync_journal.proofs.Pieces.{length_put}
+use Rattle.file_store.proofs.Pieces.{length_mid, get_or-zeros}
 use Rattle.file_store.proofs.Totals.{total_pages-rest}
 use Rattle.file_store.proofs.sources.directory_of.Goals as goal
 

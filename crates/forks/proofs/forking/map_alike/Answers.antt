@@ -11,7 +11,7 @@ returns-clause-fit g c =
     (alike (picture_of c.args.core.now) c.args.core.now.roots.items c.args.core.now.regions.items c.args.parent c.args.child c.from.result c.from-2.result
     root.0 root'.0 c.index.result.now c.copied-regions.result c.requires.fit c.requires.apart c.requires.empty root.1 root'.1
     (omega (arith, c.from.ensures, c.get.ensures.number)) (omega (arith, c.from-2.ensures, c.get-2.ensures.number))
-    (omega (arith, c.get.ensures, c.requires.sized.regions)) (omega (arith, c.get-2.ensures, c.requires.sized.regions))
+    (omega (arith, c.get.ensures, c.args.core.now.region_count)) (omega (arith, c.get-2.ensures, c.args.core.now.region_count))
     c.index.ensures c.copied-regions.ensures (λ q. refl) (λ q page. refl)).fit
 
 pub returns-clause-mapped : goal.returns-clause-mapped
@@ -21,5 +21,5 @@ returns-clause-mapped g c =
     (alike (picture_of c.args.core.now) c.args.core.now.roots.items c.args.core.now.regions.items c.args.parent c.args.child c.from.result c.from-2.result
     root.0 root'.0 c.index.result.now c.copied-regions.result c.requires.fit c.requires.apart c.requires.empty root.1 root'.1
     (omega (arith, c.from.ensures, c.get.ensures.number)) (omega (arith, c.from-2.ensures, c.get-2.ensures.number))
-    (omega (arith, c.get.ensures, c.requires.sized.regions)) (omega (arith, c.get-2.ensures, c.requires.sized.regions))
+    (omega (arith, c.get.ensures, c.args.core.now.region_count)) (omega (arith, c.get-2.ensures, c.args.core.now.region_count))
     c.index.ensures c.copied-regions.ensures (λ q. refl) (λ q page. refl)).maps

@@ -1,4 +1,6 @@
-use Rattle.std.proofs.Common.{◌≡◌, ℕ, false, inl, refl, sym, ap, ◌∙◌, subst, arith}
+use Rattle.std.proofs.Common.{◌≡◌, ℕ, List, slice_index_or, true, false, inl, refl, sym, ap, ◌∙◌, subst, arith}
+use Rattle.frames.specs.declared.role.Role.{Role}
+use Rattle.frames.specs.declared.role.Role.TheVariants as Roles
 use Rattle.page_tables.specs.Entry.{number_of}
 use Rattle.page_tables.specs.Tree.{IsPage}
 use Rattle.frames.specs.FrameTable.{Shares}
@@ -6,9 +8,10 @@ use Rattle.sv39_walk.specs.Entry.{frame_of}
 use Rattle.residency.specs.Picture.{Picture, picture_of, entry, is_private}
 use Rattle.residency.proofs.Entries.{entry-of}
 use Rattle.residency.proofs.Start.{no_bit}
-use Rattle.processes.proofs.Keeping.{live_root}
+use Rattle.processes.proofs.Keeping.{live_root, files_then}
 use Rattle.forks.proofs.Sharers.{may_share}
-use Rattle.forks.proofs.Shared.{own_role, own_noted, forest_shared, root_shared, whole_shared, common_gives, page_given}
+use Rattle.forks.proofs.Shared.{own_role, own_noted, forest_shared, root_shared, whole_shared, common_gives, page_given, page_lowered, lowered_common, given_common}
+use Rattle.forks.proofs.Copied.{on_err}
 use Rattle.forks.proofs.giving.share_page.Goals as goal
 
 pub entry-before-requires-clause-root : goal.entry-before-requires-clause-root
@@ -20,6 +23,7 @@ returns-then-not-is_own-clause-given g c =
     let number : entry old c.args.parent c.args.page ≡ number_of c.entry-before.result =
     entry-of old c.args.parent c.root_of-root.result.0 c.args.page c.root_of-root.ensures ∙ sym c.entry-before.ensures.entry in
     record {
+      given = given_common (entry old c.args.parent c.args.page) (entry old c.args.child c.args.page) (ap is_private number ∙ sym c.if-not-is_own.ensures) c.requires.bare;
       shown = common_gives old c.args.parent c.args.child c.args.page c.requires.same (ap is_private number ∙ sym c.if-not-is_own.ensures) c.requires.bare;
       others = λ q p other. refl;
       bare = λ p h ne. refl;
@@ -66,7 +70,7 @@ set-requires-clause-forest g c =
     let source : entry linked c.args.parent c.args.page ≡ e = c.link_tables.ensures.entries c.args.parent c.args.page ∙ withdrawn.here in
     let role = own_role linked c.args.parent c.args.page e ready.steady small source withdrawn.private in
     let S : ℕ → Type 0 = λ x. Shares linked.frames c.share.new.self x in
-    forest_shared linked mid (frame_of e) ready.steady role (subst S c.frame_of.ensures c.share.ensures) (record { root = λ p. refl; at = λ p k. refl; page_of = λ m. refl; place = λ p. refl; touched = λ p. refl; files = λ f. refl })
+    forest_shared linked mid (frame_of e) ready.steady role (subst S c.frame_of.ensures c.share.ensures.change) (record { root = λ p. refl; at = λ p k. refl; page_of = λ m. refl; place = λ p. refl; touched = λ p. refl; files = λ f. refl })
 
 pub set-requires-clause-root : goal.set-requires-clause-root
 set-requires-clause-root g c =
@@ -79,7 +83,7 @@ set-requires-clause-root g c =
     let source : entry linked c.args.parent c.args.page ≡ e = c.link_tables.ensures.entries c.args.parent c.args.page ∙ withdrawn.here in
     let role = own_role linked c.args.parent c.args.page e ready.steady small source withdrawn.private in
     let S : ℕ → Type 0 = λ x. Shares linked.frames c.share.new.self x in
-    root_shared linked mid (frame_of e) ready.steady role (subst S c.frame_of.ensures c.share.ensures) (record { root = λ p. refl; at = λ p k. refl; page_of = λ m. refl; place = λ p. refl; touched = λ p. refl; files = λ f. refl }) c.root_of-root-2.result.0
+    root_shared linked mid (frame_of e) ready.steady role (subst S c.frame_of.ensures c.share.ensures.change) (record { root = λ p. refl; at = λ p k. refl; page_of = λ m. refl; place = λ p. refl; touched = λ p. refl; files = λ f. refl }) c.root_of-root-2.result.0
     (ready.steady.rooted.roots c.args.child c.root_of-root-2.result.0 c.root_of-root-2.ensures)
 
 pub set-requires-clause-whole : goal.set-requires-clause-whole
@@ -93,7 +97,7 @@ set-requires-clause-whole g c =
     let source : entry linked c.args.parent c.args.page ≡ e = c.link_tables.ensures.entries c.args.parent c.args.page ∙ withdrawn.here in
     let role = own_role linked c.args.parent c.args.page e ready.steady small source withdrawn.private in
     let S : ℕ → Type 0 = λ x. Shares linked.frames c.share.new.self x in
-    whole_shared linked mid (frame_of e) ready.steady role (subst S c.frame_of.ensures c.share.ensures) (record { root = λ p. refl; at = λ p k. refl; page_of = λ m. refl; place = λ p. refl; touched = λ p. refl; files = λ f. refl }) c.root_of-root-2.result.0 c.args.page
+    whole_shared linked mid (frame_of e) ready.steady role (subst S c.frame_of.ensures c.share.ensures.change) (record { root = λ p. refl; at = λ p k. refl; page_of = λ m. refl; place = λ p. refl; touched = λ p. refl; files = λ f. refl }) c.root_of-root-2.result.0 c.args.page
     (ready.steady.rooted.roots c.args.child c.root_of-root-2.result.0 c.root_of-root-2.ensures)
     (ready.whole c.root_of-root-2.result.0 c.root_of-root-2.ensures)
 
@@ -105,8 +109,8 @@ returns-clause-fit g c =
     (page_given (picture_of c.args.core.now) (picture_of c.withdraw_write-entry.new.core) (picture_of c.link_tables.new.core) c.share.new.self c.set.new.frames
     c.args.parent c.args.child c.root_of-root-2.result.0 c.args.page e c.frame_of.result.0
     c.withdraw_write-entry.ensures.withdrawn c.withdraw_write-entry.ensures.spaces c.withdraw_write-entry.ensures.files
-    ready linked.entries linked.views linked.spaces linked.files (omega (arith, c.get.ensures)) c.requires.apart c.requires.same c.requires.bare
-    c.root_of-root-2.ensures c.frame_of.ensures c.share.ensures c.set.ensures).fit
+    ready linked.entries linked.views linked.spaces linked.files (omega (arith, c.get.ensures)) c.requires.apart (ap is_private (entry-of (picture_of c.args.core.now) c.args.parent c.root_of-root.result.0 c.args.page c.root_of-root.ensures ∙ sym c.entry-before.ensures.entry) ∙ sym c.if-not-is_own.ensures) c.requires.same c.requires.bare
+    c.root_of-root-2.ensures c.frame_of.ensures c.share.ensures.change c.set.ensures.sets).fit
 
 pub returns-clause-given : goal.returns-clause-given
 returns-clause-given g c =
@@ -116,8 +120,8 @@ returns-clause-given g c =
     (page_given (picture_of c.args.core.now) (picture_of c.withdraw_write-entry.new.core) (picture_of c.link_tables.new.core) c.share.new.self c.set.new.frames
     c.args.parent c.args.child c.root_of-root-2.result.0 c.args.page e c.frame_of.result.0
     c.withdraw_write-entry.ensures.withdrawn c.withdraw_write-entry.ensures.spaces c.withdraw_write-entry.ensures.files
-    ready linked.entries linked.views linked.spaces linked.files (omega (arith, c.get.ensures)) c.requires.apart c.requires.same c.requires.bare
-    c.root_of-root-2.ensures c.frame_of.ensures c.share.ensures c.set.ensures).gives
+    ready linked.entries linked.views linked.spaces linked.files (omega (arith, c.get.ensures)) c.requires.apart (ap is_private (entry-of (picture_of c.args.core.now) c.args.parent c.root_of-root.result.0 c.args.page c.root_of-root.ensures ∙ sym c.entry-before.ensures.entry) ∙ sym c.if-not-is_own.ensures) c.requires.same c.requires.bare
+    c.root_of-root-2.ensures c.frame_of.ensures c.share.ensures.change c.set.ensures.sets).gives
 
 pub returns-clause-files : goal.returns-clause-files
 returns-clause-files g c =
@@ -127,5 +131,62 @@ returns-clause-files g c =
     (page_given (picture_of c.args.core.now) (picture_of c.withdraw_write-entry.new.core) (picture_of c.link_tables.new.core) c.share.new.self c.set.new.frames
     c.args.parent c.args.child c.root_of-root-2.result.0 c.args.page e c.frame_of.result.0
     c.withdraw_write-entry.ensures.withdrawn c.withdraw_write-entry.ensures.spaces c.withdraw_write-entry.ensures.files
-    ready linked.entries linked.views linked.spaces linked.files (omega (arith, c.get.ensures)) c.requires.apart c.requires.same c.requires.bare
-    c.root_of-root-2.ensures c.frame_of.ensures c.share.ensures c.set.ensures).files
+    ready linked.entries linked.views linked.spaces linked.files (omega (arith, c.get.ensures)) c.requires.apart (ap is_private (entry-of (picture_of c.args.core.now) c.args.parent c.root_of-root.result.0 c.args.page c.root_of-root.ensures ∙ sym c.entry-before.ensures.entry) ∙ sym c.if-not-is_own.ensures) c.requires.same c.requires.bare
+    c.root_of-root-2.ensures c.frame_of.ensures c.share.ensures.change c.set.ensures.sets).files
+
+pub returns-in_err-link_tables-clause-files : goal.returns-in_err-link_tables-clause-files
+returns-in_err-link_tables-clause-files g c =
+    files_then (picture_of c.args.core.now) (picture_of c.withdraw_write-entry.new.core) (picture_of c.link_tables.new.core)
+    c.withdraw_write-entry.ensures.files c.link_tables.ensures.files
+
+pub returns-clause-lowered : goal.returns-clause-lowered
+returns-clause-lowered g c =
+    let e = number_of c.withdraw_write-entry.result in
+    let ready = c.in_ok-link_tables.ensures.ready in
+    let linked = c.link_tables.ensures in
+    (page_given (picture_of c.args.core.now) (picture_of c.withdraw_write-entry.new.core) (picture_of c.link_tables.new.core) c.share.new.self c.set.new.frames
+    c.args.parent c.args.child c.root_of-root-2.result.0 c.args.page e c.frame_of.result.0
+    c.withdraw_write-entry.ensures.withdrawn c.withdraw_write-entry.ensures.spaces c.withdraw_write-entry.ensures.files
+    ready linked.entries linked.views linked.spaces linked.files (omega (arith, c.get.ensures)) c.requires.apart (ap is_private (entry-of (picture_of c.args.core.now) c.args.parent c.root_of-root.result.0 c.args.page c.root_of-root.ensures ∙ sym c.entry-before.ensures.entry) ∙ sym c.if-not-is_own.ensures) c.requires.same c.requires.bare
+    c.root_of-root-2.ensures c.frame_of.ensures c.share.ensures.change c.set.ensures.sets).lowers
+
+pub returns-in_err-link_tables-clause-lowered : goal.returns-in_err-link_tables-clause-lowered
+returns-in_err-link_tables-clause-lowered g c =
+    let old : Picture = picture_of c.args.core.now in
+    let mid : Picture = picture_of c.withdraw_write-entry.new.core in
+    let own : is_private (entry old c.args.parent c.args.page) ≡ true =
+    ap is_private (entry-of old c.args.parent c.root_of-root.result.0 c.args.page c.root_of-root.ensures ∙ sym c.entry-before.ensures.entry) ∙ sym c.if-not-is_own.ensures in
+    let first = page_lowered old mid c.args.parent c.args.child c.args.page (number_of c.withdraw_write-entry.result) c.withdraw_write-entry.ensures.withdrawn own in
+    record {
+      here = c.link_tables.ensures.entries c.args.parent c.args.page ∙ first.here;
+      others = λ q p h ne other. c.link_tables.ensures.entries q p ∙ first.others q p h ne other;
+    }
+
+pub returns-then-not-is_own-clause-lowered : goal.returns-then-not-is_own-clause-lowered
+returns-then-not-is_own-clause-lowered g c =
+    let old : Picture = picture_of c.args.core.now in
+    let number : entry old c.args.parent c.args.page ≡ number_of c.entry-before.result =
+    entry-of old c.args.parent c.root_of-root.result.0 c.args.page c.root_of-root.ensures ∙ sym c.entry-before.ensures.entry in
+    record {
+      here = lowered_common (entry old c.args.parent c.args.page) (ap is_private number ∙ sym c.if-not-is_own.ensures);
+      others = λ q p h ne other. refl;
+    }
+
+pub returns-in_err-link_tables-clause-wanted : goal.returns-in_err-link_tables-clause-wanted
+returns-in_err-link_tables-clause-wanted g c =
+    let own : is_private (entry (picture_of c.args.core.now) c.args.parent c.args.page) ≡ true =
+    ap is_private (entry-of (picture_of c.args.core.now) c.args.parent c.root_of-root.result.0 c.args.page c.root_of-root.ensures ∙ sym c.entry-before.ensures.entry)
+    ∙ sym c.if-not-is_own.ensures in
+    on_err c.from_residual.result (is_private (entry (picture_of c.args.core.now) c.args.parent c.args.page) ≡ true) own
+
+pub returns-clause-spaces : goal.returns-clause-spaces
+returns-clause-spaces g c = record {
+  root = λ pid. c.link_tables.ensures.spaces.root pid ∙ c.withdraw_write-entry.ensures.spaces.root pid;
+  at = λ pid page. c.link_tables.ensures.spaces.at pid page ∙ c.withdraw_write-entry.ensures.spaces.at pid page;
+}
+
+pub returns-clause-copies : goal.returns-clause-copies
+returns-clause-copies g c = λ n own.
+    let roles : c.set.new.frames.roles ≡ c.link_tables.new.core.frames.roles = c.set.ensures.sets.kept.roles ∙ c.share.ensures.change.roles_kept in
+    c.withdraw_write-entry.ensures.copies n
+    (c.link_tables.ensures.kept.shares.was_private n (subst (λ (xs : List Role). slice_index_or xs n Roles.Free ≡ Roles.Private) roles own))

@@ -1,15 +1,16 @@
 use Rattle.std.proofs.Common.{◌≡◌, ◌-◌, ◌^◌}
 use Rattle.residency.specs.Picture.{picture_of}
-use Rattle.residency.specs.Parts.{IsSized, IsFit}
+use Rattle.residency.specs.Parts.{IsFit}
 use Rattle.residency.specs.Calls.{KeepsRest}
 use Rattle.processes.specs.Changes.{TakesNoCopy}
-use Rattle.forks.specs.Steps.{GivesBelow}
+use Rattle.forks.specs.Steps.{GivesBelow, CopiesBelow}
 use Rattle.forks.proofs.giving.share_pages.Given as goal
 
 abbrev pub invariant-loop-page : goal.invariant-loop-page
 invariant-loop-page g l =
-    IsSized l.core × IsFit (picture_of l.core) × GivesBelow (picture_of l.fn.core) (picture_of l.core) l.parent l.child l.number
+    IsFit (picture_of l.core) × GivesBelow (picture_of l.fn.core) (picture_of l.core) l.parent l.child l.number
     × KeepsRest l.fn.core l.core × TakesNoCopy l.fn.core.frames l.core.frames × (l.core.refused.number ≡ l.fn.core.refused.number)
+    × CopiesBelow (picture_of l.fn.core) (picture_of l.core) l.parent l.child l.number
 
 abbrev pub decreases-loop-page : goal.decreases-loop-page
 decreases-loop-page g l = 2 ^ 26 - l.number

@@ -30,7 +30,7 @@ returns-clause-fit g c =
     let small : IsPage 2 c.args.page = omega (arith, c.get.ensures) in
     let W : ℕ → Type 0 = λ x. Weakens x e in
     fit_lowered old new c.args.pid c.args.root.0 c.args.page e c.requires.fit c.requires.root small c.requires.own
-    (subst W c.requires.before c.without_write-after.ensures.weaker) c.set.ensures beside
+    (subst W c.requires.before c.without_write-after.ensures.weaker) c.set.ensures.sets beside
 
 pub returns-clause-withdrawn : goal.returns-clause-withdrawn
 returns-clause-withdrawn g c =
@@ -48,4 +48,4 @@ returns-clause-withdrawn g c =
     let small : IsPage 2 c.args.page = omega (arith, c.get.ensures) in
     let W : ℕ → Type 0 = λ x. Weakens x e in
     withdraws old new c.args.pid c.args.root.0 c.args.page e c.requires.fit c.requires.root small c.requires.own
-    (subst W c.requires.before c.without_write-after.ensures.weaker) c.set.ensures beside
+    (subst W c.requires.before c.without_write-after.ensures.weaker) c.set.ensures.sets beside

@@ -35,8 +35,8 @@ returns-clause-built g c =
     let beside : SameBeside first mid = record { root = λ p. refl; at = λ p k. refl; page_of = λ n. refl; place = λ p. refl; touched = λ p. refl; files = λ f. refl } in
     let beside' : SameBeside mid new = record { root = λ p. refl; at = λ p k. refl; page_of = λ n. refl; place = λ p. refl; touched = λ p. refl; files = λ f. refl } in
     builds_then old first new c.args.root.0 c.args.page used
-    (builds_linked first mid new c.args.root.0 c.args.page c.in-Ok.table.0 used.under_way.lives.0 used.under_way used.under_way.lives.1 c.len.ensures.sound.zero_role
-    c.in-Ok.ensures.taken beside c.link_table.ensures beside')
+    (builds_linked first mid new c.args.root.0 c.args.page c.in-Ok.table.0 used.under_way.lives.0 used.under_way used.under_way.lives.1 c.obtain.new.core.sound.zero_role
+    c.in-Ok.ensures.taken beside c.link_table.ensures.links beside')
 
 pub returns-clause-lowered : goal.returns-clause-lowered
 returns-clause-lowered g c =
@@ -46,5 +46,5 @@ returns-clause-lowered g c =
     let used = builds_used old first c.obtain.ensures.used way.steady c.args.root.0 c.args.page way.lives.0 way.lives.1 way.tight in
     let was = way.steady.rooted.roots way.lives.0 c.args.root.0 way.lives.1 in
     let between = used.under_way.steady.rooted.roots used.under_way.lives.0 c.args.root.0 used.under_way.lives.1 in
-    c.link_table.ensures.lowered ∙ c.in-Ok.ensures.taken.missing c.args.root.0 c.args.page between
+    c.link_table.ensures.links.lowered ∙ c.in-Ok.ensures.taken.missing c.args.root.0 c.args.page between
     ∙ missing_used old first c.obtain.ensures.used way.steady c.args.root.0 c.args.page was

@@ -5,9 +5,10 @@ use Rattle.residency.proofs.Used.{fit_steady}
 use Rattle.page_entries.proofs.Building.{fit_under_way, built_ready, fit_pruned, entries_pruned, data_pruned, data_then, beside_then, views_kept, spaces_kept, files_kept}
 use Rattle.page_entries.proofs.linking.link_tables.Goals as goal
 
-pub link_missing-requires-clause-under_way : goal.link_missing-requires-clause-under_way
-link_missing-requires-clause-under_way g c =
-    fit_under_way (picture_of c.args.core.now) c.root_of-root.result.0 c.args.page c.args.pid c.root_of-root.ensures c.requires.fit
+pub link_missing-requires : goal.link_missing-requires
+link_missing-requires g c = record {
+  under_way = fit_under_way (picture_of c.args.core.now) c.root_of-root.result.0 c.args.page c.args.pid c.root_of-root.ensures c.requires.fit;
+}
 
 pub prune-requires-clause-root : goal.prune-requires-clause-root
 prune-requires-clause-root g c =
@@ -40,7 +41,7 @@ returns-in-Err-clause-entries g c =
     let built = c.in-Err.ensures.built in
     let way = built.under_way in
     λ pid page.
-    entries_pruned mid new c.root_of-root.result.0 c.args.page way.lives.0 c.len.ensures.sound way way.lives.1 c.prune.ensures.prunes beside pid page
+    entries_pruned mid new c.root_of-root.result.0 c.args.page way.lives.0 c.link_missing.new.core.sound way way.lives.1 c.prune.ensures.prunes beside pid page
     ∙ built.entries pid page
 
 pub returns-in-Err-clause-kept : goal.returns-in-Err-clause-kept
@@ -51,7 +52,7 @@ returns-in-Err-clause-kept g c =
     let built = c.in-Err.ensures.built in
     let way = built.under_way in
     data_then c.args.core.now.frames mid.frames new.frames built.kept
-    (data_pruned mid new c.root_of-root.result.0 c.args.page way.lives.0 c.len.ensures.sound way way.lives.1 c.prune.ensures.prunes beside)
+    (data_pruned mid new c.root_of-root.result.0 c.args.page way.lives.0 c.link_missing.new.core.sound way way.lives.1 c.prune.ensures.prunes beside)
 
 pub returns-in-Err-clause-fit : goal.returns-in-Err-clause-fit
 returns-in-Err-clause-fit g c =
@@ -59,7 +60,7 @@ returns-in-Err-clause-fit g c =
     let new : Picture = record mid { frames = c.prune.new.frames } in
     let beside : SameBeside mid new = record { root = λ p. refl; at = λ p k. refl; page_of = λ n. refl; place = λ p. refl; touched = λ p. refl; files = λ f. refl } in
     let way = c.in-Err.ensures.built.under_way in
-    fit_pruned mid new c.root_of-root.result.0 c.args.page way.lives.0 c.len.ensures.sound way way.lives.1 c.prune.ensures.prunes beside c.prune.ensures.pruned
+    fit_pruned mid new c.root_of-root.result.0 c.args.page way.lives.0 c.link_missing.new.core.sound way way.lives.1 c.prune.ensures.prunes beside c.prune.ensures.pruned
 
 pub returns-in-Err-clause-views : goal.returns-in-Err-clause-views
 returns-in-Err-clause-views g c =
@@ -81,3 +82,9 @@ returns-in-Err-clause-files g c =
     let new : Picture = record mid { frames = c.prune.new.frames } in
     let beside : SameBeside mid new = record { root = λ p. refl; at = λ p k. refl; page_of = λ n. refl; place = λ p. refl; touched = λ p. refl; files = λ f. refl } in
     files_kept old new (fit_steady old c.requires.fit) (beside_then old mid new c.in-Err.ensures.built.beside beside) (returns-in-Err-clause-kept g c)
+
+pub returns-in-Ok-clause-idle : goal.returns-in-Ok-clause-idle
+returns-in-Ok-clause-idle g c whole = c.in-Ok.ensures.idle (whole c.root_of-root.result.0 c.root_of-root.ensures)
+
+pub returns-in-Err-clause-idle : goal.returns-in-Err-clause-idle
+returns-in-Err-clause-idle g c whole = absurd (c.in-Err.ensures.wanted (whole c.root_of-root.result.0 c.root_of-root.ensures))

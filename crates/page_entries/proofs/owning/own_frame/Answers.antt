@@ -11,7 +11,8 @@ use Rattle.residency.proofs.Entries.{entry-of}
 use Rattle.residency.proofs.TableSteps.{shares_kept}
 use Rattle.residency.proofs.Views.{view-own}
 use Rattle.page_entries.specs.Leaves.{IsEntryOver, IsFullEntry}
-use Rattle.page_entries.specs.Changes.{IsUnderWay, is_sole, shown_frame}
+use Rattle.page_entries.specs.Changes.{IsUnderWay, shown_frame}
+use Rattle.page_entries.specs.Wants.{is_sole}
 use Rattle.page_entries.proofs.Building.{beside_rest, beside_then, beside_used, entries_used, data_used, data_then, tight_but_used, fit_pruned, entries_pruned, data_pruned, views_kept, files_kept}
 use Rattle.page_entries.proofs.Forms.{mapped_page, used_inside, common_none}
 use Rattle.page_entries.proofs.OwnSteps.{settles_first, settles_released, full_own, settled_others, settled_views, settled_bytes, settled_own, settled_files, shown_private, shown_used, sole_when, several_when, common_when}
@@ -28,9 +29,9 @@ shown_frame-shown-requires-clause-number g c =
     let e = c.entry_number-entry.ensures ∙ sym (entry-of old c.args.pid c.root_of-root.result.0 c.args.page c.root_of-root.ensures) in
     let h = mapped_page old c.args.pid c.args.page c.args.attr c.requires.ready.steady.granting c.requires.attr in
     λ private.
-    let low = used_inside old.frames (frame_of (entry old c.args.pid c.args.page)) c.len.ensures.sound
+    let low = used_inside old.frames (frame_of (entry old c.args.pid c.args.page)) c.args.core.now.sound
     (λ free. let bad : Role.Private ≡ Role.Free = sym (c.requires.ready.steady.counted.private c.args.pid c.args.page h (sym (ap is_private e) ∙ private)) ∙ free in (cc)) in
-    let most = c.len.ensures.sound.most in
+    let most = c.args.core.now.sound.most in
     let is = ap frame_of e in
     omega (arith, low, most, is)
 
@@ -46,9 +47,9 @@ count-requires g c =
     let e = c.entry_number-entry.ensures ∙ sym (entry-of old c.args.pid c.root_of-root.result.0 c.args.page c.root_of-root.ensures) in
     let h = mapped_page old c.args.pid c.args.page c.args.attr c.requires.ready.steady.granting c.requires.attr in
     let shown = c.shown_frame-shown.ensures ∙ ap (λ x. shown_frame old x c.args.attr.backing) e in
-    let used = shown_used old c.args.pid c.args.page c.args.attr.backing c.len.ensures.sound c.requires.ready.steady h c.requires.in_memory in
+    let used = shown_used old c.args.pid c.args.page c.args.attr.backing c.args.core.now.sound c.requires.ready.steady h c.requires.in_memory in
     let P : ℕ → Type 0 = λ x. IsFrame old.frames x in
-    subst P (sym shown) (used_inside old.frames (shown_frame old (entry old c.args.pid c.args.page) c.args.attr.backing) c.len.ensures.sound used)
+    subst P (sym shown) (used_inside old.frames (shown_frame old (entry old c.args.pid c.args.page) c.args.attr.backing) c.args.core.now.sound used)
 
 pub regrant-requires-clause-resident : goal.regrant-requires-clause-resident
 regrant-requires-clause-resident g c =
@@ -83,10 +84,10 @@ returns-then-count-eq1-clause-inside g c =
     let e = c.entry_number-entry.ensures ∙ sym (entry-of old c.args.pid c.root_of-root.result.0 c.args.page c.root_of-root.ensures) in
     let h = mapped_page old c.args.pid c.args.page c.args.attr c.requires.ready.steady.granting c.requires.attr in
     let shown = c.shown_frame-shown.ensures ∙ ap (λ x. shown_frame old x c.args.attr.backing) e in
-    let used = shown_used old c.args.pid c.args.page c.args.attr.backing c.len.ensures.sound c.requires.ready.steady h c.requires.in_memory in
-    let same = sym c.regrant.ensures.sized.nodes ∙ ap CacheTable.frame_count c.regrant.ensures.rest.cache ∙ c.requires.sized.nodes in
+    let used = shown_used old c.args.pid c.args.page c.args.attr.backing c.args.core.now.sound c.requires.ready.steady h c.requires.in_memory in
+    let same = sym c.regrant.new.core.node_count ∙ ap CacheTable.frame_count c.regrant.ensures.rest.cache ∙ c.args.core.now.node_count in
     let low : c.shown_frame-shown.result.0 < frame_count old.frames = (let P : ℕ → Type 0 = λ x. IsFrame old.frames x in
-    subst P (sym shown) (used_inside old.frames (shown_frame old (entry old c.args.pid c.args.page) c.args.attr.backing) c.len.ensures.sound used)) in
+    subst P (sym shown) (used_inside old.frames (shown_frame old (entry old c.args.pid c.args.page) c.args.attr.backing) c.args.core.now.sound used)) in
     omega (arith, same, low)
 
 pub returns-then-count-eq1-clause-entry : goal.returns-then-count-eq1-clause-entry
@@ -109,9 +110,9 @@ take_copy-requires-clause-source g c =
     let e = c.entry_number-entry.ensures ∙ sym (entry-of old c.args.pid c.root_of-root.result.0 c.args.page c.root_of-root.ensures) in
     let h = mapped_page old c.args.pid c.args.page c.args.attr c.requires.ready.steady.granting c.requires.attr in
     let shown = c.shown_frame-shown.ensures ∙ ap (λ x. shown_frame old x c.args.attr.backing) e in
-    let used = shown_used old c.args.pid c.args.page c.args.attr.backing c.len.ensures.sound c.requires.ready.steady h c.requires.in_memory in
+    let used = shown_used old c.args.pid c.args.page c.args.attr.backing c.args.core.now.sound c.requires.ready.steady h c.requires.in_memory in
     let P : ℕ → Type 0 = λ x. IsFrame old.frames x in
-    subst P (sym shown) (used_inside old.frames (shown_frame old (entry old c.args.pid c.args.page) c.args.attr.backing) c.len.ensures.sound used)
+    subst P (sym shown) (used_inside old.frames (shown_frame old (entry old c.args.pid c.args.page) c.args.attr.backing) c.args.core.now.sound used)
 
 pub take_copy-requires-clause-in_use : goal.take_copy-requires-clause-in_use
 take_copy-requires-clause-in_use g c =
@@ -119,7 +120,7 @@ take_copy-requires-clause-in_use g c =
     let e = c.entry_number-entry.ensures ∙ sym (entry-of old c.args.pid c.root_of-root.result.0 c.args.page c.root_of-root.ensures) in
     let h = mapped_page old c.args.pid c.args.page c.args.attr c.requires.ready.steady.granting c.requires.attr in
     let shown = c.shown_frame-shown.ensures ∙ ap (λ x. shown_frame old x c.args.attr.backing) e in
-    let used = shown_used old c.args.pid c.args.page c.args.attr.backing c.len.ensures.sound c.requires.ready.steady h c.requires.in_memory in
+    let used = shown_used old c.args.pid c.args.page c.args.attr.backing c.args.core.now.sound c.requires.ready.steady h c.requires.in_memory in
     λ free. used (ap (role_of old.frames) (sym shown) ∙ free)
 
 pub set_full-requires-clause-root : goal.set_full-requires-clause-root
@@ -434,7 +435,7 @@ returns-in-Err-clause-fit g c =
       lives = (c.args.pid, lives);
       tight = tight_but_used old mid used c.requires.ready.steady r c.args.page (c.requires.ready.tight r c.root_of-root.ensures);
     } in
-    fit_pruned mid new r c.args.page c.args.pid c.len-in-Err.ensures.sound way lives c.prune.ensures.prunes beside c.prune.ensures.pruned
+    fit_pruned mid new r c.args.page c.args.pid c.take_copy.new.core.sound way lives c.prune.ensures.prunes beside c.prune.ensures.pruned
 
 pub returns-in-Err-clause-others : goal.returns-in-Err-clause-others
 returns-in-Err-clause-others g c =
@@ -450,7 +451,7 @@ returns-in-Err-clause-others g c =
       lives = (c.args.pid, lives);
       tight = tight_but_used old mid used c.requires.ready.steady r c.args.page (c.requires.ready.tight r c.root_of-root.ensures);
     } in
-    λ q p h other. entries_pruned mid new r c.args.page c.args.pid c.len-in-Err.ensures.sound way lives c.prune.ensures.prunes beside q p ∙ entries_used old mid used c.requires.ready.steady q p
+    λ q p h other. entries_pruned mid new r c.args.page c.args.pid c.take_copy.new.core.sound way lives c.prune.ensures.prunes beside q p ∙ entries_used old mid used c.requires.ready.steady q p
 
 pub returns-in-Err-clause-views : goal.returns-in-Err-clause-views
 returns-in-Err-clause-views g c =
@@ -466,9 +467,9 @@ returns-in-Err-clause-views g c =
       lives = (c.args.pid, lives);
       tight = tight_but_used old mid used c.requires.ready.steady r c.args.page (c.requires.ready.tight r c.root_of-root.ensures);
     } in
-    let kept = data_then old.frames mid.frames new.frames (data_used old mid used c.requires.ready.steady) (data_pruned mid new r c.args.page c.args.pid c.len-in-Err.ensures.sound way lives c.prune.ensures.prunes beside) in
+    let kept = data_then old.frames mid.frames new.frames (data_used old mid used c.requires.ready.steady) (data_pruned mid new r c.args.page c.args.pid c.take_copy.new.core.sound way lives c.prune.ensures.prunes beside) in
     let seen = views_kept old new c.requires.ready.steady (beside_then old mid new (beside_used old mid used c.requires.ready.steady) beside)
-    (λ q p. entries_pruned mid new r c.args.page c.args.pid c.len-in-Err.ensures.sound way lives c.prune.ensures.prunes beside q p ∙ entries_used old mid used c.requires.ready.steady q p) kept in
+    (λ q p. entries_pruned mid new r c.args.page c.args.pid c.take_copy.new.core.sound way lives c.prune.ensures.prunes beside q p ∙ entries_used old mid used c.requires.ready.steady q p) kept in
     λ q p other. seen q p
 
 pub returns-in-Err-clause-same : goal.returns-in-Err-clause-same
@@ -485,9 +486,9 @@ returns-in-Err-clause-same g c =
       lives = (c.args.pid, lives);
       tight = tight_but_used old mid used c.requires.ready.steady r c.args.page (c.requires.ready.tight r c.root_of-root.ensures);
     } in
-    let kept = data_then old.frames mid.frames new.frames (data_used old mid used c.requires.ready.steady) (data_pruned mid new r c.args.page c.args.pid c.len-in-Err.ensures.sound way lives c.prune.ensures.prunes beside) in
+    let kept = data_then old.frames mid.frames new.frames (data_used old mid used c.requires.ready.steady) (data_pruned mid new r c.args.page c.args.pid c.take_copy.new.core.sound way lives c.prune.ensures.prunes beside) in
     let seen = views_kept old new c.requires.ready.steady (beside_then old mid new (beside_used old mid used c.requires.ready.steady) beside)
-    (λ q p. entries_pruned mid new r c.args.page c.args.pid c.len-in-Err.ensures.sound way lives c.prune.ensures.prunes beside q p ∙ entries_used old mid used c.requires.ready.steady q p) kept in
+    (λ q p. entries_pruned mid new r c.args.page c.args.pid c.take_copy.new.core.sound way lives c.prune.ensures.prunes beside q p ∙ entries_used old mid used c.requires.ready.steady q p) kept in
     seen c.args.pid c.args.page
 
 pub returns-in-Err-clause-files : goal.returns-in-Err-clause-files
@@ -504,7 +505,7 @@ returns-in-Err-clause-files g c =
       lives = (c.args.pid, lives);
       tight = tight_but_used old mid used c.requires.ready.steady r c.args.page (c.requires.ready.tight r c.root_of-root.ensures);
     } in
-    let kept = data_then old.frames mid.frames new.frames (data_used old mid used c.requires.ready.steady) (data_pruned mid new r c.args.page c.args.pid c.len-in-Err.ensures.sound way lives c.prune.ensures.prunes beside) in
+    let kept = data_then old.frames mid.frames new.frames (data_used old mid used c.requires.ready.steady) (data_pruned mid new r c.args.page c.args.pid c.take_copy.new.core.sound way lives c.prune.ensures.prunes beside) in
     files_kept old new c.requires.ready.steady (beside_then old mid new (beside_used old mid used c.requires.ready.steady) beside) kept
 
 pub release-requires : goal.release-requires
@@ -515,7 +516,7 @@ release-requires g c =
     let shown = c.shown_frame-shown.ensures ∙ ap (λ x. shown_frame old x c.args.attr.backing) e in
     let own = sym (ap is_private e) ∙ sym c.is_private-in-Ok.ensures ∙ c.if-is_private-2.true in
     let frame = shown ∙ shown_private old (entry old c.args.pid c.args.page) c.args.attr.backing own in
-    let used = shown_used old c.args.pid c.args.page c.args.attr.backing c.len.ensures.sound c.requires.ready.steady h c.requires.in_memory in
+    let used = shown_used old c.args.pid c.args.page c.args.attr.backing c.args.core.now.sound c.requires.ready.steady h c.requires.in_memory in
     let mid : Picture = picture_of c.take_copy.new.core in
     let new : Picture = picture_of c.set_full.new.core in
     let beside = beside_rest c.take_copy.new.core c.set_full.new.core c.set_full.ensures.rest in
@@ -525,7 +526,7 @@ release-requires g c =
     let was = ap (role_of old.frames) frame ∙ c.requires.ready.steady.counted.private c.args.pid c.args.page h own in
     let role = (shares_kept mid.frames new.frames c.set_full.ensures.sets.2.kept).private m (copy.private m was) in
     let low : m < frame_count old.frames = (let P : ℕ → Type 0 = λ x. IsFrame old.frames x in
-    subst P (sym shown) (used_inside old.frames (shown_frame old (entry old c.args.pid c.args.page) c.args.attr.backing) c.len.ensures.sound used)) in
+    subst P (sym shown) (used_inside old.frames (shown_frame old (entry old c.args.pid c.args.page) c.args.attr.backing) c.args.core.now.sound used)) in
     let first = copy.frames in
     let second = c.set_full.ensures.sets.2.kept.frames in
     record {
@@ -601,3 +602,45 @@ returns-in-Err-clause-wanted g c =
       | else-is_private-via-else-is_private w ↦ common_when old (entry old c.args.pid c.args.page) (sym (ap is_private e) ∙ sym c.is_private.ensures ∙ w.if-is_private.false)
     ] in
     several
+
+pub returns-then-is_private-2-clause-calm : goal.returns-then-is_private-2-clause-calm
+returns-then-is_private-2-clause-calm g c =
+    let old : Picture = picture_of c.args.core.now in
+    let e = c.entry_number-entry.ensures ∙ sym (entry-of old c.args.pid c.root_of-root.result.0 c.args.page c.root_of-root.ensures) in
+    let shown = c.shown_frame-shown.ensures ∙ ap (λ x. shown_frame old x c.args.attr.backing) e in
+    let several : is_sole old (entry old c.args.pid c.args.page) ≡ false = elim c.else-is_private.branch [
+      | else-is_private-via-then-is_private+else-count-eq1 w ↦ (
+          let own = sym (ap is_private e) ∙ sym c.is_private.ensures ∙ w.if-is_private.true in
+          several_when old (entry old c.args.pid c.args.page) (λ one. w.if-count-eq1.false (w.count.ensures ∙ ap (count_of old.frames)
+          (shown ∙ shown_private old (entry old c.args.pid c.args.page) c.args.attr.backing own) ∙ one)))
+      | else-is_private-via-else-is_private w ↦ common_when old (entry old c.args.pid c.args.page) (sym (ap is_private e) ∙ sym c.is_private.ensures ∙ w.if-is_private.false)
+    ] in
+    λ sole. absurd (false≢true (sym several ∙ sole))
+
+pub returns-else-is_private-2-clause-calm : goal.returns-else-is_private-2-clause-calm
+returns-else-is_private-2-clause-calm g c =
+    let old : Picture = picture_of c.args.core.now in
+    let e = c.entry_number-entry.ensures ∙ sym (entry-of old c.args.pid c.root_of-root.result.0 c.args.page c.root_of-root.ensures) in
+    let shown = c.shown_frame-shown.ensures ∙ ap (λ x. shown_frame old x c.args.attr.backing) e in
+    let several : is_sole old (entry old c.args.pid c.args.page) ≡ false = elim c.else-is_private.branch [
+      | else-is_private-via-then-is_private+else-count-eq1 w ↦ (
+          let own = sym (ap is_private e) ∙ sym c.is_private.ensures ∙ w.if-is_private.true in
+          several_when old (entry old c.args.pid c.args.page) (λ one. w.if-count-eq1.false (w.count.ensures ∙ ap (count_of old.frames)
+          (shown ∙ shown_private old (entry old c.args.pid c.args.page) c.args.attr.backing own) ∙ one)))
+      | else-is_private-via-else-is_private w ↦ common_when old (entry old c.args.pid c.args.page) (sym (ap is_private e) ∙ sym c.is_private.ensures ∙ w.if-is_private.false)
+    ] in
+    λ sole. absurd (false≢true (sym several ∙ sole))
+
+pub returns-in-Err-clause-calm : goal.returns-in-Err-clause-calm
+returns-in-Err-clause-calm g c =
+    let old : Picture = picture_of c.args.core.now in
+    let e = c.entry_number-entry.ensures ∙ sym (entry-of old c.args.pid c.root_of-root.result.0 c.args.page c.root_of-root.ensures) in
+    let shown = c.shown_frame-shown.ensures ∙ ap (λ x. shown_frame old x c.args.attr.backing) e in
+    let several : is_sole old (entry old c.args.pid c.args.page) ≡ false = elim c.else-is_private.branch [
+      | else-is_private-via-then-is_private+else-count-eq1 w ↦ (
+          let own = sym (ap is_private e) ∙ sym c.is_private.ensures ∙ w.if-is_private.true in
+          several_when old (entry old c.args.pid c.args.page) (λ one. w.if-count-eq1.false (w.count.ensures ∙ ap (count_of old.frames)
+          (shown ∙ shown_private old (entry old c.args.pid c.args.page) c.args.attr.backing own) ∙ one)))
+      | else-is_private-via-else-is_private w ↦ common_when old (entry old c.args.pid c.args.page) (sym (ap is_private e) ∙ sym c.is_private.ensures ∙ w.if-is_private.false)
+    ] in
+    λ sole. absurd (false≢true (sym several ∙ sole))

@@ -7,7 +7,7 @@ use Rattle.residency.proofs.Entries.{entry-of}
 use Rattle.page_entries.specs.Leaves.{IsFullEntry}
 use Rattle.page_entries.proofs.Building.{beside_rest}
 use Rattle.page_entries.proofs.Forms.{mapped_page, used_inside, resident_used, resident_page}
-use Rattle.page_entries.proofs.EntrySteps.{full_entry_now, full_others, full_kept, full_files, full_views, full_fit}
+use Rattle.page_entries.proofs.EntrySteps.{full_entry_now, full_others, full_kept, full_files, full_views, full_fit, calm_set}
 use Rattle.page_entries.proofs.showing.regrant.Goals as goal
 
 pub entry_number-entry-requires-clause-root : goal.entry_number-entry-requires-clause-root
@@ -21,18 +21,18 @@ set_full-requires-clause-inside g c =
     let old : Picture = picture_of c.args.core.now in
     let is = c.frame.ensures.frame ∙ ap frame_of (c.entry_number-entry.ensures ∙ sym (entry-of old c.args.pid c.root_of-root.result.0 c.args.page c.root_of-root.ensures)) in
     let P : ℕ → Type 0 = λ x. IsFrame old.frames x in
-    subst P (sym is) (used_inside old.frames (frame_of (entry old c.args.pid c.args.page)) c.len.ensures.sound
-    (resident_used old c.args.pid c.args.page c.args.attr c.len.ensures.sound c.requires.ready.steady (mapped_page old c.args.pid c.args.page c.args.attr c.requires.ready.steady.granting c.requires.attr)
+    subst P (sym is) (used_inside old.frames (frame_of (entry old c.args.pid c.args.page)) c.args.core.now.sound
+    (resident_used old c.args.pid c.args.page c.args.attr c.args.core.now.sound c.requires.ready.steady (mapped_page old c.args.pid c.args.page c.args.attr c.requires.ready.steady.granting c.requires.attr)
     c.requires.attr c.requires.resident))
 
 pub overflow_cast-frame : goal.overflow_cast-frame
 overflow_cast-frame g c =
     let old : Picture = picture_of c.args.core.now in
     let is = c.frame.ensures.frame ∙ ap frame_of (c.entry_number-entry.ensures ∙ sym (entry-of old c.args.pid c.root_of-root.result.0 c.args.page c.root_of-root.ensures)) in
-    let low = used_inside old.frames (frame_of (entry old c.args.pid c.args.page)) c.len.ensures.sound
-    (resident_used old c.args.pid c.args.page c.args.attr c.len.ensures.sound c.requires.ready.steady (mapped_page old c.args.pid c.args.page c.args.attr c.requires.ready.steady.granting c.requires.attr)
+    let low = used_inside old.frames (frame_of (entry old c.args.pid c.args.page)) c.args.core.now.sound
+    (resident_used old c.args.pid c.args.page c.args.attr c.args.core.now.sound c.requires.ready.steady (mapped_page old c.args.pid c.args.page c.args.attr c.requires.ready.steady.granting c.requires.attr)
     c.requires.attr c.requires.resident) in
-    let most = c.len.ensures.sound.most in
+    let most = c.args.core.now.sound.most in
     omega (arith, is, low, most)
 
 pub returns-clause-entry : goal.returns-clause-entry
@@ -86,3 +86,8 @@ returns-clause-fit g c =
     c.root_of-root.ensures c.requires.attr c.set_full.ensures.sets (beside_rest c.args.core.now c.set_full.new.core c.set_full.ensures.rest)
     own (λ _. is) (λ p. resident.private (sym own ∙ p))
     (λ common. let P : ℕ → Type 0 = λ x. IsBehind old c.args.attr.backing x in subst P (sym is) (resident.behind (sym own ∙ common))) resident.inside
+
+pub returns-clause-calm : goal.returns-clause-calm
+returns-clause-calm g c =
+    calm_set c.args.core.now c.set_full.new.core c.args.pid c.args.page c.root_of-root.result.0 c.set_full.ensures.sets.0 c.set_full.ensures.sets.2
+    c.set_full.ensures.rest c.set_full.ensures.not_refused (returns-clause-others g c)

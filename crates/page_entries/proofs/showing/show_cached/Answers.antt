@@ -3,7 +3,7 @@ use Rattle.std.proofs.lemmas.Bool.{false≢true}
 use Rattle.residency.specs.Picture.{Picture, picture_of}
 use Rattle.page_entries.proofs.Building.{beside_rest}
 use Rattle.page_entries.proofs.Forms.{used_inside, behind_used}
-use Rattle.page_entries.proofs.EntrySteps.{full_entry_now, full_others, full_kept, full_files, full_views, full_fit}
+use Rattle.page_entries.proofs.EntrySteps.{full_entry_now, full_others, full_kept, full_files, full_views, full_fit, calm_set}
 use Rattle.page_entries.proofs.showing.show_cached.Goals as goal
 
 pub set_full-requires-clause-root : goal.set_full-requires-clause-root
@@ -12,7 +12,7 @@ set_full-requires-clause-root g c = c.requires.ready.steady.rooted.roots c.args.
 pub set_full-requires-clause-inside : goal.set_full-requires-clause-inside
 set_full-requires-clause-inside g c =
     let old : Picture = picture_of c.args.core.now in
-    used_inside old.frames c.args.frame.0 c.len.ensures.sound (behind_used old c.args.attr.backing c.args.frame.0 c.len.ensures.sound c.requires.ready.steady.places c.requires.behind)
+    used_inside old.frames c.args.frame.0 c.args.core.now.sound (behind_used old c.args.attr.backing c.args.frame.0 c.args.core.now.sound c.requires.ready.steady.places c.requires.behind)
 
 pub returns-clause-entry : goal.returns-clause-entry
 returns-clause-entry g c =
@@ -45,3 +45,8 @@ returns-clause-fit g c =
     full_fit (picture_of c.args.core.now) (picture_of c.set_full.new.core) c.args.pid c.args.page c.root_of-root.result.0 c.args.attr c.args.frame.0 false c.requires.ready
     c.root_of-root.ensures c.requires.attr c.set_full.ensures.sets (beside_rest c.args.core.now c.set_full.new.core c.set_full.ensures.rest)
     (sym c.requires.common) (λ own. absurd (false≢true own)) (λ own. absurd (false≢true own)) (λ _. c.requires.behind) c.requires.inside
+
+pub returns-clause-calm : goal.returns-clause-calm
+returns-clause-calm g c =
+    calm_set c.args.core.now c.set_full.new.core c.args.pid c.args.page c.root_of-root.result.0 c.set_full.ensures.sets.0 c.set_full.ensures.sets.2
+    c.set_full.ensures.rest c.set_full.ensures.not_refused (returns-clause-others g c)

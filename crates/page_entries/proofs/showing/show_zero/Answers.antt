@@ -7,14 +7,14 @@ use Rattle.residency.specs.Parts.{IsBehind}
 use Rattle.page_entries.specs.Leaves.{IsFullEntry}
 use Rattle.page_entries.proofs.Building.{beside_rest}
 use Rattle.page_entries.proofs.Forms.{common_none}
-use Rattle.page_entries.proofs.EntrySteps.{full_entry_now, full_others, full_kept, full_files, full_views, full_fit}
+use Rattle.page_entries.proofs.EntrySteps.{full_entry_now, full_others, full_kept, full_files, full_views, full_fit, calm_set}
 use Rattle.page_entries.proofs.showing.show_zero.Goals as goal
 
 pub set_full-requires-clause-root : goal.set_full-requires-clause-root
 set_full-requires-clause-root g c = c.requires.ready.steady.rooted.roots c.args.pid c.root_of-root.result.0 c.root_of-root.ensures
 
 pub set_full-requires-clause-inside : goal.set_full-requires-clause-inside
-set_full-requires-clause-inside g c = let least = c.len.ensures.sound.least in omega (arith, least)
+set_full-requires-clause-inside g c = let least = c.args.core.now.sound.least in omega (arith, least)
 
 pub returns-clause-entry : goal.returns-clause-entry
 returns-clause-entry g c =
@@ -54,3 +54,8 @@ returns-clause-fit g c =
     (sym (common_none _ c.requires.none)) (λ own. absurd (false≢true own)) (λ own. absurd (false≢true own))
     (λ _. let P : Backing → Type 0 = λ b. IsBehind old b 0 in subst P (sym c.requires.anonymous) refl)
     (ap (λ b. is_past_end old.files b) c.requires.anonymous)
+
+pub returns-clause-calm : goal.returns-clause-calm
+returns-clause-calm g c =
+    calm_set c.args.core.now c.set_full.new.core c.args.pid c.args.page c.root_of-root.result.0 c.set_full.ensures.sets.0 c.set_full.ensures.sets.2
+    c.set_full.ensures.rest c.set_full.ensures.not_refused (returns-clause-others g c)

@@ -21,8 +21,8 @@ pub set_full-requires-clause-inside : goal.set_full-requires-clause-inside
 set_full-requires-clause-inside g c =
     let old : Picture = picture_of c.args.core.now in
     let P : Backing → Type 0 = λ b. IsBehind old b c.args.frame.0 in
-    used_inside old.frames c.args.frame.0 c.len.ensures.sound
-    (behind_used old c.args.attr.backing c.args.frame.0 c.len.ensures.sound c.requires.ready.steady.places (subst P (sym c.requires.shared) c.requires.cached))
+    used_inside old.frames c.args.frame.0 c.args.core.now.sound
+    (behind_used old c.args.attr.backing c.args.frame.0 c.args.core.now.sound c.requires.ready.steady.places (subst P (sym c.requires.shared) c.requires.cached))
 
 pub returns-clause-entry : goal.returns-clause-entry
 returns-clause-entry g c =
@@ -34,7 +34,7 @@ returns-clause-entry g c =
       | inr ne ↦ c.mark_dirty.ensures.others.places p ne
     ] in
     let ready = ready_marked old mid c.args.file_page c.args.frame.0 refl (λ q. refl) (λ q k. refl) (λ x. refl) place c.mark_dirty.ensures.touched c.mark_dirty.ensures.others.touched (λ f. refl) c.requires.cached c.args.pid c.args.page c.requires.ready in
-    let beside = beside_rest (record c.args.core.now { cache = c.mark_dirty.new.self }) c.set_full.new.core c.set_full.ensures.rest in
+    let beside = beside_rest _ c.set_full.new.core c.set_full.ensures.rest in
     let full = full_entry_now mid new c.args.pid c.args.page c.root_of-root.result.0 c.args.attr c.args.frame.0 false ready c.root_of-root.ensures c.requires.attr c.set_full.ensures.sets beside in
     let cw = can_write c.args.attr.prot in
     let write : (is_shared c.args.attr.backing && cw) ≡ true = ap (λ b. is_shared b && cw) c.requires.shared ∙ c.requires.writable in
@@ -55,7 +55,7 @@ returns-clause-others g c =
       | inr ne ↦ c.mark_dirty.ensures.others.places p ne
     ] in
     let ready = ready_marked old mid c.args.file_page c.args.frame.0 refl (λ q. refl) (λ q k. refl) (λ x. refl) place c.mark_dirty.ensures.touched c.mark_dirty.ensures.others.touched (λ f. refl) c.requires.cached c.args.pid c.args.page c.requires.ready in
-    let beside = beside_rest (record c.args.core.now { cache = c.mark_dirty.new.self }) c.set_full.new.core c.set_full.ensures.rest in
+    let beside = beside_rest _ c.set_full.new.core c.set_full.ensures.rest in
     λ q p h other. full_others mid new c.args.pid c.args.page c.root_of-root.result.0 c.args.attr c.args.frame.0 false ready c.root_of-root.ensures c.requires.attr c.set_full.ensures.sets beside q p h other ∙ entry_marked old mid c.args.file_page c.args.frame.0 refl (λ q. refl) (λ q k. refl) (λ x. refl) place c.mark_dirty.ensures.touched c.mark_dirty.ensures.others.touched (λ f. refl) c.requires.cached q p
 
 pub returns-clause-kept : goal.returns-clause-kept
@@ -68,7 +68,7 @@ returns-clause-kept g c =
       | inr ne ↦ c.mark_dirty.ensures.others.places p ne
     ] in
     let ready = ready_marked old mid c.args.file_page c.args.frame.0 refl (λ q. refl) (λ q k. refl) (λ x. refl) place c.mark_dirty.ensures.touched c.mark_dirty.ensures.others.touched (λ f. refl) c.requires.cached c.args.pid c.args.page c.requires.ready in
-    let beside = beside_rest (record c.args.core.now { cache = c.mark_dirty.new.self }) c.set_full.new.core c.set_full.ensures.rest in
+    let beside = beside_rest _ c.set_full.new.core c.set_full.ensures.rest in
     full_kept mid new c.args.pid c.args.page c.root_of-root.result.0 c.args.attr c.args.frame.0 false ready c.root_of-root.ensures c.requires.attr c.set_full.ensures.sets beside
 
 pub returns-clause-touches : goal.returns-clause-touches
@@ -81,7 +81,7 @@ returns-clause-touches g c =
       | inr ne ↦ c.mark_dirty.ensures.others.places p ne
     ] in
     let ready = ready_marked old mid c.args.file_page c.args.frame.0 refl (λ q. refl) (λ q k. refl) (λ x. refl) place c.mark_dirty.ensures.touched c.mark_dirty.ensures.others.touched (λ f. refl) c.requires.cached c.args.pid c.args.page c.requires.ready in
-    let beside = beside_rest (record c.args.core.now { cache = c.mark_dirty.new.self }) c.set_full.new.core c.set_full.ensures.rest in
+    let beside = beside_rest _ c.set_full.new.core c.set_full.ensures.rest in
     touches_set old mid c.args.file_page c.args.frame.0 refl (λ q. refl) (λ q k. refl) (λ x. refl) place c.mark_dirty.ensures.touched c.mark_dirty.ensures.others.touched (λ f. refl) c.requires.cached new beside (full_kept mid new c.args.pid c.args.page c.root_of-root.result.0 c.args.attr c.args.frame.0 false ready c.root_of-root.ensures c.requires.attr c.set_full.ensures.sets beside) c.requires.ready.steady
 
 pub returns-clause-views : goal.returns-clause-views
@@ -94,7 +94,7 @@ returns-clause-views g c =
       | inr ne ↦ c.mark_dirty.ensures.others.places p ne
     ] in
     let ready = ready_marked old mid c.args.file_page c.args.frame.0 refl (λ q. refl) (λ q k. refl) (λ x. refl) place c.mark_dirty.ensures.touched c.mark_dirty.ensures.others.touched (λ f. refl) c.requires.cached c.args.pid c.args.page c.requires.ready in
-    let beside = beside_rest (record c.args.core.now { cache = c.mark_dirty.new.self }) c.set_full.new.core c.set_full.ensures.rest in
+    let beside = beside_rest _ c.set_full.new.core c.set_full.ensures.rest in
     let common = shared_common mid c.args.pid c.args.page c.args.attr ready.steady.granting c.requires.attr
     (mapped_page mid c.args.pid c.args.page c.args.attr ready.steady.granting c.requires.attr) (ap is_shared c.requires.shared) in
     λ q p. full_views mid new c.args.pid c.args.page c.root_of-root.result.0 c.args.attr c.args.frame.0 false ready c.root_of-root.ensures c.requires.attr c.set_full.ensures.sets beside (sym common) (λ own. absurd (false≢true own)) q p ∙ view_marked old mid c.args.file_page c.args.frame.0 refl (λ q. refl) (λ q k. refl) (λ x. refl) place c.mark_dirty.ensures.touched c.mark_dirty.ensures.others.touched (λ f. refl) c.requires.cached q p
@@ -109,9 +109,22 @@ returns-clause-fit g c =
       | inr ne ↦ c.mark_dirty.ensures.others.places p ne
     ] in
     let ready = ready_marked old mid c.args.file_page c.args.frame.0 refl (λ q. refl) (λ q k. refl) (λ x. refl) place c.mark_dirty.ensures.touched c.mark_dirty.ensures.others.touched (λ f. refl) c.requires.cached c.args.pid c.args.page c.requires.ready in
-    let beside = beside_rest (record c.args.core.now { cache = c.mark_dirty.new.self }) c.set_full.new.core c.set_full.ensures.rest in
+    let beside = beside_rest _ c.set_full.new.core c.set_full.ensures.rest in
     let common = shared_common mid c.args.pid c.args.page c.args.attr ready.steady.granting c.requires.attr
     (mapped_page mid c.args.pid c.args.page c.args.attr ready.steady.granting c.requires.attr) (ap is_shared c.requires.shared) in
     full_fit mid new c.args.pid c.args.page c.root_of-root.result.0 c.args.attr c.args.frame.0 false ready c.root_of-root.ensures c.requires.attr c.set_full.ensures.sets beside
     (sym common) (λ own. absurd (false≢true own)) (λ own. absurd (false≢true own))
     (λ _. let P : Backing → Type 0 = λ b. IsBehind mid b c.args.frame.0 in subst P (sym c.requires.shared) (place c.args.file_page ∙ c.requires.cached)) c.requires.inside
+
+pub returns-clause-calm : goal.returns-clause-calm
+returns-clause-calm g c =
+    let rest = c.set_full.ensures.rest in
+    let touches = returns-clause-touches g c in
+    record {
+      store = rest.store;
+      swap = rest.swap;
+      refused = c.set_full.ensures.not_refused;
+      frames = c.set_full.ensures.sets.2.kept;
+      place = touches.place;
+      others = returns-clause-others g c;
+    }

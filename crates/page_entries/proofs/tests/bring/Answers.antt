@@ -3,10 +3,10 @@ use Rattle.std.specs.Option.{option_map}
 use Rattle.frames.specs.declared.role.Role.TheVariants.{Free, Table, Cache}
 use Rattle.frames.specs.FrameTable.{SameButFor, with_bytes}
 use Rattle.frames.proofs.FrameLemmas.{with_bytes-others}
-use Rattle.file_store.specs.Store.{entry_of}
+use Rattle.file_store.specs.Store.{entry_of, files_of}
 use Rattle.page_tables.proofs.Data.{data_changed}
 use Rattle.page_tables.proofs.Tight.{tight_same}
-use Rattle.page_cache.specs.CacheTable.{is_touched}
+use Rattle.page_cache.specs.CacheTable.{is_touched, place_of}
 use Rattle.residency.specs.Picture.{Picture, picture_of}
 use Rattle.residency.specs.Steps.{BringsIn}
 use Rattle.residency.proofs.FrameSteps.{steady_brought}
@@ -29,7 +29,7 @@ returns-clause-fit g c =
       roles = λ m ne. takes.others.roles m ne;
       counts = λ m ne. takes.others.counts m ne;
     } in
-    let new : Picture = picture_of (record core { store = c.read_page.new.self; frames = with_bytes c.take.new.self n c.read_page.new.to; cache = cache }) in
+    let new : Picture = record old { frames = with_bytes c.take.new.self n c.read_page.new.to; place = place_of cache; touched = is_touched cache; files = files_of c.read_page.new.self } in
     let brings : BringsIn old new page n = record {
       frames = frames;
       above = takes.above;

@@ -25,7 +25,7 @@ returns-clause-at g c page =
     let items = c.args.core.now.regions.items in
     let place = c.from-place.result in
     let same : place ≡ c.args.pid = c.from-place.ensures ∙ c.get.ensures.number in
-    let there : place < length items = omega (arith, c.get.ensures.range, c.from-place.ensures, c.requires.sized.regions) in
+    let there : place < length items = omega (arith, c.get.ensures.range, c.from-place.ensures, c.args.core.now.region_count) in
     let read : get_or (slice_set items place c.args.regions) c.args.pid [] ≡ c.args.regions =
     ap (λ k. get_or (slice_set items place c.args.regions) k []) (sym same) ∙ get_or-set_same items place c.args.regions [] there in
     ap (λ runs. attr_where (root_in roots c.args.pid) runs page) read ∙ where_lives (root_in roots c.args.pid) c.args.regions page c.requires.live

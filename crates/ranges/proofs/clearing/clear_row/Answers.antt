@@ -11,7 +11,6 @@ pub loop-page-init : goal.loop-page-init
 loop-page-init g c =
     let old : Picture = picture_of c.args.core.now in
     record {
-      sized = c.requires.sized;
       fit = c.requires.fit;
       low = omega arith;
       high = inl refl;
@@ -31,7 +30,6 @@ loop-page-preserved g c =
     let further : c.loop-page.page ≤ c.clear_next-page.result = omega (arith, next.further, c.user_page.ensures) in
     let P : ℕ → Type 0 = λ x. Clears mid new c.args.pid x c.clear_next-page.result in
     record {
-      sized = next.sized;
       fit = next.fit;
       low = omega (arith, low, further);
       high = inr next.within;
@@ -59,3 +57,9 @@ returns-clause-row g c =
     remaps_cleared old new c.args.pid c.args.first c.args.pages c.max-page.result c.loop-page.page k.fit.granting k.clears c.requires.row k.low
     (begins c.max-page.result c.args.first c.max-page.ensures) c.loop-page-test.false
     (ends c.max-page.result c.loop-page.page (c.args.first + c.args.pages) c.loop-page-test.false k.high)
+
+pub returns-clause-others : goal.returns-clause-others
+returns-clause-others g c q page h ne = c.loop-page.invariant.clears.kept q page h (inl ne)
+
+pub returns-clause-tables : goal.returns-clause-tables
+returns-clause-tables g c = c.loop-page.invariant.clears.returned

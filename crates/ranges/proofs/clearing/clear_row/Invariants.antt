@@ -1,13 +1,12 @@
 use Rattle.std.proofs.Common.{◌≡◌, ◌-◌, ◌≤◌, ◌⊎◌}
 use Rattle.residency.specs.Calls.{KeepsRest}
-use Rattle.residency.specs.Parts.{IsSized, IsFit}
+use Rattle.residency.specs.Parts.{IsFit}
 use Rattle.residency.specs.Picture.{picture_of}
 use Rattle.ranges.specs.Steps.{Clears}
 use Rattle.ranges.proofs.clearing.clear_row.Given as goal
 
 abbrev pub invariant-loop-page : goal.invariant-loop-page
 invariant-loop-page g l = record {
-  sized : IsSized l.core;
   fit : IsFit (picture_of l.core);
   low : l.initial.page ≤ l.page;
   high : (l.page ≡ l.initial.page) ⊎ (l.page ≤ l.end);

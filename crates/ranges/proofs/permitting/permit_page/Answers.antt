@@ -1,88 +1,89 @@
-use Rattle.std.proofs.Common.{◌≡◌, ◌≢◌, ℕ, ◌+◌, ◌↔◌, true, sym, ap, ◌∙◌, subst, arith}
+use Rattle.std.proofs.Common.{◌≡◌, ◌≢◌, ℕ, ◌+◌, ◌%◌, ◌↔◌, true, refl, sym, ap, ◌∙◌, subst, arith}
 use Rattle.frames.specs.FrameTable.{IsFrame}
 use Rattle.sv39_walk.specs.Entry.{frame_of}
 use Rattle.page_tables.specs.Entry.{number_of}
 use Rattle.residency.specs.Picture.{Picture, picture_of, entry}
 use Rattle.residency.proofs.Entries.{entry-of}
-use Rattle.ranges.specs.Leaves.{TakesStores, IsPermitted}
+use Rattle.ranges.specs.Leaves.{TakesStores, IsPermittedEntry}
 use Rattle.ranges.proofs.ClearedPages.{same_beside}
-use Rattle.ranges.proofs.PermittedRows.{permits_none, rooted_permitted, tight_permitted, named_permitted, permits_set}
+use Rattle.ranges.proofs.PermittedRows.{permits_none, rooted_permitted, places_permitted, tight_permitted, named_permitted, permits_set}
 use Rattle.ranges.proofs.permitting.permit_page.Given.{Over}
 use Rattle.ranges.proofs.permitting.permit_page.Goals as goal
-
-pub entry_number-number-requires-clause-root : goal.entry_number-number-requires-clause-root
-entry_number-number-requires-clause-root g c = c.requires.rooted.roots c.args.pid c.root_of-root.result.0 c.root_of-root.ensures
 
 pub returns-then-to_u64-eq0-clause-permits : goal.returns-then-to_u64-eq0-clause-permits
 returns-then-to_u64-eq0-clause-permits g c =
     let old : Picture = picture_of c.args.core.now in
     permits_none old c.args.pid c.args.page (c.args.page + 1) c.args.prot (λ page h from below.
     let at : page ≡ c.args.page = omega (arith, from, below) in
-    ap (entry old c.args.pid) at ∙ entry-of old c.args.pid c.root_of-root.result.0 c.args.page c.root_of-root.ensures
-    ∙ sym c.entry_number-number.ensures ∙ sym c.to_u64.ensures ∙ c.if-to_u64-eq0.true)
+    ap (entry old c.args.pid) at ∙ entry-of old c.args.pid c.args.root.0 c.args.page c.requires.root
+    ∙ sym (c.number_in-number.ensures c.args.root.0 c.args.page c.requires.place (ap (λ x. x % 512) (sym c.get.ensures.number))) ∙ sym c.to_u64.ensures ∙ c.if-to_u64-eq0.true)
 
 pub takes_stores-writable-requires-clause-named : goal.takes_stores-writable-requires-clause-named
 takes_stores-writable-requires-clause-named g c =
     let old : Picture = picture_of c.args.core.now in
-    let is = c.entry_number-number.ensures ∙ sym (entry-of old c.args.pid c.root_of-root.result.0 c.args.page c.root_of-root.ensures) in
+    let is = c.number_in-number.ensures c.args.root.0 c.args.page c.requires.place (ap (λ x. x % 512) (sym c.get.ensures.number)) ∙ sym (entry-of old c.args.pid c.args.root.0 c.args.page c.requires.root) in
     let P : ℕ → Type 0 = λ x. IsFrame c.args.core.now.frames (frame_of x) in
     subst P (sym is) (c.requires.named c.args.page c.requires.inside (λ z. c.if-to_u64-eq0.false (c.to_u64.ensures ∙ is ∙ z)))
 
 pub permitted-requires-clause-frame : goal.permitted-requires-clause-frame
 permitted-requires-clause-frame g c =
     let old : Picture = picture_of c.args.core.now in
-    let is = c.entry_number-number.ensures ∙ sym (entry-of old c.args.pid c.root_of-root.result.0 c.args.page c.root_of-root.ensures) in
+    let is = c.number_in-number.ensures c.args.root.0 c.args.page c.requires.place (ap (λ x. x % 512) (sym c.get.ensures.number)) ∙ sym (entry-of old c.args.pid c.args.root.0 c.args.page c.requires.root) in
     let P : ℕ → Type 0 = λ x. IsFrame c.args.core.now.frames (frame_of x) in
     let inside = subst P (sym is) (c.requires.named c.args.page c.requires.inside (λ z. c.if-to_u64-eq0.false (c.to_u64.ensures ∙ is ∙ z))) in
-    omega (arith, inside, c.len.ensures.sound.most)
-
-pub set-requires-clause-root : goal.set-requires-clause-root
-set-requires-clause-root g c = c.requires.rooted.roots c.args.pid c.root_of-root.result.0 c.root_of-root.ensures
+    omega (arith, inside, c.args.core.now.sound.most)
 
 pub returns-clause-rooted : goal.returns-clause-rooted
 returns-clause-rooted g c =
     let old : Picture = picture_of c.args.core.now in
-    let new : Picture = record old { frames = c.set.new.frames } in
-    rooted_permitted old new c.args.pid c.root_of-root.result.0 c.args.page (number_of c.permitted.result) c.args.prot c.requires.rooted c.root_of-root.ensures
-    c.requires.inside c.set.ensures (same_beside old c.set.new.frames)
+    let new : Picture = record old { frames = c.set_in.new.frames } in
+    rooted_permitted old new c.args.pid c.args.root.0 c.args.page (number_of c.permitted.result) c.args.prot c.requires.rooted c.requires.root
+    c.requires.inside (c.set_in.ensures.sets c.args.root.0 c.args.page (c.requires.rooted.roots c.args.pid c.args.root.0 c.requires.root) c.requires.inside c.requires.place (ap (λ x. x % 512) (sym c.get.ensures.number))) (same_beside old c.set_in.new.frames)
 
 -- what the page's entry was, and what it is
-is_entry : (g : Over) (c : goal.After-set g) → c.entry_number-number.result.0 ≡ entry (picture_of c.args.core.now) c.args.pid c.args.page
-is_entry g c = c.entry_number-number.ensures ∙ sym (entry-of (picture_of c.args.core.now) c.args.pid c.root_of-root.result.0 c.args.page c.root_of-root.ensures)
+is_entry : (g : Over) (c : goal.After-core-1 g) → c.number_in-number.result.0 ≡ entry (picture_of c.args.core.now) c.args.pid c.args.page
+is_entry g c = c.number_in-number.ensures c.args.root.0 c.args.page c.requires.place (ap (λ x. x % 512) (sym c.get.ensures.number)) ∙ sym (entry-of (picture_of c.args.core.now) c.args.pid c.args.root.0 c.args.page c.requires.root)
 
-some : (g : Over) (c : goal.After-set g) → entry (picture_of c.args.core.now) c.args.pid c.args.page ≢ 0
+some : (g : Over) (c : goal.After-core-1 g) → entry (picture_of c.args.core.now) c.args.pid c.args.page ≢ 0
 some g c z = c.if-to_u64-eq0.false (c.to_u64.ensures ∙ is_entry g c ∙ z)
 
-stores : (g : Over) (c : goal.After-set g) → (c.takes_stores-writable.result ≡ true)
+stores : (g : Over) (c : goal.After-core-1 g) → (c.takes_stores-writable.result ≡ true)
     ↔ TakesStores c.args.core.now.frames ((picture_of c.args.core.now).at c.args.pid c.args.page) c.args.prot (entry (picture_of c.args.core.now) c.args.pid c.args.page)
 stores g c =
     let P : ℕ → Type 0 = λ x. (c.takes_stores-writable.result ≡ true) ↔ TakesStores c.args.core.now.frames ((picture_of c.args.core.now).at c.args.pid c.args.page) c.args.prot x in
     subst P (is_entry g c) c.takes_stores-writable.ensures
 
-becomes : (g : Over) (c : goal.After-set g)
-    → IsPermitted c.args.prot c.takes_stores-writable.result (entry (picture_of c.args.core.now) c.args.pid c.args.page) (number_of c.permitted.result)
+becomes : (g : Over) (c : goal.After-core-1 g)
+    → IsPermittedEntry c.args.prot c.takes_stores-writable.result (entry (picture_of c.args.core.now) c.args.pid c.args.page) (number_of c.permitted.result)
 becomes g c =
-    let P : ℕ → Type 0 = λ x. IsPermitted c.args.prot c.takes_stores-writable.result x (number_of c.permitted.result) in
+    let P : ℕ → Type 0 = λ x. IsPermittedEntry c.args.prot c.takes_stores-writable.result x (number_of c.permitted.result) in
     subst P (is_entry g c) c.permitted.ensures.permitted
 
 pub returns-clause-tight : goal.returns-clause-tight
 returns-clause-tight g c =
     let old : Picture = picture_of c.args.core.now in
-    let new : Picture = record old { frames = c.set.new.frames } in
-    tight_permitted old new c.args.pid c.root_of-root.result.0 c.args.page (number_of c.permitted.result) c.args.prot c.requires.rooted c.root_of-root.ensures
-    c.requires.inside c.set.ensures (same_beside old c.set.new.frames) c.takes_stores-writable.result (some g c) (stores g c) (becomes g c)
-    (c.requires.whole c.root_of-root.result.0 c.root_of-root.ensures) c.requires.tight
+    let new : Picture = record old { frames = c.set_in.new.frames } in
+    tight_permitted old new c.args.pid c.args.root.0 c.args.page (number_of c.permitted.result) c.args.prot c.requires.rooted c.requires.root
+    c.requires.inside (c.set_in.ensures.sets c.args.root.0 c.args.page (c.requires.rooted.roots c.args.pid c.args.root.0 c.requires.root) c.requires.inside c.requires.place (ap (λ x. x % 512) (sym c.get.ensures.number))) (same_beside old c.set_in.new.frames) c.takes_stores-writable.result (some g c) (stores g c) (becomes g c)
+    (c.requires.place.whole c.args.page refl) c.requires.tight
 
 pub returns-clause-named : goal.returns-clause-named
 returns-clause-named g c =
     let old : Picture = picture_of c.args.core.now in
-    let new : Picture = record old { frames = c.set.new.frames } in
-    named_permitted old new c.args.pid c.root_of-root.result.0 c.args.page (number_of c.permitted.result) c.args.prot c.requires.rooted c.root_of-root.ensures
-    c.requires.inside c.set.ensures (same_beside old c.set.new.frames) c.takes_stores-writable.result (some g c) (stores g c) (becomes g c) c.requires.named
+    let new : Picture = record old { frames = c.set_in.new.frames } in
+    named_permitted old new c.args.pid c.args.root.0 c.args.page (number_of c.permitted.result) c.args.prot c.requires.rooted c.requires.root
+    c.requires.inside (c.set_in.ensures.sets c.args.root.0 c.args.page (c.requires.rooted.roots c.args.pid c.args.root.0 c.requires.root) c.requires.inside c.requires.place (ap (λ x. x % 512) (sym c.get.ensures.number))) (same_beside old c.set_in.new.frames) c.takes_stores-writable.result (some g c) (stores g c) (becomes g c) c.requires.named
 
 pub returns-clause-permits : goal.returns-clause-permits
 returns-clause-permits g c =
     let old : Picture = picture_of c.args.core.now in
-    let new : Picture = record old { frames = c.set.new.frames } in
-    permits_set old new c.args.pid c.root_of-root.result.0 c.args.page (number_of c.permitted.result) c.args.prot c.requires.rooted c.root_of-root.ensures
-    c.requires.inside c.set.ensures (same_beside old c.set.new.frames) c.takes_stores-writable.result (some g c) (stores g c) (becomes g c)
+    let new : Picture = record old { frames = c.set_in.new.frames } in
+    permits_set old new c.args.pid c.args.root.0 c.args.page (number_of c.permitted.result) c.args.prot c.requires.rooted c.requires.root
+    c.requires.inside (c.set_in.ensures.sets c.args.root.0 c.args.page (c.requires.rooted.roots c.args.pid c.args.root.0 c.requires.root) c.requires.inside c.requires.place (ap (λ x. x % 512) (sym c.get.ensures.number))) (same_beside old c.set_in.new.frames) c.takes_stores-writable.result (some g c) (stores g c) (becomes g c)
+
+pub returns-clause-places : goal.returns-clause-places
+returns-clause-places g c =
+    let old : Picture = picture_of c.args.core.now in
+    let new : Picture = record old { frames = c.set_in.new.frames } in
+    places_permitted old new c.args.pid c.args.root.0 c.args.page (number_of c.permitted.result) c.args.prot c.requires.rooted c.requires.root
+    c.requires.inside (c.set_in.ensures.sets c.args.root.0 c.args.page (c.requires.rooted.roots c.args.pid c.args.root.0 c.requires.root) c.requires.inside c.requires.place (ap (λ x. x % 512) (sym c.get.ensures.number))) (same_beside old c.set_in.new.frames)

@@ -2,7 +2,7 @@ use Rattle.std.proofs.Common.{◌≡◌, ℕ, ◌+◌, ◌*◌, ◌/◌, ◌<◌
 use Rattle.residency.specs.Picture.{Picture, picture_of}
 use Rattle.ranges.specs.Leaves.{PermitsRow}
 use Rattle.ranges.proofs.ClearedPages.{rest-refl, rest_then}
-use Rattle.ranges.proofs.Emptied.{whole_moved}
+use Rattle.page_tables.specs.Places.{IsTableOf}
 use Rattle.ranges.proofs.PermittedRows.{permits_none, permits_then}
 use Rattle.ranges.proofs.permitting.permit_table.Goals as goal
 
@@ -13,21 +13,25 @@ pub loop-page-init : goal.loop-page-init
 loop-page-init g c =
     let old : Picture = picture_of c.args.core.now in
     record {
-      sized = c.requires.sized;
       rooted = c.requires.rooted;
       tight = c.requires.tight;
       named = c.requires.named;
-      whole = c.requires.whole;
+      place = c.in-Ok.ensures.found;
+      root_is = c.root_of-root.ensures;
       permits = permits_none old c.args.pid c.args.start c.get-page.result c.args.prot
           (λ page h least below. absurd (omega (arith, c.get-page.ensures.number, least, below)));
       rest = rest-refl c.args.core.now;
       refused = refl;
     }
 
-pub permit_page-requires-clause-whole : goal.permit_page-requires-clause-whole
-permit_page-requires-clause-whole g c =
+pub table_of-requires-clause-root : goal.table_of-requires-clause-root
+table_of-requires-clause-root g c = c.requires.rooted.roots c.args.pid c.root_of-root.result.0 c.root_of-root.ensures
+
+pub permit_page-requires-clause-place : goal.permit_page-requires-clause-place
+permit_page-requires-clause-place g c =
     let same = same_table c.args.start c.loop-page.page c.args.stop (omega (arith, c.get-page.ensures.number, c.loop-page.auto.page)) c.loop-page-test.true c.requires.one_table in
-    whole_moved (picture_of c.loop-page.core) c.args.pid c.args.start c.user_page.result (same ∙ ap (λ x. x / 512) (sym c.user_page.ensures)) c.loop-page.invariant.whole
+    let P : ℕ → Type 0 = λ x. IsTableOf c.loop-page.core.frames c.root_of-root.result.0 x c.in-Ok.table.0 in
+    subst P (same ∙ ap (λ x. x / 512) (sym c.user_page.ensures)) c.loop-page.invariant.place
 
 pub loop-page-preserved : goal.loop-page-preserved
 loop-page-preserved g c =
@@ -39,11 +43,11 @@ loop-page-preserved g c =
     let P : ℕ → Type 0 = λ x. PermitsRow mid new c.args.pid x (x + 1) c.args.prot in
     let one : PermitsRow mid new c.args.pid page (page + 1) c.args.prot = subst P c.user_page.ensures c.permit_page.ensures.permits in
     record {
-      sized = c.permit_page.ensures.sized;
       rooted = c.permit_page.ensures.rooted;
       tight = c.permit_page.ensures.tight;
       named = c.permit_page.ensures.named;
-      whole = c.permit_page.ensures.whole c.args.start k.whole;
+      place = c.permit_page.ensures.places (c.args.start / 512) c.in-Ok.table.0 k.place;
+      root_is = c.permit_page.ensures.permits.beside.root c.args.pid ∙ k.root_is;
       permits = permits_then old mid new c.args.pid c.args.start page (page + 1) c.args.prot
           (omega (arith, c.get-page.ensures.number, c.loop-page.auto.page)) (omega arith) k.permits one;
       rest = rest_then c.args.core.now c.loop-page.core c.permit_page.new.core k.rest c.permit_page.ensures.rest;

@@ -5,7 +5,7 @@ use Rattle.residency.specs.Picture.{Picture, picture_of}
 use Rattle.ranges.specs.Leaves.{PermitsRow}
 use Rattle.ranges.proofs.ClearedPages.{rest-refl, rest_then}
 use Rattle.ranges.proofs.PermittedRows.{permits_none, permits_then, named_entries}
-use Rattle.ranges.proofs.Reprotected.{fit_reprotected, row_reprotected}
+use Rattle.ranges.proofs.Reprotected.{fit_reprotected, row_reprotected, others_reprotected}
 use Rattle.ranges.proofs.permitting.reprotect.Goals as goal
 
 begins : (low first : ℕ) → low ≡ max first 16 → (low ≡ first) ⊎ ((low ≡ 16) × (first < 16))
@@ -22,10 +22,9 @@ pub loop-page-init : goal.loop-page-init
 loop-page-init g c =
     let old : Picture = picture_of c.args.core.now in
     record {
-      sized = c.requires.sized;
       rooted = c.requires.fit.tree.rooted;
       tight = c.requires.fit.tree.tight;
-      named = named_entries old c.args.pid c.len.ensures.sound c.requires.fit;
+      named = named_entries old c.args.pid c.args.core.now.sound c.requires.fit;
       low = omega arith;
       high = inl refl;
       permits = permits_none old c.args.pid _ _ c.args.prot (λ page h least below. absurd (omega (arith, least, below)));
@@ -44,7 +43,6 @@ loop-page-preserved g c =
     let further : c.loop-page.page ≤ c.permit_next-page.result = omega (arith, next.further, c.user_page.ensures) in
     let P : ℕ → Type 0 = λ x. PermitsRow mid new c.args.pid x c.permit_next-page.result c.args.prot in
     record {
-      sized = next.sized;
       rooted = next.rooted;
       tight = next.tight;
       named = next.named;
@@ -74,6 +72,17 @@ returns-clause-row g c =
     let new : Picture = picture_of c.set_regions.new.core in
     let k = c.loop-page.invariant in
     row_reprotected old mid new c.args.pid c.args.first c.args.pages c.max-page.result c.loop-page.page c.args.prot c.requires.fit k.permits k.rooted k.tight
+    c.set_regions.ensures.remaps (λ page. c.set_regions.ensures.at page ∙ c.requires.map page) c.requires.reads c.requires.row
+    (begins c.max-page.result c.args.first c.max-page.ensures) c.loop-page-test.false
+    (ends c.max-page.result c.loop-page.page (c.args.first + c.args.pages) c.loop-page-test.false k.high)
+
+pub returns-clause-others : goal.returns-clause-others
+returns-clause-others g c =
+    let old : Picture = picture_of c.args.core.now in
+    let mid : Picture = picture_of c.loop-page.core in
+    let new : Picture = picture_of c.set_regions.new.core in
+    let k = c.loop-page.invariant in
+    others_reprotected old mid new c.args.pid c.args.first c.args.pages c.max-page.result c.loop-page.page c.args.prot c.requires.fit k.permits k.rooted k.tight
     c.set_regions.ensures.remaps (λ page. c.set_regions.ensures.at page ∙ c.requires.map page) c.requires.reads c.requires.row
     (begins c.max-page.result c.args.first c.max-page.ensures) c.loop-page-test.false
     (ends c.max-page.result c.loop-page.page (c.args.first + c.args.pages) c.loop-page-test.false k.high)

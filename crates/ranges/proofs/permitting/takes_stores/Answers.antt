@@ -1,7 +1,7 @@
 use Rattle.std.proofs.Common.{◌<◌, length, sym, ap, ◌∙◌, arith}
 use Rattle.std.proofs.lemmas.Bool.{eqb-true, eq-eqb, false≢true}
 use Rattle.frames.specs.FrameTable.{count_of}
-use Rattle.ranges.specs.Leaves.{is_shared_page}
+use Rattle.ranges.specs.Leaves.{is_mapped_shared}
 use Rattle.ranges.proofs.NewRegions.{attr-read}
 use Rattle.ranges.proofs.permitting.takes_stores.Goals as goal
 
@@ -10,7 +10,7 @@ returns-then-not-is_writable g c =
     (λ it. absurd (false≢true it), λ takes. absurd (false≢true (sym c.if-not-is_writable.true ∙ c.is_writable.ensures ∙ takes.permitted)))
 
 pub frame_in-requires : goal.frame_in-requires
-frame_in-requires g c = let n = c.requires.named in omega (arith, n, c.len.ensures.sound.most)
+frame_in-requires g c = let n = c.requires.named in omega (arith, n, c.args.core.now.sound.most)
 
 pub returns-then-is_private : goal.returns-then-is_private
 returns-then-is_private g c =
@@ -27,11 +27,11 @@ returns-then-is_private g c =
 pub returns-in-Some : goal.returns-in-Some
 returns-in-Some g c =
     let core = c.args.core.now in
-    let inside : c.from.result < length core.regions.items = omega (arith, c.get.ensures.range, c.from.ensures, c.requires.sized.regions) in
+    let inside : c.from.result < length core.regions.items = omega (arith, c.get.ensures.range, c.from.ensures, c.args.core.now.region_count) in
     let attr = sym c.in-Some.is ∙ c.at.ensures.value
     ∙ attr-read core.roots.items core.regions.items c.index.result.now c.args.pid c.from.result c.args.page (c.from.ensures ∙ c.get.ensures.number) c.requires.live inside
     c.index.ensures in
-    let shared = c.is_shared.ensures ∙ ap is_shared_page attr in
+    let shared = c.is_shared.ensures ∙ ap is_mapped_shared attr in
     let common = sym c.is_private.ensures ∙ c.if-is_private.false in (
       λ it. record {
         permitted = sym c.is_writable.ensures ∙ c.if-not-is_writable.false;
@@ -44,8 +44,8 @@ returns-in-Some g c =
 pub returns-in-None : goal.returns-in-None
 returns-in-None g c =
     let core = c.args.core.now in
-    let inside : c.from.result < length core.regions.items = omega (arith, c.get.ensures.range, c.from.ensures, c.requires.sized.regions) in
+    let inside : c.from.result < length core.regions.items = omega (arith, c.get.ensures.range, c.from.ensures, c.args.core.now.region_count) in
     let attr = sym c.in-None.is ∙ c.at.ensures.value
     ∙ attr-read core.roots.items core.regions.items c.index.result.now c.args.pid c.from.result c.args.page (c.from.ensures ∙ c.get.ensures.number) c.requires.live inside
     c.index.ensures in
-    (λ it. absurd (false≢true it), λ takes. ap is_shared_page attr ∙ takes.common (sym c.is_private.ensures ∙ c.if-is_private.false))
+    (λ it. absurd (false≢true it), λ takes. ap is_mapped_shared attr ∙ takes.common (sym c.is_private.ensures ∙ c.if-is_private.false))

@@ -1,6 +1,6 @@
 use Rattle.residency.specs.Picture.{picture_of}
 use Rattle.regions.specs.RunList.{attr_at}
-use Rattle.ranges.proofs.NewRegions.{fit_remapped, row_remapped}
+use Rattle.ranges.proofs.NewRegions.{fit_remapped, row_remapped, others_remapped}
 use Rattle.ranges.proofs.remapping.remap.Goals as goal
 
 pub returns-clause-fit : goal.returns-clause-fit
@@ -13,3 +13,9 @@ pub returns-clause-row : goal.returns-clause-row
 returns-clause-row g c =
     row_remapped (picture_of c.args.core.now) (picture_of c.clear_row.new.core) (picture_of c.set_regions.new.core) c.args.pid c.args.first c.args.pages
     (attr_at c.args.regions) c.clear_row.ensures.fit c.clear_row.ensures.row c.set_regions.ensures.remaps c.set_regions.ensures.at c.requires.others
+
+pub returns-clause-others : goal.returns-clause-others
+returns-clause-others g c =
+    others_remapped (picture_of c.args.core.now) (picture_of c.clear_row.new.core) (picture_of c.set_regions.new.core) c.args.pid c.args.first c.args.pages
+    (attr_at c.args.regions) c.clear_row.ensures.fit c.clear_row.ensures.row c.set_regions.ensures.remaps c.set_regions.ensures.at c.requires.others
+    c.clear_row.ensures.others

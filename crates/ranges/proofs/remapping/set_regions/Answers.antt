@@ -16,6 +16,6 @@ returns-clause-remaps g c = record {
 
 pub returns-clause-at : goal.returns-clause-at
 returns-clause-at g c page =
-    let inside : c.args.pid < length c.args.core.now.regions.items = omega (arith, c.get.ensures.number, c.get.ensures.range, c.requires.sized.regions) in
+    let inside : c.args.pid < length c.args.core.now.regions.items = omega (arith, c.get.ensures.number, c.get.ensures.range, c.args.core.now.region_count) in
     attr-here c.args.core.now.roots.items c.args.core.now.regions.items c.args.regions c.args.pid c.from.result page
     (c.from.ensures ∙ c.get.ensures.number) c.requires.live inside

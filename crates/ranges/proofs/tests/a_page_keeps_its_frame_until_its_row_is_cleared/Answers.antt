@@ -1,10 +1,11 @@
-use Rattle.std.proofs.Common.{◌≡◌, ℕ, Option, sym, ap, ◌∙◌, subst}
+use Rattle.std.proofs.Common.{◌≡◌, ℕ, Option, refl, sym, ap, ◌∙◌, subst}
 use Rattle.std.specs.Prelude.{option_map, if◌then◌else◌}
 use Rattle.vm_types.specs.declared.permission.Prot.{Prot}
 use Rattle.vm_types.specs.declared.region.Attr.{Attr}
 use Rattle.vm_types.specs.Attributes.{with_prot}
 use Rattle.vm_types.specs.Rows.{in_row, protected}
 use Rattle.regions.specs.RunList.{attr_at}
+use Rattle.residency.specs.Parts.{IsBehind}
 use Rattle.residency.specs.Picture.{picture_of}
 use Rattle.ranges.specs.Tests.{five_pages}
 use Rattle.ranges.proofs.tests.a_page_keeps_its_frame_until_its_row_is_cleared.Goals as goal
@@ -21,3 +22,7 @@ reprotect-requires-clause-map g c page =
     ∙ same_protected (attr_at c.in_ok-read_only.read_only) ((picture_of c.own_frame.new.core).at c.first_process-pid.result) 32 2 (record { 0 = 1 }) page
     (c.in_ok-read_only.ensures.map page ∙ sym mapped ∙ sym (c.link_tables.ensures.spaces.at c.first_process-pid.result page)
     ∙ sym (c.own_frame.ensures.spaces.at c.first_process-pid.result page))
+
+-- behind anonymous memory stands the page of zeros
+pub own_frame-requires-clause-in_memory : goal.own_frame-requires-clause-in_memory
+own_frame-requires-clause-in_memory g c common = (0, subst (λ (attr : Attr). IsBehind (picture_of c.link_tables.new.core) attr.backing 0) (sym c.zeros.ensures) refl)

@@ -24,9 +24,9 @@ returns-in-Ok-clause-fit g c =
     let regions = c.obtain.new.core.regions.items in
     let place = c.from-place.result in
     let at : place ≡ c.args.pid = c.from-place.ensures ∙ c.get.ensures.number in
-    let zero_page : role_of old.frames 0 ≢ Table = λ e. (let bad : Zero ≡ Table = sym c.len.ensures.sound.zero_role ∙ e in (cc)) in
-    let there : place < length roots = omega (arith, c.get.ensures.range, c.from-place.ensures, c.obtain.ensures.sized.roots) in
-    let there' : place < length regions = omega (arith, c.get.ensures.range, c.from-place.ensures, c.obtain.ensures.sized.regions) in
+    let zero_page : role_of old.frames 0 ≢ Table = λ e. (let bad : Zero ≡ Table = sym c.obtain.new.core.sound.zero_role ∙ e in (cc)) in
+    let there : place < length roots = omega (arith, c.get.ensures.range, c.from-place.ensures, c.obtain.new.core.root_count) in
+    let there' : place < length regions = omega (arith, c.get.ensures.range, c.from-place.ensures, c.obtain.new.core.region_count) in
     let lives : root_in (slice_set roots place (Some c.in-Ok.root)) place ≡ Some c.in-Ok.root.0 =
     ap (λ o. option_map number_of_frame o) (get_or-set_same roots place (Some c.in-Ok.root) None there) in
     steady_fit _

@@ -27,9 +27,9 @@ returns-in-Ok-clause-steady g c =
     let roots = c.obtain.new.core.roots.items in
     let regions = c.obtain.new.core.regions.items in
     let pid = c.args.pid in
-    let zero_page : role_of old.frames 0 ≢ Table = λ e. (let bad : Zero ≡ Table = sym c.len.ensures.sound.zero_role ∙ e in (cc)) in
-    let there : pid < length roots = omega (arith, c.requires.number.1, c.obtain.ensures.sized.roots) in
-    let place : pid < length regions = omega (arith, c.requires.number.1, c.obtain.ensures.sized.regions) in
+    let zero_page : role_of old.frames 0 ≢ Table = λ e. (let bad : Zero ≡ Table = sym c.obtain.new.core.sound.zero_role ∙ e in (cc)) in
+    let there : pid < length roots = omega (arith, c.requires.number.1, c.obtain.new.core.root_count) in
+    let place : pid < length regions = omega (arith, c.requires.number.1, c.obtain.new.core.region_count) in
     let lives : root_in (slice_set roots pid (Some c.in-Ok.root)) pid ≡ Some c.in-Ok.root.0 =
     ap (λ o. option_map number_of_frame o) (get_or-set_same roots pid (Some c.in-Ok.root) None there) in
     steady_spawned mid _ pid c.in-Ok.root.0 (steady_taken old mid c.in-Ok.root.0 steady zero_page adds beside) adds.root adds.spare

@@ -1,4 +1,4 @@
-use Rattle.std.proofs.Common.{[], ◌++◌, arith}
+use Rattle.std.proofs.Common.{[], ◌++◌, None, arith}
 use Rattle.std.proofs.KnownBytes.{Consumes-trans, Consumes-nil}
 use Rattle.runner.specs.declared.engine.RunEnd.TheVariants.{ReadFault}
 use Rattle.runner.proofs.Progress.{IsKept-none, GoesOn-trans}
@@ -11,8 +11,7 @@ returns-in-Some-clause-reads g c =
     let now = c.in-Some.ensures.reads in (
       before.0 ++ now.0,
       Consumes-trans _ _ _ before.0 now.0 before.1 now.1,
-      now.2.0,
-      ends_alike g.D.SectorDisk g.E.SectorDisk c.in-Some.end _ _ _ _ _ _ _ _ (ends_after g.D.SectorDisk g.E.SectorDisk c.in-Some.end _ _ _ before.0 now.0 before.2 now.2.1) [] IsKept-none,
+      ends_alike g.D.SectorDisk g.E.SectorDisk c.in-Some.end _ _ _ _ _ _ _ _ _ (ends_after g.D.SectorDisk g.E.SectorDisk c.in-Some.end _ _ _ _ before.0 now.0 before.2 now.2) [] IsKept-none,
     )
 
 pub loop-i-preserved : goal.loop-i-preserved
@@ -31,7 +30,6 @@ returns-clause-reads g c =
     let before = c.loop-i.invariant.reads in (
       before.0 ++ [],
       Consumes-trans _ _ _ before.0 [] before.1 (Consumes-nil _),
-      tt,
-      ends_alike g.D.SectorDisk g.E.SectorDisk ReadFault _ _ _ _ _ _ _ _
-          (ends_after g.D.SectorDisk g.E.SectorDisk ReadFault _ _ _ before.0 [] before.2 (stops_here g.D.SectorDisk g.E.SectorDisk _ _ _ c.loop-i.output _ c.loop-i.invariant.empty)) [] IsKept-none,
+      ends_alike g.D.SectorDisk g.E.SectorDisk ReadFault None _ _ _ _ _ _ _ _
+          (ends_after g.D.SectorDisk g.E.SectorDisk ReadFault None _ _ _ before.0 [] before.2 (stops_here g.D.SectorDisk g.E.SectorDisk None _ _ _ c.loop-i.output _ c.loop-i.invariant.empty)) [] IsKept-none,
     )

@@ -1,6 +1,6 @@
 use Rattle.std.proofs.Common.{◌≡◌, ◌<◌, ℕ, List, [], length}
 use Rattle.std.specs.Io.KnownBytes.{Consumes}
-use Rattle.machine.specs.Machine.{IsSound}
+use Rattle.machine.specs.Machine.{IsSoundMachine}
 use Rattle.runner.specs.Progress.{stage, GoesOn}
 use Rattle.runner.proofs.engine.run_turns.Given as goal
 
@@ -8,7 +8,7 @@ abbrev pub invariant-loop-i : goal.invariant-loop-i
 invariant-loop-i g l = record {
   input : 0 < length l.input;
   empty : l.output ≡ [];
-  sound : IsSound g.D.SectorDisk g.E.SectorDisk l.machine;
+  sound : IsSoundMachine g.D.SectorDisk g.E.SectorDisk l.machine;
   reads : (bytes : List ℕ) × Consumes (g.R.Read.remaining l.initial.reader) (g.R.Read.remaining l.reader) bytes
       × GoesOn g.D.SectorDisk g.E.SectorDisk (stage l.initial.machine [] [] (g.W.Write.contents l.initial.writer))
       (stage l.machine l.line l.output (g.W.Write.contents l.writer)) bytes;

@@ -1,17 +1,21 @@
-use Rattle.std.proofs.Common.{ℕ, ◌/◌, ◌%◌, List, refl, sym, ap, ◌∙◌, subst}
+use Rattle.std.proofs.Common.{ℕ, ◌≡◌, true, ◌/◌, ◌%◌, List, refl, sym, ap, ◌∙◌, subst}
 use Rattle.fault.specs.Outcome.{Grants, IsRefusal}
 use Rattle.frames.specs.FrameTable.{bytes_of}
 use Rattle.residency.specs.Picture.{picture_of}
+use Rattle.residency.specs.Shows.{KeepsDevices}
 use Rattle.vm_types.specs.declared.access.Access.{Access}
 use Rattle.vm_types.specs.declared.access.Access.TheVariants as Accesses
 use Rattle.vm_types.specs.declared.command.Command.TheVariants.{Load, Fetch}
-use Rattle.vm_types.specs.declared.reply.Reply.{Reply}
+use Rattle.vm_types.specs.declared.reply.Answer.{Answer}
 use Rattle.vm_types.specs.declared.reply.Reply.TheVariants.{Value}
 use Rattle.vm_types.specs.declared.width.Width.{Width}
 use Rattle.vm_types.specs.Access.{loaded}
 use Rattle.vm_types.specs.Width.{byte_count}
-use Rattle.spaces.specs.Calls.{Comes}
+use Rattle.vm_types.specs.Replies.{reply_of}
+use Rattle.spaces.specs.Calls.{Comes, IsCaused}
+use Rattle.spaces.specs.Idle.{is_denial}
 use Rattle.spaces.proofs.Reading.{ready_reads, loads, fetches, load_refused, fetch_refused}
+use Rattle.spaces.proofs.Refusals.{refused_devices, refused_caused}
 use Rattle.spaces.proofs.accesses.read.Goals as goal
 
 pub frame_of-frame-requires : goal.frame_of-frame-requires
@@ -53,7 +57,7 @@ returns-in-Err-clause-load g c = λ is s shows keeps.
     let a = c.args in
     let refusal = subst (λ (p : ℕ). IsRefusal g.D.SectorDisk a.core.now c.access.new.core p a.addr a.width Accesses.Load c.in-Err.refusal) c.in-Some.ensures.found.0
     (subst (λ (k : Access). IsRefusal g.D.SectorDisk a.core.now c.access.new.core c.in-Some.pid a.addr a.width k c.in-Err.refusal) is c.in-Err.ensures.refusal) in
-    subst (λ (r : Reply). Comes g.D.SectorDisk a.core.now c.access.new.core s (Load a.pid a.addr a.width) r) (sym c.refused.ensures)
+    subst (λ (r : Answer). Comes g.D.SectorDisk a.core.now c.access.new.core s (Load a.pid a.addr a.width) (reply_of r)) (sym c.refused.ensures)
     (load_refused g.D.SectorDisk a.core.now c.access.new.core s shows (keeps refl) c.access.ensures.reads c.access.ensures.brings c.requires.sound.fit c.access.ensures.fit c.access.ensures.spaces
     a.pid a.addr c.in-Some.ensures.found.1 a.width c.in-Err.refusal refusal)
 
@@ -63,6 +67,16 @@ returns-in-Err-clause-fetch g c = λ is four s shows keeps.
     let refusal = subst (λ (w : Width). IsRefusal g.D.SectorDisk a.core.now c.access.new.core a.pid a.addr w Accesses.Fetch c.in-Err.refusal) four
     (subst (λ (p : ℕ). IsRefusal g.D.SectorDisk a.core.now c.access.new.core p a.addr a.width Accesses.Fetch c.in-Err.refusal) c.in-Some.ensures.found.0
     (subst (λ (k : Access). IsRefusal g.D.SectorDisk a.core.now c.access.new.core c.in-Some.pid a.addr a.width k c.in-Err.refusal) is c.in-Err.ensures.refusal)) in
-    subst (λ (r : Reply). Comes g.D.SectorDisk a.core.now c.access.new.core s (Fetch a.pid a.addr) r) (sym c.refused.ensures)
+    subst (λ (r : Answer). Comes g.D.SectorDisk a.core.now c.access.new.core s (Fetch a.pid a.addr) (reply_of r)) (sym c.refused.ensures)
     (fetch_refused g.D.SectorDisk a.core.now c.access.new.core s shows (keeps refl) c.access.ensures.reads c.access.ensures.brings c.requires.sound.fit c.access.ensures.fit c.access.ensures.spaces
     a.pid a.addr c.in-Some.ensures.found.1 c.in-Err.refusal refusal)
+
+pub returns-in-Err-clause-idle : goal.returns-in-Err-clause-idle
+returns-in-Err-clause-idle g c =
+    subst (λ (r : Answer). is_denial (reply_of r) ≡ true → KeepsDevices c.args.core.now c.access.new.core) (sym c.refused.ensures)
+    (refused_devices g.D.SectorDisk c.args.core.now c.access.new.core c.in-Some.pid c.args.addr c.args.width c.args.kind c.in-Err.refusal c.in-Err.ensures.refusal)
+
+pub returns-in-Err-clause-caused : goal.returns-in-Err-clause-caused
+returns-in-Err-clause-caused g c =
+    subst (λ (r : Answer). IsCaused g.D.SectorDisk c.args.core.now c.access.new.core (reply_of r)) (sym c.refused.ensures)
+    (refused_caused g.D.SectorDisk c.args.core.now c.access.new.core c.in-Some.pid c.args.addr c.args.width c.args.kind c.in-Err.refusal c.access.ensures.reads.failures c.in-Err.ensures.refusal)

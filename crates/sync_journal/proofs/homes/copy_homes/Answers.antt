@@ -1,5 +1,5 @@
-use Rattle.sync_journal.proofs.Runs.{and_no_write, no_write_and}
+use Rattle.sync_journal.proofs.Runs.{and_no_write}
 use Rattle.sync_journal.proofs.homes.copy_homes.Goals as goal
 
 pub returns-clause-run : goal.returns-clause-run
-returns-clause-run g c = search (and_no_write, no_write_and, c.copy_each.ensures.run, c.sync.ensures)
+returns-clause-run g c = search (and_no_write, c.copy_each.ensures.run, c.sync.ensures)

@@ -1,48 +1,80 @@
-use Rattle.std.proofs.Common.{ℕ, Option, Ok, take, sym, subst, arith}
-use Rattle.std.proofs.lemmas.List.{length-take-le}
-use Rattle.sync_journal.specs.Layout.{home_count}
-use Rattle.sync_journal.specs.Map.{AreHomes}
-use Rattle.sync_journal.specs.Recovery.{GivesHomes}
-use Rattle.sync_journal.proofs.Recoveries.{while_reading, while_replaying, settled_since}
+use Rattle.std.proofs.Common.{ap, ◌∙◌}
+use Rattle.disk_model.specs.Stop.{Image}
+use Rattle.sync_journal.specs.Gate.{is_open}
+use Rattle.disk_model.specs.Moments.{Nothing}
+use Rattle.disk_model.proofs.Moments.{after_none, then}
+use Rattle.sync_journal.specs.Layout.{IsRecovered}
+use Rattle.sync_journal.proofs.Recoveries.{while_reading, while_replaying, bad_since, bad_still, since_first}
 use Rattle.sync_journal.proofs.recovery.recover.Goals as goal
 
-pub slice_bounds-homes-end : goal.slice_bounds-homes-end
-slice_bounds-homes-end g c =
-    let found = subst (λ (o : Option ℕ). GivesHomes (g.D.SectorDisk.sector_count c.args.disk.now) c.find_open.new.homes (Ok o)) c.in-Some.is c.in_ok-count.ensures.gives in
-    omega (arith, found.0, c.type_inv.homes)
+pub returns-in_err-sync-clause-in_a_row : goal.returns-in_err-sync-clause-in_a_row
+returns-in_err-sync-clause-in_a_row g c = λ keeps synced first was.
+    let d = g.D.SectorDisk in
+    let s = c.sync.ensures in
+    let old = c.args.disk.now in
+    let mid = c.sync.new.self in
+    since_first d old mid first was (while_reading d old mid mid (after_none d Nothing old mid (s.same keeps) (s.unsynced keeps) (s.time keeps))
+    (λ image left. g.met.D.SectorDisk.only_now old image (s.kept keeps) left) synced)
 
-pub slice_bounds-replay-end : goal.slice_bounds-replay-end
-slice_bounds-replay-end g c =
-    let found = subst (λ (o : Option ℕ). GivesHomes (g.D.SectorDisk.sector_count c.args.disk.now) c.find_open.new.homes (Ok o)) c.in-Some.is c.in_ok-count.ensures.gives in
-    sym (length-take-le c.in-Some.count c.find_open.new.homes (omega (arith, found.0, c.find_open.array_long)))
+pub returns-clause-bad : goal.returns-clause-bad
+returns-clause-bad g c = λ keeps is.
+    let d = g.D.SectorDisk in
+    let s = c.sync.ensures in
+    let old = c.args.disk.now in
+    let mid = c.sync.new.self in
+    let still = c.recover_synced.ensures.kept keeps in
+    bad_since d old mid mid (after_none d Nothing old mid (s.same still) (s.unsynced still) (s.time still)) s.size (c.recover_synced.ensures.bad keeps is)
 
-pub replay-requires-clause-homes : goal.replay-requires-clause-homes
-replay-requires-clause-homes g c =
-    let found = subst (λ (o : Option ℕ). GivesHomes (g.D.SectorDisk.sector_count c.args.disk.now) c.find_open.new.homes (Ok o)) c.in-Some.is c.in_ok-count.ensures.gives in
-    subst (λ n. AreHomes (home_count n) (take c.in-Some.count c.find_open.new.homes)) (sym c.find_open.ensures.run.size) found.1
-
-pub returns-in_err-replay-clause-any_moment : goal.returns-in_err-replay-clause-any_moment
-returns-in_err-replay-clause-any_moment g c = λ keeps.
-    let run = c.find_open.ensures.run in
-    let mid = c.replay.ensures.run.kept keeps in
-    let before = run.kept mid in
-    while_replaying g.D.SectorDisk c.args.disk.now c.find_open.new.disk c.replay.new.disk (run.touches mid) run.size
-    (while_reading g.D.SectorDisk c.args.disk.now c.find_open.new.disk c.replay.new.disk (run.touches mid)
-    (λ image left. g.met.D.SectorDisk.only_now c.args.disk.now image before left) (c.requires.synced before))
-    (c.replay.ensures.any_moment keeps)
+pub returns-clause-bad_unwritten : goal.returns-clause-bad_unwritten
+returns-clause-bad_unwritten g c = λ keeps bad.
+    let d = g.D.SectorDisk in
+    let s = c.sync.ensures in
+    let old = c.args.disk.now in
+    let mid = c.sync.new.self in
+    let still = c.recover_synced.ensures.kept keeps in
+    let syncs = after_none d Nothing old mid (s.same still) (s.unsynced still) (s.time still) in
+    then d Nothing old mid c.recover_synced.new.disk syncs (c.recover_synced.ensures.bad_unwritten keeps (bad_still d old mid mid syncs s.size bad))
 
 pub returns-clause-any_moment : goal.returns-clause-any_moment
-returns-clause-any_moment g c = λ keeps.
-    let run = c.find_open.ensures.run in
-    let mid = c.replay.ensures.run.kept keeps in
-    let before = run.kept mid in
-    while_replaying g.D.SectorDisk c.args.disk.now c.find_open.new.disk c.replay.new.disk (run.touches mid) run.size
-    (while_reading g.D.SectorDisk c.args.disk.now c.find_open.new.disk c.replay.new.disk (run.touches mid)
-    (λ image left. g.met.D.SectorDisk.only_now c.args.disk.now image before left) (c.requires.synced before))
-    (c.replay.ensures.any_moment keeps)
+returns-clause-any_moment g c = λ keeps synced.
+    let d = g.D.SectorDisk in
+    let s = c.sync.ensures in
+    let old = c.args.disk.now in
+    let mid = c.sync.new.self in
+    let new = c.recover_synced.new.disk in
+    let still = c.recover_synced.ensures.kept keeps in
+    let syncs = after_none d Nothing old mid (s.same still) (s.unsynced still) (s.time still) in
+    while_replaying d old mid new syncs s.size
+    (while_reading d old mid new syncs (λ image left. g.met.D.SectorDisk.only_now old image (s.kept still) left) synced)
+    (c.recover_synced.ensures.any_moment keeps)
 
-pub returns-clause-ok : goal.returns-clause-ok
-returns-clause-ok g c = λ keeps.
-    let run = c.find_open.ensures.run in
-    let mid = c.replay.ensures.run.kept keeps in
-    settled_since g.D.SectorDisk c.args.disk.now c.find_open.new.disk c.replay.new.disk (run.touches mid) run.size (c.in_ok-replay.ensures.settled keeps)
+pub returns-clause-in_a_row : goal.returns-clause-in_a_row
+returns-clause-in_a_row g c = λ keeps synced first was.
+    let d = g.D.SectorDisk in
+    let s = c.sync.ensures in
+    let old = c.args.disk.now in
+    let mid = c.sync.new.self in
+    let new = c.recover_synced.new.disk in
+    let still = c.recover_synced.ensures.kept keeps in
+    let syncs = after_none d Nothing old mid (s.same still) (s.unsynced still) (s.time still) in
+    since_first d old new first was (while_replaying d old mid new syncs s.size
+    (while_reading d old mid new syncs (λ image left. g.met.D.SectorDisk.only_now old image (s.kept still) left) synced)
+    (c.recover_synced.ensures.any_moment keeps))
+
+pub returns-clause-touches : goal.returns-clause-touches
+returns-clause-touches g c = λ keeps.
+    let d = g.D.SectorDisk in
+    let s = c.sync.ensures in
+    let still = c.recover_synced.ensures.kept keeps in
+    then d IsRecovered c.args.disk.now c.sync.new.self c.recover_synced.new.disk
+    (after_none d IsRecovered c.args.disk.now c.sync.new.self (s.same still) (s.unsynced still) (s.time still))
+    (c.recover_synced.ensures.touches keeps)
+
+pub returns-clause-closed_unwritten : goal.returns-clause-closed_unwritten
+returns-clause-closed_unwritten g c = λ keeps closed.
+    let d = g.D.SectorDisk in
+    let s = c.sync.ensures in
+    let still = c.recover_synced.ensures.kept keeps in
+    then d Nothing c.args.disk.now c.sync.new.self c.recover_synced.new.disk
+    (after_none d Nothing c.args.disk.now c.sync.new.self (s.same still) (s.unsynced still) (s.time still))
+    (c.recover_synced.ensures.closed_unwritten keeps (ap (λ (image : Image). is_open image) (s.same still) ∙ closed))

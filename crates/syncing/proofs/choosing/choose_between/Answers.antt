@@ -1,7 +1,7 @@
 use Rattle.std.proofs.Common.{ℕ, ◌≡◌, ◌-◌, arith, subst}
 use Rattle.regions.specs.RunList.{attr_at}
 use Rattle.page_cache.specs.CacheTable.{is_touched}
-use Rattle.syncing.specs.Choice.{is_chosen, is_touched_behind, Appends, Overflows}
+use Rattle.syncing.specs.Choice.{is_chosen, is_taken_behind, Appends, Overflows}
 use Rattle.syncing.proofs.Appending.{on_err}
 use Rattle.syncing.proofs.Walking.{walk_start, walk_on, walk_over, walk_end}
 use Rattle.syncing.proofs.choosing.choose_between.Goals as goal
@@ -21,7 +21,7 @@ loop-page-preserved c =
     let next = c.in-Some.ensures.some in
     let stop = c.min-stop.result in
     let count : c.saturating_sub-pages.result ≡ stop - run.first = omega (arith, c.saturating_sub-pages.ensures) in
-    let step = subst (λ (n : ℕ). Appends (is_touched_behind touched run.attr.backing n) c.loop-page.list c.choose_behind.new.list c.loop-page.count c.in_ok-count.count) count c.in_ok-count.ensures.ok in
+    let step = subst (λ (n : ℕ). Appends (is_taken_behind touched run.attr.backing n) c.loop-page.list c.choose_behind.new.list c.loop-page.count c.in_ok-count.count) count c.in_ok-count.ensures.ok in
     record {
       from = omega (arith, next.from, next.nonempty);
       to = omega arith;
@@ -44,7 +44,7 @@ returns-in_err-count-clause-too_many c =
     let next = c.in-Some.ensures.some in
     let stop = c.min-stop.result in
     let count : c.saturating_sub-pages.result ≡ stop - run.first = omega (arith, c.saturating_sub-pages.ensures) in
-    let step = subst (λ (n : ℕ). Overflows (is_touched_behind touched run.attr.backing n) c.loop-page.list c.loop-page.count) count c.in_err-count.ensures.too_many in
+    let step = subst (λ (n : ℕ). Overflows (is_taken_behind touched run.attr.backing n) c.loop-page.list c.loop-page.count) count c.in_err-count.ensures.too_many in
     on_err c.from_residual.result
     (walk_over touched map c.args.first c.loop-page.page stop c.args.end run c.args.list.now c.loop-page.list c.loop-page.count
     next c.loop-page.invariant.from c.loop-page.invariant.to (omega arith) (omega arith) c.loop-page.invariant.chosen step)

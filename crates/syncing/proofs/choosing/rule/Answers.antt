@@ -16,7 +16,7 @@ returns-then-not-covers-clause-same g c = λ s shows.
     let core = c.args.core.now in
     let a = c.args in
     let map = attr_at c.index-regions.result.now in
-    let below : a.pid < length core.regions.items = (let small = c.lives.ensures.number c.if-not-lives.false in omega (arith, small, c.requires.sized.regions)) in
+    let below : a.pid < length core.regions.items = (let small = c.lives.ensures.number c.if-not-lives.false in omega (arith, small, c.args.core.now.region_count)) in
     let live = sym c.lives.ensures.live ∙ c.if-not-lives.false in
     let at = map_of core a.pid c.index-regions.result.now live (sym (get_or_read core.regions.items a.pid _ below c.index-regions.ensures [])) in
     let p = the_process (picture_of core) map s a.pid c.lives.result shows c.lives.ensures.live c.if-not-lives.false at in
@@ -30,7 +30,7 @@ choose-requires-clause-user g c =
     let core = c.args.core.now in
     let a = c.args in
     let map = attr_at c.index-regions.result.now in
-    let below : a.pid < length core.regions.items = (let small = c.lives.ensures.number c.if-not-lives.false in omega (arith, small, c.requires.sized.regions)) in
+    let below : a.pid < length core.regions.items = (let small = c.lives.ensures.number c.if-not-lives.false in omega (arith, small, c.args.core.now.region_count)) in
     let live = sym c.lives.ensures.live ∙ c.if-not-lives.false in
     let at = map_of core a.pid c.index-regions.result.now live (sym (get_or_read core.regions.items a.pid _ below c.index-regions.ensures [])) in
     user_map-same ((picture_of core).at a.pid) map (λ page. sym (at page)) (c.requires.fit.granting.user a.pid)
@@ -40,7 +40,7 @@ returns-in-Async-clause-same g c = λ s shows.
     let core = c.args.core.now in
     let a = c.args in
     let map = attr_at c.index-regions.result.now in
-    let below : a.pid < length core.regions.items = (let small = c.lives.ensures.number c.if-not-lives.false in omega (arith, small, c.requires.sized.regions)) in
+    let below : a.pid < length core.regions.items = (let small = c.lives.ensures.number c.if-not-lives.false in omega (arith, small, c.args.core.now.region_count)) in
     let live = sym c.lives.ensures.live ∙ c.if-not-lives.false in
     let at = map_of core a.pid c.index-regions.result.now live (sym (get_or_read core.regions.items a.pid _ below c.index-regions.ensures [])) in
     let p = the_process (picture_of core) map s a.pid c.lives.result shows c.lives.ensures.live c.if-not-lives.false at in
@@ -54,7 +54,7 @@ returns-in-Sync-clause-same g c = λ s shows.
     let core = c.args.core.now in
     let a = c.args in
     let map = attr_at c.index-regions.result.now in
-    let below : a.pid < length core.regions.items = (let small = c.lives.ensures.number c.if-not-lives.false in omega (arith, small, c.requires.sized.regions)) in
+    let below : a.pid < length core.regions.items = (let small = c.lives.ensures.number c.if-not-lives.false in omega (arith, small, c.args.core.now.region_count)) in
     let live = sym c.lives.ensures.live ∙ c.if-not-lives.false in
     let at = map_of core a.pid c.index-regions.result.now live (sym (get_or_read core.regions.items a.pid _ below c.index-regions.ensures [])) in
     let p = the_process (picture_of core) map s a.pid c.lives.result shows c.lives.ensures.live c.if-not-lives.false at in

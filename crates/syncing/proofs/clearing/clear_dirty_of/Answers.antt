@@ -4,7 +4,7 @@ use Rattle.std.specs.Prelude.{is_some}
 use Rattle.std.proofs.lemmas.Bool.{cases_lt}
 use Rattle.std.proofs.lemmas.List.{get_or_read}
 use Rattle.residency.specs.Picture.{picture_of, number_of_frame}
-use Rattle.syncing.specs.Settling.{cached_at, frame_at}
+use Rattle.syncing.specs.Settling.{cached_at, frame_at, IsFrameIn}
 use Rattle.syncing.proofs.Besides.{frames_none, frames_then}
 use Rattle.syncing.proofs.Leaves.{clears_none, clears_then, cached_kept, still_clear, clear_unmapped, clear_dead, run_of}
 use Rattle.syncing.proofs.Rulings.{map_of}
@@ -12,16 +12,15 @@ use Rattle.syncing.proofs.clearing.clear_dirty_of.Goals as goal
 
 pub loop-run-init : goal.loop-run-init
 loop-run-init g c = record {
-  sized = c.requires.sized;
   fit = c.requires.fit;
   beside = frames_none c.args.core.now;
-  clears = clears_none (picture_of c.args.core.now);
+  clears = clears_none (IsFrameIn c.args.pages.now) (picture_of c.args.core.now);
   clear = λ i k less low high. absurd (omega arith);
 }
 
 pub clear_dirty_in-requires-clause-cached : goal.clear_dirty_in-requires-clause-cached
 clear_dirty_in-requires-clause-cached g c =
-    cached_kept (picture_of c.args.core.now) (picture_of c.loop-run.core) c.args.pages.now c.loop-run.invariant.clears c.requires.cached
+    cached_kept (IsFrameIn c.args.pages.now) (picture_of c.args.core.now) (picture_of c.loop-run.core) c.args.pages.now c.loop-run.invariant.clears c.requires.cached
 
 pub clear_dirty_in-requires-clause-lives : goal.clear_dirty_in-requires-clause-lives
 clear_dirty_in-requires-clause-lives g c =
@@ -29,7 +28,7 @@ clear_dirty_in-requires-clause-lives g c =
     let b = c.loop-run.core in
     let pid = c.args.pid in
     let kept = c.loop-run.invariant in
-    let place : pid < length a.roots.items = omega (arith, c.requires.number, c.requires.sized.roots) in
+    let place : pid < length a.roots.items = omega (arith, c.requires.number, c.args.core.now.root_count) in
     let lived : (picture_of a).root pid ≡ Some c.in-Some.root.0 =
     ap (λ o. option_map number_of_frame o) (sym (get_or_read a.roots.items pid _ place c.index.ensures None) ∙ c.in-Some.is) in
     let lives : (picture_of b).root pid ≡ Some c.in-Some.root.0 = kept.clears.beside.root pid ∙ lived in
@@ -41,11 +40,11 @@ clear_dirty_in-requires-clause-run g c =
     let b = c.loop-run.core in
     let pid = c.args.pid in
     let kept = c.loop-run.invariant in
-    let place : pid < length a.roots.items = omega (arith, c.requires.number, c.requires.sized.roots) in
+    let place : pid < length a.roots.items = omega (arith, c.requires.number, c.args.core.now.root_count) in
     let lived : (picture_of a).root pid ≡ Some c.in-Some.root.0 =
     ap (λ o. option_map number_of_frame o) (sym (get_or_read a.roots.items pid _ place c.index.ensures None) ∙ c.in-Some.is) in
     let lives : (picture_of b).root pid ≡ Some c.in-Some.root.0 = kept.clears.beside.root pid ∙ lived in
-    let below : pid < length b.regions.items = omega (arith, c.requires.number, kept.sized.regions) in
+    let below : pid < length b.regions.items = omega (arith, c.requires.number, b.region_count) in
     let at = map_of b pid c.index-in-loop-run.result.now (ap is_some lives) (sym (get_or_read b.regions.items pid _ below c.index-in-loop-run.ensures [])) in
     run_of (picture_of b) pid c.index-in-loop-run.result.now c.loop-run.page c.in-Some-next_run.run' at c.in-Some-next_run.ensures.some
 
@@ -55,23 +54,22 @@ loop-run-preserved g c =
     let b = c.loop-run.core in
     let pid = c.args.pid in
     let kept = c.loop-run.invariant in
-    let place : pid < length a.roots.items = omega (arith, c.requires.number, c.requires.sized.roots) in
+    let place : pid < length a.roots.items = omega (arith, c.requires.number, c.args.core.now.root_count) in
     let lived : (picture_of a).root pid ≡ Some c.in-Some.root.0 =
     ap (λ o. option_map number_of_frame o) (sym (get_or_read a.roots.items pid _ place c.index.ensures None) ∙ c.in-Some.is) in
     let lives : (picture_of b).root pid ≡ Some c.in-Some.root.0 = kept.clears.beside.root pid ∙ lived in
-    let below : pid < length b.regions.items = omega (arith, c.requires.number, kept.sized.regions) in
+    let below : pid < length b.regions.items = omega (arith, c.requires.number, b.region_count) in
     let at = map_of b pid c.index-in-loop-run.result.now (ap is_some lives) (sym (get_or_read b.regions.items pid _ below c.index-in-loop-run.ensures [])) in
-    let cached = cached_kept (picture_of a) (picture_of b) c.args.pages.now kept.clears c.requires.cached in
+    let cached = cached_kept (IsFrameIn c.args.pages.now) (picture_of a) (picture_of b) c.args.pages.now kept.clears c.requires.cached in
     let done = c.clear_dirty_in.ensures in
     let after = picture_of c.clear_dirty_in.new.core in
     let next = c.in-Some-next_run.ensures.some in
     record {
-      sized = done.sized;
       fit = done.fit;
       beside = frames_then a b c.clear_dirty_in.new.core kept.beside done.beside;
-      clears = clears_then (picture_of a) (picture_of b) after kept.clears done.clears;
+      clears = clears_then (IsFrameIn c.args.pages.now) (picture_of a) (picture_of b) after kept.clears done.clears;
       clear = λ i k less zero high. elim (cases_lt k c.in-Some-next_run.run'.first) [
-        | inl early ↦ still_clear (picture_of b) after pid k (frame_at c.args.pages.now i) done.clears (let small = next.high in omega arith)
+        | inl early ↦ still_clear (IsFrameIn c.args.pages.now) (picture_of b) after pid k (frame_at c.args.pages.now i) done.clears (let small = next.high in omega arith)
             (elim (cases_lt k c.loop-run.page) [
               | inl passed ↦ kept.clear i k less zero passed
               | inr late ↦ clear_unmapped (picture_of b) pid k (cached_at c.args.pages.now i) kept.fit (let small = next.high in omega arith) (cached.each i less)
@@ -85,7 +83,7 @@ pub returns-in_default-clause-clear : goal.returns-in_default-clause-clear
 returns-in_default-clause-clear g c = λ i k less h.
     let a = c.args.core.now in
     let pid = c.args.pid in
-    let place : pid < length a.roots.items = omega (arith, c.requires.number, c.requires.sized.roots) in
+    let place : pid < length a.roots.items = omega (arith, c.requires.number, c.args.core.now.root_count) in
     let dead : (picture_of a).root pid ≡ None = ap (λ o. option_map number_of_frame o) (sym (get_or_read a.roots.items pid _ place c.index.ensures None) ∙ c.in_default.is) in
     clear_dead (picture_of a) pid k (frame_at c.args.pages.now i) dead
 
@@ -95,15 +93,14 @@ returns g c =
     let b = c.loop-run.core in
     let pid = c.args.pid in
     let kept = c.loop-run.invariant in
-    let place : pid < length a.roots.items = omega (arith, c.requires.number, c.requires.sized.roots) in
+    let place : pid < length a.roots.items = omega (arith, c.requires.number, c.args.core.now.root_count) in
     let lived : (picture_of a).root pid ≡ Some c.in-Some.root.0 =
     ap (λ o. option_map number_of_frame o) (sym (get_or_read a.roots.items pid _ place c.index.ensures None) ∙ c.in-Some.is) in
     let lives : (picture_of b).root pid ≡ Some c.in-Some.root.0 = kept.clears.beside.root pid ∙ lived in
-    let below : pid < length b.regions.items = omega (arith, c.requires.number, kept.sized.regions) in
+    let below : pid < length b.regions.items = omega (arith, c.requires.number, b.region_count) in
     let at = map_of b pid c.index-in-loop-run.result.now (ap is_some lives) (sym (get_or_read b.regions.items pid _ below c.index-in-loop-run.ensures [])) in
-    let cached = cached_kept (picture_of a) (picture_of b) c.args.pages.now kept.clears c.requires.cached in
+    let cached = cached_kept (IsFrameIn c.args.pages.now) (picture_of a) (picture_of b) c.args.pages.now kept.clears c.requires.cached in
     record {
-      sized = kept.sized;
       fit = kept.fit;
       beside = kept.beside;
       clears = kept.clears;

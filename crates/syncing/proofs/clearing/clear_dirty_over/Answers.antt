@@ -1,4 +1,4 @@
-use Rattle.std.proofs.Common.{ℕ, inl, inr, sym, subst, arith}
+use Rattle.std.proofs.Common.{ℕ, ◌≡◌, inl, inr, sym, subst, arith}
 use Rattle.std.proofs.lemmas.Bool.{cases_eq}
 use Rattle.residency.specs.Picture.{picture_of}
 use Rattle.syncing.specs.Settling.{IsClearAt}
@@ -14,7 +14,7 @@ returns-in-Some-clause-clear g c = λ k low high.
     let page = c.in-Some.page in
     elim (cases_eq k page) [
       | inl same ↦ (let P : ℕ → Type 0 = λ j. IsClearAt new pid j x.frame.0 in subst P (sym same) c.clear_dirty_at.ensures.clear)
-      | inr ne ↦ still_clear old new pid k x.frame.0 c.clear_dirty_at.ensures.clears (let small = c.requires.run.high in omega arith)
+      | inr ne ↦ still_clear (λ n. n ≡ x.frame.0) old new pid k x.frame.0 c.clear_dirty_at.ensures.clears (let small = c.requires.run.high in omega arith)
           (clear_other old pid k c.args.run x c.requires.fit c.requires.cached c.requires.run low high (λ over. ne (one_over c.args.run x.page k page over c.in-Some.ensures.some)))
     ]
 

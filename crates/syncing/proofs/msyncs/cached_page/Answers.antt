@@ -10,8 +10,8 @@ unreachable-requires g c =
 
 pub bytes-requires : goal.bytes-requires
 bytes-requires g c =
-    cache_inside c.args.core.now.frames c.in-Frame.frame.0 c.len.ensures.sound (c.requires.fit.places.cached c.args.page c.in-Frame.frame.0 (sym c.in-Frame.ensures))
+    cache_inside c.args.core.now.frames c.in-Frame.frame.0 c.args.core.now.sound (c.requires.fit.places.cached c.args.page c.in-Frame.frame.0 (sym c.in-Frame.ensures))
 
 pub returns-clause-cached : goal.returns-clause-cached
 returns-clause-cached g c =
-    is_cached (picture_of c.args.core.now) (record { page = c.args.page; frame = c.in-Frame.frame }) c.requires.fit.places c.len.ensures.sound (sym c.in-Frame.ensures)
+    is_cached (picture_of c.args.core.now) (record { page = c.args.page; frame = c.in-Frame.frame }) c.requires.fit.places c.args.core.now.sound (sym c.in-Frame.ensures)

@@ -1,11 +1,11 @@
-use Rattle.std.proofs.Common.{◌≡◌, length, take, refl, sym, subst}
+use Rattle.std.proofs.Common.{◌≡◌, inl, inr, length, take, refl, sym, subst}
 use Rattle.disk_model.specs.Moments.{LeavesNow}
 use Rattle.file_store.specs.declared.store.FileStore.{FileStore}
 use Rattle.file_store.specs.Standing.{StandsFor}
-use Rattle.file_store.specs.Store.{IsReady}
+use Rattle.file_store.specs.Store.{IsReadyStore}
 use Rattle.vm_types.specs.Msync.{committed}
-use Rattle.residency.specs.Picture.{picture_of}
-use Rattle.syncing.proofs.Committing.{are_pages, are_cached, front_lists, changes, synced_shows, device_failed, fit_files, settles_files, commit_done, commit_failed, StoreCommits}
+use Rattle.residency.specs.Picture.{picture_of, entry}
+use Rattle.syncing.proofs.Committing.{are_pages, are_cached, front_lists, changes, synced_shows, entries_synced, device_failed, fit_files, settles_files, commit_done, commit_failed, StoreCommits}
 use Rattle.syncing.proofs.msyncs.commit.Goals as goal
 
 pub commit-requires-clause-pages : goal.commit-requires-clause-pages
@@ -51,12 +51,12 @@ returns-in-Ok-clause-commits g c = λ s after pid addr len mode shows takes same
     let P : FileStore g.row.D.Denot → Type 0 = λ x. StoreCommits g.D.SectorDisk n s.files s.durable taken old.store x in
     let Q : FileStore g.row.D.Denot → Type 0 = λ x. g.D.SectorDisk.keeps_model x.disk → LeavesNow g.D.SectorDisk old.store.disk (StandsFor n s.files s.durable)
     → LeavesNow g.D.SectorDisk x.disk (StandsFor n s.files taken) in
-    let R : FileStore g.row.D.Denot → Type 0 = λ x. IsReady g.D.SectorDisk x in
+    let R : FileStore g.row.D.Denot → Type 0 = λ x. IsReadyStore g.D.SectorDisk x in
     commit_done g.D.SectorDisk old new s after pid addr len mode ch shows same takes c.settle.ensures.beside.swap
     (subst P (sym store) commits_to)
     (subst Q (sym store) (λ k now. c.in-Ok.ensures.ok k tt s.files s.durable taken now change))
     (synced_shows (picture_of old) s pid same.first same.count front list c.requires.sound.fit shows.pages frames lists (picture_of new) settles)
-    (record { ready = subst R (sym store) c.in-Ok.ensures.ready; sized = c.settle.ensures.sized; fit = c.settle.ensures.fit })
+    (record { ready = subst R (sym store) c.in-Ok.ensures.ready; fit = c.settle.ensures.fit })
 
 pub returns-in-Err-clause-commits : goal.returns-in-Err-clause-commits
 returns-in-Err-clause-commits g c = λ s after pid addr len mode shows takes same.
@@ -94,3 +94,21 @@ returns-in-Ok-clause-size g c =
 
 pub returns-in-Err-clause-cause : goal.returns-in-Err-clause-cause
 returns-in-Err-clause-cause g c = λ same. device_failed _ _ c.in-Err.field-0 c.in-Err.ensures.causes
+
+pub returns-in-Ok-clause-entries : goal.returns-in-Ok-clause-entries
+returns-in-Ok-clause-entries g c =
+    let old = c.args.core.now in
+    let ch = c.args.chosen.now in
+    let list = take (length (take ch.count ch.list)) c.cached_pages-cached.result in
+    entries_synced (picture_of old) (picture_of c.settle.new.core) ch list c.requires.sound.fit c.requires.listed c.cached_pages-cached.ensures
+    (settles_files (picture_of old) (picture_of c.settle.new.core) list old.store.directory c.commit.new.self.directory c.in-Ok.ensures.files c.settle.ensures.settles)
+
+pub returns-in-Err-clause-entries : goal.returns-in-Err-clause-entries
+unfolding entry
+returns-in-Err-clause-entries g c = λ pid page h. inl refl
+
+pub returns-in-Ok-clause-answers : goal.returns-in-Ok-clause-answers
+returns-in-Ok-clause-answers g c = inl refl
+
+pub returns-in-Err-clause-answers : goal.returns-in-Err-clause-answers
+returns-in-Err-clause-answers g c = inr refl

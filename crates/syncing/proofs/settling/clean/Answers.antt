@@ -1,11 +1,11 @@
-use Rattle.std.proofs.Common.{◌≡◌, ℕ, ◌<◌, length, subst, arith}
-use Rattle.syncing.specs.Settling.{Cleans}
-use Rattle.syncing.proofs.Cleaning.{cleans_none, clear_cleaned, cached_cleaned, sized_cleaned, fit_cleaned, cleans_more}
+use Rattle.std.proofs.Common.{◌≡◌, ℕ, ◌<◌, length, refl, subst, arith}
+use Rattle.syncing.specs.Settling.{Cleans, cached_at, frame_at}
+use Rattle.residency.specs.Picture.{picture_of}
+use Rattle.syncing.proofs.Cleaning.{cleans_none, clear_cleaned, cached_cleaned, fit_untouched, all_placed, cleans_more}
 use Rattle.syncing.proofs.settling.clean.Goals as goal
 
 pub loop-i-init : goal.loop-i-init
 loop-i-init g c = record {
-  sized = c.requires.sized;
   fit = c.requires.fit;
   cleans = cleans_none c.args.core.now c.args.pages.now;
 }
@@ -23,17 +23,26 @@ loop-i-preserved g c =
     let untouched = c.clean.ensures.untouched in
     let placed = c.clean.ensures.placed in
     record {
-      sized = sized_cleaned a b list i t kept.cleans same untouched placed kept.sized;
-      fit = fit_cleaned a b list i t kept.cleans same untouched placed less kept.fit (cached_cleaned a b list i kept.cleans c.requires.cached)
-          (clear_cleaned a b list i kept.cleans c.requires.clear);
-      cleans = cleans_more a b list i t kept.cleans same untouched placed c.requires.cached less;
+      fit = fit_untouched (picture_of b) _ (cached_at list i).page (frame_at list i) kept.fit
+          (record {
+            frames = refl;
+            root = λ p. refl;
+            at = λ p k. refl;
+            page_of = λ x. refl;
+            files = λ f. refl;
+            place = all_placed b.cache t (cached_at list i).page same placed;
+            now = untouched;
+            others = same.touched;
+          })
+          ((cached_cleaned a b list i kept.cleans c.requires.cached).each i less).placed
+          (λ pid k h. clear_cleaned a b list i kept.cleans c.requires.clear pid i k less h);
+      cleans = cleans_more a b _ list i kept.cleans (record { store = refl; swap = refl; roots = refl; regions = refl; page_of = refl; refused = refl }) refl same untouched placed c.requires.cached less;
     }
 
 pub returns : goal.returns
 returns g c =
     let at_end : c.loop-i.i ≡ length c.args.pages.now = omega (arith, c.loop-i.auto.i-end, c.loop-i-test.false) in
     record {
-      sized = c.loop-i.invariant.sized;
       fit = c.loop-i.invariant.fit;
       cleans = subst (λ (n : ℕ). Cleans c.args.core.now c.loop-i.core c.args.pages.now n) at_end c.loop-i.invariant.cleans;
     }

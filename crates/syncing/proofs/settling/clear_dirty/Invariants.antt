@@ -1,14 +1,13 @@
 use Rattle.std.proofs.Common.{ℕ, ◌<◌}
 use Rattle.residency.specs.Picture.{picture_of}
-use Rattle.residency.specs.Parts.{IsSized, IsFit}
-use Rattle.syncing.specs.Settling.{KeepsAllButFrames, ClearsDirty, AreClear}
+use Rattle.residency.specs.Parts.{IsFit}
+use Rattle.syncing.specs.Settling.{KeepsAllButFrames, ClearsDirty, AreClear, IsFrameIn}
 use Rattle.syncing.proofs.settling.clear_dirty.Given as goal
 
 abbrev pub invariant-loop-pid : goal.invariant-loop-pid
 invariant-loop-pid g l = record {
-  sized : IsSized l.core;
   fit : IsFit (picture_of l.core);
   beside : KeepsAllButFrames l.fn.core l.core;
-  clears : ClearsDirty (picture_of l.fn.core) (picture_of l.core);
+  clears : ClearsDirty (IsFrameIn l.pages) (picture_of l.fn.core) (picture_of l.core);
   clear : (q : ℕ) → q < l.pid → AreClear (picture_of l.core) q l.pages;
 }

@@ -9,7 +9,6 @@ use Rattle.syncing.proofs.settling.cut_tails.Goals as goal
 
 pub loop-i-init : goal.loop-i-init
 loop-i-init g c = record {
-  sized = c.requires.sized;
   fit = c.requires.fit;
   beside = frames_none c.args.core.now;
   cached = c.requires.cached;
@@ -30,7 +29,6 @@ loop-i-preserved g c =
     let cache = kept.fit.places.cached x.page (frame_at list i) (kept.cached.each i less).placed in
     let beside = same_beside c.loop-i.core c.cut_tail.new.core c.cut_tail.ensures.beside in
     record {
-      sized = c.cut_tail.ensures.sized;
       fit = c.cut_tail.ensures.fit;
       beside = frames_then c.args.core.now c.loop-i.core c.cut_tail.new.core kept.beside c.cut_tail.ensures.beside;
       cached = cached_cut b after (frame_at list i) w kept.fit cache c.cut_tail.ensures.cuts beside list kept.cached;
@@ -41,7 +39,6 @@ pub returns : goal.returns
 returns g c =
     let at_end : c.loop-i.i ≡ length c.args.pages.now = omega (arith, c.loop-i.auto.i-end, c.loop-i-test.false) in
     record {
-      sized = c.loop-i.invariant.sized;
       fit = c.loop-i.invariant.fit;
       beside = c.loop-i.invariant.beside;
       cuts = subst (λ (n : ℕ). CutsTails (picture_of c.args.core.now) (picture_of c.loop-i.core) c.args.pages.now n) at_end c.loop-i.invariant.cuts;

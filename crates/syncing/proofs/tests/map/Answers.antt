@@ -26,7 +26,7 @@ returns-clause-fit g c = map_ok c.replace.result (λ ok.
     let pid = c.args.pid in
     let before = c.index_mut.result.now in
     let runs = c.replace.new.self in
-    let place : pid < length regions = omega (arith, c.requires.number, c.requires.sized.regions) in
+    let place : pid < length regions = omega (arith, c.requires.number, c.args.core.now.region_count) in
     let attr : Attr = record { prot = record { 0 = 1 }; backing = Shared (record { file = 0; page = 0 }) } in
     let reads : ReadsToo attr.prot = λ w. refl in
     let was = map_of core pid before c.requires.live (sym (get_or_read regions pid _ place c.index_mut.ensures.value [])) in

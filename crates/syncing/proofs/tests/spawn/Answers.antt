@@ -26,9 +26,9 @@ returns-clause-fit g c =
     let roots = core.roots.items in
     let regions = core.regions.items in
     let pid = c.args.pid in
-    let zero_page : role_of old.frames 0 ≢ Table = λ e. (let bad : Zero ≡ Table = sym c.len.ensures.sound.zero_role ∙ e in (cc)) in
-    let there : pid < length roots = omega (arith, c.requires.number.1, c.requires.sized.roots) in
-    let place : pid < length regions = omega (arith, c.requires.number.1, c.requires.sized.regions) in
+    let zero_page : role_of old.frames 0 ≢ Table = λ e. (let bad : Zero ≡ Table = sym c.args.core.now.sound.zero_role ∙ e in (cc)) in
+    let there : pid < length roots = omega (arith, c.requires.number.1, c.args.core.now.root_count) in
+    let place : pid < length regions = omega (arith, c.requires.number.1, c.args.core.now.region_count) in
     let lives : root_in (slice_set roots pid (Some n)) pid ≡ Some n.0 = ap (λ o. option_map number_of_frame o) (get_or-set_same roots pid (Some n) None there) in
     steady_fit _
     (steady_spawned mid _ pid n.0 (steady_taken old mid n.0 steady zero_page adds beside) adds.root adds.spare
@@ -58,6 +58,6 @@ returns-clause-bare g c = λ page.
     let roots = c.args.core.now.roots.items in
     let n = c.in_ok-root.root in
     let pid = c.args.pid in
-    let there : pid < length roots = omega (arith, c.requires.number.1, c.requires.sized.roots) in
+    let there : pid < length roots = omega (arith, c.requires.number.1, c.args.core.now.root_count) in
     let lives : root_in (slice_set roots pid (Some n)) pid ≡ Some n.0 = ap (λ o. option_map number_of_frame o) (get_or-set_same roots pid (Some n) None there) in
     entry-of _ pid n.0 page lives ∙ spare_entry c.take_table.new.frames n.0 page c.in_ok-root.ensures.taken.spare

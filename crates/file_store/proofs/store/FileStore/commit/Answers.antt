@@ -7,12 +7,13 @@ use Rattle.sync_journal.specs.Commit.{IsKept, changed}
 use Rattle.sync_journal.specs.Commit.{StandsForEither as HomesStandForEither}
 use Rattle.file_store.specs.Layout.{trimmed}
 use Rattle.file_store.specs.Standing.{StandsFor}
-use Rattle.file_store.specs.Store.{inside_at, files_of}
+use Rattle.file_store.specs.Store.{inside_at, files_of, PutsHomesOrNone}
 use Rattle.file_store.specs.Commit.{StandsForEither}
 use Rattle.file_store.proofs.Reading.{has_content}
 use Rattle.file_store.proofs.Homes.{entry_page}
 use Rattle.file_store.proofs.Images.{stands_kept}
-use Rattle.file_store.proofs.Changed.{are_homes, homes_front, stands_changed, stands_either}
+use Rattle.file_store.proofs.Rests.{ready_again}
+use Rattle.file_store.proofs.Changed.{are_homes, homes_front, stands_changed, stands_either, homes_put, homes_either}
 use Rattle.file_store.proofs.store.FileStore.commit.Goals as goal
 
 pub homes_of-homes-requires-clause-inside : goal.homes_of-homes-requires-clause-inside
@@ -27,6 +28,16 @@ commit-requires-clause-homes g c =
     let of_list = homes_front directory c.args.pages.now c.homes_of-homes.result (let few = c.requires.pages.few in omega (arith, few, long)) c.homes_of-homes.ensures
     (λ i p at. entry_page sectors directory c.requires.ready.sound p (c.requires.pages.inside i p at)) in
     are_homes sectors directory (files_of c.args.self.now) c.args.pages.now (take (length c.args.pages.now) c.homes_of-homes.result) c.requires.ready.sound c.requires.pages of_list
+
+pub returns-clause-ready : goal.returns-clause-ready
+returns-clause-ready g c =
+    let sectors = g.D.SectorDisk.sector_count c.args.self.now.disk in
+    let directory = c.args.self.now.directory in
+    let long : length c.homes_of-homes.result ≡ 127 = search rules in
+    let of_list = homes_front directory c.args.pages.now c.homes_of-homes.result (let few = c.requires.pages.few in omega (arith, few, long)) c.homes_of-homes.ensures
+    (λ i p at. entry_page sectors directory c.requires.ready.sound p (c.requires.pages.inside i p at)) in
+    ready_again g.D.SectorDisk c.commit.result c.args.self.now c.commit.new.disk c.commit.new.self (take (length c.args.pages.now) c.homes_of-homes.result) c.requires.ready
+    c.commit.ensures.size c.commit.ensures.kept (are_homes sectors directory (files_of c.args.self.now) c.args.pages.now (take (length c.args.pages.now) c.homes_of-homes.result) c.requires.ready.sound c.requires.pages of_list) c.commit.ensures.live c.commit.ensures.rest c.commit.ensures.outside
 
 pub returns-clause-asks : goal.returns-clause-asks
 returns-clause-asks g c = let a = c.commit.ensures.asks.follows.1 in search rules
@@ -83,3 +94,43 @@ returns-clause-source_now g c = λ k is files before left image may.
     let was = has_content g.D.SectorDisk c.args.self.now.disk (StandsFor sectors files before) left in
     let settled = c.commit.ensures.source k is in
     stands_kept sectors old image (settled.left image may) files before was
+
+pub returns-clause-homes : goal.returns-clause-homes
+returns-clause-homes g c = λ k ks.
+    let ks' : g.S.PageSource.keeps_model c.commit.new.source.source.now = search rules in
+    let sectors = g.D.SectorDisk.sector_count c.args.self.now.disk in
+    let directory = c.args.self.now.directory in
+    let list = c.args.pages.now in
+    let given = g.S.PageSource.pages c.args.source.now in
+    let old = g.D.SectorDisk.content c.args.self.now.disk in
+    let homes = take (length list) c.homes_of-homes.result in
+    let rest = c.requires.ready.at_rest (c.commit.ensures.kept k) in
+    let long : length c.homes_of-homes.result ≡ 127 = search rules in
+    let of_list = homes_front directory list c.homes_of-homes.result (let few = c.requires.pages.few in omega (arith, few, long)) c.homes_of-homes.ensures
+    (λ i p at. entry_page sectors directory c.requires.ready.sound p (c.requires.pages.inside i p at)) in
+    let are = are_homes sectors directory (files_of c.args.self.now) list homes c.requires.ready.sound c.requires.pages of_list in
+    on_ok_weaker c.commit.result (λ settled image may. homes_put sectors directory list homes given old image c.requires.ready.sound rest.directory of_list
+    (settled.left image may) are) (c.commit.ensures.ok k ks')
+
+pub returns-clause-homes_moment : goal.returns-clause-homes_moment
+returns-clause-homes_moment g c = λ k ks.
+    let ks' : g.S.PageSource.keeps_model c.commit.new.source.source.now = search rules in
+    let sectors = g.D.SectorDisk.sector_count c.args.self.now.disk in
+    let directory = c.args.self.now.directory in
+    let list = c.args.pages.now in
+    let given = g.S.PageSource.pages c.args.source.now in
+    let old = g.D.SectorDisk.content c.args.self.now.disk in
+    let homes = take (length list) c.homes_of-homes.result in
+    let rest = c.requires.ready.at_rest (c.commit.ensures.kept k) in
+    let long : length c.homes_of-homes.result ≡ 127 = search rules in
+    let of_list = homes_front directory list c.homes_of-homes.result (let few = c.requires.pages.few in omega (arith, few, long)) c.homes_of-homes.ensures
+    (λ i p at. entry_page sectors directory c.requires.ready.sound p (c.requires.pages.inside i p at)) in
+    let are = are_homes sectors directory (files_of c.args.self.now) list homes c.requires.ready.sound c.requires.pages of_list in
+    weaker g.D.SectorDisk c.args.self.now.disk c.commit.new.disk
+    (IsKept sectors old (HomesStandForEither (standing old) (changed (standing old) homes (λ i. trimmed (inside_at directory list i) (given i)))))
+    (PutsHomesOrNone sectors directory list given old)
+    (λ image kept. homes_either sectors directory list homes given old image c.requires.ready.sound rest.directory of_list are kept)
+    (c.commit.ensures.any_moment k ks')
+
+pub returns-clause-source_homes : goal.returns-clause-source_homes
+returns-clause-source_homes g c = λ k is. (c.commit.ensures.source k is).left

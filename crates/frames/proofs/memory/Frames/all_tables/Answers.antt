@@ -27,4 +27,7 @@ invariant_of-result c =
     (IsSound-made _ c.loop-n.n (omega arith) (omega arith) c.loop-n.invariant.0, IsChained-made _ c.loop-n.n c.loop-n.invariant.0)
 
 pub returns : goal.returns
-returns c = record { tables = IsAllTables-made _ c.loop-n.n c.args.count (omega arith) c.loop-n.invariant.0 }
+returns c = record {
+  tables = IsAllTables-made _ c.loop-n.n c.args.count (omega arith) c.loop-n.invariant.0;
+  sound = IsSound-made _ c.loop-n.n (omega arith) (omega arith) c.loop-n.invariant.0;
+}

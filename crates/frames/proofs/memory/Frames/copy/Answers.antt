@@ -17,5 +17,5 @@ invariant_of-self c =
     let target = rw (← c.self.view_is) at c.requires.target in
     rw (copied c) (written (table_of c.self.inside) c.args.to.0 c.self.inside.first_free (get_or c.self.inside.bytes.items c.args.from.0 []) target c.self.invariant)
 
-pub returns : goal.returns
-returns c = rw (← c.self.view_is, copied c)
+pub returns-clause-copied : goal.returns-clause-copied
+returns-clause-copied c = rw (← c.self.view_is, copied c)

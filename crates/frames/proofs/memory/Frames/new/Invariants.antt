@@ -1,6 +1,10 @@
 use Rattle.frames.specs.Chain.{IsAllTables}
+use Rattle.frames.specs.FrameTable.{IsSound}
 use Rattle.frames.proofs.memory.Frames.new.Given as goal
 
 -- the frames from n on are free
 abbrev pub invariant-loop-n : goal.invariant-loop-n
-invariant-loop-n l = IsAllTables l.frames l.count 1 l.n
+invariant-loop-n l = record {
+  made : IsAllTables l.frames l.count 1 l.n;
+  sound : IsSound l.frames;
+}

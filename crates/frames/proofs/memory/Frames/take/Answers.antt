@@ -41,3 +41,6 @@ pub returns-clause-none_free : goal.returns-clause-none_free
 returns-clause-none_free c =
     let there = IsChained-first (table_of c.self.inside) c.self.inside.first_free c.if-n-eq0.false c.self.invariant.1 in
     rw (← c.self.view_is) (λ e. absurd (false≢true e), λ full. absurd (full c.self.inside.first_free there.1 there.2))
+
+pub returns-clause-sound : goal.returns-clause-sound
+returns-clause-sound c = (invariant_of-self c).0

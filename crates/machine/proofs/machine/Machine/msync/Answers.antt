@@ -1,13 +1,15 @@
-use Rattle.std.proofs.Common.{◌≡◌, true, false, rules}
+use Rattle.std.proofs.Common.{◌≡◌, true, false, rules, ap}
 use Rattle.vm_types.specs.declared.refusal.Errno.TheVariants.{EIO}
-use Rattle.vm_types.specs.declared.reply.Reply.TheVariants.{Refused}
+use Rattle.vm_types.specs.declared.reply.Answer.TheVariants.{Refused}
+use Rattle.vm_types.specs.Replies.{reply_of}
 use Rattle.machine.proofs.Commits.{msync_meets}
+use Rattle.machine.proofs.Accesses.{refused_so}
 use Rattle.machine.proofs.machine.Machine.msync.Goals as goal
 
 pub returns-clause-meets : goal.returns-clause-meets
 returns-clause-meets g c = λ s shows.
-    let failed : c.eq-self.result ≡ true → c.msync-reply.result ≡ Refused EIO = λ e. search rules in
-    let otherwise : c.eq-self.result ≡ false → c.msync-reply.result ≡ Refused EIO → ⊥ = λ e. search rules in
+    let is : c.eq-self.result ≡ true → c.msync-answer.result ≡ Refused EIO = λ e. search rules in
+    let is_not : c.eq-self.result ≡ false → c.msync-answer.result ≡ Refused EIO → ⊥ = λ e. search rules in
     msync_meets g.D.SectorDisk g.E.SectorDisk (λ d i k left. g.met.D.SectorDisk.only_now d i k left) (λ d t i k le may. g.met.D.SectorDisk.counts_now d t i k le may)
-    c.args.self.now c.msync-reply.new.core c.eq-self.result s c.args.pid c.args.addr c.args.len c.args.mode c.msync-reply.result shows c.requires.running
-    (λ core_shows. record { passes = c.msync-reply.ensures.passes s core_shows; commits_so = λ after. c.msync-reply.ensures.commits s after core_shows }) failed otherwise
+    c.args.self.now c.msync-answer.new.core c.eq-self.result s c.args.pid c.args.addr c.args.len c.args.mode (reply_of c.msync-answer.result) shows c.requires.running
+    (λ core_shows. record { passes = c.msync-answer.ensures.passes s core_shows; commits_so = λ after. c.msync-answer.ensures.commits s after core_shows }) (λ e. ap reply_of (is e)) (λ e r. is_not e (refused_so c.msync-answer.result EIO r))

@@ -3,6 +3,8 @@ use Rattle.std.proofs.lemmas.List.{take_more, take_more_set}
 use Rattle.vm_types.specs.declared.command.Command.{Command}
 use Rattle.vm_types.specs.declared.reply.Reply.{Reply}
 use Rattle.machine.specs.Chain.{Caused}
+use Rattle.machine.specs.Counts.{Counts}
+use Rattle.machine.proofs.Counts.{counts}
 use Rattle.machine.proofs.Runs.{all_ran, caused_more, ran_more, RanSoFar}
 use Rattle.machine.proofs.machine.Machine.run.Goals as goal
 
@@ -38,6 +40,12 @@ pub returns-clause-caused : goal.returns-clause-caused
 returns-clause-caused g c =
     let every : take c.loop-i.i c.loop-i.replies ≡ c.loop-i.replies = take_all c.loop-i.i c.loop-i.replies (omega (arith, c.loop-i.invariant.lengths)) in
     subst (λ (zs : List Reply). Caused g.D.SectorDisk c.args.self.now zs c.loop-i.self) every c.loop-i.invariant.caused
+
+pub returns-clause-counts : goal.returns-clause-counts
+returns-clause-counts g c =
+    let every : take c.loop-i.i c.loop-i.replies ≡ c.loop-i.replies = take_all c.loop-i.i c.loop-i.replies (omega (arith, c.loop-i.invariant.lengths)) in
+    subst (λ (zs : List Reply). Counts g.D.SectorDisk c.args.self.now c.loop-i.self zs) every
+    (counts g.D.SectorDisk c.args.self.now (take c.loop-i.i c.loop-i.replies) c.loop-i.self c.loop-i.invariant.caused)
 
 pub returns-clause-run : goal.returns-clause-run
 returns-clause-run g c = λ s shows keeps.

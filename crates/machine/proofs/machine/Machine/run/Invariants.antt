@@ -1,13 +1,13 @@
 use Rattle.std.proofs.Common.{length, take, ◌≡◌}
 use Rattle.vm_types.specs.State.{State}
 use Rattle.machine.specs.Chain.{Caused}
-use Rattle.machine.specs.Machine.{IsSound, Shows}
+use Rattle.machine.specs.Machine.{IsSoundMachine, Shows}
 use Rattle.machine.proofs.Runs.{RanSoFar}
 use Rattle.machine.proofs.machine.Machine.run.Given as goal
 
 abbrev pub invariant-loop-i : goal.invariant-loop-i
 invariant-loop-i g l = record {
-  sound : IsSound g.D.SectorDisk g.E.SectorDisk l.self;
+  sound : IsSoundMachine g.D.SectorDisk g.E.SectorDisk l.self;
   lengths : length l.replies ≡ length l.commands;
   kept : g.D.SectorDisk.keeps_model l.self.core.store.disk → g.D.SectorDisk.keeps_model l.fn.self.core.store.disk;
   caused : Caused g.D.SectorDisk l.fn.self (take l.i l.replies) l.self;

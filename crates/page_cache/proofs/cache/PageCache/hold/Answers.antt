@@ -5,20 +5,20 @@ use Rattle.page_cache.specs.declared.index.Index.{Index}
 use Rattle.page_cache.specs.declared.cache.PageCache.TheInside.{Inside}
 use Rattle.page_cache.specs.CacheTable.{CacheTable, frame_count, slot_count, place_in, place_of}
 use Rattle.page_cache.specs.Nodes.{page_at, first_node}
-use Rattle.page_cache.specs.Inside.{table_of, IsWhole}
+use Rattle.page_cache.specs.Inside.{table_of, IsWholeCache}
 use Rattle.page_cache.proofs.SetLemmas.{members-at}
 use Rattle.page_cache.proofs.TableLemmas.{is_touched-first, place_of-first}
 use Rattle.page_cache.proofs.Changes.{nothing_held, unmarked, same_set, given-placed, IsWhole-given, SameButFor-given}
 use Rattle.page_cache.proofs.cache.PageCache.hold.Goals as goal
 
 -- what the caller keeps, of the fields
-free_of : (cache : Inside) (now : CacheTable) (node : ℕ) → table_of cache ≡ now → IsWhole cache → ((p : FilePage) → place_of now p ≢ place_in (frame_count now) (Some node))
+free_of : (cache : Inside) (now : CacheTable) (node : ℕ) → table_of cache ≡ now → IsWholeCache cache → ((p : FilePage) → place_of now p ≢ place_in (frame_count now) (Some node))
     → page_at cache.index.pages.items node ≡ None
 free_of cache now node is whole nobody =
     let here = rw (← is) at nobody in
     nothing_held (table_of cache) node whole.one here
 
-inside_of : (cache : Inside) (now : CacheTable) (node : ℕ) → table_of cache ≡ now → IsWhole cache → node < frame_count now + slot_count now → node < length cache.index.pages.items
+inside_of : (cache : Inside) (now : CacheTable) (node : ℕ) → table_of cache ≡ now → IsWholeCache cache → node < frame_count now + slot_count now → node < length cache.index.pages.items
 inside_of cache now node is whole below =
     let here = rw (← is) at below in
     omega (arith, here, whole.least_nodes)
@@ -26,7 +26,7 @@ inside_of cache now node is whole below =
 home_of : (cache : Inside) (now : CacheTable) (page : FilePage) → table_of cache ≡ now → place_of now page ≡ Home → place_of (table_of cache) page ≡ Home
 home_of cache now page is home = rw (← is) at home
 
-found_at : (cache : Inside) (now : CacheTable) (index : Index) (node : ℕ) (page : FilePage) → table_of cache ≡ now → IsWhole cache
+found_at : (cache : Inside) (now : CacheTable) (index : Index) (node : ℕ) (page : FilePage) → table_of cache ≡ now → IsWholeCache cache
     → node < frame_count now + slot_count now → place_of now page ≡ Home → index.pages.items ≡ set cache.index.pages.items node (Some page)
     → first_node index.pages.items page ≡ Some node
 found_at cache now index node page is whole below home pages =

@@ -51,3 +51,8 @@ returns-clause-written g c = λ keeps bytes is.
     let past : (file.0.length + 4095) / 4096 ≤ k = omega (arith, count, c.loop-k-test.false, file.2) in
     let all = all_pages g.D.SectorDisk c.args.store.now c.args.file k file.0 bytes c.requires.ready (c.loop-k.invariant.kept keeps) file.1 is past in
     subst (λ b. Appends (g.W.Write.contents c.args.writer.now) (g.W.Write.contents c.loop-k.writer) b) all (c.loop-k.invariant.written keeps bytes is)
+
+pub returns-in-Err-clause-touches : goal.returns-in-Err-clause-touches
+returns-in-Err-clause-touches g c = λ keeps.
+    let e = c.in-Err.ensures in
+    then g.D.SectorDisk Nothing c.args.store.now.disk c.loop-k.store.disk c.copy_page.new.store.disk (c.loop-k.invariant.touches (e.kept keeps)) (e.touches keeps)

@@ -1,0 +1,47 @@
+use Rattle.std.proofs.Common.{◌≡◌, ◌<◌, ◌+◌, ◌*◌, ◌-◌, length, ⊎_elim, sym, ap, subst, ◌∙◌, arith, rules}
+use Rattle.std.proofs.lemmas.Bool.{cases_eq}
+use borrow.Rule.Slice.PartMut.{put_mid}
+use Rattle.disk_model.specs.Stop.{Image, part_of}
+use Rattle.disk_model.specs.SimDisk.{sector_of, IsUnsynced, moment_of, LeftSince}
+use Rattle.disk_model.proofs.Pages.{more_time, carried_by_read, put_here, put_there, length_put}
+use Rattle.disk_model.proofs.sim_disk.SimDiskSectorDisk.read_page.Goals as goal
+
+pub returns-in_err-read-clause-time : goal.returns-in_err-read-clause-time
+returns-in_err-read-clause-time c = λ keeps.
+    let old = c.args.self.now in
+    let mid = c.loop-i.self in
+    let new = c.read.new.self in
+    more_time (moment_of old) (moment_of mid) (moment_of new) (LeftSince old) (LeftSince mid) (LeftSince new) (sector_of mid) (sector_of new) (IsUnsynced mid) (IsUnsynced new)
+    c.loop-i.invariant.time c.read.ensures.time (carried_by_read (sector_of mid) (sector_of new) (IsUnsynced mid) (IsUnsynced new) c.read.ensures.same c.read.ensures.still)
+
+pub loop-i-preserved : goal.loop-i-preserved
+loop-i-preserved c =
+    let old = c.args.self.now in
+    let mid = c.loop-i.self in
+    let new = c.read.new.self in
+    let r = c.read.ensures in
+    let inv = c.loop-i.invariant in
+    let i = c.loop-i.i in
+    let k = 512 * i + 512 - 512 * i in
+    let put = c.copy_from_slice.new.self in
+    let sector : length c.read.new.to ≡ 512 = search rules in
+    let after : put ≡ c.read.new.to = c.copy_from_slice.ensures.after in
+    let long : length put ≡ 512 = ap length after ∙ sector in
+    let below : i < 8 = c.loop-i-test.true in
+    let given : c.read.new.to ≡ sector_of mid (c.args.n + i) = c.in_ok-read.ensures.gives in
+    record {
+      size = r.size ∙ inv.size;
+      long = length_put c.loop-i.to put (512 * i) k (omega (arith, inv.long, below)) (omega (arith, long)) ∙ inv.long;
+      sector = sector;
+      calm = c.in_ok-read.ensures.cause.calm ∙ inv.calm;
+      gives = λ j less. ⊎_elim
+          (λ here. subst (λ m. part_of (put_mid (512 * i) k c.loop-i.to put) m ≡ sector_of old (c.args.n + m)) (sym here)
+          (put_here c.loop-i.to put i k inv.long long below ∙ after ∙ given ∙ ap (λ (f : Image). f (c.args.n + i)) inv.same))
+          (λ other. put_there c.loop-i.to put i j k inv.long long below (omega (arith, less, other)) ∙ inv.gives j (omega (arith, less, other)))
+          (cases_eq j i);
+      same = r.same ∙ inv.same;
+      unsynced = λ n u. inv.unsynced n (r.unsynced n u);
+      still = λ n u. r.still n (inv.still n u);
+      time = more_time (moment_of old) (moment_of mid) (moment_of new) (LeftSince old) (LeftSince mid) (LeftSince new) (sector_of mid) (sector_of new) (IsUnsynced mid) (IsUnsynced new)
+          inv.time r.time (carried_by_read (sector_of mid) (sector_of new) (IsUnsynced mid) (IsUnsynced new) r.same r.still);
+    }

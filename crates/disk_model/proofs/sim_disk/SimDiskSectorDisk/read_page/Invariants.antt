@@ -1,0 +1,17 @@
+use Rattle.std.proofs.Common.{◌≡◌, ◌<◌, ◌+◌, ℕ, length}
+use Rattle.disk_model.specs.Stop.{part_of, Elapses}
+use Rattle.disk_model.specs.SimDisk.{sectors_in, sector_of, IsUnsynced, moment_of, LeftSince, failures_of}
+use Rattle.disk_model.proofs.sim_disk.SimDiskSectorDisk.read_page.Given as goal
+
+abbrev pub invariant-loop-i : goal.invariant-loop-i
+invariant-loop-i l = record {
+  size : sectors_in l.self ≡ sectors_in l.initial.self;
+  long : length l.to ≡ 4096;
+  sector : length l.sector ≡ 512;
+  calm : failures_of l.self ≡ failures_of l.initial.self;
+  gives : (j : ℕ) → j < l.i → part_of l.to j ≡ sector_of l.initial.self (l.n + j);
+  same : sector_of l.self ≡ sector_of l.initial.self;
+  unsynced : (k : ℕ) → IsUnsynced l.self k → IsUnsynced l.initial.self k;
+  still : (k : ℕ) → IsUnsynced l.initial.self k → IsUnsynced l.self k;
+  time : Elapses (moment_of l.initial.self) (moment_of l.self) (LeftSince l.initial.self) (LeftSince l.self) (sector_of l.self) (IsUnsynced l.self);
+}

@@ -1,0 +1,18 @@
+use Rattle.std.proofs.Common.{◌≡◌, ◌⊎◌, ◌≤◌, ◌<◌, ◌+◌, ℕ, true, false}
+use Rattle.disk_model.specs.Stop.{IsOfPage, part_of, ChangesPage, Elapses}
+use Rattle.disk_model.specs.SimDisk.{sectors_in, sector_of, IsUnsynced, moment_of, LeftSince, failures_of}
+use Rattle.disk_model.proofs.sim_disk.SimDiskSectorDisk.write_page.Given as goal
+
+abbrev pub invariant-loop-i : goal.invariant-loop-i
+invariant-loop-i l = record {
+  size : sectors_in l.self ≡ sectors_in l.initial.self;
+  later : failures_of l.initial.self ≤ failures_of l.self;
+  caused : l.failed ≡ true → failures_of l.initial.self < failures_of l.self;
+  calm : l.failed ≡ false → failures_of l.self ≡ failures_of l.initial.self;
+  written : l.failed ≡ false → (j : ℕ) → j < l.i → sector_of l.self (l.n + j) ≡ part_of l.from j;
+  others : ChangesPage l.n (sector_of l.initial.self) (sector_of l.self);
+  unsynced : (k : ℕ) → IsUnsynced l.self k → IsUnsynced l.initial.self k ⊎ IsOfPage l.n k;
+  marked : (k : ℕ) → l.n ≤ k → k < l.n + l.i → IsUnsynced l.self k;
+  still : (k : ℕ) → IsUnsynced l.initial.self k → IsUnsynced l.self k;
+  time : Elapses (moment_of l.initial.self) (moment_of l.self) (LeftSince l.initial.self) (LeftSince l.self) (sector_of l.self) (IsUnsynced l.self);
+}

@@ -1,0 +1,60 @@
+-- What the replies of a run say of devices and frames, counted.
+use Rattle.std.proofs.Common.{ℕ, ◌+◌, ◌≡◌, ◌≤◌, ◌<◌, List, [], ◌∷◌, refl, ap, subst, sym, arith}
+use Rattle.std.proofs.lemmas.List.Sums.{sum_by-cons}
+use Rattle.disk_model.specs.declared.sector_disk.SectorDisk.{Ghosts}
+use Rattle.vm_types.specs.declared.refusal.Errno.{Errno}
+use Rattle.vm_types.specs.declared.refusal.Errno.TheVariants.{ESRCH, EIO, EBADF, EAGAIN, ENOMEM, EACCES, EEXIST, EINVAL, ENOSPC, EOVERFLOW}
+use Rattle.vm_types.specs.declared.refusal.Stall.{Stall}
+use Rattle.vm_types.specs.declared.refusal.Stall.TheVariants.{NoFrames, NoSwap, SwapDevice, StoreDevice}
+use Rattle.vm_types.specs.declared.reply.Reply.{Reply}
+use Rattle.vm_types.specs.declared.reply.Reply.TheVariants.{Process, Address, Done, Value, Faulted, Refused, Stalled, Halted, Past}
+use Rattle.spaces.specs.Idle.{refused_count}
+use Rattle.machine.specs.Chain.{Caused}
+use Rattle.machine.specs.Counts.{failed_count, Counts}
+use Rattle.machine.specs.Machine.{IsCaused}
+use Rattle.machine.specs.declared.machine.Machine.{Machine}
+
+module _ {D E : Type 0} (g : Ghosts D) where
+  refused_failed : (old new : Machine D E) (errno : Errno) → IsCaused g old new (Refused errno)
+      → g.failures old.core.store.disk + failed_count (Refused errno) ≤ g.failures new.core.store.disk
+  refused_failed old new EIO is = let less : g.failures old.core.store.disk < g.failures new.core.store.disk = is.failed refl in omega (arith, less)
+  refused_failed old new ESRCH is = omega (arith, is.later)
+  refused_failed old new EBADF is = omega (arith, is.later)
+  refused_failed old new EAGAIN is = omega (arith, is.later)
+  refused_failed old new ENOMEM is = omega (arith, is.later)
+  refused_failed old new EACCES is = omega (arith, is.later)
+  refused_failed old new EEXIST is = omega (arith, is.later)
+  refused_failed old new EINVAL is = omega (arith, is.later)
+  refused_failed old new ENOSPC is = omega (arith, is.later)
+  refused_failed old new EOVERFLOW is = omega (arith, is.later)
+
+  stall_failed : (old new : Machine D E) (stall : Stall) → IsCaused g old new (Stalled stall)
+      → g.failures old.core.store.disk + failed_count (Stalled stall) ≤ g.failures new.core.store.disk
+  stall_failed old new StoreDevice is = let less : g.failures old.core.store.disk < g.failures new.core.store.disk = is.stalled StoreDevice refl in omega (arith, less)
+  stall_failed old new NoFrames is = omega (arith, is.later)
+  stall_failed old new NoSwap is = omega (arith, is.later)
+  stall_failed old new SwapDevice is = omega (arith, is.later)
+
+  failed_once : (old new : Machine D E) (reply : Reply) → IsCaused g old new reply
+      → g.failures old.core.store.disk + failed_count reply ≤ g.failures new.core.store.disk
+  failed_once old new (Refused errno) is = refused_failed old new errno is
+  failed_once old new (Stalled stall) is = stall_failed old new stall is
+  failed_once old new (Process pid) is = omega (arith, is.later)
+  failed_once old new (Address addr) is = omega (arith, is.later)
+  failed_once old new Done is = omega (arith, is.later)
+  failed_once old new (Value width value) is = omega (arith, is.later)
+  failed_once old new (Faulted fault) is = omega (arith, is.later)
+  failed_once old new Halted is = omega (arith, is.later)
+  failed_once old new (Past past) is = omega (arith, is.later)
+
+  pub counts : (old : Machine D E) (replies : List Reply) (new : Machine D E) → Caused g old replies new → Counts g old new replies
+  counts old [] new same =
+      subst (λ (m : Machine D E). Counts g old m []) (sym same) (record { refused = omega arith; failed = omega arith })
+  counts old (r ∷ rs) new c =
+      let mid = c.0 in
+      let rest = counts mid rs new c.2 in
+      let once = failed_once old mid r c.1 in
+      record {
+        refused = omega (arith, c.1.counted, rest.refused, sum_by-cons refused_count r rs);
+        failed = omega (arith, once, rest.failed, sum_by-cons failed_count r rs);
+      }

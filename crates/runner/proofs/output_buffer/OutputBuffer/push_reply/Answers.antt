@@ -1,8 +1,0 @@
-use Rattle.std.proofs.Common.{ap, ◌∙◌, ◌++◌, take}
-use Rattle.trace_lang.specs.Texts.{text_of}
-use Rattle.runner.proofs.output_buffer.OutputBuffer.push_reply.Goals as goal
-
-pub returns-clause-text : goal.returns-clause-text
-returns-clause-text c =
-    c.append-end.ensures.bytes ∙ ap (λ t. take c.self.inside.len c.self.inside.bytes ++ t) c.reply_text-count.ensures.text
-    ∙ ap (λ v. v ++ text_of c.args.reply.now) c.self.view_is

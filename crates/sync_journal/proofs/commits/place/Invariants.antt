@@ -1,0 +1,7 @@
+use Rattle.std.proofs.Common.{◌≡◌, ◌<◌, get_or}
+use Rattle.std.specs.Prelude.{IfSome}
+use Rattle.sync_journal.specs.Map.{place_among}
+use Rattle.sync_journal.proofs.commits.place.Given as goal
+
+abbrev pub invariant-loop-j : goal.invariant-loop-j
+invariant-loop-j l = (l.found ≡ place_among (λ k. get_or l.homes k 0) l.home l.j) × IfSome l.found (λ k. k < l.j)

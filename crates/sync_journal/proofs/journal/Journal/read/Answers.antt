@@ -1,0 +1,11 @@
+use Rattle.std.proofs.Common.{◌∙◌}
+use Rattle.std.proofs.lemmas.Result.{on_ok_weaker}
+use Rattle.sync_journal.specs.Journal.{live_homes}
+use Rattle.sync_journal.proofs.Rests.{page_stands}
+use Rattle.sync_journal.proofs.journal.Journal.read.Goals as goal
+
+pub returns-clause-page : goal.returns-clause-page
+returns-clause-page g c = λ keeps. on_ok_weaker c.read_page.result
+    (λ read. read ∙ page_stands g.D.SectorDisk (live_homes c.args.self.now) c.args.disk.now c.args.home c.stands_at.result
+    (c.requires.rest (c.read_page.ensures.kept keeps)) c.stands_at.ensures.at)
+    (c.read_page.ensures.read keeps)
