@@ -1,0 +1,4 @@
+pub mod Counting
+pub mod Stack
+pub mod Written
+pub mod Sound

@@ -1,0 +1,12 @@
+use Rattle.std.proofs.Common.{◌≡◌, ◌+◌, ◌*◌, ◌<◌, ℕ, List, Some, sym, subst, ◌∙◌}
+use Rattle.std.proofs.lemmas.Result.{on_ok_weaker}
+use Rattle.disk_model.specs.Stop.{part_of}
+use Rattle.swap.proofs.Written.{gives_written}
+use Rattle.swap.proofs.pages.Pages.get.Goals as goal
+
+pub returns-clause-gives : goal.returns-clause-gives
+returns-clause-gives g c k =
+    let P : ℕ → Type 0 = λ x. (i : ℕ) → i < 8 → part_of c.read_page.new.to i ≡ g.D.SectorDisk.content c.args.self.now.disk (8 * x + i) in
+    on_ok_weaker c.read_page.result
+    (λ read. gives_written g.D.SectorDisk c.args.n c.args.self.now.disk c.args.self.now.written.notes c.read_page.new.to c.read_page.array_long c.requires.as_written (c.read_page.ensures.kept k) (subst P c.from.ensures read))
+    (c.read_page.ensures.gives k)

@@ -1,0 +1,4 @@
+pub mod Written
+pub mod Slots
+pub mod Counts
+pub mod Inside
