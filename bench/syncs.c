@@ -1,0 +1,69 @@
+/*
+ * The same bytes made durable without Kefsdalv, to compare with: syncs plain|mapped FILE PAGES COUNT.
+ *
+ * plain   COUNT times what an msync of PAGES pages writes once a journal is live, by plain calls: the homes, a sync, the gate closed, a
+ *         sync, the body and the map, a sync, the gate opened, a sync. It reads nothing back and checks nothing.
+ * mapped  COUNT times a byte stored to each of PAGES pages of a mapped file, and msync(MS_SYNC) over them. A stop may tear it.
+ */
+#include <fcntl.h>
+#include <stdio.h>
+#include <stdlib.h>
+#include <string.h>
+#include <sys/mman.h>
+#include <sys/stat.h>
+#include <unistd.h>
+
+enum { SECTOR = 512, PAGE = 4096, GATE = 2, MAP = 3, BODY = 4, HOMES = 1020, MOST = 127 };
+
+static char page[PAGE];
+
+static void fail(const char *what) {
+    perror(what);
+    exit(1);
+}
+
+static void put(int file, size_t length, off_t sector) {
+    if (pwrite(file, page, length, sector * SECTOR) != (ssize_t)length) fail("pwrite");
+}
+
+static void settle(int file) {
+    if (fdatasync(file) != 0) fail("fdatasync");
+}
+
+static void plain(int file, int pages, int count) {
+    for (int turn = 0; turn < count; turn++) {
+        memset(page, turn, sizeof page);
+        for (int k = 0; k < pages; k++) put(file, PAGE, HOMES + 8 * k);
+        settle(file);
+        put(file, SECTOR, GATE);
+        settle(file);
+        for (int k = 0; k < pages; k++) put(file, PAGE, BODY + 8 * k);
+        put(file, SECTOR, MAP);
+        settle(file);
+        put(file, SECTOR, GATE);
+        settle(file);
+    }
+}
+
+static void mapped(int file, int pages, int count) {
+    size_t length = (size_t)pages * PAGE;
+    char *at = mmap(NULL, length, PROT_READ | PROT_WRITE, MAP_SHARED, file, 0);
+    if (at == MAP_FAILED) fail("mmap");
+    for (int turn = 0; turn < count; turn++) {
+        for (int k = 0; k < pages; k++) at[(size_t)k * PAGE] = (char)(turn + 1);
+        if (msync(at, length, MS_SYNC) != 0) fail("msync");
+    }
+}
+
+int main(int argc, char **argv) {
+    int pages = argc == 5 ? atoi(argv[3]) : 0, count = argc == 5 ? atoi(argv[4]) : 0;
+    if (pages < 1 || pages > MOST || count < 1) {
+        fputs("usage: syncs plain|mapped FILE PAGES COUNT\n", stderr);
+        return 2;
+    }
+    int file = open(argv[2], O_RDWR | O_CREAT, 0600);
+    if (file < 0 || ftruncate(file, (off_t)SECTOR * (HOMES + 8 * MOST)) != 0 || fsync(file) != 0) fail(argv[2]);
+    if (strcmp(argv[1], "plain") == 0) plain(file, pages, count);
+    else mapped(file, pages, count);
+    return 0;
+}
