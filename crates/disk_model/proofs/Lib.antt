@@ -1,2 +1,3 @@
 pub mod Moments
 pub mod Pages
+mod Counts

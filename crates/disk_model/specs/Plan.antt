@@ -5,6 +5,10 @@ use Rattle.std.specs.Prelude.{ℕ, ◌+◌, ◌-◌, ◌^◌, min, Bool, false, 
 abbrev pub one_more : ℕ → ℕ
 one_more n = min (n + 1) (2 ^ 64 - 1)
 
+-- a count of failures after a call
+abbrev pub failures_after : Bool → ℕ → ℕ
+failures_after fails before = if fails then before + 1 else before
+
 -- what is armed for this count
 abbrev pub is_at : Option ℕ → ℕ → Bool
 is_at None count = false

@@ -1,8 +1,8 @@
 -- What a simulated device holds, what a stop may leave of it, and which of its calls fail.
-use Rattle.std.specs.Prelude.{◌≡◌, ◌⊎◌, ◌≤◌, ℕ, Bool, false, ◌||◌, if◌then◌else◌, IsTrue, List, [], ◌∷◌, length, slice_index_or, None}
+use Rattle.std.specs.Prelude.{◌≡◌, ◌⊎◌, ◌≤◌, ℕ, zero, suc, Bool, false, ◌||◌, if◌then◌else◌, IsTrue, List, [], ◌∷◌, length, replicate, slice_index_or, Option, None}
 use Rattle.std.proofs.Common.{⊎_elim, arith}
 use Rattle.disk_model.specs.Note.{Note}
-use Rattle.disk_model.specs.Plan.{is_at, one_more, first_listed}
+use Rattle.disk_model.specs.Plan.{is_at, one_more, failures_after, first_listed}
 use Rattle.disk_model.specs.Stop.{Image, MayLeave}
 use Rattle.disk_model.specs.declared.sim_disk.SimDisk.{SimDisk}
 
@@ -27,9 +27,6 @@ writes_made d = d.writes
 
 abbrev pub syncs_made : SimDisk → ℕ
 syncs_made d = d.syncs
-
-abbrev pub is_stopped : SimDisk → Bool
-is_stopped d = d.stopped
 
 abbrev pub failures_of : SimDisk → ℕ
 failures_of d = d.failures.number
@@ -59,25 +56,53 @@ none_left (note ∷ older) t c le had = ⊎_elim (λ now. absurd (omega (arith, 
 pub only_present : (d : SimDisk) (c : Image) → LeftSince d (length d.past.notes) c → MayLeave (sector_of d) (IsUnsynced d) c
 only_present d c left = ⊎_elim (λ now. now) (λ had. absurd (none_left d.past.notes (length d.past.notes) c (omega arith) had)) left
 
+-- What a simulated device counts, and when it is told to stop and to fail.
+pub record Counts : Type 0 where
+  pub calls : ℕ
+  pub writes : ℕ
+  pub syncs : ℕ
+  pub failures : ℕ
+  pub stopped : Bool
+  pub stop : Option ℕ
+  pub fail : Option ℕ
+
+abbrev pub counts_of : SimDisk → Counts
+counts_of d = record { calls = d.calls; writes = d.writes; syncs = d.syncs; failures = d.failures.number; stopped = d.stopped; stop = d.stop; fail = d.fail }
+
 -- the next call that is no write fails
-abbrev pub fails_next : SimDisk → Bool
-fails_next d = d.stopped || is_at d.fail (one_more d.calls)
+abbrev pub fails_next : Counts → Bool
+fails_next c = c.stopped || is_at c.fail (one_more c.calls)
 
 -- the next write finds the device stopped, or stops it
-abbrev pub stops_next : SimDisk → Bool
-stops_next d = d.stopped || is_at d.stop (one_more d.writes)
+abbrev pub stops_next : Counts → Bool
+stops_next c = c.stopped || is_at c.stop (one_more c.writes)
 
-abbrev pub write_fails_next : SimDisk → Bool
-write_fails_next d = stops_next d || is_at d.fail (one_more d.calls)
+abbrev pub write_fails_next : Counts → Bool
+write_fails_next c = stops_next c || is_at c.fail (one_more c.calls)
 
--- a call was counted, and the orders stand
-pub record IsCounted (writes syncs : ℕ) (stopped : Bool) (old new : SimDisk) : Type 0 where
-  pub calls : new.calls ≡ one_more old.calls
-  pub writes_so_far : new.writes ≡ writes
-  pub syncs_so_far : new.syncs ≡ syncs
-  pub is_stopped : new.stopped ≡ stopped
-  pub stop_order : new.stop ≡ old.stop
-  pub fail_order : new.fail ≡ old.fail
+abbrev pub after_read : Counts → Counts
+after_read c = record c { calls = one_more c.calls; failures = failures_after (fails_next c) c.failures }
+
+abbrev pub after_sync : Counts → Counts
+after_sync c = record c { calls = one_more c.calls; syncs = one_more c.syncs; failures = failures_after (fails_next c) c.failures }
+
+abbrev pub after_write : Counts → Counts
+after_write c =
+    record c { calls = one_more c.calls; writes = one_more c.writes; stopped = stops_next c; failures = failures_after (write_fails_next c) c.failures }
+
+-- after so many reads in a row, of which the first that fails is the last
+abbrev pub after_reads : ℕ → Counts → Counts
+after_reads zero c = c
+after_reads (suc n) c = if fails_next c then after_read c else after_reads n (after_read c)
+
+-- after so many writes in a row, whether they fail or not
+abbrev pub after_writes : ℕ → Counts → Counts
+after_writes zero c = c
+after_writes (suc n) c = after_write (after_writes n c)
+
+-- what a write of these bytes leaves in its sector
+abbrev pub left_by_write : Counts → List ℕ → List ℕ
+left_by_write c bytes = if write_fails_next c then replicate 512 238 else bytes
 
 -- no call was made yet, no fault is armed, and nothing is unsynced
 pub record IsFresh (d : SimDisk) : Type 0 where

@@ -1,8 +1,8 @@
 //! A device in memory whose failures and stops are chosen.
-ghost use Rattle.std.specs.Prelude.{◌≡◌, ◌⊎◌, ◌<◌, ℕ, [], slice_index_or, replicate, length, is_err, IfOk, OnOk, OnErr};
+ghost use Rattle.std.specs.Prelude.{◌≡◌, ◌⊎◌, ◌<◌, ◌≤◌, ◌+◌, ◌^◌, ℕ, [], slice_index_or, replicate, length, is_err, IfOk, OnOk, OnErr};
 ghost use Rattle.std.proofs.Common.{inl};
-ghost use Rattle.disk_model.specs.Stop.{MayLeave, ChangesOnly, Elapses, HasCause, part_of};
-ghost use Rattle.disk_model.specs.Plan.{is_at, one_more, first_listed};
+ghost use Rattle.disk_model.specs.Stop.{MayLeave, ChangesOnly, ChangesPage, IsOfPage, Elapses, HasCause, part_of};
+ghost use Rattle.disk_model.specs.Plan.{is_at, failures_after, first_listed};
 
 use crate::ghost_data::{Count, Log};
 use crate::{DiskFault, SECTOR_BYTES, SectorDisk};
@@ -54,6 +54,7 @@ fn filled<T: Copy>(alloc: Global, count: u64, value: T) -> Result<Vec<T>, AllocE
 fn answer(fails: bool, failures: &mut Count) -> Result<(), DiskFault>
     ensures fails { is_err result ≡ fails }
     ensures cause { HasCause failures.old.number failures.new.number result }
+    ensures counted { failures.new.number ≡ failures_after fails failures.old.number }
 {
     if fails {
         failures.raise();
@@ -219,7 +220,7 @@ impl SimDisk {
 }
 
 impl SectorDisk for SimDisk {
-    ghost use Rattle.disk_model.specs.SimDisk.{sectors_in, sector_of, last_synced, IsUnsynced, moment_of, LeftSince, only_present, failures_of, calls_made, writes_made, syncs_made, fails_next, stops_next, write_fails_next, is_stopped, IsCounted};
+    ghost use Rattle.disk_model.specs.SimDisk.{sectors_in, sector_of, last_synced, IsUnsynced, moment_of, LeftSince, only_present, failures_of, counts_of, fails_next, write_fails_next, after_read, after_sync, after_write, after_reads, after_writes, left_by_write};
 
     ghost sector_count = { sectors_in };
 
@@ -253,8 +254,8 @@ impl SectorDisk for SimDisk {
         ensures still { (k : ℕ) → IsUnsynced self.old k → IsUnsynced self.new k }
         ensures time { Elapses (moment_of self.old) (moment_of self.new) (LeftSince self.old) (LeftSince self.new) (sector_of self.new) (IsUnsynced self.new) }
         ensures last { last_synced self.new ≡ last_synced self.old }
-        ensures fails { is_err result ≡ fails_next self.old }
-        ensures counted { IsCounted (writes_made self.old) (syncs_made self.old) (is_stopped self.old) self.old self.new }
+        ensures fails { is_err result ≡ fails_next (counts_of self.old) }
+        ensures counted { counts_of self.new ≡ after_read (counts_of self.old) }
     {
         self.calls = self.calls.saturating_add(1);
         answer(
@@ -270,15 +271,15 @@ impl SectorDisk for SimDisk {
         ensures size { sectors_in self.new ≡ sectors_in self.old }
         ensures cause { HasCause (failures_of self.old) (failures_of self.new) result }
         ensures written { OnOk result (sector_of self.new n ≡ from.now) }
-        ensures garbled { OnErr result (sector_of self.new n ≡ replicate 512 238) }
+        ensures leaves { sector_of self.new n ≡ left_by_write (counts_of self.old) from.now }
         ensures others { ChangesOnly n (sector_of self.old) (sector_of self.new) }
         ensures unsynced { (k : ℕ) → IsUnsynced self.new k → IsUnsynced self.old k ⊎ (k ≡ n) }
         ensures marked { IsUnsynced self.new n }
         ensures still { (k : ℕ) → IsUnsynced self.old k → IsUnsynced self.new k }
         ensures time { Elapses (moment_of self.old) (moment_of self.new) (LeftSince self.old) (LeftSince self.new) (sector_of self.new) (IsUnsynced self.new) }
         ensures last { last_synced self.new ≡ last_synced self.old }
-        ensures fails { is_err result ≡ write_fails_next self.old }
-        ensures counted { IsCounted (one_more (writes_made self.old)) (syncs_made self.old) (stops_next self.old) self.old self.new }
+        ensures fails { is_err result ≡ write_fails_next (counts_of self.old) }
+        ensures counted { counts_of self.new ≡ after_write (counts_of self.old) }
     {
         self.past.note(&[], &self.sectors, &self.unsynced);
         self.calls = self.calls.saturating_add(1);
@@ -294,7 +295,20 @@ impl SectorDisk for SimDisk {
         Ok(())
     }
 
-    fn read_page(&mut self, n: u64, to: &mut [u8; 4096]) -> Result<(), DiskFault> {
+    /// It is reads until one fails, eight at most.
+    fn read_page(&mut self, n: u64, to: &mut [u8; 4096]) -> Result<(), DiskFault>
+        requires room { n + 8 ≤ sectors_in self.old }
+        requires fits { n < 2 ^ 60 }
+        ensures size { sectors_in self.new ≡ sectors_in self.old }
+        ensures cause { HasCause (failures_of self.old) (failures_of self.new) result }
+        ensures gives { OnOk result ((i : ℕ) → i < 8 → part_of to.new i ≡ sector_of self.old (n + i)) }
+        ensures same { sector_of self.new ≡ sector_of self.old }
+        ensures unsynced { (k : ℕ) → IsUnsynced self.new k → IsUnsynced self.old k }
+        ensures still { (k : ℕ) → IsUnsynced self.old k → IsUnsynced self.new k }
+        ensures time { Elapses (moment_of self.old) (moment_of self.new) (LeftSince self.old) (LeftSince self.new) (sector_of self.new) (IsUnsynced self.new) }
+        ensures last { last_synced self.new ≡ last_synced self.old }
+        ensures counted { counts_of self.new ≡ after_reads 8 (counts_of self.old) }
+    {
         let mut sector = [0; SECTOR_BYTES];
         for i in 0..8 {
             self.read(n + i as u64, &mut sector)?;
@@ -305,7 +319,21 @@ impl SectorDisk for SimDisk {
     }
 
     /// It is eight writes, of which each may stop the device or fail.
-    fn write_page(&mut self, n: u64, from: &[u8; 4096]) -> Result<(), DiskFault> {
+    fn write_page(&mut self, n: u64, from: &[u8; 4096]) -> Result<(), DiskFault>
+        requires room { n + 8 ≤ sectors_in self.old }
+        requires fits { n < 2 ^ 60 }
+        ensures size { sectors_in self.new ≡ sectors_in self.old }
+        ensures cause { HasCause (failures_of self.old) (failures_of self.new) result }
+        ensures written { OnOk result ((i : ℕ) → i < 8 → sector_of self.new (n + i) ≡ part_of from.now i) }
+        ensures each { (i : ℕ) → i < 8 → sector_of self.new (n + i) ≡ left_by_write (after_writes i (counts_of self.old)) (part_of from.now i) }
+        ensures others { ChangesPage n (sector_of self.old) (sector_of self.new) }
+        ensures unsynced { (k : ℕ) → IsUnsynced self.new k → IsUnsynced self.old k ⊎ IsOfPage n k }
+        ensures marked { (k : ℕ) → IsOfPage n k → IsUnsynced self.new k }
+        ensures still { (k : ℕ) → IsUnsynced self.old k → IsUnsynced self.new k }
+        ensures time { Elapses (moment_of self.old) (moment_of self.new) (LeftSince self.old) (LeftSince self.new) (sector_of self.new) (IsUnsynced self.new) }
+        ensures last { last_synced self.new ≡ last_synced self.old }
+        ensures counted { counts_of self.new ≡ after_writes 8 (counts_of self.old) }
+    {
         let mut failed = false;
         for (i, sector) in parts(from).iter().enumerate() {
             if self.write(n + i as u64, sector).is_err() {
@@ -325,8 +353,8 @@ impl SectorDisk for SimDisk {
         ensures time { Elapses (moment_of self.old) (moment_of self.new) (LeftSince self.old) (LeftSince self.new) (sector_of self.new) (IsUnsynced self.new) }
         ensures last { OnOk result (last_synced self.new ≡ sector_of self.old) }
         ensures last_stays { OnErr result (last_synced self.new ≡ last_synced self.old) }
-        ensures fails { is_err result ≡ fails_next self.old }
-        ensures counted { IsCounted (writes_made self.old) (one_more (syncs_made self.old)) (is_stopped self.old) self.old self.new }
+        ensures fails { is_err result ≡ fails_next (counts_of self.old) }
+        ensures counted { counts_of self.new ≡ after_sync (counts_of self.old) }
     {
         self.past.note(&[], &self.sectors, &self.unsynced);
         self.calls = self.calls.saturating_add(1);

@@ -2,7 +2,9 @@
 ghost use Rattle.std.specs.Prelude.{◌≡◌, ◌<◌, ◌≤◌, ℕ, List, Option, OnOk, IsErrOf, length, slice_get, slice_index};
 ghost use Rattle.vm_types.specs.declared.file.FileInfo.{FileInfo};
 ghost use Rattle.vm_types.specs.declared.file.FilePage.{FilePage};
-ghost use Rattle.disk_model.specs.Moments.{LeavesOnly, LeavesNow};
+ghost use Rattle.disk_model.specs.Moments.{LeavesOnly, LeavesNow, Touches};
+ghost use Rattle.sync_journal.specs.Layout.{IsCommitted};
+ghost use Rattle.sync_journal.specs.Journal.{live_homes};
 ghost use Rattle.sync_journal.specs.Commit.{HomesStandAs};
 ghost use Rattle.sync_journal.specs.Source.{HasCauses, Asks};
 ghost use Rattle.file_store.specs.Standing.{StandsFor};
@@ -36,6 +38,8 @@ impl<D: SectorDisk> FileStore<D> {
         ensures kept { D.keeps_model self.new.disk → D.keeps_model self.old.disk }
         ensures asks { Asks S.PageSource source.old source.new }
         ensures causes { HasCauses (D.failures self.old.disk) (D.failures self.new.disk) (S.failures source.old) (S.failures source.new) result }
+        // No sector is written but the gate, the journal, and the homes of the commit before.
+        ensures touches { D.keeps_model self.new.disk → Touches D.SectorDisk (IsCommitted (live_homes self.old.journal)) self.old.disk self.new.disk }
         ensures files { self.new.directory ≡ self.old.directory }
         ensures ready { OnOk result (IsReadyStore D.SectorDisk self.new) }
         ensures ready_after_source { IsErrOf result CommitFault.Source → IsReadyStore D.SectorDisk self.new }

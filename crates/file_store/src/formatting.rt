@@ -29,6 +29,7 @@ pub fn format<D: SectorDisk, R: Read>(
     ensures kept { D.keeps_model disk.new → D.keeps_model disk.old }
     ensures later { D.failures disk.old ≤ D.failures disk.new }
     ensures device { IsErrOf result FormatFault.Device → D.failures disk.old < D.failures disk.new }
+    ensures calm { OnOk result (D.failures disk.new ≡ D.failures disk.old) }
 
     ensures too_large { IsErrOf result FormatFault.TooLarge ↔ IsTooLarge (D.sector_count disk.old) sources.old }
     ensures formatted { D.keeps_model disk.new → IsErrOf result FormatFault.Formatted → D.content disk.old 0 ≡ mark }
@@ -70,6 +71,7 @@ fn check_unmarked<D: SectorDisk>(disk: &mut D) -> Result<(), FormatFault>
     ensures unmarked { D.keeps_model disk.new → OnOk result (D.content disk.old 0 ≢ mark) }
     ensures marked { D.keeps_model disk.new → IsErrOf result FormatFault.Formatted → D.content disk.old 0 ≡ mark }
     ensures device { IsErrOf result FormatFault.Device → D.failures disk.old < D.failures disk.new }
+    ensures calm { OnOk result (D.failures disk.new ≡ D.failures disk.old) }
     ensures others { OnErr result (IsErrOf result FormatFault.Formatted ⊎ IsErrOf result FormatFault.Device) }
 {
     let mut sector = [0; SECTOR_BYTES];
@@ -90,6 +92,7 @@ fn write_unmarked<D: SectorDisk, R: Read>(
     requires homes { total_pages sources.old ≤ home_count (D.sector_count disk.old) }
     ensures run { Runs D.SectorDisk (IsFrom 1) disk.old disk.new }
     ensures device { IsErrOf result FormatFault.Device → D.failures disk.old < D.failures disk.new }
+    ensures calm { OnOk result (D.failures disk.new ≡ D.failures disk.old) }
     ensures others { OnErr result (IsErrOf result FormatFault.Source ⊎ IsErrOf result FormatFault.Device) }
     ensures source { IsErrOf result FormatFault.Source → HasReader sources.old }
     ensures whole { OnOk result (AreWhole R.remaining sources.old (length sources.old)) }
@@ -110,6 +113,7 @@ fn write_homes<D: SectorDisk, R: Read>(
     requires { total_pages sources.old ≤ home_count (D.sector_count disk.old) }
     ensures run { Runs D.SectorDisk (IsFrom 1020) disk.old disk.new }
     ensures device { IsErrOf result FormatFault.Device → D.failures disk.old < D.failures disk.new }
+    ensures calm { OnOk result (D.failures disk.new ≡ D.failures disk.old) }
     ensures others { OnErr result (IsErrOf result FormatFault.Source ⊎ IsErrOf result FormatFault.Device) }
     ensures source { IsErrOf result FormatFault.Source → HasReader sources.old }
     ensures whole { OnOk result (AreWhole R.remaining sources.old (length sources.old)) }
@@ -134,6 +138,7 @@ fn write_file<D: SectorDisk, R: Read>(
     ensures info { info_of source.new ≡ info_of source.old }
     ensures run { Runs D.SectorDisk (IsFrom (home_sector first)) disk.old disk.new }
     ensures device { IsErrOf result FormatFault.Device → D.failures disk.old < D.failures disk.new }
+    ensures calm { OnOk result (D.failures disk.new ≡ D.failures disk.old) }
     ensures others { OnErr result (IsErrOf result FormatFault.Source ⊎ IsErrOf result FormatFault.Device) }
     ensures source { IsErrOf result FormatFault.Source → IsSome source.old.bytes × (0 < source.old.length) }
     ensures whole { OnOk result ((told : List ℕ) → reader_tells R.remaining source.old.bytes ≡ Some told → source.old.length ≤ length told) }
@@ -155,6 +160,7 @@ fn write_layout<D: SectorDisk>(
     requires { 1020 ≤ D.sector_count disk.old }
     ensures run { Runs D.SectorDisk IsLayoutSector disk.old disk.new }
     ensures failed { IsErr result → D.failures disk.old < D.failures disk.new }
+    ensures calm { OnOk result (D.failures disk.new ≡ D.failures disk.old) }
     ensures directory { D.keeps_model disk.new → OnOk result (D.content disk.new 1 ≡ directory.now) }
     ensures gate { D.keeps_model disk.new → OnOk result (D.content disk.new 2 ≡ replicate 512 0) }
     ensures synced { D.keeps_model disk.new → OnOk result ((k : ℕ) → D.unsynced disk.new k → ⊥) }
@@ -169,6 +175,7 @@ fn write_mark<D: SectorDisk>(disk: &mut D) -> Result<(), DiskFault>
     requires { 0 < D.sector_count disk.old }
     ensures run { Runs D.SectorDisk IsMarkSector disk.old disk.new }
     ensures failed { IsErr result → D.failures disk.old < D.failures disk.new }
+    ensures calm { OnOk result (D.failures disk.new ≡ D.failures disk.old) }
     ensures marked { D.keeps_model disk.new → OnOk result (D.content disk.new 0 ≡ mark) }
     ensures synced { D.keeps_model disk.new → OnOk result ((k : ℕ) → D.unsynced disk.new k → ⊥) }
 {

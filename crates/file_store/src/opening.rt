@@ -33,6 +33,7 @@ impl<D: SectorDisk> FileStore<D> {
         ensures size { IfOk result (λ store. D.sector_count store.disk ≡ D.sector_count disk) }
         ensures kept { IfOk result (λ store. D.keeps_model store.disk → D.keeps_model disk) }
         ensures later { IfOk result (λ store. D.failures disk ≤ D.failures store.disk) }
+        ensures calm { IfOk result (λ store. D.failures store.disk ≡ D.failures disk) }
 
         // The image is that of a store.
         ensures good_layout { IfOk result (λ store. D.keeps_model store.disk → IsBadLayout (D.sector_count disk) (D.content disk) → ⊥) }
@@ -88,6 +89,7 @@ fn mount<D: SectorDisk>(disk: &mut D) -> Result<Directory, OpenFault>
     ensures later { D.failures disk.old ≤ D.failures disk.new }
     ensures ok { IfOk result (λ directory. IsMounted D.SectorDisk disk.old disk.new directory) }
     ensures device { IsErrOf result OpenFault.Device → D.failures disk.old < D.failures disk.new }
+    ensures calm { OnOk result (D.failures disk.new ≡ D.failures disk.old) }
     ensures bad_layout { D.keeps_model disk.new → IsErrOf result OpenFault.BadLayout → IsBadLayout (D.sector_count disk.old) (D.content disk.old) }
     ensures bad_journal { D.keeps_model disk.new → IsErrOf result OpenFault.BadJournal → IsBadJournal (D.sector_count disk.old) (D.content disk.old) × (IsBadLayout (D.sector_count disk.old) (D.content disk.old) → ⊥) }
     ensures unwritten { D.keeps_model disk.new → OnErr result ((IsErrOf result OpenFault.Device → ⊥) → Touches D.SectorDisk Nothing disk.old disk.new) }
@@ -109,6 +111,7 @@ fn read_layout<D: SectorDisk>(disk: &mut D) -> Result<Directory, OpenFault>
     ensures entries { D.keeps_model disk.new → IfOk result (λ directory. (f : ℕ) → entry_of directory f ≡ directory_entry (D.content disk.old) f) }
     ensures good { D.keeps_model disk.new → OnOk result (IsBadLayout (D.sector_count disk.old) (D.content disk.old) → ⊥) }
     ensures device { IsErrOf result OpenFault.Device → D.failures disk.old < D.failures disk.new }
+    ensures calm { OnOk result (D.failures disk.new ≡ D.failures disk.old) }
     ensures bad { D.keeps_model disk.new → IsErrOf result OpenFault.BadLayout → IsBadLayout (D.sector_count disk.old) (D.content disk.old) }
     ensures no_journal { IsErrOf result OpenFault.BadJournal → ⊥ }
 {

@@ -80,6 +80,7 @@ impl<D: SectorDisk> Swap<D> {
         ensures unasked { IsErrOf result PutFault.Full → self.new.pages ≡ self.old.pages }
         ensures device { IsErrOf result PutFault.Device → D.failures self.old.pages.disk < D.failures self.new.pages.disk }
         ensures later { D.failures self.old.pages.disk ≤ D.failures self.new.pages.disk }
+        ensures calm { OnOk result (D.failures self.new.pages.disk ≡ D.failures self.old.pages.disk) }
         ensures sectors { D.keeps_model self.new.pages.disk → IfOk result (λ n. ChangesPage (8 * n.0) (D.content self.old.pages.disk) (D.content self.new.pages.disk)) }
         ensures size { D.sector_count self.new.pages.disk ≡ D.sector_count self.old.pages.disk }
         ensures kept { D.keeps_model self.new.pages.disk → D.keeps_model self.old.pages.disk }

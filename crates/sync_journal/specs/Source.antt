@@ -1,5 +1,5 @@
 -- What a commit does to its source, and when it tells which fault.
-use Rattle.std.specs.Prelude.{ℕ, ◌<◌, ◌≤◌, ◌≡◌, Result, IsErrOf}
+use Rattle.std.specs.Prelude.{ℕ, ◌<◌, ◌≤◌, ◌≡◌, Result, OnOk, IsErrOf}
 use Rattle.sync_journal.specs.declared.faults.CommitFault.{CommitFault}
 use Rattle.sync_journal.specs.declared.faults.CommitFault.TheVariants.{Source, Device}
 use Rattle.sync_journal.specs.declared.source.PageSource.{Ghosts}
@@ -12,9 +12,13 @@ pub record Asks {S : Type 0} (g : Ghosts S) (old new : S) : Type 0 where
   pub still : (k : ℕ) → g.gives old k → g.gives new k
   pub follows : g.follows old new
 
--- A fault is told only where the one that it names failed in this call.
+-- A fault is told exactly where the one that it names failed in this call: whatever is told, the other one didn't fail.
 pub record HasCauses (device_before device_now source_before source_now : ℕ) (result : Result (Unit {0}) CommitFault) : Type 0 where
   pub device_later : device_before ≤ device_now
   pub source_later : source_before ≤ source_now
   pub device : IsErrOf result Device → device_before < device_now
   pub source : IsErrOf result Source → source_before < source_now
+  pub device_calm : OnOk result (device_now ≡ device_before)
+  pub device_still : IsErrOf result Source → device_now ≡ device_before
+  pub source_calm : OnOk result (source_now ≡ source_before)
+  pub source_still : IsErrOf result Device → source_now ≡ source_before

@@ -129,6 +129,7 @@ impl Journal {
         requires rest { D.keeps_model disk.old → IsAtRest D.SectorDisk (live_homes self.old) disk.old }
         ensures run { Runs D.SectorDisk (IsReplayed (live_homes self.old)) disk.old disk.new }
         ensures failed { IsErr result → D.failures disk.old < D.failures disk.new }
+        ensures calm { OnOk result (D.failures disk.new ≡ D.failures disk.old) }
         ensures not_live { OnOk result (live_homes self.new ≡ []) }
         ensures any_moment { D.keeps_model disk.new → KeepsHomes D.SectorDisk disk.old disk.new }
         ensures gate { D.keeps_model disk.new → OnOk result (D.content disk.new gate_sector ≡ closed_gate (D.content disk.old)) }

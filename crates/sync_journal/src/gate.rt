@@ -36,6 +36,7 @@ pub(crate) fn open_gate<D: SectorDisk>(disk: &mut D) -> Result<(), DiskFault>
     requires { 1020 ≤ D.sector_count disk.old }
     ensures run { Runs D.SectorDisk IsGate disk.old disk.new }
     ensures failed { IsErr result → D.failures disk.old < D.failures disk.new }
+    ensures calm { OnOk result (D.failures disk.new ≡ D.failures disk.old) }
     ensures opened { D.keeps_model disk.new → OnOk result (is_open (D.content disk.new) ≡ true) }
     ensures synced { D.keeps_model disk.new → OnOk result ((k : ℕ) → D.unsynced disk.new k → ⊥) }
 {
@@ -47,6 +48,7 @@ pub(crate) fn close_gate<D: SectorDisk>(disk: &mut D) -> Result<(), DiskFault>
     requires { 1020 ≤ D.sector_count disk.old }
     ensures run { Runs D.SectorDisk IsGate disk.old disk.new }
     ensures failed { IsErr result → D.failures disk.old < D.failures disk.new }
+    ensures calm { OnOk result (D.failures disk.new ≡ D.failures disk.old) }
     ensures zeros { D.keeps_model disk.new → OnOk result (D.content disk.new gate_sector ≡ closed_sector) }
     ensures closed { D.keeps_model disk.new → OnOk result (is_open (D.content disk.new) ≡ false) }
     ensures synced { D.keeps_model disk.new → OnOk result ((k : ℕ) → D.unsynced disk.new k → ⊥) }
@@ -58,6 +60,7 @@ fn write_gate<D: SectorDisk>(disk: &mut D, gate: &[u8; 512]) -> Result<(), DiskF
     requires { 1020 ≤ D.sector_count disk.old }
     ensures run { Runs D.SectorDisk IsGate disk.old disk.new }
     ensures failed { IsErr result → D.failures disk.old < D.failures disk.new }
+    ensures calm { OnOk result (D.failures disk.new ≡ D.failures disk.old) }
     ensures written { D.keeps_model disk.new → OnOk result (D.content disk.new gate_sector ≡ gate.now) }
     ensures synced { D.keeps_model disk.new → OnOk result ((k : ℕ) → D.unsynced disk.new k → ⊥) }
 {

@@ -20,6 +20,7 @@ pub(crate) fn replay<D: SectorDisk>(disk: &mut D, homes: &[u32]) -> Result<(), D
     requires synced { D.keeps_model disk.old → (k : ℕ) → D.unsynced disk.old k → ⊥ }
     ensures run { Runs D.SectorDisk (IsReplayed homes.now) disk.old disk.new }
     ensures failed { IsErr result → D.failures disk.old < D.failures disk.new }
+    ensures calm { OnOk result (D.failures disk.new ≡ D.failures disk.old) }
     ensures any_moment { D.keeps_model disk.new → KeepsHomes D.SectorDisk disk.old disk.new }
     ensures settled { D.keeps_model disk.new → OnOk result
         (IsSettled D.SectorDisk (D.sector_count disk.old) (D.content disk.old) [] disk.new (standing (D.content disk.old))) }
@@ -35,6 +36,7 @@ fn copy_homes<D: SectorDisk>(disk: &mut D, homes: &[u32]) -> Result<(), DiskFaul
     requires { AreHomes (home_count (D.sector_count disk.old)) homes.now }
     ensures run { Runs D.SectorDisk (IsHomeSector homes.now) disk.old disk.new }
     ensures failed { IsErr result → D.failures disk.old < D.failures disk.new }
+    ensures calm { OnOk result (D.failures disk.new ≡ D.failures disk.old) }
     ensures copied { D.keeps_model disk.new → OnOk result (AreCopied homes.now (length homes.now) (D.content disk.old) (D.content disk.new)) }
     ensures synced { D.keeps_model disk.new → OnOk result ((k : ℕ) → D.unsynced disk.new k → ⊥) }
 {
@@ -46,6 +48,7 @@ fn copy_each<D: SectorDisk>(disk: &mut D, homes: &[u32]) -> Result<(), DiskFault
     requires { AreHomes (home_count (D.sector_count disk.old)) homes.now }
     ensures run { Runs D.SectorDisk (IsHomeSector homes.now) disk.old disk.new }
     ensures failed { IsErr result → D.failures disk.old < D.failures disk.new }
+    ensures calm { OnOk result (D.failures disk.new ≡ D.failures disk.old) }
     ensures copied { D.keeps_model disk.new → OnOk result (AreCopied homes.now (length homes.now) (D.content disk.old) (D.content disk.new)) }
 {
     for (j, home) in homes.iter().enumerate() {

@@ -22,6 +22,7 @@ pub fn write_page<D: SectorDisk>(
     requires fits { first < 2 ^ 60 }
     ensures run { Runs D.SectorDisk (IsPageSector first) disk.old disk.new }
     ensures failed { IsErr result → D.failures disk.old < D.failures disk.new }
+    ensures calm { OnOk result (D.failures disk.new ≡ D.failures disk.old) }
     ensures written { D.keeps_model disk.new → OnOk result ((i : ℕ) → i < 8 → D.content disk.new (first + i) ≡ sector_of page.now i) }
 {
     disk.write_page(first, page)
@@ -55,6 +56,7 @@ pub(crate) fn copy_page<D: SectorDisk>(disk: &mut D, from: u64, to: u64) -> Resu
     requires fits { to < 2 ^ 60 }
     ensures run { Runs D.SectorDisk (IsPageSector to) disk.old disk.new }
     ensures failed { IsErr result → D.failures disk.old < D.failures disk.new }
+    ensures calm { OnOk result (D.failures disk.new ≡ D.failures disk.old) }
     ensures copied { D.keeps_model disk.new → OnOk result ((i : ℕ) → i < 8 → D.content disk.new (to + i) ≡ D.content disk.old (from + i)) }
 {
     let mut page = [0; 4096];

@@ -31,6 +31,8 @@ pub fn recover<D: SectorDisk>(disk: &mut D) -> Result<(), RecoverFault>
     ensures kept { D.keeps_model disk.new → D.keeps_model disk.old }
     ensures later { D.failures disk.old ≤ D.failures disk.new }
     ensures device { IsErrOf result RecoverFault.Device → D.failures disk.old < D.failures disk.new }
+    ensures calm { OnOk result (D.failures disk.new ≡ D.failures disk.old) }
+    ensures still { IsErrOf result RecoverFault.BadJournal → D.failures disk.new ≡ D.failures disk.old }
 
     ensures ok { D.keeps_model disk.new → OnOk result
         (IsSettled D.SectorDisk (D.sector_count disk.old) (D.content disk.old) [] disk.new (standing (D.content disk.old))) }
@@ -73,6 +75,8 @@ fn recover_synced<D: SectorDisk>(disk: &mut D) -> Result<(), RecoverFault>
     ensures kept { D.keeps_model disk.new → D.keeps_model disk.old }
     ensures later { D.failures disk.old ≤ D.failures disk.new }
     ensures device { IsErrOf result RecoverFault.Device → D.failures disk.old < D.failures disk.new }
+    ensures calm { OnOk result (D.failures disk.new ≡ D.failures disk.old) }
+    ensures still { IsErrOf result RecoverFault.BadJournal → D.failures disk.new ≡ D.failures disk.old }
     ensures any_moment { D.keeps_model disk.new → KeepsHomes D.SectorDisk disk.old disk.new }
 
     ensures ok { D.keeps_model disk.new → OnOk result
@@ -104,6 +108,8 @@ fn find_open<D: SectorDisk>(
     requires { 1020 ≤ D.sector_count disk.old }
     ensures run { Runs D.SectorDisk Nothing disk.old disk.new }
     ensures device { IsErrOf result RecoverFault.Device → D.failures disk.old < D.failures disk.new }
+    ensures calm { OnOk result (D.failures disk.new ≡ D.failures disk.old) }
+    ensures still { IsErrOf result RecoverFault.BadJournal → D.failures disk.new ≡ D.failures disk.old }
     ensures gives { GivesHomes (D.sector_count disk.old) homes.new result }
     ensures finds { D.keeps_model disk.new → Finds (D.sector_count disk.old) (D.content disk.old) homes.new result }
 {

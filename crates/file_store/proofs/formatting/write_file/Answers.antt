@@ -20,6 +20,7 @@ loop-k-preserved g c =
       run = one_more g.D.SectorDisk (IsFrom (home_sector c.args.first)) c.args.disk.now c.loop-k.disk c.write_page.new.disk inv.run
           (of_more g.D.SectorDisk (IsPageSector (1020 + 8 * (c.args.first + c.loop-k.k))) (IsFrom (home_sector c.args.first)) c.loop-k.disk c.write_page.new.disk
           (λ k inside. omega (arith, inside.0)) w.run);
+      calm = c.in_ok-write_page.ensures.calm ∙ inv.calm;
       info = c.read_page.ensures.info ∙ inv.info;
       left = λ told is.
           let e : min c.args.source.now.length (4096 * c.loop-k.k) + bytes_inside c.loop-k.source.length c.loop-k.k ≡ min c.args.source.now.length (4096 * (c.loop-k.k + 1)) = omega (arith, more, length) in

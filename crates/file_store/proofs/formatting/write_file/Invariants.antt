@@ -8,6 +8,7 @@ use Rattle.file_store.proofs.formatting.write_file.Given as goal
 abbrev pub invariant-loop-k : goal.invariant-loop-k
 invariant-loop-k g l = record {
   run : Runs g.D.SectorDisk (IsFrom (home_sector l.first)) l.initial.disk l.disk;
+  calm : g.D.SectorDisk.failures l.disk ≡ g.D.SectorDisk.failures l.initial.disk;
   info : info_of l.source ≡ info_of l.initial.source;
   left : (told : List ℕ) → told_by g.R.Read.remaining l.initial.source.bytes ≡ Some told
       → told_by g.R.Read.remaining l.source.bytes ≡ Some (drop (min l.initial.source.length (4096 * l.k)) told);

@@ -46,6 +46,7 @@ loop-f-preserved g c =
     record {
       run = one_more g.D.SectorDisk (IsFrom 1020) c.args.disk.now c.loop-f.disk c.write_file.new.disk inv.run
           (of_more g.D.SectorDisk (IsFrom (home_sector c.loop-f.first)) (IsFrom 1020) c.loop-f.disk c.write_file.new.disk (λ k behind. omega (arith, behind)) w.run);
+      calm = c.in_ok-write_file.ensures.calm ∙ inv.calm;
       length = length-set c.loop-f.sources f c.write_file.new.source ∙ inv.length;
       rest = omega (arith, e, after, same, is, inv.rest, c.pages-first.ensures.count);
       behind = drop-set-lt (f + 1) c.loop-f.sources f c.write_file.new.source (omega arith)

@@ -1,4 +1,4 @@
-use Rattle.std.proofs.Common.{◌+◌, ◌*◌, ap, refl}
+use Rattle.std.proofs.Common.{◌+◌, ◌*◌, ap, ◌∙◌, refl}
 use Rattle.sync_journal.proofs.Copies.{one_home, one_copied}
 use Rattle.sync_journal.proofs.homes.copy_each.Goals as goal
 
@@ -15,4 +15,5 @@ loop-j-preserved g c =
           c.args.disk.now c.loop-j.disk c.copy_page.new.disk c.loop-j-test.true (ap (λ h. 1020 + 8 * h) c.from.ensures) i.0 run,
       one_copied g.D.SectorDisk _ c.args.homes.now c.requires n (4 + 8 * n) (1020 + 8 * c.from.result)
           c.args.disk.now c.loop-j.disk c.copy_page.new.disk c.loop-j-test.true refl (ap (λ h. 1020 + 8 * h) c.from.ensures) run.kept i.0.touches i.1 run.touches c.in_ok-copy_page.ensures.copied,
+      c.in_ok-copy_page.ensures.calm ∙ i.2,
     )

@@ -1,3 +1,4 @@
+use Rattle.std.proofs.Common.{◌≡◌}
 use Rattle.sync_journal.specs.Layout.{IsHomeSector}
 use Rattle.sync_journal.specs.Runs.{Runs}
 use Rattle.sync_journal.specs.Standing.{AreCopied}
@@ -6,3 +7,4 @@ use Rattle.sync_journal.proofs.homes.copy_each.Given as goal
 abbrev pub invariant-loop-j : goal.invariant-loop-j
 invariant-loop-j g l = Runs g.D.SectorDisk (IsHomeSector l.homes) l.fn.disk l.disk
     × (g.D.SectorDisk.keeps_model l.disk → AreCopied l.homes l.j (g.D.SectorDisk.content l.fn.disk) (g.D.SectorDisk.content l.disk))
+    × (g.D.SectorDisk.failures l.disk ≡ g.D.SectorDisk.failures l.fn.disk)

@@ -27,4 +27,6 @@ loop-j-preserved g c =
           (λ inside. absurd (other (omega (arith, inside.0, inside.1, below_i)))) (λ e. e) ((w.run.touches keeps).content (body_sector j + i))
           ∙ inv.3 (w.run.kept keeps) (c.page.ensures.kept gives) j i (omega (arith, below_j, other)) below_i)
           (cases_eq j n),
+      c.in_ok-write_page.ensures.calm ∙ inv.4,
+      c.in_ok-page.ensures.cause.calm ∙ inv.5,
     )

@@ -8,3 +8,4 @@ use Rattle.sync_journal.proofs.stage.write_body.Given as goal
 abbrev pub invariant-loop-j : goal.invariant-loop-j
 invariant-loop-j g l = (length l.page ≡ 4096) × Runs g.D.SectorDisk IsJournalSector l.fn.disk l.disk × Asks g.S.PageSource l.fn.source l.source
     × (g.D.SectorDisk.keeps_model l.disk → g.S.PageSource.keeps_model l.source → HoldsPages l.j (g.S.PageSource.pages l.fn.source) (g.D.SectorDisk.content l.disk))
+    × (g.D.SectorDisk.failures l.disk ≡ g.D.SectorDisk.failures l.fn.disk) × (g.S.PageSource.failures l.source ≡ g.S.PageSource.failures l.fn.source)

@@ -2,17 +2,22 @@ use Rattle.std.proofs.Common.{◌≡◌, ◌<◌, ◌+◌, ◌*◌, ◌-◌, len
 use Rattle.std.proofs.lemmas.Bool.{cases_eq}
 use borrow.Rule.Slice.PartMut.{put_mid}
 use Rattle.disk_model.specs.Stop.{Image, part_of}
-use Rattle.disk_model.specs.SimDisk.{sector_of, IsUnsynced, moment_of, LeftSince}
+use Rattle.disk_model.specs.SimDisk.{sector_of, IsUnsynced, moment_of, LeftSince, counts_of, after_reads}
 use Rattle.disk_model.proofs.Pages.{more_time, carried_by_read, put_here, put_there, length_put}
+use Rattle.disk_model.proofs.Counts.{last_read, next_read}
 use Rattle.disk_model.proofs.sim_disk.SimDiskSectorDisk.read_page.Goals as goal
 
 pub returns-in_err-read-clause-time : goal.returns-in_err-read-clause-time
-returns-in_err-read-clause-time c = λ keeps.
+returns-in_err-read-clause-time c =
     let old = c.args.self.now in
     let mid = c.loop-i.self in
     let new = c.read.new.self in
     more_time (moment_of old) (moment_of mid) (moment_of new) (LeftSince old) (LeftSince mid) (LeftSince new) (sector_of mid) (sector_of new) (IsUnsynced mid) (IsUnsynced new)
     c.loop-i.invariant.time c.read.ensures.time (carried_by_read (sector_of mid) (sector_of new) (IsUnsynced mid) (IsUnsynced new) c.read.ensures.same c.read.ensures.still)
+
+pub returns-in_err-read-clause-counted : goal.returns-in_err-read-clause-counted
+returns-in_err-read-clause-counted c =
+    c.read.ensures.counted ∙ sym (last_read 8 c.loop-i.i (counts_of c.loop-i.self) c.loop-i-test.true (sym c.in_err-read.ensures.fails)) ∙ sym c.loop-i.invariant.counted
 
 pub loop-i-preserved : goal.loop-i-preserved
 loop-i-preserved c =
@@ -34,6 +39,8 @@ loop-i-preserved c =
       long = length_put c.loop-i.to put (512 * i) k (omega (arith, inv.long, below)) (omega (arith, long)) ∙ inv.long;
       sector = sector;
       calm = c.in_ok-read.ensures.cause.calm ∙ inv.calm;
+      counted = inv.counted ∙ next_read 8 i (counts_of mid) below (sym c.in_ok-read.ensures.fails) ∙ ap (after_reads (8 - (i + 1))) (sym r.counted);
+      last = r.last ∙ inv.last;
       gives = λ j less. ⊎_elim
           (λ here. subst (λ m. part_of (put_mid (512 * i) k c.loop-i.to put) m ≡ sector_of old (c.args.n + m)) (sym here)
           (put_here c.loop-i.to put i k inv.long long below ∙ after ∙ given ∙ ap (λ (f : Image). f (c.args.n + i)) inv.same))

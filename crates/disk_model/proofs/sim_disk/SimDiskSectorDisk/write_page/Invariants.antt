@@ -1,6 +1,6 @@
 use Rattle.std.proofs.Common.{◌≡◌, ◌⊎◌, ◌≤◌, ◌<◌, ◌+◌, ℕ, true, false}
 use Rattle.disk_model.specs.Stop.{IsOfPage, part_of, ChangesPage, Elapses}
-use Rattle.disk_model.specs.SimDisk.{sectors_in, sector_of, IsUnsynced, moment_of, LeftSince, failures_of}
+use Rattle.disk_model.specs.SimDisk.{sectors_in, sector_of, IsUnsynced, moment_of, LeftSince, failures_of, last_synced, counts_of, after_writes, left_by_write}
 use Rattle.disk_model.proofs.sim_disk.SimDiskSectorDisk.write_page.Given as goal
 
 abbrev pub invariant-loop-i : goal.invariant-loop-i
@@ -10,6 +10,9 @@ invariant-loop-i l = record {
   caused : l.failed ≡ true → failures_of l.initial.self < failures_of l.self;
   calm : l.failed ≡ false → failures_of l.self ≡ failures_of l.initial.self;
   written : l.failed ≡ false → (j : ℕ) → j < l.i → sector_of l.self (l.n + j) ≡ part_of l.from j;
+  each : (j : ℕ) → j < l.i → sector_of l.self (l.n + j) ≡ left_by_write (after_writes j (counts_of l.initial.self)) (part_of l.from j);
+  counted : counts_of l.self ≡ after_writes l.i (counts_of l.initial.self);
+  last : last_synced l.self ≡ last_synced l.initial.self;
   others : ChangesPage l.n (sector_of l.initial.self) (sector_of l.self);
   unsynced : (k : ℕ) → IsUnsynced l.self k → IsUnsynced l.initial.self k ⊎ IsOfPage l.n k;
   marked : (k : ℕ) → l.n ≤ k → k < l.n + l.i → IsUnsynced l.self k;

@@ -1,0 +1,43 @@
+use Rattle.std.proofs.Common.{◌≡◌, ◌+◌, ⊎_elim, sym, ap, subst, ◌∙◌, arith, rules, if◌then◌else◌, replicate}
+use Rattle.std.proofs.lemmas.Bool.{cases_eq, false≢true}
+use Rattle.disk_model.specs.Stop.{part_of}
+use Rattle.disk_model.specs.SimDisk.{Counts, sector_of, counts_of, after_write, after_writes, left_by_write}
+use Rattle.disk_model.proofs.Counts.{one_write}
+use Rattle.disk_model.proofs.sim_disk.SimDiskSectorDisk.write_page.Goals as goal
+use Rattle.disk_model.proofs.sim_disk.SimDiskSectorDisk.write_page.Goals.{then-is_err, else-is_err}
+
+pub loop-i-preserved : goal.loop-i-preserved
+loop-i-preserved c =
+    let old = c.args.self.now in
+    let mid = c.loop-i.self in
+    let new = c.write.new.self in
+    let w = c.write.ensures in
+    let inv = c.loop-i.invariant in
+    let i = c.loop-i.i in
+    let here : sector_of new (c.args.n + i) ≡ left_by_write (counts_of mid) (part_of c.args.from.now i) = w.leaves ∙ ap (left_by_write (counts_of mid)) (c.parts-sector-items.ensures.each i (let len = c.parts-sector-items.ensures.len in omega (arith, c.loop-i-test.true, len))) in
+    record {
+      size = search rules;
+      later = search rules;
+      caused = search rules;
+      calm = search rules;
+      written = λ calm j less. elim c.if-is_err.branch [
+        | then-is_err at ↦ absurd (false≢true (sym calm ∙ at.failed-is))
+        | else-is_err at ↦ ⊎_elim
+            (λ same. subst (λ m. sector_of new (c.args.n + m) ≡ part_of c.args.from.now m) (sym same)
+            (here ∙ ap (λ fails. if fails then replicate 512 238 else part_of c.args.from.now i) (sym w.fails ∙ sym c.is_err.ensures.value ∙ at.if-is_err.false)))
+            (λ other. w.others.others (c.args.n + j) (λ e. other (omega (arith, e))) ∙ inv.written (sym at.failed-is ∙ calm) j (omega (arith, less, other)))
+            (cases_eq j i)
+      ];
+      each = λ j less. ⊎_elim
+          (λ same. subst (λ m. sector_of new (c.args.n + m) ≡ left_by_write (after_writes m (counts_of old)) (part_of c.args.from.now m)) (sym same)
+          (here ∙ ap (λ (k : Counts). left_by_write k (part_of c.args.from.now i)) inv.counted))
+          (λ other. w.others.others (c.args.n + j) (λ e. other (omega (arith, e))) ∙ inv.each j (omega (arith, less, other)))
+          (cases_eq j i);
+      counted = w.counted ∙ ap after_write inv.counted ∙ one_write i (counts_of old);
+      last = w.last ∙ inv.last;
+      others = search rules;
+      unsynced = search rules;
+      marked = search rules;
+      still = search rules;
+      time = search rules;
+    }
