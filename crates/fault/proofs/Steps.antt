@@ -8,10 +8,12 @@ use Rattle.page_cache.specs.declared.place.Place.TheVariants.{Home, Frame}
 use Rattle.residency.specs.declared.kernel.Core.{Core}
 use Rattle.residency.specs.Picture.{Picture, picture_of}
 use Rattle.residency.specs.Parts.{IsFit}
-use Rattle.residency.specs.Calls.{KeepsRest}
+use Rattle.residency.specs.Calls.{KeepsRest, KeepsRoom}
 use Rattle.residency.specs.Shows.{KeepsFiles, KeepsDevices}
+use Rattle.residency.proofs.Room.{room_same, room_then}
 use Rattle.page_entries.specs.Changes.{KeepsSpaces}
-use Rattle.fault.specs.Files.{KeepsPlaces, ReadsStore, BringsPages}
+use Rattle.residency.specs.Reading.{ReadsStore}
+use Rattle.fault.specs.Files.{KeepsPlaces, BringsPages}
 use Rattle.fault.specs.Entered.{Enters, Proceeds}
 use Rattle.fault.specs.Outcome.{KeepsSeen}
 
@@ -35,12 +37,13 @@ module _ {D E : Type 0} where
   -- tables were linked and an entry was set
   pub enters_linked : (old mid new : Core D E) → IsFit (picture_of new) → KeepsSpaces (picture_of old) (picture_of mid)
       → KeepsFiles (picture_of old) (picture_of mid) → KeepsRest old mid → KeepsSpaces (picture_of mid) (picture_of new)
-      → KeepsPlaces (picture_of mid) (picture_of new) → KeepsDevices mid new → Enters old new
-  enters_linked old mid new fit spaces files rest spaces' places' devices = record {
+      → KeepsPlaces (picture_of mid) (picture_of new) → KeepsDevices mid new → KeepsRoom mid new → Enters old new
+  enters_linked old mid new fit spaces files rest spaces' places' devices room = record {
     fit = fit;
     spaces = spaces_then (picture_of old) (picture_of mid) (picture_of new) spaces spaces';
     places = places_then (picture_of old) (picture_of mid) (picture_of new) (keeps_places (picture_of old) (picture_of mid) files) places';
     devices = record { store = devices.store ∙ rest.store; swap = devices.swap ∙ rest.swap };
+    room = room_then old mid new (room_same old mid rest.cache) room;
   }
 
   -- nothing but tables that were given back
@@ -51,6 +54,7 @@ module _ {D E : Type 0} where
     spaces = spaces;
     places = keeps_places (picture_of old) (picture_of new) files;
     devices = record { store = rest.store; swap = rest.swap };
+    room = room_same old new rest.cache;
   }
 
   pub rest_devices : (old new : Core D E) → KeepsRest old new → KeepsDevices old new
@@ -108,6 +112,7 @@ module _ {D : Type 0} (g : Ghosts D) where
           spaces = enters.spaces;
           reads = subst Q (sym enters.devices.store) (reads_none old.store);
           swap = enters.devices.swap;
+          room = enters.room;
           brings = brings_none old.store.disk new.store.disk (picture_of old) (picture_of new) enters.places;
         }
 
@@ -122,6 +127,7 @@ module _ {D : Type 0} (g : Ghosts D) where
           spaces = spaces_then (picture_of old) (picture_of mid) (picture_of new) proceeds.spaces enters.spaces;
           reads = subst Q (sym enters.devices.store) proceeds.reads;
           swap = enters.devices.swap ∙ proceeds.swap;
+          room = room_then old mid new proceeds.room enters.room;
           brings = subst R (sym enters.devices.store)
               (brings_then old.store.disk mid.store.disk (picture_of old) (picture_of mid) (picture_of new) proceeds.brings enters.places);
         }

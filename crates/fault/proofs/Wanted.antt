@@ -31,7 +31,8 @@ use Rattle.page_entries.specs.Wants.{IsWhole, IsOfFile, ShowsFile, Wants, ForTab
 use Rattle.fault.specs.Entered.{IsRefused}
 use Rattle.fault.specs.declared.refusal.AccessRefusal.{AccessRefusal}
 use Rattle.fault.specs.declared.refusal.AccessRefusal.TheVariants as Refusal
-use Rattle.fault.specs.Outcome.{verdict_of, Grants, IsWalked, Stalls, IsRefusal}
+use Rattle.fault.specs.Outcome.{verdict_of, KeepsSeen, Grants, IsWalked, Stalls, IsRefusal}
+use Rattle.fault.proofs.Steps.{views_then}
 use Rattle.fault.proofs.Verdicts.{live_root}
 
 cases_frame : (place : Place) → ((n : FrameNo) × (place ≡ Frame n)) ⊎ ((n : FrameNo) → place ≢ Frame n)
@@ -160,6 +161,12 @@ not_device stall frames device = let bad : NoFrames ≡ StoreDevice = sym frames
 pub no_home : {D E T : Type 0} (old new : Core D E) (H : Type 0) (r : Result T Stall) → IfErr r (IsRefused old new) → IfErr r (λ stall. stall ≡ StoreDevice → H)
 no_home old new H (Ok x) refused = tt
 no_home old new H (Err stall) refused = λ device. absurd (not_device stall refused.stall_is device)
+
+-- no process saw a change before the refusal, and none sees one after it
+pub refused_keeps : {D E T : Type 0} (old : Picture) (mid new : Core D E) (r : Result T Stall) → KeepsSeen old (picture_of mid) → IfErr r (IsRefused mid new)
+    → OnErr r (KeepsSeen old (picture_of new))
+refused_keeps old mid new (Ok x) keeps refused = tt
+refused_keeps old mid new (Err stall) keeps refused = views_then old (picture_of mid) (picture_of new) keeps refused.keeps
 
 -- for each access, so for that one
 pub on_err_at : {T E : Type 0} (P : Access → Type 0) (access : Access) (r : Result T E) → OnErr r ((a : Access) → P a) → OnErr r (P access)

@@ -9,10 +9,12 @@ use Rattle.file_store.specs.Store.{IsReadyStore}
 use Rattle.residency.specs.declared.kernel.Core.{Core}
 use Rattle.residency.specs.Picture.{Picture, picture_of, entry, own_in}
 use Rattle.residency.specs.Parts.{IsFit}
+use Rattle.residency.specs.Calls.{KeepsRoom}
 use Rattle.residency.specs.Shows.{KeepsDevices}
 use Rattle.page_entries.specs.Leaves.{IsEntryOver}
 use Rattle.page_entries.specs.Changes.{KeepsSpaces}
-use Rattle.fault.specs.Files.{KeepsPlaces, ReadsStore, BringsFiles}
+use Rattle.residency.specs.Reading.{ReadsStore}
+use Rattle.fault.specs.Files.{KeepsPlaces, BringsFiles}
 use Rattle.fault.specs.Outcome.{KeepsSeen}
 
 -- the page's entry is one over frame n that gives what the permission lets be done but for stores, which it may let through or not
@@ -33,6 +35,7 @@ module _ {D E : Type 0} where
     pub spaces : KeepsSpaces (picture_of old) (picture_of new)
     pub places : KeepsPlaces (picture_of old) (picture_of new)
     pub devices : KeepsDevices old new
+    pub room : KeepsRoom old new
 
   -- no frame was to be had
   pub record IsRefused (old new : Core D E) (stall : Stall) : Type 0 where
@@ -49,4 +52,5 @@ module _ {D : Type 0} (g : Ghosts D) where
       pub spaces : KeepsSpaces (picture_of old) (picture_of new)
       pub reads : ReadsStore g old.store new.store
       pub swap : new.swap ≡ old.swap
+      pub room : KeepsRoom old new
       pub brings : BringsFiles g old new

@@ -1,12 +1,12 @@
 -- What an access comes to: a place in memory that holds the page, a fault, or a stall.
-use Rattle.std.specs.Prelude.{◌≡◌, ◌≢◌, ◌<◌, ◌⊎◌, ◌+◌, ◌/◌, ◌%◌, ℕ, true, Some, Ok}
+use Rattle.std.specs.Prelude.{◌≡◌, ◌≢◌, ◌⊎◌, ◌/◌, ◌%◌, ℕ, true, Some, Ok}
 use Rattle.vm_types.specs.declared.access.Access.{Access}
 use Rattle.vm_types.specs.declared.access.Access.TheVariants.{Load, Store, Fetch}
 use Rattle.vm_types.specs.declared.file.FilePage.{FilePage}
 use Rattle.vm_types.specs.declared.number.Phys.{Phys}
 use Rattle.vm_types.specs.declared.refusal.Code.{Code}
 use Rattle.vm_types.specs.declared.refusal.Stall.{Stall}
-use Rattle.vm_types.specs.declared.refusal.Stall.TheVariants.{NoFrames, NoSwap, SwapDevice, StoreDevice}
+use Rattle.vm_types.specs.declared.refusal.Stall.TheVariants.{StoreDevice}
 use Rattle.vm_types.specs.declared.region.Backing.{Backing}
 use Rattle.vm_types.specs.declared.region.Backing.TheVariants.{Anon, Private, Shared}
 use Rattle.vm_types.specs.declared.width.Width.{Width}
@@ -19,6 +19,7 @@ use Rattle.sv39_walk.specs.Walk.{translated}
 use Rattle.page_cache.specs.declared.place.Place.TheVariants.{Frame}
 use Rattle.residency.specs.declared.kernel.Core.{Core}
 use Rattle.residency.specs.Picture.{Picture, picture_of, view}
+use Rattle.residency.specs.Reading.{StallCause}
 use Rattle.fault.specs.declared.refusal.AccessRefusal.{AccessRefusal}
 use Rattle.fault.specs.declared.refusal.AccessRefusal.TheVariants as Refusal
 use Rattle.page_entries.specs.Wants.{Wants, ReadsHome}
@@ -87,20 +88,13 @@ pub record IsWalked (c : Picture) (pid addr : ℕ) (width : Width) (access : Acc
 
 module _ {D : Type 0} (g : Ghosts D) where
   module _ {E : Type 0} where
-    -- what a stall comes from; there is no other yet
-    abbrev pub StallCause : Core D E → Core D E → Stall → Type 0
-    StallCause old new NoFrames = new.refused.number ≡ old.refused.number + 1
-    StallCause old new NoSwap = ⊥
-    StallCause old new SwapDevice = ⊥
-    StallCause old new StoreDevice = (new.refused.number ≡ old.refused.number) × (g.failures old.store.disk < g.failures new.store.disk)
-
     -- A stall: the access is fine, and no process sees a change. A frame was wanted, or the page from its home: the store device
     -- fails an access to no other page.
     pub record Stalls (old new : Core D E) (pid addr : ℕ) (width : Width) (access : Access) (stall : Stall) : Type 0 where
       pub seen : View
       pub fine : verdict_of (picture_of old) pid addr width access ≡ Fine seen
       pub keeps : KeepsSeen (picture_of old) (picture_of new)
-      pub cause : StallCause old new stall
+      pub cause : StallCause g old new stall
       pub wanted : Wants (picture_of old) pid (addr / 4096) access
       pub home : stall ≡ StoreDevice → ReadsHome (picture_of old) pid (addr / 4096)
 

@@ -5,8 +5,10 @@ ghost use Rattle.vm_types.specs.declared.number.Phys.{Phys};
 ghost use Rattle.file_store.specs.Store.{IsReadyStore};
 ghost use Rattle.residency.specs.Picture.{picture_of, is_live};
 ghost use Rattle.residency.specs.Parts.{IsFit};
+ghost use Rattle.residency.specs.Calls.{KeepsRoom};
+ghost use Rattle.residency.specs.Reading.{ReadsStore};
 ghost use Rattle.page_entries.specs.Changes.{KeepsSpaces};
-ghost use Rattle.fault.specs.Files.{ReadsStore, BringsFiles};
+ghost use Rattle.fault.specs.Files.{BringsFiles};
 ghost use Rattle.page_entries.specs.Wants.{Wants, ReadsHome, ShowsFile, IsCalm};
 ghost use Rattle.fault.specs.Outcome.{Grants, IsRefusal, IsWalked};
 
@@ -45,6 +47,7 @@ pub fn access<D: SectorDisk, E>(
     ensures spaces { KeepsSpaces (picture_of core.old) (picture_of core.new) }
     ensures reads { ReadsStore D.SectorDisk core.old.store core.new.store }
     ensures swap { core.new.swap ≡ core.old.swap }
+    ensures room { KeepsRoom core.old core.new }
     ensures brings { BringsFiles D.SectorDisk core.old core.new }
     ensures granted { IfOk result (λ place. Grants (picture_of core.old) (picture_of core.new) pid addr width access place) }
     ensures walked { (place : Phys) → IsWalked (picture_of core.old) pid addr width access place → (core.new ≡ core.old) × (result ≡ Ok place) }

@@ -1,19 +1,19 @@
 //! File pages brought into memory.
-ghost use Rattle.std.specs.Prelude.{◌≡◌, ◌≢◌, true, IfOk, IfErr, OnOk, OnErr};
+ghost use Rattle.std.specs.Prelude.{◌≡◌, ◌≢◌, IfOk, IfErr, OnOk, OnErr};
 ghost use Rattle.vm_types.specs.declared.file.FilePage.{FilePage};
 ghost use Rattle.vm_types.specs.declared.number.FrameNo.{FrameNo};
 ghost use Rattle.file_store.specs.Standing.{IsPageOf};
 ghost use Rattle.file_store.specs.Store.{IsReadyStore};
-ghost use Rattle.page_cache.specs.declared.place.Place.TheVariants.{Home, Frame};
+ghost use Rattle.page_cache.specs.declared.place.Place.TheVariants.{Frame};
 ghost use Rattle.residency.specs.Picture.{picture_of};
 ghost use Rattle.residency.specs.Parts.{IsFit};
+ghost use Rattle.residency.specs.Reading.{StallCause};
 ghost use Rattle.fault.specs.Entered.{Proceeds};
-ghost use Rattle.fault.specs.Outcome.{KeepsSeen, StallCause};
+ghost use Rattle.fault.specs.Outcome.{KeepsSeen};
 
-use disk_model::{DiskFault, SectorDisk};
-use frames::Role;
+use disk_model::SectorDisk;
 use page_cache::Place;
-use residency::{Core, obtain};
+use residency::Core;
 use vm_types::{FilePage, FrameNo, Stall};
 
 /// The frame of a file page that begins inside its file. At the first access by anyone the page is read from its home.
@@ -38,36 +38,7 @@ pub(crate) fn cached<D: SectorDisk, E>(
 {
     match core.cache.place(page) {
         Place::Frame(frame) => Ok(frame),
-        Place::Home => brought(core, page),
+        Place::Home => core.bring_in(page),
         Place::Slot(_) => unreachable!(),
-    }
-}
-
-/// Reads a file page from its home into a frame.
-fn brought<D: SectorDisk, E>(core: &mut Core<D, E>, page: FilePage) -> Result<FrameNo, Stall>
-    requires fit { IsFit (picture_of core.old) }
-    requires store { IsReadyStore D.SectorDisk core.old.store }
-    requires inside { IsPageOf (picture_of core.old).files page.file page.page }
-    requires home { (picture_of core.old).place page ≡ Home }
-    ensures proceeds { Proceeds D.SectorDisk core.old core.new }
-    ensures keeps { KeepsSeen (picture_of core.old) (picture_of core.new) }
-    ensures placed { IfOk result (λ n. (picture_of core.new).place page ≡ Frame n) }
-    ensures not_refused { OnOk result (core.new.refused.number ≡ core.old.refused.number) }
-    ensures alone { (p : FilePage) → p ≢ page → (picture_of core.new).place p ≡ (picture_of core.old).place p }
-    ensures cause { IfErr result (StallCause D.SectorDisk core.old core.new) }
-{
-    obtain(core, None)?;
-    let Ok(frame) = core.frames.take(Role::Cache) else {
-        unreachable!();
-    };
-    match core.store.read_page(page, core.frames.bytes_mut(frame)) {
-        Ok(()) => {
-            core.cache.set_place(page, Place::Frame(frame));
-            Ok(frame)
-        }
-        Err(DiskFault) => {
-            core.frames.release(frame);
-            Err(Stall::StoreDevice)
-        }
     }
 }

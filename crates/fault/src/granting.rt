@@ -10,10 +10,11 @@ ghost use Rattle.vm_types.specs.Verdict.{is_past_end};
 ghost use Rattle.file_store.specs.Store.{IsReadyStore};
 ghost use Rattle.residency.specs.Picture.{picture_of, is_live, entry, is_private};
 ghost use Rattle.residency.specs.Parts.{IsFit, is_shared};
+ghost use Rattle.residency.specs.Reading.{StallCause};
 ghost use Rattle.page_entries.specs.Wants.{Wants, ReadsHome, ShowsFile, IsCalm};
 ghost use Rattle.fault.specs.Entered.{Proceeds};
 ghost use Rattle.fault.specs.Found.{IsOpenTo};
-ghost use Rattle.fault.specs.Outcome.{KeepsSeen, StallCause};
+ghost use Rattle.fault.specs.Outcome.{KeepsSeen};
 ghost use Rattle.fault.specs.Granted.{IsGranted, IsReadable};
 
 use crate::arriving::cached;

@@ -17,7 +17,7 @@ pub fn live<D, E>(core: &Core<D, E>, pid: u64) -> Option<Pid>
     ensures found { IfSome result (λ found. (found ≡ pid) × (is_live (picture_of core.now) pid ≡ true)) }
 {
     let process = Pid::new(pid)?;
-    core.roots[usize::from(process.get())].map(|_| process)
+    core.root(process).map(|_| process)
 }
 
 /// What a page of a live process is.
@@ -25,7 +25,7 @@ pub(crate) fn attr_at<D, E>(core: &Core<D, E>, pid: Pid, page: Vpn) -> Option<At
     requires lives { is_live (picture_of core.now) pid ≡ true }
     ensures { result ≡ (picture_of core.now).at pid page }
 {
-    core.regions[usize::from(pid.get())].at(page)
+    core.regions(pid).at(page)
 }
 
 /// The number that stands for a page of a live process.

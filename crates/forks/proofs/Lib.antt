@@ -5,3 +5,4 @@ pub mod Shared
 pub mod Passing
 pub mod Alike
 pub mod Copied
+pub mod Taken

@@ -30,8 +30,8 @@ use Rattle.residency.proofs.TableSteps.{behind_kept, sets_page, rooted_set}
 use Rattle.residency.proofs.Used.{steady_fit, view-none}
 use Rattle.residency.proofs.Views.{view-common, views_same, views_set, sole_page}
 use Rattle.page_entries.specs.Changes.{IsReady, KeepsEntries, KeepsViews, KeepsSpaces}
+use Rattle.page_entries.specs.Tables.{KeepsTables}
 use Rattle.processes.proofs.Keeping.{files_then}
-use Rattle.std.specs.Prelude.{◌&&◌, if◌then◌else◌}
 use Rattle.forks.specs.Steps.{without_write, lowered_entry, given_entry, LowersPage, Withdraws, GivesPage}
 use Rattle.forks.proofs.Lowered.{own_some, own_mapped, files_set, view_alike}
 
@@ -114,6 +114,9 @@ module _ (old mid : Picture) (n : ℕ) (steady : IsSteady old) (role : role_of o
 
   roles_shared : (m : ℕ) → role_of mid.frames m ≡ role_of old.frames m
   roles_shared m = ap (λ r. get_or r m Role.Free) shares.roles_kept
+
+  pub tables_shared : KeepsTables old.frames mid.frames
+  tables_shared = record { frames = shares.others.frames; roles = roles_shared; pointers = λ n i m. (trees.same.forth n i m, trees.same.back n i m) }
 
   pub views_shared : (q p : ℕ) → view mid q p ≡ view old q p
   views_shared = views_same old mid steady.granting beside.at (λ q p h. entries_shared q p) (λ q p h private. bytes_shared (frame_of (entry old q p)))

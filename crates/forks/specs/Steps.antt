@@ -5,7 +5,8 @@ use Rattle.page_tables.specs.Tree.{IsPage}
 use Rattle.residency.specs.Picture.{Picture, entry, is_private, view}
 use Rattle.residency.specs.Shows.{KeepsFiles}
 use Rattle.page_entries.specs.Changes.{KeepsSpaces}
-use Rattle.ranges.specs.Steps.{IsWhole, IsGapEnd}
+use Rattle.page_entries.specs.Wants.{IsWhole}
+use Rattle.ranges.specs.Steps.{IsGapEnd}
 
 -- An entry that lets no store through: a leaf's number without W, whose weight is 4, and any other number as it is.
 abbrev pub without_write : ℕ → ℕ
@@ -67,9 +68,13 @@ pub record CopiesEntries (old new : Picture) (parent child : ℕ) : Type 0 where
   pub lowered : (page : ℕ) → IsPage 2 page → entry new parent page ≡ lowered_entry (entry old parent page)
   pub given : (page : ℕ) → IsPage 2 page → entry new child page ≡ given_entry (entry old parent page)
 
--- the process has an own copy of a page
-abbrev pub HasCopy : Picture → ℕ → Type 0
-HasCopy c pid = (page : ℕ) × IsPage 2 page × (is_private (entry c pid page) ≡ true)
+-- the process has a copy of its own of a page
+abbrev pub HasCopy : Picture → ℕ → ℕ → Type 0
+HasCopy c pid page = IsPage 2 page × (is_private (entry c pid page) ≡ true)
+
+-- the same, of that one page
+abbrev pub HasThisCopy : Picture → ℕ → ℕ → ℕ → Type 0
+HasThisCopy c pid page p = (p ≡ page) × HasCopy c pid p
 
 -- Each entry of the parent is as it was, or that of a shared page.
 abbrev pub LowersSome : Picture → Picture → ℕ → Type 0

@@ -1,10 +1,11 @@
 //! A process that is a copy of another.
-ghost use Rattle.std.specs.Prelude.{◌≡◌, ◌≢◌, ◌+◌, ◌⊎◌, ℕ, true, false, None, OnOk, OnErr, IfErr};
+ghost use Rattle.std.specs.Prelude.{◌≡◌, ◌≢◌, ◌+◌, ◌⊎◌, ℕ, true, false, None, Some, OnOk, OnErr, IfErr};
 ghost use Rattle.vm_types.specs.declared.refusal.Stall.TheVariants.{NoFrames};
-ghost use Rattle.frames.specs.FrameTable.{IsFull};
+ghost use Rattle.frames.specs.FrameTable.{IsFull, role_of};
 ghost use Rattle.residency.specs.Picture.{picture_of, is_live, view};
 ghost use Rattle.residency.specs.Parts.{IsFit};
 ghost use Rattle.residency.specs.Shows.{KeepsFiles, KeepsDevices};
+ghost use Rattle.page_entries.specs.Tables.{AddsTables, FallsShort};
 ghost use Rattle.processes.specs.Changes.{AddsProcess, KeepsProcesses, TakesNoCopy};
 ghost use Rattle.forks.specs.Steps.{HasCopy, KeepsEntriesBut, CopiesEntries, LowersSome, MapsAlike};
 
@@ -34,8 +35,13 @@ pub fn fork<D, E>(core: &mut Core<D, E>, parent: Pid, child: Pid) -> Result<(), 
     ensures others { KeepsEntriesBut (picture_of core.old) (picture_of core.new) parent child }
     ensures files { KeepsFiles (picture_of core.old) (picture_of core.new) }
     ensures devices { KeepsDevices core.old core.new }
+    ensures cache { core.new.cache ≡ core.old.cache }
     ensures copies { TakesNoCopy core.old.frames core.new.frames }
-    ensures wanted { OnErr result (IsFull core.old.frames ⊎ HasCopy (picture_of core.old) parent) }
+    ensures tables { OnOk result ((r : ℕ) × ((picture_of core.new).root child ≡ Some r)
+        × AddsTables (HasCopy (picture_of core.old) parent) core.old.frames core.new.frames r) }
+    ensures returned { OnErr result ((n : ℕ) → role_of core.new.frames n ≡ role_of core.old.frames n) }
+    ensures wanted { OnErr result (IsFull core.old.frames
+        ⊎ ((r : ℕ) × FallsShort (HasCopy (picture_of core.old) parent) core.old.frames r)) }
     ensures stall { IfErr result (λ stall. stall ≡ NoFrames) }
     ensures not_refused { OnOk result (core.new.refused.number ≡ core.old.refused.number) }
     ensures refused { OnErr result (core.new.refused.number ≡ core.old.refused.number + 1) }
@@ -61,9 +67,10 @@ fn map_alike<D, E>(core: &mut Core<D, E>, parent: Pid, child: Pid)
     ensures fit { IsFit (picture_of core.new) }
     ensures mapped { MapsAlike (picture_of core.old) (picture_of core.new) parent child }
     ensures devices { KeepsDevices core.old core.new }
+    ensures cache { core.new.cache ≡ core.old.cache }
     ensures kept { core.new.frames ≡ core.old.frames }
     ensures not_refused { core.new.refused ≡ core.old.refused }
 {
-    let regions = core.regions[usize::from(parent.get())].copied();
-    core.regions[usize::from(child.get())] = regions;
+    let regions = core.regions(parent).copied();
+    core.remap(child, regions);
 }

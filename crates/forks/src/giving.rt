@@ -1,13 +1,14 @@
 //! The parent's own pages, given to the child.
-ghost use Rattle.std.specs.Prelude.{◌≡◌, ◌≢◌, ℕ, ◌+◌, ◌<◌, ◌≤◌, ◌^◌, true, OnOk, OnErr, IfOk, IfErr};
+ghost use Rattle.std.specs.Prelude.{◌≡◌, ◌≢◌, ℕ, ◌+◌, ◌<◌, ◌≤◌, ◌^◌, true, Some, OnOk, OnErr, IfOk, IfErr};
 ghost use Rattle.vm_types.specs.declared.refusal.Stall.TheVariants.{NoFrames};
-ghost use Rattle.residency.specs.Picture.{picture_of, entry, is_private, is_live, view};
+ghost use Rattle.residency.specs.Picture.{picture_of, entry, is_live, view};
 ghost use Rattle.residency.specs.Parts.{IsFit};
 ghost use Rattle.residency.specs.Calls.{KeepsRest};
 ghost use Rattle.residency.specs.Shows.{KeepsFiles};
 ghost use Rattle.page_entries.specs.Changes.{KeepsSpaces, KeepsViews};
+ghost use Rattle.page_entries.specs.Tables.{AddsTables, FallsShort};
 ghost use Rattle.processes.specs.Changes.{TakesNoCopy};
-ghost use Rattle.forks.specs.Steps.{HasCopy, LowersPage, LowersSome, KeepsEntriesBut, IsNextPage, CopiesEntries, CopiesUpTo, GivesPage, GivesPages, GivesUpTo};
+ghost use Rattle.forks.specs.Steps.{HasCopy, HasThisCopy, LowersPage, LowersSome, KeepsEntriesBut, IsNextPage, CopiesEntries, CopiesUpTo, GivesPage, GivesPages, GivesUpTo};
 
 use crate::withdrawing::{frame_of, is_own, withdraw_write};
 use page_entries::{link_tables, root_of};
@@ -35,7 +36,8 @@ pub(crate) fn share_pages<D, E>(core: &mut Core<D, E>, parent: Pid, child: Pid) 
     ensures files { KeepsFiles (picture_of core.old) (picture_of core.new) }
     ensures rest { KeepsRest core.old core.new }
     ensures copies { TakesNoCopy core.old.frames core.new.frames }
-    ensures wanted { OnErr result (HasCopy (picture_of core.old) parent) }
+    ensures tables { (r : ℕ) → (picture_of core.old).root child ≡ Some r → AddsTables (HasCopy (picture_of core.old) parent) core.old.frames core.new.frames r }
+    ensures short { OnErr result ((r : ℕ) → (picture_of core.old).root child ≡ Some r → FallsShort (HasCopy (picture_of core.old) parent) core.old.frames r) }
     ensures stall { IfErr result (λ stall. stall ≡ NoFrames) }
     ensures not_refused { OnOk result (core.new.refused.number ≡ core.old.refused.number) }
     ensures refused { OnErr result (core.new.refused.number ≡ core.old.refused.number + 1) }
@@ -66,7 +68,8 @@ fn share_next<D, E>(core: &mut Core<D, E>, parent: Pid, child: Pid, page: Vpn) -
     ensures files { KeepsFiles (picture_of core.old) (picture_of core.new) }
     ensures rest { KeepsRest core.old core.new }
     ensures copies { TakesNoCopy core.old.frames core.new.frames }
-    ensures wanted { OnErr result (is_private (entry (picture_of core.old) parent page) ≡ true) }
+    ensures tables { (r : ℕ) → (picture_of core.old).root child ≡ Some r → AddsTables (HasThisCopy (picture_of core.old) parent page) core.old.frames core.new.frames r }
+    ensures short { OnErr result ((r : ℕ) → (picture_of core.old).root child ≡ Some r → FallsShort (HasThisCopy (picture_of core.old) parent page) core.old.frames r) }
     ensures stall { IfErr result (λ stall. stall ≡ NoFrames) }
     ensures not_refused { OnOk result (core.new.refused.number ≡ core.old.refused.number) }
     ensures refused { OnErr result (core.new.refused.number ≡ core.old.refused.number + 1) }
@@ -94,7 +97,8 @@ fn share_page<D, E>(core: &mut Core<D, E>, parent: Pid, child: Pid, page: Vpn) -
     ensures files { KeepsFiles (picture_of core.old) (picture_of core.new) }
     ensures rest { KeepsRest core.old core.new }
     ensures copies { TakesNoCopy core.old.frames core.new.frames }
-    ensures wanted { OnErr result (is_private (entry (picture_of core.old) parent page) ≡ true) }
+    ensures tables { (r : ℕ) → (picture_of core.old).root child ≡ Some r → AddsTables (HasThisCopy (picture_of core.old) parent page) core.old.frames core.new.frames r }
+    ensures short { OnErr result ((r : ℕ) → (picture_of core.old).root child ≡ Some r → FallsShort (HasThisCopy (picture_of core.old) parent page) core.old.frames r) }
     ensures stall { IfErr result (λ stall. stall ≡ NoFrames) }
     ensures not_refused { OnOk result (core.new.refused.number ≡ core.old.refused.number) }
     ensures refused { OnErr result (core.new.refused.number ≡ core.old.refused.number + 1) }

@@ -7,6 +7,7 @@ ghost use Rattle.residency.specs.Parts.{IsFit};
 ghost use Rattle.residency.specs.Calls.{KeepsRest};
 ghost use Rattle.residency.specs.Shows.{KeepsFiles};
 ghost use Rattle.page_entries.specs.Changes.{KeepsSpaces};
+ghost use Rattle.page_entries.specs.Tables.{KeepsTables};
 ghost use Rattle.processes.specs.Changes.{TakesNoCopy};
 ghost use Rattle.forks.specs.Steps.{Weakens, Withdraws};
 
@@ -53,6 +54,7 @@ pub(crate) fn withdraw_write<D, E>(
     ensures files { KeepsFiles (picture_of core.old) (picture_of core.new) }
     ensures rest { KeepsRest core.old core.new }
     ensures copies { TakesNoCopy core.old.frames core.new.frames }
+    ensures tables { KeepsTables core.old.frames core.new.frames }
     ensures not_refused { core.new.refused ≡ core.old.refused }
 {
     // (brings in that it is a user page)

@@ -7,6 +7,7 @@ use Rattle.file_store.specs.Commit.{StandsForEither}
 use Rattle.residency.specs.Picture.{picture_of}
 use Rattle.residency.specs.Shows.{ShowsPages, KeepsDevices}
 use Rattle.residency.specs.declared.kernel.Core.{Core}
+use Rattle.residency.specs.Calls.{KeepsRoom}
 use Rattle.spaces.specs.Calls as Calls
 use Rattle.spaces.specs.Idle.{is_denial, is_idle}
 use Rattle.syncing.specs.Shows as Syncing
@@ -124,11 +125,11 @@ module _ {D E : Type 0} (g : Ghosts D) (h : Ghosts E) where
 
   -- the commit was made
   commit_done : (old : Machine D E) (core : Core D E) (s : State) (pid addr len : ℕ) (mode : MsyncMode) (reply : Reply) (after : Pages)
-      → Shows g h old s → IsRunning s → commits s (Msync pid addr len mode) ≡ Some after
+      → Shows g h old s → IsRunning s → KeepsRoom old.core core → commits s (Msync pid addr len mode) ≡ Some after
       → Commits g old.core core s after (Msync pid addr len mode) reply → reply ≡ Done
       → Syncing.Shows g core (outcome s (Msync pid addr len mode)).state
       → (t : State) × Meets g h old (record { core = core; halted = false; past = old.past }) s t (Msync pid addr len mode) reply
-  commit_done old core s pid addr len mode reply after shows run commit made done now =
+  commit_done old core s pid addr len mode reply after shows run room commit made done now =
       let x = Msync pid addr len mode in
       let new : Machine D E = record { core = core; halted = false; past = old.past } in
       let n = g.sector_count old.core.store.disk in
@@ -143,6 +144,8 @@ module _ {D E : Type 0} (g : Ghosts D) (h : Ghosts E) where
           past = shows.past ∙ sym all.past;
           stands = λ k c may. (t.durable, subst (λ (o : Option (List Pages)). stands_in o t.durable t.durable) (sym goes_on) refl, now.stands k c may);
         };
+        room = room;
+        accesses = tt;
         size = made.size;
         kept = made.kept;
         idle = λ e. absurd (never_idle s pid addr len mode reply after commit (ap is_denial done) e);
@@ -154,11 +157,11 @@ module _ {D E : Type 0} (g : Ghosts D) (h : Ghosts E) where
 
   -- the store failed in it
   commit_failed : (counts_now : CountsNow) (old : Machine D E) (core : Core D E) (s : State) (pid addr len : ℕ) (mode : MsyncMode) (reply : Reply) (after : Pages)
-      → Shows g h old s → IsRunning s → commits s (Msync pid addr len mode) ≡ Some after
+      → Shows g h old s → IsRunning s → KeepsRoom old.core core → commits s (Msync pid addr len mode) ≡ Some after
       → Commits g old.core core s after (Msync pid addr len mode) reply → reply ≡ Refused EIO
       → g.failures old.core.store.disk < g.failures core.store.disk → KeepsMemory old.core core
       → (t : State) × Meets g h old (record { core = core; halted = true; past = old.past }) s t (Msync pid addr len mode) reply
-  commit_failed counts_now old core s pid addr len mode reply after shows run commit made failed grew memory =
+  commit_failed counts_now old core s pid addr len mode reply after shows run room commit made failed grew memory =
       let x = Msync pid addr len mode in
       let new : Machine D E = record { core = core; halted = true; past = old.past } in
       let n = g.sector_count old.core.store.disk in
@@ -183,6 +186,8 @@ module _ {D E : Type 0} (g : Ghosts D) (h : Ghosts E) where
               (holds_now g old.core.store.disk core.store.disk (StandsForEither n s.files s.durable after)
               (λ m i le ml. counts_now core.store.disk m i k le ml) (made.either k) c may));
         };
+        room = room;
+        accesses = tt;
         size = made.size;
         kept = made.kept;
         idle = λ e. absurd (never_idle s pid addr len mode reply after commit (ap is_denial failed) e);
@@ -199,9 +204,9 @@ module _ {D E : Type 0} (g : Ghosts D) (h : Ghosts E) where
 
   -- answered by EIO, it halts the machine
   pub msync_halts : (counts_now : CountsNow) (old : Machine D E) (core : Core D E) (s : State) (pid addr len : ℕ) (mode : MsyncMode) (reply : Reply)
-      → Shows g h old s → old.halted ≡ false → (Syncing.Shows g old.core s → Msynced old.core core s (Msync pid addr len mode) reply)
+      → Shows g h old s → old.halted ≡ false → KeepsRoom old.core core → (Syncing.Shows g old.core s → Msynced old.core core s (Msync pid addr len mode) reply)
       → reply ≡ Refused EIO → (t : State) × Meets g h old (record { core = core; halted = true; past = old.past }) s t (Msync pid addr len mode) reply
-  msync_halts counts_now old core s pid addr len mode reply shows live said e =
+  msync_halts counts_now old core s pid addr len mode reply shows live room said e =
       let x = Msync pid addr len mode in
       let run = is_running g h old s shows live in
       let told = said (shows_core g h old s shows run) in
@@ -210,15 +215,15 @@ module _ {D E : Type 0} (g : Ghosts D) (h : Ghosts E) where
       let made = told.commits_so some.0 some.1 in
       elim made.end as (λ _. (t : State) × Meets g h old (record { core = core; halted = true; past = old.past }) s t x reply) [
         | Acknowledged done now sound ↦ absurd (let never : Done ≡ Refused EIO = sym done ∙ e in cc)
-        | Failed failed grew memory ↦ commit_failed counts_now old core s pid addr len mode reply some.0 shows run some.1 made e grew memory
+        | Failed failed grew memory ↦ commit_failed counts_now old core s pid addr len mode reply some.0 shows run room some.1 made e grew memory
       ])
       (none_or_some (commits s x))
 
   -- answered otherwise, it lets the machine go on
   pub msync_goes_on : (only_now : OnlyNow g h) (old : Machine D E) (core : Core D E) (s : State) (pid addr len : ℕ) (mode : MsyncMode) (reply : Reply)
-      → Shows g h old s → old.halted ≡ false → (Syncing.Shows g old.core s → Msynced old.core core s (Msync pid addr len mode) reply)
+      → Shows g h old s → old.halted ≡ false → KeepsRoom old.core core → (Syncing.Shows g old.core s → Msynced old.core core s (Msync pid addr len mode) reply)
       → (reply ≡ Refused EIO → ⊥) → (t : State) × Meets g h old (record { core = core; halted = false; past = old.past }) s t (Msync pid addr len mode) reply
-  msync_goes_on only_now old core s pid addr len mode reply shows live said otherwise =
+  msync_goes_on only_now old core s pid addr len mode reply shows live room said otherwise =
       let x = Msync pid addr len mode in
       let run = is_running g h old s shows live in
       let told = said (shows_core g h old s shows run) in
@@ -228,21 +233,21 @@ module _ {D E : Type 0} (g : Ghosts D) (h : Ghosts E) where
       let pages : ShowsPages (picture_of core) (outcome s x).state =
       subst (λ (t : State). ShowsPages (picture_of core) t) (sym stays.0) (subst (λ (o : Core D E). ShowsPages (picture_of o) s) (sym same) shows.pages) in
       let keeps : KeepsDevices old.core core = record { store = ap (λ (o : Core D E). o.store) same; swap = ap (λ (o : Core D E). o.swap) same } in
-      answered g h only_now old core false old.past s x reply shows live refl stays.1 refl (unread g h old.core core keeps) (λ _. keeps) (Calls.Does (told.passes none).0 pages))
+      answered g h only_now old core false old.past s x reply shows live refl stays.1 refl (unread g h old.core core keeps) (λ _. keeps) room tt (Calls.Does (told.passes none).0 pages))
       (λ (some : (after : Pages) × (commits s x ≡ Some after)).
       let made = told.commits_so some.0 some.1 in
       elim made.end as (λ _. (t : State) × Meets g h old (record { core = core; halted = false; past = old.past }) s t x reply) [
-        | Acknowledged done now sound ↦ commit_done old core s pid addr len mode reply some.0 shows run some.1 made done now
+        | Acknowledged done now sound ↦ commit_done old core s pid addr len mode reply some.0 shows run room some.1 made done now
         | Failed failed grew memory ↦ absurd (otherwise failed)
       ])
       (none_or_some (commits s x))
 
   -- either way
   pub msync_meets : (only_now : OnlyNow g h) (counts_now : CountsNow) (old : Machine D E) (core : Core D E) (stops : Bool) (s : State) (pid addr len : ℕ) (mode : MsyncMode) (reply : Reply)
-      → Shows g h old s → old.halted ≡ false → (Syncing.Shows g old.core s → Msynced old.core core s (Msync pid addr len mode) reply)
+      → Shows g h old s → old.halted ≡ false → KeepsRoom old.core core → (Syncing.Shows g old.core s → Msynced old.core core s (Msync pid addr len mode) reply)
       → (stops ≡ true → reply ≡ Refused EIO) → (stops ≡ false → reply ≡ Refused EIO → ⊥)
       → (t : State) × Meets g h old (record { core = core; halted = stops; past = old.past }) s t (Msync pid addr len mode) reply
-  msync_meets only_now counts_now old core true s pid addr len mode reply shows live said failed otherwise =
-      msync_halts counts_now old core s pid addr len mode reply shows live said (failed refl)
-  msync_meets only_now counts_now old core false s pid addr len mode reply shows live said failed otherwise =
-      msync_goes_on only_now old core s pid addr len mode reply shows live said (otherwise refl)
+  msync_meets only_now counts_now old core true s pid addr len mode reply shows live room said failed otherwise =
+      msync_halts counts_now old core s pid addr len mode reply shows live room said (failed refl)
+  msync_meets only_now counts_now old core false s pid addr len mode reply shows live room said failed otherwise =
+      msync_goes_on only_now old core s pid addr len mode reply shows live room said (otherwise refl)

@@ -30,7 +30,7 @@ module _ {D E : Type 0} (g : Ghosts D) where
 
   stall_failed : (old new : Machine D E) (stall : Stall) → IsCaused g old new (Stalled stall)
       → g.failures old.core.store.disk + failed_count (Stalled stall) ≤ g.failures new.core.store.disk
-  stall_failed old new StoreDevice is = let less : g.failures old.core.store.disk < g.failures new.core.store.disk = is.stalled StoreDevice refl in omega (arith, less)
+  stall_failed old new StoreDevice is = let less : g.failures old.core.store.disk < g.failures new.core.store.disk = (is.stalled StoreDevice refl).1 in omega (arith, less)
   stall_failed old new NoFrames is = omega (arith, is.later)
   stall_failed old new NoSwap is = omega (arith, is.later)
   stall_failed old new SwapDevice is = omega (arith, is.later)

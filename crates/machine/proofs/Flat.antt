@@ -6,18 +6,23 @@ use Rattle.disk_model.specs.declared.sector_disk.SectorDisk.{Ghosts}
 use Rattle.disk_model.proofs.Moments.{stays, started, goes_on, still_leaves}
 use Rattle.file_store.specs.Standing.{StandsFor}
 use Rattle.file_store.specs.declared.store.FileStore.{FileStore}
-use Rattle.fault.specs.Files.{ReadsStore}
+use Rattle.residency.specs.Reading.{ReadsStore}
 use Rattle.residency.specs.Picture.{Picture, picture_of}
 use Rattle.residency.specs.Shows.{ShowsPages, KeepsDevices}
 use Rattle.residency.specs.declared.kernel.Core.{Core}
+use Rattle.residency.specs.Calls.{KeepsRoom}
+use Rattle.spaces.specs.Accesses.{AsksFor}
 use Rattle.spaces.specs.Calls as Calls
 use Rattle.spaces.specs.Idle.{is_idle}
 use Rattle.syncing.specs.Shows as Syncing
+use Rattle.vm_types.specs.declared.access.Access.{Access}
+use Rattle.vm_types.specs.declared.access.Access.TheVariants as Kinds
 use Rattle.vm_types.specs.declared.command.Command.{Command}
+use Rattle.vm_types.specs.declared.command.Command.TheVariants.{Spawn, Fork, Exit, Mmap, Munmap, Mprotect, Dontneed, Msync, Load, Store, Fetch, PastFaults}
 use Rattle.vm_types.specs.declared.refusal.Stall.{Stall}
 use Rattle.vm_types.specs.declared.refusal.Stall.TheVariants.{NoFrames, NoSwap, SwapDevice, StoreDevice}
 use Rattle.vm_types.specs.declared.reply.Reply.{Reply}
-use Rattle.vm_types.specs.declared.reply.Reply.TheVariants.{Halted}
+use Rattle.vm_types.specs.declared.reply.Reply.TheVariants.{Done, Halted}
 use Rattle.vm_types.specs.Files.{Files}
 use Rattle.vm_types.specs.History.{Past}
 use Rattle.vm_types.specs.Run.{Answers, Stalls, Stays}
@@ -26,6 +31,7 @@ use Rattle.vm_types.specs.State.{State, IsRunning}
 use Rattle.vm_types.specs.Step.{outcome, noted, past_after, ruling, takes}
 use Rattle.vm_types.specs.View.{Pages}
 use Rattle.machine.specs.Machine.{stands_in, MayStand, HoldsIn, StandsForSome, Shows, Meets, causes}
+use Rattle.machine.specs.Accesses.{Accesses}
 use Rattle.machine.specs.declared.machine.Machine.{Machine}
 use Rattle.machine.proofs.Steps.{outcome_keeps, past_stalled}
 
@@ -36,6 +42,27 @@ running_of (Some x) e = cc
 halted_of : (o : Option (List Pages)) → is_some o ≡ true → (ends : List Pages) × (o ≡ Some ends)
 halted_of None e = cc
 halted_of (Some x) e = (x, refl)
+
+-- a halted machine asks for nothing
+no_stall : (stall : Stall) → Halted ≡ Reply.Stalled stall → ⊥
+no_stall stall e = cc
+
+halted_asks : {D E : Type 0} (c : Core D E) (pid addr : ℕ) (access : Access) → AsksFor c c pid addr access Halted
+halted_asks c pid addr access = record { wanted = λ stall e. absurd (no_stall stall e); home = λ e. absurd (no_stall StoreDevice e); read = inl refl }
+
+halted_accesses : {D E : Type 0} (c : Core D E) (command : Command) → Accesses c c command Halted
+halted_accesses c (Load pid addr width) = (halted_asks c pid addr Kinds.Load, λ place walked. refl)
+halted_accesses c (Fetch pid addr) = (halted_asks c pid addr Kinds.Fetch, λ place walked. refl)
+halted_accesses c (Store pid addr stored) = (halted_asks c pid addr Kinds.Store, λ place walked done. absurd (let never : Halted ≡ Done = done in cc))
+halted_accesses c Spawn = tt
+halted_accesses c (Fork pid) = tt
+halted_accesses c (Exit pid) = tt
+halted_accesses c (Mmap pid addr len prot source placing) = tt
+halted_accesses c (Munmap pid addr len) = tt
+halted_accesses c (Mprotect pid addr len prot) = tt
+halted_accesses c (Dontneed pid addr len) = tt
+halted_accesses c (Msync pid addr len mode) = tt
+halted_accesses c PastFaults = tt
 
 module _ {D E : Type 0} (g : Ghosts D) (h : Ghosts E) where
   abbrev pub OnlyNow : Type 0
@@ -97,7 +124,7 @@ module _ {D E : Type 0} (g : Ghosts D) (h : Ghosts E) where
   -- the state after it, where the store was only read
   module _ (only_now : OnlyNow) (old : Machine D E) (core : Core D E) (past : Past) (s : State) (command : Command) (reply : Reply)
       (shows : Shows g h old s) (run : old.halted ≡ false) (reads : ReadsStore g old.core.store core.store)
-      (kept_past : past ≡ past_after command reply old.past) (idle : is_idle s command reply ≡ true → KeepsDevices old.core core) where
+      (kept_past : past ≡ past_after command reply old.past) (idle : is_idle s command reply ≡ true → KeepsDevices old.core core) (room : KeepsRoom old.core core) (accesses : Accesses old.core core command reply) where
     abbrev new : Machine D E
     new = record { core = core; halted = false; past = past }
 
@@ -131,6 +158,8 @@ module _ {D E : Type 0} (g : Ghosts D) (h : Ghosts E) where
             past = kept_past ∙ ap (past_after command reply) (shows.past ∙ sym all.past);
             stands = moved t kept;
           };
+          room = room;
+          accesses = accesses;
           size = reads.size;
           kept = reads.kept;
           idle = idle;
@@ -150,6 +179,8 @@ module _ {D E : Type 0} (g : Ghosts D) (h : Ghosts E) where
             past = kept_past ∙ ap (λ (r : Reply). past_after command r old.past) answer ∙ past_stalled command stall old.past ∙ shows.past;
             stands = moved s kept;
           };
+          room = room;
+          accesses = accesses;
           size = reads.size;
           kept = reads.kept;
           idle = idle;
@@ -174,20 +205,20 @@ module _ {D E : Type 0} (g : Ghosts D) (h : Ghosts E) where
 
   pub answered : (only_now : OnlyNow) (old : Machine D E) (core : Core D E) (halted : Bool) (past : Past) (s : State) (command : Command) (reply : Reply)
       → Shows g h old s → old.halted ≡ false → halted ≡ false → takes s (ruling s command) s.durable ≡ s.durable
-      → past ≡ past_after command reply old.past → ReadsStore g old.core.store core.store → (is_idle s command reply ≡ true → KeepsDevices old.core core) → Calls.Comes g old.core core s command reply
+      → past ≡ past_after command reply old.past → ReadsStore g old.core.store core.store → (is_idle s command reply ≡ true → KeepsDevices old.core core) → KeepsRoom old.core core → Accesses old.core core command reply → Calls.Comes g old.core core s command reply
       → (t : State) × Meets g h old (record { core = core; halted = halted; past = past }) s t command reply
-  answered only_now old core halted past s command reply shows run goes_on none kept_past reads idle comes =
+  answered only_now old core halted past s command reply shows run goes_on none kept_past reads idle room accesses comes =
       subst (λ (b : Bool). (t : State) × Meets g h old (record { core = core; halted = b; past = past }) s t command reply) (sym goes_on)
-      (read_meets only_now old core past s command reply shows run reads kept_past idle none comes)
+      (read_meets only_now old core past s command reply shows run reads kept_past idle room accesses none comes)
 
   -- what a call of spaces says of a machine that runs
   pub carried : (only_now : OnlyNow) (old : Machine D E) (core : Core D E) (halted : Bool) (past : Past) (s : State) (command : Command) (reply : Reply)
       → Shows g h old s → old.halted ≡ false → halted ≡ false → takes s (ruling s command) s.durable ≡ s.durable
       → past ≡ past_after command reply old.past → ReadsStore g old.core.store core.store → (is_idle s command reply ≡ true → KeepsDevices old.core core)
-      → Calls.Carries g old.core core command reply → (reads_files command ≡ true → g.keeps_model core.store.disk)
+      → KeepsRoom old.core core → Accesses old.core core command reply → Calls.Carries g old.core core command reply → (reads_files command ≡ true → g.keeps_model core.store.disk)
       → (t : State) × Meets g h old (record { core = core; halted = halted; past = past }) s t command reply
-  carried only_now old core halted past s command reply shows run goes_on none kept_past reads idle carries readable =
-      answered only_now old core halted past s command reply shows run goes_on none kept_past reads idle
+  carried only_now old core halted past s command reply shows run goes_on none kept_past reads idle room accesses carries readable =
+      answered only_now old core halted past s command reply shows run goes_on none kept_past reads idle room accesses
       (carries s (shows_core old s shows (is_running old s shows run)) readable)
 
   pub stays_halted : (only_now : OnlyNow) (old : Machine D E) (s : State) (command : Command) → Shows g h old s → old.halted ≡ true
@@ -198,6 +229,8 @@ module _ {D E : Type 0} (g : Ghosts D) (h : Ghosts E) where
       let meets : Meets g h old old s s command Halted = record {
         step = Stays ends.0 ends.1 refl refl;
         shows = shows;
+        room = record { frames = refl; slots = refl };
+        accesses = halted_accesses old.core command;
         size = refl;
         kept = λ k. k;
         idle = λ _. record { store = refl; swap = refl };

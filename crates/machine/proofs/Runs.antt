@@ -11,6 +11,8 @@ use Rattle.vm_types.specs.Step.{ruling, takes}
 use Rattle.vm_types.specs.View.{Pages}
 use Rattle.machine.specs.Chain.{event, Caused, Chain, after, Runs}
 use Rattle.machine.specs.Machine.{IsCaused, IsOneOf, stands_in, MayStand, HoldsIn, StandsForSome, Shows, Meets, causes}
+use Rattle.residency.proofs.Room.{room_none, room_then}
+use Rattle.residency.specs.Calls.{KeepsRoom}
 use Rattle.machine.specs.declared.machine.Machine.{Machine}
 use Rattle.machine.proofs.Steps.{step_files, Failed, goes_on_or_fails, halted_stays, failed_event, prefix_here, prefix_more, prefix_from_start, prefix_during, failed_before, failed_after, halted_event}
 
@@ -41,6 +43,16 @@ module _ {D E : Type 0} (g : Ghosts D) (h : Ghosts E) where
   chain_kept old s [] (r ∷ rs) es new t c k = absurd c
   chain_kept old s (x ∷ xs) [] es new t c k = absurd c
   chain_kept old s (x ∷ xs) (r ∷ rs) [] new t c k = absurd c
+
+  -- a chain keeps the numbers of frames and slots
+  pub chain_room : (old : Machine D E) (s : State) (commands : List Command) (replies : List Reply) (events : List Event) (new : Machine D E) (t : State)
+      → Chain g h old s commands replies events new t → KeepsRoom old.core new.core
+  chain_room old s [] [] [] new t c = subst (λ (m : Machine D E). KeepsRoom old.core m.core) (sym c.0) (room_none old.core)
+  chain_room old s (x ∷ xs) (r ∷ rs) (e ∷ es) new t c = room_then old.core c.0.core new.core c.3.room (chain_room c.0 c.1 xs rs es new t c.4)
+  chain_room old s [] [] (e ∷ es) new t c = absurd c
+  chain_room old s [] (r ∷ rs) es new t c = absurd c
+  chain_room old s (x ∷ xs) [] es new t c = absurd c
+  chain_room old s (x ∷ xs) (r ∷ rs) [] new t c = absurd c
 
   -- from a halted state nothing but its ends may stand
   pub halted_leaves : (n : ℕ) (files : Files) (ends : List Pages) (old : Machine D E) (s : State) (commands : List Command) (replies : List Reply) (events : List Event) (new : Machine D E) (t : State)
@@ -262,5 +274,6 @@ module _ {D E : Type 0} (g : Ghosts D) (h : Ghosts E) where
     events = ran.events;
     chain = ran.chain;
     shows = ran.shows;
+    room = chain_room old s commands replies ran.events new ran.last ran.chain;
     prefixes = λ run keeps. leaves_prefix (g.sector_count old.core.store.disk) s.files old s commands replies ran.events new ran.last ran.chain keeps run refl refl only_now shows;
   }

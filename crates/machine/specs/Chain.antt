@@ -6,6 +6,7 @@ use Rattle.vm_types.specs.declared.command.Command.{Command}
 use Rattle.vm_types.specs.declared.reply.Reply.{Reply}
 use Rattle.vm_types.specs.Prefix.{Event, IsPrefixHolding}
 use Rattle.vm_types.specs.State.{State, IsRunning}
+use Rattle.residency.specs.Calls.{KeepsRoom}
 use Rattle.machine.specs.declared.machine.Machine.{Machine}
 use Rattle.machine.specs.Machine.{IsCaused, Shows, Meets, StandsForSome}
 
@@ -51,10 +52,12 @@ module _ {D E : Type 0} (g : Ghosts D) (h : Ghosts E) where
       → g.left_since new.core.store.disk (g.moment (after old s commands replies events new t chain k).core.store.disk) image
       → StandsForSome (g.sector_count old.core.store.disk) s.files (IsPrefixHolding s.durable events k) image
 
-  -- The replies are those of the flat model, and what a stop leaves is what some of the msyncs left.
+  -- The replies are those of the flat model, there are as many frames and slots as there were, and what a stop leaves is what
+  -- some of the msyncs left.
   pub record Runs (old new : Machine D E) (commands : List Command) (replies : List Reply) (s : State) : Type 0 where
     pub last : State
     pub events : List Event
     pub chain : Chain old s commands replies events new last
     pub shows : Shows g h new last
+    pub room : KeepsRoom old.core new.core
     pub prefixes : IsRunning s → g.keeps_model new.core.store.disk → LeavesPrefixes old s commands replies events new last chain

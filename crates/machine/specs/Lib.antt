@@ -1,3 +1,4 @@
+pub mod Accesses
 pub mod Boot
 pub mod Chain
 pub mod Counts

@@ -5,6 +5,7 @@ use Rattle.disk_model.specs.Stop.{Image}
 use Rattle.disk_model.specs.declared.sector_disk.SectorDisk.{Ghosts}
 use Rattle.file_store.specs.Standing.{StandsFor}
 use Rattle.residency.specs.Picture.{picture_of}
+use Rattle.residency.specs.Calls.{KeepsRoom}
 use Rattle.residency.specs.Shows.{ShowsPages, KeepsDevices}
 use Rattle.spaces.specs.Calls as Spaces
 use Rattle.spaces.specs.Idle.{is_idle}
@@ -18,6 +19,7 @@ use Rattle.vm_types.specs.Stalls.{Causes, reads_files}
 use Rattle.vm_types.specs.State.{State, IsRunning}
 use Rattle.vm_types.specs.Step.{ruling, takes}
 use Rattle.vm_types.specs.View.{Pages}
+use Rattle.machine.specs.Accesses.{Accesses}
 use Rattle.machine.specs.declared.machine.Machine.{Machine}
 
 -- one of a list of contents
@@ -68,10 +70,13 @@ module _ {D E : Type 0} (g : Ghosts D) (h : Ghosts E) where
     refused = new.core.refused.number ≡ old.core.refused.number + 1;
   }
 
-  -- A command was carried out: as the flat model does, and with nothing else durable at any moment.
+  -- A command was carried out: as the flat model does, with as many frames and slots as there were, and with nothing else
+  -- durable at any moment.
   pub record Meets (old new : Machine D E) (s t : State) (command : Command) (reply : Reply) : Type 0 where
     pub step : Step (causes old new) s command reply t
     pub shows : Shows new t
+    pub room : KeepsRoom old.core new.core
+    pub accesses : Accesses old.core new.core command reply
     pub size : g.sector_count new.core.store.disk ≡ g.sector_count old.core.store.disk
     pub kept : g.keeps_model new.core.store.disk → g.keeps_model old.core.store.disk
     pub idle : is_idle s command reply ≡ true → KeepsDevices old.core new.core

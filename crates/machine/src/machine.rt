@@ -2,6 +2,7 @@
 ghost use Rattle.std.specs.Prelude.{◌≡◌, ◌≤◌, ◌<◌, length, is_some, true};
 ghost use Rattle.vm_types.specs.State.{State};
 ghost use Rattle.machine.specs.Machine.{IsCaused, IsSoundMachine, IsReadable, Shows, Meets};
+ghost use Rattle.residency.specs.Calls.{KeepsRoom};
 ghost use Rattle.residency.specs.Parts.{IsFit};
 ghost use Rattle.residency.specs.Picture.{picture_of, is_live};
 ghost use Rattle.vm_types.specs.Replies.{reply_of, told};
@@ -60,6 +61,7 @@ impl<D: SectorDisk, E: SectorDisk> Machine<D, E> {
         requires sound { IsSoundMachine D.SectorDisk E.SectorDisk self.old }
         ensures sound { IsSoundMachine D.SectorDisk E.SectorDisk self.new }
         ensures kept { D.keeps_model self.new.core.store.disk → D.keeps_model self.old.core.store.disk }
+        ensures room { KeepsRoom self.old.core self.new.core }
         ensures caused { IsCaused D.SectorDisk self.old self.new (told self.new.past result) }
         ensures meets { (s : State) → Shows D.SectorDisk E.SectorDisk self.old s → IsReadable D.SectorDisk E.SectorDisk self.new command
             → (t : State) × Meets D.SectorDisk E.SectorDisk self.old self.new s t command (told self.new.past result) }
@@ -124,6 +126,7 @@ impl<D: SectorDisk, E: SectorDisk> Machine<D, E> {
         requires sound { IsSoundMachine D.SectorDisk E.SectorDisk self.old }
         ensures sound { IsSoundMachine D.SectorDisk E.SectorDisk self.new }
         ensures kept { D.keeps_model self.new.core.store.disk → D.keeps_model self.old.core.store.disk }
+        ensures room { KeepsRoom self.old.core self.new.core }
         ensures caused { IsCaused D.SectorDisk self.old self.new result }
         ensures meets { (s : State) → Shows D.SectorDisk E.SectorDisk self.old s → IsReadable D.SectorDisk E.SectorDisk self.new command
             → (t : State) × Meets D.SectorDisk E.SectorDisk self.old self.new s t command result }
@@ -158,6 +161,7 @@ impl<D: SectorDisk, E: SectorDisk> Machine<D, E> {
         requires lengths { length replies.old ≡ length commands.now }
         ensures sound { IsSoundMachine D.SectorDisk E.SectorDisk self.new }
         ensures kept { D.keeps_model self.new.core.store.disk → D.keeps_model self.old.core.store.disk }
+        ensures room { KeepsRoom self.old.core self.new.core }
         ensures caused { Caused D.SectorDisk self.old replies.new self.new }
         ensures counts { Counts D.SectorDisk self.old self.new replies.new }
         ensures run { (s : State) → Shows D.SectorDisk E.SectorDisk self.old s → D.keeps_model self.new.core.store.disk

@@ -1,5 +1,6 @@
 //! msync: pages made durable through the store.
 ghost use Rattle.std.specs.Prelude.{◌≡◌, false};
+ghost use Rattle.residency.specs.Calls.{KeepsRoom};
 ghost use Rattle.vm_types.specs.Replies.{reply_of};
 ghost use Rattle.vm_types.specs.State.{State};
 ghost use Rattle.vm_types.specs.declared.command.Command.TheVariants.{Msync};
@@ -16,6 +17,7 @@ impl<D: SectorDisk, E: SectorDisk> Machine<D, E> {
         requires running { self.old.halted ≡ false }
         ensures sound { IsSoundMachine D.SectorDisk E.SectorDisk self.new }
         ensures kept { D.keeps_model self.new.core.store.disk → D.keeps_model self.old.core.store.disk }
+        ensures room { KeepsRoom self.old.core self.new.core }
         ensures caused { IsCaused D.SectorDisk self.old self.new (reply_of result) }
         ensures meets { (s : State) → Shows D.SectorDisk E.SectorDisk self.old s → (t : State) × Meets D.SectorDisk E.SectorDisk self.old self.new s t (Msync pid addr len mode) (reply_of result) }
     {

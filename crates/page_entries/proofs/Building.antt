@@ -19,6 +19,8 @@ use Rattle.residency.proofs.Entries.{trees_in_use, entries_kept, entries_but}
 use Rattle.residency.proofs.TableSteps.{shares_kept, shares_taken, shares_pruned, steady_taken, loose_table, steady_linked, steady_pruned}
 use Rattle.residency.proofs.Used.{steady_used, steady_fit, fit_steady}
 use Rattle.residency.proofs.Views.{views_same}
+use Rattle.page_entries.specs.Tables.{KeepsTables}
+use Rattle.page_entries.proofs.Tables.{tables_same, adds_none, adds_then, adds_linked}
 use Rattle.page_entries.specs.Changes.{IsReady, KeepsDataFrames, KeepsSpaces, KeepsViews, KeepsEntries, IsUnderWay, Builds}
 
 -- what a call leaves that changes frames and the count of refused requests alone
@@ -66,6 +68,7 @@ builds_then a b c root page p q = record {
   beside = beside_then a b c p.beside q.beside;
   entries = λ pid k. q.entries pid k ∙ p.entries pid k;
   kept = data_then a.frames b.frames c.frames p.kept q.kept;
+  tables = adds_then (λ k. k ≡ page) a.frames b.frames c.frames root p.tables q.tables;
 }
 
 pub builds_none : (c : Picture) (root page : ℕ) → IsUnderWay c root page → Builds c c root page
@@ -78,6 +81,7 @@ builds_none c root page way = record {
     private_bytes = λ n e. refl;
     cache_bytes = λ n e. refl;
   };
+  tables = adds_none (λ p. p ≡ page) c.frames c.frames root (tables_same c.frames);
 }
 
 -- all trees are as they were
@@ -119,12 +123,18 @@ module _ (old new : Picture) (used : KeepsUsed old new) (steady : IsSteady old) 
     cache_bytes = λ n e. used.memory.bytes n (used_role (role_of old.frames n) Cache e (λ f. (cc)));
   }
 
+  tables_used : KeepsTables old.frames new.frames
+  tables_used =
+      let same = (trees_in_use old.frames new.frames steady.rooted.forest used.memory).same in
+      record { frames = used.memory.frames; roles = used.memory.roles; pointers = λ n i m. (same.forth n i m, same.back n i m) }
+
   pub builds_used : (root page pid : ℕ) → old.root pid ≡ Some root → IsTightBut old.frames 2 root page → Builds old new root page
   builds_used root page pid lives tight = record {
     under_way = record { steady = steady_used old new used steady; lives = (pid, used.root pid ∙ lives); tight = tight_but_used root page tight };
     beside = beside_used;
     entries = entries_used;
     kept = data_used;
+    tables = adds_none (λ p. p ≡ page) old.frames new.frames root tables_used;
   }
 
 other_role : (r s q : Role) → r ≡ s → s ≢ q → r ≢ q
@@ -171,6 +181,7 @@ module _ (old mid new : Picture) (root page table pid : ℕ) (way : IsUnderWay o
             entries_but mid new table taken_steady.rooted loose (λ r p ne is. links.entries r p ne is) beside'.root q k
             ∙ entries_kept old mid 0 way.steady.rooted adds.entries beside.root q k;
         kept = data_linked;
+        tables = adds_linked old.frames mid.frames new.frames root page table way.steady.rooted.forest (adds.roots root is_root) adds links;
       }
 
   pub lowered_linked : missing_of new.frames 2 root page + 1 ≡ missing_of old.frames 2 root page

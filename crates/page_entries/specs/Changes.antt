@@ -14,6 +14,7 @@ use Rattle.residency.specs.Picture.{Picture, entry, is_private, view}
 use Rattle.sv39_walk.specs.Entry.{frame_of}
 use Rattle.residency.specs.Parts.{IsSteadyBut, IsSteady}
 use Rattle.residency.specs.Steps.{SameBeside, KeepsShares}
+use Rattle.page_entries.specs.Tables.{AddsTables}
 
 -- Within a call on one page of a live process: no table is missing on the way to it, and of the tables below roots those
 -- on that way alone may be without entries.
@@ -82,6 +83,7 @@ pub record Builds (old new : Picture) (root page : ℕ) : Type 0 where
   pub beside : SameBeside old new
   pub entries : KeepsEntries old new
   pub kept : KeepsDataFrames old.frames new.frames
+  pub tables : AddsTables (λ p. p ≡ page) old.frames new.frames root
 
 -- the file page, which lies in a frame, is among the touched ones, and no other came, went or changed
 pub record MarksTouched (old new : Picture) (page : FilePage) : Type 0 where

@@ -8,6 +8,7 @@ ghost use Rattle.residency.specs.Parts.{IsFit};
 ghost use Rattle.residency.specs.Calls.{Stalls, KeepsRest};
 ghost use Rattle.residency.specs.Shows.{KeepsFiles};
 ghost use Rattle.page_entries.specs.Changes.{IsReady, KeepsDataFrames, KeepsSpaces, KeepsViews, KeepsEntries, IsUnderWay, Builds};
+ghost use Rattle.page_entries.specs.Tables.{AddsTables, KeepsTables, FallsShort};
 ghost use Rattle.page_entries.specs.Wants.{IsWhole};
 
 use page_tables::{link_table, missing_tables, prune, take_table};
@@ -45,6 +46,9 @@ pub fn link_tables<D, E>(core: &mut Core<D, E>, pid: Pid, page: Vpn) -> Result<(
     ensures stalls { Stalls core.old core.new result }
     ensures idle { IsWhole (picture_of core.old) pid page → core.new ≡ core.old }
     ensures wanted { OnErr result ((r : ℕ) → (picture_of core.old).root pid ≡ Some r → missing_of core.old.frames 2 r page ≢ 0) }
+    ensures tables { OnOk result ((r : ℕ) → (picture_of core.old).root pid ≡ Some r → AddsTables (λ p. p ≡ page) core.old.frames core.new.frames r) }
+    ensures returned { OnErr result (KeepsTables core.old.frames core.new.frames) }
+    ensures short { OnErr result ((r : ℕ) → (picture_of core.old).root pid ≡ Some r → FallsShort (λ p. p ≡ page) core.old.frames r) }
 {
     let root = root_of(core, pid);
     match link_missing(core, root, page) {
@@ -65,6 +69,7 @@ fn link_missing<D, E>(core: &mut Core<D, E>, root: FrameNo, page: Vpn) -> Result
     ensures stalls { Stalls core.old core.new result }
     ensures idle { missing_of core.old.frames 2 root.0 page ≡ 0 → core.new ≡ core.old }
     ensures wanted { OnErr result (missing_of core.old.frames 2 root.0 page ≢ 0) }
+    ensures short { OnErr result (FallsShort (λ p. p ≡ page) core.old.frames root.0) }
 {
     while missing_tables(&core.frames, root, page) > 0 {
         link_one(core, root, page)?;
@@ -80,6 +85,7 @@ fn link_one<D, E>(core: &mut Core<D, E>, root: FrameNo, page: Vpn) -> Result<(),
     ensures lowered { OnOk result (missing_of core.new.frames 2 root.0 page + 1 ≡ missing_of core.old.frames 2 root.0 page) }
     ensures rest { KeepsRest core.old core.new }
     ensures stalls { Stalls core.old core.new result }
+    ensures short { OnErr result (FallsShort (λ p. p ≡ page) core.old.frames root.0) }
 {
     obtain(core, None)?;
     match take_table(&mut core.frames) {

@@ -10,7 +10,7 @@ ghost use Rattle.page_tables.specs.Change.{SetsEntry};
 ghost use Rattle.page_cache.specs.declared.place.Place.TheVariants.{Frame};
 ghost use Rattle.residency.specs.Picture.{picture_of, entry, is_private};
 ghost use Rattle.residency.specs.Parts.{IsFit, is_shared, IsBehind};
-ghost use Rattle.residency.specs.Calls.{KeepsRest};
+ghost use Rattle.residency.specs.Calls.{KeepsRest, KeepsRoom};
 ghost use Rattle.residency.specs.Shows.{KeepsFiles, KeepsDevices};
 ghost use Rattle.page_entries.specs.Leaves.{IsEntryOver, IsFullEntry, full_write, full_dirty, is_touched_behind};
 ghost use Rattle.page_entries.specs.Changes.{IsReady, KeepsDataFrames, KeepsSpaces, KeepsViews, KeepsOtherEntries, MarksTouched};
@@ -125,6 +125,7 @@ pub fn touch<D, E>(
     ensures spaces { KeepsSpaces (picture_of core.old) (picture_of core.new) }
     ensures touches { MarksTouched (picture_of core.old) (picture_of core.new) file_page }
     ensures devices { KeepsDevices core.old core.new }
+    ensures room { KeepsRoom core.old core.new }
     ensures kept { KeepsDataFrames core.old.frames core.new.frames }
     ensures calm { IsCalm core.old core.new pid page }
     ensures not_refused { core.new.refused.number ≡ core.old.refused.number }

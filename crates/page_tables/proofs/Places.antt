@@ -1,10 +1,10 @@
 -- The pages of one row have one lowest table.
-use Rattle.std.proofs.Common.{◌≡◌, ℕ, ◌-◌, ◌*◌, ◌+◌, ◌/◌, ◌%◌, ◌^◌, ◌<◌, refl, sym, ap, ◌∙◌, subst, arith}
+use Rattle.std.proofs.Common.{◌≡◌, ℕ, ◌*◌, ◌/◌, ◌%◌, refl, sym, ap, ◌∙◌, subst, arith}
 use Rattle.frames.specs.FrameTable.{FrameTable}
 use Rattle.sv39_walk.specs.Entry.{entry_at}
 use Rattle.sv39_walk.specs.Walk.{index_of}
-use Rattle.page_tables.specs.Tree.{IsTable, IsForest, IsRoot, last_table, last_entry, missing_of, page_entry}
-use Rattle.page_tables.specs.Change.{SetsEntry, KeepsFrames}
+use Rattle.page_tables.specs.Tree.{IsTable, IsForest, IsRoot, last_table, page_entry}
+use Rattle.page_tables.specs.Change.{SetsEntry}
 use Rattle.page_tables.specs.Places.{IsTableOf}
 use Rattle.page_tables.proofs.Ways.{ends}
 use Rattle.page_tables.proofs.Ends.{SameTrees, same_last, missing_of-is, last_entry-is, page_entry-whole}

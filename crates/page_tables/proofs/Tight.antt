@@ -86,7 +86,7 @@ tight_filled old new top root page number forest is_root whole some sets tight n
 
 module _ (old new : FrameTable) (top root page : ℕ) (forest : IsForest old) (prunes : Prunes old new top root page) where
   -- a table that stays is pointed to as it was
-  still_linked : (b j a : ℕ) → Points old b j a → IsTable new a → Points new b j a
+  pub still_linked : (b j a : ℕ) → Points old b j a → IsTable new a → Points new b j a
   still_linked b j a q table = elim (prunes.gone b q.table) [
     | inl stays ↦ elim (cases_bool (is_pointer (entry_at new b j))) [
       | inl pointer ↦ (
@@ -108,7 +108,7 @@ module _ (old new : FrameTable) (top root page : ℕ) (forest : IsForest old) (p
       unlinked : IsUnlinked new a → ⊥
       unlinked free = (prunes.unlinked a table).1 free b j q
 
-  way_stays : (d m : ℕ) → IsTable new m → Way old top root page d m → Way new top root page d m
+  pub way_stays : (d m : ℕ) → IsTable new m → Way old top root page d m → Way new top root page d m
   way_stays zero m table w = w
   way_stays (suc d) m table w =
       let p = still_linked w.0 (index_of page (top - d)) m w.2 table in

@@ -77,19 +77,6 @@ module _ (old new : Picture) (pid r : ℕ) (fit : IsFit old) (exits : Exits old 
     files = exits.files;
   }
 
--- the table of a root is held
-pub root_held : (c : Picture) (pid r : ℕ) → IsFit c → c.root pid ≡ Some r → IsHeld c.frames r
-root_held c pid r fit root =
-    let table = (fit.tree.rooted.roots pid r root).table in
-    record { inside = table.inside; handed_out = rw table.role refl }
-
--- what stands at the place of a process
-pub root_there : (roots : List (Option FrameNo)) (place pid : ℕ) (item : Option FrameNo) (root : FrameNo) → place ≡ pid → pid < length roots
-    → item ≡ slice_index_or roots place item → item ≡ Some root → root_in roots pid ≡ Some root.0
-root_there roots place pid item root is_place inside item_is is =
-    ap (root_in roots) (sym is_place)
-    ∙ ap (λ o. option_map number_of_frame o) (sym (get_or_read roots place item (omega (arith, is_place, inside)) item_is None) ∙ is)
-
 every_page : (page : ℕ) → page < 2 ^ 26 → in_row 0 (2 ^ 26) page ≡ true
 every_page page below = grind (arith, nat_tests)
 
@@ -138,6 +125,10 @@ way_free : (t t' : FrameTable) (r : ℕ) → role_of t' r ≡ Free → ((page d 
 way_free t t' r root below page zero n way = ap (role_of t') way ∙ root
 way_free t t' r root below page (suc d) n way = below page d n way
 
+-- so its root table is without entries
+pub spare_cleared : (first old : Picture) (pid r : ℕ) → IsFit old → RemapsRow first old pid 0 (2 ^ 26) (first.at pid) → old.root pid ≡ Some r → IsSpare old.frames r
+spare_cleared first old pid r fit row root = spare_root old pid r fit root (λ page below. row.entries page (every_page page below))
+
 -- what exit leaves
 pub record IsEnded (old new : Picture) (pid : ℕ) : Type 0 where
   pub fit : IsFit new
@@ -146,59 +137,28 @@ pub record IsEnded (old new : Picture) (pid : ℕ) : Type 0 where
   pub tables : FreesTables old new pid
   pub copies : TakesNoCopy old.frames new.frames
 
--- Every page of a process was cleared, its root table was released and taken from its place.
-pub ended : (first old : Picture) (t : FrameTable) (roots : List (Option FrameNo)) (regions : List (List Run)) (pid place r : ℕ)
-    → IsRootedBut first 0 → (role_of first.frames 0 ≢ Table) → KeepsEntriesOfOthers first old pid → ReturnsTables first old pid
-    → IsFit old → RemapsRow first old pid 0 (2 ^ 26) (first.at pid) → old.root pid ≡ Some r → Releases old.frames t r → (role_of old.frames r ≢ Private → role_of t r ≡ Free)
-    → place ≡ pid → pid < length roots
-    → ((q : ℕ) → old.root q ≡ root_in roots q) → ((q page : ℕ) → old.at q page ≡ attr_where (root_in roots q) (slice_index_or regions q []) page)
-    → IsEnded first (record old {
-      frames = t;
-      root = root_in (slice_set roots place None);
-      at = λ q page. attr_where (root_in (slice_set roots place None) q) (slice_index_or regions q []) page;
-    }) pid
-ended first old t roots regions pid place r rooted zero_page others returned fit row root releases alone is_place inside same_root same_at =
-    let new : Picture = record old {
-      frames = t;
-      root = root_in (slice_set roots place None);
-      at = λ q page. attr_where (root_in (slice_set roots place None) q) (slice_index_or regions q []) page;
-    } in
-    let spare = spare_root old pid r fit root (λ page below. row.entries page (every_page page below)) in
-    let there : place < length roots = omega (arith, is_place, inside) in
-    let gone : new.root pid ≡ None =
-    ap new.root (sym is_place) ∙ ap (λ o. option_map number_of_frame o) (get_or-set_same roots place None None there) in
-    let away : (q : ℕ) → q ≢ pid → root_in (slice_set roots place None) q ≡ root_in roots q =
-    λ q ne. ap (λ o. option_map number_of_frame o) (get_or-set_other roots place q None None (λ e. ne (e ∙ is_place))) in
-    let exits : Exits old new pid r = record {
-      lived = root;
-      gone = gone;
-      others = λ q ne. away q ne ∙ sym (same_root q);
-      spare = spare;
-      frames = releases.others;
-      free = alone (λ private. (let bad : Table ≡ Private = sym spare.table.role ∙ private in (cc)));
-      unmapped = λ page. ap (λ x. attr_where x (slice_index_or regions pid []) page) gone;
-      at = λ q page ne. ap (λ x. attr_where x (slice_index_or regions q []) page) (away q ne) ∙ sym (same_at q page);
-      page_of = λ m. refl;
-      place = λ p. refl;
-      touched = λ p. refl;
-      files = λ f. refl;
-    } in
+-- every page of a process was cleared, and then it was removed
+pub ended : (first old new : Picture) (pid r : ℕ) → IsRootedBut first 0 → (role_of first.frames 0 ≢ Table) → KeepsEntriesOfOthers first old pid → ReturnsTables first old pid
+    → IsFit old → RemapsRow first old pid 0 (2 ^ 26) (first.at pid) → Exits old new pid r → IsEnded first new pid
+ended first old new pid r rooted zero_page others returned fit row exits =
+    let root = exits.lived in
+    let spare = exits.spare in
     let left = process_removed old new pid r fit exits in
-    let same : (m : ℕ) → m ≢ r → role_of t m ≡ role_of old.frames m = releases.others.roles in
-    let gone' : role_of t r ≡ Free = exits.free in
+    let same : (m : ℕ) → m ≢ r → role_of new.frames m ≡ role_of old.frames m = exits.frames.roles in
+    let gone' : role_of new.frames r ≡ Free = exits.free in
     let is_root : (x : ℕ) → first.root pid ≡ Some x → x ≡ r = λ x e. one_some x r (sym e ∙ sym (row.root pid) ∙ root) in
-    let kept : (n : ℕ) → role_of old.frames n ≡ Free → role_of t n ≡ Free = λ n e. elim (cases_eq n r) [
-      | inl is ↦ ap (role_of t) is ∙ gone'
+    let kept : (n : ℕ) → role_of old.frames n ≡ Free → role_of new.frames n ≡ Free = λ n e. elim (cases_eq n r) [
+      | inl is ↦ ap (role_of new.frames) is ∙ gone'
       | inr ne ↦ same n ne ∙ e
     ] in
     let below : (page d n : ℕ) → Way first.frames 2 r page (suc d) n → role_of old.frames n ≡ Free =
     below_freed first old pid r rooted fit root row.root zero_page spare returned in
-    let own : (page d n : ℕ) → Way first.frames 2 r page d n → role_of t n ≡ Free = way_free first.frames t r gone' (λ page d n way. kept n (below page d n way)) in
+    let own : (page d n : ℕ) → Way first.frames 2 r page d n → role_of new.frames n ≡ Free = way_free first.frames new.frames r gone' (λ page d n way. kept n (below page d n way)) in
     record {
       fit = fit_ended old new pid r fit exits;
       others = λ q page h ne. entries_left old new pid r (fit_steady old fit) exits q page ∙ others q page h ne;
       copies = λ n e. elim (cases_eq n r) [
-        | inl is ↦ absurd (let bad : Free ≡ Private = sym gone' ∙ ap (role_of t) (sym is) ∙ e in (cc))
+        | inl is ↦ absurd (let bad : Free ≡ Private = sym gone' ∙ ap (role_of new.frames) (sym is) ∙ e in (cc))
         | inr ne ↦ returned.copies n (sym (same n ne) ∙ e)
       ];
       tables = record {
@@ -209,7 +169,7 @@ ended first old t roots regions pid place r rooted zero_page others returned fit
           | inr back ↦ (let under = back.1.3 in inr (back.1.0, back.1.1, back.1.2, (suc under.0, (omega (arith, under.1)), under.2)))
           | inl still ↦ elim (cases_eq n r) [
             | inl is ↦ inr (r, 0, sym (row.root pid) ∙ root, (0, (omega arith), is))
-            | inr ne ↦ inl (record { inside = rw releases.others.frames still.inside; role = same n ne ∙ still.role })
+            | inr ne ↦ inl (record { inside = rw exits.frames.frames still.inside; role = same n ne ∙ still.role })
           ]
         ];
         free = λ n e. kept n (returned.free n e);

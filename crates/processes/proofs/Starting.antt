@@ -1,19 +1,15 @@
 -- A process comes.
-use Rattle.std.proofs.Common.{◌≡◌, ◌≢◌, ℕ, ◌<◌, ◌≤◌, List, [], length, get_or, Option, Some, None, false, refl, sym, ap, ◌∙◌, subst, arith, get_or-set_same, get_or-set_other}
-use Rattle.std.specs.Prelude.{is_some, slice_set, slice_index_or}
-use Rattle.std.specs.Option.{option_map}
-use Rattle.vm_types.specs.declared.number.FrameNo.{FrameNo}
-use Rattle.frames.specs.declared.role.Role.TheVariants.{Free, Zero, Table}
-use Rattle.frames.specs.FrameTable.{FrameTable, role_of, count_of, bytes_of, IsSound}
+use Rattle.std.proofs.Common.{◌≡◌, ◌≢◌, ℕ, [], None, sym, ap, ◌∙◌, subst}
+use Rattle.std.specs.Prelude.{is_some, ◌↔◌}
+use Rattle.frames.specs.declared.role.Role.TheVariants.{Zero, Table}
+use Rattle.frames.specs.FrameTable.{FrameTable, role_of, count_of, bytes_of, IsSound, frame_count}
 use Rattle.sv39_walk.specs.Entry.{frame_of}
 use Rattle.page_tables.specs.Change.{AddsTable}
-use Rattle.page_tables.specs.Tree.{IsTight, page_entry}
+use Rattle.page_tables.specs.Tree.{IsTight, Points, page_entry}
 use Rattle.page_tables.proofs.Tight.{same_taken, tight_same}
-use Rattle.regions.specs.declared.run.Run.{Run}
-use Rattle.regions.specs.RunList.{attr_at}
-use Rattle.residency.specs.Picture.{Picture, number_of_frame, attr_where, root_in, is_live, entry, view}
+use Rattle.residency.specs.Picture.{Picture, entry, view}
 use Rattle.residency.specs.Parts.{IsFit}
-use Rattle.residency.specs.Calls.{KeepsUsed}
+use Rattle.residency.specs.Calls.{KeepsUsed, ObtainsTable}
 use Rattle.residency.specs.Steps.{SameBeside, Spawns}
 use Rattle.residency.specs.Shows.{KeepsFiles}
 use Rattle.residency.proofs.Entries.{entries_kept, entry-same, trees_in_use}
@@ -22,7 +18,7 @@ use Rattle.residency.proofs.TableSteps.{steady_taken, loose_table}
 use Rattle.residency.proofs.Used.{fit_steady, steady_fit, fit_used, pages_used, view-same, view-none}
 use Rattle.ranges.specs.Steps.{KeepsEntriesOfOthers}
 use Rattle.processes.specs.Changes.{AddsProcess, TakesRoot}
-use Rattle.processes.proofs.Keeping.{live_same, dead_root, views_taken, files_taken, files_used, files_then}
+use Rattle.processes.proofs.Keeping.{live_same, views_taken, files_taken, files_used, files_then}
 
 -- A table was taken, and it is the root of a new process.
 module _ (old mid new : Picture) (pid n : ℕ) (fit : IsFit old) (zero_page : role_of old.frames 0 ≢ Table) (adds : AddsTable old.frames mid.frames 2 n)
@@ -48,6 +44,11 @@ module _ (old mid new : Picture) (pid n : ℕ) (fit : IsFit old) (zero_page : ro
     root = spawns.lives;
     roles = λ m ne. ap (λ t. role_of t m) spawns.frames ∙ adds.takes.others.roles m ne;
     counts = λ m ne. ap (λ t. count_of t m) spawns.frames ∙ adds.takes.others.counts m ne;
+    frames = ap frame_count spawns.frames ∙ adds.takes.others.frames;
+    pointers = (
+        let P : FrameTable → Type 0 = λ t. (a i m : ℕ) → Points old.frames a i m ↔ Points t a i m in
+        let same = same_taken old.frames mid.frames n fit.tree.rooted.forest adds.takes in
+        subst P (sym spawns.frames) (λ a i m. (same.forth a i m, same.back a i m)));
   }
 
   others_seen : (q page : ℕ) → q ≢ pid → view new q page ≡ view old q page
@@ -84,80 +85,42 @@ pub record IsStarted (old new : Picture) (pid : ℕ) : Type 0 where
   pub taken : (n : ℕ) × TakesRoot old new pid n
   pub files : KeepsFiles old new
 
--- A frame was obtained and taken for a table, and roots and regions were set at the place of a process.
-pub started : (first old : Picture) (t : FrameTable) (roots : List (Option FrameNo)) (regions : List (List Run)) (pid place : ℕ) (n : FrameNo) (runs : List Run)
-    → IsFit first → KeepsUsed first old → IsSound old.frames → AddsTable old.frames t 2 n.0 → place ≡ pid → (1 ≤ pid) × (pid ≤ 64)
-    → length roots ≡ 65 → length regions ≡ 65 → is_live first pid ≡ false → ((page : ℕ) → attr_at runs page ≡ None)
-    → ((q : ℕ) → old.root q ≡ root_in roots q) → ((q page : ℕ) → old.at q page ≡ attr_where (root_in roots q) (slice_index_or regions q []) page)
-    → IsStarted first (record old {
-      frames = t;
-      root = root_in (slice_set roots place (Some n));
-      at = λ q page. attr_where (root_in (slice_set roots place (Some n)) q) (slice_index_or (slice_set regions place runs) q []) page;
-    }) pid
-started first old t roots regions pid place n runs fit used sound adds is_place range count count' dead empty same_root same_at =
+-- A frame was obtained and taken for a table, and that is the root of a process that was made.
+pub started : (first mid new : Picture) (pid n : ℕ) → IsFit first → IsSound first.frames → ObtainsTable first mid n → Spawns mid new pid n → IsStarted first new pid
+started first mid new pid n fit sound obtains spawns =
+    let old : Picture = obtains.found in
+    let used = obtains.used in
+    let adds = obtains.adds in
+    let beside = obtains.beside in
     let now = fit_used first old used fit in
-    let mid : Picture = record old { frames = t } in
-    let new : Picture = record old {
-      frames = t;
-      root = root_in (slice_set roots place (Some n));
-      at = λ q page. attr_where (root_in (slice_set roots place (Some n)) q) (slice_index_or (slice_set regions place runs) q []) page;
-    } in
-    let beside : SameBeside old mid = record {
-      root = λ p. refl;
-      at = λ p k. refl;
-      page_of = λ m. refl;
-      place = λ p. refl;
-      touched = λ p. refl;
-      files = λ f. refl;
-    } in
-    let zero_page : role_of old.frames 0 ≢ Table = λ e. (let bad : Zero ≡ Table = sym sound.zero_role ∙ e in (cc)) in
-    let there : place < length roots = omega (arith, range.1, count, is_place) in
-    let there' : place < length regions = omega (arith, range.1, count', is_place) in
-    let lives : root_in (slice_set roots place (Some n)) place ≡ Some n.0 =
-    ap (λ o. option_map number_of_frame o) (get_or-set_same roots place (Some n) None there) in
-    let spawns : Spawns mid new place n.0 = record {
-      frames = refl;
-      was_free = ap old.root is_place ∙ used.root pid ∙ dead_root (first.root pid) dead;
-      number = (omega (arith, range.0, is_place), omega (arith, range.1, is_place));
-      lives = lives;
-      others = λ q ne. ap (λ o. option_map number_of_frame o) (get_or-set_other roots place q (Some n) None ne) ∙ sym (same_root q);
-      unmapped = λ page. (
-          ap (λ r. attr_where r (get_or (slice_set regions place runs) place []) page) lives
-          ∙ ap (λ l. attr_at l page) (get_or-set_same regions place runs [] there') ∙ empty page);
-      at = λ q page ne. (
-          ap (λ o. attr_where (option_map number_of_frame o) (get_or (slice_set regions place runs) q []) page) (get_or-set_other roots place q (Some n) None ne)
-          ∙ ap (λ l. attr_where (root_in roots q) l page) (get_or-set_other regions place q runs [] ne) ∙ sym (same_at q page));
-      page_of = λ m. refl;
-      place = λ p. refl;
-      touched = λ p. refl;
-      files = λ f. refl;
-    } in
+    let zero_page : role_of old.frames 0 ≢ Table = λ e. (let bad : Zero ≡ Table = sym (used.memory.roles 0 ∙ sound.zero_role) ∙ e in (cc)) in
     let pages = pages_used first old used (fit_steady first fit) in
-    let added : AddsProcess old new place (λ page. None) = process_added old mid new place n.0 now zero_page adds beside spawns in
-    let A : ℕ → Type 0 = λ x. AddsProcess old new x (λ page. None) in
-    let here = subst A is_place added in
-    let O : ℕ → Type 0 = λ x. KeepsEntriesOfOthers old new x in
-    let others = subst O is_place (others_started old mid new place n.0 now zero_page adds beside spawns) in
-    let R : ℕ → Type 0 = λ x. TakesRoot old new x n.0 in
-    let taken = subst R is_place (root_started old mid new place n.0 now zero_page adds beside spawns) in
+    let added : AddsProcess old new pid (λ page. None) = process_added old mid new pid n now zero_page adds beside spawns in
+    let others = others_started old mid new pid n now zero_page adds beside spawns in
+    let taken = root_started old mid new pid n now zero_page adds beside spawns in
     record {
-      fit = fit_started old mid new place n.0 now zero_page adds beside spawns;
+      fit = fit_started old mid new pid n now zero_page adds beside spawns;
       added = record {
-        lives = here.lives;
-        pages = here.pages;
-        others_live = λ q ne. here.others_live q ne ∙ live_same first old q (pages.roots q);
-        others = λ q page ne. here.others q page ne ∙ pages.views q page;
+        lives = added.lives;
+        pages = added.pages;
+        others_live = λ q ne. added.others_live q ne ∙ live_same first old q (pages.roots q);
+        others = λ q page ne. added.others q page ne ∙ pages.views q page;
       };
       others = λ q page h ne. others q page h ne ∙ entries_used first old fit used q page;
       taken = (
-        n.0,
+        n,
         record {
-          was_free = sym (used.memory.roles n.0) ∙ taken.was_free;
+          was_free = sym (used.memory.roles n) ∙ taken.was_free;
           table = taken.table;
           root = taken.root;
           roles = λ m ne. taken.roles m ne ∙ used.memory.roles m;
           counts = λ m ne. taken.counts m ne ∙ used.memory.counts m;
+          frames = taken.frames ∙ used.memory.frames;
+          pointers = λ a i m. (
+              let same = (trees_in_use first.frames old.frames fit.tree.rooted.forest used.memory).same in
+              let links = taken.pointers a i m in
+              (λ p. links.0 (same.forth a i m p), λ p. same.back a i m (links.1 p)));
         },
       );
-      files = files_then first old new (files_used first old fit.places used) (files_started old mid new place n.0 now zero_page adds beside spawns);
+      files = files_then first old new (files_used first old fit.places used) (files_started old mid new pid n now zero_page adds beside spawns);
     }

@@ -22,12 +22,9 @@ pub fn exit<D, E>(core: &mut Core<D, E>, pid: Pid)
     ensures copies { TakesNoCopy core.old.frames core.new.frames }
     ensures files { KeepsFiles (picture_of core.old) (picture_of core.new) }
     ensures devices { KeepsDevices core.old core.new }
+    ensures cache { core.new.cache ≡ core.old.cache }
     ensures not_refused { core.new.refused.number ≡ core.old.refused.number }
 {
     clear_row(core, pid, 0, USER_END);
-    let place = usize::from(pid.get());
-    if let Some(root) = core.roots[place] {
-        core.frames.release(root);
-        core.roots[place] = None;
-    }
+    core.remove_process(pid);
 }

@@ -9,10 +9,8 @@ ghost use Rattle.residency.specs.Calls.{KeepsUsed};
 ghost use Rattle.ranges.specs.Steps.{KeepsEntriesOfOthers};
 ghost use Rattle.processes.specs.Changes.{AddsProcess, KeepsProcesses, TakesRoot, TakesNoCopy};
 
-use page_tables::take_table;
-use regions::Regions;
-use residency::{Core, obtain};
-use vm_types::{NoFree, Pid, Stall};
+use residency::Core;
+use vm_types::{Pid, Stall};
 
 /// Makes a process of that number, which no live process has, without a page (our choice: there is no process to copy at
 /// first). It takes one frame, for the root of its tables, and asks for no other.
@@ -31,20 +29,14 @@ pub fn spawn<D, E>(core: &mut Core<D, E>, pid: Pid) -> Result<(), Stall>
     ensures others { KeepsEntriesOfOthers (picture_of core.old) (picture_of core.new) pid }
     ensures files { KeepsFiles (picture_of core.old) (picture_of core.new) }
     ensures devices { KeepsDevices core.old core.new }
+    ensures cache { core.new.cache ≡ core.old.cache }
     ensures copies { TakesNoCopy core.old.frames core.new.frames }
     ensures stall { IfErr result (λ stall. stall ≡ NoFrames) }
     ensures not_refused { OnOk result (core.new.refused.number ≡ core.old.refused.number) }
     ensures none_free { IsErr result ↔ IsFull core.old.frames }
     ensures refused { OnErr result (core.new.refused.number ≡ core.old.refused.number + 1) }
 {
-    obtain(core, None)?;
-    match take_table(&mut core.frames) {
-        Ok(root) => {
-            let place = usize::from(pid.get());
-            core.roots[place] = Some(root);
-            core.regions[place] = Regions::new();
-            Ok(())
-        }
-        Err(NoFree) => unreachable!(),
-    }
+    let root = core.take_table()?;
+    core.add_process(pid, root);
+    Ok(())
 }

@@ -23,7 +23,8 @@ use Rattle.residency.proofs.ShareSteps.{steady_released}
 use Rattle.residency.proofs.Start.{no_bit}
 use Rattle.residency.proofs.TableSteps.{sets_page, rooted_set, steady_set}
 use Rattle.residency.proofs.Views.{views_set, private_number}
-use Rattle.ranges.specs.Steps.{IsBeside, ReturnsTables, Clears, IsWhole, IsTightFor}
+use Rattle.page_entries.specs.Wants.{IsWhole}
+use Rattle.ranges.specs.Steps.{IsBeside, ReturnsTables, Clears, IsTightFor}
 use Rattle.ranges.proofs.Releasing.{cache_data, tight_but-same, trees_released, entries_released, views_released, files_released}
 
 pub beside-refl : (c : Picture) → SameBeside c c

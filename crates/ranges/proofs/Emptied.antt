@@ -20,7 +20,8 @@ use Rattle.residency.proofs.Used.{steady_fit}
 use Rattle.residency.proofs.Views.{views_same}
 use Rattle.residency.proofs.Start.{no_bit}
 use Rattle.ranges.specs.Rows.{plain, RemapsRow}
-use Rattle.ranges.specs.Steps.{IsBeside, Clears, IsWhole, IsTightFor}
+use Rattle.page_entries.specs.Wants.{IsWhole}
+use Rattle.ranges.specs.Steps.{IsBeside, Clears, IsTightFor}
 use Rattle.ranges.proofs.Gaps.{missing_same, tight_moved}
 use Rattle.ranges.proofs.Releasing.{inside_memory, private_used, private_data, cache_data}
 

@@ -1,18 +1,14 @@
 -- A process gets other regions.
-use Rattle.std.proofs.Common.{◌≡◌, ◌≢◌, ℕ, ◌<◌, [], true, false, List, Option, Some, None, length, get_or, refl, sym, ap, ◌∙◌, subst, inl, inr, get_or-set_same, get_or-set_other}
-use Rattle.std.specs.Prelude.{slice_set, is_some, option_map}
-use Rattle.std.proofs.lemmas.Bool.{cases_Bool, false≢true}
-use Rattle.std.proofs.lemmas.List.{get_or_read}
-use Rattle.vm_types.specs.declared.number.FrameNo.{FrameNo}
+use Rattle.std.proofs.Common.{◌≡◌, ℕ, [], false, Option, sym, ap, ◌∙◌, subst, inl, inr}
+use Rattle.std.specs.Prelude.{option_map}
+use Rattle.std.proofs.lemmas.Bool.{cases_Bool}
 use Rattle.vm_types.specs.declared.region.Attr.{Attr}
 use Rattle.vm_types.specs.Rows.{in_row, IsUserMap}
 use Rattle.frames.specs.FrameTable.{FrameTable, bytes_of}
 use Rattle.sv39_walk.specs.Entry.{frame_of}
 use Rattle.page_tables.specs.Tree.{IsTight}
-use Rattle.regions.specs.declared.run.Run.{Run}
 use Rattle.regions.specs.Permission.{IsReadableMap}
-use Rattle.regions.specs.RunList.{attr_at}
-use Rattle.residency.specs.Picture.{Picture, attr_where, root_in, entry}
+use Rattle.residency.specs.Picture.{Picture, entry}
 use Rattle.residency.specs.Parts.{IsEntryFor, Nothing, IsFit}
 use Rattle.residency.specs.Shows.{KeepsFiles}
 use Rattle.residency.specs.Steps.{Remaps}
@@ -22,30 +18,6 @@ use Rattle.residency.proofs.Used.{fit_steady, steady_fit, view-same}
 use Rattle.ranges.specs.Rows.{plain, RemapsRow}
 use Rattle.ranges.specs.Steps.{KeepsEntriesOfOthers}
 use Rattle.ranges.proofs.Emptied.{view-bare}
-
-pub where_some : (o : Option ℕ) (runs : List Run) (page : ℕ) → is_some o ≡ true → attr_where o runs page ≡ attr_at runs page
-where_some None runs page some = absurd (false≢true some)
-where_some (Some r) runs page some = refl
-
--- what a page of a live process is, by the regions that were read
-pub attr-read : (roots : List (Option FrameNo)) (regions : List (List Run)) (runs : List Run) (pid index page : ℕ) → index ≡ pid → is_some (root_in roots pid) ≡ true
-    → index < length regions → runs ≡ get_or regions index runs → attr_at runs page ≡ attr_where (root_in roots pid) (get_or regions pid []) page
-attr-read roots regions runs pid index page at live inside read =
-    ap (λ r. attr_at r page) (get_or_read regions index runs inside read [] ∙ ap (λ i. get_or regions i []) at)
-    ∙ sym (where_some (root_in roots pid) (get_or regions pid []) page live)
-
-pub attr-here : (roots : List (Option FrameNo)) (regions : List (List Run)) (next : List Run) (pid index page : ℕ) → index ≡ pid → is_some (root_in roots pid) ≡ true
-    → pid < length regions → attr_where (root_in roots pid) (get_or (slice_set regions index next) pid []) page ≡ attr_at next page
-attr-here roots regions next pid index page at live inside =
-    ap (λ i. attr_where (root_in roots pid) (get_or (slice_set regions i next) pid []) page) at
-    ∙ ap (λ runs. attr_where (root_in roots pid) runs page) (get_or-set_same regions pid next [] inside)
-    ∙ where_some (root_in roots pid) next page live
-
-pub attr-other : (roots : List (Option FrameNo)) (regions : List (List Run)) (next : List Run) (pid index q page : ℕ) → index ≡ pid → q ≢ pid
-    → attr_where (root_in roots q) (get_or (slice_set regions index next) q []) page ≡ attr_where (root_in roots q) (get_or regions q []) page
-attr-other roots regions next pid index q page at ne =
-    ap (λ i. attr_where (root_in roots q) (get_or (slice_set regions i next) q []) page) at
-    ∙ ap (λ runs. attr_where (root_in roots q) runs page) (get_or-set_other regions pid q next [] ne)
 
 -- the memory is the same
 pub files_remapped : (old new : Picture) (pid : ℕ) → Remaps old new pid → KeepsFiles old new

@@ -17,7 +17,7 @@ use Rattle.residency.specs.Picture.{Picture, entry, is_private}
 use Rattle.residency.specs.Steps.{SameBeside, SetsPage}
 use Rattle.residency.proofs.TableSteps.{sets_page, rooted_set}
 use Rattle.ranges.specs.Leaves.{TakesStores, IsPermittedEntry, Permits, Empty, Kept, NamesFrames, PermitsRow}
-use Rattle.ranges.specs.Steps.{IsWhole}
+use Rattle.page_entries.specs.Wants.{IsWhole}
 use Rattle.ranges.proofs.LeafEntries.{allowed}
 use Rattle.ranges.proofs.Releasing.{inside_memory, private_used, cache_used}
 use Rattle.ranges.proofs.ClearedPages.{beside-refl, beside_then, out_front, out_back, other_page}

@@ -33,10 +33,6 @@ pub record Clears (old new : Picture) (pid low high : ℕ) : Type 0 where
   pub views : (q page : ℕ) → IsBeside pid low high q page → view new q page ≡ view old q page
   pub files : KeepsFiles old new
 
--- no table is missing on the way to the page of a process
-abbrev pub IsWhole : Picture → ℕ → ℕ → Type 0
-IsWhole c pid page = (r : ℕ) → c.root pid ≡ Some r → missing_of c.frames 2 r page ≡ 0
-
 -- tables are missing on the way to a page, and there end the pages that the highest of them would hold
 abbrev pub IsGapEnd : Picture → ℕ → ℕ → ℕ → Type 0
 IsGapEnd c pid page end =

@@ -6,7 +6,8 @@ ghost use Rattle.residency.specs.Parts.{IsSteady, IsFit};
 ghost use Rattle.residency.specs.Calls.{KeepsRest};
 ghost use Rattle.page_tables.specs.Places.{IsTableOf};
 ghost use Rattle.ranges.specs.Rows.{RemapsRow};
-ghost use Rattle.ranges.specs.Steps.{KeepsEntriesOfOthers, ReturnsTables, Clears, IsWhole, IsStepEnd, IsTightFor};
+ghost use Rattle.page_entries.specs.Wants.{IsWhole};
+ghost use Rattle.ranges.specs.Steps.{KeepsEntriesOfOthers, ReturnsTables, Clears, IsStepEnd, IsTightFor};
 
 use crate::rows::{frame_in, gap_end, table_end, user_page};
 use page_entries::{is_private, root_of};

@@ -13,10 +13,10 @@ ghost use Rattle.residency.specs.Calls.{KeepsRest};
 ghost use Rattle.residency.specs.Shows.{KeepsDevices};
 ghost use Rattle.ranges.specs.Leaves.{TakesStores, PermitsRow, NamesFrames};
 ghost use Rattle.ranges.specs.Rows.{ReprotectsRow};
-ghost use Rattle.ranges.specs.Steps.{KeepsEntriesOfOthers, IsWhole, IsStepEnd};
+ghost use Rattle.page_entries.specs.Wants.{IsWhole};
+ghost use Rattle.ranges.specs.Steps.{KeepsEntriesOfOthers, IsStepEnd};
 
 use crate::leaves::permitted;
-use crate::remapping::set_regions;
 use crate::rows::{frame_in, gap_end, table_end, user_page};
 use page_entries::{is_private, is_shared, root_of};
 use page_tables::{number_in, set_in, table_of};
@@ -56,7 +56,7 @@ pub fn reprotect<D, E>(
     while page < end {
         page = permit_next(core, pid, user_page(page), end, prot);
     }
-    set_regions(core, pid, regions);
+    core.remap(pid, regions);
 }
 
 /// Gives the permission to the pages from `start` on whose entries stand in one table, as far as `end`. The result is
@@ -168,7 +168,7 @@ fn takes_stores<D, E>(core: &Core<D, E>, pid: Pid, page: Vpn, number: Pte, prot:
     if is_private(number) {
         return core.frames.count(frame_in(number)) == 1;
     }
-    match core.regions[usize::from(pid.get())].at(page) {
+    match core.regions(pid).at(page) {
         Some(attr) => is_shared(attr.backing),
         None => false,
     }

@@ -6,7 +6,6 @@ ghost use Rattle.regions.specs.RunList.{attr_at};
 ghost use Rattle.residency.specs.Picture.{picture_of, is_live};
 ghost use Rattle.residency.specs.Parts.{IsFit};
 ghost use Rattle.residency.specs.Shows.{KeepsDevices};
-ghost use Rattle.residency.specs.Steps.{Remaps};
 ghost use Rattle.ranges.specs.Rows.{RemapsRow};
 ghost use Rattle.ranges.specs.Steps.{KeepsEntriesOfOthers};
 
@@ -34,18 +33,5 @@ pub fn remap<D, E>(core: &mut Core<D, E>, pid: Pid, first: u64, pages: u64, regi
     ensures refused { core.new.refused ≡ core.old.refused }
 {
     clear_row(core, pid, first, pages);
-    set_regions(core, pid, regions);
-}
-
-/// Gives a live process these regions, whatever entries its pages have.
-pub(crate) fn set_regions<D, E>(core: &mut Core<D, E>, pid: Pid, regions: Regions)
-    requires live { is_live (picture_of core.old) pid ≡ true }
-    ensures remaps { Remaps (picture_of core.old) (picture_of core.new) pid }
-    ensures at { (page : ℕ) → (picture_of core.new).at pid page ≡ attr_at regions page }
-    ensures devices { KeepsDevices core.old core.new }
-    ensures roots { core.new.roots ≡ core.old.roots }
-    ensures cache { core.new.cache ≡ core.old.cache }
-    ensures refused { core.new.refused ≡ core.old.refused }
-{
-    core.regions[usize::from(pid.get())] = regions;
+    core.remap(pid, regions);
 }

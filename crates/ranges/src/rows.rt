@@ -3,7 +3,8 @@ ghost use Rattle.std.specs.Prelude.{◌≡◌, ℕ, ◌<◌, ◌≤◌, ◌+◌,
 ghost use Rattle.sv39_walk.specs.Entry.{frame_of};
 ghost use Rattle.residency.specs.Picture.{picture_of, is_live, entry};
 ghost use Rattle.residency.specs.Parts.{IsRootedBut};
-ghost use Rattle.ranges.specs.Steps.{IsGapEnd, IsWhole};
+ghost use Rattle.page_entries.specs.Wants.{IsWhole};
+ghost use Rattle.ranges.specs.Steps.{IsGapEnd};
 
 use page_entries::root_of;
 use page_tables::missing_tables;

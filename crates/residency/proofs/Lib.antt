@@ -6,6 +6,7 @@ pub mod Counted
 pub mod Rooted
 pub mod Granting
 pub mod Places
+pub mod Room
 pub mod Used
 pub mod Start
 pub mod TableSteps
@@ -16,3 +17,5 @@ pub mod ShareSteps
 pub mod Forms
 pub mod RegionSteps
 pub mod Exiting
+pub mod Arriving
+pub mod Roots

@@ -6,11 +6,12 @@ use Rattle.vm_types.specs.declared.file.FilePage.{FilePage}
 use Rattle.disk_model.specs.Stop.{Image}
 use Rattle.frames.specs.declared.role.Role.TheVariants.{Free}
 use Rattle.frames.specs.FrameTable.{FrameTable, frame_count, bytes_of, role_of, count_of, IsFrame, IsFresh}
+use Rattle.page_tables.specs.Change.{AddsTable}
 use Rattle.page_cache.specs.CacheTable.{slot_count}
 use Rattle.page_cache.specs.declared.place.Place.TheVariants.{Home}
 use Rattle.residency.specs.declared.kernel.Core.{Core}
 use Rattle.residency.specs.Picture.{Picture, picture_of, view, volatile}
-use Rattle.residency.specs.Steps.{TakesOwn}
+use Rattle.residency.specs.Steps.{SameBeside, TakesOwn, BringsIn}
 
 -- so many frames, all free but the zero page, room for so many slots, no process, and every file page at home and untouched
 pub record IsStart {D E : Type 0} (c : Core D E) (frames slots : ℕ) : Type 0 where
@@ -77,3 +78,36 @@ pub record KeepsAround {D E : Type 0} (old new : Core D E) : Type 0 where
   pub cache : new.cache ≡ old.cache
   pub roots : new.roots ≡ old.roots
   pub regions : new.regions ≡ old.regions
+
+-- as many frames as there were, and as much room for slots
+pub record KeepsRoom {D E : Type 0} (old new : Core D E) : Type 0 where
+  pub frames : frame_count new.frames ≡ frame_count old.frames
+  pub slots : slot_count new.cache ≡ slot_count old.cache
+
+-- a frame was obtained, and taken for a table that is in no tree
+pub record ObtainsTable (old new : Picture) (n : ℕ) : Type 0 where
+  pub found : Picture
+  pub used : KeepsUsed old found
+  pub adds : AddsTable found.frames new.frames 2 n
+  pub beside : SameBeside found new
+
+-- a frame was obtained, and a file page brought into it from its home
+pub record ObtainsCached (old new : Picture) (page : FilePage) (n : ℕ) : Type 0 where
+  pub found : Picture
+  pub used : KeepsUsed old found
+  pub brings : BringsIn found new page n
+
+-- all but the frames, the files and the count of refused requests is as it was
+pub record KeepsBesideFiles {D E : Type 0} (old new : Core D E) : Type 0 where
+  pub swap : new.swap ≡ old.swap
+  pub roots : new.roots ≡ old.roots
+  pub regions : new.regions ≡ old.regions
+  pub page_of : new.page_of ≡ old.page_of
+
+-- all but the frames and the processes is as it was, the count of refused requests too
+pub record KeepsBesideProcesses {D E : Type 0} (old new : Core D E) : Type 0 where
+  pub store : new.store ≡ old.store
+  pub swap : new.swap ≡ old.swap
+  pub cache : new.cache ≡ old.cache
+  pub page_of : new.page_of ≡ old.page_of
+  pub refused : new.refused ≡ old.refused

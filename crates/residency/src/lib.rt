@@ -4,6 +4,9 @@
 
 mod kernel;
 mod obtaining;
+mod processes;
+#[cfg(test)]
+mod step_tests;
 mod steps;
 #[cfg(test)]
 mod tests;

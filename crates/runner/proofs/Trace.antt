@@ -10,7 +10,7 @@ use Rattle.vm_types.specs.State.{State}
 use Rattle.machine.specs.declared.machine.Machine.{Machine}
 use Rattle.machine.specs.Machine.{Shows, Meets}
 use Rattle.machine.specs.Chain.{event, Caused, Chain, Runs}
-use Rattle.machine.proofs.Runs.{leaves_prefix}
+use Rattle.machine.proofs.Runs.{chain_room, leaves_prefix}
 use Rattle.trace_lang.specs.Lines.{lines_of}
 use Rattle.runner.specs.declared.engine.RunEnd.{RunEnd}
 use Rattle.runner.specs.declared.engine.RunEnd.TheVariants.{Done, ReadFault, WriteFault}
@@ -187,6 +187,7 @@ module _ {D E : Type 0} (g : Ghosts D) (h : Ghosts E)
     events = a.events;
     chain = a.chain;
     shows = a.shows;
+    room = chain_room g h old s a.commands a.replies a.events new a.last a.chain;
     prefixes = λ run keeps.
         leaves_prefix g h (g.sector_count old.core.store.disk) s.files old s a.commands a.replies a.events new a.last a.chain keeps run refl refl only_now before;
   }

@@ -3,9 +3,10 @@ use Rattle.std.proofs.Common.{ℕ, ◌%◌, ◌≡◌, true, false, if◌then◌
 use Rattle.disk_model.specs.declared.sector_disk.SectorDisk.{Ghosts}
 use Rattle.fault.specs.declared.refusal.AccessRefusal.{AccessRefusal}
 use Rattle.fault.specs.declared.refusal.AccessRefusal.TheVariants as Refusal
-use Rattle.fault.specs.Files.{ReadsStore, BringsFiles}
+use Rattle.residency.specs.Reading.{ReadsStore, StallCause}
+use Rattle.fault.specs.Files.{BringsFiles}
 use Rattle.fault.proofs.Showing.{ShowsFiles, shows_files, shows_kept, bytes_shown}
-use Rattle.fault.specs.Outcome.{KeepsSeen, Reads, IsReadyFor, StallCause, IsRefusal, verdict_of}
+use Rattle.fault.specs.Outcome.{KeepsSeen, Reads, IsReadyFor, IsRefusal, verdict_of}
 use Rattle.frames.specs.FrameTable.{bytes_of}
 use Rattle.page_entries.specs.Changes.{KeepsSpaces}
 use Rattle.residency.specs.declared.kernel.Core.{Core}

@@ -5,6 +5,7 @@ use Rattle.fault.specs.declared.refusal.AccessRefusal.{AccessRefusal}
 use Rattle.fault.specs.declared.refusal.AccessRefusal.TheVariants as Refusal
 use Rattle.fault.specs.Outcome as Faults
 use Rattle.residency.specs.declared.kernel.Core.{Core}
+use Rattle.residency.specs.Reading.{StallCause}
 use Rattle.residency.specs.Shows.{KeepsDevices}
 use Rattle.vm_types.specs.declared.access.Access.{Access}
 use Rattle.vm_types.specs.declared.refusal.Errno.TheVariants.{EIO}
@@ -16,34 +17,28 @@ use Rattle.vm_types.specs.declared.reply.Reply.TheVariants.{Faulted, Refused, St
 use Rattle.vm_types.specs.declared.width.Width.{Width}
 use Rattle.vm_types.specs.Replies.{reply_of}
 use Rattle.spaces.specs.Accesses.{answer_of}
-use Rattle.spaces.specs.Calls.{IsCaused, StallCause}
+use Rattle.spaces.specs.Calls.{IsCaused}
 use Rattle.spaces.specs.Idle.{is_denial, refused_by}
 
 -- a fault is no stall and no failure, nor is a stall a failure
 no_failure : (fault : Fault) → Faulted fault ≡ Refused EIO → ⊥
 no_failure fault e = cc
 
-no_stall : (fault : Fault) (stall : Stall) → Faulted fault ≡ Stalled stall → ⊥
+pub no_stall : (fault : Fault) (stall : Stall) → Faulted fault ≡ Stalled stall → ⊥
 no_stall fault stall e = cc
 
 stall_no_failure : (stall : Stall) → Stalled stall ≡ Refused EIO → ⊥
 stall_no_failure stall e = cc
 
-same_stall : (a b : Stall) → Stalled a ≡ Stalled b → a ≡ b
+pub same_stall : (a b : Stall) → Stalled a ≡ Stalled b → a ≡ b
 same_stall a b e = cc
 
 module _ {D E : Type 0} (g : Ghosts D) where
-  counted : (old new : Core D E) (stall : Stall) → Faults.StallCause g old new stall → new.refused.number ≡ old.refused.number + refused_by stall
+  counted : (old new : Core D E) (stall : Stall) → StallCause g old new stall → new.refused.number ≡ old.refused.number + refused_by stall
   counted old new NoFrames cause = cause
   counted old new NoSwap cause = absurd cause
   counted old new SwapDevice cause = absurd cause
   counted old new StoreDevice cause = omega (arith, cause.0)
-
-  cause_of : (old new : Core D E) (stall : Stall) → Faults.StallCause g old new stall → StallCause g old new stall
-  cause_of old new NoFrames cause = cause
-  cause_of old new NoSwap cause = absurd cause
-  cause_of old new SwapDevice cause = absurd cause
-  cause_of old new StoreDevice cause = cause.1
 
   module _ (old new : Core D E) (pid addr : ℕ) (width : Width) (kind : Access) where
     -- a fault is told without asking a device
@@ -68,5 +63,5 @@ module _ {D E : Type 0} (g : Ghosts D) where
       later = later;
       counted = counted old new stall is.cause;
       failed = λ e. absurd (stall_no_failure stall e);
-      stalled = λ other e. subst (λ (x : Stall). StallCause g old new x) (same_stall stall other e) (cause_of old new stall is.cause);
+      stalled = λ other e. subst (λ (x : Stall). StallCause g old new x) (same_stall stall other e) is.cause;
     }

@@ -1,7 +1,7 @@
 -- What a state that memory shows says of an access.
 use Rattle.std.proofs.Common.{ℕ, ◌≡◌, inr, Option, refl, ap, ◌∙◌}
 use Rattle.disk_model.specs.declared.sector_disk.SectorDisk.{Ghosts}
-use Rattle.fault.specs.Files.{ReadsStore}
+use Rattle.residency.specs.Reading.{ReadsStore}
 use Rattle.fault.specs.Outcome.{verdict_of}
 use Rattle.fault.proofs.Showing.{IsHomeDurable}
 use Rattle.residency.specs.declared.kernel.Core.{Core}

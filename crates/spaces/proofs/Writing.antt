@@ -4,7 +4,8 @@ use Rattle.std.specs.Prelude.{◌==◌}
 use Rattle.std.proofs.lemmas.Bool.{false≢true}
 use Rattle.disk_model.specs.declared.sector_disk.SectorDisk.{Ghosts}
 use Rattle.fault.specs.declared.refusal.AccessRefusal.{AccessRefusal}
-use Rattle.fault.specs.Files.{ReadsStore, BringsFiles}
+use Rattle.residency.specs.Reading.{ReadsStore}
+use Rattle.fault.specs.Files.{BringsFiles}
 use Rattle.fault.specs.Outcome.{IsReadyToStore, IsRefusal, verdict_of}
 use Rattle.fault.proofs.Ready.{view-mapped, own_in-common}
 use Rattle.fault.proofs.Settled.{one_view}

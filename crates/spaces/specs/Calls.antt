@@ -3,12 +3,12 @@ use Rattle.std.specs.Prelude.{◌≡◌, ◌+◌, ◌<◌, ◌≤◌, true}
 use Rattle.disk_model.specs.declared.sector_disk.SectorDisk.{Ghosts}
 use Rattle.residency.specs.declared.kernel.Core.{Core}
 use Rattle.residency.specs.Picture.{picture_of}
+use Rattle.residency.specs.Reading.{StallCause}
 use Rattle.residency.specs.Shows.{ShowsPages}
 use Rattle.syncing.specs.Shows.{Shows}
 use Rattle.vm_types.specs.declared.command.Command.{Command}
 use Rattle.vm_types.specs.declared.refusal.Errno.TheVariants.{EIO}
 use Rattle.vm_types.specs.declared.refusal.Stall.{Stall}
-use Rattle.vm_types.specs.declared.refusal.Stall.TheVariants.{NoFrames, NoSwap, SwapDevice, StoreDevice}
 use Rattle.vm_types.specs.declared.reply.Reply.{Reply}
 use Rattle.vm_types.specs.declared.reply.Reply.TheVariants.{Refused, Stalled}
 use Rattle.vm_types.specs.Stalls.{Causes, MayStall, reads_files}
@@ -36,17 +36,10 @@ module _ {D E : Type 0} (g : Ghosts D) where
   Carries old new command reply =
       (s : State) → Shows g old s → (reads_files command ≡ true → g.keeps_model new.store.disk) → Comes old new s command reply
 
-  -- what a stall comes from; there is no other yet
-  abbrev pub StallCause : Core D E → Core D E → Stall → Type 0
-  StallCause old new NoFrames = new.refused.number ≡ old.refused.number + 1
-  StallCause old new NoSwap = ⊥
-  StallCause old new SwapDevice = ⊥
-  StallCause old new StoreDevice = g.failures old.store.disk < g.failures new.store.disk
-
   -- Whatever the devices do: a reply names a device or the want of a frame only where it failed in the call, or was refused.
   -- No failure is forgotten, and a request for a frame was refused exactly where the reply says so, and no more than one.
   pub record IsCaused (old new : Core D E) (reply : Reply) : Type 0 where
     pub later : g.failures old.store.disk ≤ g.failures new.store.disk
     pub counted : new.refused.number ≡ old.refused.number + refused_count reply
     pub failed : reply ≡ Refused EIO → g.failures old.store.disk < g.failures new.store.disk
-    pub stalled : (stall : Stall) → reply ≡ Stalled stall → StallCause old new stall
+    pub stalled : (stall : Stall) → reply ≡ Stalled stall → StallCause g old new stall

@@ -1,16 +1,20 @@
 //! Loads, stores and fetches.
-ghost use Rattle.std.specs.Prelude.{◌≡◌, ◌≤◌, ◌<◌, ◌+◌, ◌/◌, ◌^◌, true, false};
+ghost use Rattle.std.specs.Prelude.{◌≡◌, ◌≤◌, ◌<◌, ◌+◌, ◌/◌, ◌%◌, ◌^◌, true, false};
 ghost use Rattle.vm_types.specs.Replies.{reply_of};
 ghost use Rattle.vm_types.specs.Access.{loaded, with_number};
 ghost use Rattle.vm_types.specs.Width.{byte_count};
 ghost use Rattle.vm_types.specs.declared.command.Command.TheVariants.{Load, Store, Fetch};
+ghost use Rattle.vm_types.specs.declared.number.Phys.{Phys};
 ghost use Rattle.vm_types.specs.declared.width.Width.TheVariants.{Four};
 ghost use Rattle.frames.specs.FrameTable.{IsFrame};
 ghost use Rattle.sv39_walk.specs.Walk.{is_store};
-ghost use Rattle.fault.specs.Files.{ReadsStore};
+ghost use Rattle.fault.specs.Outcome.{IsWalked};
+ghost use Rattle.residency.specs.Calls.{KeepsRoom};
+ghost use Rattle.residency.specs.Picture.{picture_of};
+ghost use Rattle.residency.specs.Reading.{ReadsStore};
 ghost use Rattle.residency.specs.Shows.{KeepsDevices};
 ghost use Rattle.syncing.specs.Shows.{IsSoundCore};
-ghost use Rattle.spaces.specs.Accesses.{answer_of};
+ghost use Rattle.spaces.specs.Accesses.{answer_of, AsksFor, WritesNumber};
 ghost use Rattle.spaces.specs.Calls.{Carries, IsCaused};
 ghost use Rattle.spaces.specs.Idle.{is_denial};
 
@@ -78,6 +82,9 @@ fn read<D: SectorDisk, E>(
     ensures reads { ReadsStore D.SectorDisk core.old.store core.new.store }
     ensures swap { core.new.swap ≡ core.old.swap }
     ensures idle { is_denial (reply_of result) ≡ true → KeepsDevices core.old core.new }
+    ensures walked { (place : Phys) → IsWalked (picture_of core.old) pid addr width kind place → core.new ≡ core.old }
+    ensures asks { AsksFor core.old core.new pid addr kind (reply_of result) }
+    ensures room { KeepsRoom core.old core.new }
     ensures caused { IsCaused D.SectorDisk core.old core.new (reply_of result) }
 {
     let Some(pid) = live(core, pid) else {
@@ -107,6 +114,9 @@ pub fn load<D: SectorDisk, E>(core: &mut Core<D, E>, pid: u64, addr: u64, width:
     ensures reads { ReadsStore D.SectorDisk core.old.store core.new.store }
     ensures swap { core.new.swap ≡ core.old.swap }
     ensures idle { is_denial (reply_of result) ≡ true → KeepsDevices core.old core.new }
+    ensures walked { (place : Phys) → IsWalked (picture_of core.old) pid addr width Access.Load place → core.new ≡ core.old }
+    ensures asks { AsksFor core.old core.new pid addr Access.Load (reply_of result) }
+    ensures room { KeepsRoom core.old core.new }
     ensures caused { IsCaused D.SectorDisk core.old core.new (reply_of result) }
 {
     read(core, pid, addr, width, Access::Load)
@@ -122,6 +132,9 @@ pub fn fetch<D: SectorDisk, E>(core: &mut Core<D, E>, pid: u64, addr: u64) -> An
     ensures reads { ReadsStore D.SectorDisk core.old.store core.new.store }
     ensures swap { core.new.swap ≡ core.old.swap }
     ensures idle { is_denial (reply_of result) ≡ true → KeepsDevices core.old core.new }
+    ensures walked { (place : Phys) → IsWalked (picture_of core.old) pid addr Four Access.Fetch place → core.new ≡ core.old }
+    ensures asks { AsksFor core.old core.new pid addr Access.Fetch (reply_of result) }
+    ensures room { KeepsRoom core.old core.new }
     ensures caused { IsCaused D.SectorDisk core.old core.new (reply_of result) }
 {
     read(core, pid, addr, Width::Four, Access::Fetch)
@@ -143,6 +156,9 @@ pub fn store<D: SectorDisk, E>(
     ensures reads { ReadsStore D.SectorDisk core.old.store core.new.store }
     ensures swap { core.new.swap ≡ core.old.swap }
     ensures idle { is_denial (reply_of result) ≡ true → KeepsDevices core.old core.new }
+    ensures walked { (place : Phys) → IsWalked (picture_of core.old) pid addr stored.width Access.Store place → WritesNumber core.old core.new (place.0 / 4096) (addr % 4096) stored }
+    ensures asks { AsksFor core.old core.new pid addr Access.Store (reply_of result) }
+    ensures room { KeepsRoom core.old core.new }
     ensures caused { IsCaused D.SectorDisk core.old core.new (reply_of result) }
 {
     let Some(pid) = live(core, pid) else {

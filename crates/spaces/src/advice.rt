@@ -1,6 +1,7 @@
 //! madvise with MADV_DONTNEED.
 ghost use Rattle.vm_types.specs.Replies.{reply_of};
 ghost use Rattle.vm_types.specs.declared.command.Command.TheVariants.{Dontneed};
+ghost use Rattle.residency.specs.Calls.{KeepsRoom};
 ghost use Rattle.residency.specs.Shows.{KeepsDevices};
 ghost use Rattle.syncing.specs.Shows.{IsSoundCore};
 ghost use Rattle.spaces.specs.Calls.{Carries, IsCaused};
@@ -22,6 +23,7 @@ pub fn dontneed<D: SectorDisk, E>(core: &mut Core<D, E>, pid: u64, addr: u64, le
     ensures sound { IsSoundCore D.SectorDisk core.new }
     ensures comes { Carries D.SectorDisk core.old core.new (Dontneed pid addr len) (reply_of result) }
     ensures devices { KeepsDevices core.old core.new }
+    ensures room { KeepsRoom core.old core.new }
     ensures caused { IsCaused D.SectorDisk core.old core.new (reply_of result) }
 {
     let Some(pid) = live(core, pid) else {

@@ -2,6 +2,7 @@
 ghost use Rattle.std.specs.Prelude.{◌≡◌};
 ghost use Rattle.vm_types.specs.Replies.{reply_of};
 ghost use Rattle.vm_types.specs.declared.command.Command.TheVariants.{Spawn, Fork, Exit};
+ghost use Rattle.residency.specs.Calls.{KeepsRoom};
 ghost use Rattle.residency.specs.Shows.{KeepsDevices};
 ghost use Rattle.syncing.specs.Shows.{IsSoundCore};
 ghost use Rattle.spaces.specs.Calls.{Carries, IsCaused};
@@ -21,6 +22,7 @@ pub fn spawn<D: SectorDisk, E>(core: &mut Core<D, E>) -> Answer
     ensures sound { IsSoundCore D.SectorDisk core.new }
     ensures comes { Carries D.SectorDisk core.old core.new Spawn (reply_of result) }
     ensures devices { KeepsDevices core.old core.new }
+    ensures room { KeepsRoom core.old core.new }
     ensures caused { IsCaused D.SectorDisk core.old core.new (reply_of result) }
 {
     let Some(pid) = free_pid(core) else {
@@ -42,6 +44,7 @@ pub fn fork<D: SectorDisk, E>(core: &mut Core<D, E>, pid: u64) -> Answer
     ensures sound { IsSoundCore D.SectorDisk core.new }
     ensures comes { Carries D.SectorDisk core.old core.new (Fork pid) (reply_of result) }
     ensures devices { KeepsDevices core.old core.new }
+    ensures room { KeepsRoom core.old core.new }
     ensures caused { IsCaused D.SectorDisk core.old core.new (reply_of result) }
 {
     let Some(parent) = live(core, pid) else {
@@ -64,6 +67,7 @@ pub fn exit<D: SectorDisk, E>(core: &mut Core<D, E>, pid: u64) -> Answer
     ensures sound { IsSoundCore D.SectorDisk core.new }
     ensures comes { Carries D.SectorDisk core.old core.new (Exit pid) (reply_of result) }
     ensures devices { KeepsDevices core.old core.new }
+    ensures room { KeepsRoom core.old core.new }
     ensures caused { IsCaused D.SectorDisk core.old core.new (reply_of result) }
 {
     let Some(pid) = live(core, pid) else {

@@ -8,6 +8,7 @@ ghost use Rattle.vm_types.specs.Checks.{first_of, page_count};
 ghost use Rattle.vm_types.specs.Mapping.{first_attr, first_backing, is_exact, is_taken, place_for};
 ghost use Rattle.vm_types.specs.Placement.{fixed_place, is_free};
 ghost use Rattle.vm_types.specs.declared.command.Command.TheVariants.{Mmap};
+ghost use Rattle.residency.specs.Calls.{KeepsRoom};
 ghost use Rattle.residency.specs.Shows.{KeepsDevices};
 ghost use Rattle.syncing.specs.Shows.{IsSoundCore};
 ghost use Rattle.spaces.specs.Calls.{Carries, IsCaused};
@@ -226,6 +227,7 @@ pub fn mmap<D: SectorDisk, E>(
     ensures sound { IsSoundCore D.SectorDisk core.new }
     ensures comes { Carries D.SectorDisk core.old core.new (Mmap pid addr len prot source placing) (reply_of result) }
     ensures devices { KeepsDevices core.old core.new }
+    ensures room { KeepsRoom core.old core.new }
     ensures caused { IsCaused D.SectorDisk core.old core.new (reply_of result) }
 {
     let Some(pid) = live(core, pid) else {

@@ -6,6 +6,7 @@ ghost use Rattle.vm_types.specs.Checks.{first_of};
 ghost use Rattle.vm_types.specs.Counting.{any_below};
 ghost use Rattle.vm_types.specs.Ranges.{denies_stores, is_guarded, is_guarded_page};
 ghost use Rattle.vm_types.specs.declared.command.Command.TheVariants.{Munmap, Mprotect};
+ghost use Rattle.residency.specs.Calls.{KeepsRoom};
 ghost use Rattle.residency.specs.Shows.{KeepsDevices};
 ghost use Rattle.syncing.specs.Shows.{IsSoundCore};
 ghost use Rattle.spaces.specs.Calls.{Carries, IsCaused};
@@ -107,6 +108,7 @@ pub fn munmap<D: SectorDisk, E>(core: &mut Core<D, E>, pid: u64, addr: u64, len:
     ensures sound { IsSoundCore D.SectorDisk core.new }
     ensures comes { Carries D.SectorDisk core.old core.new (Munmap pid addr len) (reply_of result) }
     ensures devices { KeepsDevices core.old core.new }
+    ensures room { KeepsRoom core.old core.new }
     ensures caused { IsCaused D.SectorDisk core.old core.new (reply_of result) }
 {
     let Some(pid) = live(core, pid) else {
@@ -145,6 +147,7 @@ pub fn mprotect<D: SectorDisk, E>(
     ensures sound { IsSoundCore D.SectorDisk core.new }
     ensures comes { Carries D.SectorDisk core.old core.new (Mprotect pid addr len prot) (reply_of result) }
     ensures devices { KeepsDevices core.old core.new }
+    ensures room { KeepsRoom core.old core.new }
     ensures caused { IsCaused D.SectorDisk core.old core.new (reply_of result) }
 {
     let Some(pid) = live(core, pid) else {

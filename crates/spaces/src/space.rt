@@ -15,5 +15,5 @@ pub(crate) fn regions_of<D, E>(core: &Core<D, E>, pid: Pid) -> &Regions
     requires live { is_live (picture_of core.now) pid ≡ true }
     ensures { (page : ℕ) → attr_at result.now page ≡ (picture_of core.now).at pid page }
 {
-    &core.regions[usize::from(pid.get())]
+    core.regions(pid)
 }

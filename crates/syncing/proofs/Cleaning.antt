@@ -72,6 +72,7 @@ cleans_none c list = record {
   beside = beside_none c;
   frames = refl;
   nodes = refl;
+  slots = refl;
   place = λ p. refl;
   cleaned = λ i less. absurd (omega arith);
   others = λ p none. refl;
@@ -117,6 +118,7 @@ module _ {D E : Type 0} (a b c : Core D E) (list : List CachedPage) (i : ℕ) (c
     beside = beside_then a b c cleans.beside beside;
     frames = frames ∙ cleans.frames;
     nodes = same.frames ∙ cleans.nodes;
+    slots = same.slots ∙ cleans.slots;
     place = λ p. all_placed b.cache c.cache (cached_at list i).page same placed p ∙ cleans.place p;
     cleaned = λ j below. elim (cases_eq j i) [
       | inl is ↦ ap (λ x. CacheTable.is_touched c.cache (cached_at list x).page) is ∙ untouched

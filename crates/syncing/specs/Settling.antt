@@ -65,6 +65,7 @@ module _ {D E : Type 0} where
     pub beside : KeepsBeside old new
     pub frames : new.frames ≡ old.frames
     pub nodes : CacheTable.frame_count new.cache ≡ CacheTable.frame_count old.cache
+    pub slots : CacheTable.slot_count new.cache ≡ CacheTable.slot_count old.cache
     pub place : (p : FilePage) → CacheTable.place_of new.cache p ≡ CacheTable.place_of old.cache p
     pub cleaned : (i : ℕ) → i < n → CacheTable.is_touched new.cache (cached_at list i).page ≡ false
     pub others : (p : FilePage) → ((i : ℕ) → i < n → (cached_at list i).page ≢ p) → CacheTable.is_touched new.cache p ≡ CacheTable.is_touched old.cache p

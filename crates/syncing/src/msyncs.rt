@@ -12,6 +12,7 @@ ghost use Rattle.vm_types.specs.declared.command.MsyncMode.{MsyncMode as Mode};
 ghost use Rattle.frames.specs.FrameTable.{bytes_of};
 ghost use Rattle.residency.specs.Picture.{picture_of};
 ghost use Rattle.residency.specs.Parts.{IsFit};
+ghost use Rattle.residency.specs.Calls.{KeepsRoom};
 ghost use Rattle.syncing.specs.Core.{Commits};
 ghost use Rattle.syncing.specs.Shows.{IsSoundCore, Shows};
 ghost use Rattle.syncing.specs.Choice.{IsListed, TakesSame, page_at};
@@ -53,6 +54,7 @@ pub fn msync<D: SectorDisk, E>(
     ensures kept { D.keeps_model core.new.store.disk → D.keeps_model core.old.store.disk }
     ensures size { D.sector_count core.new.store.disk ≡ D.sector_count core.old.store.disk }
     ensures swap { core.new.swap ≡ core.old.swap }
+    ensures room { KeepsRoom core.old core.new }
     ensures later { D.failures core.old.store.disk ≤ D.failures core.new.store.disk }
     ensures cause { result ≡ Answer.Refused EIO → D.failures core.old.store.disk < D.failures core.new.store.disk }
     ensures no_stall { (stall : Stall) → result ≡ Answer.Stalled stall → ⊥ }
@@ -79,6 +81,7 @@ fn commit<D: SectorDisk, E>(core: &mut Core<D, E>, chosen: &Chosen) -> Answer
     ensures kept { D.keeps_model core.new.store.disk → D.keeps_model core.old.store.disk }
     ensures size { D.sector_count core.new.store.disk ≡ D.sector_count core.old.store.disk }
     ensures swap { core.new.swap ≡ core.old.swap }
+    ensures room { KeepsRoom core.old core.new }
     ensures later { D.failures core.old.store.disk ≤ D.failures core.new.store.disk }
     ensures cause { result ≡ Answer.Refused EIO → D.failures core.old.store.disk < D.failures core.new.store.disk }
     ensures no_stall { (stall : Stall) → result ≡ Answer.Stalled stall → ⊥ }

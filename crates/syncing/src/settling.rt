@@ -4,6 +4,7 @@ ghost use Rattle.vm_types.specs.Files.{inside_of, cut};
 ghost use Rattle.frames.specs.FrameTable.{IsHeld, bytes_of, with_bytes};
 ghost use Rattle.residency.specs.Picture.{picture_of};
 ghost use Rattle.residency.specs.Parts.{IsFit};
+ghost use Rattle.residency.specs.Calls.{KeepsRoom};
 ghost use Rattle.syncing.specs.Settling.{AreCached, IsCached, KeepsBeside, KeepsAllButFrames, ClearsDirty, AreClear, IsFrameIn, CutsTails, Cleans, Settles, cached_at};
 
 use crate::chosen::CachedPage;
@@ -19,6 +20,7 @@ pub(crate) fn settle<D: SectorDisk, E>(core: &mut Core<D, E>, pages: &[CachedPag
     requires cached { AreCached (picture_of core.old) pages.now }
     ensures fit { IsFit (picture_of core.new) }
     ensures beside { KeepsBeside core.old core.new }
+    ensures room { KeepsRoom core.old core.new }
     ensures settles { Settles (picture_of core.old) (picture_of core.new) pages.now }
 {
     cut_tails(core, pages);

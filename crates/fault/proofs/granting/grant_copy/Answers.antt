@@ -6,7 +6,7 @@ use Rattle.fault.proofs.Settled.{own_ok}
 use Rattle.fault.proofs.Steps.{proceeds_then}
 use Rattle.vm_types.specs.declared.access.Access.TheVariants.{Store}
 use Rattle.page_entries.specs.Wants.{ShowsFile, ReadsHome}
-use Rattle.fault.proofs.Wanted.{of_file, wanted_then, calm_then, read_then, reads_home, alone_then, no_home, page_away, on_err_map, on_err, device_err}
+use Rattle.fault.proofs.Wanted.{of_file, wanted_then, calm_then, read_then, reads_home, alone_then, no_home, page_away, on_err_map, on_err, device_err, refused_keeps}
 use Rattle.fault.proofs.granting.grant_copy.Goals as goal
 
 pub enter_own-requires-clause-in_memory : goal.enter_own-requires-clause-in_memory
@@ -121,3 +121,7 @@ returns-clause-alone g c =
     } in
     λ p none. c.enter_own.ensures.enters.places.place p
     ∙ alone_then (picture_of c.args.core.now) (picture_of c.cached.new.core) c.args.pid c.args.page c.args.file_page shows c.cached.ensures.alone p none
+
+pub returns-clause-keeps : goal.returns-clause-keeps
+returns-clause-keeps g c =
+    refused_keeps (picture_of c.args.core.now) c.cached.new.core c.enter_own.new.core c.enter_own.result c.cached.ensures.keeps c.enter_own.ensures.refused

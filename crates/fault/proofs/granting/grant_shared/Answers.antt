@@ -7,7 +7,7 @@ use Rattle.fault.proofs.Steps.{proceeds_then}
 use Rattle.vm_types.specs.declared.access.Access.TheVariants.{Store}
 use Rattle.page_entries.specs.Wants.{ShowsFile, ReadsHome}
 use Rattle.fault.proofs.Settled.{shared_ok}
-use Rattle.fault.proofs.Wanted.{of_file, wanted_then, calm_then, read_then, reads_home, alone_then, no_home, page_away, on_err_map, on_err, device_err}
+use Rattle.fault.proofs.Wanted.{of_file, wanted_then, calm_then, read_then, reads_home, alone_then, no_home, page_away, on_err_map, on_err, device_err, refused_keeps}
 use Rattle.fault.proofs.granting.grant_shared.Goals as goal
 
 pub returns-clause-proceeds : goal.returns-clause-proceeds
@@ -135,3 +135,7 @@ pub returns-clause-granted : goal.returns-clause-granted
 returns-clause-granted g c =
     shared_ok (picture_of c.args.core.now) (picture_of c.cached.new.core) (picture_of c.enter_touched.new.core) c.args.pid c.args.page c.args.attr c.args.file_page c.enter_touched.result
     c.requires.fit c.requires.writable c.requires.shared c.requires.mapped c.cached.ensures.keeps c.enter_touched.ensures.over c.enter_touched.ensures.touches
+
+pub returns-clause-keeps : goal.returns-clause-keeps
+returns-clause-keeps g c =
+    refused_keeps (picture_of c.args.core.now) c.cached.new.core c.enter_touched.new.core c.enter_touched.result c.cached.ensures.keeps c.enter_touched.ensures.refused

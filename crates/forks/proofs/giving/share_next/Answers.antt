@@ -2,6 +2,8 @@ use Rattle.residency.specs.Picture.{picture_of}
 use Rattle.std.proofs.Common.{ℕ, ◌+◌, inr, sym, subst}
 use Rattle.forks.specs.Steps.{CopiesUpTo}
 use Rattle.forks.proofs.Passing.{table_passed, table_copied, page_copied}
+use Rattle.forks.specs.Steps.{HasThisCopy}
+use Rattle.page_entries.proofs.Tables.{tables_same, adds_none}
 use Rattle.forks.proofs.giving.share_next.Goals as goal
 
 pub returns-in-Some-clause-given : goal.returns-in-Some-clause-given
@@ -22,3 +24,8 @@ returns-clause-copied g c =
     subst P (sym c.get.ensures.number)
     (page_copied (picture_of c.args.core.now) (picture_of c.share_page.new.core) c.args.parent c.args.child c.args.page c.requires.apart
     c.in_ok-share_page.ensures.given c.share_page.ensures.lowered)
+
+pub returns-in-Some-clause-tables : goal.returns-in-Some-clause-tables
+returns-in-Some-clause-tables g c r e =
+    adds_none (HasThisCopy (picture_of c.args.core.now) c.args.parent c.args.page) c.args.core.now.frames c.args.core.now.frames r
+    (tables_same c.args.core.now.frames)

@@ -1,4 +1,4 @@
-use Rattle.std.proofs.Common.{◌≡◌, ℕ, List, slice_index_or, true, false, inl, refl, sym, ap, ◌∙◌, subst, arith}
+use Rattle.std.proofs.Common.{◌≡◌, ℕ, Some, List, slice_index_or, true, false, inl, refl, sym, ap, ◌∙◌, subst, arith}
 use Rattle.frames.specs.declared.role.Role.{Role}
 use Rattle.frames.specs.declared.role.Role.TheVariants as Roles
 use Rattle.page_tables.specs.Entry.{number_of}
@@ -10,8 +10,13 @@ use Rattle.residency.proofs.Entries.{entry-of}
 use Rattle.residency.proofs.Start.{no_bit}
 use Rattle.processes.proofs.Keeping.{live_root, files_then}
 use Rattle.forks.proofs.Sharers.{may_share}
-use Rattle.forks.proofs.Shared.{own_role, own_noted, forest_shared, root_shared, whole_shared, common_gives, page_given, page_lowered, lowered_common, given_common}
+use Rattle.forks.proofs.Shared.{own_role, own_noted, tables_shared, forest_shared, root_shared, whole_shared, common_gives, page_given, page_lowered, lowered_common, given_common}
 use Rattle.forks.proofs.Copied.{on_err}
+use Rattle.forks.proofs.Taken.{tables_set}
+use Rattle.forks.specs.Steps.{HasCopy, HasThisCopy}
+use Rattle.page_entries.specs.Changes.{KeepsViews}
+use Rattle.page_entries.specs.Tables.{FallsShort}
+use Rattle.page_entries.proofs.Tables.{tables_same, adds_none, adds_then, adds_wider, short_then, short_wider}
 use Rattle.forks.proofs.giving.share_page.Goals as goal
 
 pub entry-before-requires-clause-root : goal.entry-before-requires-clause-root
@@ -172,12 +177,67 @@ returns-then-not-is_own-clause-lowered g c =
       others = λ q p h ne other. refl;
     }
 
-pub returns-in_err-link_tables-clause-wanted : goal.returns-in_err-link_tables-clause-wanted
-returns-in_err-link_tables-clause-wanted g c =
-    let own : is_private (entry (picture_of c.args.core.now) c.args.parent c.args.page) ≡ true =
-    ap is_private (entry-of (picture_of c.args.core.now) c.args.parent c.root_of-root.result.0 c.args.page c.root_of-root.ensures ∙ sym c.entry-before.ensures.entry)
+pub returns-then-not-is_own-clause-tables : goal.returns-then-not-is_own-clause-tables
+returns-then-not-is_own-clause-tables g c r e =
+    let old : Picture = picture_of c.args.core.now in
+    adds_none (HasThisCopy old c.args.parent c.args.page) old.frames old.frames r (tables_same old.frames)
+
+this_one : (c : Picture) (parent page : ℕ) → IsPage 2 page → is_private (entry c parent page) ≡ true → (p : ℕ) → p ≡ page → HasThisCopy c parent page p
+this_one c parent page h own p is = (is, let P : ℕ → Type 0 = λ x. HasCopy c parent x in subst P (sym is) (h, own))
+
+pub returns-in_err-link_tables-clause-short : goal.returns-in_err-link_tables-clause-short
+returns-in_err-link_tables-clause-short g c =
+    let old : Picture = picture_of c.args.core.now in
+    let mid : Picture = picture_of c.withdraw_write-entry.new.core in
+    let P : ℕ → Type 0 = λ p. HasThisCopy old c.args.parent c.args.page p in
+    let own : is_private (entry old c.args.parent c.args.page) ≡ true =
+    ap is_private (entry-of old c.args.parent c.root_of-root.result.0 c.args.page c.root_of-root.ensures ∙ sym c.entry-before.ensures.entry)
     ∙ sym c.if-not-is_own.ensures in
-    on_err c.from_residual.result (is_private (entry (picture_of c.args.core.now) c.args.parent c.args.page) ≡ true) own
+    let small : IsPage 2 c.args.page = omega (arith, c.get.ensures) in
+    on_err c.from_residual.result ((r : ℕ) → old.root c.args.child ≡ Some r → FallsShort P old.frames r)
+    (λ r e. short_then P old.frames mid.frames r (adds_none P old.frames mid.frames r c.withdraw_write-entry.ensures.tables)
+    (short_wider (λ p. p ≡ c.args.page) P mid.frames r (this_one old c.args.parent c.args.page small own)
+    (c.in_err-link_tables.ensures.short r (c.withdraw_write-entry.ensures.spaces.root c.args.child ∙ e))))
+
+pub returns-in_err-link_tables-clause-tables : goal.returns-in_err-link_tables-clause-tables
+returns-in_err-link_tables-clause-tables g c r e =
+    let old : Picture = picture_of c.args.core.now in
+    let mid : Picture = picture_of c.withdraw_write-entry.new.core in
+    let new : Picture = picture_of c.link_tables.new.core in
+    let P : ℕ → Type 0 = λ p. HasThisCopy old c.args.parent c.args.page p in
+    adds_then P old.frames mid.frames new.frames r (adds_none P old.frames mid.frames r c.withdraw_write-entry.ensures.tables)
+    (adds_none P mid.frames new.frames r c.in_err-link_tables.ensures.returned)
+
+pub returns-in_err-link_tables-clause-same : goal.returns-in_err-link_tables-clause-same
+returns-in_err-link_tables-clause-same g c =
+    on_err c.from_residual.result (KeepsViews (picture_of c.args.core.now) (picture_of c.link_tables.new.core))
+    (λ q p. c.link_tables.ensures.views q p ∙ c.withdraw_write-entry.ensures.withdrawn.views q p)
+
+pub returns-clause-tables : goal.returns-clause-tables
+returns-clause-tables g c r is_root =
+    let old : Picture = picture_of c.args.core.now in
+    let first : Picture = picture_of c.withdraw_write-entry.new.core in
+    let linked : Picture = picture_of c.link_tables.new.core in
+    let mid : Picture = record linked { frames = c.share.new.self } in
+    let e = number_of c.withdraw_write-entry.result in
+    let withdrawn = c.withdraw_write-entry.ensures.withdrawn in
+    let ready = c.in_ok-link_tables.ensures.ready in
+    let small : IsPage 2 c.args.page = omega (arith, c.get.ensures) in
+    let source : entry linked c.args.parent c.args.page ≡ e = c.link_tables.ensures.entries c.args.parent c.args.page ∙ withdrawn.here in
+    let role = own_role linked c.args.parent c.args.page e ready.steady small source withdrawn.private in
+    let own : is_private (entry old c.args.parent c.args.page) ≡ true =
+    ap is_private (entry-of old c.args.parent c.root_of-root.result.0 c.args.page c.root_of-root.ensures ∙ sym c.entry-before.ensures.entry)
+    ∙ sym c.if-not-is_own.ensures in
+    let S : ℕ → Type 0 = λ x. Shares linked.frames c.share.new.self x in
+    let P : ℕ → Type 0 = λ p. HasThisCopy old c.args.parent c.args.page p in
+    let shared = tables_shared linked mid (frame_of e) ready.steady role (subst S c.frame_of.ensures c.share.ensures.change) (record { root = λ p. refl; at = λ p k. refl; page_of = λ m. refl; place = λ p. refl; touched = λ p. refl; files = λ f. refl }) in
+    let set = tables_set c.share.new.self c.set.new.frames c.root_of-root-2.result.0 c.args.page e c.set.ensures.sets in
+    let links = c.in_ok-link_tables.ensures.tables r (c.withdraw_write-entry.ensures.spaces.root c.args.child ∙ is_root) in
+    adds_then P old.frames first.frames c.set.new.frames r (adds_none P old.frames first.frames r c.withdraw_write-entry.ensures.tables)
+    (adds_then P first.frames linked.frames c.set.new.frames r
+    (adds_wider (λ p. p ≡ c.args.page) P first.frames linked.frames r (this_one old c.args.parent c.args.page small own) links)
+    (adds_then P linked.frames c.share.new.self c.set.new.frames r (adds_none P linked.frames c.share.new.self r shared)
+    (adds_none P c.share.new.self c.set.new.frames r set)))
 
 pub returns-clause-spaces : goal.returns-clause-spaces
 returns-clause-spaces g c = record {

@@ -5,6 +5,7 @@ use Rattle.residency.specs.Picture.{Picture, picture_of}
 use Rattle.residency.specs.Steps.{SameBeside}
 use Rattle.forks.specs.Steps.{Weakens}
 use Rattle.forks.proofs.Lowered.{own_whole, fit_lowered, withdraws}
+use Rattle.forks.proofs.Taken.{tables_set}
 use Rattle.forks.proofs.withdrawing.withdraw_write.Goals as goal
 
 pub set-requires-clause-root : goal.set-requires-clause-root
@@ -49,3 +50,7 @@ returns-clause-withdrawn g c =
     let W : ℕ → Type 0 = λ x. Weakens x e in
     withdraws old new c.args.pid c.args.root.0 c.args.page e c.requires.fit c.requires.root small c.requires.own
     (subst W c.requires.before c.without_write-after.ensures.weaker) c.set.ensures.sets beside
+
+pub returns-clause-tables : goal.returns-clause-tables
+returns-clause-tables g c =
+    tables_set c.args.core.now.frames c.set.new.frames c.args.root.0 c.args.page (number_of c.without_write-after.result) c.set.ensures.sets

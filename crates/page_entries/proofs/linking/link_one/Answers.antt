@@ -1,7 +1,9 @@
-use Rattle.std.proofs.Common.{refl, sym, ◌∙◌}
+use Rattle.std.proofs.Common.{◌≡◌, refl, sym, ◌∙◌}
 use Rattle.residency.specs.Picture.{Picture, picture_of}
 use Rattle.residency.specs.Steps.{SameBeside}
 use Rattle.page_entries.proofs.Building.{builds_used, missing_used, builds_linked, builds_then}
+use Rattle.page_entries.specs.Tables.{FallsShort}
+use Rattle.page_entries.proofs.Tables.{short_now, on_err, is_err}
 use Rattle.page_entries.proofs.linking.link_one.Goals as goal
 
 pub returns-in_err-obtain-clause-built : goal.returns-in_err-obtain-clause-built
@@ -48,3 +50,9 @@ returns-clause-lowered g c =
     let between = used.under_way.steady.rooted.roots used.under_way.lives.0 c.args.root.0 used.under_way.lives.1 in
     c.link_table.ensures.links.lowered ∙ c.in-Ok.ensures.taken.missing c.args.root.0 c.args.page between
     ∙ missing_used old first c.obtain.ensures.used way.steady c.args.root.0 c.args.page was
+
+pub returns-in_err-obtain-clause-short : goal.returns-in_err-obtain-clause-short
+returns-in_err-obtain-clause-short g c =
+    on_err c.from_residual.result (FallsShort (λ p. p ≡ c.args.page) c.args.core.now.frames c.args.root.0)
+    (short_now (λ p. p ≡ c.args.page) c.args.core.now.frames c.args.root.0 c.args.page refl c.requires.missing
+    (c.obtain.ensures.none_free.0 (is_err c.obtain.result c.in_err-obtain.field-0.0 c.in_err-obtain.was)))

@@ -1,7 +1,11 @@
-use Rattle.std.proofs.Common.{refl, ◌∙◌}
+use Rattle.std.proofs.Common.{◌≡◌, ℕ, refl, sym, ◌∙◌, subst}
 use Rattle.residency.specs.Picture.{Picture, picture_of}
 use Rattle.residency.specs.Steps.{SameBeside}
+use Rattle.residency.proofs.Entries.{entry-of}
+use Rattle.residency.proofs.ProcessSteps.{one_some}
 use Rattle.residency.proofs.Used.{fit_steady}
+use Rattle.page_entries.specs.Tables.{AddsTables, FallsShort}
+use Rattle.page_entries.proofs.Returned.{tables_returned}
 use Rattle.page_entries.proofs.Building.{fit_under_way, built_ready, fit_pruned, entries_pruned, data_pruned, data_then, beside_then, views_kept, spaces_kept, files_kept}
 use Rattle.page_entries.proofs.linking.link_tables.Goals as goal
 
@@ -88,3 +92,28 @@ returns-in-Ok-clause-idle g c whole = c.in-Ok.ensures.idle (whole c.root_of-root
 
 pub returns-in-Err-clause-idle : goal.returns-in-Err-clause-idle
 returns-in-Err-clause-idle g c whole = absurd (c.in-Err.ensures.wanted (whole c.root_of-root.result.0 c.root_of-root.ensures))
+
+pub returns-in-Ok-clause-tables : goal.returns-in-Ok-clause-tables
+returns-in-Ok-clause-tables g c r e =
+    let T : ℕ → Type 0 = λ x. AddsTables (λ p. p ≡ c.args.page) c.args.core.now.frames c.link_missing.new.core.frames x in
+    subst T (one_some c.root_of-root.result.0 r (sym c.root_of-root.ensures ∙ e)) c.in-Ok.ensures.built.tables
+
+pub returns-in-Err-clause-short : goal.returns-in-Err-clause-short
+returns-in-Err-clause-short g c r e =
+    let T : ℕ → Type 0 = λ x. FallsShort (λ p. p ≡ c.args.page) c.args.core.now.frames x in
+    subst T (one_some c.root_of-root.result.0 r (sym c.root_of-root.ensures ∙ e)) c.in-Err.ensures.short
+
+pub returns-in-Err-clause-returned : goal.returns-in-Err-clause-returned
+returns-in-Err-clause-returned g c =
+    let old : Picture = picture_of c.args.core.now in
+    let mid : Picture = picture_of c.link_missing.new.core in
+    let new : Picture = record mid { frames = c.prune.new.frames } in
+    let r = c.root_of-root.result.0 in
+    let built = c.in-Err.ensures.built in
+    let way = built.under_way in
+    let fit = returns-in-Err-clause-fit g c in
+    let lives = built.beside.root c.args.pid ∙ c.root_of-root.ensures in
+    tables_returned old.frames mid.frames new.frames r c.args.page c.link_missing.new.core.sound c.args.core.now.sound
+    c.requires.fit.tree.rooted.forest (c.requires.fit.tree.rooted.roots c.args.pid r c.root_of-root.ensures) c.requires.fit.tree.tight built.tables
+    way.steady.rooted.forest c.prune.ensures.prunes (fit.tree.rooted.roots c.args.pid r lives) fit.tree.tight
+    (λ p h. sym (entry-of new c.args.pid r p lives) ∙ returns-in-Err-clause-entries g c c.args.pid p ∙ entry-of old c.args.pid r p c.root_of-root.ensures)

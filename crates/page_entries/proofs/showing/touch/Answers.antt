@@ -4,8 +4,9 @@ use Rattle.vm_types.specs.declared.region.Backing.{Backing}
 use Rattle.vm_types.specs.declared.file.FilePage.{FilePage}
 use Rattle.vm_types.specs.Permission.{can_write}
 use Rattle.std.specs.Prelude.{◌&&◌}
-use Rattle.page_cache.specs.CacheTable.{place_of, is_touched}
+use Rattle.page_cache.specs.CacheTable.{place_of, is_touched, frame_count, slot_count}
 use Rattle.residency.proofs.Places.{cases_page}
+use Rattle.residency.proofs.Room.{room_by_nodes}
 use Rattle.residency.specs.Picture.{Picture, picture_of, entry}
 use Rattle.residency.specs.Parts.{IsBehind, is_shared}
 use Rattle.page_entries.specs.Leaves.{IsEntryOver, is_touched_behind}
@@ -128,3 +129,9 @@ returns-clause-calm g c =
       place = touches.place;
       others = returns-clause-others g c;
     }
+
+pub returns-clause-room : goal.returns-clause-room
+returns-clause-room g c =
+    let same = c.set_full.ensures.rest.cache in
+    let marked = c.mark_dirty.ensures.others in
+    room_by_nodes c.args.core.now c.set_full.new.core (ap frame_count same ∙ marked.frames) (ap slot_count same ∙ marked.slots)

@@ -1,4 +1,4 @@
-use Rattle.std.proofs.Common.{inr, refl, sym, ◌∙◌}
+use Rattle.std.proofs.Common.{inr, refl, ◌∙◌}
 use Rattle.sv39_walk.specs.Walk.{index_of}
 use Rattle.page_tables.specs.Entry.{number_of, IsSoftware}
 use Rattle.page_tables.specs.Change.{ChangesEntry}

@@ -58,10 +58,10 @@ pub returns-clause-fit : goal.returns-clause-fit
 returns-clause-fit g c =
     let old : Picture = picture_of c.args.core.now in
     let mid : Picture = picture_of c.loop-page.core in
-    let new : Picture = picture_of c.set_regions.new.core in
+    let new : Picture = picture_of c.remap.new.self in
     let k = c.loop-page.invariant in
     fit_reprotected old mid new c.args.pid c.args.first c.args.pages c.max-page.result c.loop-page.page c.args.prot c.requires.fit k.permits k.rooted k.tight
-    c.set_regions.ensures.remaps (λ page. c.set_regions.ensures.at page ∙ c.requires.map page) c.requires.reads c.requires.row
+    c.remap.ensures.remaps (λ page. c.remap.ensures.at page ∙ c.requires.map page) c.requires.reads c.requires.row
     (begins c.max-page.result c.args.first c.max-page.ensures) c.loop-page-test.false
     (ends c.max-page.result c.loop-page.page (c.args.first + c.args.pages) c.loop-page-test.false k.high)
 
@@ -69,10 +69,10 @@ pub returns-clause-row : goal.returns-clause-row
 returns-clause-row g c =
     let old : Picture = picture_of c.args.core.now in
     let mid : Picture = picture_of c.loop-page.core in
-    let new : Picture = picture_of c.set_regions.new.core in
+    let new : Picture = picture_of c.remap.new.self in
     let k = c.loop-page.invariant in
     row_reprotected old mid new c.args.pid c.args.first c.args.pages c.max-page.result c.loop-page.page c.args.prot c.requires.fit k.permits k.rooted k.tight
-    c.set_regions.ensures.remaps (λ page. c.set_regions.ensures.at page ∙ c.requires.map page) c.requires.reads c.requires.row
+    c.remap.ensures.remaps (λ page. c.remap.ensures.at page ∙ c.requires.map page) c.requires.reads c.requires.row
     (begins c.max-page.result c.args.first c.max-page.ensures) c.loop-page-test.false
     (ends c.max-page.result c.loop-page.page (c.args.first + c.args.pages) c.loop-page-test.false k.high)
 
@@ -80,9 +80,9 @@ pub returns-clause-others : goal.returns-clause-others
 returns-clause-others g c =
     let old : Picture = picture_of c.args.core.now in
     let mid : Picture = picture_of c.loop-page.core in
-    let new : Picture = picture_of c.set_regions.new.core in
+    let new : Picture = picture_of c.remap.new.self in
     let k = c.loop-page.invariant in
     others_reprotected old mid new c.args.pid c.args.first c.args.pages c.max-page.result c.loop-page.page c.args.prot c.requires.fit k.permits k.rooted k.tight
-    c.set_regions.ensures.remaps (λ page. c.set_regions.ensures.at page ∙ c.requires.map page) c.requires.reads c.requires.row
+    c.remap.ensures.remaps (λ page. c.remap.ensures.at page ∙ c.requires.map page) c.requires.reads c.requires.row
     (begins c.max-page.result c.args.first c.max-page.ensures) c.loop-page-test.false
     (ends c.max-page.result c.loop-page.page (c.args.first + c.args.pages) c.loop-page-test.false k.high)

@@ -1,8 +1,7 @@
-use Rattle.std.proofs.Common.{◌<◌, length, sym, ap, ◌∙◌, arith}
+use Rattle.std.proofs.Common.{sym, ap, ◌∙◌, arith}
 use Rattle.std.proofs.lemmas.Bool.{eqb-true, eq-eqb, false≢true}
 use Rattle.frames.specs.FrameTable.{count_of}
 use Rattle.ranges.specs.Leaves.{is_mapped_shared}
-use Rattle.ranges.proofs.NewRegions.{attr-read}
 use Rattle.ranges.proofs.permitting.takes_stores.Goals as goal
 
 pub returns-then-not-is_writable : goal.returns-then-not-is_writable
@@ -26,11 +25,7 @@ returns-then-is_private g c =
 
 pub returns-in-Some : goal.returns-in-Some
 returns-in-Some g c =
-    let core = c.args.core.now in
-    let inside : c.from.result < length core.regions.items = omega (arith, c.get.ensures.range, c.from.ensures, c.args.core.now.region_count) in
-    let attr = sym c.in-Some.is ∙ c.at.ensures.value
-    ∙ attr-read core.roots.items core.regions.items c.index.result.now c.args.pid c.from.result c.args.page (c.from.ensures ∙ c.get.ensures.number) c.requires.live inside
-    c.index.ensures in
+    let attr = sym c.in-Some.is ∙ c.at.ensures.value ∙ c.regions.ensures c.args.page in
     let shared = c.is_shared.ensures ∙ ap is_mapped_shared attr in
     let common = sym c.is_private.ensures ∙ c.if-is_private.false in (
       λ it. record {
@@ -43,9 +38,5 @@ returns-in-Some g c =
 
 pub returns-in-None : goal.returns-in-None
 returns-in-None g c =
-    let core = c.args.core.now in
-    let inside : c.from.result < length core.regions.items = omega (arith, c.get.ensures.range, c.from.ensures, c.args.core.now.region_count) in
-    let attr = sym c.in-None.is ∙ c.at.ensures.value
-    ∙ attr-read core.roots.items core.regions.items c.index.result.now c.args.pid c.from.result c.args.page (c.from.ensures ∙ c.get.ensures.number) c.requires.live inside
-    c.index.ensures in
+    let attr = sym c.in-None.is ∙ c.at.ensures.value ∙ c.regions.ensures c.args.page in
     (λ it. absurd (false≢true it), λ takes. ap is_mapped_shared attr ∙ takes.common (sym c.is_private.ensures ∙ c.if-is_private.false))

@@ -5,17 +5,17 @@ use Rattle.ranges.proofs.remapping.remap.Goals as goal
 
 pub returns-clause-fit : goal.returns-clause-fit
 returns-clause-fit g c =
-    fit_remapped (picture_of c.args.core.now) (picture_of c.clear_row.new.core) (picture_of c.set_regions.new.core) c.args.pid c.args.first c.args.pages
-    (attr_at c.args.regions) c.clear_row.ensures.fit c.clear_row.ensures.row c.set_regions.ensures.remaps c.set_regions.ensures.at c.requires.others
+    fit_remapped (picture_of c.args.core.now) (picture_of c.clear_row.new.core) (picture_of c.remap.new.self) c.args.pid c.args.first c.args.pages
+    (attr_at c.args.regions) c.clear_row.ensures.fit c.clear_row.ensures.row c.remap.ensures.remaps c.remap.ensures.at c.requires.others
     c.requires.user c.requires.readable
 
 pub returns-clause-row : goal.returns-clause-row
 returns-clause-row g c =
-    row_remapped (picture_of c.args.core.now) (picture_of c.clear_row.new.core) (picture_of c.set_regions.new.core) c.args.pid c.args.first c.args.pages
-    (attr_at c.args.regions) c.clear_row.ensures.fit c.clear_row.ensures.row c.set_regions.ensures.remaps c.set_regions.ensures.at c.requires.others
+    row_remapped (picture_of c.args.core.now) (picture_of c.clear_row.new.core) (picture_of c.remap.new.self) c.args.pid c.args.first c.args.pages
+    (attr_at c.args.regions) c.clear_row.ensures.fit c.clear_row.ensures.row c.remap.ensures.remaps c.remap.ensures.at c.requires.others
 
 pub returns-clause-others : goal.returns-clause-others
 returns-clause-others g c =
-    others_remapped (picture_of c.args.core.now) (picture_of c.clear_row.new.core) (picture_of c.set_regions.new.core) c.args.pid c.args.first c.args.pages
-    (attr_at c.args.regions) c.clear_row.ensures.fit c.clear_row.ensures.row c.set_regions.ensures.remaps c.set_regions.ensures.at c.requires.others
+    others_remapped (picture_of c.args.core.now) (picture_of c.clear_row.new.core) (picture_of c.remap.new.self) c.args.pid c.args.first c.args.pages
+    (attr_at c.args.regions) c.clear_row.ensures.fit c.clear_row.ensures.row c.remap.ensures.remaps c.remap.ensures.at c.requires.others
     c.clear_row.ensures.others

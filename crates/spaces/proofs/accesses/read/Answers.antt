@@ -1,5 +1,5 @@
-use Rattle.std.proofs.Common.{ℕ, ◌≡◌, true, ◌/◌, ◌%◌, List, refl, sym, ap, ◌∙◌, subst}
-use Rattle.fault.specs.Outcome.{Grants, IsRefusal}
+use Rattle.std.proofs.Common.{ℕ, ◌≡◌, inl, true, ◌/◌, ◌%◌, List, refl, sym, ap, ◌∙◌, subst}
+use Rattle.fault.specs.Outcome.{Grants, IsRefusal, IsWalked}
 use Rattle.frames.specs.FrameTable.{bytes_of}
 use Rattle.residency.specs.Picture.{picture_of}
 use Rattle.residency.specs.Shows.{KeepsDevices}
@@ -7,16 +7,50 @@ use Rattle.vm_types.specs.declared.access.Access.{Access}
 use Rattle.vm_types.specs.declared.access.Access.TheVariants as Accesses
 use Rattle.vm_types.specs.declared.command.Command.TheVariants.{Load, Fetch}
 use Rattle.vm_types.specs.declared.reply.Answer.{Answer}
-use Rattle.vm_types.specs.declared.reply.Reply.TheVariants.{Value}
+use Rattle.vm_types.specs.declared.refusal.Errno.TheVariants.{ESRCH}
+use Rattle.vm_types.specs.declared.reply.Reply.TheVariants.{Refused, Value}
 use Rattle.vm_types.specs.declared.width.Width.{Width}
 use Rattle.vm_types.specs.Access.{loaded}
 use Rattle.vm_types.specs.Width.{byte_count}
 use Rattle.vm_types.specs.Replies.{reply_of}
+use Rattle.spaces.specs.Accesses.{answer_of, AsksFor}
 use Rattle.spaces.specs.Calls.{Comes, IsCaused}
 use Rattle.spaces.specs.Idle.{is_denial}
+use Rattle.spaces.proofs.Asking.{asks_refused, asks_unstalled}
 use Rattle.spaces.proofs.Reading.{ready_reads, loads, fetches, load_refused, fetch_refused}
 use Rattle.spaces.proofs.Refusals.{refused_devices, refused_caused}
 use Rattle.spaces.proofs.accesses.read.Goals as goal
+
+pub returns-in-Ok-clause-walked : goal.returns-in-Ok-clause-walked
+returns-in-Ok-clause-walked g c place walked =
+    let a = c.args in
+    (c.access.ensures.walked place (subst (λ (p : ℕ). IsWalked (picture_of a.core.now) p a.addr a.width a.kind place) (sym c.in-Some.ensures.found.0) walked)).0
+
+pub returns-in-Ok-clause-asks : goal.returns-in-Ok-clause-asks
+returns-in-Ok-clause-asks g c =
+    let a = c.args in
+    let reply = Value a.width c.read_number-value.result in
+    subst (λ (p : ℕ). AsksFor a.core.now c.access.new.core p a.addr a.kind reply) c.in-Some.ensures.found.0
+    (asks_unstalled a.core.now c.access.new.core c.in-Some.pid a.addr a.kind c.access.ensures.read reply (λ stall e. cc))
+
+pub returns-in-Err-clause-asks : goal.returns-in-Err-clause-asks
+returns-in-Err-clause-asks g c =
+    let a = c.args in
+    subst (λ (r : Answer). AsksFor a.core.now c.access.new.core a.pid a.addr a.kind (reply_of r)) (sym c.refused.ensures)
+    (subst (λ (p : ℕ). AsksFor a.core.now c.access.new.core p a.addr a.kind (reply_of (answer_of c.in-Err.refusal))) c.in-Some.ensures.found.0
+    (asks_refused a.core.now c.access.new.core c.in-Some.pid a.addr a.kind c.access.ensures.read g.D.SectorDisk a.width c.in-Err.refusal c.in-Err.ensures.refusal))
+
+pub returns-in-Err-clause-walked : goal.returns-in-Err-clause-walked
+returns-in-Err-clause-walked g c place walked =
+    let a = c.args in
+    (c.access.ensures.walked place (subst (λ (p : ℕ). IsWalked (picture_of a.core.now) p a.addr a.width a.kind place) (sym c.in-Some.ensures.found.0) walked)).0
+
+pub returns-in_default-clause-walked : goal.returns-in_default-clause-walked
+returns-in_default-clause-walked g c place walked = refl
+
+pub returns-in_default-clause-asks : goal.returns-in_default-clause-asks
+returns-in_default-clause-asks g c =
+    asks_unstalled c.args.core.now c.args.core.now c.args.pid c.args.addr c.args.kind (inl refl) (Refused ESRCH) (λ stall e. cc)
 
 pub frame_of-frame-requires : goal.frame_of-frame-requires
 frame_of-frame-requires g c =

@@ -6,6 +6,7 @@ use Rattle.vm_types.specs.Checks.{page_count}
 use Rattle.vm_types.specs.Rows.{is_covered}
 use Rattle.vm_types.specs.declared.region.Attr.{Attr}
 use Rattle.spaces.proofs.Uncopied.{covered_within, refused_hole, gives_up}
+use Rattle.residency.proofs.Room.{room_same}
 use Rattle.spaces.proofs.advice.dontneed.Goals as goal
 
 pub clear_row-requires-clause-row : goal.clear_row-requires-clause-row
@@ -40,3 +41,6 @@ returns-clause-comes g c = λ s shows reads.
     (let aligned : a.addr % 4096 ≡ 0 = omega arith in aligned) (let some : a.len ≢ 0 = omega arith in some)
     runs (subst (λ (p : ℕ). (page : ℕ) → attr_at runs page ≡ old.at p page) same c.regions_of.ensures) pages count (sym c.covers.ensures ∙ c.if-not-covers.false)
     c.clear_row.new.core (subst (λ (p : ℕ). RemapsRow old (picture_of c.clear_row.new.core) p (a.addr / 4096) pages (old.at p)) same c.clear_row.ensures.row)
+
+pub returns-clause-room : goal.returns-clause-room
+returns-clause-room g c = room_same c.args.core.now c.clear_row.new.core c.clear_row.ensures.rest.cache

@@ -1,4 +1,5 @@
 use Rattle.spaces.proofs.Living.{spawn_refused, spawns, spawn_stalls}
+use Rattle.residency.proofs.Room.{room_same}
 use Rattle.spaces.proofs.births.spawn.Goals as goal
 
 pub returns-in_default-clause-comes : goal.returns-in_default-clause-comes
@@ -14,3 +15,9 @@ pub returns-in-Err-clause-comes : goal.returns-in-Err-clause-comes
 returns-in-Err-clause-comes g c = λ s shows reads.
     spawn_stalls g.D.SectorDisk c.args.core.now s shows.pages c.free_pid.result c.free_pid.ensures.least c.in-Some.pid c.in-Some.is
     c.spawn.new.core c.in-Err.stall c.in-Err.ensures.stall c.in-Err.ensures.refused c.spawn.ensures.files c.in-Err.ensures.err
+
+pub returns-in-Ok-clause-room : goal.returns-in-Ok-clause-room
+returns-in-Ok-clause-room g c = room_same c.args.core.now c.spawn.new.core c.spawn.ensures.cache
+
+pub returns-in-Err-clause-room : goal.returns-in-Err-clause-room
+returns-in-Err-clause-room g c = room_same c.args.core.now c.spawn.new.core c.spawn.ensures.cache

@@ -8,6 +8,7 @@ use Rattle.vm_types.specs.Mapping.{place_for}
 use Rattle.spaces.specs.Mappings.{place_checks, IsMapped}
 use Rattle.spaces.specs.Space.{space_of}
 use Rattle.spaces.proofs.Mapped.{refused_as_asked, refused_place, maps, reads_mapped}
+use Rattle.residency.proofs.Room.{room_same}
 use Rattle.spaces.proofs.maps.mmap.Goals as goal
 
 pub returns-in-Some-refusal-clause-comes : goal.returns-in-Some-refusal-clause-comes
@@ -47,3 +48,6 @@ returns-in-Err-clause-comes g c = λ s shows reads.
     (subst (λ (p : ℕ). (page : ℕ) → attr_at runs page ≡ old.at p page) c.in-Some.ensures.found.0 c.regions_of.ensures) pages count c.in-Err.errno
     (subst (λ (attr : Attr). first_of (place_checks a.placing (space_of runs) pages attr (place_for a.placing (space_of runs) a.addr pages)) ≡ Some c.in-Err.errno)
     c.first_attr-attr.ensures c.in-Err.ensures.err)
+
+pub returns-in-Ok-clause-room : goal.returns-in-Ok-clause-room
+returns-in-Ok-clause-room g c = room_same c.args.core.now c.remap.new.core c.remap.ensures.cache

@@ -8,6 +8,7 @@ use Rattle.vm_types.specs.declared.permission.Prot.{Prot}
 use Rattle.vm_types.specs.Checks.{page_count}
 use Rattle.vm_types.specs.Rows.{protected}
 use Rattle.spaces.proofs.Protects.{refuses, protects, protected_map}
+use Rattle.residency.proofs.Room.{room_same}
 use Rattle.spaces.proofs.rows.mprotect.Goals as goal
 
 pub reprotect-requires-clause-reads : goal.reprotect-requires-clause-reads
@@ -46,3 +47,6 @@ returns-in-Err-clause-comes g c = λ s shows reads.
     (let aligned : a.addr % 4096 ≡ 0 = omega arith in aligned) (let some : a.len ≢ 0 = omega arith in some)
     runs (subst (λ (p : ℕ). (page : ℕ) → attr_at runs page ≡ old.at p page) c.in-Some.ensures.found.0 c.regions_of.ensures) pages count
     c.in-Err.errno c.in-Err.ensures.err
+
+pub returns-in-Ok-clause-room : goal.returns-in-Ok-clause-room
+returns-in-Ok-clause-room g c = room_same c.args.core.now c.reprotect.new.core c.reprotect.ensures.cache

@@ -7,6 +7,7 @@ use Rattle.vm_types.specs.Checks.{page_count}
 use Rattle.vm_types.specs.Rows.{removed}
 use Rattle.vm_types.specs.Runs.{run_count}
 use Rattle.spaces.proofs.Unmapped.{others_stay, refused_many, unmaps}
+use Rattle.residency.proofs.Room.{room_same}
 use Rattle.spaces.proofs.rows.munmap.Goals as goal
 
 pub remap-requires-clause-others : goal.remap-requires-clause-others
@@ -58,3 +59,6 @@ returns-in-Err-clause-comes g c = λ s shows reads.
     refused_many g.D.SectorDisk a.core.now s a.pid a.addr a.len shows.pages c.in-Some.ensures.found.1
     (let some : a.len ≢ 0 = omega arith in some) (let aligned : a.addr % 4096 ≡ 0 = omega arith in aligned)
     runs (subst (λ (p : ℕ). (page : ℕ) → attr_at runs page ≡ old.at p page) c.in-Some.ensures.found.0 c.regions_of.ensures) pages count many
+
+pub returns-in-Ok-clause-room : goal.returns-in-Ok-clause-room
+returns-in-Ok-clause-room g c = room_same c.args.core.now c.remap.new.core c.remap.ensures.cache

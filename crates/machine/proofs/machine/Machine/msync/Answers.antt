@@ -6,10 +6,13 @@ use Rattle.machine.proofs.Commits.{msync_meets}
 use Rattle.machine.proofs.Accesses.{refused_so}
 use Rattle.machine.proofs.machine.Machine.msync.Goals as goal
 
+pub returns-clause-room : goal.returns-clause-room
+returns-clause-room g c = c.msync-answer.ensures.room
+
 pub returns-clause-meets : goal.returns-clause-meets
 returns-clause-meets g c = λ s shows.
     let is : c.eq-self.result ≡ true → c.msync-answer.result ≡ Refused EIO = λ e. search rules in
     let is_not : c.eq-self.result ≡ false → c.msync-answer.result ≡ Refused EIO → ⊥ = λ e. search rules in
     msync_meets g.D.SectorDisk g.E.SectorDisk (λ d i k left. g.met.D.SectorDisk.only_now d i k left) (λ d t i k le may. g.met.D.SectorDisk.counts_now d t i k le may)
-    c.args.self.now c.msync-answer.new.core c.eq-self.result s c.args.pid c.args.addr c.args.len c.args.mode (reply_of c.msync-answer.result) shows c.requires.running
+    c.args.self.now c.msync-answer.new.core c.eq-self.result s c.args.pid c.args.addr c.args.len c.args.mode (reply_of c.msync-answer.result) shows c.requires.running c.msync-answer.ensures.room
     (λ core_shows. record { passes = c.msync-answer.ensures.passes s core_shows; commits_so = λ after. c.msync-answer.ensures.commits s after core_shows }) (λ e. ap reply_of (is e)) (λ e r. is_not e (refused_so c.msync-answer.result EIO r))

@@ -2,6 +2,7 @@ use Rattle.std.proofs.Common.{◌≡◌, ◌+◌, ◌++◌, ◌∷◌, [], ◌<�
 use Rattle.std.proofs.lemmas.List.{take_more, take_more_set}
 use Rattle.vm_types.specs.declared.command.Command.{Command}
 use Rattle.vm_types.specs.declared.reply.Reply.{Reply}
+use Rattle.residency.proofs.Room.{room_then}
 use Rattle.machine.specs.Chain.{Caused}
 use Rattle.machine.specs.Counts.{Counts}
 use Rattle.machine.proofs.Counts.{counts}
@@ -25,6 +26,7 @@ loop-i-preserved g c =
       sound = c.step.ensures.sound;
       lengths = length-set _ _ _ ∙ inv.lengths;
       kept = λ k. inv.kept (c.step.ensures.kept k);
+      room = room_then c.args.self.now.core c.loop-i.self.core c.step.new.self.core inv.room c.step.ensures.room;
       caused =
           let old = c.args.self.now in
           subst (λ (zs : List Reply). Caused g.D.SectorDisk old zs c.step.new.self) (sym ys)

@@ -1,4 +1,5 @@
 use Rattle.std.proofs.Common.{length, take, ◌≡◌}
+use Rattle.residency.specs.Calls.{KeepsRoom}
 use Rattle.vm_types.specs.State.{State}
 use Rattle.machine.specs.Chain.{Caused}
 use Rattle.machine.specs.Machine.{IsSoundMachine, Shows}
@@ -10,6 +11,7 @@ invariant-loop-i g l = record {
   sound : IsSoundMachine g.D.SectorDisk g.E.SectorDisk l.self;
   lengths : length l.replies ≡ length l.commands;
   kept : g.D.SectorDisk.keeps_model l.self.core.store.disk → g.D.SectorDisk.keeps_model l.fn.self.core.store.disk;
+  room : KeepsRoom l.fn.self.core l.self.core;
   caused : Caused g.D.SectorDisk l.fn.self (take l.i l.replies) l.self;
   ran : (s : State) → Shows g.D.SectorDisk g.E.SectorDisk l.fn.self s → g.D.SectorDisk.keeps_model l.self.core.store.disk
       → RanSoFar g.D.SectorDisk g.E.SectorDisk l.fn.self l.self s (take l.i l.commands) (take l.i l.replies);
