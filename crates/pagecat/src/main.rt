@@ -1,7 +1,7 @@
-//! Writes a file of an image out. What it takes and answers stands at `runner::pagecat`.
+//! Writes a file of an image out. What it takes and answers stands at `programs::pagecat`.
 #![tactic(auto)]
 
-use runner::{given_words, pagecat};
+use programs::{given_words, pagecat};
 use std::process::ExitCode;
 
 fn main(rt: HostRuntime) -> ExitCode {

@@ -1,7 +1,7 @@
-//! Makes an image of a store. What it takes and answers stands at `runner::pagefmt`.
+//! Makes an image of a store. What it takes and answers stands at `programs::pagefmt`.
 #![tactic(auto)]
 
-use runner::{given_words, pagefmt};
+use programs::{given_words, pagefmt};
 use std::process::ExitCode;
 
 fn main(rt: HostRuntime) -> ExitCode {

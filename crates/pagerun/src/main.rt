@@ -1,7 +1,7 @@
-//! Runs a trace on an image. What it takes and answers stands at `runner::pagerun`.
+//! Runs a trace on an image. What it takes and answers stands at `programs::pagerun`.
 #![tactic(auto)]
 
-use runner::{given_words, pagerun};
+use programs::{given_words, pagerun};
 use std::process::ExitCode;
 
 fn main(rt: HostRuntime) -> ExitCode {

@@ -12,7 +12,7 @@ mod pagerun;
 #[cfg(test)]
 mod program_bench;
 #[cfg(test)]
-mod programs;
+mod refusals;
 #[cfg(test)]
 mod rows;
 #[cfg(test)]

@@ -2,6 +2,9 @@
 use crate::program_bench::{
     Program, expect, formatted, path, put, ran, ran_over, removed, repeated,
 };
+use disk_model::SimDisk;
+use file_store::{FileSource, format};
+use programs::{ShowFault, show};
 use std::fs;
 use std::test::Fail;
 use test_streams::{Full, LimitedWriter};
@@ -127,4 +130,26 @@ fn an_open_journal_is_carried_out(rt: HostRuntime) -> Result<(), Fail> {
     assert_eq!(rt; after.get(1024..1536), Some(closed.as_slice()));
     assert_eq!(rt; after.get(522_240..), Some(page.as_slice()));
     removed(&rt, &[image])
+}
+
+#[test]
+fn a_device_is_handed_back(rt: HostRuntime) -> Result<(), Fail> {
+    let mut disk = SimDisk::new(rt.alloc(), 1020 + 8)?;
+    let mut sources: [FileSource<&[u8]>; 1] = [FileSource {
+        read_only: false,
+        length: 3,
+        bytes: Some(b"abc"),
+    }];
+    format(&mut disk, &mut sources)?;
+    let mut output = Vec::new(rt.alloc());
+    let Err((fault, disk)) = show(disk, 1, &mut output) else {
+        return Err(Fail::new(format_args!("there is no file 1")));
+    };
+    assert_eq!(rt; fault, ShowFault::NoFile);
+    assert!(rt; output.is_empty());
+    let Ok(_) = show(disk, 0, &mut output) else {
+        return Err(Fail::new(format_args!("file 0 was not shown")));
+    };
+    assert_eq!(rt; output.as_slice(), b"abc".as_slice());
+    Ok(())
 }

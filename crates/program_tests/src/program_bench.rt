@@ -1,5 +1,5 @@
 //! What the tests of the programs share: a program that is run on words, and files in a temporary folder.
-use runner::{pagecat, pagefmt, pagerun};
+use programs::{pagecat, pagefmt, pagerun};
 use std::fs::{self, OpenOptions};
 use std::io::{Read, Write};
 use std::os::unix::fs::FileExt;

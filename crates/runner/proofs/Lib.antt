@@ -4,5 +4,3 @@ pub mod Session
 pub mod Progress
 pub mod Ends
 pub mod Trace
-pub mod Specs
-pub mod Copies

@@ -3,5 +3,3 @@ pub mod Session
 pub mod Progress
 pub mod Trace
 pub mod Starting
-pub mod Specs
-pub mod Programs

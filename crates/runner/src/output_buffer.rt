@@ -13,7 +13,7 @@ use vm_types::{Answer, History};
 
 /// The writer failed, or took no bytes.
 #[derive(Clone, Copy, Debug, PartialEq, Eq)]
-pub(crate) struct WriteFault;
+pub struct WriteFault;
 
 /// From so many bytes on the buffer is written out: 32 KiB.
 const FULL_BYTES: usize = 32768;
@@ -111,9 +111,9 @@ fn append(bytes: &mut [u8; 34816], len: usize, text: &[u8]) -> usize
     end
 }
 
-/// Gives the bytes to the writer, in as many calls as it wants. A call that was interrupted is made again. A fault comes
-/// where the writer fails otherwise or takes no bytes; it took a beginning of the bytes then.
-pub(crate) fn write_bytes<W: Write>(bytes: &[u8], writer: &mut W) -> Result<(), WriteFault>
+/// Gives the bytes to the writer, in as many calls as it wants. A call that was interrupted is made again. `WriteFault`
+/// comes where the writer fails otherwise, takes no bytes, or was called 2^64 - 1 times; it took a beginning of the bytes then.
+pub fn write_bytes<W: Write>(bytes: &[u8], writer: &mut W) -> Result<(), WriteFault>
     ensures { MatchResult result
         (λ _. Appends (W.contents writer.old) (W.contents writer.new) bytes.now)
         (λ _. WritesBeginning (W.contents writer.old) (W.contents writer.new) bytes.now) }

@@ -125,3 +125,42 @@ impl Bench {
         self.machine.store()
     }
 }
+
+/// What a machine answered, how its run ended, and the device of its store as it was left.
+#[derive(Drop)]
+pub(crate) struct Told {
+    pub end: RunEnd,
+    pub output: Vec<u8>,
+    pub store: SimDisk,
+}
+
+/// Runs a trace on a machine of 64 frames over the image as it was last synced.
+pub(crate) fn ran(
+    alloc: Global,
+    image: &SimDisk,
+    armed: Armed,
+    trace: &[u8],
+) -> Result<Told, Fail> {
+    ran_in(alloc, image, armed, CONFIG, trace)
+}
+
+/// Runs a trace on a machine of that size over the image as it was last synced. A test that has no machine of its own
+/// is proved in seconds: each way out of a function lets go of all that it holds.
+pub(crate) fn ran_in(
+    alloc: Global,
+    image: &SimDisk,
+    armed: Armed,
+    config: Config,
+    trace: &[u8],
+) -> Result<Told, Fail> {
+    let mut bench = Bench::sized(alloc, image, armed, config)?;
+    let (end, output) = bench.replies(alloc, trace);
+    let store = bench.machine.into_store();
+    Ok(Told { end, output, store })
+}
+
+/// How many calls of the store's device a start makes.
+pub(crate) fn calls_at_boot(alloc: Global, image: &SimDisk) -> Result<u64, Fail> {
+    let bench = Bench::boot(alloc, image, Armed::Nothing)?;
+    Ok(bench.store().calls())
+}

@@ -1,25 +1,22 @@
 //! Store devices that fail where a file page is read.
-use crate::bench::{Armed, Bench, image};
+use crate::bench::{Armed, calls_at_boot, image, ran};
 use std::test::Fail;
 
 /// A failed read stalls the access and changes nothing; the next access tries again, and a page that was read stays.
 #[test]
 fn a_failed_read_is_tried_again(rt: HostRuntime) -> Result<(), Fail> {
     let disk = image(rt.alloc(), 8192)?;
-    let at_boot = Bench::boot(rt.alloc(), &disk, Armed::Nothing)?
-        .store()
-        .calls();
+    let at_boot = calls_at_boot(rt.alloc(), &disk)?;
     let armed = Armed::FailAtCall(at_boot.saturating_add(1));
-    let mut bench = Bench::boot(rt.alloc(), &disk, armed)?;
     let trace =
         b"spawn\nmmap 1 0 8192 rw- shared 0 0\nload 1 0x10001 2\nload 1 0x12000 1\nload 1 0x10000 1\n\
 store 1 0x11000 1 3\nload 1 0x11000 1\nload 1 0x10000 1\n";
     let wanted =
         b"pid 1\naddr 0x10000\nfault 4 BUS_ADRALN 0x10001\nfault 13 SEGV_MAPERR 0x12000\nstall 4 STOREDEV\n\
 ok\nvalue 0x03\nvalue 0x00\n";
-    let (_, output) = bench.replies(rt.alloc(), trace.as_slice());
-    assert_eq!(rt; output.as_slice(), wanted.as_slice());
-    assert_eq!(rt; bench.store().writes(), 0);
+    let told = ran(rt.alloc(), &disk, armed, trace.as_slice())?;
+    assert_eq!(rt; told.output.as_slice(), wanted.as_slice());
+    assert_eq!(rt; told.store.writes(), 0);
     Ok(())
 }
 
@@ -27,15 +24,12 @@ ok\nvalue 0x03\nvalue 0x00\n";
 #[test]
 fn a_stalled_store_stores_nothing(rt: HostRuntime) -> Result<(), Fail> {
     let disk = image(rt.alloc(), 4096)?;
-    let at_boot = Bench::boot(rt.alloc(), &disk, Armed::Nothing)?
-        .store()
-        .calls();
+    let at_boot = calls_at_boot(rt.alloc(), &disk)?;
     let armed = Armed::FailAtCall(at_boot.saturating_add(8));
-    let mut bench = Bench::boot(rt.alloc(), &disk, armed)?;
     let trace =
         b"spawn\nmmap 1 0 4096 rw- shared 0 0\nstore 1 0x10000 1 3\nmsync 1 0x10000 4096 sync\nload 1 0x10000 1\n";
     let wanted = b"pid 1\naddr 0x10000\nstall 4 STOREDEV\nok\nvalue 0x00\n";
-    let (_, output) = bench.replies(rt.alloc(), trace.as_slice());
-    assert_eq!(rt; output.as_slice(), wanted.as_slice());
+    let told = ran(rt.alloc(), &disk, armed, trace.as_slice())?;
+    assert_eq!(rt; told.output.as_slice(), wanted.as_slice());
     Ok(())
 }

@@ -1,6 +1,6 @@
 //! Runs over readers and writers that fail on the way.
 use crate::bench::{Armed, Bench, image};
-use runner::{RunEnd, run};
+use runner::{RunEnd, WriteFault, run, write_bytes};
 use std::test::Fail;
 use test_streams::{FailingReader, Full, InterruptedReader, LimitedWriter};
 
@@ -59,5 +59,15 @@ fn a_writer_of_one_byte_a_call_changes_nothing(rt: HostRuntime) -> Result<(), Fa
     assert_eq!(rt; end, RunEnd::Done);
     let wanted = b"pid 1\npid 2\npid 3\n";
     assert_eq!(rt; output.as_slice(), wanted.as_slice());
+    Ok(())
+}
+
+#[test]
+fn bytes_are_given_in_as_many_calls_as_the_writer_wants(rt: HostRuntime) -> Result<(), Fail> {
+    let mut writer = LimitedWriter::new(rt.alloc(), 2, 7, Full::TakesNothing);
+    assert_eq!(rt; write_bytes(b"abcde", &mut writer), Ok(()));
+    assert_eq!(rt; writer.taken.as_slice(), b"abcde".as_slice());
+    assert_eq!(rt; write_bytes(b"fgh", &mut writer), Err(WriteFault));
+    assert_eq!(rt; writer.taken.as_slice(), b"abcdefg".as_slice());
     Ok(())
 }

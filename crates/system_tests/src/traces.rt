@@ -1,6 +1,8 @@
 //! Traces and their replies.
-use crate::bench::{Armed, Bench, SHOWN, STORED, SYNCED, image};
-use runner::RunEnd;
+use crate::bench::{Armed, Bench, CONFIG, SHOWN, STORED, SYNCED, image};
+use disk_model::SimDisk;
+use machine::{BootFault, Config};
+use runner::{RunEnd, run_on};
 use std::test::Fail;
 
 /// Traces on an image of two pages, each from a new start, and their replies.
@@ -115,5 +117,31 @@ fn a_second_run_sees_what_the_first_synced(rt: HostRuntime) -> Result<(), Fail> 
         output.as_slice(),
         b"pid 1\naddr 0x10000\nvalue 0x000000000000005a\n".as_slice()
     );
+    Ok(())
+}
+
+#[test]
+fn a_machine_boots_for_its_trace(rt: HostRuntime) -> Result<(), Fail> {
+    let store = image(rt.alloc(), 4096)?;
+    let mut reader: &[u8] = b"spawn\n";
+    let mut output = Vec::new(rt.alloc());
+    let few = Config {
+        frames: 7,
+        slots: 16,
+    };
+    let swap = SimDisk::new(rt.alloc(), 128)?;
+    let Err((fault, store)) = run_on(rt.alloc(), few, store, swap, &mut reader, &mut output) else {
+        return Err(Fail::new(format_args!("7 frames are too few")));
+    };
+    assert_eq!(rt; fault, BootFault::Frames);
+    assert!(rt; output.is_empty());
+    let swap = SimDisk::new(rt.alloc(), 128)?;
+    let Ok((end, machine)) = run_on(rt.alloc(), CONFIG, store, swap, &mut reader, &mut output)
+    else {
+        return Err(Fail::new(format_args!("no machine")));
+    };
+    assert_eq!(rt; end, RunEnd::Done);
+    assert_eq!(rt; output.as_slice(), b"pid 1\n".as_slice());
+    assert!(rt; !machine.is_halted());
     Ok(())
 }

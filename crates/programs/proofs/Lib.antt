@@ -1,0 +1,2 @@
+pub mod Specs
+pub mod Copies

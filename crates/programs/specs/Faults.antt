@@ -1,0 +1,30 @@
+-- What faults, and the ends of runs, are told by.
+use Rattle.std.specs.Prelude.{ℕ, Bool, true, false}
+use Rattle.clap.specs.declared.error.kind.ErrorKind.{ErrorKind}
+use Rattle.clap.specs.declared.error.kind.ErrorKind.TheVariants.{OutOfMemory as MemoryKind}
+use Rattle.programs.specs.declared.faults.ProgramFault.{ProgramFault}
+use Rattle.programs.specs.declared.faults.ProgramFault.TheVariants.{Usage, OutOfMemory}
+use Rattle.programs.specs.declared.showing.CopyFault.{CopyFault}
+use Rattle.programs.specs.declared.showing.CopyFault.TheVariants.{Read as CopyRead, Write as CopyWrite}
+use Rattle.programs.specs.declared.showing.ShowFault.{ShowFault}
+use Rattle.programs.specs.declared.showing.ShowFault.TheVariants.{Read as ShowRead, Write as ShowWrite}
+
+-- words that a program does not take are told by 2, every other fault by 1
+abbrev pub fault_status : ProgramFault → ℕ
+fault_status Usage = 2
+fault_status fault = 1
+
+-- why words are not taken: memory was wanting, or they are not those of the program
+abbrev pub words_fault : ErrorKind → ProgramFault
+words_fault MemoryKind = OutOfMemory
+words_fault kind = Usage
+
+-- a trace that was read to its end is told by 3 where the machine has halted, else by 0
+abbrev pub end_status : Bool → ℕ
+end_status true = 3
+end_status false = 0
+
+-- what a fault of writing a file out is to who asked for the file
+abbrev pub show_fault : CopyFault → ShowFault
+show_fault CopyRead = ShowRead
+show_fault CopyWrite = ShowWrite

@@ -1,0 +1,133 @@
+//! The files that a program works on, as devices.
+ghost use Rattle.std.specs.Prelude.{ℕ, IfOk};
+
+use crate::faults::ProgramFault;
+use disk_model::{FileContents, FileDisk, SectorDisk};
+use std::fs::{self, File, Files, OpenOptions};
+use std::io::{self, ErrorKind};
+use std::os::unix::fs::FileExt;
+
+/// How a file is opened.
+#[derive(Clone, Copy, Debug, PartialEq, Eq)]
+pub(crate) enum Access {
+    /// It is only read.
+    Read,
+    /// It is read and written.
+    Write,
+    /// The same, and a file that is missing is made.
+    Make,
+}
+
+/// The device in the file of that path, which is lengthened with zeros to so many bytes where it is shorter. No other
+/// program of ours has the file until the device is dropped.
+pub(crate) fn open_disk<'a, C: FileContents, R: Files<File = File>>(
+    rt: &R,
+    path: &'a str,
+    access: Access,
+    length: u64,
+) -> Result<FileDisk<C>, ProgramFault<'a>>
+    ensures kept { IfOk result (λ disk. ⟦<FileDisk<C> as SectorDisk>⟧.keeps_model disk) }
+    ensures synced { IfOk result (λ disk. (k : ℕ) → ⟦<FileDisk<C> as SectorDisk>⟧.unsynced disk k → ⊥) }
+{
+    match open_lengthened::<C, R>(rt, path, access, length) {
+        Ok(disk) => Ok(disk),
+        Err(_) => Err(ProgramFault::CannotOpen(path)),
+    }
+}
+
+/// The device in the file of that path, of which nothing is written where it may only be read.
+pub(crate) fn open_disk_to_show<'a, C: FileContents, R: Files<File = File>>(
+    rt: &R,
+    path: &'a str,
+) -> Result<FileDisk<C>, ProgramFault<'a>>
+    ensures kept { IfOk result (λ disk. ⟦<FileDisk<C> as SectorDisk>⟧.keeps_model disk) }
+    ensures synced { IfOk result (λ disk. (k : ℕ) → ⟦<FileDisk<C> as SectorDisk>⟧.unsynced disk k → ⊥) }
+{
+    match open_lengthened::<C, R>(rt, path, Access::Write, 0) {
+        Ok(disk) => Ok(disk),
+        Err(_) => open_disk::<C, R>(rt, path, Access::Read, 0),
+    }
+}
+
+/// The host file of that path, which is only read, and how many bytes it has now. Other programs may read it too, but none
+/// of ours writes it until it is dropped.
+pub(crate) fn open_to_read<'a, R: Files<File = File>>(
+    rt: &R,
+    path: &'a str,
+) -> Result<(File, u64), ProgramFault<'a>> {
+    match opened_to_read(rt, path) {
+        Ok(opened) => Ok(opened),
+        Err(_) => Err(ProgramFault::CannotOpen(path)),
+    }
+}
+
+fn opened_to_read<R: Files<File = File>>(rt: &R, path: &str) -> io::Result<(File, u64)> {
+    let file = open_regular(rt, path, Access::Read)?;
+    file.try_lock_shared()?;
+    let bytes = file.metadata()?.len();
+    Ok((file, bytes))
+}
+
+/// The regular file of that path, under a lock that no other program of ours has: it stands until the file is dropped.
+pub(crate) fn open_alone<R: Files<File = File>>(
+    rt: &R,
+    path: &str,
+    access: Access,
+) -> io::Result<File> {
+    let file = open_regular(rt, path, access)?;
+    file.try_lock()?;
+    Ok(file)
+}
+
+/// The regular file of that path. What is none is not opened, since that may wait for ever, as for the other end of a pipe.
+fn open_regular<R: Files<File = File>>(rt: &R, path: &str, access: Access) -> io::Result<File> {
+    match fs::metadata(rt, path) {
+        Ok(metadata) if metadata.is_file() => {}
+        Ok(_) => return Err(io::Error::from(ErrorKind::InvalidInput)),
+        Err(error) if error.kind() == ErrorKind::NotFound && access == Access::Make => {}
+        Err(error) => return Err(error),
+    }
+    let mut options = OpenOptions::new();
+    options
+        .read(true)
+        .write(access != Access::Read)
+        .create(access == Access::Make);
+    options.open(rt, path)
+}
+
+fn open_lengthened<C: FileContents, R: Files<File = File>>(
+    rt: &R,
+    path: &str,
+    access: Access,
+    length: u64,
+) -> io::Result<FileDisk<C>>
+    ensures kept { IfOk result (λ disk. ⟦<FileDisk<C> as SectorDisk>⟧.keeps_model disk) }
+    ensures synced { IfOk result (λ disk. (k : ℕ) → ⟦<FileDisk<C> as SectorDisk>⟧.unsynced disk k → ⊥) }
+{
+    let file = open_alone(rt, path, access)?;
+    disk_in::<C>(file, length)
+}
+
+/// The device in a file, which is lengthened with zeros to so many bytes where it is shorter.
+pub(crate) fn disk_in<C: FileContents>(file: File, length: u64) -> io::Result<FileDisk<C>>
+    ensures kept { IfOk result (λ disk. ⟦<FileDisk<C> as SectorDisk>⟧.keeps_model disk) }
+    ensures synced { IfOk result (λ disk. (k : ℕ) → ⟦<FileDisk<C> as SectorDisk>⟧.unsynced disk k → ⊥) }
+{
+    if file.metadata()?.len() < length {
+        file.set_len(length)?;
+    }
+    FileDisk::<C>::new(file)
+}
+
+/// What the first 512 bytes of an image are, 64 times over.
+const MARK: &[u8] = b"FAMSYNC1";
+
+/// Whether a file begins as an image does.
+pub(crate) fn has_mark(file: &File) -> io::Result<bool> {
+    let mut sector = [0; 512];
+    if file.metadata()?.len() < sector.len() as u64 {
+        return Ok(false);
+    }
+    file.read_exact_at(&mut sector, 0)?;
+    Ok(sector.chunks(MARK.len()).all(|part| part == MARK))
+}

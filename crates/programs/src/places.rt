@@ -1,0 +1,29 @@
+//! The numbers of the standard streams.
+use crate::faults::ProgramFault;
+use std::fs::{File, Files};
+use std::os::fd::AsRawFd;
+
+/// The file that has no bytes and takes none where it is opened to be read.
+const NOTHING: &str = "/dev/null";
+
+/// The number of the last standard stream.
+const LAST_STREAM: i32 = 2;
+
+/// Gives the numbers of the standard streams that the program was started without to a file that has no bytes and takes
+/// none, so that no file opened before the answer is dropped gets one of them: else its bytes would be taken for input, or
+/// replies written over them. A closed input is empty so, and a closed output fails.
+pub(crate) fn held_places<'a, R: Files<File = File>>(
+    rt: &R,
+) -> Result<[Option<File>; 3], ProgramFault<'a>> {
+    let mut places = [None, None, None];
+    for place in &mut places {
+        let Ok(file) = File::open(rt, NOTHING) else {
+            return Err(ProgramFault::CannotOpen(NOTHING));
+        };
+        if file.as_raw_fd() > LAST_STREAM {
+            break;
+        }
+        *place = Some(file);
+    }
+    Ok(places)
+}

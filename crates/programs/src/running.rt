@@ -1,0 +1,84 @@
+//! The program that runs traces.
+ghost use Rattle.std.specs.Prelude.{◌≡◌, ◌≤◌, IfOk};
+ghost use Rattle.programs.specs.Faults.{end_status};
+
+use crate::faults::{ProgramFault, report};
+use crate::files::{Access, open_disk};
+use crate::places::held_places;
+use crate::words::run_words;
+use disk_model::{FileContents, SectorDisk, Unknown};
+use machine::Machine;
+use runner::{RunEnd, run_on};
+use std::fs::{File, Files};
+use std::io::{Read, Write};
+use vm_types::PAGE_BYTES;
+
+/// The most slots of a machine.
+const MAX_SLOTS: u32 = 65536;
+
+/// The status of a trace that was read to its end by a machine that halted on the way.
+const HALTED: u8 = 3;
+
+/// `pagerun IMAGE SWAP` and `pagerun IMAGE SWAP FRAMES SLOTS`: makes SWAP where it is missing, lengthens it to
+/// `4096 * SLOTS` bytes where SLOTS is at most 65,536, boots a machine on the image and runs the trace of `reader`, whose
+/// replies go to `writer`. FRAMES is 64 and SLOTS 16 where they are not given.
+///
+/// Answers the exit status: 0 done; 1 a fault; 2 other words; 3 the end of the trace with a halted machine. For 1 and 2
+/// one line on `errors` says why.
+pub fn pagerun<R: Files<File = File> + AllocGlobal, I: Read, O: Write, X: Write>(
+    rt: &R,
+    words: &[String],
+    reader: &mut I,
+    writer: &mut O,
+    errors: &mut X,
+) -> u8
+    ensures statuses { result ≤ 3 }
+{
+    let outcome = run_image::<Unknown, Unknown, R, I, O>(rt, words, reader, writer);
+    report("pagerun", outcome, errors)
+}
+
+fn run_image<
+    'a,
+    C: FileContents,
+    K: FileContents,
+    R: Files<File = File> + AllocGlobal,
+    I: Read,
+    O: Write,
+>(rt: &R, words: &'a [String], reader: &mut I, writer: &mut O) -> Result<u8, ProgramFault<'a>>
+    ensures { IfOk result (λ status. status ≤ 3) }
+{
+    let words = run_words(rt.alloc(), words)?;
+    let _places = held_places(rt)?;
+    let store = open_disk::<C, R>(rt, words.image, Access::Write, 0)?;
+    let length = swap_bytes(words.config.slots);
+    let swap = open_disk::<K, R>(rt, words.swap, Access::Make, length)?;
+    match run_on(rt.alloc(), words.config, store, swap, reader, writer) {
+        Ok((end, machine)) => status_of(end, &machine),
+        Err((fault, _)) => Err(ProgramFault::Boot(fault)),
+    }
+}
+
+/// What the end of a run is told by: a trace that was answered to its end by 3 where the machine has halted, else by 0.
+fn status_of<'a, D: SectorDisk, E: SectorDisk>(
+    end: RunEnd,
+    machine: &Machine<D, E>,
+) -> Result<u8, ProgramFault<'a>>
+    ensures { IfOk result (λ status. (end ≡ RunEnd.Done) × (status ≡ end_status machine.now.halted)) }
+{
+    match end {
+        RunEnd::Done if machine.is_halted() => Ok(HALTED),
+        RunEnd::Done => Ok(0),
+        RunEnd::ReadFault => Err(ProgramFault::ReadFailed),
+        RunEnd::WriteFault => Err(ProgramFault::WriteFailed),
+    }
+}
+
+/// The bytes that a swap device is to have at least.
+fn swap_bytes(slots: u32) -> u64 {
+    if slots <= MAX_SLOTS {
+        PAGE_BYTES as u64 * u64::from(slots)
+    } else {
+        0
+    }
+}

@@ -1,0 +1,263 @@
+//! The program that writes a file of an image out.
+ghost use Rattle.std.specs.Prelude.{◌≡◌, ◌≤◌, ◌<◌, ◌*◌, ◌-◌, ℕ, List, Option, Some, None, IfOk, IfErr, OnOk, IsErrOf, MatchResult, min, take};
+ghost use Rattle.std.specs.Io.KnownBytes.{Appends};
+ghost use Rattle.disk_model.specs.Stop.{Image};
+ghost use Rattle.disk_model.specs.Moments.{Touches, Nothing, LeavesOnly};
+ghost use Rattle.vm_types.specs.declared.file.FileInfo.{FileInfo};
+ghost use Rattle.sync_journal.specs.Standing.{IsBadJournal};
+ghost use Rattle.file_store.specs.Standing.{IsBadLayout, IsPageOf, StandsAs, StandsFor, bytes_of_pages, standing_page, standing_file};
+ghost use Rattle.file_store.specs.Store.{IsReadyStore, files_of};
+ghost use Rattle.runner.specs.Bytes.{WritesBeginning};
+
+use crate::faults::{ProgramFault, report};
+use crate::files::open_disk_to_show;
+use crate::places::held_places;
+use crate::words::cat_words;
+use disk_model::{DiskFault, FileContents, SectorDisk, Unknown};
+use file_store::{FileStore, OpenFault};
+use runner::{WriteFault, write_bytes};
+use std::fs::{File, Files};
+use std::io::{Read, Write};
+use vm_types::{FilePage, PAGE_BYTES};
+
+/// `pagecat IMAGE N`: opens the image, which carries out an open journal, and writes the bytes of file N to `writer`, a
+/// page at a time. An image that may not be written is only read, and its journal has to be closed.
+///
+/// Answers the exit status: 0 done; 1 a fault; 2 other words. For 1 and 2 one line on `errors` says why.
+pub fn pagecat<R: Files<File = File> + AllocGlobal, I: Read, O: Write, X: Write>(
+    rt: &R,
+    words: &[String],
+    _reader: &mut I,
+    writer: &mut O,
+    errors: &mut X,
+) -> u8
+    ensures statuses { result ≤ 2 }
+{
+    report(
+        "pagecat",
+        show_file::<Unknown, R, O>(rt, words, writer),
+        errors,
+    )
+}
+
+fn show_file<'a, C: FileContents, R: Files<File = File> + AllocGlobal, O: Write>(
+    rt: &R,
+    words: &'a [String],
+    writer: &mut O,
+) -> Result<u8, ProgramFault<'a>>
+    ensures { IfOk result (λ status. status ≡ 0) }
+{
+    let words = cat_words(rt.alloc(), words)?;
+    let _places = held_places(rt)?;
+    let disk = open_disk_to_show::<C, R>(rt, words.image)?;
+    match show(disk, words.file, writer) {
+        Ok(_) => Ok(0),
+        Err((fault, _)) => Err(told(fault, words.file)),
+    }
+}
+
+fn told<'a>(fault: ShowFault, file: u32) -> ProgramFault<'a> {
+    match fault {
+        ShowFault::Open(fault) => ProgramFault::Open(fault),
+        ShowFault::NoFile => ProgramFault::NoFile(file),
+        ShowFault::Read => ProgramFault::ReadFailed,
+        ShowFault::Write => ProgramFault::WriteFailed,
+    }
+}
+
+/// Why a file was not shown.
+#[derive(Clone, Copy, Debug, PartialEq, Eq)]
+pub enum ShowFault {
+    /// The image could not be opened.
+    Open(OpenFault),
+    /// The image has no file of that number.
+    NoFile,
+    /// The device failed while the file was read.
+    Read,
+    /// The writer failed, or took no bytes.
+    Write,
+}
+
+impl From<CopyFault> for ShowFault {
+    ghost use Rattle.programs.specs.Faults.{show_fault};
+
+    ghost from_gives = { λ fault shown. shown ≡ show_fault fault };
+
+    fn from(fault: CopyFault) -> Self {
+        match fault {
+            CopyFault::Read => ShowFault::Read,
+            CopyFault::Write => ShowFault::Write,
+        }
+    }
+}
+
+/// Opens the image on a device, as a stop left it or as whoever had it last in this program, who may have left writes
+/// unsynced, and writes the bytes of a file, as the image stood for them, to the writer. Where nothing was unsynced, every
+/// image that a stop might leave meanwhile stands for what the device did at first, and for what it did before any earlier stop.
+///
+/// After a fault the writer took a beginning of the bytes, and after `Open` none. `Open` tells of a bad layout or a bad
+/// journal exactly where the image has one, unless the device fails first, and of the device only where it failed
+/// (`FileStore::open`); the other faults come only once the image is open: `NoFile` where it has no file of that number,
+/// `Read` only where the device failed, and `Write` where the writer failed or took no bytes. Each fault hands the device back.
+pub fn show<D: SectorDisk + Drop, W: Write>(
+    disk: D,
+    file: u32,
+    writer: &mut W,
+) -> Result<FileStore<D>, (ShowFault, D)>
+    ensures ready { IfOk result (λ store. IsReadyStore D.SectorDisk store) }
+    ensures kept { IfOk result (λ store. D.keeps_model store.disk → D.keeps_model disk) }
+    ensures good_layout { IfOk result (λ store. D.keeps_model store.disk → IsBadLayout (D.sector_count disk) (D.content disk) → ⊥) }
+    ensures good_journal { IfOk result (λ store. D.keeps_model store.disk → IsBadJournal (D.sector_count disk) (D.content disk) → ⊥) }
+    ensures shown { IfOk result (λ store. D.keeps_model store.disk → (files : ℕ → Option FileInfo) (pages : ℕ → ℕ → List ℕ)
+        → StandsFor (D.sector_count disk) files pages (D.content disk)
+        → (info : FileInfo) × (files file ≡ Some info) × Appends (W.contents writer.old) (W.contents writer.new) (bytes_of_pages (pages file) info)) }
+    ensures any_moment { IfOk result (λ store. D.keeps_model store.disk → ((k : ℕ) → D.unsynced disk k → ⊥)
+        → LeavesOnly D.SectorDisk disk store.disk (StandsAs (D.sector_count disk) (D.content disk))) }
+    ensures in_a_row { IfOk result (λ store. D.keeps_model store.disk → ((k : ℕ) → D.unsynced disk k → ⊥) → (first : Image) → StandsAs (D.sector_count disk) first (D.content disk)
+        → LeavesOnly D.SectorDisk disk store.disk (StandsAs (D.sector_count disk) first)) }
+
+    ensures err_kept { IfErr result (λ e. D.keeps_model e.1 → D.keeps_model disk) }
+    ensures device { IfErr result (λ e. e.0 ≡ ShowFault.Open OpenFault.Device → D.failures disk < D.failures e.1) }
+    ensures bad_layout { IfErr result (λ e. D.keeps_model e.1 → e.0 ≡ ShowFault.Open OpenFault.BadLayout → IsBadLayout (D.sector_count disk) (D.content disk)) }
+    ensures bad_journal { IfErr result (λ e. D.keeps_model e.1 → e.0 ≡ ShowFault.Open OpenFault.BadJournal → IsBadJournal (D.sector_count disk) (D.content disk)) }
+    // A bad layout is told before a bad journal, and either before every fault but the device's.
+    ensures layout_first { IfErr result (λ e. D.keeps_model e.1 → e.0 ≡ ShowFault.Open OpenFault.BadJournal → IsBadLayout (D.sector_count disk) (D.content disk) → ⊥) }
+    ensures err_layout { IfErr result (λ e. D.keeps_model e.1 → ((fault : OpenFault) → e.0 ≡ ShowFault.Open fault → ⊥) → IsBadLayout (D.sector_count disk) (D.content disk) → ⊥) }
+    ensures err_journal { IfErr result (λ e. D.keeps_model e.1 → ((fault : OpenFault) → e.0 ≡ ShowFault.Open fault → ⊥) → IsBadJournal (D.sector_count disk) (D.content disk) → ⊥) }
+    ensures no_byte { IfErr result (λ e. (fault : OpenFault) → e.0 ≡ ShowFault.Open fault → W.contents writer.new ≡ W.contents writer.old) }
+    ensures no_file { IfErr result (λ e. e.0 ≡ ShowFault.NoFile → D.keeps_model e.1 → (files : ℕ → Option FileInfo) (pages : ℕ → ℕ → List ℕ)
+        → StandsFor (D.sector_count disk) files pages (D.content disk) → files file ≡ None) }
+    ensures read { IfErr result (λ e. e.0 ≡ ShowFault.Read → D.failures disk < D.failures e.1) }
+    ensures begun { IfErr result (λ e. D.keeps_model e.1 → (files : ℕ → Option FileInfo) (pages : ℕ → ℕ → List ℕ) (info : FileInfo)
+        → StandsFor (D.sector_count disk) files pages (D.content disk) → files file ≡ Some info
+        → WritesBeginning (W.contents writer.old) (W.contents writer.new) (bytes_of_pages (pages file) info)) }
+    ensures err_moment { IfErr result (λ e. D.keeps_model e.1 → ((k : ℕ) → D.unsynced disk k → ⊥)
+        → LeavesOnly D.SectorDisk disk e.1 (StandsAs (D.sector_count disk) (D.content disk))) }
+    ensures err_in_a_row { IfErr result (λ e. D.keeps_model e.1 → ((k : ℕ) → D.unsynced disk k → ⊥) → (first : Image) → StandsAs (D.sector_count disk) first (D.content disk)
+        → LeavesOnly D.SectorDisk disk e.1 (StandsAs (D.sector_count disk) first)) }
+{
+    let mut store = match FileStore::open(disk) {
+        Ok(store) => store,
+        Err((fault, disk)) => return Err((ShowFault::Open(fault), disk)),
+    };
+    match show_opened(&mut store, file, writer) {
+        Ok(()) => Ok(store),
+        Err(fault) => Err((fault, store.into_disk())),
+    }
+}
+
+/// Writes the bytes of a file of an open store to the writer.
+fn show_opened<D: SectorDisk, W: Write>(
+    store: &mut FileStore<D>,
+    file: u32,
+    writer: &mut W,
+) -> Result<(), ShowFault>
+    requires ready { IsReadyStore D.SectorDisk store.old }
+    ensures kept { D.keeps_model store.new.disk → D.keeps_model store.old.disk }
+    ensures ready { IsReadyStore D.SectorDisk store.new }
+    ensures touches { D.keeps_model store.new.disk → Touches D.SectorDisk Nothing store.old.disk store.new.disk }
+    ensures some { OnOk result ((info : FileInfo) × (files_of store.old file ≡ Some info)) }
+    ensures unopened { (fault : OpenFault) → IsErrOf result (ShowFault.Open fault) → ⊥ }
+    ensures none { IsErrOf result ShowFault.NoFile → files_of store.old file ≡ None }
+    ensures cause { IsErrOf result ShowFault.Read → D.failures store.old.disk < D.failures store.new.disk }
+    ensures written { D.keeps_model store.new.disk → (bytes : List ℕ) → standing_file (D.content store.old.disk) file ≡ Some bytes
+        → MatchResult result
+        (λ _. Appends (W.contents writer.old) (W.contents writer.new) bytes)
+        (λ _. WritesBeginning (W.contents writer.old) (W.contents writer.new) bytes) }
+{
+    let Some(info) = store.info(u64::from(file)) else {
+        return Err(ShowFault::NoFile);
+    };
+    copy_file(store, file as u8, info.length, writer)?;
+    Ok(())
+}
+
+/// Why a file was not written out whole.
+#[derive(Clone, Copy, Debug, PartialEq, Eq)]
+enum CopyFault {
+    /// The device failed.
+    Read,
+    /// The writer failed, or took no bytes.
+    Write,
+}
+
+impl From<DiskFault> for CopyFault {
+    ghost use Rattle.programs.specs.declared.showing.CopyFault.TheVariants.{Read as ReadFailed};
+
+    ghost from_gives = { λ _ fault. fault ≡ ReadFailed };
+
+    fn from(_: DiskFault) -> Self {
+        CopyFault::Read
+    }
+}
+
+impl From<WriteFault> for CopyFault {
+    ghost use Rattle.programs.specs.declared.showing.CopyFault.TheVariants.{Write as WriteFailed};
+
+    ghost from_gives = { λ _ fault. fault ≡ WriteFailed };
+
+    fn from(_: WriteFault) -> Self {
+        CopyFault::Write
+    }
+}
+
+/// Writes the bytes of a file to the writer. After a fault it took a beginning of them; `Read` comes only where the
+/// device failed.
+fn copy_file<D: SectorDisk, W: Write>(
+    store: &mut FileStore<D>,
+    file: u8,
+    length: u32,
+    writer: &mut W,
+) -> Result<(), CopyFault>
+    requires ready { IsReadyStore D.SectorDisk store.old }
+    requires file { (info : FileInfo) × (files_of store.old file ≡ Some info) × (info.length ≡ length) }
+    ensures size { D.sector_count store.new.disk ≡ D.sector_count store.old.disk }
+    ensures kept { D.keeps_model store.new.disk → D.keeps_model store.old.disk }
+    ensures cause { IsErrOf result CopyFault.Read → D.failures store.old.disk < D.failures store.new.disk }
+    ensures ready { IsReadyStore D.SectorDisk store.new }
+    ensures touches { D.keeps_model store.new.disk → Touches D.SectorDisk Nothing store.old.disk store.new.disk }
+    ensures written { D.keeps_model store.new.disk → (bytes : List ℕ) → standing_file (D.content store.old.disk) file ≡ Some bytes
+        → MatchResult result
+        (λ _. Appends (W.contents writer.old) (W.contents writer.new) bytes)
+        (λ _. WritesBeginning (W.contents writer.old) (W.contents writer.new) bytes) }
+{
+    let mut page = [0; PAGE_BYTES];
+    for k in 0..length.div_ceil(PAGE_BYTES as u32) {
+        match copy_page(store, file, k, length, &mut page, writer) {
+            Ok(()) => {}
+            Err(fault) => return Err(fault),
+        }
+    }
+    Ok(())
+}
+
+/// Writes the bytes of a page that lie inside its file to the writer.
+fn copy_page<D: SectorDisk, W: Write>(
+    store: &mut FileStore<D>,
+    file: u8,
+    k: u32,
+    length: u32,
+    page: &mut [u8; 4096],
+    writer: &mut W,
+) -> Result<(), CopyFault>
+    requires ready { IsReadyStore D.SectorDisk store.old }
+    requires inside { IsPageOf (files_of store.old) file k }
+    requires first { 4096 * k < length }
+    ensures size { D.sector_count store.new.disk ≡ D.sector_count store.old.disk }
+    ensures kept { D.keeps_model store.new.disk → D.keeps_model store.old.disk }
+    ensures later { D.failures store.old.disk ≤ D.failures store.new.disk }
+    ensures cause { IsErrOf result CopyFault.Read → D.failures store.old.disk < D.failures store.new.disk }
+    ensures files { store.new.directory ≡ store.old.directory }
+    ensures ready { IsReadyStore D.SectorDisk store.new }
+    ensures touches { D.keeps_model store.new.disk → Touches D.SectorDisk Nothing store.old.disk store.new.disk }
+    ensures written { D.keeps_model store.new.disk → MatchResult result
+        (λ _. Appends (W.contents writer.old) (W.contents writer.new)
+        (take (min 4096 (length - 4096 * k)) (standing_page (D.content store.old.disk) file k)))
+        (λ _. WritesBeginning (W.contents writer.old) (W.contents writer.new)
+        (take (min 4096 (length - 4096 * k)) (standing_page (D.content store.old.disk) file k))) }
+{
+    store.read_page(FilePage { file, page: k }, page)?;
+    let inside = (length as usize - PAGE_BYTES * k as usize).min(PAGE_BYTES);
+    write_bytes(&page[..inside], writer)?;
+    Ok(())
+}

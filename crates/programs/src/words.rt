@@ -1,0 +1,110 @@
+//! What the words after a program's name ask for.
+use crate::faults::ProgramFault;
+use crate::numbers::number;
+use clap::{Arg, Command};
+use machine::Config;
+use std::alloc::Global;
+
+/// The page frames and slots of a machine where none are named.
+const DEFAULT_CONFIG: Config = Config {
+    frames: 64,
+    slots: 16,
+};
+
+/// The words of `pagefmt new IMAGE SPEC...`.
+#[derive(Debug, Drop)]
+pub(crate) struct FormatWords<'a> {
+    pub image: &'a str,
+    pub specs: Vec<&'a str>,
+}
+
+/// The words of `pagecat IMAGE N`.
+#[derive(Clone, Copy, Debug, PartialEq, Eq)]
+pub(crate) struct CatWords<'a> {
+    pub image: &'a str,
+    pub file: u32,
+}
+
+/// The words of `pagerun IMAGE SWAP` and `pagerun IMAGE SWAP FRAMES SLOTS`.
+#[derive(Clone, Copy, Debug, PartialEq, Eq)]
+pub(crate) struct RunWords<'a> {
+    pub image: &'a str,
+    pub swap: &'a str,
+    pub config: Config,
+}
+
+/// Reads the words of `pagefmt`. The specs are not looked at yet.
+pub(crate) fn format_words<'a>(
+    alloc: Global,
+    words: &'a [String],
+) -> Result<FormatWords<'a>, ProgramFault<'a>> {
+    let image = Arg::new(alloc, "IMAGE").required(true);
+    let specs = Arg::new(alloc, "SPEC").required(true).num_args(1..);
+    let new = Command::new(alloc, "new").arg(image)?.arg(specs)?;
+    let command = Command::new(alloc, "pagefmt")
+        .no_binary_name(true)
+        .subcommand_required(true)
+        .subcommand(new)?;
+    let matches = command.try_get_matches_from(words)?;
+    let new = matches
+        .subcommand_matches("new")
+        .ok_or(ProgramFault::Usage)?;
+    let image = new.get_str("IMAGE").ok_or(ProgramFault::Usage)?;
+    let specs = new.get_strs("SPEC").ok_or(ProgramFault::Usage)?;
+    Ok(FormatWords {
+        image,
+        specs: Vec::from_slice(alloc, specs)?,
+    })
+}
+
+/// Reads the words of `pagerun`.
+pub(crate) fn run_words<'a>(
+    alloc: Global,
+    words: &'a [String],
+) -> Result<RunWords<'a>, ProgramFault<'a>> {
+    let command = Command::new(alloc, "pagerun")
+        .no_binary_name(true)
+        .arg(Arg::new(alloc, "IMAGE").required(true))?
+        .arg(Arg::new(alloc, "SWAP").required(true))?
+        .arg(Arg::new(alloc, "FRAMES"))?
+        .arg(Arg::new(alloc, "SLOTS"))?;
+    let matches = command.try_get_matches_from(words)?;
+    let image = matches.get_str("IMAGE").ok_or(ProgramFault::Usage)?;
+    let swap = matches.get_str("SWAP").ok_or(ProgramFault::Usage)?;
+    let config = config(matches.get_str("FRAMES"), matches.get_str("SLOTS"))?;
+    Ok(RunWords {
+        image,
+        swap,
+        config,
+    })
+}
+
+/// Reads the words of `pagecat`.
+pub(crate) fn cat_words<'a>(
+    alloc: Global,
+    words: &'a [String],
+) -> Result<CatWords<'a>, ProgramFault<'a>> {
+    let command = Command::new(alloc, "pagecat")
+        .no_binary_name(true)
+        .arg(Arg::new(alloc, "IMAGE").required(true))?
+        .arg(Arg::new(alloc, "N").required(true))?;
+    let matches = command.try_get_matches_from(words)?;
+    let image = matches.get_str("IMAGE").ok_or(ProgramFault::Usage)?;
+    let file = matches.get_str("N").ok_or(ProgramFault::Usage)?;
+    Ok(CatWords {
+        image,
+        file: number(file).ok_or(ProgramFault::Usage)?,
+    })
+}
+
+/// Both numbers, or neither.
+fn config<'a>(frames: Option<&str>, slots: Option<&str>) -> Result<Config, ProgramFault<'a>> {
+    match (frames, slots) {
+        (None, None) => Ok(DEFAULT_CONFIG),
+        (Some(frames), Some(slots)) => Ok(Config {
+            frames: number(frames).ok_or(ProgramFault::Usage)?,
+            slots: number(slots).ok_or(ProgramFault::Usage)?,
+        }),
+        _ => Err(ProgramFault::Usage),
+    }
+}

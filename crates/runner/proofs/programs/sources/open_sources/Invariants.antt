@@ -1,6 +1,0 @@
-use Rattle.std.proofs.Common.{map, take}
-use Rattle.runner.specs.Specs.{AreSources}
-use Rattle.runner.proofs.programs.sources.open_sources.Given as goal
-
-abbrev pub invariant-loop-spec : goal.invariant-loop-spec
-invariant-loop-spec g l = AreSources (map (λ spec. spec.now) (take l.spec-index l.specs)) l.sources.items
