@@ -1,19 +1,24 @@
 //! What the tests share: a formatted image, and a trace that is run on it.
+//!
+//! No other file here holds a machine. In a test each `?` is a way out, which lets go of all that the test holds, and for a
+//! machine that takes long to prove.
 ghost use Rattle.std.specs.Prelude.{IfOk};
 ghost use Rattle.machine.specs.Machine.{IsSoundMachine};
 
 use disk_model::{SectorDisk, SimDisk};
 use file_store::{FileSource, format};
-use machine::{Config, Machine};
-use runner::{RunEnd, run};
+use machine::{BootFault, Config, Machine};
+use runner::{RunEnd, run, run_on};
 use std::alloc::Global;
+use std::io::{Read, Write};
 use std::test::Fail;
 
 /// Maps the first page of the file and stores a byte.
 pub(crate) const STORED: &[u8] = b"spawn\nmmap 1 0 4096 rw- shared 0 0\nstore 1 0x10000 1 0x5a\n";
 
-/// Syncs that page.
-pub(crate) const SYNCED: &[u8] = b"msync 1 0x10000 4096 sync\n";
+/// The same, and syncs that page.
+pub(crate) const STORED_AND_SYNCED: &[u8] =
+    b"spawn\nmmap 1 0 4096 rw- shared 0 0\nstore 1 0x10000 1 0x5a\nmsync 1 0x10000 4096 sync\n";
 
 /// Shows the first eight bytes of the file in a new process.
 pub(crate) const SHOWN: &[u8] = b"spawn\nmmap 1 0 4096 r-- shared 0 0\nload 1 0x10000 8\n";
@@ -74,55 +79,26 @@ pub(crate) const CONFIG: Config = Config {
     slots: 16,
 };
 
-/// A machine over simulated devices.
+/// A trace, and what a machine is to answer.
 #[derive(Drop)]
-pub(crate) struct Bench {
-    pub machine: Machine<SimDisk, SimDisk>,
+pub(crate) struct Exchange {
+    pub trace: Vec<u8>,
+    pub wanted: Vec<u8>,
 }
 
-impl Bench {
-    /// A machine of 64 frames on the image as it was last synced.
-    pub(crate) fn boot(alloc: Global, image: &SimDisk, armed: Armed) -> Result<Bench, Fail>
-        ensures { IfOk result (λ bench. IsSoundMachine ⟦<SimDisk as SectorDisk>⟧ ⟦<SimDisk as SectorDisk>⟧ bench.machine) }
-    {
-        Bench::sized(alloc, image, armed, CONFIG)
-    }
-
-    /// A machine of that size on the image as it was last synced.
-    pub(crate) fn sized(
-        alloc: Global,
-        image: &SimDisk,
-        armed: Armed,
-        config: Config,
-    ) -> Result<Bench, Fail>
-        ensures { IfOk result (λ bench. IsSoundMachine ⟦<SimDisk as SectorDisk>⟧ ⟦<SimDisk as SectorDisk>⟧ bench.machine) }
-    {
-        let mut store = image.left(alloc, &[])?;
-        match armed {
-            Armed::Nothing => {}
-            Armed::StopAtWrite(write) => store.stop_at(write),
-            Armed::FailAtCall(call) => store.fail_at(call),
-        }
-        match Machine::boot(alloc, config, store, SimDisk::new(alloc, 128)?) {
-            Ok(machine) => Ok(Bench { machine }),
-            Err((fault, _)) => Err(Fail::new(format_args!("boot: {fault:?}"))),
+impl Exchange {
+    pub(crate) fn new(alloc: Global) -> Exchange {
+        Exchange {
+            trace: Vec::new(alloc),
+            wanted: Vec::new(alloc),
         }
     }
 
-    /// The trace's replies, and how the run ended.
-    pub(crate) fn replies(&mut self, alloc: Global, trace: &[u8]) -> (RunEnd, Vec<u8>)
-        requires { IsSoundMachine ⟦<SimDisk as SectorDisk>⟧ ⟦<SimDisk as SectorDisk>⟧ self.old.machine }
-        ensures { IsSoundMachine ⟦<SimDisk as SectorDisk>⟧ ⟦<SimDisk as SectorDisk>⟧ self.new.machine }
-    {
-        let mut reader = trace;
-        let mut writer = Vec::new(alloc);
-        let end = run(&mut reader, &mut writer, &mut self.machine);
-        (end, writer)
-    }
-
-    /// The store's device.
-    pub(crate) fn store(&self) -> &SimDisk {
-        self.machine.store()
+    /// Then come these lines and replies.
+    pub(crate) fn push(&mut self, lines: &[u8], replies: &[u8]) -> Result<(), Fail> {
+        self.trace.extend_from_slice(lines)?;
+        self.wanted.extend_from_slice(replies)?;
+        Ok(())
     }
 }
 
@@ -132,6 +108,43 @@ pub(crate) struct Told {
     pub end: RunEnd,
     pub output: Vec<u8>,
     pub store: SimDisk,
+}
+
+/// A machine of that size on the image as it was last synced.
+fn booted(
+    alloc: Global,
+    image: &SimDisk,
+    armed: Armed,
+    config: Config,
+) -> Result<Machine<SimDisk, SimDisk>, Fail>
+    ensures { IfOk result (λ machine. IsSoundMachine ⟦<SimDisk as SectorDisk>⟧ ⟦<SimDisk as SectorDisk>⟧ machine) }
+{
+    let mut store = image.left(alloc, &[])?;
+    match armed {
+        Armed::Nothing => {}
+        Armed::StopAtWrite(write) => store.stop_at(write),
+        Armed::FailAtCall(call) => store.fail_at(call),
+    }
+    match Machine::boot(alloc, config, store, SimDisk::new(alloc, 128)?) {
+        Ok(machine) => Ok(machine),
+        Err((fault, _)) => Err(Fail::new(format_args!("boot: {fault:?}"))),
+    }
+}
+
+/// Runs a trace on a machine of that size over the image as it was last synced.
+pub(crate) fn ran_in(
+    alloc: Global,
+    image: &SimDisk,
+    armed: Armed,
+    config: Config,
+    trace: &[u8],
+) -> Result<Told, Fail> {
+    let mut machine = booted(alloc, image, armed, config)?;
+    let mut reader = trace;
+    let mut output = Vec::new(alloc);
+    let end = run(&mut reader, &mut output, &mut machine);
+    let store = machine.into_store();
+    Ok(Told { end, output, store })
 }
 
 /// Runs a trace on a machine of 64 frames over the image as it was last synced.
@@ -144,23 +157,61 @@ pub(crate) fn ran(
     ran_in(alloc, image, armed, CONFIG, trace)
 }
 
-/// Runs a trace on a machine of that size over the image as it was last synced. A test that has no machine of its own
-/// is proved in seconds: each way out of a function lets go of all that it holds.
-pub(crate) fn ran_in(
+/// How a trace ends on a machine of 64 frames over the image as it was last synced, and its replies.
+pub(crate) fn replies(
     alloc: Global,
     image: &SimDisk,
-    armed: Armed,
-    config: Config,
     trace: &[u8],
-) -> Result<Told, Fail> {
-    let mut bench = Bench::sized(alloc, image, armed, config)?;
-    let (end, output) = bench.replies(alloc, trace);
-    let store = bench.machine.into_store();
-    Ok(Told { end, output, store })
+) -> Result<(RunEnd, Vec<u8>), Fail> {
+    let told = ran_in(alloc, image, Armed::Nothing, CONFIG, trace)?;
+    Ok((told.end, told.output))
+}
+
+/// How a trace ends on a machine of 64 frames over a file of so many zeros, and its replies.
+pub(crate) fn replies_over_zeros(
+    alloc: Global,
+    length: u32,
+    trace: &[u8],
+) -> Result<(RunEnd, Vec<u8>), Fail> {
+    replies(alloc, &image(alloc, length)?, trace)
+}
+
+/// How a run of that reader and that writer ends on a machine of 64 frames over a file of one page of zeros.
+pub(crate) fn streamed<R: Read, W: Write>(
+    alloc: Global,
+    reader: &mut R,
+    writer: &mut W,
+) -> Result<RunEnd, Fail> {
+    let mut machine = booted(alloc, &image(alloc, 4096)?, Armed::Nothing, CONFIG)?;
+    Ok(run(reader, writer, &mut machine))
+}
+
+/// How `run_on` ends, and whether it hands back a halted machine; else why it has none, and the device of the store.
+pub(crate) fn ran_on(
+    alloc: Global,
+    config: Config,
+    devices: (SimDisk, SimDisk),
+    reader: &mut &[u8],
+    output: &mut Vec<u8>,
+) -> Result<(RunEnd, bool), (BootFault, SimDisk)> {
+    let (store, swap) = devices;
+    match run_on(alloc, config, store, swap, reader, output) {
+        Ok((end, machine)) => Ok((end, machine.is_halted())),
+        Err(refused) => Err(refused),
+    }
+}
+
+/// Why no machine starts on this image, and how many writes were made to it.
+pub(crate) fn refused(alloc: Global, image: &SimDisk) -> Result<(BootFault, u64), Fail> {
+    let store = image.left(alloc, &[])?;
+    match Machine::boot(alloc, CONFIG, store, SimDisk::new(alloc, 128)?) {
+        Ok(_) => Err(Fail::new("it booted")),
+        Err((fault, store)) => Ok((fault, store.writes())),
+    }
 }
 
 /// How many calls of the store's device a start makes.
 pub(crate) fn calls_at_boot(alloc: Global, image: &SimDisk) -> Result<u64, Fail> {
-    let bench = Bench::boot(alloc, image, Armed::Nothing)?;
-    Ok(bench.store().calls())
+    let machine = booted(alloc, image, Armed::Nothing, CONFIG)?;
+    Ok(machine.store().calls())
 }

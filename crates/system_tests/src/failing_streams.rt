@@ -1,17 +1,16 @@
 //! Runs over readers and writers that fail on the way.
-use crate::bench::{Armed, Bench, image};
-use runner::{RunEnd, WriteFault, run, write_bytes};
+use crate::bench::streamed;
+use runner::{RunEnd, WriteFault, write_bytes};
 use std::test::Fail;
 use test_streams::{FailingReader, Full, InterruptedReader, LimitedWriter};
 
 #[test]
 fn a_failing_reader_leaves_an_unfinished_line(rt: HostRuntime) -> Result<(), Fail> {
-    let mut bench = Bench::boot(rt.alloc(), &image(rt.alloc(), 4096)?, Armed::Nothing)?;
     let mut reader = FailingReader {
         rest: b"spawn\nspawn\nspa",
     };
     let mut output = Vec::new(rt.alloc());
-    let end = run(&mut reader, &mut output, &mut bench.machine);
+    let end = streamed(rt.alloc(), &mut reader, &mut output)?;
     assert_eq!(rt; end, RunEnd::ReadFault);
     assert_eq!(rt; output.as_slice(), b"pid 1\npid 2\n".as_slice());
     Ok(())
@@ -19,10 +18,9 @@ fn a_failing_reader_leaves_an_unfinished_line(rt: HostRuntime) -> Result<(), Fai
 
 #[test]
 fn an_interrupted_reader_is_called_again(rt: HostRuntime) -> Result<(), Fail> {
-    let mut bench = Bench::boot(rt.alloc(), &image(rt.alloc(), 4096)?, Armed::Nothing)?;
     let mut reader = InterruptedReader::new(b"spawn\nspawn");
     let mut output = Vec::new(rt.alloc());
-    let end = run(&mut reader, &mut output, &mut bench.machine);
+    let end = streamed(rt.alloc(), &mut reader, &mut output)?;
     assert_eq!(rt; end, RunEnd::Done);
     assert_eq!(rt; output.as_slice(), b"pid 1\npid 2\n".as_slice());
     Ok(())
@@ -35,10 +33,9 @@ fn written(
     room: usize,
     full: Full,
 ) -> Result<(RunEnd, Vec<u8>), Fail> {
-    let mut bench = Bench::boot(rt.alloc(), &image(rt.alloc(), 4096)?, Armed::Nothing)?;
     let mut reader: &[u8] = b"spawn\nspawn\nspawn\n";
     let mut writer = LimitedWriter::new(rt.alloc(), each, room, full);
-    let end = run(&mut reader, &mut writer, &mut bench.machine);
+    let end = streamed(rt.alloc(), &mut reader, &mut writer)?;
     Ok((end, writer.taken))
 }
 

@@ -1,5 +1,5 @@
 //! Files of any length, several of them, and what an msync makes durable.
-use crate::bench::{Armed, Bench, image, image_of_two};
+use crate::bench::{Armed, image, image_of_two, ran, replies};
 use disk_model::SimDisk;
 use runner::RunEnd;
 use std::alloc::Global;
@@ -8,21 +8,21 @@ use std::test::Fail;
 /// The last page of a file of 5,000 bytes: what is stored past its end is gone with the next msync.
 #[test]
 fn bytes_past_the_end_are_not_kept(rt: HostRuntime) -> Result<(), Fail> {
-    let mut bench = Bench::boot(rt.alloc(), &image(rt.alloc(), 5000)?, Armed::Nothing)?;
     let trace = b"spawn\nmmap 1 0 12288 rw- shared 0 0\nstore 1 0x11387 1 0xaa\nload 1 0x11388 1\n\
 store 1 0x11388 1 0xbb\nload 1 0x11388 1\nload 1 0x12000 1\nmsync 1 0x10000 12288 sync\nload 1 0x11388 1\n\
 load 1 0x11387 1\n";
     let wanted =
         b"pid 1\naddr 0x10000\nok\nvalue 0x00\nok\nvalue 0xbb\nfault 13 BUS_ADRERR 0x12000\nok\nvalue 0x00\n\
 value 0xaa\n";
-    let (end, output) = bench.replies(rt.alloc(), trace.as_slice());
-    assert_eq!(rt; end, RunEnd::Done);
-    assert_eq!(rt; output.as_slice(), wanted.as_slice());
-    let mut next = Bench::boot(rt.alloc(), bench.store(), Armed::Nothing)?;
-    let (_, output) = next.replies(
+    let disk = image(rt.alloc(), 5000)?;
+    let told = ran(rt.alloc(), &disk, Armed::Nothing, trace.as_slice())?;
+    assert_eq!(rt; told.end, RunEnd::Done);
+    assert_eq!(rt; told.output.as_slice(), wanted.as_slice());
+    let (_, output) = replies(
         rt.alloc(),
+        &told.store,
         b"spawn\nmmap 1 0 8192 r-- shared 0 0\nload 1 0x11386 2\nload 1 0x11388 8\n",
-    );
+    )?;
     assert_eq!(rt;
         output.as_slice(),
         b"pid 1\naddr 0x10000\nvalue 0xaa00\nvalue 0x0000000000000000\n".as_slice()
@@ -33,18 +33,18 @@ value 0xaa\n";
 /// What another process stored is made durable as well, and is touched anew by its next store.
 #[test]
 fn an_msync_takes_the_stores_of_all(rt: HostRuntime) -> Result<(), Fail> {
-    let mut bench = Bench::boot(rt.alloc(), &image(rt.alloc(), 4096)?, Armed::Nothing)?;
     let trace =
         b"spawn\nspawn\nmmap 1 0 4096 rw- shared 0 0\nmmap 2 0 4096 rw- shared 0 0\nstore 1 0x10000 1 0x0a\n\
 store 2 0x10001 1 0x0b\nmsync 1 0x10000 4096 sync\nstore 2 0x10001 1 0x0c\nmsync 1 0x10000 4096 sync\n";
     let wanted = b"pid 1\npid 2\naddr 0x10000\naddr 0x10000\nok\nok\nok\nok\nok\n";
-    let (_, output) = bench.replies(rt.alloc(), trace.as_slice());
-    assert_eq!(rt; output.as_slice(), wanted.as_slice());
-    let mut next = Bench::boot(rt.alloc(), bench.store(), Armed::Nothing)?;
-    let (_, output) = next.replies(
+    let disk = image(rt.alloc(), 4096)?;
+    let told = ran(rt.alloc(), &disk, Armed::Nothing, trace.as_slice())?;
+    assert_eq!(rt; told.output.as_slice(), wanted.as_slice());
+    let (_, output) = replies(
         rt.alloc(),
+        &told.store,
         b"spawn\nmmap 1 0 4096 r-- shared 0 0\nload 1 0x10000 4\n",
-    );
+    )?;
     assert_eq!(rt;
         output.as_slice(),
         b"pid 1\naddr 0x10000\nvalue 0x00000c0a\n".as_slice()
@@ -66,34 +66,33 @@ fn gate(count: usize) -> [u8; 512] {
 /// What both files begin with once the device is left with that gate.
 fn shown(alloc: Global, disk: &SimDisk, gate: [u8; 512]) -> Result<Vec<u8>, Fail> {
     let left = disk.left(alloc, &[(2, gate)])?;
-    let mut next = Bench::boot(alloc, &left, Armed::Nothing)?;
-    let (_, output) = next.replies(
+    let (_, output) = replies(
         alloc,
+        &left,
         b"spawn\nmmap 1 0 4096 r-- shared 0 0\nmmap 1 0 4096 r-- shared 1 0\nload 1 0x10000 2\nload 1 0x11000 2\n",
-    );
+    )?;
     Ok(output)
 }
 
 /// An msync over two files that is stopped within the write of the gate leaves both old or both new.
 #[test]
 fn two_files_change_at_once(rt: HostRuntime) -> Result<(), Fail> {
-    let image = image_of_two(rt.alloc())?;
-    let mut bench = Bench::boot(rt.alloc(), &image, Armed::StopAtWrite(18))?;
     let trace =
         b"spawn\nmmap 1 0 0x1000 rw- shared 0 0\nmmap 1 0 0x1000 rw- shared 1 0\nstore 1 0x10000 1 1\n\
 store 1 0x11000 1 2\nmsync 1 0x10000 0x2000 sync\n";
-    let (_, output) = bench.replies(rt.alloc(), trace.as_slice());
+    let disk = image_of_two(rt.alloc())?;
+    let told = ran(rt.alloc(), &disk, Armed::StopAtWrite(18), trace.as_slice())?;
     assert_eq!(rt;
-        output.as_slice(),
+        told.output.as_slice(),
         b"pid 1\naddr 0x10000\naddr 0x11000\nok\nok\nerror 5 EIO\n".as_slice()
     );
     let old = b"pid 1\naddr 0x10000\naddr 0x11000\nvalue 0x0000\nvalue 0x0000\n";
     let new = b"pid 1\naddr 0x10000\naddr 0x11000\nvalue 0x0001\nvalue 0x0002\n";
     for open in [0, 256] {
-        let output = shown(rt.alloc(), bench.store(), gate(open))?;
+        let output = shown(rt.alloc(), &told.store, gate(open))?;
         assert_eq!(rt; output.as_slice(), old.as_slice());
     }
-    let output = shown(rt.alloc(), bench.store(), gate(512))?;
+    let output = shown(rt.alloc(), &told.store, gate(512))?;
     assert_eq!(rt; output.as_slice(), new.as_slice());
     Ok(())
 }

@@ -1,5 +1,5 @@
 //! Own copies that are given up, and faults that are kept.
-use crate::bench::{Armed, Bench, image};
+use crate::bench::{Armed, image, ran, ran_in, replies, replies_over_zeros};
 use machine::Config;
 use runner::RunEnd;
 use std::test::Fail;
@@ -71,8 +71,7 @@ past 1 13 SEGV_MAPERR 0x10\n",
 #[test]
 fn copies_are_given_up_and_faults_kept(rt: HostRuntime) -> Result<(), Fail> {
     for (trace, wanted) in ROWS {
-        let mut bench = Bench::boot(rt.alloc(), &image(rt.alloc(), 4096)?, Armed::Nothing)?;
-        let (end, output) = bench.replies(rt.alloc(), trace);
+        let (end, output) = replies_over_zeros(rt.alloc(), 4096, trace)?;
         assert_eq!(rt; end, RunEnd::Done);
         assert_eq!(rt; output.as_slice(), wanted);
     }
@@ -103,32 +102,31 @@ fn sixteen_pages_keep_their_bytes(rt: HostRuntime) -> Result<(), Fail> {
         slots: 0,
     };
     let (trace, wanted) = FORTY_LINES;
-    let image = image(rt.alloc(), 4096)?;
-    let mut bench = Bench::sized(rt.alloc(), &image, Armed::Nothing, config)?;
-    let (end, output) = bench.replies(rt.alloc(), trace);
-    assert_eq!(rt; end, RunEnd::Done);
-    assert_eq!(rt; output.as_slice(), wanted);
-    assert_eq!(rt; bench.store().writes(), 0);
+    let disk = image(rt.alloc(), 4096)?;
+    let told = ran_in(rt.alloc(), &disk, Armed::Nothing, config, trace)?;
+    assert_eq!(rt; told.end, RunEnd::Done);
+    assert_eq!(rt; told.output.as_slice(), wanted);
+    assert_eq!(rt; told.store.writes(), 0);
     Ok(())
 }
 
 /// What dontneed leaves of a touched page is made durable by the next msync.
 #[test]
 fn a_shared_page_stays_touched(rt: HostRuntime) -> Result<(), Fail> {
-    let mut bench = Bench::boot(rt.alloc(), &image(rt.alloc(), 4096)?, Armed::Nothing)?;
     let trace =
         b"spawn\nmmap 1 0 4096 rw- shared 0 0\nstore 1 0x10000 1 0x5a\ndontneed 1 0x10000 4096\n\
 msync 1 0x10000 4096 sync\n";
-    let (_, output) = bench.replies(rt.alloc(), trace.as_slice());
+    let disk = image(rt.alloc(), 4096)?;
+    let told = ran(rt.alloc(), &disk, Armed::Nothing, trace.as_slice())?;
     assert_eq!(rt;
-        output.as_slice(),
+        told.output.as_slice(),
         b"pid 1\naddr 0x10000\nok\nok\nok\n".as_slice()
     );
-    let mut next = Bench::boot(rt.alloc(), bench.store(), Armed::Nothing)?;
-    let (_, output) = next.replies(
+    let (_, output) = replies(
         rt.alloc(),
+        &told.store,
         b"faults\nspawn\nmmap 1 0 4096 r-- shared 0 0\nload 1 0x10000 1\n",
-    );
+    )?;
     assert_eq!(rt;
         output.as_slice(),
         b"faults 0\npid 1\naddr 0x10000\nvalue 0x5a\n".as_slice()

@@ -1,11 +1,12 @@
 //! Many mappings in one process: rows of calls on ranges, and their replies.
 ghost use Rattle.std.specs.Prelude.{◌≤◌};
 
-use crate::bench::{Armed, Bench, image, image_of};
+use crate::bench::{Armed, Exchange, image, image_of, ran, ran_in, replies, replies_over_zeros};
 use disk_model::SimDisk;
 use machine::Config;
 use runner::RunEnd;
 use std::alloc::Global;
+use std::process::Abort;
 use std::test::Fail;
 
 /// Traces on an image of eight pages of zeros, each from a new start, and their replies.
@@ -62,8 +63,7 @@ error 9 EBADF\nerror 12 ENOMEM\nerror 12 ENOMEM\n",
 #[test]
 fn ranges_are_mapped_and_unmapped(rt: HostRuntime) -> Result<(), Fail> {
     for (trace, wanted) in ROWS {
-        let mut bench = Bench::boot(rt.alloc(), &image(rt.alloc(), 32768)?, Armed::Nothing)?;
-        let (end, output) = bench.replies(rt.alloc(), trace);
+        let (end, output) = replies_over_zeros(rt.alloc(), 32768, trace)?;
         assert_eq!(rt; end, RunEnd::Done);
         assert_eq!(rt; output.as_slice(), wanted);
     }
@@ -73,8 +73,6 @@ fn ranges_are_mapped_and_unmapped(rt: HostRuntime) -> Result<(), Fail> {
 /// A file that may only be read is not mapped for stores, nor given them later.
 #[test]
 fn a_read_only_file_is_kept(rt: HostRuntime) -> Result<(), Fail> {
-    let image = image_of(rt.alloc(), true, &[0x41; 4096])?;
-    let mut bench = Bench::boot(rt.alloc(), &image, Armed::Nothing)?;
     let trace =
         b"spawn\nmmap 1 0 0 rw- shared 0 0\nmmap 1 0 4096 rw- shared 0 0\nmmap 1 0 4096 rw- shared 9 0\n\
 mmap 1 0 4096 r-- shared 0 1\nmmap 1 0x1000 4096 r-- shared 0 0 fixed\nmmap 1 0x20001 4096 r-- shared 0 0 fixed\n\
@@ -83,30 +81,36 @@ mprotect 1 0x10000 4096 rw-\nmunmap 1 0x50000 4096\nmprotect 1 0x10000 4096 r-x\
     let wanted =
         b"pid 1\nerror 22 EINVAL\nerror 13 EACCES\nerror 9 EBADF\nerror 22 EINVAL\nerror 12 ENOMEM\n\
 error 22 EINVAL\nerror 75 EOVERFLOW\naddr 0x10000\nvalue 0x41\nerror 13 EACCES\nok\nok\n";
-    let (end, output) = bench.replies(rt.alloc(), trace.as_slice());
+    let disk = image_of(rt.alloc(), true, &[0x41; 4096])?;
+    let (end, output) = replies(rt.alloc(), &disk, trace.as_slice())?;
     assert_eq!(rt; end, RunEnd::Done);
     assert_eq!(rt; output.as_slice(), wanted.as_slice());
     Ok(())
 }
 
 /// Takes every other page its right to be stored to, up to the limit of 256 runs.
+fn runs_to_the_limit(alloc: Global) -> Result<Exchange, Fail> {
+    let mut exchange = Exchange::new(alloc);
+    exchange.push(
+        b"spawn\nmmap 1 0 0x1ff000 rw- shared 0 0\n",
+        b"pid 1\naddr 0x10000\n",
+    )?;
+    for pair in 0..127_u64 {
+        let line = format!(in alloc; "mprotect 1 {} 4096 r--\n", 0x11000 + 8192 * pair)?;
+        exchange.push(line.as_bytes(), b"ok\n")?;
+    }
+    exchange.push(
+        b"mprotect 1 0x10f000 4096 r--\nmprotect 1 0x20e000 4096 r--\n",
+        b"error 12 ENOMEM\nok\n",
+    )?;
+    Ok(exchange)
+}
+
 #[test]
 fn a_process_has_at_most_256_runs(rt: HostRuntime) -> Result<(), Fail> {
-    let mut bench = Bench::boot(rt.alloc(), &image(rt.alloc(), 4096)?, Armed::Nothing)?;
-    let (_, output) = bench.replies(rt.alloc(), b"spawn\nmmap 1 0 0x1ff000 rw- shared 0 0\n");
-    assert_eq!(rt; output.as_slice(), b"pid 1\naddr 0x10000\n".as_slice());
-    let mut trace = Vec::new(rt.alloc());
-    let mut wanted = Vec::new(rt.alloc());
-    for pair in 0..127_u64 {
-        let line = format!(in rt.alloc(); "mprotect 1 {} 4096 r--\n", 0x11000 + 8192 * pair)?;
-        trace.extend_from_slice(line.as_bytes())?;
-        wanted.extend_from_slice(b"ok\n")?;
-    }
-    let (_, output) = bench.replies(rt.alloc(), trace.as_slice());
-    assert_eq!(rt; output.as_slice(), wanted.as_slice());
-    let last = b"mprotect 1 0x10f000 4096 r--\nmprotect 1 0x20e000 4096 r--\n";
-    let (_, output) = bench.replies(rt.alloc(), last.as_slice());
-    assert_eq!(rt; output.as_slice(), b"error 12 ENOMEM\nok\n".as_slice());
+    let exchange = runs_to_the_limit(rt.alloc())?;
+    let (_, output) = replies_over_zeros(rt.alloc(), 4096, exchange.trace.as_slice())?;
+    assert_eq!(rt; output.as_slice(), exchange.wanted.as_slice());
     Ok(())
 }
 
@@ -116,25 +120,46 @@ const ROOMY: Config = Config {
     slots: 0,
 };
 
-/// The lines that store a byte at the start of so many pages of the mapping at the first user page.
-fn stores(alloc: Global, pages: u64, byte: u64) -> Result<Vec<u8>, Fail>
+/// Stores a byte at the start of so many pages of the mapping at the first user page.
+fn push_stores(alloc: Global, exchange: &mut Exchange, pages: u64, byte: u64) -> Result<(), Fail>
     requires { pages ≤ 128 }
 {
-    let mut trace = Vec::new(alloc);
     for page in 0..pages {
         let line = format!(in alloc; "store 1 {} 1 {byte}\n", 0x10000 + 4096 * page)?;
-        trace.extend_from_slice(line.as_bytes())?;
+        exchange.push(line.as_bytes(), b"ok\n")?;
     }
-    Ok(trace)
+    Ok(())
 }
 
-/// So many replies that tell of success.
-fn successes(alloc: Global, count: u64) -> Result<Vec<u8>, Fail> {
-    let mut text = Vec::new(alloc);
-    for _ in 0..count {
-        text.extend_from_slice(b"ok\n")?;
+/// An msync of 127 touched pages, however many are mapped, and one of 128.
+fn two_msyncs(alloc: Global) -> Result<Exchange, Fail> {
+    let mut exchange = Exchange::new(alloc);
+    exchange.push(
+        b"spawn\nmmap 1 0 0x80000 rw- shared 0 0\n",
+        b"pid 1\naddr 0x10000\n",
+    )?;
+    push_stores(alloc, &mut exchange, 127, 1)?;
+    exchange.push(b"msync 1 0x10000 0x80000 sync\n", b"ok\n")?;
+    push_stores(alloc, &mut exchange, 128, 2)?;
+    exchange.push(b"msync 1 0x10000 0x80000 sync\n", b"error 28 ENOSPC\n")?;
+    Ok(exchange)
+}
+
+/// A look at each page of a file of 128 pages that has one byte at the start of the first `pages` pages and another at the
+/// start of the others.
+fn looks(alloc: Global, pages: u64, byte: u8, rest: u8) -> Result<Exchange, Fail> {
+    let mut exchange = Exchange::new(alloc);
+    exchange.push(
+        b"spawn\nmmap 1 0 0x80000 r-- shared 0 0\n",
+        b"pid 1\naddr 0x10000\n",
+    )?;
+    for page in 0..128_u64 {
+        let line = format!(in alloc; "load 1 {} 1\n", 0x10000 + 4096 * page)?;
+        let shown = if page < pages { byte } else { rest };
+        let reply = format!(in alloc; "value 0x{shown:02x}\n")?;
+        exchange.push(line.as_bytes(), reply.as_bytes())?;
     }
-    Ok(text)
+    Ok(exchange)
 }
 
 /// Whether a file of 128 pages, as it stands, has one byte at the start of the first `pages` pages and another at the
@@ -146,57 +171,53 @@ fn begin_with(
     byte: u8,
     rest: u8,
 ) -> Result<bool, Fail> {
-    let mut trace = Vec::new(alloc);
-    let mut wanted = Vec::new(alloc);
-    trace.extend_from_slice(b"spawn\nmmap 1 0 0x80000 r-- shared 0 0\n")?;
-    wanted.extend_from_slice(b"pid 1\naddr 0x10000\n")?;
-    for page in 0..128_u64 {
-        let line = format!(in alloc; "load 1 {} 1\n", 0x10000 + 4096 * page)?;
-        trace.extend_from_slice(line.as_bytes())?;
-        let shown = if page < pages { byte } else { rest };
-        let reply = format!(in alloc; "value 0x{shown:02x}\n")?;
-        wanted.extend_from_slice(reply.as_bytes())?;
-    }
-    let mut next = Bench::sized(alloc, store, Armed::Nothing, ROOMY)?;
-    let (_, output) = next.replies(alloc, trace.as_slice());
-    Ok(output.as_slice() == wanted.as_slice())
+    let exchange = looks(alloc, pages, byte, rest)?;
+    let told = ran_in(
+        alloc,
+        store,
+        Armed::Nothing,
+        ROOMY,
+        exchange.trace.as_slice(),
+    )?;
+    Ok(told.output.as_slice() == exchange.wanted.as_slice())
+}
+
+/// The device of a file of 128 pages of zeros, as a machine leaves it that answers what is wanted.
+fn left_by<R: AllocGlobal + Abort>(rt: &R, exchange: &Exchange) -> Result<SimDisk, Fail> {
+    let disk = image(rt.alloc(), 524288)?;
+    let trace = exchange.trace.as_slice();
+    let told = ran_in(rt.alloc(), &disk, Armed::Nothing, ROOMY, trace)?;
+    assert_eq!(rt; told.output.as_slice(), exchange.wanted.as_slice());
+    Ok(told.store)
 }
 
 /// An msync takes 127 touched pages, however many are mapped, and refuses 128 without taking any.
 #[test]
 fn an_msync_takes_127_pages(rt: HostRuntime) -> Result<(), Fail> {
-    let image = image(rt.alloc(), 524288)?;
-    let mut bench = Bench::sized(rt.alloc(), &image, Armed::Nothing, ROOMY)?;
-    let (_, mapped) = bench.replies(rt.alloc(), b"spawn\nmmap 1 0 0x80000 rw- shared 0 0\n");
-    assert_eq!(rt; mapped.as_slice(), b"pid 1\naddr 0x10000\n".as_slice());
-    let (_, output) = bench.replies(rt.alloc(), stores(rt.alloc(), 127, 1)?.as_slice());
-    assert_eq!(rt; output.as_slice(), successes(rt.alloc(), 127)?.as_slice());
-    let (_, output) = bench.replies(rt.alloc(), b"msync 1 0x10000 0x80000 sync\n");
-    assert_eq!(rt; output.as_slice(), b"ok\n".as_slice());
-    let (_, output) = bench.replies(rt.alloc(), stores(rt.alloc(), 128, 2)?.as_slice());
-    assert_eq!(rt; output.as_slice(), successes(rt.alloc(), 128)?.as_slice());
-    let (_, output) = bench.replies(rt.alloc(), b"msync 1 0x10000 0x80000 sync\n");
-    assert_eq!(rt; output.as_slice(), b"error 28 ENOSPC\n".as_slice());
-    assert!(rt; begin_with(rt.alloc(), bench.store(), 127, 1, 0)?);
-    let halves = b"msync 1 0x10000 0x40000 sync\nmsync 1 0x50000 0x40000 sync\n";
-    let (_, output) = bench.replies(rt.alloc(), halves.as_slice());
-    assert_eq!(rt; output.as_slice(), b"ok\nok\n".as_slice());
-    assert!(rt; begin_with(rt.alloc(), bench.store(), 128, 2, 0)?);
+    let mut exchange = two_msyncs(rt.alloc())?;
+    let refused = left_by(&rt, &exchange)?;
+    assert!(rt; begin_with(rt.alloc(), &refused, 127, 1, 0)?);
+    exchange.push(
+        b"msync 1 0x10000 0x40000 sync\nmsync 1 0x50000 0x40000 sync\n",
+        b"ok\nok\n",
+    )?;
+    let halves = left_by(&rt, &exchange)?;
+    assert!(rt; begin_with(rt.alloc(), &halves, 128, 2, 0)?);
     Ok(())
 }
 
 /// Two mappings of one page are one page of an msync: through either, both see the byte, and it is committed once.
 #[test]
 fn a_page_mapped_twice_is_taken_once(rt: HostRuntime) -> Result<(), Fail> {
-    let mut bench = Bench::boot(rt.alloc(), &image(rt.alloc(), 4096)?, Armed::Nothing)?;
     let trace =
         b"spawn\nmmap 1 0 4096 rw- shared 0 0\nmmap 1 0x11000 4096 rw- shared 0 0\nstore 1 0x11000 1 7\n\
 load 1 0x10000 1\nmsync 1 0x10000 0x2000 sync\n";
-    let (_, output) = bench.replies(rt.alloc(), trace.as_slice());
+    let disk = image(rt.alloc(), 4096)?;
+    let told = ran(rt.alloc(), &disk, Armed::Nothing, trace.as_slice())?;
     assert_eq!(rt;
-        output.as_slice(),
+        told.output.as_slice(),
         b"pid 1\naddr 0x10000\naddr 0x11000\nok\nvalue 0x07\nok\n".as_slice()
     );
-    assert_eq!(rt; bench.store().writes(), 10);
+    assert_eq!(rt; told.store.writes(), 10);
     Ok(())
 }

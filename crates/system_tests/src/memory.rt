@@ -1,5 +1,5 @@
 //! Anonymous and private memory, and who may do what with a page.
-use crate::bench::{Armed, Bench, image, image_of};
+use crate::bench::{image_of, replies, replies_over_zeros};
 use runner::RunEnd;
 use std::test::Fail;
 
@@ -69,8 +69,7 @@ fault 13 SEGV_MAPERR 0x3fffffffff\n",
 #[test]
 fn memory_is_mapped_and_accessed(rt: HostRuntime) -> Result<(), Fail> {
     for (trace, wanted) in ROWS {
-        let mut bench = Bench::boot(rt.alloc(), &image(rt.alloc(), 4096)?, Armed::Nothing)?;
-        let (end, output) = bench.replies(rt.alloc(), trace);
+        let (end, output) = replies_over_zeros(rt.alloc(), 4096, trace)?;
         assert_eq!(rt; end, RunEnd::Done);
         assert_eq!(rt; output.as_slice(), wanted);
     }
@@ -80,7 +79,6 @@ fn memory_is_mapped_and_accessed(rt: HostRuntime) -> Result<(), Fail> {
 /// What is taken from a page by mprotect and given back: its bytes stay, those of its own and those of the file.
 #[test]
 fn a_permission_comes_and_goes(rt: HostRuntime) -> Result<(), Fail> {
-    let mut bench = Bench::boot(rt.alloc(), &image(rt.alloc(), 4096)?, Armed::Nothing)?;
     let trace =
         b"spawn\nmmap 1 0 4096 rw- anon\nmmap 1 0 4096 rw- shared 0 0\nstore 1 0x10000 1 1\n\
 store 1 0x11000 1 2\nmprotect 1 0x10000 0x2000 ---\nload 1 0x10000 1\nstore 1 0x11000 1 3\n\
@@ -89,7 +87,7 @@ mprotect 1 0x10000 0x2000 rwx\nstore 1 0x10001 1 5\nfetch 1 0x10000\nload 1 0x11
     let wanted = b"pid 1\naddr 0x10000\naddr 0x11000\nok\nok\nok\nfault 13 SEGV_ACCERR 0x10000\n\
 fault 15 SEGV_ACCERR 0x11000\nok\nvalue 0x01\nvalue 0x02\nfault 15 SEGV_ACCERR 0x10000\nok\nok\n\
 value 0x00000501\nvalue 0x02\n";
-    let (end, output) = bench.replies(rt.alloc(), trace.as_slice());
+    let (end, output) = replies_over_zeros(rt.alloc(), 4096, trace.as_slice())?;
     assert_eq!(rt; end, RunEnd::Done);
     assert_eq!(rt; output.as_slice(), wanted.as_slice());
     Ok(())
@@ -98,8 +96,6 @@ value 0x00000501\nvalue 0x02\n";
 /// Refused calls, over a file that may only be read.
 #[test]
 fn calls_are_refused_in_order(rt: HostRuntime) -> Result<(), Fail> {
-    let image = image_of(rt.alloc(), true, &[0x41; 4096])?;
-    let mut bench = Bench::boot(rt.alloc(), &image, Armed::Nothing)?;
     let trace =
         b"spawn\nmmap 1 0 0 rw- anon\nmmap 1 0 4096 rw- shared 0 0\nmmap 1 0 4096 rw- shared 9 0\n\
 mmap 1 0 4096 r-- shared 0 1\nmmap 1 0x1000 4096 rw- anon fixed\nmmap 1 0x20001 4096 rw- anon fixed\n\
@@ -110,7 +106,8 @@ mmap 1 0 4096 rw- private 0 0\nstore 1 0x11000 1 0x42\nload 1 0x11000 2\nload 1 
         b"pid 1\nerror 22 EINVAL\nerror 13 EACCES\nerror 9 EBADF\nerror 22 EINVAL\nerror 12 ENOMEM\n\
 error 22 EINVAL\nerror 75 EOVERFLOW\naddr 0x10000\nvalue 0x41\nerror 13 EACCES\nok\nerror 3 ESRCH\n\
 error 3 ESRCH\nerror 3 ESRCH\naddr 0x11000\nok\nvalue 0x4142\nvalue 0x4141\n";
-    let (end, output) = bench.replies(rt.alloc(), trace.as_slice());
+    let disk = image_of(rt.alloc(), true, &[0x41; 4096])?;
+    let (end, output) = replies(rt.alloc(), &disk, trace.as_slice())?;
     assert_eq!(rt; end, RunEnd::Done);
     assert_eq!(rt; output.as_slice(), wanted.as_slice());
     Ok(())

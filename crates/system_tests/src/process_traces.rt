@@ -1,7 +1,8 @@
 //! Processes: made, copied and ended.
-use crate::bench::{Armed, Bench, image};
+use crate::bench::{Armed, Exchange, image, ran_in, replies_over_zeros};
 use machine::Config;
 use runner::RunEnd;
+use std::alloc::Global;
 use std::test::Fail;
 
 /// Traces on an image of a page of zeros, each from a new start, and their replies.
@@ -38,12 +39,18 @@ value 0x05\nfault 13 SEGV_MAPERR 0x10000\n",
 #[test]
 fn processes_have_spaces_of_their_own(rt: HostRuntime) -> Result<(), Fail> {
     for (trace, wanted) in ROWS {
-        let mut bench = Bench::boot(rt.alloc(), &image(rt.alloc(), 4096)?, Armed::Nothing)?;
-        let (end, output) = bench.replies(rt.alloc(), trace);
+        let (end, output) = replies_over_zeros(rt.alloc(), 4096, trace)?;
         assert_eq!(rt; end, RunEnd::Done);
         assert_eq!(rt; output.as_slice(), wanted);
     }
     Ok(())
+}
+
+/// How a trace ends on a machine of that size over a page of zeros, and its replies.
+fn replies_in(alloc: Global, config: Config, trace: &[u8]) -> Result<(RunEnd, Vec<u8>), Fail> {
+    let disk = image(alloc, 4096)?;
+    let told = ran_in(alloc, &disk, Armed::Nothing, config, trace)?;
+    Ok((told.end, told.output))
 }
 
 /// Each process takes a frame for its root table, and gives it back.
@@ -53,12 +60,10 @@ fn a_process_needs_a_frame(rt: HostRuntime) -> Result<(), Fail> {
         frames: 8,
         slots: 16,
     };
-    let image = image(rt.alloc(), 4096)?;
-    let mut bench = Bench::sized(rt.alloc(), &image, Armed::Nothing, config)?;
     let trace = b"spawn\nspawn\nspawn\nspawn\nspawn\nspawn\nspawn\nspawn\nfork 1\nexit 7\nspawn\n";
     let wanted =
         b"pid 1\npid 2\npid 3\npid 4\npid 5\npid 6\npid 7\nstall 1 NOFRAMES\nstall 1 NOFRAMES\nok\npid 7\n";
-    let (end, output) = bench.replies(rt.alloc(), trace.as_slice());
+    let (end, output) = replies_in(rt.alloc(), config, trace.as_slice())?;
     assert_eq!(rt; end, RunEnd::Done);
     assert_eq!(rt; output.as_slice(), wanted.as_slice());
     Ok(())
@@ -71,8 +76,6 @@ fn a_fork_that_stalls_gives_its_tables_back(rt: HostRuntime) -> Result<(), Fail>
         frames: 8,
         slots: 0,
     };
-    let image = image(rt.alloc(), 4096)?;
-    let mut bench = Bench::sized(rt.alloc(), &image, Armed::Nothing, config)?;
     // The zero page, three tables and a page of process 1, and the root of process 2 leave two frames; a copy needs three.
     let trace =
         b"spawn\nmmap 1 0 4096 rw- anon\nstore 1 0x10000 1 1\nspawn\nfork 1\nfork 1\nload 1 0x10000 1\nexit 2\n\
@@ -80,10 +83,24 @@ fork 1\nload 2 0x10000 1\nstore 2 0x10000 1 2\nexit 1\nstore 2 0x10000 1 3\nload
     let wanted =
         b"pid 1\naddr 0x10000\nok\npid 2\nstall 1 NOFRAMES\nstall 1 NOFRAMES\nvalue 0x01\nok\npid 2\nvalue 0x01\n\
 stall 1 NOFRAMES\nok\nok\nvalue 0x03\n";
-    let (end, output) = bench.replies(rt.alloc(), trace.as_slice());
+    let (end, output) = replies_in(rt.alloc(), config, trace.as_slice())?;
     assert_eq!(rt; end, RunEnd::Done);
     assert_eq!(rt; output.as_slice(), wanted.as_slice());
     Ok(())
+}
+
+/// All processes are made, then one more is refused, and one that has ended makes room for another.
+fn all_processes(alloc: Global) -> Result<Exchange, Fail> {
+    let mut exchange = Exchange::new(alloc);
+    for pid in 1..65_u64 {
+        let reply = format!(in alloc; "pid {pid}\n")?;
+        exchange.push(b"spawn\n", reply.as_bytes())?;
+    }
+    exchange.push(
+        b"spawn\nfork 1\nexit 9\nfork 64\n",
+        b"error 11 EAGAIN\nerror 11 EAGAIN\nok\npid 9\n",
+    )?;
+    Ok(exchange)
 }
 
 #[test]
@@ -92,21 +109,8 @@ fn there_are_64_processes(rt: HostRuntime) -> Result<(), Fail> {
         frames: 128,
         slots: 0,
     };
-    let image = image(rt.alloc(), 4096)?;
-    let mut bench = Bench::sized(rt.alloc(), &image, Armed::Nothing, config)?;
-    let mut trace = Vec::new(rt.alloc());
-    let mut wanted = Vec::new(rt.alloc());
-    for pid in 1..65_u64 {
-        trace.extend_from_slice(b"spawn\n")?;
-        let reply = format!(in rt.alloc(); "pid {pid}\n")?;
-        wanted.extend_from_slice(reply.as_bytes())?;
-    }
-    let (_, output) = bench.replies(rt.alloc(), trace.as_slice());
-    assert_eq!(rt; output.as_slice(), wanted.as_slice());
-    let (_, output) = bench.replies(rt.alloc(), b"spawn\nfork 1\nexit 9\nfork 64\n");
-    assert_eq!(rt;
-        output.as_slice(),
-        b"error 11 EAGAIN\nerror 11 EAGAIN\nok\npid 9\n".as_slice()
-    );
+    let exchange = all_processes(rt.alloc())?;
+    let (_, output) = replies_in(rt.alloc(), config, exchange.trace.as_slice())?;
+    assert_eq!(rt; output.as_slice(), exchange.wanted.as_slice());
     Ok(())
 }

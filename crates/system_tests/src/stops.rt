@@ -1,7 +1,7 @@
 //! A stop at each write of an msync, and failing device calls.
-use crate::bench::{Armed, Bench, CONFIG, SHOWN, STORED, SYNCED, image};
+use crate::bench::{Armed, SHOWN, STORED_AND_SYNCED, calls_at_boot, image, ran, refused, replies};
 use disk_model::{SectorDisk, SimDisk};
-use machine::{BootFault, Machine};
+use machine::BootFault;
 use runner::RunEnd;
 use std::alloc::Global;
 use std::process::Abort;
@@ -67,9 +67,10 @@ fn left_with(alloc: Global, disk: &SimDisk, filling: Filling) -> Result<SimDisk,
     Ok(disk.left(alloc, chosen.as_slice())?)
 }
 
-/// The replies that show the file's first bytes after recovery.
-fn shown(alloc: Global, disk: &SimDisk) -> Result<Vec<u8>, Fail> {
-    let (_, output) = Bench::boot(alloc, disk, Armed::Nothing)?.replies(alloc, SHOWN);
+/// The replies that show the file's first bytes after a stop that left this filling, and recovery.
+fn shown(alloc: Global, stopped: &SimDisk, filling: Filling) -> Result<Vec<u8>, Fail> {
+    let disk = left_with(alloc, stopped, filling)?;
+    let (_, output) = replies(alloc, &disk, SHOWN)?;
     Ok(output)
 }
 
@@ -86,20 +87,19 @@ fn standing_after(write: u64, filling: Filling) -> &'static [u8] {
     }
 }
 
-/// A machine that was stopped at a write of an msync.
-fn stopped_at(alloc: Global, write: u64) -> Result<Bench, Fail> {
-    let mut bench = Bench::boot(alloc, &image(alloc, 4096)?, Armed::StopAtWrite(write))?;
-    bench.replies(alloc, STORED);
-    bench.replies(alloc, SYNCED);
-    Ok(bench)
+/// The device of a machine that was stopped at a write of an msync.
+fn stopped_at(alloc: Global, write: u64) -> Result<SimDisk, Fail> {
+    let armed = Armed::StopAtWrite(write);
+    let told = ran(alloc, &image(alloc, 4096)?, armed, STORED_AND_SYNCED)?;
+    Ok(told.store)
 }
 
 #[test]
 fn a_stop_at_each_write_leaves_the_old_file_or_the_new_one(rt: HostRuntime) -> Result<(), Fail> {
     for write in 1..11 {
-        let bench = stopped_at(rt.alloc(), write)?;
+        let stopped = stopped_at(rt.alloc(), write)?;
         for filling in FILLINGS {
-            let output = shown(rt.alloc(), &left_with(rt.alloc(), bench.store(), filling)?)?;
+            let output = shown(rt.alloc(), &stopped, filling)?;
             assert_eq!(rt;
                 output.as_slice(),
                 standing_after(write, filling),
@@ -116,30 +116,35 @@ const HOME: [u64; 8] = [1020, 1021, 1022, 1023, 1024, 1025, 1026, 1027];
 /// The replies that show both bytes, or the first alone.
 const BOTH: &[u8] = b"pid 1\naddr 0x10000\nvalue 0x0000000000006b5a\n";
 
+/// A first msync, and one of a second byte.
+const TWICE_SYNCED: &[u8] =
+    b"spawn\nmmap 1 0 4096 rw- shared 0 0\nstore 1 0x10000 1 0x5a\nmsync 1 0x10000 4096 sync\n\
+store 1 0x10001 1 0x6b\nmsync 1 0x10000 4096 sync\n";
+
+/// The device of a machine that was stopped at a write of a second msync.
+fn stopped_in_second<R: AllocGlobal + Abort>(rt: &R, write: u64) -> Result<SimDisk, Fail> {
+    let armed = Armed::StopAtWrite(write);
+    let told = ran(rt.alloc(), &image(rt.alloc(), 4096)?, armed, TWICE_SYNCED)?;
+    assert_eq!(rt;
+        told.output.as_slice(),
+        b"pid 1\naddr 0x10000\nok\nok\nok\nerror 5 EIO\n".as_slice()
+    );
+    Ok(told.store)
+}
+
 /// An acknowledged msync outlives a stop at each write of the next one: first the home of its page is written, then the gate
 /// is closed, and only then the map and the body of the next one, and its gate.
 #[test]
 fn a_stop_in_a_second_msync_keeps_the_first(rt: HostRuntime) -> Result<(), Fail> {
     for write in 11..30 {
-        let mut bench = Bench::boot(
-            rt.alloc(),
-            &image(rt.alloc(), 4096)?,
-            Armed::StopAtWrite(write),
-        )?;
-        bench.replies(rt.alloc(), STORED);
-        let (_, output) = bench.replies(rt.alloc(), SYNCED);
-        assert_eq!(rt; output.as_slice(), b"ok\n".as_slice());
-        bench.replies(rt.alloc(), b"store 1 0x10001 1 0x6b\n");
-        let (_, output) = bench.replies(rt.alloc(), SYNCED);
-        assert_eq!(rt; output.as_slice(), b"error 5 EIO\n".as_slice());
+        let stopped = stopped_in_second(&rt, write)?;
         for filling in FILLINGS {
             let wanted = if write == 29 && filling == Filling::Open {
                 BOTH
             } else {
                 NEW
             };
-            let left = left_with(rt.alloc(), bench.store(), filling)?;
-            let output = shown(rt.alloc(), &left)?;
+            let output = shown(rt.alloc(), &stopped, filling)?;
             assert_eq!(rt; output.as_slice(), wanted, "at write {write}");
         }
     }
@@ -149,52 +154,41 @@ fn a_stop_in_a_second_msync_keeps_the_first(rt: HostRuntime) -> Result<(), Fail>
 /// The reads that bring a page in.
 const PAGE_READS: u64 = 8;
 
-/// A machine on an image whose call so many after boot and the reads of its page fails, once it has run an msync and four
-/// lines more.
-fn failed_at<R: AllocGlobal + Abort>(rt: &R, call: u64) -> Result<Bench, Fail> {
+/// An msync, and four lines more.
+const SYNCED_AND_ASKED: &[u8] =
+    b"spawn\nmmap 1 0 4096 rw- shared 0 0\nstore 1 0x10000 1 0x5a\nmsync 1 0x10000 4096 sync\n\
+load 1 0x10000 1\nfaults\nspawn\nfork\n";
+
+/// The device of a machine whose call so many after boot and the reads of its page failed in an msync, once it has answered
+/// four lines more.
+fn failed_at<R: AllocGlobal + Abort>(rt: &R, call: u64) -> Result<SimDisk, Fail> {
     let disk = image(rt.alloc(), 4096)?;
-    let at_boot = Bench::boot(rt.alloc(), &disk, Armed::Nothing)?
-        .store()
-        .calls();
+    let at_boot = calls_at_boot(rt.alloc(), &disk)?;
     let armed = Armed::FailAtCall(at_boot.saturating_add(PAGE_READS).saturating_add(call));
-    let mut bench = Bench::boot(rt.alloc(), &disk, armed)?;
-    let (_, output) = bench.replies(rt.alloc(), STORED);
-    assert_eq!(rt; output.as_slice(), b"pid 1\naddr 0x10000\nok\n".as_slice());
-    let (_, output) = bench.replies(rt.alloc(), SYNCED);
-    assert_eq!(rt; output.as_slice(), b"error 5 EIO\n".as_slice());
-    let (end, output) = bench.replies(rt.alloc(), b"load 1 0x10000 1\nfaults\nspawn\nfork\n");
+    let told = ran(rt.alloc(), &disk, armed, SYNCED_AND_ASKED)?;
     assert_eq!(rt;
-        output.as_slice(),
-        b"halted\nhalted\nhalted\nbad line\n".as_slice()
+        told.output.as_slice(),
+        b"pid 1\naddr 0x10000\nok\nerror 5 EIO\nhalted\nhalted\nhalted\nbad line\n".as_slice()
     );
-    assert_eq!(rt; end, RunEnd::Done);
-    Ok(bench)
+    assert_eq!(rt; told.end, RunEnd::Done);
+    Ok(told.store)
 }
 
 #[test]
 fn a_failed_sync_halts_the_machine(rt: HostRuntime) -> Result<(), Fail> {
     // Nine writes come before the first sync: the gate is closed in every image.
-    let bench = failed_at(&rt, 10)?;
+    let closed = failed_at(&rt, 10)?;
     for filling in FILLINGS {
-        let output = shown(rt.alloc(), &left_with(rt.alloc(), bench.store(), filling)?)?;
+        let output = shown(rt.alloc(), &closed, filling)?;
         assert_eq!(rt; output.as_slice(), OLD);
     }
     // Then the gate is written, and synced: what stands is what its sector says.
-    let bench = failed_at(&rt, 12)?;
+    let written = failed_at(&rt, 12)?;
     for filling in FILLINGS {
-        let output = shown(rt.alloc(), &left_with(rt.alloc(), bench.store(), filling)?)?;
+        let output = shown(rt.alloc(), &written, filling)?;
         assert_eq!(rt; output.as_slice(), standing_after(GATE, filling));
     }
     Ok(())
-}
-
-/// Why no machine starts on this image, and how many writes were made to it.
-fn refused(alloc: Global, image: &SimDisk) -> Result<(BootFault, u64), Fail> {
-    let store = image.left(alloc, &[])?;
-    match Machine::boot(alloc, CONFIG, store, SimDisk::new(alloc, 128)?) {
-        Ok(_) => Err(Fail::new("it booted")),
-        Err((fault, store)) => Ok((fault, store.writes())),
-    }
 }
 
 #[test]

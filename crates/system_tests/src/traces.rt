@@ -1,8 +1,12 @@
 //! Traces and their replies.
-use crate::bench::{Armed, Bench, CONFIG, SHOWN, STORED, SYNCED, image};
+use crate::bench::{
+    Armed, CONFIG, SHOWN, STORED, STORED_AND_SYNCED, image, ran, ran_on, replies,
+    replies_over_zeros,
+};
 use disk_model::SimDisk;
 use machine::{BootFault, Config};
-use runner::{RunEnd, run_on};
+use runner::RunEnd;
+use std::alloc::Global;
 use std::test::Fail;
 
 /// Traces on an image of two pages, each from a new start, and their replies.
@@ -53,17 +57,16 @@ addr 0x10000\nfault 15 SEGV_ACCERR 0x10000\nerror 3 ESRCH\nerror 22 EINVAL\nerro
 #[test]
 fn traces_are_answered(rt: HostRuntime) -> Result<(), Fail> {
     for (trace, wanted) in ROWS {
-        let mut bench = Bench::boot(rt.alloc(), &image(rt.alloc(), 8192)?, Armed::Nothing)?;
-        let (end, output) = bench.replies(rt.alloc(), trace);
+        let (end, output) = replies_over_zeros(rt.alloc(), 8192, trace)?;
         assert_eq!(rt; end, RunEnd::Done);
         assert_eq!(rt; output.as_slice(), wanted);
     }
     Ok(())
 }
 
-#[test]
-fn lines_are_cut(rt: HostRuntime) -> Result<(), Fail> {
-    let mut trace = Vec::new(rt.alloc());
+/// Lines of 256 bytes and more, and some that are no command.
+fn uneven_lines(alloc: Global) -> Result<Vec<u8>, Fail> {
+    let mut trace = Vec::new(alloc);
     trace.extend_from_slice(b"spawn\nmmap 1 0 1 rw- anon\nload 1 0x10ff8 8\n")?;
     // A line of 256 bytes, and one of 257.
     for zeros in [240, 241] {
@@ -75,8 +78,13 @@ fn lines_are_cut(rt: HostRuntime) -> Result<(), Fail> {
     }
     // A number that is too large for its width, an empty line, and one without a newline.
     trace.extend_from_slice(b"store 1 0x10000 1 0x100\n\nexit 1")?;
-    let mut bench = Bench::boot(rt.alloc(), &image(rt.alloc(), 4096)?, Armed::Nothing)?;
-    let (end, output) = bench.replies(rt.alloc(), trace.as_slice());
+    Ok(trace)
+}
+
+#[test]
+fn lines_are_cut(rt: HostRuntime) -> Result<(), Fail> {
+    let trace = uneven_lines(rt.alloc())?;
+    let (end, output) = replies_over_zeros(rt.alloc(), 4096, trace.as_slice())?;
     assert_eq!(rt; end, RunEnd::Done);
     let wanted =
         b"pid 1\naddr 0x10000\nvalue 0x0000000000000000\nvalue 0x00\nbad line\nbad line\nbad line\nok\n";
@@ -86,33 +94,38 @@ fn lines_are_cut(rt: HostRuntime) -> Result<(), Fail> {
 
 #[test]
 fn an_empty_trace_writes_nothing(rt: HostRuntime) -> Result<(), Fail> {
-    let mut bench = Bench::boot(rt.alloc(), &image(rt.alloc(), 4096)?, Armed::Nothing)?;
-    let (end, output) = bench.replies(rt.alloc(), b"");
-    assert_eq!(rt; end, RunEnd::Done);
-    assert!(rt; output.is_empty());
-    assert_eq!(rt; bench.store().writes(), 0);
+    let told = ran(rt.alloc(), &image(rt.alloc(), 4096)?, Armed::Nothing, b"")?;
+    assert_eq!(rt; told.end, RunEnd::Done);
+    assert!(rt; told.output.is_empty());
+    assert_eq!(rt; told.store.writes(), 0);
     Ok(())
 }
 
 #[test]
 fn a_second_run_sees_what_the_first_synced(rt: HostRuntime) -> Result<(), Fail> {
-    let mut first = Bench::boot(rt.alloc(), &image(rt.alloc(), 4096)?, Armed::Nothing)?;
-    let (_, output) = first.replies(rt.alloc(), STORED);
-    assert_eq!(rt; output.as_slice(), b"pid 1\naddr 0x10000\nok\n".as_slice());
-    let mut unsynced = Bench::boot(rt.alloc(), first.store(), Armed::Nothing)?;
-    let at_boot = first.store().syncs();
-    let (_, output) = first.replies(rt.alloc(), SYNCED);
-    assert_eq!(rt; output.as_slice(), b"ok\n".as_slice());
-    assert_eq!(rt; first.store().writes(), 10);
-    assert_eq!(rt; first.store().syncs(), at_boot.saturating_add(2));
-    let mut synced = Bench::boot(rt.alloc(), first.store(), Armed::Nothing)?;
-
-    let (_, output) = unsynced.replies(rt.alloc(), SHOWN);
+    let disk = image(rt.alloc(), 4096)?;
+    let unsynced = ran(rt.alloc(), &disk, Armed::Nothing, STORED)?;
+    assert_eq!(rt;
+        unsynced.output.as_slice(),
+        b"pid 1\naddr 0x10000\nok\n".as_slice()
+    );
+    let at_boot = unsynced.store.syncs();
+    let (_, output) = replies(rt.alloc(), &unsynced.store, SHOWN)?;
     assert_eq!(rt;
         output.as_slice(),
         b"pid 1\naddr 0x10000\nvalue 0x0000000000000000\n".as_slice()
     );
-    let (_, output) = synced.replies(rt.alloc(), SHOWN);
+    drop(unsynced);
+
+    let synced = ran(rt.alloc(), &disk, Armed::Nothing, STORED_AND_SYNCED)?;
+    drop(disk);
+    assert_eq!(rt;
+        synced.output.as_slice(),
+        b"pid 1\naddr 0x10000\nok\nok\n".as_slice()
+    );
+    assert_eq!(rt; synced.store.writes(), 10);
+    assert_eq!(rt; synced.store.syncs(), at_boot.saturating_add(2));
+    let (_, output) = replies(rt.alloc(), &synced.store, SHOWN)?;
     assert_eq!(rt;
         output.as_slice(),
         b"pid 1\naddr 0x10000\nvalue 0x000000000000005a\n".as_slice()
@@ -130,18 +143,19 @@ fn a_machine_boots_for_its_trace(rt: HostRuntime) -> Result<(), Fail> {
         slots: 16,
     };
     let swap = SimDisk::new(rt.alloc(), 128)?;
-    let Err((fault, store)) = run_on(rt.alloc(), few, store, swap, &mut reader, &mut output) else {
+    let devices = (store, swap);
+    let Err((fault, store)) = ran_on(rt.alloc(), few, devices, &mut reader, &mut output) else {
         return Err(Fail::new(format_args!("7 frames are too few")));
     };
     assert_eq!(rt; fault, BootFault::Frames);
     assert!(rt; output.is_empty());
     let swap = SimDisk::new(rt.alloc(), 128)?;
-    let Ok((end, machine)) = run_on(rt.alloc(), CONFIG, store, swap, &mut reader, &mut output)
-    else {
+    let devices = (store, swap);
+    let Ok((end, halted)) = ran_on(rt.alloc(), CONFIG, devices, &mut reader, &mut output) else {
         return Err(Fail::new(format_args!("no machine")));
     };
     assert_eq!(rt; end, RunEnd::Done);
     assert_eq!(rt; output.as_slice(), b"pid 1\n".as_slice());
-    assert!(rt; !machine.is_halted());
+    assert!(rt; !halted);
     Ok(())
 }
