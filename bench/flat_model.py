@@ -1,0 +1,338 @@
+"""The flat model by another hand: what a trace's lines are answered, and what is durable. Written from docs/MODEL.md and docs/FORMATS.md
+alone; it shares nothing with the machine. Processes are maps from page to view, and files rows of bytes."""
+import re
+from collections import deque
+from dataclasses import dataclass, replace
+from typing import NamedTuple, Optional
+
+PAGE = 4096
+USER_START, USER_END = 16, 1 << 26
+MOST_PROCESSES, MOST_RUNS, MOST_PAGES, MOST_FAULTS = 64, 256, 127, 16
+NUMBERS = {"ESRCH": 3, "EIO": 5, "EBADF": 9, "EAGAIN": 11, "ENOMEM": 12, "EACCES": 13, "EEXIST": 17, "EINVAL": 22, "ENOSPC": 28, "EOVERFLOW": 75}
+MISALIGNED = {"load": 4, "store": 6, "fetch": 0}
+PAGE_FAULT = {"load": 13, "store": 15, "fetch": 12}
+NEEDED = {"load": "r", "store": "w", "fetch": "x"}
+
+
+class Backing(NamedTuple):
+    kind: str  # anon, private or shared
+    file: int = 0
+    page: int = 0
+
+    def following(self, count):
+        return self if self.kind == "anon" else self._replace(page=self.page + count)
+
+
+@dataclass(frozen=True)
+class View:
+    prot: frozenset
+    backing: Backing
+    own: Optional[bytes] = None
+
+
+@dataclass
+class File:
+    read_only: bool
+    length: int
+    volatile: list
+    durable: list
+
+    @staticmethod
+    def new(read_only, content):
+        pages = [content[i:i + PAGE].ljust(PAGE, b"\0") for i in range(0, len(content), PAGE)]
+        return File(read_only, len(content), pages, list(pages))
+
+    def trimmed(self, page):
+        return self.volatile[page][:self.length - PAGE * page].ljust(PAGE, b"\0")
+
+
+def error(name):
+    return f"error {NUMBERS[name]} {name}"
+
+
+def pages_of(addr, length):
+    """The pages of an address range, as whole numbers."""
+    return range(addr // PAGE, -(-(addr + length) // PAGE))
+
+
+def runs(space):
+    """How many rows of pages with one permission, whose backings follow one another."""
+    count, last = 0, None
+    for page in sorted(space):
+        view = space[page]
+        goes_on = (last is not None and page == last + 1 and space[last].prot == view.prot
+                   and space[last].backing.following(1) == view.backing)
+        count, last = count + (not goes_on), page
+    return count
+
+
+def is_covered(space, pages):
+    return len(pages) <= len(space) and all(page in space for page in pages)
+
+
+def within(space, pages):
+    """The pages of a range that are mapped, without a look at each of a long range."""
+    return [page for page in (pages if len(pages) <= len(space) else sorted(space)) if page in pages and page in space]
+
+
+class Model:
+    """A state of the flat model, and what each command does to it."""
+
+    def __init__(self, files):
+        self.files = files
+        self.spaces = {}
+        self.touched = set()
+        self.past = deque(maxlen=MOST_FAULTS)
+
+    def durable(self):
+        return [b"".join(file.durable)[:file.length] for file in self.files]
+
+    def answer(self, command):
+        """The reply, and what is to be called where the command is carried out."""
+        name, *words = command
+        return getattr(self, name)(*words)
+
+    # processes
+
+    def free_pid(self):
+        return next((pid for pid in range(1, MOST_PROCESSES + 1) if pid not in self.spaces), None)
+
+    def spawn(self):
+        pid = self.free_pid()
+        if pid is None:
+            return error("EAGAIN"), None
+        return f"pid {pid}", lambda: self.spaces.update({pid: {}})
+
+    def fork(self, parent):
+        if parent not in self.spaces:
+            return error("ESRCH"), None
+        child = self.free_pid()
+        if child is None:
+            return error("EAGAIN"), None
+        return f"pid {child}", lambda: self.spaces.update({child: dict(self.spaces[parent])})
+
+    def exit(self, pid):
+        if pid not in self.spaces:
+            return error("ESRCH"), None
+        return "ok", lambda: self.spaces.pop(pid)
+
+    # ranges
+
+    def place(self, space, addr, count, is_exact):
+        """The first page of a new mapping, or none."""
+        first = addr // PAGE
+        fits = USER_START <= first and first + count <= USER_END
+        if is_exact:
+            return first if fits else None
+        if addr != 0 and fits and not within(space, range(first, first + count)):
+            return first
+        start = USER_START
+        for page in sorted(space):
+            if page - start >= count:
+                break
+            start = page + 1
+        return start if start + count <= USER_END else None
+
+    def mmap(self, pid, addr, length, prot, kind, file, offset, mode):
+        space = self.spaces.get(pid)
+        count = -(-length // PAGE)
+        is_file = kind != "anon"
+        if space is None:
+            return error("ESRCH"), None
+        if length == 0 or (mode and addr % PAGE) or (is_file and offset % PAGE):
+            return error("EINVAL"), None
+        if is_file and file >= len(self.files):
+            return error("EBADF"), None
+        if kind == "shared" and "w" in prot and self.files[file].read_only:
+            return error("EACCES"), None
+        if is_file and offset // PAGE + count > 1 << 32:
+            return error("EOVERFLOW"), None
+        first = self.place(space, addr, count, bool(mode))
+        if first is None:
+            return error("ENOMEM"), None
+        if mode == "noreplace" and within(space, range(first, first + count)):
+            return error("EEXIST"), None
+        backing = Backing(kind, file, offset // PAGE) if is_file else Backing("anon")
+        after = {**space, **{first + k: View(prot, backing.following(k)) for k in range(count)}}
+        if runs(after) > MOST_RUNS:
+            return error("ENOMEM"), None
+        return f"addr {PAGE * first:#x}", lambda: self.spaces.update({pid: after})
+
+    def munmap(self, pid, addr, length):
+        space = self.spaces.get(pid)
+        if space is None:
+            return error("ESRCH"), None
+        if length == 0 or addr % PAGE:
+            return error("EINVAL"), None
+        gone = set(within(space, pages_of(addr, length)))
+        after = {page: view for page, view in space.items() if page not in gone}
+        if runs(after) > MOST_RUNS:
+            return error("ENOMEM"), None
+        return "ok", lambda: self.spaces.update({pid: after})
+
+    def covering(self, pid, addr, length):
+        """What refuses a call on a range that has to be mapped, or answers one on an empty range."""
+        space = self.spaces.get(pid)
+        if space is None:
+            return error("ESRCH")
+        if addr % PAGE:
+            return error("EINVAL")
+        if length == 0:
+            return "ok"
+        return None if is_covered(space, pages_of(addr, length)) else error("ENOMEM")
+
+    def mprotect(self, pid, addr, length, prot):
+        reply = self.covering(pid, addr, length)
+        if reply:
+            return reply, None
+        space, pages = self.spaces[pid], pages_of(addr, length)
+        backings = [space[page].backing for page in pages]
+        if "w" in prot and any(b.kind == "shared" and self.files[b.file].read_only for b in backings):
+            return error("EACCES"), None
+        after = {**space, **{page: replace(space[page], prot=prot) for page in pages}}
+        if runs(after) > MOST_RUNS:
+            return error("ENOMEM"), None
+        return "ok", lambda: self.spaces.update({pid: after})
+
+    def dontneed(self, pid, addr, length):
+        reply = self.covering(pid, addr, length)
+        if reply:
+            return reply, None
+        space = self.spaces[pid]
+        after = {**space, **{page: replace(space[page], own=None) for page in pages_of(addr, length)}}
+        return "ok", lambda: self.spaces.update({pid: after})
+
+    def msync(self, pid, addr, length, is_async):
+        reply = self.covering(pid, addr, length)
+        if reply or is_async:
+            return reply or "ok", None
+        backings = {self.spaces[pid][page].backing for page in pages_of(addr, length)}
+        chosen = {(b.file, b.page) for b in backings if b.kind == "shared"} & self.touched
+        if len(chosen) > MOST_PAGES:
+            return error("ENOSPC"), None
+        return "ok", (lambda: self.commit(chosen)) if chosen else None
+
+    def commit(self, chosen):
+        for number, page in chosen:
+            file = self.files[number]
+            file.durable[page] = file.volatile[page] = file.trimmed(page)
+        self.touched -= chosen
+
+    # accesses
+
+    def shown(self, view):
+        if view.own is not None:
+            return view.own
+        return bytes(PAGE) if view.backing.kind == "anon" else self.files[view.backing.file].volatile[view.backing.page]
+
+    def fault_of(self, space, kind, addr, width):
+        """The first test of an access that holds."""
+        view = space.get(addr // PAGE)
+        if addr % width:
+            return f"{MISALIGNED[kind]} BUS_ADRALN {addr:#x}"
+        if view is None:
+            return f"{PAGE_FAULT[kind]} SEGV_MAPERR {addr:#x}"
+        if NEEDED[kind] not in view.prot:
+            return f"{PAGE_FAULT[kind]} SEGV_ACCERR {addr:#x}"
+        backing = view.backing
+        if backing.kind != "anon" and PAGE * backing.page >= self.files[backing.file].length:
+            return f"{PAGE_FAULT[kind]} BUS_ADRERR {addr:#x}"
+        return None
+
+    def access(self, kind, pid, addr, width, value=None):
+        space = self.spaces.get(pid)
+        if space is None:
+            return error("ESRCH"), None
+        fault = self.fault_of(space, kind, addr, width)
+        if fault:
+            return f"fault {fault}", lambda: self.past.append(f"past {pid} {fault}")
+        view, at = space[addr // PAGE], addr % PAGE
+        if kind == "store":
+            return "ok", lambda: self.put(space, addr // PAGE, at, value.to_bytes(width, "little"))
+        number = int.from_bytes(self.shown(view)[at:at + width], "little")
+        return f"value {number:#0{2 + 2 * width}x}", None
+
+    def put(self, space, page, at, new):
+        view = space[page]
+        old = self.shown(view)
+        after = old[:at] + new + old[at + len(new):]
+        if view.backing.kind == "shared":
+            self.files[view.backing.file].volatile[view.backing.page] = after
+            self.touched.add((view.backing.file, view.backing.page))
+        else:
+            space[page] = replace(view, own=after)
+
+    def load(self, pid, addr, width):
+        return self.access("load", pid, addr, width)
+
+    def store(self, pid, addr, width, value):
+        return self.access("store", pid, addr, width, value)
+
+    def fetch(self, pid, addr):
+        return self.access("fetch", pid, addr, 4)
+
+    def faults(self):
+        return "\n".join([f"faults {len(self.past)}", *self.past]), None
+
+
+NUMBER = re.compile(r"[0-9]+|0x[0-9a-fA-F]+")
+FORMS = {"spawn": 0, "fork": 1, "exit": 1, "munmap": 3, "dontneed": 3, "fetch": 2, "faults": 0}
+
+
+class BadLine(Exception):
+    pass
+
+
+def number(word, end=1 << 64):
+    if not NUMBER.fullmatch(word):
+        raise BadLine
+    value = int(word, 16) if word.startswith("0x") else int(word)
+    if value >= end:
+        raise BadLine
+    return value
+
+
+def permission(word):
+    if len(word) != 3 or any(c not in (p, "-") for c, p in zip(word, "rwx")):
+        raise BadLine
+    found = set(word) - {"-"}
+    return frozenset(found | {"r"} if "w" in found else found)
+
+
+def mapping(words):
+    """The words of an mmap behind its name."""
+    if len(words) < 5:
+        raise BadLine
+    *ranged, prot, kind = words[:5]
+    count = {"anon": 0, "private": 2, "shared": 2}.get(kind)
+    if count is None or not count <= len(words) - 5 <= count + 1:
+        raise BadLine
+    mode = words[5 + count] if len(words) > 5 + count else None
+    if mode not in (None, "fixed", "noreplace"):
+        raise BadLine
+    file, offset = [number(word) for word in words[5:5 + count]] or [0, 0]
+    return ("mmap", *map(number, ranged), permission(prot), kind, file, offset, mode)
+
+
+def command_of(line):
+    """The command that a line stands for; none where it is a bad line."""
+    try:
+        if len(line) > 256:
+            raise BadLine
+        name, *words = line.decode("ascii").split(" ")
+        if name in FORMS and len(words) == FORMS[name]:
+            return (name, *map(number, words))
+        if name == "mmap":
+            return mapping(words)
+        if name == "mprotect" and len(words) == 4:
+            return (name, *map(number, words[:3]), permission(words[3]))
+        if name == "msync" and len(words) == 4 and words[3] in ("sync", "async"):
+            return (name, *map(number, words[:3]), words[3] == "async")
+        if name in ("load", "store") and len(words) == (3 if name == "load" else 4):
+            pid, addr, width = map(number, words[:3])
+            if width not in (1, 2, 4, 8):
+                raise BadLine
+            return (name, pid, addr, width, *(number(word, 1 << 8 * width) for word in words[3:]))
+    except (BadLine, UnicodeDecodeError):
+        pass
+    return None
