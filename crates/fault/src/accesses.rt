@@ -56,6 +56,7 @@ pub fn access<D: SectorDisk, E>(
     ensures alone { (p : FilePage) → (ShowsFile (picture_of core.old) pid (addr / 4096) p → ⊥)
         → (picture_of core.new).place p ≡ (picture_of core.old).place p }
     ensures not_refused { OnOk result (core.new.refused.number ≡ core.old.refused.number) }
+    ensures device_calm { OnOk result (D.failures core.new.store.disk ≡ D.failures core.old.store.disk) }
     ensures refusal { IfErr result (IsRefusal D.SectorDisk core.old core.new pid addr width access) }
 {
     match find(core, pid, addr, width, access) {

@@ -27,6 +27,7 @@ pub(crate) fn cached<D: SectorDisk, E>(
     requires fit { IsFit (picture_of core.old) }
     requires store { IsReadyStore D.SectorDisk core.old.store }
     requires inside { IsPageOf (picture_of core.old).files page.file page.page }
+    ensures device_calm { OnOk result (D.failures core.new.store.disk ≡ D.failures core.old.store.disk) }
     ensures proceeds { Proceeds D.SectorDisk core.old core.new }
     ensures keeps { KeepsSeen (picture_of core.old) (picture_of core.new) }
     ensures placed { IfOk result (λ n. (picture_of core.new).place page ≡ Frame n) }

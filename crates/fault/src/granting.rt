@@ -40,6 +40,7 @@ pub(crate) fn grant<D: SectorDisk, E>(
     requires store { IsReadyStore D.SectorDisk core.old.store }
     requires lives { is_live (picture_of core.old) pid ≡ true }
     requires allowed { IsOpenTo (picture_of core.old) pid page access attr }
+    ensures device_calm { OnOk result (D.failures core.new.store.disk ≡ D.failures core.old.store.disk) }
     ensures proceeds { Proceeds D.SectorDisk core.old core.new }
     ensures granted { IfOk result (λ frame. IsGranted (picture_of core.old) (picture_of core.new) pid page attr access frame.0) }
     ensures not_refused { OnOk result (core.new.refused.number ≡ core.old.refused.number) }
@@ -69,6 +70,7 @@ fn grant_read<D: SectorDisk, E>(
     requires lives { is_live (picture_of core.old) pid ≡ true }
     requires mapped { (picture_of core.old).at pid page ≡ Some attr }
     requires inside { is_past_end (picture_of core.old).files attr.backing ≡ false }
+    ensures device_calm { OnOk result (D.failures core.new.store.disk ≡ D.failures core.old.store.disk) }
     ensures proceeds { Proceeds D.SectorDisk core.old core.new }
     ensures readable { IfOk result (λ frame. IsReadable (picture_of core.old) (picture_of core.new) pid page attr frame.0) }
     ensures not_refused { OnOk result (core.new.refused.number ≡ core.old.refused.number) }
@@ -106,6 +108,7 @@ fn grant_store<D: SectorDisk, E>(
     requires mapped { (picture_of core.old).at pid page ≡ Some attr }
     requires writable { can_write attr.prot ≡ true }
     requires inside { is_past_end (picture_of core.old).files attr.backing ≡ false }
+    ensures device_calm { OnOk result (D.failures core.new.store.disk ≡ D.failures core.old.store.disk) }
     ensures proceeds { Proceeds D.SectorDisk core.old core.new }
     ensures granted { IfOk result (λ frame. IsGranted (picture_of core.old) (picture_of core.new) pid page attr Access.Store frame.0) }
     ensures not_refused { OnOk result (core.new.refused.number ≡ core.old.refused.number) }
@@ -146,6 +149,7 @@ fn grant_own<D: SectorDisk, E>(
     requires inside { is_past_end (picture_of core.old).files attr.backing ≡ false }
     requires not_shared { is_shared attr.backing ≡ false }
     requires in_memory { is_private (entry (picture_of core.old) pid page) ≡ false → attr.backing ≡ Anon }
+    ensures device_calm { OnOk result (D.failures core.new.store.disk ≡ D.failures core.old.store.disk) }
     ensures proceeds { Proceeds D.SectorDisk core.old core.new }
     ensures granted { IfOk result (λ frame. IsGranted (picture_of core.old) (picture_of core.new) pid page attr Access.Store frame.0) }
     ensures not_refused { OnOk result (core.new.refused.number ≡ core.old.refused.number) }
@@ -176,6 +180,7 @@ fn grant_copy<D: SectorDisk, E>(
     requires inside { is_past_end (picture_of core.old).files attr.backing ≡ false }
     requires private { attr.backing ≡ Private file_page }
     requires common { is_private (entry (picture_of core.old) pid page) ≡ false }
+    ensures device_calm { OnOk result (D.failures core.new.store.disk ≡ D.failures core.old.store.disk) }
     ensures proceeds { Proceeds D.SectorDisk core.old core.new }
     ensures granted { IfOk result (λ frame. IsGranted (picture_of core.old) (picture_of core.new) pid page attr Access.Store frame.0) }
     ensures not_refused { OnOk result (core.new.refused.number ≡ core.old.refused.number) }
@@ -206,6 +211,7 @@ fn grant_shared<D: SectorDisk, E>(
     requires writable { can_write attr.prot ≡ true }
     requires inside { is_past_end (picture_of core.old).files attr.backing ≡ false }
     requires shared { attr.backing ≡ Shared file_page }
+    ensures device_calm { OnOk result (D.failures core.new.store.disk ≡ D.failures core.old.store.disk) }
     ensures proceeds { Proceeds D.SectorDisk core.old core.new }
     ensures granted { IfOk result (λ frame. IsGranted (picture_of core.old) (picture_of core.new) pid page attr Access.Store frame.0) }
     ensures not_refused { OnOk result (core.new.refused.number ≡ core.old.refused.number) }

@@ -26,7 +26,7 @@ impl<D: SectorDisk> FileStore<D> {
     /// # Errors
     ///
     /// `BadLayout` and `BadJournal` come exactly where the image is so, unless the device fails first; nothing was
-    /// written then. `Device` comes only where the device failed. Each fault hands the device back.
+    /// written then. `Device` comes exactly where the device failed. Each fault hands the device back.
     pub fn open(disk: D) -> Result<FileStore<D>, (OpenFault, D)>
         ensures ready { IfOk result (λ store. IsReadyStore D.SectorDisk store) }
         ensures bounded { IfOk result (λ store. AreBounded (files_of store)) }
@@ -54,6 +54,7 @@ impl<D: SectorDisk> FileStore<D> {
         ensures err_kept { IfErr result (λ e. D.keeps_model e.1 → D.keeps_model disk) }
         ensures err_later { IfErr result (λ e. D.failures disk ≤ D.failures e.1) }
         ensures device { IfErr result (λ e. e.0 ≡ OpenFault.Device → D.failures disk < D.failures e.1) }
+        ensures err_calm { IfErr result (λ e. (e.0 ≡ OpenFault.Device → ⊥) → D.failures e.1 ≡ D.failures disk) }
         ensures bad_layout { IfErr result (λ e. D.keeps_model e.1 → e.0 ≡ OpenFault.BadLayout → IsBadLayout (D.sector_count disk) (D.content disk)) }
         ensures bad_journal { IfErr result (λ e. D.keeps_model e.1 → e.0 ≡ OpenFault.BadJournal → IsBadJournal (D.sector_count disk) (D.content disk)) }
         // A bad layout is told before a bad journal.
@@ -90,6 +91,7 @@ fn mount<D: SectorDisk>(disk: &mut D) -> Result<Directory, OpenFault>
     ensures ok { IfOk result (λ directory. IsMounted D.SectorDisk disk.old disk.new directory) }
     ensures device { IsErrOf result OpenFault.Device → D.failures disk.old < D.failures disk.new }
     ensures calm { OnOk result (D.failures disk.new ≡ D.failures disk.old) }
+    ensures still { OnErr result ((IsErrOf result OpenFault.Device → ⊥) → D.failures disk.new ≡ D.failures disk.old) }
     ensures bad_layout { D.keeps_model disk.new → IsErrOf result OpenFault.BadLayout → IsBadLayout (D.sector_count disk.old) (D.content disk.old) }
     ensures bad_journal { D.keeps_model disk.new → IsErrOf result OpenFault.BadJournal → IsBadJournal (D.sector_count disk.old) (D.content disk.old) × (IsBadLayout (D.sector_count disk.old) (D.content disk.old) → ⊥) }
     ensures unwritten { D.keeps_model disk.new → OnErr result ((IsErrOf result OpenFault.Device → ⊥) → Touches D.SectorDisk Nothing disk.old disk.new) }
@@ -112,6 +114,7 @@ fn read_layout<D: SectorDisk>(disk: &mut D) -> Result<Directory, OpenFault>
     ensures good { D.keeps_model disk.new → OnOk result (IsBadLayout (D.sector_count disk.old) (D.content disk.old) → ⊥) }
     ensures device { IsErrOf result OpenFault.Device → D.failures disk.old < D.failures disk.new }
     ensures calm { OnOk result (D.failures disk.new ≡ D.failures disk.old) }
+    ensures still { OnErr result ((IsErrOf result OpenFault.Device → ⊥) → D.failures disk.new ≡ D.failures disk.old) }
     ensures bad { D.keeps_model disk.new → IsErrOf result OpenFault.BadLayout → IsBadLayout (D.sector_count disk.old) (D.content disk.old) }
     ensures no_journal { IsErrOf result OpenFault.BadJournal → ⊥ }
 {

@@ -1,5 +1,5 @@
 -- What the replies of a run say of devices and frames, counted.
-use Rattle.std.proofs.Common.{ℕ, ◌+◌, ◌≡◌, ◌≤◌, ◌<◌, List, [], ◌∷◌, refl, ap, subst, sym, arith}
+use Rattle.std.proofs.Common.{ℕ, ◌+◌, ◌≡◌, ◌≤◌, ◌<◌, Bool, true, false, if◌then◌else◌, List, [], ◌∷◌, refl, ap, ◌∙◌, subst, sym, sum_by, arith}
 use Rattle.std.proofs.lemmas.List.Sums.{sum_by-cons}
 use Rattle.disk_model.specs.declared.sector_disk.SectorDisk.{Ghosts}
 use Rattle.vm_types.specs.declared.refusal.Errno.{Errno}
@@ -8,11 +8,15 @@ use Rattle.vm_types.specs.declared.refusal.Stall.{Stall}
 use Rattle.vm_types.specs.declared.refusal.Stall.TheVariants.{NoFrames, NoSwap, SwapDevice, StoreDevice}
 use Rattle.vm_types.specs.declared.reply.Reply.{Reply}
 use Rattle.vm_types.specs.declared.reply.Reply.TheVariants.{Process, Address, Done, Value, Faulted, Refused, Stalled, Halted, Past}
-use Rattle.spaces.specs.Idle.{refused_count}
+use Rattle.spaces.specs.Idle.{names_store, refused_count}
 use Rattle.machine.specs.Chain.{Caused}
 use Rattle.machine.specs.Counts.{failed_count, Counts}
 use Rattle.machine.specs.Machine.{IsCaused}
 use Rattle.machine.specs.declared.machine.Machine.{Machine}
+
+not_counted : (b : Bool) (n : ℕ) → n ≡ (if b then 1 else 0) → n ≡ 0 → b ≡ false
+not_counted false n is none = refl
+not_counted true n is none = absurd (let one : n ≡ 1 = is in omega (arith, one, none))
 
 module _ {D E : Type 0} (g : Ghosts D) where
   refused_failed : (old new : Machine D E) (errno : Errno) → IsCaused g old new (Refused errno)
@@ -47,9 +51,14 @@ module _ {D E : Type 0} (g : Ghosts D) where
   failed_once old new Halted is = omega (arith, is.later)
   failed_once old new (Past past) is = omega (arith, is.later)
 
+  -- where the reply doesn't name the store
+  calm_once : (old new : Machine D E) (reply : Reply) → IsCaused g old new reply → failed_count reply ≡ 0
+      → g.failures new.core.store.disk ≡ g.failures old.core.store.disk
+  calm_once old new reply is none = is.calm (not_counted (names_store reply) (failed_count reply) refl none)
+
   pub counts : (old : Machine D E) (replies : List Reply) (new : Machine D E) → Caused g old replies new → Counts g old new replies
   counts old [] new same =
-      subst (λ (m : Machine D E). Counts g old m []) (sym same) (record { refused = omega arith; failed = omega arith })
+      subst (λ (m : Machine D E). Counts g old m []) (sym same) (record { refused = omega arith; failed = omega arith; calm = λ none. refl })
   counts old (r ∷ rs) new c =
       let mid = c.0 in
       let rest = counts mid rs new c.2 in
@@ -57,4 +66,8 @@ module _ {D E : Type 0} (g : Ghosts D) where
       record {
         refused = omega (arith, c.1.counted, rest.refused, sum_by-cons refused_count r rs);
         failed = omega (arith, once, rest.failed, sum_by-cons failed_count r rs);
+        calm = λ none.
+            let here : failed_count r ≡ 0 = omega (arith, none, sum_by-cons failed_count r rs) in
+            let there : sum_by failed_count rs ≡ 0 = omega (arith, none, sum_by-cons failed_count r rs) in
+            rest.calm there ∙ calm_once old mid r c.1 here;
       }

@@ -78,7 +78,7 @@ impl<D: SectorDisk, E: SectorDisk + Drop> Machine<D, E> {
     /// before the store is asked.
     ///
     /// `Frames`, `Slots`, `BadLayout` and `BadJournal` come exactly where their texts say, unless an earlier one
-    /// comes; `Device` only where the store device failed in this call. Each fault hands the store back.
+    /// comes; `Device` exactly where the store device failed in this call. Each fault hands the store back.
     pub fn boot(
         alloc: Global,
         config: Config,
@@ -92,6 +92,7 @@ impl<D: SectorDisk, E: SectorDisk + Drop> Machine<D, E> {
         ensures size { IfOk result (λ m. D.sector_count m.core.store.disk ≡ D.sector_count store) }
         ensures kept { IfOk result (λ m. D.keeps_model m.core.store.disk → D.keeps_model store) }
         ensures later { IfOk result (λ m. D.failures store ≤ D.failures m.core.store.disk) }
+        ensures calm { IfOk result (λ m. D.failures m.core.store.disk ≡ D.failures store) }
         ensures frames { OnOk result (HasBadFrames config → ⊥) }
         ensures slots { OnOk result (HasBadSlots config (E.sector_count swap) → ⊥) }
         ensures layout { IfOk result (λ m. D.keeps_model m.core.store.disk → IsBadLayout (D.sector_count store) (D.content store) → ⊥) }
@@ -116,6 +117,7 @@ impl<D: SectorDisk, E: SectorDisk + Drop> Machine<D, E> {
         ensures bad_slots { IfErr result (λ e. e.0 ≡ BootFault.Slots → HasBadSlots config (E.sector_count swap)) }
         ensures only_slots { IfErr result (λ e. (HasBadFrames config → ⊥) → HasBadSlots config (E.sector_count swap) → e.0 ≡ BootFault.Slots) }
         ensures device { IfErr result (λ e. e.0 ≡ BootFault.Device → D.failures store < D.failures e.1) }
+        ensures err_calm { IfErr result (λ e. (e.0 ≡ BootFault.Device → ⊥) → D.failures e.1 ≡ D.failures store) }
         ensures bad_layout { IfErr result (λ e. D.keeps_model e.1 → e.0 ≡ BootFault.BadLayout → IsBadLayout (D.sector_count store) (D.content store)) }
         ensures bad_journal { IfErr result (λ e. D.keeps_model e.1 → e.0 ≡ BootFault.BadJournal → IsBadJournal (D.sector_count store) (D.content store)) }
         // A bad layout is told before a bad journal.

@@ -155,7 +155,8 @@ impl<D: SectorDisk, E: SectorDisk> Machine<D, E> {
     }
 
     /// Carries out commands one after another, and writes the reply to each. Whatever the devices do, the store failed at
-    /// least once for each reply that names it, and as many requests for a frame were refused as replies name the want of one.
+    /// least once for each reply that names it, and not at all where none does, and as many requests for a frame were refused as
+    /// replies name the want of one.
     pub fn run(&mut self, commands: &[Command], replies: &mut [Reply])
         requires sound { IsSoundMachine D.SectorDisk E.SectorDisk self.old }
         requires lengths { length replies.old ≡ length commands.now }

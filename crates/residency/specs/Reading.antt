@@ -23,10 +23,10 @@ module _ {D : Type 0} (g : Ghosts D) where
   IsRead before after p bytes = g.keeps_model after → bytes ≡ standing_page (g.content before) p.file p.page
 
   module _ {E : Type 0} where
-    -- What a stall comes from; there is no other yet. For the want of a frame one request was refused, and for the store's
-    -- device, which failed, none.
+    -- What a stall comes from; there is no other yet. For the want of a frame one request was refused, and the store's device
+    -- counted no failure; for that device, which failed, none was.
     abbrev pub StallCause : Core D E → Core D E → Stall → Type 0
-    StallCause old new NoFrames = new.refused.number ≡ old.refused.number + 1
+    StallCause old new NoFrames = (new.refused.number ≡ old.refused.number + 1) × (g.failures new.store.disk ≡ g.failures old.store.disk)
     StallCause old new NoSwap = ⊥
     StallCause old new SwapDevice = ⊥
     StallCause old new StoreDevice = (new.refused.number ≡ old.refused.number) × (g.failures old.store.disk < g.failures new.store.disk)

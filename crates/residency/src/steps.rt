@@ -67,8 +67,8 @@ impl<D: SectorDisk, E> Core<D, E> {
     /// Reads a file page, which begins inside its file and lies at home, into a free frame: it lies there afterwards.
     ///
     /// # Errors
-    /// `NoFrames` exactly where no frame is free; then the store isn't read. `StoreDevice` where its device failed. The page stays
-    /// at home then, and no frame is taken.
+    /// `NoFrames` exactly where no frame is free; then the store isn't read. `StoreDevice` exactly where its device failed. The page
+    /// stays at home then, and no frame is taken.
     pub fn bring_in(&mut self, page: FilePage) -> Result<FrameNo, Stall>
         requires steady { IsSteady (picture_of self.old) }
         requires store { IsReadyStore D.SectorDisk self.old.store }
@@ -83,6 +83,7 @@ impl<D: SectorDisk, E> Core<D, E> {
         ensures steady { OnErr result (IsSteady (picture_of self.new)) }
         ensures used { OnErr result (KeepsUsed (picture_of self.old) (picture_of self.new)) }
         ensures not_refused { OnOk result (self.new.refused.number ≡ self.old.refused.number) }
+        ensures calm { OnOk result (D.failures self.new.store.disk ≡ D.failures self.old.store.disk) }
         ensures cause { IfErr result (StallCause D.SectorDisk self.old self.new) }
         ensures none_free { IsErrOf result NoFrames ↔ IsFull self.old.frames }
         ensures unread { IsErrOf result NoFrames → self.new.store ≡ self.old.store }

@@ -27,6 +27,7 @@ module _ {D E : Type 0} (g : Ghosts D) (h : Ghosts E) where
     pub swap_device : old.core.swap ≡ swap
     pub size : g.sector_count old.core.store.disk ≡ g.sector_count store
     pub later : g.failures store ≤ g.failures old.core.store.disk
+    pub calm : g.failures old.core.store.disk ≡ g.failures store
     pub kept : g.keeps_model new.core.store.disk → g.keeps_model old.core.store.disk
     pub honest : g.keeps_model old.core.store.disk → g.keeps_model store
     pub layout : g.keeps_model old.core.store.disk → IsBadLayout (g.sector_count store) (g.content store) → ⊥

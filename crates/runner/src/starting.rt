@@ -21,7 +21,7 @@ use std::io::{Read, Write};
 ///
 /// Where the machine does not start, nothing was read or written, and the store device is handed back with the fault:
 /// `Frames`, `Slots`, `BadLayout` and `BadJournal` exactly where the sizes or the image are so, in this order, unless another
-/// fault comes first; `Device` only where the store device failed; `OutOfMemory` for want of memory (`Machine::boot`).
+/// fault comes first; `Device` exactly where the store device failed; `OutOfMemory` for want of memory (`Machine::boot`).
 pub fn run_on<R: Read, W: Write, D: SectorDisk, E: SectorDisk + Drop>(
     alloc: Global,
     config: Config,
@@ -52,6 +52,7 @@ pub fn run_on<R: Read, W: Write, D: SectorDisk, E: SectorDisk + Drop>(
     ensures bad_slots { IfErr result (λ e. e.0 ≡ BootFault.Slots → HasBadSlots config (E.sector_count swap)) }
     ensures only_slots { IfErr result (λ e. (HasBadFrames config → ⊥) → HasBadSlots config (E.sector_count swap) → e.0 ≡ BootFault.Slots) }
     ensures device { IfErr result (λ e. e.0 ≡ BootFault.Device → D.failures store < D.failures e.1) }
+    ensures err_calm { IfErr result (λ e. (e.0 ≡ BootFault.Device → ⊥) → D.failures e.1 ≡ D.failures store) }
     ensures bad_layout { IfErr result (λ e. D.keeps_model e.1 → e.0 ≡ BootFault.BadLayout → IsBadLayout (D.sector_count store) (D.content store)) }
     ensures bad_journal { IfErr result (λ e. D.keeps_model e.1 → e.0 ≡ BootFault.BadJournal → IsBadJournal (D.sector_count store) (D.content store)) }
     // A bad layout is told before a bad journal.

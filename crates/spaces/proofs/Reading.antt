@@ -56,7 +56,7 @@ module _ {D E : Type 0} (g : Ghosts D) (old new : Core D E) (s : State) (pid add
     (frames : needs_frames command ≡ true) (files : reads_files command ≡ true) where
   stalls : (stall : Stall) (v : View) → verdict_of (picture_of old) pid addr width kind ≡ Fine v → StallCause g old new stall → ShowsPages (picture_of new) s
       → Comes g old new s command (Stalled stall)
-  stalls NoFrames v is cause shows = Stalls NoFrames (record { otherwise = fine v is; open_to = frames; cause = omega (arith, cause) }) refl shows
+  stalls NoFrames v is cause shows = Stalls NoFrames (record { otherwise = fine v is; open_to = frames; cause = cause.0 }) refl shows
   stalls NoSwap v is cause shows = absurd cause
   stalls SwapDevice v is cause shows = absurd cause
   stalls StoreDevice v is cause shows = Stalls StoreDevice (record { otherwise = fine v is; open_to = files; cause = cause.1 }) refl shows

@@ -1,5 +1,5 @@
 -- What a call comes to.
-use Rattle.std.specs.Prelude.{◌≡◌, ◌+◌, ◌<◌, ◌≤◌, true}
+use Rattle.std.specs.Prelude.{◌≡◌, ◌+◌, ◌<◌, ◌≤◌, true, false}
 use Rattle.disk_model.specs.declared.sector_disk.SectorDisk.{Ghosts}
 use Rattle.residency.specs.declared.kernel.Core.{Core}
 use Rattle.residency.specs.Picture.{picture_of}
@@ -14,7 +14,7 @@ use Rattle.vm_types.specs.declared.reply.Reply.TheVariants.{Refused, Stalled}
 use Rattle.vm_types.specs.Stalls.{Causes, MayStall, reads_files}
 use Rattle.vm_types.specs.State.{State}
 use Rattle.vm_types.specs.Step.{outcome}
-use Rattle.spaces.specs.Idle.{refused_count}
+use Rattle.spaces.specs.Idle.{names_store, refused_count}
 
 module _ {D E : Type 0} (g : Ghosts D) where
   -- what came to pass between two states of memory; nothing is swapped yet
@@ -36,10 +36,11 @@ module _ {D E : Type 0} (g : Ghosts D) where
   Carries old new command reply =
       (s : State) → Shows g old s → (reads_files command ≡ true → g.keeps_model new.store.disk) → Comes old new s command reply
 
-  -- Whatever the devices do: a reply names a device or the want of a frame only where it failed in the call, or was refused.
-  -- No failure is forgotten, and a request for a frame was refused exactly where the reply says so, and no more than one.
+  -- Whatever the devices do: a reply names the store's device or the want of a frame exactly where that failed in the call, or was
+  -- refused. No failure is forgotten, neither an earlier one nor one in the call, and no more than one request was refused.
   pub record IsCaused (old new : Core D E) (reply : Reply) : Type 0 where
     pub later : g.failures old.store.disk ≤ g.failures new.store.disk
+    pub calm : names_store reply ≡ false → g.failures new.store.disk ≡ g.failures old.store.disk
     pub counted : new.refused.number ≡ old.refused.number + refused_count reply
     pub failed : reply ≡ Refused EIO → g.failures old.store.disk < g.failures new.store.disk
     pub stalled : (stall : Stall) → reply ≡ Stalled stall → StallCause g old new stall

@@ -1,4 +1,5 @@
--- What replies and commands say of devices and frames: which leave both devices alone, and which refused a frame. Our own.
+-- What replies and commands say of devices and frames: which leave both devices alone, which name a failure of the store, and
+-- which refused a frame. Our own.
 use Rattle.std.specs.Prelude.{ℕ, Bool, true, false, not, if◌then◌else◌, is_some}
 use Rattle.vm_types.specs.declared.command.Command.{Command}
 use Rattle.vm_types.specs.declared.command.Command.TheVariants.{Spawn, Fork, Exit, Mmap, Munmap, Mprotect, Dontneed, Msync, Load, Store, Fetch, PastFaults}
@@ -40,6 +41,25 @@ is_denial (Past past) = false
 -- whether a command so answered asked no device
 abbrev pub is_idle : State → Command → Reply → Bool
 is_idle s command reply = if may_ask s command then is_denial reply else true
+
+-- whether a command that stalls so names a failure of the store's device
+abbrev pub stalls_store : Stall → Bool
+stalls_store NoFrames = false
+stalls_store NoSwap = false
+stalls_store SwapDevice = false
+stalls_store StoreDevice = true
+
+-- whether a reply names one: an msync was answered EIO, or a command stalled for that device
+abbrev pub names_store : Reply → Bool
+names_store (Refused errno) = is_io_error errno
+names_store (Stalled stall) = stalls_store stall
+names_store (Process pid) = false
+names_store (Address addr) = false
+names_store Done = false
+names_store (Value width value) = false
+names_store (Faulted fault) = false
+names_store Halted = false
+names_store (Past past) = false
 
 -- how many requests for a frame were refused where a command stalls so
 abbrev pub refused_by : Stall → ℕ

@@ -33,7 +33,7 @@ use vm_types::{Answer, Errno, FilePage, FrameNo, MSYNC_PAGES, MsyncMode};
 /// says D of them. Where there is none, and where the call is asynchronous, the store isn't asked.
 ///
 /// `ESRCH` where no such process lives, `EINVAL` where `addr` is no multiple of 4,096, `ENOMEM` where a page of the range
-/// isn't mapped, `ENOSPC` where there are more than 127 such pages; nothing is changed then. `EIO` comes only where the
+/// isn't mapped, `ENOSPC` where there are more than 127 such pages; nothing is changed then. `EIO` comes exactly where the
 /// store failed in this call, which then isn't to be called again; memory is as it was.
 ///
 /// Its time is that of the touched pages times the runs of all processes, however long they are.
@@ -57,6 +57,7 @@ pub fn msync<D: SectorDisk, E>(
     ensures room { KeepsRoom core.old core.new }
     ensures later { D.failures core.old.store.disk ≤ D.failures core.new.store.disk }
     ensures cause { result ≡ Answer.Refused EIO → D.failures core.old.store.disk < D.failures core.new.store.disk }
+    ensures calm { result ≢ Answer.Refused EIO → D.failures core.new.store.disk ≡ D.failures core.old.store.disk }
     ensures no_stall { (stall : Stall) → result ≡ Answer.Stalled stall → ⊥ }
     ensures refused { core.new.refused ≡ core.old.refused }
     ensures entries { KeepsEntries (picture_of core.old) (picture_of core.new) }
@@ -84,6 +85,7 @@ fn commit<D: SectorDisk, E>(core: &mut Core<D, E>, chosen: &Chosen) -> Answer
     ensures room { KeepsRoom core.old core.new }
     ensures later { D.failures core.old.store.disk ≤ D.failures core.new.store.disk }
     ensures cause { result ≡ Answer.Refused EIO → D.failures core.old.store.disk < D.failures core.new.store.disk }
+    ensures calm { result ≢ Answer.Refused EIO → D.failures core.new.store.disk ≡ D.failures core.old.store.disk }
     ensures no_stall { (stall : Stall) → result ≡ Answer.Stalled stall → ⊥ }
     ensures refused { core.new.refused ≡ core.old.refused }
     ensures entries { KeepsEntries (picture_of core.old) (picture_of core.new) }

@@ -10,6 +10,7 @@ returns-clause-booted g c = record {
   swap_device = c.in-Ok.ensures.swap;
   size = c.in-Ok.ensures.size;
   later = c.in-Ok.ensures.later;
+  calm = c.in-Ok.ensures.calm;
   kept = c.run-end.ensures.kept;
   honest = c.in-Ok.ensures.kept;
   layout = c.in-Ok.ensures.layout;
