@@ -1,6 +1,6 @@
 -- What a fork leaves of the entries, since it began.
-use Rattle.std.proofs.Common.{◌≡◌, ◌≢◌, ℕ, inl, inr, ap, ◌∙◌}
-use Rattle.std.specs.Prelude.{Result, Ok, Err, OnErr}
+use Rattle.std.proofs.Common.{◌≡◌, ◌≢◌, ℕ, inl, inr, Option, Some, None, ap, ◌∙◌}
+use Rattle.std.specs.Prelude.{Result, Ok, Err, OnErr, IfSome}
 use Rattle.page_tables.specs.Tree.{IsPage}
 use Rattle.residency.specs.Picture.{Picture, entry}
 use Rattle.forks.specs.Steps.{lowered_entry, given_entry, CopiesEntries, LowersSome}
@@ -23,3 +23,8 @@ lowered_since old mid new after parent same lowers kept page h = elim (lowers pa
 pub on_err : {T E : Type 0} (r : Result T E) (P : Type 0) → P → OnErr r P
 on_err (Ok x) P p = tt
 on_err (Err e) P p = p
+
+-- of what is known, if anything is
+pub on_some : {T : Type 0} (o : Option T) (P Q : T → Type 0) → ((x : T) → P x → Q x) → IfSome o P → IfSome o Q
+on_some None P Q then p = tt
+on_some (Some x) P Q then p = then x p

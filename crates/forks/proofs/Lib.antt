@@ -1,6 +1,7 @@
 pub mod Sharers
 pub mod Weaker
 pub mod Lowered
+pub mod Rows
 pub mod Shared
 pub mod Passing
 pub mod Alike

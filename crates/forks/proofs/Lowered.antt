@@ -1,5 +1,5 @@
 -- The entry of a process's own page is set to a weaker one.
-use Rattle.std.proofs.Common.{◌≡◌, ◌≢◌, ℕ, inl, inr, true, List, Option, Some, sym, ap, ◌∙◌, subst}
+use Rattle.std.proofs.Common.{◌≡◌, ◌≢◌, ℕ, inl, inr, true, List, Option, Some, refl, sym, ap, ◌∙◌, subst}
 use Rattle.std.proofs.lemmas.Bool.{cases_eq, false≢true}
 use Rattle.vm_types.specs.declared.region.Attr.{Attr}
 use Rattle.frames.specs.declared.role.Role.{Role}
@@ -103,3 +103,15 @@ module _ (old new : Picture) (pid r page e : ℕ) (fit : IsFit old) (root : old.
 
   pub files_lowered : KeepsFiles old new
   files_lowered = files_set old new pid page e fit.places page_set
+
+-- the entry is as it was, where it had no W
+pub withdrawn_already : (c : Picture) (pid page e : ℕ) → entry c pid page ≡ e → is_private (entry c pid page) ≡ true → Weakens (entry c pid page) e → Withdraws c c pid page e
+withdrawn_already c pid page e here own weaker = record {
+  here = here;
+  lowered = weaker.number;
+  private = weaker.private ∙ own;
+  frame = weaker.frame;
+  unwritten = λ valid. weaker.unwritten (sym weaker.valid ∙ valid);
+  others = λ q p h other. refl;
+  views = λ q p. refl;
+}

@@ -14,9 +14,10 @@ use Rattle.page_tables.specs.Change.{SetsEntry}
 use Rattle.page_tables.specs.Tree.{IsPage, IsForest, IsRoot, IsTightBut, missing_of}
 use Rattle.page_tables.proofs.Data.{KeepsTrees, data_shared}
 use Rattle.page_tables.proofs.Ends.{SameTrees, way_forth}
+use Rattle.page_tables.proofs.Places.{row_same}
 use Rattle.page_tables.proofs.Tight.{tight_filled}
 use Rattle.residency.specs.Picture.{Picture, entry, is_private, view}
-use Rattle.residency.specs.Parts.{IsEntryFor, Nothing, Resident, IsBehind, IsFit, IsSteadyBut, IsSteady}
+use Rattle.residency.specs.Parts.{IsEntryFor, Nothing, Resident, IsBehind, IsFit, IsRootedBut, IsSteadyBut, IsSteady}
 use Rattle.residency.specs.Shows.{KeepsFiles}
 use Rattle.residency.specs.Steps.{SameBeside, SetsPage}
 use Rattle.residency.proofs.Entries.{entries_kept}
@@ -32,7 +33,7 @@ use Rattle.residency.proofs.Views.{view-common, views_same, views_set, sole_page
 use Rattle.page_entries.specs.Changes.{IsReady, KeepsEntries, KeepsViews, KeepsSpaces}
 use Rattle.page_entries.specs.Tables.{KeepsTables}
 use Rattle.processes.proofs.Keeping.{files_then}
-use Rattle.forks.specs.Steps.{without_write, lowered_entry, given_entry, LowersPage, Withdraws, GivesPage}
+use Rattle.forks.specs.Steps.{without_write, lowered_entry, given_entry, IsTableFor, LowersPage, Withdraws, GivesPage}
 use Rattle.forks.proofs.Lowered.{own_some, own_mapped, files_set, view_alike}
 
 -- a private frame is one of memory's
@@ -129,11 +130,14 @@ module _ (old mid : Picture) (n : ℕ) (steady : IsSteady old) (role : role_of o
     files = beside.files;
   }
 
+  pub rooted_shared : IsRootedBut mid 0
+  rooted_shared = rooted_same old mid 0 steady.rooted trees beside.root
+
   pub steady_one_more : ((q k : ℕ) → IsPage 2 k → is_valid (entry old q k) ≡ true → is_private (entry old q k) ≡ true → frame_of (entry old q k) ≡ n → can_write (entry old q k) ≡ false)
       → IsSteadyBut mid n 1 0
   steady_one_more unwritten = record {
     counted = counted_shared old mid n steady.counted shares beside.page_of (λ q k h. same_owner (entry old q k) (entry mid q k) (entries_shared q k));
-    rooted = rooted_same old mid 0 steady.rooted trees beside.root;
+    rooted = rooted_shared;
     granting = record {
       entries = λ q k h. (
           let here = entry_for-leaf old mid (old.at q k) (entry old q k) (behind_kept old mid beside)
@@ -158,6 +162,12 @@ module _ (old mid : Picture) (n : ℕ) (steady : IsSteady old) (role : role_of o
 
   pub whole_shared : (r page : ℕ) → IsRoot 2 old.frames r → missing_of old.frames 2 r page ≡ 0 → missing_of mid.frames 2 r page ≡ 0
   whole_shared r page is_root whole = trees.missing r page is_root ∙ whole
+
+  pub places_shared : (q row m : ℕ) → IsTableFor old q row m → IsTableFor mid q row m
+  places_shared q row m place r root =
+      let was : old.root q ≡ Some r = sym (beside.root q) ∙ root in
+      let table = (steady.rooted.roots q r was).table in
+      row_same old.frames mid.frames steady.rooted.forest trees.forest trees.same r row m table ((trees.tables r).0 table) (place r was)
 
   pub tight_shared : (r page : ℕ) → IsTightBut old.frames 2 r page → IsTightBut mid.frames 2 r page
   tight_shared r page tight = tight_but_same old.frames mid.frames steady.rooted.forest trees.forest trees.same 2 r page tight

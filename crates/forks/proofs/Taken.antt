@@ -20,7 +20,7 @@ use Rattle.residency.proofs.ProcessSteps.{one_some}
 use Rattle.residency.proofs.Start.{entry-dead, no_bit}
 use Rattle.page_entries.specs.Tables.{AddsTables, KeepsTables}
 use Rattle.processes.specs.Changes.{FreesTables, TakesRoot}
-use Rattle.forks.specs.Steps.{lowered_entry, without_write, HasCopy, HasThisCopy, KeepsEntriesBut, LowersSome}
+use Rattle.forks.specs.Steps.{lowered_entry, without_write, HasCopy, HasThisCopy, HasCopyFrom, KeepsEntriesBut, LowersSome}
 use Rattle.forks.proofs.Shared.{private_inside}
 use Rattle.forks.proofs.Weaker.{weaker_leaf}
 
@@ -177,12 +177,19 @@ module _ (P : ℕ → Type 0) (old mid new : Picture) (parent child r : ℕ) (fi
   pub roles_back : (n : ℕ) → role_of new.frames n ≡ role_of old.frames n
   roles_back n = role_back n (role_of old.frames n) refl
 
--- the one page, since the fork began
-pub this_copy : (start now : Picture) (parent page : ℕ) → ((p : ℕ) → IsPage 2 p → page ≤ p → entry now parent p ≡ entry start parent p)
-    → (p : ℕ) → HasThisCopy now parent page p → HasCopy start parent p
-this_copy start now parent page same p this =
+-- the pages from one on, since the fork began
+pub copies_from : (start now : Picture) (parent page : ℕ) → ((p : ℕ) → IsPage 2 p → page ≤ p → entry now parent p ≡ entry start parent p)
+    → (p : ℕ) → HasCopyFrom now parent page p → HasCopy start parent p
+copies_from start now parent page same p copy =
+    let h : IsPage 2 p = copy.1.0 in
+    (h, sym (ap is_private (same p h copy.0)) ∙ copy.1.1)
+
+-- the one page, since a step over some of them began
+pub this_copy : (start now : Picture) (parent page n : ℕ) → page ≤ n → ((p : ℕ) → IsPage 2 p → n ≤ p → entry now parent p ≡ entry start parent p)
+    → (p : ℕ) → HasThisCopy now parent n p → HasCopyFrom start parent page p
+this_copy start now parent page n first same p this =
     let h : IsPage 2 p = this.1.0 in
-    (h, sym (ap is_private (same p h (omega (arith, this.0)))) ∙ this.1.1)
+    (omega (arith, first, this.0), (h, sym (ap is_private (same p h (omega (arith, this.0)))) ∙ this.1.1))
 
 pub copy_since : (old mid : Picture) (parent : ℕ) → ((page : ℕ) → IsPage 2 page → entry mid parent page ≡ entry old parent page)
     → (p : ℕ) → HasCopy mid parent p → HasCopy old parent p

@@ -1,18 +1,18 @@
 -- An entry without W.
-use Rattle.std.proofs.Common.{◌≡◌, ℕ, ◌+◌, ◌-◌, ◌*◌, ◌/◌, ◌%◌, ◌^◌, ◌<◌, ◌≤◌, inl, inr, ◌⊎◌, ◌==◌, Bool, true, false, Option, refl, sym, ap, ◌∙◌, subst, arith, eqb-true}
+use Rattle.std.proofs.Common.{◌≡◌, ℕ, ◌+◌, ◌-◌, ◌*◌, ◌/◌, ◌%◌, ◌^◌, ◌<◌, ◌≤◌, inl, inr, ◌⊎◌, ◌==◌, Bool, true, false, Option, refl, sym, ap, ◌∙◌, arith, eqb-true}
 use Rattle.std.proofs.lemmas.Bool.{false≢true}
 use Rattle.vm_types.specs.declared.number.FrameNo.{FrameNo}
 use Rattle.vm_types.specs.declared.number.SlotNo.{SlotNo}
+use Rattle.sv39_walk.specs.declared.pte.Pte.{Pte}
 use Rattle.sv39_walk.specs.Entry.{has_bit, is_valid, can_write, is_leaf, frame_of}
 use Rattle.page_tables.specs.Entry.{number_of}
 use Rattle.page_tables.specs.declared.forms.Entry.{Entry}
-use Rattle.page_tables.specs.declared.forms.Entry.TheVariants.{None, Swapped, Parked}
+use Rattle.page_tables.specs.declared.forms.Entry.TheVariants.{None, Leaf, Swapped, Parked}
 use Rattle.vm_types.specs.declared.region.Attr.{Attr}
 use Rattle.residency.specs.Picture.{Picture, is_private}
 use Rattle.residency.specs.Parts.{IsEntryFor, Nothing, Resident}
 use Rattle.residency.proofs.Start.{no_bit}
 use Rattle.std.proofs.lemmas.Bool.{cases_Bool}
-use Rattle.std.specs.Prelude.{◌&&◌, if◌then◌else◌}
 use Rattle.forks.specs.Steps.{Weakens, without_write}
 
 bit_set : (e : ℕ) → can_write e ≡ true → e / 4 % 2 ≡ 1
@@ -96,18 +96,12 @@ own_same : (frame : FrameNo) (private : Bool) → Weakens (number_of (Parked fra
 own_same frame true = unchanged (frame.0 * 1024 + 260) (λ valid. absurd (own_valid frame.0 valid))
 own_same frame false = unchanged (frame.0 * 1024 + 4) (λ valid. absurd (parked_valid frame.0 valid))
 
-pub weaker_other : (entry : Entry)
-    → (entry ≡ None) ⊎ (((slot : SlotNo) × (entry ≡ Swapped slot)) ⊎ ((frame : FrameNo) × (private : Bool) × (entry ≡ Parked frame private)))
-    → Weakens (number_of entry) (number_of entry)
-weaker_other entry other =
-    let W : Entry → Type 0 = λ x. Weakens (number_of x) (number_of x) in
-    elim other [
-      | inl is ↦ subst W (sym is) (unchanged 0 (λ valid. absurd (nothing_valid valid)))
-      | inr more ↦ elim more [
-        | inl is ↦ subst W (sym is.1) (unchanged (is.0.0 * 1024 + 2) (λ valid. absurd (swapped_valid is.0.0 valid)))
-        | inr is ↦ subst W (sym is.2) (own_same is.0 is.1)
-      ]
-    ]
+-- an entry of another form
+pub weaker_other : (entry : Entry) → ((leaf : Pte) → entry ≡ Leaf leaf → ⊥) → Weakens (number_of entry) (number_of entry)
+weaker_other None other = unchanged 0 (λ valid. absurd (nothing_valid valid))
+weaker_other (Leaf leaf) other = absurd (other leaf refl)
+weaker_other (Swapped slot) other = unchanged (slot.0 * 1024 + 2) (λ valid. absurd (swapped_valid slot.0 valid))
+weaker_other (Parked frame private) other = own_same frame private
 
 -- it stands for the page as before
 pub weaker_for : (c : Picture) (attr : Option Attr) (e e' : ℕ) → is_private e ≡ true → Weakens e e' → IsEntryFor c attr e → IsEntryFor c attr e'

@@ -1,7 +1,8 @@
 -- What the steps of a fork leave.
-use Rattle.std.specs.Prelude.{◌≡◌, ◌≢◌, ℕ, ◌+◌, ◌-◌, ◌<◌, ◌≤◌, ◌^◌, ◌⊎◌, true, false, ◌&&◌, if◌then◌else◌}
+use Rattle.std.specs.Prelude.{◌≡◌, ◌≢◌, ℕ, ◌+◌, ◌-◌, ◌*◌, ◌/◌, ◌<◌, ◌≤◌, ◌^◌, ◌⊎◌, true, false, Some, ◌&&◌, if◌then◌else◌}
 use Rattle.sv39_walk.specs.Entry.{is_valid, can_read, can_write, can_execute, frame_of}
 use Rattle.page_tables.specs.Tree.{IsPage}
+use Rattle.page_tables.specs.Places.{IsTableOf}
 use Rattle.residency.specs.Picture.{Picture, entry, is_private, view}
 use Rattle.residency.specs.Shows.{KeepsFiles}
 use Rattle.page_entries.specs.Changes.{KeepsSpaces}
@@ -76,6 +77,14 @@ HasCopy c pid page = IsPage 2 page × (is_private (entry c pid page) ≡ true)
 abbrev pub HasThisCopy : Picture → ℕ → ℕ → ℕ → Type 0
 HasThisCopy c pid page p = (p ≡ page) × HasCopy c pid p
 
+-- the same, of each page from that one on
+abbrev pub HasCopyFrom : Picture → ℕ → ℕ → ℕ → Type 0
+HasCopyFrom c pid page p = (page ≤ p) × HasCopy c pid p
+
+-- the entries of the 512 pages of that row of a process stand in table n
+abbrev pub IsTableFor : Picture → ℕ → ℕ → ℕ → Type 0
+IsTableFor c pid row n = (r : ℕ) → c.root pid ≡ Some r → IsTableOf c.frames r row n
+
 -- Each entry of the parent is as it was, or that of a shared page.
 abbrev pub LowersSome : Picture → Picture → ℕ → Type 0
 LowersSome old new parent =
@@ -85,9 +94,15 @@ LowersSome old new parent =
 abbrev pub KeepsEntriesBut : Picture → Picture → ℕ → ℕ → Type 0
 KeepsEntriesBut old new parent child = (q page : ℕ) → IsPage 2 page → q ≢ parent → q ≢ child → entry new q page ≡ entry old q page
 
--- where a step over the pages ends: past all pages of a table of the parent that is missing, or past the one page
+-- of the entries of the parent those below that page are as they were, and each other one is, or it is that of a shared page
+pub record LowersFrom (old new : Picture) (parent child page : ℕ) : Type 0 where
+  pub below : (p : ℕ) → IsPage 2 p → p < page → entry new parent p ≡ entry old parent p
+  pub some : LowersSome old new parent
+  pub others : KeepsEntriesBut old new parent child
+
+-- where a step over the pages ends: past all pages of the lowest table of the parent, or of one that is missing
 abbrev pub IsNextPage : Picture → ℕ → ℕ → ℕ → Type 0
-IsNextPage c parent page next = (IsWhole c parent page × (next ≡ page + 1)) ⊎ IsGapEnd c parent page next
+IsNextPage c parent page next = (IsWhole c parent page × (next ≡ (page / 512 + 1) * 512)) ⊎ IsGapEnd c parent page next
 
 -- the entries of the pages from one up to, not including, another
 pub record CopiesUpTo (old new : Picture) (parent child page next : ℕ) : Type 0 where
@@ -111,7 +126,6 @@ pub record GivesPages (old new : Picture) (parent child : ℕ) : Type 0 where
 
 -- The same of the pages from one up to, not including, another; those below are as they were, and those above have no entry.
 pub record GivesUpTo (old new : Picture) (parent child page next : ℕ) : Type 0 where
-  pub later : page < next
   pub shown : (p : ℕ) → page ≤ p → p < next → view new child p ≡ view old parent p
   pub below : (p : ℕ) → p < page → view new child p ≡ view old child p
   pub bare : (p : ℕ) → next ≤ p → p < 2 ^ 26 → entry new child p ≡ 0

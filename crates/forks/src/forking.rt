@@ -17,7 +17,7 @@ use vm_types::{Pid, Stall};
 /// Makes a process of the number `child`, which no live process has, that is a copy of a live one: the same pages, with the
 /// same own copies (fork(2)). It takes frames for the child's tables alone, and copies no page: each own copy is shared
 /// until one of the two stores to it: both have its entry without W, and no other bit of it changes. It costs the parent's
-/// tables and resident pages, whatever is mapped.
+/// tables and their entries, whatever is mapped.
 ///
 /// # Errors
 /// `NoFrames` where a frame for a table can't be had: no frame is free for the root, or none is for a table on the way to a

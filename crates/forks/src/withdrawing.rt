@@ -1,18 +1,18 @@
 //! A page of a process's own that is about to be shared.
-ghost use Rattle.std.specs.Prelude.{◌≡◌, ◌<◌, ◌^◌, Some, true};
-ghost use Rattle.sv39_walk.specs.Entry.{is_valid, frame_of};
+ghost use Rattle.std.specs.Prelude.{◌≡◌, ℕ, ◌/◌, ◌<◌, ◌^◌, true, IfSome, IfNone};
+ghost use Rattle.sv39_walk.specs.Entry.{frame_of};
 ghost use Rattle.page_tables.specs.Entry.{number_of, IsEntry};
-ghost use Rattle.residency.specs.Picture.{picture_of, entry, is_private};
+ghost use Rattle.residency.specs.Picture.{picture_of, entry, is_live, is_private};
 ghost use Rattle.residency.specs.Parts.{IsFit};
 ghost use Rattle.residency.specs.Calls.{KeepsRest};
 ghost use Rattle.residency.specs.Shows.{KeepsFiles};
 ghost use Rattle.page_entries.specs.Changes.{KeepsSpaces};
 ghost use Rattle.page_entries.specs.Tables.{KeepsTables};
 ghost use Rattle.processes.specs.Changes.{TakesNoCopy};
-ghost use Rattle.forks.specs.Steps.{Weakens, Withdraws};
+ghost use Rattle.forks.specs.Steps.{IsTableFor, Weakens, Withdraws};
 
 use page_entries::is_private;
-use page_tables::{Entry, set};
+use page_tables::{Entry, set_in};
 use residency::Core;
 use sv39_walk::Pte;
 use vm_types::{FrameNo, Pid, Vpn};
@@ -33,23 +33,25 @@ pub(crate) fn is_own(entry: Entry) -> bool
 }
 
 /// Lets no store through to a page of which a live process has a copy of its own, and answers the page's entry. The frame
-/// may be shared then, and the next store is noticed (fork(2), copy-on-write). `root` is the process's root table, and
-/// `before` the page's entry so far.
+/// may be shared then, and the next store is noticed (fork(2), copy-on-write). The page's entry stands in that table of the
+/// process, and is `before` so far; it is written only where it has W.
 pub(crate) fn withdraw_write<D, E>(
     core: &mut Core<D, E>,
     pid: Pid,
-    root: FrameNo,
+    table: FrameNo,
     page: Vpn,
     before: Entry,
 ) -> Entry
     requires fit { IsFit (picture_of core.old) }
-    requires root { (picture_of core.old).root pid ≡ Some root.0 }
+    requires live { is_live (picture_of core.old) pid ≡ true }
+    requires place { IsTableFor (picture_of core.old) pid (page / 512) table.0 }
     requires form { IsEntry before }
     requires before { number_of before ≡ entry (picture_of core.old) pid page }
     requires own { is_private (entry (picture_of core.old) pid page) ≡ true }
     ensures fit { IsFit (picture_of core.new) }
     ensures form { IsEntry result }
     ensures withdrawn { Withdraws (picture_of core.old) (picture_of core.new) pid page (number_of result) }
+    ensures places { (q row n : ℕ) → IsTableFor (picture_of core.old) q row n → IsTableFor (picture_of core.new) q row n }
     ensures spaces { KeepsSpaces (picture_of core.old) (picture_of core.new) }
     ensures files { KeepsFiles (picture_of core.old) (picture_of core.new) }
     ensures rest { KeepsRest core.old core.new }
@@ -57,34 +59,28 @@ pub(crate) fn withdraw_write<D, E>(
     ensures tables { KeepsTables core.old.frames core.new.frames }
     ensures not_refused { core.new.refused ≡ core.old.refused }
 {
-    // (brings in that it is a user page)
-    let _ = page.get();
-    let after = without_write(before);
-    set(&mut core.frames, root, page, after);
+    let Some(after) = without_write(before) else {
+        return before;
+    };
+    let index = (page.get() % 512) as usize;
+    set_in(&mut core.frames, table, index, after);
     after
 }
 
-// The entry without W.
-fn without_write(entry: Entry) -> Entry
+// The entry without W, where it has it.
+fn without_write(entry: Entry) -> Option<Entry>
     requires { IsEntry entry }
-    ensures form { IsEntry result }
-    ensures weaker { Weakens (number_of entry) (number_of result) }
+    ensures form { IfSome result (λ after. IsEntry after) }
+    ensures weaker { IfSome result (λ after. Weakens (number_of entry) (number_of after)) }
+    ensures same { IfNone result (Weakens (number_of entry) (number_of entry)) }
 {
-    match entry {
-        Entry::Leaf(leaf) => Entry::Leaf(leaf_without_write(leaf)),
-        Entry::None | Entry::Swapped(_) | Entry::Parked(_, _) => entry,
+    let Entry::Leaf(leaf) = entry else {
+        return None;
+    };
+    if !leaf.is_writable() {
+        return None;
     }
-}
-
-fn leaf_without_write(leaf: Pte) -> Pte
-    requires { is_valid leaf.0 ≡ true }
-    ensures { Weakens leaf.0 result.0 }
-{
-    if leaf.is_writable() {
-        Pte::from_u64(leaf.to_u64() - WRITE)
-    } else {
-        leaf
-    }
+    Some(Entry::Leaf(Pte::from_u64(leaf.to_u64() - WRITE)))
 }
 
 /// The frame of a page that lies in one (RISC-V Privileged Specification, "Sv39 page table entry"; our own form where the

@@ -39,8 +39,8 @@ pub(crate) fn encode(entry: Entry) -> Pte
     }
 }
 
-// The entry that a number stands for.
-pub(crate) fn decode(number: Pte) -> Entry
+/// The entry that a number of a table stands for.
+pub fn decode(number: Pte) -> Entry
     requires { IsPageEntry number.0 }
     ensures number { number_of result ≡ number.0 }
     ensures form { IsEntry result }

@@ -7,7 +7,7 @@ mod tables;
 #[cfg(test)]
 mod tests;
 
-pub use forms::Entry;
+pub use forms::{Entry, decode};
 pub use tables::{
     entry, entry_number, link_table, missing_tables, number_in, prune, set, set_in, table_of,
     take_table,

@@ -15,8 +15,8 @@ use vm_types::{FrameNo, Pid, Vpn};
 /// The entries of a table.
 const TABLE_ENTRIES: u64 = 512;
 
-/// The user page of that number.
-pub(crate) fn user_page(number: u64) -> Vpn
+/// The user page of that number, from 16 up to, not including, 2 ^ 26.
+pub fn user_page(number: u64) -> Vpn
     requires low { 16 ≤ number }
     requires high { number < 2 ^ 26 }
     ensures { result ≡ number }
@@ -27,8 +27,8 @@ pub(crate) fn user_page(number: u64) -> Vpn
     page
 }
 
-/// The first page past those of the same lowest table.
-pub(crate) fn table_end(page: Vpn) -> u64
+/// The first page past those of the same lowest table; it can lie one past the user pages.
+pub fn table_end(page: Vpn) -> u64
     ensures { result ≡ (page / 512 + 1) * 512 }
 {
     (page.get() / TABLE_ENTRIES + 1) * TABLE_ENTRIES

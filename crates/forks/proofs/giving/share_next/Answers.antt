@@ -1,9 +1,8 @@
 use Rattle.residency.specs.Picture.{picture_of}
-use Rattle.std.proofs.Common.{ℕ, ◌+◌, inr, sym, subst}
-use Rattle.forks.specs.Steps.{CopiesUpTo}
-use Rattle.forks.proofs.Passing.{table_passed, table_copied, page_copied}
-use Rattle.forks.specs.Steps.{HasThisCopy}
+use Rattle.std.proofs.Common.{inl, inr}
 use Rattle.page_entries.proofs.Tables.{tables_same, adds_none}
+use Rattle.forks.specs.Steps.{HasCopyFrom}
+use Rattle.forks.proofs.Passing.{table_passed, table_copied}
 use Rattle.forks.proofs.giving.share_next.Goals as goal
 
 pub returns-in-Some-clause-given : goal.returns-in-Some-clause-given
@@ -18,14 +17,10 @@ returns-in-Some-clause-copied g c =
 pub returns-in-Some-clause-next : goal.returns-in-Some-clause-next
 returns-in-Some-clause-next g c = inr c.in-Some.ensures.end
 
-pub returns-clause-copied : goal.returns-clause-copied
-returns-clause-copied g c =
-    let P : ℕ → Type 0 = λ x. CopiesUpTo (picture_of c.args.core.now) (picture_of c.share_page.new.core) c.args.parent c.args.child c.args.page (x + 1) in
-    subst P (sym c.get.ensures.number)
-    (page_copied (picture_of c.args.core.now) (picture_of c.share_page.new.core) c.args.parent c.args.child c.args.page c.requires.apart
-    c.in_ok-share_page.ensures.given c.share_page.ensures.lowered)
-
 pub returns-in-Some-clause-tables : goal.returns-in-Some-clause-tables
-returns-in-Some-clause-tables g c r e =
-    adds_none (HasThisCopy (picture_of c.args.core.now) c.args.parent c.args.page) c.args.core.now.frames c.args.core.now.frames r
+returns-in-Some-clause-tables g c r is =
+    adds_none (HasCopyFrom (picture_of c.args.core.now) c.args.parent c.args.page) c.args.core.now.frames c.args.core.now.frames r
     (tables_same c.args.core.now.frames)
+
+pub returns-clause-next : goal.returns-clause-next
+returns-clause-next g c = inl (c.in_default.ensures.whole, c.table_end-end.ensures)

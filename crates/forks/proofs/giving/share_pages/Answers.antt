@@ -1,13 +1,13 @@
-use Rattle.std.proofs.Common.{◌≡◌, ℕ, ◌≤◌, ◌^◌, Some, inl, inr, refl, ◌∙◌, subst}
+use Rattle.std.proofs.Common.{◌≡◌, ℕ, ◌<◌, ◌≤◌, ◌^◌, Some, inl, inr, refl, ◌∙◌, subst}
 use Rattle.residency.specs.Picture.{Picture}
 use Rattle.ranges.proofs.ClearedPages.{rest_then}
-use Rattle.forks.specs.Steps.{LowersPage, LowersSome, CopiesUpTo, GivesUpTo}
+use Rattle.forks.specs.Steps.{LowersFrom, LowersSome, CopiesUpTo, GivesUpTo}
 use Rattle.forks.proofs.Copied.{on_err}
 use Rattle.std.proofs.lemmas.Bool.{cases_lt, false≢true}
 use Rattle.residency.specs.Picture.{picture_of}
 use Rattle.forks.proofs.Passing.{passed_none, passed_more, passed_all, copied_none, copied_more, copied_all, some_lowered}
-use Rattle.forks.specs.Steps.{HasCopy, HasThisCopy}
-use Rattle.forks.proofs.Taken.{this_copy}
+use Rattle.forks.specs.Steps.{HasCopy, HasCopyFrom}
+use Rattle.forks.proofs.Taken.{copies_from}
 use Rattle.page_entries.specs.Tables.{AddsTables, FallsShort}
 use Rattle.page_entries.proofs.Tables.{tables_same, adds_none, adds_then, adds_wider, short_then, short_wider}
 use Rattle.forks.proofs.giving.share_pages.Goals as goal
@@ -52,18 +52,20 @@ loop-page-preserved g c =
     let at : c.in-Some.page ≡ c.loop-page.number = c.in-Some.ensures.found in
     let P : ℕ → Type 0 = λ x. GivesUpTo old new c.args.parent c.args.child x next in
     let Q : ℕ → Type 0 = λ x. CopiesUpTo old new c.args.parent c.args.child x next in
+    let F : ℕ → Type 0 = λ x. x < next in
+    let later = subst F at step.further in
     let gives = subst P at step.given in (
       step.fit,
-      passed_more start old new c.args.parent c.args.child c.loop-page.number next c.requires.apart k.1 gives step.others step.spaces step.files,
+      passed_more start old new c.args.parent c.args.child c.loop-page.number next c.requires.apart later k.1 gives step.others step.spaces step.files,
       rest_then c.args.core.now c.loop-page.core c.share_next.new.core k.2 step.rest,
       λ n e. k.3 n (step.copies n e),
       step.not_refused ∙ k.4,
-      copied_more start old new c.args.parent c.args.child c.loop-page.number next gives.later k.5 (subst Q at step.copied),
+      copied_more start old new c.args.parent c.args.child c.loop-page.number next later k.5 (subst Q at step.copied),
       λ r e. (
-          let N : ℕ → Type 0 = λ x. AddsTables (HasThisCopy old c.args.parent x) old.frames new.frames r in
+          let N : ℕ → Type 0 = λ x. AddsTables (HasCopyFrom old c.args.parent x) old.frames new.frames r in
           adds_then (HasCopy start c.args.parent) start.frames old.frames new.frames r (k.6 r e)
-          (adds_wider (HasThisCopy old c.args.parent c.loop-page.number) (HasCopy start c.args.parent) old.frames new.frames r
-          (this_copy start old c.args.parent c.loop-page.number k.5.above) (subst N at (step.tables r (k.1.spaces.root c.args.child ∙ e))))),
+          (adds_wider (HasCopyFrom old c.args.parent c.loop-page.number) (HasCopy start c.args.parent) old.frames new.frames r
+          (copies_from start old c.args.parent c.loop-page.number k.5.above) (subst N at (step.tables r (k.1.spaces.root c.args.child ∙ e))))),
     )
 
 pub returns-in_err-number-clause-lowered : goal.returns-in_err-number-clause-lowered
@@ -73,9 +75,9 @@ returns-in_err-number-clause-lowered g c =
     let new : Picture = picture_of c.share_next.new.core in
     let k = c.loop-page.invariant in
     let at : c.in-Some.page ≡ c.loop-page.number = c.in-Some.ensures.found in
-    let P : ℕ → Type 0 = λ x. LowersPage old new c.args.parent c.args.child x in
+    let P : ℕ → Type 0 = λ x. LowersFrom old new c.args.parent c.args.child x in
     on_err c.from_residual.result (LowersSome start new c.args.parent)
-    (some_lowered start old new c.args.parent c.args.child c.loop-page.number c.requires.apart k.5 (subst P at c.in_err-number.ensures.lowered)
+    (some_lowered start old new c.args.parent c.args.child c.loop-page.number k.5 (subst P at c.in_err-number.ensures.lowered)
     c.requires.fit.granting k.0.granting)
 
 pub returns-in_err-number-clause-tables : goal.returns-in_err-number-clause-tables
@@ -85,10 +87,10 @@ returns-in_err-number-clause-tables g c r e =
     let new : Picture = picture_of c.share_next.new.core in
     let k = c.loop-page.invariant in
     let at : c.in-Some.page ≡ c.loop-page.number = c.in-Some.ensures.found in
-    let N : ℕ → Type 0 = λ x. AddsTables (HasThisCopy old c.args.parent x) old.frames new.frames r in
+    let N : ℕ → Type 0 = λ x. AddsTables (HasCopyFrom old c.args.parent x) old.frames new.frames r in
     adds_then (HasCopy start c.args.parent) start.frames old.frames new.frames r (k.6 r e)
-    (adds_wider (HasThisCopy old c.args.parent c.loop-page.number) (HasCopy start c.args.parent) old.frames new.frames r
-    (this_copy start old c.args.parent c.loop-page.number k.5.above) (subst N at (c.in_err-number.ensures.tables r (k.1.spaces.root c.args.child ∙ e))))
+    (adds_wider (HasCopyFrom old c.args.parent c.loop-page.number) (HasCopy start c.args.parent) old.frames new.frames r
+    (copies_from start old c.args.parent c.loop-page.number k.5.above) (subst N at (c.in_err-number.ensures.tables r (k.1.spaces.root c.args.child ∙ e))))
 
 pub returns-in_err-number-clause-short : goal.returns-in_err-number-clause-short
 returns-in_err-number-clause-short g c =
@@ -98,7 +100,7 @@ returns-in_err-number-clause-short g c =
     let at : c.in-Some.page ≡ c.loop-page.number = c.in-Some.ensures.found in
     on_err c.from_residual.result ((r : ℕ) → start.root c.args.child ≡ Some r → FallsShort (HasCopy start c.args.parent) start.frames r)
     (λ r e. (
-    let N : ℕ → Type 0 = λ x. FallsShort (HasThisCopy old c.args.parent x) old.frames r in
+    let N : ℕ → Type 0 = λ x. FallsShort (HasCopyFrom old c.args.parent x) old.frames r in
     short_then (HasCopy start c.args.parent) start.frames old.frames r (k.6 r e)
-    (short_wider (HasThisCopy old c.args.parent c.loop-page.number) (HasCopy start c.args.parent) old.frames r
-    (this_copy start old c.args.parent c.loop-page.number k.5.above) (subst N at (c.in_err-number.ensures.short r (k.1.spaces.root c.args.child ∙ e))))))
+    (short_wider (HasCopyFrom old c.args.parent c.loop-page.number) (HasCopy start c.args.parent) old.frames r
+    (copies_from start old c.args.parent c.loop-page.number k.5.above) (subst N at (c.in_err-number.ensures.short r (k.1.spaces.root c.args.child ∙ e))))))
