@@ -11,13 +11,12 @@ ghost use Rattle.residency.specs.Picture.{picture_of, is_live};
 use crate::{AccessRefusal, access, live};
 use disk_model::{SectorDisk, SimDisk};
 use file_store::{FileStore, OpenFault};
-use page_tables::take_table;
 use regions::Regions;
-use residency::{Core, obtain};
+use residency::Core;
 use std::alloc::{AllocError, Global};
 use std::test::Fail;
 use vm_types::{
-    Access, Attr, Backing, Code, Fault, FilePage, FrameNo, NoFree, Phys, Prot, Stall, TooManyRuns,
+    Access, Attr, Backing, Code, Fault, FilePage, FrameNo, Phys, Pid, Prot, Stall, TooManyRuns,
     Width,
 };
 
@@ -67,23 +66,23 @@ fn made(alloc: Global, store: FileStore<SimDisk>) -> Result<Core<SimDisk, SimDis
     }
 }
 
-// Maps so many pages more.
+// So many pages more are mapped.
 fn map(
-    regions: &mut Regions,
+    regions: &Regions,
     first: u64,
     pages: u64,
     prot: Prot,
     backing: Backing,
-) -> Result<(), TooManyRuns>
+) -> Result<Regions, TooManyRuns>
     requires some { 0 < pages }
     requires low { 16 ≤ first }
     requires high { first + pages ≤ 2 ^ 26 }
     requires file_pages { backing_fits backing pages }
-    requires readable { IsReadableMap (attr_at regions.old) }
-    ensures readable { IsReadableMap (attr_at regions.new) }
-    ensures user { IsUserMap (attr_at regions.new) }
+    requires readable { IsReadableMap (attr_at regions.now) }
+    ensures readable { IfOk result (λ next. IsReadableMap (attr_at next)) }
+    ensures user { IfOk result (λ next. IsUserMap (attr_at next)) }
 {
-    regions.replace(
+    regions.replaced(
         first,
         pages,
         Attr {
@@ -99,11 +98,19 @@ fn mappings() -> Result<Regions, TooManyRuns>
     ensures user { IfOk result (λ regions. IsUserMap (attr_at regions)) }
 {
     let first = FilePage { file: 0, page: 0 };
-    let mut regions = Regions::new();
-    map(&mut regions, 16, 1, Prot::WRITE, Backing::Anon)?;
-    map(&mut regions, 17, 3, Prot::WRITE, Backing::Private(first))?;
-    map(&mut regions, 20, 1, Prot::WRITE, Backing::Shared(first))?;
-    Ok(regions)
+    let none = Regions::new();
+    let zeros = map(&none, 16, 1, Prot::WRITE, Backing::Anon)?;
+    let private = map(&zeros, 17, 3, Prot::WRITE, Backing::Private(first))?;
+    map(&private, 20, 1, Prot::WRITE, Backing::Shared(first))
+}
+
+fn first_process() -> Pid
+    ensures { result ≡ 1 }
+{
+    let Some(pid) = Pid::new(1) else {
+        unreachable!();
+    };
+    pid
 }
 
 // Process 1 with these pages.
@@ -117,15 +124,11 @@ fn spawn(core: &mut Core<SimDisk, SimDisk>, regions: Regions) -> Result<(), Stal
     ensures store { OnOk result (IsReadyStore ⟦<SimDisk as SectorDisk>⟧ core.new.store) }
     ensures lives { OnOk result (is_live (picture_of core.new) 1 ≡ true) }
 {
-    obtain(core, None)?;
-    match take_table(&mut core.frames) {
-        Ok(root) => {
-            core.roots[1] = Some(root);
-            core.regions[1] = regions;
-            Ok(())
-        }
-        Err(NoFree) => unreachable!(),
-    }
+    let pid = first_process();
+    let root = core.take_table()?;
+    core.add_process(pid, root);
+    core.remap(pid, regions);
+    Ok(())
 }
 
 // An access of process 1 that it makes itself.

@@ -98,9 +98,8 @@ fn one_page() -> Result<Regions, TooManyRuns>
     ensures map { IfOk result (λ r. (page : ℕ) → attr_at r page ≡ replaced (λ k. None) 32 1 (record { prot = record { 0 = 3 }; backing = Anon }) page) }
     ensures user { IfOk result (λ r. IsUserMap (attr_at r)) }
 {
-    let mut regions = Regions::new();
-    regions.replace(32, 1, zeros())?;
-    Ok(regions)
+    let none = Regions::new();
+    none.replaced(32, 1, zeros())
 }
 
 fn first_process() -> Pid

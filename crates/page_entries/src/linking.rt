@@ -11,16 +11,16 @@ ghost use Rattle.page_entries.specs.Changes.{IsReady, KeepsDataFrames, KeepsSpac
 ghost use Rattle.page_entries.specs.Tables.{AddsTables, KeepsTables, FallsShort};
 ghost use Rattle.page_entries.specs.Wants.{IsWhole};
 
-use page_tables::{link_table, missing_tables, prune, take_table};
-use residency::{Core, obtain};
-use vm_types::{FrameNo, NoFree, Pid, Stall, Vpn};
+use page_tables::{link_table, missing_tables, prune};
+use residency::Core;
+use vm_types::{FrameNo, Pid, Stall, Vpn};
 
 /// The root table of a live process.
 pub fn root_of<D, E>(core: &Core<D, E>, pid: Pid) -> FrameNo
     requires live { (picture_of core.now).root pid ≢ None }
     ensures { (picture_of core.now).root pid ≡ Some result.0 }
 {
-    match core.roots[usize::from(pid.get())] {
+    match core.root(pid) {
         Some(root) => root,
         None => unreachable!(),
     }
@@ -87,12 +87,7 @@ fn link_one<D, E>(core: &mut Core<D, E>, root: FrameNo, page: Vpn) -> Result<(),
     ensures stalls { Stalls core.old core.new result }
     ensures short { OnErr result (FallsShort (λ p. p ≡ page) core.old.frames root.0) }
 {
-    obtain(core, None)?;
-    match take_table(&mut core.frames) {
-        Ok(table) => {
-            link_table(&mut core.frames, root, page, table);
-            Ok(())
-        }
-        Err(NoFree) => unreachable!(),
-    }
+    let table = core.take_table()?;
+    link_table(&mut core.frames, root, page, table);
+    Ok(())
 }

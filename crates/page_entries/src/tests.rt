@@ -21,13 +21,13 @@ use disk_model::{SectorDisk, SimDisk};
 use file_store::{FileStore, OpenFault};
 use frames::Role;
 use page_cache::Place;
-use page_tables::{Entry, entry_number, take_table};
+use page_tables::{Entry, entry_number};
 use regions::Regions;
-use residency::{Core, obtain};
+use residency::Core;
 use std::alloc::{AllocError, Global};
 use std::test::Fail;
 use sv39_walk::Pte;
-use vm_types::{Attr, Backing, FilePage, FrameNo, NoFree, Pid, Prot, Stall, Vpn};
+use vm_types::{Attr, Backing, FilePage, FrameNo, Pid, Prot, Stall, Vpn};
 
 // The one page of the one file.
 const FILE_PAGE: FilePage = FilePage { file: 0, page: 0 };
@@ -87,16 +87,9 @@ fn spawn<D, E>(core: &mut Core<D, E>, pid: Pid) -> Result<(), Stall>
     ensures store { core.new.store ≡ core.old.store }
     ensures cache { core.new.cache ≡ core.old.cache }
 {
-    let place = usize::from(pid.get());
-    obtain(core, None)?;
-    match take_table(&mut core.frames) {
-        Ok(root) => {
-            core.roots[place] = Some(root);
-            core.regions[place] = Regions::new();
-            Ok(())
-        }
-        Err(NoFree) => Err(Stall::NoFrames),
-    }
+    let root = core.take_table()?;
+    core.add_process(pid, root);
+    Ok(())
 }
 
 // Gives a process without a page these regions.
@@ -113,8 +106,7 @@ fn map<D, E>(core: &mut Core<D, E>, pid: Pid, regions: Regions)
     ensures store { core.new.store ≡ core.old.store }
     ensures cache { core.new.cache ≡ core.old.cache }
 {
-    let place = usize::from(pid.get());
-    core.regions[place] = regions;
+    core.remap(pid, regions);
 }
 
 // Zeros of its own, to be read and written.
@@ -195,8 +187,8 @@ fn add<D, E>(core: &mut Core<D, E>, attr: Attr) -> Result<(), Fail>
     ensures cache { core.new.cache ≡ core.old.cache }
 {
     spawn(core, first_process())?;
-    let mut regions = Regions::new();
-    regions.replace(32, 1, attr)?;
+    let none = Regions::new();
+    let regions = none.replaced(32, 1, attr)?;
     map(core, first_process(), regions);
     Ok(())
 }

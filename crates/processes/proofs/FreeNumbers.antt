@@ -1,30 +1,15 @@
 -- The least free number, one number at a time.
-use Rattle.std.proofs.Common.{◌≡◌, ℕ, zero, suc, ◌+◌, ◌-◌, ◌<◌, List, length, Bool, true, false, Option, Some, None, refl, sym, ap, ◌∙◌, subst, arith}
-use Rattle.std.specs.Prelude.{is_some, IfSome, IsSome, slice_index_or}
+use Rattle.std.proofs.Common.{◌≡◌, ℕ, zero, suc, ◌+◌, ◌-◌, ◌<◌, Bool, true, false, Option, Some, None, refl, arith}
+use Rattle.std.specs.Prelude.{is_some}
 use Rattle.std.specs.Option.{option_map}
-use Rattle.std.proofs.lemmas.Bool.{false≢true}
-use Rattle.std.proofs.lemmas.List.{get_or_read}
 use Rattle.vm_types.specs.declared.number.FrameNo.{FrameNo}
 use Rattle.vm_types.specs.Processes.{least_free_from}
-use Rattle.residency.specs.Picture.{number_of_frame, root_in}
+use Rattle.residency.specs.Picture.{number_of_frame}
 
-pub the_number : (r : Option ℕ) (n : ℕ) → IfSome r (λ pid. pid ≡ n) → IsSome r → r ≡ Some n
-the_number None n is some = absurd (false≢true some)
-the_number (Some pid) n is some = ap (λ x. Some x) is
-
-pub number_is : (r : Option ℕ) (n : ℕ) (P : ℕ → Type 0) → IfSome r (λ pid. pid ≡ n) → P n → IfSome r P
-number_is None n P is holds = tt
-number_is (Some pid) n P is holds = subst P (sym is) holds
-
-number_there : (o : Option FrameNo) → is_some (option_map number_of_frame o) ≡ is_some o
-number_there None = refl
-number_there (Some n) = refl
-
--- whether a process lives, by what stands at its place
-pub live_place : (roots : List (Option FrameNo)) (pid : ℕ) (o : Option FrameNo) (live : Bool) → pid < length roots → o ≡ slice_index_or roots pid o → is_some o ≡ live
-    → is_some (root_in roots pid) ≡ live
-live_place roots pid o live inside item is =
-    number_there (slice_index_or roots pid None) ∙ ap is_some (sym (get_or_read roots pid o inside item None)) ∙ is
+-- whether a process lives, by its root
+pub some_number : (o : Option FrameNo) → is_some (option_map number_of_frame o) ≡ is_some o
+some_number None = refl
+some_number (Some n) = refl
 
 pub least-here : (live : ℕ → Bool) (pid count : ℕ) → 0 < count → live pid ≡ false → least_free_from live pid count ≡ Some pid
 unfolding least_free_from

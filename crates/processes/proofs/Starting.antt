@@ -1,21 +1,20 @@
 -- A process comes.
 use Rattle.std.proofs.Common.{◌≡◌, ◌≢◌, ℕ, [], None, sym, ap, ◌∙◌, subst}
 use Rattle.std.specs.Prelude.{is_some, ◌↔◌}
-use Rattle.frames.specs.declared.role.Role.TheVariants.{Zero, Table}
+use Rattle.frames.specs.declared.role.Role.TheVariants.{Table}
 use Rattle.frames.specs.FrameTable.{FrameTable, role_of, count_of, bytes_of, IsSound, frame_count}
 use Rattle.sv39_walk.specs.Entry.{frame_of}
 use Rattle.page_tables.specs.Change.{AddsTable}
-use Rattle.page_tables.specs.Tree.{IsTight, Points, page_entry}
-use Rattle.page_tables.proofs.Tight.{same_taken, tight_same}
+use Rattle.page_tables.specs.Tree.{Points, page_entry}
+use Rattle.page_tables.proofs.Tight.{same_taken}
 use Rattle.residency.specs.Picture.{Picture, entry, view}
 use Rattle.residency.specs.Parts.{IsFit}
 use Rattle.residency.specs.Calls.{KeepsUsed, ObtainsTable}
 use Rattle.residency.specs.Steps.{SameBeside, Spawns}
 use Rattle.residency.specs.Shows.{KeepsFiles}
 use Rattle.residency.proofs.Entries.{entries_kept, entry-same, trees_in_use}
-use Rattle.residency.proofs.ProcessSteps.{steady_spawned}
-use Rattle.residency.proofs.TableSteps.{steady_taken, loose_table}
-use Rattle.residency.proofs.Used.{fit_steady, steady_fit, fit_used, pages_used, view-same, view-none}
+use Rattle.residency.proofs.Mapping.{fit_started, zero_no_table}
+use Rattle.residency.proofs.Used.{fit_steady, fit_used, pages_used, view-same, view-none}
 use Rattle.ranges.specs.Steps.{KeepsEntriesOfOthers}
 use Rattle.processes.specs.Changes.{AddsProcess, TakesRoot}
 use Rattle.processes.proofs.Keeping.{live_same, views_taken, files_taken, files_used, files_then}
@@ -23,15 +22,6 @@ use Rattle.processes.proofs.Keeping.{live_same, views_taken, files_taken, files_
 -- A table was taken, and it is the root of a new process.
 module _ (old mid new : Picture) (pid n : ℕ) (fit : IsFit old) (zero_page : role_of old.frames 0 ≢ Table) (adds : AddsTable old.frames mid.frames 2 n)
     (beside : SameBeside old mid) (spawns : Spawns mid new pid n) where
-  fit_started : IsFit new
-  fit_started =
-      let steady = fit_steady old fit in
-      let spawned = steady_spawned mid new pid n (steady_taken old mid n steady zero_page adds beside) adds.root adds.spare
-      (loose_table old mid n steady.rooted adds beside.root) spawns in
-      let tight : IsTight mid.frames =
-      tight_same old.frames mid.frames steady.rooted.forest adds.forest (same_taken old.frames mid.frames n steady.rooted.forest adds.takes) fit.tree.tight in
-      steady_fit new spawned (let P : FrameTable → Type 0 = λ t. IsTight t in subst P (sym spawns.frames) tight)
-
   pub others_started : KeepsEntriesOfOthers old new pid
   others_started q page h ne =
       entry-same mid new q page (spawns.others q ne) (λ x e. ap (λ t. page_entry t 2 x page) spawns.frames)
@@ -93,13 +83,13 @@ started first mid new pid n fit sound obtains spawns =
     let adds = obtains.adds in
     let beside = obtains.beside in
     let now = fit_used first old used fit in
-    let zero_page : role_of old.frames 0 ≢ Table = λ e. (let bad : Zero ≡ Table = sym (used.memory.roles 0 ∙ sound.zero_role) ∙ e in (cc)) in
+    let zero_page = zero_no_table first.frames old.frames sound (used.memory.roles 0) in
     let pages = pages_used first old used (fit_steady first fit) in
     let added : AddsProcess old new pid (λ page. None) = process_added old mid new pid n now zero_page adds beside spawns in
     let others = others_started old mid new pid n now zero_page adds beside spawns in
     let taken = root_started old mid new pid n now zero_page adds beside spawns in
     record {
-      fit = fit_started old mid new pid n now zero_page adds beside spawns;
+      fit = fit_started first mid new pid n fit sound obtains spawns;
       added = record {
         lives = added.lives;
         pages = added.pages;

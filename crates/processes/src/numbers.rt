@@ -3,7 +3,7 @@ ghost use Rattle.std.specs.Prelude.{◌≡◌, false, IfSome};
 ghost use Rattle.vm_types.specs.Processes.{least_free_from};
 ghost use Rattle.residency.specs.Picture.{picture_of, is_live};
 
-use residency::{Core, PLACES};
+use residency::Core;
 use vm_types::Pid;
 
 /// The least number of 1 to 64 that no live process has; `None` exactly where 64 processes live (our choice, as fork(2) has
@@ -12,10 +12,12 @@ pub fn free_pid<D, E>(core: &Core<D, E>) -> Option<Pid>
     ensures least { result ≡ least_free_from (is_live (picture_of core.now)) 1 64 }
     ensures free { IfSome result (λ pid. is_live (picture_of core.now) pid ≡ false) }
 {
-    for place in 1..PLACES {
-        if core.roots[place].is_none() {
-            return Pid::new(place as u64);
+    let mut number = 1;
+    while let Some(pid) = Pid::new(number) {
+        if core.root(pid).is_none() {
+            return Some(pid);
         }
+        number += 1;
     }
     None
 }

@@ -13,14 +13,14 @@ use disk_model::{SectorDisk, SimDisk};
 use file_store::{FileStore, OpenFault};
 use frames::Role;
 use page_entries::{link_tables, own_frame, root_of};
-use page_tables::{Entry, entry_number, take_table};
+use page_tables::{Entry, entry_number};
 use regions::Regions;
-use residency::{Core, obtain};
+use residency::Core;
 use std::alloc::{AllocError, Global};
 use std::process::Abort;
 use std::test::Fail;
 use sv39_walk::Pte;
-use vm_types::{Attr, Backing, FrameNo, NoFree, Pid, Prot, Stall, TooManyRuns, Vpn};
+use vm_types::{Attr, Backing, FrameNo, Pid, Prot, Stall, TooManyRuns, Vpn};
 
 // A device with the mark of a store that has no file, as a stop leaves it.
 fn image(alloc: Global) -> Result<SimDisk, Fail>
@@ -65,16 +65,9 @@ fn spawn<D, E>(core: &mut Core<D, E>, pid: Pid) -> Result<(), Stall>
     ensures live { OnOk result (is_live (picture_of core.new) pid ≡ true) }
     ensures unmapped { OnOk result ((page : ℕ) → (picture_of core.new).at pid page ≡ None) }
 {
-    let place = usize::from(pid.get());
-    obtain(core, None)?;
-    match take_table(&mut core.frames) {
-        Ok(root) => {
-            core.roots[place] = Some(root);
-            core.regions[place] = Regions::new();
-            Ok(())
-        }
-        Err(NoFree) => Err(Stall::NoFrames),
-    }
+    let root = core.take_table()?;
+    core.add_process(pid, root);
+    Ok(())
 }
 
 // Zeros of its own, to be read and written.
@@ -92,9 +85,8 @@ fn five_pages() -> Result<Regions, TooManyRuns>
     ensures map { IfOk result (λ r. (page : ℕ) → attr_at r page ≡ five_pages page) }
     ensures user { IfOk result (λ r. IsUserMap (attr_at r)) }
 {
-    let mut regions = Regions::new();
-    regions.replace(32, 5, zeros())?;
-    Ok(regions)
+    let none = Regions::new();
+    none.replaced(32, 5, zeros())
 }
 
 // Process 1 with those pages.
@@ -143,28 +135,32 @@ fn user_page(rt: &impl Abort, number: u64) -> Vpn {
 #[test]
 fn other_pages_come_in_the_place_of_a_row(rt: HostRuntime) -> Result<(), Fail> {
     let mut core = with_five_pages(rt.alloc())?;
-    assert_eq!(rt; core.regions[1].at(user_page(&rt, 36)), Some(zeros()));
-    assert_eq!(rt; core.regions[1].at(user_page(&rt, 37)), None);
-    let mut fewer = five_pages()?;
-    fewer.remove(33, 3)?;
+    assert_eq!(rt;
+        core.regions(first_process()).at(user_page(&rt, 36)),
+        Some(zeros())
+    );
+    assert_eq!(rt; core.regions(first_process()).at(user_page(&rt, 37)), None);
+    let fewer = five_pages()?.removed(33, 3)?;
     remap(&mut core, first_process(), 33, 3, fewer);
-    assert_eq!(rt; core.regions[1].runs(), 2);
-    assert_eq!(rt; core.regions[1].at(user_page(&rt, 35)), None);
+    assert_eq!(rt; core.regions(first_process()).runs(), 2);
+    assert_eq!(rt; core.regions(first_process()).at(user_page(&rt, 35)), None);
     Ok(())
 }
 
 #[test]
 fn a_row_gets_another_permission(rt: HostRuntime) -> Result<(), Fail> {
     let mut core = with_five_pages(rt.alloc())?;
-    let mut read_only = five_pages()?;
-    read_only.protect(33, 3, Prot::READ)?;
+    let read_only = five_pages()?.protected(33, 3, Prot::READ)?;
     reprotect(&mut core, first_process(), 33, 3, Prot::READ, read_only);
-    assert_eq!(rt; core.regions[1].runs(), 3);
+    assert_eq!(rt; core.regions(first_process()).runs(), 3);
     let read_only = Attr {
         prot: Prot::READ,
         backing: Backing::Anon,
     };
-    assert_eq!(rt; core.regions[1].at(user_page(&rt, 35)), Some(read_only));
+    assert_eq!(rt;
+        core.regions(first_process()).at(user_page(&rt, 35)),
+        Some(read_only)
+    );
     Ok(())
 }
 
@@ -176,8 +172,7 @@ fn a_page_keeps_its_frame_until_its_row_is_cleared(rt: HostRuntime) -> Result<()
     link_tables(&mut core, pid, first_page())?;
     let own = own_frame(&mut core, pid, first_page(), zeros())?;
     let leaf = u64::from(own.0) * 1024;
-    let mut read_only = five_pages()?;
-    read_only.protect(32, 2, Prot::READ)?;
+    let read_only = five_pages()?.protected(32, 2, Prot::READ)?;
     reprotect(&mut core, pid, 32, 2, Prot::READ, read_only);
     assert_eq!(rt; number(&core).to_u64(), leaf + 0x1d3);
     clear_row(&mut core, pid, 32, 5);
@@ -193,7 +188,10 @@ fn a_page_keeps_its_frame_until_its_row_is_cleared(rt: HostRuntime) -> Result<()
 fn the_whole_user_range_is_cleared(rt: HostRuntime) -> Result<(), Fail> {
     let mut core = with_five_pages(rt.alloc())?;
     clear_row(&mut core, first_process(), 0, 1 << 26);
-    assert_eq!(rt; core.regions[1].at(user_page(&rt, 32)), Some(zeros()));
+    assert_eq!(rt;
+        core.regions(first_process()).at(user_page(&rt, 32)),
+        Some(zeros())
+    );
     Ok(())
 }
 

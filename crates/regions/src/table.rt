@@ -207,54 +207,7 @@ impl Regions {
         }
     }
 
-    /// Maps the `pages` pages from `first` on anew, the first one as `attr`, file pages following one another.
-    /// `TooManyRuns` exactly where more than 256 runs would result; then nothing is changed.
-    pub fn replace(&mut self, first: u64, pages: u64, attr: Attr) -> Result<(), TooManyRuns>
-        requires some { 0 < pages }
-        requires low { 16 ≤ first }
-        requires high { first + pages ≤ 2 ^ 26 }
-        requires file_pages { backing_fits attr.backing pages }
-        ensures ok { OnOk result ((page : ℕ) → attr_at self.new page ≡ replaced (attr_at self.old) first pages attr page) }
-        ensures few { OnOk result (run_count (replaced (attr_at self.old) first pages attr) ≤ 256) }
-        ensures too_many { OnErr result (256 < run_count (replaced (attr_at self.old) first pages attr)) }
-        ensures err { OnErr result (self.new ≡ self.old) }
-        ensures user { IsUserMap (attr_at self.new) }
-    {
-        *self = self.replaced(first, pages, attr)?;
-        Ok(())
-    }
-
-    /// Unmaps the `pages` pages from `first` on; a page that isn't mapped is no error.
-    /// `TooManyRuns` exactly where more than 256 runs would result; then nothing is changed.
-    pub fn remove(&mut self, first: u64, pages: u64) -> Result<(), TooManyRuns>
-        requires some { 0 < pages }
-        requires row { first + pages < 2 ^ 64 }
-        ensures ok { OnOk result ((page : ℕ) → attr_at self.new page ≡ removed (attr_at self.old) first pages page) }
-        ensures few { OnOk result (run_count (removed (attr_at self.old) first pages) ≤ 256) }
-        ensures too_many { OnErr result (256 < run_count (removed (attr_at self.old) first pages)) }
-        ensures err { OnErr result (self.new ≡ self.old) }
-        ensures user { IsUserMap (attr_at self.new) }
-    {
-        *self = self.removed(first, pages)?;
-        Ok(())
-    }
-
-    /// Gives those of the `pages` pages from `first` on that are mapped the permission.
-    /// `TooManyRuns` exactly where more than 256 runs would result; then nothing is changed.
-    pub fn protect(&mut self, first: u64, pages: u64, prot: Prot) -> Result<(), TooManyRuns>
-        requires some { 0 < pages }
-        requires row { first + pages < 2 ^ 64 }
-        ensures ok { OnOk result ((page : ℕ) → attr_at self.new page ≡ protected (attr_at self.old) first pages prot page) }
-        ensures few { OnOk result (run_count (protected (attr_at self.old) first pages prot) ≤ 256) }
-        ensures too_many { OnErr result (256 < run_count (protected (attr_at self.old) first pages prot)) }
-        ensures err { OnErr result (self.new ≡ self.old) }
-        ensures user { IsUserMap (attr_at self.new) }
-    {
-        *self = self.protected(first, pages, prot)?;
-        Ok(())
-    }
-
-    /// The map with the `pages` pages from `first` on mapped anew, as `replace` maps them.
+    /// The map with the `pages` pages from `first` on mapped anew, the first one as `attr`, file pages following one another.
     /// `TooManyRuns` exactly where it would have more than 256 runs.
     pub fn replaced(&self, first: u64, pages: u64, attr: Attr) -> Result<Regions, TooManyRuns>
         requires some { 0 < pages }

@@ -32,11 +32,11 @@ fn anonymous_pages_split_and_merge(rt: HostRuntime) -> Result<(), Fail> {
     let read_write = Prot::READ | Prot::WRITE;
     let mut regions = Regions::new();
     assert_eq!(rt; regions.place(0x20000, 5), Vpn::new(0x20));
-    regions.replace(0x20, 5, anonymous(read_write))?;
+    regions = regions.replaced(0x20, 5, anonymous(read_write))?;
     assert_eq!(rt; regions.runs(), 1);
-    regions.replace(0x22, 1, anonymous(Prot::READ))?;
+    regions = regions.replaced(0x22, 1, anonymous(Prot::READ))?;
     assert_eq!(rt; regions.runs(), 3);
-    regions.remove(0x21, 3)?;
+    regions = regions.removed(0x21, 3)?;
     assert_eq!(rt; regions.runs(), 2);
     assert_eq!(rt;
         regions.at(Vpn::new(0x24).ok_or("a user page")?),
@@ -44,7 +44,7 @@ fn anonymous_pages_split_and_merge(rt: HostRuntime) -> Result<(), Fail> {
     );
     assert_eq!(rt; regions.at(Vpn::new(0x23).ok_or("a user page")?), None);
     assert_eq!(rt; regions.place(0x21000, 3), Vpn::new(0x21));
-    regions.replace(0x21, 3, anonymous(read_write))?;
+    regions = regions.replaced(0x21, 3, anonymous(read_write))?;
     assert_eq!(rt; regions.runs(), 1);
     assert_eq!(rt;
         regions.place(0x24000, 1),
@@ -72,15 +72,14 @@ fn changed_maps_leave_the_old_one(rt: HostRuntime) -> Result<(), Fail> {
 #[test]
 fn file_pages_that_follow_one_another_are_one_run(rt: HostRuntime) -> Result<(), Fail> {
     let read_write = Prot::READ | Prot::WRITE;
-    let mut regions = Regions::new();
-    regions.replace(0x20, 5, shared(read_write, 0))?;
-    regions.replace(0x22, 1, shared(Prot::READ, 2))?;
+    let mut regions = Regions::new().replaced(0x20, 5, shared(read_write, 0))?;
+    regions = regions.replaced(0x22, 1, shared(Prot::READ, 2))?;
     assert_eq!(rt; regions.runs(), 3);
-    regions.protect(0x22, 1, read_write)?;
+    regions = regions.protected(0x22, 1, read_write)?;
     assert_eq!(rt; regions.runs(), 1);
-    regions.replace(0x23, 1, shared(read_write, 0))?;
+    regions = regions.replaced(0x23, 1, shared(read_write, 0))?;
     assert_eq!(rt; regions.runs(), 3);
-    regions.remove(0x21, 2)?;
+    regions = regions.removed(0x21, 2)?;
     assert_eq!(rt; regions.runs(), 3);
     assert!(rt; regions.covers(0x23, 2));
     assert!(rt; !regions.covers(0x20, 4));
@@ -94,25 +93,24 @@ fn file_pages_that_follow_one_another_are_one_run(rt: HostRuntime) -> Result<(),
 fn more_than_256_runs_are_refused(rt: HostRuntime) -> Result<(), Fail> {
     let mut regions = Regions::new();
     assert_eq!(rt; regions.place(0, 511), Vpn::new(0x10));
-    regions.replace(0x10, 511, shared(Prot::READ | Prot::WRITE, 0))?;
+    regions = regions.replaced(0x10, 511, shared(Prot::READ | Prot::WRITE, 0))?;
     for k in 0..127u64 {
-        regions.protect(0x11 + 2 * k, 1, Prot::READ)?;
+        regions = regions.protected(0x11 + 2 * k, 1, Prot::READ)?;
     }
     assert_eq!(rt; regions.runs(), 255);
-    assert_eq!(rt; regions.protect(0x10f, 1, Prot::READ), Err(TooManyRuns));
+    assert!(rt; matches!(regions.protected(0x10f, 1, Prot::READ), Err(TooManyRuns)));
     assert_eq!(rt; regions.runs(), 255);
-    regions.protect(0x20e, 1, Prot::READ)?;
+    regions = regions.protected(0x20e, 1, Prot::READ)?;
     assert_eq!(rt; regions.runs(), 256);
     Ok(())
 }
 
 #[test]
 fn a_copy_is_the_same_map(rt: HostRuntime) -> Result<(), Fail> {
-    let mut regions = Regions::new();
-    regions.replace(0x20, 5, anonymous(Prot::READ))?;
+    let regions = Regions::new().replaced(0x20, 5, anonymous(Prot::READ))?;
     let copy = regions.copied();
-    regions.remove(0x20, 5)?;
-    assert_eq!(rt; regions.runs(), 0);
     assert_eq!(rt; copy.runs(), 1);
+    assert!(rt; copy.covers(0x20, 5));
+    assert!(rt; !copy.covers(0x20, 6));
     Ok(())
 }

@@ -16,6 +16,7 @@ pub mod Views
 pub mod ShareSteps
 pub mod Forms
 pub mod RegionSteps
+pub mod Mapping
 pub mod Exiting
 pub mod Arriving
 pub mod Roots

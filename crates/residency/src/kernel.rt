@@ -14,7 +14,7 @@ use std::alloc::{AllocError, Global};
 use vm_types::{FrameNo, PROCESSES};
 
 /// The places for processes: a process has the place of its number, and place 0 stays free.
-pub const PLACES: usize = PROCESSES + 1;
+pub(crate) const PLACES: usize = PROCESSES + 1;
 
 /// Files, memory and processes, over a store device `D` and a swap device `E`. How much of each there is, and that
 /// the table of frames is sound, always holds. What else holds between two calls is said by `IsFit`; a function may break that
@@ -30,9 +30,9 @@ pub struct Core<D, E> {
     /// Where each file page is.
     pub cache: PageCache,
     /// The root table of each live process.
-    pub roots: Vec<Option<FrameNo>>,
+    pub(crate) roots: Vec<Option<FrameNo>>,
     /// The regions of each live process. Those at the place of another process number mean nothing.
-    pub regions: Vec<Regions>,
+    pub(crate) regions: Vec<Regions>,
     /// The page at which its processes have each private frame. What stands for another frame means nothing.
     pub(crate) page_of: Vec<u32>,
     /// How often `obtain` has refused a frame, for contracts alone. Nobody else can raise it.

@@ -11,5 +11,5 @@ mod steps;
 #[cfg(test)]
 mod tests;
 
-pub use kernel::{Core, PLACES};
+pub use kernel::Core;
 pub use obtaining::obtain;

@@ -12,6 +12,19 @@ use regions::Regions;
 use vm_types::{FrameNo, Pid};
 
 impl<D, E> Core<D, E> {
+    ghost use Rattle.std.specs.Prelude.{IfSome, is_some};
+    ghost use Rattle.residency.specs.Parts.{IsFit};
+
+    /// The process of that number, exactly where it lives.
+    pub fn live(&self, number: u64) -> Option<Pid>
+        requires fit { IsFit (picture_of self.now) }
+        ensures known { is_some result ≡ is_live (picture_of self.now) number }
+        ensures found { IfSome result (λ pid. (pid ≡ number) × (is_live (picture_of self.now) pid ≡ true)) }
+    {
+        let pid = Pid::new(number)?;
+        self.root(pid).map(|_| pid)
+    }
+
     /// The root table of a process; `None` exactly where no process of that number lives.
     pub fn root(&self, pid: Pid) -> Option<FrameNo>
         ensures { option_map number_of_frame result ≡ (picture_of self.now).root pid }

@@ -64,16 +64,11 @@ fn made(alloc: Global) -> Result<Core<SimDisk, SimDisk>, Fail>
 
 // Four pages of zeros, to be read and written.
 fn four_pages() -> Result<Regions, TooManyRuns> {
-    let mut regions = Regions::new();
-    regions.replace(
-        16,
-        4,
-        Attr {
-            prot: Prot::WRITE.kept(),
-            backing: Backing::Anon,
-        },
-    )?;
-    Ok(regions)
+    let zeros = Attr {
+        prot: Prot::WRITE.kept(),
+        backing: Backing::Anon,
+    };
+    Regions::new().replaced(16, 4, zeros)
 }
 
 #[test]

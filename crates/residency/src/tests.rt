@@ -1,17 +1,15 @@
 //! Memory over devices in memory.
-ghost use Rattle.std.specs.Prelude.{◌≡◌, ◌≢◌, ◌≤◌, ℕ, IfOk, None};
-ghost use Rattle.residency.specs.Parts.{IsFit, IsSteady};
+ghost use Rattle.std.specs.Prelude.{◌≡◌, ◌≢◌, ℕ, IfOk, OnOk, None};
+ghost use Rattle.residency.specs.Parts.{IsFit};
 ghost use Rattle.residency.specs.Picture.{picture_of};
 
 use crate::{Core, obtain};
 use disk_model::{SectorDisk, SimDisk};
 use file_store::{FileStore, OpenFault};
 use page_cache::Place;
-use page_tables::take_table;
-use regions::Regions;
 use std::alloc::{AllocError, Global};
 use std::test::Fail;
-use vm_types::{FilePage, NoFree, Stall};
+use vm_types::{FilePage, Pid, Stall};
 
 // A device with the mark of a store that has no file, as a stop leaves it.
 fn image(alloc: Global) -> Result<SimDisk, Fail>
@@ -49,22 +47,15 @@ fn made(alloc: Global, store: FileStore<SimDisk>) -> Result<Core<SimDisk, SimDis
 }
 
 // A process of that number, without a page.
-fn spawn<D, E>(core: &mut Core<D, E>, pid: usize) -> Result<(), Stall>
-    requires steady { IsSteady (picture_of core.old) }
-    requires number { (1 ≤ pid) × (pid ≤ 64) }
+fn spawn<D, E>(core: &mut Core<D, E>, pid: Pid) -> Result<(), Stall>
+    requires fit { IsFit (picture_of core.old) }
     requires dead { (picture_of core.old).root pid ≡ None }
-    ensures steady { IsSteady (picture_of core.new) }
-    ensures others { (q : ℕ) → q ≢ pid → (picture_of core.new).root q ≡ (picture_of core.old).root q }
+    ensures fit { OnOk result (IsFit (picture_of core.new)) }
+    ensures others { OnOk result ((q : ℕ) → q ≢ pid → (picture_of core.new).root q ≡ (picture_of core.old).root q) }
 {
-    obtain(core, None)?;
-    match take_table(&mut core.frames) {
-        Ok(root) => {
-            core.roots[pid] = Some(root);
-            core.regions[pid] = Regions::new();
-            Ok(())
-        }
-        Err(NoFree) => Err(Stall::NoFrames),
-    }
+    let root = core.take_table()?;
+    core.add_process(pid, root);
+    Ok(())
 }
 
 #[test]
@@ -74,7 +65,6 @@ fn as_it_is_made(rt: HostRuntime) -> Result<(), Fail> {
     assert_eq!(rt; core.frames.len(), 8);
     assert_eq!(rt; core.cache.frames(), 8);
     assert_eq!(rt; core.cache.slots(), 0);
-    assert_eq!(rt; core.roots.len(), 65);
     assert_eq!(rt;
         core.cache.place(FilePage { file: 0, page: 0 }),
         Place::Home
@@ -87,7 +77,10 @@ fn as_it_is_made(rt: HostRuntime) -> Result<(), Fail> {
 fn a_frame_until_none_is_free(rt: HostRuntime) -> Result<(), Fail> {
     let alloc = rt.alloc();
     let mut core = made(alloc, opened(image(alloc)?)?)?;
-    for pid in 1..8 {
+    for number in 1..8 {
+        let Some(pid) = Pid::new(number) else {
+            return Err(Fail::new(format_args!("no number of a process")));
+        };
         spawn(&mut core, pid)?;
     }
     assert_eq!(rt; obtain(&mut core, None), Err(Stall::NoFrames));

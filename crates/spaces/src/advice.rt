@@ -6,7 +6,7 @@ ghost use Rattle.residency.specs.Shows.{KeepsDevices};
 ghost use Rattle.syncing.specs.Shows.{IsSoundCore};
 ghost use Rattle.spaces.specs.Calls.{Carries, IsCaused};
 
-use crate::space::{PAGE, regions_of};
+use crate::space::PAGE;
 use disk_model::SectorDisk;
 use fault::live;
 use ranges::clear_row;
@@ -37,7 +37,7 @@ pub fn dontneed<D: SectorDisk, E>(core: &mut Core<D, E>, pid: u64, addr: u64, le
     }
     let first = addr / PAGE;
     let pages = len.div_ceil(PAGE);
-    if !regions_of(core, pid).covers(first, pages) {
+    if !core.regions(pid).covers(first, pages) {
         return Answer::Refused(Errno::ENOMEM);
     }
     clear_row(core, pid, first, pages);

@@ -15,7 +15,7 @@ ghost use Rattle.spaces.specs.Calls.{Carries, IsCaused};
 ghost use Rattle.spaces.specs.Mappings.{mmap_asked_checks, file_checks, place_checks, IsAsked, IsMapped, IsNumbered};
 ghost use Rattle.spaces.specs.Space.{space_of};
 
-use crate::space::{PAGE, regions_of};
+use crate::space::PAGE;
 use disk_model::SectorDisk;
 use fault::live;
 use file_store::FileStore;
@@ -238,7 +238,7 @@ pub fn mmap<D: SectorDisk, E>(
     }
     let pages = len.div_ceil(PAGE);
     let attr = first_attr(source, prot);
-    match planned(regions_of(core, pid), addr, pages, attr, placing) {
+    match planned(core.regions(pid), addr, pages, attr, placing) {
         Ok(Plan { first, regions }) => {
             remap(core, pid, first, pages, regions);
             Answer::Address(first * PAGE)

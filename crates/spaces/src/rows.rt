@@ -13,7 +13,7 @@ ghost use Rattle.spaces.specs.Calls.{Carries, IsCaused};
 ghost use Rattle.spaces.specs.Protections.{permit_checks, IsPermitted};
 ghost use Rattle.spaces.specs.Space.{space_of};
 
-use crate::space::{PAGE, regions_of};
+use crate::space::PAGE;
 use disk_model::SectorDisk;
 use fault::live;
 use file_store::FileStore;
@@ -119,7 +119,7 @@ pub fn munmap<D: SectorDisk, E>(core: &mut Core<D, E>, pid: u64, addr: u64, len:
     }
     let first = addr / PAGE;
     let pages = len.div_ceil(PAGE);
-    match regions_of(core, pid).removed(first, pages) {
+    match core.regions(pid).removed(first, pages) {
         Ok(next) => {
             let start = first.min(USER_END);
             let end = (first + pages).min(USER_END);
@@ -161,7 +161,7 @@ pub fn mprotect<D: SectorDisk, E>(
     }
     let first = addr / PAGE;
     let pages = len.div_ceil(PAGE);
-    match permitted(&core.store, regions_of(core, pid), first, pages, prot) {
+    match permitted(&core.store, core.regions(pid), first, pages, prot) {
         Ok(regions) => {
             reprotect(core, pid, first, pages, prot.kept(), regions);
             Answer::Done

@@ -69,11 +69,6 @@ pub at_where : (o : Option ℕ) (runs : List Run) (page : ℕ) → is_some o ≡
 at_where None runs page live = cc
 at_where (Some r) runs page live = refl
 
-pub map_of : {D E : Type 0} (c : Core D E) (pid : ℕ) (runs : List Run) → is_live (picture_of c) pid ≡ true → get_or c.regions.items pid [] ≡ runs
-    → (page : ℕ) → (picture_of c).at pid page ≡ attr_at runs page
-map_of c pid runs live same page =
-    at_where (root_in c.roots.items pid) (get_or c.regions.items pid []) page live ∙ ap (λ (rs : List Run). attr_at rs page) same
-
 pub no_process : (c : Picture) (s : State) (pid : ℕ) (r : Bool) → ShowsPages c s → r ≡ is_live c pid → r ≡ false → s.live pid ≡ false
 no_process c s pid r shows is dead = shows.live pid ∙ sym is ∙ dead
 

@@ -1,11 +1,11 @@
 //! How an msync is judged, and which file pages it takes: the touched ones behind the shared pages of its range.
-ghost use Rattle.std.specs.Prelude.{◌≡◌, ◌≤◌, ◌<◌, ◌+◌, ◌-◌, ◌^◌, ℕ, true, IfOk, OnErr};
+ghost use Rattle.std.specs.Prelude.{◌≡◌, ◌≤◌, ◌<◌, ◌+◌, ◌-◌, ◌^◌, ℕ, IfOk, OnErr};
 ghost use Rattle.vm_types.specs.Attributes.{backing_fits};
 ghost use Rattle.vm_types.specs.Rows.{IsUserMap};
 ghost use Rattle.vm_types.specs.State.{State};
 ghost use Rattle.regions.specs.RunList.{attr_at};
 ghost use Rattle.page_cache.specs.CacheTable.{is_touched};
-ghost use Rattle.residency.specs.Picture.{picture_of, is_live};
+ghost use Rattle.residency.specs.Picture.{picture_of};
 ghost use Rattle.residency.specs.Parts.{IsFit};
 ghost use Rattle.residency.specs.Shows.{ShowsPages};
 ghost use Rattle.syncing.specs.Choice.{is_taken_behind, is_chosen, Appends, Overflows, IsChoice, RulesSame, AreListed, IsNoDeviceFault};
@@ -13,7 +13,7 @@ ghost use Rattle.syncing.specs.Choice.{is_taken_behind, is_chosen, Appends, Over
 use crate::chosen::{Chosen, Ruling};
 use page_cache::{PageCache, TooMany};
 use regions::Regions;
-use residency::{Core, PLACES};
+use residency::Core;
 use vm_types::{Backing, Errno, FilePage, MSYNC_PAGES, MsyncMode, PAGE_BYTES};
 
 /// Bytes of a page, as a number of addresses.
@@ -32,9 +32,9 @@ pub(crate) fn rule<D, E>(
     ensures listed { AreListed (picture_of core.now) result }
     ensures no_fault { IsNoDeviceFault result }
 {
-    if !lives(core, pid) {
+    let Some(process) = core.live(pid) else {
         return Ruling::Refuses(Errno::ESRCH);
-    }
+    };
     if addr % PAGE != 0 {
         return Ruling::Refuses(Errno::EINVAL);
     }
@@ -43,7 +43,7 @@ pub(crate) fn rule<D, E>(
     }
     let first = addr / PAGE;
     let count = len.div_ceil(PAGE);
-    let regions = &core.regions[pid as usize];
+    let regions = core.regions(process);
     if !regions.covers(first, count) {
         return Ruling::Refuses(Errno::ENOMEM);
     }
@@ -51,14 +51,6 @@ pub(crate) fn rule<D, E>(
         MsyncMode::Async => Ruling::Passes,
         MsyncMode::Sync => choose(regions, &core.cache, first, count),
     }
-}
-
-/// Whether a process of that number lives.
-fn lives<D, E>(core: &Core<D, E>, pid: u64) -> bool
-    ensures live { result ≡ is_live (picture_of core.now) pid }
-    ensures number { result ≡ true → pid < 65 }
-{
-    pid < PLACES as u64 && core.roots[pid as usize].is_some()
 }
 
 /// The touched pages of the row of `count` pages from `first` on: `ENOSPC` where there are more than one msync takes.

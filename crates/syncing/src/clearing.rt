@@ -12,27 +12,26 @@ use page_tables::{Entry, entry, set};
 use regions::Run;
 use residency::Core;
 use sv39_walk::Pte;
-use vm_types::{Backing, FilePage, FrameNo, Vpn};
+use vm_types::{Backing, FilePage, FrameNo, Pid, Vpn};
 
 /// D, the bit of an entry that says that the page was written (RISC-V Privileged Specification, "Sv39 page table entry").
 const DIRTY: u64 = 1 << 7;
 
 /// Clears D in each entry of a process, where it lives, over the frames of these file pages: run by run, each file page has
 /// at most one page of a run.
-pub(crate) fn clear_dirty_of<D, E>(core: &mut Core<D, E>, pid: usize, pages: &[CachedPage])
+pub(crate) fn clear_dirty_of<D, E>(core: &mut Core<D, E>, pid: Pid, pages: &[CachedPage])
     requires fit { IsFit (picture_of core.old) }
     requires cached { AreCached (picture_of core.old) pages.now }
-    requires number { pid < 65 }
     ensures fit { IsFit (picture_of core.new) }
     ensures beside { KeepsAllButFrames core.old core.new }
     ensures clears { ClearsDirty (IsFrameIn pages.now) (picture_of core.old) (picture_of core.new) }
     ensures clear { AreClear (picture_of core.new) pid pages.now }
 {
-    let Some(root) = core.roots[pid] else {
+    let Some(root) = core.root(pid) else {
         return;
     };
     let mut page = 0;
-    while let Some(run) = core.regions[pid].next_run(page) {
+    while let Some(run) = core.regions(pid).next_run(page) {
         clear_dirty_in(core, pid, root, run, pages);
         page = run.end;
     }
@@ -41,7 +40,7 @@ pub(crate) fn clear_dirty_of<D, E>(core: &mut Core<D, E>, pid: usize, pages: &[C
 /// The same within one run of a live process.
 fn clear_dirty_in<D, E>(
     core: &mut Core<D, E>,
-    pid: usize,
+    pid: Pid,
     root: FrameNo,
     run: Run,
     pages: &[CachedPage],
@@ -66,7 +65,7 @@ fn clear_dirty_in<D, E>(
 /// The same of one file page, in a run the first page of which stands on `first`.
 fn clear_dirty_over<D, E>(
     core: &mut Core<D, E>,
-    pid: usize,
+    pid: Pid,
     root: FrameNo,
     run: Run,
     first: FilePage,
@@ -89,7 +88,7 @@ fn clear_dirty_over<D, E>(
 }
 
 /// The same at one page.
-fn clear_dirty_at<D, E>(core: &mut Core<D, E>, pid: usize, root: FrameNo, page: Vpn, frame: FrameNo)
+fn clear_dirty_at<D, E>(core: &mut Core<D, E>, pid: Pid, root: FrameNo, page: Vpn, frame: FrameNo)
     requires fit { IsFit (picture_of core.old) }
     requires lives { (picture_of core.old).root pid ≡ Some root.0 }
     requires user { page < 2 ^ 26 }

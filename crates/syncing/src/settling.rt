@@ -10,8 +10,8 @@ ghost use Rattle.syncing.specs.Settling.{AreCached, IsCached, KeepsBeside, Keeps
 use crate::chosen::CachedPage;
 use crate::clearing::clear_dirty_of;
 use disk_model::SectorDisk;
-use residency::{Core, PLACES};
-use vm_types::{FileInfo, PAGE_BYTES};
+use residency::Core;
+use vm_types::{FileInfo, PAGE_BYTES, Pid};
 
 /// Pages that were committed: bytes past the end of their files become zero, no entry says D of them, and they are touched
 /// no more. Every page keeps its own copy.
@@ -91,8 +91,10 @@ fn clear_dirty<D, E>(core: &mut Core<D, E>, pages: &[CachedPage])
     ensures clears { ClearsDirty (IsFrameIn pages.now) (picture_of core.old) (picture_of core.new) }
     ensures clear { (pid : ℕ) → AreClear (picture_of core.new) pid pages.now }
 {
-    for pid in 1..PLACES {
+    let mut number = 1;
+    while let Some(pid) = Pid::new(number) {
         clear_dirty_of(core, pid, pages);
+        number += 1;
     }
 }
 

@@ -10,12 +10,10 @@ use disk_model::{SectorDisk, SimDisk};
 use file_store::{FileSource, FileStore, format};
 use frames::Role;
 use page_cache::Place;
-use page_tables::take_table;
-use regions::Regions;
 use residency::Core;
 use std::alloc::Global;
 use std::test::Fail;
-use vm_types::{Answer, Attr, Backing, Errno, FilePage, MsyncMode, NoFree, Prot, TooManyRuns};
+use vm_types::{Answer, Attr, Backing, Errno, FilePage, MsyncMode, Pid, Prot, Stall, TooManyRuns};
 
 // The file of the tests, of 5,000 bytes, has two pages: 904 bytes of the second are inside.
 const LENGTH: u32 = 5000;
@@ -43,26 +41,32 @@ fn core_over(alloc: Global) -> Result<Core<SimDisk, SimDisk>, Fail>
     }
 }
 
+fn first_process() -> Pid
+    ensures { result ≡ 1 }
+{
+    let Some(pid) = Pid::new(1) else {
+        unreachable!();
+    };
+    pid
+}
+
 // A process of that number, without a page.
-fn spawn<D, E>(core: &mut Core<D, E>, pid: usize) -> Result<(), NoFree>
+fn spawn<D, E>(core: &mut Core<D, E>, pid: Pid) -> Result<(), Stall>
     requires fit { IsFit (picture_of core.old) }
-    requires number { (1 ≤ pid) × (pid ≤ 64) }
     requires dead { (picture_of core.old).root pid ≡ None }
     ensures fit { OnOk result (IsFit (picture_of core.new)) }
     ensures store { core.new.store ≡ core.old.store }
     ensures live { OnOk result (is_live (picture_of core.new) pid ≡ true) }
     ensures bare { OnOk result ((page : ℕ) → entry (picture_of core.new) pid page ≡ 0) }
 {
-    let root = take_table(&mut core.frames)?;
-    core.roots[pid] = Some(root);
-    core.regions[pid] = Regions::new();
+    let root = core.take_table()?;
+    core.add_process(pid, root);
     Ok(())
 }
 
 // Maps pages of the file, shared, into a process that has no entry yet.
-fn map<D, E>(core: &mut Core<D, E>, pid: usize, first: u64, pages: u64) -> Result<(), TooManyRuns>
+fn map<D, E>(core: &mut Core<D, E>, pid: Pid, first: u64, pages: u64) -> Result<(), TooManyRuns>
     requires fit { IsFit (picture_of core.old) }
-    requires number { pid ≤ 64 }
     requires low { 16 ≤ first }
     requires some { 0 < pages }
     requires high { first + pages ≤ 2 ^ 26 }
@@ -75,7 +79,9 @@ fn map<D, E>(core: &mut Core<D, E>, pid: usize, first: u64, pages: u64) -> Resul
         prot: Prot::READ,
         backing: Backing::Shared(FilePage { file: 0, page: 0 }),
     };
-    core.regions[pid].replace(first, pages, attr)
+    let regions = core.regions(pid).replaced(first, pages, attr)?;
+    core.remap(pid, regions);
+    Ok(())
 }
 
 // A page of the file is brought into a frame and stored to: that byte everywhere.
@@ -105,8 +111,9 @@ fn touch<D: SectorDisk, E>(core: &mut Core<D, E>, page: FilePage, byte: u8) -> R
 #[test]
 fn refuses_in_order(rt: HostRuntime) -> Result<(), Fail> {
     let mut core = core_over(rt.alloc())?;
-    spawn(&mut core, 1)?;
-    map(&mut core, 1, 16, 2)?;
+    let pid = first_process();
+    spawn(&mut core, pid)?;
+    map(&mut core, pid, 16, 2)?;
     assert_eq!(rt;
         msync(&mut core, 2, 1, 0, MsyncMode::Sync),
         Answer::Refused(Errno::ESRCH)
@@ -134,8 +141,9 @@ fn refuses_in_order(rt: HostRuntime) -> Result<(), Fail> {
 #[test]
 fn commits_what_was_stored(rt: HostRuntime) -> Result<(), Fail> {
     let mut core = core_over(rt.alloc())?;
-    spawn(&mut core, 1)?;
-    map(&mut core, 1, 16, 2)?;
+    let pid = first_process();
+    spawn(&mut core, pid)?;
+    map(&mut core, pid, 16, 2)?;
     let page = FilePage { file: 0, page: 1 };
     touch(&mut core, page, 0xaa)?;
     assert_eq!(rt;

@@ -18,4 +18,4 @@ one_readable map m a reads none is page = subst Reads (sym (is page)) (one_or _ 
 
 pub map-requires-clause-readable : goal.map-requires-clause-readable
 map-requires-clause-readable g c =
-    one_readable (attr_at c.replace.new.self) (attr_at c.new-regions.result) c.args.attr c.requires.readable c.new-regions.ensures.empty c.in_ok-replace.ensures.ok
+    one_readable (attr_at c.in_ok-regions.regions) (attr_at c.new-none.result) c.args.attr c.requires.readable c.new-none.ensures.empty c.in_ok-regions.ensures.ok

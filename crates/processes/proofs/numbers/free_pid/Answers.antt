@@ -1,39 +1,41 @@
-use Rattle.std.proofs.Common.{◌≡◌, ◌+◌, ◌-◌, ◌<◌, length, true, false, sym, ap, ◌∙◌, arith}
+use Rattle.std.proofs.Common.{◌≡◌, ◌+◌, ◌-◌, inl, inr, Some, true, false, sym, ap, ◌∙◌, arith}
+use Rattle.std.specs.Prelude.{is_some}
+use Rattle.std.proofs.lemmas.Bool.{cases_lt, false≢true}
 use Rattle.vm_types.specs.Processes.{least_free_from}
 use Rattle.residency.specs.Picture.{picture_of, is_live}
-use Rattle.processes.proofs.FreeNumbers.{the_number, number_is, live_place, least-here, least-next, least-none}
+use Rattle.processes.proofs.FreeNumbers.{some_number, least-here, least-next, least-none}
 use Rattle.processes.proofs.numbers.free_pid.Goals as goal
 
 pub returns-then-is_none-clause-least : goal.returns-then-is_none-clause-least
 returns-then-is_none-clause-least g c =
-    let place = c.loop-place.place in
+    let number = c.loop-pid.number in
     let live = is_live (picture_of c.args.core.now) in
-    let inside : place < length c.args.core.now.roots.items = omega (arith, c.loop-place-test.true, c.args.core.now.root_count) in
-    let free : live place ≡ false = live_place c.args.core.now.roots.items place c.index.result.now false inside c.index.ensures c.if-is_none.ensures in
-    the_number c.new.result place c.new.ensures.found (c.new.ensures.known.1 (c.loop-place.invariant.0, omega (arith, c.loop-place-test.true)))
-    ∙ sym (c.loop-place.invariant.2 ∙ least-here live place (65 - place) (omega (arith, c.loop-place-test.true)) free)
+    let high = (c.new.ensures.known.0 (ap is_some c.in-Some.is)).1 in
+    let free : live c.in-Some.pid ≡ false = ap is_some (sym c.root.ensures) ∙ some_number c.root.result ∙ c.if-is_none.ensures in
+    ap (λ n. Some n) c.in-Some.ensures.found
+    ∙ sym (c.loop-pid.invariant.2 ∙ least-here live number (65 - number) (omega (arith, high)) (ap live (sym c.in-Some.ensures.found) ∙ free))
 
-pub loop-place-preserved : goal.loop-place-preserved
-loop-place-preserved g c =
-    let place = c.loop-place.place in
+pub returns-then-is_none-clause-free : goal.returns-then-is_none-clause-free
+returns-then-is_none-clause-free g c = ap is_some (sym c.root.ensures) ∙ some_number c.root.result ∙ c.if-is_none.ensures
+
+pub loop-pid-preserved : goal.loop-pid-preserved
+loop-pid-preserved g c =
+    let number = c.loop-pid.number in
     let live = is_live (picture_of c.args.core.now) in
-    let inside : place < length c.args.core.now.roots.items = omega (arith, c.loop-place-test.true, c.args.core.now.root_count) in
-    let taken : live place ≡ true = live_place c.args.core.now.roots.items place c.index.result.now true inside c.index.ensures c.if-is_none.ensures in
-    let rest : 65 - place - 1 ≡ 65 - (place + 1) = omega arith in (
+    let high = (c.new.ensures.known.0 (ap is_some c.in-Some.is)).1 in
+    let taken : live c.in-Some.pid ≡ true = ap is_some (sym c.root.ensures) ∙ some_number c.root.result ∙ c.if-is_none.ensures in
+    let rest : 65 - number - 1 ≡ 65 - (number + 1) = omega arith in (
       omega arith,
-      omega (arith, c.loop-place-test.true),
-      c.loop-place.invariant.2 ∙ least-next live place (65 - place) (omega (arith, c.loop-place-test.true)) taken
-          ∙ ap (least_free_from live (place + 1)) rest,
+      omega (arith, high),
+      c.loop-pid.invariant.2 ∙ least-next live number (65 - number) (omega (arith, high)) (ap live (sym c.in-Some.ensures.found) ∙ taken)
+          ∙ ap (least_free_from live (number + 1)) rest,
     )
 
 pub returns-clause-least : goal.returns-clause-least
 returns-clause-least g c =
-    let place = c.loop-place.place in
-    sym (c.loop-place.invariant.2 ∙ least-none (is_live (picture_of c.args.core.now)) place (65 - place) (omega (arith, c.loop-place-test.false)))
-
-pub returns-then-is_none-clause-free : goal.returns-then-is_none-clause-free
-returns-then-is_none-clause-free g c =
-    let place = c.loop-place.place in
-    let inside : place < length c.args.core.now.roots.items = omega (arith, c.loop-place-test.true, c.args.core.now.root_count) in
-    number_is c.new.result place (λ pid. is_live (picture_of c.args.core.now) pid ≡ false) c.new.ensures.found
-    (live_place c.args.core.now.roots.items place c.index.result.now false inside c.index.ensures c.if-is_none.ensures)
+    let number = c.loop-pid.number in
+    let past : 65 - number ≡ 0 = elim (cases_lt number 65) [
+      | inl low ↦ absurd (false≢true (ap is_some (sym c.in_default.is) ∙ c.new.ensures.known.1 (c.loop-pid.invariant.0, omega (arith, low))))
+      | inr high ↦ omega (arith, high)
+    ] in
+    sym (c.loop-pid.invariant.2 ∙ least-none (is_live (picture_of c.args.core.now)) number (65 - number) past)

@@ -18,9 +18,9 @@ pub reprotect-requires-clause-map : goal.reprotect-requires-clause-map
 reprotect-requires-clause-map g c page =
     let P : ℕ → Type 0 = λ pid. (picture_of c.in_ok-core.core).at pid page ≡ five_pages page in
     let mapped = subst P (sym c.first_process-pid.ensures) (c.in_ok-core.ensures.map page) in
-    c.in_ok-protect.ensures.ok page
-    ∙ same_protected (attr_at c.in_ok-read_only.read_only) ((picture_of c.own_frame.new.core).at c.first_process-pid.result) 32 2 (record { 0 = 1 }) page
-    (c.in_ok-read_only.ensures.map page ∙ sym mapped ∙ sym (c.link_tables.ensures.spaces.at c.first_process-pid.result page)
+    c.in_ok-read_only.ensures.ok page
+    ∙ same_protected (attr_at c.in_ok-five_pages.field-0) ((picture_of c.own_frame.new.core).at c.first_process-pid.result) 32 2 (record { 0 = 1 }) page
+    (c.in_ok-five_pages.ensures.map page ∙ sym mapped ∙ sym (c.link_tables.ensures.spaces.at c.first_process-pid.result page)
     ∙ sym (c.own_frame.ensures.spaces.at c.first_process-pid.result page))
 
 -- behind anonymous memory stands the page of zeros

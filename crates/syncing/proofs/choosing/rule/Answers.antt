@@ -1,25 +1,24 @@
 use Rattle.std.proofs.Common.{◌≡◌, ℕ, ◌<◌, ◌/◌, ◌∙◌, true, false, [], length, ap, sym, subst, refl, arith}
-use Rattle.std.proofs.lemmas.List.{get_or_read}
 use Rattle.vm_types.specs.declared.command.MsyncMode.{MsyncMode}
 use Rattle.vm_types.specs.declared.command.MsyncMode.TheVariants.{Async}
 use Rattle.vm_types.specs.Checks.{page_count}
 use Rattle.vm_types.specs.Rows.{is_covered}
 use Rattle.regions.specs.RunList.{attr_at}
-use Rattle.residency.specs.Picture.{picture_of}
+use Rattle.residency.specs.Picture.{picture_of, is_live}
 use Rattle.residency.proofs.Granting.{user_map-same}
 use Rattle.syncing.specs.Choice.{is_chosen, IsChoice, RulesSame}
-use Rattle.syncing.proofs.Rulings.{the_process, ruled_missing, ruled_row, ruled_sync, listed_of, touched_within, map_of}
+use Rattle.syncing.proofs.Rulings.{the_process, ruled_missing, ruled_row, ruled_sync, listed_of, touched_within}
 use Rattle.syncing.proofs.choosing.rule.Goals as goal
 
 pub returns-then-not-covers-clause-same : goal.returns-then-not-covers-clause-same
 returns-then-not-covers-clause-same g c = λ s shows.
     let core = c.args.core.now in
     let a = c.args in
-    let map = attr_at c.index-regions.result.now in
-    let below : a.pid < length core.regions.items = (let small = c.lives.ensures.number c.if-not-lives.false in omega (arith, small, c.args.core.now.region_count)) in
-    let live = sym c.lives.ensures.live ∙ c.if-not-lives.false in
-    let at = map_of core a.pid c.index-regions.result.now live (sym (get_or_read core.regions.items a.pid _ below c.index-regions.ensures [])) in
-    let p = the_process (picture_of core) map s a.pid c.lives.result shows c.lives.ensures.live c.if-not-lives.false at in
+    let map = attr_at c.regions-regions.result.now in
+    let found = c.in-Some.ensures.found in
+    let at : (page : ℕ) → (picture_of core).at a.pid page ≡ map page = λ page. ap (λ pid. (picture_of core).at pid page) (sym found.0) ∙ sym (c.regions-regions.ensures page) in
+    let live : is_live (picture_of core) a.pid ≡ true = ap (is_live (picture_of core)) (sym found.0) ∙ found.1 in
+    let p = the_process (picture_of core) map s a.pid true shows (sym live) refl at in
     let count : c.div_ceil-count.result ≡ page_count a.len = omega (arith, c.div_ceil-count.ensures) in
     let hole : is_covered map (a.addr / 4096) (page_count a.len) ≡ false =
     ap (is_covered map (a.addr / 4096)) (sym count) ∙ sym c.covers.ensures ∙ c.if-not-covers.true in
@@ -29,21 +28,20 @@ pub choose-requires-clause-user : goal.choose-requires-clause-user
 choose-requires-clause-user g c =
     let core = c.args.core.now in
     let a = c.args in
-    let map = attr_at c.index-regions.result.now in
-    let below : a.pid < length core.regions.items = (let small = c.lives.ensures.number c.if-not-lives.false in omega (arith, small, c.args.core.now.region_count)) in
-    let live = sym c.lives.ensures.live ∙ c.if-not-lives.false in
-    let at = map_of core a.pid c.index-regions.result.now live (sym (get_or_read core.regions.items a.pid _ below c.index-regions.ensures [])) in
+    let map = attr_at c.regions-regions.result.now in
+    let found = c.in-Some.ensures.found in
+    let at : (page : ℕ) → (picture_of core).at a.pid page ≡ map page = λ page. ap (λ pid. (picture_of core).at pid page) (sym found.0) ∙ sym (c.regions-regions.ensures page) in
     user_map-same ((picture_of core).at a.pid) map (λ page. sym (at page)) (c.requires.fit.granting.user a.pid)
 
 pub returns-in-Async-clause-same : goal.returns-in-Async-clause-same
 returns-in-Async-clause-same g c = λ s shows.
     let core = c.args.core.now in
     let a = c.args in
-    let map = attr_at c.index-regions.result.now in
-    let below : a.pid < length core.regions.items = (let small = c.lives.ensures.number c.if-not-lives.false in omega (arith, small, c.args.core.now.region_count)) in
-    let live = sym c.lives.ensures.live ∙ c.if-not-lives.false in
-    let at = map_of core a.pid c.index-regions.result.now live (sym (get_or_read core.regions.items a.pid _ below c.index-regions.ensures [])) in
-    let p = the_process (picture_of core) map s a.pid c.lives.result shows c.lives.ensures.live c.if-not-lives.false at in
+    let map = attr_at c.regions-regions.result.now in
+    let found = c.in-Some.ensures.found in
+    let at : (page : ℕ) → (picture_of core).at a.pid page ≡ map page = λ page. ap (λ pid. (picture_of core).at pid page) (sym found.0) ∙ sym (c.regions-regions.ensures page) in
+    let live : is_live (picture_of core) a.pid ≡ true = ap (is_live (picture_of core)) (sym found.0) ∙ found.1 in
+    let p = the_process (picture_of core) map s a.pid true shows (sym live) refl at in
     let count : c.div_ceil-count.result ≡ page_count a.len = omega (arith, c.div_ceil-count.ensures) in
     let covered : is_covered map (a.addr / 4096) (page_count a.len) ≡ true =
     ap (is_covered map (a.addr / 4096)) (sym count) ∙ sym c.covers.ensures ∙ c.if-not-covers.false in
@@ -53,11 +51,11 @@ pub returns-in-Sync-clause-same : goal.returns-in-Sync-clause-same
 returns-in-Sync-clause-same g c = λ s shows.
     let core = c.args.core.now in
     let a = c.args in
-    let map = attr_at c.index-regions.result.now in
-    let below : a.pid < length core.regions.items = (let small = c.lives.ensures.number c.if-not-lives.false in omega (arith, small, c.args.core.now.region_count)) in
-    let live = sym c.lives.ensures.live ∙ c.if-not-lives.false in
-    let at = map_of core a.pid c.index-regions.result.now live (sym (get_or_read core.regions.items a.pid _ below c.index-regions.ensures [])) in
-    let p = the_process (picture_of core) map s a.pid c.lives.result shows c.lives.ensures.live c.if-not-lives.false at in
+    let map = attr_at c.regions-regions.result.now in
+    let found = c.in-Some.ensures.found in
+    let at : (page : ℕ) → (picture_of core).at a.pid page ≡ map page = λ page. ap (λ pid. (picture_of core).at pid page) (sym found.0) ∙ sym (c.regions-regions.ensures page) in
+    let live : is_live (picture_of core) a.pid ≡ true = ap (is_live (picture_of core)) (sym found.0) ∙ found.1 in
+    let p = the_process (picture_of core) map s a.pid true shows (sym live) refl at in
     let count : c.div_ceil-count.result ≡ page_count a.len = omega (arith, c.div_ceil-count.ensures) in
     let covered : is_covered map (a.addr / 4096) (page_count a.len) ≡ true =
     ap (is_covered map (a.addr / 4096)) (sym count) ∙ sym c.covers.ensures ∙ c.if-not-covers.false in
@@ -68,4 +66,4 @@ returns-in-Sync-clause-same g c = λ s shows.
 
 pub returns-in-Sync-clause-listed : goal.returns-in-Sync-clause-listed
 returns-in-Sync-clause-listed g c =
-    listed_of (picture_of c.args.core.now) (attr_at c.index-regions.result.now) (c.args.addr / 4096) c.div_ceil-count.result c.choose.result c.choose.ensures
+    listed_of (picture_of c.args.core.now) (attr_at c.regions-regions.result.now) (c.args.addr / 4096) c.div_ceil-count.result c.choose.result c.choose.ensures

@@ -1,13 +1,12 @@
-use Rattle.std.proofs.Common.{◌≡◌, ◌<◌, inl, inr, [], length, Some, None, sym, ap, ◌∙◌, arith}
+use Rattle.std.proofs.Common.{◌≡◌, ℕ, inl, inr, Some, None, sym, ap, ◌∙◌, arith}
 use Rattle.std.specs.Option.{option_map}
 use Rattle.std.specs.Prelude.{is_some}
 use Rattle.std.proofs.lemmas.Bool.{cases_lt}
-use Rattle.std.proofs.lemmas.List.{get_or_read}
+use Rattle.regions.specs.RunList.{attr_at}
 use Rattle.residency.specs.Picture.{picture_of, number_of_frame}
 use Rattle.syncing.specs.Settling.{cached_at, frame_at, IsFrameIn}
 use Rattle.syncing.proofs.Besides.{frames_none, frames_then}
 use Rattle.syncing.proofs.Leaves.{clears_none, clears_then, cached_kept, still_clear, clear_unmapped, clear_dead, run_of}
-use Rattle.syncing.proofs.Rulings.{map_of}
 use Rattle.syncing.proofs.clearing.clear_dirty_of.Goals as goal
 
 pub loop-run-init : goal.loop-run-init
@@ -28,11 +27,15 @@ clear_dirty_in-requires-clause-lives g c =
     let b = c.loop-run.core in
     let pid = c.args.pid in
     let kept = c.loop-run.invariant in
-    let place : pid < length a.roots.items = omega (arith, c.requires.number, c.args.core.now.root_count) in
-    let lived : (picture_of a).root pid ≡ Some c.in-Some.root.0 =
-    ap (λ o. option_map number_of_frame o) (sym (get_or_read a.roots.items pid _ place c.index.ensures None) ∙ c.in-Some.is) in
+    let lived : (picture_of a).root pid ≡ Some c.in-Some.root.0 = sym c.root.ensures ∙ ap (λ o. option_map number_of_frame o) c.in-Some.is in
     let lives : (picture_of b).root pid ≡ Some c.in-Some.root.0 = kept.clears.beside.root pid ∙ lived in
     lives
+
+pub regions-requires : goal.regions-requires
+regions-requires g c =
+    let kept = c.loop-run.invariant in
+    let lived : (picture_of c.args.core.now).root c.args.pid ≡ Some c.in-Some.root.0 = sym c.root.ensures ∙ ap (λ o. option_map number_of_frame o) c.in-Some.is in
+    record { live = ap is_some (kept.clears.beside.root c.args.pid ∙ lived) }
 
 pub clear_dirty_in-requires-clause-run : goal.clear_dirty_in-requires-clause-run
 clear_dirty_in-requires-clause-run g c =
@@ -40,13 +43,10 @@ clear_dirty_in-requires-clause-run g c =
     let b = c.loop-run.core in
     let pid = c.args.pid in
     let kept = c.loop-run.invariant in
-    let place : pid < length a.roots.items = omega (arith, c.requires.number, c.args.core.now.root_count) in
-    let lived : (picture_of a).root pid ≡ Some c.in-Some.root.0 =
-    ap (λ o. option_map number_of_frame o) (sym (get_or_read a.roots.items pid _ place c.index.ensures None) ∙ c.in-Some.is) in
+    let lived : (picture_of a).root pid ≡ Some c.in-Some.root.0 = sym c.root.ensures ∙ ap (λ o. option_map number_of_frame o) c.in-Some.is in
     let lives : (picture_of b).root pid ≡ Some c.in-Some.root.0 = kept.clears.beside.root pid ∙ lived in
-    let below : pid < length b.regions.items = omega (arith, c.requires.number, b.region_count) in
-    let at = map_of b pid c.index-in-loop-run.result.now (ap is_some lives) (sym (get_or_read b.regions.items pid _ below c.index-in-loop-run.ensures [])) in
-    run_of (picture_of b) pid c.index-in-loop-run.result.now c.loop-run.page c.in-Some-next_run.run' at c.in-Some-next_run.ensures.some
+    let at : (page : ℕ) → (picture_of b).at pid page ≡ attr_at c.regions.result.now page = λ page. sym (c.regions.ensures page) in
+    run_of (picture_of b) pid c.regions.result.now c.loop-run.page c.in-Some-next_run.run' at c.in-Some-next_run.ensures.some
 
 pub loop-run-preserved : goal.loop-run-preserved
 loop-run-preserved g c =
@@ -54,12 +54,9 @@ loop-run-preserved g c =
     let b = c.loop-run.core in
     let pid = c.args.pid in
     let kept = c.loop-run.invariant in
-    let place : pid < length a.roots.items = omega (arith, c.requires.number, c.args.core.now.root_count) in
-    let lived : (picture_of a).root pid ≡ Some c.in-Some.root.0 =
-    ap (λ o. option_map number_of_frame o) (sym (get_or_read a.roots.items pid _ place c.index.ensures None) ∙ c.in-Some.is) in
+    let lived : (picture_of a).root pid ≡ Some c.in-Some.root.0 = sym c.root.ensures ∙ ap (λ o. option_map number_of_frame o) c.in-Some.is in
     let lives : (picture_of b).root pid ≡ Some c.in-Some.root.0 = kept.clears.beside.root pid ∙ lived in
-    let below : pid < length b.regions.items = omega (arith, c.requires.number, b.region_count) in
-    let at = map_of b pid c.index-in-loop-run.result.now (ap is_some lives) (sym (get_or_read b.regions.items pid _ below c.index-in-loop-run.ensures [])) in
+    let at : (page : ℕ) → (picture_of b).at pid page ≡ attr_at c.regions.result.now page = λ page. sym (c.regions.ensures page) in
     let cached = cached_kept (IsFrameIn c.args.pages.now) (picture_of a) (picture_of b) c.args.pages.now kept.clears c.requires.cached in
     let done = c.clear_dirty_in.ensures in
     let after = picture_of c.clear_dirty_in.new.core in
@@ -83,8 +80,7 @@ pub returns-in_default-clause-clear : goal.returns-in_default-clause-clear
 returns-in_default-clause-clear g c = λ i k less h.
     let a = c.args.core.now in
     let pid = c.args.pid in
-    let place : pid < length a.roots.items = omega (arith, c.requires.number, c.args.core.now.root_count) in
-    let dead : (picture_of a).root pid ≡ None = ap (λ o. option_map number_of_frame o) (sym (get_or_read a.roots.items pid _ place c.index.ensures None) ∙ c.in_default.is) in
+    let dead : (picture_of a).root pid ≡ None = sym c.root.ensures ∙ ap (λ o. option_map number_of_frame o) c.in_default.is in
     clear_dead (picture_of a) pid k (frame_at c.args.pages.now i) dead
 
 pub returns : goal.returns
@@ -93,12 +89,9 @@ returns g c =
     let b = c.loop-run.core in
     let pid = c.args.pid in
     let kept = c.loop-run.invariant in
-    let place : pid < length a.roots.items = omega (arith, c.requires.number, c.args.core.now.root_count) in
-    let lived : (picture_of a).root pid ≡ Some c.in-Some.root.0 =
-    ap (λ o. option_map number_of_frame o) (sym (get_or_read a.roots.items pid _ place c.index.ensures None) ∙ c.in-Some.is) in
+    let lived : (picture_of a).root pid ≡ Some c.in-Some.root.0 = sym c.root.ensures ∙ ap (λ o. option_map number_of_frame o) c.in-Some.is in
     let lives : (picture_of b).root pid ≡ Some c.in-Some.root.0 = kept.clears.beside.root pid ∙ lived in
-    let below : pid < length b.regions.items = omega (arith, c.requires.number, b.region_count) in
-    let at = map_of b pid c.index-in-loop-run.result.now (ap is_some lives) (sym (get_or_read b.regions.items pid _ below c.index-in-loop-run.ensures [])) in
+    let at : (page : ℕ) → (picture_of b).at pid page ≡ attr_at c.regions.result.now page = λ page. sym (c.regions.ensures page) in
     let cached = cached_kept (IsFrameIn c.args.pages.now) (picture_of a) (picture_of b) c.args.pages.now kept.clears c.requires.cached in
     record {
       fit = kept.fit;
