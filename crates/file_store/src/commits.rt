@@ -42,6 +42,7 @@ impl<D: SectorDisk> FileStore<D> {
         ensures touches { D.keeps_model self.new.disk → Touches D.SectorDisk (IsCommitted (live_homes self.old.journal)) self.old.disk self.new.disk }
         ensures files { self.new.directory ≡ self.old.directory }
         ensures ready { OnOk result (IsReadyStore D.SectorDisk self.new) }
+        ensures synced { D.keeps_model self.new.disk → OnOk result ((k : ℕ) → D.unsynced self.new.disk k → ⊥) }
         ensures ready_after_source { IsErrOf result CommitFault.Source → IsReadyStore D.SectorDisk self.new }
 
         // Every image of a stop at any moment of the call stands for the files before or after.

@@ -34,6 +34,7 @@ impl<D: SectorDisk> FileStore<D> {
         ensures kept { IfOk result (λ store. D.keeps_model store.disk → D.keeps_model disk) }
         ensures later { IfOk result (λ store. D.failures disk ≤ D.failures store.disk) }
         ensures calm { IfOk result (λ store. D.failures store.disk ≡ D.failures disk) }
+        ensures synced { IfOk result (λ store. D.keeps_model store.disk → (k : ℕ) → D.unsynced store.disk k → ⊥) }
 
         // The image is that of a store.
         ensures good_layout { IfOk result (λ store. D.keeps_model store.disk → IsBadLayout (D.sector_count disk) (D.content disk) → ⊥) }
@@ -89,6 +90,7 @@ fn mount<D: SectorDisk>(disk: &mut D) -> Result<Directory, OpenFault>
     ensures kept { D.keeps_model disk.new → D.keeps_model disk.old }
     ensures later { D.failures disk.old ≤ D.failures disk.new }
     ensures ok { IfOk result (λ directory. IsMounted D.SectorDisk disk.old disk.new directory) }
+    ensures synced { D.keeps_model disk.new → OnOk result ((k : ℕ) → D.unsynced disk.new k → ⊥) }
     ensures device { IsErrOf result OpenFault.Device → D.failures disk.old < D.failures disk.new }
     ensures calm { OnOk result (D.failures disk.new ≡ D.failures disk.old) }
     ensures still { OnErr result ((IsErrOf result OpenFault.Device → ⊥) → D.failures disk.new ≡ D.failures disk.old) }

@@ -72,6 +72,7 @@ impl Journal {
         // Whatever the source gives, the journal is live after Ok, the device is at rest, and outside as it was.
         ensures live { OnOk result (live_homes self.new ≡ homes.now) }
         ensures rest { D.keeps_model disk.new → OnOk result (IsAtRest D.SectorDisk homes.now disk.new) }
+        ensures synced { D.keeps_model disk.new → OnOk result ((k : ℕ) → D.unsynced disk.new k → ⊥) }
         ensures map { D.keeps_model disk.new → OnOk result (D.content disk.new map_sector ≡ map_bytes homes.now) }
         ensures outside { D.keeps_model disk.new → OnOk result ((k : ℕ) → IsOutside (D.sector_count disk.old) k → D.content disk.new k ≡ D.content disk.old k) }
 

@@ -1,0 +1,60 @@
+//! A batch that is brought a page at a time.
+ghost use Rattle.std.specs.Prelude.{◌≡◌, ◌≤◌, length};
+
+use crate::pages::MAX_PAGES;
+use std::alloc::{AllocError, Global};
+use vm_types::FilePage;
+
+/// Room for a batch, and the pages brought so far.
+#[derive(Drop)]
+pub(crate) struct Batch {
+    pages: [FilePage; MAX_PAGES],
+    bytes: Vec<[u8; 4096]>,
+    count: usize,
+    /// More pages were brought than a batch may have.
+    over: bool,
+    ghost room: { length bytes.items ≡ 127 },
+    ghost long: { length pages ≡ 127 },
+    ghost within: { count ≤ 127 },
+}
+
+impl Batch {
+    pub(crate) fn new(alloc: Global) -> Result<Batch, AllocError> {
+        Ok(Batch {
+            pages: [FilePage { file: 0, page: 0 }; MAX_PAGES],
+            bytes: Vec::from_elem(alloc, [0; 4096], MAX_PAGES)?,
+            count: 0,
+            over: false,
+        })
+    }
+
+    /// Adds a page. Past 127 it is only noted that there are too many.
+    pub(crate) fn add(&mut self, page: FilePage, bytes: &[u8; 4096]) {
+        if self.count >= MAX_PAGES {
+            self.over = true;
+            return;
+        }
+        self.pages[self.count] = page;
+        self.bytes[self.count] = *bytes;
+        self.count += 1;
+    }
+
+    /// Lets go of all pages.
+    pub(crate) fn clear(&mut self) {
+        self.count = 0;
+        self.over = false;
+    }
+
+    /// The pages and their bytes; no pages at all where there were too many.
+    pub(crate) fn brought(&self) -> (&[FilePage], &[[u8; 4096]])
+        ensures { length result.1.now ≡ length result.0.now }
+    {
+        let count = if self.over { 0 } else { self.count };
+        (&self.pages[..count], &self.bytes[..count])
+    }
+
+    /// Whether a page was brought.
+    pub(crate) fn is_begun(&self) -> bool {
+        self.count > 0
+    }
+}

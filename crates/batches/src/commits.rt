@@ -1,0 +1,131 @@
+//! Batches that become durable.
+ghost use Rattle.std.specs.Prelude.{◌≡◌, ◌≢◌, ◌<◌, ℕ, List, [], Option, OnOk, IfErr, length, slice_index_or, refl};
+ghost use Rattle.std.proofs.Common.{◌∙◌};
+ghost use Rattle.batches.specs.Pages.{HasReadOnly, given_page};
+ghost use Rattle.vm_types.specs.declared.file.FileInfo.{FileInfo};
+ghost use Rattle.disk_model.specs.Moments.{LeavesOnly, LeavesNow};
+ghost use Rattle.file_store.specs.Commit.{ArePages, Changes, StandsForEither};
+ghost use Rattle.file_store.specs.Standing.{StandsFor};
+ghost use Rattle.file_store.specs.Store.{IsReadyStore, files_of};
+
+use crate::pages::{BadBatch, check_pages};
+use disk_model::SectorDisk;
+use file_store::FileStore;
+use sync_journal::{PageSource, SourceFault};
+use vm_types::FilePage;
+
+/// Why a batch was not made durable.
+#[derive(Clone, Copy, Debug, PartialEq, Eq)]
+pub enum BatchFault {
+    /// The device failed: all of the batch is durable or none.
+    Device,
+    /// There is no page or there are over 127, one is named twice, or one does not begin inside its file.
+    BadPages,
+    /// The file of a page may only be read.
+    ReadOnly,
+}
+
+/// Pages in memory as a source. It never fails.
+#[derive(Drop)]
+struct GivenPages<'a> {
+    pages: &'a [[u8; 4096]],
+}
+
+impl PageSource for GivenPages<'_> {
+    ghost pages = { λ s i. given_page s.pages.now i };
+
+    ghost gives = { λ s i. i < length s.pages.now };
+
+    ghost failures = { λ _. 0 };
+
+    ghost keeps_model = { λ _. Unit {0} };
+
+    ghost follows = { λ old new. new ≡ old };
+
+    fn page(&mut self, i: usize, to: &mut [u8; 4096]) -> Result<(), SourceFault> {
+        *to = self.pages[i];
+        Ok(())
+    }
+
+    ghost stays = { λ _. refl };
+
+    ghost goes_on = { λ _ _ _ first second. second ∙ first };
+}
+
+fn fault_of(fault: BadBatch) -> BatchFault
+    ensures bad_pages { result ≡ BatchFault.BadPages → fault ≡ BadBatch.BadPages }
+    ensures read_only { result ≡ BatchFault.ReadOnly → fault ≡ BadBatch.ReadOnly }
+    ensures device { result ≢ BatchFault.Device }
+{
+    match fault {
+        BadBatch::BadPages => BatchFault::BadPages,
+        BadBatch::ReadOnly => BatchFault::ReadOnly,
+    }
+}
+
+/// Makes pages that a store takes durable all at once.
+fn commit_good<D: SectorDisk>(
+    store: &mut FileStore<D>,
+    pages: &[FilePage],
+    bytes: &[[u8; 4096]],
+) -> Result<(), BatchFault>
+    requires ready { IsReadyStore D.SectorDisk store.old }
+    requires pages { ArePages (files_of store.old) pages.now }
+    requires bytes { length bytes.now ≡ length pages.now }
+    ensures kept { D.keeps_model store.new.disk → D.keeps_model store.old.disk }
+    ensures fault { IfErr result (λ fault. (fault ≡ BatchFault.Device) × (D.failures store.old.disk < D.failures store.new.disk)) }
+    ensures ready { OnOk result (IsReadyStore D.SectorDisk store.new) }
+    ensures any_moment { D.keeps_model store.new.disk → (files : ℕ → Option FileInfo) (before after : ℕ → ℕ → List ℕ)
+        → LeavesNow D.SectorDisk store.old.disk (StandsFor (D.sector_count store.old.disk) files before) → Changes files pages.now (given_page bytes.now) before after
+        → LeavesOnly D.SectorDisk store.old.disk store.new.disk (StandsForEither (D.sector_count store.old.disk) files before after) }
+    ensures ok { D.keeps_model store.new.disk → (files : ℕ → Option FileInfo) (before after : ℕ → ℕ → List ℕ)
+        → LeavesNow D.SectorDisk store.old.disk (StandsFor (D.sector_count store.old.disk) files before) → Changes files pages.now (given_page bytes.now) before after
+        → OnOk result (LeavesNow D.SectorDisk store.new.disk (StandsFor (D.sector_count store.old.disk) files after)) }
+{
+    let mut source = GivenPages { pages: bytes };
+    match store.commit(pages, &mut source) {
+        Ok(()) => Ok(()),
+        Err(_) => Err(BatchFault::Device),
+    }
+}
+
+/// Makes pages durable all at once: page `pages[i]` becomes `bytes[i]`, with zeros past its file's end.
+///
+/// # Errors
+///
+/// `BadPages` and `ReadOnly` come exactly where they say, and the store is then as it was. `Device` comes only where the
+/// device failed: every image that a stop might have left stands for the files before or for those after, and the store
+/// has to be opened again.
+pub fn commit_pages<D: SectorDisk>(
+    store: &mut FileStore<D>,
+    pages: &[FilePage],
+    bytes: &[[u8; 4096]],
+) -> Result<(), BatchFault>
+    requires ready { IsReadyStore D.SectorDisk store.old }
+    requires bytes { length bytes.now ≡ length pages.now }
+    ensures kept { D.keeps_model store.new.disk → D.keeps_model store.old.disk }
+    ensures ready { OnOk result (IsReadyStore D.SectorDisk store.new) }
+
+    // After Ok every image of a stop from now on stands for the files with these pages.
+    ensures ok { D.keeps_model store.new.disk → (files : ℕ → Option FileInfo) (before after : ℕ → ℕ → List ℕ)
+        → LeavesNow D.SectorDisk store.old.disk (StandsFor (D.sector_count store.old.disk) files before) → Changes files pages.now (given_page bytes.now) before after
+        → OnOk result (LeavesNow D.SectorDisk store.new.disk (StandsFor (D.sector_count store.old.disk) files after)) }
+
+    // At every moment of the call it stands for the files before or after.
+    ensures any_moment { D.keeps_model store.new.disk → (files : ℕ → Option FileInfo) (before after : ℕ → ℕ → List ℕ)
+        → LeavesNow D.SectorDisk store.old.disk (StandsFor (D.sector_count store.old.disk) files before) → Changes files pages.now (given_page bytes.now) before after
+        → LeavesOnly D.SectorDisk store.old.disk store.new.disk (StandsForEither (D.sector_count store.old.disk) files before after) }
+
+    // A batch is refused exactly where it is bad, and then nothing is changed.
+    ensures taken { OnOk result (ArePages (files_of store.old) pages.now) }
+    ensures written { OnOk result (HasReadOnly (files_of store.old) pages.now → ⊥) }
+    ensures bad_pages { IfErr result (λ fault. fault ≡ BatchFault.BadPages → ArePages (files_of store.old) pages.now → ⊥) }
+    ensures read_only { IfErr result (λ fault. fault ≡ BatchFault.ReadOnly → ArePages (files_of store.old) pages.now × HasReadOnly (files_of store.old) pages.now) }
+    ensures cause { IfErr result (λ fault. fault ≡ BatchFault.Device → D.failures store.old.disk < D.failures store.new.disk) }
+    ensures unchanged { IfErr result (λ fault. fault ≢ BatchFault.Device → store.new ≡ store.old) }
+{
+    match check_pages(store, pages) {
+        Ok(()) => commit_good(store, pages, bytes),
+        Err(fault) => Err(fault_of(fault)),
+    }
+}

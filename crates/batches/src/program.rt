@@ -1,0 +1,95 @@
+//! The program that makes batches durable.
+ghost use Rattle.std.specs.Prelude.{◌≤◌};
+
+use crate::serving::{ServeEnd, serve};
+use disk_model::{FileDisk, Unknown};
+use file_store::{FileStore, OpenFault};
+use std::fs::{self, File, Files, OpenOptions};
+use std::io::{self, BufReader, ErrorKind, Read, Write};
+
+/// Why the program gives up.
+#[derive(Clone, Copy, Debug, PartialEq, Eq)]
+enum ProgramFault {
+    Usage,
+    OutOfMemory,
+    CannotOpen,
+    Open(OpenFault),
+    Served(ServeEnd),
+}
+
+/// `pagesync IMAGE`: opens and locks an image, and carries out the requests of `reader`, whose answers go to `writer`.
+///
+/// Answers the exit status: 0 where the input ended between two batches; 1 a fault; 2 other words. For 1 and 2 one line on
+/// `errors` says why.
+pub fn pagesync<R: Files<File = File> + AllocGlobal, I: Read + Drop, O: Write, X: Write>(
+    rt: &R,
+    words: &[String],
+    reader: I,
+    writer: &mut O,
+    errors: &mut X,
+) -> u8
+    ensures { result ≤ 2 }
+{
+    let Err(fault) = run(rt, words, reader, writer) else {
+        return 0;
+    };
+    // Where this stream fails too, the status alone tells.
+    let _ = writeln!(errors, "pagesync: {}", text_of(fault));
+    if fault == ProgramFault::Usage { 2 } else { 1 }
+}
+
+fn run<R: Files<File = File> + AllocGlobal, I: Read + Drop, O: Write>(
+    rt: &R,
+    words: &[String],
+    reader: I,
+    writer: &mut O,
+) -> Result<(), ProgramFault> {
+    let [image] = words else {
+        return Err(ProgramFault::Usage);
+    };
+    let Ok(file) = open_alone(rt, image.as_str()) else {
+        return Err(ProgramFault::CannotOpen);
+    };
+    let Ok(disk) = FileDisk::<Unknown>::new(file) else {
+        return Err(ProgramFault::CannotOpen);
+    };
+    let mut store = match FileStore::open(disk) {
+        Ok(store) => store,
+        Err((fault, _)) => return Err(ProgramFault::Open(fault)),
+    };
+    let Ok(mut input) = BufReader::new(rt.alloc(), reader) else {
+        return Err(ProgramFault::OutOfMemory);
+    };
+    match serve(rt.alloc(), &mut store, &mut input, writer) {
+        Ok(ServeEnd::Done) => Ok(()),
+        Ok(end) => Err(ProgramFault::Served(end)),
+        Err(_) => Err(ProgramFault::OutOfMemory),
+    }
+}
+
+/// The regular file of that path, under a lock that no other program of ours has: it stands until the file is dropped. What
+/// is no regular file is not opened, since that may wait for ever, as for the other end of a pipe.
+fn open_alone<R: Files<File = File>>(rt: &R, path: &str) -> io::Result<File> {
+    if !fs::metadata(rt, path)?.is_file() {
+        return Err(io::Error::from(ErrorKind::InvalidInput));
+    }
+    let file = OpenOptions::new().read(true).write(true).open(rt, path)?;
+    file.try_lock()?;
+    Ok(file)
+}
+
+fn text_of(fault: ProgramFault) -> &'static str {
+    match fault {
+        ProgramFault::Usage => "usage",
+        ProgramFault::OutOfMemory => "out of memory",
+        ProgramFault::CannotOpen => "cannot open the image",
+        ProgramFault::Open(OpenFault::BadLayout) => "the image has no layout of a store",
+        ProgramFault::Open(OpenFault::BadJournal) => "the image has a bad journal",
+        ProgramFault::Open(OpenFault::Device) | ProgramFault::Served(ServeEnd::Device) => {
+            "the device failed"
+        }
+        ProgramFault::Served(ServeEnd::BadLine) => "a line in no form",
+        ProgramFault::Served(ServeEnd::Output) => "write failed",
+        ProgramFault::Served(_) => "the input ended within a batch",
+    }
+}

@@ -1,0 +1,136 @@
+//! Requests carried out one after the other.
+ghost use Rattle.std.specs.Prelude.{OnOk};
+ghost use Rattle.file_store.specs.Store.{IsReadyStore};
+
+use crate::batch::Batch;
+use crate::commits::{BatchFault, commit_pages};
+use crate::pages::check_page;
+use crate::requests::{Request, next_request};
+use disk_model::SectorDisk;
+use file_store::FileStore;
+use std::alloc::{AllocError, Global};
+use std::io::{Read, Write};
+use vm_types::FilePage;
+
+/// How the requests of a client ended.
+#[derive(Clone, Copy, Debug, PartialEq, Eq)]
+pub enum ServeEnd {
+    /// The input ended between two batches.
+    Done,
+    /// The input failed, or ended within a request or a batch.
+    Cut,
+    /// A line was in no form.
+    BadLine,
+    /// The device failed.
+    Device,
+    /// The output failed.
+    Output,
+}
+
+/// Carries out requests until the input ends or something fails: see docs/FORMATS.md for their forms and answers.
+///
+/// # Errors
+///
+/// Where there is no room for a batch.
+pub fn serve<D: SectorDisk, I: Read, O: Write>(
+    alloc: Global,
+    store: &mut FileStore<D>,
+    input: &mut I,
+    output: &mut O,
+) -> Result<ServeEnd, AllocError>
+    requires { IsReadyStore D.SectorDisk store.old }
+{
+    let mut batch = Batch::new(alloc)?;
+    for _ in 0..u64::MAX {
+        if let Err(end) = serve_request(store, &mut batch, input, output) {
+            return Ok(end);
+        }
+    }
+    Ok(ServeEnd::Cut)
+}
+
+/// Carries out one request.
+fn serve_request<D: SectorDisk, I: Read, O: Write>(
+    store: &mut FileStore<D>,
+    batch: &mut Batch,
+    input: &mut I,
+    output: &mut O,
+) -> Result<(), ServeEnd>
+    requires { IsReadyStore D.SectorDisk store.old }
+    ensures { OnOk result (IsReadyStore D.SectorDisk store.new) }
+{
+    match next_request(input) {
+        Request::Page(page) => take_page(batch, page, input),
+        Request::Commit => commit_batch(store, batch, output),
+        Request::Read(page) => show_page(store, page, output),
+        Request::End if batch.is_begun() => Err(ServeEnd::Cut),
+        Request::End => Err(ServeEnd::Done),
+        Request::Fault => Err(ServeEnd::Cut),
+        Request::Bad => {
+            answer(output, b"bad-line\n")?;
+            Err(ServeEnd::BadLine)
+        }
+    }
+}
+
+fn answer<O: Write>(output: &mut O, bytes: &[u8]) -> Result<(), ServeEnd> {
+    if output.write_all(bytes).is_ok() && output.flush().is_ok() {
+        Ok(())
+    } else {
+        Err(ServeEnd::Output)
+    }
+}
+
+/// Takes the bytes of a page of the batch.
+fn take_page<I: Read>(batch: &mut Batch, page: FilePage, input: &mut I) -> Result<(), ServeEnd> {
+    let mut bytes = [0; 4096];
+    if input.read_exact(&mut bytes).is_err() {
+        return Err(ServeEnd::Cut);
+    }
+    batch.add(page, &bytes);
+    Ok(())
+}
+
+/// Makes the batch durable, and begins the next one.
+fn commit_batch<D: SectorDisk, O: Write>(
+    store: &mut FileStore<D>,
+    batch: &mut Batch,
+    output: &mut O,
+) -> Result<(), ServeEnd>
+    requires { IsReadyStore D.SectorDisk store.old }
+    ensures { OnOk result (IsReadyStore D.SectorDisk store.new) }
+{
+    let (pages, bytes) = batch.brought();
+    let outcome = commit_pages(store, pages, bytes);
+    batch.clear();
+    match outcome {
+        Ok(()) => answer(output, b"ok\n"),
+        Err(BatchFault::BadPages) => answer(output, b"bad-pages\n"),
+        Err(BatchFault::ReadOnly) => answer(output, b"read-only\n"),
+        Err(BatchFault::Device) => {
+            answer(output, b"device\n")?;
+            Err(ServeEnd::Device)
+        }
+    }
+}
+
+/// Answers a page of the store. What the batch brings is not seen before it is durable.
+fn show_page<D: SectorDisk, O: Write>(
+    store: &mut FileStore<D>,
+    page: FilePage,
+    output: &mut O,
+) -> Result<(), ServeEnd>
+    requires { IsReadyStore D.SectorDisk store.old }
+    ensures { OnOk result (IsReadyStore D.SectorDisk store.new) }
+{
+    if !check_page(store, page) {
+        return answer(output, b"bad-pages\n");
+    }
+    let mut bytes = [0; 4096];
+    if store.read_page(page, &mut bytes).is_err() {
+        answer(output, b"device\n")?;
+        return Err(ServeEnd::Device);
+    }
+    answer(output, b"ok\n")?;
+    answer(output, &bytes)
+}

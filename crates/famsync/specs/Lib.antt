@@ -1,0 +1,6 @@
+pub mod Pages
+pub mod Plans
+pub mod Device
+pub mod Requests
+pub mod Codes
+pub mod PlanDisk

@@ -1,0 +1,56 @@
+//! What an export answers, and the states of a handle. C takes no enum from a library, so these are numbers.
+ghost use Rattle.std.specs.Prelude.{◌≡◌, ◌≢◌, ◌≤◌};
+ghost use Rattle.famsync.specs.Codes.{done, out_of_turn, bad_layout, bad_journal, bad_pages, read_only, no_room};
+
+use crate::requests::Refusal;
+
+/// It was done as it was asked.
+pub(crate) const OK: u32 = 0;
+
+/// It is not the turn of this call: see `Handle`.
+pub(crate) const TURN: u32 = 1;
+
+/// The image has no layout of a store.
+pub(crate) const BAD_LAYOUT: u32 = 2;
+
+/// The journal of the image is open with a map that no commit writes.
+pub(crate) const BAD_JOURNAL: u32 = 3;
+
+/// There is no page or there are over 127, one is named twice, one does not begin inside its file, or there are not as
+/// many pages as bytes for them. Of `famsync_length`: the image has no such file.
+pub(crate) const BAD_PAGES: u32 = 4;
+
+/// The file of a page may only be read.
+pub(crate) const READ_ONLY: u32 = 5;
+
+/// The plan has over 2,048 calls, of which its list then holds the first.
+pub(crate) const NO_ROOM: u32 = 6;
+
+/// The image has to be opened.
+pub(crate) const CLOSED: u32 = 0;
+
+/// A plan may be asked for.
+pub(crate) const READY: u32 = 1;
+
+/// A plan is to be carried out.
+pub(crate) const PENDING: u32 = 2;
+
+/// The number of a refusal. A device that lists calls fails where it has no room.
+pub(crate) fn number(refusal: Refusal) -> u32
+    ensures done { result ≢ done }
+    ensures turn { result ≢ out_of_turn }
+    ensures layout { result ≡ bad_layout → refusal ≡ Refusal.BadLayout }
+    ensures journal { result ≡ bad_journal → refusal ≡ Refusal.BadJournal }
+    ensures pages { result ≡ bad_pages → refusal ≡ Refusal.BadPages }
+    ensures read_only { result ≡ read_only → refusal ≡ Refusal.ReadOnly }
+    ensures room { result ≡ no_room → refusal ≡ Refusal.Device }
+    ensures answers { result ≤ 6 }
+{
+    match refusal {
+        Refusal::Device => NO_ROOM,
+        Refusal::BadLayout => BAD_LAYOUT,
+        Refusal::BadJournal => BAD_JOURNAL,
+        Refusal::BadPages => BAD_PAGES,
+        Refusal::ReadOnly => READ_ONLY,
+    }
+}

@@ -1,0 +1,197 @@
+//! What C programs call. `image` is what the file holds, a sector a row, and is never written here. After the answer 0 of
+//! `famsync_open` or `famsync_commit` the first `used` calls of the plan have to be made of the file, in their order, and
+//! then `famsync_done` is called, or `famsync_failed` where one of them failed. After any other answer there is nothing to
+//! do. `scratch` is room to work in: nothing is said of what it holds.
+//!
+//! What `StopLeaves` an image leaves is told in `specs/Plans.antt`. The numbers of answers stand in `codes`.
+ghost use Rattle.std.specs.Prelude.{◌≡◌, ◌≢◌, ◌≤◌, ◌<◌, ◌↔◌, ℕ, List, Option, Some, None, length};
+ghost use Rattle.vm_types.specs.declared.file.FileInfo.{FileInfo};
+ghost use Rattle.disk_model.specs.Stop.{Image};
+ghost use Rattle.file_store.specs.Commit.{ArePages, Changes, StandsForEither};
+ghost use Rattle.file_store.specs.Standing.{IsPageOf, StandsFor, IsBadLayout, file_info};
+ghost use Rattle.famsync.specs.Codes.{done, out_of_turn, bad_layout, bad_journal, bad_pages, read_only, no_room, closed, ready, pending};
+ghost use Rattle.famsync.specs.Pages.{lent_page};
+ghost use Rattle.famsync.specs.Plans.{row, AreCalls, image_after, Unsynced, StopLeaves};
+ghost use Rattle.famsync.specs.Requests.{IsStore, HasBadJournal, AreWritable, AreReadOnly};
+
+use crate::call::Plan;
+use crate::codes::{BAD_PAGES, CLOSED, OK, PENDING, READY, TURN, number};
+use crate::handle::Handle;
+use crate::lent_pages::PageBytes;
+use crate::planning::{file_facts, plan_commit, plan_open, read_page};
+use vm_types::FilePage;
+
+/// Plans that the image is opened. It must hold what the file holds, all of it synced.
+#[unsafe(no_mangle)]
+pub extern "C" fn famsync_open(
+    handle: &mut Handle,
+    image: &[[u8; 512]],
+    scratch: &mut Plan,
+    plan: &mut Plan,
+) -> u32
+    ensures few { plan.new.used ≤ 2048 }
+    ensures all { AreCalls (length image.now) plan.new.calls plan.new.used }
+    ensures synced { (n : ℕ) → Unsynced plan.new.calls plan.new.used n → ⊥ }
+    ensures any_moment { (files : ℕ → Option FileInfo) (pages : ℕ → ℕ → List ℕ) → StandsFor (length image.now) files pages (row image.now)
+        → (left : Image) → StopLeaves plan.new.calls plan.new.rows (row image.now) plan.new.used left → StandsFor (length image.now) files pages left }
+    ensures state { result ≡ done → handle.new.state ≡ pending }
+    ensures nothing { result ≢ done → (plan.new.used ≡ 0) × (handle.new.state ≡ closed) }
+    ensures store { result ≡ done → IsStore (length image.now) (row image.now) }
+    ensures layout { result ≡ bad_layout → IsBadLayout (length image.now) (row image.now) }
+    ensures journal { result ≡ bad_journal → HasBadJournal (length image.now) (row image.now) }
+    ensures room { result ≡ no_room → AreCalls (length image.now) plan.new.calls 2048 }
+    ensures turn { result ≢ out_of_turn }
+    ensures pages { result ≢ bad_pages }
+    ensures read_only { result ≢ read_only }
+    ensures answers { result ≤ 6 }
+{
+    plan.used = 0;
+    handle.state = CLOSED;
+    match plan_open(image, scratch, plan) {
+        Ok(used) => {
+            plan.used = used;
+            handle.state = PENDING;
+            OK
+        }
+        Err(refusal) => {
+            plan.used = 0;
+            number(refusal)
+        }
+    }
+}
+
+/// Plans that these pages become durable all at once: page `pages[i]` becomes the bytes at `bytes[i]`, with zeros past its
+/// file's end.
+#[unsafe(no_mangle)]
+pub extern "C" fn famsync_commit(
+    handle: &mut Handle,
+    image: &[[u8; 512]],
+    scratch: &mut Plan,
+    plan: &mut Plan,
+    pages: &[FilePage],
+    bytes: &[PageBytes<'_>],
+) -> u32
+    ensures few { plan.new.used ≤ 2048 }
+    ensures all { AreCalls (length image.now) plan.new.calls plan.new.used }
+    ensures synced { (n : ℕ) → Unsynced plan.new.calls plan.new.used n → ⊥ }
+    ensures any_moment { (files : ℕ → Option FileInfo) (before after : ℕ → ℕ → List ℕ)
+        → StandsFor (length image.now) files before (row image.now) → Changes files pages.now (lent_page bytes.now) before after
+        → (left : Image) → StopLeaves plan.new.calls plan.new.rows (row image.now) plan.new.used left → StandsForEither (length image.now) files before after left }
+    ensures ok { result ≡ done → (files : ℕ → Option FileInfo) (before after : ℕ → ℕ → List ℕ)
+        → StandsFor (length image.now) files before (row image.now) → Changes files pages.now (lent_page bytes.now) before after
+        → StandsFor (length image.now) files after (image_after plan.new.calls plan.new.rows (row image.now) plan.new.used) }
+    ensures state { result ≡ done → (handle.old.state ≡ ready) × (handle.new.state ≡ pending) }
+    ensures nothing { result ≢ done → (plan.new.used ≡ 0) × (handle.new ≡ handle.old) }
+    ensures store { result ≡ done → IsStore (length image.now) (row image.now) }
+    ensures writable { result ≡ done → AreWritable (row image.now) pages.now × (length bytes.now ≡ length pages.now) }
+    ensures turn { result ≡ out_of_turn ↔ handle.old.state ≢ ready }
+    ensures layout { result ≡ bad_layout → IsBadLayout (length image.now) (row image.now) }
+    ensures journal { result ≡ bad_journal → HasBadJournal (length image.now) (row image.now) }
+    ensures pages { result ≡ bad_pages → length bytes.now ≡ length pages.now → ArePages (file_info (row image.now)) pages.now → ⊥ }
+    ensures read_only { result ≡ read_only → AreReadOnly (row image.now) pages.now }
+    ensures room { result ≡ no_room → AreCalls (length image.now) plan.new.calls 2048 }
+    ensures answers { result ≤ 6 }
+{
+    plan.used = 0;
+    if handle.state != READY {
+        return TURN;
+    }
+    if pages.len() != bytes.len() {
+        return BAD_PAGES;
+    }
+    match plan_commit(image, scratch, plan, pages, bytes) {
+        Ok(used) => {
+            plan.used = used;
+            handle.state = PENDING;
+            OK
+        }
+        Err(refusal) => {
+            plan.used = 0;
+            number(refusal)
+        }
+    }
+}
+
+/// Reads a page that begins inside its file: the file's bytes, and zeros past its end.
+#[unsafe(no_mangle)]
+pub extern "C" fn famsync_read(
+    handle: &Handle,
+    image: &[[u8; 512]],
+    scratch: &mut Plan,
+    file: u8,
+    page: u32,
+    to: &mut [u8; 4096],
+) -> u32
+    ensures page { result ≡ done → (files : ℕ → Option FileInfo) (pages : ℕ → ℕ → List ℕ) → StandsFor (length image.now) files pages (row image.now)
+        → IsPageOf files file page → to.new ≡ pages file page }
+    ensures store { result ≡ done → IsStore (length image.now) (row image.now) }
+    ensures inside { result ≡ done → IsPageOf (file_info (row image.now)) file page }
+    ensures turn { result ≡ out_of_turn ↔ handle.now.state ≢ ready }
+    ensures layout { result ≡ bad_layout → IsBadLayout (length image.now) (row image.now) }
+    ensures journal { result ≡ bad_journal → HasBadJournal (length image.now) (row image.now) }
+    ensures pages { result ≡ bad_pages → IsPageOf (file_info (row image.now)) file page → ⊥ }
+    ensures read_only { result ≢ read_only }
+    ensures answers { result ≤ 6 }
+{
+    if handle.state != READY {
+        return TURN;
+    }
+    match read_page(image, scratch, FilePage { file, page }, to) {
+        Ok(()) => OK,
+        Err(refusal) => number(refusal),
+    }
+}
+
+/// Tells the length of a file in bytes.
+#[unsafe(no_mangle)]
+pub extern "C" fn famsync_length(
+    handle: &Handle,
+    image: &[[u8; 512]],
+    scratch: &mut Plan,
+    file: u8,
+    to: &mut u32,
+) -> u32
+    ensures length { result ≡ done → (info : FileInfo) × (file_info (row image.now) file ≡ Some info) × (to.new ≡ info.length) }
+    ensures store { result ≡ done → IsStore (length image.now) (row image.now) }
+    ensures turn { result ≡ out_of_turn ↔ handle.now.state ≢ ready }
+    ensures layout { result ≡ bad_layout → IsBadLayout (length image.now) (row image.now) }
+    ensures journal { result ≡ bad_journal → HasBadJournal (length image.now) (row image.now) }
+    ensures pages { result ≡ bad_pages → file_info (row image.now) file ≡ None }
+    ensures read_only { result ≢ read_only }
+    ensures answers { result ≤ 6 }
+{
+    if handle.state != READY {
+        return TURN;
+    }
+    match file_facts(image, scratch, file) {
+        Ok(Some(info)) => {
+            *to = info.length;
+            OK
+        }
+        Ok(None) => BAD_PAGES,
+        Err(refusal) => number(refusal),
+    }
+}
+
+/// The calls of the plan were made, and all of them succeeded.
+#[unsafe(no_mangle)]
+pub extern "C" fn famsync_done(handle: &mut Handle) -> u32
+    ensures state { result ≡ done → (handle.old.state ≡ pending) × (handle.new.state ≡ ready) }
+    ensures turn { result ≡ out_of_turn ↔ handle.old.state ≢ pending }
+    ensures same { result ≢ done → handle.new ≡ handle.old }
+    ensures answers { result ≤ 1 }
+{
+    if handle.state != PENDING {
+        return TURN;
+    }
+    handle.state = READY;
+    OK
+}
+
+/// A call failed. None may be made after it until the image is opened again.
+#[unsafe(no_mangle)]
+pub extern "C" fn famsync_failed(handle: &mut Handle)
+    ensures { handle.new.state ≡ closed }
+{
+    handle.state = CLOSED;
+}

@@ -1,0 +1,90 @@
+"""stops.py LIBRARY COMMITS: lists the plans of random commits, stops each plan before each of its calls and at its end, with
+the unsynced sectors as they were, as they became, torn in their midst or of any bytes, and opens what is left. It has to
+stand for the files before or after, and at the end for those after."""
+import ctypes as c, random, sys
+from images import HOMES, new_image
+ROOM, LENGTHS = 2048, [20000, 9000, 1]
+WRITE, SYNC = 1, 2
+
+
+class Call(c.Structure):
+    _fields_ = [("kind", c.c_uint64), ("sector", c.c_uint64)]
+
+
+class Plan(c.Structure):
+    _fields_ = [("used", c.c_size_t), ("calls", Call * ROOM), ("rows", (c.c_ubyte * 512) * ROOM)]
+
+
+class Page(c.Structure):
+    _fields_ = [("file", c.c_uint8), ("page", c.c_uint32)]
+
+
+class Bytes(c.Structure):
+    _fields_ = [("at", c.c_void_p)]
+
+
+library, scratch, plan = c.CDLL(sys.argv[1]), Plan(), Plan()
+
+
+def carried_out(image, calls):
+    image = bytearray(image)
+    for kind, sector, row in calls:
+        if kind == WRITE:
+            image[512 * sector : 512 * sector + 512] = row
+    return bytes(image)
+
+
+def asked(name, state, image, *rest):
+    lent, handle = (c.c_ubyte * len(image)).from_buffer_copy(image), c.c_uint32(state)
+    answer = getattr(library, name)(c.byref(handle), lent, c.c_size_t(len(image) // 512), c.byref(scratch), c.byref(plan), *rest)
+    assert bytes(lent) == image, "the image was written"
+    return answer, [(plan.calls[i].kind, plan.calls[i].sector, bytes(plan.rows[i])) for i in range(plan.used)]
+
+
+def homes(image):
+    answer, calls = asked("famsync_open", 0, image)
+    return carried_out(image, calls)[512 * HOMES :] if answer == 0 else None
+
+
+def committed(image, pages, data):
+    count = len(pages)
+    kept = [c.create_string_buffer(d, 4096) for d in data]
+    return asked("famsync_commit", 1, image, (Page * count)(*[Page(f, k) for f, k in pages]), c.c_size_t(count),
+                 (Bytes * count)(*[Bytes(c.addressof(b)) for b in kept]), c.c_size_t(count))
+
+
+def torn(pending, synced):
+    left = bytearray(synced)
+    for sector, rows in pending.items():
+        at, row, chance = 512 * sector, random.choice(rows), random.random()
+        cut = 512 if chance < 0.4 else random.randrange(512) if chance < 0.6 else 0
+        left[at : at + cut] = row[:cut]
+        if chance > 0.8:
+            left[at : at + 512] = random.randbytes(512)
+    return bytes(left)
+
+
+def stops(image, calls, before, after):
+    synced, pending, bad, tried = bytearray(image), {}, 0, 0
+    for kind, sector, row in calls + [(0, 0, b"")]:
+        for _ in range(2):
+            found, tried = homes(torn(pending, synced)), tried + 1
+            bad += found not in ((after,) if kind == 0 else (before, after))
+        if kind == WRITE:
+            pending.setdefault(sector, []).append(row)
+        elif kind == SYNC:
+            synced, pending = bytearray(carried_out(synced, [(WRITE, s, rows[-1]) for s, rows in pending.items()])), {}
+    return bad + (pending != {}), tried
+
+
+random.seed(1)
+image, bad, tried, places = new_image(LENGTHS), 0, 0, [(f, k) for f, n in enumerate(LENGTHS) for k in range((n + 4095) // 4096)]
+for _ in range(int(sys.argv[2])):
+    pages = random.sample(places, random.randint(1, len(places)))
+    answer, calls = committed(image, pages, [random.randbytes(4096) for _ in pages])
+    assert answer == 0, answer
+    following = carried_out(image, calls)
+    wrong, more = stops(image, calls, homes(image), homes(following))
+    bad, tried, image = bad + wrong, tried + more, following
+print(f"stops {tried} in {sys.argv[2]} commits: {bad} bad")
+sys.exit(bad > 0)
