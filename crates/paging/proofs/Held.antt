@@ -1,0 +1,249 @@
+-- Own copies and touched pages that lie in slots and frames are no more than a state has.
+use Rattle.std.proofs.Common.{◌≡◌, ◌≢◌, ℕ, zero, suc, inl, inr, ◌⊎◌, ◌+◌, ◌^◌, ◌<◌, ◌≤◌, Bool, true, false, ◌==◌, ◌&&◌, nat_lt, Option, Some, None, refl, sym, ap, ◌∙◌, arith, eq-eqb, ne_eqb}
+use Rattle.std.proofs.lemmas.Bool.Decides.{nat_tests}
+use Rattle.std.proofs.lemmas.Bool.{cases_eq, cases_lt, cases_Bool, false≢true}
+use Rattle.vm_types.specs.Capacity.{has_own}
+use Rattle.vm_types.specs.Counting.{count_below, sum_below}
+use Rattle.vm_types.specs.View.{View}
+use Rattle.vm_types.specs.declared.file.FilePage.{FilePage}
+use Rattle.frames.specs.declared.role.Role.TheVariants.{Private}
+use Rattle.frames.specs.FrameTable.{role_of, count_of}
+use Rattle.page_tables.specs.Tree.{IsPage}
+use Rattle.swap.specs.Slots.{IsFull}
+use Rattle.page_cache.specs.declared.place.Place.{Place}
+use Rattle.page_cache.specs.declared.place.Place.TheVariants.{Home, Frame, Slot}
+use Rattle.paging.specs.Seats.{Seat, InFrame, InSlot, seat, is_seat, holders_at}
+use Rattle.paging.specs.Picture.{Picture, entry, view, IsOwned, count_in, page_in}
+use Rattle.paging.specs.Parts.{IsFitBut, nowhere}
+use Rattle.paging.specs.Calls.{NeedsSlot}
+use Rattle.paging.specs.Capacity.{copies_over}
+use Rattle.paging.proofs.Counts.{count-same, count-one}
+use Rattle.paging.proofs.Seats.{cases_seat, seat-other, off-none}
+use Rattle.paging.proofs.Pigeon.{pigeons}
+use Rattle.paging.proofs.Tables.{sum-one, sum-below}
+
+-- what a seat in memory or swap is for: a page of a process, or a page of a file
+pub data Claim : Type 0 where
+  OwnAt : ℕ → ℕ → Claim
+  FileAt : ℕ → ℕ → Claim
+
+abbrev first_of : Claim → ℕ
+first_of (OwnAt p k) = p
+first_of (FileAt f k) = f
+
+abbrev page_of : Claim → ℕ
+page_of (OwnAt p k) = k
+page_of (FileAt f k) = k
+
+abbrev claim_eq : Claim → Claim → Bool
+claim_eq (OwnAt p k) (OwnAt q j) = (p == q) && (k == j)
+claim_eq (OwnAt p k) (FileAt q j) = false
+claim_eq (FileAt p k) (OwnAt q j) = false
+claim_eq (FileAt p k) (FileAt q j) = (p == q) && (k == j)
+
+eq_at : (p q : ℕ) → (p == q) ≡ true → p ≡ q
+eq_at p q t = elim (cases_eq p q) [
+  | inl e ↦ e
+  | inr ne ↦ absurd (false≢true (sym (ne_eqb p q ne) ∙ t))
+]
+
+both : (a b : Bool) → (a && b) ≡ true → (a ≡ true) × (b ≡ true)
+both false b t = absurd (false≢true t)
+both true b t = (refl, t)
+
+claim_same : (x : Claim) → claim_eq x x ≡ true
+claim_same (OwnAt p i) = rw (eq-eqb p p refl) (eq-eqb i i refl)
+claim_same (FileAt p i) = rw (eq-eqb p p refl) (eq-eqb i i refl)
+
+claim_is : (x y : Claim) → claim_eq x y ≡ true → x ≡ y
+claim_is (OwnAt p i) (OwnAt q j) t = let h = both (p == q) (i == j) t in ap (λ z. OwnAt z i) (eq_at p q h.0) ∙ ap (λ z. OwnAt q z) (eq_at i j h.1)
+claim_is (OwnAt p i) (FileAt q j) t = absurd (false≢true t)
+claim_is (FileAt p i) (OwnAt q j) t = absurd (false≢true t)
+claim_is (FileAt p i) (FileAt q j) t = let h = both (p == q) (i == j) t in ap (λ z. FileAt z i) (eq_at p q h.0) ∙ ap (λ z. FileAt q z) (eq_at i j h.1)
+
+abbrev pub is_inside : Claim → Type 0
+is_inside (OwnAt p k) = (p < 65) × (k < 2 ^ 26)
+is_inside (FileAt f k) = (f < 64) × (k < 2 ^ 20)
+
+unfoldable claims : (Claim → Bool) → ℕ
+claims Q = sum_below (λ p. count_below (λ k. Q (OwnAt p k)) (2 ^ 26)) 65 + sum_below (λ f. count_below (λ k. Q (FileAt f k)) (2 ^ 20)) 64
+
+owns_same : (P Q : Claim → Bool) (n m : ℕ) → ((p k : ℕ) → P (OwnAt p k) ≡ Q (OwnAt p k)) → sum_below (λ p. count_below (λ k. P (OwnAt p k)) m) n ≡ sum_below (λ p. count_below (λ k. Q (OwnAt p k)) m) n
+owns_same P Q n m same = sum-below (λ p. count_below (λ k. P (OwnAt p k)) m) (λ p. count_below (λ k. Q (OwnAt p k)) m) n n (omega arith) (λ p ne. count-same (λ k. P (OwnAt p k)) (λ k. Q (OwnAt p k)) m (same p))
+
+files_same : (P Q : Claim → Bool) (n m : ℕ) → ((p k : ℕ) → P (FileAt p k) ≡ Q (FileAt p k)) → sum_below (λ p. count_below (λ k. P (FileAt p k)) m) n ≡ sum_below (λ p. count_below (λ k. Q (FileAt p k)) m) n
+files_same P Q n m same = sum-below (λ p. count_below (λ k. P (FileAt p k)) m) (λ p. count_below (λ k. Q (FileAt p k)) m) n n (omega arith) (λ p ne. count-same (λ k. P (FileAt p k)) (λ k. Q (FileAt p k)) m (same p))
+
+claims_less : (P Q : Claim → Bool) (x : Claim) → is_inside x → P x ≡ true → Q x ≡ false → ((y : Claim) → y ≢ x → P y ≡ Q y) → claims P ≡ claims Q + 1
+unfolding claims
+claims_less P Q (OwnAt p x) below here gone others =
+    let a = sum-one (λ q. count_below (λ k. P (OwnAt q k)) (2 ^ 26)) (λ q. count_below (λ k. Q (OwnAt q k)) (2 ^ 26)) p 65 below.0
+    (count-one (λ k. P (OwnAt p k)) (λ k. Q (OwnAt p k)) x (2 ^ 26) below.1 here gone (λ k ne. others (OwnAt p k) (λ e. ne (ap page_of e))))
+    (λ q ne. count-same (λ k. P (OwnAt q k)) (λ k. Q (OwnAt q k)) (2 ^ 26) (λ k. others (OwnAt q k) (λ e. ne (ap first_of e)))) in
+    let b = files_same P Q 64 (2 ^ 20) (λ q k. others (FileAt q k) (λ e. (cc))) in
+    omega (arith, a, b)
+claims_less P Q (FileAt p x) below here gone others =
+    let a = sum-one (λ q. count_below (λ k. P (FileAt q k)) (2 ^ 20)) (λ q. count_below (λ k. Q (FileAt q k)) (2 ^ 20)) p 64 below.0
+    (count-one (λ k. P (FileAt p k)) (λ k. Q (FileAt p k)) x (2 ^ 20) below.1 here gone (λ k ne. others (FileAt p k) (λ e. ne (ap page_of e))))
+    (λ q ne. count-same (λ k. P (FileAt q k)) (λ k. Q (FileAt q k)) (2 ^ 20) (λ k. others (FileAt q k) (λ e. ne (ap first_of e)))) in
+    let b = owns_same P Q 65 (2 ^ 26) (λ q k. others (OwnAt q k) (λ e. (cc))) in
+    omega (arith, a, b)
+
+-- whether a state has it
+abbrev pub is_claimed : (ℕ → ℕ → Option View) → (ℕ → ℕ → Bool) → Claim → Bool
+is_claimed views touched (OwnAt p k) = has_own (views p k)
+is_claimed views touched (FileAt f k) = touched f k
+
+claimed_are : (views : ℕ → ℕ → Option View) (touched : ℕ → ℕ → Bool) → claims (is_claimed views touched) ≡ copies_over views touched
+unfolding claims copies_over
+claimed_are views touched = refl
+
+count-all : (f : ℕ → Bool) (n : ℕ) → ((k : ℕ) → k < n → f k ≡ true) → count_below f n ≡ n
+unfolding count_below
+count-all f zero each = refl
+count-all f (suc n) each = let rest = count-all f n (λ k lt. each k (omega (arith, lt))) in rw (each n (omega arith)) (omega (arith, rest))
+
+lt_true : (k n : ℕ) → k < n → nat_lt k n ≡ true
+lt_true k n lt = grind (arith, nat_tests)
+
+true_lt : (k n : ℕ) → nat_lt k n ≡ true → k < n
+true_lt k n t = grind (arith, nat_tests)
+
+count-found : (f : ℕ → Bool) (n : ℕ) → 0 < count_below f n → (k : ℕ) × (k < n) × (f k ≡ true)
+unfolding count_below
+count-found f zero some = absurd (omega (arith, some))
+count-found f (suc n) some = elim (cases_Bool (f n)) [
+  | inl t ↦ (n, omega arith, t)
+  | inr f' ↦ (let rest : 0 < count_below f n = (let total = rw f' at some in omega (arith, total)) in let found = count-found f n rest in (found.0, (let lt = found.1 in omega (arith, lt)), found.2))
+]
+
+seat_is : (o : Option Seat) (z : Seat) → is_seat o z ≡ true → o ≡ Some z
+seat_is None z t = absurd (false≢true t)
+seat_is (Some y) z t = elim (cases_seat y z) [
+  | inl e ↦ ap (λ x. Some x) e
+  | inr ne ↦ absurd (false≢true (sym (seat-other y z ne) ∙ t))
+]
+
+some_seat : (x y : Seat) → Some x ≡ Some y → x ≡ y
+some_seat x y e = (cc)
+
+abbrev record_of : ℕ → ℕ → FilePage
+record_of file page = record { file = file; page = page }
+
+-- so many things with claims of their own are no more than a state has
+pub claims_fit : (views : ℕ → ℕ → Option View) (touched : ℕ → ℕ → Bool) (n : ℕ) (code : (k : ℕ) → nat_lt k n ≡ true → Claim)
+    → ((k : ℕ) (h : nat_lt k n ≡ true) → is_inside (code k h)) → ((k : ℕ) (h : nat_lt k n ≡ true) → is_claimed views touched (code k h) ≡ true)
+    → ((j k : ℕ) (h : nat_lt j n ≡ true) (i : nat_lt k n ≡ true) → code j h ≡ code k i → j ≡ k) → n ≤ copies_over views touched
+claims_fit views touched n code inner holds apart =
+    let most = pigeons is_inside claims claim_eq claim_same claim_is claims_less (λ k. nat_lt k n) code n (is_claimed views touched)
+    (λ k h below. inner k h) (λ k h below. holds k h) (λ j k h i lt lt' e. apart j k h i e) in
+    let all = count-all (λ k. nat_lt k n) n (λ k lt. lt_true k n lt) in
+    let same = claimed_are views touched in
+    omega (arith, most, all, same)
+
+-- Where every slot is in use and one frame more needs one, the processes and files have more than there are slots.
+module _ (c : Picture) (m : ℕ) (fit : IsFitBut c nowhere 0 m) (full : IsFull c.slots) (n : ℕ) (needs : NeedsSlot c n)
+    (user : (pid page : ℕ) → has_own (view c pid page) ≡ true → page < 2 ^ 26)
+    (files : (p : FilePage) → c.place p ≢ Home → (p.file < 64) × (p.page < 2 ^ 20))
+    (shared : role_of c.frames n ≡ Private → 0 < count_of c.frames n) (has_seat : (pid page : ℕ) (z : Seat) → IsPage 2 page → seat (entry c pid page) ≡ Some z → has_own (view c pid page) ≡ true) where
+  some_holder : (z : Seat) → IsOwned c z → 0 < count_in c z → (pid : ℕ) × (pid < 65) × (seat (entry c pid (page_in c fit.counted.0 z)) ≡ Some z)
+  unfolding holders_at
+  some_holder z own some =
+      let here = fit.counted.1.counts z own in
+      let none = off-none nowhere z in
+      let page = page_in c fit.counted.0 z in
+      let found = count-found (λ q. is_seat (seat (entry c q page)) z) 65 (omega (arith, here, none, some)) in
+      (found.0, found.1, seat_is (seat (entry c found.0 page)) z found.2)
+
+  -- the claim of what lies at a seat or a place
+  data HasClaim (z : Seat) (at : Place) : Type 0 where
+    Own : (pid page : ℕ) → pid < 65 → IsPage 2 page → seat (entry c pid page) ≡ Some z → HasClaim z at
+    File : (p : FilePage) → c.place p ≡ at → at ≢ Home → c.touched p ≡ true → HasClaim z at
+
+  claim_of : {z : Seat} {at : Place} → HasClaim z at → Claim
+  claim_of (Own pid page lt h is) = OwnAt pid page
+  claim_of (File p is away touched) = FileAt p.file p.page
+
+  tells : (z z' : Seat) (at at' : Place) (a : HasClaim z at) (b : HasClaim z' at') → claim_of a ≡ claim_of b → (z ≡ z') ⊎ (at ≡ at')
+  unfolding claim_of
+  tells z z' at at' (Own pid page lt h is) (Own pid' page' lt' h' is') e =
+      inl (some_seat z z' (sym is ∙ ap (λ x. seat (entry c x page)) (ap first_of e) ∙ ap (λ x. seat (entry c pid' x)) (ap page_of e) ∙ is'))
+  tells z z' at at' (Own pid page lt h is) (File p is' away touched) e = absurd ((cc))
+  tells z z' at at' (File p is away touched) (Own pid page lt h is') e = absurd ((cc))
+  tells z z' at at' (File p is away touched) (File q is' away' touched') e =
+      let same : record_of p.file p.page ≡ record_of q.file q.page = ap (λ x. record_of x p.page) (ap first_of e) ∙ ap (λ x. record_of q.file x) (ap page_of e) in
+      inr (sym is ∙ ap c.place same ∙ is')
+
+  inner : (z : Seat) (at : Place) (a : HasClaim z at) → is_inside (claim_of a)
+  unfolding claim_of
+  inner z at (Own pid page lt h is) = (lt, user pid page (has_seat pid page z h is))
+  inner z at (File p is away touched) = files p (λ home. away (sym is ∙ home))
+
+  holds : (z : Seat) (at : Place) (a : HasClaim z at) → is_claimed (view c) (λ f k. c.touched (record { file = f; page = k })) (claim_of a) ≡ true
+  unfolding claim_of
+  holds z at (Own pid page lt h is) = has_seat pid page z h is
+  holds z at (File p is away touched) = touched
+
+  own_claim : (z : Seat) (at : Place) → IsOwned c z → 0 < count_in c z → HasClaim z at
+  own_claim z at own some =
+      let who = some_holder z own some in
+      Own who.0 (page_in c fit.counted.0 z) who.1 (fit.counted.1.pages z own) who.2
+
+  slot_claim : (k : ℕ) → k < c.slots.total → HasClaim (InSlot k) (Slot (record { 0 = k }))
+  slot_claim k lt = elim (fit.places.used k (full k lt)) [
+    | inl own ↦ own_claim (InSlot k) (Slot (record { 0 = k })) own (full k lt)
+    | inr file ↦ File file.0 file.1 (λ e. (cc)) (fit.dirty.slotted file.0 k file.1)
+  ]
+
+  frame_claim : HasClaim (InFrame n) (Frame (record { 0 = n }))
+  frame_claim = elim needs [
+    | inl own ↦ own_claim (InFrame n) (Frame (record { 0 = n })) own (shared own)
+    | inr file ↦ File file.0 file.1 (λ e. (cc)) file.2
+  ]
+
+  code_by : (k : ℕ) → (k < c.slots.total) ⊎ (c.slots.total ≤ k) → Claim
+  code_by k (inl lt) = claim_of (slot_claim k lt)
+  code_by k (inr le) = claim_of frame_claim
+
+  slot_number : Place → ℕ
+  slot_number Home = 0
+  slot_number (Frame x) = 0
+  slot_number (Slot x) = x.0
+
+  slot_place : (j k : ℕ) → Slot (record { 0 = j }) ≡ Slot (record { 0 = k }) → j ≡ k
+  unfolding slot_number
+  slot_place j k e = ap slot_number e
+
+  apart_by : (j k : ℕ) (a : (j < c.slots.total) ⊎ (c.slots.total ≤ j)) (b : (k < c.slots.total) ⊎ (c.slots.total ≤ k)) → j < c.slots.total + 1 → k < c.slots.total + 1
+      → code_by j a ≡ code_by k b → j ≡ k
+  unfolding code_by
+  apart_by j k (inl lt) (inl lt') below below' e = elim (tells (InSlot j) (InSlot k) (Slot (record { 0 = j })) (Slot (record { 0 = k })) (slot_claim j lt) (slot_claim k lt') e) [
+    | inl s ↦ (cc)
+    | inr s ↦ slot_place j k s
+  ]
+  apart_by j k (inl lt) (inr le) below below' e = elim (tells (InSlot j) (InFrame n) (Slot (record { 0 = j })) (Frame (record { 0 = n })) (slot_claim j lt) frame_claim e) [
+    | inl s ↦ absurd ((cc))
+    | inr s ↦ absurd ((cc))
+  ]
+  apart_by j k (inr le) (inl lt) below below' e = elim (tells (InFrame n) (InSlot k) (Frame (record { 0 = n })) (Slot (record { 0 = k })) frame_claim (slot_claim k lt) e) [
+    | inl s ↦ absurd ((cc))
+    | inr s ↦ absurd ((cc))
+  ]
+  apart_by j k (inr le) (inr le') below below' e = omega (arith, le, le', below, below')
+
+  inner_by : (k : ℕ) (a : (k < c.slots.total) ⊎ (c.slots.total ≤ k)) → is_inside (code_by k a)
+  unfolding code_by
+  inner_by k (inl lt) = inner (InSlot k) (Slot (record { 0 = k })) (slot_claim k lt)
+  inner_by k (inr le) = inner (InFrame n) (Frame (record { 0 = n })) frame_claim
+
+  holds_by : (k : ℕ) (a : (k < c.slots.total) ⊎ (c.slots.total ≤ k)) → is_claimed (view c) (λ f k. c.touched (record { file = f; page = k })) (code_by k a) ≡ true
+  unfolding code_by
+  holds_by k (inl lt) = holds (InSlot k) (Slot (record { 0 = k })) (slot_claim k lt)
+  holds_by k (inr le) = holds (InFrame n) (Frame (record { 0 = n })) frame_claim
+
+  pub more_held : c.slots.total < copies_over (view c) (λ f k. c.touched (record { file = f; page = k }))
+  more_held =
+      let most = claims_fit (view c) (λ f k. c.touched (record { file = f; page = k })) (c.slots.total + 1) (λ k h. code_by k (cases_lt k c.slots.total))
+      (λ k h. inner_by k (cases_lt k c.slots.total)) (λ k h. holds_by k (cases_lt k c.slots.total))
+      (λ j k h i e. apart_by j k (cases_lt j c.slots.total) (cases_lt k c.slots.total) (true_lt j (c.slots.total + 1) h) (true_lt k (c.slots.total + 1) i) e) in
+      omega (arith, most)

@@ -1,0 +1,339 @@
+-- Entries over one frame changed: what stays, and where such entries stand.
+use Rattle.std.proofs.Common.{◌≡◌, ◌≢◌, ℕ, inl, inr, ◌⊎◌, ◌+◌, ◌-◌, ◌^◌, ◌<◌, ◌≤◌, true, false, List, [], Option, Some, None, get_or, refl, sym, ap, ◌∙◌, subst, arith}
+use Rattle.std.specs.Prelude.{IsSome, IfNone, is_some}
+use Rattle.std.proofs.lemmas.Bool.{cases_eq, cases_Bool, false≢true}
+use Rattle.std.proofs.lemmas.Option.{same_Some}
+use Rattle.vm_types.specs.declared.file.FilePage.{FilePage}
+use Rattle.vm_types.specs.declared.number.FrameNo.{FrameNo}
+use Rattle.vm_types.specs.declared.region.Attr.{Attr}
+use Rattle.vm_types.specs.declared.region.Backing.{Backing}
+use Rattle.vm_types.specs.declared.region.Backing.TheVariants as Backings
+use Rattle.vm_types.specs.Attributes.{file_page_after, backing_after, attr_after}
+use Rattle.frames.specs.declared.role.Role.TheVariants.{Free, Table, Private, Cache}
+use Rattle.frames.specs.FrameTable.{FrameTable, role_of}
+use Rattle.sv39_walk.specs.Entry.{is_valid, is_dirty, is_pointer, frame_of, entry_at}
+use Rattle.sv39_walk.specs.Walk.{index_of}
+use Rattle.page_tables.specs.Change.{SetsEntry}
+use Rattle.page_tables.specs.Tree.{IsPage, IsTable, IsForest, missing_of, last_table}
+use Rattle.page_tables.proofs.Ends.{way_forth, last_is, page_entry-missing}
+use Rattle.page_tables.proofs.Ways.{ends, index_of-lt}
+use Rattle.regions.specs.declared.run.Run.{Run}
+use Rattle.regions.specs.RunList.{attr_at, IsNextRun}
+use Rattle.page_cache.specs.declared.place.Place.TheVariants.{Home, Frame}
+use Rattle.paging.specs.declared.leaves.Change.{Change}
+use Rattle.paging.specs.declared.leaves.Change.TheVariants.{Forget, ClearAccessed, ClearDirty}
+use Rattle.paging.specs.Seats.{Seat, InFrame, InSlot, seat, is_private}
+use Rattle.paging.specs.declared.kernel.Core.{Core}
+use Rattle.paging.specs.Picture.{Picture, picture_of, attr_where, root_in, number_of_frame, entry, bytes_in, IsOwned, count_in, page_in}
+use Rattle.paging.specs.Parts.{IsEntryFor, IsResident, IsBehind, IsFit, nowhere}
+use Rattle.paging.specs.Steps.{SameBeside, SetsPage}
+use Rattle.paging.specs.declared.leaves.Held.{Held}
+use Rattle.paging.specs.declared.leaves.Held.TheVariants.{Own, Filed}
+use Rattle.paging.specs.Leaves.{concerns, IsOver, IsChanged, Changes, Holds, KeepsAllButFrames, backed_by, IsPageOver, IsRunOf}
+use Rattle.paging.proofs.Bits.{some_framed, resident_of, changed_once, seat_changed, for_changed, valid_zero, leaf_accessed}
+use Rattle.paging.proofs.Entries.{entry-of}
+use Rattle.paging.proofs.Granting.{entry_for-same, granting_changed}
+use Rattle.paging.proofs.Moves.{behind_kept, owned_forth, owned_back, count_kept, page_kept, view_kept, view-none}
+use Rattle.paging.proofs.Places.{places_same, dirty_changed}
+use Rattle.paging.proofs.Seats.{counted_same}
+use Rattle.paging.proofs.Start.{entry-dead}
+use Rattle.paging.proofs.TableSteps.{sets_page, rooted_set}
+use Rattle.paging.proofs.Ways.{by_page}
+use Rattle.std.specs.Prelude.{option_map}
+
+-- where an entry was set, each way ends where it ended
+pub last_set : (old new : FrameTable) (root page number : ℕ) → IsForest old → SetsEntry old new 2 root page number → (r p : ℕ) → IsTable old r → last_table new p 2 r ≡ last_table old p 2 r
+last_set old new root page number forest sets r p table =
+    let end = ends old 2 r p forest table in
+    let l = last_table old p 2 r in
+    let w = way_forth old new (λ a i b. (sets.pointers a i b).0) 2 r p (2 - l.0) l.1 end.way in
+    let there : IsTable new l.1 = record { inside = (let e = sets.kept.frames in rw e end.table.inside); role = ap (λ rs. get_or rs l.1 Free) sets.kept.roles ∙ end.table.role } in
+    last_is new 2 r p l.0 l.1 end.least w (λ h. elim (cases_Bool (is_pointer (entry_at new l.1 (index_of p l.0)))) [
+      | inl t ↦ (
+          let was = (sets.pointers l.1 (index_of p l.0) (frame_of (entry_at new l.1 (index_of p l.0)))).1 (record { table = there; index = index_of-lt p l.0; pointer = t; target = refl }) in
+          absurd (false≢true (sym (end.stops h) ∙ was.pointer)))
+      | inr f ↦ f
+    ])
+
+-- where an entry over a frame stands
+module _ (c : Picture) (change : Change) (n pid k : ℕ) (fit : IsFit c) (h : IsPage 2 k) (over : IsOver c change n pid k) where
+  pub over_resident : (a : Attr) × (c.at pid k ≡ Some a) × IsResident c a (entry c pid k)
+  over_resident =
+      let f = some_framed change (entry c pid k) over.concerned in
+      resident_of c (c.at pid k) (entry c pid k) (fit.granting.entries pid k h) f.0 f.1
+
+  pub over_user : (16 ≤ k) × (k < 2 ^ 26)
+  over_user = let P : Option Attr → Type 0 = λ x. IsSome x in (fit.granting.user pid).user_pages k (subst P (sym over_resident.1) refl)
+
+  pub over_common : role_of c.frames n ≡ Cache → is_private (entry c pid k) ≡ false
+  over_common cache = elim (cases_Bool (is_private (entry c pid k))) [
+    | inl own ↦ (
+        let named = fit.counted.1.named pid k (InFrame (frame_of (entry c pid k))) h (rw own refl) in
+        let bad : Private ≡ Cache = sym named ∙ ap (role_of c.frames) over.frame ∙ cache in (cc))
+    | inr common ↦ common
+  ]
+
+  behind_one : (b : Backing) (p : FilePage) → 0 < n → c.place p ≡ Frame (record { 0 = n }) → IsBehind c b n → backed_by b ≡ Some p
+  behind_one Backings.Anon p above at zero = absurd (omega (arith, above, zero))
+  behind_one (Backings.Private q) p above at is = ap (λ (x : FilePage). Some x) (fit.places.apart q p (is ∙ sym at) (λ home. (let bad : Home ≡ Frame (record { 0 = n }) = sym home ∙ is in (cc))))
+  behind_one (Backings.Shared q) p above at is = ap (λ (x : FilePage). Some x) (fit.places.apart q p (is ∙ sym at) (λ home. (let bad : Home ≡ Frame (record { 0 = n }) = sym home ∙ is in (cc))))
+
+  pub over_backed : (p : FilePage) (a : Attr) → 0 < n → c.place p ≡ Frame (record { 0 = n }) → c.at pid k ≡ Some a → backed_by a.backing ≡ Some p
+  over_backed p a above at is =
+      let res = over_resident in
+      let behind = res.2.behind (over_common (fit.places.cached p n at)) in
+      let P : ℕ → Type 0 = λ x. IsBehind c res.0.backing x in
+      let there = behind_one res.0.backing p above at (subst P over.frame behind) in
+      ap (λ (x : Attr). backed_by x.backing) (same_Some a res.0 (sym is ∙ res.1)) ∙ there
+
+  no_private : (b : Backing) → 0 < n → role_of c.frames n ≡ Private → IsBehind c b n → ⊥
+  no_private Backings.Anon above role zero = omega (arith, above, zero)
+  no_private (Backings.Private q) above role is = let bad : Private ≡ Cache = sym role ∙ fit.places.cached q n is in (cc)
+  no_private (Backings.Shared q) above role is = let bad : Private ≡ Cache = sym role ∙ fit.places.cached q n is in (cc)
+
+  pub over_own : 0 < n → role_of c.frames n ≡ Private → c.page_of n ≡ k
+  over_own above role = elim (cases_Bool (is_private (entry c pid k))) [
+    | inl own ↦ fit.counted.1.noted pid k (InFrame n) h (rw own (ap (λ j. Some (InFrame j)) over.frame))
+    | inr common ↦ (
+        let res = over_resident in
+        let P : ℕ → Type 0 = λ x. IsBehind c res.0.backing x in
+        absurd (no_private res.0.backing above role (subst P over.frame (res.2.behind common))))
+  ]
+
+  pub over_mapped : c.at pid k ≢ None
+  over_mapped none = let bad : None ≡ Some over_resident.0 = sym none ∙ over_resident.1 in (cc)
+
+-- no table is missing on the way to it
+pub over_whole : (c : Picture) (change : Change) (n pid r k : ℕ) → c.root pid ≡ Some r → IsOver c change n pid k → missing_of c.frames 2 r k ≡ 0
+over_whole c change n pid r k root over = elim (cases_eq (missing_of c.frames 2 r k) 0) [
+  | inl e ↦ e
+  | inr some ↦ absurd ((some_framed change (entry c pid k) over.concerned).0 (entry-of c pid r k root ∙ page_entry-missing c.frames 2 r k some))
+]
+
+pub over_lives : (c : Picture) (change : Change) (n pid k : ℕ) → c.root pid ≡ None → IsOver c change n pid k → ⊥
+over_lives c change n pid k dead over = (some_framed change (entry c pid k) over.concerned).0 (entry-dead c pid k dead)
+
+cases_root : (o : Option ℕ) → (o ≡ None) ⊎ ((r : ℕ) × (o ≡ Some r))
+cases_root None = inl refl
+cases_root (Some r) = inr (r, refl)
+
+pub over_number : (c : Picture) (change : Change) (n pid k : ℕ) → IsFit c → IsOver c change n pid k → (1 ≤ pid) × (pid ≤ 64)
+over_number c change n pid k fit over = elim (cases_root (c.root pid)) [
+  | inl dead ↦ absurd (over_lives c change n pid k dead over)
+  | inr lives ↦ fit.rooted.numbers pid lives.0 lives.1
+]
+
+pub dead_at : (roots : List (Option FrameNo)) (pid : ℕ) (o : Option FrameNo) → get_or roots pid None ≡ o → o ≡ None → root_in roots pid ≡ None
+dead_at roots pid o is none = ap (λ x. option_map number_of_frame x) (is ∙ none)
+
+pub lives_at : (roots : List (Option FrameNo)) (pid : ℕ) (o : Option FrameNo) (r : FrameNo) → get_or roots pid None ≡ o → o ≡ Some r → root_in roots pid ≡ Some r.0
+lives_at roots pid o r is some = ap (λ x. option_map number_of_frame x) (is ∙ some)
+
+pub if_none : {T : Type 0} (o : Option T) (P : Type 0) → IfNone o P → is_some o ≡ false → P
+if_none None P is none = is
+if_none (Some x) P is none = absurd (false≢true (sym none))
+
+-- runs
+number_after : (b : Backing) (n : ℕ) (p : FilePage) → backed_by (backing_after b n) ≡ Some p → (q : FilePage) × (backed_by b ≡ Some q) × (q.page + n ≡ p.page)
+number_after Backings.Anon n p is = cc
+number_after (Backings.Private q) n p is = (q, refl, ap (λ (x : FilePage). x.page) (same_Some (file_page_after q n) p is))
+number_after (Backings.Shared q) n p is = (q, refl, ap (λ (x : FilePage). x.page) (same_Some (file_page_after q n) p is))
+
+pub one_over : (run : Run) (p : FilePage) (j k : ℕ) → IsPageOver run p j → IsPageOver run p k → j ≡ k
+one_over run p j k a b =
+    let x = number_after run.attr.backing (j - run.first) p a.is in
+    let y = number_after run.attr.backing (k - run.first) p b.is in
+    let same : x.0 ≡ y.0 = same_Some x.0 y.0 (sym x.1 ∙ y.1) in
+    let first : x.0.page ≡ y.0.page = ap (λ (q : FilePage). q.page) same in
+    omega (arith, first, x.2, y.2, a.from, b.from)
+
+-- of anonymous memory no page stands on a file page
+pub not_backed : (run : Run) (p : FilePage) (k : ℕ) → backed_by run.attr.backing ≡ None → IsPageOver run p k → ⊥
+not_backed run p k none over =
+    let x = number_after run.attr.backing (k - run.first) p over.is in
+    let bad : None ≡ Some x.0 = sym none ∙ x.1 in (cc)
+
+-- an entry over the frame of a file page, within a run, is over the run's page for it
+pub over_in_run : (c : Picture) (change : Change) (n pid k : ℕ) (run : Run) (p : FilePage) → IsFit c → 0 < n → c.place p ≡ Frame (record { 0 = n }) → IsRunOf c pid run → run.first ≤ k → k < run.end
+    → IsOver c change n pid k → IsPageOver run p k
+over_in_run c change n pid k run p fit above at of low high over = record {
+  from = low;
+  below = high;
+  is = over_backed c change n pid k fit (let small = of.high in omega arith) over p (attr_after run.attr (k - run.first)) above at (of.mapped k low high);
+}
+
+-- the next run of a process's regions
+pub run_of : (c : Picture) (pid : ℕ) (runs : List Run) (page : ℕ) (run : Run) → ((k : ℕ) → c.at pid k ≡ attr_at runs k) → IsNextRun (attr_at runs) page run → IsRunOf c pid run
+run_of c pid runs page run at next = record {
+  low = next.low;
+  nonempty = next.nonempty;
+  high = next.high;
+  mapped = λ k low high. at k ∙ next.mapped k low high;
+}
+
+at_where : (r : Option ℕ) (runs : List Run) (page root : ℕ) → r ≡ Some root → attr_where r runs page ≡ attr_at runs page
+at_where r runs page root is = ap (λ x. attr_where x runs page) is
+
+pub map_of : {D E : Type 0} (c : Core D E) (pid root : ℕ) (runs : List Run) → (picture_of c).root pid ≡ Some root → get_or c.regions.items pid [] ≡ runs
+    → (page : ℕ) → (picture_of c).at pid page ≡ attr_at runs page
+map_of c pid root runs live same page =
+    at_where (root_in c.roots.items pid) (get_or c.regions.items pid []) page root live ∙ ap (λ (rs : List Run). attr_at rs page) same
+
+pub cases_attr : (o : Option Attr) → (o ≡ None) ⊎ IsSome o
+cases_attr None = inl refl
+cases_attr (Some a) = inr refl
+
+-- One entry over the frame was changed.
+module _ (old new : Picture) (change : Change) (n pid r page number : ℕ) (fit : IsFit old) (root : old.root pid ≡ Some r) (h : IsPage 2 page) (over : IsOver old change n pid page)
+    (filed : change ≡ Forget → role_of old.frames n ≡ Cache) (changed : IsChanged change (entry old pid page) number) (sets : SetsEntry old.frames new.frames 2 r page number)
+    (beside : SameBeside old new) where
+  one_page : SetsPage old new pid page number
+  one_page = sets_page old new 0 pid r page number fit.rooted root h sets beside
+
+  seat_here : seat number ≡ seat (entry old pid page)
+  seat_here = seat_changed change (entry old pid page) number over.concerned (λ forget. over_common old change n pid page fit h over (filed forget)) changed
+
+  seats : (q p : ℕ) → IsPage 2 p → seat (entry new q p) ≡ seat (entry old q p)
+  seats q p h' = elim (by_page q p pid page) [
+    | inl e ↦ (
+        let P : ℕ → Type 0 = λ x. seat (entry new x p) ≡ seat (entry old x p) in
+        let Q : ℕ → Type 0 = λ x. seat (entry new pid x) ≡ seat (entry old pid x) in
+        subst P (sym e.0) (subst Q (sym e.1) (ap seat one_page.changed ∙ seat_here)))
+    | inr other ↦ ap seat (one_page.others q p h' other)
+  ]
+
+  dirty_here : (ch : Change) → ch ≡ change → (p : FilePage) → IsChanged ch (entry old pid page) number → concerns ch (entry old pid page) ≡ true
+      → is_valid number ≡ true → is_private number ≡ false → is_dirty number ≡ true → old.place p ≡ Frame (record { 0 = frame_of number }) → old.touched p ≡ true
+  dirty_here Forget is p none con valid common dirty at = absurd (false≢true (sym valid_zero ∙ sym (ap is_valid none) ∙ valid))
+  dirty_here ClearAccessed is p ch con valid common dirty at =
+      fit.dirty.dirty pid page p h (leaf_accessed (entry old pid page) con).0 (sym ch.0.private ∙ common) (sym ch.1 ∙ dirty) (at ∙ ap (λ x. Frame (record { 0 = x })) ch.0.frame)
+  dirty_here ClearDirty is p ch con valid common dirty at = absurd (false≢true (sym ch.2 ∙ dirty))
+
+  pub fit_changed : IsFit new
+  fit_changed = record {
+    counted = (
+      fit.counted.0,
+      counted_same (entry old) (entry new) (IsOwned old) (IsOwned new) (count_in old) (count_in new) (page_in old fit.counted.0) (page_in new fit.counted.0)
+          seats nowhere 0 fit.counted.1 (owned_forth old new beside one_page.shares) (owned_back old new beside one_page.shares) (count_kept old new beside one_page.shares)
+          (λ z is. page_kept old new fit.counted.0 beside z),
+    );
+    rooted = rooted_set old new 0 r page number fit.rooted sets beside;
+    granting = granting_changed old new pid page fit.granting (behind_kept old new beside)
+        (λ q p h' private one. ap (λ cs. get_or cs (frame_of (entry old q p)) 0) sets.kept.counts ∙ one)
+        beside.at one_page.others
+        (let P : ℕ → Type 0 = λ e. IsEntryFor new (old.at pid page) e in
+        subst P (sym one_page.changed) (entry_for-same old new (old.at pid page) number (behind_kept old new beside)
+        (λ private write one. ap (λ cs. get_or cs (frame_of number) 0) sets.kept.counts ∙ one)
+        (for_changed old change (old.at pid page) (entry old pid page) number over.concerned changed (fit.granting.entries pid page h))));
+    places = places_same old new fit.places beside.place beside.files beside.slots one_page.shares.cache one_page.shares.was_cache;
+    dirty = dirty_changed old new pid page fit.dirty beside.place beside.touched one_page.others
+        (λ p valid common dirty at. dirty_here change refl p changed over.concerned (sym (ap is_valid one_page.changed) ∙ valid) (sym (ap is_private one_page.changed) ∙ common)
+        (sym (ap is_dirty one_page.changed) ∙ dirty) (at ∙ ap (λ x. Frame (record { 0 = frame_of x })) one_page.changed));
+  }
+
+  own_kept : (o o' : Option Seat) → o' ≡ o → ((z : Seat) → o ≡ Some z → bytes_in new.frames new.slots z ≡ bytes_in old.frames old.slots z)
+      → option_map (bytes_in new.frames new.slots) o' ≡ option_map (bytes_in old.frames old.slots) o
+  own_kept None o' e each = ap (λ x. option_map (bytes_in new.frames new.slots) x) e
+  own_kept (Some z) o' e each = ap (λ x. option_map (bytes_in new.frames new.slots) x) e ∙ ap (λ b. Some b) (each z refl)
+
+  seat_bytes : (z : Seat) → IsOwned old z → bytes_in new.frames new.slots z ≡ bytes_in old.frames old.slots z
+  seat_bytes (InFrame m) is = sets.kept.bytes m (λ t. (let bad : Private ≡ Table = sym is ∙ t in (cc)))
+  seat_bytes (InSlot j) is = ap (λ t. t.bytes j) beside.slots
+
+  pub changes_one : Changes change n old new
+  changes_one = record {
+    beside = beside;
+    frames = sets.kept.frames;
+    bytes = sets.kept.bytes;
+    roles = λ m. ap (λ rs. get_or rs m Free) sets.kept.roles;
+    counts = λ m. ap (λ cs. get_or cs m 0) sets.kept.counts;
+    views = λ q p. elim (cases_attr (old.at q p)) [
+      | inl none ↦ view-none new q p (beside.at q p ∙ none) ∙ sym (view-none old q p none)
+      | inr some ↦ (
+          let h' : IsPage 2 p = (let u = ((fit.granting.user q).user_pages p some).1 in omega (arith, u)) in
+          view_kept old new q p (beside.at q p) (own_kept (seat (entry old q p)) (seat (entry new q p)) (seats q p h') (λ z is. seat_bytes z (fit.counted.1.named q p z h' is))))
+    ];
+    ends = λ q x p e. last_set old.frames new.frames r page number fit.rooted.forest sets x p (fit.rooted.roots q x e).table;
+    entries = λ q p h'. elim (by_page q p pid page) [
+      | inl e ↦ (
+          let P : ℕ → Type 0 = λ x. IsOver old change n x p × IsChanged change (entry old x p) (entry new x p) in
+          let Q : ℕ → Type 0 = λ x. IsOver old change n pid x × IsChanged change (entry old pid x) (entry new pid x) in
+          let R : ℕ → Type 0 = λ x. IsChanged change (entry old pid page) x in
+          inr (subst P (sym e.0) (subst Q (sym e.1) (over, subst R (sym one_page.changed) changed))))
+      | inr other ↦ inl (one_page.others q p h' other)
+    ];
+  }
+
+  pub clear_here : IsOver new change n pid page → ⊥
+  clear_here now = false≢true (sym (changed_once change (entry old pid page) number changed) ∙ sym (ap (concerns change) one_page.changed) ∙ now.concerned)
+
+-- entries changed, and others after them
+pub changes_none : (change : Change) (n : ℕ) (c : Picture) → Changes change n c c
+changes_none change n c = record {
+  beside = record { slots = refl; root = λ p. refl; at = λ p k. refl; page_of = λ m. refl; place = λ p. refl; touched = λ p. refl; files = λ f. refl };
+  frames = refl;
+  bytes = λ m used. refl;
+  roles = λ m. refl;
+  counts = λ m. refl;
+  views = λ q p. refl;
+  ends = λ q r p e. refl;
+  entries = λ q p h. inl refl;
+}
+
+-- what was clear is clear still
+pub still_clear : (change : Change) (n pid k : ℕ) (old new : Picture) → Changes change n old new → IsPage 2 k → (IsOver old change n pid k → ⊥) → IsOver new change n pid k → ⊥
+still_clear change n pid k old new changes h clear over = elim (changes.entries pid k h) [
+  | inl same ↦ clear (record { concerned = ap (concerns change) (sym same) ∙ over.concerned; frame = ap frame_of (sym same) ∙ over.frame })
+  | inr was ↦ clear was.0
+]
+
+pub changes_then : (change : Change) (n : ℕ) (a b c : Picture) → Changes change n a b → Changes change n b c → Changes change n a c
+changes_then change n a b c f g = record {
+  beside = record {
+    slots = g.beside.slots ∙ f.beside.slots;
+    root = λ p. g.beside.root p ∙ f.beside.root p;
+    at = λ p k. g.beside.at p k ∙ f.beside.at p k;
+    page_of = λ m. g.beside.page_of m ∙ f.beside.page_of m;
+    place = λ p. g.beside.place p ∙ f.beside.place p;
+    touched = λ p. g.beside.touched p ∙ f.beside.touched p;
+    files = λ x. g.beside.files x ∙ f.beside.files x;
+  };
+  frames = g.frames ∙ f.frames;
+  bytes = λ m used. g.bytes m (λ t. used (sym (f.roles m) ∙ t)) ∙ f.bytes m used;
+  roles = λ m. g.roles m ∙ f.roles m;
+  counts = λ m. g.counts m ∙ f.counts m;
+  views = λ q p. g.views q p ∙ f.views q p;
+  ends = λ q r p e. g.ends q r p (f.beside.root q ∙ e) ∙ f.ends q r p e;
+  entries = λ q p h. elim (f.entries q p h) [
+    | inl same ↦ elim (g.entries q p h) [
+      | inl was ↦ inl (was ∙ same)
+      | inr ch ↦ (
+          let P : ℕ → Type 0 = λ x. IsChanged change x (entry c q p) in
+          inr (record { concerned = ap (concerns change) (sym same) ∙ ch.0.concerned; frame = ap frame_of (sym same) ∙ ch.0.frame }, subst P same ch.1))
+    ]
+    | inr ch ↦ elim (g.entries q p h) [
+      | inl was ↦ (let P : ℕ → Type 0 = λ x. IsChanged change (entry a q p) x in inr (ch.0, subst P (sym was) ch.1))
+      | inr again ↦ absurd (false≢true (sym (changed_once change (entry a q p) (entry b q p) ch.1) ∙ again.0.concerned))
+    ]
+  ];
+}
+
+pub holds_kept : (change : Change) (n : ℕ) (old new : Picture) (held : Held) → Changes change n old new → Holds old n held → Holds new n held
+holds_kept change n old new (Own page) changes is = (changes.roles n ∙ is.0, changes.beside.page_of n ∙ is.1)
+holds_kept change n old new (Filed p) changes is = changes.beside.place p ∙ is
+
+module _ {D E : Type 0} where
+  pub frames_none : (c : Core D E) → KeepsAllButFrames c c
+  frames_none c = record { store = refl; swap = refl; cache = refl; roots = refl; regions = refl; page_of = refl; clock = refl; refused = refl }
+
+  pub frames_then : (a b c : Core D E) → KeepsAllButFrames a b → KeepsAllButFrames b c → KeepsAllButFrames a c
+  frames_then a b c f g = record {
+    store = g.store ∙ f.store;
+    swap = g.swap ∙ f.swap;
+    cache = g.cache ∙ f.cache;
+    roots = g.roots ∙ f.roots;
+    regions = g.regions ∙ f.regions;
+    page_of = g.page_of ∙ f.page_of;
+    clock = g.clock ∙ f.clock;
+    refused = g.refused ∙ f.refused;
+  }

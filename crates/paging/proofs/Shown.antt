@@ -1,0 +1,37 @@
+-- A state that memory shows is shown after frames were given up.
+use Rattle.std.proofs.Common.{◌≡◌, inl, inr, Some, None, is_some, sym, ap, ◌∙◌}
+use Rattle.vm_types.specs.State.{State}
+use Rattle.paging.specs.Picture.{Picture}
+use Rattle.paging.specs.Calls.{KeepsPages}
+use Rattle.paging.specs.Shows.{ShowsPages}
+
+pub shows_kept : (old new : Picture) (s : State) → KeepsPages old new → ShowsPages old s → ShowsPages new s
+shows_kept old new s keeps shows = record {
+  live = λ pid. shows.live pid ∙ ap (λ r. is_some r) (sym (keeps.root pid));
+  views = λ pid page. shows.views pid page ∙ sym (keeps.views pid page);
+  files = λ f. shows.files f ∙ sym (keeps.files.files f);
+  touched = λ p. shows.touched p ∙ sym (keeps.files.touched p);
+  held = λ p bytes here. elim (keeps.files.held p) [
+    | inl same ↦ shows.held p bytes (sym same ∙ here)
+    | inr home ↦ (let bad : None ≡ Some bytes = sym home.0 ∙ here in (cc))
+  ];
+  clean = λ p untouched inside. shows.clean p (sym (keeps.files.touched p) ∙ untouched) (inside.0, sym (keeps.files.files p.file) ∙ inside.1, inside.2);
+}
+
+pub keeps_then : (a b c : Picture) → KeepsPages a b → KeepsPages b c → KeepsPages a c
+keeps_then a b c p q = record {
+  root = λ pid. q.root pid ∙ p.root pid;
+  at = λ pid page. q.at pid page ∙ p.at pid page;
+  views = λ pid page. q.views pid page ∙ p.views pid page;
+  files = record {
+    held = λ f. elim (q.files.held f) [
+      | inl e ↦ elim (p.files.held f) [
+        | inl e' ↦ inl (e ∙ e')
+        | inr home ↦ inr (e ∙ home.0, home.1)
+      ]
+      | inr home ↦ inr (home.0, sym (p.files.touched f) ∙ home.1)
+    ];
+    touched = λ f. q.files.touched f ∙ p.files.touched f;
+    files = λ f. q.files.files f ∙ p.files.files f;
+  };
+}

@@ -1,0 +1,74 @@
+use Rattle.std.proofs.Common.{◌≡◌, inl, inr, None, refl, sym, ap, ◌∙◌}
+use Rattle.vm_types.specs.declared.file.FilePage.{FilePage}
+use Rattle.frames.specs.declared.role.Role.TheVariants.{Zero, Private, Cache}
+use Rattle.frames.specs.FrameTable.{role_of}
+use Rattle.page_cache.specs.declared.place.Place.TheVariants.{Home}
+use Rattle.paging.specs.declared.leaves.Change.TheVariants.{Forget}
+use Rattle.paging.specs.Picture.{Picture, picture_of, held, bytes_at}
+use Rattle.paging.specs.Parts.{nowhere}
+use Rattle.paging.proofs.Leaving.{Leaves, fit_home, left_spares, unnamed_of}
+use Rattle.paging.proofs.Places.{cases_page}
+use Rattle.paging.proofs.Sparing.{changes_spares, spares_then}
+use Rattle.paging.proofs.evicting.send_home.Goals as goal
+
+gone_home : (c : Picture) (p : FilePage) → c.place p ≡ Home → held c p ≡ None
+unfolding held
+gone_home c p home = ap (λ x. bytes_at c.frames c.slots x) home
+
+pub returns-clause-fit : goal.returns-clause-fit
+returns-clause-fit g c =
+    let m = c.change_leaves.new.core in
+    let mid : Picture = picture_of m in
+    let new : Picture = picture_of (record m { frames = c.release.new.self; cache = c.set_place.new.self }) in
+    let ch = c.change_leaves.ensures.changes in
+    let was = ch.beside.place c.args.page ∙ c.requires.placed in
+    let cache = c.change_leaves.ensures.fit.places.cached c.args.page c.args.victim.0 was in
+    let leaves : Leaves mid new c.args.page c.args.victim.0 Home = record {
+      was = was;
+      above = λ zero. (let bad : Zero ≡ Cache = sym c.len.ensures.sound.zero_role ∙ sym (ap (role_of c.args.core.now.frames) zero) ∙ sym (ch.roles c.args.victim.0) ∙ cache in (cc));
+      placed = c.set_place.ensures.placed;
+      others = c.set_place.ensures.others.places;
+      frames = c.release.ensures.change.others;
+      free = c.release.ensures.alone (λ own. (let bad : Private ≡ Cache = sym own ∙ cache in (cc)));
+      slots = refl;
+      root = λ pid. refl;
+      at_same = λ pid k. refl;
+      page_of = λ n. refl;
+      touched = λ p. elim (cases_page p c.args.page) [
+        | inl e ↦ ap new.touched e ∙ c.set_place.ensures.touched ∙ ap mid.touched (sym e)
+        | inr ne ↦ c.set_place.ensures.others.touched p ne
+      ];
+      files = λ f. refl;
+    } in
+    fit_home mid new c.args.page c.args.victim.0 c.change_leaves.ensures.fit leaves (ch.beside.touched c.args.page ∙ c.requires.untouched)
+    (unnamed_of mid c.args.victim.0 c.change_leaves.ensures.clear)
+
+pub returns-clause-spares : goal.returns-clause-spares
+returns-clause-spares g c = λ k.
+    let m = c.change_leaves.new.core in
+    let old : Picture = picture_of c.args.core.now in
+    let mid : Picture = picture_of m in
+    let new : Picture = picture_of (record m { frames = c.release.new.self; cache = c.set_place.new.self }) in
+    let ch = c.change_leaves.ensures.changes in
+    let was = ch.beside.place c.args.page ∙ c.requires.placed in
+    let cache = c.change_leaves.ensures.fit.places.cached c.args.page c.args.victim.0 was in
+    let leaves : Leaves mid new c.args.page c.args.victim.0 Home = record {
+      was = was;
+      above = λ zero. (let bad : Zero ≡ Cache = sym c.len.ensures.sound.zero_role ∙ sym (ap (role_of c.args.core.now.frames) zero) ∙ sym (ch.roles c.args.victim.0) ∙ cache in (cc));
+      placed = c.set_place.ensures.placed;
+      others = c.set_place.ensures.others.places;
+      frames = c.release.ensures.change.others;
+      free = c.release.ensures.alone (λ own. (let bad : Private ≡ Cache = sym own ∙ cache in (cc)));
+      slots = refl;
+      root = λ pid. refl;
+      at_same = λ pid k. refl;
+      page_of = λ n. refl;
+      touched = λ p. elim (cases_page p c.args.page) [
+        | inl e ↦ ap new.touched e ∙ c.set_place.ensures.touched ∙ ap mid.touched (sym e)
+        | inr ne ↦ c.set_place.ensures.others.touched p ne
+      ];
+      files = λ f. refl;
+    } in
+    spares_then c.args.victim.0 k old mid new (changes_spares Forget c.args.victim.0 k old mid c.requires.fit ch)
+    (left_spares mid new c.args.page c.args.victim.0 Home nowhere 0 c.change_leaves.ensures.fit leaves (unnamed_of mid c.args.victim.0 c.change_leaves.ensures.clear) k
+    (inr (gone_home new c.args.page c.set_place.ensures.placed, ch.beside.touched c.args.page ∙ c.requires.untouched)))

@@ -1,0 +1,18 @@
+use Rattle.std.proofs.Common.{ℕ, ◌-◌, ◌^◌, ◌<◌, ◌≤◌}
+use Rattle.paging.specs.Picture.{picture_of}
+use Rattle.paging.specs.Parts.{IsSized, IsFit}
+use Rattle.paging.specs.Leaves.{IsOver, Changes, KeepsAllButFrames}
+use Rattle.paging.proofs.leaves.change_in.Given as goal
+
+abbrev pub invariant-loop-page : goal.invariant-loop-page
+invariant-loop-page g l = record {
+  sized : IsSized l.core;
+  fit : IsFit (picture_of l.core);
+  beside : KeepsAllButFrames l.fn.core l.core;
+  changes : Changes l.change l.frame.0 (picture_of l.fn.core) (picture_of l.core);
+  below : l.low ≤ 2 ^ 26;
+  clear : (k : ℕ) → k < l.low → IsOver (picture_of l.core) l.change l.frame.0 l.pid k → ⊥;
+}
+
+abbrev pub decreases-loop-page : goal.decreases-loop-page
+decreases-loop-page g l = 2 ^ 26 - l.low

@@ -1,0 +1,13 @@
+use Rattle.std.proofs.Common.{ℕ, ◌-◌, ◌^◌, ◌<◌, ◌≤◌}
+use Rattle.paging.specs.Picture.{picture_of}
+use Rattle.paging.specs.Leaves.{IsOver}
+use Rattle.paging.proofs.leaves.find_filed.Given as goal
+
+abbrev pub invariant-loop-run : goal.invariant-loop-run
+invariant-loop-run g l = record {
+  low : l.low ≤ l.from;
+  before : (j : ℕ) → l.low ≤ j → j < l.from → IsOver (picture_of l.core) l.change l.frame.0 l.pid j → ⊥;
+}
+
+abbrev pub decreases-loop-run : goal.decreases-loop-run
+decreases-loop-run g l = 2 ^ 26 - l.from

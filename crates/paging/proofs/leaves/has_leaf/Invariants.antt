@@ -1,0 +1,10 @@
+use Rattle.std.proofs.Common.{ℕ, ◌<◌}
+use Rattle.page_tables.specs.Tree.{IsPage}
+use Rattle.paging.specs.Picture.{picture_of}
+use Rattle.paging.specs.Leaves.{IsOver}
+use Rattle.paging.proofs.leaves.has_leaf.Given as goal
+
+abbrev pub invariant-loop-pid : goal.invariant-loop-pid
+invariant-loop-pid g l = record {
+  clear : (q k : ℕ) → q < l.pid → IsPage 2 k → IsOver (picture_of l.core) l.change l.frame.0 q k → ⊥;
+}

@@ -1,0 +1,23 @@
+use Rattle.std.proofs.Common.{◌≡◌, ℕ, ◌-◌, ◌∙◌, ap, sym, subst, arith}
+use Rattle.sv39_walk.specs.Entry.{is_accessed, is_dirty}
+use Rattle.paging.specs.Leaves.{Drops}
+use Rattle.paging.proofs.Bits.{bit_six, drops_six, six_clear, six_dirty}
+use Rattle.paging.proofs.leaves.without_accessed.Goals as goal
+
+pub overflow_sub-to_u64 : goal.overflow_sub-to_u64
+overflow_sub-to_u64 c = omega (arith, bit_six c.args.leaf.0 c.requires, c.to_u64.ensures)
+
+pub returns-clause-drops : goal.returns-clause-drops
+returns-clause-drops c =
+    let number : c.from_u64.result.0 ≡ c.args.leaf.0 - 64 = c.from_u64.ensures ∙ ap (λ (n : ℕ). n - 64) c.to_u64.ensures in
+    subst (λ n. Drops c.args.leaf.0 n) (sym number) (drops_six c.args.leaf.0 (bit_six c.args.leaf.0 c.requires))
+
+pub returns-clause-dirty : goal.returns-clause-dirty
+returns-clause-dirty c =
+    let number : c.from_u64.result.0 ≡ c.args.leaf.0 - 64 = c.from_u64.ensures ∙ ap (λ (n : ℕ). n - 64) c.to_u64.ensures in
+    ap is_dirty number ∙ six_dirty c.args.leaf.0 (bit_six c.args.leaf.0 c.requires)
+
+pub returns-clause-clear : goal.returns-clause-clear
+returns-clause-clear c =
+    let number : c.from_u64.result.0 ≡ c.args.leaf.0 - 64 = c.from_u64.ensures ∙ ap (λ (n : ℕ). n - 64) c.to_u64.ensures in
+    ap is_accessed number ∙ six_clear c.args.leaf.0 (bit_six c.args.leaf.0 c.requires)

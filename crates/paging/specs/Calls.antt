@@ -1,0 +1,103 @@
+-- What the calls of this layer leave.
+use Rattle.std.specs.Prelude.{◌≡◌, ◌≢◌, ℕ, ◌+◌, ◌<◌, ◌≤◌, ◌⊎◌, true, false, Option, None, Some}
+use Rattle.vm_types.specs.declared.file.FilePage.{FilePage}
+use Rattle.vm_types.specs.declared.number.FrameNo.{FrameNo}
+use Rattle.vm_types.specs.declared.refusal.Stall.{Stall}
+use Rattle.vm_types.specs.declared.refusal.Stall.TheVariants.{NoFrames, NoSwap, SwapDevice, StoreDevice}
+use Rattle.disk_model.specs.declared.sector_disk.SectorDisk.{Ghosts}
+use Rattle.frames.specs.declared.role.Role.TheVariants.{Free, Table, Private}
+use Rattle.frames.specs.FrameTable.{FrameTable, frame_count, bytes_of, role_of, count_of, IsFrame, IsFresh, IsFull}
+use Rattle.page_cache.specs.CacheTable.{slot_count}
+use Rattle.page_cache.specs.declared.place.Place.TheVariants.{Home, Frame, Slot}
+use Rattle.page_tables.specs.Tree.{IsPage, missing_of, last_table}
+use Rattle.sv39_walk.specs.Entry.{frame_of}
+use Rattle.swap.specs.Slots.{slots_of, IsInUse}
+use Rattle.swap.specs.Slots as Slots
+use Rattle.paging.specs.declared.kernel.Core.{Core}
+use Rattle.paging.specs.Picture.{Picture, picture_of, view, entry, is_swapped, is_data}
+use Rattle.paging.specs.Shows.{KeepsFiles}
+
+-- so many frames, all free but the zero page, so many free slots, no process, and every file page at home and untouched
+pub record IsStart {D E : Type 0} (c : Core D E) (frames slots : ℕ) : Type 0 where
+  pub fresh : IsFresh c.frames frames
+  pub slots_are : slot_count c.cache ≡ slots
+  pub slots_free : Slots.IsFresh (slots_of c.swap) slots
+  pub none : (pid : ℕ) → (picture_of c).root pid ≡ None
+  pub at_home : (p : FilePage) → (picture_of c).place p ≡ Home
+  pub untouched : (p : FilePage) → (picture_of c).touched p ≡ false
+  pub refused : c.refused.number ≡ 0
+
+pub record IsFreeFrame (t : FrameTable) (n : ℕ) : Type 0 where
+  pub inside : IsFrame t n
+  pub free : role_of t n ≡ Free
+
+-- every process has its pages, with the bytes that they show, and every file page its bytes
+pub record KeepsPages (old new : Picture) : Type 0 where
+  pub root : (pid : ℕ) → new.root pid ≡ old.root pid
+  pub at : (pid page : ℕ) → new.at pid page ≡ old.at pid page
+  pub views : (pid page : ℕ) → view new pid page ≡ view old pid page
+  pub files : KeepsFiles old new
+
+-- whether a frame is one that is to be kept
+abbrev pub IsKept : Option FrameNo → ℕ → Type 0
+IsKept None n = ⊥
+IsKept (Some k) n = n ≡ k.0
+
+-- an entry that names no frame which may be given up: no frame at all, the zero page, or the frame to keep
+abbrev pub IsStaying : Option FrameNo → ℕ → Type 0
+IsStaying keep e = (e ≡ 0) ⊎ ((is_swapped e ≡ true) ⊎ ((frame_of e ≡ 0) ⊎ IsKept keep (frame_of e)))
+
+-- a frame needs a slot to be given up: it is private, or holds a touched file page
+abbrev pub NeedsSlot : Picture → ℕ → Type 0
+NeedsSlot c n = (role_of c.frames n ≡ Private) ⊎ ((p : FilePage) × (c.place p ≡ Frame (record { 0 = n })) × (c.touched p ≡ true))
+
+-- a page of a process or of a file lies in the frame, and it isn't to be kept
+abbrev pub IsSpareable : Picture → Option FrameNo → ℕ → Type 0
+IsSpareable c keep n = (is_data (role_of c.frames n) ≡ true) × (IsKept keep n → ⊥)
+
+-- Frames may have been given up, but for one: no page is seen otherwise. Every table is where it was, and so is everything
+-- that no frame holds. Of frames some are free now, and none is new.
+pub record Frees (old new : Picture) (keep : Option FrameNo) : Type 0 where
+  pub pages : KeepsPages old new
+  pub count : frame_count new.frames ≡ frame_count old.frames
+  pub roles : (n : ℕ) → (role_of new.frames n ≡ role_of old.frames n) ⊎ ((role_of new.frames n ≡ Free) × (is_data (role_of old.frames n) ≡ true))
+  pub missing : (pid r page : ℕ) → old.root pid ≡ Some r → missing_of new.frames 2 r page ≡ missing_of old.frames 2 r page
+  pub ends : (pid r page : ℕ) → old.root pid ≡ Some r → last_table new.frames page 2 r ≡ last_table old.frames page 2 r
+  pub entries : (pid page : ℕ) → IsPage 2 page → IsStaying keep (entry old pid page) → entry new pid page ≡ entry old pid page
+  pub slots : (k : ℕ) → IsInUse old.slots k → (new.slots.bytes k ≡ old.slots.bytes k) × (new.slots.count k ≡ old.slots.count k)
+  pub total : new.slots.total ≡ old.slots.total
+  pub home : (p : FilePage) → old.place p ≡ Home → new.place p ≡ Home
+  pub slotted : (p : FilePage) (k : ℕ) → old.place p ≡ Slot (record { 0 = k }) → new.place p ≡ Slot (record { 0 = k })
+  pub kept_place : (p : FilePage) (n : ℕ) → IsKept keep n → old.place p ≡ Frame (record { 0 = n }) → new.place p ≡ Frame (record { 0 = n })
+  pub kept_role : (n : ℕ) → IsKept keep n → role_of new.frames n ≡ role_of old.frames n
+  pub kept_count : (n : ℕ) → IsKept keep n → count_of new.frames n ≡ count_of old.frames n
+  pub kept_bytes : (n : ℕ) → IsKept keep n → role_of old.frames n ≢ Table → bytes_of new.frames n ≡ bytes_of old.frames n
+
+-- why no frame was to be had, by what memory is as it is left
+abbrev pub Refuses : Picture → Option FrameNo → Stall → Type 0
+Refuses c keep NoFrames = IsFull c.frames × ((n : ℕ) → IsSpareable c keep n → ⊥)
+Refuses c keep NoSwap = IsFull c.frames × ((n : ℕ) × IsSpareable c keep n) × ((n : ℕ) → IsSpareable c keep n → NeedsSlot c n) × Slots.IsFull c.slots
+Refuses c keep SwapDevice = Unit {0}
+Refuses c keep StoreDevice = ⊥
+
+module _ {D E : Type 0} where
+  -- all but memory and swap, and the count of refused requests, is as it was
+  pub record KeepsRest (old new : Core D E) : Type 0 where
+    pub store : new.store ≡ old.store
+    pub roots : new.roots ≡ old.roots
+    pub regions : new.regions ≡ old.regions
+
+module _ {E : Type 0} (g : Ghosts E) where
+  -- a device that was read and written
+  pub record UsesDevice (old new : E) : Type 0 where
+    pub size : g.sector_count new ≡ g.sector_count old
+    pub kept : g.keeps_model new → g.keeps_model old
+    pub later : g.failures old ≤ g.failures new
+
+  module _ {D : Type 0} where
+    -- what a stall comes from, and what is counted of it
+    abbrev pub StallCause : Core D E → Core D E → Stall → Type 0
+    StallCause old new NoFrames = new.refused.number ≡ old.refused.number + 1
+    StallCause old new NoSwap = new.refused.number ≡ old.refused.number + 1
+    StallCause old new SwapDevice = (new.refused.number ≡ old.refused.number) × (g.failures old.swap.pages.disk < g.failures new.swap.pages.disk)
+    StallCause old new StoreDevice = ⊥

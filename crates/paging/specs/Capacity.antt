@@ -1,0 +1,39 @@
+-- How much memory and swap is in use, against what a state needs.
+use Rattle.std.specs.Prelude.{ℕ, ◌+◌, ◌^◌, ◌<◌, ◌≤◌, Bool, true, false, if◌then◌else◌, Option}
+use Rattle.vm_types.specs.Capacity.{tables_of, has_own}
+use Rattle.vm_types.specs.Counting.{count_below, sum_below}
+use Rattle.vm_types.specs.View.{View}
+use Rattle.vm_types.specs.declared.refusal.Stall.{Stall}
+use Rattle.vm_types.specs.declared.refusal.Stall.TheVariants.{NoFrames, NoSwap, SwapDevice, StoreDevice}
+use Rattle.paging.specs.Picture.{Picture, is_live, view}
+use Rattle.frames.specs.FrameTable.{FrameTable, frame_count, role_of}
+use Rattle.frames.specs.declared.role.Role.{Role}
+use Rattle.frames.specs.declared.role.Role.TheVariants.{Free, Zero, Table, Private, Cache}
+
+abbrev pub is_table : Role → Bool
+is_table Free = false
+is_table Zero = false
+is_table Table = true
+is_table Private = false
+is_table Cache = false
+
+-- how many frames are tables
+unfoldable pub table_frames : FrameTable → ℕ
+table_frames t = count_below (λ n. is_table (role_of t n)) (frame_count t)
+
+-- how many tables these processes may have
+unfoldable pub tables_over : (ℕ → Bool) → (ℕ → ℕ → Option View) → ℕ
+tables_over live views = sum_below (λ pid. if live pid then tables_of (views pid) else 0) 65
+
+-- their own copies, and the touched file pages
+unfoldable pub copies_over : (ℕ → ℕ → Option View) → (ℕ → ℕ → Bool) → ℕ
+copies_over views touched =
+    sum_below (λ pid. count_below (λ page. has_own (views pid page)) (2 ^ 26)) 65
+    + sum_below (λ file. count_below (touched file) (2 ^ 20)) 64
+
+-- why no frame was to be had, by what processes see and files are touched
+unfoldable pub IsShort : Picture → Stall → Type 0
+IsShort c NoFrames = frame_count c.frames ≤ tables_over (is_live c) (view c) + 2
+IsShort c NoSwap = c.slots.total < copies_over (view c) (λ file page. c.touched (record { file = file; page = page }))
+IsShort c SwapDevice = Unit {0}
+IsShort c StoreDevice = Unit {0}

@@ -1,0 +1,108 @@
+-- The entries over one frame, and what becomes of them.
+use Rattle.std.specs.Prelude.{◌≡◌, ◌≢◌, ◌⊎◌, ℕ, ◌==◌, ◌-◌, ◌<◌, ◌≤◌, ◌^◌, Bool, true, false, not, ◌&&◌, Option, Some, None}
+use Rattle.vm_types.specs.declared.file.FilePage.{FilePage}
+use Rattle.vm_types.specs.declared.region.Backing.{Backing}
+use Rattle.vm_types.specs.declared.region.Backing.TheVariants.{Anon, Private, Shared}
+use Rattle.vm_types.specs.Attributes.{attr_after}
+use Rattle.frames.specs.declared.role.Role.TheVariants as Role
+use Rattle.frames.specs.FrameTable.{frame_count, bytes_of, role_of, count_of}
+use Rattle.sv39_walk.specs.Entry.{is_valid, can_read, can_write, can_execute, is_accessed, is_dirty, frame_of}
+use Rattle.page_tables.specs.Tree.{IsPage, last_table}
+use Rattle.regions.specs.declared.run.Run.{Run}
+use Rattle.page_cache.specs.declared.place.Place.TheVariants.{Frame}
+use Rattle.paging.specs.declared.kernel.Core.{Core}
+use Rattle.paging.specs.declared.leaves.Change.{Change}
+use Rattle.paging.specs.declared.leaves.Change.TheVariants.{Forget, ClearAccessed, ClearDirty}
+use Rattle.paging.specs.declared.leaves.Held.{Held}
+use Rattle.paging.specs.declared.leaves.Held.TheVariants.{Own, Filed}
+use Rattle.paging.specs.Seats.{is_private, is_swapped}
+use Rattle.paging.specs.Picture.{Picture, entry, view}
+use Rattle.paging.specs.Steps.{SameBeside}
+
+-- whether the change is for that entry
+abbrev pub concerns : Change → ℕ → Bool
+concerns Forget e = not (e == 0) && not (is_swapped e)
+concerns ClearAccessed e = is_valid e && is_accessed e
+concerns ClearDirty e = is_valid e && is_dirty e
+
+-- the page has such an entry over frame n
+pub record IsOver (c : Picture) (change : Change) (n pid page : ℕ) : Type 0 where
+  pub concerned : concerns change (entry c pid page) ≡ true
+  pub frame : frame_of (entry c pid page) ≡ n
+
+-- no process has one
+abbrev pub IsClear : Picture → Change → ℕ → Type 0
+IsClear c change n = (pid page : ℕ) → IsPage 2 page → IsOver c change n pid page → ⊥
+
+-- some process has one
+abbrev pub IsMarked : Picture → Change → ℕ → Type 0
+IsMarked c change n = (pid : ℕ) × (page : ℕ) × IsPage 2 page × IsOver c change n pid page
+
+-- the first page of a process from a page on that has one
+pub record IsNext (c : Picture) (change : Change) (n pid low k : ℕ) : Type 0 where
+  pub from : low ≤ k
+  pub user : k < 2 ^ 26
+  pub over : IsOver c change n pid k
+  pub before : (j : ℕ) → low ≤ j → j < k → IsOver c change n pid j → ⊥
+
+-- what a frame holds
+abbrev pub Holds : Picture → ℕ → Held → Type 0
+Holds c n (Own page) = (role_of c.frames n ≡ Role.Private) × (c.page_of n ≡ page)
+Holds c n (Filed p) = c.place p ≡ Frame (record { 0 = n })
+
+-- a leaf lost a bit that grants nothing
+pub record Drops (old new : ℕ) : Type 0 where
+  pub valid : is_valid new ≡ is_valid old
+  pub reads : can_read new ≡ can_read old
+  pub writes : can_write new ≡ can_write old
+  pub executes : can_execute new ≡ can_execute old
+  pub private : is_private new ≡ is_private old
+  pub frame : frame_of new ≡ frame_of old
+
+abbrev pub IsChanged : Change → ℕ → ℕ → Type 0
+IsChanged Forget e e' = e' ≡ 0
+IsChanged ClearAccessed e e' = Drops e e' × (is_dirty e' ≡ is_dirty e) × (is_accessed e' ≡ false)
+IsChanged ClearDirty e e' = Drops e e' × (is_accessed e' ≡ is_accessed e) × (is_dirty e' ≡ false)
+
+-- entries over frame n were changed so, and nothing else was
+pub record Changes (change : Change) (n : ℕ) (old new : Picture) : Type 0 where
+  pub beside : SameBeside old new
+  pub frames : frame_count new.frames ≡ frame_count old.frames
+  pub bytes : (m : ℕ) → role_of old.frames m ≢ Role.Table → bytes_of new.frames m ≡ bytes_of old.frames m
+  pub roles : (m : ℕ) → role_of new.frames m ≡ role_of old.frames m
+  pub counts : (m : ℕ) → count_of new.frames m ≡ count_of old.frames m
+  pub views : (pid page : ℕ) → view new pid page ≡ view old pid page
+  pub ends : (pid r page : ℕ) → old.root pid ≡ Some r → last_table new.frames page 2 r ≡ last_table old.frames page 2 r
+  pub entries : (pid page : ℕ) → IsPage 2 page
+      → (entry new pid page ≡ entry old pid page) ⊎ (IsOver old change n pid page × IsChanged change (entry old pid page) (entry new pid page))
+
+module _ {D E : Type 0} where
+  -- all but frames is as it was
+  pub record KeepsAllButFrames (old new : Core D E) : Type 0 where
+    pub store : new.store ≡ old.store
+    pub swap : new.swap ≡ old.swap
+    pub cache : new.cache ≡ old.cache
+    pub roots : new.roots ≡ old.roots
+    pub regions : new.regions ≡ old.regions
+    pub page_of : new.page_of ≡ old.page_of
+    pub clock : new.clock ≡ old.clock
+    pub refused : new.refused ≡ old.refused
+
+-- the file page that stands behind a page
+abbrev pub backed_by : Backing → Option FilePage
+backed_by Anon = None
+backed_by (Private p) = Some p
+backed_by (Shared p) = Some p
+
+-- page k of the run stands on that file page
+pub record IsPageOver (run : Run) (p : FilePage) (k : ℕ) : Type 0 where
+  pub from : run.first ≤ k
+  pub below : k < run.end
+  pub is : backed_by (attr_after run.attr (k - run.first)).backing ≡ Some p
+
+-- a run of user pages of a process
+pub record IsRunOf (c : Picture) (pid : ℕ) (run : Run) : Type 0 where
+  pub low : 16 ≤ run.first
+  pub nonempty : run.first < run.end
+  pub high : run.end ≤ 2 ^ 26
+  pub mapped : (k : ℕ) → run.first ≤ k → k < run.end → c.at pid k ≡ Some (attr_after run.attr (k - run.first))

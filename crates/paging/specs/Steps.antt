@@ -1,0 +1,52 @@
+-- What one step of a call changes.
+use Rattle.std.specs.Prelude.{◌≡◌, ◌≢◌, ℕ, ◌<◌, ◌⊎◌}
+use Rattle.vm_types.specs.declared.file.FilePage.{FilePage}
+use Rattle.frames.specs.declared.role.Role.TheVariants.{Free, Table, Private, Cache}
+use Rattle.frames.specs.FrameTable.{FrameTable, bytes_of, role_of, count_of, SameButFor}
+use Rattle.page_cache.specs.declared.place.Place.TheVariants.{Home, Frame}
+use Rattle.file_store.specs.Standing.{IsPageOf}
+use Rattle.page_tables.specs.Tree.{IsPage}
+use Rattle.paging.specs.Picture.{Picture, entry}
+
+-- nothing but the frames changed
+pub record SameBeside (old new : Picture) : Type 0 where
+  pub slots : new.slots ≡ old.slots
+  pub root : (pid : ℕ) → new.root pid ≡ old.root pid
+  pub at : (pid page : ℕ) → new.at pid page ≡ old.at pid page
+  pub page_of : (n : ℕ) → new.page_of n ≡ old.page_of n
+  pub place : (p : FilePage) → new.place p ≡ old.place p
+  pub touched : (p : FilePage) → new.touched p ≡ old.touched p
+  pub files : (f : ℕ) → new.files f ≡ old.files f
+
+-- no private frame and no cache frame came or went, and none has another share count
+pub record KeepsShares (old new : FrameTable) : Type 0 where
+  pub private : (n : ℕ) → role_of old n ≡ Private → role_of new n ≡ Private
+  pub was_private : (n : ℕ) → role_of new n ≡ Private → role_of old n ≡ Private
+  pub cache : (n : ℕ) → role_of old n ≡ Cache → role_of new n ≡ Cache
+  pub was_cache : (n : ℕ) → role_of new n ≡ Cache → role_of old n ≡ Cache
+  pub counts : (n : ℕ) → role_of old n ≡ Private → count_of new n ≡ count_of old n
+
+-- a process's page has that number for its entry now, and all else is as it was
+pub record SetsPage (old new : Picture) (pid page number : ℕ) : Type 0 where
+  pub changed : entry new pid page ≡ number
+  pub others : (q p : ℕ) → IsPage 2 p → (q ≢ pid) ⊎ (p ≢ page) → entry new q p ≡ entry old q p
+  pub beside : SameBeside old new
+  pub shares : KeepsShares old.frames new.frames
+  pub bytes : (n : ℕ) → role_of old.frames n ≢ Table → bytes_of new.frames n ≡ bytes_of old.frames n
+
+-- a file page was brought from its home into the frame n, which was free
+pub record BringsIn (old new : Picture) (page : FilePage) (n : ℕ) : Type 0 where
+  pub slots : new.slots ≡ old.slots
+  pub frames : SameButFor n old.frames new.frames
+  pub above : 0 < n
+  pub was_free : role_of old.frames n ≡ Free
+  pub kind : role_of new.frames n ≡ Cache
+  pub was_home : old.place page ≡ Home
+  pub inside : IsPageOf old.files page.file page.page
+  pub placed : new.place page ≡ Frame (record { 0 = n })
+  pub others : (p : FilePage) → p ≢ page → new.place p ≡ old.place p
+  pub root : (pid : ℕ) → new.root pid ≡ old.root pid
+  pub at : (pid k : ℕ) → new.at pid k ≡ old.at pid k
+  pub page_of : (m : ℕ) → new.page_of m ≡ old.page_of m
+  pub touched : (p : FilePage) → new.touched p ≡ old.touched p
+  pub files : (f : ℕ) → new.files f ≡ old.files f

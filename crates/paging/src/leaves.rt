@@ -1,0 +1,413 @@
+//! The entries over one frame, in the tables of all processes: found, and changed.
+ghost use Rattle.std.specs.Prelude.{◌≡◌, ◌≢◌, ◌≤◌, ◌<◌, ◌-◌, ◌^◌, ◌↔◌, ℕ, true, false, Some, IfSome, IfNone, IsSome};
+ghost use Rattle.frames.specs.declared.role.Role.TheVariants as Roles;
+ghost use Rattle.frames.specs.FrameTable.{IsFrame, role_of};
+ghost use Rattle.sv39_walk.specs.Entry.{is_valid, is_accessed, is_dirty, frame_of};
+ghost use Rattle.page_tables.specs.Entry.{number_of, IsEntry};
+ghost use Rattle.page_tables.specs.Tree.{IsPage};
+ghost use Rattle.paging.specs.Picture.{picture_of, is_data};
+ghost use Rattle.paging.specs.Parts.{IsSized, IsFit};
+ghost use Rattle.paging.specs.declared.leaves.Change.TheVariants as Kinds;
+ghost use Rattle.page_cache.specs.declared.place.Place.TheVariants.{Frame};
+ghost use Rattle.paging.specs.Seats.{is_swapped};
+ghost use Rattle.paging.specs.Leaves.{concerns, IsOver, IsNext, IsChanged, Drops, Holds, Changes, KeepsAllButFrames, IsClear, IsMarked, IsPageOver, IsRunOf, backed_by};
+
+use crate::kernel::{Core, PLACES};
+use frames::Role;
+use page_tables::{Entry, entry, entry_number, set};
+use regions::Run;
+use sv39_walk::Pte;
+use vm_types::{Backing, FilePage, FrameNo, Vpn};
+
+// A and D, bits of an entry (RISC-V Privileged Specification, "Sv39 page table entry").
+const ACCESSED: u64 = 1 << 6;
+
+const DIRTY: u64 = 1 << 7;
+
+/// What becomes of an entry.
+#[derive(Clone, Copy, Debug, PartialEq, Eq)]
+pub enum Change {
+    /// There is none any more.
+    Forget,
+    /// A is cleared.
+    ClearAccessed,
+    /// D is cleared.
+    ClearDirty,
+}
+
+/// What a frame holds.
+#[derive(Clone, Copy, Debug, PartialEq, Eq)]
+pub(crate) enum Held {
+    /// The own copy of that page.
+    Own(u32),
+    /// That file page.
+    Filed(FilePage),
+}
+
+/// What the frame holds.
+pub(crate) fn held_in<D, E>(core: &Core<D, E>, frame: FrameNo) -> Held
+    requires sized { IsSized core.now }
+    requires fit { IsFit (picture_of core.now) }
+    requires inside { IsFrame core.now.frames frame.0 }
+    requires data { is_data (role_of core.now.frames frame.0) ≡ true }
+    ensures holds { Holds (picture_of core.now) frame.0 result }
+    ensures above { 0 < frame.0 }
+{
+    // (brings in that the table of frames is sound)
+    let _ = core.frames.len();
+    match core.frames.role(frame) {
+        Role::Private => Held::Own(core.page_of[frame.0 as usize]),
+        _ => match core.cache.page_in_frame(frame) {
+            Some(page) => Held::Filed(page),
+            None => unreachable!(),
+        },
+    }
+}
+
+/// Whether the change is for that entry.
+fn is_concerned(entry: Pte, change: Change) -> bool
+    ensures { result ≡ concerns change entry.0 }
+{
+    match change {
+        Change::Forget => entry.to_u64() != 0 && !is_swapped(entry),
+        Change::ClearAccessed => entry.is_valid() && entry.is_accessed(),
+        Change::ClearDirty => entry.is_valid() && entry.is_dirty(),
+    }
+}
+
+/// Whether the page lies in a slot: V is clear, and bit 1, which is that of R in a leaf, set.
+fn is_swapped(entry: Pte) -> bool
+    ensures { result ≡ is_swapped entry.0 }
+{
+    !entry.is_valid() && entry.is_readable()
+}
+
+/// Whether the page has an entry over the frame that the change is for.
+fn is_over<D, E>(
+    core: &Core<D, E>,
+    pid: usize,
+    root: FrameNo,
+    page: Vpn,
+    frame: FrameNo,
+    change: Change,
+) -> bool
+    requires fit { IsFit (picture_of core.now) }
+    requires lives { (picture_of core.now).root pid ≡ Some root.0 }
+    ensures over { result ≡ true → IsOver (picture_of core.now) change frame.0 pid page }
+    ensures other { result ≡ false → IsOver (picture_of core.now) change frame.0 pid page → ⊥ }
+{
+    let entry = entry_number(&core.frames, root, page);
+    is_concerned(entry, change) && entry.frame() == u64::from(frame.0)
+}
+
+/// The first page of a process from a page on that has an entry over the frame that the change is for.
+pub(crate) fn find_in<D, E>(
+    core: &Core<D, E>,
+    pid: usize,
+    root: FrameNo,
+    low: u64,
+    held: Held,
+    frame: FrameNo,
+    change: Change,
+) -> Option<Vpn>
+    requires sized { IsSized core.now }
+    requires fit { IsFit (picture_of core.now) }
+    requires lives { (picture_of core.now).root pid ≡ Some root.0 }
+    requires above { 0 < frame.0 }
+    requires number { pid < 65 }
+    requires holds { Holds (picture_of core.now) frame.0 held }
+    ensures some { IfSome result (λ k. IsNext (picture_of core.now) change frame.0 pid low k) }
+    ensures none { IfNone result ((k : ℕ) → low ≤ k → IsPage 2 k → IsOver (picture_of core.now) change frame.0 pid k → ⊥) }
+{
+    match held {
+        Held::Own(page) => find_own(core, pid, root, low, u64::from(page), frame, change),
+        Held::Filed(page) => find_filed(core, pid, root, low, page, frame, change),
+    }
+}
+
+/// The same where the frame has the own copy of a page.
+fn find_own<D, E>(
+    core: &Core<D, E>,
+    pid: usize,
+    root: FrameNo,
+    low: u64,
+    page: u64,
+    frame: FrameNo,
+    change: Change,
+) -> Option<Vpn>
+    requires fit { IsFit (picture_of core.now) }
+    requires lives { (picture_of core.now).root pid ≡ Some root.0 }
+    requires above { 0 < frame.0 }
+    requires role { role_of core.now.frames frame.0 ≡ Roles.Private }
+    requires noted { (picture_of core.now).page_of frame.0 ≡ page }
+    ensures some { IfSome result (λ k. IsNext (picture_of core.now) change frame.0 pid low k) }
+    ensures none { IfNone result ((k : ℕ) → low ≤ k → IsPage 2 k → IsOver (picture_of core.now) change frame.0 pid k → ⊥) }
+{
+    if page < low {
+        return None;
+    }
+    match Vpn::new(page) {
+        Some(at) => {
+            if is_over(core, pid, root, at, frame, change) {
+                Some(at)
+            } else {
+                None
+            }
+        }
+        None => None,
+    }
+}
+
+/// The same where the frame holds a file page: run by run, the file page has at most one page of a run.
+fn find_filed<D, E>(
+    core: &Core<D, E>,
+    pid: usize,
+    root: FrameNo,
+    low: u64,
+    page: FilePage,
+    frame: FrameNo,
+    change: Change,
+) -> Option<Vpn>
+    requires sized { IsSized core.now }
+    requires fit { IsFit (picture_of core.now) }
+    requires lives { (picture_of core.now).root pid ≡ Some root.0 }
+    requires above { 0 < frame.0 }
+    requires number { pid < 65 }
+    requires placed { (picture_of core.now).place page ≡ Frame frame }
+    ensures some { IfSome result (λ k. IsNext (picture_of core.now) change frame.0 pid low k) }
+    ensures none { IfNone result ((k : ℕ) → low ≤ k → IsPage 2 k → IsOver (picture_of core.now) change frame.0 pid k → ⊥) }
+{
+    let mut from = low;
+    while let Some(run) = core.regions[pid].next_run(from) {
+        if let Some(at) = find_over(core, pid, root, run, page, frame, change) {
+            return Some(at);
+        }
+        from = run.end;
+    }
+    None
+}
+
+/// The same within one run.
+fn find_over<D, E>(
+    core: &Core<D, E>,
+    pid: usize,
+    root: FrameNo,
+    run: Run,
+    page: FilePage,
+    frame: FrameNo,
+    change: Change,
+) -> Option<Vpn>
+    requires fit { IsFit (picture_of core.now) }
+    requires lives { (picture_of core.now).root pid ≡ Some root.0 }
+    requires above { 0 < frame.0 }
+    requires placed { (picture_of core.now).place page ≡ Frame frame }
+    requires run { IsRunOf (picture_of core.now) pid run }
+    ensures some { IfSome result (λ k. IsNext (picture_of core.now) change frame.0 pid run.first k × (k < run.end)) }
+    ensures none { IfNone result ((k : ℕ) → run.first ≤ k → k < run.end → IsOver (picture_of core.now) change frame.0 pid k → ⊥) }
+{
+    match page_over(run, page) {
+        Some(at) => {
+            if is_over(core, pid, root, at, frame, change) {
+                Some(at)
+            } else {
+                None
+            }
+        }
+        None => None,
+    }
+}
+
+/// The file page that stands behind a page, shared or private.
+fn file_page_of(backing: Backing) -> Option<FilePage>
+    ensures { result ≡ backed_by backing }
+{
+    match backing {
+        Backing::Anon => None,
+        Backing::Private(page) | Backing::Shared(page) => Some(page),
+    }
+}
+
+/// The page of a run that stands on this file page.
+fn page_over(run: Run, page: FilePage) -> Option<Vpn>
+    requires low { 16 ≤ run.first }
+    requires order { run.first ≤ run.end }
+    requires high { run.end ≤ 2 ^ 26 }
+    ensures some { IfSome result (λ k. IsPageOver run page k) }
+    ensures none { IfNone result ((k : ℕ) → IsPageOver run page k → ⊥) }
+{
+    match file_page_of(run.attr.backing) {
+        Some(first) => page_after(run, first, page),
+        None => None,
+    }
+}
+
+/// The same in a run the first page of which stands on `first`.
+fn page_after(run: Run, first: FilePage, page: FilePage) -> Option<Vpn>
+    requires low { 16 ≤ run.first }
+    requires order { run.first ≤ run.end }
+    requires high { run.end ≤ 2 ^ 26 }
+    requires first { backed_by run.attr.backing ≡ Some first }
+    ensures some { IfSome result (λ k. IsPageOver run page k) }
+    ensures none { IfNone result ((k : ℕ) → IsPageOver run page k → ⊥) }
+{
+    if page.file != first.file || page.page < first.page {
+        return None;
+    }
+    let offset = u64::from(page.page - first.page);
+    if offset < run.end - run.first {
+        Vpn::new(run.first + offset)
+    } else {
+        None
+    }
+}
+
+/// Changes the entry of one page, which is over the frame.
+fn change_at<D, E>(
+    core: &mut Core<D, E>,
+    pid: usize,
+    root: FrameNo,
+    page: Vpn,
+    frame: FrameNo,
+    change: Change,
+)
+    requires sized { IsSized core.old }
+    requires fit { IsFit (picture_of core.old) }
+    requires lives { (picture_of core.old).root pid ≡ Some root.0 }
+    requires user { page < 2 ^ 26 }
+    requires over { IsOver (picture_of core.old) change frame.0 pid page }
+    requires filed { change ≡ Kinds.Forget → role_of core.old.frames frame.0 ≡ Roles.Cache }
+    ensures sized { IsSized core.new }
+    ensures fit { IsFit (picture_of core.new) }
+    ensures beside { KeepsAllButFrames core.old core.new }
+    ensures changes { Changes change frame.0 (picture_of core.old) (picture_of core.new) }
+    ensures clear { IsOver (picture_of core.new) change frame.0 pid page → ⊥ }
+{
+    let entry = changed(entry(&core.frames, root, page), change);
+    set(&mut core.frames, root, page, entry);
+}
+
+/// Changes so each entry of a process that is over the frame.
+fn change_in<D, E>(
+    core: &mut Core<D, E>,
+    pid: usize,
+    root: FrameNo,
+    held: Held,
+    frame: FrameNo,
+    change: Change,
+)
+    requires sized { IsSized core.old }
+    requires fit { IsFit (picture_of core.old) }
+    requires lives { (picture_of core.old).root pid ≡ Some root.0 }
+    requires above { 0 < frame.0 }
+    requires number { pid < 65 }
+    requires holds { Holds (picture_of core.old) frame.0 held }
+    requires filed { change ≡ Kinds.Forget → role_of core.old.frames frame.0 ≡ Roles.Cache }
+    ensures sized { IsSized core.new }
+    ensures fit { IsFit (picture_of core.new) }
+    ensures beside { KeepsAllButFrames core.old core.new }
+    ensures changes { Changes change frame.0 (picture_of core.old) (picture_of core.new) }
+    ensures clear { (page : ℕ) → IsPage 2 page → IsOver (picture_of core.new) change frame.0 pid page → ⊥ }
+{
+    let mut low = 0;
+    while let Some(page) = find_in(core, pid, root, low, held, frame, change) {
+        change_at(core, pid, root, page, frame, change);
+        low = page.get() + 1;
+    }
+}
+
+/// The same for the process of that number, where it lives.
+fn change_of<D, E>(core: &mut Core<D, E>, pid: usize, held: Held, frame: FrameNo, change: Change)
+    requires sized { IsSized core.old }
+    requires fit { IsFit (picture_of core.old) }
+    requires above { 0 < frame.0 }
+    requires number { pid < 65 }
+    requires holds { Holds (picture_of core.old) frame.0 held }
+    requires filed { change ≡ Kinds.Forget → role_of core.old.frames frame.0 ≡ Roles.Cache }
+    ensures sized { IsSized core.new }
+    ensures fit { IsFit (picture_of core.new) }
+    ensures beside { KeepsAllButFrames core.old core.new }
+    ensures changes { Changes change frame.0 (picture_of core.old) (picture_of core.new) }
+    ensures clear { (page : ℕ) → IsPage 2 page → IsOver (picture_of core.new) change frame.0 pid page → ⊥ }
+{
+    match core.roots[pid] {
+        Some(root) => change_in(core, pid, root, held, frame, change),
+        None => {}
+    }
+}
+
+/// Changes so each entry over a frame that holds a page, in the tables of all processes: no process sees it. Entries are forgotten
+/// only over a frame that holds a file page.
+pub fn change_leaves<D, E>(core: &mut Core<D, E>, frame: FrameNo, change: Change)
+    requires sized { IsSized core.old }
+    requires fit { IsFit (picture_of core.old) }
+    requires inside { IsFrame core.old.frames frame.0 }
+    requires data { is_data (role_of core.old.frames frame.0) ≡ true }
+    requires filed { change ≡ Kinds.Forget → role_of core.old.frames frame.0 ≡ Roles.Cache }
+    ensures sized { IsSized core.new }
+    ensures fit { IsFit (picture_of core.new) }
+    ensures beside { KeepsAllButFrames core.old core.new }
+    ensures changes { Changes change frame.0 (picture_of core.old) (picture_of core.new) }
+    ensures clear { IsClear (picture_of core.new) change frame.0 }
+    ensures above { 0 < frame.0 }
+{
+    let held = held_in(core, frame);
+    for pid in 1..PLACES {
+        change_of(core, pid, held, frame, change);
+    }
+}
+
+/// Whether the change is for an entry over a frame that holds a page.
+pub(crate) fn has_leaf<D, E>(core: &Core<D, E>, frame: FrameNo, change: Change) -> bool
+    requires sized { IsSized core.now }
+    requires fit { IsFit (picture_of core.now) }
+    requires inside { IsFrame core.now.frames frame.0 }
+    requires data { is_data (role_of core.now.frames frame.0) ≡ true }
+    ensures { (result ≡ true) ↔ IsMarked (picture_of core.now) change frame.0 }
+{
+    let held = held_in(core, frame);
+    for pid in 1..PLACES {
+        if let Some(root) = core.roots[pid] {
+            if find_in(core, pid, root, 0, held, frame, change).is_some() {
+                return true;
+            }
+        }
+    }
+    false
+}
+
+/// The entry changed.
+fn changed(entry: Entry, change: Change) -> Entry
+    requires form { IsEntry entry }
+    requires concerned { concerns change (number_of entry) ≡ true }
+    ensures form { IsEntry result }
+    ensures changed { IsChanged change (number_of entry) (number_of result) }
+{
+    let Entry::Leaf(leaf) = entry else {
+        return Entry::None;
+    };
+    match change {
+        Change::Forget => Entry::None,
+        Change::ClearAccessed => Entry::Leaf(without_accessed(leaf)),
+        Change::ClearDirty => Entry::Leaf(without_dirty(leaf)),
+    }
+}
+
+/// The entry with A clear.
+fn without_accessed(leaf: Pte) -> Pte
+    requires { is_accessed leaf.0 ≡ true }
+    ensures drops { Drops leaf.0 result.0 }
+    ensures dirty { is_dirty result.0 ≡ is_dirty leaf.0 }
+    ensures clear { is_accessed result.0 ≡ false }
+{
+    Pte::from_u64(leaf.to_u64() - ACCESSED)
+}
+
+/// The entry with D clear.
+fn without_dirty(leaf: Pte) -> Pte
+    requires { is_dirty leaf.0 ≡ true }
+    ensures drops { Drops leaf.0 result.0 }
+    ensures accessed { is_accessed result.0 ≡ is_accessed leaf.0 }
+    ensures clear { is_dirty result.0 ≡ false }
+{
+    Pte::from_u64(leaf.to_u64() - DIRTY)
+}

@@ -1,0 +1,143 @@
+//! The choice of a frame to be given up.
+ghost use Rattle.std.specs.Prelude.{◌≡◌, ◌≢◌, ◌<◌, ◌≤◌, ◌↔◌, ℕ, true, IfOk, OnErr};
+ghost use Rattle.std.proofs.Common.{refl, ◌∙◌};
+ghost use Rattle.frames.specs.FrameTable.{frame_count, IsFrame, IsFull, role_of};
+ghost use Rattle.swap.specs.Slots.{slots_of};
+ghost use Rattle.paging.specs.Picture.{picture_of, is_data};
+ghost use Rattle.paging.specs.Parts.{IsSized, IsFit};
+ghost use Rattle.paging.specs.Calls.{Frees, IsKept, IsSpareable, NeedsSlot};
+ghost use Rattle.paging.specs.Evictions.{IsEvictable, IsAccessed, Looked};
+
+use crate::kernel::Core;
+use crate::leaves::{Change, change_leaves, has_leaf};
+use clock_replace::{FrameView, NoVictim};
+use disk_model::Count;
+use frames::Role;
+use vm_types::FrameNo;
+
+/// The frames, one of which may be kept.
+#[derive(Drop)]
+struct View<'a, D, E> {
+    core: &'a mut Core<D, E>,
+    keep: Option<FrameNo>,
+    looks: Count,
+}
+
+impl<D, E> FrameView for View<'_, D, E> {
+    ghost use Rattle.paging.specs.Views.{Follows};
+
+    ghost total = { λ v. frame_count v.core.now.frames };
+
+    ghost looks = { λ v. v.looks.number };
+
+    ghost evictable_at = { λ v n. IsEvictable (picture_of v.core.now) v.keep n };
+
+    ghost marked = { λ v n. IsAccessed (picture_of v.core.now) n };
+
+    ghost is_open = { λ v. IsSized v.core.now × IsFit (picture_of v.core.now) };
+
+    ghost follows = { λ a b. (b.core.ghost_name ≡ a.core.ghost_name) × Follows a.core.now b.core.now a.keep b.keep };
+
+    fn frames(&self) -> u32 {
+        self.core.frames.len()
+    }
+
+    fn evictable(&mut self, n: u32) -> bool {
+        self.looks.raise();
+        is_evictable(self.core, self.keep, FrameNo(n))
+    }
+
+    fn accessed(&self, n: u32) -> bool {
+        is_accessed(self.core, FrameNo(n))
+    }
+
+    fn clear(&mut self, n: u32) {
+        change_leaves(self.core, FrameNo(n), Change::ClearAccessed);
+    }
+
+    ghost stays = { λ v. (refl, record { kept = refl; full = λ f. f; frees = λ s f. f; looked = record { store = refl; swap = refl; roots = refl; regions = refl; refused = refl } }) };
+
+    ghost goes_on = { λ a b c p q. (q.0 ∙ p.0, record { kept = q.1.kept ∙ p.1.kept; full = λ f. q.1.full (p.1.full f); frees = λ s f. q.1.frees s (p.1.frees s f); looked = record { store = q.1.looked.store ∙ p.1.looked.store; swap = q.1.looked.swap ∙ p.1.looked.swap; roots = q.1.looked.roots ∙ p.1.looked.roots; regions = q.1.looked.regions ∙ p.1.looked.regions; refused = q.1.looked.refused ∙ p.1.looked.refused } }) };
+}
+
+/// Whether the frame holds a page and isn't to be kept.
+pub(crate) fn is_spareable<D, E>(core: &Core<D, E>, keep: Option<FrameNo>, n: FrameNo) -> bool
+    requires { IsFrame core.now.frames n.0 }
+    ensures spareable { result ≡ true → IsSpareable (picture_of core.now) keep n.0 }
+    ensures other { IsSpareable (picture_of core.now) keep n.0 → result ≡ true }
+{
+    if let Some(kept) = keep {
+        if kept.0 == n.0 {
+            return false;
+        }
+    }
+    match core.frames.role(n) {
+        Role::Private | Role::Cache => true,
+        _ => false,
+    }
+}
+
+/// Whether the frame needs a slot to be given up.
+fn needs_slot<D, E>(core: &Core<D, E>, n: FrameNo) -> bool
+    requires sized { IsSized core.now }
+    requires fit { IsFit (picture_of core.now) }
+    requires inside { IsFrame core.now.frames n.0 }
+    ensures needs { result ≡ true → NeedsSlot (picture_of core.now) n.0 }
+    ensures other { NeedsSlot (picture_of core.now) n.0 → result ≡ true }
+{
+    match core.frames.role(n) {
+        Role::Private => true,
+        _ => match core.cache.page_in_frame(n) {
+            Some(page) => core.cache.is_touched(page),
+            None => false,
+        },
+    }
+}
+
+/// Whether the frame may be given up now.
+fn is_evictable<D, E>(core: &Core<D, E>, keep: Option<FrameNo>, n: FrameNo) -> bool
+    requires sized { IsSized core.now }
+    requires fit { IsFit (picture_of core.now) }
+    requires inside { IsFrame core.now.frames n.0 }
+    ensures { (result ≡ true) ↔ IsEvictable (picture_of core.now) keep n.0 }
+{
+    is_spareable(core, keep, n) && (!needs_slot(core, n) || !core.swap.is_full())
+}
+
+/// Whether a leaf over the frame has A.
+fn is_accessed<D, E>(core: &Core<D, E>, n: FrameNo) -> bool
+    requires sized { IsSized core.now }
+    requires fit { IsFit (picture_of core.now) }
+    requires inside { IsFrame core.now.frames n.0 }
+    ensures { (result ≡ true) ↔ IsAccessed (picture_of core.now) n.0 }
+{
+    is_spareable(core, None, n) && has_leaf(core, n, Change::ClearAccessed)
+}
+
+/// A frame to be given up, chosen by the clock.
+pub(crate) fn choose<D, E>(
+    core: &mut Core<D, E>,
+    keep: Option<FrameNo>,
+) -> Result<FrameNo, NoVictim>
+    requires sized { IsSized core.old }
+    requires fit { IsFit (picture_of core.old) }
+    ensures sized { IsSized core.new }
+    ensures fit { IsFit (picture_of core.new) }
+    ensures frees { Frees (picture_of core.old) (picture_of core.new) keep }
+    ensures looked { Looked core.old core.new }
+    ensures full { IsFull core.old.frames → IsFull core.new.frames }
+    ensures found { IfOk result (λ n. IsEvictable (picture_of core.new) keep n.0) }
+    ensures none { OnErr result ((n : ℕ) → IsFrame core.new.frames n → IsEvictable (picture_of core.new) keep n → ⊥) }
+{
+    // (brings in that the table of frames is sound)
+    let _ = core.frames.len();
+    let mut clock = core.clock;
+    let mut view = View {
+        core,
+        keep,
+        looks: Count::new(),
+    };
+    let choice = clock.victim(&mut view);
+    core.clock = clock;
+    choice
+}

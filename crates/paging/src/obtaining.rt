@@ -1,0 +1,105 @@
+//! A frame for a page.
+ghost use Rattle.frames.specs.FrameTable.{IsFrame, IsFull};
+ghost use Rattle.paging.specs.Calls.{IsSpareable};
+ghost use Rattle.paging.specs.Shows.{ShowsPages};
+ghost use Rattle.vm_types.specs.State.{State};
+ghost use Rattle.std.specs.Prelude.{true, false, ℕ, ◌≡◌, ◌+◌, IsErr, IfOk, IfErr, OnOk, OnErr};
+ghost use Rattle.swap.specs.Slots.{IsReady};
+ghost use Rattle.paging.specs.Picture.{picture_of};
+ghost use Rattle.paging.specs.Parts.{IsSized, IsFit};
+ghost use Rattle.paging.specs.Capacity.{IsShort};
+ghost use Rattle.paging.specs.Calls.{IsFreeFrame, Frees, KeepsRest, Refuses, UsesDevice, StallCause};
+
+use crate::evicting::evict;
+use crate::kernel::Core;
+use crate::looking::{choose, is_spareable};
+use clock_replace::NoVictim;
+use disk_model::SectorDisk;
+use vm_types::{FrameNo, Stall};
+
+/// A free frame, to be taken at once. Where none is free, a frame is given up for it, but not the one to keep: its page goes
+/// to a slot, or home where nobody has touched it. No process sees a change, and no file does.
+///
+/// # Errors
+/// `NoFrames` only where every frame but the zero page is a table or the one to keep, `NoSwap` only where every other one needs a
+/// slot and none is free; both raise the count of refused requests. `SwapDevice` only where the swap device failed.
+pub fn obtain<D, E: SectorDisk>(
+    core: &mut Core<D, E>,
+    keep: Option<FrameNo>,
+) -> Result<FrameNo, Stall>
+    requires sized { IsSized core.old }
+    requires fit { IsFit (picture_of core.old) }
+    requires swap { IsReady E.SectorDisk core.old.swap }
+    ensures sized { IsSized core.new }
+    ensures fit { IsFit (picture_of core.new) }
+    ensures swap { IsReady E.SectorDisk core.new.swap }
+    ensures frees { Frees (picture_of core.old) (picture_of core.new) keep }
+    ensures shows { (s : State) → ShowsPages (picture_of core.old) s → ShowsPages (picture_of core.new) s }
+    ensures rest { KeepsRest core.old core.new }
+    ensures device { UsesDevice E.SectorDisk core.old.swap.pages.disk core.new.swap.pages.disk }
+    ensures free { IfOk result (λ n. IsFreeFrame core.new.frames n.0) }
+    ensures idle { (IsFull core.old.frames → ⊥) → core.new ≡ core.old }
+    ensures refuses { IfErr result (Refuses (picture_of core.new) keep) }
+    ensures short { IfErr result (IsShort (picture_of core.new)) }
+    ensures cause { IfErr result (StallCause E.SectorDisk core.old core.new) }
+    ensures not_refused { OnOk result (core.new.refused.number ≡ core.old.refused.number) }
+{
+    match core.frames.next_free() {
+        Some(n) => Ok(n),
+        None => {
+            let obtained = give_up(core, keep);
+            // (brings in that the table of frames is sound)
+            let _ = core.frames.len();
+            obtained
+        }
+    }
+}
+
+/// The same where none is free.
+fn give_up<D, E: SectorDisk>(core: &mut Core<D, E>, keep: Option<FrameNo>) -> Result<FrameNo, Stall>
+    requires sized { IsSized core.old }
+    requires fit { IsFit (picture_of core.old) }
+    requires swap { IsReady E.SectorDisk core.old.swap }
+    requires full { IsFull core.old.frames }
+    ensures sized { IsSized core.new }
+    ensures fit { IsFit (picture_of core.new) }
+    ensures swap { IsReady E.SectorDisk core.new.swap }
+    ensures frees { Frees (picture_of core.old) (picture_of core.new) keep }
+    ensures rest { KeepsRest core.old core.new }
+    ensures device { UsesDevice E.SectorDisk core.old.swap.pages.disk core.new.swap.pages.disk }
+    ensures free { IfOk result (λ n. IsFreeFrame core.new.frames n.0) }
+    ensures refuses { IfErr result (Refuses (picture_of core.new) keep) }
+    ensures cause { IfErr result (StallCause E.SectorDisk core.old core.new) }
+    ensures not_refused { OnOk result (core.new.refused.number ≡ core.old.refused.number) }
+{
+    let choice = choose(core, keep);
+    // (brings in that the table of frames is sound)
+    let _ = core.frames.len();
+    match choice {
+        Ok(victim) => {
+            evict(core, victim)?;
+            Ok(victim)
+        }
+        Err(NoVictim) => {
+            core.refused.raise();
+            if has_spareable(core, keep) {
+                Err(Stall::NoSwap)
+            } else {
+                Err(Stall::NoFrames)
+            }
+        }
+    }
+}
+
+/// Whether some frame holds a page and isn't to be kept.
+fn has_spareable<D, E>(core: &Core<D, E>, keep: Option<FrameNo>) -> bool
+    ensures some { result ≡ true → (n : ℕ) × IsSpareable (picture_of core.now) keep n }
+    ensures none { result ≡ false → (n : ℕ) → IsFrame core.now.frames n → IsSpareable (picture_of core.now) keep n → ⊥ }
+{
+    for n in 0..core.frames.len() {
+        if is_spareable(core, keep, FrameNo(n)) {
+            return true;
+        }
+    }
+    false
+}

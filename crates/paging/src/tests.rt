@@ -1,0 +1,246 @@
+//! Memory of 8 frames over devices in memory, filled with pages of a file.
+ghost use Rattle.std.specs.Prelude.{◌≡◌, ◌≢◌, ◌≤◌, IfOk, OnOk};
+ghost use Rattle.file_store.specs.Standing.{AreBounded, IsPageOf};
+ghost use Rattle.page_cache.specs.declared.place.Place.TheVariants.{Home};
+ghost use Rattle.file_store.specs.Store.{IsReadyStore, files_of};
+ghost use Rattle.swap.specs.Slots.{IsReady};
+ghost use Rattle.paging.specs.Parts.{IsSized, IsFit};
+ghost use Rattle.paging.specs.Picture.{picture_of};
+
+use crate::{Change, Core, change_leaves, obtain};
+use disk_model::{SectorDisk, SimDisk};
+use file_store::{FileStore, OpenFault};
+use frames::Role;
+use page_cache::Place;
+use std::alloc::Global;
+use std::process::Abort;
+use std::test::Fail;
+use swap::Swap;
+use vm_types::{FilePage, FrameNo, SlotNo, Stall};
+
+// A device with a file of eight pages, which begins with 7.
+fn image(alloc: Global) -> Result<SimDisk, Fail> {
+    let mut disk = SimDisk::new(alloc, 1084)?;
+    let mut mark = [0; 512];
+    for i in 0..512 {
+        mark[i] = b"FAMSYNC1"[i % 8];
+    }
+    disk.write(0, &mark)?;
+    let mut directory = [0; 512];
+    directory[3] = 0x80;
+    directory[5] = 0x80;
+    disk.write(1, &directory)?;
+    let mut home = [0; 512];
+    home[0] = 7;
+    disk.write(1020, &home)?;
+    disk.sync()?;
+    Ok(disk)
+}
+
+fn opened(disk: SimDisk) -> Result<FileStore<SimDisk>, OpenFault>
+    ensures ready { IfOk result (λ store. IsReadyStore ⟦<SimDisk as SectorDisk>⟧ store) }
+    ensures bounded { IfOk result (λ store. AreBounded (files_of store)) }
+{
+    match FileStore::open(disk) {
+        Ok(store) => Ok(store),
+        Err((fault, _)) => Err(fault),
+    }
+}
+
+// Memory with so many slots.
+fn made(alloc: Global, slots: u32) -> Result<Core<SimDisk, SimDisk>, Fail>
+    requires { slots ≤ 4 }
+    ensures sized { IfOk result IsSized }
+    ensures fit { IfOk result (λ core. IsFit (picture_of core)) }
+    ensures store { IfOk result (λ core. IsReadyStore ⟦<SimDisk as SectorDisk>⟧ core.store) }
+    ensures swap { IfOk result (λ core. IsReady ⟦<SimDisk as SectorDisk>⟧ core.swap) }
+{
+    let store = opened(image(alloc)?)?;
+    let swap = Swap::new(alloc, SimDisk::new(alloc, 8 * u64::from(slots))?, slots)?;
+    match Core::new(alloc, store, swap, 8, slots) {
+        Ok(core) => Ok(core),
+        Err((refused, _)) => Err(Fail::from(refused)),
+    }
+}
+
+// Reads a page of a file, which lies at home, into a frame.
+fn read_in<D: SectorDisk, E: SectorDisk>(
+    core: &mut Core<D, E>,
+    page: FilePage,
+) -> Result<FrameNo, Fail>
+    requires sized { IsSized core.old }
+    requires fit { IsFit (picture_of core.old) }
+    requires store { IsReadyStore D.SectorDisk core.old.store }
+    requires swap { IsReady E.SectorDisk core.old.swap }
+    requires inside { IsPageOf (picture_of core.old).files page.file page.page }
+    requires home { (picture_of core.old).place page ≡ Home }
+    ensures sized { OnOk result (IsSized core.new) }
+    ensures fit { OnOk result (IsFit (picture_of core.new)) }
+    ensures store { OnOk result (IsReadyStore D.SectorDisk core.new.store) }
+    ensures swap { OnOk result (IsReady E.SectorDisk core.new.swap) }
+{
+    obtain(core, None)?;
+    let Ok(frame) = core.frames.take(Role::Cache) else {
+        unreachable!()
+    };
+    core.store.read_page(page, core.frames.bytes_mut(frame))?;
+    core.cache.set_place(page, Place::Frame(frame));
+    Ok(frame)
+}
+
+// Brings a page of the file into a frame.
+fn bring<D: SectorDisk, E: SectorDisk>(
+    rt: &impl Abort,
+    core: &mut Core<D, E>,
+    number: u32,
+) -> Result<FrameNo, Fail>
+    requires sized { IsSized core.old }
+    requires fit { IsFit (picture_of core.old) }
+    requires store { IsReadyStore D.SectorDisk core.old.store }
+    requires swap { IsReady E.SectorDisk core.old.swap }
+    ensures sized { OnOk result (IsSized core.new) }
+    ensures fit { OnOk result (IsFit (picture_of core.new)) }
+    ensures store { OnOk result (IsReadyStore D.SectorDisk core.new.store) }
+    ensures swap { OnOk result (IsReady E.SectorDisk core.new.swap) }
+{
+    let page = FilePage {
+        file: 0,
+        page: number,
+    };
+    let info = core.store.file(page.file).expect(rt, "a file");
+    assert!(rt; u64::from(info.length) > 4096 * u64::from(number));
+    assert_eq!(rt; core.cache.place(page), Place::Home);
+    read_in(core, page)
+}
+
+// Brings the first seven pages in, which fill memory.
+fn fill<D: SectorDisk, E: SectorDisk>(rt: &impl Abort, core: &mut Core<D, E>) -> Result<(), Fail>
+    requires sized { IsSized core.old }
+    requires fit { IsFit (picture_of core.old) }
+    requires store { IsReadyStore D.SectorDisk core.old.store }
+    requires swap { IsReady E.SectorDisk core.old.swap }
+    ensures sized { OnOk result (IsSized core.new) }
+    ensures fit { OnOk result (IsFit (picture_of core.new)) }
+    ensures store { OnOk result (IsReadyStore D.SectorDisk core.new.store) }
+    ensures swap { OnOk result (IsReady E.SectorDisk core.new.swap) }
+{
+    for k in 0..7 {
+        bring(rt, core, k)?;
+    }
+    Ok(())
+}
+
+// Full memory with so many slots.
+fn filled(rt: &impl Abort, alloc: Global, slots: u32) -> Result<Core<SimDisk, SimDisk>, Fail>
+    requires { slots ≤ 4 }
+    ensures sized { IfOk result IsSized }
+    ensures fit { IfOk result (λ core. IsFit (picture_of core)) }
+    ensures store { IfOk result (λ core. IsReadyStore ⟦<SimDisk as SectorDisk>⟧ core.store) }
+    ensures swap { IfOk result (λ core. IsReady ⟦<SimDisk as SectorDisk>⟧ core.swap) }
+{
+    let mut core = made(alloc, slots)?;
+    fill(rt, &mut core)?;
+    Ok(core)
+}
+
+// Notes that a page of a file, which lies in memory, was written.
+fn mark<D: SectorDisk, E: SectorDisk>(core: &mut Core<D, E>, page: FilePage)
+    requires sized { IsSized core.old }
+    requires fit { IsFit (picture_of core.old) }
+    requires store { IsReadyStore D.SectorDisk core.old.store }
+    requires swap { IsReady E.SectorDisk core.old.swap }
+    requires away { (picture_of core.old).place page ≢ Home }
+    ensures sized { IsSized core.new }
+    ensures fit { IsFit (picture_of core.new) }
+    ensures store { IsReadyStore D.SectorDisk core.new.store }
+    ensures swap { IsReady E.SectorDisk core.new.swap }
+{
+    core.cache.mark_dirty(page);
+}
+
+// The same for that page of the file.
+fn touch<D: SectorDisk, E: SectorDisk>(rt: &impl Abort, core: &mut Core<D, E>, number: u32)
+    requires sized { IsSized core.old }
+    requires fit { IsFit (picture_of core.old) }
+    requires store { IsReadyStore D.SectorDisk core.old.store }
+    requires swap { IsReady E.SectorDisk core.old.swap }
+    ensures sized { IsSized core.new }
+    ensures fit { IsFit (picture_of core.new) }
+    ensures store { IsReadyStore D.SectorDisk core.new.store }
+    ensures swap { IsReady E.SectorDisk core.new.swap }
+{
+    let page = FilePage {
+        file: 0,
+        page: number,
+    };
+    assert!(rt; core.cache.place(page) != Place::Home);
+    mark(core, page);
+}
+
+// The same for the first seven pages.
+fn touch_all<D: SectorDisk, E: SectorDisk>(rt: &impl Abort, core: &mut Core<D, E>)
+    requires sized { IsSized core.old }
+    requires fit { IsFit (picture_of core.old) }
+    requires store { IsReadyStore D.SectorDisk core.old.store }
+    requires swap { IsReady E.SectorDisk core.old.swap }
+    ensures sized { IsSized core.new }
+    ensures fit { IsFit (picture_of core.new) }
+    ensures store { IsReadyStore D.SectorDisk core.new.store }
+    ensures swap { IsReady E.SectorDisk core.new.swap }
+{
+    for k in 0..7 {
+        touch(rt, core, k);
+    }
+}
+
+fn place<D, E>(core: &Core<D, E>, number: u32) -> Place {
+    core.cache.place(FilePage {
+        file: 0,
+        page: number,
+    })
+}
+
+#[test]
+fn a_touched_page_goes_to_a_slot_and_another_home(rt: HostRuntime) -> Result<(), Fail> {
+    let mut core = filled(&rt, rt.alloc(), 2)?;
+    assert_eq!(rt; core.frames.next_free(), None);
+    assert_eq!(rt; place(&core, 0), Place::Frame(FrameNo(1)));
+    touch(&rt, &mut core, 0);
+    assert_eq!(rt; obtain(&mut core, None), Ok(FrameNo(1)));
+    assert_eq!(rt; place(&core, 0), Place::Slot(SlotNo(0)));
+    assert_eq!(rt; bring(&rt, &mut core, 7)?, FrameNo(1));
+    assert_eq!(rt; obtain(&mut core, None), Ok(FrameNo(2)));
+    assert_eq!(rt; place(&core, 1), Place::Home);
+    assert!(rt; core.swap.len() > 0);
+    assert_eq!(rt; core.swap.count(SlotNo(0)), 1);
+    let mut page = [0; 4096];
+    core.swap.get(SlotNo(0), &mut page)?;
+    assert_eq!(rt; page[0], 7);
+    Ok(())
+}
+
+#[test]
+fn the_kept_frame_stays(rt: HostRuntime) -> Result<(), Fail> {
+    let mut core = filled(&rt, rt.alloc(), 2)?;
+    assert_eq!(rt; obtain(&mut core, Some(FrameNo(1))), Ok(FrameNo(2)));
+    assert_eq!(rt; place(&core, 0), Place::Frame(FrameNo(1)));
+    Ok(())
+}
+
+#[test]
+fn without_a_slot_touched_pages_stay(rt: HostRuntime) -> Result<(), Fail> {
+    let mut core = filled(&rt, rt.alloc(), 0)?;
+    touch_all(&rt, &mut core);
+    assert_eq!(rt; obtain(&mut core, None), Err(Stall::NoSwap));
+    Ok(())
+}
+
+#[test]
+fn no_leaf_over_a_page_that_nobody_has(rt: HostRuntime) -> Result<(), Fail> {
+    let mut core = filled(&rt, rt.alloc(), 0)?;
+    assert!(rt; core.frames.len() > 1);
+    assert_eq!(rt; core.frames.role(FrameNo(1)), Role::Cache);
+    change_leaves(&mut core, FrameNo(1), Change::ClearDirty);
+    assert_eq!(rt; core.frames.role(FrameNo(1)), Role::Cache);
+    Ok(())
+}
