@@ -6,6 +6,13 @@ use disk_model::{FileDisk, Unknown};
 use file_store::{FileStore, OpenFault};
 use std::fs::{self, File, Files, OpenOptions};
 use std::io::{self, BufReader, ErrorKind, Read, Write};
+use std::os::fd::AsRawFd;
+
+/// The file that has no bytes and takes none where it is opened to be read.
+const NOTHING: &str = "/dev/null";
+
+/// The number of the last standard stream.
+const LAST_STREAM: i32 = 2;
 
 /// Why the program gives up.
 #[derive(Clone, Copy, Debug, PartialEq, Eq)]
@@ -47,6 +54,9 @@ fn run<R: Files<File = File> + AllocGlobal, I: Read + Drop, O: Write>(
     let [image] = words else {
         return Err(ProgramFault::Usage);
     };
+    let Ok(places) = held_places(rt) else {
+        return Err(ProgramFault::CannotOpen);
+    };
     let Ok(file) = open_alone(rt, image.as_str()) else {
         return Err(ProgramFault::CannotOpen);
     };
@@ -60,11 +70,27 @@ fn run<R: Files<File = File> + AllocGlobal, I: Read + Drop, O: Write>(
     let Ok(mut input) = BufReader::new(rt.alloc(), reader) else {
         return Err(ProgramFault::OutOfMemory);
     };
-    match serve(rt.alloc(), &mut store, &mut input, writer) {
+    let served = serve(rt.alloc(), &mut store, &mut input, writer);
+    drop(places);
+    match served {
         Ok(ServeEnd::Done) => Ok(()),
         Ok(end) => Err(ProgramFault::Served(end)),
         Err(_) => Err(ProgramFault::OutOfMemory),
     }
+}
+
+/// Gives the numbers of the standard streams that the program was started without to a file that has no bytes and takes
+/// none, so that the image gets none of them: else its bytes would be taken for requests, or answers written over them.
+fn held_places<R: Files<File = File>>(rt: &R) -> io::Result<[Option<File>; 3]> {
+    let mut places = [None, None, None];
+    for place in &mut places {
+        let file = File::open(rt, NOTHING)?;
+        if file.as_raw_fd() > LAST_STREAM {
+            break;
+        }
+        *place = Some(file);
+    }
+    Ok(places)
 }
 
 /// The regular file of that path, under a lock that no other program of ours has: it stands until the file is dropped. What
