@@ -1,5 +1,6 @@
 -- What an access finds before anything changes.
 use Rattle.std.specs.Prelude.{◌≡◌, ◌≢◌, ℕ, ◌/◌, true, false, Some, Ok}
+use Rattle.vm_types.specs.Limits.{top_level}
 use Rattle.vm_types.specs.declared.access.Access.{Access}
 use Rattle.vm_types.specs.declared.region.Attr.{Attr}
 use Rattle.vm_types.specs.declared.width.Width.{Width}
@@ -25,7 +26,7 @@ Judges c pid page access (Finding.Fault code) = page_verdict c.files (view c pid
 
 -- the walk from the process's root answers no place
 abbrev pub IsUnwalked : Picture → ℕ → ℕ → Access → Type 0
-IsUnwalked c pid addr access = (root : ℕ) (phys : Phys) → c.root pid ≡ Some root → translated 2 c.frames root addr access ≢ Ok phys
+IsUnwalked c pid addr access = (root : ℕ) (phys : Phys) → c.root pid ≡ Some root → translated top_level c.frames root addr access ≢ Ok phys
 
 -- the page of an access that is fine, and that the tables don't grant
 pub record IsFineAt (c : Picture) (pid addr : ℕ) (width : Width) (access : Access) (page : ℕ) (attr : Attr) : Type 0 where

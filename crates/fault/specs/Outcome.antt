@@ -1,5 +1,6 @@
 -- What an access comes to: a place in memory that holds the page, a fault, or a stall.
 use Rattle.std.specs.Prelude.{◌≡◌, ◌≢◌, ◌⊎◌, ◌/◌, ◌%◌, ℕ, true, Some, Ok}
+use Rattle.vm_types.specs.Limits.{top_level}
 use Rattle.vm_types.specs.declared.access.Access.{Access}
 use Rattle.vm_types.specs.declared.access.Access.TheVariants.{Load, Store, Fetch}
 use Rattle.vm_types.specs.declared.file.FilePage.{FilePage}
@@ -74,7 +75,7 @@ pub record Grants (old new : Picture) (pid addr : ℕ) (width : Width) (access :
   pub fine : verdict_of old pid addr width access ≡ Fine seen
   pub root : ℕ
   pub lives : new.root pid ≡ Some root
-  pub place : translated 2 new.frames root addr access ≡ Ok phys
+  pub place : translated top_level new.frames root addr access ≡ Ok phys
   pub offset : phys.0 % 4096 ≡ addr % 4096
   pub ready : IsReadyFor access old new pid (addr / 4096) seen (phys.0 / 4096)
 
@@ -84,7 +85,7 @@ pub record IsWalked (c : Picture) (pid addr : ℕ) (width : Width) (access : Acc
   pub fine : verdict_of c pid addr width access ≡ Fine seen
   pub root : ℕ
   pub lives : c.root pid ≡ Some root
-  pub place : translated 2 c.frames root addr access ≡ Ok phys
+  pub place : translated top_level c.frames root addr access ≡ Ok phys
 
 module _ {D : Type 0} (g : Ghosts D) where
   module _ {E : Type 0} where

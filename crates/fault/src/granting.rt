@@ -21,7 +21,6 @@ use crate::arriving::cached;
 use crate::entering::{enter_again, enter_cached, enter_own, enter_touched, enter_zeros};
 use crate::processes::entry_at;
 use disk_model::SectorDisk;
-use page_entries::is_private;
 use residency::Core;
 use vm_types::{Access, Attr, Backing, FilePage, FrameNo, Pid, Stall, Vpn};
 
@@ -124,7 +123,7 @@ fn grant_store<D: SectorDisk, E>(
         Backing::Anon => grant_own(core, pid, page, attr),
         Backing::Private(file_page) => {
             let entry = entry_at(core, pid, page);
-            if is_private(entry) {
+            if entry.is_private() {
                 grant_own(core, pid, page, attr)
             } else {
                 grant_copy(core, pid, page, attr, file_page)

@@ -1,5 +1,6 @@
 //! Accesses over devices in memory. Frame 0 is the zero page.
 ghost use Rattle.std.specs.Prelude.{◌≡◌, ◌≤◌, ◌<◌, ◌+◌, ◌^◌, ℕ, true, None, IfOk, OnOk};
+ghost use Rattle.vm_types.specs.Limits.{user_start, user_end};
 ghost use Rattle.vm_types.specs.Attributes.{backing_fits};
 ghost use Rattle.vm_types.specs.Rows.{IsUserMap};
 ghost use Rattle.regions.specs.RunList.{attr_at};
@@ -75,8 +76,8 @@ fn map(
     backing: Backing,
 ) -> Result<Regions, TooManyRuns>
     requires some { 0 < pages }
-    requires low { 16 ≤ first }
-    requires high { first + pages ≤ 2 ^ 26 }
+    requires low { user_start ≤ first }
+    requires high { first + pages ≤ user_end }
     requires file_pages { backing_fits backing pages }
     requires readable { IsReadableMap (attr_at regions.now) }
     ensures readable { IfOk result (λ next. IsReadableMap (attr_at next)) }

@@ -1,5 +1,6 @@
 -- Pages of files, changed all at once: failure-atomic msync (Park, Kelly and Shen, EuroSys 2013).
 use Rattle.std.specs.Prelude.{ℕ, ◌<◌, ◌≤◌, ◌≡◌, ◌⊎◌, List, length, slice_get, Option, Some, None}
+use Rattle.sync_journal.specs.Layout.{page_limit}
 use Rattle.disk_model.specs.Stop.{Image}
 use Rattle.vm_types.specs.declared.file.FileInfo.{FileInfo}
 use Rattle.vm_types.specs.declared.file.FilePage.{FilePage}
@@ -14,7 +15,7 @@ cut_page (Some info) k page = trimmed (bytes_inside info.length k) page
 -- 1 to 127 pages inside their files, none twice
 pub record ArePages (files : ℕ → Option FileInfo) (list : List FilePage) : Type 0 where
   pub some : 0 < length list
-  pub few : length list ≤ 127
+  pub few : length list ≤ page_limit
   pub inside : (i : ℕ) (p : FilePage) → slice_get list i ≡ Some p → IsPageOf files p.file p.page
   pub distinct : (i j : ℕ) (p : FilePage) → i < j → slice_get list i ≡ Some p → slice_get list j ≡ Some p → ⊥
 

@@ -3,7 +3,7 @@ use Rattle.std.specs.Prelude.{ℕ, ◌+◌, ◌*◌, ◌%◌, ◌<◌, ◌≤◌
 use Rattle.std.specs.Option.{option_map}
 use Rattle.vm_types.specs.declared.file.FileInfo.{FileInfo}
 use Rattle.disk_model.specs.Stop.{Image}
-use Rattle.sync_journal.specs.Layout.{home_count, home_sector, gate_sector}
+use Rattle.sync_journal.specs.Layout.{home_count, home_sector, gate_sector, first_home_sector}
 use Rattle.sync_journal.specs.Standing.{IsBadJournal, sector_of}
 use Rattle.file_store.specs.declared.directory.Entry.{Entry}
 use Rattle.file_store.specs.declared.sources.FileSource.{FileSource}
@@ -54,7 +54,7 @@ module _ {R : Type 0} where
   -- No store on so many sectors holds these files.
   pub data IsTooLarge (sectors : ℕ) (sources : List (FileSource R)) : Type 0 where
     TooManyFiles : 64 < length sources → IsTooLarge sectors sources
-    TooFewSectors : sectors < 1020 → IsTooLarge sectors sources
+    TooFewSectors : sectors < first_home_sector → IsTooLarge sectors sources
     TooManyPages : home_count sectors < total_pages sources → IsTooLarge sectors sources
 
   -- the bytes that a source tells: none, and so zeros, where there is no reader

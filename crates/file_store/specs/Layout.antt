@@ -1,5 +1,6 @@
 -- Pages of files, and the mark of a store. The format is our own.
 use Rattle.std.specs.Prelude.{ℕ, ◌+◌, ◌-◌, ◌*◌, ◌/◌, min, List, [], ◌∷◌, ◌++◌, take, length, replicate}
+pub use Rattle.vm_types.specs.Files.{bytes_inside}
 use Rattle.sync_journal.specs.Gate.{repeated}
 
 -- sector 0 of every store: the bytes `FAMSYNC1`, 64 times
@@ -9,10 +10,6 @@ mark = repeated 64 (70 ∷ 65 ∷ 77 ∷ 83 ∷ 89 ∷ 78 ∷ 67 ∷ 49 ∷ [])
 -- how many pages of 4,096 bytes a file of so many bytes has, the last one in part perhaps
 abbrev pub page_count : ℕ → ℕ
 page_count length = (length + 4095) / 4096
-
--- how many bytes of page k lie inside a file of so many bytes
-abbrev pub bytes_inside : ℕ → ℕ → ℕ
-bytes_inside length k = min 4096 (length - 4096 * k)
 
 -- a page of 4,096 bytes that has the first n of these and then zeros
 unfoldable pub trimmed : ℕ → List ℕ → List ℕ

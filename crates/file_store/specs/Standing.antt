@@ -3,7 +3,7 @@ use Rattle.std.specs.Prelude.{ℕ, ◌+◌, ◌*◌, ◌^◌, ◌<◌, ◌≡◌
 use Rattle.std.specs.Option.{option_map}
 use Rattle.vm_types.specs.declared.file.FileInfo.{FileInfo}
 use Rattle.disk_model.specs.Stop.{Image}
-use Rattle.sync_journal.specs.Layout.{home_count}
+use Rattle.sync_journal.specs.Layout.{home_count, first_home_sector}
 use Rattle.sync_journal.specs.Standing.{standing, joined, IsBadJournal}
 use Rattle.file_store.specs.declared.directory.Entry.{Entry}
 use Rattle.file_store.specs.Layout.{mark, page_count, bytes_inside, trimmed}
@@ -11,7 +11,7 @@ use Rattle.file_store.specs.Directory.{entry_in, IsBadDirectory}
 
 -- An image without the layout of a store: the device is too small, the mark is missing, or the directory is bad.
 pub data IsBadLayout (sectors : ℕ) (image : Image) : Type 0 where
-  TooSmall : sectors < 1020 → IsBadLayout sectors image
+  TooSmall : sectors < first_home_sector → IsBadLayout sectors image
   Unmarked : image 0 ≢ mark → IsBadLayout sectors image
   BadDirectory : IsBadDirectory (home_count sectors) (image 1) → IsBadLayout sectors image
 

@@ -3,7 +3,7 @@ use Rattle.std.specs.Prelude.{ℕ, ◌+◌, ◌*◌, ◌^◌, ◌<◌, ◌≤◌
 use Rattle.std.specs.Option.{option_map}
 use Rattle.vm_types.specs.declared.file.FileInfo.{FileInfo}
 use Rattle.disk_model.specs.declared.sector_disk.SectorDisk.{Ghosts}
-use Rattle.sync_journal.specs.Layout.{home_count, IsOutside}
+use Rattle.sync_journal.specs.Layout.{home_count, IsOutside, first_home_sector}
 use Rattle.sync_journal.specs.Commit.{HomesStandAs, IsQuiet, IsAtRest as IsJournalAtRest}
 use Rattle.sync_journal.specs.Journal.{live_homes}
 use Rattle.sync_journal.specs.Map.{AreHomes}
@@ -36,7 +36,7 @@ module _ {D : Type 0} (g : Ghosts D) where
 
   -- The store may be read and committed to.
   pub record IsReadyStore (store : FileStore D) : Type 0 where
-    pub room : 1020 ≤ g.sector_count store.disk
+    pub room : first_home_sector ≤ g.sector_count store.disk
     pub sound : IsSoundDirectory (home_count (g.sector_count store.disk)) (entry_of store.directory)
     pub live : AreHomes (home_count (g.sector_count store.disk)) (live_homes store.journal)
     pub at_rest : g.keeps_model store.disk → IsAtRest store
@@ -71,7 +71,7 @@ home_of directory p = home_in (entry_of directory p.file) p.page
 module _ {D : Type 0} (g : Ghosts D) where
   -- What opening leaves: the device at rest with this directory, and what stood for its homes.
   pub record IsMounted (old new : D) (directory : Directory) : Type 0 where
-    pub room : 1020 ≤ g.sector_count old
+    pub room : first_home_sector ≤ g.sector_count old
     pub sound : IsSoundDirectory (home_count (g.sector_count old)) (entry_of directory)
     pub quiet : g.keeps_model new → IsQuiet g new
     pub same : g.keeps_model new → (f : ℕ) → entry_of directory f ≡ directory_entry (g.content new) f

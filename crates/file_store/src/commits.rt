@@ -3,7 +3,7 @@ ghost use Rattle.std.specs.Prelude.{◌≡◌, ◌<◌, ◌≤◌, ℕ, List, Op
 ghost use Rattle.vm_types.specs.declared.file.FileInfo.{FileInfo};
 ghost use Rattle.vm_types.specs.declared.file.FilePage.{FilePage};
 ghost use Rattle.disk_model.specs.Moments.{LeavesOnly, LeavesNow, Touches};
-ghost use Rattle.sync_journal.specs.Layout.{IsCommitted};
+ghost use Rattle.sync_journal.specs.Layout.{IsCommitted, page_limit};
 ghost use Rattle.sync_journal.specs.Journal.{live_homes};
 ghost use Rattle.sync_journal.specs.Commit.{HomesStandAs};
 ghost use Rattle.sync_journal.specs.Source.{HasCauses, Asks};
@@ -87,7 +87,7 @@ impl<D: SectorDisk> FileStore<D> {
 
 /// The home pages of these pages, which begin inside their files, one after the other.
 fn homes_of(directory: &Directory, pages: &[FilePage]) -> [u32; PAGE_LIMIT]
-    requires few { length pages.now ≤ 127 }
+    requires few { length pages.now ≤ page_limit }
     requires inside { (i : ℕ) (p : FilePage) → slice_get pages.now i ≡ Some p → IsEntryPage directory.now p }
     ensures { (i : ℕ) (p : FilePage) → slice_get pages.now i ≡ Some p → slice_index result i ≡ home_of directory.now p }
 {

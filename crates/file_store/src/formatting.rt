@@ -1,7 +1,7 @@
 //! New stores.
 ghost use Rattle.std.specs.Prelude.{◌≡◌, ◌≢◌, ◌+◌, ◌<◌, ◌≤◌, ◌⊎◌, ◌↔◌, ℕ, List, Some, OnOk, OnErr, IsErr, IsErrOf, IsSome, length, replicate};
 ghost use Rattle.disk_model.specs.Moments.{Touches, Nothing, LeavesOnly};
-ghost use Rattle.sync_journal.specs.Layout.{home_count, home_sector};
+ghost use Rattle.sync_journal.specs.Layout.{home_count, home_sector, first_home_sector, gate_sector};
 ghost use Rattle.sync_journal.specs.Runs.{Runs};
 ghost use Rattle.file_store.specs.Layout.{mark, page_count};
 ghost use Rattle.file_store.specs.Format.{info_of, total_pages, IsTooLarge, IsStoreOf, IsStoreIfMarked, IsUnmarkedStoreOf, HoldsFiles, HoldsPages, HasReader, AreWhole, reader_tells, IsFrom, IsMarkSector, IsLayoutSector};
@@ -88,7 +88,7 @@ fn write_unmarked<D: SectorDisk, R: Read>(
     sources: &mut [FileSource<R>],
 ) -> Result<(), FormatFault>
     requires files { length sources.old ≤ 64 }
-    requires room { 1020 ≤ D.sector_count disk.old }
+    requires room { first_home_sector ≤ D.sector_count disk.old }
     requires homes { total_pages sources.old ≤ home_count (D.sector_count disk.old) }
     ensures run { Runs D.SectorDisk (IsFrom 1) disk.old disk.new }
     ensures device { IsErrOf result FormatFault.Device → D.failures disk.old < D.failures disk.new }
@@ -111,7 +111,7 @@ fn write_homes<D: SectorDisk, R: Read>(
     sources: &mut [FileSource<R>],
 ) -> Result<(), FormatFault>
     requires { total_pages sources.old ≤ home_count (D.sector_count disk.old) }
-    ensures run { Runs D.SectorDisk (IsFrom 1020) disk.old disk.new }
+    ensures run { Runs D.SectorDisk (IsFrom first_home_sector) disk.old disk.new }
     ensures device { IsErrOf result FormatFault.Device → D.failures disk.old < D.failures disk.new }
     ensures calm { OnOk result (D.failures disk.new ≡ D.failures disk.old) }
     ensures others { OnErr result (IsErrOf result FormatFault.Source ⊎ IsErrOf result FormatFault.Device) }
@@ -157,12 +157,12 @@ fn write_layout<D: SectorDisk>(
     disk: &mut D,
     directory: &[u8; SECTOR_BYTES],
 ) -> Result<(), DiskFault>
-    requires { 1020 ≤ D.sector_count disk.old }
+    requires { first_home_sector ≤ D.sector_count disk.old }
     ensures run { Runs D.SectorDisk IsLayoutSector disk.old disk.new }
     ensures failed { IsErr result → D.failures disk.old < D.failures disk.new }
     ensures calm { OnOk result (D.failures disk.new ≡ D.failures disk.old) }
     ensures directory { D.keeps_model disk.new → OnOk result (D.content disk.new 1 ≡ directory.now) }
-    ensures gate { D.keeps_model disk.new → OnOk result (D.content disk.new 2 ≡ replicate 512 0) }
+    ensures gate { D.keeps_model disk.new → OnOk result (D.content disk.new gate_sector ≡ replicate 512 0) }
     ensures synced { D.keeps_model disk.new → OnOk result ((k : ℕ) → D.unsynced disk.new k → ⊥) }
 {
     disk.write(DIRECTORY_SECTOR, directory)?;

@@ -3,7 +3,7 @@ ghost use Rattle.std.specs.Prelude.{◌≡◌, ◌<◌, ◌≤◌, ℕ, IfOk, If
 ghost use Rattle.disk_model.specs.Stop.{Image};
 ghost use Rattle.disk_model.specs.Moments.{Touches, Nothing, LeavesOnly, LeavesNow};
 ghost use Rattle.sync_journal.specs.Standing.{IsBadJournal};
-ghost use Rattle.sync_journal.specs.Layout.{home_count as homes_of};
+ghost use Rattle.sync_journal.specs.Layout.{home_count as homes_of, first_home_sector};
 ghost use Rattle.sync_journal.specs.Commit.{HomesStandAs, KeepsHomes};
 ghost use Rattle.file_store.specs.Directory.{IsSoundDirectory};
 ghost use Rattle.file_store.specs.Standing.{IsBadLayout, StandsAs, AreBounded, directory_entry};
@@ -110,7 +110,7 @@ fn read_layout<D: SectorDisk>(disk: &mut D) -> Result<Directory, OpenFault>
     ensures kept { D.keeps_model disk.new → D.keeps_model disk.old }
     ensures later { D.failures disk.old ≤ D.failures disk.new }
     ensures touches { D.keeps_model disk.new → Touches D.SectorDisk Nothing disk.old disk.new }
-    ensures room { OnOk result (1020 ≤ D.sector_count disk.old) }
+    ensures room { OnOk result (first_home_sector ≤ D.sector_count disk.old) }
     ensures sound { IfOk result (λ directory. IsSoundDirectory (homes_of (D.sector_count disk.old)) (entry_of directory)) }
     ensures entries { D.keeps_model disk.new → IfOk result (λ directory. (f : ℕ) → entry_of directory f ≡ directory_entry (D.content disk.old) f) }
     ensures good { D.keeps_model disk.new → OnOk result (IsBadLayout (D.sector_count disk.old) (D.content disk.old) → ⊥) }

@@ -19,9 +19,6 @@ bit_set : (e : ℕ) → can_write e ≡ true → e / 4 % 2 ≡ 1
 unfolding has_bit
 bit_set e write = eqb-true (e / 4 % 2) 1 write
 
-pub least_written : (e : ℕ) → can_write e ≡ true → 4 ≤ e
-least_written e write = let set = bit_set e write in omega (arith, set)
-
 bit_zero : (e : ℕ) → e / 4 % 2 ≡ 1 → has_bit (e - 4) 0 ≡ has_bit e 0
 unfolding has_bit
 bit_zero e set = let same : (e - 4) / 1 % 2 ≡ e / 1 % 2 = omega (arith, set) in ap (λ x. x == 1) same

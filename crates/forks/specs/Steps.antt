@@ -1,5 +1,6 @@
 -- What the steps of a fork leave.
 use Rattle.std.specs.Prelude.{◌≡◌, ◌≢◌, ℕ, ◌+◌, ◌-◌, ◌*◌, ◌/◌, ◌<◌, ◌≤◌, ◌^◌, ◌⊎◌, true, false, Some, ◌&&◌, if◌then◌else◌}
+use Rattle.vm_types.specs.Limits.{top_level, user_start, user_end}
 use Rattle.sv39_walk.specs.Entry.{is_valid, can_read, can_write, can_execute, frame_of}
 use Rattle.page_tables.specs.Tree.{IsPage}
 use Rattle.page_tables.specs.Places.{IsTableOf}
@@ -36,7 +37,7 @@ pub record Weakens (e e' : ℕ) : Type 0 where
 pub record MapsAlike (old new : Picture) (parent child : ℕ) : Type 0 where
   pub root : (q : ℕ) → new.root q ≡ old.root q
   pub same : (page : ℕ) → new.at child page ≡ new.at parent page
-  pub bare : (page : ℕ) → IsPage 2 page → entry new child page ≡ 0
+  pub bare : (page : ℕ) → IsPage top_level page → entry new child page ≡ 0
   pub entries : (q page : ℕ) → entry new q page ≡ entry old q page
   pub views : (q page : ℕ) → q ≢ child → view new q page ≡ view old q page
   pub files : KeepsFiles old new
@@ -48,30 +49,30 @@ pub record Withdraws (old new : Picture) (pid page number : ℕ) : Type 0 where
   pub private : is_private number ≡ true
   pub frame : frame_of number ≡ frame_of (entry old pid page)
   pub unwritten : is_valid number ≡ true → can_write number ≡ false
-  pub others : (q p : ℕ) → IsPage 2 p → (q ≢ pid) ⊎ (p ≢ page) → entry new q p ≡ entry old q p
+  pub others : (q p : ℕ) → IsPage top_level p → (q ≢ pid) ⊎ (p ≢ page) → entry new q p ≡ entry old q p
   pub views : (q p : ℕ) → view new q p ≡ view old q p
 
 -- Of the entries of all processes but the child, that of one page of the parent alone may be another one, as the entry of a
 -- shared page.
 pub record LowersPage (old new : Picture) (parent child page : ℕ) : Type 0 where
   pub here : entry new parent page ≡ lowered_entry (entry old parent page)
-  pub others : (q p : ℕ) → IsPage 2 p → q ≢ child → (q ≢ parent) ⊎ (p ≢ page) → entry new q p ≡ entry old q p
+  pub others : (q p : ℕ) → IsPage top_level p → q ≢ child → (q ≢ parent) ⊎ (p ≢ page) → entry new q p ≡ entry old q p
 
 -- A page of the child shows what it shows the parent, and every other page is as it was.
 pub record GivesPage (old new : Picture) (parent child page : ℕ) : Type 0 where
   pub shown : view new child page ≡ view old parent page
   pub given : entry new child page ≡ given_entry (entry old parent page)
   pub others : (q p : ℕ) → (q ≢ child) ⊎ (p ≢ page) → view new q p ≡ view old q p
-  pub bare : (p : ℕ) → IsPage 2 p → p ≢ page → entry new child p ≡ entry old child p
+  pub bare : (p : ℕ) → IsPage top_level p → p ≢ page → entry new child p ≡ entry old child p
 
 -- Each entry of the parent is that of a shared page, and those of the child are given from them.
 pub record CopiesEntries (old new : Picture) (parent child : ℕ) : Type 0 where
-  pub lowered : (page : ℕ) → IsPage 2 page → entry new parent page ≡ lowered_entry (entry old parent page)
-  pub given : (page : ℕ) → IsPage 2 page → entry new child page ≡ given_entry (entry old parent page)
+  pub lowered : (page : ℕ) → IsPage top_level page → entry new parent page ≡ lowered_entry (entry old parent page)
+  pub given : (page : ℕ) → IsPage top_level page → entry new child page ≡ given_entry (entry old parent page)
 
 -- the process has a copy of its own of a page
 abbrev pub HasCopy : Picture → ℕ → ℕ → Type 0
-HasCopy c pid page = IsPage 2 page × (is_private (entry c pid page) ≡ true)
+HasCopy c pid page = IsPage top_level page × (is_private (entry c pid page) ≡ true)
 
 -- the same, of that one page
 abbrev pub HasThisCopy : Picture → ℕ → ℕ → ℕ → Type 0
@@ -88,15 +89,15 @@ IsTableFor c pid row n = (r : ℕ) → c.root pid ≡ Some r → IsTableOf c.fra
 -- Each entry of the parent is as it was, or that of a shared page.
 abbrev pub LowersSome : Picture → Picture → ℕ → Type 0
 LowersSome old new parent =
-    (page : ℕ) → IsPage 2 page → (entry new parent page ≡ entry old parent page) ⊎ (entry new parent page ≡ lowered_entry (entry old parent page))
+    (page : ℕ) → IsPage top_level page → (entry new parent page ≡ entry old parent page) ⊎ (entry new parent page ≡ lowered_entry (entry old parent page))
 
 -- each entry is as it was but for those of parent and child
 abbrev pub KeepsEntriesBut : Picture → Picture → ℕ → ℕ → Type 0
-KeepsEntriesBut old new parent child = (q page : ℕ) → IsPage 2 page → q ≢ parent → q ≢ child → entry new q page ≡ entry old q page
+KeepsEntriesBut old new parent child = (q page : ℕ) → IsPage top_level page → q ≢ parent → q ≢ child → entry new q page ≡ entry old q page
 
 -- of the entries of the parent those below that page are as they were, and each other one is, or it is that of a shared page
 pub record LowersFrom (old new : Picture) (parent child page : ℕ) : Type 0 where
-  pub below : (p : ℕ) → IsPage 2 p → p < page → entry new parent p ≡ entry old parent p
+  pub below : (p : ℕ) → IsPage top_level p → p < page → entry new parent p ≡ entry old parent p
   pub some : LowersSome old new parent
   pub others : KeepsEntriesBut old new parent child
 
@@ -106,17 +107,17 @@ IsNextPage c parent page next = (IsWhole c parent page × (next ≡ (page / 512 
 
 -- the entries of the pages from one up to, not including, another
 pub record CopiesUpTo (old new : Picture) (parent child page next : ℕ) : Type 0 where
-  pub lowered : (p : ℕ) → page ≤ p → p < next → p < 2 ^ 26 → entry new parent p ≡ lowered_entry (entry old parent p)
-  pub beside : (p : ℕ) → IsPage 2 p → (p < page) ⊎ (next ≤ p) → entry new parent p ≡ entry old parent p
-  pub given : (p : ℕ) → page ≤ p → p < next → p < 2 ^ 26 → entry new child p ≡ given_entry (entry old parent p)
-  pub below : (p : ℕ) → p < page → p < 2 ^ 26 → entry new child p ≡ entry old child p
+  pub lowered : (p : ℕ) → page ≤ p → p < next → p < user_end → entry new parent p ≡ lowered_entry (entry old parent p)
+  pub beside : (p : ℕ) → IsPage top_level p → (p < page) ⊎ (next ≤ p) → entry new parent p ≡ entry old parent p
+  pub given : (p : ℕ) → page ≤ p → p < next → p < user_end → entry new child p ≡ given_entry (entry old parent p)
+  pub below : (p : ℕ) → p < page → p < user_end → entry new child p ≡ entry old child p
   pub others : KeepsEntriesBut old new parent child
 
 -- the entries of the pages below one, since a fork began
 pub record CopiesBelow (start now : Picture) (parent child page : ℕ) : Type 0 where
-  pub lowered : (p : ℕ) → p < page → p < 2 ^ 26 → entry now parent p ≡ lowered_entry (entry start parent p)
-  pub above : (p : ℕ) → IsPage 2 p → page ≤ p → entry now parent p ≡ entry start parent p
-  pub given : (p : ℕ) → p < page → p < 2 ^ 26 → entry now child p ≡ given_entry (entry start parent p)
+  pub lowered : (p : ℕ) → p < page → p < user_end → entry now parent p ≡ lowered_entry (entry start parent p)
+  pub above : (p : ℕ) → IsPage top_level p → page ≤ p → entry now parent p ≡ entry start parent p
+  pub given : (p : ℕ) → p < page → p < user_end → entry now child p ≡ given_entry (entry start parent p)
   pub others : KeepsEntriesBut start now parent child
 
 -- Each page of the child shows what it shows the parent, and every page of another process is as it was.
@@ -128,13 +129,13 @@ pub record GivesPages (old new : Picture) (parent child : ℕ) : Type 0 where
 pub record GivesUpTo (old new : Picture) (parent child page next : ℕ) : Type 0 where
   pub shown : (p : ℕ) → page ≤ p → p < next → view new child p ≡ view old parent p
   pub below : (p : ℕ) → p < page → view new child p ≡ view old child p
-  pub bare : (p : ℕ) → next ≤ p → p < 2 ^ 26 → entry new child p ≡ 0
+  pub bare : (p : ℕ) → next ≤ p → p < user_end → entry new child p ≡ 0
 
 -- The same of the pages below one, which is no page below the user pages, since a fork began.
 pub record GivesBelow (start now : Picture) (parent child page : ℕ) : Type 0 where
-  pub from : 16 ≤ page
+  pub from : user_start ≤ page
   pub shown : (p : ℕ) → p < page → view now child p ≡ view start parent p
-  pub bare : (p : ℕ) → page ≤ p → p < 2 ^ 26 → entry now child p ≡ 0
+  pub bare : (p : ℕ) → page ≤ p → p < user_end → entry now child p ≡ 0
   pub others : (q p : ℕ) → q ≢ child → view now q p ≡ view start q p
   pub spaces : KeepsSpaces start now
   pub files : KeepsFiles start now

@@ -1,5 +1,6 @@
 //! The parent's own pages, given to the child.
 ghost use Rattle.std.specs.Prelude.{◌≡◌, ◌≢◌, ℕ, ◌+◌, ◌*◌, ◌/◌, ◌<◌, ◌≤◌, ◌^◌, true, Some, OnOk, OnErr, IfOk, IfErr, IfSome};
+ghost use Rattle.vm_types.specs.Limits.{user_end};
 ghost use Rattle.vm_types.specs.declared.refusal.Stall.TheVariants.{NoFrames};
 ghost use Rattle.residency.specs.Picture.{picture_of, entry, is_live, view};
 ghost use Rattle.residency.specs.Parts.{IsFit};
@@ -26,7 +27,7 @@ pub(crate) fn share_pages<D, E>(core: &mut Core<D, E>, parent: Pid, child: Pid) 
     requires child { is_live (picture_of core.old) child ≡ true }
     requires apart { parent ≢ child }
     requires same { (page : ℕ) → (picture_of core.old).at child page ≡ (picture_of core.old).at parent page }
-    requires bare { (page : ℕ) → page < 2 ^ 26 → entry (picture_of core.old) child page ≡ 0 }
+    requires bare { (page : ℕ) → page < user_end → entry (picture_of core.old) child page ≡ 0 }
     ensures fit { IsFit (picture_of core.new) }
     ensures given { OnOk result (GivesPages (picture_of core.old) (picture_of core.new) parent child) }
     ensures copied { OnOk result (CopiesEntries (picture_of core.old) (picture_of core.new) parent child) }
@@ -58,7 +59,7 @@ fn share_next<D, E>(core: &mut Core<D, E>, parent: Pid, child: Pid, page: Vpn) -
     requires child { is_live (picture_of core.old) child ≡ true }
     requires apart { parent ≢ child }
     requires same { (p : ℕ) → (picture_of core.old).at child p ≡ (picture_of core.old).at parent p }
-    requires bare { (p : ℕ) → page ≤ p → p < 2 ^ 26 → entry (picture_of core.old) child p ≡ 0 }
+    requires bare { (p : ℕ) → page ≤ p → p < user_end → entry (picture_of core.old) child p ≡ 0 }
     ensures fit { IsFit (picture_of core.new) }
     ensures further { IfOk result (λ next. page < next) }
     ensures given { IfOk result (λ next. GivesUpTo (picture_of core.old) (picture_of core.new) parent child page next) }
@@ -99,7 +100,7 @@ fn share_table<D, E>(
     requires child { is_live (picture_of core.old) child ≡ true }
     requires apart { parent ≢ child }
     requires same { (p : ℕ) → (picture_of core.old).at child p ≡ (picture_of core.old).at parent p }
-    requires bare { (p : ℕ) → start ≤ p → p < 2 ^ 26 → entry (picture_of core.old) child p ≡ 0 }
+    requires bare { (p : ℕ) → start ≤ p → p < user_end → entry (picture_of core.old) child p ≡ 0 }
     requires whole { IsWhole (picture_of core.old) parent start }
     requires one_table { end ≡ (start / 512 + 1) * 512 }
     ensures fit { IsFit (picture_of core.new) }

@@ -11,14 +11,9 @@ ghost use Rattle.page_entries.specs.Tables.{KeepsTables};
 ghost use Rattle.processes.specs.Changes.{TakesNoCopy};
 ghost use Rattle.forks.specs.Steps.{IsTableFor, Weakens, Withdraws};
 
-use page_entries::is_private;
 use page_tables::{Entry, set_in};
 use residency::Core;
-use sv39_walk::Pte;
 use vm_types::{FrameNo, Pid, Vpn};
-
-/// W of a leaf, by its weight (RISC-V Privileged Specification, "Sv39 page table entry").
-const WRITE: u64 = 4;
 
 /// Whether a page lies in a frame of the process's own, by the bit that is the software's (RISC-V Privileged Specification,
 /// "Sv39 page table entry", RSW).
@@ -26,7 +21,7 @@ pub(crate) fn is_own(entry: Entry) -> bool
     ensures { result ≡ is_private (number_of entry) }
 {
     match entry {
-        Entry::Leaf(leaf) => is_private(leaf),
+        Entry::Leaf(leaf) => leaf.is_private(),
         Entry::Parked(_, private) => private,
         Entry::None | Entry::Swapped(_) => false,
     }
@@ -80,7 +75,7 @@ fn without_write(entry: Entry) -> Option<Entry>
     if !leaf.is_writable() {
         return None;
     }
-    Some(Entry::Leaf(Pte::from_u64(leaf.to_u64() - WRITE)))
+    Some(Entry::Leaf(leaf.without_write()))
 }
 
 /// The frame of a page that lies in one (RISC-V Privileged Specification, "Sv39 page table entry"; our own form where the
@@ -92,7 +87,7 @@ pub(crate) fn frame_of(entry: Entry) -> FrameNo
     ensures { result.0 ≡ frame_of (number_of entry) }
 {
     match entry {
-        Entry::Leaf(leaf) => FrameNo(leaf.frame() as u32),
+        Entry::Leaf(leaf) => leaf.frame_number(),
         Entry::Parked(frame, _) => frame,
         Entry::None | Entry::Swapped(_) => unreachable!(),
     }

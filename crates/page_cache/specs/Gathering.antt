@@ -1,5 +1,6 @@
 -- Lists of the touched pages of rows: a row is so many pages of one file, from some page on.
 use Rattle.std.specs.Prelude.{◌≡◌, ◌≢◌, ℕ, ◌+◌, ◌<◌, ◌≤◌, ◌⊎◌, Bool, true, not, ◌&&◌, List, slice_index_or, slice_set}
+use Rattle.vm_types.specs.Limits.{msync_pages}
 use Rattle.vm_types.specs.declared.file.FilePage.{FilePage}
 use Rattle.vm_types.specs.Attributes.{file_page_eq}
 use Rattle.vm_types.specs.Counting.{any_below, count_below}
@@ -36,7 +37,7 @@ fresh_count t file first count list used = count_below (λ k. is_fresh t list us
 -- was among the first `used`. All other entries are as they were.
 pub record Gathers (t : CacheTable) (file first count used : ℕ) (old new : List FilePage) (n : ℕ) : Type 0 where
   pub longer : used ≤ n
-  pub most : n ≤ 127
+  pub most : n ≤ msync_pages
   pub kept : (i : ℕ) → i < used → entry new i ≡ entry old i
   pub rest : (i : ℕ) → n ≤ i → entry new i ≡ entry old i
   pub touched : (i : ℕ) → used ≤ i → i < n → IsTouchedIn t file first count (entry new i)
@@ -48,13 +49,13 @@ HasAll t file first count list n = (page : FilePage) → IsTouchedIn t file firs
 
 -- all 127 entries are used, and a touched page of the row isn't among them
 pub record Overflows (t : CacheTable) (file first count used : ℕ) (old new : List FilePage) : Type 0 where
-  pub full : Gathers t file first count used old new 127
+  pub full : Gathers t file first count used old new msync_pages
   pub missing : FilePage
   pub touched : IsTouchedIn t file first count missing
-  pub absent : IsListed new 127 missing → ⊥
+  pub absent : IsListed new msync_pages missing → ⊥
 
 -- the page was among the first `used`, and nothing changed, or it is the entry n now
 abbrev pub Pushes : List FilePage → List FilePage → ℕ → ℕ → FilePage → ℕ → Type 0
 Pushes old new used n page m =
     ((m ≡ n) × (new ≡ old) × IsListed old used page)
-    ⊎ ((m ≡ n + 1) × (n < 127) × (new ≡ slice_set old n page) × (IsListed old used page → ⊥))
+    ⊎ ((m ≡ n + 1) × (n < msync_pages) × (new ≡ slice_set old n page) × (IsListed old used page → ⊥))

@@ -37,6 +37,7 @@ impl PageCache {
     ghost use Rattle.page_cache.specs.declared.place.Place.TheVariants.{Home, Frame, Slot};
     ghost use Rattle.page_cache.specs.Gathering.{Gathers, HasAll, Overflows, fresh_count};
     ghost use Rattle.page_cache.specs.CacheTable.{frame_count, slot_count, place_in, place_of, is_touched, IsInside, IsFreeFor, IsSoundCache, IsFresh, SameButFor};
+    ghost use Rattle.vm_types.specs.Limits.{msync_pages};
 
     /// The cache of a memory of `frames` frames, 8 to 65,536, and of `slots` slots of swap, at most 65,536, with every file
     /// page at home and untouched. No later call takes memory of the host.
@@ -169,12 +170,12 @@ impl PageCache {
         list: &mut [FilePage; MSYNC_PAGES],
         used: usize,
     ) -> Result<usize, TooMany>
-        requires used { used ≤ 127 }
+        requires used { used ≤ msync_pages }
         requires row { first + count ≤ 2 ^ 32 }
         ensures gathered { IfOk result (λ n. Gathers self.now file first count used list.old list.new n) }
         ensures all { IfOk result (λ n. HasAll self.now file first count list.new n) }
         ensures number { IfOk result (λ n. n ≡ used + fresh_count self.now file first count list.old used) }
-        ensures exact { IsErr result ↔ (127 < used + fresh_count self.now file first count list.old used) }
+        ensures exact { IsErr result ↔ (msync_pages < used + fresh_count self.now file first count list.old used) }
         ensures too_many { OnErr result (Overflows self.now file first count used list.old list.new) }
     {
         if count < self.touched.len() {
@@ -193,7 +194,7 @@ impl PageCache {
         list: &mut [FilePage; MSYNC_PAGES],
         used: usize,
     ) -> Result<usize, TooMany>
-        requires used { used ≤ 127 }
+        requires used { used ≤ msync_pages }
         requires row { first + count ≤ 2 ^ 32 }
         ensures gathered { IfOk result (λ n. Gathers self.now file first count used list.old list.new n) }
         ensures all { IfOk result (λ n. HasAll self.now file first count list.new n) }
@@ -221,7 +222,7 @@ impl PageCache {
         list: &mut [FilePage; MSYNC_PAGES],
         used: usize,
     ) -> Result<usize, TooMany>
-        requires { used ≤ 127 }
+        requires { used ≤ msync_pages }
         ensures gathered { IfOk result (λ n. Gathers self.now file first count used list.old list.new n) }
         ensures all { IfOk result (λ n. HasAll self.now file first count list.new n) }
         ensures too_many { OnErr result (Overflows self.now file first count used list.old list.new) }

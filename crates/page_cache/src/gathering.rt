@@ -1,5 +1,6 @@
 //! Lists of file pages that an msync gathers row by row.
 ghost use Rattle.std.specs.Prelude.{◌≡◌, ◌+◌, ◌≤◌, ◌^◌, ◌↔◌, IfOk, OnErr, IsTrue};
+ghost use Rattle.vm_types.specs.Limits.{msync_pages};
 ghost use Rattle.page_cache.specs.Gathering.{IsInRow, IsListed, Pushes};
 
 use crate::index::is_same;
@@ -15,7 +16,7 @@ pub(crate) fn is_in_row(page: FilePage, file: u8, first: u32, count: u32) -> boo
 
 /// Whether the page is among the first `used` entries.
 fn is_listed(list: &[FilePage; MSYNC_PAGES], used: usize, page: FilePage) -> bool
-    requires { used ≤ 127 }
+    requires { used ≤ msync_pages }
     ensures { IsTrue result ↔ IsListed list.now used page }
 {
     for at in 0..used {
@@ -37,9 +38,9 @@ pub(crate) fn push_fresh(
     page: FilePage,
 ) -> Result<usize, TooMany>
     requires used { used ≤ n }
-    requires most { n ≤ 127 }
+    requires most { n ≤ msync_pages }
     ensures pushed { IfOk result (λ m. Pushes list.old list.new used n page m) }
-    ensures full { OnErr result (n ≡ 127) }
+    ensures full { OnErr result (n ≡ msync_pages) }
     ensures fresh { OnErr result (IsListed list.old used page → ⊥) }
     ensures err { OnErr result (list.new ≡ list.old) }
 {

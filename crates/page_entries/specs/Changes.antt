@@ -1,5 +1,6 @@
 -- What the calls on one page's entry need and leave.
 use Rattle.std.specs.Prelude.{◌≡◌, ◌≢◌, ℕ, ◌⊎◌, true, if◌then◌else◌, List, Some, None}
+use Rattle.vm_types.specs.Limits.{top_level}
 use Rattle.vm_types.specs.declared.file.FilePage.{FilePage}
 use Rattle.vm_types.specs.declared.number.FrameNo.{FrameNo}
 use Rattle.vm_types.specs.declared.region.Attr.{Attr}
@@ -21,8 +22,8 @@ use Rattle.page_entries.specs.Tables.{AddsTables}
 pub record IsReady (c : Picture) (pid page : ℕ) : Type 0 where
   pub steady : IsSteady c
   pub lives : c.root pid ≢ None
-  pub whole : (r : ℕ) → c.root pid ≡ Some r → missing_of c.frames 2 r page ≡ 0
-  pub tight : (r : ℕ) → c.root pid ≡ Some r → IsTightBut c.frames 2 r page
+  pub whole : (r : ℕ) → c.root pid ≡ Some r → missing_of c.frames top_level r page ≡ 0
+  pub tight : (r : ℕ) → c.root pid ≡ Some r → IsTightBut c.frames top_level r page
 
 -- every private frame and every frame of a file page is as it was, and there are no others
 pub record KeepsDataFrames (old new : FrameTable) : Type 0 where
@@ -49,7 +50,7 @@ KeepsEntries old new = (pid page : ℕ) → entry new pid page ≡ entry old pid
 
 -- every page but one has the entry that it had
 abbrev pub KeepsOtherEntries : Picture → Picture → ℕ → ℕ → Type 0
-KeepsOtherEntries old new pid page = (q p : ℕ) → IsPage 2 p → (q ≢ pid) ⊎ (p ≢ page) → entry new q p ≡ entry old q p
+KeepsOtherEntries old new pid page = (q p : ℕ) → IsPage top_level p → (q ≢ pid) ⊎ (p ≢ page) → entry new q p ≡ entry old q p
 
 -- the frame of a file page at that place
 abbrev pub frame_of_place : Place → ℕ
@@ -75,7 +76,7 @@ shown_bytes c pid page attr = bytes_of c.frames (shown_frame c (entry c pid page
 pub record IsUnderWay (c : Picture) (root page : ℕ) : Type 0 where
   pub steady : IsSteady c
   pub lives : (pid : ℕ) × (c.root pid ≡ Some root)
-  pub tight : IsTightBut c.frames 2 root page
+  pub tight : IsTightBut c.frames top_level root page
 
 -- tables were linked on the way from that root to the page, and nothing else changed
 pub record Builds (old new : Picture) (root page : ℕ) : Type 0 where
@@ -114,5 +115,5 @@ pub record TakesCopy (old new : Picture) (n page m : ℕ) : Type 0 where
   pub cache : (k : ℕ) → role_of old.frames k ≡ Role.Cache → role_of new.frames k ≡ Role.Cache
   pub private_bytes : (k : ℕ) → role_of old.frames k ≡ Role.Private → bytes_of new.frames k ≡ bytes_of old.frames k
   pub cache_bytes : (k : ℕ) → role_of old.frames k ≡ Role.Cache → bytes_of new.frames k ≡ bytes_of old.frames k
-  pub missing : (r p : ℕ) → IsRoot 2 old.frames r → missing_of new.frames 2 r p ≡ missing_of old.frames 2 r p
-  pub tight : (r p : ℕ) → IsTightBut old.frames 2 r p → IsTightBut new.frames 2 r p
+  pub missing : (r p : ℕ) → IsRoot top_level old.frames r → missing_of new.frames top_level r p ≡ missing_of old.frames top_level r p
+  pub tight : (r p : ℕ) → IsTightBut old.frames top_level r p → IsTightBut new.frames top_level r p

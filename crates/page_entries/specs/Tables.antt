@@ -1,5 +1,6 @@
 -- What is taken for tables, and when memory has too few frames for them.
 use Rattle.std.specs.Prelude.{◌≡◌, ◌≢◌, ℕ, ◌⊎◌, ◌↔◌}
+use Rattle.vm_types.specs.Limits.{top_level}
 use Rattle.frames.specs.declared.role.Role.TheVariants.{Free, Table}
 use Rattle.frames.specs.FrameTable.{FrameTable, IsFull, frame_count, role_of}
 use Rattle.page_tables.specs.Tree.{Points, IsBelowRoot, missing_of}
@@ -8,7 +9,7 @@ use Rattle.page_tables.specs.Tree.{Points, IsBelowRoot, missing_of}
 pub record IsNewTable (P : ℕ → Type 0) (old new : FrameTable) (root n : ℕ) : Type 0 where
   pub was_free : role_of old n ≡ Free
   pub table : role_of new n ≡ Table
-  pub place : (n ≡ root) ⊎ ((page : ℕ) × P page × IsBelowRoot new 2 root page n)
+  pub place : (n ≡ root) ⊎ ((page : ℕ) × P page × IsBelowRoot new top_level root page n)
 
 -- Such tables came, and every other frame has the use that it had. No pointer to a table went, and those that came lead to
 -- tables that came.
@@ -31,5 +32,5 @@ pub record FallsShort (P : ℕ → Type 0) (t : FrameTable) (root : ℕ) : Type 
   pub adds : AddsTables P t asked root
   pub page : ℕ
   pub wanted : P page
-  pub missing : missing_of asked 2 root page ≢ 0
+  pub missing : missing_of asked top_level root page ≢ 0
   pub full : IsFull asked

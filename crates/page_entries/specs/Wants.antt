@@ -1,5 +1,6 @@
 -- When an access to a page wants a frame, or the page from its home, and what is left of memory where it wants neither.
 use Rattle.std.specs.Prelude.{◌≡◌, ◌≢◌, ◌⊎◌, ◌&&◌, ◌==◌, ℕ, Bool, false, Some}
+use Rattle.vm_types.specs.Limits.{top_level}
 use Rattle.vm_types.specs.declared.access.Access.{Access}
 use Rattle.vm_types.specs.declared.access.Access.TheVariants.{Store}
 use Rattle.vm_types.specs.declared.file.FilePage.{FilePage}
@@ -18,7 +19,7 @@ use Rattle.residency.specs.Parts.{is_shared}
 
 -- no table is missing on the way to a page of a process
 abbrev pub IsWhole : Picture → ℕ → ℕ → Type 0
-IsWhole c pid page = (r : ℕ) → c.root pid ≡ Some r → missing_of c.frames 2 r page ≡ 0
+IsWhole c pid page = (r : ℕ) → c.root pid ≡ Some r → missing_of c.frames top_level r page ≡ 0
 
 -- whether the process with that entry is the only one to have its private frame
 abbrev pub is_sole : Picture → ℕ → Bool
@@ -40,7 +41,7 @@ pub record ShowsFile (c : Picture) (pid page : ℕ) (p : FilePage) : Type 0 wher
 -- An access to a page wants a frame: for a table on its way, for the file page that it shows and that lies in no frame, or for a
 -- store to a page that isn't shared and of which the process hasn't its frame alone.
 pub data Wants (c : Picture) (pid page : ℕ) (access : Access) : Type 0 where
-  ForTable : (r : ℕ) → c.root pid ≡ Some r → missing_of c.frames 2 r page ≢ 0 → Wants c pid page access
+  ForTable : (r : ℕ) → c.root pid ≡ Some r → missing_of c.frames top_level r page ≢ 0 → Wants c pid page access
   ForFile : (p : FilePage) → ShowsFile c pid page p → ((n : FrameNo) → c.place p ≢ Frame n) → Wants c pid page access
   ForStore : (attr : Attr) → access ≡ Store → c.at pid page ≡ Some attr → is_shared attr.backing ≡ false
       → is_sole c (entry c pid page) ≡ false → Wants c pid page access
@@ -59,4 +60,4 @@ module _ {D E : Type 0} where
     pub refused : new.refused.number ≡ old.refused.number
     pub frames : KeepsFrames old.frames new.frames
     pub place : (p : FilePage) → (picture_of new).place p ≡ (picture_of old).place p
-    pub others : (q p : ℕ) → IsPage 2 p → (q ≢ pid) ⊎ (p ≢ page) → entry (picture_of new) q p ≡ entry (picture_of old) q p
+    pub others : (q p : ℕ) → IsPage top_level p → (q ≢ pid) ⊎ (p ≢ page) → entry (picture_of new) q p ≡ entry (picture_of old) q p

@@ -82,12 +82,3 @@ fn bit(set: bool, value: u64) -> u64
 {
     if set { value } else { 0 }
 }
-
-/// Whether an entry names a frame as the process's own: bit 8, which is the software's (RISC-V Privileged Specification,
-/// "Sv39 page table entry", RSW).
-#[tactic(auto, using(std::proofs::lemmas::Nat::Bits::shr_and_one), unfolding(sv39_walk::specs::Entry::has_bit))]
-pub fn is_private(entry: Pte) -> bool
-    ensures { result ≡ is_private entry.0 }
-{
-    entry.to_u64() >> 8 & 1 == 1
-}

@@ -11,7 +11,7 @@ mod showing;
 #[cfg(test)]
 mod tests;
 
-pub use leaves::{Grant, entry_over, is_private};
+pub use leaves::{Grant, entry_over};
 pub use linking::{link_tables, root_of};
 pub use owning::own_frame;
-pub use showing::{ZERO_PAGE, is_shared, regrant, show_cached, show_zero, touch};
+pub use showing::{ZERO_PAGE, regrant, show_cached, show_zero, touch};

@@ -1,5 +1,6 @@
 //! The tables on the way to a page.
 ghost use Rattle.std.specs.Prelude.{ℕ, ◌≡◌, ◌≢◌, ◌+◌, ◌≤◌, None, Some, IfOk, IfErr, OnOk, OnErr};
+ghost use Rattle.vm_types.specs.Limits.{top_level};
 ghost use Rattle.vm_types.specs.declared.refusal.Stall.TheVariants.{NoFrames};
 ghost use Rattle.frames.specs.FrameTable.{FrameTable};
 ghost use Rattle.page_tables.specs.Tree.{missing_of};
@@ -45,7 +46,7 @@ pub fn link_tables<D, E>(core: &mut Core<D, E>, pid: Pid, page: Vpn) -> Result<(
     ensures rest { KeepsRest core.old core.new }
     ensures stalls { Stalls core.old core.new result }
     ensures idle { IsWhole (picture_of core.old) pid page → core.new ≡ core.old }
-    ensures wanted { OnErr result ((r : ℕ) → (picture_of core.old).root pid ≡ Some r → missing_of core.old.frames 2 r page ≢ 0) }
+    ensures wanted { OnErr result ((r : ℕ) → (picture_of core.old).root pid ≡ Some r → missing_of core.old.frames top_level r page ≢ 0) }
     ensures tables { OnOk result ((r : ℕ) → (picture_of core.old).root pid ≡ Some r → AddsTables (λ p. p ≡ page) core.old.frames core.new.frames r) }
     ensures returned { OnErr result (KeepsTables core.old.frames core.new.frames) }
     ensures short { OnErr result ((r : ℕ) → (picture_of core.old).root pid ≡ Some r → FallsShort (λ p. p ≡ page) core.old.frames r) }
@@ -64,11 +65,11 @@ pub fn link_tables<D, E>(core: &mut Core<D, E>, pid: Pid, page: Vpn) -> Result<(
 fn link_missing<D, E>(core: &mut Core<D, E>, root: FrameNo, page: Vpn) -> Result<(), Stall>
     requires under_way { IsUnderWay (picture_of core.old) root.0 page }
     ensures built { Builds (picture_of core.old) (picture_of core.new) root.0 page }
-    ensures whole { OnOk result (missing_of core.new.frames 2 root.0 page ≡ 0) }
+    ensures whole { OnOk result (missing_of core.new.frames top_level root.0 page ≡ 0) }
     ensures rest { KeepsRest core.old core.new }
     ensures stalls { Stalls core.old core.new result }
-    ensures idle { missing_of core.old.frames 2 root.0 page ≡ 0 → core.new ≡ core.old }
-    ensures wanted { OnErr result (missing_of core.old.frames 2 root.0 page ≢ 0) }
+    ensures idle { missing_of core.old.frames top_level root.0 page ≡ 0 → core.new ≡ core.old }
+    ensures wanted { OnErr result (missing_of core.old.frames top_level root.0 page ≢ 0) }
     ensures short { OnErr result (FallsShort (λ p. p ≡ page) core.old.frames root.0) }
 {
     while missing_tables(&core.frames, root, page) > 0 {
@@ -80,9 +81,9 @@ fn link_missing<D, E>(core: &mut Core<D, E>, root: FrameNo, page: Vpn) -> Result
 // Links a table in the highest missing place.
 fn link_one<D, E>(core: &mut Core<D, E>, root: FrameNo, page: Vpn) -> Result<(), Stall>
     requires under_way { IsUnderWay (picture_of core.old) root.0 page }
-    requires missing { missing_of core.old.frames 2 root.0 page ≢ 0 }
+    requires missing { missing_of core.old.frames top_level root.0 page ≢ 0 }
     ensures built { Builds (picture_of core.old) (picture_of core.new) root.0 page }
-    ensures lowered { OnOk result (missing_of core.new.frames 2 root.0 page + 1 ≡ missing_of core.old.frames 2 root.0 page) }
+    ensures lowered { OnOk result (missing_of core.new.frames top_level root.0 page + 1 ≡ missing_of core.old.frames top_level root.0 page) }
     ensures rest { KeepsRest core.old core.new }
     ensures stalls { Stalls core.old core.new result }
     ensures short { OnErr result (FallsShort (λ p. p ≡ page) core.old.frames root.0) }

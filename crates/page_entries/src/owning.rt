@@ -14,7 +14,6 @@ ghost use Rattle.page_entries.specs.Leaves.{IsEntryOver};
 ghost use Rattle.page_entries.specs.Changes.{IsReady, KeepsSpaces, KeepsOtherViews, KeepsOtherEntries, shown_frame, shown_bytes, TakesCopy};
 ghost use Rattle.page_entries.specs.Wants.{is_sole, IsCalm};
 
-use crate::leaves::is_private;
 use crate::linking::root_of;
 use crate::showing::{ZERO_PAGE, regrant, set_full};
 use frames::Frames;
@@ -69,14 +68,14 @@ pub fn own_frame<D, E>(
     let root = root_of(core, pid);
     let entry = entry_number(&core.frames, root, page);
     let shown = shown_frame(core, entry, attr.backing);
-    if is_private(entry) && core.frames.count(shown) == 1 {
+    if entry.is_private() && core.frames.count(shown) == 1 {
         regrant(core, pid, page, attr);
         return Ok(shown);
     }
     match take_copy(core, shown, page) {
         Ok(own) => {
             set_full(core, root, page, attr, own, true);
-            if is_private(entry) {
+            if entry.is_private() {
                 core.frames.release(shown);
             }
             Ok(own)
@@ -94,7 +93,7 @@ fn shown_frame<D, E>(core: &Core<D, E>, entry: Pte, backing: Backing) -> FrameNo
     requires in_memory { is_private entry.0 ≡ false → (n : ℕ) × IsBehind (picture_of core.now) backing n }
     ensures { result.0 ≡ shown_frame (picture_of core.now) entry.0 backing }
 {
-    if is_private(entry) {
+    if entry.is_private() {
         return FrameNo(entry.frame() as u32);
     }
     match backing {

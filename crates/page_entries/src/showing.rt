@@ -1,5 +1,6 @@
 //! Frames that stand behind a page, shown at it.
 ghost use Rattle.std.specs.Prelude.{◌≡◌, ◌≢◌, ℕ, None, Some, true, false};
+ghost use Rattle.vm_types.specs.Limits.{top_level};
 ghost use Rattle.vm_types.specs.Permission.{can_read, can_write};
 ghost use Rattle.vm_types.specs.declared.region.Backing.TheVariants.{Anon, Shared};
 ghost use Rattle.vm_types.specs.Verdict.{is_past_end};
@@ -16,7 +17,7 @@ ghost use Rattle.page_entries.specs.Leaves.{IsEntryOver, IsFullEntry, full_write
 ghost use Rattle.page_entries.specs.Changes.{IsReady, KeepsDataFrames, KeepsSpaces, KeepsViews, KeepsOtherEntries, MarksTouched};
 ghost use Rattle.page_entries.specs.Wants.{IsCalm};
 
-use crate::leaves::{Grant, entry_over, is_private};
+use crate::leaves::{Grant, entry_over};
 use crate::linking::root_of;
 use page_tables::{entry_number, set};
 use residency::Core;
@@ -98,7 +99,7 @@ pub fn regrant<D, E>(core: &mut Core<D, E>, pid: Pid, page: Vpn, attr: Attr)
         page,
         attr,
         FrameNo(entry.frame() as u32),
-        is_private(entry),
+        entry.is_private(),
     );
 }
 
@@ -145,12 +146,12 @@ pub(crate) fn set_full<D, E>(
     private: bool,
 )
     requires forest { IsForest core.old.frames }
-    requires root { IsRoot 2 core.old.frames root.0 }
-    requires whole { missing_of core.old.frames 2 root.0 page ≡ 0 }
+    requires root { IsRoot top_level core.old.frames root.0 }
+    requires whole { missing_of core.old.frames top_level root.0 page ≡ 0 }
     requires inside { IsFrame core.old.frames frame.0 }
     requires readable { can_write attr.prot ≡ true → can_read attr.prot ≡ true }
     ensures sets { (number : ℕ) × IsFullEntry (picture_of core.old) attr frame.0 private number
-        × SetsEntry core.old.frames core.new.frames 2 root.0 page number }
+        × SetsEntry core.old.frames core.new.frames top_level root.0 page number }
     ensures rest { KeepsRest core.old core.new }
     ensures not_refused { core.new.refused.number ≡ core.old.refused.number }
 {
@@ -172,7 +173,7 @@ fn full_grant<D, E>(core: &Core<D, E>, attr: Attr, frame: FrameNo, private: bool
         (sole, sole)
     } else {
         (
-            is_shared(attr.backing),
+            attr.backing.is_shared(),
             is_touched_behind(core, attr.backing),
         )
     };
@@ -182,13 +183,6 @@ fn full_grant<D, E>(core: &Core<D, E>, attr: Attr, frame: FrameNo, private: bool
         write: reached && writable,
         dirty: stored && writable,
     }
-}
-
-/// Whether a page on that backing is a shared one (mmap(2), MAP_SHARED).
-pub fn is_shared(backing: Backing) -> bool
-    ensures { result ≡ is_shared backing }
-{
-    matches!(backing, Backing::Shared(_))
 }
 
 // Whether stores through such a page reach a touched file page.

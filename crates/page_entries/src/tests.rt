@@ -1,5 +1,6 @@
 //! Entries over devices in memory.
 ghost use Rattle.std.specs.Prelude.{◌≡◌, ◌≢◌, ℕ, true, None, Some, IfOk, OnOk};
+ghost use Rattle.vm_types.specs.Limits.{top_level};
 ghost use Rattle.vm_types.specs.Permission.{can_read, can_write};
 ghost use Rattle.vm_types.specs.Attributes.{backing_fits};
 ghost use Rattle.vm_types.specs.Rows.{IsUserMap};
@@ -14,9 +15,7 @@ ghost use Rattle.residency.specs.Parts.{IsFit};
 ghost use Rattle.residency.specs.Picture.{picture_of, entry};
 
 use crate::leaves::{Grant, entry_over};
-use crate::{
-    is_private, is_shared, link_tables, own_frame, regrant, root_of, show_cached, show_zero, touch,
-};
+use crate::{link_tables, own_frame, regrant, root_of, show_cached, show_zero, touch};
 use disk_model::{SectorDisk, SimDisk};
 use file_store::{FileStore, OpenFault};
 use frames::Role;
@@ -102,7 +101,7 @@ fn map<D, E>(core: &mut Core<D, E>, pid: Pid, regions: Regions)
     ensures fit { IsFit (picture_of core.new) }
     ensures live { (picture_of core.new).root pid ≢ None }
     ensures at { (page : ℕ) → (picture_of core.new).at pid page ≡ attr_at regions page }
-    ensures nothing { (page : ℕ) → IsPage 2 page → entry (picture_of core.new) pid page ≡ 0 }
+    ensures nothing { (page : ℕ) → IsPage top_level page → entry (picture_of core.new) pid page ≡ 0 }
     ensures store { core.new.store ≡ core.old.store }
     ensures cache { core.new.cache ≡ core.old.cache }
 {
@@ -228,13 +227,6 @@ fn numbers_of_entries(rt: HostRuntime) {
 }
 
 #[test]
-fn shared_pages(rt: HostRuntime) {
-    assert!(rt; is_shared(Backing::Shared(FILE_PAGE)));
-    assert!(rt; !is_shared(Backing::Private(FILE_PAGE)));
-    assert!(rt; !is_shared(Backing::Anon));
-}
-
-#[test]
 fn a_page_of_zeros_gets_a_frame_of_its_own(rt: HostRuntime) -> Result<(), Fail> {
     let alloc = rt.alloc();
     let mut core = made(alloc, opened(image(alloc)?)?)?;
@@ -246,7 +238,7 @@ fn a_page_of_zeros_gets_a_frame_of_its_own(rt: HostRuntime) -> Result<(), Fail> 
     link_tables(&mut core, pid, page)?;
     let own = own_frame(&mut core, pid, page, zeros())?;
     assert_eq!(rt; number(&core).to_u64(), u64::from(own.0) * 1024 + 0x1d7);
-    assert!(rt; is_private(number(&core)));
+    assert!(rt; number(&core).is_private());
     link_tables(&mut core, pid, page)?;
     regrant(&mut core, pid, page, zeros());
     assert_eq!(rt; number(&core).to_u64(), u64::from(own.0) * 1024 + 0x1d7);

@@ -1,5 +1,6 @@
 //! The calls on trees of tables.
 ghost use Rattle.std.specs.Prelude.{ℕ, ◌≡◌, ◌≢◌, ◌+◌, ◌/◌, ◌%◌, ◌≤◌, IfErr, ◌<◌, ◌⊎◌, ◌↔◌, IsTrue, IsErr, IfOk, OnErr, true, false};
+ghost use Rattle.vm_types.specs.Limits.{top_level};
 ghost use Rattle.frames.specs.FrameTable.{IsFull, IsSound};
 ghost use Rattle.sv39_walk.specs.Walk.{index_of};
 ghost use Rattle.page_tables.specs.Entry.{number_of, IsEntry};
@@ -19,7 +20,7 @@ use vm_types::{FrameNo, NoFree, Vpn};
 /// `NoFree` exactly where no frame is free; then nothing changes.
 pub fn take_table(frames: &mut Frames) -> Result<FrameNo, NoFree>
     requires { IsForest frames.old }
-    ensures taken { IfOk result (λ n. AddsTable frames.old frames.new 2 n.0) }
+    ensures taken { IfOk result (λ n. AddsTable frames.old frames.new top_level n.0) }
     ensures none_free { IsErr result ↔ IsFull frames.old }
     ensures err { OnErr result (frames.new ≡ frames.old) }
     ensures sound { IsSound frames.new }
@@ -30,8 +31,8 @@ pub fn take_table(frames: &mut Frames) -> Result<FrameNo, NoFree>
 /// What the tree of `root` says of a page; `Entry::None` also where a table is missing.
 pub fn entry(frames: &Frames, root: FrameNo, page: Vpn) -> Entry
     requires forest { IsForest frames.now }
-    requires root { IsRoot 2 frames.now root.0 }
-    ensures entry { number_of result ≡ page_entry frames.now 2 root.0 page }
+    requires root { IsRoot top_level frames.now root.0 }
+    ensures entry { number_of result ≡ page_entry frames.now top_level root.0 page }
     ensures form { IsEntry result }
 {
     decode(entry_number(frames, root, page))
@@ -40,8 +41,8 @@ pub fn entry(frames: &Frames, root: FrameNo, page: Vpn) -> Entry
 /// The number that stands for what the tree of `root` says of a page, 0 where a table is missing.
 pub fn entry_number(frames: &Frames, root: FrameNo, page: Vpn) -> Pte
     requires forest { IsForest frames.now }
-    requires root { IsRoot 2 frames.now root.0 }
-    ensures { result.0 ≡ page_entry frames.now 2 root.0 page }
+    requires root { IsRoot top_level frames.now root.0 }
+    ensures { result.0 ≡ page_entry frames.now top_level root.0 page }
 {
     let (level, table, _) = end_of_way(frames, root, page.get());
     if level > 0 {
@@ -53,9 +54,9 @@ pub fn entry_number(frames: &Frames, root: FrameNo, page: Vpn) -> Pte
 /// How many tables are missing on the way to a page, 0 to 2.
 pub fn missing_tables(frames: &Frames, root: FrameNo, page: Vpn) -> u8
     requires forest { IsForest frames.now }
-    requires root { IsRoot 2 frames.now root.0 }
-    ensures missing { result ≡ missing_of frames.now 2 root.0 page }
-    ensures range { result ≤ 2 }
+    requires root { IsRoot top_level frames.now root.0 }
+    ensures missing { result ≡ missing_of frames.now top_level root.0 page }
+    ensures range { result ≤ top_level }
 {
     let (level, _, _) = end_of_way(frames, root, page.get());
     level as u8
@@ -65,10 +66,10 @@ pub fn missing_tables(frames: &Frames, root: FrameNo, page: Vpn) -> u8
 /// this tree or in another.
 pub fn set(frames: &mut Frames, root: FrameNo, page: Vpn, entry: Entry)
     requires forest { IsForest frames.old }
-    requires root { IsRoot 2 frames.old root.0 }
-    requires whole { missing_of frames.old 2 root.0 page ≡ 0 }
+    requires root { IsRoot top_level frames.old root.0 }
+    requires whole { missing_of frames.old top_level root.0 page ≡ 0 }
     requires form { IsEntry entry }
-    ensures sets { SetsEntry frames.old frames.new 2 root.0 page (number_of entry) }
+    ensures sets { SetsEntry frames.old frames.new top_level root.0 page (number_of entry) }
     ensures sound { IsSound frames.new }
 {
     let (_, table, _) = end_of_way(frames, root, page.get());
@@ -78,11 +79,11 @@ pub fn set(frames: &mut Frames, root: FrameNo, page: Vpn, entry: Entry)
 /// Puts a table of zeros, which no tree has, in the highest missing place on the way to a page.
 pub fn link_table(frames: &mut Frames, root: FrameNo, page: Vpn, table: FrameNo)
     requires forest { IsForest frames.old }
-    requires root { IsRoot 2 frames.old root.0 }
-    requires missing { missing_of frames.old 2 root.0 page ≢ 0 }
+    requires root { IsRoot top_level frames.old root.0 }
+    requires missing { missing_of frames.old top_level root.0 page ≢ 0 }
     requires spare { IsSpare frames.old table.0 }
     requires other { table.0 ≢ root.0 }
-    ensures links { LinksTable frames.old frames.new 2 root.0 page table.0 }
+    ensures links { LinksTable frames.old frames.new top_level root.0 page table.0 }
     ensures sound { IsSound frames.new }
 {
     let (level, parent, _) = end_of_way(frames, root, page.get());
@@ -97,9 +98,9 @@ pub fn link_table(frames: &mut Frames, root: FrameNo, page: Vpn, table: FrameNo)
 /// Releases each table below the root on the way to a page that has no entry, the lower first.
 pub fn prune(frames: &mut Frames, root: FrameNo, page: Vpn)
     requires forest { IsForest frames.old }
-    requires root { IsRoot 2 frames.old root.0 }
-    ensures prunes { Prunes frames.old frames.new 2 root.0 page }
-    ensures pruned { IsPruned frames.new 2 root.0 page }
+    requires root { IsRoot top_level frames.old root.0 }
+    ensures prunes { Prunes frames.old frames.new top_level root.0 page }
+    ensures pruned { IsPruned frames.new top_level root.0 page }
     ensures sound { IsSound frames.new }
 {
     while prune_last(frames, root, page) {}
@@ -109,11 +110,11 @@ pub fn prune(frames: &mut Frames, root: FrameNo, page: Vpn)
 // Releases the last table on the way to a page, where it isn't the root and has no entry; whether it did.
 fn prune_last(frames: &mut Frames, root: FrameNo, page: Vpn) -> bool
     requires forest { IsForest frames.old }
-    requires root { IsRoot 2 frames.old root.0 }
-    ensures prunes { Prunes frames.old frames.new 2 root.0 page }
-    ensures done { result ≡ false → IsPruned frames.new 2 root.0 page }
-    ensures higher { result ≡ true → missing_of frames.new 2 root.0 page ≡ missing_of frames.old 2 root.0 page + 1 }
-    ensures in_levels { missing_of frames.new 2 root.0 page ≤ 2 }
+    requires root { IsRoot top_level frames.old root.0 }
+    ensures prunes { Prunes frames.old frames.new top_level root.0 page }
+    ensures done { result ≡ false → IsPruned frames.new top_level root.0 page }
+    ensures higher { result ≡ true → missing_of frames.new top_level root.0 page ≡ missing_of frames.old top_level root.0 page + 1 }
+    ensures in_levels { missing_of frames.new top_level root.0 page ≤ top_level }
 {
     let number = page.get();
     let (level, table, parent) = end_of_way(frames, root, number);
@@ -157,9 +158,9 @@ fn is_empty(frames: &Frames, table: FrameNo) -> bool
 /// How many tables are missing on the way, 1 or 2.
 pub fn table_of(frames: &Frames, root: FrameNo, page: Vpn) -> Result<FrameNo, u8>
     requires forest { IsForest frames.now }
-    requires root { IsRoot 2 frames.now root.0 }
+    requires root { IsRoot top_level frames.now root.0 }
     ensures found { IfOk result (λ n. IsTableOf frames.now root.0 (page / 512) n.0) }
-    ensures missing { IfErr result (λ missing. (missing ≡ missing_of frames.now 2 root.0 page) × (1 ≤ missing) × (missing ≤ 2)) }
+    ensures missing { IfErr result (λ missing. (missing ≡ missing_of frames.now top_level root.0 page) × (1 ≤ missing) × (missing ≤ top_level)) }
 {
     let (level, table, _) = end_of_way(frames, root, page.get());
     if level > 0 {
@@ -173,7 +174,7 @@ pub fn number_in(frames: &Frames, table: FrameNo, index: usize) -> Pte
     requires table { IsTable frames.now table.0 }
     requires below { index < 512 }
     ensures { (root page : ℕ) → IsTableOf frames.now root (page / 512) table.0 → page % 512 ≡ index
-        → result.0 ≡ page_entry frames.now 2 root page }
+        → result.0 ≡ page_entry frames.now top_level root page }
 {
     read_entry(frames, table, index)
 }
@@ -184,8 +185,8 @@ pub fn set_in(frames: &mut Frames, table: FrameNo, index: usize, entry: Entry)
     requires table { IsTable frames.old table.0 }
     requires below { index < 512 }
     requires form { IsEntry entry }
-    ensures sets { (root page : ℕ) → IsRoot 2 frames.old root → IsPage 2 page → IsTableOf frames.old root (page / 512) table.0
-        → page % 512 ≡ index → SetsEntry frames.old frames.new 2 root page (number_of entry) }
+    ensures sets { (root page : ℕ) → IsRoot top_level frames.old root → IsPage top_level page → IsTableOf frames.old root (page / 512) table.0
+        → page % 512 ≡ index → SetsEntry frames.old frames.new top_level root page (number_of entry) }
     ensures kept { KeepsFrames frames.old frames.new }
     ensures sound { IsSound frames.new }
 {
@@ -196,12 +197,12 @@ pub fn set_in(frames: &mut Frames, table: FrameNo, index: usize, entry: Entry)
 fn end_of_way(frames: &Frames, root: FrameNo, page: u64) -> (u32, FrameNo, FrameNo)
     requires forest { IsForest frames.now }
     requires root { IsTable frames.now root.0 }
-    ensures level { result.0 ≡ (last_table frames.now page 2 root.0).0 }
-    ensures table { result.1.0 ≡ (last_table frames.now page 2 root.0).1 }
-    ensures in_levels { result.0 ≤ 2 }
+    ensures level { result.0 ≡ (last_table frames.now page top_level root.0).0 }
+    ensures table { result.1.0 ≡ (last_table frames.now page top_level root.0).1 }
+    ensures in_levels { result.0 ≤ top_level }
     ensures is_table { IsTable frames.now result.1.0 }
     ensures parent { (result.1.0 ≡ root.0)
-        ⊎ ((result.0 < 2) × Points frames.now result.2.0 (index_of page (result.0 + 1)) result.1.0) }
+        ⊎ ((result.0 < top_level) × Points frames.now result.2.0 (index_of page (result.0 + 1)) result.1.0) }
 {
     let mut table = root;
     let mut parent = root;

@@ -1,5 +1,6 @@
 -- What the calls do to the processes. fork(2), exit(2).
 use Rattle.std.specs.Prelude.{◌≡◌, ◌≢◌, ℕ, ◌⊎◌, ◌↔◌, true, false, Option, Some, None}
+use Rattle.vm_types.specs.Limits.{top_level}
 use Rattle.vm_types.specs.View.{View}
 use Rattle.frames.specs.declared.role.Role.TheVariants.{Free, Table, Private}
 use Rattle.frames.specs.FrameTable.{FrameTable, frame_count, role_of, count_of}
@@ -38,9 +39,9 @@ pub record TakesRoot (old new : Picture) (pid n : ℕ) : Type 0 where
 
 -- The tables of a process are free, its root and those below it, and every other table stays one. No free frame is used.
 pub record FreesTables (old new : Picture) (pid : ℕ) : Type 0 where
-  pub own : (r page n : ℕ) → old.root pid ≡ Some r → IsOnWay old.frames 2 r page n → role_of new.frames n ≡ Free
+  pub own : (r page n : ℕ) → old.root pid ≡ Some r → IsOnWay old.frames top_level r page n → role_of new.frames n ≡ Free
   pub others : (n : ℕ) → IsTable old.frames n
-      → IsTable new.frames n ⊎ ((r : ℕ) × (page : ℕ) × (old.root pid ≡ Some r) × IsOnWay old.frames 2 r page n)
+      → IsTable new.frames n ⊎ ((r : ℕ) × (page : ℕ) × (old.root pid ≡ Some r) × IsOnWay old.frames top_level r page n)
   pub free : (n : ℕ) → role_of old.frames n ≡ Free → role_of new.frames n ≡ Free
 
 -- no frame came to hold a page of a process's own

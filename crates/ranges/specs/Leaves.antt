@@ -1,5 +1,6 @@
 -- Entries of pages that get another permission.
 use Rattle.std.specs.Prelude.{◌≡◌, ◌≢◌, ℕ, ◌<◌, ◌≤◌, ◌↔◌, Bool, true, false, ◌||◌, ◌&&◌, Option, Some, None}
+use Rattle.vm_types.specs.Limits.{top_level}
 use Rattle.vm_types.specs.declared.permission.Prot.{Prot}
 use Rattle.vm_types.specs.declared.region.Attr.{Attr}
 use Rattle.vm_types.specs.Permission as Permission
@@ -42,12 +43,12 @@ pub data Permits (t : FrameTable) (attr : Option Attr) (prot : Prot) (e e' : ℕ
 
 -- each entry of a process names a frame of memory
 abbrev pub NamesFrames : Picture → ℕ → Type 0
-NamesFrames c pid = (page : ℕ) → IsPage 2 page → entry c pid page ≢ 0 → IsFrame c.frames (frame_of (entry c pid page))
+NamesFrames c pid = (page : ℕ) → IsPage top_level page → entry c pid page ≢ 0 → IsFrame c.frames (frame_of (entry c pid page))
 
 -- the pages of one process from low up to, not including, high have entries of that permission, and all else is as it was
 pub record PermitsRow (old new : Picture) (pid low high : ℕ) (prot : Prot) : Type 0 where
   pub beside : SameBeside old new
   pub memory : KeepsFrames old.frames new.frames
-  pub kept : (q page : ℕ) → IsPage 2 page → IsBeside pid low high q page → entry new q page ≡ entry old q page
-  pub changed : (page : ℕ) → IsPage 2 page → low ≤ page → page < high
+  pub kept : (q page : ℕ) → IsPage top_level page → IsBeside pid low high q page → entry new q page ≡ entry old q page
+  pub changed : (page : ℕ) → IsPage top_level page → low ≤ page → page < high
       → Permits old.frames (old.at pid page) prot (entry old pid page) (entry new pid page)

@@ -1,5 +1,6 @@
 -- What the calls on rows of pages leave.
 use Rattle.std.specs.Prelude.{◌≡◌, ◌≢◌, ℕ, true, false, if◌then◌else◌, Option, None, option_map}
+use Rattle.vm_types.specs.Limits.{top_level}
 use Rattle.vm_types.specs.declared.permission.Prot.{Prot}
 use Rattle.vm_types.specs.declared.region.Attr.{Attr}
 use Rattle.vm_types.specs.Ranges.{reprotected}
@@ -25,7 +26,7 @@ pub record RemapsRow (old new : Picture) (pid first pages : ℕ) (map : ℕ → 
   pub at : (page : ℕ) → new.at pid page ≡ map page
   pub others_at : (q page : ℕ) → q ≢ pid → new.at q page ≡ old.at q page
   pub entries : (page : ℕ) → in_row first pages page ≡ true → entry new pid page ≡ 0
-  pub kept : (page : ℕ) → IsPage 2 page → in_row first pages page ≡ false → entry new pid page ≡ entry old pid page
+  pub kept : (page : ℕ) → IsPage top_level page → in_row first pages page ≡ false → entry new pid page ≡ entry old pid page
   pub views : (page : ℕ) → view new pid page ≡ remapped (view old pid) map first pages page
   pub others : (q page : ℕ) → q ≢ pid → view new q page ≡ view old q page
   pub files : KeepsFiles old new
@@ -40,6 +41,6 @@ pub record ReprotectsRow (old new : Picture) (pid first pages : ℕ) (prot : Pro
   pub views : (page : ℕ) → view new pid page ≡ reprotected (view old pid) first pages prot page
   pub entries : (page : ℕ) → in_row first pages page ≡ true
       → Permits old.frames (old.at pid page) prot (entry old pid page) (entry new pid page)
-  pub kept : (page : ℕ) → IsPage 2 page → in_row first pages page ≡ false → entry new pid page ≡ entry old pid page
+  pub kept : (page : ℕ) → IsPage top_level page → in_row first pages page ≡ false → entry new pid page ≡ entry old pid page
   pub others : (q page : ℕ) → q ≢ pid → view new q page ≡ view old q page
   pub files : KeepsFiles old new

@@ -1,5 +1,6 @@
 //! Pages without entries.
 ghost use Rattle.std.specs.Prelude.{◌≡◌, ℕ, ◌+◌, ◌*◌, ◌/◌, ◌<◌, ◌≤◌, ◌^◌, true};
+ghost use Rattle.vm_types.specs.Limits.{top_level, user_end};
 ghost use Rattle.page_tables.specs.Tree.{IsPage};
 ghost use Rattle.residency.specs.Picture.{picture_of, is_live};
 ghost use Rattle.residency.specs.Parts.{IsSteady, IsFit};
@@ -9,8 +10,8 @@ ghost use Rattle.ranges.specs.Rows.{RemapsRow};
 ghost use Rattle.page_entries.specs.Wants.{IsWhole};
 ghost use Rattle.ranges.specs.Steps.{KeepsEntriesOfOthers, ReturnsTables, Clears, IsStepEnd, IsTightFor};
 
-use crate::rows::{frame_in, gap_end, table_end, user_page};
-use page_entries::{is_private, root_of};
+use crate::rows::{gap_end, table_end, user_page};
+use page_entries::root_of;
 use page_tables::{Entry, number_in, prune, set_in, table_of};
 use residency::Core;
 use vm_types::{FrameNo, Pid, USER_START, Vpn};
@@ -21,7 +22,7 @@ use vm_types::{FrameNo, Pid, USER_START, Vpn};
 pub fn clear_row<D, E>(core: &mut Core<D, E>, pid: Pid, first: u64, pages: u64)
     requires fit { IsFit (picture_of core.old) }
     requires live { is_live (picture_of core.old) pid ≡ true }
-    requires row { first + pages ≤ 2 ^ 26 }
+    requires row { first + pages ≤ user_end }
     ensures fit { IsFit (picture_of core.new) }
     ensures row { RemapsRow (picture_of core.old) (picture_of core.new) pid first pages ((picture_of core.old).at pid) }
     ensures others { KeepsEntriesOfOthers (picture_of core.old) (picture_of core.new) pid }
@@ -42,7 +43,7 @@ fn clear_next<D, E>(core: &mut Core<D, E>, pid: Pid, start: Vpn, end: u64) -> u6
     requires fit { IsFit (picture_of core.old) }
     requires live { is_live (picture_of core.old) pid ≡ true }
     requires some { start < end }
-    requires high { end ≤ 2 ^ 26 }
+    requires high { end ≤ user_end }
     ensures fit { IsFit (picture_of core.new) }
     ensures further { start < result }
     ensures within { result ≤ end }
@@ -69,7 +70,7 @@ fn clear_table<D, E>(core: &mut Core<D, E>, pid: Pid, start: Vpn, stop: u64)
     requires whole { IsWhole (picture_of core.old) pid start }
     requires some { start < stop }
     requires one_table { stop ≤ (start / 512 + 1) * 512 }
-    requires high { stop ≤ 2 ^ 26 }
+    requires high { stop ≤ user_end }
     ensures fit { IsFit (picture_of core.new) }
     ensures clears { Clears (picture_of core.old) (picture_of core.new) pid start stop }
     ensures rest { KeepsRest core.old core.new }
@@ -90,7 +91,7 @@ fn clear_table<D, E>(core: &mut Core<D, E>, pid: Pid, start: Vpn, stop: u64)
 fn clear_page<D, E>(core: &mut Core<D, E>, pid: Pid, root: FrameNo, table: FrameNo, page: Vpn)
     requires steady { IsSteady (picture_of core.old) }
     requires root { (picture_of core.old).root pid ≡ Some root.0 }
-    requires inside { IsPage 2 page }
+    requires inside { IsPage top_level page }
     requires place { IsTableOf core.old.frames root.0 (page / 512) table.0 }
     ensures steady { IsSteady (picture_of core.new) }
     ensures clears { Clears (picture_of core.old) (picture_of core.new) pid page (page + 1) }
@@ -105,8 +106,8 @@ fn clear_page<D, E>(core: &mut Core<D, E>, pid: Pid, root: FrameNo, table: Frame
         return;
     }
     set_in(&mut core.frames, table, index, Entry::None);
-    if !is_private(number) {
+    if !number.is_private() {
         return;
     }
-    core.frames.release(frame_in(number));
+    core.frames.release(number.frame_number());
 }

@@ -7,8 +7,7 @@ ghost use Rattle.regions.specs.Permission.{ReadsToo};
 ghost use Rattle.residency.specs.Picture.{is_private};
 ghost use Rattle.ranges.specs.Leaves.{IsPermittedEntry};
 
-use crate::rows::frame_in;
-use page_entries::{Grant, entry_over, is_private};
+use page_entries::{Grant, entry_over};
 use page_tables::Entry;
 use sv39_walk::Pte;
 use vm_types::Prot;
@@ -23,8 +22,8 @@ pub(crate) fn permitted(number: Pte, prot: Prot, writable: bool) -> Entry
     ensures permitted { IsPermittedEntry prot writable number.0 (number_of result) }
 {
     let grant = Grant {
-        frame: frame_in(number),
-        private: is_private(number),
+        frame: number.frame_number(),
+        private: number.is_private(),
         write: writable,
         dirty: is_marked(number),
     };
@@ -35,5 +34,5 @@ pub(crate) fn permitted(number: Pte, prot: Prot, writable: bool) -> Entry
 fn is_marked(number: Pte) -> bool
     ensures { result ≡ (is_private number.0 || (is_valid number.0 && is_dirty number.0)) }
 {
-    is_private(number) || number.is_valid() && number.is_dirty()
+    number.is_private() || number.is_valid() && number.is_dirty()
 }

@@ -14,4 +14,4 @@ mod tests;
 pub use clearing::clear_row;
 pub use permitting::reprotect;
 pub use remapping::remap;
-pub use rows::{frame_in, gap_end, table_end, user_page};
+pub use rows::{gap_end, table_end, user_page};

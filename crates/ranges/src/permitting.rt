@@ -1,5 +1,6 @@
 //! Another permission for the pages of a row.
 ghost use Rattle.std.specs.Prelude.{◌≡◌, ◌≢◌, ◌↔◌, ℕ, ◌+◌, ◌*◌, ◌/◌, ◌<◌, ◌≤◌, ◌^◌, true};
+ghost use Rattle.vm_types.specs.Limits.{top_level, user_end};
 ghost use Rattle.vm_types.specs.Rows.{protected};
 ghost use Rattle.frames.specs.FrameTable.{IsFrame};
 ghost use Rattle.sv39_walk.specs.Entry.{frame_of};
@@ -17,8 +18,8 @@ ghost use Rattle.page_entries.specs.Wants.{IsWhole};
 ghost use Rattle.ranges.specs.Steps.{KeepsEntriesOfOthers, IsStepEnd};
 
 use crate::leaves::permitted;
-use crate::rows::{frame_in, gap_end, table_end, user_page};
-use page_entries::{is_private, is_shared, root_of};
+use crate::rows::{gap_end, table_end, user_page};
+use page_entries::root_of;
 use page_tables::{number_in, set_in, table_of};
 use regions::Regions;
 use residency::Core;
@@ -40,7 +41,7 @@ pub fn reprotect<D, E>(
 )
     requires fit { IsFit (picture_of core.old) }
     requires live { is_live (picture_of core.old) pid ≡ true }
-    requires row { first + pages ≤ 2 ^ 26 }
+    requires row { first + pages ≤ user_end }
     requires reads { ReadsToo prot }
     requires map { (page : ℕ) → attr_at regions page ≡ protected ((picture_of core.old).at pid) first pages prot page }
     ensures fit { IsFit (picture_of core.new) }
@@ -67,7 +68,7 @@ fn permit_next<D, E>(core: &mut Core<D, E>, pid: Pid, start: Vpn, end: u64, prot
     requires named { NamesFrames (picture_of core.old) pid }
     requires live { is_live (picture_of core.old) pid ≡ true }
     requires some { start < end }
-    requires high { end ≤ 2 ^ 26 }
+    requires high { end ≤ user_end }
     requires reads { ReadsToo prot }
     ensures rooted { IsRootedBut (picture_of core.new) 0 }
     ensures tight { IsTight core.new.frames }
@@ -98,7 +99,7 @@ fn permit_table<D, E>(core: &mut Core<D, E>, pid: Pid, start: Vpn, stop: u64, pr
     requires whole { IsWhole (picture_of core.old) pid start }
     requires some { start < stop }
     requires one_table { stop ≤ (start / 512 + 1) * 512 }
-    requires high { stop ≤ 2 ^ 26 }
+    requires high { stop ≤ user_end }
     requires reads { ReadsToo prot }
     ensures rooted { IsRootedBut (picture_of core.new) 0 }
     ensures tight { IsTight core.new.frames }
@@ -130,7 +131,7 @@ fn permit_page<D, E>(
     requires named { NamesFrames (picture_of core.old) pid }
     requires live { is_live (picture_of core.old) pid ≡ true }
     requires root { (picture_of core.old).root pid ≡ Some root.0 }
-    requires inside { IsPage 2 page }
+    requires inside { IsPage top_level page }
     requires place { IsTableOf core.old.frames root.0 (page / 512) table.0 }
     requires reads { ReadsToo prot }
     ensures rooted { IsRootedBut (picture_of core.new) 0 }
@@ -165,11 +166,11 @@ fn takes_stores<D, E>(core: &Core<D, E>, pid: Pid, page: Vpn, number: Pte, prot:
     if !prot.is_writable() {
         return false;
     }
-    if is_private(number) {
-        return core.frames.count(frame_in(number)) == 1;
+    if number.is_private() {
+        return core.frames.count(number.frame_number()) == 1;
     }
     match core.regions(pid).at(page) {
-        Some(attr) => is_shared(attr.backing),
+        Some(attr) => attr.backing.is_shared(),
         None => false,
     }
 }

@@ -1,5 +1,6 @@
 //! Other pages in the place of those of a row.
 ghost use Rattle.std.specs.Prelude.{◌≡◌, ℕ, ◌+◌, ◌≤◌, ◌^◌, true, false};
+ghost use Rattle.vm_types.specs.Limits.{user_end};
 ghost use Rattle.vm_types.specs.Rows.{in_row, IsUserMap};
 ghost use Rattle.regions.specs.Permission.{IsReadableMap};
 ghost use Rattle.regions.specs.RunList.{attr_at};
@@ -20,7 +21,7 @@ use vm_types::Pid;
 pub fn remap<D, E>(core: &mut Core<D, E>, pid: Pid, first: u64, pages: u64, regions: Regions)
     requires fit { IsFit (picture_of core.old) }
     requires live { is_live (picture_of core.old) pid ≡ true }
-    requires row { first + pages ≤ 2 ^ 26 }
+    requires row { first + pages ≤ user_end }
     requires others { (page : ℕ) → in_row first pages page ≡ false → attr_at regions page ≡ (picture_of core.old).at pid page }
     requires user { IsUserMap (attr_at regions) }
     requires readable { IsReadableMap (attr_at regions) }

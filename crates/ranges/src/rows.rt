@@ -1,6 +1,6 @@
 //! Rows of pages, and the tables that their entries stand in.
 ghost use Rattle.std.specs.Prelude.{◌≡◌, ℕ, ◌<◌, ◌≤◌, ◌+◌, ◌*◌, ◌/◌, ◌^◌, true, IfNone, IfSome};
-ghost use Rattle.sv39_walk.specs.Entry.{frame_of};
+ghost use Rattle.vm_types.specs.Limits.{user_start, user_end};
 ghost use Rattle.residency.specs.Picture.{picture_of, is_live, entry};
 ghost use Rattle.residency.specs.Parts.{IsRootedBut};
 ghost use Rattle.page_entries.specs.Wants.{IsWhole};
@@ -9,16 +9,15 @@ ghost use Rattle.ranges.specs.Steps.{IsGapEnd};
 use page_entries::root_of;
 use page_tables::missing_tables;
 use residency::Core;
-use sv39_walk::Pte;
-use vm_types::{FrameNo, Pid, Vpn};
+use vm_types::{Pid, Vpn};
 
 /// The entries of a table.
 const TABLE_ENTRIES: u64 = 512;
 
 /// The user page of that number, from 16 up to, not including, 2 ^ 26.
 pub fn user_page(number: u64) -> Vpn
-    requires low { 16 ≤ number }
-    requires high { number < 2 ^ 26 }
+    requires low { user_start ≤ number }
+    requires high { number < user_end }
     ensures { result ≡ number }
 {
     let Some(page) = Vpn::new(number) else {
@@ -59,13 +58,4 @@ pub fn gap_end<D, E>(core: &Core<D, E>, pid: Pid, page: Vpn) -> Option<u64>
         2 => Some(middle_end(page)),
         _ => Some(table_end(page)),
     }
-}
-
-/// The frame that an entry names: its bits 10 to 53, of which 32 are used here (RISC-V Privileged Specification, "Sv39 page
-/// table entry").
-pub fn frame_in(number: Pte) -> FrameNo
-    requires { frame_of number.0 < 2 ^ 32 }
-    ensures { result.0 ≡ frame_of number.0 }
-{
-    FrameNo(number.frame() as u32)
 }

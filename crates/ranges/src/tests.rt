@@ -8,7 +8,7 @@ ghost use Rattle.residency.specs.Picture.{picture_of, is_live};
 ghost use Rattle.ranges.specs.Tests.{five_pages};
 
 use crate::leaves::permitted;
-use crate::{clear_row, frame_in, gap_end, remap, reprotect};
+use crate::{clear_row, gap_end, remap, reprotect};
 use disk_model::{SectorDisk, SimDisk};
 use file_store::{FileStore, OpenFault};
 use frames::Role;
@@ -20,7 +20,7 @@ use std::alloc::{AllocError, Global};
 use std::process::Abort;
 use std::test::Fail;
 use sv39_walk::Pte;
-use vm_types::{Attr, Backing, FrameNo, Pid, Prot, Stall, TooManyRuns, Vpn};
+use vm_types::{Attr, Backing, Pid, Prot, Stall, TooManyRuns, Vpn};
 
 // A device with the mark of a store that has no file, as a stop leaves it.
 fn image(alloc: Global) -> Result<SimDisk, Fail>
@@ -226,13 +226,6 @@ fn missing_tables_end_where_the_next_begins(rt: HostRuntime) -> Result<(), Fail>
     assert_eq!(rt; gap(&core, user_page(&rt, 262_143)), Some(262_144));
     assert_eq!(rt; gap(&core, user_page(&rt, 262_144)), Some(524_288));
     Ok(())
-}
-
-// Bits 10 to 53, whatever stands below and above them.
-#[test]
-fn frames_that_entries_name(rt: HostRuntime) {
-    assert_eq!(rt; frame_in(Pte::from_u64(5 * 1024 + 0x1d7)), FrameNo(5));
-    assert_eq!(rt; frame_in(Pte::from_u64(0x8000_0000_0000_1fff)), FrameNo(7));
 }
 
 #[test]

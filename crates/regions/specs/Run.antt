@@ -1,5 +1,6 @@
 -- One run: the pages from first up to, not including, end, the first one's attributes being attr.
 use Rattle.std.specs.Prelude.{ℕ, ◌-◌, ◌^◌, ◌<◌, ◌≤◌, Bool, ◌==◌, ◌&&◌, leb, ltb, min, max, if◌then◌else◌, Option, Some, None, unwrap_or}
+use Rattle.vm_types.specs.Limits.{user_start, user_end}
 use Rattle.vm_types.specs.declared.permission.Prot.{Prot}
 use Rattle.vm_types.specs.declared.region.Attr.{Attr}
 use Rattle.vm_types.specs.Attributes.{attr_after, attr_eq, backing_fits}
@@ -7,9 +8,9 @@ use Rattle.regions.specs.declared.run.Run.{Run}
 
 -- a run isn't empty, and its pages are user pages and its file pages under 2 ^ 32
 pub record IsRun (run : Run) : Type 0 where
-  pub low : 16 ≤ run.first
+  pub low : user_start ≤ run.first
   pub nonempty : run.first < run.end
-  pub high : run.end ≤ 2 ^ 26
+  pub high : run.end ≤ user_end
   pub file_pages : backing_fits run.attr.backing (run.end - run.first)
 
 -- what the page is, where it is of the run

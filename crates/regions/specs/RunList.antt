@@ -1,5 +1,6 @@
 -- Lists of runs in order, the map that they stand for, and how they are put together.
 use Rattle.std.specs.Prelude.{ℕ, ◌-◌, ◌<◌, ◌^◌, ◌≡◌, ◌≤◌, Bool, false, if◌then◌else◌, List, [], ◌∷◌, Option, Some, None}
+use Rattle.vm_types.specs.Limits.{user_start, user_end}
 use Rattle.vm_types.specs.declared.permission.Prot.{Prot}
 use Rattle.vm_types.specs.declared.region.Attr.{Attr}
 use Rattle.vm_types.specs.Attributes.{attr_after, attr_eq}
@@ -25,9 +26,9 @@ joins_first run (next ∷ _) = joins run next
 -- the map does not go on with it
 pub record IsNextRun (map : ℕ → Option Attr) (page : ℕ) (run : Run) : Type 0 where
   pub from : page ≤ run.first
-  pub low : 16 ≤ run.first
+  pub low : user_start ≤ run.first
   pub nonempty : run.first < run.end
-  pub high : run.end ≤ 2 ^ 26
+  pub high : run.end ≤ user_end
   pub none_before : (k : ℕ) → page ≤ k → k < run.first → map k ≡ None
   pub mapped : (k : ℕ) → run.first ≤ k → k < run.end → map k ≡ Some (attr_after run.attr (k - run.first))
   pub ends : (attr : Attr) → map run.end ≡ Some attr → attr_eq (attr_after run.attr (run.end - run.first)) attr ≡ false
@@ -66,13 +67,13 @@ pasted low high prot runs (next ∷ others) = pasted low high prot (pushed_part 
 
 -- the list without the pages from first up to, not including, end
 abbrev pub list_removed : List Run → ℕ → ℕ → List Run
-list_removed runs first end = pasted end (2 ^ 26) None (pasted 0 first None [] runs) runs
+list_removed runs first end = pasted end user_end None (pasted 0 first None [] runs) runs
 
 -- the list with another permission for them
 abbrev pub list_protected : List Run → ℕ → ℕ → Prot → List Run
 list_protected runs first end prot =
-    pasted end (2 ^ 26) None (pasted first end (Some prot) (pasted 0 first None [] runs) runs) runs
+    pasted end user_end None (pasted first end (Some prot) (pasted 0 first None [] runs) runs) runs
 
 -- the list with a run in their place
 abbrev pub list_replaced : List Run → Run → List Run
-list_replaced runs run = pasted run.end (2 ^ 26) None (pushed (pasted 0 run.first None [] runs) run) runs
+list_replaced runs run = pasted run.end user_end None (pushed (pasted 0 run.first None [] runs) run) runs

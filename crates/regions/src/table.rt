@@ -37,6 +37,7 @@ impl Regions {
     ghost use Rattle.regions.specs.Run.{IsRun};
     ghost use Rattle.regions.specs.RunList.{attr_at, end_of, IsMaximal, IsNextRun, joins_last, pasted, pushed};
     ghost use Rattle.regions.specs.Search.{first_part, gap_from, is_clear, lowest_gap, runs_behind};
+    ghost use Rattle.vm_types.specs.Limits.{user_start, user_end};
 
     /// No page is mapped.
     pub fn new() -> Regions
@@ -211,8 +212,8 @@ impl Regions {
     /// `TooManyRuns` exactly where it would have more than 256 runs.
     pub fn replaced(&self, first: u64, pages: u64, attr: Attr) -> Result<Regions, TooManyRuns>
         requires some { 0 < pages }
-        requires low { 16 ≤ first }
-        requires high { first + pages ≤ 2 ^ 26 }
+        requires low { user_start ≤ first }
+        requires high { first + pages ≤ user_end }
         requires file_pages { backing_fits attr.backing pages }
         ensures ok { IfOk result (λ next. (page : ℕ) → attr_at next page ≡ replaced (attr_at self.now) first pages attr page) }
         ensures few { OnOk result (run_count (replaced (attr_at self.now) first pages attr) ≤ 256) }

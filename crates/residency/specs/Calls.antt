@@ -1,5 +1,6 @@
 -- What the calls of this layer leave.
 use Rattle.std.specs.Prelude.{◌≡◌, ◌≢◌, ℕ, ◌+◌, false, None, Result, OnOk, OnErr, IfErr}
+use Rattle.vm_types.specs.Limits.{top_level}
 use Rattle.vm_types.specs.declared.refusal.Stall.{Stall}
 use Rattle.vm_types.specs.declared.refusal.Stall.TheVariants.{NoFrames}
 use Rattle.vm_types.specs.declared.file.FilePage.{FilePage}
@@ -88,7 +89,7 @@ pub record KeepsRoom {D E : Type 0} (old new : Core D E) : Type 0 where
 pub record ObtainsTable (old new : Picture) (n : ℕ) : Type 0 where
   pub found : Picture
   pub used : KeepsUsed old found
-  pub adds : AddsTable found.frames new.frames 2 n
+  pub adds : AddsTable found.frames new.frames top_level n
   pub beside : SameBeside found new
 
 -- a frame was obtained, and a file page brought into it from its home

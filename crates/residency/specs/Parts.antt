@@ -1,5 +1,7 @@
 -- What holds of memory between two calls, in five parts.
 use Rattle.std.specs.Prelude.{◌≡◌, ◌≢◌, ℕ, ◌+◌, ◌==◌, ◌≤◌, ◌⊎◌, Bool, true, false, if◌then◌else◌, length, Option, Some}
+use Rattle.vm_types.specs.Limits.{top_level}
+pub use Rattle.vm_types.specs.Attributes.{is_shared}
 use Rattle.vm_types.specs.declared.file.FilePage.{FilePage}
 use Rattle.vm_types.specs.declared.region.Attr.{Attr}
 use Rattle.vm_types.specs.declared.region.Backing.{Backing}
@@ -26,9 +28,9 @@ off n d m = if m == n then d else 0
 -- name it, which all stand at its page.
 pub record IsCountedBut (c : Picture) (n d : ℕ) : Type 0 where
   pub counts : (m : ℕ) → role_of c.frames m ≡ Role.Private → count_of c.frames m ≡ holders c m + off n d m
-  pub pages : (m : ℕ) → role_of c.frames m ≡ Role.Private → IsPage 2 (c.page_of m)
-  pub private : (pid page : ℕ) → IsPage 2 page → is_private (entry c pid page) ≡ true → role_of c.frames (frame_of (entry c pid page)) ≡ Role.Private
-  pub noted : (pid page : ℕ) → IsPage 2 page → is_private (entry c pid page) ≡ true → c.page_of (frame_of (entry c pid page)) ≡ page
+  pub pages : (m : ℕ) → role_of c.frames m ≡ Role.Private → IsPage top_level (c.page_of m)
+  pub private : (pid page : ℕ) → IsPage top_level page → is_private (entry c pid page) ≡ true → role_of c.frames (frame_of (entry c pid page)) ≡ Role.Private
+  pub noted : (pid page : ℕ) → IsPage top_level page → is_private (entry c pid page) ≡ true → c.page_of (frame_of (entry c pid page)) ≡ page
 
 -- counts: frame 0, which is never private, stands for none
 abbrev pub IsCounted : Picture → Type 0
@@ -38,7 +40,7 @@ IsCounted c = IsCountedBut c 0 0
 -- one way. Frame 0, which is never a table, stands for none.
 pub record IsRootedBut (c : Picture) (n : ℕ) : Type 0 where
   pub forest : IsForest c.frames
-  pub roots : (pid r : ℕ) → c.root pid ≡ Some r → IsRoot 2 c.frames r
+  pub roots : (pid r : ℕ) → c.root pid ≡ Some r → IsRoot top_level c.frames r
   pub apart : (p q r : ℕ) → c.root p ≡ Some r → c.root q ≡ Some r → p ≡ q
   pub numbers : (pid r : ℕ) → c.root pid ≡ Some r → (1 ≤ pid) × (pid ≤ 64)
   pub owned : (m : ℕ) → IsTable c.frames m → IsUnlinked c.frames m → (m ≡ n) ⊎ ((pid : ℕ) × (c.root pid ≡ Some m))
@@ -47,11 +49,6 @@ pub record IsRootedBut (c : Picture) (n : ℕ) : Type 0 where
 pub record IsTree (c : Picture) : Type 0 where
   pub rooted : IsRootedBut c 0
   pub tight : IsTight c.frames
-
-abbrev pub is_shared : Backing → Bool
-is_shared Anon = false
-is_shared (Private p) = false
-is_shared (Shared p) = true
 
 -- frame n holds what stands behind a page: it is the zero page, or that of the file page
 abbrev pub IsBehind : Picture → Backing → ℕ → Type 0
@@ -86,7 +83,7 @@ pub data IsEntryFor (c : Picture) (attr : Option Attr) (e : ℕ) : Type 0 where
 
 -- grants: an entry lets nothing be done that the region of its page doesn't
 pub record IsGranting (c : Picture) : Type 0 where
-  pub entries : (pid page : ℕ) → IsPage 2 page → IsEntryFor c (c.at pid page) (entry c pid page)
+  pub entries : (pid page : ℕ) → IsPage top_level page → IsEntryFor c (c.at pid page) (entry c pid page)
   pub user : (pid : ℕ) → IsUserMap (c.at pid)
   pub readable : (pid : ℕ) → IsReadableMap (c.at pid)
 
@@ -100,7 +97,7 @@ pub record HasPlaces (c : Picture) : Type 0 where
 
 -- dirty: a leaf over a cache frame has D only where its page is touched, and a touched page isn't at home
 pub record IsDirtySound (c : Picture) : Type 0 where
-  pub dirty : (pid page : ℕ) (p : FilePage) → IsPage 2 page → is_valid (entry c pid page) ≡ true → is_private (entry c pid page) ≡ false
+  pub dirty : (pid page : ℕ) (p : FilePage) → IsPage top_level page → is_valid (entry c pid page) ≡ true → is_private (entry c pid page) ≡ false
       → is_dirty (entry c pid page) ≡ true → c.place p ≡ Frame (record { 0 = frame_of (entry c pid page) }) → c.touched p ≡ true
   pub held : (p : FilePage) → c.touched p ≡ true → c.place p ≢ Home
 

@@ -1,6 +1,7 @@
 -- What memory holds, by functions: the frames, the processes by their numbers, and the file pages.
 use Rattle.std.specs.Prelude.{ℕ, ◌==◌, Bool, ◌&&◌, if◌then◌else◌, List, [], Option, Some, None, is_some, slice_index_or}
 use Rattle.std.specs.Option.{option_map}
+use Rattle.vm_types.specs.Limits.{top_level}
 use Rattle.vm_types.specs.declared.file.FilePage.{FilePage}
 use Rattle.vm_types.specs.declared.number.FrameNo.{FrameNo}
 use Rattle.vm_types.specs.declared.region.Attr.{Attr}
@@ -11,7 +12,8 @@ use Rattle.disk_model.specs.Stop.{Image}
 use Rattle.file_store.specs.Standing.{standing_page}
 use Rattle.file_store.specs.Store.{files_of}
 use Rattle.frames.specs.FrameTable.{FrameTable, bytes_of}
-use Rattle.sv39_walk.specs.Entry.{has_bit, frame_of}
+use Rattle.sv39_walk.specs.Entry.{frame_of}
+pub use Rattle.sv39_walk.specs.Entry.{is_private}
 use Rattle.page_tables.specs.Tree.{page_entry}
 use Rattle.regions.specs.declared.run.Run.{Run}
 use Rattle.regions.specs.RunList.{attr_at}
@@ -61,15 +63,11 @@ is_live c pid = is_some (c.root pid)
 
 abbrev pub entry_in : FrameTable → Option ℕ → ℕ → ℕ
 entry_in t None page = 0
-entry_in t (Some root) page = page_entry t 2 root page
+entry_in t (Some root) page = page_entry t top_level root page
 
 -- the number that stands for a page of a process, 0 where a table is missing or the process doesn't live
 unfoldable pub entry : Picture → ℕ → ℕ → ℕ
 entry c pid page = entry_in c.frames (c.root pid) page
-
--- bit 8: the frame that the entry names is the process's own
-abbrev pub is_private : ℕ → Bool
-is_private e = has_bit e 8
 
 -- the own copy that an entry names
 abbrev pub own_in : FrameTable → ℕ → Option (List ℕ)

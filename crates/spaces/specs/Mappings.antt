@@ -1,5 +1,6 @@
 -- The checks of an mmap, by what they ask: the numbers and files first, then the pages of the process.
 use Rattle.std.specs.Prelude.{ℕ, ◌+◌, ◌/◌, ◌%◌, ◌<◌, ◌≤◌, ◌≡◌, ◌^◌, ◌==◌, ◌&&◌, not, nat_lt, Bool, List, [], ◌∷◌, Option, Some, None, is_none}
+use Rattle.vm_types.specs.Limits.{user_end}
 use Rattle.regions.specs.declared.run.Run.{Run}
 use Rattle.regions.specs.RunList.{attr_at}
 use Rattle.vm_types.specs.declared.command.MapSource.{MapSource}
@@ -60,6 +61,6 @@ pub record IsAsked (len : ℕ) (source : MapSource) : Type 0 where
 pub record IsMapped (runs : List Run) (addr pages : ℕ) (attr : Attr) (placing : Placing) (first : ℕ) (next : List Run) : Type 0 where
   pub place : place_for placing (space_of runs) addr pages ≡ Some first
   pub fine : first_of (place_checks placing (space_of runs) pages attr (Some first)) ≡ None
-  pub high : first + pages ≤ 2 ^ 26
+  pub high : first + pages ≤ user_end
   pub map : (page : ℕ) → attr_at next page ≡ replaced (attr_at runs) first pages attr page
   pub user : IsUserMap (attr_at next)

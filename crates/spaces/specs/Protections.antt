@@ -1,5 +1,6 @@
 -- The checks of an mprotect of a row of pages, over the pages of a process.
 use Rattle.std.specs.Prelude.{ℕ, ◌≤◌, ◌≡◌, ◌^◌, not, nat_lt, List, [], ◌∷◌, ◌+◌, Option, None}
+use Rattle.vm_types.specs.Limits.{user_end}
 use Rattle.regions.specs.declared.run.Run.{Run}
 use Rattle.regions.specs.RunList.{attr_at}
 use Rattle.vm_types.specs.declared.permission.Prot.{Prot}
@@ -23,5 +24,5 @@ permit_checks files space first pages prot =
 -- A permission that is not refused: the row lies in the user pages, and these are the runs of the process with it.
 pub record IsPermitted (files : Files) (runs : List Run) (first pages : ℕ) (prot : Prot) (next : List Run) : Type 0 where
   pub fine : first_of (permit_checks files (space_of runs) first pages prot) ≡ None
-  pub high : first + pages ≤ 2 ^ 26
+  pub high : first + pages ≤ user_end
   pub map : (page : ℕ) → attr_at next page ≡ protected (attr_at runs) first pages (kept prot) page

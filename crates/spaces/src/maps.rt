@@ -1,5 +1,6 @@
 //! mmap.
 ghost use Rattle.std.specs.Prelude.{◌≡◌, ◌≤◌, ◌<◌, ◌+◌, ◌/◌, ◌^◌, Some, IfNone, IfSome, IfOk, IfErr, IsSome};
+ghost use Rattle.vm_types.specs.Limits.{user_start, user_end};
 ghost use Rattle.file_store.specs.Store.{files_of};
 ghost use Rattle.regions.specs.RunList.{attr_at};
 ghost use Rattle.vm_types.specs.Replies.{reply_of};
@@ -147,7 +148,7 @@ fn place_of(regions: &Regions, addr: u64, pages: u64, placing: Placing) -> Optio
     requires some { 0 < pages }
     requires few { pages ≤ 2 ^ 52 }
     ensures place { result ≡ place_for placing (space_of regions.now) addr pages }
-    ensures user { IfSome result (λ first. (16 ≤ first) × (first + pages ≤ 2 ^ 26)) }
+    ensures user { IfSome result (λ first. (user_start ≤ first) × (first + pages ≤ user_end)) }
 {
     match placing {
         Placing::Hint => match regions.place(addr, pages) {

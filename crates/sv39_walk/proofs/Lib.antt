@@ -1,2 +1,3 @@
 pub mod Way
 pub mod Entries
+pub mod Bits

@@ -34,6 +34,10 @@ is_accessed e = has_bit e 6
 abbrev pub is_dirty : ℕ → Bool
 is_dirty e = has_bit e 7
 
+-- bit 8, which is left to software (RSW): the frame that the entry names is the process's own
+abbrev pub is_private : ℕ → Bool
+is_private e = has_bit e 8
+
 -- PPN, bits 10 to 53
 unfoldable pub frame_of : ℕ → ℕ
 frame_of e = e / 2 ^ 10 % 2 ^ 44

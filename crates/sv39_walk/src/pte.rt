@@ -1,11 +1,18 @@
 //! An entry of a page table, by its named bits.
-ghost use Rattle.std.specs.Prelude.{◌≡◌, ◌<◌, ◌^◌, ◌==◌, true};
+ghost use Rattle.std.specs.Prelude.{◌≡◌, ◌<◌, ◌+◌, ◌^◌, ◌==◌, true};
 ghost use Rattle.frames.specs.FrameTable.{IsFrame};
 ghost use Rattle.sv39_walk.specs.Entry.{entry_at, pointer_to, is_pointer, frame_of};
 
 use byteorder::{ByteOrder, LittleEndian};
 use frames::Frames;
 use vm_types::{Access, FrameNo};
+
+// W, A and D as numbers.
+const WRITE: u64 = 1 << 2;
+
+const ACCESSED: u64 = 1 << 6;
+
+const DIRTY: u64 = 1 << 7;
 
 /// An entry of a page table (RISC-V Privileged Specification, "Sv39 page table entry"): V, R, W, X, U, G, A and D are
 /// bits 0 to 7, bits 8 and 9 are free for software, bits 10 to 53 are the physical page number, and bits 54 to 63
@@ -14,7 +21,7 @@ use vm_types::{Access, FrameNo};
 pub struct Pte(pub u64);
 
 impl Pte {
-    ghost use Rattle.sv39_walk.specs.Entry.{has_bit, is_valid, can_read, can_write, can_execute, is_user, is_accessed, is_dirty, is_reserved, is_leaf, grants};
+    ghost use Rattle.sv39_walk.specs.Entry.{has_bit, is_valid, can_read, can_write, can_execute, is_user, is_accessed, is_dirty, is_private, is_reserved, is_leaf, grants};
 
     /// The entry of that number.
     pub fn from_u64(number: u64) -> Pte
@@ -87,6 +94,45 @@ impl Pte {
         ensures { result ≡ is_dirty self.0 }
     {
         self.has(7)
+    }
+
+    /// Bit 8, which is left to software (RSW): the frame that the entry names is the process's own.
+    pub fn is_private(self) -> bool
+        ensures { result ≡ is_private self.0 }
+    {
+        self.has(8)
+    }
+
+    /// The entry with W clear.
+    pub fn without_write(self) -> Pte
+        requires { can_write self.0 ≡ true }
+        ensures { result.0 + 4 ≡ self.0 }
+    {
+        Pte(self.0 - WRITE)
+    }
+
+    /// The entry with A clear.
+    pub fn without_accessed(self) -> Pte
+        requires { is_accessed self.0 ≡ true }
+        ensures { result.0 + 64 ≡ self.0 }
+    {
+        Pte(self.0 - ACCESSED)
+    }
+
+    /// The entry with D clear.
+    pub fn without_dirty(self) -> Pte
+        requires { is_dirty self.0 ≡ true }
+        ensures { result.0 + 128 ≡ self.0 }
+    {
+        Pte(self.0 - DIRTY)
+    }
+
+    /// The frame of the physical page number, where that is under 2^32.
+    pub fn frame_number(self) -> FrameNo
+        requires { frame_of self.0 < 2 ^ 32 }
+        ensures { result.0 ≡ frame_of self.0 }
+    {
+        FrameNo(self.frame() as u32)
     }
 
     /// The physical page number, under 2^44.

@@ -114,6 +114,21 @@ fn bits_of_entries(rt: HostRuntime) {
     );
 }
 
+// Bits 10 to 53 name a frame, whatever stands below and above them.
+#[test]
+fn entries_with_a_bit_less(rt: HostRuntime) {
+    let leaf = Pte::from_u64(0x15d7);
+    assert!(rt; leaf.is_private());
+    assert_eq!(rt; leaf.without_write(), Pte(0x15d3));
+    assert_eq!(rt; leaf.without_accessed(), Pte(0x1597));
+    assert_eq!(rt; leaf.without_dirty(), Pte(0x1557));
+    assert_eq!(rt; leaf.frame_number(), FrameNo(5));
+    assert_eq!(rt;
+        Pte::from_u64(0x8000_0000_0000_1fff).frame_number(),
+        FrameNo(7)
+    );
+}
+
 #[test]
 fn a_pointer_in_a_table_leads_on(rt: HostRuntime) -> Result<(), Fail> {
     let mut frames = Frames::new(rt.alloc(), 8)?;

@@ -1,5 +1,6 @@
 //! The walk from a root through tables to a physical address, or to the reason why there is none.
 ghost use Rattle.std.specs.Prelude.{◌≡◌, ◌<◌, ◌≤◌, ◌^◌, true, false, MatchOption};
+ghost use Rattle.vm_types.specs.Limits.{top_level};
 ghost use Rattle.sv39_walk.specs.Entry.{frame_of};
 ghost use Rattle.frames.specs.FrameTable.{IsFrame, frame_count};
 ghost use Rattle.sv39_walk.specs.Walk.{translated, is_canonical, last_of, answer_of, index_of, leads_on};
@@ -40,7 +41,7 @@ pub enum WalkFault {
 /// The reason, exactly where there is one.
 #[tactic(auto, unfolding(crate::specs::Walk::translated))]
 pub fn walk(frames: &Frames, root: FrameNo, addr: u64, access: Access) -> Result<Phys, WalkFault>
-    ensures { result ≡ translated 2 frames.now root.0 addr access }
+    ensures { result ≡ translated top_level frames.now root.0 addr access }
 {
     if !canonical(addr) {
         return Err(WalkFault::NonCanonical);
@@ -54,7 +55,7 @@ pub fn walk(frames: &Frames, root: FrameNo, addr: u64, access: Access) -> Result
 
 #[tactic(auto, unfolding(crate::specs::Walk::is_canonical))]
 fn canonical(addr: u64) -> bool
-    ensures { result ≡ is_canonical 2 addr }
+    ensures { result ≡ is_canonical top_level addr }
 {
     let high = addr >> 38;
     high == 0 || high == 0x3ff_ffff
@@ -63,9 +64,9 @@ fn canonical(addr: u64) -> bool
 // The last entry on the way to the page, and its level.
 fn last_entry(frames: &Frames, root: FrameNo, page: u64) -> (u32, Pte)
     requires { IsFrame frames.now root.0 }
-    ensures last { result.1.0 ≡ (last_of frames.now page 2 root.0).1 }
-    ensures level { result.0 ≡ (last_of frames.now page 2 root.0).0 }
-    ensures in_levels { result.0 ≤ 2 }
+    ensures last { result.1.0 ≡ (last_of frames.now page top_level root.0).1 }
+    ensures level { result.0 ≡ (last_of frames.now page top_level root.0).0 }
+    ensures in_levels { result.0 ≤ top_level }
 {
     let mut table = root;
     let mut level = TOP_LEVEL;

@@ -2,6 +2,7 @@
 -- The rest is zero when written, and is not looked at. The format is our own.
 use Rattle.std.specs.Prelude.{ℕ, zero, suc, ◌+◌, ◌-◌, ◌*◌, ◌<◌, ◌≤◌, ◌≡◌, ◌⊎◌, List, ◌++◌, length, drop, replicate, slice_index, Option, Some, None, if◌then◌else◌, ◌==◌}
 use Rattle.std.specs.List.{flat_map}
+use Rattle.sync_journal.specs.Layout.{page_limit}
 use Rattle.byteorder.specs.Endian.{little_number, little_bytes}
 
 -- how many pages a map sector names
@@ -27,7 +28,7 @@ place_of homes h = place_among (λ j. slice_index homes j) h (length homes)
 
 -- at most 127 homes, each under the number of homes, none twice
 pub record AreHomes (count : ℕ) (homes : List ℕ) : Type 0 where
-  pub few : length homes ≤ 127
+  pub few : length homes ≤ page_limit
   pub inside : (j : ℕ) → j < length homes → slice_index homes j < count
   pub distinct : (i j : ℕ) → i < j → j < length homes → slice_index homes i ≡ slice_index homes j → ⊥
 
@@ -41,4 +42,4 @@ HasHomeTwice names n = (i : ℕ) × (j : ℕ) × (i < j) × (j < n) × (names i 
 
 -- a map that no commit writes: over 127 pages, a home that the device hasn't, or a home twice
 abbrev pub IsBadMap : ℕ → List ℕ → Type 0
-IsBadMap count map = (127 < count_in map) ⊎ (HasNoHome count (home_in map) (count_in map) ⊎ HasHomeTwice (home_in map) (count_in map))
+IsBadMap count map = (page_limit < count_in map) ⊎ (HasNoHome count (home_in map) (count_in map) ⊎ HasHomeTwice (home_in map) (count_in map))

@@ -1,7 +1,7 @@
 -- What a look at the journal finds.
 use Rattle.std.specs.Prelude.{ℕ, ◌≤◌, ◌≡◌, ⊤, false, List, take, Option, Some, None, Result, Ok, Err}
 use Rattle.disk_model.specs.Stop.{Image}
-use Rattle.sync_journal.specs.Layout.{home_count}
+use Rattle.sync_journal.specs.Layout.{home_count, page_limit}
 use Rattle.sync_journal.specs.Gate.{is_open}
 use Rattle.sync_journal.specs.Map.{AreHomes}
 use Rattle.sync_journal.specs.Standing.{IsOpenFor, IsBadJournal}
@@ -18,5 +18,5 @@ Finds sectors image homes (Err BadJournal) = IsBadJournal sectors image
 -- The first homes of the list are fit to be written.
 abbrev pub GivesHomes : ℕ → List ℕ → Result (Option ℕ) RecoverFault → Type 0
 GivesHomes sectors homes (Ok None) = ⊤
-GivesHomes sectors homes (Ok (Some count)) = (count ≤ 127) × AreHomes (home_count sectors) (take count homes)
+GivesHomes sectors homes (Ok (Some count)) = (count ≤ page_limit) × AreHomes (home_count sectors) (take count homes)
 GivesHomes sectors homes (Err fault) = ⊤

@@ -10,13 +10,17 @@ abbrev pub place_or_home : ℕ → Option ℕ → ℕ
 place_or_home h None = home_sector h
 place_or_home h (Some j) = body_sector j
 
+-- the journal map of an image
+abbrev pub map_of : Image → List ℕ
+map_of image = image map_sector
+
 -- where home page h stands under this gate and this map
 unfoldable pub standing_under : Bool → List ℕ → ℕ → ℕ
 standing_under gate map h = if gate then place_or_home h (place_among (home_in map) h (count_in map)) else home_sector h
 
 -- the first sector of the page that stands for home page h
 abbrev pub standing_at : Image → ℕ → ℕ
-standing_at image h = standing_under (is_open image) (image map_sector) h
+standing_at image h = standing_under (is_open image) (map_of image) h
 
 -- sector i of the page that stands for home page h
 abbrev pub standing : Image → ℕ → ℕ → List ℕ
@@ -34,13 +38,13 @@ pub record StandsFor (pages : ℕ → ℕ → List ℕ) (image : Image) : Type 0
 -- an open gate before a map that no commit writes
 pub record IsBadJournal (sectors : ℕ) (image : Image) : Type 0 where
   pub gate : is_open image ≡ true
-  pub map : IsBadMap (home_count sectors) (image map_sector)
+  pub map : IsBadMap (home_count sectors) (map_of image)
 
 -- The gate is open before a map that names these homes.
 pub record IsOpenFor (homes : List ℕ) (image : Image) : Type 0 where
   pub gate : is_open image ≡ true
-  pub count : count_in (image map_sector) ≡ length homes
-  pub each : (j : ℕ) → j < length homes → home_in (image map_sector) j ≡ slice_index homes j
+  pub count : count_in (map_of image) ≡ length homes
+  pub each : (j : ℕ) → j < length homes → home_in (map_of image) j ≡ slice_index homes j
 
 -- sector i of a page of 4,096 bytes
 abbrev pub sector_of : List ℕ → ℕ → List ℕ

@@ -2,7 +2,7 @@
 ghost use Rattle.std.specs.Prelude.{◌≡◌, ◌<◌, ◌≤◌, ◌⊎◌, ◌+◌, ℕ, [], length, IfSome, OnOk, IsErr, IsErrOf};
 ghost use Rattle.disk_model.specs.Stop.{Image, HasCause};
 ghost use Rattle.disk_model.specs.Moments.{LeavesOnly, Touches, Nothing};
-ghost use Rattle.sync_journal.specs.Layout.{gate_sector, map_sector, home_count, home_sector, IsCommitted, IsOutside, IsReplayed};
+ghost use Rattle.sync_journal.specs.Layout.{gate_sector, map_sector, home_count, home_sector, IsCommitted, IsOutside, IsReplayed, first_home_sector, page_limit};
 ghost use Rattle.sync_journal.specs.Gate.{closed_gate};
 ghost use Rattle.sync_journal.specs.Map.{AreHomes, map_bytes, place_of};
 ghost use Rattle.sync_journal.specs.Standing.{standing, joined, place_or_home};
@@ -115,7 +115,7 @@ impl Journal {
     // The first sector of the page that stands for a home.
     fn stands_at(&self, home: u32) -> u64
         ensures at { result ≡ place_or_home home (place_of (live_homes self.now) home) }
-        ensures inside { (result + 8 ≤ 1020) ⊎ (result ≡ home_sector home) }
+        ensures inside { (result + 8 ≤ first_home_sector) ⊎ (result ≡ home_sector home) }
     {
         match place(self.live(), home) {
             Some(j) => BODY + PAGE_SECTORS * j as u64,
@@ -125,7 +125,7 @@ impl Journal {
 
     // Writes the pages of a live journal to their homes and closes the gate; it is live no more.
     fn finish<D: SectorDisk>(&mut self, disk: &mut D) -> Result<(), DiskFault>
-        requires room { 1020 ≤ D.sector_count disk.old }
+        requires room { first_home_sector ≤ D.sector_count disk.old }
         requires live { AreHomes (home_count (D.sector_count disk.old)) (live_homes self.old) }
         requires rest { D.keeps_model disk.old → IsAtRest D.SectorDisk (live_homes self.old) disk.old }
         ensures run { Runs D.SectorDisk (IsReplayed (live_homes self.old)) disk.old disk.new }
@@ -146,7 +146,7 @@ impl Journal {
 
     // The journal is live with these homes.
     fn keep(&mut self, homes: &[u32])
-        requires { length homes.now ≤ 127 }
+        requires { length homes.now ≤ page_limit }
         ensures { live_homes self.new ≡ homes.now }
     {
         let mut list = self.homes;

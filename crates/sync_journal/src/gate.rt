@@ -1,6 +1,6 @@
 //! The gate of the journal: one sector, written and synced by itself.
 ghost use Rattle.std.specs.Prelude.{◌≡◌, ◌<◌, ◌≤◌, ℕ, true, false, List, OnOk, IsErr};
-ghost use Rattle.sync_journal.specs.Layout.{gate_sector, IsGate};
+ghost use Rattle.sync_journal.specs.Layout.{gate_sector, IsGate, first_home_sector};
 ghost use Rattle.sync_journal.specs.Gate.{open_sector, closed_sector, is_open_sector, is_open};
 ghost use Rattle.sync_journal.specs.Runs.{Runs};
 
@@ -33,7 +33,7 @@ pub(crate) fn is_open_gate(sector: &[u8; 512]) -> bool
 
 /// Opens the gate, and syncs.
 pub(crate) fn open_gate<D: SectorDisk>(disk: &mut D) -> Result<(), DiskFault>
-    requires { 1020 ≤ D.sector_count disk.old }
+    requires { first_home_sector ≤ D.sector_count disk.old }
     ensures run { Runs D.SectorDisk IsGate disk.old disk.new }
     ensures failed { IsErr result → D.failures disk.old < D.failures disk.new }
     ensures calm { OnOk result (D.failures disk.new ≡ D.failures disk.old) }
@@ -45,7 +45,7 @@ pub(crate) fn open_gate<D: SectorDisk>(disk: &mut D) -> Result<(), DiskFault>
 
 /// Closes the gate, by a sector of zeros, and syncs.
 pub(crate) fn close_gate<D: SectorDisk>(disk: &mut D) -> Result<(), DiskFault>
-    requires { 1020 ≤ D.sector_count disk.old }
+    requires { first_home_sector ≤ D.sector_count disk.old }
     ensures run { Runs D.SectorDisk IsGate disk.old disk.new }
     ensures failed { IsErr result → D.failures disk.old < D.failures disk.new }
     ensures calm { OnOk result (D.failures disk.new ≡ D.failures disk.old) }
@@ -57,7 +57,7 @@ pub(crate) fn close_gate<D: SectorDisk>(disk: &mut D) -> Result<(), DiskFault>
 }
 
 fn write_gate<D: SectorDisk>(disk: &mut D, gate: &[u8; 512]) -> Result<(), DiskFault>
-    requires { 1020 ≤ D.sector_count disk.old }
+    requires { first_home_sector ≤ D.sector_count disk.old }
     ensures run { Runs D.SectorDisk IsGate disk.old disk.new }
     ensures failed { IsErr result → D.failures disk.old < D.failures disk.new }
     ensures calm { OnOk result (D.failures disk.new ≡ D.failures disk.old) }

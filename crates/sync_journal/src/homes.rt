@@ -1,6 +1,6 @@
 //! The pages of an open journal, copied to their homes.
 ghost use Rattle.std.specs.Prelude.{◌≡◌, ◌<◌, ◌≤◌, ℕ, [], length, OnOk, IsErr};
-ghost use Rattle.sync_journal.specs.Layout.{gate_sector, home_count, IsHomeSector, IsReplayed};
+ghost use Rattle.sync_journal.specs.Layout.{gate_sector, home_count, IsHomeSector, IsReplayed, first_home_sector};
 ghost use Rattle.sync_journal.specs.Gate.{closed_sector};
 ghost use Rattle.sync_journal.specs.Map.{AreHomes};
 ghost use Rattle.sync_journal.specs.Standing.{IsOpenFor, AreCopied, standing};
@@ -14,7 +14,7 @@ use disk_model::{DiskFault, SectorDisk};
 
 /// Copies the pages of an open journal to their homes, and then closes the gate.
 pub(crate) fn replay<D: SectorDisk>(disk: &mut D, homes: &[u32]) -> Result<(), DiskFault>
-    requires room { 1020 ≤ D.sector_count disk.old }
+    requires room { first_home_sector ≤ D.sector_count disk.old }
     requires homes { AreHomes (home_count (D.sector_count disk.old)) homes.now }
     requires opened { D.keeps_model disk.old → IsOpenFor homes.now (D.content disk.old) }
     requires synced { D.keeps_model disk.old → (k : ℕ) → D.unsynced disk.old k → ⊥ }

@@ -1,5 +1,6 @@
 //! What the journal of a store keeps between two commits.
 ghost use Rattle.std.specs.Prelude.{◌≤◌};
+ghost use Rattle.sync_journal.specs.Layout.{page_limit};
 
 use crate::layout::PAGE_LIMIT;
 
@@ -11,5 +12,5 @@ pub struct Journal {
     pub(crate) homes: [u32; PAGE_LIMIT],
     /// How many they are: none where the gate is closed.
     pub(crate) count: usize,
-    ghost within: { count ≤ 127 },
+    ghost within: { count ≤ page_limit },
 }

@@ -2,6 +2,7 @@
 ghost use Rattle.std.specs.Prelude.{◌≡◌, ◌<◌, ◌≤◌, ◌⊎◌, ◌+◌, ◌*◌, ◌++◌, ℕ, length, take, drop, slice_index, MatchOption};
 ghost use Rattle.std.specs.Bool.{OnTrue, OnFalse};
 ghost use Rattle.std.specs.List.{flat_map};
+ghost use Rattle.sync_journal.specs.Layout.{page_limit};
 ghost use Rattle.byteorder.specs.Endian.{little_bytes};
 ghost use Rattle.sync_journal.specs.Map.{AreHomes, HasNoHome, HasHomeTwice, IsBadMap, map_bytes, count_in, home_in};
 
@@ -10,7 +11,7 @@ use byteorder::{ByteOrder, LittleEndian};
 
 /// The map sector of these homes; the rest of it is zero.
 pub(crate) fn map_sector(homes: &[u32]) -> [u8; 512]
-    requires { length homes.now ≤ 127 }
+    requires { length homes.now ≤ page_limit }
     ensures { result ≡ map_bytes homes.now }
 {
     let mut map = [0; 512];
@@ -20,7 +21,7 @@ pub(crate) fn map_sector(homes: &[u32]) -> [u8; 512]
 
 // Writes the count and the homes over the front of a map.
 fn write_map(map: &mut [u8], homes: &[u32])
-    requires few { length homes.now ≤ 127 }
+    requires few { length homes.now ≤ page_limit }
     requires room { length map.old ≡ 512 }
     ensures { map.new ≡ (little_bytes 4 (length homes.now) ++ flat_map (little_bytes 4) homes.now) ++ drop (4 + 4 * length homes.now) map.old }
 {
@@ -35,7 +36,7 @@ pub(crate) fn read_homes(
     limit: u64,
     homes: &mut [u32; PAGE_LIMIT],
 ) -> Option<usize>
-    ensures { MatchOption result (IsBadMap limit map.now) (λ count. (count ≡ count_in map.now) × (count ≤ 127)
+    ensures { MatchOption result (IsBadMap limit map.now) (λ count. (count ≡ count_in map.now) × (count ≤ page_limit)
         × ((j : ℕ) → j < count → slice_index homes.new j ≡ home_in map.now j) × AreHomes limit (take count homes.new)) }
 {
     let count = LittleEndian::read_u32(map) as usize;
@@ -52,7 +53,7 @@ pub(crate) fn read_homes(
 
 // Fills `homes` with the first numbers behind the count.
 fn read_numbers(map: &[u8], homes: &mut [u32])
-    requires few { length homes.old ≤ 127 }
+    requires few { length homes.old ≤ page_limit }
     requires room { length map.now ≡ 512 }
     ensures { (j : ℕ) → j < length homes.new → slice_index homes.new j ≡ home_in map.now j }
 {
@@ -61,7 +62,7 @@ fn read_numbers(map: &[u8], homes: &mut [u32])
 
 // Whether each home is under the limit, and none stands twice.
 pub(crate) fn are_homes(homes: &[u32], limit: u64) -> bool
-    requires { length homes.now ≤ 127 }
+    requires { length homes.now ≤ page_limit }
     ensures good { OnTrue result (AreHomes limit homes.now) }
     ensures bad { OnFalse result (HasNoHome limit (λ j. slice_index homes.now j) (length homes.now)
         ⊎ HasHomeTwice (λ j. slice_index homes.now j) (length homes.now)) }

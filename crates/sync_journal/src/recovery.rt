@@ -2,7 +2,7 @@
 ghost use Rattle.std.specs.Prelude.{◌≡◌, ◌<◌, ◌≤◌, ℕ, false, [], OnOk, IsErrOf};
 ghost use Rattle.disk_model.specs.Stop.{Image};
 ghost use Rattle.disk_model.specs.Moments.{LeavesOnly, Touches, Nothing};
-ghost use Rattle.sync_journal.specs.Layout.{gate_sector, IsRecovered};
+ghost use Rattle.sync_journal.specs.Layout.{gate_sector, IsRecovered, first_home_sector};
 ghost use Rattle.sync_journal.specs.Gate.{is_open, closed_gate};
 ghost use Rattle.sync_journal.specs.Runs.{Runs};
 ghost use Rattle.sync_journal.specs.Recovery.{Finds, GivesHomes};
@@ -25,7 +25,7 @@ use disk_model::SectorDisk;
 /// `BadJournal` comes exactly where the gate is open and the map names over 127 pages, a home that the device
 /// hasn't or a home twice, unless the device fails first. `Device` comes only where the device failed.
 pub fn recover<D: SectorDisk>(disk: &mut D) -> Result<(), RecoverFault>
-    requires { 1020 ≤ D.sector_count disk.old }
+    requires { first_home_sector ≤ D.sector_count disk.old }
 
     ensures size { D.sector_count disk.new ≡ D.sector_count disk.old }
     ensures kept { D.keeps_model disk.new → D.keeps_model disk.old }
@@ -68,7 +68,7 @@ pub fn stops_in_a_row<D: SectorDisk>(_disk: &D)
 
 // Recovers a device that has nothing unsynced.
 fn recover_synced<D: SectorDisk>(disk: &mut D) -> Result<(), RecoverFault>
-    requires room { 1020 ≤ D.sector_count disk.old }
+    requires room { first_home_sector ≤ D.sector_count disk.old }
     requires synced { D.keeps_model disk.old → (k : ℕ) → D.unsynced disk.old k → ⊥ }
 
     ensures size { D.sector_count disk.new ≡ D.sector_count disk.old }
@@ -105,7 +105,7 @@ fn find_open<D: SectorDisk>(
     disk: &mut D,
     homes: &mut [u32; PAGE_LIMIT],
 ) -> Result<Option<usize>, RecoverFault>
-    requires { 1020 ≤ D.sector_count disk.old }
+    requires { first_home_sector ≤ D.sector_count disk.old }
     ensures run { Runs D.SectorDisk Nothing disk.old disk.new }
     ensures device { IsErrOf result RecoverFault.Device → D.failures disk.old < D.failures disk.new }
     ensures calm { OnOk result (D.failures disk.new ≡ D.failures disk.old) }

@@ -1,6 +1,6 @@
 //! Pages and map of a commit, written to the journal before the gate is opened.
 ghost use Rattle.std.specs.Prelude.{◌≡◌, ◌<◌, ◌≤◌, ℕ, length, OnOk};
-ghost use Rattle.sync_journal.specs.Layout.{map_sector, IsJournalSector};
+ghost use Rattle.sync_journal.specs.Layout.{map_sector, IsJournalSector, first_home_sector, page_limit};
 ghost use Rattle.sync_journal.specs.Map.{map_bytes};
 ghost use Rattle.sync_journal.specs.Standing.{HoldsPages};
 ghost use Rattle.sync_journal.specs.Runs.{Runs};
@@ -19,8 +19,8 @@ pub(crate) fn stage<D: SectorDisk, S: PageSource>(
     homes: &[u32],
     source: &mut S,
 ) -> Result<(), CommitFault>
-    requires room { 1020 ≤ D.sector_count disk.old }
-    requires few { length homes.now ≤ 127 }
+    requires room { first_home_sector ≤ D.sector_count disk.old }
+    requires few { length homes.now ≤ page_limit }
     requires gives { (i : ℕ) → i < length homes.now → S.gives source.old i }
     ensures run { Runs D.SectorDisk IsJournalSector disk.old disk.new }
     ensures asks { Asks S.PageSource source.old source.new }
@@ -41,8 +41,8 @@ fn write_body<D: SectorDisk, S: PageSource>(
     count: usize,
     source: &mut S,
 ) -> Result<(), CommitFault>
-    requires room { 1020 ≤ D.sector_count disk.old }
-    requires few { count ≤ 127 }
+    requires room { first_home_sector ≤ D.sector_count disk.old }
+    requires few { count ≤ page_limit }
     requires gives { (i : ℕ) → i < count → S.gives source.old i }
     ensures run { Runs D.SectorDisk IsJournalSector disk.old disk.new }
     ensures asks { Asks S.PageSource source.old source.new }

@@ -6,7 +6,7 @@ use Rattle.vm_types.specs.declared.file.FilePage.{FilePage}
 use Rattle.vm_types.specs.declared.region.Attr.{Attr}
 use Rattle.vm_types.specs.declared.region.Backing.{Backing}
 use Rattle.vm_types.specs.declared.region.Backing.TheVariants as Backings
-use Rattle.vm_types.specs.Attributes.{file_page_after, backing_after, attr_after}
+use Rattle.vm_types.specs.Attributes.{file_page_after, backing_after, attr_after, backed_by}
 use Rattle.regions.specs.declared.run.Run.{Run}
 use Rattle.regions.specs.RunList.{attr_at, IsNextRun}
 use Rattle.frames.specs.declared.role.Role.TheVariants.{Free, Table, Private, Cache}
@@ -31,7 +31,7 @@ use Rattle.residency.proofs.Used.{fit_steady, steady_fit}
 use Rattle.residency.proofs.Views.{views_set}
 use Rattle.residency.proofs.Ways.{by_page}
 use Rattle.syncing.specs.declared.chosen.CachedPage.{CachedPage}
-use Rattle.syncing.specs.Settling.{cached_at, IsCached, AreCached, LosesDirty, ClearsLeaf, ClearsDirty, IsClearAt, backed_by, IsRunOf, IsPageOver}
+use Rattle.syncing.specs.Settling.{cached_at, IsCached, AreCached, LosesDirty, ClearsLeaf, ClearsDirty, IsClearAt, IsRunOf, IsPageOver}
 use Rattle.syncing.proofs.Dropping.{DropsDirty, dropped, valid_zero}
 
 -- the same with other frames

@@ -1,5 +1,6 @@
 -- What an msync takes of memory.
 use Rattle.std.specs.Prelude.{ℕ, ◌+◌, ◌<◌, ◌≤◌, ◌≡◌, ◌≢◌, ◌==◌, ◌&&◌, Bool, true, false, List, [], get_or, Option, Some, None}
+use Rattle.vm_types.specs.Limits.{msync_pages}
 use Rattle.vm_types.specs.declared.command.MsyncMode.{MsyncMode}
 use Rattle.vm_types.specs.declared.file.FilePage.{FilePage}
 use Rattle.vm_types.specs.declared.refusal.Errno.TheVariants.{ENOSPC, EIO}
@@ -54,7 +55,7 @@ is_chosen touched map first count page = touched page && is_shared_in map first 
 -- Behind the first used places of a list stand the file pages that pass and aren't among those, each once.
 pub record Appends (passes : FilePage → Bool) (old new : List FilePage) (used now : ℕ) : Type 0 where
   pub order : used ≤ now
-  pub few : now ≤ 127
+  pub few : now ≤ msync_pages
   pub kept : (i : ℕ) → i < used → page_at new i ≡ page_at old i
   pub each : (i : ℕ) → used ≤ i → i < now → passes (page_at new i) ≡ true
   pub once : (i j : ℕ) → i < j → used ≤ j → j < now → page_at new i ≢ page_at new j

@@ -1,9 +1,10 @@
 -- What becomes of memory once file pages were committed.
 use Rattle.std.specs.Prelude.{◌≡◌, ◌≢◌, ℕ, ◌+◌, ◌-◌, ◌<◌, ◌≤◌, ◌^◌, ◌⊎◌, true, false, List, length, get_or, Option, Some, None}
+use Rattle.vm_types.specs.Limits.{top_level, user_start, user_end}
 use Rattle.vm_types.specs.declared.file.FilePage.{FilePage}
 use Rattle.vm_types.specs.declared.region.Backing.{Backing}
 use Rattle.vm_types.specs.declared.region.Backing.TheVariants.{Anon, Private, Shared}
-use Rattle.vm_types.specs.Attributes.{attr_after}
+use Rattle.vm_types.specs.Attributes.{attr_after, backed_by}
 use Rattle.vm_types.specs.Files.{trimmed}
 use Rattle.frames.specs.declared.role.Role.TheVariants.{Table}
 use Rattle.frames.specs.FrameTable.{frame_count, bytes_of, role_of, IsFrame}
@@ -98,7 +99,7 @@ pub record ClearsDirty (over : ℕ → Type 0) (old new : Picture) : Type 0 wher
   pub bytes : (n : ℕ) → role_of old.frames n ≢ Table → bytes_of new.frames n ≡ bytes_of old.frames n
   pub roles : (n : ℕ) → role_of new.frames n ≡ role_of old.frames n
   pub views : (pid page : ℕ) → view new pid page ≡ view old pid page
-  pub entries : (pid page : ℕ) → IsPage 2 page → (entry new pid page ≡ entry old pid page) ⊎ ClearsLeaf over (entry old pid page) (entry new pid page)
+  pub entries : (pid page : ℕ) → IsPage top_level page → (entry new pid page ≡ entry old pid page) ⊎ ClearsLeaf over (entry old pid page) (entry new pid page)
 
 -- the frame is that of one of these pages
 abbrev pub IsFrameIn : List CachedPage → ℕ → Type 0
@@ -114,19 +115,13 @@ AreClearIn c pid first end list = (i k : ℕ) → i < length list → first ≤ 
 
 -- nor for any page of the process
 abbrev pub AreClear : Picture → ℕ → List CachedPage → Type 0
-AreClear c pid list = (i k : ℕ) → i < length list → IsPage 2 k → IsClearAt c pid k (frame_at list i)
-
--- the file page that stands behind a page
-abbrev pub backed_by : Backing → Option FilePage
-backed_by Anon = None
-backed_by (Private p) = Some p
-backed_by (Shared p) = Some p
+AreClear c pid list = (i k : ℕ) → i < length list → IsPage top_level k → IsClearAt c pid k (frame_at list i)
 
 -- a run of user pages of a process
 pub record IsRunOf (c : Picture) (pid : ℕ) (run : Run) : Type 0 where
-  pub low : 16 ≤ run.first
+  pub low : user_start ≤ run.first
   pub nonempty : run.first < run.end
-  pub high : run.end ≤ 2 ^ 26
+  pub high : run.end ≤ user_end
   pub mapped : (k : ℕ) → run.first ≤ k → k < run.end → c.at pid k ≡ Some (attr_after run.attr (k - run.first))
 
 -- page k of the run stands on that file page
@@ -140,7 +135,7 @@ pub record IsPageOver (run : Run) (p : FilePage) (k : ℕ) : Type 0 where
 pub record Settles (old new : Picture) (list : List CachedPage) : Type 0 where
   pub root : (pid : ℕ) → new.root pid ≡ old.root pid
   pub views : (pid page : ℕ) → view new pid page ≡ view old pid page
-  pub entries : (pid page : ℕ) → IsPage 2 page → (entry new pid page ≡ entry old pid page) ⊎ ClearsLeaf (IsFrameIn list) (entry old pid page) (entry new pid page)
+  pub entries : (pid page : ℕ) → IsPage top_level page → (entry new pid page ≡ entry old pid page) ⊎ ClearsLeaf (IsFrameIn list) (entry old pid page) (entry new pid page)
   pub place : (p : FilePage) → new.place p ≡ old.place p
   pub files : (f : ℕ) → new.files f ≡ old.files f
   pub cleaned : (i : ℕ) → i < length list → new.touched (cached_at list i).page ≡ false
@@ -162,4 +157,4 @@ pub record LosesTouched (old new : Picture) (e e' : ℕ) : Type 0 where
 
 -- Every entry of every process is the number that it was, but for D of leaves over file pages that were made durable.
 abbrev pub KeepsEntries : Picture → Picture → Type 0
-KeepsEntries old new = (pid page : ℕ) → IsPage 2 page → (entry new pid page ≡ entry old pid page) ⊎ LosesTouched old new (entry old pid page) (entry new pid page)
+KeepsEntries old new = (pid page : ℕ) → IsPage top_level page → (entry new pid page ≡ entry old pid page) ⊎ LosesTouched old new (entry old pid page) (entry new pid page)

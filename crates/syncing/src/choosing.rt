@@ -1,5 +1,6 @@
 //! How an msync is judged, and which file pages it takes: the touched ones behind the shared pages of its range.
 ghost use Rattle.std.specs.Prelude.{◌≡◌, ◌≤◌, ◌<◌, ◌+◌, ◌-◌, ◌^◌, ℕ, IfOk, OnErr};
+ghost use Rattle.vm_types.specs.Limits.{msync_pages};
 ghost use Rattle.vm_types.specs.Attributes.{backing_fits};
 ghost use Rattle.vm_types.specs.Rows.{IsUserMap};
 ghost use Rattle.vm_types.specs.State.{State};
@@ -105,7 +106,7 @@ fn choose_behind(
 ) -> Result<usize, TooMany>
     requires count { count < 2 ^ 32 }
     requires row { backing_fits backing count }
-    requires few { used ≤ 127 }
+    requires few { used ≤ msync_pages }
     ensures ok { IfOk result (Appends (is_taken_behind (is_touched cache.now) backing count) list.old list.new used) }
     ensures too_many { OnErr result (Overflows (is_taken_behind (is_touched cache.now) backing count) list.old used) }
 {

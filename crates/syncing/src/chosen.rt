@@ -1,5 +1,6 @@
 //! The file pages that an msync makes durable.
 ghost use Rattle.std.specs.Prelude.{◌≡◌, ◌≤◌, length};
+ghost use Rattle.vm_types.specs.Limits.{msync_pages};
 
 use vm_types::{Errno, FilePage, FrameNo, MSYNC_PAGES};
 
@@ -9,8 +10,8 @@ pub(crate) struct Chosen {
     pub list: [FilePage; MSYNC_PAGES],
     /// How many pages of the list there are.
     pub count: usize,
-    pub ghost few: { count ≤ 127 },
-    pub ghost room: { length list ≡ 127 },
+    pub ghost few: { count ≤ msync_pages },
+    pub ghost room: { length list ≡ msync_pages },
 }
 
 /// How an msync is judged.

@@ -1,21 +1,18 @@
 //! D is cleared in the entries over the frames of file pages: those of every process, whatever mapping they are in.
 ghost use Rattle.std.specs.Prelude.{◌≡◌, ◌≤◌, ◌<◌, ◌-◌, ◌^◌, ℕ, true, Some, IfSome, IfNone};
+ghost use Rattle.vm_types.specs.Limits.{user_start, user_end};
+ghost use Rattle.vm_types.specs.Attributes.{backed_by};
 ghost use Rattle.vm_types.specs.Attributes.{attr_after};
-ghost use Rattle.sv39_walk.specs.Entry.{is_dirty};
 ghost use Rattle.regions.specs.RunList.{IsNextRun};
 ghost use Rattle.residency.specs.Picture.{picture_of};
 ghost use Rattle.residency.specs.Parts.{IsFit};
-ghost use Rattle.syncing.specs.Settling.{IsCached, AreCached, KeepsAllButFrames, ClearsDirty, AreClear, AreClearIn, IsClearAt, IsFrameIn, LosesDirty, backed_by, IsRunOf, IsPageOver};
+ghost use Rattle.syncing.specs.Settling.{IsCached, AreCached, KeepsAllButFrames, ClearsDirty, AreClear, AreClearIn, IsClearAt, IsFrameIn, IsRunOf, IsPageOver};
 
 use crate::chosen::CachedPage;
 use page_tables::{Entry, entry, set};
 use regions::Run;
 use residency::Core;
-use sv39_walk::Pte;
-use vm_types::{Backing, FilePage, FrameNo, Pid, Vpn};
-
-/// D, the bit of an entry that says that the page was written (RISC-V Privileged Specification, "Sv39 page table entry").
-const DIRTY: u64 = 1 << 7;
+use vm_types::{FilePage, FrameNo, Pid, Vpn};
 
 /// Clears D in each entry of a process, where it lives, over the frames of these file pages: run by run, each file page has
 /// at most one page of a run.
@@ -54,7 +51,7 @@ fn clear_dirty_in<D, E>(
     ensures clears { ClearsDirty (IsFrameIn pages.now) (picture_of core.old) (picture_of core.new) }
     ensures clear { AreClearIn (picture_of core.new) pid run.first run.end pages.now }
 {
-    let Some(first) = file_page_of(run.attr.backing) else {
+    let Some(first) = run.attr.backing.file_page() else {
         return;
     };
     for i in 0..pages.len() {
@@ -91,7 +88,7 @@ fn clear_dirty_over<D, E>(
 fn clear_dirty_at<D, E>(core: &mut Core<D, E>, pid: Pid, root: FrameNo, page: Vpn, frame: FrameNo)
     requires fit { IsFit (picture_of core.old) }
     requires lives { (picture_of core.old).root pid ≡ Some root.0 }
-    requires user { page < 2 ^ 26 }
+    requires user { page < user_end }
     ensures fit { IsFit (picture_of core.new) }
     ensures beside { KeepsAllButFrames core.old core.new }
     ensures clears { ClearsDirty (λ n. n ≡ frame.0) (picture_of core.old) (picture_of core.new) }
@@ -103,35 +100,17 @@ fn clear_dirty_at<D, E>(core: &mut Core<D, E>, pid: Pid, root: FrameNo, page: Vp
                 &mut core.frames,
                 root,
                 page,
-                Entry::Leaf(without_dirty(leaf)),
+                Entry::Leaf(leaf.without_dirty()),
             );
         }
     }
 }
 
-/// The entry with D clear.
-fn without_dirty(leaf: Pte) -> Pte
-    requires { is_dirty leaf.0 ≡ true }
-    ensures { LosesDirty leaf.0 result.0 }
-{
-    Pte::from_u64(leaf.to_u64() - DIRTY)
-}
-
-/// The file page that stands behind a page, shared or private.
-fn file_page_of(backing: Backing) -> Option<FilePage>
-    ensures { result ≡ backed_by backing }
-{
-    match backing {
-        Backing::Anon => None,
-        Backing::Private(page) | Backing::Shared(page) => Some(page),
-    }
-}
-
 /// The page of a run, the first of which stands on `first`, that stands on this file page.
 fn page_over(run: Run, first: FilePage, page: FilePage) -> Option<Vpn>
-    requires low { 16 ≤ run.first }
+    requires low { user_start ≤ run.first }
     requires order { run.first ≤ run.end }
-    requires high { run.end ≤ 2 ^ 26 }
+    requires high { run.end ≤ user_end }
     requires first { backed_by run.attr.backing ≡ Some first }
     ensures some { IfSome result (λ k. IsPageOver run page k) }
     ensures none { IfNone result ((k : ℕ) → IsPageOver run page k → ⊥) }

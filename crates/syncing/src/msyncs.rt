@@ -1,5 +1,6 @@
 //! msync: file pages made durable through the store.
 ghost use Rattle.std.specs.Prelude.{◌≡◌, ◌≢◌, ◌≤◌, ◌<◌, ◌⊎◌, ℕ, true, Some, None, length, take};
+ghost use Rattle.vm_types.specs.Limits.{msync_pages};
 ghost use Rattle.vm_types.specs.Replies.{reply_of};
 ghost use Rattle.vm_types.specs.State.{State};
 ghost use Rattle.vm_types.specs.Step.{outcome, commits};
@@ -110,7 +111,7 @@ fn commit<D: SectorDisk, E>(core: &mut Core<D, E>, chosen: &Chosen) -> Answer
 /// The frames that touched pages lie in.
 fn cached_pages<D, E>(core: &Core<D, E>, pages: &[FilePage]) -> [CachedPage; MSYNC_PAGES]
     requires fit { IsFit (picture_of core.now) }
-    requires few { length pages.now ≤ 127 }
+    requires few { length pages.now ≤ msync_pages }
     requires touched { (i : ℕ) → i < length pages.now → (picture_of core.now).touched (page_at pages.now i) ≡ true }
     ensures { HasFrames (picture_of core.now) pages.now (take (length pages.now) result) }
 {

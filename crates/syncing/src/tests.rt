@@ -1,6 +1,7 @@
 //! msync over a formatted store in memory. The expected replies and bytes are the manual page's and our own choices, worked
 //! out by hand.
 ghost use Rattle.std.specs.Prelude.{◌≡◌, ◌≤◌, ◌<◌, ◌+◌, ◌^◌, ℕ, true, None, IfOk, OnOk};
+ghost use Rattle.vm_types.specs.Limits.{user_start, user_end};
 ghost use Rattle.residency.specs.Parts.{IsFit};
 ghost use Rattle.residency.specs.Picture.{picture_of, entry, is_live};
 ghost use Rattle.syncing.specs.Shows.{IsSoundCore};
@@ -67,9 +68,9 @@ fn spawn<D, E>(core: &mut Core<D, E>, pid: Pid) -> Result<(), Stall>
 // Maps pages of the file, shared, into a process that has no entry yet.
 fn map<D, E>(core: &mut Core<D, E>, pid: Pid, first: u64, pages: u64) -> Result<(), TooManyRuns>
     requires fit { IsFit (picture_of core.old) }
-    requires low { 16 ≤ first }
+    requires low { user_start ≤ first }
     requires some { 0 < pages }
-    requires high { first + pages ≤ 2 ^ 26 }
+    requires high { first + pages ≤ user_end }
     requires live { is_live (picture_of core.old) pid ≡ true }
     requires bare { (page : ℕ) → entry (picture_of core.old) pid page ≡ 0 }
     ensures fit { OnOk result (IsFit (picture_of core.new)) }

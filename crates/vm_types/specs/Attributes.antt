@@ -1,11 +1,23 @@
 -- What the pages after a given one are, where mapped pages follow one another. mmap(2): a mapping of a file
 -- begins at an offset of the file, and its pages are the file's from there on.
-use Rattle.std.specs.Prelude.{ℕ, ◌+◌, ◌≤◌, ◌^◌, Bool, true, false, ◌==◌, ◌&&◌}
+use Rattle.std.specs.Prelude.{ℕ, ◌+◌, ◌≤◌, ◌^◌, Bool, true, false, ◌==◌, ◌&&◌, Option, Some, None}
 use Rattle.vm_types.specs.declared.file.FilePage.{FilePage}
 use Rattle.vm_types.specs.declared.permission.Prot.{Prot}
 use Rattle.vm_types.specs.declared.region.Attr.{Attr}
 use Rattle.vm_types.specs.declared.region.Backing.{Backing}
 use Rattle.vm_types.specs.declared.region.Backing.TheVariants.{Anon, Private, Shared}
+
+-- whether a store to a page goes to what stands behind it, so that the process needs no copy of its own: MAP_SHARED
+abbrev pub is_shared : Backing → Bool
+is_shared Anon = false
+is_shared (Private page) = false
+is_shared (Shared page) = true
+
+-- the file page that stands behind a page, whether stores go to it or not
+abbrev pub backed_by : Backing → Option FilePage
+backed_by Anon = None
+backed_by (Private page) = Some page
+backed_by (Shared page) = Some page
 
 -- the file page so many pages further on
 abbrev pub file_page_after : FilePage → ℕ → FilePage

@@ -12,10 +12,14 @@ abbrev pub is_past_end_of : Option FileInfo → ℕ → Bool
 is_past_end_of None page = true
 is_past_end_of (Some info) page = nat_le info.length (4096 * page)
 
+-- how many bytes of a page lie inside a file of so many bytes
+abbrev pub bytes_inside : ℕ → ℕ → ℕ
+bytes_inside length page = min 4096 (length - 4096 * page)
+
 -- how many bytes of a page lie inside its file
 abbrev pub inside_of : Option FileInfo → ℕ → ℕ
 inside_of None page = 0
-inside_of (Some info) page = min 4096 (info.length - 4096 * page)
+inside_of (Some info) page = bytes_inside info.length page
 
 -- a page with zeros from byte n on
 abbrev pub cut : ℕ → List ℕ → List ℕ

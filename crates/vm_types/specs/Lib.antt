@@ -6,6 +6,7 @@ pub mod Checks
 pub mod Counting
 pub mod Files
 pub mod History
+pub mod Limits
 pub mod Mapping
 pub mod Msync
 pub mod Permission

@@ -1,6 +1,7 @@
 -- Where a mapping goes. mmap(2): an address that isn't fixed is a hint about where to place the mapping; which
 -- place is taken is our choice.
 use Rattle.std.specs.Prelude.{ℕ, ◌≡◌, refl, suc, zero, ◌+◌, ◌/◌, ◌^◌, Bool, true, false, not, ◌==◌, ◌&&◌, leb, if◌then◌else◌, Option, Some, None, is_none}
+use Rattle.vm_types.specs.Limits.{user_start, user_end}
 use Rattle.vm_types.specs.declared.region.Attr.{Attr}
 
 -- whether no page of the row of count pages from first on is mapped
@@ -10,11 +11,11 @@ is_free map first (suc count) = is_none (map (first + count)) && is_free map fir
 
 -- whether the whole row is in the user pages, which are 16 up to, not including, 2 ^ 26, and free
 unfoldable pub is_place : (ℕ → Option Attr) → ℕ → ℕ → Bool
-is_place map count first = leb 16 first && (leb (first + count) (2 ^ 26) && is_free map first count)
+is_place map count first = leb user_start first && (leb (first + count) user_end && is_free map first count)
 
 -- whether the whole row is in the user pages
 abbrev pub in_user_pages : ℕ → ℕ → Bool
-in_user_pages first count = leb 16 first && leb (first + count) (2 ^ 26)
+in_user_pages first count = leb user_start first && leb (first + count) user_end
 
 -- the place of a mapping that must be at its address, whatever is mapped there
 abbrev pub fixed_place : ℕ → ℕ → Option ℕ
@@ -28,7 +29,7 @@ lowest_from map count first (suc pages) =
 
 -- the lowest page where a row of count pages fits
 unfoldable pub lowest_place : (ℕ → Option Attr) → ℕ → Option ℕ
-lowest_place map count = lowest_from map count 16 (2 ^ 26)
+lowest_place map count = lowest_from map count user_start user_end
 
 -- the place of a mapping of count pages: the hint's page, where the hint isn't 0 and the row fits there, else the
 -- lowest page where it fits

@@ -1,6 +1,7 @@
 -- Rows of neighbouring pages, and what the calls on ranges do to a map from page to attributes. mmap(2) with
 -- MAP_FIXED, munmap(2), mprotect(2).
 use Rattle.std.specs.Prelude.{ℕ, suc, zero, ◌+◌, ◌-◌, Bool, true, ◌&&◌, leb, ltb, if◌then◌else◌, ◌≤◌, ◌<◌, ◌^◌, Option, Some, None, is_some, option_map, IsSome, IfSome}
+use Rattle.vm_types.specs.Limits.{user_start, user_end}
 use Rattle.vm_types.specs.declared.permission.Prot.{Prot}
 use Rattle.vm_types.specs.declared.region.Attr.{Attr}
 use Rattle.vm_types.specs.Attributes.{attr_after, backing_fits, with_prot}
@@ -29,5 +30,5 @@ is_covered map first (suc count) = is_some (map (first + count)) && is_covered m
 
 -- only user pages are mapped, which are 16 up to, not including, 2 ^ 26, and file pages are under 2 ^ 32
 pub record IsUserMap (map : ℕ → Option Attr) : Type 0 where
-  pub user_pages : (page : ℕ) → IsSome (map page) → (16 ≤ page) × (page < 2 ^ 26)
+  pub user_pages : (page : ℕ) → IsSome (map page) → (user_start ≤ page) × (page < user_end)
   pub file_pages : (page : ℕ) → IfSome (map page) (λ attr. backing_fits attr.backing 1)

@@ -1,6 +1,7 @@
 -- Runs: the longest rows of neighbouring mapped pages with equal permission and equal backing, where file pages
 -- follow one another. proc_pid_maps(5) shows such rows, and mmap(2) limits their number (ENOMEM).
 use Rattle.std.specs.Prelude.{ℕ, suc, zero, ◌+◌, ◌^◌, Bool, false, not, if◌then◌else◌, Option, Some, None}
+use Rattle.vm_types.specs.Limits.{user_end}
 use Rattle.vm_types.specs.declared.region.Attr.{Attr}
 use Rattle.vm_types.specs.Attributes.{attr_after, attr_eq}
 
@@ -26,4 +27,4 @@ runs_below map (suc page) = if begins_run map page then runs_below map page + 1 
 
 -- how many runs the map of user pages has
 unfoldable pub run_count : (ℕ → Option Attr) → ℕ
-run_count map = runs_below map (2 ^ 26)
+run_count map = runs_below map user_end

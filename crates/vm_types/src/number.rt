@@ -1,5 +1,6 @@
 //! Numbers that are no mere numbers: processes, pages, frames, slots and physical addresses.
 ghost use Rattle.std.specs.Prelude.{◌≡◌, ◌<◌, ◌≤◌, ◌^◌, IfSome, IsSome, ◌↔◌};
+ghost use Rattle.vm_types.specs.Limits.{user_start, user_end};
 
 use crate::{USER_END, USER_START};
 use std::marker::Model;
@@ -59,12 +60,13 @@ pub struct Vpn {
 
 impl Model for Vpn {
     ghost use Rattle.std.specs.Prelude.{ℕ, ◌≤◌, ◌<◌, ◌^◌};
+    ghost use Rattle.vm_types.specs.Limits.{user_start, user_end};
 
     ghost Value = { ℕ };
 
     ghost view = { λ v. v.page };
 
-    ghost invariant = { λ v. (16 ≤ v.page) × (v.page < 2 ^ 26) };
+    ghost invariant = { λ v. (user_start ≤ v.page) × (v.page < user_end) };
 
     ghost inverse = { λ n. record { page = n } };
 }
@@ -73,7 +75,7 @@ impl Vpn {
     /// The page of that number; `None` exactly where it is no user page.
     pub fn new(number: u64) -> Option<Vpn>
         ensures found { IfSome result (λ page. page ≡ number) }
-        ensures known { IsSome result ↔ ((16 ≤ number) × (number < 2 ^ 26)) }
+        ensures known { IsSome result ↔ ((user_start ≤ number) × (number < user_end)) }
     {
         if number >= USER_START && number < USER_END {
             Some(Vpn { page: number })
@@ -85,7 +87,7 @@ impl Vpn {
     /// The number, 16 to 67,108,863.
     pub fn get(self) -> u64
         ensures number { result ≡ self }
-        ensures range { (16 ≤ result) × (result < 2 ^ 26) }
+        ensures range { (user_start ≤ result) × (result < user_end) }
     {
         self.page
     }

@@ -51,6 +51,17 @@ fn write_is_kept_with_read(rt: HostRuntime) {
 }
 
 #[test]
+fn what_stands_behind_a_page(rt: HostRuntime) {
+    let page = FilePage { file: 3, page: 7 };
+    let backings = [Backing::Anon, Backing::Private(page), Backing::Shared(page)];
+    assert_eq!(rt; backings.map(Backing::is_shared), [false, false, true]);
+    assert_eq!(rt;
+        backings.map(Backing::file_page),
+        [None, Some(page), Some(page)]
+    );
+}
+
+#[test]
 fn refusals_have_their_numbers(rt: HostRuntime) {
     assert_eq!(rt; Errno::ESRCH.number(), 3);
     assert_eq!(rt; Errno::EOVERFLOW.number(), 75);

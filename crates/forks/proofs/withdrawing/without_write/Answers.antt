@@ -3,16 +3,11 @@ use Rattle.sv39_walk.specs.Entry.{is_valid, is_leaf, can_write}
 use Rattle.page_tables.specs.Entry.{IsEntry, number_of}
 use Rattle.page_tables.specs.declared.forms.Entry.{Entry}
 use Rattle.forks.specs.Steps.{Weakens}
-use Rattle.forks.proofs.Weaker.{weaker_leaf, weaker_other, still_leaf, least_written}
+use Rattle.forks.proofs.Weaker.{weaker_leaf, weaker_other, still_leaf}
 use Rattle.forks.proofs.withdrawing.without_write.Goals as goal
 
 pub returns-in_default : goal.returns-in_default
 returns-in_default c = record { form = tt; weaker = tt; same = weaker_other c.args.entry c.in_default.not-Leaf }
-
-pub overflow_sub-to_u64 : goal.overflow_sub-to_u64
-overflow_sub-to_u64 c =
-    let write : can_write c.in-Leaf.leaf.0 ≡ true = sym c.is_writable.ensures ∙ c.if-not-is_writable.false in
-    omega (arith, least_written c.in-Leaf.leaf.0 write, c.to_u64.ensures)
 
 pub returns-clause-weaker : goal.returns-clause-weaker
 returns-clause-weaker c =
@@ -20,11 +15,12 @@ returns-clause-weaker c =
     let form = subst F c.in-Leaf.is c.requires in
     let write : can_write c.in-Leaf.leaf.0 ≡ true = sym c.is_writable.ensures ∙ c.if-not-is_writable.false in
     let W : Entry → Type 0 = λ x. Weakens (number_of x) (c.in-Leaf.leaf.0 - 4) in
-    rw (c.from_u64.ensures, c.to_u64.ensures) (subst W (sym c.in-Leaf.is) (weaker_leaf c.in-Leaf.leaf.0 form.0 write))
+    let number : c.without_write.result.0 ≡ c.in-Leaf.leaf.0 - 4 = omega (arith, c.without_write.ensures) in
+    rw number (subst W (sym c.in-Leaf.is) (weaker_leaf c.in-Leaf.leaf.0 form.0 write))
 
 pub returns-clause-form : goal.returns-clause-form
 returns-clause-form c =
     let F : Entry → Type 0 = λ x. IsEntry x in
     let form = subst F c.in-Leaf.is c.requires in
-    still_leaf (number_of c.args.entry) c.from_u64.result.0 (returns-clause-weaker c)
+    still_leaf (number_of c.args.entry) c.without_write.result.0 (returns-clause-weaker c)
     (ap (λ x. is_valid (number_of x)) c.in-Leaf.is ∙ form.0) (ap (λ x. is_leaf (number_of x)) c.in-Leaf.is ∙ form.1)

@@ -55,12 +55,12 @@ is_own g c = ap is_private (sym (is_entry g c)) ∙ sym c.is_private.ensures ∙
 
 releases : (g : Over) (c : goal.After-core-2-1 g) → Releases c.set_in.new.frames c.release.new.self (frame_of (entry (picture_of c.args.core.now) c.args.pid c.args.page))
 releases g c =
-    let at : c.frame_in.result.0 ≡ frame_of (entry (picture_of c.args.core.now) c.args.pid c.args.page) = c.frame_in.ensures ∙ ap frame_of (is_entry g c) in
+    let at : c.frame_number.result.0 ≡ frame_of (entry (picture_of c.args.core.now) c.args.pid c.args.page) = c.frame_number.ensures ∙ ap frame_of (is_entry g c) in
     let P : ℕ → Type 0 = λ n. Releases c.set_in.new.frames c.release.new.self n in
     subst P at c.release.ensures.change
 
-pub frame_in-requires : goal.frame_in-requires
-frame_in-requires g c =
+pub frame_number-requires : goal.frame_number-requires
+frame_number-requires g c =
     let old : Picture = picture_of c.args.core.now in
     let root = c.requires.root in
     let is = c.number_in-number.ensures c.args.root.0 c.args.page c.requires.place (ap (λ x. x % 512) (sym c.get.ensures.number)) ∙ sym (entry-of old c.args.pid c.args.root.0 c.args.page root) in
@@ -77,13 +77,13 @@ release-requires g c =
     let root = c.requires.root in
     let is = c.number_in-number.ensures c.args.root.0 c.args.page c.requires.place (ap (λ x. x % 512) (sym c.get.ensures.number)) ∙ sym (entry-of old c.args.pid c.args.root.0 c.args.page root) in
     let own : is_private (entry old c.args.pid c.args.page) ≡ true = ap is_private (sym is) ∙ sym c.is_private.ensures ∙ c.if-not-is_private.false in
-    let at : c.frame_in.result.0 ≡ frame_of (entry old c.args.pid c.args.page) = c.frame_in.ensures ∙ ap frame_of is in
-    let role : role_of c.args.core.now.frames c.frame_in.result.0 ≡ Private =
+    let at : c.frame_number.result.0 ≡ frame_of (entry old c.args.pid c.args.page) = c.frame_number.ensures ∙ ap frame_of is in
+    let role : role_of c.args.core.now.frames c.frame_number.result.0 ≡ Private =
     ap (role_of c.args.core.now.frames) at ∙ c.requires.steady.counted.private c.args.pid c.args.page c.requires.inside own in
-    let inside = inside_memory c.args.core.now.frames c.frame_in.result.0 c.args.core.now.sound (private_used _ role) in
-    let same : role_of c.set_in.new.frames c.frame_in.result.0 ≡ role_of c.args.core.now.frames c.frame_in.result.0 =
-    ap (λ rs. get_or rs c.frame_in.result.0 Free) (c.set_in.ensures.sets c.args.root.0 c.args.page (c.requires.steady.rooted.roots c.args.pid c.args.root.0 c.requires.root) c.requires.inside c.requires.place (ap (λ x. x % 512) (sym c.get.ensures.number))).kept.roles in
-    held_private c.set_in.new.frames c.frame_in.result.0 (let frames = (c.set_in.ensures.sets c.args.root.0 c.args.page (c.requires.steady.rooted.roots c.args.pid c.args.root.0 c.requires.root) c.requires.inside c.requires.place (ap (λ x. x % 512) (sym c.get.ensures.number))).kept.frames in rw frames inside) (same ∙ role)
+    let inside = inside_memory c.args.core.now.frames c.frame_number.result.0 c.args.core.now.sound (private_used _ role) in
+    let same : role_of c.set_in.new.frames c.frame_number.result.0 ≡ role_of c.args.core.now.frames c.frame_number.result.0 =
+    ap (λ rs. get_or rs c.frame_number.result.0 Free) (c.set_in.ensures.sets c.args.root.0 c.args.page (c.requires.steady.rooted.roots c.args.pid c.args.root.0 c.requires.root) c.requires.inside c.requires.place (ap (λ x. x % 512) (sym c.get.ensures.number))).kept.roles in
+    held_private c.set_in.new.frames c.frame_number.result.0 (let frames = (c.set_in.ensures.sets c.args.root.0 c.args.page (c.requires.steady.rooted.roots c.args.pid c.args.root.0 c.requires.root) c.requires.inside c.requires.place (ap (λ x. x % 512) (sym c.get.ensures.number))).kept.frames in rw frames inside) (same ∙ role)
 
 pub returns-clause-steady : goal.returns-clause-steady
 returns-clause-steady g c =

@@ -8,13 +8,13 @@ pub returns-then-not-is_writable : goal.returns-then-not-is_writable
 returns-then-not-is_writable g c =
     (λ it. absurd (false≢true it), λ takes. absurd (false≢true (sym c.if-not-is_writable.true ∙ c.is_writable.ensures ∙ takes.permitted)))
 
-pub frame_in-requires : goal.frame_in-requires
-frame_in-requires g c = let n = c.requires.named in omega (arith, n, c.args.core.now.sound.most)
+pub frame_number-requires : goal.frame_number-requires
+frame_number-requires g c = let n = c.requires.named in omega (arith, n, c.args.core.now.sound.most)
 
 pub returns-then-is_private : goal.returns-then-is_private
 returns-then-is_private g c =
     let own = sym c.is_private.ensures ∙ c.if-is_private.true in
-    let count = c.count.ensures ∙ ap (count_of c.args.core.now.frames) c.frame_in.ensures in (
+    let count = c.count.ensures ∙ ap (count_of c.args.core.now.frames) c.frame_number.ensures in (
       λ one. record {
         permitted = sym c.is_writable.ensures ∙ c.if-not-is_writable.false;
         sole = λ _. sym count ∙ eqb-true c.count.result 1 one;

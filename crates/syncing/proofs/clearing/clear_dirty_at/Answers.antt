@@ -22,7 +22,7 @@ set-requires-clause-whole g c =
 
 pub set-requires-clause-form : goal.set-requires-clause-form
 set-requires-clause-form g c =
-    let drops = dropped c.in-Leaf.leaf.0 c.without_dirty.result.0 c.without_dirty.ensures in
+    let drops = dropped c.in-Leaf.leaf.0 c.without_dirty.result.0 (record { had = sym c.is_dirty.ensures ∙ c.if-is_dirty.true; number = c.without_dirty.ensures }) in
     (drops.valid ∙ c.in-Leaf.ensures.form.0, rw (drops.reads, drops.executes) c.in-Leaf.ensures.form.1)
 
 pub returns-then-frame-from-clause-fit : goal.returns-then-frame-from-clause-fit
@@ -34,7 +34,7 @@ returns-then-frame-from-clause-fit g c =
     let whole = whole_way c.args.core.now.frames c.args.root.0 c.args.page (sym (ap is_valid c.in-Leaf.ensures.entry) ∙ c.in-Leaf.ensures.form.0) in
     fit_dropped old (with_frames old c.set.new.frames) c.args.pid c.args.root.0 c.args.page c.without_dirty.result.0 c.requires.fit c.requires.lives h
     whole c.set.ensures.sets (beside_frames old c.set.new.frames) (ap is_valid is ∙ c.in-Leaf.ensures.form.0)
-    (subst P (sym is) c.without_dirty.ensures)
+    (subst P (sym is) (record { had = sym c.is_dirty.ensures ∙ c.if-is_dirty.true; number = c.without_dirty.ensures }))
 
 pub returns-then-frame-from-clause-clears : goal.returns-then-frame-from-clause-clears
 returns-then-frame-from-clause-clears g c =
@@ -45,7 +45,7 @@ returns-then-frame-from-clause-clears g c =
     let whole = whole_way c.args.core.now.frames c.args.root.0 c.args.page (sym (ap is_valid c.in-Leaf.ensures.entry) ∙ c.in-Leaf.ensures.form.0) in
     clears_dropped old (with_frames old c.set.new.frames) c.args.pid c.args.root.0 c.args.page c.without_dirty.result.0 c.requires.fit c.requires.lives h
     whole c.set.ensures.sets (beside_frames old c.set.new.frames) (ap is_valid is ∙ c.in-Leaf.ensures.form.0)
-    (subst P (sym is) c.without_dirty.ensures)
+    (subst P (sym is) (record { had = sym c.is_dirty.ensures ∙ c.if-is_dirty.true; number = c.without_dirty.ensures }))
     (λ n. n ≡ c.args.frame.0) (ap frame_of is ∙ sym c.frame.ensures.frame ∙ c.if-frame-from.true ∙ c.from.ensures)
 
 pub returns-then-frame-from-clause-clear : goal.returns-then-frame-from-clause-clear
@@ -57,7 +57,7 @@ returns-then-frame-from-clause-clear g c =
     let whole = whole_way c.args.core.now.frames c.args.root.0 c.args.page (sym (ap is_valid c.in-Leaf.ensures.entry) ∙ c.in-Leaf.ensures.form.0) in
     clear_dropped old (with_frames old c.set.new.frames) c.args.pid c.args.root.0 c.args.page c.without_dirty.result.0 c.requires.fit c.requires.lives h
     whole c.set.ensures.sets (beside_frames old c.set.new.frames) (ap is_valid is ∙ c.in-Leaf.ensures.form.0)
-    (subst P (sym is) c.without_dirty.ensures) c.args.frame.0
+    (subst P (sym is) (record { had = sym c.is_dirty.ensures ∙ c.if-is_dirty.true; number = c.without_dirty.ensures })) c.args.frame.0
 
 pub returns-else-is_dirty-clause-clear : goal.returns-else-is_dirty-clause-clear
 returns-else-is_dirty-clause-clear g c = λ valid dirty frame.

@@ -10,7 +10,7 @@ pub returns-in_default-clause-clear : goal.returns-in_default-clause-clear
 returns-in_default-clause-clear g c = λ i k less low high.
     let x = cached_at c.args.pages.now i in
     clear_other (picture_of c.args.core.now) c.args.pid k c.args.run x c.requires.fit (c.requires.cached.each i less) c.requires.run low high
-    (not_backed c.args.run x.page k (sym c.file_page_of.ensures ∙ c.in_default.is))
+    (not_backed c.args.run x.page k (sym c.file_page.ensures ∙ c.in_default.is))
 
 pub clear_dirty_over-requires-clause-cached : goal.clear_dirty_over-requires-clause-cached
 clear_dirty_over-requires-clause-cached g c =

@@ -1,0 +1,19 @@
+-- The user half of an Sv39 address space. RISC-V Privileged Specification, "Sv39: Page-Based 39-bit Virtual-Memory System": three levels of
+-- tables, and the addresses below 2 ^ 38 by their sign. The lowest pages stay free, as on Linux (vm.mmap_min_addr in proc_sys_vm(5)).
+use Rattle.std.specs.Prelude.{ℕ, ◌^◌}
+
+-- the level of a root table
+abbrev pub top_level : ℕ
+top_level = 2
+
+-- the first page that may be mapped
+abbrev pub user_start : ℕ
+user_start = 16
+
+-- one past the last page that may be mapped
+abbrev pub user_end : ℕ
+user_end = 2 ^ 26
+
+-- the most pages that one msync makes durable
+abbrev pub msync_pages : ℕ
+msync_pages = 127
