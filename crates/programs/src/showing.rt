@@ -1,5 +1,5 @@
 //! The program that writes a file of an image out.
-ghost use Rattle.std.specs.Prelude.{◌≡◌, ◌≤◌, ◌<◌, ◌*◌, ◌-◌, ℕ, List, Option, Some, None, IfOk, IfErr, OnOk, IsErrOf, MatchResult, min, take};
+ghost use Rattle.std.specs.Prelude.{◌≡◌, ◌⊎◌, ◌≤◌, ◌<◌, ◌*◌, ◌-◌, ℕ, List, Option, Some, None, IfOk, IfErr, OnOk, OnErr, IsErrOf, MatchResult, min, take};
 ghost use Rattle.std.specs.Io.KnownBytes.{Appends};
 ghost use Rattle.disk_model.specs.Stop.{Image};
 ghost use Rattle.disk_model.specs.Moments.{Touches, Nothing, LeavesOnly};
@@ -98,7 +98,8 @@ impl From<CopyFault> for ShowFault {
 /// After a fault the writer took a beginning of the bytes, and after `Open` none. `Open` tells of a bad layout or a bad
 /// journal exactly where the image has one, unless the device fails first, and of the device only where it failed
 /// (`FileStore::open`); the other faults come only once the image is open: `NoFile` where it has no file of that number,
-/// `Read` only where the device failed, and `Write` where the writer failed or took no bytes. Each fault hands the device back.
+/// `Read` only where the device failed, and `Write` where the writer failed or took no bytes. Each fault hands the device back,
+/// and no failure of it is forgotten. An image that is no store has had nothing written.
 pub fn show<D: SectorDisk + Drop, W: Write>(
     disk: D,
     file: u32,
@@ -106,6 +107,7 @@ pub fn show<D: SectorDisk + Drop, W: Write>(
 ) -> Result<FileStore<D>, (ShowFault, D)>
     ensures ready { IfOk result (λ store. IsReadyStore D.SectorDisk store) }
     ensures kept { IfOk result (λ store. D.keeps_model store.disk → D.keeps_model disk) }
+    ensures calm { IfOk result (λ store. D.failures store.disk ≡ D.failures disk) }
     ensures good_layout { IfOk result (λ store. D.keeps_model store.disk → IsBadLayout (D.sector_count disk) (D.content disk) → ⊥) }
     ensures good_journal { IfOk result (λ store. D.keeps_model store.disk → IsBadJournal (D.sector_count disk) (D.content disk) → ⊥) }
     ensures shown { IfOk result (λ store. D.keeps_model store.disk → (files : ℕ → Option FileInfo) (pages : ℕ → ℕ → List ℕ)
@@ -118,12 +120,15 @@ pub fn show<D: SectorDisk + Drop, W: Write>(
 
     ensures err_kept { IfErr result (λ e. D.keeps_model e.1 → D.keeps_model disk) }
     ensures device { IfErr result (λ e. e.0 ≡ ShowFault.Open OpenFault.Device → D.failures disk < D.failures e.1) }
+    ensures err_calm { IfErr result (λ e. (e.0 ≡ ShowFault.Open OpenFault.Device → ⊥) → (e.0 ≡ ShowFault.Read → ⊥) → D.failures e.1 ≡ D.failures disk) }
     ensures bad_layout { IfErr result (λ e. D.keeps_model e.1 → e.0 ≡ ShowFault.Open OpenFault.BadLayout → IsBadLayout (D.sector_count disk) (D.content disk)) }
     ensures bad_journal { IfErr result (λ e. D.keeps_model e.1 → e.0 ≡ ShowFault.Open OpenFault.BadJournal → IsBadJournal (D.sector_count disk) (D.content disk)) }
     // A bad layout is told before a bad journal, and either before every fault but the device's.
     ensures layout_first { IfErr result (λ e. D.keeps_model e.1 → e.0 ≡ ShowFault.Open OpenFault.BadJournal → IsBadLayout (D.sector_count disk) (D.content disk) → ⊥) }
     ensures err_layout { IfErr result (λ e. D.keeps_model e.1 → ((fault : OpenFault) → e.0 ≡ ShowFault.Open fault → ⊥) → IsBadLayout (D.sector_count disk) (D.content disk) → ⊥) }
     ensures err_journal { IfErr result (λ e. D.keeps_model e.1 → ((fault : OpenFault) → e.0 ≡ ShowFault.Open fault → ⊥) → IsBadJournal (D.sector_count disk) (D.content disk) → ⊥) }
+    // An image that is no store has had nothing written.
+    ensures unwritten { IfErr result (λ e. D.keeps_model e.1 → (e.0 ≡ ShowFault.Open OpenFault.BadLayout) ⊎ (e.0 ≡ ShowFault.Open OpenFault.BadJournal) → Touches D.SectorDisk Nothing disk e.1) }
     ensures no_byte { IfErr result (λ e. (fault : OpenFault) → e.0 ≡ ShowFault.Open fault → W.contents writer.new ≡ W.contents writer.old) }
     ensures no_file { IfErr result (λ e. e.0 ≡ ShowFault.NoFile → D.keeps_model e.1 → (files : ℕ → Option FileInfo) (pages : ℕ → ℕ → List ℕ)
         → StandsFor (D.sector_count disk) files pages (D.content disk) → files file ≡ None) }
@@ -160,6 +165,8 @@ fn show_opened<D: SectorDisk, W: Write>(
     ensures unopened { (fault : OpenFault) → IsErrOf result (ShowFault.Open fault) → ⊥ }
     ensures none { IsErrOf result ShowFault.NoFile → files_of store.old file ≡ None }
     ensures cause { IsErrOf result ShowFault.Read → D.failures store.old.disk < D.failures store.new.disk }
+    ensures calm { OnOk result (D.failures store.new.disk ≡ D.failures store.old.disk) }
+    ensures still { OnErr result ((IsErrOf result ShowFault.Read → ⊥) → D.failures store.new.disk ≡ D.failures store.old.disk) }
     ensures written { D.keeps_model store.new.disk → (bytes : List ℕ) → standing_file (D.content store.old.disk) file ≡ Some bytes
         → MatchResult result
         (λ _. Appends (W.contents writer.old) (W.contents writer.new) bytes)
@@ -214,6 +221,8 @@ fn copy_file<D: SectorDisk, W: Write>(
     ensures size { D.sector_count store.new.disk ≡ D.sector_count store.old.disk }
     ensures kept { D.keeps_model store.new.disk → D.keeps_model store.old.disk }
     ensures cause { IsErrOf result CopyFault.Read → D.failures store.old.disk < D.failures store.new.disk }
+    ensures calm { OnOk result (D.failures store.new.disk ≡ D.failures store.old.disk) }
+    ensures still { IsErrOf result CopyFault.Write → D.failures store.new.disk ≡ D.failures store.old.disk }
     ensures ready { IsReadyStore D.SectorDisk store.new }
     ensures touches { D.keeps_model store.new.disk → Touches D.SectorDisk Nothing store.old.disk store.new.disk }
     ensures written { D.keeps_model store.new.disk → (bytes : List ℕ) → standing_file (D.content store.old.disk) file ≡ Some bytes
@@ -245,8 +254,9 @@ fn copy_page<D: SectorDisk, W: Write>(
     requires first { 4096 * k < length }
     ensures size { D.sector_count store.new.disk ≡ D.sector_count store.old.disk }
     ensures kept { D.keeps_model store.new.disk → D.keeps_model store.old.disk }
-    ensures later { D.failures store.old.disk ≤ D.failures store.new.disk }
     ensures cause { IsErrOf result CopyFault.Read → D.failures store.old.disk < D.failures store.new.disk }
+    ensures calm { OnOk result (D.failures store.new.disk ≡ D.failures store.old.disk) }
+    ensures still { IsErrOf result CopyFault.Write → D.failures store.new.disk ≡ D.failures store.old.disk }
     ensures files { store.new.directory ≡ store.old.directory }
     ensures ready { IsReadyStore D.SectorDisk store.new }
     ensures touches { D.keeps_model store.new.disk → Touches D.SectorDisk Nothing store.old.disk store.new.disk }

@@ -31,7 +31,7 @@ loop-k-preserved g c =
     record {
       size = e.size ∙ i.size;
       kept = λ keeps. i.kept (e.kept keeps);
-      later = omega (arith, e.later, i.later);
+      calm = e.calm ∙ i.calm;
       files = e.files ∙ i.files;
       ready = e.ready;
       touches = λ keeps. then g.D.SectorDisk Nothing c.args.store.now.disk c.loop-k.store.disk c.copy_page.new.store.disk (i.touches (e.kept keeps)) (e.touches keeps);

@@ -1,4 +1,4 @@
-use Rattle.std.proofs.Common.{◌≡◌, ℕ, ◌*◌, ◌≤◌, List, Some, take}
+use Rattle.std.proofs.Common.{◌≡◌, ℕ, ◌*◌, List, Some, take}
 use Rattle.std.specs.Io.KnownBytes.{Appends}
 use Rattle.disk_model.specs.Moments.{Touches, Nothing}
 use Rattle.file_store.specs.Standing.{standing_file}
@@ -9,7 +9,7 @@ abbrev pub invariant-loop-k : goal.invariant-loop-k
 invariant-loop-k g l = record {
   size : g.D.SectorDisk.sector_count l.store.disk ≡ g.D.SectorDisk.sector_count l.initial.store.disk;
   kept : g.D.SectorDisk.keeps_model l.store.disk → g.D.SectorDisk.keeps_model l.initial.store.disk;
-  later : g.D.SectorDisk.failures l.initial.store.disk ≤ g.D.SectorDisk.failures l.store.disk;
+  calm : g.D.SectorDisk.failures l.store.disk ≡ g.D.SectorDisk.failures l.initial.store.disk;
   files : l.store.directory ≡ l.initial.store.directory;
   ready : IsReadyStore g.D.SectorDisk l.store;
   touches : g.D.SectorDisk.keeps_model l.store.disk → Touches g.D.SectorDisk Nothing l.initial.store.disk l.store.disk;
