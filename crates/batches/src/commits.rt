@@ -74,6 +74,7 @@ fn commit_good<D: SectorDisk>(
     requires bytes { length bytes.now ≡ length pages.now }
     ensures kept { D.keeps_model store.new.disk → D.keeps_model store.old.disk }
     ensures fault { IfErr result (λ fault. (fault ≡ BatchFault.Device) × (D.failures store.old.disk < D.failures store.new.disk)) }
+    ensures files { files_of store.new ≡ files_of store.old }
     ensures ready { OnOk result (IsReadyStore D.SectorDisk store.new) }
     ensures any_moment { D.keeps_model store.new.disk → (files : ℕ → Option FileInfo) (before after : ℕ → ℕ → List ℕ)
         → LeavesNow D.SectorDisk store.old.disk (StandsFor (D.sector_count store.old.disk) files before) → Changes files pages.now (given_page bytes.now) before after
@@ -104,6 +105,7 @@ pub fn commit_pages<D: SectorDisk>(
     requires ready { IsReadyStore D.SectorDisk store.old }
     requires bytes { length bytes.now ≡ length pages.now }
     ensures kept { D.keeps_model store.new.disk → D.keeps_model store.old.disk }
+    ensures files { files_of store.new ≡ files_of store.old }
     ensures ready { OnOk result (IsReadyStore D.SectorDisk store.new) }
 
     // After Ok every image of a stop from now on stands for the files with these pages.
