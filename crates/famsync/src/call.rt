@@ -13,6 +13,7 @@ pub struct Call {
 
 /// Calls to be made one after the other: the first `used` of the list.
 #[repr(C)]
+#[derive(Drop)]
 pub struct Plan {
     pub used: usize,
     pub calls: [Call; ROOM],

@@ -11,3 +11,5 @@ mod lent_pages;
 mod plan_disk;
 mod planning;
 mod requests;
+#[cfg(test)]
+mod tests;
