@@ -1,5 +1,6 @@
 //! A batch that is brought a page at a time.
 ghost use Rattle.std.specs.Prelude.{◌≡◌, ◌≤◌, length};
+ghost use Rattle.sync_journal.specs.Layout.{page_limit};
 
 use crate::pages::MAX_PAGES;
 use std::alloc::{AllocError, Global};
@@ -13,9 +14,9 @@ pub(crate) struct Batch {
     count: usize,
     /// More pages were brought than a batch may have.
     over: bool,
-    ghost room: { length bytes.items ≡ 127 },
-    ghost long: { length pages ≡ 127 },
-    ghost within: { count ≤ 127 },
+    ghost room: { length bytes.items ≡ page_limit },
+    ghost long: { length pages ≡ page_limit },
+    ghost within: { count ≤ page_limit },
 }
 
 impl Batch {

@@ -1,9 +1,10 @@
 //! The program that writes a file of an image out.
-ghost use Rattle.std.specs.Prelude.{◌≡◌, ◌⊎◌, ◌≤◌, ◌<◌, ◌*◌, ◌-◌, ℕ, List, Option, Some, None, IfOk, IfErr, OnOk, OnErr, IsErrOf, MatchResult, min, take};
+ghost use Rattle.std.specs.Prelude.{◌≡◌, ◌⊎◌, ◌≤◌, ◌<◌, ◌*◌, ℕ, List, Option, Some, None, IfOk, IfErr, OnOk, OnErr, IsErrOf, MatchResult, take};
 ghost use Rattle.std.specs.Io.KnownBytes.{Appends};
 ghost use Rattle.disk_model.specs.Stop.{Image};
 ghost use Rattle.disk_model.specs.Moments.{Touches, Nothing, LeavesOnly};
 ghost use Rattle.vm_types.specs.declared.file.FileInfo.{FileInfo};
+ghost use Rattle.vm_types.specs.Files.{bytes_inside};
 ghost use Rattle.sync_journal.specs.Standing.{IsBadJournal};
 ghost use Rattle.file_store.specs.Standing.{IsBadLayout, IsPageOf, StandsAs, StandsFor, bytes_of_pages, standing_page, standing_file};
 ghost use Rattle.file_store.specs.Store.{IsReadyStore, files_of};
@@ -262,9 +263,9 @@ fn copy_page<D: SectorDisk, W: Write>(
     ensures touches { D.keeps_model store.new.disk → Touches D.SectorDisk Nothing store.old.disk store.new.disk }
     ensures written { D.keeps_model store.new.disk → MatchResult result
         (λ _. Appends (W.contents writer.old) (W.contents writer.new)
-        (take (min 4096 (length - 4096 * k)) (standing_page (D.content store.old.disk) file k)))
+        (take (bytes_inside length k) (standing_page (D.content store.old.disk) file k)))
         (λ _. WritesBeginning (W.contents writer.old) (W.contents writer.new)
-        (take (min 4096 (length - 4096 * k)) (standing_page (D.content store.old.disk) file k))) }
+        (take (bytes_inside length k) (standing_page (D.content store.old.disk) file k))) }
 {
     store.read_page(FilePage { file, page: k }, page)?;
     let inside = (length as usize - PAGE_BYTES * k as usize).min(PAGE_BYTES);
