@@ -1,6 +1,7 @@
 //! Files of an image that are written out, and images of which a machine runs.
 use crate::program_bench::{
-    Program, expect, formatted, path, put, ran, ran_over, removed, repeated,
+    Program, done, expect, expect_bytes, failed, formatted, path, put, ran_over, removed, repeated,
+    same, same_number, spec_of,
 };
 use disk_model::SimDisk;
 use file_store::{FileSource, format};
@@ -18,40 +19,57 @@ const SECTOR: u64 = 512;
 #[test]
 fn a_file_is_cut_at_its_length(rt: HostRuntime) -> Result<(), Fail> {
     let image = path(&rt, "cat")?;
-    let image = image.as_str();
-    formatted(&rt, image, &["zero:5000"])?;
+    formatted(&rt, image.as_str(), "zero:5000")?;
     // Byte 4,999 of the file, and a byte behind its end.
-    put(&rt, image, HOMES + 4999, b"\xaa\xbb")?;
+    put(&rt, image.as_str(), HOMES + 4999, b"\xaa\xbb")?;
     let mut wanted = repeated(&rt, b"\0", 4999)?;
     wanted.push(0xaa)?;
-    let outcome = ran(&rt, Program::Cat, &[image, "0"], b"")?;
-    expect(&rt, outcome, 0, wanted.as_slice(), b"");
-    removed(&rt, &[image])
+    let words = [image.as_str(), "0"];
+    expect(&rt, Program::Cat, &words, b"", done(wanted.as_slice()))?;
+    removed(&rt, &[image.as_str()])
 }
 
 #[test]
 fn files_are_told_apart(rt: HostRuntime) -> Result<(), Fail> {
     let (image, host) = (path(&rt, "apart")?, path(&rt, "apart-host")?);
-    let (image, host) = (image.as_str(), host.as_str());
-    let mut bytes = repeated(&rt, b"abcdefgh", 1024)?;
+    let bytes = odd_bytes(&rt)?;
+    fs::write(&rt, host.as_str(), bytes.as_slice())?;
+    four_files(&rt, image.as_str(), host.as_str())?;
+    each_file(&rt, image.as_str(), bytes.as_slice())?;
+    no_other_file(&rt, image.as_str())?;
+    removed(&rt, &[image.as_str(), host.as_str()])
+}
+
+/// Two pages and a byte.
+fn odd_bytes(rt: &HostRuntime) -> Result<Vec<u8>, Fail> {
+    let mut bytes = repeated(rt, b"abcdefgh", 1024)?;
     bytes.push(b'z')?;
-    fs::write(&rt, host, bytes.as_slice())?;
-    let (writable, read_only) = (
-        format!(in rt.alloc(); "rw:{host}")?,
-        format!(in rt.alloc(); "ro:{host}")?,
-    );
-    let specs = ["zero:3", writable.as_str(), "zero:0", read_only.as_str()];
-    formatted(&rt, image, &specs)?;
-    let files: [(&str, &[u8]); 4] = [
-        ("0", b"\0\0\0"),
-        ("1", bytes.as_slice()),
-        ("0x2", b""),
-        ("03", bytes.as_slice()),
+    Ok(bytes)
+}
+
+fn four_files(rt: &HostRuntime, image: &str, host: &str) -> Result<(), Fail> {
+    let writable = spec_of(rt, "rw", host)?;
+    let read_only = spec_of(rt, "ro", host)?;
+    let words = [
+        "new",
+        image,
+        "zero:3",
+        writable.as_str(),
+        "zero:0",
+        read_only.as_str(),
     ];
+    expect(rt, Program::Format, &words, b"", done(b""))
+}
+
+fn each_file(rt: &HostRuntime, image: &str, bytes: &[u8]) -> Result<(), Fail> {
+    let files: [(&str, &[u8]); 4] = [("0", b"\0\0\0"), ("1", bytes), ("0x2", b""), ("03", bytes)];
     for (file, wanted) in files {
-        let outcome = ran(&rt, Program::Cat, &[image, file], b"")?;
-        expect(&rt, outcome, 0, wanted, b"");
+        expect(rt, Program::Cat, &[image, file], b"", done(wanted))?;
     }
+    Ok(())
+}
+
+fn no_other_file(rt: &HostRuntime, image: &str) -> Result<(), Fail> {
     let none: [(&str, &[u8]); 4] = [
         ("7", b"pagecat: no file 7\n"),
         ("0x40", b"pagecat: no file 64\n"),
@@ -59,77 +77,84 @@ fn files_are_told_apart(rt: HostRuntime) -> Result<(), Fail> {
         ("4294967295", b"pagecat: no file 4294967295\n"),
     ];
     for (file, line) in none {
-        let outcome = ran(&rt, Program::Cat, &[image, file], b"")?;
-        expect(&rt, outcome, 1, b"", line);
+        expect(rt, Program::Cat, &[image, file], b"", failed(line))?;
     }
-    removed(&rt, &[image, host])
+    Ok(())
 }
 
 #[test]
 fn a_failing_writer_is_told(rt: HostRuntime) -> Result<(), Fail> {
     let image = path(&rt, "full")?;
-    let image = image.as_str();
-    formatted(&rt, image, &["zero:5000"])?;
-    for full in [Full::Fails, Full::TakesNothing] {
-        let mut writer = LimitedWriter::new(rt.alloc(), 100, 4999, full);
-        let mut reader: &[u8] = b"";
-        let (status, errors) = ran_over(
-            &rt,
-            Program::Cat,
-            &[image, "0"],
-            &mut reader,
-            &mut writer,
-        )?;
-        assert_eq!(rt; status, 1);
-        assert_eq!(rt; errors.as_slice(), b"pagecat: write failed\n".as_slice());
-        assert_eq!(rt; writer.taken.len(), 4999);
-    }
-    removed(&rt, &[image])
+    formatted(&rt, image.as_str(), "zero:5000")?;
+    full_writer(&rt, image.as_str(), Full::Fails)?;
+    full_writer(&rt, image.as_str(), Full::TakesNothing)?;
+    removed(&rt, &[image.as_str()])
+}
+
+fn full_writer(rt: &HostRuntime, image: &str, full: Full) -> Result<(), Fail> {
+    let mut writer = LimitedWriter::new(rt.alloc(), 100, 4999, full);
+    let mut reader: &[u8] = b"";
+    let words = [image, "0"];
+    let (status, errors) = ran_over(rt, Program::Cat, &words, &mut reader, &mut writer)?;
+    same_number("exit status", status.into(), 1)?;
+    same(
+        "standard error",
+        errors.as_slice(),
+        b"pagecat: write failed\n",
+    )?;
+    same_number("bytes taken", writer.taken.len() as u64, 4999)
+}
+
+/// Opens the gate of an image's journal.
+fn open_gate(rt: &HostRuntime, image: &str) -> Result<(), Fail> {
+    let gate = repeated(rt, b"GATEOPEN", 64)?;
+    put(rt, image, 2 * SECTOR, gate.as_slice())
 }
 
 #[test]
 fn a_bad_journal_is_told(rt: HostRuntime) -> Result<(), Fail> {
     let (image, swap) = (path(&rt, "journal")?, path(&rt, "journal-swap")?);
-    let (image, swap) = (image.as_str(), swap.as_str());
-    formatted(&rt, image, &["zero:4096"])?;
-    put(
-        &rt,
-        image,
-        2 * SECTOR,
-        repeated(&rt, b"GATEOPEN", 64)?.as_slice(),
-    )?;
-    put(&rt, image, 3 * SECTOR, b"\x80\0\0\0")?;
-    let before = fs::read(&rt, image)?;
-    let outcome = ran(&rt, Program::Run, &[image, swap], b"")?;
-    expect(&rt, outcome, 1, b"", b"pagerun: boot 6 BADJOURNAL\n");
-    let outcome = ran(&rt, Program::Cat, &[image, "0"], b"")?;
-    expect(&rt, outcome, 1, b"", b"pagecat: open 3 BADJOURNAL\n");
-    assert_eq!(rt; fs::read(&rt, image)?.as_slice(), before.as_slice());
-    removed(&rt, &[image, swap])
+    formatted(&rt, image.as_str(), "zero:4096")?;
+    open_gate(&rt, image.as_str())?;
+    put(&rt, image.as_str(), 3 * SECTOR, b"\x80\0\0\0")?;
+    let before = fs::read(&rt, image.as_str())?;
+    bad_journal(&rt, image.as_str(), swap.as_str())?;
+    expect_bytes(&rt, image.as_str(), before.as_slice())?;
+    removed(&rt, &[image.as_str(), swap.as_str()])
+}
+
+fn bad_journal(rt: &HostRuntime, image: &str, swap: &str) -> Result<(), Fail> {
+    let ending = failed(b"pagerun: boot 6 BADJOURNAL\n");
+    expect(rt, Program::Run, &[image, swap], b"", ending)?;
+    let ending = failed(b"pagecat: open 3 BADJOURNAL\n");
+    expect(rt, Program::Cat, &[image, "0"], b"", ending)
 }
 
 #[test]
 fn an_open_journal_is_carried_out(rt: HostRuntime) -> Result<(), Fail> {
     let image = path(&rt, "open")?;
-    let image = image.as_str();
-    formatted(&rt, image, &["zero:4096"])?;
-    put(
-        &rt,
-        image,
-        2 * SECTOR,
-        repeated(&rt, b"GATEOPEN", 64)?.as_slice(),
-    )?;
-    // One page, whose home is page 0, and its bytes.
-    put(&rt, image, 3 * SECTOR, b"\x01\0\0\0\0\0\0\0")?;
     let page = repeated(&rt, b"\x5a", 4096)?;
-    put(&rt, image, 4 * SECTOR, page.as_slice())?;
-    let outcome = ran(&rt, Program::Cat, &[image, "0"], b"")?;
-    expect(&rt, outcome, 0, page.as_slice(), b"");
-    let after = fs::read(&rt, image)?;
-    let closed = repeated(&rt, b"\0", 512)?;
-    assert_eq!(rt; after.get(1024..1536), Some(closed.as_slice()));
-    assert_eq!(rt; after.get(522_240..), Some(page.as_slice()));
-    removed(&rt, &[image])
+    formatted(&rt, image.as_str(), "zero:4096")?;
+    open_gate(&rt, image.as_str())?;
+    journaled(&rt, image.as_str(), page.as_slice())?;
+    carried_out(fs::read(&rt, image.as_str())?.as_slice(), page.as_slice())?;
+    removed(&rt, &[image.as_str()])
+}
+
+/// Writes a journal of one page, whose home is page 0, and its bytes; then they are those of file 0.
+fn journaled(rt: &HostRuntime, image: &str, page: &[u8]) -> Result<(), Fail> {
+    put(rt, image, 3 * SECTOR, b"\x01\0\0\0\0\0\0\0")?;
+    put(rt, image, 4 * SECTOR, page)?;
+    expect(rt, Program::Cat, &[image, "0"], b"", done(page))
+}
+
+/// The gate is closed, and the page is home.
+fn carried_out(image: &[u8], page: &[u8]) -> Result<(), Fail> {
+    let (Some(gate), Some(homes)) = (image.get(1024..1536), image.get(522_240..)) else {
+        return Err(Fail::new("the image is short"));
+    };
+    same("the gate", gate, &[0; 512])?;
+    same("the homes", homes, page)
 }
 
 #[test]

@@ -1,5 +1,8 @@
 //! Images that are made.
-use crate::program_bench::{expect, formats, formatted, path, removed, repeated, resized};
+use crate::program_bench::{
+    Program, done, expect, expect_bytes, expect_length, expect_none, expect_refusal, failed,
+    formatted, path, removed, repeated, resized, same, same_number, spec_of,
+};
 use disk_model::SimDisk;
 use file_store::{FileSource, FormatFault, format};
 use std::fs;
@@ -9,71 +12,92 @@ use std::test::Fail;
 fn an_image_has_the_length_of_its_homes(rt: HostRuntime) -> Result<(), Fail> {
     let image = path(&rt, "lengths")?;
     let image = image.as_str();
-    let lengths: [(&[&str], u64); 5] = [
-        (&["zero:0"], 522_240),
-        (&["zero:1"], 526_336),
-        (&["zero:4096"], 526_336),
-        (&["zero:5000"], 530_432),
+    let cases: [(&[&str], u64); 5] = [
+        (&["new", image, "zero:0"], 522_240),
+        (&["new", image, "zero:1"], 526_336),
+        (&["new", image, "zero:4096"], 526_336),
+        (&["new", image, "zero:5000"], 530_432),
         // Each file begins on a page of its own.
-        (&["zero:1", "zero:0x1001", "zero:0", "zero:1"], 538_624),
+        (
+            &["new", image, "zero:1", "zero:0x1001", "zero:0", "zero:1"],
+            538_624,
+        ),
     ];
-    for (specs, length) in lengths {
-        formatted(&rt, image, specs)?;
-        assert_eq!(rt; fs::metadata(&rt, image)?.len(), length);
-        removed(&rt, &[image])?;
+    for (words, length) in cases {
+        length_of(&rt, words, image, length)?;
     }
     Ok(())
+}
+
+/// Sees that these words make an image of that length.
+fn length_of(rt: &HostRuntime, words: &[&str], image: &str, length: u64) -> Result<(), Fail> {
+    expect(rt, Program::Format, words, b"", done(b""))?;
+    expect_length(rt, image, length)?;
+    removed(rt, &[image])
 }
 
 #[test]
 fn the_directory_names_the_files_in_order(rt: HostRuntime) -> Result<(), Fail> {
     let (image, host) = (path(&rt, "directory")?, path(&rt, "directory-host")?);
-    let (image, host) = (image.as_str(), host.as_str());
-    fs::write(&rt, host, repeated(&rt, b"A", 4096)?)?;
-    let spec = format!(in rt.alloc(); "ro:{host}")?;
-    formatted(&rt, image, &["zero:5000", spec.as_str()])?;
-    let bytes = fs::read(&rt, image)?;
-    let mark = repeated(&rt, b"FAMSYNC1", 64)?;
-    assert_eq!(rt; bytes.get(..512), Some(mark.as_slice()));
+    fs::write(&rt, host.as_str(), [b'A'; 4096].as_slice())?;
+    zeros_and_a_file(&rt, image.as_str(), host.as_str())?;
+    expect_layout(&rt, fs::read(&rt, image.as_str())?.as_slice())?;
+    removed(&rt, &[image.as_str(), host.as_str()])
+}
+
+fn zeros_and_a_file(rt: &HostRuntime, image: &str, host: &str) -> Result<(), Fail> {
+    let spec = spec_of(rt, "ro", host)?;
+    let words = ["new", image, "zero:5000", spec.as_str()];
+    expect(rt, Program::Format, &words, b"", done(b""))
+}
+
+fn expect_layout(rt: &HostRuntime, image: &[u8]) -> Result<(), Fail> {
+    let mark = repeated(rt, b"FAMSYNC1", 64)?;
+    expect_part(image, 0, mark.as_slice())?;
     let entries: &[u8] = b"\x00\x00\x00\x80\x88\x13\x00\x00\x02\x00\x00\xc0\x00\x10\x00\x00";
-    assert_eq!(rt; bytes.get(512..528), Some(entries));
+    expect_part(image, 512, entries)?;
     // The rest of the directory, and the gate.
-    let zeros = repeated(&rt, b"\0", 512 + 496)?;
-    assert_eq!(rt; bytes.get(528..1536), Some(zeros.as_slice()));
-    let homes = repeated(&rt, b"\0", 8192)?;
-    assert_eq!(rt; bytes.get(522_240..530_432), Some(homes.as_slice()));
-    let home = repeated(&rt, b"A", 4096)?;
-    assert_eq!(rt; bytes.get(530_432..), Some(home.as_slice()));
-    removed(&rt, &[image, host])
+    expect_part(image, 528, &[0; 512 + 496])?;
+    expect_part(image, 522_240, &[0; 8192])?;
+    expect_part(image, 530_432, &[b'A'; 4096])?;
+    same_number("the image's length", image.len() as u64, 530_432 + 4096)
+}
+
+/// Sees that an image has these bytes from byte `at` on.
+fn expect_part(image: &[u8], at: usize, wanted: &[u8]) -> Result<(), Fail> {
+    match image.get(at..at.saturating_add(wanted.len())) {
+        Some(found) => same("a part of the image", found, wanted),
+        None => Err(Fail::new("the image is short")),
+    }
 }
 
 #[test]
 fn an_image_is_not_formatted_twice(rt: HostRuntime) -> Result<(), Fail> {
     let image = path(&rt, "twice")?;
-    let image = image.as_str();
-    formatted(&rt, image, &["zero:1"])?;
-    let before = fs::read(&rt, image)?;
-    let again = formats(&rt, image, &["zero:1"])?;
-    expect(&rt, again, 1, b"", b"pagefmt: format 3 FORMATTED\n");
-    assert_eq!(rt; fs::read(&rt, image)?.as_slice(), before.as_slice());
-    removed(&rt, &[image])
+    formatted(&rt, image.as_str(), "zero:1")?;
+    let before = fs::read(&rt, image.as_str())?;
+    let words = ["new", image.as_str(), "zero:1"];
+    let ending = failed(b"pagefmt: format 3 FORMATTED\n");
+    expect(&rt, Program::Format, &words, b"", ending)?;
+    expect_bytes(&rt, image.as_str(), before.as_slice())?;
+    removed(&rt, &[image.as_str()])
 }
 
 #[test]
 fn a_store_has_at_most_64_files(rt: HostRuntime) -> Result<(), Fail> {
     let image = path(&rt, "many")?;
-    let image = image.as_str();
-    let outcome = formats(&rt, image, &["zero:0"; 65])?;
-    expect(&rt, outcome, 1, b"", b"pagefmt: format 2 TOOLARGE\n");
-    let outcome = formats(&rt, image, &["zero:0"; 64])?;
-    expect(&rt, outcome, 0, b"", b"");
-    removed(&rt, &[image])
+    let mut words = ["zero:0"; 2 + 65];
+    words[0] = "new";
+    words[1] = image.as_str();
+    let ending = failed(b"pagefmt: format 2 TOOLARGE\n");
+    expect(&rt, Program::Format, &words, b"", ending)?;
+    expect(&rt, Program::Format, &words[..2 + 64], b"", done(b""))?;
+    removed(&rt, &[image.as_str()])
 }
 
 #[test]
 fn bad_specs_are_told_before_a_file_is_made(rt: HostRuntime) -> Result<(), Fail> {
     let image = path(&rt, "unmade")?;
-    let image = image.as_str();
     let specs = [
         "zero",
         "zero:",
@@ -97,42 +121,52 @@ fn bad_specs_are_told_before_a_file_is_made(rt: HostRuntime) -> Result<(), Fail>
         "",
     ];
     for spec in specs {
-        let line = format!(in rt.alloc(); "pagefmt: bad spec {spec}\n")?;
-        let outcome = formats(&rt, image, &["zero:1", spec, "worse"])?;
-        expect(&rt, outcome, 1, b"", line.as_bytes());
+        bad_spec(&rt, image.as_str(), spec)?;
     }
-    assert!(rt; !fs::exists(&rt, image)?);
-    Ok(())
+    expect_none(&rt, image.as_str())
+}
+
+/// No image is made, though the spec before is good.
+fn bad_spec(rt: &HostRuntime, image: &str, spec: &str) -> Result<(), Fail> {
+    let words = ["new", image, "zero:1", spec, "worse"];
+    expect_refusal(rt, Program::Format, &words, "pagefmt: bad spec", spec)
 }
 
 #[test]
 fn host_files_are_opened_at_their_specs(rt: HostRuntime) -> Result<(), Fail> {
     let (image, large) = (path(&rt, "unmade-2")?, path(&rt, "large")?);
-    let (image, large) = (image.as_str(), large.as_str());
-    resized(&rt, large, 4_294_967_296)?;
-    let writable = format!(in rt.alloc(); "rw:{large}")?;
-    let line = format!(in rt.alloc(); "pagefmt: bad spec rw:{large}\n")?;
-    let outcome = formats(&rt, image, &[writable.as_str()])?;
-    expect(&rt, outcome, 1, b"", line.as_bytes());
+    too_large(&rt, image.as_str(), large.as_str())?;
+    let image = image.as_str();
     let cases: [(&[&str], &[u8]); 5] = [
         (
-            &["rw:/tmp/none/none"],
+            &["new", image, "rw:/tmp/none/none"],
             b"pagefmt: cannot open /tmp/none/none\n",
         ),
         (
-            &["zero:1", "ro:/tmp/none/none", "bad"],
+            &["new", image, "zero:1", "ro:/tmp/none/none", "bad"],
             b"pagefmt: cannot open /tmp/none/none\n",
         ),
-        (&["bad", "ro:/tmp/none/none"], b"pagefmt: bad spec bad\n"),
-        (&["ro:/tmp"], b"pagefmt: cannot open /tmp\n"),
-        (&["rw:"], b"pagefmt: cannot open \n"),
+        (
+            &["new", image, "bad", "ro:/tmp/none/none"],
+            b"pagefmt: bad spec bad\n",
+        ),
+        (&["new", image, "ro:/tmp"], b"pagefmt: cannot open /tmp\n"),
+        (&["new", image, "rw:"], b"pagefmt: cannot open \n"),
     ];
-    for (specs, line) in cases {
-        let outcome = formats(&rt, image, specs)?;
-        expect(&rt, outcome, 1, b"", line);
+    for (words, line) in cases {
+        expect(&rt, Program::Format, words, b"", failed(line))?;
     }
-    assert!(rt; !fs::exists(&rt, image)?);
-    removed(&rt, &[large])
+    expect_none(&rt, image)?;
+    removed(&rt, &[large.as_str()])
+}
+
+/// A host file of 2^32 bytes is longer than a file of an image may be.
+fn too_large(rt: &HostRuntime, image: &str, large: &str) -> Result<(), Fail> {
+    resized(rt, large, 4_294_967_296)?;
+    let spec = spec_of(rt, "rw", large)?;
+    let spec = spec.as_str();
+    let words = ["new", image, spec];
+    expect_refusal(rt, Program::Format, &words, "pagefmt: bad spec", spec)
 }
 
 #[test]
@@ -153,15 +187,15 @@ const CUT: &str = "/sys/kernel/mm/transparent_hugepage/enabled";
 
 #[test]
 fn a_host_file_that_ends_early_is_a_fault(rt: HostRuntime) -> Result<(), Fail> {
-    let image = path(&rt, "source")?;
-    let image = image.as_str();
     match fs::metadata(&rt, CUT) {
         Ok(metadata) if metadata.len() == 4096 => {}
         // This system has no such file.
         _ => return Ok(()),
     }
-    let spec = format!(in rt.alloc(); "ro:{CUT}")?;
-    let outcome = formats(&rt, image, &[spec.as_str()])?;
-    expect(&rt, outcome, 1, b"", b"pagefmt: format 4 SOURCE\n");
-    removed(&rt, &[image])
+    let image = path(&rt, "source")?;
+    let spec = spec_of(&rt, "ro", CUT)?;
+    let words = ["new", image.as_str(), spec.as_str()];
+    let ending = failed(b"pagefmt: format 4 SOURCE\n");
+    expect(&rt, Program::Format, &words, b"", ending)?;
+    removed(&rt, &[image.as_str()])
 }
