@@ -1,21 +1,22 @@
--- A file page comes from its home into a free frame, and is touched there.
-use Rattle.std.proofs.Common.{◌≡◌, ◌≢◌, ℕ, inl, inr, ◌<◌, List, true, false, Option, refl, sym, ap, ◌∙◌, subst, arith}
+-- A file page comes into a free frame, and is touched there.
+use Rattle.std.proofs.Common.{◌≡◌, ◌≢◌, ℕ, inl, inr, ◌<◌, List, true, false, Option, Some, refl, sym, ap, ◌∙◌, subst, arith}
 use Rattle.std.proofs.lemmas.Bool.{cases_eq, false≢true}
 use Rattle.vm_types.specs.declared.file.FilePage.{FilePage}
 use Rattle.vm_types.specs.declared.region.Attr.{Attr}
 use Rattle.vm_types.specs.declared.region.Backing.{Backing}
 use Rattle.vm_types.specs.declared.region.Backing.TheVariants.{Anon, Private as PrivateOf, Shared as SharedOf}
 use Rattle.frames.specs.declared.role.Role.TheVariants.{Free, Table, Private, Cache}
-use Rattle.frames.specs.FrameTable.{FrameTable, role_of, count_of, SameButFor, Takes, with_bytes}
+use Rattle.frames.specs.FrameTable.{FrameTable, bytes_of, role_of, count_of, SameButFor, Takes, with_bytes}
 use Rattle.frames.proofs.FrameLemmas.{with_bytes-others}
 use Rattle.swap.specs.Slots.{SlotTable}
 use Rattle.sv39_walk.specs.Entry.{is_valid, is_dirty, frame_of, has_bit}
 use Rattle.file_store.specs.Standing.{IsPageOf}
 use Rattle.page_tables.specs.Tree.{IsPage}
 use Rattle.page_tables.proofs.Data.{KeepsTrees, data_changed}
+use Rattle.page_cache.specs.declared.place.Place.{Place}
 use Rattle.page_cache.specs.declared.place.Place.TheVariants.{Home, Frame, Slot}
 use Rattle.paging.specs.Seats.{Seat, InFrame, InSlot, seat, is_private, is_swapped}
-use Rattle.paging.specs.Picture.{Picture, entry, IsOwned, count_in, page_in}
+use Rattle.paging.specs.Picture.{Picture, entry, view, held, bytes_at, bytes_in, IsOwned, count_in, page_in}
 use Rattle.paging.specs.Parts.{IsFit, IsEntryFor, Nothing, Resident, Away, IsBehind, HasPlaces, IsDirtySound, nowhere}
 use Rattle.paging.specs.Steps.{BringsIn}
 use Rattle.paging.proofs.Entries.{entries_kept}
@@ -23,6 +24,7 @@ use Rattle.paging.proofs.Granting.{granting_same}
 use Rattle.paging.proofs.Places.{cases_page, one_frame, places_same}
 use Rattle.paging.proofs.Rooted.{rooted_same, rooted_frames}
 use Rattle.paging.proofs.Seats.{counted_same}
+use Rattle.paging.proofs.Setting.{view_seated, each_view}
 
 zero_invalid : is_valid 0 ≡ false
 unfolding has_bit
@@ -62,25 +64,28 @@ module _ (old new : Picture) (page : FilePage) (n : ℕ) (fit : IsFit old) (brin
   same = entries_kept old new 0 fit.rooted trees.entries brings.root
 
   -- another file page is where it was
-  elsewhere : (p : FilePage) (k : ℕ) → old.place p ≡ Slot (record { 0 = k }) → p ≢ page
-  elsewhere p k at is = let bad : Slot (record { 0 = k }) ≡ Home = sym at ∙ ap old.place is ∙ brings.was_home in (cc)
-
   framed : (p : FilePage) (m : ℕ) → old.place p ≡ Frame (record { 0 = m }) → p ≢ page
-  framed p m at is = let bad : Frame (record { 0 = m }) ≡ Home = sym at ∙ ap old.place is ∙ brings.was_home in (cc)
+  framed p m at is = brings.was_away m (ap old.place (sym is) ∙ at)
 
   no_slot : (p : FilePage) (k : ℕ) → p ≡ page → new.place p ≢ Slot (record { 0 = k })
   no_slot p k is at = let bad : Slot (record { 0 = k }) ≡ Frame (record { 0 = n }) = sym at ∙ ap new.place is ∙ brings.placed in (cc)
 
-  in_use : (k : ℕ) → 0 < old.slots.count k → 0 < new.slots.count k
-  in_use k some = let P : SlotTable → Type 0 = λ t. 0 < t.count k in subst P (sym brings.slots) some
+  -- the slot of another file page, or of own copies, isn't that of this one
+  slot_ne : (p : FilePage) (k : ℕ) → p ≢ page → old.place p ≡ Slot (record { 0 = k }) → old.place page ≢ Slot (record { 0 = k })
+  slot_ne p k ne at here = ne (fit.places.apart p page (at ∙ sym here) (λ home. (let bad : Home ≡ Slot (record { 0 = k }) = sym home ∙ at in (cc))))
 
-  was_used : (k : ℕ) → 0 < new.slots.count k → 0 < old.slots.count k
-  was_used k some = let P : SlotTable → Type 0 = λ t. 0 < t.count k in subst P brings.slots some
+  in_use : (k : ℕ) → old.place page ≢ Slot (record { 0 = k }) → 0 < old.slots.count k → 0 < new.slots.count k
+  in_use k ne some = let c = brings.slots.counts k ne in omega (arith, c, some)
+
+  was_used : (k : ℕ) → 0 < new.slots.count k → (old.place page ≢ Slot (record { 0 = k })) × (0 < old.slots.count k)
+  was_used k some =
+      let ne : old.place page ≢ Slot (record { 0 = k }) = λ here. (let none = brings.slots.left k here in omega (arith, none, some)) in
+      (ne, (let c = brings.slots.counts k ne in omega (arith, c, some)))
 
   forth : (z : Seat) → IsOwned old z → IsOwned new z
   forth (InFrame m) is = brings.frames.roles m (private_ne m is) ∙ is
   forth (InSlot k) is = (
-    in_use k is.0,
+    in_use k (is.1 page) is.0,
     λ p at. elim (cases_page p page) [
       | inl e ↦ no_slot p k e at
       | inr ne ↦ is.1 p (sym (brings.others p ne) ∙ at)
@@ -92,11 +97,17 @@ module _ (old new : Picture) (page : FilePage) (n : ℕ) (fit : IsFit old) (brin
     | inl e ↦ (let bad : Private ≡ Cache = sym is ∙ ap (role_of new.frames) e ∙ brings.kind in (cc))
     | inr ne ↦ sym (brings.frames.roles m ne) ∙ is
   ]
-  back (InSlot k) is = (was_used k is.0, λ p at. is.1 p (brings.others p (elsewhere p k at) ∙ at))
+  back (InSlot k) is = (
+    (was_used k is.0).1,
+    λ p at. elim (cases_page p page) [
+      | inl e ↦ (was_used k is.0).0 (ap old.place (sym e) ∙ at)
+      | inr ne ↦ is.1 p (brings.others p ne ∙ at)
+    ],
+  )
 
   counts : (z : Seat) → IsOwned old z → count_in new z ≡ count_in old z
   counts (InFrame m) is = brings.frames.counts m (private_ne m is)
-  counts (InSlot k) is = ap (λ t. t.count k) brings.slots
+  counts (InSlot k) is = brings.slots.counts k (is.1 page)
 
   pages : (z : Seat) → IsOwned old z → page_in new fit.counted.0 z ≡ page_in old fit.counted.0 z
   pages (InFrame m) is = brings.page_of m
@@ -127,11 +138,11 @@ module _ (old new : Picture) (page : FilePage) (n : ℕ) (fit : IsFit old) (brin
     ];
     slotted = λ p k at. elim (cases_page p page) [
       | inl e ↦ absurd (no_slot p k e at)
-      | inr ne ↦ ap (λ t. t.count k) brings.slots ∙ fit.places.slotted p k (sym (brings.others p ne) ∙ at)
+      | inr ne ↦ (let there = sym (brings.others p ne) ∙ at in brings.slots.counts k (slot_ne p k ne there) ∙ fit.places.slotted p k there)
     ];
-    used = λ k some. elim (fit.places.used k (was_used k some)) [
+    used = λ k some. elim (fit.places.used k (was_used k some).1) [
       | inl own ↦ inl (forth (InSlot k) own)
-      | inr file ↦ inr (file.0, brings.others file.0 (elsewhere file.0 k file.1) ∙ file.1)
+      | inr file ↦ inr (file.0, brings.others file.0 (λ e. (was_used k some).0 (ap old.place (sym e) ∙ file.1)) ∙ file.1)
     ];
     inside = λ p away. elim (cases_page p page) [
       | inl e ↦ (let P : FilePage → Type 0 = λ x. IsPageOf new.files x.file x.page in subst P (sym e) (brings.inside.0, brings.files page.file ∙ brings.inside.1, brings.inside.2))
@@ -186,6 +197,34 @@ module _ (old new : Picture) (page : FilePage) (n : ℕ) (fit : IsFit old) (brin
     places = placed;
     dirty = dirtied;
   }
+
+  pub trees_brought : KeepsTrees old.frames new.frames 2
+  trees_brought = trees
+
+  pub entries_brought : (pid k : ℕ) → entry new pid k ≡ entry old pid k
+  entries_brought = same
+
+  seat_bytes : (z : Seat) → IsOwned old z → bytes_in new.frames new.slots z ≡ bytes_in old.frames old.slots z
+  seat_bytes (InFrame m) is = brings.frames.bytes m (private_ne m is)
+  seat_bytes (InSlot k) is = brings.slots.bytes k (is.1 page) is.0
+
+  pub views_brought : (q p : ℕ) → view new q p ≡ view old q p
+  views_brought q p = each_view old new fit.granting brings.at q p (λ h. view_seated old new q p (brings.at q p) (ap seat (same q p))
+      (λ z is. seat_bytes z (fit.counted.1.named q p z h is)))
+
+  bytes_else : (p : FilePage) (x : Place) → old.place p ≡ x → p ≢ page → bytes_at new.frames new.slots x ≡ bytes_at old.frames old.slots x
+  bytes_else p Home at ne = refl
+  bytes_else p (Frame m) at ne = ap (λ (w : _). Some w) (brings.frames.bytes m.0 (cache_ne m.0 (fit.places.cached p m.0 at)))
+  bytes_else p (Slot k) at ne = ap (λ (w : _). Some w) (brings.slots.bytes k.0 (slot_ne p k.0 ne at) (let one = fit.places.slotted p k.0 at in omega (arith, one)))
+
+  -- another file page has the bytes that it had, and this one those of the frame
+  pub held_else : (p : FilePage) → p ≢ page → held new p ≡ held old p
+  unfolding held
+  held_else p ne = ap (λ x. bytes_at new.frames new.slots x) (brings.others p ne) ∙ bytes_else p (old.place p) refl ne
+
+  pub held_here : held new page ≡ Some (bytes_of new.frames n)
+  unfolding held
+  held_here = ap (λ x. bytes_at new.frames new.slots x) brings.placed
 
 -- a file page that isn't at home was touched
 module _ (old new : Picture) (page : FilePage) (fit : IsFit old) (frames : new.frames ≡ old.frames) (slots : new.slots ≡ old.slots) (away : old.place page ≢ Home) (now : new.touched page ≡ true)

@@ -29,4 +29,7 @@ pub mod Refusing
 pub mod Stalls
 pub mod SlotReleased
 pub mod Passing
+pub mod Setting
 pub mod Arriving
+pub mod Taking
+pub mod Returning

@@ -130,6 +130,65 @@ module _ (old new : ℕ → ℕ → ℕ) (owned owned' : Seat → Type 0) (count
     ];
   }
 
+-- Of the page (pid, page) the entry names seat y now, whose count was off, and named none before.
+module _ (old new : ℕ → ℕ → ℕ) (owned owned' : Seat → Type 0) (count count' page page' : Seat → ℕ) (y : Seat) (pid k : ℕ)
+    (counted : AreCounted old owned count page y 1) (forth : (z : Seat) → owned z → owned' z) (back : (z : Seat) → owned' z → owned z)
+    (counts : (z : Seat) → owned z → count' z ≡ count z) (pages : (z : Seat) → owned z → page' z ≡ page z)
+    (has : owned y) (noted : page y ≡ k) (h : IsPage 2 k) (below : pid < 65) (from : seat (old pid k) ≡ None) (to : seat (new pid k) ≡ Some y)
+    (others : OthersSame old new pid k) where
+  filled : holders_at new k y ≡ holders_at old k y + 1
+  unfolding holders_at
+  filled =
+      count-one (λ q. is_seat (seat (new q k)) y) (λ q. is_seat (seat (old q k)) y) pid 65 below (sits (seat (new pid k)) y to) (sits_none (seat (old pid k)) y from)
+      (λ q ne. ap (λ e. is_seat (seat e) y) (others q k h (inl ne)))
+
+  still : (z : Seat) (p : ℕ) → z ≢ y → IsPage 2 p → holders_at new p z ≡ holders_at old p z
+  unfolding holders_at
+  still z p ne h' = count-same (λ q. is_seat (seat (new q p)) z) (λ q. is_seat (seat (old q p)) z) 65 (λ q. elim (by_page q p pid k) [
+    | inl e ↦ (
+        let P : ℕ → Type 0 = λ a. is_seat (seat (new a p)) z ≡ is_seat (seat (old a p)) z in
+        let Q : ℕ → Type 0 = λ a. is_seat (seat (new pid a)) z ≡ is_seat (seat (old pid a)) z in
+        subst P (sym e.0) (subst Q (sym e.1) (sits_not (seat (new pid k)) y z to (λ e. ne (sym e)) ∙ sym (sits_none (seat (old pid k)) z from))))
+    | inr away ↦ ap (λ e. is_seat (seat e) z) (others q p h' away)
+  ])
+
+  pub counted_filled : (x' : Seat) → ((z : Seat) → off x' 0 z ≡ 0) → AreCounted new owned' count' page' x' 0
+  counted_filled x' none = record {
+    counts = λ z now. (
+        let was = back z now in
+        let before = counts z was ∙ counted.counts z was in
+        let zero = none z in
+        elim (cases_seat z y) [
+          | inl e ↦ (
+              let P : Seat → Type 0 = λ a. count' a ≡ holders_at new (page' a) a + off x' 0 a in
+              let at : page' y ≡ k = pages y has ∙ noted in
+              let c = counts y has ∙ counted.counts y has in
+              let a = off-here y 1 in
+              let b = none y in
+              let g = filled in
+              subst P (sym e) (rw at (let c' : count' y ≡ holders_at old k y + off y 1 y = (let R : ℕ → Type 0 = λ v. count' y ≡ holders_at old v y + off y 1 y in subst R noted c) in omega (arith, c', a, b, g))))
+          | inr ne ↦ (
+              let s = still z (page z) ne (counted.pages z was) in
+              let a = off-other y 1 z (λ f. ne (sym f)) in
+              rw (pages z was) (omega (arith, before, s, a, zero)))
+        ]);
+    pages = λ z now. (let was = back z now in let P : ℕ → Type 0 = λ v. IsPage 2 v in subst P (sym (pages z was)) (counted.pages z was));
+    named = λ q p z h' is. elim (by_page q p pid k) [
+      | inl e ↦ (
+          let moved : new q p ≡ new pid k = ap (λ v. new v p) e.0 ∙ ap (λ v. new pid v) e.1 in
+          subst owned' (some_seat y z (sym to ∙ ap seat (sym moved) ∙ is)) (forth y has))
+      | inr away ↦ forth z (counted.named q p z h' (ap seat (sym (others q p h' away)) ∙ is))
+    ];
+    noted = λ q p z h' is. elim (by_page q p pid k) [
+      | inl e ↦ (
+          let moved : new q p ≡ new pid k = ap (λ v. new v p) e.0 ∙ ap (λ v. new pid v) e.1 in
+          ap page' (sym (some_seat y z (sym to ∙ ap seat (sym moved) ∙ is))) ∙ pages y has ∙ noted ∙ sym e.1)
+      | inr away ↦ (
+          let was = ap seat (sym (others q p h' away)) ∙ is in
+          pages z (counted.named q p z h' was) ∙ counted.noted q p z h' was)
+    ];
+  }
+
 -- no entry names another seat than before
 pub seats_kept : (old new : ℕ → ℕ → ℕ) (z : Seat) (p : ℕ) → ((q : ℕ) → seat (new q p) ≡ seat (old q p)) → holders_at new p z ≡ holders_at old p z
 unfolding holders_at

@@ -15,7 +15,10 @@ use Rattle.swap.specs.Slots.{slots_of, IsInUse}
 use Rattle.swap.specs.Slots as Slots
 use Rattle.paging.specs.declared.kernel.Core.{Core}
 use Rattle.paging.specs.Picture.{Picture, picture_of, view, entry, is_swapped, is_data}
+use Rattle.paging.specs.Parts.{IsFit}
 use Rattle.paging.specs.Shows.{KeepsFiles}
+use Rattle.paging.specs.Steps.{SameBeside, TakesOwn, BringsIn}
+use Rattle.page_tables.specs.Change.{AddsTable}
 
 -- so many frames, all free but the zero page, so many free slots, no process, and every file page at home and untouched
 pub record IsStart {D E : Type 0} (c : Core D E) (frames slots : ℕ) : Type 0 where
@@ -73,6 +76,29 @@ pub record Frees (old new : Picture) (keep : Option FrameNo) : Type 0 where
   pub kept_count : (n : ℕ) → IsKept keep n → count_of new.frames n ≡ count_of old.frames n
   pub kept_bytes : (n : ℕ) → IsKept keep n → role_of old.frames n ≢ Table → bytes_of new.frames n ≡ bytes_of old.frames n
 
+-- a frame was obtained, and taken for one page
+pub record ObtainsOwn (old new : Picture) (keep : Option FrameNo) (n page : ℕ) : Type 0 where
+  pub found : Picture
+  pub fit : IsFit found
+  pub frees : Frees old found keep
+  pub own : TakesOwn found new n page
+
+-- a frame was obtained, and taken for a table that is in no tree
+pub record ObtainsTable (old new : Picture) (n : ℕ) : Type 0 where
+  pub found : Picture
+  pub fit : IsFit found
+  pub frees : Frees old found None
+  pub adds : AddsTable found.frames new.frames 2 n
+  pub beside : SameBeside found new
+  pub zero_page : role_of found.frames 0 ≢ Table
+
+-- a frame was obtained, and a file page brought into it
+pub record ObtainsCached (old new : Picture) (page : FilePage) (n : ℕ) : Type 0 where
+  pub found : Picture
+  pub fit : IsFit found
+  pub frees : Frees old found None
+  pub brings : BringsIn found new page n
+
 -- why no frame was to be had, by what memory is as it is left
 abbrev pub Refuses : Picture → Option FrameNo → Stall → Type 0
 Refuses c keep NoFrames = IsFull c.frames × ((n : ℕ) → IsSpareable c keep n → ⊥)
@@ -86,6 +112,21 @@ module _ {D E : Type 0} where
     pub store : new.store ≡ old.store
     pub roots : new.roots ≡ old.roots
     pub regions : new.regions ≡ old.regions
+
+module _ {D E : Type 0} where
+  -- all but memory, swap, the files and the count of refused requests is as it was
+  pub record KeepsBesideFiles (old new : Core D E) : Type 0 where
+    pub roots : new.roots ≡ old.roots
+    pub regions : new.regions ≡ old.regions
+
+  -- all but the processes is as it was, the count of refused requests too
+  pub record KeepsBesideProcesses (old new : Core D E) : Type 0 where
+    pub store : new.store ≡ old.store
+    pub swap : new.swap ≡ old.swap
+    pub frames : new.frames ≡ old.frames
+    pub cache : new.cache ≡ old.cache
+    pub page_of : new.page_of ≡ old.page_of
+    pub refused : new.refused ≡ old.refused
 
 module _ {E : Type 0} (g : Ghosts E) where
   -- a device that was read and written

@@ -1,5 +1,5 @@
 -- What holds of memory between two calls, in five parts.
-use Rattle.std.specs.Prelude.{◌≡◌, ◌≢◌, ℕ, ◌<◌, ◌≤◌, ◌⊎◌, Bool, true, false, length, Option, Some, IsSome}
+use Rattle.std.specs.Prelude.{◌≡◌, ◌≢◌, ℕ, ◌<◌, ◌≤◌, ◌⊎◌, Bool, true, false, Option, Some, IsSome}
 use Rattle.vm_types.specs.declared.file.FilePage.{FilePage}
 use Rattle.vm_types.specs.declared.region.Attr.{Attr}
 use Rattle.vm_types.specs.declared.region.Backing.{Backing}
@@ -7,31 +7,15 @@ use Rattle.vm_types.specs.declared.region.Backing.TheVariants.{Anon, Private, Sh
 use Rattle.vm_types.specs.Permission as Permission
 use Rattle.vm_types.specs.Rows.{IsUserMap}
 use Rattle.vm_types.specs.Verdict.{is_past_end}
-use Rattle.file_store.specs.Standing.{IsPageOf, AreBounded}
-use Rattle.file_store.specs.Store.{files_of}
+use Rattle.file_store.specs.Standing.{IsPageOf}
 use Rattle.frames.specs.declared.role.Role.TheVariants as Role
-use Rattle.frames.specs.FrameTable.{frame_count, role_of, count_of}
+use Rattle.frames.specs.FrameTable.{role_of, count_of}
 use Rattle.sv39_walk.specs.Entry.{is_valid, can_read, can_write, can_execute, is_dirty, frame_of, has_bit}
 use Rattle.page_tables.specs.Tree.{IsPage, IsTable, IsForest, IsRoot, IsBelowRoot}
 use Rattle.regions.specs.Permission.{IsReadableMap}
 use Rattle.page_cache.specs.declared.place.Place.TheVariants.{Home, Frame, Slot}
-use Rattle.page_cache.specs.CacheTable as CacheTable
-use Rattle.paging.specs.declared.kernel.Core.{Core}
-use Rattle.swap.specs.Slots.{slots_of}
 use Rattle.paging.specs.Seats.{Seat, InFrame, InSlot, AreCounted, is_private, is_swapped}
 use Rattle.paging.specs.Picture.{Picture, entry, count_in, page_in, IsOwned}
-
-module _ {D E : Type 0} where
-  -- each list has its length, and frames and cache are of one memory
-  pub record IsSized (c : Core D E) : Type 0 where
-    pub roots : length c.roots.items ≡ 65
-    pub regions : length c.regions.items ≡ 65
-    pub pages : length c.page_of.items ≡ frame_count c.frames
-    pub nodes : CacheTable.frame_count c.cache ≡ frame_count c.frames
-    pub hand : c.clock.hand < frame_count c.frames
-    pub slots : CacheTable.slot_count c.cache ≡ (slots_of c.swap).total
-    -- there are no more files and file pages than the store's format has numbers for
-    pub files : AreBounded (files_of c.store)
 
 -- Counts, while that of seat x is off by d, by the pages at which processes have slots: the share count of a private frame, and
 -- of a slot that holds no file page, is the number of entries that name it, which all stand at its page.

@@ -1,9 +1,10 @@
 -- What one step of a call changes.
-use Rattle.std.specs.Prelude.{◌≡◌, ◌≢◌, ℕ, ◌<◌, ◌⊎◌}
+use Rattle.std.specs.Prelude.{◌≡◌, ◌≢◌, ℕ, ◌<◌, ◌≤◌, ◌⊎◌, Some, None}
 use Rattle.vm_types.specs.declared.file.FilePage.{FilePage}
 use Rattle.frames.specs.declared.role.Role.TheVariants.{Free, Table, Private, Cache}
-use Rattle.frames.specs.FrameTable.{FrameTable, bytes_of, role_of, count_of, SameButFor}
-use Rattle.page_cache.specs.declared.place.Place.TheVariants.{Home, Frame}
+use Rattle.frames.specs.FrameTable.{FrameTable, bytes_of, role_of, count_of, SameButFor, Takes}
+use Rattle.page_cache.specs.declared.place.Place.TheVariants.{Frame, Slot}
+use Rattle.swap.specs.Slots.{IsInUse}
 use Rattle.file_store.specs.Standing.{IsPageOf}
 use Rattle.page_tables.specs.Tree.{IsPage}
 use Rattle.paging.specs.Picture.{Picture, entry}
@@ -34,19 +35,76 @@ pub record SetsPage (old new : Picture) (pid page number : ℕ) : Type 0 where
   pub shares : KeepsShares old.frames new.frames
   pub bytes : (n : ℕ) → role_of old.frames n ≢ Table → bytes_of new.frames n ≡ bytes_of old.frames n
 
--- a file page was brought from its home into the frame n, which was free
-pub record BringsIn (old new : Picture) (page : FilePage) (n : ℕ) : Type 0 where
+-- the free frame n was taken for one page, at which its process will have it
+pub record TakesOwn (old new : Picture) (n page : ℕ) : Type 0 where
   pub slots : new.slots ≡ old.slots
+  pub takes : Takes old.frames new.frames Private n
+  pub noted : new.page_of n ≡ page
+  pub others : (m : ℕ) → m ≢ n → new.page_of m ≡ old.page_of m
+  pub root : (pid : ℕ) → new.root pid ≡ old.root pid
+  pub at : (pid k : ℕ) → new.at pid k ≡ old.at pid k
+  pub place : (p : FilePage) → new.place p ≡ old.place p
+  pub touched : (p : FilePage) → new.touched p ≡ old.touched p
+  pub files : (f : ℕ) → new.files f ≡ old.files f
+
+-- one frame changed that was free, and nothing else but the page that is noted for it
+pub record ChangesFrame (old new : Picture) (n : ℕ) : Type 0 where
+  pub slots : new.slots ≡ old.slots
+  pub frames : SameButFor n old.frames new.frames
+  pub was_free : role_of old.frames n ≡ Free
+  pub others : (m : ℕ) → m ≢ n → new.page_of m ≡ old.page_of m
+  pub root : (pid : ℕ) → new.root pid ≡ old.root pid
+  pub at : (pid k : ℕ) → new.at pid k ≡ old.at pid k
+  pub place : (p : FilePage) → new.place p ≡ old.place p
+  pub touched : (p : FilePage) → new.touched p ≡ old.touched p
+  pub files : (f : ℕ) → new.files f ≡ old.files f
+
+-- all slots are as they were, but for that of the file page, where it lies in one: that one is free
+pub record LeavesSlot (old new : Picture) (page : FilePage) : Type 0 where
+  pub total : new.slots.total ≡ old.slots.total
+  pub left : (k : ℕ) → old.place page ≡ Slot (record { 0 = k }) → new.slots.count k ≡ 0
+  pub counts : (k : ℕ) → old.place page ≢ Slot (record { 0 = k }) → new.slots.count k ≡ old.slots.count k
+  pub bytes : (k : ℕ) → old.place page ≢ Slot (record { 0 = k }) → IsInUse old.slots k → new.slots.bytes k ≡ old.slots.bytes k
+
+-- a file page that lay in no frame was brought into the frame n, which was free
+pub record BringsIn (old new : Picture) (page : FilePage) (n : ℕ) : Type 0 where
+  pub slots : LeavesSlot old new page
   pub frames : SameButFor n old.frames new.frames
   pub above : 0 < n
   pub was_free : role_of old.frames n ≡ Free
   pub kind : role_of new.frames n ≡ Cache
-  pub was_home : old.place page ≡ Home
+  pub was_away : (m : ℕ) → old.place page ≢ Frame (record { 0 = m })
   pub inside : IsPageOf old.files page.file page.page
   pub placed : new.place page ≡ Frame (record { 0 = n })
   pub others : (p : FilePage) → p ≢ page → new.place p ≡ old.place p
   pub root : (pid : ℕ) → new.root pid ≡ old.root pid
   pub at : (pid k : ℕ) → new.at pid k ≡ old.at pid k
   pub page_of : (m : ℕ) → new.page_of m ≡ old.page_of m
+  pub touched : (p : FilePage) → new.touched p ≡ old.touched p
+  pub files : (f : ℕ) → new.files f ≡ old.files f
+
+-- a process was made, of that number and that root table, without a page
+pub record Spawns (old new : Picture) (pid root : ℕ) : Type 0 where
+  pub slots : new.slots ≡ old.slots
+  pub frames : new.frames ≡ old.frames
+  pub was_free : old.root pid ≡ None
+  pub number : (1 ≤ pid) × (pid ≤ 64)
+  pub lives : new.root pid ≡ Some root
+  pub others : (q : ℕ) → q ≢ pid → new.root q ≡ old.root q
+  pub unmapped : (page : ℕ) → new.at pid page ≡ None
+  pub at : (q page : ℕ) → q ≢ pid → new.at q page ≡ old.at q page
+  pub page_of : (m : ℕ) → new.page_of m ≡ old.page_of m
+  pub place : (p : FilePage) → new.place p ≡ old.place p
+  pub touched : (p : FilePage) → new.touched p ≡ old.touched p
+  pub files : (f : ℕ) → new.files f ≡ old.files f
+
+-- the regions of one process changed
+pub record Remaps (old new : Picture) (pid : ℕ) : Type 0 where
+  pub slots : new.slots ≡ old.slots
+  pub frames : new.frames ≡ old.frames
+  pub root : (q : ℕ) → new.root q ≡ old.root q
+  pub others : (q page : ℕ) → q ≢ pid → new.at q page ≡ old.at q page
+  pub page_of : (m : ℕ) → new.page_of m ≡ old.page_of m
+  pub place : (p : FilePage) → new.place p ≡ old.place p
   pub touched : (p : FilePage) → new.touched p ≡ old.touched p
   pub files : (f : ℕ) → new.files f ≡ old.files f

@@ -6,7 +6,7 @@ ghost use Rattle.page_cache.specs.declared.place.Place.TheVariants.{Frame};
 ghost use Rattle.swap.specs.Slots.{slots_of, IsReady, IsFull};
 ghost use Rattle.vm_types.specs.declared.refusal.Stall.TheVariants as Stalls;
 ghost use Rattle.paging.specs.Picture.{picture_of, is_data};
-ghost use Rattle.paging.specs.Parts.{IsSized, IsFit};
+ghost use Rattle.paging.specs.Parts.{IsFit};
 ghost use Rattle.paging.specs.Calls.{NeedsSlot, UsesDevice, StallCause};
 ghost use Rattle.paging.specs.Evictions.{Spares, GivesUp, KeepsPlain};
 
@@ -20,20 +20,16 @@ use vm_types::{FilePage, FrameNo, Stall};
 
 /// Gives up the frame of an untouched file page, which is at home then.
 pub(crate) fn send_home<D, E>(core: &mut Core<D, E>, victim: FrameNo, page: FilePage)
-    requires sized { IsSized core.old }
     requires fit { IsFit (picture_of core.old) }
     requires inside { IsFrame core.old.frames victim.0 }
     requires placed { (picture_of core.old).place page ≡ Frame victim }
     requires untouched { (picture_of core.old).touched page ≡ false }
-    ensures sized { IsSized core.new }
     ensures fit { IsFit (picture_of core.new) }
     ensures spares { (k : ℕ) → Spares victim.0 k (picture_of core.old) (picture_of core.new) }
     ensures free { role_of core.new.frames victim.0 ≡ Roles.Free }
     ensures plain { KeepsPlain core.old core.new }
     ensures swap { core.new.swap ≡ core.old.swap }
 {
-    // (brings in that the table of frames is sound)
-    let _ = core.frames.len();
     change_leaves(core, victim, Change::Forget);
     core.cache.set_place(page, Place::Home);
     core.frames.release(victim);
@@ -48,14 +44,12 @@ fn send_away<D, E: SectorDisk>(
     victim: FrameNo,
     page: FilePage,
 ) -> Result<(), Stall>
-    requires sized { IsSized core.old }
     requires fit { IsFit (picture_of core.old) }
     requires swap { IsReady E.SectorDisk core.old.swap }
     requires inside { IsFrame core.old.frames victim.0 }
     requires placed { (picture_of core.old).place page ≡ Frame victim }
     requires touched { (picture_of core.old).touched page ≡ true }
     requires room { IsFull (slots_of core.old.swap) → ⊥ }
-    ensures sized { IsSized core.new }
     ensures fit { IsFit (picture_of core.new) }
     ensures swap { IsReady E.SectorDisk core.new.swap }
     ensures gives { GivesUp victim.0 (picture_of core.old) (picture_of core.new) }
@@ -65,8 +59,6 @@ fn send_away<D, E: SectorDisk>(
     ensures fault { IfErr result (λ s. s ≡ Stalls.SwapDevice) }
     ensures cause { IfErr result (StallCause E.SectorDisk core.old core.new) }
 {
-    // (brings in that the table of frames is sound)
-    let _ = core.frames.len();
     change_leaves(core, victim, Change::Forget);
     match core.swap.put(core.frames.bytes(victim)) {
         Ok(slot) => {
@@ -84,13 +76,11 @@ fn send_away<D, E: SectorDisk>(
 /// # Errors
 /// `SwapDevice` only where the swap device failed.
 fn send_copies<D, E: SectorDisk>(core: &mut Core<D, E>, victim: FrameNo) -> Result<(), Stall>
-    requires sized { IsSized core.old }
     requires fit { IsFit (picture_of core.old) }
     requires swap { IsReady E.SectorDisk core.old.swap }
     requires inside { IsFrame core.old.frames victim.0 }
     requires role { role_of core.old.frames victim.0 ≡ Roles.Private }
     requires room { IsFull (slots_of core.old.swap) → ⊥ }
-    ensures sized { IsSized core.new }
     ensures fit { IsFit (picture_of core.new) }
     ensures swap { IsReady E.SectorDisk core.new.swap }
     ensures gives { GivesUp victim.0 (picture_of core.old) (picture_of core.new) }
@@ -100,8 +90,6 @@ fn send_copies<D, E: SectorDisk>(core: &mut Core<D, E>, victim: FrameNo) -> Resu
     ensures fault { IfErr result (λ s. s ≡ Stalls.SwapDevice) }
     ensures cause { IfErr result (StallCause E.SectorDisk core.old core.new) }
 {
-    // (brings in that the table of frames is sound)
-    let _ = core.frames.len();
     match core.swap.put(core.frames.bytes(victim)) {
         Ok(slot) => {
             hand_over(core, victim, slot);
@@ -117,13 +105,11 @@ fn send_copies<D, E: SectorDisk>(core: &mut Core<D, E>, victim: FrameNo) -> Resu
 /// # Errors
 /// `SwapDevice` only where the swap device failed.
 pub(crate) fn evict<D, E: SectorDisk>(core: &mut Core<D, E>, victim: FrameNo) -> Result<(), Stall>
-    requires sized { IsSized core.old }
     requires fit { IsFit (picture_of core.old) }
     requires swap { IsReady E.SectorDisk core.old.swap }
     requires inside { IsFrame core.old.frames victim.0 }
     requires datum { is_data (role_of core.old.frames victim.0) ≡ true }
     requires room { NeedsSlot (picture_of core.old) victim.0 → IsFull (slots_of core.old.swap) → ⊥ }
-    ensures sized { IsSized core.new }
     ensures fit { IsFit (picture_of core.new) }
     ensures swap { IsReady E.SectorDisk core.new.swap }
     ensures gives { GivesUp victim.0 (picture_of core.old) (picture_of core.new) }

@@ -1,6 +1,12 @@
 //! The values under all calls.
-ghost use Rattle.std.specs.Prelude.{◌≡◌, ◌≤◌, IfOk, IfErr, length};
+ghost use Rattle.std.specs.Prelude.{◌≡◌, ◌≤◌, ◌<◌, IfOk, IfErr, length};
+ghost use Rattle.file_store.specs.Standing.{AreBounded};
+ghost use Rattle.file_store.specs.Store.{files_of};
+ghost use Rattle.frames.specs.FrameTable.{IsSound, frame_count};
+ghost use Rattle.page_cache.specs.CacheTable as CacheTable;
+ghost use Rattle.swap.specs.Slots.{slots_of};
 ghost use Rattle.paging.specs.Room.{HasNoRoots};
+ghost use Rattle.paging.specs.Sound.{IsSound-prop, AreBounded-prop};
 
 use clock_replace::Clock;
 use disk_model::Count;
@@ -15,8 +21,9 @@ use vm_types::{FrameNo, PROCESSES};
 /// The places for processes: a process has the place of its number, and place 0 stays free.
 pub const PLACES: usize = PROCESSES + 1;
 
-/// Files, memory and processes, over a store device `D` and a swap device `E`. What holds of it between two calls is said
-/// by `IsSized` and `IsFit`; a function may break `IsFit` on its way.
+/// Files, memory and processes, over a store device `D` and a swap device `E`. How much of each there is, and that
+/// the table of frames is sound, always holds. What else holds between two calls is said by `IsFit`; a function may break that
+/// on its way.
 #[derive(Drop)]
 pub struct Core<D, E> {
     /// The files, as they stand on their device.
@@ -37,15 +44,21 @@ pub struct Core<D, E> {
     pub(crate) clock: Clock,
     /// How often `obtain` has refused a frame, for contracts alone. Nobody else can raise it.
     pub(crate) refused: Count,
+    pub ghost sound: { IsSound frames } by { IsSound-prop frames },
+    pub ghost root_count: { length roots.items ≡ 65 },
+    pub ghost region_count: { length regions.items ≡ 65 },
+    pub ghost page_count: { length page_of.items ≡ frame_count frames },
+    pub ghost node_count: { CacheTable.frame_count cache ≡ frame_count frames },
+    pub ghost slot_count: { CacheTable.slot_count cache ≡ (slots_of swap).total },
+    pub ghost hand_inside: { clock.hand < frame_count frames },
+    /// There are no more files and file pages than the store's format has numbers for.
+    pub ghost bounded: { AreBounded (files_of store) } by { AreBounded-prop (files_of store) },
 }
 
 impl<D, E> Core<D, E> {
-    ghost use Rattle.file_store.specs.Standing.{AreBounded};
-    ghost use Rattle.file_store.specs.Store.{files_of};
     ghost use Rattle.paging.specs.Picture.{picture_of};
-    ghost use Rattle.paging.specs.Parts.{IsSized, IsFit};
+    ghost use Rattle.paging.specs.Parts.{IsFit};
     ghost use Rattle.paging.specs.Calls.{IsStart};
-    ghost use Rattle.swap.specs.Slots.{slots_of};
     ghost use Rattle.swap.specs.Slots as Slots;
 
     /// Files, `frames` frames of memory, 8 to 65,536, and room for 64 processes and for `slots` slots of swap, at most
@@ -67,7 +80,6 @@ impl<D, E> Core<D, E> {
         requires least_frames { 8 ≤ frames }
         requires most_frames { frames ≤ 65536 }
         requires most_slots { slots ≤ 65536 }
-        ensures sized { IfOk result IsSized }
         ensures fit { IfOk result (λ core. IsFit (picture_of core)) }
         ensures start { IfOk result (λ core. IsStart core frames slots) }
         ensures store { IfOk result (λ core. core.store ≡ store) }

@@ -6,7 +6,7 @@ ghost use Rattle.sv39_walk.specs.Entry.{is_valid, is_accessed, is_dirty, frame_o
 ghost use Rattle.page_tables.specs.Entry.{number_of, IsEntry};
 ghost use Rattle.page_tables.specs.Tree.{IsPage};
 ghost use Rattle.paging.specs.Picture.{picture_of, is_data};
-ghost use Rattle.paging.specs.Parts.{IsSized, IsFit};
+ghost use Rattle.paging.specs.Parts.{IsFit};
 ghost use Rattle.paging.specs.declared.leaves.Change.TheVariants as Kinds;
 ghost use Rattle.page_cache.specs.declared.place.Place.TheVariants.{Frame};
 ghost use Rattle.paging.specs.Seats.{is_swapped};
@@ -46,15 +46,12 @@ pub(crate) enum Held {
 
 /// What the frame holds.
 pub(crate) fn held_in<D, E>(core: &Core<D, E>, frame: FrameNo) -> Held
-    requires sized { IsSized core.now }
     requires fit { IsFit (picture_of core.now) }
     requires inside { IsFrame core.now.frames frame.0 }
     requires data { is_data (role_of core.now.frames frame.0) ≡ true }
     ensures holds { Holds (picture_of core.now) frame.0 result }
     ensures above { 0 < frame.0 }
 {
-    // (brings in that the table of frames is sound)
-    let _ = core.frames.len();
     match core.frames.role(frame) {
         Role::Private => Held::Own(core.page_of[frame.0 as usize]),
         _ => match core.cache.page_in_frame(frame) {
@@ -110,7 +107,6 @@ pub(crate) fn find_in<D, E>(
     frame: FrameNo,
     change: Change,
 ) -> Option<Vpn>
-    requires sized { IsSized core.now }
     requires fit { IsFit (picture_of core.now) }
     requires lives { (picture_of core.now).root pid ≡ Some root.0 }
     requires above { 0 < frame.0 }
@@ -168,7 +164,6 @@ fn find_filed<D, E>(
     frame: FrameNo,
     change: Change,
 ) -> Option<Vpn>
-    requires sized { IsSized core.now }
     requires fit { IsFit (picture_of core.now) }
     requires lives { (picture_of core.now).root pid ≡ Some root.0 }
     requires above { 0 < frame.0 }
@@ -270,13 +265,11 @@ fn change_at<D, E>(
     frame: FrameNo,
     change: Change,
 )
-    requires sized { IsSized core.old }
     requires fit { IsFit (picture_of core.old) }
     requires lives { (picture_of core.old).root pid ≡ Some root.0 }
     requires user { page < 2 ^ 26 }
     requires over { IsOver (picture_of core.old) change frame.0 pid page }
     requires filed { change ≡ Kinds.Forget → role_of core.old.frames frame.0 ≡ Roles.Cache }
-    ensures sized { IsSized core.new }
     ensures fit { IsFit (picture_of core.new) }
     ensures beside { KeepsAllButFrames core.old core.new }
     ensures changes { Changes change frame.0 (picture_of core.old) (picture_of core.new) }
@@ -295,14 +288,12 @@ fn change_in<D, E>(
     frame: FrameNo,
     change: Change,
 )
-    requires sized { IsSized core.old }
     requires fit { IsFit (picture_of core.old) }
     requires lives { (picture_of core.old).root pid ≡ Some root.0 }
     requires above { 0 < frame.0 }
     requires number { pid < 65 }
     requires holds { Holds (picture_of core.old) frame.0 held }
     requires filed { change ≡ Kinds.Forget → role_of core.old.frames frame.0 ≡ Roles.Cache }
-    ensures sized { IsSized core.new }
     ensures fit { IsFit (picture_of core.new) }
     ensures beside { KeepsAllButFrames core.old core.new }
     ensures changes { Changes change frame.0 (picture_of core.old) (picture_of core.new) }
@@ -317,13 +308,11 @@ fn change_in<D, E>(
 
 /// The same for the process of that number, where it lives.
 fn change_of<D, E>(core: &mut Core<D, E>, pid: usize, held: Held, frame: FrameNo, change: Change)
-    requires sized { IsSized core.old }
     requires fit { IsFit (picture_of core.old) }
     requires above { 0 < frame.0 }
     requires number { pid < 65 }
     requires holds { Holds (picture_of core.old) frame.0 held }
     requires filed { change ≡ Kinds.Forget → role_of core.old.frames frame.0 ≡ Roles.Cache }
-    ensures sized { IsSized core.new }
     ensures fit { IsFit (picture_of core.new) }
     ensures beside { KeepsAllButFrames core.old core.new }
     ensures changes { Changes change frame.0 (picture_of core.old) (picture_of core.new) }
@@ -338,12 +327,10 @@ fn change_of<D, E>(core: &mut Core<D, E>, pid: usize, held: Held, frame: FrameNo
 /// Changes so each entry over a frame that holds a page, in the tables of all processes: no process sees it. Entries are forgotten
 /// only over a frame that holds a file page.
 pub fn change_leaves<D, E>(core: &mut Core<D, E>, frame: FrameNo, change: Change)
-    requires sized { IsSized core.old }
     requires fit { IsFit (picture_of core.old) }
     requires inside { IsFrame core.old.frames frame.0 }
     requires data { is_data (role_of core.old.frames frame.0) ≡ true }
     requires filed { change ≡ Kinds.Forget → role_of core.old.frames frame.0 ≡ Roles.Cache }
-    ensures sized { IsSized core.new }
     ensures fit { IsFit (picture_of core.new) }
     ensures beside { KeepsAllButFrames core.old core.new }
     ensures changes { Changes change frame.0 (picture_of core.old) (picture_of core.new) }
@@ -358,7 +345,6 @@ pub fn change_leaves<D, E>(core: &mut Core<D, E>, frame: FrameNo, change: Change
 
 /// Whether the change is for an entry over a frame that holds a page.
 pub(crate) fn has_leaf<D, E>(core: &Core<D, E>, frame: FrameNo, change: Change) -> bool
-    requires sized { IsSized core.now }
     requires fit { IsFit (picture_of core.now) }
     requires inside { IsFrame core.now.frames frame.0 }
     requires data { is_data (role_of core.now.frames frame.0) ≡ true }

@@ -7,7 +7,9 @@ mod kernel;
 mod leaves;
 mod looking;
 mod obtaining;
+mod processes;
 mod shares;
+mod steps;
 #[cfg(test)]
 mod tests;
 

@@ -4,7 +4,7 @@ ghost use Rattle.std.proofs.Common.{refl, ◌∙◌};
 ghost use Rattle.frames.specs.FrameTable.{frame_count, IsFrame, IsFull, role_of};
 ghost use Rattle.swap.specs.Slots.{slots_of};
 ghost use Rattle.paging.specs.Picture.{picture_of, is_data};
-ghost use Rattle.paging.specs.Parts.{IsSized, IsFit};
+ghost use Rattle.paging.specs.Parts.{IsFit};
 ghost use Rattle.paging.specs.Calls.{Frees, IsKept, IsSpareable, NeedsSlot};
 ghost use Rattle.paging.specs.Evictions.{IsEvictable, IsAccessed, Looked};
 
@@ -34,7 +34,7 @@ impl<D, E> FrameView for View<'_, D, E> {
 
     ghost marked = { λ v n. IsAccessed (picture_of v.core.now) n };
 
-    ghost is_open = { λ v. IsSized v.core.now × IsFit (picture_of v.core.now) };
+    ghost is_open = { λ v. IsFit (picture_of v.core.now) };
 
     ghost follows = { λ a b. (b.core.ghost_name ≡ a.core.ghost_name) × Follows a.core.now b.core.now a.keep b.keep };
 
@@ -79,7 +79,6 @@ pub(crate) fn is_spareable<D, E>(core: &Core<D, E>, keep: Option<FrameNo>, n: Fr
 
 /// Whether the frame needs a slot to be given up.
 fn needs_slot<D, E>(core: &Core<D, E>, n: FrameNo) -> bool
-    requires sized { IsSized core.now }
     requires fit { IsFit (picture_of core.now) }
     requires inside { IsFrame core.now.frames n.0 }
     ensures needs { result ≡ true → NeedsSlot (picture_of core.now) n.0 }
@@ -96,7 +95,6 @@ fn needs_slot<D, E>(core: &Core<D, E>, n: FrameNo) -> bool
 
 /// Whether the frame may be given up now.
 fn is_evictable<D, E>(core: &Core<D, E>, keep: Option<FrameNo>, n: FrameNo) -> bool
-    requires sized { IsSized core.now }
     requires fit { IsFit (picture_of core.now) }
     requires inside { IsFrame core.now.frames n.0 }
     ensures { (result ≡ true) ↔ IsEvictable (picture_of core.now) keep n.0 }
@@ -106,7 +104,6 @@ fn is_evictable<D, E>(core: &Core<D, E>, keep: Option<FrameNo>, n: FrameNo) -> b
 
 /// Whether a leaf over the frame has A.
 fn is_accessed<D, E>(core: &Core<D, E>, n: FrameNo) -> bool
-    requires sized { IsSized core.now }
     requires fit { IsFit (picture_of core.now) }
     requires inside { IsFrame core.now.frames n.0 }
     ensures { (result ≡ true) ↔ IsAccessed (picture_of core.now) n.0 }
@@ -119,9 +116,7 @@ pub(crate) fn choose<D, E>(
     core: &mut Core<D, E>,
     keep: Option<FrameNo>,
 ) -> Result<FrameNo, NoVictim>
-    requires sized { IsSized core.old }
     requires fit { IsFit (picture_of core.old) }
-    ensures sized { IsSized core.new }
     ensures fit { IsFit (picture_of core.new) }
     ensures frees { Frees (picture_of core.old) (picture_of core.new) keep }
     ensures looked { Looked core.old core.new }
@@ -129,8 +124,6 @@ pub(crate) fn choose<D, E>(
     ensures found { IfOk result (λ n. IsEvictable (picture_of core.new) keep n.0) }
     ensures none { OnErr result ((n : ℕ) → IsFrame core.new.frames n → IsEvictable (picture_of core.new) keep n → ⊥) }
 {
-    // (brings in that the table of frames is sound)
-    let _ = core.frames.len();
     let mut clock = core.clock;
     let mut view = View {
         core,

@@ -6,7 +6,7 @@ ghost use Rattle.vm_types.specs.State.{State};
 ghost use Rattle.std.specs.Prelude.{true, false, ℕ, ◌≡◌, ◌+◌, IsErr, IfOk, IfErr, OnOk, OnErr};
 ghost use Rattle.swap.specs.Slots.{IsReady};
 ghost use Rattle.paging.specs.Picture.{picture_of};
-ghost use Rattle.paging.specs.Parts.{IsSized, IsFit};
+ghost use Rattle.paging.specs.Parts.{IsFit};
 ghost use Rattle.paging.specs.Capacity.{IsShort};
 ghost use Rattle.paging.specs.Calls.{IsFreeFrame, Frees, KeepsRest, Refuses, UsesDevice, StallCause};
 
@@ -27,10 +27,8 @@ pub fn obtain<D, E: SectorDisk>(
     core: &mut Core<D, E>,
     keep: Option<FrameNo>,
 ) -> Result<FrameNo, Stall>
-    requires sized { IsSized core.old }
     requires fit { IsFit (picture_of core.old) }
     requires swap { IsReady E.SectorDisk core.old.swap }
-    ensures sized { IsSized core.new }
     ensures fit { IsFit (picture_of core.new) }
     ensures swap { IsReady E.SectorDisk core.new.swap }
     ensures frees { Frees (picture_of core.old) (picture_of core.new) keep }
@@ -48,8 +46,6 @@ pub fn obtain<D, E: SectorDisk>(
         Some(n) => Ok(n),
         None => {
             let obtained = give_up(core, keep);
-            // (brings in that the table of frames is sound)
-            let _ = core.frames.len();
             obtained
         }
     }
@@ -57,11 +53,9 @@ pub fn obtain<D, E: SectorDisk>(
 
 /// The same where none is free.
 fn give_up<D, E: SectorDisk>(core: &mut Core<D, E>, keep: Option<FrameNo>) -> Result<FrameNo, Stall>
-    requires sized { IsSized core.old }
     requires fit { IsFit (picture_of core.old) }
     requires swap { IsReady E.SectorDisk core.old.swap }
     requires full { IsFull core.old.frames }
-    ensures sized { IsSized core.new }
     ensures fit { IsFit (picture_of core.new) }
     ensures swap { IsReady E.SectorDisk core.new.swap }
     ensures frees { Frees (picture_of core.old) (picture_of core.new) keep }
@@ -73,8 +67,6 @@ fn give_up<D, E: SectorDisk>(core: &mut Core<D, E>, keep: Option<FrameNo>) -> Re
     ensures not_refused { OnOk result (core.new.refused.number ≡ core.old.refused.number) }
 {
     let choice = choose(core, keep);
-    // (brings in that the table of frames is sound)
-    let _ = core.frames.len();
     match choice {
         Ok(victim) => {
             evict(core, victim)?;

@@ -5,7 +5,7 @@ ghost use Rattle.frames.specs.FrameTable.{IsFrame, role_of, count_of, bytes_of};
 ghost use Rattle.swap.specs.Slots.{IsReady};
 ghost use Rattle.paging.specs.Seats.{InFrame, InSlot, seat, is_private};
 ghost use Rattle.paging.specs.Picture.{picture_of, entry};
-ghost use Rattle.paging.specs.Parts.{IsSized, IsFit};
+ghost use Rattle.paging.specs.Parts.{IsFit};
 ghost use Rattle.paging.specs.Evictions.{HasShare, IsHanding, Spares, KeepsPlain};
 
 use crate::kernel::{Core, PLACES};
@@ -40,13 +40,11 @@ fn give_share<D, E>(
     frame: FrameNo,
     slot: SlotNo,
 )
-    requires sized { IsSized core.old }
     requires share { HasShare (picture_of core.old) slot.0 page }
     requires lives { (picture_of core.old).root pid ≡ Some root.0 }
     requires user { page < 2 ^ 26 }
     requires from { seat (entry (picture_of core.old) pid page) ≡ Some (InFrame frame.0) }
     requires same { (picture_of core.old).slots.bytes slot.0 ≡ bytes_of core.old.frames frame.0 }
-    ensures sized { IsSized core.new }
     ensures fit { IsFit (picture_of core.new) }
     ensures swap { core.new.swap ≡ core.old.swap }
     ensures spares { Spares frame.0 slot.0 (picture_of core.old) (picture_of core.new) }
@@ -58,8 +56,6 @@ fn give_share<D, E>(
     ensures kept { 1 < count_of core.old.frames frame.0 → (role_of core.new.frames frame.0 ≡ role_of core.old.frames frame.0) × (bytes_of core.new.frames frame.0 ≡ bytes_of core.old.frames frame.0) }
     ensures freed { count_of core.old.frames frame.0 ≡ 1 → role_of core.new.frames frame.0 ≡ Roles.Free }
 {
-    // (brings in that the table of frames is sound)
-    let _ = core.frames.len();
     set(&mut core.frames, root, page, Entry::Swapped(slot));
     core.frames.release(frame);
 }
@@ -73,13 +69,11 @@ fn pass_share<D, E: SectorDisk>(
     frame: FrameNo,
     slot: SlotNo,
 ) -> bool
-    requires sized { IsSized core.old }
     requires ready { IsReady E.SectorDisk core.old.swap }
     requires handing { IsHanding (picture_of core.old) frame.0 slot.0 page }
     requires lives { (picture_of core.old).root pid ≡ Some root.0 }
     requires user { page < 2 ^ 26 }
     requires from { seat (entry (picture_of core.old) pid page) ≡ Some (InFrame frame.0) }
-    ensures sized { IsSized core.new }
     ensures ready { IsReady E.SectorDisk core.new.swap }
     ensures spares { Spares frame.0 slot.0 (picture_of core.old) (picture_of core.new) }
     ensures plain { KeepsPlain core.old core.new }
@@ -107,12 +101,10 @@ fn hand_one<D, E: SectorDisk>(
     frame: FrameNo,
     slot: SlotNo,
 ) -> bool
-    requires sized { IsSized core.old }
     requires ready { IsReady E.SectorDisk core.old.swap }
     requires handing { IsHanding (picture_of core.old) frame.0 slot.0 page }
     requires number { pid < 65 }
     requires user { page < 2 ^ 26 }
-    ensures sized { IsSized core.new }
     ensures ready { IsReady E.SectorDisk core.new.swap }
     ensures spares { Spares frame.0 slot.0 (picture_of core.old) (picture_of core.new) }
     ensures plain { KeepsPlain core.old core.new }
@@ -135,11 +127,9 @@ fn hand_one<D, E: SectorDisk>(
 /// Gives each process that has the private frame the share of a slot in place of it. The slot has one share, for which no
 /// entry names it yet, and the frame's bytes.
 pub(crate) fn hand_over<D, E: SectorDisk>(core: &mut Core<D, E>, frame: FrameNo, slot: SlotNo)
-    requires sized { IsSized core.old }
     requires ready { IsReady E.SectorDisk core.old.swap }
     requires inside { IsFrame core.old.frames frame.0 }
     requires handing { IsHanding (picture_of core.old) frame.0 slot.0 ((picture_of core.old).page_of frame.0) }
-    ensures sized { IsSized core.new }
     ensures fit { IsFit (picture_of core.new) }
     ensures ready { IsReady E.SectorDisk core.new.swap }
     ensures spares { Spares frame.0 slot.0 (picture_of core.old) (picture_of core.new) }

@@ -1,10 +1,10 @@
 //! Memory of 8 frames over devices in memory, filled with pages of a file.
-ghost use Rattle.std.specs.Prelude.{◌≡◌, ◌≢◌, ◌≤◌, IfOk, OnOk};
-ghost use Rattle.file_store.specs.Standing.{AreBounded, IsPageOf};
+ghost use Rattle.std.specs.Prelude.{◌≡◌, ◌≢◌, ◌≤◌, ℕ, None, IfOk, OnOk};
+ghost use Rattle.file_store.specs.Standing.{AreBounded};
 ghost use Rattle.page_cache.specs.declared.place.Place.TheVariants.{Home};
 ghost use Rattle.file_store.specs.Store.{IsReadyStore, files_of};
 ghost use Rattle.swap.specs.Slots.{IsReady};
-ghost use Rattle.paging.specs.Parts.{IsSized, IsFit};
+ghost use Rattle.paging.specs.Parts.{IsFit};
 ghost use Rattle.paging.specs.Picture.{picture_of};
 
 use crate::{Change, Core, change_leaves, obtain};
@@ -12,11 +12,12 @@ use disk_model::{SectorDisk, SimDisk};
 use file_store::{FileStore, OpenFault};
 use frames::Role;
 use page_cache::Place;
+use regions::Regions;
 use std::alloc::Global;
 use std::process::Abort;
 use std::test::Fail;
 use swap::Swap;
-use vm_types::{FilePage, FrameNo, SlotNo, Stall};
+use vm_types::{FilePage, FrameNo, Pid, SlotNo, Stall, Vpn};
 
 // A device with a file of eight pages, which begins with 7.
 fn image(alloc: Global) -> Result<SimDisk, Fail> {
@@ -50,10 +51,10 @@ fn opened(disk: SimDisk) -> Result<FileStore<SimDisk>, OpenFault>
 // Memory with so many slots.
 fn made(alloc: Global, slots: u32) -> Result<Core<SimDisk, SimDisk>, Fail>
     requires { slots ≤ 4 }
-    ensures sized { IfOk result IsSized }
     ensures fit { IfOk result (λ core. IsFit (picture_of core)) }
     ensures store { IfOk result (λ core. IsReadyStore ⟦<SimDisk as SectorDisk>⟧ core.store) }
     ensures swap { IfOk result (λ core. IsReady ⟦<SimDisk as SectorDisk>⟧ core.swap) }
+    ensures none { IfOk result (λ core. (pid : ℕ) → (picture_of core).root pid ≡ None) }
 {
     let store = opened(image(alloc)?)?;
     let swap = Swap::new(alloc, SimDisk::new(alloc, 8 * u64::from(slots))?, slots)?;
@@ -63,42 +64,15 @@ fn made(alloc: Global, slots: u32) -> Result<Core<SimDisk, SimDisk>, Fail>
     }
 }
 
-// Reads a page of a file, which lies at home, into a frame.
-fn read_in<D: SectorDisk, E: SectorDisk>(
-    core: &mut Core<D, E>,
-    page: FilePage,
-) -> Result<FrameNo, Fail>
-    requires sized { IsSized core.old }
-    requires fit { IsFit (picture_of core.old) }
-    requires store { IsReadyStore D.SectorDisk core.old.store }
-    requires swap { IsReady E.SectorDisk core.old.swap }
-    requires inside { IsPageOf (picture_of core.old).files page.file page.page }
-    requires home { (picture_of core.old).place page ≡ Home }
-    ensures sized { OnOk result (IsSized core.new) }
-    ensures fit { OnOk result (IsFit (picture_of core.new)) }
-    ensures store { OnOk result (IsReadyStore D.SectorDisk core.new.store) }
-    ensures swap { OnOk result (IsReady E.SectorDisk core.new.swap) }
-{
-    obtain(core, None)?;
-    let Ok(frame) = core.frames.take(Role::Cache) else {
-        unreachable!()
-    };
-    core.store.read_page(page, core.frames.bytes_mut(frame))?;
-    core.cache.set_place(page, Place::Frame(frame));
-    Ok(frame)
-}
-
 // Brings a page of the file into a frame.
 fn bring<D: SectorDisk, E: SectorDisk>(
     rt: &impl Abort,
     core: &mut Core<D, E>,
     number: u32,
 ) -> Result<FrameNo, Fail>
-    requires sized { IsSized core.old }
     requires fit { IsFit (picture_of core.old) }
     requires store { IsReadyStore D.SectorDisk core.old.store }
     requires swap { IsReady E.SectorDisk core.old.swap }
-    ensures sized { OnOk result (IsSized core.new) }
     ensures fit { OnOk result (IsFit (picture_of core.new)) }
     ensures store { OnOk result (IsReadyStore D.SectorDisk core.new.store) }
     ensures swap { OnOk result (IsReady E.SectorDisk core.new.swap) }
@@ -110,16 +84,14 @@ fn bring<D: SectorDisk, E: SectorDisk>(
     let info = core.store.file(page.file).expect(rt, "a file");
     assert!(rt; u64::from(info.length) > 4096 * u64::from(number));
     assert_eq!(rt; core.cache.place(page), Place::Home);
-    read_in(core, page)
+    Ok(core.bring_in(page)?)
 }
 
 // Brings the first seven pages in, which fill memory.
 fn fill<D: SectorDisk, E: SectorDisk>(rt: &impl Abort, core: &mut Core<D, E>) -> Result<(), Fail>
-    requires sized { IsSized core.old }
     requires fit { IsFit (picture_of core.old) }
     requires store { IsReadyStore D.SectorDisk core.old.store }
     requires swap { IsReady E.SectorDisk core.old.swap }
-    ensures sized { OnOk result (IsSized core.new) }
     ensures fit { OnOk result (IsFit (picture_of core.new)) }
     ensures store { OnOk result (IsReadyStore D.SectorDisk core.new.store) }
     ensures swap { OnOk result (IsReady E.SectorDisk core.new.swap) }
@@ -133,7 +105,6 @@ fn fill<D: SectorDisk, E: SectorDisk>(rt: &impl Abort, core: &mut Core<D, E>) ->
 // Full memory with so many slots.
 fn filled(rt: &impl Abort, alloc: Global, slots: u32) -> Result<Core<SimDisk, SimDisk>, Fail>
     requires { slots ≤ 4 }
-    ensures sized { IfOk result IsSized }
     ensures fit { IfOk result (λ core. IsFit (picture_of core)) }
     ensures store { IfOk result (λ core. IsReadyStore ⟦<SimDisk as SectorDisk>⟧ core.store) }
     ensures swap { IfOk result (λ core. IsReady ⟦<SimDisk as SectorDisk>⟧ core.swap) }
@@ -145,12 +116,10 @@ fn filled(rt: &impl Abort, alloc: Global, slots: u32) -> Result<Core<SimDisk, Si
 
 // Notes that a page of a file, which lies in memory, was written.
 fn mark<D: SectorDisk, E: SectorDisk>(core: &mut Core<D, E>, page: FilePage)
-    requires sized { IsSized core.old }
     requires fit { IsFit (picture_of core.old) }
     requires store { IsReadyStore D.SectorDisk core.old.store }
     requires swap { IsReady E.SectorDisk core.old.swap }
     requires away { (picture_of core.old).place page ≢ Home }
-    ensures sized { IsSized core.new }
     ensures fit { IsFit (picture_of core.new) }
     ensures store { IsReadyStore D.SectorDisk core.new.store }
     ensures swap { IsReady E.SectorDisk core.new.swap }
@@ -160,11 +129,9 @@ fn mark<D: SectorDisk, E: SectorDisk>(core: &mut Core<D, E>, page: FilePage)
 
 // The same for that page of the file.
 fn touch<D: SectorDisk, E: SectorDisk>(rt: &impl Abort, core: &mut Core<D, E>, number: u32)
-    requires sized { IsSized core.old }
     requires fit { IsFit (picture_of core.old) }
     requires store { IsReadyStore D.SectorDisk core.old.store }
     requires swap { IsReady E.SectorDisk core.old.swap }
-    ensures sized { IsSized core.new }
     ensures fit { IsFit (picture_of core.new) }
     ensures store { IsReadyStore D.SectorDisk core.new.store }
     ensures swap { IsReady E.SectorDisk core.new.swap }
@@ -179,17 +146,30 @@ fn touch<D: SectorDisk, E: SectorDisk>(rt: &impl Abort, core: &mut Core<D, E>, n
 
 // The same for the first seven pages.
 fn touch_all<D: SectorDisk, E: SectorDisk>(rt: &impl Abort, core: &mut Core<D, E>)
-    requires sized { IsSized core.old }
     requires fit { IsFit (picture_of core.old) }
     requires store { IsReadyStore D.SectorDisk core.old.store }
     requires swap { IsReady E.SectorDisk core.old.swap }
-    ensures sized { IsSized core.new }
     ensures fit { IsFit (picture_of core.new) }
     ensures store { IsReadyStore D.SectorDisk core.new.store }
     ensures swap { IsReady E.SectorDisk core.new.swap }
 {
     for k in 0..7 {
         touch(rt, core, k);
+    }
+}
+
+// Brings a page of the file, which lies in a slot, back into a frame.
+fn back<D: SectorDisk, E: SectorDisk>(core: &mut Core<D, E>, number: u32) -> Result<FrameNo, Fail>
+    requires fit { IsFit (picture_of core.old) }
+    requires swap { IsReady E.SectorDisk core.old.swap }
+{
+    let page = FilePage {
+        file: 0,
+        page: number,
+    };
+    match core.cache.place(page) {
+        Place::Slot(slot) => Ok(core.bring_back(page, slot)?),
+        _ => Err(Fail::new(format_args!("in no slot"))),
     }
 }
 
@@ -242,5 +222,45 @@ fn no_leaf_over_a_page_that_nobody_has(rt: HostRuntime) -> Result<(), Fail> {
     assert_eq!(rt; core.frames.role(FrameNo(1)), Role::Cache);
     change_leaves(&mut core, FrameNo(1), Change::ClearDirty);
     assert_eq!(rt; core.frames.role(FrameNo(1)), Role::Cache);
+    Ok(())
+}
+
+#[test]
+fn a_touched_page_comes_back_from_its_slot(rt: HostRuntime) -> Result<(), Fail> {
+    let mut core = filled(&rt, rt.alloc(), 2)?;
+    touch(&rt, &mut core, 0);
+    assert_eq!(rt; obtain(&mut core, None), Ok(FrameNo(1)));
+    assert_eq!(rt; place(&core, 0), Place::Slot(SlotNo(0)));
+    assert_eq!(rt; back(&mut core, 0)?, FrameNo(1));
+    assert_eq!(rt; place(&core, 0), Place::Frame(FrameNo(1)));
+    assert!(rt; core.swap.len() > 0);
+    assert_eq!(rt; core.swap.count(SlotNo(0)), 0);
+    assert!(rt; core.frames.len() > 1);
+    assert_eq!(rt; core.frames.bytes(FrameNo(1))[0], 7);
+    Ok(())
+}
+
+#[test]
+fn a_frame_is_taken_for_a_page(rt: HostRuntime) -> Result<(), Fail> {
+    let mut core = made(rt.alloc(), 0)?;
+    let page = Vpn::new(16).expect(&rt, "a user page");
+    let own = core.take_own(page, None)?;
+    assert!(rt; own.0 < core.frames.len());
+    assert_eq!(rt; core.frames.role(own), Role::Private);
+    assert_eq!(rt; core.frames.bytes(own)[4095], 0);
+    Ok(())
+}
+
+#[test]
+fn a_process_is_made_and_mapped(rt: HostRuntime) -> Result<(), Fail> {
+    let mut core = made(rt.alloc(), 0)?;
+    assert_eq!(rt; core.live(1), None);
+    let pid = Pid::new(1).expect(&rt, "a number of a process");
+    assert_eq!(rt; core.root(pid), None);
+    let root = core.take_table()?;
+    core.add_process(pid, root);
+    assert_eq!(rt; core.root(pid), Some(root));
+    core.remap(pid, Regions::new());
+    assert_eq!(rt; core.regions(pid).runs(), 0);
     Ok(())
 }

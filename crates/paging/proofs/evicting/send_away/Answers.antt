@@ -4,6 +4,7 @@ use Rattle.vm_types.specs.declared.file.FilePage.{FilePage}
 use Rattle.frames.specs.FrameTable.{bytes_of}
 use Rattle.swap.specs.Slots.{SlotTable, slots_of, IsInUse}
 use Rattle.page_cache.specs.declared.place.Place.TheVariants.{Frame, Slot}
+use Rattle.page_cache.specs.CacheTable.{place_of, is_touched}
 use Rattle.paging.specs.declared.leaves.Change.TheVariants.{Forget}
 use Rattle.paging.specs.Seats.{InSlot}
 use Rattle.paging.specs.Picture.{Picture, picture_of, entry, held, bytes_at}
@@ -25,7 +26,7 @@ returns-in-Ok-clause-fit g c =
     let mid : Picture = picture_of m in
     let t = slots_of c.put.new.self in
     let put : Picture = record mid { slots = t } in
-    let new : Picture = picture_of (record m { swap = c.put.new.self; frames = c.release.new.self; cache = c.set_place.new.self }) in
+    let new : Picture = record mid { slots = t; frames = c.release.new.self; place = place_of c.set_place.new.self; touched = is_touched c.set_place.new.self } in
     let k = c.in-Ok.slot.0 in
     let puts = c.in-Ok.ensures.puts in
     let fit = c.change_leaves.ensures.fit in
@@ -60,7 +61,7 @@ returns-in-Ok-clause-gives g c =
     let mid : Picture = picture_of m in
     let t = slots_of c.put.new.self in
     let put : Picture = record mid { slots = t } in
-    let new : Picture = picture_of (record m { swap = c.put.new.self; frames = c.release.new.self; cache = c.set_place.new.self }) in
+    let new : Picture = record mid { slots = t; frames = c.release.new.self; place = place_of c.set_place.new.self; touched = is_touched c.set_place.new.self } in
     let k = c.in-Ok.slot.0 in
     let puts = c.in-Ok.ensures.puts in
     let fit = c.change_leaves.ensures.fit in

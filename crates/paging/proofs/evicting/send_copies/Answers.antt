@@ -20,7 +20,7 @@ hand_over-requires-clause-handing g c =
     let puts = c.in-Ok.ensures.puts in
     let h = c.requires.fit.counted.1.pages (InFrame v) c.requires.role in
     let P : Role → Type 0 = λ r. IsCountFor r (count_of old.frames v) in
-    let count = subst P c.requires.role (c.len.ensures.sound.counted v c.requires.inside) in
+    let count = subst P c.requires.role (c.args.core.now.sound.counted v c.requires.inside) in
     record {
       share = record {
         fit = fit_put old put k page 0 _ c.requires.fit (with_slots old t) puts h;

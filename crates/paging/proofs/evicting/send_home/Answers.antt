@@ -3,6 +3,7 @@ use Rattle.vm_types.specs.declared.file.FilePage.{FilePage}
 use Rattle.frames.specs.declared.role.Role.TheVariants.{Zero, Private, Cache}
 use Rattle.frames.specs.FrameTable.{role_of}
 use Rattle.page_cache.specs.declared.place.Place.TheVariants.{Home}
+use Rattle.page_cache.specs.CacheTable.{place_of, is_touched}
 use Rattle.paging.specs.declared.leaves.Change.TheVariants.{Forget}
 use Rattle.paging.specs.Picture.{Picture, picture_of, held, bytes_at}
 use Rattle.paging.specs.Parts.{nowhere}
@@ -19,13 +20,13 @@ pub returns-clause-fit : goal.returns-clause-fit
 returns-clause-fit g c =
     let m = c.change_leaves.new.core in
     let mid : Picture = picture_of m in
-    let new : Picture = picture_of (record m { frames = c.release.new.self; cache = c.set_place.new.self }) in
+    let new : Picture = record mid { frames = c.release.new.self; place = place_of c.set_place.new.self; touched = is_touched c.set_place.new.self } in
     let ch = c.change_leaves.ensures.changes in
     let was = ch.beside.place c.args.page ∙ c.requires.placed in
     let cache = c.change_leaves.ensures.fit.places.cached c.args.page c.args.victim.0 was in
     let leaves : Leaves mid new c.args.page c.args.victim.0 Home = record {
       was = was;
-      above = λ zero. (let bad : Zero ≡ Cache = sym c.len.ensures.sound.zero_role ∙ sym (ap (role_of c.args.core.now.frames) zero) ∙ sym (ch.roles c.args.victim.0) ∙ cache in (cc));
+      above = λ zero. (let bad : Zero ≡ Cache = sym c.args.core.now.sound.zero_role ∙ sym (ap (role_of c.args.core.now.frames) zero) ∙ sym (ch.roles c.args.victim.0) ∙ cache in (cc));
       placed = c.set_place.ensures.placed;
       others = c.set_place.ensures.others.places;
       frames = c.release.ensures.change.others;
@@ -48,13 +49,13 @@ returns-clause-spares g c = λ k.
     let m = c.change_leaves.new.core in
     let old : Picture = picture_of c.args.core.now in
     let mid : Picture = picture_of m in
-    let new : Picture = picture_of (record m { frames = c.release.new.self; cache = c.set_place.new.self }) in
+    let new : Picture = record mid { frames = c.release.new.self; place = place_of c.set_place.new.self; touched = is_touched c.set_place.new.self } in
     let ch = c.change_leaves.ensures.changes in
     let was = ch.beside.place c.args.page ∙ c.requires.placed in
     let cache = c.change_leaves.ensures.fit.places.cached c.args.page c.args.victim.0 was in
     let leaves : Leaves mid new c.args.page c.args.victim.0 Home = record {
       was = was;
-      above = λ zero. (let bad : Zero ≡ Cache = sym c.len.ensures.sound.zero_role ∙ sym (ap (role_of c.args.core.now.frames) zero) ∙ sym (ch.roles c.args.victim.0) ∙ cache in (cc));
+      above = λ zero. (let bad : Zero ≡ Cache = sym c.args.core.now.sound.zero_role ∙ sym (ap (role_of c.args.core.now.frames) zero) ∙ sym (ch.roles c.args.victim.0) ∙ cache in (cc));
       placed = c.set_place.ensures.placed;
       others = c.set_place.ensures.others.places;
       frames = c.release.ensures.change.others;

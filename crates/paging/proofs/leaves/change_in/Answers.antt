@@ -14,7 +14,6 @@ loop-page-preserved g c =
     let done = c.change_at.ensures in
     let next = c.in-Some.ensures.some in
     record {
-      sized = done.sized;
       fit = done.fit;
       beside = frames_then a b d kept.beside done.beside;
       changes = changes_then c.args.change c.args.frame.0 (picture_of a) (picture_of b) (picture_of d) kept.changes done.changes;

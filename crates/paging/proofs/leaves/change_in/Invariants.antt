@@ -1,12 +1,11 @@
 use Rattle.std.proofs.Common.{ℕ, ◌-◌, ◌^◌, ◌<◌, ◌≤◌}
 use Rattle.paging.specs.Picture.{picture_of}
-use Rattle.paging.specs.Parts.{IsSized, IsFit}
+use Rattle.paging.specs.Parts.{IsFit}
 use Rattle.paging.specs.Leaves.{IsOver, Changes, KeepsAllButFrames}
 use Rattle.paging.proofs.leaves.change_in.Given as goal
 
 abbrev pub invariant-loop-page : goal.invariant-loop-page
 invariant-loop-page g l = record {
-  sized : IsSized l.core;
   fit : IsFit (picture_of l.core);
   beside : KeepsAllButFrames l.fn.core l.core;
   changes : Changes l.change l.frame.0 (picture_of l.fn.core) (picture_of l.core);

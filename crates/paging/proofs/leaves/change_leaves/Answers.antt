@@ -7,7 +7,6 @@ use Rattle.paging.proofs.leaves.change_leaves.Goals as goal
 
 pub loop-pid-init : goal.loop-pid-init
 loop-pid-init g c = record {
-  sized = c.requires.sized;
   fit = c.requires.fit;
   beside = frames_none c.args.core.now;
   changes = changes_none c.args.change c.args.frame.0 (picture_of c.args.core.now);
@@ -22,7 +21,6 @@ loop-pid-preserved g c =
     let kept = c.loop-pid.invariant in
     let done = c.change_of.ensures in
     record {
-      sized = done.sized;
       fit = done.fit;
       beside = frames_then a b d kept.beside done.beside;
       changes = changes_then c.args.change c.args.frame.0 (picture_of a) (picture_of b) (picture_of d) kept.changes done.changes;

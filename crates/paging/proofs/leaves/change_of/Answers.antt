@@ -7,6 +7,6 @@ use Rattle.paging.proofs.leaves.change_of.Goals as goal
 pub returns-in-None-clause-clear : goal.returns-in-None-clause-clear
 returns-in-None-clause-clear g c = λ page h over.
     let core = c.args.core.now in
-    let below : c.args.pid < length core.roots.items = (let n = c.requires.number in let s = c.requires.sized.roots in omega (arith, n, s)) in
+    let below : c.args.pid < length core.roots.items = (let n = c.requires.number in let s = core.root_count in omega (arith, n, s)) in
     over_lives (picture_of core) c.args.change c.args.frame.0 c.args.pid page
     (dead_at core.roots.items c.args.pid c.index.result.now (sym (get_or_read core.roots.items c.args.pid _ below c.index.ensures None)) c.in-None.is) over

@@ -8,7 +8,7 @@ use Rattle.paging.proofs.leaves.find_filed.Goals as goal
 pub returns-in-Some-find_over-clause-some : goal.returns-in-Some-find_over-clause-some
 returns-in-Some-find_over-clause-some g c =
     let core = c.args.core.now in
-    let below : c.args.pid < length core.regions.items = omega (arith, c.requires.number, c.requires.sized.regions) in
+    let below : c.args.pid < length core.regions.items = omega (arith, c.requires.number, core.region_count) in
     let at = map_of core c.args.pid c.args.root.0 c.index.result.now c.requires.lives (sym (get_or_read core.regions.items c.args.pid _ below c.index.ensures [])) in
     let next = c.in-Some.ensures.some in
     let here = c.in-Some-find_over.ensures.some in
@@ -28,7 +28,7 @@ returns-in-Some-find_over-clause-some g c =
 pub loop-run-preserved : goal.loop-run-preserved
 loop-run-preserved g c =
     let core = c.args.core.now in
-    let below : c.args.pid < length core.regions.items = omega (arith, c.requires.number, c.requires.sized.regions) in
+    let below : c.args.pid < length core.regions.items = omega (arith, c.requires.number, core.region_count) in
     let at = map_of core c.args.pid c.args.root.0 c.index.result.now c.requires.lives (sym (get_or_read core.regions.items c.args.pid _ below c.index.ensures [])) in
     let next = c.in-Some.ensures.some in
     record {
@@ -45,7 +45,7 @@ loop-run-preserved g c =
 pub returns-clause-none : goal.returns-clause-none
 returns-clause-none g c = λ k low h over.
     let core = c.args.core.now in
-    let below : c.args.pid < length core.regions.items = omega (arith, c.requires.number, c.requires.sized.regions) in
+    let below : c.args.pid < length core.regions.items = omega (arith, c.requires.number, core.region_count) in
     let at = map_of core c.args.pid c.args.root.0 c.index.result.now c.requires.lives (sym (get_or_read core.regions.items c.args.pid _ below c.index.ensures [])) in
     elim (cases_lt k c.loop-run.from) [
       | inl passed ↦ c.loop-run.invariant.before k low passed over

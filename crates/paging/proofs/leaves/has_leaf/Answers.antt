@@ -23,7 +23,7 @@ loop-pid-preserved g c = record {
           | in-Some+else-is_some w ↦ if_none w.find_in.result _ w.find_in.ensures.none (sym w.is_some.ensures ∙ w.if-is_some.false) k (omega arith) h here
           | in_default w ↦ over_lives (picture_of c.args.core.now) c.args.change c.args.frame.0 c.loop-pid.pid k
               (dead_at c.args.core.now.roots.items c.loop-pid.pid c.index.result.now
-              (sym (get_or_read c.args.core.now.roots.items c.loop-pid.pid _ (let l = c.loop-pid-test.true in let s = c.requires.sized.roots in omega (arith, l, s)) c.index.ensures None)) w.in_default.is) here
+              (sym (get_or_read c.args.core.now.roots.items c.loop-pid.pid _ (let l = c.loop-pid-test.true in let s = c.args.core.now.root_count in omega (arith, l, s)) c.index.ensures None)) w.in_default.is) here
         ])
     | inr ne ↦ c.loop-pid.invariant.clear q k (omega (arith, less, ne)) h over
   ];

@@ -20,7 +20,7 @@ returns-clause-fit g c =
     let v = c.victim-choice.ensures in
     let follows = both c.victim-choice.result _ _ _ v.chooses v.kept (λ n ch. ch.passes.follows) (λ p. p.follows) in
     let same = c.core-1.given.1 (sym follows.0) in
-    subst (λ y. IsFit (picture_of y)) (sym same) v.«open».1
+    subst (λ y. IsFit (picture_of y)) (sym same) v.«open»
 
 pub returns-clause-frees : goal.returns-clause-frees
 returns-clause-frees g c =

@@ -5,7 +5,7 @@ use Rattle.paging.proofs.Refusing.{inside_of, above_of, all_need, no_slot_free}
 use Rattle.paging.proofs.obtaining.give_up.Goals as goal
 
 pub evict-requires-clause-inside : goal.evict-requires-clause-inside
-evict-requires-clause-inside g c = inside_of c.choose-choice.new.core.frames c.in-Ok.victim.0 c.len.ensures.sound c.in-Ok.ensures.found.0.0
+evict-requires-clause-inside g c = inside_of c.choose-choice.new.core.frames c.in-Ok.victim.0 c.choose-choice.new.core.sound c.in-Ok.ensures.found.0.0
 
 pub returns-in_err-evict-in-Ok-clause-frees : goal.returns-in_err-evict-in-Ok-clause-frees
 returns-in_err-evict-in-Ok-clause-frees g c =
@@ -14,7 +14,7 @@ returns-in_err-evict-in-Ok-clause-frees g c =
     let new = picture_of c.evict.new.core in
     let v = c.in-Ok.ensures.found in
     frees_then old mid new c.args.keep c.choose-choice.ensures.frees
-    (gives_frees c.in-Ok.victim.0 mid new c.args.keep c.evict.ensures.gives (above_of mid.frames c.in-Ok.victim.0 c.len.ensures.sound v.0.0) v.0.1)
+    (gives_frees c.in-Ok.victim.0 mid new c.args.keep c.evict.ensures.gives (above_of mid.frames c.in-Ok.victim.0 c.choose-choice.new.core.sound v.0.0) v.0.1)
 
 pub returns-in_ok-evict-in-Ok-clause-frees : goal.returns-in_ok-evict-in-Ok-clause-frees
 returns-in_ok-evict-in-Ok-clause-frees g c =
@@ -23,11 +23,11 @@ returns-in_ok-evict-in-Ok-clause-frees g c =
     let new = picture_of c.evict.new.core in
     let v = c.in-Ok.ensures.found in
     frees_then old mid new c.args.keep c.choose-choice.ensures.frees
-    (gives_frees c.in-Ok.victim.0 mid new c.args.keep c.evict.ensures.gives (above_of mid.frames c.in-Ok.victim.0 c.len.ensures.sound v.0.0) v.0.1)
+    (gives_frees c.in-Ok.victim.0 mid new c.args.keep c.evict.ensures.gives (above_of mid.frames c.in-Ok.victim.0 c.choose-choice.new.core.sound v.0.0) v.0.1)
 
 pub returns-in_ok-evict-in-Ok-clause-free : goal.returns-in_ok-evict-in-Ok-clause-free
 returns-in_ok-evict-in-Ok-clause-free g c =
-    let inside = inside_of c.choose-choice.new.core.frames c.in-Ok.victim.0 c.len.ensures.sound c.in-Ok.ensures.found.0.0 in
+    let inside = inside_of c.choose-choice.new.core.frames c.in-Ok.victim.0 c.choose-choice.new.core.sound c.in-Ok.ensures.found.0.0 in
     let count = c.evict.ensures.gives.2.count in
     record { inside = omega (arith, inside, count); free = c.in_ok-evict-in-Ok.ensures.free }
 
@@ -36,7 +36,7 @@ returns-then-has_spareable-clause-refuses g c =
     let now = picture_of c.choose-choice.new.core in
     let some = c.has_spareable.ensures.some c.if-has_spareable.true in
     let none = c.in-Err.ensures.none in
-    let sound = c.len.ensures.sound in (
+    let sound = c.choose-choice.new.core.sound in (
       c.choose-choice.ensures.full c.requires.full,
       (some.0, some.1),
       all_need now c.args.keep c.choose-choice.ensures.fit sound none,
@@ -46,5 +46,5 @@ returns-then-has_spareable-clause-refuses g c =
 pub returns-else-has_spareable-clause-refuses : goal.returns-else-has_spareable-clause-refuses
 returns-else-has_spareable-clause-refuses g c =
     let now = picture_of c.choose-choice.new.core in
-    let sound = c.len.ensures.sound in
+    let sound = c.choose-choice.new.core.sound in
     (c.choose-choice.ensures.full c.requires.full, λ n spare. c.has_spareable.ensures.none c.if-has_spareable.false n (inside_of now.frames n sound spare.0) spare)

@@ -17,4 +17,4 @@ pub returns-in-None-clause-short : goal.returns-in-None-clause-short
 returns-in-None-clause-short g c =
     let done = c.give_up-obtained.ensures in
     let new = picture_of c.give_up-obtained.new.core in
-    err_weaker c.give_up-obtained.result _ _ done.refuses (λ stall refuses. short_of new done.fit c.len.ensures.sound done.sized.files.each c.args.keep stall refuses)
+    err_weaker c.give_up-obtained.result _ _ done.refuses (λ stall refuses. short_of new done.fit c.give_up-obtained.new.core.sound c.give_up-obtained.new.core.bounded.each c.args.keep stall refuses)

@@ -22,7 +22,7 @@ release-requires g c =
     let same : role_of c.set.new.frames c.args.frame.0 ≡ Private = ap (λ rs. get_or rs c.args.frame.0 Free) c.set.ensures.sets.kept.roles ∙ role in
     let inside : c.args.frame.0 < frame_count c.args.core.now.frames = elim (cases_lt c.args.frame.0 (frame_count c.args.core.now.frames)) [
       | inl lt ↦ lt
-      | inr past ↦ (let all = c.len.ensures.sound.all_roles in let bad : Free ≡ Private = sym (get_or_past c.args.core.now.frames.roles c.args.frame.0 Free (omega (arith, all, past))) ∙ role in (cc))
+      | inr past ↦ (let all = c.args.core.now.sound.all_roles in let bad : Free ≡ Private = sym (get_or_past c.args.core.now.frames.roles c.args.frame.0 Free (omega (arith, all, past))) ∙ role in (cc))
     ] in
     record { inside = (let frames = c.set.ensures.sets.kept.frames in rw frames inside); handed_out = rw same refl }
 

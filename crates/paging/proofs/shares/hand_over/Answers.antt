@@ -11,18 +11,17 @@ use Rattle.paging.proofs.shares.hand_over.Goals as goal
 pub unreachable-requires : goal.unreachable-requires
 unreachable-requires g c =
     let core = c.args.core.now in
-    let below : c.args.frame.0 < length core.page_of.items = (let n = c.requires.inside in let s = c.requires.sized.pages in omega (arith, n, s)) in
+    let below : c.args.frame.0 < length core.page_of.items = (let n = c.requires.inside in let s = core.page_count in omega (arith, n, s)) in
     let is = c.from.ensures ∙ get_or_read core.page_of.items c.args.frame.0 _ below c.index.ensures 0 in
     no_user (picture_of core) c.args.frame.0 c.args.slot.0 _ c.requires.handing (λ range. false≢true (c.in_default.ensures.known.1 (omega (arith, is, range.0), omega (arith, is, range.1))))
 
 pub loop-pid-init : goal.loop-pid-init
 loop-pid-init g c =
     let core = c.args.core.now in
-    let below : c.args.frame.0 < length core.page_of.items = (let n = c.requires.inside in let s = c.requires.sized.pages in omega (arith, n, s)) in
+    let below : c.args.frame.0 < length core.page_of.items = (let n = c.requires.inside in let s = core.page_count in omega (arith, n, s)) in
     let is = c.in-Some.ensures.found ∙ c.from.ensures ∙ get_or_read core.page_of.items c.args.frame.0 _ below c.index.ensures 0 in
     let P : ℕ → Type 0 = λ n. IsHanding (picture_of core) c.args.frame.0 c.args.slot.0 n in
     record {
-      sized = c.requires.sized;
       ready = c.requires.ready;
       handing = subst P (sym is) c.requires.handing;
       spares = spares_none c.args.frame.0 c.args.slot.0 (picture_of core);
@@ -41,7 +40,6 @@ loop-pid-preserved g c =
     let done = c.hand_one.ensures in
     let new = picture_of c.hand_one.new.core in
     record {
-      sized = done.sized;
       ready = done.ready;
       handing = done.handing c.if-hand_one.false;
       spares = spares_then c.args.frame.0 c.args.slot.0 (picture_of c.args.core.now) (picture_of c.loop-pid.core) new kept.spares done.spares;

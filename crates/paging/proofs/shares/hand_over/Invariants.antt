@@ -2,13 +2,11 @@ use Rattle.std.proofs.Common.{◌≡◌, ◌≢◌, ℕ, ◌<◌, Some}
 use Rattle.swap.specs.Slots.{IsReady}
 use Rattle.paging.specs.Seats.{InFrame, seat}
 use Rattle.paging.specs.Picture.{picture_of, entry}
-use Rattle.paging.specs.Parts.{IsSized}
 use Rattle.paging.specs.Evictions.{IsHanding, Spares, KeepsPlain}
 use Rattle.paging.proofs.shares.hand_over.Given as goal
 
 abbrev pub invariant-loop-pid : goal.invariant-loop-pid
 invariant-loop-pid g l = record {
-  sized : IsSized l.core;
   ready : IsReady g.E.SectorDisk l.core.swap;
   handing : IsHanding (picture_of l.core) l.frame.0 l.slot.0 l.page;
   spares : Spares l.frame.0 l.slot.0 (picture_of l.fn.core) (picture_of l.core);

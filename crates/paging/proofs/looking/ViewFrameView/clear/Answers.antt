@@ -13,7 +13,7 @@ returns-clause-follows g c =
       refl,
       record {
         kept = refl;
-        frees = λ s f. frees_then s old new v.keep f (changes_frees ClearAccessed c.args.n old new v.keep c.requires.open.1 done.changes (λ e. (let a = done.above in omega (arith, a, e))) c.requires.evictable.0.1);
+        frees = λ s f. frees_then s old new v.keep f (changes_frees ClearAccessed c.args.n old new v.keep c.requires.open done.changes (λ e. (let a = done.above in omega (arith, a, e))) c.requires.evictable.0.1);
         full = λ full n inside free. full n (let k = done.changes.frames in omega (arith, k, inside)) (sym (done.changes.roles n) ∙ free);
         looked = record { store = done.beside.store; swap = done.beside.swap; roots = done.beside.roots; regions = done.beside.regions; refused = done.beside.refused };
       },

@@ -1,0 +1,95 @@
+use Rattle.std.proofs.Common.{◌≡◌, inl, inr, refl, sym, ap, ◌∙◌, subst, arith}
+use Rattle.vm_types.specs.declared.file.FilePage.{FilePage}
+use Rattle.frames.specs.declared.role.Role.TheVariants.{Free, Private, Cache}
+use Rattle.frames.specs.FrameTable.{role_of}
+use Rattle.swap.specs.Slots.{slots_of}
+use Rattle.page_cache.specs.declared.place.Place.TheVariants.{Home, Frame, Slot}
+use Rattle.page_cache.specs.CacheTable.{is_touched}
+use Rattle.paging.specs.Picture.{Picture, picture_of}
+use Rattle.paging.specs.Capacity.{IsShort}
+use Rattle.paging.proofs.Arriving.{frames_written, fit_brought}
+use Rattle.paging.proofs.Places.{cases_page}
+use Rattle.paging.proofs.Returning.{leaves_slot, frames_spent, frees_spent}
+use Rattle.paging.proofs.Sparing.{frees_then}
+use Rattle.paging.specs.Steps.{ChangesFrame}
+use Rattle.paging.proofs.Taking.{fit_spent}
+use Rattle.paging.proofs.kernel.Core.bring_back.Given.{Over}
+use Rattle.paging.proofs.kernel.Core.bring_back.Goals as goal
+
+pub returns-in-Ok-get-clause-brought : goal.returns-in-Ok-get-clause-brought
+returns-in-Ok-get-clause-brought g c =
+    let mid : Picture = picture_of c.obtain.new.core in
+    let takes = c.in-Ok.ensures.taken in
+    let frees = c.obtain.ensures.frees in
+    let fit = c.obtain.ensures.fit in
+    let there = frees.slotted c.args.page c.args.slot.0 c.requires.there in
+    record {
+      found = mid;
+      fit = fit;
+      frees = frees;
+      brings = record {
+        slots = leaves_slot mid _ c.args.page c.args.slot.0 (slots_of c.get.new.self) there c.get.ensures.same c.release.ensures.releases (fit.places.slotted c.args.page c.args.slot.0 there);
+        frames = frames_written c.obtain.new.core.frames c.take.new.self c.in-Ok.frame.0 c.get.new.to takes;
+        above = takes.above;
+        was_free = takes.was_free;
+        kind = takes.kind_set;
+        was_away = λ m at. (let bad : Slot c.args.slot ≡ Frame (record { 0 = m }) = sym there ∙ at in (cc));
+        inside = fit.places.inside c.args.page (λ home. (let bad : Slot c.args.slot ≡ Home = sym there ∙ home in (cc)));
+        placed = c.set_place.ensures.placed;
+        others = λ p ne. c.set_place.ensures.others.places p ne;
+        root = λ pid. refl;
+        at = λ pid k. refl;
+        page_of = λ m. refl;
+        touched = λ p. elim (cases_page p c.args.page) [
+          | inl is ↦ (let P : FilePage → Type 0 = λ x. is_touched c.set_place.new.self x ≡ is_touched c.obtain.new.core.cache x in subst P (sym is) c.set_place.ensures.touched)
+          | inr ne ↦ c.set_place.ensures.others.touched p ne
+        ];
+        files = λ f. refl;
+      };
+    }
+
+pub returns-in-Ok-get-clause-fit : goal.returns-in-Ok-get-clause-fit
+returns-in-Ok-get-clause-fit g c =
+    let brought = returns-in-Ok-get-clause-brought g c in
+    fit_brought brought.found _ c.args.page c.in-Ok.frame.0 brought.fit brought.brings
+
+-- what is left of memory where the read failed
+abbrev emptied : (g : Over) (c : goal.After-self-in-Err-1 g) → Picture
+emptied g c = record (picture_of c.obtain.new.core) { slots = slots_of c.get.new.self; frames = c.release-in-Err.new.self }
+
+spent : (g : Over) (c : goal.After-self-in-Err-1 g) → ChangesFrame (picture_of c.obtain.new.core) (emptied g c) c.in-Ok.frame.0
+spent g c = record {
+  slots = c.get.ensures.same;
+  frames = frames_spent c.obtain.new.core.frames c.take.new.self c.release-in-Err.new.self c.in-Ok.frame.0 c.get.new.to c.in-Ok.ensures.taken c.release-in-Err.ensures.change;
+  was_free = c.in-Ok.ensures.taken.was_free;
+  others = λ m ne. refl;
+  root = λ pid. refl;
+  at = λ pid k. refl;
+  place = λ p. refl;
+  touched = λ p. refl;
+  files = λ f. refl;
+}
+
+freed : (g : Over) (c : goal.After-self-in-Err-1 g) → role_of c.release-in-Err.new.self c.in-Ok.frame.0 ≡ Free
+freed g c = c.release-in-Err.ensures.alone (λ own. (let bad : Cache ≡ Private = sym c.in-Ok.ensures.taken.kind_set ∙ own in (cc)))
+
+pub returns-in-Err-clause-fit : goal.returns-in-Err-clause-fit
+returns-in-Err-clause-fit g c =
+    let free = freed g c in
+    fit_spent (picture_of c.obtain.new.core) (emptied g c) c.in-Ok.frame.0 c.obtain.ensures.fit (spent g c) (λ t. (let bad = sym free ∙ t in (cc))) free
+
+pub returns-in-Err-clause-frees : goal.returns-in-Err-clause-frees
+returns-in-Err-clause-frees g c =
+    frees_then (picture_of c.args.self.now) (picture_of c.obtain.new.core) (emptied g c) _ c.obtain.ensures.frees
+    (frees_spent (picture_of c.obtain.new.core) (emptied g c) c.in-Ok.frame.0 c.obtain.ensures.fit (spent g c) (freed g c))
+
+pub returns-in-Err-clause-short : goal.returns-in-Err-clause-short
+unfolding IsShort
+returns-in-Err-clause-short g c = tt
+
+pub release-requires : goal.release-requires
+release-requires g c =
+    let there = c.obtain.ensures.frees.slotted c.args.page c.args.slot.0 c.requires.there in
+    let one = c.obtain.ensures.fit.places.slotted c.args.page c.args.slot.0 there in
+    let same = ap (λ t. t.count c.args.slot.0) c.get.ensures.same in
+    omega (arith, one, same)

@@ -1,0 +1,94 @@
+use Rattle.std.proofs.Common.{◌≡◌, inl, inr, refl, sym, ap, ◌∙◌, subst}
+use Rattle.std.specs.Option.{option_map}
+use Rattle.vm_types.specs.declared.file.FilePage.{FilePage}
+use Rattle.file_store.specs.Store.{entry_of, files_of}
+use Rattle.frames.specs.declared.role.Role.TheVariants.{Free, Private, Cache}
+use Rattle.frames.specs.FrameTable.{role_of}
+use Rattle.page_cache.specs.declared.place.Place.TheVariants.{Home, Frame}
+use Rattle.page_cache.specs.CacheTable.{is_touched}
+use Rattle.paging.specs.Picture.{Picture, picture_of}
+use Rattle.paging.specs.Capacity.{IsShort}
+use Rattle.paging.proofs.Arriving.{frames_written, fit_brought}
+use Rattle.paging.proofs.Places.{cases_page}
+use Rattle.paging.proofs.Returning.{leaves_none, frames_spent, frees_spent}
+use Rattle.paging.proofs.Sparing.{frees_then}
+use Rattle.paging.specs.Steps.{ChangesFrame}
+use Rattle.paging.proofs.Taking.{fit_spent}
+use Rattle.paging.proofs.kernel.Core.bring_in.Given.{Over}
+use Rattle.paging.proofs.kernel.Core.bring_in.Goals as goal
+
+pub returns-in-Ok-read_page-clause-brought : goal.returns-in-Ok-read_page-clause-brought
+returns-in-Ok-read_page-clause-brought g c =
+    let mid : Picture = picture_of c.obtain.new.core in
+    let takes = c.in-Ok.ensures.taken in
+    let frees = c.obtain.ensures.frees in
+    let home = frees.home c.args.page c.requires.home in
+    record {
+      found = mid;
+      fit = c.obtain.ensures.fit;
+      frees = frees;
+      brings = record {
+        slots = leaves_none mid _ c.args.page home refl;
+        frames = frames_written c.obtain.new.core.frames c.take.new.self c.in-Ok.frame.0 c.read_page.new.to takes;
+        above = takes.above;
+        was_free = takes.was_free;
+        kind = takes.kind_set;
+        was_away = λ m at. (let bad : Home ≡ Frame (record { 0 = m }) = sym home ∙ at in (cc));
+        inside = (c.requires.inside.0, frees.pages.files.files c.args.page.file ∙ c.requires.inside.1, c.requires.inside.2);
+        placed = c.set_place.ensures.placed;
+        others = λ p ne. c.set_place.ensures.others.places p ne;
+        root = λ pid. refl;
+        at = λ pid k. refl;
+        page_of = λ m. refl;
+        touched = λ p. elim (cases_page p c.args.page) [
+          | inl is ↦ (let P : FilePage → Type 0 = λ x. is_touched c.set_place.new.self x ≡ is_touched c.obtain.new.core.cache x in subst P (sym is) c.set_place.ensures.touched)
+          | inr ne ↦ c.set_place.ensures.others.touched p ne
+        ];
+        files = λ f. ap (λ d. option_map (λ e. e.info) (entry_of d f)) c.in-Ok-read_page.ensures.files;
+      };
+    }
+
+pub returns-in-Ok-read_page-clause-fit : goal.returns-in-Ok-read_page-clause-fit
+returns-in-Ok-read_page-clause-fit g c =
+    let brought = returns-in-Ok-read_page-clause-brought g c in
+    fit_brought brought.found _ c.args.page c.in-Ok.frame.0 brought.fit brought.brings
+
+-- what is left of memory where the read failed
+abbrev emptied : (g : Over) (c : goal.After-self-in-Err-1 g) → Picture
+emptied g c = record (picture_of c.obtain.new.core) { files = files_of c.read_page.new.self; frames = c.release.new.self }
+
+spent : (g : Over) (c : goal.After-self-in-Err-1 g) → ChangesFrame (picture_of c.obtain.new.core) (emptied g c) c.in-Ok.frame.0
+spent g c = record {
+  slots = refl;
+  frames = frames_spent c.obtain.new.core.frames c.take.new.self c.release.new.self c.in-Ok.frame.0 c.read_page.new.to c.in-Ok.ensures.taken c.release.ensures.change;
+  was_free = c.in-Ok.ensures.taken.was_free;
+  others = λ m ne. refl;
+  root = λ pid. refl;
+  at = λ pid k. refl;
+  place = λ p. refl;
+  touched = λ p. refl;
+  files = λ f. ap (λ d. option_map (λ e. e.info) (entry_of d f)) c.in-Err.ensures.files;
+}
+
+freed : (g : Over) (c : goal.After-self-in-Err-1 g) → role_of c.release.new.self c.in-Ok.frame.0 ≡ Free
+freed g c = c.release.ensures.alone (λ own. (let bad : Cache ≡ Private = sym c.in-Ok.ensures.taken.kind_set ∙ own in (cc)))
+
+pub returns-in-Err-clause-fit : goal.returns-in-Err-clause-fit
+returns-in-Err-clause-fit g c =
+    let free = freed g c in
+    fit_spent (picture_of c.obtain.new.core) (emptied g c) c.in-Ok.frame.0 c.obtain.ensures.fit (spent g c) (λ t. (let bad = sym free ∙ t in (cc))) free
+
+pub returns-in-Err-clause-short : goal.returns-in-Err-clause-short
+unfolding IsShort
+returns-in-Err-clause-short g c = tt
+
+pub returns-in-Err-clause-refuses : goal.returns-in-Err-clause-refuses
+returns-in-Err-clause-refuses g c = λ other. other refl
+
+pub returns-in-Err-clause-unread : goal.returns-in-Err-clause-unread
+returns-in-Err-clause-unread g c = λ other. absurd (other refl)
+
+pub returns-in-Err-clause-frees : goal.returns-in-Err-clause-frees
+returns-in-Err-clause-frees g c =
+    frees_then (picture_of c.args.self.now) (picture_of c.obtain.new.core) (emptied g c) _ c.obtain.ensures.frees
+    (frees_spent (picture_of c.obtain.new.core) (emptied g c) c.in-Ok.frame.0 c.obtain.ensures.fit (spent g c) (freed g c))
