@@ -8,7 +8,7 @@ use Rattle.vm_types.specs.declared.number.FrameNo.{FrameNo}
 use Rattle.vm_types.specs.declared.region.Attr.{Attr}
 use Rattle.vm_types.specs.declared.region.Backing.{Backing}
 use Rattle.vm_types.specs.declared.region.Backing.TheVariants as Backings
-use Rattle.vm_types.specs.Attributes.{file_page_after, backing_after, attr_after}
+use Rattle.vm_types.specs.Attributes.{file_page_after, backing_after, attr_after, backed_by}
 use Rattle.frames.specs.declared.role.Role.TheVariants.{Free, Table, Private, Cache}
 use Rattle.frames.specs.FrameTable.{FrameTable, role_of}
 use Rattle.sv39_walk.specs.Entry.{is_valid, is_dirty, is_pointer, frame_of, entry_at}
@@ -29,7 +29,7 @@ use Rattle.paging.specs.Parts.{IsEntryFor, IsResident, IsBehind, IsFit, nowhere}
 use Rattle.paging.specs.Steps.{SameBeside, SetsPage}
 use Rattle.paging.specs.declared.leaves.Held.{Held}
 use Rattle.paging.specs.declared.leaves.Held.TheVariants.{Own, Filed}
-use Rattle.paging.specs.Leaves.{concerns, IsOver, IsChanged, Changes, Holds, KeepsAllButFrames, backed_by, IsPageOver, IsRunOf}
+use Rattle.paging.specs.Leaves.{concerns, IsOver, IsChanged, Changes, Holds, KeepsAllButFrames, IsPageOver, IsRunOf}
 use Rattle.paging.proofs.Bits.{some_framed, resident_of, changed_once, seat_changed, for_changed, valid_zero, leaf_accessed}
 use Rattle.paging.proofs.Entries.{entry-of}
 use Rattle.paging.proofs.Granting.{entry_for-same, granting_changed}

@@ -1,5 +1,6 @@
 -- What the calls of this layer leave.
 use Rattle.std.specs.Prelude.{◌≡◌, ◌≢◌, ℕ, ◌+◌, ◌<◌, ◌≤◌, ◌⊎◌, true, false, Option, None, Some}
+use Rattle.vm_types.specs.Limits.{top_level}
 use Rattle.vm_types.specs.declared.file.FilePage.{FilePage}
 use Rattle.vm_types.specs.declared.number.FrameNo.{FrameNo}
 use Rattle.vm_types.specs.declared.refusal.Stall.{Stall}
@@ -64,9 +65,9 @@ pub record Frees (old new : Picture) (keep : Option FrameNo) : Type 0 where
   pub pages : KeepsPages old new
   pub count : frame_count new.frames ≡ frame_count old.frames
   pub roles : (n : ℕ) → (role_of new.frames n ≡ role_of old.frames n) ⊎ ((role_of new.frames n ≡ Free) × (is_data (role_of old.frames n) ≡ true))
-  pub missing : (pid r page : ℕ) → old.root pid ≡ Some r → missing_of new.frames 2 r page ≡ missing_of old.frames 2 r page
-  pub ends : (pid r page : ℕ) → old.root pid ≡ Some r → last_table new.frames page 2 r ≡ last_table old.frames page 2 r
-  pub entries : (pid page : ℕ) → IsPage 2 page → IsStaying keep (entry old pid page) → entry new pid page ≡ entry old pid page
+  pub missing : (pid r page : ℕ) → old.root pid ≡ Some r → missing_of new.frames top_level r page ≡ missing_of old.frames top_level r page
+  pub ends : (pid r page : ℕ) → old.root pid ≡ Some r → last_table new.frames page top_level r ≡ last_table old.frames page top_level r
+  pub entries : (pid page : ℕ) → IsPage top_level page → IsStaying keep (entry old pid page) → entry new pid page ≡ entry old pid page
   pub slots : (k : ℕ) → IsInUse old.slots k → (new.slots.bytes k ≡ old.slots.bytes k) × (new.slots.count k ≡ old.slots.count k)
   pub total : new.slots.total ≡ old.slots.total
   pub home : (p : FilePage) → old.place p ≡ Home → new.place p ≡ Home
@@ -88,7 +89,7 @@ pub record ObtainsTable (old new : Picture) (n : ℕ) : Type 0 where
   pub found : Picture
   pub fit : IsFit found
   pub frees : Frees old found None
-  pub adds : AddsTable found.frames new.frames 2 n
+  pub adds : AddsTable found.frames new.frames top_level n
   pub beside : SameBeside found new
   pub zero_page : role_of found.frames 0 ≢ Table
 

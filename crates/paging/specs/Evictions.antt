@@ -1,5 +1,6 @@
 -- What the steps of an eviction leave.
 use Rattle.std.specs.Prelude.{◌≡◌, ◌≢◌, ℕ, ◌+◌, ◌<◌, ◌≤◌, ◌⊎◌, true, Some, Option}
+use Rattle.vm_types.specs.Limits.{top_level}
 use Rattle.vm_types.specs.declared.file.FilePage.{FilePage}
 use Rattle.vm_types.specs.declared.number.FrameNo.{FrameNo}
 use Rattle.frames.specs.declared.role.Role.TheVariants.{Free, Table, Private}
@@ -40,8 +41,8 @@ pub record Spares (v k : ℕ) (old new : Picture) : Type 0 where
   pub role : (role_of new.frames v ≡ role_of old.frames v) ⊎ ((role_of new.frames v ≡ Free) × (is_data (role_of old.frames v) ≡ true))
   pub counts : (n : ℕ) → n ≢ v → count_of new.frames n ≡ count_of old.frames n
   pub bytes : (n : ℕ) → n ≢ v → role_of old.frames n ≢ Table → bytes_of new.frames n ≡ bytes_of old.frames n
-  pub ends : (pid r page : ℕ) → old.root pid ≡ Some r → last_table new.frames page 2 r ≡ last_table old.frames page 2 r
-  pub entries : (pid page : ℕ) → IsPage 2 page → (entry old pid page ≡ 0) ⊎ ((is_swapped (entry old pid page) ≡ true) ⊎ (frame_of (entry old pid page) ≢ v))
+  pub ends : (pid r page : ℕ) → old.root pid ≡ Some r → last_table new.frames page top_level r ≡ last_table old.frames page top_level r
+  pub entries : (pid page : ℕ) → IsPage top_level page → (entry old pid page ≡ 0) ⊎ ((is_swapped (entry old pid page) ≡ true) ⊎ (frame_of (entry old pid page) ≢ v))
       → entry new pid page ≡ entry old pid page
   pub slots : (j : ℕ) → j ≢ k → IsInUse old.slots j → (new.slots.bytes j ≡ old.slots.bytes j) × (new.slots.count j ≡ old.slots.count j)
   pub total : new.slots.total ≡ old.slots.total

@@ -1,9 +1,10 @@
 -- The entries over one frame, and what becomes of them.
 use Rattle.std.specs.Prelude.{◌≡◌, ◌≢◌, ◌⊎◌, ℕ, ◌==◌, ◌-◌, ◌<◌, ◌≤◌, ◌^◌, Bool, true, false, not, ◌&&◌, Option, Some, None}
+use Rattle.vm_types.specs.Limits.{top_level, user_start, user_end}
 use Rattle.vm_types.specs.declared.file.FilePage.{FilePage}
 use Rattle.vm_types.specs.declared.region.Backing.{Backing}
 use Rattle.vm_types.specs.declared.region.Backing.TheVariants.{Anon, Private, Shared}
-use Rattle.vm_types.specs.Attributes.{attr_after}
+use Rattle.vm_types.specs.Attributes.{attr_after, backed_by}
 use Rattle.frames.specs.declared.role.Role.TheVariants as Role
 use Rattle.frames.specs.FrameTable.{frame_count, bytes_of, role_of, count_of}
 use Rattle.sv39_walk.specs.Entry.{is_valid, can_read, can_write, can_execute, is_accessed, is_dirty, frame_of}
@@ -32,16 +33,16 @@ pub record IsOver (c : Picture) (change : Change) (n pid page : ℕ) : Type 0 wh
 
 -- no process has one
 abbrev pub IsClear : Picture → Change → ℕ → Type 0
-IsClear c change n = (pid page : ℕ) → IsPage 2 page → IsOver c change n pid page → ⊥
+IsClear c change n = (pid page : ℕ) → IsPage top_level page → IsOver c change n pid page → ⊥
 
 -- some process has one
 abbrev pub IsMarked : Picture → Change → ℕ → Type 0
-IsMarked c change n = (pid : ℕ) × (page : ℕ) × IsPage 2 page × IsOver c change n pid page
+IsMarked c change n = (pid : ℕ) × (page : ℕ) × IsPage top_level page × IsOver c change n pid page
 
 -- the first page of a process from a page on that has one
 pub record IsNext (c : Picture) (change : Change) (n pid low k : ℕ) : Type 0 where
   pub from : low ≤ k
-  pub user : k < 2 ^ 26
+  pub user : k < user_end
   pub over : IsOver c change n pid k
   pub before : (j : ℕ) → low ≤ j → j < k → IsOver c change n pid j → ⊥
 
@@ -72,8 +73,8 @@ pub record Changes (change : Change) (n : ℕ) (old new : Picture) : Type 0 wher
   pub roles : (m : ℕ) → role_of new.frames m ≡ role_of old.frames m
   pub counts : (m : ℕ) → count_of new.frames m ≡ count_of old.frames m
   pub views : (pid page : ℕ) → view new pid page ≡ view old pid page
-  pub ends : (pid r page : ℕ) → old.root pid ≡ Some r → last_table new.frames page 2 r ≡ last_table old.frames page 2 r
-  pub entries : (pid page : ℕ) → IsPage 2 page
+  pub ends : (pid r page : ℕ) → old.root pid ≡ Some r → last_table new.frames page top_level r ≡ last_table old.frames page top_level r
+  pub entries : (pid page : ℕ) → IsPage top_level page
       → (entry new pid page ≡ entry old pid page) ⊎ (IsOver old change n pid page × IsChanged change (entry old pid page) (entry new pid page))
 
 module _ {D E : Type 0} where
@@ -88,12 +89,6 @@ module _ {D E : Type 0} where
     pub clock : new.clock ≡ old.clock
     pub refused : new.refused ≡ old.refused
 
--- the file page that stands behind a page
-abbrev pub backed_by : Backing → Option FilePage
-backed_by Anon = None
-backed_by (Private p) = Some p
-backed_by (Shared p) = Some p
-
 -- page k of the run stands on that file page
 pub record IsPageOver (run : Run) (p : FilePage) (k : ℕ) : Type 0 where
   pub from : run.first ≤ k
@@ -102,7 +97,7 @@ pub record IsPageOver (run : Run) (p : FilePage) (k : ℕ) : Type 0 where
 
 -- a run of user pages of a process
 pub record IsRunOf (c : Picture) (pid : ℕ) (run : Run) : Type 0 where
-  pub low : 16 ≤ run.first
+  pub low : user_start ≤ run.first
   pub nonempty : run.first < run.end
-  pub high : run.end ≤ 2 ^ 26
+  pub high : run.end ≤ user_end
   pub mapped : (k : ℕ) → run.first ≤ k → k < run.end → c.at pid k ≡ Some (attr_after run.attr (k - run.first))

@@ -1,5 +1,7 @@
 -- What holds of memory between two calls, in five parts.
 use Rattle.std.specs.Prelude.{◌≡◌, ◌≢◌, ℕ, ◌<◌, ◌≤◌, ◌⊎◌, Bool, true, false, Option, Some, IsSome}
+use Rattle.vm_types.specs.Limits.{top_level}
+pub use Rattle.vm_types.specs.Attributes.{is_shared}
 use Rattle.vm_types.specs.declared.file.FilePage.{FilePage}
 use Rattle.vm_types.specs.declared.region.Attr.{Attr}
 use Rattle.vm_types.specs.declared.region.Backing.{Backing}
@@ -37,7 +39,7 @@ IsCounted c = IsCountedBut c nowhere 0
 -- has entries
 pub data IsUsed (c : Picture) (mapped : ℕ → ℕ → Type 0) (n : ℕ) : Type 0 where
   AsRoot : (pid : ℕ) → c.root pid ≡ Some n → IsUsed c mapped n
-  OnWay : (pid r page : ℕ) → c.root pid ≡ Some r → mapped pid page → IsBelowRoot c.frames 2 r page n → IsUsed c mapped n
+  OnWay : (pid r page : ℕ) → c.root pid ≡ Some r → mapped pid page → IsBelowRoot c.frames top_level r page n → IsUsed c mapped n
 
 abbrev pub IsMapped : Picture → ℕ → ℕ → Type 0
 IsMapped c pid page = IsSome (c.at pid page)
@@ -46,15 +48,10 @@ IsMapped c pid page = IsSome (c.at pid page)
 -- one way to a page that its process has mapped. Frame 0, which is never a table, stands for none.
 pub record IsRootedBut (c : Picture) (n : ℕ) : Type 0 where
   pub forest : IsForest c.frames
-  pub roots : (pid r : ℕ) → c.root pid ≡ Some r → IsRoot 2 c.frames r
+  pub roots : (pid r : ℕ) → c.root pid ≡ Some r → IsRoot top_level c.frames r
   pub apart : (p q r : ℕ) → c.root p ≡ Some r → c.root q ≡ Some r → p ≡ q
   pub numbers : (pid r : ℕ) → c.root pid ≡ Some r → (1 ≤ pid) × (pid ≤ 64)
   pub used : (m : ℕ) → IsTable c.frames m → (m ≡ n) ⊎ IsUsed c (IsMapped c) m
-
-abbrev pub is_shared : Backing → Bool
-is_shared Anon = false
-is_shared (Private p) = false
-is_shared (Shared p) = true
 
 -- frame n holds what stands behind a page: it is the zero page, or that of the file page
 abbrev pub IsBehind : Picture → Backing → ℕ → Type 0
@@ -97,7 +94,7 @@ pub data IsEntryFor (c : Picture) (attr : Option Attr) (e : ℕ) : Type 0 where
 
 -- grants: an entry lets nothing be done that the region of its page doesn't
 pub record IsGranting (c : Picture) : Type 0 where
-  pub entries : (pid page : ℕ) → IsPage 2 page → IsEntryFor c (c.at pid page) (entry c pid page)
+  pub entries : (pid page : ℕ) → IsPage top_level page → IsEntryFor c (c.at pid page) (entry c pid page)
   pub user : (pid : ℕ) → IsUserMap (c.at pid)
   pub readable : (pid : ℕ) → IsReadableMap (c.at pid)
 
@@ -113,7 +110,7 @@ pub record HasPlaces (c : Picture) : Type 0 where
 
 -- dirty: a leaf over a cache frame has D only where its page is touched; a touched page isn't at home, and one in a slot is touched
 pub record IsDirtySound (c : Picture) : Type 0 where
-  pub dirty : (pid page : ℕ) (p : FilePage) → IsPage 2 page → is_valid (entry c pid page) ≡ true → is_private (entry c pid page) ≡ false
+  pub dirty : (pid page : ℕ) (p : FilePage) → IsPage top_level page → is_valid (entry c pid page) ≡ true → is_private (entry c pid page) ≡ false
       → is_dirty (entry c pid page) ≡ true → c.place p ≡ Frame (record { 0 = frame_of (entry c pid page) }) → c.touched p ≡ true
   pub held : (p : FilePage) → c.touched p ≡ true → c.place p ≢ Home
   pub slotted : (p : FilePage) (k : ℕ) → c.place p ≡ Slot (record { 0 = k }) → c.touched p ≡ true

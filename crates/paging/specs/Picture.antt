@@ -1,6 +1,7 @@
 -- What memory holds, by functions: the frames, the processes by their numbers, and the file pages.
 use Rattle.std.specs.Prelude.{◌≡◌, ◌<◌, ◌≢◌, ℕ, Bool, true, false, List, [], Option, Some, None, is_some, slice_index_or}
 use Rattle.std.specs.Option.{option_map}
+use Rattle.vm_types.specs.Limits.{top_level}
 use Rattle.vm_types.specs.declared.file.FilePage.{FilePage}
 use Rattle.vm_types.specs.declared.number.FrameNo.{FrameNo}
 use Rattle.vm_types.specs.declared.region.Attr.{Attr}
@@ -64,7 +65,7 @@ is_live c pid = is_some (c.root pid)
 
 abbrev pub entry_in : FrameTable → Option ℕ → ℕ → ℕ
 entry_in t None page = 0
-entry_in t (Some root) page = page_entry t 2 root page
+entry_in t (Some root) page = page_entry t top_level root page
 
 -- the number that stands for a page of a process, 0 where a table is missing or the process doesn't live
 unfoldable pub entry : Picture → ℕ → ℕ → ℕ

@@ -1,12 +1,10 @@
 -- Where own copies lie, and who has them: a frame and a slot of swap by one notion.
 use Rattle.std.specs.Prelude.{◌≡◌, ◌≢◌, ◌⊎◌, ℕ, ◌+◌, ◌==◌, Bool, false, not, ◌&&◌, if◌then◌else◌, Option, Some, None}
+use Rattle.vm_types.specs.Limits.{top_level}
 use Rattle.vm_types.specs.Counting.{count_below}
 use Rattle.sv39_walk.specs.Entry.{is_valid, has_bit, frame_of}
+pub use Rattle.sv39_walk.specs.Entry.{is_private}
 use Rattle.page_tables.specs.Tree.{IsPage}
-
--- bit 8: the frame that the entry names is the process's own
-abbrev pub is_private : ℕ → Bool
-is_private e = has_bit e 8
 
 -- the place of an own copy
 pub data Seat : Type 0 where
@@ -42,10 +40,10 @@ off x d y = if same_seat x y then d else 0
 -- Counts, while that of seat x is off by d: the share count of a seat is the number of entries that name it, all at one page.
 pub record AreCounted (entries : ℕ → ℕ → ℕ) (owned : Seat → Type 0) (count page : Seat → ℕ) (x : Seat) (d : ℕ) : Type 0 where
   pub counts : (y : Seat) → owned y → count y ≡ holders_at entries (page y) y + off x d y
-  pub pages : (y : Seat) → owned y → IsPage 2 (page y)
-  pub named : (pid p : ℕ) (y : Seat) → IsPage 2 p → seat (entries pid p) ≡ Some y → owned y
-  pub noted : (pid p : ℕ) (y : Seat) → IsPage 2 p → seat (entries pid p) ≡ Some y → page y ≡ p
+  pub pages : (y : Seat) → owned y → IsPage top_level (page y)
+  pub named : (pid p : ℕ) (y : Seat) → IsPage top_level p → seat (entries pid p) ≡ Some y → owned y
+  pub noted : (pid p : ℕ) (y : Seat) → IsPage top_level p → seat (entries pid p) ≡ Some y → page y ≡ p
 
 -- all but one entry is as it was
 abbrev pub OthersSame : (ℕ → ℕ → ℕ) → (ℕ → ℕ → ℕ) → ℕ → ℕ → Type 0
-OthersSame old new pid page = (q p : ℕ) → IsPage 2 p → (q ≢ pid) ⊎ (p ≢ page) → new q p ≡ old q p
+OthersSame old new pid page = (q p : ℕ) → IsPage top_level p → (q ≢ pid) ⊎ (p ≢ page) → new q p ≡ old q p

@@ -1,5 +1,6 @@
 -- What one step of a call changes.
 use Rattle.std.specs.Prelude.{◌≡◌, ◌≢◌, ℕ, ◌<◌, ◌≤◌, ◌⊎◌, Some, None}
+use Rattle.vm_types.specs.Limits.{top_level}
 use Rattle.vm_types.specs.declared.file.FilePage.{FilePage}
 use Rattle.frames.specs.declared.role.Role.TheVariants.{Free, Table, Private, Cache}
 use Rattle.frames.specs.FrameTable.{FrameTable, bytes_of, role_of, count_of, SameButFor, Takes}
@@ -30,7 +31,7 @@ pub record KeepsShares (old new : FrameTable) : Type 0 where
 -- a process's page has that number for its entry now, and all else is as it was
 pub record SetsPage (old new : Picture) (pid page number : ℕ) : Type 0 where
   pub changed : entry new pid page ≡ number
-  pub others : (q p : ℕ) → IsPage 2 p → (q ≢ pid) ⊎ (p ≢ page) → entry new q p ≡ entry old q p
+  pub others : (q p : ℕ) → IsPage top_level p → (q ≢ pid) ⊎ (p ≢ page) → entry new q p ≡ entry old q p
   pub beside : SameBeside old new
   pub shares : KeepsShares old.frames new.frames
   pub bytes : (n : ℕ) → role_of old.frames n ≢ Table → bytes_of new.frames n ≡ bytes_of old.frames n

@@ -1,5 +1,7 @@
 //! The entries over one frame, in the tables of all processes: found, and changed.
 ghost use Rattle.std.specs.Prelude.{◌≡◌, ◌≢◌, ◌≤◌, ◌<◌, ◌-◌, ◌^◌, ◌↔◌, ℕ, true, false, Some, IfSome, IfNone, IsSome};
+ghost use Rattle.vm_types.specs.Limits.{top_level, user_start, user_end};
+ghost use Rattle.vm_types.specs.Attributes.{backed_by};
 ghost use Rattle.frames.specs.declared.role.Role.TheVariants as Roles;
 ghost use Rattle.frames.specs.FrameTable.{IsFrame, role_of};
 ghost use Rattle.sv39_walk.specs.Entry.{is_valid, is_accessed, is_dirty, frame_of};
@@ -10,19 +12,14 @@ ghost use Rattle.paging.specs.Parts.{IsFit};
 ghost use Rattle.paging.specs.declared.leaves.Change.TheVariants as Kinds;
 ghost use Rattle.page_cache.specs.declared.place.Place.TheVariants.{Frame};
 ghost use Rattle.paging.specs.Seats.{is_swapped};
-ghost use Rattle.paging.specs.Leaves.{concerns, IsOver, IsNext, IsChanged, Drops, Holds, Changes, KeepsAllButFrames, IsClear, IsMarked, IsPageOver, IsRunOf, backed_by};
+ghost use Rattle.paging.specs.Leaves.{concerns, IsOver, IsNext, IsChanged, Drops, Holds, Changes, KeepsAllButFrames, IsClear, IsMarked, IsPageOver, IsRunOf};
 
 use crate::kernel::{Core, PLACES};
 use frames::Role;
 use page_tables::{Entry, entry, entry_number, set};
 use regions::Run;
 use sv39_walk::Pte;
-use vm_types::{Backing, FilePage, FrameNo, Vpn};
-
-// A and D, bits of an entry (RISC-V Privileged Specification, "Sv39 page table entry").
-const ACCESSED: u64 = 1 << 6;
-
-const DIRTY: u64 = 1 << 7;
+use vm_types::{FilePage, FrameNo, Vpn};
 
 /// What becomes of an entry.
 #[derive(Clone, Copy, Debug, PartialEq, Eq)]
@@ -113,7 +110,7 @@ pub(crate) fn find_in<D, E>(
     requires number { pid < 65 }
     requires holds { Holds (picture_of core.now) frame.0 held }
     ensures some { IfSome result (λ k. IsNext (picture_of core.now) change frame.0 pid low k) }
-    ensures none { IfNone result ((k : ℕ) → low ≤ k → IsPage 2 k → IsOver (picture_of core.now) change frame.0 pid k → ⊥) }
+    ensures none { IfNone result ((k : ℕ) → low ≤ k → IsPage top_level k → IsOver (picture_of core.now) change frame.0 pid k → ⊥) }
 {
     match held {
         Held::Own(page) => find_own(core, pid, root, low, u64::from(page), frame, change),
@@ -137,7 +134,7 @@ fn find_own<D, E>(
     requires role { role_of core.now.frames frame.0 ≡ Roles.Private }
     requires noted { (picture_of core.now).page_of frame.0 ≡ page }
     ensures some { IfSome result (λ k. IsNext (picture_of core.now) change frame.0 pid low k) }
-    ensures none { IfNone result ((k : ℕ) → low ≤ k → IsPage 2 k → IsOver (picture_of core.now) change frame.0 pid k → ⊥) }
+    ensures none { IfNone result ((k : ℕ) → low ≤ k → IsPage top_level k → IsOver (picture_of core.now) change frame.0 pid k → ⊥) }
 {
     if page < low {
         return None;
@@ -170,7 +167,7 @@ fn find_filed<D, E>(
     requires number { pid < 65 }
     requires placed { (picture_of core.now).place page ≡ Frame frame }
     ensures some { IfSome result (λ k. IsNext (picture_of core.now) change frame.0 pid low k) }
-    ensures none { IfNone result ((k : ℕ) → low ≤ k → IsPage 2 k → IsOver (picture_of core.now) change frame.0 pid k → ⊥) }
+    ensures none { IfNone result ((k : ℕ) → low ≤ k → IsPage top_level k → IsOver (picture_of core.now) change frame.0 pid k → ⊥) }
 {
     let mut from = low;
     while let Some(run) = core.regions[pid].next_run(from) {
@@ -212,25 +209,15 @@ fn find_over<D, E>(
     }
 }
 
-/// The file page that stands behind a page, shared or private.
-fn file_page_of(backing: Backing) -> Option<FilePage>
-    ensures { result ≡ backed_by backing }
-{
-    match backing {
-        Backing::Anon => None,
-        Backing::Private(page) | Backing::Shared(page) => Some(page),
-    }
-}
-
 /// The page of a run that stands on this file page.
 fn page_over(run: Run, page: FilePage) -> Option<Vpn>
-    requires low { 16 ≤ run.first }
+    requires low { user_start ≤ run.first }
     requires order { run.first ≤ run.end }
-    requires high { run.end ≤ 2 ^ 26 }
+    requires high { run.end ≤ user_end }
     ensures some { IfSome result (λ k. IsPageOver run page k) }
     ensures none { IfNone result ((k : ℕ) → IsPageOver run page k → ⊥) }
 {
-    match file_page_of(run.attr.backing) {
+    match run.attr.backing.file_page() {
         Some(first) => page_after(run, first, page),
         None => None,
     }
@@ -238,9 +225,9 @@ fn page_over(run: Run, page: FilePage) -> Option<Vpn>
 
 /// The same in a run the first page of which stands on `first`.
 fn page_after(run: Run, first: FilePage, page: FilePage) -> Option<Vpn>
-    requires low { 16 ≤ run.first }
+    requires low { user_start ≤ run.first }
     requires order { run.first ≤ run.end }
-    requires high { run.end ≤ 2 ^ 26 }
+    requires high { run.end ≤ user_end }
     requires first { backed_by run.attr.backing ≡ Some first }
     ensures some { IfSome result (λ k. IsPageOver run page k) }
     ensures none { IfNone result ((k : ℕ) → IsPageOver run page k → ⊥) }
@@ -267,7 +254,7 @@ fn change_at<D, E>(
 )
     requires fit { IsFit (picture_of core.old) }
     requires lives { (picture_of core.old).root pid ≡ Some root.0 }
-    requires user { page < 2 ^ 26 }
+    requires user { page < user_end }
     requires over { IsOver (picture_of core.old) change frame.0 pid page }
     requires filed { change ≡ Kinds.Forget → role_of core.old.frames frame.0 ≡ Roles.Cache }
     ensures fit { IsFit (picture_of core.new) }
@@ -297,7 +284,7 @@ fn change_in<D, E>(
     ensures fit { IsFit (picture_of core.new) }
     ensures beside { KeepsAllButFrames core.old core.new }
     ensures changes { Changes change frame.0 (picture_of core.old) (picture_of core.new) }
-    ensures clear { (page : ℕ) → IsPage 2 page → IsOver (picture_of core.new) change frame.0 pid page → ⊥ }
+    ensures clear { (page : ℕ) → IsPage top_level page → IsOver (picture_of core.new) change frame.0 pid page → ⊥ }
 {
     let mut low = 0;
     while let Some(page) = find_in(core, pid, root, low, held, frame, change) {
@@ -316,7 +303,7 @@ fn change_of<D, E>(core: &mut Core<D, E>, pid: usize, held: Held, frame: FrameNo
     ensures fit { IsFit (picture_of core.new) }
     ensures beside { KeepsAllButFrames core.old core.new }
     ensures changes { Changes change frame.0 (picture_of core.old) (picture_of core.new) }
-    ensures clear { (page : ℕ) → IsPage 2 page → IsOver (picture_of core.new) change frame.0 pid page → ⊥ }
+    ensures clear { (page : ℕ) → IsPage top_level page → IsOver (picture_of core.new) change frame.0 pid page → ⊥ }
 {
     match core.roots[pid] {
         Some(root) => change_in(core, pid, root, held, frame, change),
@@ -385,7 +372,7 @@ fn without_accessed(leaf: Pte) -> Pte
     ensures dirty { is_dirty result.0 ≡ is_dirty leaf.0 }
     ensures clear { is_accessed result.0 ≡ false }
 {
-    Pte::from_u64(leaf.to_u64() - ACCESSED)
+    leaf.without_accessed()
 }
 
 /// The entry with D clear.
@@ -395,5 +382,5 @@ fn without_dirty(leaf: Pte) -> Pte
     ensures accessed { is_accessed result.0 ≡ is_accessed leaf.0 }
     ensures clear { is_dirty result.0 ≡ false }
 {
-    Pte::from_u64(leaf.to_u64() - DIRTY)
+    leaf.without_dirty()
 }

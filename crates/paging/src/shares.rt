@@ -1,5 +1,6 @@
 //! The shares of a private frame, handed over to a slot one process after the other.
 ghost use Rattle.std.specs.Prelude.{◌≡◌, ◌≢◌, ◌<◌, ◌+◌, ◌^◌, ℕ, Some, true, false};
+ghost use Rattle.vm_types.specs.Limits.{user_end};
 ghost use Rattle.frames.specs.declared.role.Role.TheVariants as Roles;
 ghost use Rattle.frames.specs.FrameTable.{IsFrame, role_of, count_of, bytes_of};
 ghost use Rattle.swap.specs.Slots.{IsReady};
@@ -14,21 +15,12 @@ use page_tables::{Entry, entry_number, set};
 use sv39_walk::Pte;
 use vm_types::{FrameNo, SlotNo, Vpn};
 
-/// Whether an entry names a frame as the process's own: bit 8, which is the software's (RISC-V Privileged Specification,
-/// "Sv39 page table entry", RSW).
-#[tactic(auto, using(std::proofs::lemmas::Nat::Bits::shr_and_one), unfolding(sv39_walk::specs::Entry::has_bit))]
-fn is_private(entry: Pte) -> bool
-    ensures { result ≡ is_private entry.0 }
-{
-    entry.to_u64() >> 8 & 1 == 1
-}
-
 /// Whether an entry names that frame as the process's own.
 fn is_own(entry: Pte, frame: FrameNo) -> bool
     ensures own { result ≡ true → seat entry.0 ≡ Some (InFrame frame.0) }
     ensures other { result ≡ false → seat entry.0 ≢ Some (InFrame frame.0) }
 {
-    is_private(entry) && entry.frame() == u64::from(frame.0)
+    entry.is_private() && entry.frame() == u64::from(frame.0)
 }
 
 /// Gives a process, which has the frame at that page, the share of the slot in place of its share of the frame.
@@ -42,7 +34,7 @@ fn give_share<D, E>(
 )
     requires share { HasShare (picture_of core.old) slot.0 page }
     requires lives { (picture_of core.old).root pid ≡ Some root.0 }
-    requires user { page < 2 ^ 26 }
+    requires user { page < user_end }
     requires from { seat (entry (picture_of core.old) pid page) ≡ Some (InFrame frame.0) }
     requires same { (picture_of core.old).slots.bytes slot.0 ≡ bytes_of core.old.frames frame.0 }
     ensures fit { IsFit (picture_of core.new) }
@@ -72,7 +64,7 @@ fn pass_share<D, E: SectorDisk>(
     requires ready { IsReady E.SectorDisk core.old.swap }
     requires handing { IsHanding (picture_of core.old) frame.0 slot.0 page }
     requires lives { (picture_of core.old).root pid ≡ Some root.0 }
-    requires user { page < 2 ^ 26 }
+    requires user { page < user_end }
     requires from { seat (entry (picture_of core.old) pid page) ≡ Some (InFrame frame.0) }
     ensures ready { IsReady E.SectorDisk core.new.swap }
     ensures spares { Spares frame.0 slot.0 (picture_of core.old) (picture_of core.new) }
@@ -104,7 +96,7 @@ fn hand_one<D, E: SectorDisk>(
     requires ready { IsReady E.SectorDisk core.old.swap }
     requires handing { IsHanding (picture_of core.old) frame.0 slot.0 page }
     requires number { pid < 65 }
-    requires user { page < 2 ^ 26 }
+    requires user { page < user_end }
     ensures ready { IsReady E.SectorDisk core.new.swap }
     ensures spares { Spares frame.0 slot.0 (picture_of core.old) (picture_of core.new) }
     ensures plain { KeepsPlain core.old core.new }

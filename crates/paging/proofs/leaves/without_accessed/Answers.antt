@@ -4,20 +4,17 @@ use Rattle.paging.specs.Leaves.{Drops}
 use Rattle.paging.proofs.Bits.{bit_six, drops_six, six_clear, six_dirty}
 use Rattle.paging.proofs.leaves.without_accessed.Goals as goal
 
-pub overflow_sub-to_u64 : goal.overflow_sub-to_u64
-overflow_sub-to_u64 c = omega (arith, bit_six c.args.leaf.0 c.requires, c.to_u64.ensures)
-
 pub returns-clause-drops : goal.returns-clause-drops
 returns-clause-drops c =
-    let number : c.from_u64.result.0 ≡ c.args.leaf.0 - 64 = c.from_u64.ensures ∙ ap (λ (n : ℕ). n - 64) c.to_u64.ensures in
+    let number : c.without_accessed.result.0 ≡ c.args.leaf.0 - 64 = omega (arith, c.without_accessed.ensures) in
     subst (λ n. Drops c.args.leaf.0 n) (sym number) (drops_six c.args.leaf.0 (bit_six c.args.leaf.0 c.requires))
 
 pub returns-clause-dirty : goal.returns-clause-dirty
 returns-clause-dirty c =
-    let number : c.from_u64.result.0 ≡ c.args.leaf.0 - 64 = c.from_u64.ensures ∙ ap (λ (n : ℕ). n - 64) c.to_u64.ensures in
+    let number : c.without_accessed.result.0 ≡ c.args.leaf.0 - 64 = omega (arith, c.without_accessed.ensures) in
     ap is_dirty number ∙ six_dirty c.args.leaf.0 (bit_six c.args.leaf.0 c.requires)
 
 pub returns-clause-clear : goal.returns-clause-clear
 returns-clause-clear c =
-    let number : c.from_u64.result.0 ≡ c.args.leaf.0 - 64 = c.from_u64.ensures ∙ ap (λ (n : ℕ). n - 64) c.to_u64.ensures in
+    let number : c.without_accessed.result.0 ≡ c.args.leaf.0 - 64 = omega (arith, c.without_accessed.ensures) in
     ap is_accessed number ∙ six_clear c.args.leaf.0 (bit_six c.args.leaf.0 c.requires)

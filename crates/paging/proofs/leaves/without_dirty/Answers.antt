@@ -4,20 +4,17 @@ use Rattle.paging.specs.Leaves.{Drops}
 use Rattle.paging.proofs.Bits.{bit_seven, drops_seven, seven_clear, seven_accessed}
 use Rattle.paging.proofs.leaves.without_dirty.Goals as goal
 
-pub overflow_sub-to_u64 : goal.overflow_sub-to_u64
-overflow_sub-to_u64 c = omega (arith, bit_seven c.args.leaf.0 c.requires, c.to_u64.ensures)
-
 pub returns-clause-drops : goal.returns-clause-drops
 returns-clause-drops c =
-    let number : c.from_u64.result.0 ≡ c.args.leaf.0 - 128 = c.from_u64.ensures ∙ ap (λ (n : ℕ). n - 128) c.to_u64.ensures in
+    let number : c.without_dirty.result.0 ≡ c.args.leaf.0 - 128 = omega (arith, c.without_dirty.ensures) in
     subst (λ n. Drops c.args.leaf.0 n) (sym number) (drops_seven c.args.leaf.0 (bit_seven c.args.leaf.0 c.requires))
 
 pub returns-clause-accessed : goal.returns-clause-accessed
 returns-clause-accessed c =
-    let number : c.from_u64.result.0 ≡ c.args.leaf.0 - 128 = c.from_u64.ensures ∙ ap (λ (n : ℕ). n - 128) c.to_u64.ensures in
+    let number : c.without_dirty.result.0 ≡ c.args.leaf.0 - 128 = omega (arith, c.without_dirty.ensures) in
     ap is_accessed number ∙ seven_accessed c.args.leaf.0 (bit_seven c.args.leaf.0 c.requires)
 
 pub returns-clause-clear : goal.returns-clause-clear
 returns-clause-clear c =
-    let number : c.from_u64.result.0 ≡ c.args.leaf.0 - 128 = c.from_u64.ensures ∙ ap (λ (n : ℕ). n - 128) c.to_u64.ensures in
+    let number : c.without_dirty.result.0 ≡ c.args.leaf.0 - 128 = omega (arith, c.without_dirty.ensures) in
     ap is_dirty number ∙ seven_clear c.args.leaf.0 (bit_seven c.args.leaf.0 c.requires)
