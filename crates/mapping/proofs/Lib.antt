@@ -1,0 +1,10 @@
+pub mod Bits
+pub mod Steps
+pub mod TablesLinked
+pub mod Forms
+pub mod Entering
+pub mod Arrivals
+pub mod Settling
+pub mod SwapSteps
+pub mod SwappedIn
+pub mod OwnSteps

@@ -1,0 +1,119 @@
+-- How the steps of a call follow one another.
+use Rattle.std.proofs.Common.{◌≡◌, ◌≢◌, ◌+◌, ◌≤◌, ℕ, inl, inr, ◌⊎◌, Option, Some, None, refl, sym, ap, ◌∙◌, subst, arith}
+use Rattle.disk_model.specs.declared.sector_disk.SectorDisk.{Ghosts}
+use Rattle.vm_types.specs.declared.file.FilePage.{FilePage}
+use Rattle.vm_types.specs.declared.number.FrameNo.{FrameNo}
+use Rattle.frames.specs.FrameTable.{FrameTable}
+use Rattle.page_tables.specs.Tree.{missing_of}
+use Rattle.swap.specs.declared.slots.Swap.{Swap}
+use Rattle.swap.specs.Slots.{IsReady, slots_of}
+use Rattle.paging.specs.declared.kernel.Core.{Core}
+use Rattle.paging.specs.Picture.{Picture, picture_of}
+use Rattle.paging.specs.Parts.{IsFit}
+use Rattle.paging.specs.Calls.{Frees, KeepsRest, UsesDevice}
+use Rattle.paging.specs.Steps.{SameBeside}
+use Rattle.mapping.specs.Changes.{KeepsTables, KeepsBare, KeepsSpaces, KeepsRoom, KeepsSeen, Enters, Moves}
+
+pub spaces_then : (a b c : Picture) → KeepsSpaces a b → KeepsSpaces b c → KeepsSpaces a c
+spaces_then a b c p q = record { root = λ pid. q.root pid ∙ p.root pid; at = λ pid page. q.at pid page ∙ p.at pid page }
+
+pub room_then : (a b c : Picture) → KeepsRoom a b → KeepsRoom b c → KeepsRoom a c
+room_then a b c p q = record { frames = q.frames ∙ p.frames; slots = q.slots ∙ p.slots }
+
+pub seen_then : (a b c : Picture) → KeepsSeen a b → KeepsSeen b c → KeepsSeen a c
+seen_then a b c p q = record { views = λ x y. q.views x y ∙ p.views x y; touched = λ x. q.touched x ∙ p.touched x }
+
+pub tables_then : (a b c : Picture) → ((pid : ℕ) → b.root pid ≡ a.root pid) → KeepsTables a b → KeepsTables b c → KeepsTables a c
+tables_then a b c roots p q pid r page e =
+    let first = p pid r page e in
+    let second = q pid r page (roots pid ∙ e) in
+    omega (arith, first, second)
+
+pub bare_then : (a b c : Picture) → KeepsBare a b → KeepsBare b c → KeepsBare a c
+bare_then a b c p q pid page h none = q pid page h (p pid page h none)
+
+-- where no table came to be missing or was linked
+pub tables_same : (a b : Picture) → ((pid r page : ℕ) → a.root pid ≡ Some r → missing_of b.frames 2 r page ≡ missing_of a.frames 2 r page) → KeepsTables a b
+tables_same a b same pid r page e = let s = same pid r page e in omega (arith, s)
+
+-- frames were given up
+module _ (old new : Picture) (keep : Option FrameNo) (frees : Frees old new keep) where
+  pub spaces_freed : KeepsSpaces old new
+  spaces_freed = record { root = frees.pages.root; at = frees.pages.at }
+
+  pub room_freed : KeepsRoom old new
+  room_freed = record { frames = frees.count; slots = frees.total }
+
+  pub seen_freed : KeepsSeen old new
+  seen_freed = record { views = frees.pages.views; touched = frees.pages.files.touched }
+
+  pub tables_freed : KeepsTables old new
+  tables_freed = tables_same old new frees.missing
+
+  pub bare_freed : KeepsBare old new
+  bare_freed pid p h none = frees.entries pid p h (inl none) ∙ none
+
+pub same_with : (c : Picture) (t : FrameTable) → SameBeside c (record c { frames = t })
+same_with c t = record { slots = refl; root = λ pid. refl; at = λ pid page. refl; page_of = λ n. refl; place = λ p. refl; touched = λ p. refl; files = λ f. refl }
+
+module _ {E : Type 0} (h : Ghosts E) where
+  pub device_then : (a b c : E) → UsesDevice h a b → UsesDevice h b c → UsesDevice h a c
+  device_then a b c p q = record {
+    size = q.size ∙ p.size;
+    kept = λ k. p.kept (q.kept k);
+    later = (let x = p.later in let y = q.later in omega (arith, x, y));
+  }
+
+  pub device_none : (a : E) → UsesDevice h a a
+  device_none a = record { size = refl; kept = λ k. k; later = omega arith }
+
+  module _ {D : Type 0} where
+    pub moves_then : (a b c : Core D E) → Moves h a b → Moves h b c → Moves h a c
+    moves_then a b c p q = record {
+      fit = q.fit;
+      swap = q.swap;
+      spaces = spaces_then (picture_of a) (picture_of b) (picture_of c) p.spaces q.spaces;
+      tables = tables_then (picture_of a) (picture_of b) (picture_of c) p.spaces.root p.tables q.tables;
+      room = room_then (picture_of a) (picture_of b) (picture_of c) p.room q.room;
+      store = q.store ∙ p.store;
+      device = device_then a.swap.pages.disk b.swap.pages.disk c.swap.pages.disk p.device q.device;
+    }
+
+    pub moves_none : (a : Core D E) → IsFit (picture_of a) → IsReady h a.swap → Moves h a a
+    moves_none a fit ready = record {
+      fit = fit;
+      swap = ready;
+      spaces = record { root = λ pid. refl; at = λ pid page. refl };
+      tables = λ pid r page e. omega arith;
+      room = record { frames = refl; slots = refl };
+      store = refl;
+      device = device_none a.swap.pages.disk;
+    }
+
+    -- frames were given up, and nothing else was done
+    pub moves_freed : (a b : Core D E) (keep : Option FrameNo) → IsFit (picture_of b) → IsReady h b.swap → Frees (picture_of a) (picture_of b) keep → KeepsRest a b
+        → UsesDevice h a.swap.pages.disk b.swap.pages.disk → Moves h a b
+    moves_freed a b keep fit ready frees rest device = record {
+      fit = fit;
+      swap = ready;
+      spaces = spaces_freed (picture_of a) (picture_of b) keep frees;
+      tables = tables_freed (picture_of a) (picture_of b) keep frees;
+      room = room_freed (picture_of a) (picture_of b) keep frees;
+      store = rest.store;
+      device = device;
+    }
+
+    -- one page's entry was set
+    pub moves_entered : (a b : Core D E) (pid page : ℕ) → IsReady h a.swap → Enters a b pid page → Moves h a b
+    moves_entered a b pid page ready enters =
+        let P : Swap E → Type 0 = λ s. IsReady h s in
+        let Q : Swap E → Type 0 = λ s. UsesDevice h a.swap.pages.disk s.pages.disk in
+        record {
+          fit = enters.fit;
+          swap = subst P (sym enters.calm.swap) ready;
+          spaces = enters.spaces;
+          tables = enters.tables;
+          room = record { frames = enters.calm.frames.frames; slots = ap (λ s. (slots_of s).total) enters.calm.swap };
+          store = enters.calm.store;
+          device = subst Q (sym enters.calm.swap) (device_none a.swap.pages.disk);
+        }

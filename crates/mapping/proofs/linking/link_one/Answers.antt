@@ -1,0 +1,77 @@
+use Rattle.std.proofs.Common.{◌≡◌, ◌≢◌, ℕ, inl, inr, sym, ◌∙◌}
+use Rattle.frames.specs.declared.role.Role.TheVariants.{Free, Private}
+use Rattle.page_tables.specs.Tree.{IsRoot}
+use Rattle.paging.specs.Picture.{Picture, picture_of}
+use Rattle.mapping.proofs.Steps.{same_with, moves_freed, bare_freed}
+use Rattle.mapping.proofs.TablesLinked.{pages_linked, bare_linked, tables_linked, spaces_linked, room_linked, fit_after, no_copy_linked, missing_taken}
+use Rattle.mapping.proofs.linking.link_one.Goals as goal
+
+pub link_table-requires-clause-root : goal.link_table-requires-clause-root
+link_table-requires-clause-root g c =
+    let took = c.in_ok-table.ensures.taken in
+    took.adds.roots c.args.root.0 (took.fit.rooted.roots c.args.pid c.args.root.0 (took.frees.pages.root c.args.pid ∙ c.requires.lives))
+
+pub link_table-requires-clause-missing : goal.link_table-requires-clause-missing
+link_table-requires-clause-missing g c none =
+    let took = c.in_ok-table.ensures.taken in
+    c.requires.missing (sym (took.adds.missing c.args.root.0 c.args.page (took.fit.rooted.roots c.args.pid c.args.root.0 (took.frees.pages.root c.args.pid ∙ c.requires.lives))
+    ∙ took.frees.missing c.args.pid c.args.root.0 c.args.page c.requires.lives) ∙ none)
+
+pub returns-clause-moves : goal.returns-clause-moves
+returns-clause-moves g c =
+    let old : Picture = picture_of c.args.core.now in
+    let taken : Picture = picture_of c.take_table.new.self in
+    let new : Picture = record taken { frames = c.link_table.new.frames } in
+    let took = c.in_ok-table.ensures.taken in
+    let done = c.in_ok-table.ensures in
+    let links = c.link_table.ensures.links in
+    let beside = same_with taken c.link_table.new.frames in
+    let n = c.in_ok-table.table.0 in
+    record {
+      fit = fit_after old taken new c.args.pid c.args.root.0 c.args.page n took c.requires.lives links beside c.requires.mapped;
+      swap = done.swap;
+      spaces = spaces_linked old taken new c.args.pid c.args.root.0 c.args.page n took c.requires.lives links beside;
+      tables = tables_linked old taken new c.args.pid c.args.root.0 c.args.page n took c.requires.lives links beside;
+      room = room_linked old taken new c.args.pid c.args.root.0 c.args.page n took c.requires.lives links beside;
+      store = done.rest.store;
+      device = done.device;
+    }
+
+pub returns-clause-pages : goal.returns-clause-pages
+returns-clause-pages g c =
+    let taken : Picture = picture_of c.take_table.new.self in
+    pages_linked (picture_of c.args.core.now) taken (record taken { frames = c.link_table.new.frames }) c.args.pid c.args.root.0 c.args.page c.in_ok-table.table.0 c.in_ok-table.ensures.taken c.requires.lives
+    c.link_table.ensures.links (same_with taken c.link_table.new.frames)
+
+pub returns-clause-bare : goal.returns-clause-bare
+returns-clause-bare g c =
+    let taken : Picture = picture_of c.take_table.new.self in
+    bare_linked (picture_of c.args.core.now) taken (record taken { frames = c.link_table.new.frames }) c.args.pid c.args.root.0 c.args.page c.in_ok-table.table.0 c.in_ok-table.ensures.taken c.requires.lives
+    c.link_table.ensures.links (same_with taken c.link_table.new.frames)
+
+pub returns-clause-no_copy : goal.returns-clause-no_copy
+returns-clause-no_copy g c =
+    let taken : Picture = picture_of c.take_table.new.self in
+    no_copy_linked (picture_of c.args.core.now) taken (record taken { frames = c.link_table.new.frames }) c.args.pid c.args.root.0 c.args.page c.in_ok-table.table.0 c.in_ok-table.ensures.taken c.requires.lives
+    c.link_table.ensures.links (same_with taken c.link_table.new.frames)
+
+pub returns-clause-lowered : goal.returns-clause-lowered
+returns-clause-lowered g c =
+    let taken : Picture = picture_of c.take_table.new.self in
+    c.link_table.ensures.links.lowered
+    ∙ missing_taken (picture_of c.args.core.now) taken (record taken { frames = c.link_table.new.frames }) c.args.pid c.args.root.0 c.args.page c.in_ok-table.table.0 c.in_ok-table.ensures.taken c.requires.lives
+    c.link_table.ensures.links (same_with taken c.link_table.new.frames)
+
+pub returns-in_err-table-clause-moves : goal.returns-in_err-table-clause-moves
+returns-in_err-table-clause-moves g c =
+    let done = c.in_err-table.ensures in
+    moves_freed g.E.SectorDisk c.args.core.now c.take_table.new.self _ done.fit done.swap done.frees done.rest done.device
+
+pub returns-in_err-table-clause-bare : goal.returns-in_err-table-clause-bare
+returns-in_err-table-clause-bare g c = bare_freed (picture_of c.args.core.now) (picture_of c.take_table.new.self) _ c.in_err-table.ensures.frees
+
+pub returns-in_err-table-clause-no_copy : goal.returns-in_err-table-clause-no_copy
+returns-in_err-table-clause-no_copy g c n is = elim (c.in_err-table.ensures.frees.roles n) [
+  | inl same ↦ sym same ∙ is
+  | inr freed ↦ (let bad : Free ≡ Private = sym freed.0 ∙ is in (cc))
+]

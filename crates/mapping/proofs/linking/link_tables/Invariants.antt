@@ -1,0 +1,20 @@
+use Rattle.std.proofs.Common.{◌≡◌, ◌≤◌, ℕ, Some}
+use Rattle.frames.specs.declared.role.Role.TheVariants.{Private}
+use Rattle.frames.specs.FrameTable.{role_of}
+use Rattle.page_tables.specs.Tree.{missing_of}
+use Rattle.paging.specs.Picture.{picture_of}
+use Rattle.paging.specs.Parts.{IsMapped}
+use Rattle.paging.specs.Calls.{KeepsPages}
+use Rattle.mapping.specs.Changes.{KeepsBare, Moves}
+use Rattle.mapping.proofs.linking.link_tables.Given as goal
+
+abbrev pub invariant-loop-pid : goal.invariant-loop-pid
+invariant-loop-pid g l =
+    Moves g.E.SectorDisk l.initial.core l.core × KeepsPages (picture_of l.initial.core) (picture_of l.core) × KeepsBare (picture_of l.initial.core) (picture_of l.core)
+    × (l.core.refused.number ≡ l.initial.core.refused.number) × ((picture_of l.core).root l.pid ≡ Some l.root.0) × IsMapped (picture_of l.core) l.pid l.page
+    × (missing_of l.core.frames 2 l.root.0 l.page ≤ missing_of l.initial.core.frames 2 l.root.0 l.page)
+    × (missing_of l.initial.core.frames 2 l.root.0 l.page ≡ 0 → l.core ≡ l.initial.core)
+    × ((n : ℕ) → role_of l.core.frames n ≡ Private → role_of l.initial.core.frames n ≡ Private)
+
+abbrev pub decreases-loop-pid : goal.decreases-loop-pid
+decreases-loop-pid g l = missing_of l.core.frames 2 l.root.0 l.page

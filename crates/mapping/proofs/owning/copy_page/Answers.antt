@@ -1,0 +1,353 @@
+use Rattle.std.proofs.Common.{◌≡◌, ◌≢◌, ℕ, ◌<◌, Bool, true, false, Some, inl, inr, get_or, refl, sym, ap, ◌∙◌, subst, arith}
+use Rattle.std.specs.Prelude.{IsTrue}
+use Rattle.std.proofs.lemmas.Bool.{false≢true}
+use Rattle.frames.specs.declared.role.Role.{Role}
+use Rattle.frames.specs.declared.role.Role.TheVariants.{Free, Table, Private}
+use Rattle.frames.specs.FrameTable.{IsFrame, is_handed_out, frame_count, bytes_of, count_of, role_of}
+use Rattle.sv39_walk.specs.Entry.{frame_of}
+use Rattle.swap.specs.declared.slots.Swap.{Swap}
+use Rattle.swap.specs.Slots.{IsReady}
+use Rattle.paging.specs.Calls.{UsesDevice}
+use Rattle.paging.specs.Picture.{Picture, picture_of, entry, is_private}
+use Rattle.paging.specs.Parts.{IsBehind}
+use Rattle.paging.specs.Steps.{SameBeside}
+use Rattle.paging.proofs.Granting.{past_end-same}
+use Rattle.mapping.proofs.Entering.{beside_around}
+use Rattle.mapping.proofs.OwnSteps.{shown_used, shown_datum, lives_found, whole_found, at_found, spaces_set, tables_set, room_set, others_set, files_set, bytes_set, own_set, entry_set, count_set, fit_first, behind_first, role_shared, fit_shared, spaces_shared, tables_shared, room_shared, others_shared, files_shared, bytes_shared, own_shared, entry_shared, count_shared}
+use Rattle.mapping.proofs.Forms.{used_inside}
+use Rattle.mapping.proofs.Settling.{forest_mid, root_mid, whole_mid}
+use Rattle.mapping.proofs.Steps.{same_with, moves_freed}
+use Rattle.mapping.proofs.owning.copy_page.Goals as goal
+
+pub take_copy-requires-clause-source : goal.take_copy-requires-clause-source
+take_copy-requires-clause-source g c =
+    let old : Picture = picture_of c.args.core.now in
+    used_inside old.frames c.args.shown.0 c.args.core.now.sound
+    (shown_used old c.args.pid c.args.page c.args.shown.0 c.args.attr c.args.core.now.sound c.requires.linked c.requires.attr c.requires.resident c.requires.own c.requires.common)
+
+pub take_copy-requires-clause-in_use : goal.take_copy-requires-clause-in_use
+take_copy-requires-clause-in_use g c =
+    shown_used (picture_of c.args.core.now) c.args.pid c.args.page c.args.shown.0 c.args.attr c.args.core.now.sound c.requires.linked c.requires.attr c.requires.resident c.requires.own c.requires.common
+
+pub take_copy-requires-clause-datum : goal.take_copy-requires-clause-datum
+take_copy-requires-clause-datum g c =
+    shown_datum (picture_of c.args.core.now) c.args.pid c.args.page c.args.shown.0 c.args.attr c.args.core.now.sound c.requires.linked c.requires.attr c.requires.resident c.requires.own c.requires.common
+
+pub set_full-requires-clause-forest : goal.set_full-requires-clause-forest
+set_full-requires-clause-forest g c =
+    let old : Picture = picture_of c.args.core.now in
+    let mid : Picture = picture_of c.take_copy.new.core in
+    let copy = c.in_ok-own.ensures.taken in
+    let n = c.in_ok-own.own.0 in
+    let r = c.root_of-root.result.0 in
+    forest_mid copy.found mid c.args.pid c.args.page r n c.args.attr copy.fit copy.changes copy.role copy.count copy.noted (lives_found old c.args.pid c.args.page c.args.shown.0 c.args.attr c.args.core.now.sound c.requires.linked c.requires.attr c.requires.resident c.requires.own c.requires.common mid n r copy c.root_of-root.ensures) (whole_found old c.args.pid c.args.page c.args.shown.0 c.args.attr c.args.core.now.sound c.requires.linked c.requires.attr c.requires.resident c.requires.own c.requires.common mid n r copy c.root_of-root.ensures) (at_found old c.args.pid c.args.page c.args.shown.0 c.args.attr c.args.core.now.sound c.requires.linked c.requires.attr c.requires.resident c.requires.own c.requires.common mid n r copy c.root_of-root.ensures)
+
+pub set_full-requires-clause-root : goal.set_full-requires-clause-root
+set_full-requires-clause-root g c =
+    let old : Picture = picture_of c.args.core.now in
+    let mid : Picture = picture_of c.take_copy.new.core in
+    let copy = c.in_ok-own.ensures.taken in
+    let n = c.in_ok-own.own.0 in
+    let r = c.root_of-root.result.0 in
+    root_mid copy.found mid c.args.pid c.args.page r n c.args.attr copy.fit copy.changes copy.role copy.count copy.noted (lives_found old c.args.pid c.args.page c.args.shown.0 c.args.attr c.args.core.now.sound c.requires.linked c.requires.attr c.requires.resident c.requires.own c.requires.common mid n r copy c.root_of-root.ensures) (whole_found old c.args.pid c.args.page c.args.shown.0 c.args.attr c.args.core.now.sound c.requires.linked c.requires.attr c.requires.resident c.requires.own c.requires.common mid n r copy c.root_of-root.ensures) (at_found old c.args.pid c.args.page c.args.shown.0 c.args.attr c.args.core.now.sound c.requires.linked c.requires.attr c.requires.resident c.requires.own c.requires.common mid n r copy c.root_of-root.ensures)
+
+pub set_full-requires-clause-whole : goal.set_full-requires-clause-whole
+set_full-requires-clause-whole g c =
+    let old : Picture = picture_of c.args.core.now in
+    let mid : Picture = picture_of c.take_copy.new.core in
+    let copy = c.in_ok-own.ensures.taken in
+    let n = c.in_ok-own.own.0 in
+    let r = c.root_of-root.result.0 in
+    whole_mid copy.found mid c.args.pid c.args.page r n c.args.attr copy.fit copy.changes copy.role copy.count copy.noted (lives_found old c.args.pid c.args.page c.args.shown.0 c.args.attr c.args.core.now.sound c.requires.linked c.requires.attr c.requires.resident c.requires.own c.requires.common mid n r copy c.root_of-root.ensures) (whole_found old c.args.pid c.args.page c.args.shown.0 c.args.attr c.args.core.now.sound c.requires.linked c.requires.attr c.requires.resident c.requires.own c.requires.common mid n r copy c.root_of-root.ensures) (at_found old c.args.pid c.args.page c.args.shown.0 c.args.attr c.args.core.now.sound c.requires.linked c.requires.attr c.requires.resident c.requires.own c.requires.common mid n r copy c.root_of-root.ensures)
+
+pub set_full-requires-clause-inside : goal.set_full-requires-clause-inside
+set_full-requires-clause-inside g c = c.in_ok-own.ensures.taken.inside
+
+pub release-requires : goal.release-requires
+release-requires g c =
+    let old : Picture = picture_of c.args.core.now in
+    let mid : Picture = picture_of c.take_copy.new.core in
+    let set : Picture = picture_of c.set_full.new.core in
+    let sets = c.set_full.ensures.sets in
+    let beside = beside_around c.take_copy.new.core c.set_full.new.core c.set_full.ensures.rest in
+    let copy = c.in_ok-own.ensures.taken in
+    let n = c.in_ok-own.own.0 in
+    let r = c.root_of-root.result.0 in
+    let inside = past_end-same old copy.found c.args.attr.backing copy.frees.pages.files.files ∙ c.requires.inside in
+    let private = sym (ap is_private c.requires.was) ∙ sym c.is_private.ensures ∙ c.if-is_private.true in
+    let role = role_shared old c.args.pid c.args.page c.args.shown.0 c.args.attr c.args.core.now.sound c.requires.linked c.requires.attr c.requires.resident c.requires.own c.requires.common mid n r copy c.root_of-root.ensures set sets beside c.requires.not_shared inside private in
+    record {
+      inside = used_inside set.frames c.args.shown.0 c.set_full.new.core.sound (λ free. (let bad : Private ≡ Free = sym role ∙ free in (cc)));
+      handed_out = (let P : Role → Type 0 = λ x. IsTrue (is_handed_out x) in subst P (sym role) refl);
+    }
+
+pub returns-then-is_private-clause-moves : goal.returns-then-is_private-clause-moves
+returns-then-is_private-clause-moves g c =
+    let old : Picture = picture_of c.args.core.now in
+    let mid : Picture = picture_of c.take_copy.new.core in
+    let set : Picture = picture_of c.set_full.new.core in
+    let sets = c.set_full.ensures.sets in
+    let beside = beside_around c.take_copy.new.core c.set_full.new.core c.set_full.ensures.rest in
+    let copy = c.in_ok-own.ensures.taken in
+    let n = c.in_ok-own.own.0 in
+    let r = c.root_of-root.result.0 in
+    let inside = past_end-same old copy.found c.args.attr.backing copy.frees.pages.files.files ∙ c.requires.inside in
+    let private = sym (ap is_private c.requires.was) ∙ sym c.is_private.ensures ∙ c.if-is_private.true in
+    let new : Picture = record set { frames = c.release.new.self } in
+    let beside' : SameBeside set new = same_with set c.release.new.self in
+    let releases = c.release.ensures.change in
+    let done = c.in_ok-own.ensures in
+    record {
+      fit = fit_shared old c.args.pid c.args.page c.args.shown.0 c.args.attr c.args.core.now.sound c.requires.linked c.requires.attr c.requires.resident c.requires.own c.requires.common mid n r copy c.root_of-root.ensures set sets beside c.requires.not_shared inside private new releases beside';
+      swap = (let P : Swap _ → Type 0 = λ s. IsReady g.E.SectorDisk s in subst P (sym c.set_full.ensures.rest.swap) done.swap);
+      spaces = spaces_shared old c.args.pid c.args.page c.args.shown.0 c.args.attr c.args.core.now.sound c.requires.linked c.requires.attr c.requires.resident c.requires.own c.requires.common mid n r copy c.root_of-root.ensures set sets beside c.requires.not_shared inside private new releases beside';
+      tables = tables_shared old c.args.pid c.args.page c.args.shown.0 c.args.attr c.args.core.now.sound c.requires.linked c.requires.attr c.requires.resident c.requires.own c.requires.common mid n r copy c.root_of-root.ensures set sets beside c.requires.not_shared inside private new releases beside';
+      room = room_shared old c.args.pid c.args.page c.args.shown.0 c.args.attr c.args.core.now.sound c.requires.linked c.requires.attr c.requires.resident c.requires.own c.requires.common mid n r copy c.root_of-root.ensures set sets beside c.requires.not_shared inside private new releases beside';
+      store = c.set_full.ensures.rest.store ∙ done.rest.store;
+      device = (let P : Swap _ → Type 0 = λ s. UsesDevice g.E.SectorDisk c.args.core.now.swap.pages.disk s.pages.disk in subst P (sym c.set_full.ensures.rest.swap) done.device);
+    }
+
+pub returns-then-is_private-clause-own : goal.returns-then-is_private-clause-own
+returns-then-is_private-clause-own g c =
+    let old : Picture = picture_of c.args.core.now in
+    let mid : Picture = picture_of c.take_copy.new.core in
+    let set : Picture = picture_of c.set_full.new.core in
+    let sets = c.set_full.ensures.sets in
+    let beside = beside_around c.take_copy.new.core c.set_full.new.core c.set_full.ensures.rest in
+    let copy = c.in_ok-own.ensures.taken in
+    let n = c.in_ok-own.own.0 in
+    let r = c.root_of-root.result.0 in
+    let inside = past_end-same old copy.found c.args.attr.backing copy.frees.pages.files.files ∙ c.requires.inside in
+    let private = sym (ap is_private c.requires.was) ∙ sym c.is_private.ensures ∙ c.if-is_private.true in
+    let new : Picture = record set { frames = c.release.new.self } in
+    let beside' : SameBeside set new = same_with set c.release.new.self in
+    let releases = c.release.ensures.change in
+    own_shared old c.args.pid c.args.page c.args.shown.0 c.args.attr c.args.core.now.sound c.requires.linked c.requires.attr c.requires.resident c.requires.own c.requires.common mid n r copy c.root_of-root.ensures set sets beside c.requires.not_shared inside private new releases beside'
+
+pub returns-then-is_private-clause-bytes : goal.returns-then-is_private-clause-bytes
+returns-then-is_private-clause-bytes g c =
+    let old : Picture = picture_of c.args.core.now in
+    let mid : Picture = picture_of c.take_copy.new.core in
+    let set : Picture = picture_of c.set_full.new.core in
+    let sets = c.set_full.ensures.sets in
+    let beside = beside_around c.take_copy.new.core c.set_full.new.core c.set_full.ensures.rest in
+    let copy = c.in_ok-own.ensures.taken in
+    let n = c.in_ok-own.own.0 in
+    let r = c.root_of-root.result.0 in
+    let inside = past_end-same old copy.found c.args.attr.backing copy.frees.pages.files.files ∙ c.requires.inside in
+    let private = sym (ap is_private c.requires.was) ∙ sym c.is_private.ensures ∙ c.if-is_private.true in
+    let new : Picture = record set { frames = c.release.new.self } in
+    let beside' : SameBeside set new = same_with set c.release.new.self in
+    let releases = c.release.ensures.change in
+    bytes_shared old c.args.pid c.args.page c.args.shown.0 c.args.attr c.args.core.now.sound c.requires.linked c.requires.attr c.requires.resident c.requires.own c.requires.common mid n r copy c.root_of-root.ensures set sets beside c.requires.not_shared inside private new releases beside'
+
+pub returns-then-is_private-clause-entry : goal.returns-then-is_private-clause-entry
+returns-then-is_private-clause-entry g c =
+    let old : Picture = picture_of c.args.core.now in
+    let mid : Picture = picture_of c.take_copy.new.core in
+    let set : Picture = picture_of c.set_full.new.core in
+    let sets = c.set_full.ensures.sets in
+    let beside = beside_around c.take_copy.new.core c.set_full.new.core c.set_full.ensures.rest in
+    let copy = c.in_ok-own.ensures.taken in
+    let n = c.in_ok-own.own.0 in
+    let r = c.root_of-root.result.0 in
+    let inside = past_end-same old copy.found c.args.attr.backing copy.frees.pages.files.files ∙ c.requires.inside in
+    let private = sym (ap is_private c.requires.was) ∙ sym c.is_private.ensures ∙ c.if-is_private.true in
+    let new : Picture = record set { frames = c.release.new.self } in
+    let beside' : SameBeside set new = same_with set c.release.new.self in
+    let releases = c.release.ensures.change in
+    entry_shared old c.args.pid c.args.page c.args.shown.0 c.args.attr c.args.core.now.sound c.requires.linked c.requires.attr c.requires.resident c.requires.own c.requires.common mid n r copy c.root_of-root.ensures set sets beside c.requires.not_shared inside private new releases beside' c.requires.writable
+
+pub returns-then-is_private-clause-sole : goal.returns-then-is_private-clause-sole
+returns-then-is_private-clause-sole g c =
+    let old : Picture = picture_of c.args.core.now in
+    let mid : Picture = picture_of c.take_copy.new.core in
+    let set : Picture = picture_of c.set_full.new.core in
+    let sets = c.set_full.ensures.sets in
+    let beside = beside_around c.take_copy.new.core c.set_full.new.core c.set_full.ensures.rest in
+    let copy = c.in_ok-own.ensures.taken in
+    let n = c.in_ok-own.own.0 in
+    let r = c.root_of-root.result.0 in
+    let inside = past_end-same old copy.found c.args.attr.backing copy.frees.pages.files.files ∙ c.requires.inside in
+    let private = sym (ap is_private c.requires.was) ∙ sym c.is_private.ensures ∙ c.if-is_private.true in
+    let new : Picture = record set { frames = c.release.new.self } in
+    let beside' : SameBeside set new = same_with set c.release.new.self in
+    let releases = c.release.ensures.change in
+    count_shared old c.args.pid c.args.page c.args.shown.0 c.args.attr c.args.core.now.sound c.requires.linked c.requires.attr c.requires.resident c.requires.own c.requires.common mid n r copy c.root_of-root.ensures set sets beside c.requires.not_shared inside private new releases beside'
+
+pub returns-then-is_private-clause-others : goal.returns-then-is_private-clause-others
+returns-then-is_private-clause-others g c =
+    let old : Picture = picture_of c.args.core.now in
+    let mid : Picture = picture_of c.take_copy.new.core in
+    let set : Picture = picture_of c.set_full.new.core in
+    let sets = c.set_full.ensures.sets in
+    let beside = beside_around c.take_copy.new.core c.set_full.new.core c.set_full.ensures.rest in
+    let copy = c.in_ok-own.ensures.taken in
+    let n = c.in_ok-own.own.0 in
+    let r = c.root_of-root.result.0 in
+    let inside = past_end-same old copy.found c.args.attr.backing copy.frees.pages.files.files ∙ c.requires.inside in
+    let private = sym (ap is_private c.requires.was) ∙ sym c.is_private.ensures ∙ c.if-is_private.true in
+    let new : Picture = record set { frames = c.release.new.self } in
+    let beside' : SameBeside set new = same_with set c.release.new.self in
+    let releases = c.release.ensures.change in
+    others_shared old c.args.pid c.args.page c.args.shown.0 c.args.attr c.args.core.now.sound c.requires.linked c.requires.attr c.requires.resident c.requires.own c.requires.common mid n r copy c.root_of-root.ensures set sets beside c.requires.not_shared inside private new releases beside'
+
+pub returns-then-is_private-clause-files : goal.returns-then-is_private-clause-files
+returns-then-is_private-clause-files g c =
+    let old : Picture = picture_of c.args.core.now in
+    let mid : Picture = picture_of c.take_copy.new.core in
+    let set : Picture = picture_of c.set_full.new.core in
+    let sets = c.set_full.ensures.sets in
+    let beside = beside_around c.take_copy.new.core c.set_full.new.core c.set_full.ensures.rest in
+    let copy = c.in_ok-own.ensures.taken in
+    let n = c.in_ok-own.own.0 in
+    let r = c.root_of-root.result.0 in
+    let inside = past_end-same old copy.found c.args.attr.backing copy.frees.pages.files.files ∙ c.requires.inside in
+    let private = sym (ap is_private c.requires.was) ∙ sym c.is_private.ensures ∙ c.if-is_private.true in
+    let new : Picture = record set { frames = c.release.new.self } in
+    let beside' : SameBeside set new = same_with set c.release.new.self in
+    let releases = c.release.ensures.change in
+    files_shared old c.args.pid c.args.page c.args.shown.0 c.args.attr c.args.core.now.sound c.requires.linked c.requires.attr c.requires.resident c.requires.own c.requires.common mid n r copy c.root_of-root.ensures set sets beside c.requires.not_shared inside private new releases beside'
+
+pub returns-then-is_private-clause-behind : goal.returns-then-is_private-clause-behind
+returns-then-is_private-clause-behind g c =
+    let old : Picture = picture_of c.args.core.now in
+    let mid : Picture = picture_of c.take_copy.new.core in
+    let set : Picture = picture_of c.set_full.new.core in
+    let sets = c.set_full.ensures.sets in
+    let beside = beside_around c.take_copy.new.core c.set_full.new.core c.set_full.ensures.rest in
+    let copy = c.in_ok-own.ensures.taken in
+    let n = c.in_ok-own.own.0 in
+    let r = c.root_of-root.result.0 in
+    let inside = past_end-same old copy.found c.args.attr.backing copy.frees.pages.files.files ∙ c.requires.inside in
+    let private = sym (ap is_private c.requires.was) ∙ sym c.is_private.ensures ∙ c.if-is_private.true in
+    let new : Picture = record set { frames = c.release.new.self } in
+    let beside' : SameBeside set new = same_with set c.release.new.self in
+    let releases = c.release.ensures.change in
+    λ x not_own. absurd (false≢true (sym not_own ∙ private))
+
+pub returns-else-is_private-clause-moves : goal.returns-else-is_private-clause-moves
+returns-else-is_private-clause-moves g c =
+    let old : Picture = picture_of c.args.core.now in
+    let mid : Picture = picture_of c.take_copy.new.core in
+    let set : Picture = picture_of c.set_full.new.core in
+    let sets = c.set_full.ensures.sets in
+    let beside = beside_around c.take_copy.new.core c.set_full.new.core c.set_full.ensures.rest in
+    let copy = c.in_ok-own.ensures.taken in
+    let n = c.in_ok-own.own.0 in
+    let r = c.root_of-root.result.0 in
+    let inside = past_end-same old copy.found c.args.attr.backing copy.frees.pages.files.files ∙ c.requires.inside in
+    let common = sym (ap is_private c.requires.was) ∙ sym c.is_private.ensures ∙ c.if-is_private.false in
+    let done = c.in_ok-own.ensures in
+    record {
+      fit = fit_first old c.args.pid c.args.page c.args.shown.0 c.args.attr c.args.core.now.sound c.requires.linked c.requires.attr c.requires.resident c.requires.own c.requires.common mid n r copy c.root_of-root.ensures set sets beside c.requires.not_shared inside common;
+      swap = (let P : Swap _ → Type 0 = λ s. IsReady g.E.SectorDisk s in subst P (sym c.set_full.ensures.rest.swap) done.swap);
+      spaces = spaces_set old c.args.pid c.args.page c.args.shown.0 c.args.attr c.args.core.now.sound c.requires.linked c.requires.attr c.requires.resident c.requires.own c.requires.common mid n r copy c.root_of-root.ensures set sets beside c.requires.not_shared inside;
+      tables = tables_set old c.args.pid c.args.page c.args.shown.0 c.args.attr c.args.core.now.sound c.requires.linked c.requires.attr c.requires.resident c.requires.own c.requires.common mid n r copy c.root_of-root.ensures set sets beside c.requires.not_shared inside;
+      room = room_set old c.args.pid c.args.page c.args.shown.0 c.args.attr c.args.core.now.sound c.requires.linked c.requires.attr c.requires.resident c.requires.own c.requires.common mid n r copy c.root_of-root.ensures set sets beside c.requires.not_shared inside;
+      store = c.set_full.ensures.rest.store ∙ done.rest.store;
+      device = (let P : Swap _ → Type 0 = λ s. UsesDevice g.E.SectorDisk c.args.core.now.swap.pages.disk s.pages.disk in subst P (sym c.set_full.ensures.rest.swap) done.device);
+    }
+
+pub returns-else-is_private-clause-own : goal.returns-else-is_private-clause-own
+returns-else-is_private-clause-own g c =
+    let old : Picture = picture_of c.args.core.now in
+    let mid : Picture = picture_of c.take_copy.new.core in
+    let set : Picture = picture_of c.set_full.new.core in
+    let sets = c.set_full.ensures.sets in
+    let beside = beside_around c.take_copy.new.core c.set_full.new.core c.set_full.ensures.rest in
+    let copy = c.in_ok-own.ensures.taken in
+    let n = c.in_ok-own.own.0 in
+    let r = c.root_of-root.result.0 in
+    let inside = past_end-same old copy.found c.args.attr.backing copy.frees.pages.files.files ∙ c.requires.inside in
+    let common = sym (ap is_private c.requires.was) ∙ sym c.is_private.ensures ∙ c.if-is_private.false in
+    own_set old c.args.pid c.args.page c.args.shown.0 c.args.attr c.args.core.now.sound c.requires.linked c.requires.attr c.requires.resident c.requires.own c.requires.common mid n r copy c.root_of-root.ensures set sets beside c.requires.not_shared inside
+
+pub returns-else-is_private-clause-bytes : goal.returns-else-is_private-clause-bytes
+returns-else-is_private-clause-bytes g c =
+    let old : Picture = picture_of c.args.core.now in
+    let mid : Picture = picture_of c.take_copy.new.core in
+    let set : Picture = picture_of c.set_full.new.core in
+    let sets = c.set_full.ensures.sets in
+    let beside = beside_around c.take_copy.new.core c.set_full.new.core c.set_full.ensures.rest in
+    let copy = c.in_ok-own.ensures.taken in
+    let n = c.in_ok-own.own.0 in
+    let r = c.root_of-root.result.0 in
+    let inside = past_end-same old copy.found c.args.attr.backing copy.frees.pages.files.files ∙ c.requires.inside in
+    let common = sym (ap is_private c.requires.was) ∙ sym c.is_private.ensures ∙ c.if-is_private.false in
+    bytes_set old c.args.pid c.args.page c.args.shown.0 c.args.attr c.args.core.now.sound c.requires.linked c.requires.attr c.requires.resident c.requires.own c.requires.common mid n r copy c.root_of-root.ensures set sets beside c.requires.not_shared inside
+
+pub returns-else-is_private-clause-entry : goal.returns-else-is_private-clause-entry
+returns-else-is_private-clause-entry g c =
+    let old : Picture = picture_of c.args.core.now in
+    let mid : Picture = picture_of c.take_copy.new.core in
+    let set : Picture = picture_of c.set_full.new.core in
+    let sets = c.set_full.ensures.sets in
+    let beside = beside_around c.take_copy.new.core c.set_full.new.core c.set_full.ensures.rest in
+    let copy = c.in_ok-own.ensures.taken in
+    let n = c.in_ok-own.own.0 in
+    let r = c.root_of-root.result.0 in
+    let inside = past_end-same old copy.found c.args.attr.backing copy.frees.pages.files.files ∙ c.requires.inside in
+    let common = sym (ap is_private c.requires.was) ∙ sym c.is_private.ensures ∙ c.if-is_private.false in
+    entry_set old c.args.pid c.args.page c.args.shown.0 c.args.attr c.args.core.now.sound c.requires.linked c.requires.attr c.requires.resident c.requires.own c.requires.common mid n r copy c.root_of-root.ensures set sets beside c.requires.not_shared inside c.requires.writable
+
+pub returns-else-is_private-clause-sole : goal.returns-else-is_private-clause-sole
+returns-else-is_private-clause-sole g c =
+    let old : Picture = picture_of c.args.core.now in
+    let mid : Picture = picture_of c.take_copy.new.core in
+    let set : Picture = picture_of c.set_full.new.core in
+    let sets = c.set_full.ensures.sets in
+    let beside = beside_around c.take_copy.new.core c.set_full.new.core c.set_full.ensures.rest in
+    let copy = c.in_ok-own.ensures.taken in
+    let n = c.in_ok-own.own.0 in
+    let r = c.root_of-root.result.0 in
+    let inside = past_end-same old copy.found c.args.attr.backing copy.frees.pages.files.files ∙ c.requires.inside in
+    let common = sym (ap is_private c.requires.was) ∙ sym c.is_private.ensures ∙ c.if-is_private.false in
+    count_set old c.args.pid c.args.page c.args.shown.0 c.args.attr c.args.core.now.sound c.requires.linked c.requires.attr c.requires.resident c.requires.own c.requires.common mid n r copy c.root_of-root.ensures set sets beside c.requires.not_shared inside
+
+pub returns-else-is_private-clause-others : goal.returns-else-is_private-clause-others
+returns-else-is_private-clause-others g c =
+    let old : Picture = picture_of c.args.core.now in
+    let mid : Picture = picture_of c.take_copy.new.core in
+    let set : Picture = picture_of c.set_full.new.core in
+    let sets = c.set_full.ensures.sets in
+    let beside = beside_around c.take_copy.new.core c.set_full.new.core c.set_full.ensures.rest in
+    let copy = c.in_ok-own.ensures.taken in
+    let n = c.in_ok-own.own.0 in
+    let r = c.root_of-root.result.0 in
+    let inside = past_end-same old copy.found c.args.attr.backing copy.frees.pages.files.files ∙ c.requires.inside in
+    let common = sym (ap is_private c.requires.was) ∙ sym c.is_private.ensures ∙ c.if-is_private.false in
+    others_set old c.args.pid c.args.page c.args.shown.0 c.args.attr c.args.core.now.sound c.requires.linked c.requires.attr c.requires.resident c.requires.own c.requires.common mid n r copy c.root_of-root.ensures set sets beside c.requires.not_shared inside
+
+pub returns-else-is_private-clause-files : goal.returns-else-is_private-clause-files
+returns-else-is_private-clause-files g c =
+    let old : Picture = picture_of c.args.core.now in
+    let mid : Picture = picture_of c.take_copy.new.core in
+    let set : Picture = picture_of c.set_full.new.core in
+    let sets = c.set_full.ensures.sets in
+    let beside = beside_around c.take_copy.new.core c.set_full.new.core c.set_full.ensures.rest in
+    let copy = c.in_ok-own.ensures.taken in
+    let n = c.in_ok-own.own.0 in
+    let r = c.root_of-root.result.0 in
+    let inside = past_end-same old copy.found c.args.attr.backing copy.frees.pages.files.files ∙ c.requires.inside in
+    let common = sym (ap is_private c.requires.was) ∙ sym c.is_private.ensures ∙ c.if-is_private.false in
+    files_set old c.args.pid c.args.page c.args.shown.0 c.args.attr c.args.core.now.sound c.requires.linked c.requires.attr c.requires.resident c.requires.own c.requires.common mid n r copy c.root_of-root.ensures set sets beside c.requires.not_shared inside
+
+pub returns-else-is_private-clause-behind : goal.returns-else-is_private-clause-behind
+returns-else-is_private-clause-behind g c =
+    let old : Picture = picture_of c.args.core.now in
+    let mid : Picture = picture_of c.take_copy.new.core in
+    let set : Picture = picture_of c.set_full.new.core in
+    let sets = c.set_full.ensures.sets in
+    let beside = beside_around c.take_copy.new.core c.set_full.new.core c.set_full.ensures.rest in
+    let copy = c.in_ok-own.ensures.taken in
+    let n = c.in_ok-own.own.0 in
+    let r = c.root_of-root.result.0 in
+    let inside = past_end-same old copy.found c.args.attr.backing copy.frees.pages.files.files ∙ c.requires.inside in
+    let common = sym (ap is_private c.requires.was) ∙ sym c.is_private.ensures ∙ c.if-is_private.false in
+    λ x not_own behind. behind_first old c.args.pid c.args.page c.args.shown.0 c.args.attr c.args.core.now.sound c.requires.linked c.requires.attr c.requires.resident c.requires.own c.requires.common mid n r copy c.root_of-root.ensures set sets beside c.requires.not_shared inside not_own x behind
+
+pub returns-in_err-own-clause-moves : goal.returns-in_err-own-clause-moves
+returns-in_err-own-clause-moves g c =
+    let done = c.in_err-own.ensures in
+    moves_freed g.E.SectorDisk c.args.core.now c.take_copy.new.core _ done.fit done.swap done.frees done.rest done.device

@@ -1,0 +1,352 @@
+use Rattle.std.proofs.Common.{◌≡◌, ◌≢◌, ℕ, ◌+◌, ◌*◌, ◌<◌, ◌^◌, inl, inr, Some, true, false, get_or, refl, sym, ap, ◌∙◌, subst, arith}
+use Rattle.std.proofs.lemmas.Bool.{false≢true}
+use Rattle.frames.specs.declared.role.Role.TheVariants.{Free, Table, Private}
+use Rattle.frames.specs.FrameTable.{IsFrame, role_of, with_bytes}
+use Rattle.swap.specs.Slots.{SlotTable, IsInUse, slots_of}
+use Rattle.page_tables.specs.declared.forms.Entry.{Entry}
+use Rattle.page_tables.specs.Entry.{number_of, IsEntry}
+use Rattle.paging.specs.Picture.{Picture, picture_of, entry, is_swapped}
+use Rattle.paging.specs.Steps.{ChangesFrame}
+use Rattle.paging.proofs.Entries.{entry-of}
+use Rattle.paging.proofs.Taking.{changes_taken, trees_changed}
+use Rattle.mapping.specs.Leaves.{IsFullEntry}
+use Rattle.mapping.proofs.Entering.{beside_around}
+use Rattle.mapping.proofs.Forms.{mapped_page}
+use Rattle.mapping.proofs.SwapSteps.{swapped_form, entry_taken, changes_written, changes_spent, full_count, ready_released}
+use Rattle.paging.specs.Calls.{UsesDevice}
+use Rattle.paging.specs.Capacity.{IsShort}
+use Rattle.swap.specs.declared.slots.Swap.{Swap}
+use Rattle.swap.specs.declared.pages.Pages.{Pages}
+use Rattle.frames.proofs.FrameLemmas.{with_bytes-same}
+use Rattle.paging.proofs.Taking.{fit_spent}
+use Rattle.paging.proofs.Returning.{frees_spent}
+use Rattle.paging.proofs.Sparing.{frees_then}
+use Rattle.mapping.proofs.SwappedIn.{lives_of, whole_of, at_of, slot_set, slot_used, fit_in, spaces_in, tables_in, room_in, others_in, files_in, seen_in, entry_in}
+use Rattle.mapping.proofs.Settling.{forest_mid, root_mid, whole_mid}
+use Rattle.mapping.proofs.Steps.{moves_freed, device_then}
+use Rattle.mapping.proofs.swapping.swap_in.Goals as goal
+
+pub unreachable-requires : goal.unreachable-requires
+unreachable-requires g c =
+    let old : Picture = picture_of c.args.core.now in
+    let taken : Picture = picture_of c.take_own.new.self in
+    let took = c.in_ok-frame.ensures.taken in
+    let here = mapped_page old c.args.pid c.args.page c.args.attr c.requires.linked.fit.granting c.requires.attr in
+    let same_entry : entry taken c.args.pid c.args.page ≡ entry old c.args.pid c.args.page = entry_taken old taken c.args.pid c.args.page c.in_ok-frame.frame.0 took here c.requires.away in
+    let is = c.entry.ensures.entry ∙ sym (entry-of taken c.args.pid c.root_of-root.result.0 c.args.page c.root_of-root.ensures) ∙ same_entry in
+    let form = swapped_form c.entry.result c.entry.ensures.form (ap is_swapped is ∙ c.requires.away) in
+    c.in_default.not-Swapped form.0 form.1
+
+pub get-requires-clause-in_use : goal.get-requires-clause-in_use
+get-requires-clause-in_use g c =
+    let old : Picture = picture_of c.args.core.now in
+    let taken : Picture = picture_of c.take_own.new.self in
+    let took = c.in_ok-frame.ensures.taken in
+    let n = c.in_ok-frame.frame.0 in
+    let k = c.in-Swapped.slot.0 in
+    let r = c.root_of-root.result.0 in
+    let lives : old.root c.args.pid ≡ Some r = sym (took.own.root c.args.pid ∙ took.frees.pages.root c.args.pid) ∙ c.root_of-root.ensures in
+    let here = mapped_page old c.args.pid c.args.page c.args.attr c.requires.linked.fit.granting c.requires.attr in
+    let same_entry : entry taken c.args.pid c.args.page ≡ entry old c.args.pid c.args.page = entry_taken old taken c.args.pid c.args.page n took here c.requires.away in
+    let number : entry old c.args.pid c.args.page ≡ k * 1024 + 2 =
+    sym same_entry ∙ entry-of taken c.args.pid r c.args.page c.root_of-root.ensures ∙ sym c.entry.ensures.entry ∙ ap number_of c.in-Swapped.is in
+    let low : k < 2 ^ 32 = (let P : Entry → Type 0 = λ e. IsEntry e in subst P c.in-Swapped.is c.entry.ensures.form) in
+    let P : SlotTable → Type 0 = λ x. IsInUse x k in
+    subst P (sym took.own.slots) (slot_used old taken c.args.pid c.args.page n k r c.args.attr took c.requires.linked lives c.requires.attr c.requires.away number low taken (changes_taken took.found taken n c.args.page took.own) took.own.takes.kind_set took.own.takes.counted took.own.noted)
+
+pub returns-in-Ok-clause-moves : goal.returns-in-Ok-clause-moves
+returns-in-Ok-clause-moves g c =
+    let old : Picture = picture_of c.args.core.now in
+    let taken : Picture = picture_of c.take_own.new.self in
+    let took = c.in_ok-frame.ensures.taken in
+    let n = c.in_ok-frame.frame.0 in
+    let k = c.in-Swapped.slot.0 in
+    let r = c.root_of-root.result.0 in
+    let lives : old.root c.args.pid ≡ Some r = sym (took.own.root c.args.pid ∙ took.frees.pages.root c.args.pid) ∙ c.root_of-root.ensures in
+    let here = mapped_page old c.args.pid c.args.page c.args.attr c.requires.linked.fit.granting c.requires.attr in
+    let same_entry : entry taken c.args.pid c.args.page ≡ entry old c.args.pid c.args.page = entry_taken old taken c.args.pid c.args.page n took here c.requires.away in
+    let number : entry old c.args.pid c.args.page ≡ k * 1024 + 2 =
+    sym same_entry ∙ entry-of taken c.args.pid r c.args.page c.root_of-root.ensures ∙ sym c.entry.ensures.entry ∙ ap number_of c.in-Swapped.is in
+    let low : k < 2 ^ 32 = (let P : Entry → Type 0 = λ e. IsEntry e in subst P c.in-Swapped.is c.entry.ensures.form) in
+    let written : Picture = record taken { slots = slots_of c.get.new.self; frames = with_bytes c.take_own.new.self.frames n c.get.new.to } in
+    let changes : ChangesFrame took.found written n = changes_written took.found taken n c.args.page took.own (slots_of c.get.new.self) c.get.ensures.same c.get.new.to in
+    let set : Picture = picture_of c.set_full.new.core in
+    let sets = c.set_full.ensures.sets in
+    let beside = beside_around _ c.set_full.new.core c.set_full.ensures.rest in
+    let t = slots_of c.release.new.self in
+    let done = c.in_ok-frame.ensures in
+    record {
+      fit = fit_in old taken c.args.pid c.args.page n k r c.args.attr took c.requires.linked lives c.requires.attr c.requires.away number low written changes took.own.takes.kind_set took.own.takes.counted took.own.noted set sets beside t c.release.ensures.releases;
+      swap = ready_released g.E.SectorDisk c.get.new.self c.set_full.new.core.swap c.release.new.self c.set_full.ensures.rest.swap c.release.ensures.pages c.release.ensures.releases.others.total c.get.ensures.ready;
+      spaces = spaces_in old taken c.args.pid c.args.page n k r c.args.attr took c.requires.linked lives c.requires.attr c.requires.away number low written changes took.own.takes.kind_set took.own.takes.counted took.own.noted set sets beside t c.release.ensures.releases;
+      tables = tables_in old taken c.args.pid c.args.page n k r c.args.attr took c.requires.linked lives c.requires.attr c.requires.away number low written changes took.own.takes.kind_set took.own.takes.counted took.own.noted set sets beside t c.release.ensures.releases;
+      room = room_in old taken c.args.pid c.args.page n k r c.args.attr took c.requires.linked lives c.requires.attr c.requires.away number low written changes took.own.takes.kind_set took.own.takes.counted took.own.noted set sets beside t c.release.ensures.releases;
+      store = c.set_full.ensures.rest.store ∙ done.rest.store;
+      device = (let P : Swap _ → Type 0 = λ x. UsesDevice g.E.SectorDisk c.args.core.now.swap.pages.disk x.pages.disk in let Q : Pages _ → Type 0 = λ x. UsesDevice g.E.SectorDisk c.args.core.now.swap.pages.disk x.disk in
+          subst Q (sym c.release.ensures.pages) (subst P (sym c.set_full.ensures.rest.swap)
+          (device_then g.E.SectorDisk c.args.core.now.swap.pages.disk c.take_own.new.self.swap.pages.disk c.get.new.self.pages.disk done.device
+          (record { size = c.get.ensures.size; kept = c.get.ensures.kept; later = c.get.ensures.cause.later }))));
+    }
+
+pub returns-in-Ok-clause-others : goal.returns-in-Ok-clause-others
+returns-in-Ok-clause-others g c =
+    let old : Picture = picture_of c.args.core.now in
+    let taken : Picture = picture_of c.take_own.new.self in
+    let took = c.in_ok-frame.ensures.taken in
+    let n = c.in_ok-frame.frame.0 in
+    let k = c.in-Swapped.slot.0 in
+    let r = c.root_of-root.result.0 in
+    let lives : old.root c.args.pid ≡ Some r = sym (took.own.root c.args.pid ∙ took.frees.pages.root c.args.pid) ∙ c.root_of-root.ensures in
+    let here = mapped_page old c.args.pid c.args.page c.args.attr c.requires.linked.fit.granting c.requires.attr in
+    let same_entry : entry taken c.args.pid c.args.page ≡ entry old c.args.pid c.args.page = entry_taken old taken c.args.pid c.args.page n took here c.requires.away in
+    let number : entry old c.args.pid c.args.page ≡ k * 1024 + 2 =
+    sym same_entry ∙ entry-of taken c.args.pid r c.args.page c.root_of-root.ensures ∙ sym c.entry.ensures.entry ∙ ap number_of c.in-Swapped.is in
+    let low : k < 2 ^ 32 = (let P : Entry → Type 0 = λ e. IsEntry e in subst P c.in-Swapped.is c.entry.ensures.form) in
+    let written : Picture = record taken { slots = slots_of c.get.new.self; frames = with_bytes c.take_own.new.self.frames n c.get.new.to } in
+    let changes : ChangesFrame took.found written n = changes_written took.found taken n c.args.page took.own (slots_of c.get.new.self) c.get.ensures.same c.get.new.to in
+    let set : Picture = picture_of c.set_full.new.core in
+    let sets = c.set_full.ensures.sets in
+    let beside = beside_around _ c.set_full.new.core c.set_full.ensures.rest in
+    let t = slots_of c.release.new.self in
+    others_in old taken c.args.pid c.args.page n k r c.args.attr took c.requires.linked lives c.requires.attr c.requires.away number low written changes took.own.takes.kind_set took.own.takes.counted took.own.noted set sets beside t c.release.ensures.releases
+
+pub returns-in-Ok-clause-files : goal.returns-in-Ok-clause-files
+returns-in-Ok-clause-files g c =
+    let old : Picture = picture_of c.args.core.now in
+    let taken : Picture = picture_of c.take_own.new.self in
+    let took = c.in_ok-frame.ensures.taken in
+    let n = c.in_ok-frame.frame.0 in
+    let k = c.in-Swapped.slot.0 in
+    let r = c.root_of-root.result.0 in
+    let lives : old.root c.args.pid ≡ Some r = sym (took.own.root c.args.pid ∙ took.frees.pages.root c.args.pid) ∙ c.root_of-root.ensures in
+    let here = mapped_page old c.args.pid c.args.page c.args.attr c.requires.linked.fit.granting c.requires.attr in
+    let same_entry : entry taken c.args.pid c.args.page ≡ entry old c.args.pid c.args.page = entry_taken old taken c.args.pid c.args.page n took here c.requires.away in
+    let number : entry old c.args.pid c.args.page ≡ k * 1024 + 2 =
+    sym same_entry ∙ entry-of taken c.args.pid r c.args.page c.root_of-root.ensures ∙ sym c.entry.ensures.entry ∙ ap number_of c.in-Swapped.is in
+    let low : k < 2 ^ 32 = (let P : Entry → Type 0 = λ e. IsEntry e in subst P c.in-Swapped.is c.entry.ensures.form) in
+    let written : Picture = record taken { slots = slots_of c.get.new.self; frames = with_bytes c.take_own.new.self.frames n c.get.new.to } in
+    let changes : ChangesFrame took.found written n = changes_written took.found taken n c.args.page took.own (slots_of c.get.new.self) c.get.ensures.same c.get.new.to in
+    let set : Picture = picture_of c.set_full.new.core in
+    let sets = c.set_full.ensures.sets in
+    let beside = beside_around _ c.set_full.new.core c.set_full.ensures.rest in
+    let t = slots_of c.release.new.self in
+    files_in old taken c.args.pid c.args.page n k r c.args.attr took c.requires.linked lives c.requires.attr c.requires.away number low written changes took.own.takes.kind_set took.own.takes.counted took.own.noted set sets beside t c.release.ensures.releases
+
+pub set_full-requires-clause-forest : goal.set_full-requires-clause-forest
+set_full-requires-clause-forest g c =
+    let old : Picture = picture_of c.args.core.now in
+    let taken : Picture = picture_of c.take_own.new.self in
+    let took = c.in_ok-frame.ensures.taken in
+    let n = c.in_ok-frame.frame.0 in
+    let k = c.in-Swapped.slot.0 in
+    let r = c.root_of-root.result.0 in
+    let lives : old.root c.args.pid ≡ Some r = sym (took.own.root c.args.pid ∙ took.frees.pages.root c.args.pid) ∙ c.root_of-root.ensures in
+    let here = mapped_page old c.args.pid c.args.page c.args.attr c.requires.linked.fit.granting c.requires.attr in
+    let same_entry : entry taken c.args.pid c.args.page ≡ entry old c.args.pid c.args.page = entry_taken old taken c.args.pid c.args.page n took here c.requires.away in
+    let number : entry old c.args.pid c.args.page ≡ k * 1024 + 2 =
+    sym same_entry ∙ entry-of taken c.args.pid r c.args.page c.root_of-root.ensures ∙ sym c.entry.ensures.entry ∙ ap number_of c.in-Swapped.is in
+    let low : k < 2 ^ 32 = (let P : Entry → Type 0 = λ e. IsEntry e in subst P c.in-Swapped.is c.entry.ensures.form) in
+    let written : Picture = record taken { slots = slots_of c.get.new.self; frames = with_bytes c.take_own.new.self.frames n c.get.new.to } in
+    let changes : ChangesFrame took.found written n = changes_written took.found taken n c.args.page took.own (slots_of c.get.new.self) c.get.ensures.same c.get.new.to in
+    forest_mid took.found written c.args.pid c.args.page r n c.args.attr took.fit changes took.own.takes.kind_set took.own.takes.counted took.own.noted (lives_of old taken c.args.pid c.args.page n k r c.args.attr took c.requires.linked lives c.requires.attr c.requires.away number low written changes took.own.takes.kind_set took.own.takes.counted took.own.noted) (whole_of old taken c.args.pid c.args.page n k r c.args.attr took c.requires.linked lives c.requires.attr c.requires.away number low written changes took.own.takes.kind_set took.own.takes.counted took.own.noted) (at_of old taken c.args.pid c.args.page n k r c.args.attr took c.requires.linked lives c.requires.attr c.requires.away number low written changes took.own.takes.kind_set took.own.takes.counted took.own.noted)
+
+pub set_full-requires-clause-root : goal.set_full-requires-clause-root
+set_full-requires-clause-root g c =
+    let old : Picture = picture_of c.args.core.now in
+    let taken : Picture = picture_of c.take_own.new.self in
+    let took = c.in_ok-frame.ensures.taken in
+    let n = c.in_ok-frame.frame.0 in
+    let k = c.in-Swapped.slot.0 in
+    let r = c.root_of-root.result.0 in
+    let lives : old.root c.args.pid ≡ Some r = sym (took.own.root c.args.pid ∙ took.frees.pages.root c.args.pid) ∙ c.root_of-root.ensures in
+    let here = mapped_page old c.args.pid c.args.page c.args.attr c.requires.linked.fit.granting c.requires.attr in
+    let same_entry : entry taken c.args.pid c.args.page ≡ entry old c.args.pid c.args.page = entry_taken old taken c.args.pid c.args.page n took here c.requires.away in
+    let number : entry old c.args.pid c.args.page ≡ k * 1024 + 2 =
+    sym same_entry ∙ entry-of taken c.args.pid r c.args.page c.root_of-root.ensures ∙ sym c.entry.ensures.entry ∙ ap number_of c.in-Swapped.is in
+    let low : k < 2 ^ 32 = (let P : Entry → Type 0 = λ e. IsEntry e in subst P c.in-Swapped.is c.entry.ensures.form) in
+    let written : Picture = record taken { slots = slots_of c.get.new.self; frames = with_bytes c.take_own.new.self.frames n c.get.new.to } in
+    let changes : ChangesFrame took.found written n = changes_written took.found taken n c.args.page took.own (slots_of c.get.new.self) c.get.ensures.same c.get.new.to in
+    root_mid took.found written c.args.pid c.args.page r n c.args.attr took.fit changes took.own.takes.kind_set took.own.takes.counted took.own.noted (lives_of old taken c.args.pid c.args.page n k r c.args.attr took c.requires.linked lives c.requires.attr c.requires.away number low written changes took.own.takes.kind_set took.own.takes.counted took.own.noted) (whole_of old taken c.args.pid c.args.page n k r c.args.attr took c.requires.linked lives c.requires.attr c.requires.away number low written changes took.own.takes.kind_set took.own.takes.counted took.own.noted) (at_of old taken c.args.pid c.args.page n k r c.args.attr took c.requires.linked lives c.requires.attr c.requires.away number low written changes took.own.takes.kind_set took.own.takes.counted took.own.noted)
+
+pub set_full-requires-clause-whole : goal.set_full-requires-clause-whole
+set_full-requires-clause-whole g c =
+    let old : Picture = picture_of c.args.core.now in
+    let taken : Picture = picture_of c.take_own.new.self in
+    let took = c.in_ok-frame.ensures.taken in
+    let n = c.in_ok-frame.frame.0 in
+    let k = c.in-Swapped.slot.0 in
+    let r = c.root_of-root.result.0 in
+    let lives : old.root c.args.pid ≡ Some r = sym (took.own.root c.args.pid ∙ took.frees.pages.root c.args.pid) ∙ c.root_of-root.ensures in
+    let here = mapped_page old c.args.pid c.args.page c.args.attr c.requires.linked.fit.granting c.requires.attr in
+    let same_entry : entry taken c.args.pid c.args.page ≡ entry old c.args.pid c.args.page = entry_taken old taken c.args.pid c.args.page n took here c.requires.away in
+    let number : entry old c.args.pid c.args.page ≡ k * 1024 + 2 =
+    sym same_entry ∙ entry-of taken c.args.pid r c.args.page c.root_of-root.ensures ∙ sym c.entry.ensures.entry ∙ ap number_of c.in-Swapped.is in
+    let low : k < 2 ^ 32 = (let P : Entry → Type 0 = λ e. IsEntry e in subst P c.in-Swapped.is c.entry.ensures.form) in
+    let written : Picture = record taken { slots = slots_of c.get.new.self; frames = with_bytes c.take_own.new.self.frames n c.get.new.to } in
+    let changes : ChangesFrame took.found written n = changes_written took.found taken n c.args.page took.own (slots_of c.get.new.self) c.get.ensures.same c.get.new.to in
+    whole_mid took.found written c.args.pid c.args.page r n c.args.attr took.fit changes took.own.takes.kind_set took.own.takes.counted took.own.noted (lives_of old taken c.args.pid c.args.page n k r c.args.attr took c.requires.linked lives c.requires.attr c.requires.away number low written changes took.own.takes.kind_set took.own.takes.counted took.own.noted) (whole_of old taken c.args.pid c.args.page n k r c.args.attr took c.requires.linked lives c.requires.attr c.requires.away number low written changes took.own.takes.kind_set took.own.takes.counted took.own.noted) (at_of old taken c.args.pid c.args.page n k r c.args.attr took c.requires.linked lives c.requires.attr c.requires.away number low written changes took.own.takes.kind_set took.own.takes.counted took.own.noted)
+
+pub release-requires : goal.release-requires
+release-requires g c =
+    let old : Picture = picture_of c.args.core.now in
+    let taken : Picture = picture_of c.take_own.new.self in
+    let took = c.in_ok-frame.ensures.taken in
+    let n = c.in_ok-frame.frame.0 in
+    let k = c.in-Swapped.slot.0 in
+    let r = c.root_of-root.result.0 in
+    let lives : old.root c.args.pid ≡ Some r = sym (took.own.root c.args.pid ∙ took.frees.pages.root c.args.pid) ∙ c.root_of-root.ensures in
+    let here = mapped_page old c.args.pid c.args.page c.args.attr c.requires.linked.fit.granting c.requires.attr in
+    let same_entry : entry taken c.args.pid c.args.page ≡ entry old c.args.pid c.args.page = entry_taken old taken c.args.pid c.args.page n took here c.requires.away in
+    let number : entry old c.args.pid c.args.page ≡ k * 1024 + 2 =
+    sym same_entry ∙ entry-of taken c.args.pid r c.args.page c.root_of-root.ensures ∙ sym c.entry.ensures.entry ∙ ap number_of c.in-Swapped.is in
+    let low : k < 2 ^ 32 = (let P : Entry → Type 0 = λ e. IsEntry e in subst P c.in-Swapped.is c.entry.ensures.form) in
+    let written : Picture = record taken { slots = slots_of c.get.new.self; frames = with_bytes c.take_own.new.self.frames n c.get.new.to } in
+    let changes : ChangesFrame took.found written n = changes_written took.found taken n c.args.page took.own (slots_of c.get.new.self) c.get.ensures.same c.get.new.to in
+    slot_set old taken c.args.pid c.args.page n k r c.args.attr took c.requires.linked lives c.requires.attr c.requires.away number low written changes took.own.takes.kind_set took.own.takes.counted took.own.noted (picture_of c.set_full.new.core) c.set_full.ensures.sets (beside_around _ c.set_full.new.core c.set_full.ensures.rest)
+
+pub returns-in-Ok-clause-entry : goal.returns-in-Ok-clause-entry
+unfolding entry
+returns-in-Ok-clause-entry g c =
+    let old : Picture = picture_of c.args.core.now in
+    let taken : Picture = picture_of c.take_own.new.self in
+    let took = c.in_ok-frame.ensures.taken in
+    let n = c.in_ok-frame.frame.0 in
+    let k = c.in-Swapped.slot.0 in
+    let r = c.root_of-root.result.0 in
+    let lives : old.root c.args.pid ≡ Some r = sym (took.own.root c.args.pid ∙ took.frees.pages.root c.args.pid) ∙ c.root_of-root.ensures in
+    let here = mapped_page old c.args.pid c.args.page c.args.attr c.requires.linked.fit.granting c.requires.attr in
+    let same_entry : entry taken c.args.pid c.args.page ≡ entry old c.args.pid c.args.page = entry_taken old taken c.args.pid c.args.page n took here c.requires.away in
+    let number : entry old c.args.pid c.args.page ≡ k * 1024 + 2 =
+    sym same_entry ∙ entry-of taken c.args.pid r c.args.page c.root_of-root.ensures ∙ sym c.entry.ensures.entry ∙ ap number_of c.in-Swapped.is in
+    let low : k < 2 ^ 32 = (let P : Entry → Type 0 = λ e. IsEntry e in subst P c.in-Swapped.is c.entry.ensures.form) in
+    let written : Picture = record taken { slots = slots_of c.get.new.self; frames = with_bytes c.take_own.new.self.frames n c.get.new.to } in
+    let changes : ChangesFrame took.found written n = changes_written took.found taken n c.args.page took.own (slots_of c.get.new.self) c.get.ensures.same c.get.new.to in
+    let set : Picture = picture_of c.set_full.new.core in
+    let sets = c.set_full.ensures.sets in
+    let beside = beside_around _ c.set_full.new.core c.set_full.ensures.rest in
+    let t = slots_of c.release.new.self in
+    full_count written (record set { slots = t }) c.args.attr n (entry set c.args.pid c.args.page) (ap (λ cs. get_or cs n 0) sets.2.kept.counts)
+    (entry_in old taken c.args.pid c.args.page n k r c.args.attr took c.requires.linked lives c.requires.attr c.requires.away number low written changes took.own.takes.kind_set took.own.takes.counted took.own.noted set sets beside t c.release.ensures.releases)
+
+pub returns-in-Ok-clause-sole : goal.returns-in-Ok-clause-sole
+returns-in-Ok-clause-sole g c =
+    ap (λ cs. get_or cs c.in_ok-frame.frame.0 0) c.set_full.ensures.sets.2.kept.counts ∙ c.in_ok-frame.ensures.taken.own.takes.counted
+
+pub returns-in-Ok-clause-seen : goal.returns-in-Ok-clause-seen
+returns-in-Ok-clause-seen g c = λ model.
+    let old : Picture = picture_of c.args.core.now in
+    let taken : Picture = picture_of c.take_own.new.self in
+    let took = c.in_ok-frame.ensures.taken in
+    let n = c.in_ok-frame.frame.0 in
+    let k = c.in-Swapped.slot.0 in
+    let r = c.root_of-root.result.0 in
+    let lives : old.root c.args.pid ≡ Some r = sym (took.own.root c.args.pid ∙ took.frees.pages.root c.args.pid) ∙ c.root_of-root.ensures in
+    let here = mapped_page old c.args.pid c.args.page c.args.attr c.requires.linked.fit.granting c.requires.attr in
+    let same_entry : entry taken c.args.pid c.args.page ≡ entry old c.args.pid c.args.page = entry_taken old taken c.args.pid c.args.page n took here c.requires.away in
+    let number : entry old c.args.pid c.args.page ≡ k * 1024 + 2 =
+    sym same_entry ∙ entry-of taken c.args.pid r c.args.page c.root_of-root.ensures ∙ sym c.entry.ensures.entry ∙ ap number_of c.in-Swapped.is in
+    let low : k < 2 ^ 32 = (let P : Entry → Type 0 = λ e. IsEntry e in subst P c.in-Swapped.is c.entry.ensures.form) in
+    let written : Picture = record taken { slots = slots_of c.get.new.self; frames = with_bytes c.take_own.new.self.frames n c.get.new.to } in
+    let changes : ChangesFrame took.found written n = changes_written took.found taken n c.args.page took.own (slots_of c.get.new.self) c.get.ensures.same c.get.new.to in
+    let set : Picture = picture_of c.set_full.new.core in
+    let sets = c.set_full.ensures.sets in
+    let beside = beside_around _ c.set_full.new.core c.set_full.ensures.rest in
+    let t = slots_of c.release.new.self in
+    let inside : IsFrame c.take_own.new.self.frames n = (let same = took.own.takes.others.frames in let low = took.own.takes.inside in omega (arith, same, low)) in
+    let M : Pages _ → Type 0 = λ x. g.E.SectorDisk.keeps_model x.disk in
+    let N : Swap _ → Type 0 = λ x. g.E.SectorDisk.keeps_model x.pages.disk in
+    let got = c.in-Ok.ensures.gives (subst N c.set_full.ensures.rest.swap (subst M c.release.ensures.pages model)) in
+    seen_in old taken c.args.pid c.args.page n k r c.args.attr took c.requires.linked lives c.requires.attr c.requires.away number low written changes took.own.takes.kind_set took.own.takes.counted took.own.noted set sets beside t c.release.ensures.releases (with_bytes-same c.take_own.new.self.frames n c.get.new.to inside ∙ got ∙ ap (λ u. u.bytes k) took.own.slots)
+
+pub entry-requires-clause-forest : goal.entry-requires-clause-forest
+entry-requires-clause-forest g c =
+    let took = c.in_ok-frame.ensures.taken in
+    let n = c.in_ok-frame.frame.0 in
+    (trees_changed took.found (picture_of c.take_own.new.self) n took.fit (changes_taken took.found (picture_of c.take_own.new.self) n c.args.page took.own)
+    (λ t. (let bad : Private ≡ Table = sym took.own.takes.kind_set ∙ t in (cc)))).forest
+
+pub entry-requires-clause-root : goal.entry-requires-clause-root
+entry-requires-clause-root g c =
+    let took = c.in_ok-frame.ensures.taken in
+    let n = c.in_ok-frame.frame.0 in
+    let r = c.root_of-root.result.0 in
+    (trees_changed took.found (picture_of c.take_own.new.self) n took.fit (changes_taken took.found (picture_of c.take_own.new.self) n c.args.page took.own)
+    (λ t. (let bad : Private ≡ Table = sym took.own.takes.kind_set ∙ t in (cc)))).roots r (took.fit.rooted.roots c.args.pid r (sym (took.own.root c.args.pid) ∙ c.root_of-root.ensures))
+
+pub returns-in-Err-clause-short : goal.returns-in-Err-clause-short
+unfolding IsShort
+returns-in-Err-clause-short g c = tt
+
+pub returns-in-Err-clause-moves : goal.returns-in-Err-clause-moves
+returns-in-Err-clause-moves g c =
+    let old : Picture = picture_of c.args.core.now in
+    let taken : Picture = picture_of c.take_own.new.self in
+    let took = c.in_ok-frame.ensures.taken in
+    let n = c.in_ok-frame.frame.0 in
+    let new : Picture = record taken { slots = slots_of c.get.new.self; frames = c.release-in-Err.new.self } in
+    let changes : ChangesFrame took.found new n = changes_spent took.found taken n c.args.page took.own (slots_of c.get.new.self) c.get.ensures.same c.get.new.to c.release-in-Err.new.self c.release-in-Err.ensures.change in
+    let free : role_of c.release-in-Err.new.self n ≡ Free = c.release-in-Err.ensures.change.freed took.own.takes.counted in
+    let datum : role_of c.release-in-Err.new.self n ≢ Table = λ table. (let bad : Free ≡ Table = sym free ∙ table in (cc)) in
+    let frees = frees_then old took.found new _ took.frees (frees_spent took.found new n took.fit changes free) in
+    let done = c.in_ok-frame.ensures in
+    moves_freed g.E.SectorDisk c.args.core.now _ _ (fit_spent took.found new n took.fit changes datum free) c.get.ensures.ready frees
+    (record { store = done.rest.store; roots = done.rest.roots; regions = done.rest.regions })
+    (device_then g.E.SectorDisk c.args.core.now.swap.pages.disk c.take_own.new.self.swap.pages.disk c.get.new.self.pages.disk done.device
+    (record { size = c.get.ensures.size; kept = c.get.ensures.kept; later = c.get.ensures.cause.later }))
+
+pub returns-in-Err-clause-others : goal.returns-in-Err-clause-others
+returns-in-Err-clause-others g c =
+    let old : Picture = picture_of c.args.core.now in
+    let taken : Picture = picture_of c.take_own.new.self in
+    let took = c.in_ok-frame.ensures.taken in
+    let n = c.in_ok-frame.frame.0 in
+    let new : Picture = record taken { slots = slots_of c.get.new.self; frames = c.release-in-Err.new.self } in
+    let changes : ChangesFrame took.found new n = changes_spent took.found taken n c.args.page took.own (slots_of c.get.new.self) c.get.ensures.same c.get.new.to c.release-in-Err.new.self c.release-in-Err.ensures.change in
+    let free : role_of c.release-in-Err.new.self n ≡ Free = c.release-in-Err.ensures.change.freed took.own.takes.counted in
+    let datum : role_of c.release-in-Err.new.self n ≢ Table = λ table. (let bad : Free ≡ Table = sym free ∙ table in (cc)) in
+    let frees = frees_then old took.found new _ took.frees (frees_spent took.found new n took.fit changes free) in
+    λ q p other. frees.pages.views q p
+
+pub returns-in-Err-clause-same : goal.returns-in-Err-clause-same
+returns-in-Err-clause-same g c =
+    let old : Picture = picture_of c.args.core.now in
+    let taken : Picture = picture_of c.take_own.new.self in
+    let took = c.in_ok-frame.ensures.taken in
+    let n = c.in_ok-frame.frame.0 in
+    let new : Picture = record taken { slots = slots_of c.get.new.self; frames = c.release-in-Err.new.self } in
+    let changes : ChangesFrame took.found new n = changes_spent took.found taken n c.args.page took.own (slots_of c.get.new.self) c.get.ensures.same c.get.new.to c.release-in-Err.new.self c.release-in-Err.ensures.change in
+    let free : role_of c.release-in-Err.new.self n ≡ Free = c.release-in-Err.ensures.change.freed took.own.takes.counted in
+    let datum : role_of c.release-in-Err.new.self n ≢ Table = λ table. (let bad : Free ≡ Table = sym free ∙ table in (cc)) in
+    let frees = frees_then old took.found new _ took.frees (frees_spent took.found new n took.fit changes free) in
+    frees.pages.views
+
+pub returns-in-Err-clause-seen : goal.returns-in-Err-clause-seen
+returns-in-Err-clause-seen g c = λ model.
+    let old : Picture = picture_of c.args.core.now in
+    let taken : Picture = picture_of c.take_own.new.self in
+    let took = c.in_ok-frame.ensures.taken in
+    let n = c.in_ok-frame.frame.0 in
+    let new : Picture = record taken { slots = slots_of c.get.new.self; frames = c.release-in-Err.new.self } in
+    let changes : ChangesFrame took.found new n = changes_spent took.found taken n c.args.page took.own (slots_of c.get.new.self) c.get.ensures.same c.get.new.to c.release-in-Err.new.self c.release-in-Err.ensures.change in
+    let free : role_of c.release-in-Err.new.self n ≡ Free = c.release-in-Err.ensures.change.freed took.own.takes.counted in
+    let datum : role_of c.release-in-Err.new.self n ≢ Table = λ table. (let bad : Free ≡ Table = sym free ∙ table in (cc)) in
+    let frees = frees_then old took.found new _ took.frees (frees_spent took.found new n took.fit changes free) in
+    frees.pages.views
+
+pub returns-in-Err-clause-files : goal.returns-in-Err-clause-files
+returns-in-Err-clause-files g c =
+    let old : Picture = picture_of c.args.core.now in
+    let taken : Picture = picture_of c.take_own.new.self in
+    let took = c.in_ok-frame.ensures.taken in
+    let n = c.in_ok-frame.frame.0 in
+    let new : Picture = record taken { slots = slots_of c.get.new.self; frames = c.release-in-Err.new.self } in
+    let changes : ChangesFrame took.found new n = changes_spent took.found taken n c.args.page took.own (slots_of c.get.new.self) c.get.ensures.same c.get.new.to c.release-in-Err.new.self c.release-in-Err.ensures.change in
+    let free : role_of c.release-in-Err.new.self n ≡ Free = c.release-in-Err.ensures.change.freed took.own.takes.counted in
+    let datum : role_of c.release-in-Err.new.self n ≢ Table = λ table. (let bad : Free ≡ Table = sym free ∙ table in (cc)) in
+    let frees = frees_then old took.found new _ took.frees (frees_spent took.found new n took.fit changes free) in
+    frees.pages.files
+
+pub returns-in_err-frame-clause-moves : goal.returns-in_err-frame-clause-moves
+returns-in_err-frame-clause-moves g c =
+    let done = c.in_err-frame.ensures in
+    moves_freed g.E.SectorDisk c.args.core.now c.take_own.new.self _ done.fit done.swap done.frees done.rest done.device

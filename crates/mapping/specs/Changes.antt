@@ -1,0 +1,147 @@
+-- What the calls on one page's entry need and leave.
+use Rattle.std.specs.Prelude.{Bool, ◌&&◌, ◌==◌, ◌≡◌, ◌≢◌, ℕ, ◌≤◌, ◌⊎◌, true, if◌then◌else◌, List, Some, None}
+use Rattle.vm_types.specs.Limits.{top_level}
+use Rattle.vm_types.specs.declared.file.FilePage.{FilePage}
+use Rattle.vm_types.specs.declared.number.FrameNo.{FrameNo}
+use Rattle.vm_types.specs.declared.region.Attr.{Attr}
+use Rattle.vm_types.specs.declared.region.Backing.{Backing}
+use Rattle.vm_types.specs.declared.region.Backing.TheVariants.{Anon, Private, Shared}
+use Rattle.disk_model.specs.declared.sector_disk.SectorDisk.{Ghosts}
+use Rattle.frames.specs.declared.role.Role.TheVariants as Role
+use Rattle.frames.specs.FrameTable.{frame_count, bytes_of, role_of, count_of, IsFrame}
+use Rattle.sv39_walk.specs.Entry.{frame_of}
+use Rattle.page_tables.specs.Tree.{IsPage, missing_of}
+use Rattle.page_tables.specs.Change.{KeepsFrames}
+use Rattle.page_cache.specs.declared.place.Place.{Place}
+use Rattle.page_cache.specs.declared.place.Place.TheVariants.{Home, Frame, Slot}
+use Rattle.swap.specs.Slots.{IsReady}
+use Rattle.paging.specs.declared.kernel.Core.{Core}
+use Rattle.paging.specs.Picture.{Picture, picture_of, entry, is_private, view}
+use Rattle.paging.specs.Parts.{IsFit}
+use Rattle.paging.specs.Calls.{Frees, UsesDevice}
+use Rattle.paging.specs.Steps.{ChangesFrame}
+
+-- no table is missing on the way to a page of a process
+abbrev pub IsWhole : Picture → ℕ → ℕ → Type 0
+IsWhole c pid page = (r : ℕ) → c.root pid ≡ Some r → missing_of c.frames top_level r page ≡ 0
+
+-- a page of a live process, on whose way no table is missing
+pub record IsLinked (c : Picture) (pid page : ℕ) : Type 0 where
+  pub fit : IsFit c
+  pub lives : c.root pid ≢ None
+  pub whole : IsWhole c pid page
+
+-- no table came to be missing
+abbrev pub KeepsTables : Picture → Picture → Type 0
+KeepsTables old new = (pid r page : ℕ) → old.root pid ≡ Some r → missing_of new.frames top_level r page ≤ missing_of old.frames top_level r page
+
+-- a page that had no entry has none
+abbrev pub KeepsBare : Picture → Picture → Type 0
+KeepsBare old new = (pid page : ℕ) → IsPage top_level page → entry old pid page ≡ 0 → entry new pid page ≡ 0
+
+-- the same processes live, with the same regions
+pub record KeepsSpaces (old new : Picture) : Type 0 where
+  pub root : (pid : ℕ) → new.root pid ≡ old.root pid
+  pub at : (pid page : ℕ) → new.at pid page ≡ old.at pid page
+
+-- memory and swap are as many as they were
+pub record KeepsRoom (old new : Picture) : Type 0 where
+  pub frames : frame_count new.frames ≡ frame_count old.frames
+  pub slots : new.slots.total ≡ old.slots.total
+
+-- every page is seen as it was
+abbrev pub KeepsViews : Picture → Picture → Type 0
+KeepsViews old new = (pid page : ℕ) → view new pid page ≡ view old pid page
+
+-- every page but one is seen as it was
+abbrev pub KeepsOtherViews : Picture → Picture → ℕ → ℕ → Type 0
+KeepsOtherViews old new pid page = (q p : ℕ) → (q ≢ pid) ⊎ (p ≢ page) → view new q p ≡ view old q p
+
+-- no process sees a change, and no file page became touched or clean
+pub record KeepsSeen (old new : Picture) : Type 0 where
+  pub views : (q k : ℕ) → view new q k ≡ view old q k
+  pub touched : (p : FilePage) → new.touched p ≡ old.touched p
+
+-- whether the process with that entry is the only one to have its private frame
+abbrev pub is_sole : Picture → ℕ → Bool
+is_sole c e = is_private e && (count_of c.frames (frame_of e) == 1)
+
+-- the frame of a file page at that place
+abbrev pub frame_of_place : Place → ℕ
+frame_of_place Home = 0
+frame_of_place (Frame n) = n.0
+frame_of_place (Slot n) = 0
+
+-- the frame that holds what stands behind a page, where it is in memory: the zero page, or that of the file page
+abbrev pub frame_behind : Picture → Backing → ℕ
+frame_behind c Anon = 0
+frame_behind c (Private p) = frame_of_place (c.place p)
+frame_behind c (Shared p) = frame_of_place (c.place p)
+
+-- the frame whose bytes a page shows
+abbrev pub shown_frame : Picture → ℕ → Backing → ℕ
+shown_frame c e backing = if is_private e then frame_of e else frame_behind c backing
+
+-- the bytes that a page shows, where they are in memory
+abbrev pub shown_bytes : Picture → ℕ → ℕ → Attr → List ℕ
+shown_bytes c pid page attr = bytes_of c.frames (shown_frame c (entry c pid page) attr.backing)
+
+-- the file page, which lies in a frame, is among the touched ones, and no other came, went or changed
+pub record MarksTouched (old new : Picture) (page : FilePage) : Type 0 where
+  pub place : (p : FilePage) → new.place p ≡ old.place p
+  pub bytes : (p : FilePage) (n : FrameNo) → old.place p ≡ Frame n → bytes_of new.frames n.0 ≡ bytes_of old.frames n.0
+  pub touched : new.touched page ≡ true
+  pub others : (p : FilePage) → p ≢ page → new.touched p ≡ old.touched p
+  pub files : (f : ℕ) → new.files f ≡ old.files f
+
+-- A frame was obtained, but not frame m, and taken for one page, at which its process will have it, with the bytes of frame m.
+-- No entry names it yet.
+pub record TakesCopy (old new : Picture) (n page m : ℕ) : Type 0 where
+  pub found : Picture
+  pub fit : IsFit found
+  pub frees : Frees old found (Some (record { 0 = m }))
+  pub changes : ChangesFrame found new n
+  pub inside : IsFrame new.frames n
+  pub role : role_of new.frames n ≡ Role.Private
+  pub count : count_of new.frames n ≡ 1
+  pub noted : new.page_of n ≡ page
+  pub copied : bytes_of new.frames n ≡ bytes_of old.frames m
+
+module _ {D E : Type 0} where
+  -- No frame was asked for and none changed hands, no device was asked, and no page but that one has another entry.
+  pub record IsCalm (old new : Core D E) (pid page : ℕ) : Type 0 where
+    pub store : new.store ≡ old.store
+    pub swap : new.swap ≡ old.swap
+    pub refused : new.refused.number ≡ old.refused.number
+    pub frames : KeepsFrames old.frames new.frames
+    pub place : (p : FilePage) → (picture_of new).place p ≡ (picture_of old).place p
+    pub others : (q p : ℕ) → IsPage top_level p → (q ≢ pid) ⊎ (p ≢ page) → entry (picture_of new) q p ≡ entry (picture_of old) q p
+
+  -- Only one page's entry changed, and perhaps which file pages are touched: every page is seen as it was.
+  pub record Enters (old new : Core D E) (pid page : ℕ) : Type 0 where
+    pub fit : IsFit (picture_of new)
+    pub spaces : KeepsSpaces (picture_of old) (picture_of new)
+    pub tables : KeepsTables (picture_of old) (picture_of new)
+    pub views : KeepsViews (picture_of old) (picture_of new)
+    pub calm : IsCalm old new pid page
+
+  -- all but the frames is as it was
+  pub record KeepsAround (old new : Core D E) : Type 0 where
+    pub store : new.store ≡ old.store
+    pub swap : new.swap ≡ old.swap
+    pub cache : new.cache ≡ old.cache
+    pub roots : new.roots ≡ old.roots
+    pub regions : new.regions ≡ old.regions
+    pub page_of : new.page_of ≡ old.page_of
+
+module _ {E : Type 0} (h : Ghosts E) where
+  module _ {D : Type 0} where
+    -- frames may have been given up, and the swap device was read and written
+    pub record Moves (old new : Core D E) : Type 0 where
+      pub fit : IsFit (picture_of new)
+      pub swap : IsReady h new.swap
+      pub spaces : KeepsSpaces (picture_of old) (picture_of new)
+      pub tables : KeepsTables (picture_of old) (picture_of new)
+      pub room : KeepsRoom (picture_of old) (picture_of new)
+      pub store : new.store ≡ old.store
+      pub device : UsesDevice h old.swap.pages.disk new.swap.pages.disk

@@ -1,0 +1,53 @@
+//! File pages brought into memory.
+ghost use Rattle.std.specs.Prelude.{◌≡◌, ◌⊎◌, ℕ, IfOk, IfErr, OnOk, OnErr};
+ghost use Rattle.vm_types.specs.declared.number.FrameNo.{FrameNo};
+ghost use Rattle.vm_types.specs.declared.refusal.Stall.TheVariants as Stall;
+ghost use Rattle.file_store.specs.Standing.{IsPageOf};
+ghost use Rattle.file_store.specs.Store.{IsReadyStore};
+ghost use Rattle.swap.specs.Slots.{IsReady};
+ghost use Rattle.page_cache.specs.declared.place.Place.TheVariants.{Home, Frame};
+ghost use Rattle.paging.specs.Picture.{picture_of};
+ghost use Rattle.paging.specs.Parts.{IsFit};
+ghost use Rattle.paging.specs.Capacity.{IsShort};
+ghost use Rattle.paging.specs.Reading.{ReadCause};
+ghost use Rattle.mapping.specs.Changes.{KeepsBare, KeepsSeen};
+ghost use Rattle.mapping.specs.Files.{Proceeds, BringsFiles};
+
+use disk_model::SectorDisk;
+use page_cache::Place;
+use paging::Core;
+use vm_types::{FilePage, FrameNo, Stall};
+
+/// The frame of a file page that begins inside its file. Where it lies in a slot it is read from there, and the slot is given
+/// back; where it is at home it is read from its home.
+///
+/// # Errors
+/// As `obtain`, where no frame is to be had; `SwapDevice` or `StoreDevice` where that device failed. Then the page stays where it
+/// was.
+pub fn cached<D: SectorDisk, E: SectorDisk>(
+    core: &mut Core<D, E>,
+    page: FilePage,
+) -> Result<FrameNo, Stall>
+    requires fit { IsFit (picture_of core.old) }
+    requires store { IsReadyStore D.SectorDisk core.old.store }
+    requires swap { IsReady E.SectorDisk core.old.swap }
+    requires inside { IsPageOf (picture_of core.old).files page.file page.page }
+    ensures proceeds { Proceeds D.SectorDisk E.SectorDisk core.old core.new }
+    ensures brings { BringsFiles D.SectorDisk E.SectorDisk (λ p. p ≡ page) core.old core.new }
+    ensures keeps { KeepsSeen (picture_of core.old) (picture_of core.new) }
+    ensures bare { KeepsBare (picture_of core.old) (picture_of core.new) }
+    ensures placed { IfOk result (λ n. (picture_of core.new).place page ≡ Frame n) }
+    ensures idle { (n : FrameNo) → (picture_of core.old).place page ≡ Frame n → (core.new ≡ core.old) × OnErr result ⊥ }
+    ensures home { IfErr result (λ stall. stall ≡ Stall.StoreDevice → (picture_of core.old).place page ≡ Home) }
+    ensures read { (core.new.store ≡ core.old.store) ⊎ ((picture_of core.old).place page ≡ Home) }
+    ensures store_calm { OnOk result (D.failures core.new.store.disk ≡ D.failures core.old.store.disk) }
+    ensures short { IfErr result (IsShort (picture_of core.new)) }
+    ensures cause { IfErr result (ReadCause D.SectorDisk E.SectorDisk core.old core.new) }
+    ensures not_refused { OnOk result (core.new.refused.number ≡ core.old.refused.number) }
+{
+    match core.cache.place(page) {
+        Place::Frame(frame) => Ok(frame),
+        Place::Home => core.bring_in(page),
+        Place::Slot(slot) => core.bring_back(page, slot),
+    }
+}

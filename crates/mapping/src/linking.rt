@@ -1,0 +1,85 @@
+//! The tables on the way to a page.
+ghost use Rattle.std.specs.Prelude.{ℕ, ◌≡◌, ◌≢◌, ◌+◌, None, Some, IfErr, OnOk, OnErr};
+ghost use Rattle.vm_types.specs.Limits.{top_level};
+ghost use Rattle.frames.specs.declared.role.Role.TheVariants.{Private};
+ghost use Rattle.frames.specs.FrameTable.{role_of};
+ghost use Rattle.page_tables.specs.Tree.{missing_of};
+ghost use Rattle.swap.specs.Slots.{IsReady};
+ghost use Rattle.paging.specs.Picture.{picture_of};
+ghost use Rattle.paging.specs.Parts.{IsFit, IsMapped};
+ghost use Rattle.paging.specs.Calls.{KeepsPages, StallCause};
+ghost use Rattle.paging.specs.Capacity.{IsShort};
+ghost use Rattle.mapping.specs.Changes.{IsWhole, KeepsBare, Moves};
+
+use disk_model::SectorDisk;
+use page_tables::{link_table, missing_tables};
+use paging::Core;
+use vm_types::{FrameNo, Pid, Stall, Vpn};
+
+/// The root table of a live process.
+pub fn root_of<D, E>(core: &Core<D, E>, pid: Pid) -> FrameNo
+    requires live { (picture_of core.now).root pid ≢ None }
+    ensures { (picture_of core.now).root pid ≡ Some result.0 }
+{
+    match core.root(pid) {
+        Some(root) => root,
+        None => unreachable!(),
+    }
+}
+
+/// Makes the tables that are missing on the way to a mapped page of a live process. No process sees a change (RISC-V Privileged
+/// Specification, "Virtual Address Translation Process").
+///
+/// # Errors
+/// As `obtain`, where a table is missing and no frame is to be had for it. The tables that were made stay.
+pub fn link_tables<D, E: SectorDisk>(
+    core: &mut Core<D, E>,
+    pid: Pid,
+    page: Vpn,
+) -> Result<(), Stall>
+    requires fit { IsFit (picture_of core.old) }
+    requires swap { IsReady E.SectorDisk core.old.swap }
+    requires live { (picture_of core.old).root pid ≢ None }
+    requires mapped { IsMapped (picture_of core.old) pid page }
+    ensures moves { Moves E.SectorDisk core.old core.new }
+    ensures pages { KeepsPages (picture_of core.old) (picture_of core.new) }
+    ensures no_copy { (n : ℕ) → role_of core.new.frames n ≡ Private → role_of core.old.frames n ≡ Private }
+    ensures bare { KeepsBare (picture_of core.old) (picture_of core.new) }
+    ensures whole { OnOk result (IsWhole (picture_of core.new) pid page) }
+    ensures idle { IsWhole (picture_of core.old) pid page → (core.new ≡ core.old) × OnErr result ⊥ }
+    ensures short { IfErr result (IsShort (picture_of core.new)) }
+    ensures cause { IfErr result (StallCause E.SectorDisk core.old core.new) }
+    ensures not_refused { OnOk result (core.new.refused.number ≡ core.old.refused.number) }
+{
+    let root = root_of(core, pid);
+    while missing_tables(&core.frames, root, page) > 0 {
+        link_one(core, pid, root, page)?;
+    }
+    Ok(())
+}
+
+// Links a table in the highest missing place on the way to a mapped page.
+fn link_one<D, E: SectorDisk>(
+    core: &mut Core<D, E>,
+    pid: Pid,
+    root: FrameNo,
+    page: Vpn,
+) -> Result<(), Stall>
+    requires fit { IsFit (picture_of core.old) }
+    requires swap { IsReady E.SectorDisk core.old.swap }
+    requires lives { (picture_of core.old).root pid ≡ Some root.0 }
+    requires mapped { IsMapped (picture_of core.old) pid page }
+    requires missing { missing_of core.old.frames top_level root.0 page ≢ 0 }
+    ensures moves { Moves E.SectorDisk core.old core.new }
+    ensures pages { KeepsPages (picture_of core.old) (picture_of core.new) }
+    ensures no_copy { (n : ℕ) → role_of core.new.frames n ≡ Private → role_of core.old.frames n ≡ Private }
+    ensures bare { KeepsBare (picture_of core.old) (picture_of core.new) }
+    ensures lowered { OnOk result (missing_of core.new.frames top_level root.0 page + 1 ≡ missing_of core.old.frames top_level root.0 page) }
+    ensures short { IfErr result (IsShort (picture_of core.new)) }
+    ensures cause { IfErr result (StallCause E.SectorDisk core.old core.new) }
+    ensures not_refused { OnOk result (core.new.refused.number ≡ core.old.refused.number) }
+{
+    let table = core.take_table()?;
+    link_table(&mut core.frames, root, page, table);
+    Ok(())
+}

@@ -1,0 +1,167 @@
+//! Frames that stand behind a page, shown at it.
+ghost use Rattle.std.specs.Prelude.{◌≡◌, ◌≢◌, ℕ, None, Some, true, false};
+ghost use Rattle.vm_types.specs.Limits.{top_level};
+ghost use Rattle.vm_types.specs.Permission.{can_read, can_write};
+ghost use Rattle.vm_types.specs.declared.region.Backing.TheVariants.{Anon, Shared};
+ghost use Rattle.vm_types.specs.Verdict.{is_past_end};
+ghost use Rattle.frames.specs.FrameTable.{IsFrame};
+ghost use Rattle.sv39_walk.specs.Entry.{frame_of};
+ghost use Rattle.page_tables.specs.Tree.{IsForest, IsRoot, missing_of};
+ghost use Rattle.page_tables.specs.Change.{SetsEntry};
+ghost use Rattle.page_cache.specs.declared.place.Place.TheVariants.{Frame};
+ghost use Rattle.paging.specs.Seats.{seat};
+ghost use Rattle.paging.specs.Picture.{picture_of, entry, is_private, is_swapped};
+ghost use Rattle.paging.specs.Parts.{is_shared, IsBehind};
+ghost use Rattle.paging.specs.Shows.{KeepsFiles};
+ghost use Rattle.mapping.specs.Leaves.{IsEntryOver, IsFullEntry, full_write, full_dirty, is_touched_behind};
+ghost use Rattle.mapping.specs.Changes.{IsLinked, Enters, KeepsAround, MarksTouched};
+
+use crate::leaves::{Grant, entry_over};
+use crate::linking::root_of;
+use page_tables::{entry_number, set};
+use paging::Core;
+use vm_types::{Attr, Backing, FilePage, FrameNo, Pid, Vpn};
+
+/// The zero page, the frame of zeros that nothing is written to.
+pub const ZERO_PAGE: FrameNo = FrameNo(0);
+
+/// Shows the zero page at an anonymous page that has no entry. Its leaf is without W and D (RISC-V Privileged Specification,
+/// "Sv39 page table entry"): each store asks for a frame first.
+pub fn show_zero<D, E>(core: &mut Core<D, E>, pid: Pid, page: Vpn, attr: Attr)
+    requires linked { IsLinked (picture_of core.old) pid page }
+    requires attr { (picture_of core.old).at pid page ≡ Some attr }
+    requires anonymous { attr.backing ≡ Anon }
+    requires none { entry (picture_of core.old) pid page ≡ 0 }
+    ensures enters { Enters core.old core.new pid page }
+    ensures entry { IsEntryOver (entry (picture_of core.new) pid page) attr.prot 0 false false false }
+    ensures files { KeepsFiles (picture_of core.old) (picture_of core.new) }
+{
+    let root = root_of(core, pid);
+    set_full(core, root, page, attr, ZERO_PAGE, false);
+}
+
+/// Shows the frame of its file page at a page of a file without an own copy. Stores are let through to a shared page of a
+/// touched file page alone, so that the first one to any other is noticed: it finds D clear (RISC-V Privileged
+/// Specification, "Sv39 page table entry", the scheme of Svade).
+pub fn show_cached<D, E>(core: &mut Core<D, E>, pid: Pid, page: Vpn, attr: Attr, frame: FrameNo)
+    requires linked { IsLinked (picture_of core.old) pid page }
+    requires attr { (picture_of core.old).at pid page ≡ Some attr }
+    requires behind { IsBehind (picture_of core.old) attr.backing frame.0 }
+    requires inside { is_past_end (picture_of core.old).files attr.backing ≡ false }
+    requires none { seat (entry (picture_of core.old) pid page) ≡ None }
+    ensures enters { Enters core.old core.new pid page }
+    ensures entry { IsFullEntry (picture_of core.old) attr frame.0 false (entry (picture_of core.new) pid page) }
+    ensures files { KeepsFiles (picture_of core.old) (picture_of core.new) }
+{
+    let root = root_of(core, pid);
+    set_full(core, root, page, attr, frame, false);
+}
+
+/// Gives a page that lies in a frame the entry that lets be done all that its permission and the sharing of its frame
+/// allow: W over a frame that nobody else has and over that of a shared page, D there where the file page is touched
+/// (RISC-V Privileged Specification, "Sv39 page table entry").
+pub fn regrant<D, E>(core: &mut Core<D, E>, pid: Pid, page: Vpn, attr: Attr)
+    requires linked { IsLinked (picture_of core.old) pid page }
+    requires attr { (picture_of core.old).at pid page ≡ Some attr }
+    requires resident { entry (picture_of core.old) pid page ≢ 0 }
+    requires here { is_swapped (entry (picture_of core.old) pid page) ≡ false }
+    ensures enters { Enters core.old core.new pid page }
+    ensures entry { let was = entry (picture_of core.old) pid page in
+        IsFullEntry (picture_of core.old) attr (frame_of was) (is_private was) (entry (picture_of core.new) pid page) }
+    ensures files { KeepsFiles (picture_of core.old) (picture_of core.new) }
+{
+    let root = root_of(core, pid);
+    let entry = entry_number(&core.frames, root, page);
+    set_full(
+        core,
+        root,
+        page,
+        attr,
+        FrameNo(entry.frame() as u32),
+        entry.is_private(),
+    );
+}
+
+/// Marks the file page of a shared page touched, and shows its frame there with stores let through, by W and D: one follows
+/// at once (RISC-V Privileged Specification, "Sv39 page table entry").
+pub fn touch<D, E>(
+    core: &mut Core<D, E>,
+    pid: Pid,
+    page: Vpn,
+    attr: Attr,
+    file_page: FilePage,
+    frame: FrameNo,
+)
+    requires linked { IsLinked (picture_of core.old) pid page }
+    requires attr { (picture_of core.old).at pid page ≡ Some attr }
+    requires shared { attr.backing ≡ Shared file_page }
+    requires writable { can_write attr.prot ≡ true }
+    requires inside { is_past_end (picture_of core.old).files attr.backing ≡ false }
+    requires cached { (picture_of core.old).place file_page ≡ Frame frame }
+    ensures enters { Enters core.old core.new pid page }
+    ensures entry { IsEntryOver (entry (picture_of core.new) pid page) attr.prot frame.0 false true true }
+    ensures touches { MarksTouched (picture_of core.old) (picture_of core.new) file_page }
+{
+    let root = root_of(core, pid);
+    core.cache.mark_dirty(file_page);
+    set_full(core, root, page, attr, frame, false);
+}
+
+/// Sets the fullest entry for a page over a frame.
+pub(crate) fn set_full<D, E>(
+    core: &mut Core<D, E>,
+    root: FrameNo,
+    page: Vpn,
+    attr: Attr,
+    frame: FrameNo,
+    private: bool,
+)
+    requires forest { IsForest core.old.frames }
+    requires root { IsRoot top_level core.old.frames root.0 }
+    requires whole { missing_of core.old.frames top_level root.0 page ≡ 0 }
+    requires inside { IsFrame core.old.frames frame.0 }
+    requires readable { can_write attr.prot ≡ true → can_read attr.prot ≡ true }
+    ensures sets { (number : ℕ) × IsFullEntry (picture_of core.old) attr frame.0 private number
+        × SetsEntry core.old.frames core.new.frames top_level root.0 page number }
+    ensures rest { KeepsAround core.old core.new }
+    ensures not_refused { core.new.refused.number ≡ core.old.refused.number }
+{
+    let grant = full_grant(core, attr, frame, private);
+    set(&mut core.frames, root, page, entry_over(attr.prot, grant));
+}
+
+// What the fullest entry of a page over a frame lets be done.
+fn full_grant<D, E>(core: &Core<D, E>, attr: Attr, frame: FrameNo, private: bool) -> Grant
+    requires { IsFrame core.now.frames frame.0 }
+    ensures frame { result.frame ≡ frame }
+    ensures private { result.private ≡ private }
+    ensures write { result.write ≡ full_write (picture_of core.now) attr frame.0 private }
+    ensures dirty { result.dirty ≡ full_dirty (picture_of core.now) attr frame.0 private }
+{
+    let writable = attr.prot.is_writable();
+    let (reached, stored) = if private {
+        let sole = core.frames.count(frame) == 1;
+        (sole, sole)
+    } else {
+        (
+            attr.backing.is_shared(),
+            is_touched_behind(core, attr.backing),
+        )
+    };
+    Grant {
+        frame,
+        private,
+        write: reached && writable,
+        dirty: stored && writable,
+    }
+}
+
+// Whether stores through such a page reach a touched file page.
+fn is_touched_behind<D, E>(core: &Core<D, E>, backing: Backing) -> bool
+    ensures { result ≡ is_touched_behind (picture_of core.now) backing }
+{
+    match backing {
+        Backing::Shared(page) => core.cache.is_touched(page),
+        Backing::Anon | Backing::Private(_) => false,
+    }
+}

@@ -1,0 +1,61 @@
+//! Own copies brought back from slots.
+ghost use Rattle.std.specs.Prelude.{◌≡◌, ◌≢◌, ℕ, Some, true, IfOk, IfErr, OnOk, OnErr};
+ghost use Rattle.frames.specs.FrameTable.{count_of};
+ghost use Rattle.swap.specs.Slots.{IsReady};
+ghost use Rattle.paging.specs.Picture.{picture_of, entry, is_swapped};
+ghost use Rattle.paging.specs.Calls.{StallCause};
+ghost use Rattle.paging.specs.Capacity.{IsShort};
+ghost use Rattle.paging.specs.Shows.{KeepsFiles};
+ghost use Rattle.mapping.specs.Leaves.{IsFullEntry};
+ghost use Rattle.mapping.specs.Changes.{IsLinked, KeepsViews, KeepsOtherViews, Moves};
+
+use crate::linking::root_of;
+use crate::showing::set_full;
+use disk_model::{DiskFault, SectorDisk};
+use page_tables::{Entry, entry};
+use paging::Core;
+use vm_types::{Attr, FrameNo, Pid, Stall, Vpn};
+
+/// Reads a page's own copy from its slot into a frame, which no other process has, and gives the page the entry that lets be
+/// done all that its permission allows. The process's share of the slot is given back.
+///
+/// # Errors
+/// As `obtain`, where no frame is to be had, and `SwapDevice` where the swap device failed. Then the page lies where it lay.
+pub fn swap_in<D, E: SectorDisk>(
+    core: &mut Core<D, E>,
+    pid: Pid,
+    page: Vpn,
+    attr: Attr,
+) -> Result<FrameNo, Stall>
+    requires linked { IsLinked (picture_of core.old) pid page }
+    requires swap { IsReady E.SectorDisk core.old.swap }
+    requires attr { (picture_of core.old).at pid page ≡ Some attr }
+    requires away { is_swapped (entry (picture_of core.old) pid page) ≡ true }
+    ensures moves { Moves E.SectorDisk core.old core.new }
+    ensures entry { IfOk result (λ n. IsFullEntry (picture_of core.new) attr n.0 true (entry (picture_of core.new) pid page)) }
+    ensures sole { IfOk result (λ n. count_of core.new.frames n.0 ≡ 1) }
+    ensures others { KeepsOtherViews (picture_of core.old) (picture_of core.new) pid page }
+    ensures same { OnErr result (KeepsViews (picture_of core.old) (picture_of core.new)) }
+    ensures seen { E.keeps_model core.new.swap.pages.disk → KeepsViews (picture_of core.old) (picture_of core.new) }
+    ensures files { KeepsFiles (picture_of core.old) (picture_of core.new) }
+    ensures short { IfErr result (IsShort (picture_of core.new)) }
+    ensures cause { IfErr result (StallCause E.SectorDisk core.old core.new) }
+    ensures not_refused { OnOk result (core.new.refused.number ≡ core.old.refused.number) }
+{
+    let frame = core.take_own(page, None)?;
+    let root = root_of(core, pid);
+    let Entry::Swapped(slot) = entry(&core.frames, root, page) else {
+        unreachable!();
+    };
+    match core.swap.get(slot, core.frames.bytes_mut(frame)) {
+        Ok(()) => {
+            set_full(core, root, page, attr, frame, true);
+            core.swap.release(slot);
+            Ok(frame)
+        }
+        Err(DiskFault) => {
+            core.frames.release(frame);
+            Err(Stall::SwapDevice)
+        }
+    }
+}
