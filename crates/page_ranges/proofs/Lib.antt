@@ -1,0 +1,12 @@
+pub mod Gaps
+pub mod Sharing
+pub mod Returning
+pub mod ClearedPages
+pub mod Needed
+pub mod Pruned
+pub mod Emptied
+pub mod NewRegions
+pub mod LeafEntries
+pub mod PermittedRows
+pub mod Reprotected
+pub mod Spawned

@@ -1,0 +1,19 @@
+use Rattle.std.proofs.Common.{◌≡◌, ◌-◌, ◌≤◌, ◌⊎◌}
+use Rattle.paging.specs.Parts.{IsFit}
+use Rattle.paging.specs.Picture.{picture_of}
+use Rattle.page_ranges.specs.Steps.{KeepsRest, Clears, IsCleared}
+use Rattle.page_ranges.proofs.clearing.clear_row.Given as goal
+
+abbrev pub invariant-loop-page : goal.invariant-loop-page
+invariant-loop-page g l = record {
+  fit : IsFit (picture_of l.core);
+  low : l.initial.page ≤ l.page;
+  high : (l.page ≡ l.initial.page) ⊎ (l.page ≤ l.end);
+  clears : Clears (picture_of l.initial.core) (picture_of l.core) l.pid l.initial.page l.page;
+  cleared : IsCleared (picture_of l.core) l.pid l.initial.page l.page;
+  rest : KeepsRest l.initial.core l.core;
+  refused : l.core.refused ≡ l.initial.core.refused;
+}
+
+abbrev pub decreases-loop-page : goal.decreases-loop-page
+decreases-loop-page g l = l.end - l.page

@@ -1,0 +1,18 @@
+use Rattle.std.proofs.Common.{◌≡◌, ◌/◌, Some}
+use Rattle.mapping.specs.Changes.{KeepsAround}
+use Rattle.paging.specs.Parts.{IsRootedBut}
+use Rattle.paging.specs.Picture.{picture_of}
+use Rattle.page_ranges.specs.Leaves.{NamesFrames, PermitsRow}
+use Rattle.page_tables.specs.Places.{IsTableOf}
+use Rattle.page_ranges.proofs.permitting.permit_table.Given as goal
+
+abbrev pub invariant-loop-page : goal.invariant-loop-page
+invariant-loop-page g l = record {
+  rooted : IsRootedBut (picture_of l.core) 0;
+  named : NamesFrames (picture_of l.core) l.pid;
+  place : IsTableOf l.core.frames l.root.0 (l.fn.start / 512) l.table.0;
+  root_is : (picture_of l.core).root l.pid ≡ Some l.root.0;
+  permits : PermitsRow (picture_of l.initial.core) (picture_of l.core) l.pid l.fn.start l.page l.prot;
+  rest : KeepsAround l.initial.core l.core;
+  refused : l.core.refused ≡ l.initial.core.refused;
+}

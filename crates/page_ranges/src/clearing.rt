@@ -1,0 +1,141 @@
+//! Pages without entries.
+ghost use Rattle.std.specs.Prelude.{◌≡◌, ℕ, ◌+◌, ◌*◌, ◌/◌, ◌<◌, ◌≤◌, ◌^◌, true};
+ghost use Rattle.vm_types.specs.Limits.{top_level, user_end};
+ghost use Rattle.page_tables.specs.Entry.{IsPageEntry};
+ghost use Rattle.page_tables.specs.Places.{IsTableOf};
+ghost use Rattle.page_tables.specs.Tree.{IsPage};
+ghost use Rattle.paging.specs.Seats.{seat};
+ghost use Rattle.paging.specs.Picture.{picture_of, is_live};
+ghost use Rattle.paging.specs.Parts.{IsFit};
+ghost use Rattle.mapping.specs.Changes.{IsWhole};
+ghost use Rattle.page_ranges.specs.Rows.{RemapsRow};
+ghost use Rattle.page_ranges.specs.Steps.{KeepsRest, KeepsEntriesOfOthers, SameTables, ReturnsTables, ReturnsSlots, Clears, IsWithoutTables, IsCleared, LacksHolder, GivesBack, IsStepEnd};
+
+use crate::rows::{gap_end, table_end, user_page};
+use mapping::root_of;
+use page_tables::{Entry, decode, number_in, prune, set_in, table_of};
+use paging::Core;
+use sv39_walk::Pte;
+use vm_types::{FrameNo, Pid, USER_START, Vpn};
+
+/// Takes the entries of the `pages` pages from `first` on out of the tables of a live process, with the own copies that
+/// they name, in frames and in slots; the pages stay mapped. A frame or a slot that nobody shares any more is free, and so is a
+/// table that was there for those pages alone (munmap(2), for the part that lies in memory and swap).
+pub fn clear_row<D, E>(core: &mut Core<D, E>, pid: Pid, first: u64, pages: u64)
+    requires fit { IsFit (picture_of core.old) }
+    requires live { is_live (picture_of core.old) pid ≡ true }
+    requires row { first + pages ≤ user_end }
+    ensures fit { IsFit (picture_of core.new) }
+    ensures row { RemapsRow (picture_of core.old) (picture_of core.new) pid first pages ((picture_of core.old).at pid) }
+    ensures others { KeepsEntriesOfOthers (picture_of core.old) (picture_of core.new) pid }
+    ensures tables { ReturnsTables (picture_of core.old) (picture_of core.new) pid }
+    ensures none_left { IsWithoutTables (picture_of core.new) pid first (first + pages) }
+    ensures slots { ReturnsSlots (picture_of core.old) (picture_of core.new) pid first (first + pages) }
+    ensures rest { KeepsRest core.old core.new }
+    ensures refused { core.new.refused ≡ core.old.refused }
+{
+    let end = first + pages;
+    let mut page = first.max(USER_START);
+    while page < end {
+        page = clear_next(core, pid, user_page(page), end);
+    }
+}
+
+/// Clears the pages from `start` on whose entries stand in one table, as far as `end`. The result is the first page
+/// past them. Where a table is missing on the way, there is nothing to clear on all its pages; but a table above it may be
+/// without entries, since a call that stalled for the want of a frame leaves the tables that it linked.
+fn clear_next<D, E>(core: &mut Core<D, E>, pid: Pid, start: Vpn, end: u64) -> u64
+    requires fit { IsFit (picture_of core.old) }
+    requires live { is_live (picture_of core.old) pid ≡ true }
+    requires some { start < end }
+    requires high { end ≤ user_end }
+    ensures fit { IsFit (picture_of core.new) }
+    ensures further { start < result }
+    ensures within { result ≤ end }
+    ensures ends { IsStepEnd (picture_of core.old) pid start end result }
+    ensures clears { Clears (picture_of core.old) (picture_of core.new) pid start result }
+    ensures cleared { (low : ℕ) → low ≤ start → IsCleared (picture_of core.old) pid low start → IsCleared (picture_of core.new) pid low result }
+    ensures rest { KeepsRest core.old core.new }
+    ensures refused { core.new.refused ≡ core.old.refused }
+{
+    match gap_end(core, pid, start) {
+        Some(gap) => {
+            let top_table = root_of(core, pid);
+            prune(&mut core.frames, top_table, start);
+            end.min(gap)
+        }
+        None => {
+            let stop = end.min(table_end(start));
+            clear_table(core, pid, start, stop);
+            stop
+        }
+    }
+}
+
+/// Clears the pages from `start` up to, not including, `stop`, whose entries stand in one table, and releases the tables
+/// that are without entries then.
+fn clear_table<D, E>(core: &mut Core<D, E>, pid: Pid, start: Vpn, stop: u64)
+    requires fit { IsFit (picture_of core.old) }
+    requires live { is_live (picture_of core.old) pid ≡ true }
+    requires whole { IsWhole (picture_of core.old) pid start }
+    requires some { start < stop }
+    requires one_table { stop ≤ (start / 512 + 1) * 512 }
+    requires high { stop ≤ user_end }
+    ensures fit { IsFit (picture_of core.new) }
+    ensures clears { Clears (picture_of core.old) (picture_of core.new) pid start stop }
+    ensures cleared { (low : ℕ) → low ≤ start → IsCleared (picture_of core.old) pid low start → IsCleared (picture_of core.new) pid low stop }
+    ensures rest { KeepsRest core.old core.new }
+    ensures refused { core.new.refused ≡ core.old.refused }
+{
+    let root = root_of(core, pid);
+    let Ok(table) = table_of(&core.frames, root, start) else {
+        unreachable!();
+    };
+    for page in start.get()..stop {
+        clear_page(core, pid, root, table, user_page(page));
+    }
+    prune(&mut core.frames, root, start);
+}
+
+/// Takes the entry of a page out, to which no table is missing, and gives back the share of the frame or the slot that it names
+/// as the process's own. The table may be without entries then. Where the page has none, nothing is written.
+fn clear_page<D, E>(core: &mut Core<D, E>, pid: Pid, root: FrameNo, table: FrameNo, page: Vpn)
+    requires fit { IsFit (picture_of core.old) }
+    requires root { (picture_of core.old).root pid ≡ Some root.0 }
+    requires inside { IsPage top_level page }
+    requires place { IsTableOf core.old.frames root.0 (page / 512) table.0 }
+    ensures fit { IsFit (picture_of core.new) }
+    ensures clears { Clears (picture_of core.old) (picture_of core.new) pid page (page + 1) }
+    ensures tables { SameTables core.old.frames core.new.frames }
+    ensures places { (row n : ℕ) → IsTableOf core.old.frames root.0 row n → IsTableOf core.new.frames root.0 row n }
+    ensures rest { KeepsRest core.old core.new }
+    ensures refused { core.new.refused ≡ core.old.refused }
+{
+    let index = (page.get() % 512) as usize;
+    let number = number_in(&core.frames, table, index);
+    if number.to_u64() == 0 {
+        return;
+    }
+    set_in(&mut core.frames, table, index, Entry::None);
+    give_back(core, number);
+}
+
+/// Gives back the share of the frame or the slot that an entry named as its process's own, where it named one. The entry is
+/// taken out already.
+fn give_back<D, E>(core: &mut Core<D, E>, number: Pte)
+    requires form { IsPageEntry number.0 }
+    requires lacks { LacksHolder (picture_of core.old) (seat number.0) }
+    ensures fit { IsFit (picture_of core.new) }
+    ensures gives { GivesBack (picture_of core.old) (picture_of core.new) (seat number.0) }
+    ensures rest { KeepsRest core.old core.new }
+    ensures refused { core.new.refused ≡ core.old.refused }
+{
+    if let Entry::Swapped(slot) = decode(number) {
+        core.swap.release(slot);
+        return;
+    }
+    if !number.is_private() {
+        return;
+    }
+    core.frames.release(number.frame_number());
+}

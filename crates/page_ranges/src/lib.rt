@@ -1,0 +1,17 @@
+//! What happens to the pages of a row of neighbouring pages of a live process, over memory that evicts: their entries and own
+//! copies go, in frames and in slots, other pages come in their place, or they get another permission. No call takes a frame or
+//! asks a device, and none can fail. A row costs the tables and the entries that it meets, not its pages.
+#![tactic(auto)]
+
+mod clearing;
+mod leaves;
+mod permitting;
+mod remapping;
+mod rows;
+#[cfg(test)]
+mod tests;
+
+pub use clearing::clear_row;
+pub use permitting::reprotect;
+pub use remapping::remap;
+pub use rows::{gap_end, table_end, user_page};

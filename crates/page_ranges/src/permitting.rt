@@ -1,0 +1,181 @@
+//! Another permission for the pages of a row.
+ghost use Rattle.std.specs.Prelude.{◌≡◌, ◌≢◌, ◌↔◌, ℕ, ◌+◌, ◌*◌, ◌/◌, ◌<◌, ◌≤◌, ◌^◌, true};
+ghost use Rattle.vm_types.specs.Limits.{top_level, user_end};
+ghost use Rattle.vm_types.specs.Rows.{protected};
+ghost use Rattle.frames.specs.FrameTable.{IsFrame};
+ghost use Rattle.sv39_walk.specs.Entry.{frame_of};
+ghost use Rattle.page_tables.specs.Tree.{IsPage};
+ghost use Rattle.page_tables.specs.Places.{IsTableOf};
+ghost use Rattle.regions.specs.Permission.{ReadsToo};
+ghost use Rattle.regions.specs.RunList.{attr_at};
+ghost use Rattle.paging.specs.Picture.{picture_of, is_live, is_swapped};
+ghost use Rattle.paging.specs.Parts.{IsRootedBut, IsFit};
+ghost use Rattle.page_ranges.specs.Leaves.{TakesStores, PermitsRow, NamesFrames};
+ghost use Rattle.page_ranges.specs.Rows.{ReprotectsRow};
+ghost use Rattle.mapping.specs.Changes.{IsWhole, KeepsAround};
+ghost use Rattle.page_ranges.specs.Steps.{KeepsEntriesOfOthers, IsStepEnd};
+
+use crate::leaves::permitted;
+use crate::rows::{gap_end, table_end, user_page};
+use mapping::root_of;
+use page_tables::{number_in, set_in, table_of};
+use paging::Core;
+use regions::Regions;
+use sv39_walk::Pte;
+use vm_types::{FrameNo, Pid, Prot, USER_START, Vpn};
+
+/// Gives the `pages` pages from `first` on of a live process the permission `prot`, which lets read what it lets write,
+/// and the process the regions that say so. A resident page stays in its frame, where it can be read and run at once, as
+/// the permission says: its leaf has A, and D where it needs no further mark. It has W exactly where the permission lets
+/// stores, and either the frame is the process's own and nobody else has it, or the page is a shared one; a store that finds no
+/// W or no D needs a fault first. A page in a slot stays there, and its entry, which has no permission, is the same number: the
+/// next access brings it back with what its region allows (mprotect(2); RISC-V Privileged Specification, "Sv39 page table
+/// entry").
+pub fn reprotect<D, E>(
+    core: &mut Core<D, E>,
+    pid: Pid,
+    first: u64,
+    pages: u64,
+    prot: Prot,
+    regions: Regions,
+)
+    requires fit { IsFit (picture_of core.old) }
+    requires live { is_live (picture_of core.old) pid ≡ true }
+    requires row { first + pages ≤ user_end }
+    requires reads { ReadsToo prot }
+    requires map { (page : ℕ) → attr_at regions page ≡ protected ((picture_of core.old).at pid) first pages prot page }
+    ensures fit { IsFit (picture_of core.new) }
+    ensures row { ReprotectsRow (picture_of core.old) (picture_of core.new) pid first pages prot }
+    ensures others { KeepsEntriesOfOthers (picture_of core.old) (picture_of core.new) pid }
+    ensures store { core.new.store ≡ core.old.store }
+    ensures swap { core.new.swap ≡ core.old.swap }
+    ensures roots { core.new.roots ≡ core.old.roots }
+    ensures cache { core.new.cache ≡ core.old.cache }
+    ensures refused { core.new.refused ≡ core.old.refused }
+{
+    let end = first + pages;
+    let mut page = first.max(USER_START);
+    while page < end {
+        page = permit_next(core, pid, user_page(page), end, prot);
+    }
+    core.remap(pid, regions);
+}
+
+/// Gives the permission to the pages from `start` on whose entries stand in one table, as far as `end`. The result is
+/// the first page past them. Where a table is missing on the way, there is nothing to do on all its pages.
+fn permit_next<D, E>(core: &mut Core<D, E>, pid: Pid, start: Vpn, end: u64, prot: Prot) -> u64
+    requires rooted { IsRootedBut (picture_of core.old) 0 }
+    requires named { NamesFrames (picture_of core.old) pid }
+    requires live { is_live (picture_of core.old) pid ≡ true }
+    requires some { start < end }
+    requires high { end ≤ user_end }
+    requires reads { ReadsToo prot }
+    ensures rooted { IsRootedBut (picture_of core.new) 0 }
+    ensures named { NamesFrames (picture_of core.new) pid }
+    ensures further { start < result }
+    ensures within { result ≤ end }
+    ensures ends { IsStepEnd (picture_of core.old) pid start end result }
+    ensures permits { PermitsRow (picture_of core.old) (picture_of core.new) pid start result prot }
+    ensures rest { KeepsAround core.old core.new }
+    ensures refused { core.new.refused ≡ core.old.refused }
+{
+    match gap_end(core, pid, start) {
+        Some(gap) => end.min(gap),
+        None => {
+            let stop = end.min(table_end(start));
+            permit_table(core, pid, start, stop, prot);
+            stop
+        }
+    }
+}
+
+/// Gives the permission to the pages from `start` up to, not including, `stop`, whose entries stand in one table.
+fn permit_table<D, E>(core: &mut Core<D, E>, pid: Pid, start: Vpn, stop: u64, prot: Prot)
+    requires rooted { IsRootedBut (picture_of core.old) 0 }
+    requires named { NamesFrames (picture_of core.old) pid }
+    requires live { is_live (picture_of core.old) pid ≡ true }
+    requires whole { IsWhole (picture_of core.old) pid start }
+    requires some { start < stop }
+    requires one_table { stop ≤ (start / 512 + 1) * 512 }
+    requires high { stop ≤ user_end }
+    requires reads { ReadsToo prot }
+    ensures rooted { IsRootedBut (picture_of core.new) 0 }
+    ensures named { NamesFrames (picture_of core.new) pid }
+    ensures permits { PermitsRow (picture_of core.old) (picture_of core.new) pid start stop prot }
+    ensures rest { KeepsAround core.old core.new }
+    ensures refused { core.new.refused ≡ core.old.refused }
+{
+    let root = root_of(core, pid);
+    let Ok(table) = table_of(&core.frames, root, start) else {
+        unreachable!();
+    };
+    for page in start.get()..stop {
+        permit_page(core, pid, root, table, user_page(page), prot);
+    }
+}
+
+/// Gives the permission to a page whose entry stands in that table of a process. The entry of a page in a slot is left alone.
+fn permit_page<D, E>(
+    core: &mut Core<D, E>,
+    pid: Pid,
+    root: FrameNo,
+    table: FrameNo,
+    page: Vpn,
+    prot: Prot,
+)
+    requires rooted { IsRootedBut (picture_of core.old) 0 }
+    requires named { NamesFrames (picture_of core.old) pid }
+    requires live { is_live (picture_of core.old) pid ≡ true }
+    requires root { (picture_of core.old).root pid ≡ Some root.0 }
+    requires inside { IsPage top_level page }
+    requires place { IsTableOf core.old.frames root.0 (page / 512) table.0 }
+    requires reads { ReadsToo prot }
+    ensures rooted { IsRootedBut (picture_of core.new) 0 }
+    ensures named { NamesFrames (picture_of core.new) pid }
+    ensures places { (row n : ℕ) → IsTableOf core.old.frames root.0 row n → IsTableOf core.new.frames root.0 row n }
+    ensures permits { PermitsRow (picture_of core.old) (picture_of core.new) pid page (page + 1) prot }
+    ensures rest { KeepsAround core.old core.new }
+    ensures refused { core.new.refused ≡ core.old.refused }
+{
+    let index = (page.get() % 512) as usize;
+    let number = number_in(&core.frames, table, index);
+    if number.to_u64() == 0 {
+        return;
+    }
+    if is_swapped(number) {
+        return;
+    }
+    let writable = takes_stores(core, pid, page, number, prot);
+    set_in(
+        &mut core.frames,
+        table,
+        index,
+        permitted(number, prot, writable),
+    );
+}
+
+/// Whether the page lies in a slot: V is clear, and bit 1, which is that of R in a leaf, set.
+fn is_swapped(number: Pte) -> bool
+    ensures { result ≡ is_swapped number.0 }
+{
+    !number.is_valid() && number.is_readable()
+}
+
+/// Whether a store may go to the frame that a page's entry names: the permission lets it, and either the frame is the
+/// process's own and nobody else has it, or it is not, and the page is a shared one.
+fn takes_stores<D, E>(core: &Core<D, E>, pid: Pid, page: Vpn, number: Pte, prot: Prot) -> bool
+    requires live { is_live (picture_of core.now) pid ≡ true }
+    requires named { IsFrame core.now.frames (frame_of number.0) }
+    ensures { (result ≡ true) ↔ TakesStores core.now.frames ((picture_of core.now).at pid page) prot number.0 }
+{
+    if !prot.is_writable() {
+        return false;
+    }
+    if number.is_private() {
+        return core.frames.count(number.frame_number()) == 1;
+    }
+    match core.regions(pid).at(page) {
+        Some(attr) => attr.backing.is_shared(),
+        None => false,
+    }
+}

@@ -1,0 +1,61 @@
+//! Rows of pages, and the tables that their entries stand in.
+ghost use Rattle.std.specs.Prelude.{◌≡◌, ℕ, ◌<◌, ◌≤◌, ◌+◌, ◌*◌, ◌/◌, ◌^◌, true, IfNone, IfSome};
+ghost use Rattle.vm_types.specs.Limits.{user_start, user_end};
+ghost use Rattle.paging.specs.Picture.{picture_of, is_live, entry};
+ghost use Rattle.paging.specs.Parts.{IsRootedBut};
+ghost use Rattle.mapping.specs.Changes.{IsWhole};
+ghost use Rattle.page_ranges.specs.Steps.{IsGapEnd};
+
+use mapping::root_of;
+use page_tables::missing_tables;
+use paging::Core;
+use vm_types::{Pid, Vpn};
+
+/// The entries of a table.
+const TABLE_ENTRIES: u64 = 512;
+
+/// The user page of that number, from 16 up to, not including, 2 ^ 26.
+pub fn user_page(number: u64) -> Vpn
+    requires low { user_start ≤ number }
+    requires high { number < user_end }
+    ensures { result ≡ number }
+{
+    let Some(page) = Vpn::new(number) else {
+        unreachable!();
+    };
+    page
+}
+
+/// The first page past those of the same lowest table; it can lie one past the user pages.
+pub fn table_end(page: Vpn) -> u64
+    ensures { result ≡ (page / 512 + 1) * 512 }
+{
+    (page.get() / TABLE_ENTRIES + 1) * TABLE_ENTRIES
+}
+
+/// The first page past those of the same table of the level above the lowest.
+fn middle_end(page: Vpn) -> u64
+    ensures { result ≡ (page / 262144 + 1) * 262144 }
+{
+    let span = TABLE_ENTRIES * TABLE_ENTRIES;
+    (page.get() / span + 1) * span
+}
+
+/// Where a table is missing on the way to a page of a live process, the first page past those that have no entry for that
+/// reason, which can lie past the user pages; `None` where none is missing. So a search over a row of pages goes from table
+/// to table (RISC-V Privileged Specification, "Virtual Address Translation Process").
+pub fn gap_end<D, E>(core: &Core<D, E>, pid: Pid, page: Vpn) -> Option<u64>
+    requires rooted { IsRootedBut (picture_of core.now) 0 }
+    requires live { is_live (picture_of core.now) pid ≡ true }
+    ensures whole { IfNone result (IsWhole (picture_of core.now) pid page) }
+    ensures further { IfSome result (λ end. page < end) }
+    ensures end { IfSome result (IsGapEnd (picture_of core.now) pid page) }
+    ensures gap { IfSome result (λ end. (p : ℕ) → page ≤ p → p < end → entry (picture_of core.now) pid p ≡ 0) }
+{
+    let root = root_of(core, pid);
+    match missing_tables(&core.frames, root, page) {
+        0 => None,
+        2 => Some(middle_end(page)),
+        _ => Some(table_end(page)),
+    }
+}
