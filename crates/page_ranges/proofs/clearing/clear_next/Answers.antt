@@ -17,13 +17,13 @@ pub returns-in-Some-clause-fit : goal.returns-in-Some-clause-fit
 returns-in-Some-clause-fit g c =
     let old : Picture = picture_of c.args.core.now in
     let new : Picture = record old { frames = c.prune.new.frames } in
-    fit_pruned old new c.args.pid c.root_of-top_table.result.0 c.args.start c.requires.fit c.args.core.now.sound c.root_of-top_table.ensures c.prune.ensures.prunes (same_beside old c.prune.new.frames)
+    fit_pruned old new c.args.pid c.root_of-top_table.result.0 _ c.requires.fit c.args.core.now.sound c.root_of-top_table.ensures c.prune.ensures.prunes (same_beside old c.prune.new.frames)
 
 pub returns-in-Some-clause-clears : goal.returns-in-Some-clause-clears
 returns-in-Some-clause-clears g c =
     let old : Picture = picture_of c.args.core.now in
     let new : Picture = record old { frames = c.prune.new.frames } in
-    clears_pruned old new c.args.pid c.root_of-top_table.result.0 c.args.start c.requires.fit c.args.core.now.sound c.root_of-top_table.ensures c.prune.ensures.prunes (same_beside old c.prune.new.frames)
+    clears_pruned old new c.args.pid c.root_of-top_table.result.0 _ c.requires.fit c.args.core.now.sound c.root_of-top_table.ensures c.prune.ensures.prunes (same_beside old c.prune.new.frames)
     c.args.start c.min.result (λ page h from below. c.in-Some.ensures.gap page from (omega (arith, c.min.ensures, below)))
 
 pub returns-in-Some-clause-cleared : goal.returns-in-Some-clause-cleared

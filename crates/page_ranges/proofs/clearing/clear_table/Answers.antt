@@ -62,7 +62,7 @@ pub returns-clause-fit : goal.returns-clause-fit
 returns-clause-fit g c =
     let mid : Picture = picture_of c.loop-page.core in
     let new : Picture = record mid { frames = c.prune.new.frames } in
-    fit_pruned mid new c.args.pid c.root_of-root.result.0 c.args.start c.loop-page.invariant.fit c.loop-page.core.sound c.loop-page.invariant.root_is
+    fit_pruned mid new c.args.pid c.root_of-root.result.0 _ c.loop-page.invariant.fit c.loop-page.core.sound c.loop-page.invariant.root_is
     c.prune.ensures.prunes (same_beside mid c.prune.new.frames)
 
 pub returns-clause-clears : goal.returns-clause-clears
@@ -74,7 +74,7 @@ returns-clause-clears g c =
     let P : ℕ → Type 0 = λ x. Clears old mid c.args.pid c.args.start x in
     clears_then old mid new c.args.pid c.args.start c.args.stop c.args.stop c.requires.fit (omega (arith, c.requires.some)) (omega arith)
     (subst P end c.loop-page.invariant.clears)
-    (clears_pruned mid new c.args.pid c.root_of-root.result.0 c.args.start c.loop-page.invariant.fit c.loop-page.core.sound c.loop-page.invariant.root_is
+    (clears_pruned mid new c.args.pid c.root_of-root.result.0 _ c.loop-page.invariant.fit c.loop-page.core.sound c.loop-page.invariant.root_is
     c.prune.ensures.prunes (same_beside mid c.prune.new.frames) c.args.stop c.args.stop (λ page h least below. absurd (omega (arith, least, below))))
 
 pub returns-clause-cleared : goal.returns-clause-cleared
