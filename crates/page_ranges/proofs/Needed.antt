@@ -156,7 +156,9 @@ module _ (old new : FrameTable) (r page : ℕ) (forest : IsForest old) (is_root 
             let last : last_table new p 2 r ≡ (1, L) = last_is new 2 r p 1 L (omega arith) there (λ h. at) in
             let missing : missing_of new 2 r p ≡ 1 = missing_of-is new 2 r p ∙ ap (λ x. x.0) last in
             let bare : last_entry new 2 r p ≡ 0 = root_now.bare p (λ e. (omega (arith, e, missing))) in
-            absurd (has.2 (sym (ap (entry_at new L) (by_one a i 0 ha has.1 (omega arith))) ∙ sym (ap (λ x. entry_at new x.1 (index_of p x.0)) last) ∙ sym (last_entry-is new 2 r p) ∙ bare)))
+            let place : index_of p 1 ≡ i = by_one a i 0 ha has.1 (omega arith) in
+            let value : last_entry new 2 r p ≡ entry_at new L (index_of p 1) = last_entry-is new 2 r p ∙ ap (λ x. entry_at new x.1 (index_of p x.0)) last in
+            absurd (has.2 (ap (entry_at new L) (sym place) ∙ sym value ∙ bare)))
         | inl pointer ↦ (
             let T = frame_of (entry_at new L i) in
             let on : Points new L i T = record { table = table_of L way; index = has.1; pointer = pointer; target = refl } in

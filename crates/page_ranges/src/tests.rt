@@ -1,4 +1,4 @@
-//! Rows of pages of a process, over devices in memory, in 8 frames and 4 slots.
+//! Rows of pages of a process, over devices in memory, in 8 frames.
 ghost use Rattle.std.specs.Prelude.{◌≡◌, ◌≢◌, ◌≤◌, ◌<◌, ℕ, true, IfOk, OnOk, None};
 ghost use Rattle.vm_types.specs.Rows.{IsUserMap};
 ghost use Rattle.vm_types.specs.declared.region.Backing.TheVariants.{Anon};
@@ -8,10 +8,11 @@ ghost use Rattle.regions.specs.RunList.{attr_at};
 ghost use Rattle.swap.specs.Slots.{IsReady};
 ghost use Rattle.paging.specs.Parts.{IsFit};
 ghost use Rattle.paging.specs.Picture.{picture_of, is_live, entry};
+ghost use Rattle.page_ranges.specs.Steps.{KeepsDevices};
 ghost use Rattle.page_ranges.specs.Tests.{five_pages};
 
 use crate::leaves::permitted;
-use crate::{clear_row, gap_end, remap, reprotect};
+use crate::{clear_row, gap_end, remap, reprotect, table_end};
 use disk_model::{SectorDisk, SimDisk};
 use file_store::{FileStore, OpenFault};
 use frames::Role;
@@ -47,15 +48,16 @@ fn opened(disk: SimDisk) -> Result<FileStore<SimDisk>, OpenFault>
     }
 }
 
-// Memory of 8 frames, with 4 slots.
-fn made(alloc: Global) -> Result<Core<SimDisk, SimDisk>, Fail>
+// Memory of 8 frames, with so many slots.
+fn made(alloc: Global, slots: u32) -> Result<Core<SimDisk, SimDisk>, Fail>
+    requires { slots ≤ 4 }
     ensures fit { IfOk result (λ core. IsFit (picture_of core)) }
     ensures swap { IfOk result (λ core. IsReady ⟦<SimDisk as SectorDisk>⟧ core.swap) }
     ensures none { IfOk result (λ core. (pid : ℕ) → (picture_of core).root pid ≡ None) }
 {
     let store = opened(image(alloc)?)?;
-    let swap = Swap::new(alloc, SimDisk::new(alloc, 32)?, 4)?;
-    match Core::new(alloc, store, swap, 8, 4) {
+    let swap = Swap::new(alloc, SimDisk::new(alloc, 8 * u64::from(slots))?, slots)?;
+    match Core::new(alloc, store, swap, 8, slots) {
         Ok(core) => Ok(core),
         Err((refused, _)) => Err(Fail::from(refused)),
     }
@@ -111,13 +113,14 @@ fn map<D, E: SectorDisk>(core: &mut Core<D, E>) -> Result<(), Fail>
 }
 
 // Process 1 with those pages.
-fn with_five_pages(alloc: Global) -> Result<Core<SimDisk, SimDisk>, Fail>
+fn with_five_pages(alloc: Global, slots: u32) -> Result<Core<SimDisk, SimDisk>, Fail>
+    requires { slots ≤ 4 }
     ensures fit { IfOk result (λ core. IsFit (picture_of core)) }
     ensures swap { IfOk result (λ core. IsReady ⟦<SimDisk as SectorDisk>⟧ core.swap) }
     ensures live { IfOk result (λ core. is_live (picture_of core) 1 ≡ true) }
     ensures map { IfOk result (λ core. (page : ℕ) → (picture_of core).at 1 page ≡ five_pages page) }
 {
-    let mut core = made(alloc)?;
+    let mut core = made(alloc, slots)?;
     spawn(&mut core, first_process())?;
     map(&mut core)?;
     Ok(core)
@@ -211,7 +214,7 @@ fn only_read<D, E>(core: &mut Core<D, E>, pages: u64) -> Result<(), Fail>
 
 #[test]
 fn other_pages_come_in_the_place_of_a_row(rt: HostRuntime) -> Result<(), Fail> {
-    let mut core = with_five_pages(rt.alloc())?;
+    let mut core = with_five_pages(rt.alloc(), 4)?;
     assert_eq!(rt;
         core.regions(first_process()).at(user_page(&rt, 36)),
         Some(zeros())
@@ -226,7 +229,7 @@ fn other_pages_come_in_the_place_of_a_row(rt: HostRuntime) -> Result<(), Fail> {
 
 #[test]
 fn a_row_gets_another_permission(rt: HostRuntime) -> Result<(), Fail> {
-    let mut core = with_five_pages(rt.alloc())?;
+    let mut core = with_five_pages(rt.alloc(), 4)?;
     only_read(&mut core, 3)?;
     assert_eq!(rt; core.regions(first_process()).runs(), 2);
     let read_only = Attr {
@@ -243,7 +246,7 @@ fn a_row_gets_another_permission(rt: HostRuntime) -> Result<(), Fail> {
 // The page may be written no more, and lies in the same frame; the frame is free once the row is cleared.
 #[test]
 fn a_page_keeps_its_frame_until_its_row_is_cleared(rt: HostRuntime) -> Result<(), Fail> {
-    let mut core = with_five_pages(rt.alloc())?;
+    let mut core = with_five_pages(rt.alloc(), 4)?;
     let frame = own(&rt, &mut core, 32)?;
     only_read(&mut core, 2)?;
     assert_eq!(rt;
@@ -262,7 +265,7 @@ fn a_page_keeps_its_frame_until_its_row_is_cleared(rt: HostRuntime) -> Result<()
 // the row is cleared: then the slot is free.
 #[test]
 fn a_page_keeps_its_slot_until_its_row_is_cleared(rt: HostRuntime) -> Result<(), Fail> {
-    let mut core = with_five_pages(rt.alloc())?;
+    let mut core = with_five_pages(rt.alloc(), 4)?;
     own_all(&rt, &mut core)?;
     assert_eq!(rt; number(&core, first_page()), 2);
     only_read(&mut core, 5)?;
@@ -280,7 +283,7 @@ fn a_page_keeps_its_slot_until_its_row_is_cleared(rt: HostRuntime) -> Result<(),
 // A row over the whole user range ends at once where no table stands, and the pages stay mapped.
 #[test]
 fn the_whole_user_range_is_cleared(rt: HostRuntime) -> Result<(), Fail> {
-    let mut core = with_five_pages(rt.alloc())?;
+    let mut core = with_five_pages(rt.alloc(), 4)?;
     clear_row(&mut core, first_process(), 0, 1 << 26);
     assert_eq!(rt;
         core.regions(first_process()).at(user_page(&rt, 32)),
@@ -301,7 +304,7 @@ fn gap<D, E>(core: &Core<D, E>, page: Vpn) -> Option<u64>
 // no entry are given back with the row that they were for.
 #[test]
 fn missing_tables_end_where_the_next_begins(rt: HostRuntime) -> Result<(), Fail> {
-    let mut core = with_five_pages(rt.alloc())?;
+    let mut core = with_five_pages(rt.alloc(), 4)?;
     assert_eq!(rt; gap(&core, first_page()), Some(262_144));
     own(&rt, &mut core, 32)?;
     assert_eq!(rt; gap(&core, first_page()), None);
@@ -311,6 +314,48 @@ fn missing_tables_end_where_the_next_begins(rt: HostRuntime) -> Result<(), Fail>
     assert_eq!(rt; gap(&core, user_page(&rt, 262_144)), Some(524_288));
     clear_row(&mut core, first_process(), 32, 5);
     assert_eq!(rt; gap(&core, first_page()), Some(262_144));
+    Ok(())
+}
+
+#[test]
+fn pages_of_a_table(rt: HostRuntime) {
+    assert_eq!(rt; table_end(first_page()), 512);
+    assert_eq!(rt; crate::user_page(512).get(), 512);
+}
+
+// Maps a page that stands in no table of the five.
+fn map_far<D, E>(core: &mut Core<D, E>) -> Result<(), Fail>
+    requires fit { IsFit (picture_of core.old) }
+    requires live { is_live (picture_of core.old) 1 ≡ true }
+    requires map { (page : ℕ) → (picture_of core.old).at 1 page ≡ five_pages page }
+    ensures fit { OnOk result (IsFit (picture_of core.new)) }
+    ensures live { OnOk result (is_live (picture_of core.new) 1 ≡ true) }
+    ensures devices { OnOk result (KeepsDevices core.old core.new) }
+    ensures slots { OnOk result ((picture_of core.new).slots.total ≡ (picture_of core.old).slots.total) }
+{
+    let regions = five_pages()?.replaced(262_144, 1, zeros())?;
+    remap(core, first_process(), 262_144, 1, regions);
+    Ok(())
+}
+
+// Of the two tables that the far page needs one frame is there for, and no slot to make another free: the one that was linked
+// is without entries, and given back with the page.
+#[test]
+fn a_table_that_a_stalled_call_left_is_given_back(rt: HostRuntime) -> Result<(), Fail> {
+    let mut core = with_five_pages(rt.alloc(), 0)?;
+    own(&rt, &mut core, 32)?;
+    own(&rt, &mut core, 33)?;
+    own(&rt, &mut core, 34)?;
+    map_far(&mut core)?;
+    let far = user_page(&rt, 262_144);
+    assert!(rt; core.regions(first_process()).at(far).is_some());
+    assert_eq!(rt;
+        link_tables(&mut core, first_process(), far),
+        Err(Stall::NoSwap)
+    );
+    assert_eq!(rt; core.frames.next_free(), None);
+    clear_row(&mut core, first_process(), 262_144, 1);
+    assert!(rt; core.frames.next_free().is_some());
     Ok(())
 }
 
