@@ -1,0 +1,105 @@
+-- A page whose entry was set, or that came back from its slot, grants what its region lets be done.
+use Rattle.std.proofs.Common.{◌≡◌, ◌≢◌, ℕ, Bool, true, false, Some, Result, Ok, Err, refl, subst}
+use Rattle.std.specs.Prelude.{IfOk, IfErr, OnErr}
+use Rattle.vm_types.specs.declared.access.Access.{Access}
+use Rattle.vm_types.specs.declared.access.Access.TheVariants.{Load, Store, Fetch}
+use Rattle.vm_types.specs.declared.number.FrameNo.{FrameNo}
+use Rattle.vm_types.specs.declared.refusal.Stall.{Stall}
+use Rattle.vm_types.specs.declared.region.Attr.{Attr}
+use Rattle.vm_types.specs.Verdict.{lets}
+use Rattle.disk_model.specs.declared.sector_disk.SectorDisk.{Ghosts}
+use Rattle.frames.specs.FrameTable.{bytes_of, count_of, IsSound}
+use Rattle.paging.specs.declared.kernel.Core.{Core}
+use Rattle.paging.specs.Picture.{Picture, picture_of, entry, is_swapped}
+use Rattle.paging.specs.Parts.{IsFit, is_shared}
+use Rattle.paging.specs.Calls.{StallCause}
+use Rattle.paging.specs.Capacity.{IsShort}
+use Rattle.paging.specs.Shows.{KeepsFiles}
+use Rattle.mapping.specs.Leaves.{IsEntryOver, IsFullEntry}
+use Rattle.mapping.specs.Changes.{KeepsSeen, KeepsViews}
+use Rattle.mapping.proofs.Arrivals.{cause_of}
+use Rattle.mapping.proofs.Bits.{over_some}
+use Rattle.mapping.proofs.Forms.{mapped_page, over_here}
+use Rattle.mapping.proofs.OwnSteps.{full_own}
+use Rattle.page_faults.specs.Granted.{IsEntered, IsReadyAt}
+use Rattle.page_faults.specs.Outcome.{IsStalled, seen_at}
+use Rattle.page_faults.specs.Shown.{AreShown}
+use Rattle.page_faults.specs.Wants.{ForSlot}
+use Rattle.page_faults.proofs.Opening.{reads_too}
+use Rattle.page_faults.proofs.Ready.{shown_there}
+use Rattle.page_faults.proofs.Settled.{readable, ready_read, entered_read, entered_store, entered_ready, ready_own, owned_entry, ready_after}
+use Rattle.page_faults.proofs.Steps.{ok_from, no_store}
+
+-- a page that is to be read
+module _ (old new : Picture) (pid page : ℕ) (a : Attr) (access : Access) (n : ℕ) (private write stored : Bool) (fit : IsFit new) (sound : IsSound new.frames) (was : old.at pid page ≡ Some a)
+    (now : new.at pid page ≡ Some a) (keeps : KeepsSeen old new) (over : IsEntryOver (entry new pid page) a.prot n private write stored) (other : access ≢ Store) (allowed : lets access a.prot ≡ true) where
+  pub read_ready : IsReadyAt old new pid page a access n
+  read_ready = ready_read access old new pid page a n other (readable old new pid page a n private write stored fit sound was now keeps over)
+
+  pub read_entered : IsEntered new pid page a access n
+  read_entered = entered_read access new pid page a n private write stored other allowed over (entered_ready access old new pid page a n read_ready)
+
+keeps_all : (c : Picture) → KeepsSeen c c
+keeps_all c = record { views = λ q k. refl; touched = λ p. refl }
+
+-- a page that came back from its slot
+module _ (new : Picture) (pid page : ℕ) (a : Attr) (fit : IsFit new) (sound : IsSound new.frames) (now : new.at pid page ≡ Some a) (alone : is_shared a.backing ≡ false) (n : ℕ)
+    (full : IsFullEntry new a n true (entry new pid page)) (one : count_of new.frames n ≡ 1) where
+  own_shown : AreShown new (seen_at new pid page a) (bytes_of new.frames n)
+  own_shown =
+      let P : ℕ → Type 0 = λ x. AreShown new (seen_at new pid page a) (bytes_of new.frames x) in
+      subst P full.names
+      (shown_there new pid page a fit sound (mapped_page new pid page a fit.granting now) now (over_some (entry new pid page) a.prot n true _ _ full)
+      (over_here (entry new pid page) a n true _ _ full))
+
+  stores : lets Store a.prot ≡ true → IsEntryOver (entry new pid page) a.prot n true true true
+  stores allowed = full_own new a n (entry new pid page) one allowed full
+
+  self_ready : (access : Access) → lets access a.prot ≡ true → IsReadyAt new new pid page a access n
+  self_ready Load allowed = readable new new pid page a n true _ _ fit sound now now (keeps_all new) full
+  self_ready Fetch allowed = readable new new pid page a n true _ _ fit sound now now (keeps_all new) full
+  self_ready Store allowed =
+      ready_own new new pid page a n alone
+      (owned_entry new new pid page a n fit sound now alone (reads_too new pid page a fit now allowed) (stores allowed) own_shown (λ q k other. refl) (λ p. refl))
+
+  load_ne : Load ≢ Store
+  load_ne e = (cc)
+
+  fetch_ne : Fetch ≢ Store
+  fetch_ne e = (cc)
+
+  self_entered : (access : Access) → lets access a.prot ≡ true → IsEntered new pid page a access n
+  self_entered Load allowed = entered_read Load new pid page a n true _ _ load_ne allowed full (entered_ready Load new new pid page a n (self_ready Load allowed))
+  self_entered Fetch allowed = entered_read Fetch new pid page a n true _ _ fetch_ne allowed full (entered_ready Fetch new new pid page a n (self_ready Fetch allowed))
+  self_entered Store allowed =
+      entered_store new pid page a n true (reads_too new pid page a fit now allowed) (stores allowed) (entered_ready Store new new pid page a n (self_ready Store allowed))
+
+module _ (old new : Picture) (pid page : ℕ) (a : Attr) (access : Access) (fit : IsFit new) (sound : IsSound new.frames) (now : new.at pid page ≡ Some a) (alone : is_shared a.backing ≡ false)
+    (allowed : lets access a.prot ≡ true) where
+  pub swapped_entered : (r : Result FrameNo Stall) → IfOk r (λ n. IsFullEntry new a n.0 true (entry new pid page)) → IfOk r (λ n. count_of new.frames n.0 ≡ 1) → IfOk r (λ n. IsEntered new pid page a access n.0)
+  swapped_entered r full one =
+      let P : FrameNo → Type 0 = λ n. IsFullEntry new a n.0 true (entry new pid page) in
+      let R : FrameNo → Type 0 = λ n. count_of new.frames n.0 ≡ 1 in
+      let Q : FrameNo → Type 0 = λ n. IsEntered new pid page a access n.0 in
+      ok_from P R Q r (λ n f o. self_entered new pid page a fit sound now alone n.0 f o access allowed) full one
+
+  pub swapped_ready : (r : Result FrameNo Stall) → old.at pid page ≡ Some a → KeepsSeen old new → IfOk r (λ n. IsFullEntry new a n.0 true (entry new pid page)) → IfOk r (λ n. count_of new.frames n.0 ≡ 1)
+      → IfOk r (λ n. IsReadyAt old new pid page a access n.0)
+  swapped_ready r was keeps full one =
+      let P : FrameNo → Type 0 = λ n. IsFullEntry new a n.0 true (entry new pid page) in
+      let R : FrameNo → Type 0 = λ n. count_of new.frames n.0 ≡ 1 in
+      let Q : FrameNo → Type 0 = λ n. IsReadyAt old new pid page a access n.0 in
+      ok_from P R Q r (λ n f o. ready_after old new new pid page a access n.0 was now keeps (self_ready new pid page a fit sound now alone n.0 f o access allowed)) full one
+
+-- or stayed there
+module _ {D E : Type 0} (g : Ghosts D) (h : Ghosts E) (old new : Core D E) (pid page : ℕ) (access : Access) where
+  pub swapped_stalled : (r : Result FrameNo Stall) → new.store ≡ old.store → KeepsFiles (picture_of old) (picture_of new) → OnErr r (KeepsViews (picture_of old) (picture_of new))
+      → is_swapped (entry (picture_of old) pid page) ≡ true → IfErr r (StallCause h old new) → IfErr r (IsShort (picture_of new)) → IfErr r (IsStalled g h old new pid page access)
+  swapped_stalled (Ok n) same files views away cause short = tt
+  swapped_stalled (Err s) same files views away cause short = record {
+    keeps = record { views = views; touched = files.touched };
+    cause = cause_of g h old new s same cause;
+    short = short;
+    wanted = ForSlot away;
+    home = λ is. absurd (no_store h old new s cause is);
+  }

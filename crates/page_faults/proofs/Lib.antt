@@ -1,0 +1,16 @@
+pub mod Answers
+pub mod Walks
+pub mod Opening
+pub mod Pages
+pub mod Ready
+pub mod Verdicts
+pub mod Settled
+pub mod Steps
+pub mod Wanted
+pub mod Linked
+pub mod Brought
+pub mod Owned
+pub mod Entered
+pub mod Storing
+pub mod Showing
+pub mod Started

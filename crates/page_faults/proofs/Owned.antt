@@ -1,0 +1,71 @@
+-- A page that a store is to reach got a frame of its own.
+use Rattle.std.proofs.Common.{◌≡◌, ℕ, true, false, Some, Result, Ok, Err, refl}
+use Rattle.std.specs.Prelude.{IfOk, IfErr, OnErr}
+use Rattle.vm_types.specs.declared.access.Access.TheVariants.{Store}
+use Rattle.vm_types.specs.declared.number.FrameNo.{FrameNo}
+use Rattle.vm_types.specs.declared.refusal.Stall.{Stall}
+use Rattle.vm_types.specs.declared.region.Attr.{Attr}
+use Rattle.vm_types.specs.Permission.{can_write}
+use Rattle.disk_model.specs.declared.sector_disk.SectorDisk.{Ghosts}
+use Rattle.frames.specs.FrameTable.{bytes_of, IsSound}
+use Rattle.paging.specs.declared.kernel.Core.{Core}
+use Rattle.paging.specs.Picture.{Picture, picture_of, entry, is_private, is_swapped}
+use Rattle.paging.specs.Parts.{IsFit, IsBehind, is_shared}
+use Rattle.paging.specs.Calls.{StallCause}
+use Rattle.paging.specs.Capacity.{IsShort}
+use Rattle.paging.specs.Shows.{KeepsFiles}
+use Rattle.mapping.specs.Leaves.{IsEntryOver}
+use Rattle.mapping.specs.Changes.{IsCalm, KeepsViews, KeepsOtherViews, is_sole, shown_bytes}
+use Rattle.mapping.proofs.Arrivals.{cause_of}
+use Rattle.page_faults.specs.Granted.{IsEntered, IsReadyAt}
+use Rattle.page_faults.specs.Outcome.{IsStalled}
+use Rattle.page_faults.specs.Wants.{Wants, ForStore}
+use Rattle.page_faults.proofs.Opening.{reads_too}
+use Rattle.page_faults.proofs.Settled.{entered_store, entered_ready, ready_own, owned_entry, copy_shown}
+use Rattle.page_faults.proofs.Steps.{ok_from, no_store}
+use Rattle.page_faults.proofs.Wanted.{sole_there}
+
+module _ (old new : Picture) (pid page : ℕ) (a : Attr) (sound : IsSound old.frames) (fit : IsFit new) (sound' : IsSound new.frames) (now : new.at pid page ≡ Some a)
+    (alone : is_shared a.backing ≡ false) (writable : can_write a.prot ≡ true) (here : is_swapped (entry old pid page) ≡ false)
+    (memory : is_private (entry old pid page) ≡ false → (m : ℕ) × IsBehind old a.backing m)
+    (stays : (m : ℕ) → is_private (entry old pid page) ≡ false → IsBehind old a.backing m → IsBehind new a.backing m × (bytes_of new.frames m ≡ bytes_of old.frames m))
+    (others : KeepsOtherViews old new pid page) (files : KeepsFiles old new) where
+  one_ready : (n : FrameNo) → bytes_of new.frames n.0 ≡ shown_bytes old pid page a → IsEntryOver (entry new pid page) a.prot n.0 true true true → IsReadyAt old new pid page a Store n.0
+  one_ready n bytes over =
+      ready_own old new pid page a n.0 alone
+      (owned_entry old new pid page a n.0 fit sound' now alone (reads_too new pid page a fit now writable) over
+      (copy_shown old new pid page a (bytes_of new.frames n.0) sound here memory stays bytes) others files.touched)
+
+  pub owned_ready : (r : Result FrameNo Stall) → IfOk r (λ n. bytes_of new.frames n.0 ≡ shown_bytes old pid page a) → IfOk r (λ n. IsEntryOver (entry new pid page) a.prot n.0 true true true)
+      → IfOk r (λ n. IsReadyAt old new pid page a Store n.0)
+  owned_ready r bytes over =
+      let P : FrameNo → Type 0 = λ n. bytes_of new.frames n.0 ≡ shown_bytes old pid page a in
+      let R : FrameNo → Type 0 = λ n. IsEntryOver (entry new pid page) a.prot n.0 true true true in
+      let Q : FrameNo → Type 0 = λ n. IsReadyAt old new pid page a Store n.0 in
+      ok_from P R Q r one_ready bytes over
+
+  pub owned_entered : (r : Result FrameNo Stall) → IfOk r (λ n. bytes_of new.frames n.0 ≡ shown_bytes old pid page a) → IfOk r (λ n. IsEntryOver (entry new pid page) a.prot n.0 true true true)
+      → IfOk r (λ n. IsEntered new pid page a Store n.0)
+  owned_entered r bytes over =
+      let P : FrameNo → Type 0 = λ n. bytes_of new.frames n.0 ≡ shown_bytes old pid page a in
+      let R : FrameNo → Type 0 = λ n. IsEntryOver (entry new pid page) a.prot n.0 true true true in
+      let Q : FrameNo → Type 0 = λ n. IsEntered new pid page a Store n.0 in
+      ok_from P R Q r (λ n b o. entered_store new pid page a n.0 true (reads_too new pid page a fit now writable) o (entered_ready Store old new pid page a n.0 (one_ready n b o))) bytes over
+
+module _ {D E : Type 0} (old new : Core D E) (pid page : ℕ) (a : Attr) (was : (picture_of old).at pid page ≡ Some a) (alone : is_shared a.backing ≡ false) where
+  -- where no frame is wanted the page has its own
+  pub owned_calm : (is_sole (picture_of old) (entry (picture_of old) pid page) ≡ true → IsCalm old new pid page) → (Wants (picture_of old) pid page Store → ⊥) → IsCalm old new pid page
+  owned_calm calm none = calm (sole_there (picture_of old) pid page a was alone none)
+
+  module _ (g : Ghosts D) (h : Ghosts E) where
+    pub owned_stalled : (r : Result FrameNo Stall) → new.store ≡ old.store → KeepsFiles (picture_of old) (picture_of new) → OnErr r (KeepsViews (picture_of old) (picture_of new))
+        → OnErr r (is_sole (picture_of old) (entry (picture_of old) pid page) ≡ false) → IfErr r (StallCause h old new) → IfErr r (IsShort (picture_of new))
+        → IfErr r (IsStalled g h old new pid page Store)
+    owned_stalled (Ok n) same files views several cause short = tt
+    owned_stalled (Err s) same files views several cause short = record {
+      keeps = record { views = views; touched = files.touched };
+      cause = cause_of g h old new s same cause;
+      short = short;
+      wanted = ForStore a refl was alone several;
+      home = λ is. absurd (no_store h old new s cause is);
+    }

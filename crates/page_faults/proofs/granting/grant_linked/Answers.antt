@@ -1,0 +1,63 @@
+use Rattle.std.proofs.Common.{inl, sym, ap, ◌∙◌, subst}
+use Rattle.vm_types.specs.declared.access.Access.{Access}
+use Rattle.paging.specs.Picture.{Picture, picture_of, is_swapped}
+use Rattle.mapping.specs.Changes.{IsCalm}
+use Rattle.mapping.proofs.Forms.{mapped_page}
+use Rattle.mapping.proofs.SwapSteps.{swapped_page}
+use Rattle.page_faults.specs.Wants.{Wants, ForSlot, ShowsFile}
+use Rattle.page_faults.proofs.Entered.{swapped_entered, swapped_ready, swapped_stalled}
+use Rattle.page_faults.proofs.Steps.{proceeds_moves, brings_none, on_ok}
+use Rattle.page_faults.proofs.granting.grant_linked.Goals as goal
+
+pub returns-then-is_swapped-clause-proceeds : goal.returns-then-is_swapped-clause-proceeds
+returns-then-is_swapped-clause-proceeds g c =
+    proceeds_moves g.D.SectorDisk g.E.SectorDisk c.args.core.now c.swap_in.new.core c.requires.store c.swap_in.ensures.moves
+
+pub returns-then-is_swapped-clause-brings : goal.returns-then-is_swapped-clause-brings
+returns-then-is_swapped-clause-brings g c kept =
+    let old : Picture = picture_of c.args.core.now in
+    let files = c.swap_in.ensures.files in
+    brings_none g.D.SectorDisk c.args.core.now.store.disk c.swap_in.new.core.store.disk (ShowsFile old c.args.pid c.args.page) old (picture_of c.swap_in.new.core) files.held files.files
+
+pub returns-then-is_swapped-clause-entered : goal.returns-then-is_swapped-clause-entered
+returns-then-is_swapped-clause-entered g c =
+    let old : Picture = picture_of c.args.core.now in
+    let new : Picture = picture_of c.swap_in.new.core in
+    let done = c.swap_in.ensures in
+    let away = sym (ap is_swapped c.entry_at.ensures) ∙ sym c.is_swapped.ensures ∙ c.if-is_swapped.true in
+    let at = c.requires.allowed.mapped in
+    let page = swapped_page old c.args.pid c.args.page c.args.attr c.requires.linked.fit (mapped_page old c.args.pid c.args.page c.args.attr c.requires.linked.fit.granting at) at away in
+    swapped_entered old new c.args.pid c.args.page c.args.attr c.args.access done.moves.fit c.swap_in.new.core.sound (done.moves.spaces.at c.args.pid c.args.page ∙ at) page.not_shared
+    c.requires.allowed.lets c.swap_in.result done.entry done.sole
+
+pub returns-then-is_swapped-clause-ready : goal.returns-then-is_swapped-clause-ready
+returns-then-is_swapped-clause-ready g c trusted =
+    let old : Picture = picture_of c.args.core.now in
+    let new : Picture = picture_of c.swap_in.new.core in
+    let done = c.swap_in.ensures in
+    let away = sym (ap is_swapped c.entry_at.ensures) ∙ sym c.is_swapped.ensures ∙ c.if-is_swapped.true in
+    let at = c.requires.allowed.mapped in
+    let page = swapped_page old c.args.pid c.args.page c.args.attr c.requires.linked.fit (mapped_page old c.args.pid c.args.page c.args.attr c.requires.linked.fit.granting at) at away in
+    swapped_ready old new c.args.pid c.args.page c.args.attr c.args.access done.moves.fit c.swap_in.new.core.sound (done.moves.spaces.at c.args.pid c.args.page ∙ at) page.not_shared
+    c.requires.allowed.lets c.swap_in.result at (record { views = done.seen (trusted away); touched = done.files.touched }) done.entry done.sole
+
+pub returns-then-is_swapped-clause-calm : goal.returns-then-is_swapped-clause-calm
+returns-then-is_swapped-clause-calm g c none =
+    absurd (none (ForSlot (sym (ap is_swapped c.entry_at.ensures) ∙ sym c.is_swapped.ensures ∙ c.if-is_swapped.true)))
+
+pub returns-then-is_swapped-clause-read : goal.returns-then-is_swapped-clause-read
+returns-then-is_swapped-clause-read g c = inl c.swap_in.ensures.moves.store
+
+pub returns-then-is_swapped-clause-device_calm : goal.returns-then-is_swapped-clause-device_calm
+returns-then-is_swapped-clause-device_calm g c = on_ok _ c.swap_in.result (ap (λ s. g.D.SectorDisk.failures s.disk) c.swap_in.ensures.moves.store)
+
+pub returns-then-is_swapped-clause-stalled : goal.returns-then-is_swapped-clause-stalled
+returns-then-is_swapped-clause-stalled g c =
+    let done = c.swap_in.ensures in
+    swapped_stalled g.D.SectorDisk g.E.SectorDisk c.args.core.now c.swap_in.new.core c.args.pid c.args.page c.args.access c.swap_in.result done.moves.store done.files done.same
+    (sym (ap is_swapped c.entry_at.ensures) ∙ sym c.is_swapped.ensures ∙ c.if-is_swapped.true) done.cause done.short
+
+pub returns-in-Store-clause-calm : goal.returns-in-Store-clause-calm
+returns-in-Store-clause-calm g c =
+    let P : Access → Type 0 = λ a. (Wants (picture_of c.args.core.now) c.args.pid c.args.page a → ⊥) → IsCalm c.args.core.now c.grant_store.new.core c.args.pid c.args.page in
+    subst P (sym c.in-Store.is) c.grant_store.ensures.calm

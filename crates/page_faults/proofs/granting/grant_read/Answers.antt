@@ -1,0 +1,246 @@
+use Rattle.std.proofs.Common.{◌≢◌, ℕ, inl, refl, sym, ap, ◌∙◌, subst, arith}
+use Rattle.sv39_walk.specs.Entry.{frame_of}
+use Rattle.paging.specs.Picture.{Picture, picture_of, entry}
+use Rattle.mapping.proofs.Forms.{mapped_page, used_inside, resident_used, seat_zero}
+use Rattle.mapping.proofs.Steps.{moves_entered, seen_then}
+use Rattle.page_faults.specs.Granted.{IsEntered, IsReadyAt}
+use Rattle.page_faults.specs.Wants.{ShowsFile}
+use Rattle.page_faults.proofs.Brought.{linked_then, read_then, calm_then, brings_wider, brings_on, stalled_away}
+use Rattle.page_faults.proofs.Entered.{read_ready, read_entered}
+use Rattle.page_faults.proofs.Linked.{open_still}
+use Rattle.page_faults.proofs.Pages.{page_inside, frame_behind}
+use Rattle.page_faults.proofs.Settled.{none_same}
+use Rattle.page_faults.proofs.Steps.{proceeds_moves, proceeds_then, brings_none, files_read, calm_store}
+use Rattle.page_faults.proofs.Wanted.{stalled_as, shows_file, page_there}
+use Rattle.page_faults.proofs.granting.grant_read.Goals as goal
+
+pub regrant-requires-clause-resident : goal.regrant-requires-clause-resident
+regrant-requires-clause-resident g c = λ none. c.if-to_u64-ne0.true (c.to_u64.ensures ∙ c.entry_at-entry.ensures ∙ none)
+
+pub frame_number-requires : goal.frame_number-requires
+frame_number-requires g c =
+    let old : Picture = picture_of c.args.core.now in
+    let is = ap frame_of c.entry_at-entry.ensures in
+    let some : entry old c.args.pid c.args.page ≢ 0 = λ none. c.if-to_u64-ne0.true (c.to_u64.ensures ∙ c.entry_at-entry.ensures ∙ none) in
+    let low = used_inside old.frames (frame_of (entry old c.args.pid c.args.page)) c.args.core.now.sound
+    (resident_used old c.args.pid c.args.page c.args.attr c.args.core.now.sound c.requires.linked.fit
+    (mapped_page old c.args.pid c.args.page c.args.attr c.requires.linked.fit.granting c.requires.allowed.mapped) c.requires.allowed.mapped some c.requires.here) in
+    let most = c.args.core.now.sound.most in
+    omega (arith, is, low, most)
+
+pub returns-then-to_u64-ne0-clause-proceeds : goal.returns-then-to_u64-ne0-clause-proceeds
+returns-then-to_u64-ne0-clause-proceeds g c =
+    proceeds_moves g.D.SectorDisk g.E.SectorDisk c.args.core.now c.regrant.new.core c.requires.store
+    (moves_entered g.E.SectorDisk c.args.core.now c.regrant.new.core c.args.pid c.args.page c.requires.swap c.regrant.ensures.enters)
+
+pub returns-then-to_u64-ne0-clause-brings : goal.returns-then-to_u64-ne0-clause-brings
+returns-then-to_u64-ne0-clause-brings g c kept =
+    let old : Picture = picture_of c.args.core.now in
+    let files = c.regrant.ensures.files in
+    brings_none g.D.SectorDisk c.args.core.now.store.disk c.regrant.new.core.store.disk (ShowsFile old c.args.pid c.args.page) old (picture_of c.regrant.new.core) files.held files.files
+
+pub returns-then-to_u64-ne0-clause-entered : goal.returns-then-to_u64-ne0-clause-entered
+returns-then-to_u64-ne0-clause-entered g c =
+    let old : Picture = picture_of c.args.core.now in
+    let new : Picture = picture_of c.regrant.new.core in
+    let enters = c.regrant.ensures.enters in
+    let P : ℕ → Type 0 = λ x. IsEntered new c.args.pid c.args.page c.args.attr c.args.access x in
+    subst P (sym (c.frame_number.ensures ∙ ap frame_of c.entry_at-entry.ensures))
+    (read_entered old new c.args.pid c.args.page c.args.attr c.args.access (frame_of (entry old c.args.pid c.args.page)) _ _ _ enters.fit c.regrant.new.core.sound c.requires.allowed.mapped
+    (enters.spaces.at c.args.pid c.args.page ∙ c.requires.allowed.mapped) (record { views = enters.views; touched = c.regrant.ensures.files.touched }) c.regrant.ensures.entry c.requires.reads c.requires.allowed.lets)
+
+pub returns-then-to_u64-ne0-clause-ready : goal.returns-then-to_u64-ne0-clause-ready
+returns-then-to_u64-ne0-clause-ready g c =
+    let old : Picture = picture_of c.args.core.now in
+    let new : Picture = picture_of c.regrant.new.core in
+    let enters = c.regrant.ensures.enters in
+    let P : ℕ → Type 0 = λ x. IsReadyAt old new c.args.pid c.args.page c.args.attr c.args.access x in
+    subst P (sym (c.frame_number.ensures ∙ ap frame_of c.entry_at-entry.ensures))
+    (read_ready old new c.args.pid c.args.page c.args.attr c.args.access (frame_of (entry old c.args.pid c.args.page)) _ _ _ enters.fit c.regrant.new.core.sound c.requires.allowed.mapped
+    (enters.spaces.at c.args.pid c.args.page ∙ c.requires.allowed.mapped) (record { views = enters.views; touched = c.regrant.ensures.files.touched }) c.regrant.ensures.entry c.requires.reads c.requires.allowed.lets)
+
+pub returns-then-to_u64-ne0-clause-calm : goal.returns-then-to_u64-ne0-clause-calm
+returns-then-to_u64-ne0-clause-calm g c none = c.regrant.ensures.enters.calm
+
+pub returns-then-to_u64-ne0-clause-read : goal.returns-then-to_u64-ne0-clause-read
+returns-then-to_u64-ne0-clause-read g c = inl c.regrant.ensures.enters.calm.store
+
+pub returns-then-to_u64-ne0-clause-not_refused : goal.returns-then-to_u64-ne0-clause-not_refused
+returns-then-to_u64-ne0-clause-not_refused g c = c.regrant.ensures.enters.calm.refused
+
+pub returns-then-to_u64-ne0-clause-device_calm : goal.returns-then-to_u64-ne0-clause-device_calm
+returns-then-to_u64-ne0-clause-device_calm g c = ap (λ s. g.D.SectorDisk.failures s.disk) c.regrant.ensures.enters.calm.store
+
+pub show_zero-requires-clause-none : goal.show_zero-requires-clause-none
+show_zero-requires-clause-none g c = sym c.entry_at-entry.ensures ∙ sym c.to_u64.ensures ∙ c.if-to_u64-ne0.false
+
+pub returns-in-Anon-clause-proceeds : goal.returns-in-Anon-clause-proceeds
+returns-in-Anon-clause-proceeds g c =
+    proceeds_moves g.D.SectorDisk g.E.SectorDisk c.args.core.now c.show_zero.new.core c.requires.store
+    (moves_entered g.E.SectorDisk c.args.core.now c.show_zero.new.core c.args.pid c.args.page c.requires.swap c.show_zero.ensures.enters)
+
+pub returns-in-Anon-clause-brings : goal.returns-in-Anon-clause-brings
+returns-in-Anon-clause-brings g c kept =
+    let old : Picture = picture_of c.args.core.now in
+    let files = c.show_zero.ensures.files in
+    brings_none g.D.SectorDisk c.args.core.now.store.disk c.show_zero.new.core.store.disk (ShowsFile old c.args.pid c.args.page) old (picture_of c.show_zero.new.core) files.held files.files
+
+pub returns-in-Anon-clause-entered : goal.returns-in-Anon-clause-entered
+returns-in-Anon-clause-entered g c =
+    let old : Picture = picture_of c.args.core.now in
+    let new : Picture = picture_of c.show_zero.new.core in
+    let enters = c.show_zero.ensures.enters in
+    (read_entered old new c.args.pid c.args.page c.args.attr c.args.access 0 _ _ _ enters.fit c.show_zero.new.core.sound c.requires.allowed.mapped
+    (enters.spaces.at c.args.pid c.args.page ∙ c.requires.allowed.mapped) (record { views = enters.views; touched = c.show_zero.ensures.files.touched }) c.show_zero.ensures.entry c.requires.reads c.requires.allowed.lets)
+
+pub returns-in-Anon-clause-ready : goal.returns-in-Anon-clause-ready
+returns-in-Anon-clause-ready g c =
+    let old : Picture = picture_of c.args.core.now in
+    let new : Picture = picture_of c.show_zero.new.core in
+    let enters = c.show_zero.ensures.enters in
+    (read_ready old new c.args.pid c.args.page c.args.attr c.args.access 0 _ _ _ enters.fit c.show_zero.new.core.sound c.requires.allowed.mapped
+    (enters.spaces.at c.args.pid c.args.page ∙ c.requires.allowed.mapped) (record { views = enters.views; touched = c.show_zero.ensures.files.touched }) c.show_zero.ensures.entry c.requires.reads c.requires.allowed.lets)
+
+pub returns-in-Anon-clause-calm : goal.returns-in-Anon-clause-calm
+returns-in-Anon-clause-calm g c none = c.show_zero.ensures.enters.calm
+
+pub returns-in-Anon-clause-read : goal.returns-in-Anon-clause-read
+returns-in-Anon-clause-read g c = inl c.show_zero.ensures.enters.calm.store
+
+pub returns-in-Anon-clause-not_refused : goal.returns-in-Anon-clause-not_refused
+returns-in-Anon-clause-not_refused g c = c.show_zero.ensures.enters.calm.refused
+
+pub returns-in-Anon-clause-device_calm : goal.returns-in-Anon-clause-device_calm
+returns-in-Anon-clause-device_calm g c = ap (λ s. g.D.SectorDisk.failures s.disk) c.show_zero.ensures.enters.calm.store
+
+pub cached-requires-clause-inside : goal.cached-requires-clause-inside
+cached-requires-clause-inside g c =
+    page_inside (picture_of c.args.core.now).files c.args.attr.backing c.in-Private.file_page c.in-Private.is c.requires.allowed.inside
+
+pub returns-in_err-frame-in-Private-clause-brings : goal.returns-in_err-frame-in-Private-clause-brings
+returns-in_err-frame-in-Private-clause-brings g c =
+    let old : Picture = picture_of c.args.core.now in
+    let none = seat_zero _ (sym c.entry_at-entry.ensures ∙ sym c.to_u64.ensures ∙ c.if-to_u64-ne0.false) in
+    let shows = shows_file old c.args.pid c.args.page c.args.attr c.in-Private.file_page c.requires.allowed.mapped c.in-Private.is none in
+    brings_wider c.args.core.now c.cached.new.core c.args.pid c.args.page c.in-Private.file_page shows g.D.SectorDisk g.E.SectorDisk c.in_err-frame-in-Private.ensures.brings
+
+pub returns-in_err-frame-in-Private-clause-calm : goal.returns-in_err-frame-in-Private-clause-calm
+returns-in_err-frame-in-Private-clause-calm g c unwanted =
+    let old : Picture = picture_of c.args.core.now in
+    let none = seat_zero _ (sym c.entry_at-entry.ensures ∙ sym c.to_u64.ensures ∙ c.if-to_u64-ne0.false) in
+    let shows = shows_file old c.args.pid c.args.page c.args.attr c.in-Private.file_page c.requires.allowed.mapped c.in-Private.is none in
+    let there = page_there old c.args.pid c.args.page c.args.access c.in-Private.file_page shows unwanted in
+    absurd (c.in_err-frame-in-Private.ensures.idle there.0 there.1).1
+
+pub returns-in_err-frame-in-Private-clause-read : goal.returns-in_err-frame-in-Private-clause-read
+returns-in_err-frame-in-Private-clause-read g c =
+    let old : Picture = picture_of c.args.core.now in
+    let none = seat_zero _ (sym c.entry_at-entry.ensures ∙ sym c.to_u64.ensures ∙ c.if-to_u64-ne0.false) in
+    let shows = shows_file old c.args.pid c.args.page c.args.attr c.in-Private.file_page c.requires.allowed.mapped c.in-Private.is none in
+    read_then c.args.core.now c.cached.new.core c.args.pid c.args.page c.in-Private.file_page shows c.cached.new.core.store c.requires.linked.fit refl c.in_err-frame-in-Private.ensures.read
+
+pub returns-in_err-frame-in-Private-clause-stalled : goal.returns-in_err-frame-in-Private-clause-stalled
+returns-in_err-frame-in-Private-clause-stalled g c =
+    let old : Picture = picture_of c.args.core.now in
+    let none = seat_zero _ (sym c.entry_at-entry.ensures ∙ sym c.to_u64.ensures ∙ c.if-to_u64-ne0.false) in
+    let shows = shows_file old c.args.pid c.args.page c.args.attr c.in-Private.file_page c.requires.allowed.mapped c.in-Private.is none in
+    let done = c.in_err-frame-in-Private.ensures in
+    stalled_as g.D.SectorDisk g.E.SectorDisk c.args.core.now c.cached.new.core c.args.pid c.args.page c.args.access c.from_residual.result c.in_err-frame-in-Private.field-0.0 c.from_residual.ensures.1
+    (stalled_away c.args.core.now c.cached.new.core c.args.pid c.args.page c.in-Private.file_page shows g.D.SectorDisk g.E.SectorDisk c.args.access c.in_err-frame-in-Private.field-0.0 c.requires.linked.fit done.keeps
+    (λ n at. (done.idle n at).1) done.cause done.short done.home)
+
+pub show_cached-requires-clause-linked : goal.show_cached-requires-clause-linked
+show_cached-requires-clause-linked g c =
+    let done = c.in_ok-frame-in-Private.ensures in
+    linked_then (picture_of c.args.core.now) (picture_of c.cached.new.core) c.args.pid c.args.page done.proceeds.fit done.proceeds.spaces done.proceeds.tables c.requires.linked
+
+pub show_cached-requires-clause-behind : goal.show_cached-requires-clause-behind
+show_cached-requires-clause-behind g c =
+    frame_behind (picture_of c.cached.new.core) c.args.attr.backing c.in-Private.file_page c.in_ok-frame-in-Private.frame.0 c.in-Private.is c.in_ok-frame-in-Private.ensures.placed
+
+pub show_cached-requires-clause-inside : goal.show_cached-requires-clause-inside
+show_cached-requires-clause-inside g c =
+    let done = c.in_ok-frame-in-Private.ensures in
+    (open_still (picture_of c.args.core.now) (picture_of c.cached.new.core) c.args.pid c.args.page c.args.access c.args.attr done.proceeds.spaces.at
+    (files_read g.D.SectorDisk c.args.core.now.store c.cached.new.core.store done.proceeds.reads) c.requires.allowed).inside
+
+pub show_cached-requires-clause-none : goal.show_cached-requires-clause-none
+show_cached-requires-clause-none g c =
+    let done = c.in_ok-frame-in-Private.ensures in
+    none_same (picture_of c.args.core.now) (picture_of c.cached.new.core) c.args.pid c.args.page c.args.attr c.requires.allowed.mapped
+    (done.proceeds.spaces.at c.args.pid c.args.page ∙ c.requires.allowed.mapped) (done.keeps.views c.args.pid c.args.page)
+    (seat_zero _ (sym c.entry_at-entry.ensures ∙ sym c.to_u64.ensures ∙ c.if-to_u64-ne0.false))
+
+pub returns-in_ok-frame-in-Private-clause-proceeds : goal.returns-in_ok-frame-in-Private-clause-proceeds
+returns-in_ok-frame-in-Private-clause-proceeds g c =
+    let first = c.in_ok-frame-in-Private.ensures in
+    proceeds_then g.D.SectorDisk g.E.SectorDisk c.args.core.now c.cached.new.core c.show_cached.new.core first.proceeds
+    (moves_entered g.E.SectorDisk c.cached.new.core c.show_cached.new.core c.args.pid c.args.page first.proceeds.swap c.show_cached.ensures.enters)
+
+pub returns-in_ok-frame-in-Private-clause-brings : goal.returns-in_ok-frame-in-Private-clause-brings
+returns-in_ok-frame-in-Private-clause-brings g c =
+    let old : Picture = picture_of c.args.core.now in
+    let none = seat_zero _ (sym c.entry_at-entry.ensures ∙ sym c.to_u64.ensures ∙ c.if-to_u64-ne0.false) in
+    let shows = shows_file old c.args.pid c.args.page c.args.attr c.in-Private.file_page c.requires.allowed.mapped c.in-Private.is none in
+    let first = c.in_ok-frame-in-Private.ensures in
+    let files = c.show_cached.ensures.files in
+    let device = (moves_entered g.E.SectorDisk c.cached.new.core c.show_cached.new.core c.args.pid c.args.page first.proceeds.swap c.show_cached.ensures.enters).device in
+    brings_on c.args.core.now c.cached.new.core c.args.pid c.args.page c.in-Private.file_page shows g.D.SectorDisk g.E.SectorDisk c.show_cached.new.core first.brings first.keeps
+    c.show_cached.ensures.enters.calm.store device files.held files.files
+
+pub returns-in_ok-frame-in-Private-clause-entered : goal.returns-in_ok-frame-in-Private-clause-entered
+returns-in_ok-frame-in-Private-clause-entered g c =
+    let old : Picture = picture_of c.args.core.now in
+    let mid : Picture = picture_of c.cached.new.core in
+    let new : Picture = picture_of c.show_cached.new.core in
+    let first = c.in_ok-frame-in-Private.ensures in
+    let enters = c.show_cached.ensures.enters in
+    read_entered old new c.args.pid c.args.page c.args.attr c.args.access c.in_ok-frame-in-Private.frame.0 _ _ _ enters.fit c.show_cached.new.core.sound c.requires.allowed.mapped
+    (enters.spaces.at c.args.pid c.args.page ∙ first.proceeds.spaces.at c.args.pid c.args.page ∙ c.requires.allowed.mapped)
+    (seen_then old mid new first.keeps (record { views = enters.views; touched = c.show_cached.ensures.files.touched })) c.show_cached.ensures.entry c.requires.reads c.requires.allowed.lets
+
+pub returns-in_ok-frame-in-Private-clause-ready : goal.returns-in_ok-frame-in-Private-clause-ready
+returns-in_ok-frame-in-Private-clause-ready g c =
+    let old : Picture = picture_of c.args.core.now in
+    let mid : Picture = picture_of c.cached.new.core in
+    let new : Picture = picture_of c.show_cached.new.core in
+    let first = c.in_ok-frame-in-Private.ensures in
+    let enters = c.show_cached.ensures.enters in
+    read_ready old new c.args.pid c.args.page c.args.attr c.args.access c.in_ok-frame-in-Private.frame.0 _ _ _ enters.fit c.show_cached.new.core.sound c.requires.allowed.mapped
+    (enters.spaces.at c.args.pid c.args.page ∙ first.proceeds.spaces.at c.args.pid c.args.page ∙ c.requires.allowed.mapped)
+    (seen_then old mid new first.keeps (record { views = enters.views; touched = c.show_cached.ensures.files.touched })) c.show_cached.ensures.entry c.requires.reads c.requires.allowed.lets
+
+pub returns-in_ok-frame-in-Private-clause-calm : goal.returns-in_ok-frame-in-Private-clause-calm
+returns-in_ok-frame-in-Private-clause-calm g c =
+    let old : Picture = picture_of c.args.core.now in
+    let none = seat_zero _ (sym c.entry_at-entry.ensures ∙ sym c.to_u64.ensures ∙ c.if-to_u64-ne0.false) in
+    let shows = shows_file old c.args.pid c.args.page c.args.attr c.in-Private.file_page c.requires.allowed.mapped c.in-Private.is none in
+    calm_then c.args.core.now c.cached.new.core c.args.pid c.args.page c.in-Private.file_page shows (λ n at. (c.in_ok-frame-in-Private.ensures.idle n at).0) c.show_cached.new.core c.args.access
+    (λ none. c.show_cached.ensures.enters.calm)
+
+pub returns-in_ok-frame-in-Private-clause-read : goal.returns-in_ok-frame-in-Private-clause-read
+returns-in_ok-frame-in-Private-clause-read g c =
+    let old : Picture = picture_of c.args.core.now in
+    let none = seat_zero _ (sym c.entry_at-entry.ensures ∙ sym c.to_u64.ensures ∙ c.if-to_u64-ne0.false) in
+    let shows = shows_file old c.args.pid c.args.page c.args.attr c.in-Private.file_page c.requires.allowed.mapped c.in-Private.is none in
+    read_then c.args.core.now c.cached.new.core c.args.pid c.args.page c.in-Private.file_page shows c.show_cached.new.core.store c.requires.linked.fit c.show_cached.ensures.enters.calm.store
+    c.in_ok-frame-in-Private.ensures.read
+
+pub returns-in_ok-frame-in-Private-clause-not_refused : goal.returns-in_ok-frame-in-Private-clause-not_refused
+returns-in_ok-frame-in-Private-clause-not_refused g c = c.show_cached.ensures.enters.calm.refused ∙ c.in_ok-frame-in-Private.ensures.not_refused
+
+pub returns-in_ok-frame-in-Private-clause-device_calm : goal.returns-in_ok-frame-in-Private-clause-device_calm
+returns-in_ok-frame-in-Private-clause-device_calm g c =
+    calm_store g.D.SectorDisk c.args.core.now c.cached.new.core c.show_cached.new.core c.show_cached.ensures.enters.calm.store c.in_ok-frame-in-Private.ensures.store_calm
+
+pub returns-then-to_u64-ne0-clause-others : goal.returns-then-to_u64-ne0-clause-others
+returns-then-to_u64-ne0-clause-others g c = λ q k other. c.regrant.ensures.enters.views q k
+
+pub returns-in-Anon-clause-others : goal.returns-in-Anon-clause-others
+returns-in-Anon-clause-others g c = λ q k other. c.show_zero.ensures.enters.views q k
+
+pub returns-in_err-frame-in-Private-clause-others : goal.returns-in_err-frame-in-Private-clause-others
+returns-in_err-frame-in-Private-clause-others g c = λ q k other. c.in_err-frame-in-Private.ensures.keeps.views q k
+
+pub returns-in_ok-frame-in-Private-clause-others : goal.returns-in_ok-frame-in-Private-clause-others
+returns-in_ok-frame-in-Private-clause-others g c = λ q k other. c.show_cached.ensures.enters.views q k ∙ c.in_ok-frame-in-Private.ensures.keeps.views q k

@@ -1,0 +1,142 @@
+use Rattle.std.proofs.Common.{false, inl, inr, refl, ap, ◌∙◌}
+use Rattle.vm_types.specs.declared.access.Access.TheVariants.{Store}
+use Rattle.swap.specs.Slots.{slots_of}
+use Rattle.paging.specs.Picture.{Picture, picture_of}
+use Rattle.paging.specs.Parts.{is_shared}
+use Rattle.mapping.proofs.Forms.{mapped_page, shared_none}
+use Rattle.mapping.proofs.Steps.{moves_entered}
+use Rattle.page_faults.proofs.Brought.{linked_then, read_then, calm_then, brings_wider, brings_on, stalled_away}
+use Rattle.page_faults.proofs.Linked.{open_still}
+use Rattle.page_faults.proofs.Opening.{reads_too}
+use Rattle.page_faults.proofs.Pages.{page_inside}
+use Rattle.page_faults.proofs.Settled.{entered_store, entered_ready, ready_shared, touched_entry, touches_after}
+use Rattle.page_faults.proofs.Steps.{proceeds_then, files_read, calm_store, held_marked}
+use Rattle.page_faults.proofs.Wanted.{stalled_as, shows_file, page_there}
+use Rattle.page_faults.proofs.granting.grant_shared.Goals as goal
+
+pub cached-requires-clause-inside : goal.cached-requires-clause-inside
+cached-requires-clause-inside g c =
+    page_inside (picture_of c.args.core.now).files c.args.attr.backing c.args.file_page (inr c.requires.shared) c.requires.allowed.inside
+
+pub returns-in_err-frame-clause-brings : goal.returns-in_err-frame-clause-brings
+returns-in_err-frame-clause-brings g c =
+    let old : Picture = picture_of c.args.core.now in
+    let none = shared_none old c.args.pid c.args.page c.args.attr c.requires.linked.fit.granting c.requires.allowed.mapped
+    (mapped_page old c.args.pid c.args.page c.args.attr c.requires.linked.fit.granting c.requires.allowed.mapped) (ap is_shared c.requires.shared) in
+    let shows = shows_file old c.args.pid c.args.page c.args.attr c.args.file_page c.requires.allowed.mapped (inr c.requires.shared) none in
+    brings_wider c.args.core.now c.cached.new.core c.args.pid c.args.page c.args.file_page shows g.D.SectorDisk g.E.SectorDisk c.in_err-frame.ensures.brings
+
+pub returns-in_err-frame-clause-calm : goal.returns-in_err-frame-clause-calm
+returns-in_err-frame-clause-calm g c unwanted =
+    let old : Picture = picture_of c.args.core.now in
+    let none = shared_none old c.args.pid c.args.page c.args.attr c.requires.linked.fit.granting c.requires.allowed.mapped
+    (mapped_page old c.args.pid c.args.page c.args.attr c.requires.linked.fit.granting c.requires.allowed.mapped) (ap is_shared c.requires.shared) in
+    let shows = shows_file old c.args.pid c.args.page c.args.attr c.args.file_page c.requires.allowed.mapped (inr c.requires.shared) none in
+    let there = page_there old c.args.pid c.args.page Store c.args.file_page shows unwanted in
+    absurd (c.in_err-frame.ensures.idle there.0 there.1).1
+
+pub returns-in_err-frame-clause-read : goal.returns-in_err-frame-clause-read
+returns-in_err-frame-clause-read g c =
+    let old : Picture = picture_of c.args.core.now in
+    let none = shared_none old c.args.pid c.args.page c.args.attr c.requires.linked.fit.granting c.requires.allowed.mapped
+    (mapped_page old c.args.pid c.args.page c.args.attr c.requires.linked.fit.granting c.requires.allowed.mapped) (ap is_shared c.requires.shared) in
+    let shows = shows_file old c.args.pid c.args.page c.args.attr c.args.file_page c.requires.allowed.mapped (inr c.requires.shared) none in
+    read_then c.args.core.now c.cached.new.core c.args.pid c.args.page c.args.file_page shows c.cached.new.core.store c.requires.linked.fit refl c.in_err-frame.ensures.read
+
+pub returns-in_err-frame-clause-stalled : goal.returns-in_err-frame-clause-stalled
+returns-in_err-frame-clause-stalled g c =
+    let old : Picture = picture_of c.args.core.now in
+    let none = shared_none old c.args.pid c.args.page c.args.attr c.requires.linked.fit.granting c.requires.allowed.mapped
+    (mapped_page old c.args.pid c.args.page c.args.attr c.requires.linked.fit.granting c.requires.allowed.mapped) (ap is_shared c.requires.shared) in
+    let shows = shows_file old c.args.pid c.args.page c.args.attr c.args.file_page c.requires.allowed.mapped (inr c.requires.shared) none in
+    let done = c.in_err-frame.ensures in
+    stalled_as g.D.SectorDisk g.E.SectorDisk c.args.core.now c.cached.new.core c.args.pid c.args.page Store c.from_residual.result c.in_err-frame.field-0.0 c.from_residual.ensures.1
+    (stalled_away c.args.core.now c.cached.new.core c.args.pid c.args.page c.args.file_page shows g.D.SectorDisk g.E.SectorDisk Store c.in_err-frame.field-0.0 c.requires.linked.fit done.keeps
+    (λ n at. (done.idle n at).1) done.cause done.short done.home)
+
+pub touch-requires-clause-linked : goal.touch-requires-clause-linked
+touch-requires-clause-linked g c =
+    let done = c.in_ok-frame.ensures in
+    linked_then (picture_of c.args.core.now) (picture_of c.cached.new.core) c.args.pid c.args.page done.proceeds.fit done.proceeds.spaces done.proceeds.tables c.requires.linked
+
+pub touch-requires-clause-inside : goal.touch-requires-clause-inside
+touch-requires-clause-inside g c =
+    let done = c.in_ok-frame.ensures in
+    (open_still (picture_of c.args.core.now) (picture_of c.cached.new.core) c.args.pid c.args.page Store c.args.attr done.proceeds.spaces.at
+    (files_read g.D.SectorDisk c.args.core.now.store c.cached.new.core.store done.proceeds.reads) c.requires.allowed).inside
+
+pub returns-clause-proceeds : goal.returns-clause-proceeds
+returns-clause-proceeds g c =
+    let first = c.in_ok-frame.ensures in
+    proceeds_then g.D.SectorDisk g.E.SectorDisk c.args.core.now c.cached.new.core c.touch.new.core first.proceeds
+    (moves_entered g.E.SectorDisk c.cached.new.core c.touch.new.core c.args.pid c.args.page first.proceeds.swap c.touch.ensures.enters)
+
+pub returns-clause-brings : goal.returns-clause-brings
+returns-clause-brings g c =
+    let old : Picture = picture_of c.args.core.now in
+    let none = shared_none old c.args.pid c.args.page c.args.attr c.requires.linked.fit.granting c.requires.allowed.mapped
+    (mapped_page old c.args.pid c.args.page c.args.attr c.requires.linked.fit.granting c.requires.allowed.mapped) (ap is_shared c.requires.shared) in
+    let shows = shows_file old c.args.pid c.args.page c.args.attr c.args.file_page c.requires.allowed.mapped (inr c.requires.shared) none in
+    let first = c.in_ok-frame.ensures in
+    let calm = c.touch.ensures.enters.calm in
+    let device = (moves_entered g.E.SectorDisk c.cached.new.core c.touch.new.core c.args.pid c.args.page first.proceeds.swap c.touch.ensures.enters).device in
+    brings_on c.args.core.now c.cached.new.core c.args.pid c.args.page c.args.file_page shows g.D.SectorDisk g.E.SectorDisk c.touch.new.core first.brings first.keeps calm.store device
+    (λ q. inl (held_marked (picture_of c.cached.new.core) (picture_of c.touch.new.core) c.args.file_page c.touch.ensures.touches (ap slots_of calm.swap) q)) c.touch.ensures.touches.files
+
+pub returns-clause-ready : goal.returns-clause-ready
+returns-clause-ready g c =
+    let old : Picture = picture_of c.args.core.now in
+    let mid : Picture = picture_of c.cached.new.core in
+    let new : Picture = picture_of c.touch.new.core in
+    let first = c.in_ok-frame.ensures in
+    let enters = c.touch.ensures.enters in
+    let now = enters.spaces.at c.args.pid c.args.page ∙ first.proceeds.spaces.at c.args.pid c.args.page ∙ c.requires.allowed.mapped in
+    ready_shared old new c.args.pid c.args.page c.args.attr c.args.file_page c.in_ok-frame.frame.0 c.requires.shared
+    (touches_after old mid new c.args.file_page c.in_ok-frame.frame.0 first.keeps
+    (touched_entry mid new c.args.pid c.args.page c.args.attr c.args.file_page c.in_ok-frame.frame.0 enters.fit c.touch.new.core.sound now c.requires.shared
+    (reads_too new c.args.pid c.args.page c.args.attr enters.fit now c.requires.allowed.lets) c.touch.ensures.entry enters.views c.touch.ensures.touches.others))
+
+pub returns-clause-entered : goal.returns-clause-entered
+returns-clause-entered g c =
+    let old : Picture = picture_of c.args.core.now in
+    let mid : Picture = picture_of c.cached.new.core in
+    let new : Picture = picture_of c.touch.new.core in
+    let first = c.in_ok-frame.ensures in
+    let enters = c.touch.ensures.enters in
+    let now = enters.spaces.at c.args.pid c.args.page ∙ first.proceeds.spaces.at c.args.pid c.args.page ∙ c.requires.allowed.mapped in
+    let readable = reads_too new c.args.pid c.args.page c.args.attr enters.fit now c.requires.allowed.lets in
+    entered_store new c.args.pid c.args.page c.args.attr c.in_ok-frame.frame.0 false readable c.touch.ensures.entry
+    (entered_ready Store mid new c.args.pid c.args.page c.args.attr c.in_ok-frame.frame.0
+    (ready_shared mid new c.args.pid c.args.page c.args.attr c.args.file_page c.in_ok-frame.frame.0 c.requires.shared
+    (touched_entry mid new c.args.pid c.args.page c.args.attr c.args.file_page c.in_ok-frame.frame.0 enters.fit c.touch.new.core.sound now c.requires.shared
+    readable c.touch.ensures.entry enters.views c.touch.ensures.touches.others)))
+
+pub returns-clause-calm : goal.returns-clause-calm
+returns-clause-calm g c =
+    let old : Picture = picture_of c.args.core.now in
+    let none = shared_none old c.args.pid c.args.page c.args.attr c.requires.linked.fit.granting c.requires.allowed.mapped
+    (mapped_page old c.args.pid c.args.page c.args.attr c.requires.linked.fit.granting c.requires.allowed.mapped) (ap is_shared c.requires.shared) in
+    let shows = shows_file old c.args.pid c.args.page c.args.attr c.args.file_page c.requires.allowed.mapped (inr c.requires.shared) none in
+    calm_then c.args.core.now c.cached.new.core c.args.pid c.args.page c.args.file_page shows (λ n at. (c.in_ok-frame.ensures.idle n at).0) c.touch.new.core Store
+    (λ none. c.touch.ensures.enters.calm)
+
+pub returns-clause-read : goal.returns-clause-read
+returns-clause-read g c =
+    let old : Picture = picture_of c.args.core.now in
+    let none = shared_none old c.args.pid c.args.page c.args.attr c.requires.linked.fit.granting c.requires.allowed.mapped
+    (mapped_page old c.args.pid c.args.page c.args.attr c.requires.linked.fit.granting c.requires.allowed.mapped) (ap is_shared c.requires.shared) in
+    let shows = shows_file old c.args.pid c.args.page c.args.attr c.args.file_page c.requires.allowed.mapped (inr c.requires.shared) none in
+    read_then c.args.core.now c.cached.new.core c.args.pid c.args.page c.args.file_page shows c.touch.new.core.store c.requires.linked.fit c.touch.ensures.enters.calm.store c.in_ok-frame.ensures.read
+
+pub returns-clause-not_refused : goal.returns-clause-not_refused
+returns-clause-not_refused g c = c.touch.ensures.enters.calm.refused ∙ c.in_ok-frame.ensures.not_refused
+
+pub returns-clause-device_calm : goal.returns-clause-device_calm
+returns-clause-device_calm g c =
+    calm_store g.D.SectorDisk c.args.core.now c.cached.new.core c.touch.new.core c.touch.ensures.enters.calm.store c.in_ok-frame.ensures.store_calm
+
+pub returns-in_err-frame-clause-others : goal.returns-in_err-frame-clause-others
+returns-in_err-frame-clause-others g c = λ q k other. c.in_err-frame.ensures.keeps.views q k
+
+pub returns-clause-others : goal.returns-clause-others
+returns-clause-others g c = λ q k other. c.touch.ensures.enters.views q k ∙ c.in_ok-frame.ensures.keeps.views q k

@@ -1,0 +1,5 @@
+pub mod Shown
+pub mod Wants
+pub mod Outcome
+pub mod Found
+pub mod Granted

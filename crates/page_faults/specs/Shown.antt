@@ -1,0 +1,33 @@
+-- What a page shows its process, and where.
+use Rattle.std.specs.Prelude.{◌≡◌, ℕ, true, List, Option, Some, None}
+use Rattle.vm_types.specs.Limits.{top_level}
+use Rattle.vm_types.specs.declared.number.FrameNo.{FrameNo}
+use Rattle.vm_types.specs.declared.region.Backing.{Backing}
+use Rattle.vm_types.specs.declared.region.Backing.TheVariants.{Anon, Private, Shared}
+use Rattle.vm_types.specs.View.{View, zero_page}
+use Rattle.frames.specs.FrameTable.{bytes_of, count_of}
+use Rattle.sv39_walk.specs.Entry.{frame_of}
+use Rattle.page_cache.specs.declared.place.Place.TheVariants.{Frame}
+use Rattle.page_tables.specs.Tree.{IsPage}
+use Rattle.paging.specs.Picture.{Picture, entry, is_private}
+
+-- the bytes behind a page: zeros, or those of its file page, which lies in a frame
+abbrev pub AreBehind : Picture → Backing → List ℕ → Type 0
+AreBehind c Anon bytes = bytes ≡ zero_page
+AreBehind c (Private p) bytes = (n : FrameNo) × (c.place p ≡ Frame n) × (bytes ≡ bytes_of c.frames n.0)
+AreBehind c (Shared p) bytes = (n : FrameNo) × (c.place p ≡ Frame n) × (bytes ≡ bytes_of c.frames n.0)
+
+abbrev pub AreOwnOrBehind : Picture → Backing → Option (List ℕ) → List ℕ → Type 0
+AreOwnOrBehind c backing (Some own) bytes = bytes ≡ own
+AreOwnOrBehind c backing None bytes = AreBehind c backing bytes
+
+-- the bytes that a page of this view shows: its own copy, or what stands behind it
+abbrev pub AreShown : Picture → View → List ℕ → Type 0
+AreShown c v bytes = AreOwnOrBehind c v.attr.backing v.own bytes
+
+-- frame n is the process's own at that page, and nobody else's
+pub record IsSoleOwner (c : Picture) (pid page n : ℕ) : Type 0 where
+  pub inside : IsPage top_level page
+  pub private : is_private (entry c pid page) ≡ true
+  pub frame : frame_of (entry c pid page) ≡ n
+  pub sole : count_of c.frames n ≡ 1
