@@ -1,5 +1,5 @@
 //! Slots that pages are put into and got from.
-ghost use Rattle.std.specs.Prelude.{◌≡◌, ◌≢◌, ℕ, ◌*◌, ◌<◌, ◌≤◌, ◌↔◌, IsTrue, None, IfOk, OnOk, OnErr, IsErrOf};
+ghost use Rattle.std.specs.Prelude.{◌≡◌, ◌≢◌, ℕ, ◌*◌, ◌<◌, ◌≤◌, ◌↔◌, List, length, IsTrue, Some, None, IfOk, OnOk, OnErr, IsErrOf};
 ghost use Rattle.swap.specs.Counts.{count_at};
 ghost use Rattle.swap.specs.Written.{written_in};
 
@@ -17,7 +17,9 @@ use vm_types::SlotNo;
 pub struct Swap<D> {
     pub(crate) pages: Pages<D>,
     pub(crate) counts: ShareCounts,
-    ghost known: { (n : ℕ) → 0 < count_at counts n → written_in pages.written.notes n ≢ None },
+    pub ghost known: { (n : ℕ) → 0 < count_at counts n → written_in pages.written.notes n ≢ None },
+    /// A slot in use holds 4,096 bytes.
+    pub ghost whole: { (n : ℕ) (w : List ℕ) → 0 < count_at counts n → written_in pages.written.notes n ≡ Some w → length w ≡ 4096 },
 }
 
 /// Why a page got no slot.
