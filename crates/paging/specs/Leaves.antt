@@ -1,5 +1,5 @@
 -- The entries over one frame, and what becomes of them.
-use Rattle.std.specs.Prelude.{◌≡◌, ◌≢◌, ◌⊎◌, ℕ, ◌==◌, ◌-◌, ◌<◌, ◌≤◌, ◌^◌, Bool, true, false, not, ◌&&◌, Option, Some, None}
+use Rattle.std.specs.Prelude.{◌≡◌, ◌≢◌, ◌⊎◌, ℕ, ◌==◌, ◌+◌, ◌-◌, ◌<◌, ◌≤◌, ◌^◌, Bool, true, false, not, ◌&&◌, Option, Some, None}
 use Rattle.vm_types.specs.Limits.{top_level, user_start, user_end}
 use Rattle.vm_types.specs.declared.file.FilePage.{FilePage}
 use Rattle.vm_types.specs.declared.region.Backing.{Backing}
@@ -60,10 +60,11 @@ pub record Drops (old new : ℕ) : Type 0 where
   pub private : is_private new ≡ is_private old
   pub frame : frame_of new ≡ frame_of old
 
+-- there is none, or A or D, which was set, is clear and every other bit as it was: the number is 64 or 128 less
 abbrev pub IsChanged : Change → ℕ → ℕ → Type 0
 IsChanged Forget e e' = e' ≡ 0
-IsChanged ClearAccessed e e' = Drops e e' × (is_dirty e' ≡ is_dirty e) × (is_accessed e' ≡ false)
-IsChanged ClearDirty e e' = Drops e e' × (is_accessed e' ≡ is_accessed e) × (is_dirty e' ≡ false)
+IsChanged ClearAccessed e e' = Drops e e' × (is_dirty e' ≡ is_dirty e) × (is_accessed e' ≡ false) × (e' + 64 ≡ e)
+IsChanged ClearDirty e e' = Drops e e' × (is_accessed e' ≡ is_accessed e) × (is_dirty e' ≡ false) × (e' + 128 ≡ e)
 
 -- entries over frame n were changed so, and nothing else was
 pub record Changes (change : Change) (n : ℕ) (old new : Picture) : Type 0 where

@@ -1,5 +1,5 @@
 //! The entries over one frame, in the tables of all processes: found, and changed.
-ghost use Rattle.std.specs.Prelude.{◌≡◌, ◌≢◌, ◌≤◌, ◌<◌, ◌-◌, ◌^◌, ◌↔◌, ℕ, true, false, Some, IfSome, IfNone, IsSome};
+ghost use Rattle.std.specs.Prelude.{◌≡◌, ◌≢◌, ◌≤◌, ◌<◌, ◌+◌, ◌-◌, ◌^◌, ◌↔◌, ℕ, true, false, Some, IfSome, IfNone, IsSome};
 ghost use Rattle.vm_types.specs.Limits.{top_level, user_start, user_end};
 ghost use Rattle.vm_types.specs.Attributes.{backed_by};
 ghost use Rattle.frames.specs.declared.role.Role.TheVariants as Roles;
@@ -371,6 +371,7 @@ fn without_accessed(leaf: Pte) -> Pte
     ensures drops { Drops leaf.0 result.0 }
     ensures dirty { is_dirty result.0 ≡ is_dirty leaf.0 }
     ensures clear { is_accessed result.0 ≡ false }
+    ensures number { result.0 + 64 ≡ leaf.0 }
 {
     leaf.without_accessed()
 }
@@ -381,6 +382,7 @@ fn without_dirty(leaf: Pte) -> Pte
     ensures drops { Drops leaf.0 result.0 }
     ensures accessed { is_accessed result.0 ≡ is_accessed leaf.0 }
     ensures clear { is_dirty result.0 ≡ false }
+    ensures number { result.0 + 128 ≡ leaf.0 }
 {
     leaf.without_dirty()
 }

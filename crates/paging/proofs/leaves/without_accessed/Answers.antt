@@ -18,3 +18,6 @@ pub returns-clause-clear : goal.returns-clause-clear
 returns-clause-clear c =
     let number : c.without_accessed.result.0 ≡ c.args.leaf.0 - 64 = omega (arith, c.without_accessed.ensures) in
     ap is_accessed number ∙ six_clear c.args.leaf.0 (bit_six c.args.leaf.0 c.requires)
+
+pub returns-clause-number : goal.returns-clause-number
+returns-clause-number c = (let bit = bit_six c.args.leaf.0 c.requires in omega (arith, bit, c.without_accessed.ensures))

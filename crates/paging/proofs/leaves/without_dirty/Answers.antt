@@ -18,3 +18,6 @@ pub returns-clause-clear : goal.returns-clause-clear
 returns-clause-clear c =
     let number : c.without_dirty.result.0 ≡ c.args.leaf.0 - 128 = omega (arith, c.without_dirty.ensures) in
     ap is_dirty number ∙ seven_clear c.args.leaf.0 (bit_seven c.args.leaf.0 c.requires)
+
+pub returns-clause-number : goal.returns-clause-number
+returns-clause-number c = (let bit = bit_seven c.args.leaf.0 c.requires in omega (arith, bit, c.without_dirty.ensures))
