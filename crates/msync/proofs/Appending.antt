@@ -1,0 +1,135 @@
+-- Lists of file pages to which others are appended, each once.
+use Rattle.std.proofs.Common.{ℕ, ◌≡◌, ◌<◌, ◌≤◌, ◌==◌, ◌⊎◌, ⊎_elim, Bool, true, List, [], Result, Ok, Err, refl, sym, ap, ◌∙◌, arith, eq-eqb}
+use Rattle.std.specs.Result.{OnErr}
+use Rattle.std.proofs.lemmas.Bool.{cases_lt}
+use Rattle.std.proofs.lemmas.Bool.Decides.{nat_tests}
+use Rattle.vm_types.specs.declared.file.FilePage.{FilePage}
+use Rattle.vm_types.specs.Attributes.{file_page_eq}
+use Rattle.msync.specs.Choice.{page_at, Appends, Overflows, Lists}
+
+-- nothing passes
+pub nothing : (passes : FilePage → Bool) (list : List FilePage) (used : ℕ) → used ≤ 127 → ((page : FilePage) → passes page ≡ true → ⊥)
+    → Appends passes list list used used
+nothing passes list used few none = record {
+  order = omega arith;
+  few = few;
+  kept = λ i less. refl;
+  each = λ i low high. absurd (omega arith);
+  once = λ i j less low high. absurd (omega arith);
+  all = λ page e. absurd (none page e);
+}
+
+-- first some are appended, and then others
+pub in_turn : (a b c : FilePage → Bool) (x y z : List FilePage) (u v w : ℕ)
+    → ((p : FilePage) → a p ≡ true → c p ≡ true) → ((p : FilePage) → b p ≡ true → c p ≡ true)
+    → ((p : FilePage) → c p ≡ true → (a p ≡ true) ⊎ (b p ≡ true))
+    → Appends a x y u v → Appends b y z v w → Appends c x z u w
+in_turn a b c x y z u v w from_a from_b to f g = record {
+  order = omega (arith, f.order, g.order);
+  few = g.few;
+  kept = λ i less. g.kept i (omega (arith, f.order)) ∙ f.kept i less;
+  each = λ i low high.
+      ⊎_elim (λ (less : i < v). from_a (page_at z i) (ap a (g.kept i less) ∙ f.each i low less))
+      (λ (more : v ≤ i). from_b (page_at z i) (g.each i more high))
+      (cases_lt i v);
+  once = λ i j less low high.
+      ⊎_elim (λ (below : j < v). λ e. f.once i j less low below (sym (g.kept i (omega arith)) ∙ e ∙ g.kept j below))
+      (λ (more : v ≤ j). g.once i j less more high)
+      (cases_lt j v);
+  all = λ p e.
+      ⊎_elim (λ (h : a p ≡ true). let r = f.all p h in (r.0, omega (arith, r.1, g.order), g.kept r.0 r.1 ∙ r.2))
+      (λ (h : b p ≡ true). g.all p h)
+      (to p e);
+}
+
+-- the same under another name
+pub renamed : (a c : FilePage → Bool) (x y : List FilePage) (u v : ℕ)
+    → ((p : FilePage) → a p ≡ true → c p ≡ true) → ((p : FilePage) → c p ≡ true → a p ≡ true) → Appends a x y u v → Appends c x y u v
+renamed a c x y u v from to f = record {
+  order = f.order;
+  few = f.few;
+  kept = f.kept;
+  each = λ i low high. from (page_at y i) (f.each i low high);
+  once = f.once;
+  all = λ p e. f.all p (to p e);
+}
+
+-- some are appended, and then others would be too many
+pub over : (a b c : FilePage → Bool) (x y : List FilePage) (u v : ℕ)
+    → ((p : FilePage) → a p ≡ true → c p ≡ true) → ((p : FilePage) → b p ≡ true → c p ≡ true)
+    → Appends a x y u v → Overflows b y v → Overflows c x u
+over a b c x y u v from_a from_b f g = record {
+  at = g.at;
+  kept = λ i less. g.kept i (omega (arith, f.order)) ∙ f.kept i less;
+  each = λ i low high.
+      ⊎_elim (λ (less : i < v). from_a (g.at i) (ap a (g.kept i less) ∙ f.each i low less))
+      (λ (more : v ≤ i). from_b (g.at i) (g.each i more high))
+      (cases_lt i v);
+  once = λ i j less low high.
+      ⊎_elim (λ (below : j < v). λ e. f.once i j less low below (sym (g.kept i (omega arith)) ∙ e ∙ g.kept j below))
+      (λ (more : v ≤ j). g.once i j less more high)
+      (cases_lt j v);
+}
+
+pub over_wider : (a c : FilePage → Bool) (x : List FilePage) (u : ℕ) → ((p : FilePage) → a p ≡ true → c p ≡ true) → Overflows a x u → Overflows c x u
+over_wider a c x u from g = record {
+  at = g.at;
+  kept = g.kept;
+  each = λ i low high. from (g.at i) (g.each i low high);
+  once = g.once;
+}
+
+-- where the list was empty, all of it was appended
+pub listed : (a : FilePage → Bool) (x y : List FilePage) (n : ℕ) → Appends a x y 0 n → Lists a y n
+listed a x y n f = record {
+  each = λ i less. f.each i (omega arith) less;
+  once = λ i j less high. f.once i j less (omega arith) high;
+  all = f.all;
+}
+
+-- equal pages
+pub same_page : (a b : FilePage) → file_page_eq a b ≡ true → a ≡ b
+same_page a b e =
+    let file : a.file ≡ b.file = grind (arith, nat_tests) in
+    let page : a.page ≡ b.page = grind (arith, nat_tests) in
+    ap (λ (f : ℕ). let p : FilePage = record { file = f; page = a.page } in p) file
+    ∙ ap (λ (k : ℕ). let p : FilePage = record { file = b.file; page = k } in p) page
+
+pub is_itself : (a b : FilePage) → a ≡ b → file_page_eq a b ≡ true
+is_itself a b e =
+    let file : (a.file == b.file) ≡ true = eq-eqb _ _ (ap (λ (p : FilePage). p.file) e) in
+    let page : (a.page == b.page) ≡ true = eq-eqb _ _ (ap (λ (p : FilePage). p.page) e) in
+    rw file page
+
+-- a fact that stands at an error
+pub on_err : {T E P : Type 0} (r : Result T E) → P → OnErr r P
+on_err (Ok x) p = tt
+on_err (Err e) p = p
+
+-- and one that follows from it
+pub map_err : {T E P Q : Type 0} (r : Result T E) → (P → Q) → OnErr r P → OnErr r Q
+map_err (Ok x) f h = tt
+map_err (Err e) f h = f h
+
+-- from an empty list on the old one doesn't matter
+pub over_none : (a : FilePage → Bool) (x : List FilePage) → Overflows a x 0 → Overflows a [] 0
+over_none a x g = record {
+  at = g.at;
+  kept = λ i less. absurd (omega arith);
+  each = g.each;
+  once = g.once;
+}
+
+pub lists_none : (a : FilePage → Bool) (x : List FilePage) → Lists a x 0 → Lists a [] 0
+lists_none a x f = record {
+  each = λ i less. absurd (omega arith);
+  once = λ i j less high. absurd (omega arith);
+  all = λ p e. let r = f.all p e in absurd (let less = r.1 in omega arith);
+}
+
+pub lists_same : (a c : FilePage → Bool) (y : List FilePage) (n : ℕ) → ((p : FilePage) → a p ≡ c p) → Lists a y n → Lists c y n
+lists_same a c y n same f = record {
+  each = λ i less. sym (same (page_at y i)) ∙ f.each i less;
+  once = f.once;
+  all = λ p e. f.all p (same p ∙ e);
+}

@@ -1,0 +1,22 @@
+-- What is kept where frames alone change.
+use Rattle.std.proofs.Common.{[], get_or, refl, ap, ◌∙◌}
+use Rattle.file_store.specs.Store.{files_of}
+use Rattle.page_cache.specs.CacheTable.{place_of, is_touched}
+use Rattle.swap.specs.Slots.{slots_of}
+use Rattle.paging.specs.declared.kernel.Core.{Core}
+use Rattle.paging.specs.Picture.{picture_of, attr_where, root_in}
+use Rattle.paging.specs.Leaves.{KeepsAllButFrames}
+use Rattle.paging.specs.Steps.{SameBeside}
+
+module _ {D E : Type 0} where
+  pub same_beside : (old new : Core D E) → KeepsAllButFrames old new → SameBeside (picture_of old) (picture_of new)
+  same_beside old new kept = record {
+    slots = ap (λ s. slots_of s) kept.swap;
+    root = λ p. ap (λ v. root_in v.items p) kept.roots;
+    at = λ p page. ap (λ v. attr_where (root_in v.items p) (get_or new.regions.items p []) page) kept.roots
+        ∙ ap (λ v. attr_where (root_in old.roots.items p) (get_or v.items p []) page) kept.regions;
+    page_of = λ m. ap (λ v. get_or v.items m 0) kept.page_of;
+    place = λ p. ap (λ t. place_of t p) kept.cache;
+    touched = λ p. ap (λ t. is_touched t p) kept.cache;
+    files = λ f. ap (λ s. files_of s f) kept.store;
+  }

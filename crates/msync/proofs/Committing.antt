@@ -1,0 +1,466 @@
+-- A commit of the touched pages of a row, as the flat model sees it.
+use Rattle.std.proofs.Common.{ℕ, zero, suc, inl, inr, ◌⊎◌, ◌-◌, ◌*◌, ◌≡◌, ◌≢◌, ◌<◌, ◌&&◌, ◌++◌, not, Bool, true, false, min, List, [], ◌∷◌, length, take, replicate, slice_get, Option, Some, None, Result, Err, refl, sym, ap, ◌∙◌, subst, arith, lt_irrefl, get_or-take}
+use Rattle.std.specs.Option.{option_map}
+use Rattle.std.specs.Prelude.{is_some, IsErrOf}
+use Rattle.std.proofs.lemmas.Bool.{cases_Bool}
+use Rattle.std.proofs.lemmas.List.{length-take-le}
+use Rattle.sv39_walk.specs.Entry.{frame_of}
+use Rattle.disk_model.specs.Moments.{LeavesNow, LeavesOnly}
+use Rattle.disk_model.specs.declared.sector_disk.SectorDisk.{Ghosts}
+use Rattle.file_store.specs.declared.directory.Directory.{Directory}
+use Rattle.file_store.specs.declared.store.FileStore.{FileStore}
+use Rattle.file_store.specs.Commit.{ArePages, Changes, StandsForEither, cut_page}
+use Rattle.file_store.specs.Layout.{trimmed as store_trimmed}
+use Rattle.file_store.specs.Standing.{StandsFor, IsPageOf}
+use Rattle.file_store.specs.Store.{entry_of}
+use Rattle.sync_journal.specs.Source.{HasCauses}
+use Rattle.sync_journal.specs.declared.faults.CommitFault.{CommitFault}
+use Rattle.sync_journal.specs.declared.faults.CommitFault.TheVariants.{Source, Device}
+use Rattle.frames.specs.declared.role.Role.TheVariants.{Private, Cache}
+use Rattle.frames.specs.FrameTable.{FrameTable, bytes_of}
+use Rattle.swap.specs.Slots.{SlotTable}
+use Rattle.page_cache.specs.declared.place.Place.TheVariants.{Home, Frame, Slot}
+use Rattle.vm_types.specs.declared.command.Command.TheVariants.{Msync}
+use Rattle.vm_types.specs.declared.command.MsyncMode.{MsyncMode}
+use Rattle.vm_types.specs.declared.file.FileInfo.{FileInfo}
+use Rattle.vm_types.specs.declared.file.FilePage.{FilePage}
+use Rattle.vm_types.specs.declared.number.SlotNo.{SlotNo}
+use Rattle.vm_types.specs.declared.refusal.Errno.TheVariants.{EIO}
+use Rattle.vm_types.specs.declared.refusal.Stall.TheVariants.{SwapDevice}
+use Rattle.vm_types.specs.declared.reply.Reply.{Reply}
+use Rattle.vm_types.specs.declared.reply.Reply.TheVariants.{Done, Refused, Stalled}
+use Rattle.vm_types.specs.Files.{Files, inside_of, cut, trimmed}
+use Rattle.vm_types.specs.Msync.{touched_in, committed, synced}
+use Rattle.vm_types.specs.Msync as Flat
+use Rattle.vm_types.specs.State.{State}
+use Rattle.vm_types.specs.Step.{msync_outcome, commit_of, commits}
+use Rattle.vm_types.specs.View.{Pages}
+use Rattle.paging.specs.declared.kernel.Core.{Core}
+use Rattle.paging.specs.Seats.{InFrame}
+use Rattle.paging.specs.Picture.{Picture, picture_of, entry, held, is_private}
+use Rattle.paging.specs.Parts.{IsFit}
+use Rattle.paging.specs.Shows.{ShowsPages}
+use Rattle.msync.specs.declared.chosen.Chosen.{Chosen}
+use Rattle.msync.specs.declared.chosen.Residence.{Residence}
+use Rattle.msync.specs.declared.chosen.Residence.TheVariants.{Framed, Slotted}
+use Rattle.msync.specs.declared.chosen.Spot.{Spot}
+use Rattle.msync.specs.Choice.{page_at, Lists, TakesSame, IsListed, IsAway}
+use Rattle.msync.specs.Core.{KeepsMemory, IsEnd, Acknowledged, Failed, Unread, Commits}
+use Rattle.msync.specs.Spots.{spot_at, place_at, bytes_there, IsSlotted, HasSlot, AreSpots, HasSpots}
+use Rattle.msync.specs.Settling.{settled_place, settled_in, settled_bytes, Settles, LosesDirtyOnly, ComesHome, SettlesPlaces}
+use Rattle.msync.specs.Shows.{IsSoundCore, Shows}
+use Rattle.msync.proofs.SettledPages.{held_spot, cases_listed}
+
+-- what stands at a place of a list
+some_get : (xs : List FilePage) (i : ℕ) (p : FilePage) → slice_get xs i ≡ Some p → (i < length xs) × (p ≡ page_at xs i)
+some_get [] i p e = cc
+some_get (x ∷ xs) zero p e = (omega arith, (let k : p ≡ x = cc in k))
+some_get (x ∷ xs) (suc i) p e = let r = some_get xs i p e in (omega (arith, r.0), r.1)
+
+get_some : (xs : List FilePage) (i : ℕ) → i < length xs → slice_get xs i ≡ Some (page_at xs i)
+get_some [] i less = absurd (omega arith)
+get_some (x ∷ xs) zero less = refl
+get_some (x ∷ xs) (suc i) less = get_some xs i (omega arith)
+
+-- the pages of a commit, as they stand at the front of the list
+pub front_length : (chosen : Chosen) → length (take chosen.count chosen.list) ≡ chosen.count
+front_length chosen = length-take-le chosen.count chosen.list (omega (arith, chosen.few, chosen.room))
+
+pub front_same : (chosen : Chosen) (i : ℕ) → i < chosen.count → page_at (take chosen.count chosen.list) i ≡ page_at chosen.list i
+front_same chosen i less = get_or-take chosen.count chosen.list i (record { file = 0; page = 0 }) less
+
+pub front_touched : (c : Picture) (chosen : Chosen) → IsListed c chosen → (i : ℕ) → i < length (take chosen.count chosen.list)
+    → c.touched (page_at (take chosen.count chosen.list) i) ≡ true
+front_touched c chosen listed i less =
+    let below : i < chosen.count = omega (arith, front_length chosen) in
+    ap c.touched (front_same chosen i below) ∙ listed.touched i below
+
+front_once : (c : Picture) (chosen : Chosen) → IsListed c chosen → (i j : ℕ) → i < j → j < length (take chosen.count chosen.list)
+    → page_at (take chosen.count chosen.list) i ≢ page_at (take chosen.count chosen.list) j
+front_once c chosen listed i j less high e =
+    let below : j < chosen.count = omega (arith, front_length chosen) in
+    listed.once i j less below (sym (front_same chosen i (omega arith)) ∙ e ∙ front_same chosen j below)
+
+-- they may be committed
+pub are_pages : (c : Picture) (chosen : Chosen) → IsFit c → IsListed c chosen → ArePages c.files (take chosen.count chosen.list)
+are_pages c chosen fit listed =
+    let front = take chosen.count chosen.list in
+    record {
+      some = omega (arith, front_length chosen, listed.some);
+      few = omega (arith, front_length chosen, chosen.few);
+      inside = λ i p e.
+          let r = some_get front i p e in
+          let touched = ap c.touched r.1 ∙ front_touched c chosen listed i r.0 in
+          fit.places.inside p (fit.dirty.held p touched);
+      distinct = λ i j p less at_i at_j.
+          let a = some_get front i p at_i in
+          let b = some_get front j p at_j in
+          front_once c chosen listed i j less b.0 (sym a.1 ∙ b.1);
+    }
+
+-- they lie in their spots, each once
+pub are_spots : (c : Picture) (chosen : Chosen) (list : List Spot) → IsListed c chosen → HasSpots c (take chosen.count chosen.list) list → AreSpots c list
+are_spots c chosen list listed spots =
+    let front = take chosen.count chosen.list in
+    record {
+      each = λ i less. spots.spots i (omega (arith, spots.count));
+      once = λ i j less high e.
+          let below : j < length front = omega (arith, spots.count) in
+          front_once c chosen listed i j less below (sym (spots.same i (omega arith)) ∙ e ∙ spots.same j below);
+    }
+
+-- the list is of what the flat model takes
+pub front_lists : (s : State) (pid first count : ℕ) (chosen : Chosen)
+    → Lists (λ page. touched_in s pid first count page.file page.page) chosen.list chosen.count
+    → Lists (λ page. touched_in s pid first count page.file page.page) (take chosen.count chosen.list) (length (take chosen.count chosen.list))
+front_lists s pid first count chosen l = record {
+  each = λ i less.
+      let below : i < chosen.count = omega (arith, front_length chosen) in
+      ap (λ (p : FilePage). touched_in s pid first count p.file p.page) (front_same chosen i below) ∙ l.each i below;
+  once = λ i j less high e.
+      let below : j < chosen.count = omega (arith, front_length chosen) in
+      l.once i j less below (sym (front_same chosen i (omega arith)) ∙ e ∙ front_same chosen j below);
+  all = λ p e. let r = l.all p e in (r.0, omega (arith, r.1, front_length chosen), front_same chosen r.0 r.1 ∙ r.2);
+}
+
+-- the store cuts a page as the flat model does
+same_cut : (info : FileInfo) (k : ℕ) (page : List ℕ) → length page ≡ 4096 → cut (inside_of (Some info) k) page ≡ cut_page (Some info) k page
+unfolding store_trimmed
+same_cut info k page len =
+    let n = min 4096 (info.length - 4096 * k) in
+    let e : length (take n page) ≡ n = length-take-le n page (omega arith) in
+    ap (λ (x : ℕ). take n page ++ replicate (4096 - x) 0) (sym e)
+
+-- a page that is taken, and one that isn't
+taken_page : (s : State) (pid first count f k : ℕ) (before : Pages) → touched_in s pid first count f k ≡ true
+    → committed s pid first count before f k ≡ trimmed s.files f k (s.volatile f k)
+taken_page s pid first count f k before taken = rw taken refl
+
+left_page : (s : State) (pid first count f k : ℕ) (before : Pages) → touched_in s pid first count f k ≡ false → committed s pid first count before f k ≡ before f k
+left_page s pid first count f k before left = rw left refl
+
+cases_taken : (b : Bool) → (b ≡ true) ⊎ (b ≡ false)
+cases_taken true = inl refl
+cases_taken false = inr refl
+
+no_home : (at : Residence) → Home ≢ place_at at
+no_home (Framed n) e = (cc)
+no_home (Slotted k) e = (cc)
+
+-- what is in memory of a page that was settled is what lay there, with zeros past the end of its file
+from_settled : (files : Files) (t : FrameTable) (s : SlotTable) (p : FilePage) (at : Residence) (bytes : List ℕ) → settled_in files t p at ≡ Some bytes
+    → trimmed files p.file p.page (bytes_there t s at) ≡ bytes
+from_settled files t s p (Framed n) bytes is = (cc)
+from_settled files t s p (Slotted k) bytes is = let bad : None ≡ Some bytes = is in (cc)
+
+module _ (c : Picture) (s : State) (pid first count : ℕ) (pages : List FilePage) (list : List Spot) (fit : IsFit c) (shows : ShowsPages c s) (spots : HasSpots c pages list)
+    (lists : Lists (λ page. touched_in s pid first count page.file page.page) pages (length pages)) where
+  -- the bytes of a page of the list
+  there : ℕ → List ℕ
+  there i = bytes_there c.frames c.slots (spot_at list i).at
+
+  bytes_at : (i : ℕ) → i < length pages → s.volatile (page_at pages i).file (page_at pages i).page ≡ bytes_there c.frames c.slots (spot_at list i).at
+  bytes_at i less =
+      let x = spot_at list i in
+      let P : FilePage → Type 0 = λ p. s.volatile p.file p.page ≡ bytes_there c.frames c.slots (spot_at list i).at in
+      subst P (spots.same i less) (shows.held x.page (bytes_there c.frames c.slots x.at) (held_spot c x.page x.at (spots.spots i less).placed))
+
+  file_at : (i : ℕ) → i < length pages → IsPageOf c.files (page_at pages i).file (page_at pages i).page
+  file_at i less =
+      let x = spot_at list i in
+      let P : FilePage → Type 0 = λ p. IsPageOf c.files p.file p.page in
+      subst P (spots.same i less) (fit.places.inside x.page (λ home. no_home x.at (sym home ∙ (spots.spots i less).placed)))
+
+  cut_at : (i : ℕ) → i < length pages
+      → trimmed s.files (page_at pages i).file (page_at pages i).page (s.volatile (page_at pages i).file (page_at pages i).page)
+      ≡ cut_page (s.files (page_at pages i).file) (page_at pages i).page (bytes_there c.frames c.slots (spot_at list i).at)
+  cut_at i less =
+      let p = page_at pages i in
+      let w = bytes_there c.frames c.slots (spot_at list i).at in
+      let at = file_at i less in
+      let file : s.files p.file ≡ Some at.0 = shows.files p.file ∙ at.1 in
+      let P : Option FileInfo → Type 0 = λ o. cut (inside_of o p.page) w ≡ cut_page o p.page w in
+      ap (trimmed s.files p.file p.page) (bytes_at i less) ∙ subst P (sym file) (same_cut at.0 p.page w (spots.whole i less))
+
+  -- what the store makes of the durable pages is what the flat model does
+  pub changes : (before : Pages) → Changes s.files pages (λ i. bytes_there c.frames c.slots (spot_at list i).at) before (committed s pid first count before)
+  changes before = record {
+    listed = λ i p e.
+        let r = some_get pages i p e in
+        let q = page_at pages i in
+        subst (λ (x : FilePage). committed s pid first count before x.file x.page ≡ cut_page (s.files x.file) x.page (bytes_there c.frames c.slots (spot_at list i).at)) (sym r.1)
+        (taken_page s pid first count q.file q.page before (lists.each i r.0) ∙ cut_at i r.0);
+    others = λ f k none. elim (cases_taken (touched_in s pid first count f k)) [
+      | inr left ↦ left_page s pid first count f k before left
+      | inl taken ↦ (
+          let r = lists.all (record { file = f; page = k }) taken in
+          absurd (none r.0 (page_at pages r.0) (get_some pages r.0 r.1) (ap (λ (x : FilePage). x.file) r.2) (ap (λ (x : FilePage). x.page) r.2)))
+    ];
+  }
+
+  -- a page that isn't taken is none of the list
+  not_listed : (p : FilePage) → touched_in s pid first count p.file p.page ≡ false → (i : ℕ) → i < length list → (spot_at list i).page ≢ p
+  not_listed p left i less same =
+      let below : i < length pages = omega (arith, spots.count) in
+      let P : FilePage → Type 0 = λ q. touched_in s pid first count q.file q.page ≡ true in
+      let bad : true ≡ false = sym (subst P (sym (spots.same i below) ∙ same) (lists.each i below)) ∙ left in (cc)
+
+  -- one that is taken has its place in the list
+  listed_place : (p : FilePage) → touched_in s pid first count p.file p.page ≡ true → (i : ℕ) × (i < length list) × ((spot_at list i).page ≡ p)
+  listed_place p taken =
+      let r = lists.all p taken in
+      (r.0, omega (arith, r.1, spots.count), spots.same r.0 r.1 ∙ r.2)
+
+  module _ (new : Picture) (settles : Settles c new list (length list)) where
+    touched_now : (p : FilePage) → (s.touched p.file p.page && not (touched_in s pid first count p.file p.page)) ≡ new.touched p
+    touched_now p = elim (cases_taken (touched_in s pid first count p.file p.page)) [
+      | inl taken ↦ (
+          let r = listed_place p taken in
+          let clean : new.touched p ≡ false = ap new.touched (sym r.2) ∙ settles.cleaned r.0 r.1 in
+          rw taken (and_false (s.touched p.file p.page) ∙ sym clean))
+      | inr left ↦ (
+          let same : new.touched p ≡ c.touched p = settles.untouched p (not_listed p left) in
+          rw left (and_true (s.touched p.file p.page) ∙ shows.touched p ∙ sym same))
+    ]
+      where
+        and_false : (a : Bool) → (a && false) ≡ false
+        and_false true = refl
+        and_false false = refl
+
+        and_true : (a : Bool) → (a && true) ≡ a
+        and_true true = refl
+        and_true false = refl
+
+    held_now : (p : FilePage) (bytes : List ℕ) → held new p ≡ Some bytes → committed s pid first count s.volatile p.file p.page ≡ bytes
+    held_now p bytes here = elim (cases_taken (touched_in s pid first count p.file p.page)) [
+      | inl taken ↦ (
+          let r = listed_place p taken in
+          let x = spot_at list r.0 in
+          let below : r.0 < length pages = (let less = r.1 in omega (arith, less, spots.count)) in
+          let is : settled_in c.files c.frames x.page x.at ≡ Some bytes = sym (settles.settled r.0 r.1) ∙ ap (λ q. held new q) r.2 ∙ here in
+          let cut_is = from_settled c.files c.frames c.slots x.page x.at bytes is in
+          let P : FilePage → Type 0 = λ q. s.volatile q.file q.page ≡ bytes_there c.frames c.slots x.at in
+          let Q : FilePage → Type 0 = λ q. trimmed c.files q.file q.page (bytes_there c.frames c.slots x.at) ≡ bytes in
+          let volatile : s.volatile p.file p.page ≡ bytes_there c.frames c.slots x.at = subst P (sym (spots.same r.0 below) ∙ r.2) (bytes_at r.0 below) in
+          taken_page s pid first count p.file p.page s.volatile taken
+          ∙ ap (trimmed s.files p.file p.page) volatile
+          ∙ ap (λ (o : Option FileInfo). cut (inside_of o p.page) (bytes_there c.frames c.slots x.at)) (shows.files p.file)
+          ∙ subst Q r.2 cut_is)
+      | inr left ↦ left_page s pid first count p.file p.page s.volatile left ∙ shows.held p bytes (sym (settles.kept p (not_listed p left)) ∙ here)
+    ]
+
+    -- memory afterwards shows the state afterwards
+    pub synced_shows : ShowsPages new (synced s pid first count)
+    synced_shows = record {
+      live = λ q. shows.live q ∙ ap (λ (o : Option ℕ). is_some o) (sym (settles.root q));
+      views = λ q p. shows.views q p ∙ sym (settles.views q p);
+      files = λ f. shows.files f ∙ sym (settles.files f);
+      touched = touched_now;
+      held = held_now;
+      clean = λ p untouched inside. elim (cases_taken (touched_in s pid first count p.file p.page)) [
+        | inl taken ↦ taken_page s pid first count p.file p.page s.volatile taken ∙ sym (taken_page s pid first count p.file p.page s.durable taken)
+        | inr left ↦ left_page s pid first count p.file p.page s.volatile left
+            ∙ shows.clean p (sym (settles.untouched p (not_listed p left)) ∙ untouched) (inside.0, sym (settles.files p.file) ∙ inside.1, inside.2)
+            ∙ sym (left_page s pid first count p.file p.page s.durable left)
+      ];
+    }
+
+module _ (c new : Picture) (chosen : Chosen) (list : List Spot) (fit : IsFit c) (listed : IsListed c chosen) (spots : HasSpots c (take chosen.count chosen.list) list)
+    (settles : Settles c new list (length list)) where
+  was_touched : (i : ℕ) → i < length list → c.touched (spot_at list i).page ≡ true
+  was_touched i less =
+      let below : i < length (take chosen.count chosen.list) = omega (arith, less, spots.count) in
+      ap c.touched (spots.same i below) ∙ front_touched c chosen listed i below
+
+  placed_at : (i : ℕ) → i < length list → c.place (spot_at list i).page ≡ place_at (spot_at list i).at
+  placed_at i less = (spots.spots i (omega (arith, less, spots.count))).placed
+
+  -- of all entries only leaves over the pages that were taken lost D
+  pub entries_synced : LosesDirtyOnly c new
+  entries_synced pid page h = elim (settles.entries pid page h) [
+    | inl same ↦ inl same
+    | inr lost ↦ (
+        let i = lost.frame.0 in
+        let e = entry c pid page in
+        let over : c.place (spot_at list i).page ≡ Frame (record { 0 = frame_of e }) = placed_at i lost.frame.1 ∙ ap place_at lost.frame.2 in
+        inr (record {
+          leaf = lost.leaf;
+          common = elim (cases_Bool (is_private e)) [
+            | inl own ↦ absurd (
+                let named = fit.counted.1.named pid page (InFrame (frame_of e)) h (rw own refl) in
+                let bad : Private ≡ Cache = sym named ∙ fit.places.cached (spot_at list i).page (frame_of e) over in (cc))
+            | inr common ↦ common
+          ];
+          loses = lost.loses;
+          page = (spot_at list i).page;
+          over = over;
+          was = was_touched i lost.frame.1;
+          now = settles.cleaned i lost.frame.1;
+        }))
+  ]
+
+  place_synced : (p : FilePage) (at : Residence) → c.place p ≡ place_at at → new.place p ≡ settled_place at → c.touched p ≡ true → new.touched p ≡ false
+      → (new.place p ≡ c.place p) ⊎ ComesHome c new p
+  place_synced p (Framed n) was now touched clean = inl (now ∙ sym was)
+  place_synced p (Slotted k) was now touched clean = inr (record { slot = k; was = was; touched = touched; now = now; clean = clean })
+
+  -- and every file page that wasn't in a slot lies where it lay
+  pub places_synced : SettlesPlaces c new
+  places_synced p = elim (cases_listed list (length list) p) [
+    | inr none ↦ inl (settles.elsewhere p none)
+    | inl found ↦ (
+        let i = found.0 in
+        let x = spot_at list i in
+        let P : FilePage → Type 0 = λ q. (new.place q ≡ c.place q) ⊎ ComesHome c new q in
+        subst P found.2 (place_synced x.page x.at (placed_at i found.1) (settles.placed i found.1) (was_touched i found.1) (settles.cleaned i found.1)))
+  ]
+
+slot_of : (c : Picture) (p : FilePage) (at : Residence) → c.place p ≡ place_at at → IsSlotted at → (k : SlotNo) × (c.place p ≡ Slot k)
+slot_of c p (Framed n) placed is = absurd is
+slot_of c p (Slotted k) placed is = (k, placed)
+
+-- where one of the spots is a slot, a page of the commit lies in one
+pub away_of : (c : Picture) (chosen : Chosen) (list : List Spot) → HasSpots c (take chosen.count chosen.list) list → HasSlot list → IsAway c chosen
+away_of c chosen list spots has =
+    let i = has.0 in
+    let below : i < length (take chosen.count chosen.list) = (let less = has.1 in omega (arith, less, spots.count)) in
+    let front : i < chosen.count = omega (arith, below, front_length chosen) in
+    let slot = slot_of c (spot_at list i).page (spot_at list i).at (spots.spots i below).placed has.2 in
+    record {
+      number = i;
+      below = front;
+      slot = slot.0;
+      placed = ap c.place (sym (front_same chosen i front) ∙ sym (spots.same i below)) ∙ slot.1;
+    }
+
+-- what a fault comes from
+pub err_is : (f e : CommitFault) → f ≡ e → IsErrOf {T = Unit {0}} (Err f) e
+err_is f e is = let P : CommitFault → Result (Unit {0}) CommitFault = λ x. Err x in ap P is
+
+pub device_failed : (before now a b : ℕ) (f : CommitFault) → f ≡ Device → HasCauses before now a b (Err f) → before < now
+device_failed before now a b f is causes = causes.device (err_is f Device is)
+
+pub source_failed : (before now a b : ℕ) (f : CommitFault) → f ≡ Source → HasCauses before now a b (Err f) → a < b
+source_failed before now a b f is causes = causes.source (err_is f Source is)
+
+-- what a commit would leave is what the flat model takes
+after_is : (s : State) (after : Pages) (pid addr len : ℕ) (mode : MsyncMode) (chosen : Chosen) → (same : TakesSame s pid addr len mode chosen)
+    → commits s (Msync pid addr len mode) ≡ Some after → committed s pid same.first same.count s.durable ≡ after
+after_is s after pid addr len mode chosen same e =
+    let taken : Some (committed s pid same.first same.count s.durable) ≡ Some after = sym (ap (commit_of s) same.ruling) ∙ e in
+    cc
+
+-- memory with other slots and another directory
+abbrev pub with_store : Picture → SlotTable → Directory → Picture
+with_store c t d = record c { slots = t; files = λ f. option_map (λ e. e.info) (entry_of d f) }
+
+-- the same slots and files
+pub fit_store : (c : Picture) (t t' : SlotTable) (d d' : Directory) → t' ≡ t → d' ≡ d → IsFit (with_store c t d) → IsFit (with_store c t' d')
+fit_store c t t' d d' slots files fit =
+    let P : SlotTable → Type 0 = λ x. IsFit (with_store c x d) in
+    let Q : Directory → Type 0 = λ x. IsFit (with_store c t' x) in
+    subst Q (sym files) (subst P (sym slots) fit)
+
+pub spots_store : (c : Picture) (t t' : SlotTable) (d d' : Directory) (list : List Spot) → t' ≡ t → d' ≡ d → AreSpots (with_store c t d) list → AreSpots (with_store c t' d') list
+spots_store c t t' d d' list slots files spots =
+    let P : SlotTable → Type 0 = λ x. AreSpots (with_store c x d) list in
+    let Q : Directory → Type 0 = λ x. AreSpots (with_store c t' x) list in
+    subst Q (sym files) (subst P (sym slots) spots)
+
+pub shows_store : (c : Picture) (t t' : SlotTable) (d d' : Directory) (s : State) → t' ≡ t → d' ≡ d → ShowsPages (with_store c t d) s → ShowsPages (with_store c t' d') s
+shows_store c t t' d d' s slots files shows =
+    let P : SlotTable → Type 0 = λ x. ShowsPages (with_store c x d) s in
+    let Q : Directory → Type 0 = λ x. ShowsPages (with_store c t' x) s in
+    subst Q (sym files) (subst P (sym slots) shows)
+
+-- and what is settled over them
+pub settles_store : (c n : Picture) (t t' : SlotTable) (d d' : Directory) (list : List Spot) (k : ℕ) → t' ≡ t → d' ≡ d → Settles (with_store c t' d') n list k → Settles (with_store c t d) n list k
+settles_store c n t t' d d' list k slots files settles =
+    let P : SlotTable → Type 0 = λ x. Settles (with_store c x d) n list k in
+    let Q : Directory → Type 0 = λ x. Settles (with_store c t' x) n list k in
+    subst P slots (subst Q files settles)
+
+module _ {D : Type 0} (g : Ghosts D) where
+  -- what the store's commit says of these contents, as long as its source kept its model
+  pub record StoreCommits (model : Type 0) (n : ℕ) (files : Files) (before after : Pages) (old new : FileStore D) : Type 0 where
+    pub directory : new.directory ≡ old.directory
+    pub size : g.sector_count new.disk ≡ g.sector_count old.disk
+    pub kept : g.keeps_model new.disk → g.keeps_model old.disk
+    pub either : g.keeps_model new.disk → model → LeavesNow g old.disk (StandsFor n files before) → LeavesOnly g old.disk new.disk (StandsForEither n files before after)
+
+module _ {D E : Type 0} (g : Ghosts D) (h : Ghosts E) where
+  -- a commit that came to some end
+  commit_ended : (model : Type 0) (old new : Core D E) (s : State) (after : Pages) (pid addr len : ℕ) (mode : MsyncMode) (reply : Reply) (chosen : Chosen) → Shows g old s
+      → (same : TakesSame s pid addr len mode chosen) → commits s (Msync pid addr len mode) ≡ Some after
+      → StoreCommits g model (g.sector_count old.store.disk) s.files s.durable (committed s pid same.first same.count s.durable) old.store new.store
+      → IsEnd g h model old new s (Msync pid addr len mode) reply → Commits g h model old new s after (Msync pid addr len mode) reply
+  commit_ended model old new s after pid addr len mode reply chosen shows same takes store end =
+      let taken = committed s pid same.first same.count s.durable in
+      let done : Commits g h model old new s taken (Msync pid addr len mode) reply = record {
+        end = end;
+        directory = store.directory;
+        size = store.size;
+        kept = store.kept;
+        either = λ k m. store.either k m (shows.stands (store.kept k));
+      } in
+      subst (λ (x : Pages). Commits g h model old new s x (Msync pid addr len mode) reply) (after_is s after pid addr len mode chosen same takes) done
+
+  pub commit_done : (model : Type 0) (old new : Core D E) (s : State) (after : Pages) (pid addr len : ℕ) (mode : MsyncMode) (chosen : Chosen) → Shows g old s
+      → (same : TakesSame s pid addr len mode chosen) → commits s (Msync pid addr len mode) ≡ Some after
+      → StoreCommits g model (g.sector_count old.store.disk) s.files s.durable (committed s pid same.first same.count s.durable) old.store new.store
+      → (g.keeps_model new.store.disk → model → LeavesNow g old.store.disk (StandsFor (g.sector_count old.store.disk) s.files s.durable)
+      → LeavesNow g new.store.disk (StandsFor (g.sector_count old.store.disk) s.files (committed s pid same.first same.count s.durable)))
+      → ShowsPages (picture_of new) (synced s pid same.first same.count) → IsSoundCore g h new
+      → Commits g h model old new s after (Msync pid addr len mode) Done
+  commit_done model old new s after pid addr len mode chosen shows same takes store ok pages sound =
+      let taken = committed s pid same.first same.count s.durable in
+      let t = synced s pid same.first same.count in
+      let t_is : t ≡ (msync_outcome s (Flat.msync_ruling s pid addr len mode)).state = sym (ap (λ (r : Flat.Ruling). (msync_outcome s r).state) same.ruling) in
+      let now : model → Shows g new t = λ m. record {
+        pages = pages;
+        stands = λ k c may. subst (λ (x : ℕ). StandsFor x s.files taken c) (sym store.size) (ok k m (shows.stands (store.kept k)) c may);
+      } in
+      let P : State → Type 0 = λ x. model → Shows g new x in
+      commit_ended model old new s after pid addr len mode Done chosen shows same takes store
+      (Acknowledged refl (subst (λ (x : State). ShowsPages (picture_of new) x) t_is pages) (subst P t_is now) sound)
+
+  pub commit_failed : (model : Type 0) (old new : Core D E) (s : State) (after : Pages) (pid addr len : ℕ) (mode : MsyncMode) (chosen : Chosen) → Shows g old s
+      → (same : TakesSame s pid addr len mode chosen) → commits s (Msync pid addr len mode) ≡ Some after → KeepsMemory old new
+      → StoreCommits g model (g.sector_count old.store.disk) s.files s.durable (committed s pid same.first same.count s.durable) old.store new.store
+      → g.failures old.store.disk < g.failures new.store.disk → Commits g h model old new s after (Msync pid addr len mode) (Refused EIO)
+  commit_failed model old new s after pid addr len mode chosen shows same takes memory store grew =
+      commit_ended model old new s after pid addr len mode (Refused EIO) chosen shows same takes store (Failed refl grew memory)
+
+  pub commit_unread : (model : Type 0) (old new : Core D E) (s : State) (after : Pages) (pid addr len : ℕ) (mode : MsyncMode) (chosen : Chosen) → Shows g old s
+      → (same : TakesSame s pid addr len mode chosen) → commits s (Msync pid addr len mode) ≡ Some after → KeepsMemory old new
+      → StoreCommits g model (g.sector_count old.store.disk) s.files s.durable (committed s pid same.first same.count s.durable) old.store new.store
+      → h.failures old.swap.pages.disk < h.failures new.swap.pages.disk → ShowsPages (picture_of new) s → IsSoundCore g h new
+      → (g.keeps_model new.store.disk → LeavesNow g old.store.disk (StandsFor (g.sector_count old.store.disk) s.files s.durable)
+      → LeavesNow g new.store.disk (StandsFor (g.sector_count old.store.disk) s.files s.durable))
+      → (g.keeps_model new.store.disk → LeavesNow g old.store.disk (StandsFor (g.sector_count old.store.disk) s.files s.durable)
+      → LeavesOnly g old.store.disk new.store.disk (StandsFor (g.sector_count old.store.disk) s.files s.durable))
+      → Commits g h model old new s after (Msync pid addr len mode) (Stalled SwapDevice)
+  commit_unread model old new s after pid addr len mode chosen shows same takes memory store grew pages sound now moments =
+      let still : Shows g new s = record {
+        pages = pages;
+        stands = λ k c may. subst (λ (x : ℕ). StandsFor x s.files s.durable c) (sym store.size) (now k (shows.stands (store.kept k)) c may);
+      } in
+      commit_ended model old new s after pid addr len mode (Stalled SwapDevice) chosen shows same takes store
+      (Unread refl grew memory still sound (λ k. moments k (shows.stands (store.kept k))))
+
+  -- the same under a stronger premise
+  end_under : (model more : Type 0) (old new : Core D E) (s : State) (pid addr len : ℕ) (mode : MsyncMode) (reply : Reply) → (more → model)
+      → IsEnd g h model old new s (Msync pid addr len mode) reply → IsEnd g h more old new s (Msync pid addr len mode) reply
+  end_under model more old new s pid addr len mode reply from (Acknowledged is pages shows sound) = Acknowledged is pages (λ m. shows (from m)) sound
+  end_under model more old new s pid addr len mode reply from (Failed is grew memory) = Failed is grew memory
+  end_under model more old new s pid addr len mode reply from (Unread is grew memory shows sound moments) = Unread is grew memory shows sound moments
+
+  pub commits_under : (model more : Type 0) (old new : Core D E) (s : State) (after : Pages) (pid addr len : ℕ) (mode : MsyncMode) (reply : Reply) → (more → model)
+      → Commits g h model old new s after (Msync pid addr len mode) reply → Commits g h more old new s after (Msync pid addr len mode) reply
+  commits_under model more old new s after pid addr len mode reply from c = record {
+    end = end_under model more old new s pid addr len mode reply from c.end;
+    directory = c.directory;
+    size = c.size;
+    kept = c.kept;
+    either = λ k m. c.either k (from m);
+  }

@@ -1,0 +1,13 @@
+pub mod Appending
+pub mod Totals
+pub mod Walking
+pub mod Gathering
+pub mod Rulings
+pub mod Spotting
+pub mod Beside
+pub mod Cleaning
+pub mod Homing
+pub mod Settled
+pub mod SettledPages
+pub mod Committing
+pub mod Trying

@@ -1,0 +1,211 @@
+-- How an msync is judged, as the flat model sees it.
+use Rattle.std.proofs.Common.{ℕ, zero, suc, ◌+◌, ◌/◌, ◌%◌, ◌≡◌, ◌≢◌, ◌<◌, ◌^◌, ◌==◌, ◌&&◌, not, Bool, true, false, nat_lt, List, [], ◌∷◌, get_or, Option, Some, None, refl, sym, ap, ◌∙◌, arith}
+use Rattle.std.specs.Option.{option_map}
+use Rattle.std.specs.Prelude.{is_some}
+use Rattle.std.proofs.lemmas.Bool.Decides.{nat_tests}
+use Rattle.vm_types.specs.declared.command.MsyncMode.{MsyncMode}
+use Rattle.vm_types.specs.declared.command.MsyncMode.TheVariants.{Sync}
+use Rattle.vm_types.specs.declared.file.FileInfo.{FileInfo}
+use Rattle.vm_types.specs.declared.file.FilePage.{FilePage}
+use Rattle.vm_types.specs.declared.refusal.Errno.TheVariants.{ENOMEM}
+use Rattle.vm_types.specs.declared.region.Attr.{Attr}
+use Rattle.vm_types.specs.Checks.{first_of, page_count, pages_from}
+use Rattle.vm_types.specs.Counting.{any_below}
+use Rattle.vm_types.specs.Msync.{shares, touched_in, touched_count, msync_ruling, row_ruling, or_else}
+use Rattle.vm_types.specs.Msync as Flat
+use Rattle.vm_types.specs.Rows.{is_covered}
+use Rattle.vm_types.specs.State.{State}
+use Rattle.vm_types.specs.View.{View, attrs_of}
+use Rattle.file_store.specs.declared.directory.Directory.{Directory}
+use Rattle.file_store.specs.declared.directory.Entry.{Entry}
+use Rattle.file_store.specs.Store.{entry_of}
+use Rattle.regions.specs.declared.run.Run.{Run}
+use Rattle.regions.specs.RunList.{attr_at}
+use Rattle.paging.specs.declared.kernel.Core.{Core}
+use Rattle.paging.specs.Picture.{Picture, picture_of, entry, is_live, attr_where, root_in, own_in, view_of, view}
+use Rattle.paging.specs.Parts.{IsFit}
+use Rattle.paging.specs.Shows.{ShowsPages}
+use Rattle.msync.specs.declared.chosen.Ruling.{Ruling}
+use Rattle.msync.specs.declared.chosen.Ruling.TheVariants.{Refuses, Passes, Takes}
+use Rattle.msync.specs.Choice.{page_at, shares_page, is_shared_in, is_chosen, Overflows, Lists, IsChoice, RulesSame, AreListed, AreTaken}
+use Rattle.msync.proofs.Appending.{lists_same}
+use Rattle.msync.proofs.Totals.{total, IsWithin, at_least, exactly}
+use Rattle.msync.proofs.Walking.{both_true}
+
+-- a process, and what its pages are
+pub record IsProcess (touched : FilePage → Bool) (map : ℕ → Option Attr) (s : State) (pid : ℕ) : Type 0 where
+  pub live : s.live pid ≡ true
+  pub attrs : (page : ℕ) → attrs_of (s.views pid) page ≡ map page
+  pub shared : (page : ℕ) (p : FilePage) → shares (s.views pid page) p.file p.page ≡ shares_page (map page) p
+  pub marked : (p : FilePage) → s.touched p.file p.page ≡ touched p
+
+attr_in_view : (own : Option (List ℕ)) (a : Option Attr) → option_map (λ (v : View). v.attr) (view_of own a) ≡ a
+attr_in_view own None = refl
+attr_in_view own (Some a) = refl
+
+shares_in_view : (own : Option (List ℕ)) (a : Option Attr) (p : FilePage) → shares (view_of own a) p.file p.page ≡ shares_page a p
+shares_in_view own None p = refl
+shares_in_view own (Some a) p = refl
+
+view-attr : (c : Picture) (pid page : ℕ) → option_map (λ (v : View). v.attr) (view c pid page) ≡ c.at pid page
+unfolding view
+view-attr c pid page = attr_in_view (own_in c.frames c.slots (entry c pid page)) (c.at pid page)
+
+view-shares : (c : Picture) (pid page : ℕ) (p : FilePage) → shares (view c pid page) p.file p.page ≡ shares_page (c.at pid page) p
+unfolding view
+view-shares c pid page p = shares_in_view (own_in c.frames c.slots (entry c pid page)) (c.at pid page) p
+
+pub the_process : (c : Picture) (map : ℕ → Option Attr) (s : State) (pid : ℕ) (r : Bool) → ShowsPages c s → r ≡ is_live c pid → r ≡ true
+    → ((page : ℕ) → c.at pid page ≡ map page) → IsProcess c.touched map s pid
+the_process c map s pid r shows is live at = record {
+  live = shows.live pid ∙ sym is ∙ live;
+  attrs = λ page. ap (λ (o : Option View). option_map (λ (v : View). v.attr) o) (shows.views pid page) ∙ view-attr c pid page ∙ at page;
+  shared = λ page p. ap (λ (o : Option View). shares o p.file p.page) (shows.views pid page) ∙ view-shares c pid page p ∙ ap (λ (o : Option Attr). shares_page o p) (at page);
+  marked = shows.touched;
+}
+
+-- what the pages of a live process are
+pub at_where : (o : Option ℕ) (runs : List Run) (page : ℕ) → is_some o ≡ true → attr_where o runs page ≡ attr_at runs page
+at_where None runs page live = cc
+at_where (Some r) runs page live = refl
+
+pub no_process : (c : Picture) (s : State) (pid : ℕ) (r : Bool) → ShowsPages c s → r ≡ is_live c pid → r ≡ false → s.live pid ≡ false
+no_process c s pid r shows is dead = shows.live pid ∙ sym is ∙ dead
+
+-- what the flat model takes
+any_same : (a b : ℕ → Bool) (n : ℕ) → ((k : ℕ) → a k ≡ b k) → any_below a n ≡ any_below b n
+unfolding any_below
+any_same a b zero same = refl
+any_same a b (suc n) same = rw (same n) (rw (any_same a b n same) refl)
+
+module _ (touched : FilePage → Bool) (map : ℕ → Option Attr) (s : State) (pid : ℕ) (p : IsProcess touched map s pid) where
+  pub taken_is_chosen : (first count : ℕ) (page : FilePage) → is_chosen touched map first count page ≡ touched_in s pid first count page.file page.page
+  taken_is_chosen first count page =
+      sym (
+      ap (λ (t : Bool). t && any_below (λ i. shares (s.views pid (first + i)) page.file page.page) count) (p.marked page)
+      ∙ ap (λ (t : Bool). touched page && t)
+      (any_same (λ i. shares (s.views pid (first + i)) page.file page.page) (λ i. shares_page (map (first + i)) page) count (λ k. p.shared (first + k) page))
+      )
+
+  taken_within : (first count : ℕ) → IsWithin touched 64 (2 ^ 20) → IsWithin (λ page. touched_in s pid first count page.file page.page) 64 (2 ^ 20)
+  taken_within first count within = record {
+    file = λ page e. within.file page (both_true (touched page) (is_shared_in map first count page) (taken_is_chosen first count page ∙ e)).0;
+    page = λ page e. within.page page (both_true (touched page) (is_shared_in map first count page) (taken_is_chosen first count page ∙ e)).0;
+  }
+
+  total_of : (first count : ℕ) → touched_count s pid first count ≡ total (λ page. touched_in s pid first count page.file page.page) 64 (2 ^ 20)
+  unfolding touched_count total
+  total_of first count = refl
+
+  too_many : (first count : ℕ) → IsWithin touched 64 (2 ^ 20) → Overflows (is_chosen touched map first count) [] 0 → 127 < touched_count s pid first count
+  too_many first count within over =
+      let n = at_least (λ page. touched_in s pid first count page.file page.page) 64 (2 ^ 20) over.at 128 (taken_within first count within)
+      (λ i less. sym (taken_is_chosen first count (over.at i)) ∙ over.each i (omega arith) less)
+      (λ i j less high. over.once i j less (omega arith) high) in
+      omega (arith, n, total_of first count)
+
+  same_lists : (first count : ℕ) (list : List FilePage) (n : ℕ) → Lists (is_chosen touched map first count) list n
+      → Lists (λ page. touched_in s pid first count page.file page.page) list n
+  same_lists first count list n f =
+      lists_same (is_chosen touched map first count) (λ page. touched_in s pid first count page.file page.page) list n
+      (λ page. taken_is_chosen first count page) f
+
+  count_of : (first count : ℕ) (list : List FilePage) (n : ℕ) → IsWithin touched 64 (2 ^ 20) → Lists (is_chosen touched map first count) list n
+      → touched_count s pid first count ≡ n
+  count_of first count list n within f =
+      let l = same_lists first count list n f in
+      total_of first count
+      ∙ exactly (λ page. touched_in s pid first count page.file page.page) 64 (2 ^ 20) (page_at list) n (taken_within first count within) l.each l.once l.all
+
+  -- covered rows
+  covered_of : (first count : ℕ) → is_covered (attrs_of (s.views pid)) first count ≡ is_covered map first count
+  unfolding is_covered
+  covered_of first zero = refl
+  covered_of first (suc count) = rw (p.attrs (first + count)) (rw (covered_of first count) refl)
+
+  -- the checks that pass
+  count_from : (addr len : ℕ) → addr % 4096 ≡ 0 → pages_from addr len ≡ page_count len
+  count_from addr len e = omega arith
+
+  ruling_after : (addr len : ℕ) (mode : MsyncMode) → addr % 4096 ≡ 0 → len ≢ 0
+      → msync_ruling s pid addr len mode
+      ≡ or_else (first_of ((not (is_covered (attrs_of (s.views pid)) (addr / 4096) (page_count len)), ENOMEM) ∷ []))
+      (row_ruling s pid (addr / 4096) (page_count len) mode)
+  ruling_after addr len mode aligned some =
+      let live = p.live in
+      let a : (addr % 4096 == 0) ≡ true = grind (arith, nat_tests) in
+      let n : (len == 0) ≡ false = grind (arith, nat_tests) in
+      rw live (rw a (rw n (rw (count_from addr len aligned) refl)))
+
+  pub ruled_missing : (addr len : ℕ) (mode : MsyncMode) → addr % 4096 ≡ 0 → len ≢ 0
+      → is_covered map (addr / 4096) (page_count len) ≡ false → msync_ruling s pid addr len mode ≡ Flat.Refuses ENOMEM
+  ruled_missing addr len mode aligned some hole =
+      let e = covered_of (addr / 4096) (page_count len) ∙ hole in
+      ruling_after addr len mode aligned some ∙ rw e refl
+
+  pub ruled_row : (addr len : ℕ) (mode : MsyncMode) → addr % 4096 ≡ 0 → len ≢ 0
+      → is_covered map (addr / 4096) (page_count len) ≡ true
+      → msync_ruling s pid addr len mode ≡ row_ruling s pid (addr / 4096) (page_count len) mode
+  ruled_row addr len mode aligned some covered =
+      let e = covered_of (addr / 4096) (page_count len) ∙ covered in
+      ruling_after addr len mode aligned some ∙ rw e refl
+
+  pub ruled_sync : (addr len : ℕ) (r : Ruling) → IsWithin touched 64 (2 ^ 20) → addr % 4096 ≡ 0 → len ≢ 0
+      → is_covered map (addr / 4096) (page_count len) ≡ true
+      → IsChoice (is_chosen touched map (addr / 4096) (page_count len)) r → RulesSame s pid addr len Sync r
+  ruled_sync addr len (Refuses errno) within aligned some covered choice =
+      let n = too_many (addr / 4096) (page_count len) within choice.1 in
+      let many : nat_lt 127 (touched_count s pid (addr / 4096) (page_count len)) ≡ true = grind (arith, nat_tests, n) in
+      ruled_row addr len Sync aligned some covered ∙ rw many (ap Flat.Refuses (sym choice.0))
+  ruled_sync addr len Passes within aligned some covered choice =
+      let n = count_of (addr / 4096) (page_count len) [] 0 within choice in
+      ruled_row addr len Sync aligned some covered ∙ rw n refl
+  ruled_sync addr len (Takes chosen) within aligned some covered choice =
+      let n = count_of (addr / 4096) (page_count len) chosen.list chosen.count within choice.1 in
+      let few : nat_lt 127 chosen.count ≡ false = (let small = chosen.few in grind (arith, nat_tests)) in
+      let any : (chosen.count == 0) ≡ false = (let some_chosen = choice.0 in grind (arith, nat_tests)) in
+      record {
+        first = addr / 4096;
+        count = page_count len;
+        ruling = ruled_row addr len Sync aligned some covered ∙ rw n (rw few (rw any refl));
+        lists = same_lists (addr / 4096) (page_count len) chosen.list chosen.count choice.1;
+      }
+
+pub listed_of : (c : Picture) (map : ℕ → Option Attr) (first count : ℕ) (r : Ruling) → IsChoice (is_chosen c.touched map first count) r → AreListed c r
+listed_of c map first count (Refuses errno) choice = tt
+listed_of c map first count Passes choice = tt
+listed_of c map first count (Takes chosen) choice = record {
+  some = choice.0;
+  touched = λ i less. (both_true (c.touched (page_at chosen.list i)) (is_shared_in map first count (page_at chosen.list i)) (choice.1.each i less)).0;
+  once = choice.1.once;
+}
+
+-- and that they are taken is told by the process's own pages
+chosen_same : (touched : FilePage → Bool) (a b : ℕ → Option Attr) (first count : ℕ) (page : FilePage) → ((k : ℕ) → a k ≡ b k) → is_chosen touched a first count page ≡ is_chosen touched b first count page
+chosen_same touched a b first count page same =
+    ap (λ (t : Bool). touched page && t)
+    (any_same (λ i. shares_page (a (first + i)) page) (λ i. shares_page (b (first + i)) page) count (λ k. ap (λ (o : Option Attr). shares_page o page) (same (first + k))))
+
+pub taken_of : (c : Picture) (map : ℕ → Option Attr) (pid addr len : ℕ) (r : Ruling) → ((page : ℕ) → c.at pid page ≡ map page)
+    → IsChoice (is_chosen c.touched map (addr / 4096) (page_count len)) r → AreTaken c pid addr len r
+taken_of c map pid addr len (Refuses errno) same choice = tt
+taken_of c map pid addr len Passes same choice = tt
+taken_of c map pid addr len (Takes chosen) same choice = λ i less.
+    chosen_same c.touched (c.at pid) map (addr / 4096) (page_count len) (page_at chosen.list i) same ∙ choice.1.each i less
+
+-- touched pages are pages of files, of which there are 64, of fewer than 2 ^ 32 bytes
+in_file : (d : Directory) (f : ℕ) (o : Option Entry) (info : FileInfo) → entry_of d f ≡ o → option_map (λ e. e.info) o ≡ Some info → (f < 64) × (info.length < 2 ^ 32)
+in_file d f None info is e = cc
+in_file d f (Some x) info is e =
+    let same : x.info ≡ info = cc in
+    (d.numbers f x is, (let small = d.lengths f x is in omega (arith, small, ap (λ (i : FileInfo). i.length) same)))
+
+pub touched_within : (c : Picture) (d : Directory) → IsFit c → ((f : ℕ) → c.files f ≡ option_map (λ e. e.info) (entry_of d f)) → IsWithin c.touched 64 (2 ^ 20)
+touched_within c d fit files = record {
+  file = λ p e. (let at = fit.places.inside p (fit.dirty.held p e) in (in_file d p.file (entry_of d p.file) at.0 refl (sym (files p.file) ∙ at.1)).0);
+  page = λ p e. (
+      let at = fit.places.inside p (fit.dirty.held p e) in
+      let small = (in_file d p.file (entry_of d p.file) at.0 refl (sym (files p.file) ∙ at.1)).1 in
+      let inside = at.2 in
+      omega (arith, small, inside));
+}

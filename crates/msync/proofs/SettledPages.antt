@@ -1,0 +1,179 @@
+-- Pages are settled one after the other.
+use Rattle.std.proofs.Common.{◌≡◌, ◌≢◌, ℕ, zero, suc, inl, inr, ◌⊎◌, ◌+◌, ◌-◌, ◌/◌, ◌%◌, ◌^◌, ◌<◌, ◌==◌, true, false, List, length, Some, refl, sym, ap, ◌∙◌, subst, arith}
+use Rattle.std.proofs.lemmas.Bool.{cases_eq, false≢true}
+use Rattle.std.proofs.lemmas.Option.{same_Some}
+use Rattle.vm_types.specs.declared.file.FilePage.{FilePage}
+use Rattle.vm_types.specs.Files.{inside_of, cut, trimmed}
+use Rattle.frames.specs.FrameTable.{FrameTable, frame_count, bytes_of, IsFrame}
+use Rattle.swap.specs.declared.slots.Swap.{Swap}
+use Rattle.swap.specs.Slots.{slots_of, IsReady}
+use Rattle.swap.specs.Written.{IsAsWritten}
+use Rattle.swap.specs.declared.pages.Pages.{Pages as Swap_pages}
+use Rattle.disk_model.specs.declared.sector_disk.SectorDisk.{Ghosts}
+use Rattle.sv39_walk.specs.Entry.{is_dirty}
+use Rattle.page_cache.specs.declared.place.Place.{Place}
+use Rattle.paging.specs.declared.kernel.Core.{Core}
+use Rattle.paging.specs.Picture.{Picture, entry, held, bytes_at}
+use Rattle.paging.specs.Parts.{IsFit, HasPlaces}
+use Rattle.paging.proofs.Bits.{bit_seven, seven_clear}
+use Rattle.paging.proofs.Places.{cases_page}
+use Rattle.msync.specs.declared.chosen.Residence.{Residence}
+use Rattle.msync.specs.declared.chosen.Residence.TheVariants.{Framed, Slotted}
+use Rattle.msync.specs.declared.chosen.Spot.{Spot}
+use Rattle.msync.specs.Spots.{spot_at, place_at, bytes_there, IsThere, IsSpot, AreSpots}
+use Rattle.msync.specs.Settling.{KeepsBesidePages, LosesDirty, ClearsLeaf, IsFrameIn, settled_place, settled_in, settled_bytes, SettlesOne, Settles}
+
+lost_clean : (e e' : ℕ) → LosesDirty e e' → is_dirty e' ≡ false
+lost_clean e e' lost =
+    let number : e' ≡ e - 128 = (let n = lost.number in omega (arith, n)) in
+    ap is_dirty number ∙ seven_clear e (bit_seven e lost.had)
+
+-- no page at all
+pub settles_none : (c : Picture) (list : List Spot) → Settles c c list 0
+settles_none c list = record {
+  frames = refl;
+  slots = refl;
+  root = λ q. refl;
+  views = λ q p. refl;
+  entries = λ q p h. inl refl;
+  files = λ f. refl;
+  placed = λ i less. absurd (omega arith);
+  elsewhere = λ p none. refl;
+  cleaned = λ i less. absurd (omega arith);
+  untouched = λ p none. refl;
+  settled = λ i less. absurd (omega arith);
+  kept = λ p none. refl;
+}
+
+-- the bytes of a page at its spot
+pub held_spot : (c : Picture) (p : FilePage) (at : Residence) → c.place p ≡ place_at at → held c p ≡ Some (bytes_there c.frames c.slots at)
+unfolding held
+held_spot c p (Framed n) placed = ap (λ x. bytes_at c.frames c.slots x) placed
+held_spot c p (Slotted k) placed = ap (λ x. bytes_at c.frames c.slots x) placed
+
+-- what a page comes to is what it would have come to before
+settled_same : (a b : Picture) (p : FilePage) (at : Residence) → ((f : ℕ) → b.files f ≡ a.files f) → a.place p ≡ place_at at → b.place p ≡ place_at at → held b p ≡ held a p
+    → settled_in b.files b.frames p at ≡ settled_in a.files a.frames p at
+settled_same a b p (Slotted k) files was now same = refl
+settled_same a b p (Framed n) files was now same =
+    let bytes : bytes_of b.frames n.0 ≡ bytes_of a.frames n.0 = same_Some _ _ (sym (held_spot b p (Framed n) now) ∙ same ∙ held_spot a p (Framed n) was) in
+    ap (λ info. Some (cut (inside_of info p.page) (bytes_of b.frames n.0))) (files p.file)
+    ∙ ap (λ (w : List ℕ). Some (trimmed a.files p.file p.page w)) bytes
+
+still_there : (a b : Picture) (p : FilePage) (at : Residence) → HasPlaces b → frame_count b.frames ≡ frame_count a.frames → b.place p ≡ place_at at → IsThere a.frames a.slots at → IsThere b.frames b.slots at
+still_there a b p (Framed n) places frames now there = omega (arith, frames, there)
+still_there a b p (Slotted k) places frames now there = (let one = places.slotted p k.0 now in omega (arith, one))
+
+module _ (a b : Picture) (list : List Spot) (i : ℕ) (spots : AreSpots a list) (less : i < length list) (settles : Settles a b list i) where
+  -- the pages that are left lie where they lay
+  apart : (j : ℕ) → j < i → (spot_at list j).page ≢ (spot_at list i).page
+  apart j below = spots.once j i below less
+
+  pub spot_left : IsFit b → IsSpot b (spot_at list i)
+  spot_left fit =
+      let x = spot_at list i in
+      let was = spots.each i less in
+      let now : b.place x.page ≡ place_at x.at = settles.elsewhere x.page apart ∙ was.placed in
+      record { placed = now; there = still_there a b x.page x.at fit.places settles.frames now was.there }
+
+  -- one page more
+  module _ (c : Picture) (fit : IsFit b) (one : SettlesOne b c (spot_at list i)) where
+    other : (p : FilePage) → ((j : ℕ) → j < i + 1 → (spot_at list j).page ≢ p) → p ≢ (spot_at list i).page
+    other p none e = none i (omega arith) (sym e)
+
+    earlier : (p : FilePage) → ((j : ℕ) → j < i + 1 → (spot_at list j).page ≢ p) → (j : ℕ) → j < i → (spot_at list j).page ≢ p
+    earlier p none j below = none j (omega arith)
+
+    cases_last : (j : ℕ) → j < i + 1 → (j < i) ⊎ (j ≡ i)
+    cases_last j below = elim (cases_eq j i) [
+      | inl e ↦ inr e
+      | inr ne ↦ inl (omega arith)
+    ]
+
+    placed : (j : ℕ) → j < i + 1 → c.place (spot_at list j).page ≡ settled_place (spot_at list j).at
+    placed j below = elim (cases_last j below) [
+      | inl low ↦ one.elsewhere (spot_at list j).page (apart j low) ∙ settles.placed j low
+      | inr e ↦ (let P : ℕ → Type 0 = λ k. c.place (spot_at list k).page ≡ settled_place (spot_at list k).at in subst P (sym e) one.placed)
+    ]
+
+    cleaned : (j : ℕ) → j < i + 1 → c.touched (spot_at list j).page ≡ false
+    cleaned j below = elim (cases_last j below) [
+      | inl low ↦ one.untouched (spot_at list j).page (apart j low) ∙ settles.cleaned j low
+      | inr e ↦ (let P : ℕ → Type 0 = λ k. c.touched (spot_at list k).page ≡ false in subst P (sym e) one.cleaned)
+    ]
+
+    settled : (j : ℕ) → j < i + 1 → held c (spot_at list j).page ≡ settled_bytes a (spot_at list j)
+    settled j below = elim (cases_last j below) [
+      | inl low ↦ one.kept (spot_at list j).page (apart j low) ∙ settles.settled j low
+      | inr e ↦ (
+          let x = spot_at list i in
+          let P : ℕ → Type 0 = λ k. held c (spot_at list k).page ≡ settled_bytes a (spot_at list k) in
+          subst P (sym e)
+          (one.settled ∙ settled_same a b x.page x.at settles.files (spots.each i less).placed (spot_left fit).placed (settles.kept x.page apart)))
+    ]
+
+    pub settles_more : Settles a c list (i + 1)
+    settles_more = record {
+      frames = one.frames ∙ settles.frames;
+      slots = one.slots ∙ settles.slots;
+      root = λ q. one.root q ∙ settles.root q;
+      views = λ q p. one.views q p ∙ settles.views q p;
+      entries = λ q p h. elim (one.entries q p h) [
+        | inl same ↦ elim (settles.entries q p h) [
+          | inl was ↦ inl (same ∙ was)
+          | inr lost ↦ inr (let P : ℕ → Type 0 = λ e. ClearsLeaf (IsFrameIn list) (entry a q p) e in subst P (sym same) lost)
+        ]
+        | inr lost ↦ elim (settles.entries q p h) [
+          | inl was ↦ inr (
+              let P : ℕ → Type 0 = λ e. ClearsLeaf (IsFrameIn list) e (entry c q p) in
+              subst P was (record { leaf = lost.leaf; frame = (i, less, lost.frame); loses = lost.loses }))
+          | inr before ↦ absurd (false≢true (sym (lost_clean (entry a q p) (entry b q p) before.loses) ∙ lost.loses.had))
+        ]
+      ];
+      files = λ f. one.files f ∙ settles.files f;
+      placed = placed;
+      elsewhere = λ p none. one.elsewhere p (other p none) ∙ settles.elsewhere p (earlier p none);
+      cleaned = cleaned;
+      untouched = λ p none. one.untouched p (other p none) ∙ settles.untouched p (earlier p none);
+      settled = settled;
+      kept = λ p none. one.kept p (other p none) ∙ settles.kept p (earlier p none);
+    }
+
+-- a page is in a list, or it isn't
+pub cases_listed : (list : List Spot) (n : ℕ) (p : FilePage) → ((i : ℕ) × (i < n) × ((spot_at list i).page ≡ p)) ⊎ ((i : ℕ) → i < n → (spot_at list i).page ≢ p)
+cases_listed list zero p = inr (λ i less. absurd (omega arith))
+cases_listed list (suc n) p = elim (cases_page (spot_at list n).page p) [
+  | inl e ↦ inl (n, omega arith, e)
+  | inr ne ↦ elim (cases_listed list n p) [
+    | inl found ↦ inl (found.0, (let less = found.1 in omega (arith, less)), found.2)
+    | inr none ↦ inr (λ i less. elim (cases_eq i n) [
+      | inl is ↦ λ e. ne (ap (λ k. (spot_at list k).page) (sym is) ∙ e)
+      | inr other ↦ none i (omega arith)
+    ])
+  ]
+]
+
+module _ {D E : Type 0} where
+  pub beside_none : (c : Core D E) → KeepsBesidePages c c
+  beside_none c = record { store = refl; pages = refl; roots = refl; regions = refl; page_of = refl; clock = refl; refused = refl }
+
+  pub beside_then : (a b c : Core D E) → KeepsBesidePages a b → KeepsBesidePages b c → KeepsBesidePages a c
+  beside_then a b c f g = record {
+    store = g.store ∙ f.store;
+    pages = g.pages ∙ f.pages;
+    roots = g.roots ∙ f.roots;
+    regions = g.regions ∙ f.regions;
+    page_of = g.page_of ∙ f.page_of;
+    clock = g.clock ∙ f.clock;
+    refused = g.refused ∙ f.refused;
+  }
+
+-- slots of which shares changed alone may be put and got
+pub ready_shared : {E : Type 0} (h : Ghosts E) (old new : Swap E) → IsReady h old → new.pages ≡ old.pages → (slots_of new).total ≡ (slots_of old).total → IsReady h new
+ready_shared {E = E} h old new ready pages total = record {
+  room = (
+      let size = ap (λ p. h.sector_count p.disk) pages in
+      let room = ready.room in
+      omega (arith, size, room, total));
+  as_written = (let P : Swap_pages E → Type 0 = λ p. IsAsWritten h p.disk p.written.notes in subst P (sym pages) ready.as_written);
+}

@@ -1,0 +1,57 @@
+use Rattle.std.proofs.Common.{ℕ, ◌≡◌, ◌-◌, arith, subst}
+use Rattle.regions.specs.RunList.{attr_at}
+use Rattle.page_cache.specs.CacheTable.{is_touched}
+use Rattle.msync.specs.Choice.{is_chosen, is_taken_behind, Appends, Overflows}
+use Rattle.msync.proofs.Appending.{on_err}
+use Rattle.msync.proofs.Walking.{walk_start, walk_on, walk_over, walk_end}
+use Rattle.msync.proofs.choosing.choose_between.Goals as goal
+
+pub loop-page-init : goal.loop-page-init
+loop-page-init c = record {
+  from = omega arith;
+  to = c.requires.order;
+  chosen = walk_start (is_touched c.args.cache.now) (attr_at c.args.regions.now) c.args.first c.args.list.now;
+}
+
+pub loop-page-preserved : goal.loop-page-preserved
+loop-page-preserved c =
+    let touched = is_touched c.args.cache.now in
+    let map = attr_at c.args.regions.now in
+    let run = c.in-Some.run' in
+    let next = c.in-Some.ensures.some in
+    let stop = c.min-stop.result in
+    let count : c.saturating_sub-pages.result ≡ stop - run.first = omega (arith, c.saturating_sub-pages.ensures) in
+    let step = subst (λ (n : ℕ). Appends (is_taken_behind touched run.attr.backing n) c.loop-page.list c.choose_behind.new.list c.loop-page.count c.in_ok-count.count) count c.in_ok-count.ensures.ok in
+    record {
+      from = omega (arith, next.from, next.nonempty);
+      to = omega arith;
+      chosen = walk_on touched map c.args.first c.loop-page.page stop run c.args.list.now c.loop-page.list c.choose_behind.new.list c.loop-page.count c.in_ok-count.count
+          next c.loop-page.invariant.from (omega (arith, next.from, next.nonempty)) (omega arith) c.loop-page.invariant.chosen step;
+    }
+
+pub returns-in_default-clause-ok : goal.returns-in_default-clause-ok
+returns-in_default-clause-ok c =
+    let touched = is_touched c.args.cache.now in
+    let map = attr_at c.args.regions.now in
+    walk_end touched map c.args.first c.loop-page.page c.args.end c.args.list.now c.loop-page.list c.loop-page.count
+    c.in_default.ensures.none c.loop-page.invariant.to c.loop-page.invariant.chosen
+
+pub returns-in_err-count-clause-too_many : goal.returns-in_err-count-clause-too_many
+returns-in_err-count-clause-too_many c =
+    let touched = is_touched c.args.cache.now in
+    let map = attr_at c.args.regions.now in
+    let run = c.in-Some.run' in
+    let next = c.in-Some.ensures.some in
+    let stop = c.min-stop.result in
+    let count : c.saturating_sub-pages.result ≡ stop - run.first = omega (arith, c.saturating_sub-pages.ensures) in
+    let step = subst (λ (n : ℕ). Overflows (is_taken_behind touched run.attr.backing n) c.loop-page.list c.loop-page.count) count c.in_err-count.ensures.too_many in
+    on_err c.from_residual.result
+    (walk_over touched map c.args.first c.loop-page.page stop c.args.end run c.args.list.now c.loop-page.list c.loop-page.count
+    next c.loop-page.invariant.from c.loop-page.invariant.to (omega arith) (omega arith) c.loop-page.invariant.chosen step)
+
+pub returns-clause-ok : goal.returns-clause-ok
+returns-clause-ok c =
+    let touched = is_touched c.args.cache.now in
+    let map = attr_at c.args.regions.now in
+    let e : c.loop-page.page ≡ c.args.end = omega (arith, c.loop-page.invariant.to) in
+    subst (λ (n : ℕ). Appends (is_chosen touched map c.args.first (n - c.args.first)) c.args.list.now c.loop-page.list 0 c.loop-page.count) e c.loop-page.invariant.chosen

@@ -1,0 +1,23 @@
+use Rattle.std.proofs.Common.{◌≡◌, inl, inr, sym, ap, ◌∙◌}
+use Rattle.msync.specs.Choice.{page_at, IsAway, TakesAway}
+use Rattle.msync.proofs.Committing.{commits_under}
+use Rattle.paging.specs.Picture.{picture_of}
+use Rattle.msync.proofs.msyncs.msync.Goals as goal
+
+pub returns-in-Takes-clause-commits : goal.returns-in-Takes-clause-commits
+returns-in-Takes-clause-commits g c = λ s after shows takes.
+    let old = c.args.core.now in
+    let ch = c.in-Takes.chosen in
+    let away : IsAway (picture_of old) ch → TakesAway (picture_of old) c.args.pid c.args.addr c.args.len =
+    λ a. record { page = page_at ch.list a.number; slot = a.slot; taken = c.in-Takes.ensures.taken a.number a.below; placed = a.placed } in
+    commits_under g.D.SectorDisk g.E.SectorDisk _ _ old c.commit.new.core s after c.args.pid c.args.addr c.args.len c.args.mode _ (λ m a. m (away a))
+    (c.commit.ensures.commits s after c.args.pid c.args.addr c.args.len c.args.mode shows takes (c.in-Takes.ensures.same s shows.pages))
+
+pub returns-in-Takes-clause-away : goal.returns-in-Takes-clause-away
+returns-in-Takes-clause-away g c = elim c.commit.ensures.away [
+  | inl same ↦ inl same
+  | inr a ↦ inr (record { page = page_at c.in-Takes.chosen.list a.number; slot = a.slot; taken = c.in-Takes.ensures.taken a.number a.below; placed = a.placed })
+]
+
+pub returns-in-Takes-clause-unasked : goal.returns-in-Takes-clause-unasked
+returns-in-Takes-clause-unasked g c = λ errno is other. absurd (other (c.commit.ensures.answers errno is))

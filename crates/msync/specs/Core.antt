@@ -1,0 +1,58 @@
+-- What an msync comes to.
+use Rattle.std.specs.Prelude.{◌≡◌, ◌<◌, ℕ}
+use Rattle.disk_model.specs.Moments.{LeavesOnly}
+use Rattle.disk_model.specs.declared.sector_disk.SectorDisk.{Ghosts}
+use Rattle.file_store.specs.Commit.{StandsForEither}
+use Rattle.file_store.specs.Standing.{StandsFor}
+use Rattle.swap.specs.Slots.{slots_of}
+use Rattle.vm_types.specs.declared.command.Command.{Command}
+use Rattle.vm_types.specs.declared.refusal.Errno.TheVariants.{EIO}
+use Rattle.vm_types.specs.declared.refusal.Stall.TheVariants.{SwapDevice}
+use Rattle.vm_types.specs.declared.reply.Reply.{Reply}
+use Rattle.vm_types.specs.declared.reply.Reply.TheVariants.{Done, Refused, Stalled}
+use Rattle.vm_types.specs.State.{State}
+use Rattle.vm_types.specs.Step.{outcome}
+use Rattle.vm_types.specs.View.{Pages}
+use Rattle.paging.specs.declared.kernel.Core.{Core}
+use Rattle.paging.specs.Picture.{picture_of}
+use Rattle.paging.specs.Shows.{ShowsPages}
+use Rattle.msync.specs.Choice.{TakesAway}
+use Rattle.msync.specs.Shows.{IsSoundCore, Shows}
+
+module _ {D E : Type 0} where
+  -- memory and slots are as they were, and the store has the same files
+  pub record KeepsMemory (old new : Core D E) : Type 0 where
+    pub directory : new.store.directory ≡ old.store.directory
+    pub slots : slots_of new.swap ≡ slots_of old.swap
+    pub frames : new.frames ≡ old.frames
+    pub cache : new.cache ≡ old.cache
+    pub roots : new.roots ≡ old.roots
+    pub regions : new.regions ≡ old.regions
+    pub page_of : new.page_of ≡ old.page_of
+    pub clock : new.clock ≡ old.clock
+    pub refused : new.refused ≡ old.refused
+
+module _ {D E : Type 0} (g : Ghosts D) (h : Ghosts E) where
+  -- A slot gave back what was put: where a page that is taken lies in one, the swap device has kept its model.
+  abbrev pub GivesBack : Core D E → Core D E → ℕ → ℕ → ℕ → Type 0
+  GivesBack old new pid addr len = TakesAway (picture_of old) pid addr len → h.keeps_model new.swap.pages.disk
+
+  -- The commit was made; or the store failed in it, and memory is as it was; or a slot couldn't be read, and so are memory and
+  -- what every image of a stop stands for, at every moment. What is durable then is told as long as slots gave back what was put.
+  pub data IsEnd (given_back : Type 0) (old new : Core D E) (s : State) (command : Command) (reply : Reply) : Type 0 where
+    Acknowledged : reply ≡ Done → ShowsPages (picture_of new) (outcome s command).state → (given_back → Shows g new (outcome s command).state) → IsSoundCore g h new
+        → IsEnd given_back old new s command reply
+    Failed : reply ≡ Refused EIO → g.failures old.store.disk < g.failures new.store.disk → KeepsMemory old new → IsEnd given_back old new s command reply
+    Unread : reply ≡ Stalled SwapDevice → h.failures old.swap.pages.disk < h.failures new.swap.pages.disk → KeepsMemory old new → Shows g new s → IsSoundCore g h new
+        → (g.keeps_model new.store.disk → LeavesOnly g old.store.disk new.store.disk (StandsFor (g.sector_count old.store.disk) s.files s.durable))
+        → IsEnd given_back old new s command reply
+
+  -- What an msync that makes pages durable comes to: at every moment a stop leaves the files as they were, or with all of
+  -- those pages, as long as slots gave back what was put.
+  pub record Commits (given_back : Type 0) (old new : Core D E) (s : State) (after : Pages) (command : Command) (reply : Reply) : Type 0 where
+    pub end : IsEnd given_back old new s command reply
+    pub directory : new.store.directory ≡ old.store.directory
+    pub size : g.sector_count new.store.disk ≡ g.sector_count old.store.disk
+    pub kept : g.keeps_model new.store.disk → g.keeps_model old.store.disk
+    pub either : g.keeps_model new.store.disk → given_back
+        → LeavesOnly g old.store.disk new.store.disk (StandsForEither (g.sector_count old.store.disk) s.files s.durable after)

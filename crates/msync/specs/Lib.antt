@@ -1,0 +1,6 @@
+pub mod Choice
+pub mod Spots
+pub mod Reads
+pub mod Settling
+pub mod Shows
+pub mod Core

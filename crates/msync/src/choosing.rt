@@ -1,0 +1,118 @@
+//! How an msync is judged, and which file pages it takes: the touched ones behind the shared pages of its range.
+ghost use Rattle.std.specs.Prelude.{◌≡◌, ◌≤◌, ◌<◌, ◌+◌, ◌-◌, ◌^◌, ℕ, IfOk, OnErr};
+ghost use Rattle.vm_types.specs.Limits.{msync_pages};
+ghost use Rattle.vm_types.specs.Attributes.{backing_fits};
+ghost use Rattle.vm_types.specs.Rows.{IsUserMap};
+ghost use Rattle.vm_types.specs.State.{State};
+ghost use Rattle.regions.specs.RunList.{attr_at};
+ghost use Rattle.page_cache.specs.CacheTable.{is_touched};
+ghost use Rattle.paging.specs.Picture.{picture_of};
+ghost use Rattle.paging.specs.Parts.{IsFit};
+ghost use Rattle.paging.specs.Shows.{ShowsPages};
+ghost use Rattle.msync.specs.Choice.{is_taken_behind, is_chosen, Appends, Overflows, IsChoice, RulesSame, AreListed, AreTaken, IsNoDeviceFault};
+
+use crate::chosen::{Chosen, Ruling};
+use page_cache::{PageCache, TooMany};
+use paging::Core;
+use regions::Regions;
+use vm_types::{Backing, Errno, FilePage, MSYNC_PAGES, MsyncMode, PAGE_BYTES};
+
+/// Bytes of a page, as a number of addresses.
+const PAGE: u64 = PAGE_BYTES as u64;
+
+/// Judges an msync: the checks of msync(2) in our order.
+pub(crate) fn rule<D, E>(
+    core: &Core<D, E>,
+    pid: u64,
+    addr: u64,
+    len: u64,
+    mode: MsyncMode,
+) -> Ruling
+    requires fit { IsFit (picture_of core.now) }
+    ensures same { (s : State) → ShowsPages (picture_of core.now) s → RulesSame s pid addr len mode result }
+    ensures listed { AreListed (picture_of core.now) result }
+    ensures taken { AreTaken (picture_of core.now) pid addr len result }
+    ensures no_fault { IsNoDeviceFault result }
+{
+    let Some(process) = core.live(pid) else {
+        return Ruling::Refuses(Errno::ESRCH);
+    };
+    if addr % PAGE != 0 {
+        return Ruling::Refuses(Errno::EINVAL);
+    }
+    if len == 0 {
+        return Ruling::Passes;
+    }
+    let first = addr / PAGE;
+    let count = len.div_ceil(PAGE);
+    let regions = core.regions(process);
+    if !regions.covers(first, count) {
+        return Ruling::Refuses(Errno::ENOMEM);
+    }
+    match mode {
+        MsyncMode::Async => Ruling::Passes,
+        MsyncMode::Sync => choose(regions, &core.cache, first, count),
+    }
+}
+
+/// The touched pages of the row of `count` pages from `first` on: `ENOSPC` where there are more than one msync takes.
+fn choose(regions: &Regions, cache: &PageCache, first: u64, count: u64) -> Ruling
+    requires room { first + count < 2 ^ 64 }
+    requires user { IsUserMap (attr_at regions.now) }
+    ensures { IsChoice (is_chosen (is_touched cache.now) (attr_at regions.now) first count) result }
+{
+    let mut list = [FilePage { file: 0, page: 0 }; MSYNC_PAGES];
+    match choose_between(regions, cache, first, first + count, &mut list) {
+        Err(TooMany) => Ruling::Refuses(Errno::ENOSPC),
+        Ok(0) => Ruling::Passes,
+        Ok(count) => Ruling::Takes(Chosen { list, count }),
+    }
+}
+
+/// Lists the touched pages behind the pages from `first` up to, not including, `end`, run by run, and answers how many there
+/// are; `TooMany` exactly where that would be over 127.
+fn choose_between(
+    regions: &Regions,
+    cache: &PageCache,
+    first: u64,
+    end: u64,
+    list: &mut [FilePage; MSYNC_PAGES],
+) -> Result<usize, TooMany>
+    requires order { first ≤ end }
+    requires user { IsUserMap (attr_at regions.now) }
+    ensures ok { IfOk result (Appends (is_chosen (is_touched cache.now) (attr_at regions.now) first (end - first)) list.old list.new 0) }
+    ensures too_many { OnErr result (Overflows (is_chosen (is_touched cache.now) (attr_at regions.now) first (end - first)) list.old 0) }
+{
+    let mut count = 0;
+    let mut page = first;
+    while page < end {
+        let Some(run) = regions.next_run(page) else {
+            return Ok(count);
+        };
+        let stop = run.end.min(end);
+        let pages = stop.saturating_sub(run.first);
+        count = choose_behind(cache, run.attr.backing, pages, list, count)?;
+        page = stop;
+    }
+    Ok(count)
+}
+
+/// Appends the touched pages behind `count` pages, the first of which has this backing. Shared pages alone count.
+fn choose_behind(
+    cache: &PageCache,
+    backing: Backing,
+    count: u64,
+    list: &mut [FilePage; MSYNC_PAGES],
+    used: usize,
+) -> Result<usize, TooMany>
+    requires count { count < 2 ^ 32 }
+    requires row { backing_fits backing count }
+    requires few { used ≤ msync_pages }
+    ensures ok { IfOk result (Appends (is_taken_behind (is_touched cache.now) backing count) list.old list.new used) }
+    ensures too_many { OnErr result (Overflows (is_taken_behind (is_touched cache.now) backing count) list.old used) }
+{
+    match backing {
+        Backing::Anon | Backing::Private(_) => Ok(used),
+        Backing::Shared(first) => cache.dirty_in(first.file, first.page, count as u32, list, used),
+    }
+}

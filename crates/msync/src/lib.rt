@@ -1,0 +1,14 @@
+//! msync: the touched file pages of a range are made durable, all at once and over all files, from the frames and slots that they
+//! lie in, and are touched no more.
+#![tactic(auto)]
+
+mod choosing;
+mod chosen;
+mod msyncs;
+mod page_source;
+mod settling;
+
+pub use msyncs::msync;
+
+#[cfg(test)]
+mod tests;

@@ -1,0 +1,179 @@
+//! msync: file pages made durable through the store.
+ghost use Rattle.std.specs.Prelude.{◌≡◌, ◌≢◌, ◌≤◌, ◌<◌, ◌⊎◌, ℕ, true, Some, None, length, take};
+ghost use Rattle.vm_types.specs.Limits.{msync_pages};
+ghost use Rattle.vm_types.specs.Replies.{reply_of};
+ghost use Rattle.vm_types.specs.State.{State};
+ghost use Rattle.vm_types.specs.Step.{outcome, commits};
+ghost use Rattle.vm_types.specs.View.{Pages};
+ghost use Rattle.vm_types.specs.declared.command.Command.TheVariants.{Msync};
+ghost use Rattle.vm_types.specs.declared.refusal.Errno.{Errno};
+ghost use Rattle.vm_types.specs.declared.refusal.Errno.TheVariants.{EIO};
+ghost use Rattle.vm_types.specs.declared.refusal.Stall.{Stall};
+ghost use Rattle.vm_types.specs.declared.refusal.Stall.TheVariants.{SwapDevice};
+ghost use Rattle.vm_types.specs.declared.command.MsyncMode.{MsyncMode as Mode};
+ghost use Rattle.frames.specs.FrameTable.{frame_count};
+ghost use Rattle.swap.specs.Slots.{slots_of, IsReady};
+ghost use Rattle.paging.specs.Picture.{picture_of};
+ghost use Rattle.paging.specs.Parts.{IsFit};
+ghost use Rattle.paging.specs.Calls.{UsesDevice};
+ghost use Rattle.msync.specs.Core.{Commits, GivesBack};
+ghost use Rattle.msync.specs.Shows.{IsSoundCore, Shows};
+ghost use Rattle.msync.specs.Choice.{IsListed, TakesSame, TakesAway, IsAway, page_at};
+ghost use Rattle.msync.specs.Spots.{HasSpots, IsSpot, bytes_there};
+ghost use Rattle.msync.specs.Settling.{LosesDirtyOnly, SettlesPlaces};
+
+use crate::choosing::rule;
+use crate::chosen::{Chosen, Residence, Ruling, Spot};
+use crate::page_source::TouchedPages;
+use crate::settling::settle;
+use disk_model::SectorDisk;
+use page_cache::Place;
+use paging::Core;
+use sync_journal::CommitFault;
+use vm_types::{Answer, Errno, FilePage, FrameNo, MSYNC_PAGES, MsyncMode, Stall};
+
+/// Makes the touched pages of a range durable, all at once and over all files (msync(2); Park, Kelly and Shen, Failure-Atomic
+/// msync, EuroSys 2013): the file pages, stored to and not made durable since, that stand behind the shared pages which hold
+/// the `len` bytes from `addr` on. They are touched no more, bytes past a file's end become zero, and no process's entry
+/// says D of them. One that lay in a slot is at home then. Where there is none, and where the call is asynchronous, no device is
+/// asked.
+///
+/// `ESRCH` where no such process lives, `EINVAL` where `addr` is no multiple of 4,096, `ENOMEM` where a page of the range
+/// isn't mapped, `ENOSPC` where there are more than 127 such pages; nothing is changed then. `EIO` comes exactly where the
+/// store failed in this call, which then isn't to be called again; memory is as it was. `SwapDevice` comes exactly where a slot
+/// that one of those pages lies in could not be read: nothing has become durable then, memory is as it was, and the call may be
+/// made again.
+///
+/// What becomes durable of a page in a slot is what was put there as long as the swap device keeps its model. Its time is that of
+/// the touched pages times the runs of all processes, however long they are.
+pub fn msync<D: SectorDisk, E: SectorDisk>(
+    core: &mut Core<D, E>,
+    pid: u64,
+    addr: u64,
+    len: u64,
+    mode: MsyncMode,
+) -> Answer
+    requires sound { IsSoundCore D.SectorDisk E.SectorDisk core.old }
+    ensures passes { (s : State) → Shows D.SectorDisk core.old s → commits s (Msync pid addr len mode) ≡ None
+        → (reply_of result ≡ (outcome s (Msync pid addr len mode)).reply) × (core.new ≡ core.old) }
+    ensures commits { (s : State) (after : Pages) → Shows D.SectorDisk core.old s → commits s (Msync pid addr len mode) ≡ Some after
+        → Commits D.SectorDisk E.SectorDisk (GivesBack D.SectorDisk E.SectorDisk core.old core.new pid addr len) core.old core.new s after (Msync pid addr len mode) (reply_of result) }
+    ensures ready { result ≢ Answer.Refused EIO → IsSoundCore D.SectorDisk E.SectorDisk core.new }
+    ensures fit { IsFit (picture_of core.new) }
+    ensures kept { D.keeps_model core.new.store.disk → D.keeps_model core.old.store.disk }
+    ensures size { D.sector_count core.new.store.disk ≡ D.sector_count core.old.store.disk }
+    ensures swap { IsReady E.SectorDisk core.new.swap }
+    ensures device { UsesDevice E.SectorDisk core.old.swap.pages.disk core.new.swap.pages.disk }
+    ensures frames { frame_count core.new.frames ≡ frame_count core.old.frames }
+    ensures slots { (slots_of core.new.swap).total ≡ (slots_of core.old.swap).total }
+    ensures later { D.failures core.old.store.disk ≤ D.failures core.new.store.disk }
+    ensures cause { result ≡ Answer.Refused EIO → D.failures core.old.store.disk < D.failures core.new.store.disk }
+    ensures calm { result ≢ Answer.Refused EIO → D.failures core.new.store.disk ≡ D.failures core.old.store.disk }
+    ensures stalled { (stall : Stall) → result ≡ Answer.Stalled stall → (stall ≡ SwapDevice) × (E.failures core.old.swap.pages.disk < E.failures core.new.swap.pages.disk) }
+    ensures still { ((stall : Stall) → result ≢ Answer.Stalled stall) → E.failures core.new.swap.pages.disk ≡ E.failures core.old.swap.pages.disk }
+    ensures away { (core.new.swap ≡ core.old.swap) ⊎ TakesAway (picture_of core.old) pid addr len }
+    ensures refused { core.new.refused ≡ core.old.refused }
+    ensures entries { LosesDirtyOnly (picture_of core.old) (picture_of core.new) }
+    ensures places { SettlesPlaces (picture_of core.old) (picture_of core.new) }
+    ensures unasked { (errno : Errno) → result ≡ Answer.Refused errno → errno ≢ EIO → core.new ≡ core.old }
+{
+    match rule(core, pid, addr, len, mode) {
+        Ruling::Refuses(errno) => Answer::Refused(errno),
+        Ruling::Passes => Answer::Done,
+        Ruling::Takes(chosen) => commit(core, &chosen),
+    }
+}
+
+/// Commits pages to the store, which are touched no more then. Where the store fails, or a slot can't be read, memory is left as
+/// it was.
+fn commit<D: SectorDisk, E: SectorDisk>(core: &mut Core<D, E>, chosen: &Chosen) -> Answer
+    requires sound { IsSoundCore D.SectorDisk E.SectorDisk core.old }
+    requires listed { IsListed (picture_of core.old) chosen.now }
+    ensures commits { (s : State) (after : Pages) (pid addr len : ℕ) (mode : Mode) → Shows D.SectorDisk core.old s
+        → commits s (Msync pid addr len mode) ≡ Some after → TakesSame s pid addr len mode chosen.now
+        → Commits D.SectorDisk E.SectorDisk (IsAway (picture_of core.old) chosen.now → E.keeps_model core.new.swap.pages.disk) core.old core.new s after (Msync pid addr len mode) (reply_of result) }
+    ensures ready { result ≢ Answer.Refused EIO → IsSoundCore D.SectorDisk E.SectorDisk core.new }
+    ensures fit { IsFit (picture_of core.new) }
+    ensures kept { D.keeps_model core.new.store.disk → D.keeps_model core.old.store.disk }
+    ensures size { D.sector_count core.new.store.disk ≡ D.sector_count core.old.store.disk }
+    ensures swap { IsReady E.SectorDisk core.new.swap }
+    ensures device { UsesDevice E.SectorDisk core.old.swap.pages.disk core.new.swap.pages.disk }
+    ensures frames { frame_count core.new.frames ≡ frame_count core.old.frames }
+    ensures slots { (slots_of core.new.swap).total ≡ (slots_of core.old.swap).total }
+    ensures later { D.failures core.old.store.disk ≤ D.failures core.new.store.disk }
+    ensures cause { result ≡ Answer.Refused EIO → D.failures core.old.store.disk < D.failures core.new.store.disk }
+    ensures calm { result ≢ Answer.Refused EIO → D.failures core.new.store.disk ≡ D.failures core.old.store.disk }
+    ensures stalled { (stall : Stall) → result ≡ Answer.Stalled stall → (stall ≡ SwapDevice) × (E.failures core.old.swap.pages.disk < E.failures core.new.swap.pages.disk) }
+    ensures still { ((stall : Stall) → result ≢ Answer.Stalled stall) → E.failures core.new.swap.pages.disk ≡ E.failures core.old.swap.pages.disk }
+    ensures away { (core.new.swap ≡ core.old.swap) ⊎ IsAway (picture_of core.old) chosen.now }
+    ensures refused { core.new.refused ≡ core.old.refused }
+    ensures entries { LosesDirtyOnly (picture_of core.old) (picture_of core.new) }
+    ensures places { SettlesPlaces (picture_of core.old) (picture_of core.new) }
+    ensures answers { (errno : Errno) → result ≡ Answer.Refused errno → errno ≡ EIO }
+{
+    let list = &chosen.list[..chosen.count];
+    let spots = spots_of(core, list);
+    let spots = &spots[..list.len()];
+    let mut source = TouchedPages {
+        frames: &core.frames,
+        swap: &mut core.swap,
+        spots,
+    };
+    match core.store.commit(list, &mut source) {
+        Ok(()) => {
+            settle(core, spots);
+            Answer::Done
+        }
+        Err(CommitFault::Device) => Answer::Refused(Errno::EIO),
+        Err(CommitFault::Source) => Answer::Stalled(Stall::SwapDevice),
+    }
+}
+
+/// The places that touched pages lie in.
+fn spots_of<D, E>(core: &Core<D, E>, pages: &[FilePage]) -> [Spot; MSYNC_PAGES]
+    requires fit { IsFit (picture_of core.now) }
+    requires few { length pages.now ≤ msync_pages }
+    requires touched { (i : ℕ) → i < length pages.now → (picture_of core.now).touched (page_at pages.now i) ≡ true }
+    ensures { HasSpots (picture_of core.now) pages.now (take (length pages.now) result) }
+{
+    let none = Spot {
+        page: FilePage { file: 0, page: 0 },
+        at: Residence::Framed(FrameNo(0)),
+    };
+    let mut spots = [none; MSYNC_PAGES];
+    for i in 0..pages.len() {
+        spots[i] = spot_of(core, pages[i]);
+    }
+    spots
+}
+
+/// The place that a touched page lies in.
+fn spot_of<D, E>(core: &Core<D, E>, page: FilePage) -> Spot
+    requires fit { IsFit (picture_of core.now) }
+    requires touched { (picture_of core.now).touched page ≡ true }
+    ensures spot { IsSpot (picture_of core.now) result }
+    ensures whole { length (bytes_there core.now.frames (slots_of core.now.swap) result.at) ≡ 4096 }
+    ensures page { result.page ≡ page }
+{
+    match core.cache.place(page) {
+        Place::Frame(frame) => {
+            let _ = whole(core.frames.bytes(frame));
+            Spot {
+                page,
+                at: Residence::Framed(frame),
+            }
+        }
+        Place::Slot(slot) => Spot {
+            page,
+            at: Residence::Slotted(slot),
+        },
+        Place::Home => unreachable!(),
+    }
+}
+
+/// These bytes, which are 4,096.
+fn whole(bytes: &[u8; 4096]) -> usize
+    ensures { length bytes.now ≡ 4096 }
+{
+    bytes.len()
+}

@@ -1,0 +1,63 @@
+//! The pages that an msync makes durable, as the store asks for them.
+ghost use Rattle.std.specs.Prelude.{◌≡◌, ◌<◌, length};
+ghost use Rattle.std.proofs.Common.{refl, inl, ◌∙◌, subst};
+ghost use Rattle.std.proofs.Math.Nat.{le_refl, le_trans};
+ghost use Rattle.swap.specs.Slots.{slots_of, IsReady};
+
+use crate::chosen::{Residence, Spot};
+use disk_model::{DiskFault, SectorDisk};
+use frames::Frames;
+use swap::Swap;
+use sync_journal::{PageSource, SourceFault};
+
+/// File pages in frames and in slots, by a list of them. It fails only where the swap device does, and asks that one only for a
+/// page in a slot.
+#[derive(Drop)]
+pub(crate) struct TouchedPages<'a, E> {
+    pub frames: &'a Frames,
+    pub swap: &'a mut Swap<E>,
+    pub spots: &'a [Spot],
+}
+
+impl<E: SectorDisk> PageSource for TouchedPages<'_, E> {
+    ghost use Rattle.msync.specs.Spots.{spot_at, bytes_there, IsThere, HasSlot, ReadsSwap};
+    ghost use Rattle.msync.specs.Reads.{same_then};
+
+    ghost pages = { λ s i. bytes_there s.frames.now (slots_of s.swap.now) (spot_at s.spots.now i).at };
+
+    ghost gives = { λ s i. (i < length s.spots.now) × IsReady E.SectorDisk s.swap.now × IsThere s.frames.now (slots_of s.swap.now) (spot_at s.spots.now i).at };
+
+    ghost failures = { λ s. E.failures s.swap.now.pages.disk };
+
+    ghost keeps_model = { λ s. HasSlot s.spots.now → E.keeps_model s.swap.now.pages.disk };
+
+    ghost follows = { λ a b. (b.swap.ghost_name ≡ a.swap.ghost_name) × (b.spots.now ≡ a.spots.now) × ReadsSwap E.SectorDisk (HasSlot a.spots.now) a.swap.now b.swap.now };
+
+    fn page(&mut self, i: usize, to: &mut [u8; 4096]) -> Result<(), SourceFault> {
+        match self.spots[i].at {
+            Residence::Framed(frame) => {
+                to.copy_from_slice(self.frames.bytes(frame));
+                Ok(())
+            }
+            Residence::Slotted(slot) => match self.swap.get(slot, to) {
+                Ok(()) => Ok(()),
+                Err(DiskFault) => Err(SourceFault),
+            },
+        }
+    }
+
+    ghost stays = { λ s. (refl, refl, record { ready = λ r. r; slots = refl; size = refl; kept = λ k. k; later = le_refl (E.failures s.swap.now.pages.disk); only = inl refl }) };
+
+    ghost goes_on = { λ a b c p q. (
+      q.0 ∙ p.0,
+      q.1 ∙ p.1,
+      record {
+        ready = λ r. q.2.ready (p.2.ready r);
+        slots = q.2.slots ∙ p.2.slots;
+        size = q.2.size ∙ p.2.size;
+        kept = λ k. p.2.kept (q.2.kept k);
+        later = le_trans p.2.later q.2.later;
+        only = same_then (HasSlot a.spots.now) (HasSlot b.spots.now) a.swap.now b.swap.now c.swap.now (λ has. subst (λ list. HasSlot list) p.1 has) p.2.only q.2.only;
+      },
+    ) };
+}

@@ -1,0 +1,116 @@
+//! What memory is after a commit: its pages are as they stand in the store, and touched no more.
+ghost use Rattle.std.specs.Prelude.{◌≡◌, ◌⊎◌, ◌≤◌, ◌<◌, ◌-◌, ℕ, ◌++◌, Some, length, take, replicate};
+ghost use Rattle.vm_types.specs.Files.{inside_of, cut};
+ghost use Rattle.frames.specs.FrameTable.{IsFrame, bytes_of, with_bytes};
+ghost use Rattle.page_cache.specs.declared.place.Place.TheVariants.{Frame, Slot};
+ghost use Rattle.paging.specs.Picture.{picture_of};
+ghost use Rattle.paging.specs.Parts.{IsFit};
+ghost use Rattle.paging.specs.Leaves.{KeepsAllButFrames};
+ghost use Rattle.msync.specs.Spots.{framed_at, slotted_at, spot_at, IsSpot, AreSpots, IsSlotted, HasSlot};
+ghost use Rattle.msync.specs.Settling.{KeepsBesidePages, SettlesOne, Settles};
+
+use crate::chosen::{Residence, Spot};
+use disk_model::SectorDisk;
+use page_cache::Place;
+use paging::{Change, Core, change_leaves};
+use vm_types::{FileInfo, FilePage, FrameNo, PAGE_BYTES, SlotNo};
+
+/// Pages that were committed: bytes past the end of their files become zero, no entry says D of them, and they are touched
+/// no more. One that lay in a slot is at home then, and its slot is free. Every page keeps its own copy.
+pub(crate) fn settle<D: SectorDisk, E>(core: &mut Core<D, E>, spots: &[Spot])
+    requires fit { IsFit (picture_of core.old) }
+    requires spots { AreSpots (picture_of core.old) spots.now }
+    ensures fit { IsFit (picture_of core.new) }
+    ensures beside { KeepsBesidePages core.old core.new }
+    ensures swap { (core.new.swap ≡ core.old.swap) ⊎ HasSlot spots.now }
+    ensures settles { Settles (picture_of core.old) (picture_of core.new) spots.now (length spots.now) }
+{
+    for i in 0..spots.len() {
+        settle_one(core, spots[i]);
+    }
+}
+
+/// The same of one page.
+fn settle_one<D: SectorDisk, E>(core: &mut Core<D, E>, spot: Spot)
+    requires fit { IsFit (picture_of core.old) }
+    requires spot { IsSpot (picture_of core.old) spot }
+    ensures fit { IsFit (picture_of core.new) }
+    ensures beside { KeepsBesidePages core.old core.new }
+    ensures swap { (core.new.swap ≡ core.old.swap) ⊎ IsSlotted spot.at }
+    ensures settles { SettlesOne (picture_of core.old) (picture_of core.new) spot }
+{
+    match spot.at {
+        Residence::Framed(frame) => settle_in_frame(core, spot.page, frame),
+        Residence::Slotted(slot) => settle_in_slot(core, spot.page, slot),
+    }
+}
+
+/// The same of a page in a frame.
+fn settle_in_frame<D: SectorDisk, E>(core: &mut Core<D, E>, page: FilePage, frame: FrameNo)
+    requires fit { IsFit (picture_of core.old) }
+    requires placed { (picture_of core.old).place page ≡ Frame frame }
+    requires inside { IsFrame core.old.frames frame.0 }
+    ensures fit { IsFit (picture_of core.new) }
+    ensures beside { KeepsBesidePages core.old core.new }
+    ensures swap { core.new.swap ≡ core.old.swap }
+    ensures settles { SettlesOne (picture_of core.old) (picture_of core.new) (framed_at page frame) }
+{
+    cut_tail(core, page, frame);
+    change_leaves(core, frame, Change::ClearDirty);
+    core.cache.clean(page);
+}
+
+/// The same of a page in a slot, which is given back.
+fn settle_in_slot<D, E>(core: &mut Core<D, E>, page: FilePage, slot: SlotNo)
+    requires fit { IsFit (picture_of core.old) }
+    requires placed { (picture_of core.old).place page ≡ Slot slot }
+    ensures fit { IsFit (picture_of core.new) }
+    ensures beside { KeepsBesidePages core.old core.new }
+    ensures settles { SettlesOne (picture_of core.old) (picture_of core.new) (slotted_at page slot) }
+{
+    core.cache.clean(page);
+    core.cache.set_place(page, Place::Home);
+    core.swap.release(slot);
+}
+
+/// Bytes past the end of a page's file become zero in its frame.
+fn cut_tail<D: SectorDisk, E>(core: &mut Core<D, E>, page: FilePage, frame: FrameNo)
+    requires fit { IsFit (picture_of core.old) }
+    requires placed { (picture_of core.old).place page ≡ Frame frame }
+    requires inside { IsFrame core.old.frames frame.0 }
+    ensures fit { IsFit (picture_of core.new) }
+    ensures beside { KeepsAllButFrames core.old core.new }
+    ensures cuts { core.new.frames ≡ with_bytes core.old.frames frame.0
+        (cut (inside_of ((picture_of core.old).files page.file) page.page) (bytes_of core.old.frames frame.0)) }
+{
+    let inside = match core.store.file(page.file) {
+        Some(info) => bytes_inside(info, page.page),
+        None => 0,
+    };
+    cut_from(core.frames.bytes_mut(frame), inside);
+}
+
+/// How many bytes of a page lie inside its file.
+fn bytes_inside(info: FileInfo, page: u32) -> usize
+    ensures inside { result ≡ inside_of (Some info) page }
+    ensures most { result ≤ 4096 }
+{
+    let before = PAGE_BYTES as u64 * u64::from(page);
+    u64::from(info.length)
+        .saturating_sub(before)
+        .min(PAGE_BYTES as u64) as usize
+}
+
+/// Puts zeros in place of the bytes from `inside` on.
+fn cut_from(page: &mut [u8; 4096], inside: usize)
+    requires { inside ≤ 4096 }
+    ensures { page.new ≡ cut inside page.old }
+{
+    clear(&mut page[inside..]);
+}
+
+fn clear(bytes: &mut [u8])
+    ensures { bytes.new ≡ replicate (length bytes.old) 0 }
+{
+    bytes.fill(0);
+}
