@@ -14,6 +14,12 @@ use Rattle.page_faults.proofs.Steps.{proceeds_moves, proceeds_then, brings_none,
 use Rattle.page_faults.proofs.Wanted.{stalled_as, shows_file, page_there}
 use Rattle.page_faults.proofs.granting.grant_read.Goals as goal
 
+pub returns-then-to_u64-ne0-clause-calm : goal.returns-then-to_u64-ne0-clause-calm
+returns-then-to_u64-ne0-clause-calm g c none = c.regrant.ensures.enters.calm
+
+pub returns-then-to_u64-ne0-clause-read : goal.returns-then-to_u64-ne0-clause-read
+returns-then-to_u64-ne0-clause-read g c = inl c.regrant.ensures.enters.calm.store
+
 pub regrant-requires-clause-resident : goal.regrant-requires-clause-resident
 regrant-requires-clause-resident g c = λ none. c.if-to_u64-ne0.true (c.to_u64.ensures ∙ c.entry_at-entry.ensures ∙ none)
 
@@ -58,12 +64,6 @@ returns-then-to_u64-ne0-clause-ready g c =
     subst P (sym (c.frame_number.ensures ∙ ap frame_of c.entry_at-entry.ensures))
     (read_ready old new c.args.pid c.args.page c.args.attr c.args.access (frame_of (entry old c.args.pid c.args.page)) _ _ _ enters.fit c.regrant.new.core.sound c.requires.allowed.mapped
     (enters.spaces.at c.args.pid c.args.page ∙ c.requires.allowed.mapped) (record { views = enters.views; touched = c.regrant.ensures.files.touched }) c.regrant.ensures.entry c.requires.reads c.requires.allowed.lets)
-
-pub returns-then-to_u64-ne0-clause-calm : goal.returns-then-to_u64-ne0-clause-calm
-returns-then-to_u64-ne0-clause-calm g c none = c.regrant.ensures.enters.calm
-
-pub returns-then-to_u64-ne0-clause-read : goal.returns-then-to_u64-ne0-clause-read
-returns-then-to_u64-ne0-clause-read g c = inl c.regrant.ensures.enters.calm.store
 
 pub returns-then-to_u64-ne0-clause-not_refused : goal.returns-then-to_u64-ne0-clause-not_refused
 returns-then-to_u64-ne0-clause-not_refused g c = c.regrant.ensures.enters.calm.refused

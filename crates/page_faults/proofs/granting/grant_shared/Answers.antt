@@ -14,6 +14,15 @@ use Rattle.page_faults.proofs.Steps.{proceeds_then, files_read, calm_store, held
 use Rattle.page_faults.proofs.Wanted.{stalled_as, shows_file, page_there}
 use Rattle.page_faults.proofs.granting.grant_shared.Goals as goal
 
+pub returns-clause-calm : goal.returns-clause-calm
+returns-clause-calm g c =
+    let old : Picture = picture_of c.args.core.now in
+    let none = shared_none old c.args.pid c.args.page c.args.attr c.requires.linked.fit.granting c.requires.allowed.mapped
+    (mapped_page old c.args.pid c.args.page c.args.attr c.requires.linked.fit.granting c.requires.allowed.mapped) (ap is_shared c.requires.shared) in
+    let shows = shows_file old c.args.pid c.args.page c.args.attr c.args.file_page c.requires.allowed.mapped (inr c.requires.shared) none in
+    calm_then c.args.core.now c.cached.new.core c.args.pid c.args.page c.args.file_page shows (λ n at. (c.in_ok-frame.ensures.idle n at).0) c.touch.new.core Store
+    (λ none. c.touch.ensures.enters.calm)
+
 pub cached-requires-clause-inside : goal.cached-requires-clause-inside
 cached-requires-clause-inside g c =
     page_inside (picture_of c.args.core.now).files c.args.attr.backing c.args.file_page (inr c.requires.shared) c.requires.allowed.inside
@@ -110,15 +119,6 @@ returns-clause-entered g c =
     (ready_shared mid new c.args.pid c.args.page c.args.attr c.args.file_page c.in_ok-frame.frame.0 c.requires.shared
     (touched_entry mid new c.args.pid c.args.page c.args.attr c.args.file_page c.in_ok-frame.frame.0 enters.fit c.touch.new.core.sound now c.requires.shared
     readable c.touch.ensures.entry enters.views c.touch.ensures.touches.others)))
-
-pub returns-clause-calm : goal.returns-clause-calm
-returns-clause-calm g c =
-    let old : Picture = picture_of c.args.core.now in
-    let none = shared_none old c.args.pid c.args.page c.args.attr c.requires.linked.fit.granting c.requires.allowed.mapped
-    (mapped_page old c.args.pid c.args.page c.args.attr c.requires.linked.fit.granting c.requires.allowed.mapped) (ap is_shared c.requires.shared) in
-    let shows = shows_file old c.args.pid c.args.page c.args.attr c.args.file_page c.requires.allowed.mapped (inr c.requires.shared) none in
-    calm_then c.args.core.now c.cached.new.core c.args.pid c.args.page c.args.file_page shows (λ n at. (c.in_ok-frame.ensures.idle n at).0) c.touch.new.core Store
-    (λ none. c.touch.ensures.enters.calm)
 
 pub returns-clause-read : goal.returns-clause-read
 returns-clause-read g c =
