@@ -1,5 +1,5 @@
 -- A file page brought into a frame, or left where it was where the read failed.
-use Rattle.std.proofs.Common.{◌≡◌, ◌≢◌, ◌+◌, ◌<◌, ◌≤◌, ℕ, false, inl, inr, ◌⊎◌, Option, Some, None, Result, Ok, Err, refl, sym, ap, ◌∙◌, subst, arith}
+use Rattle.std.proofs.Common.{◌≡◌, ℕ, false, inl, inr, ◌⊎◌, Option, Some, None, Result, Ok, Err, refl, sym, ap, ◌∙◌, subst, arith}
 use Rattle.std.specs.Prelude.{IfOk, IfErr, OnErr, OnOk}
 use Rattle.vm_types.specs.declared.file.FilePage.{FilePage}
 use Rattle.vm_types.specs.declared.number.FrameNo.{FrameNo}
@@ -8,21 +8,18 @@ use Rattle.vm_types.specs.declared.refusal.Stall.TheVariants.{NoFrames, NoSwap, 
 use Rattle.disk_model.specs.declared.sector_disk.SectorDisk.{Ghosts}
 use Rattle.disk_model.specs.Moments.{Touches, Nothing}
 use Rattle.file_store.specs.declared.store.FileStore.{FileStore}
-use Rattle.file_store.specs.Store.{IsReadyStore}
-use Rattle.swap.specs.Slots.{IsReady}
 use Rattle.frames.specs.FrameTable.{bytes_of}
 use Rattle.page_cache.specs.declared.place.Place.TheVariants.{Home, Frame, Slot}
 use Rattle.paging.specs.declared.kernel.Core.{Core}
-use Rattle.paging.specs.Picture.{Picture, picture_of, entry, held, bytes_at}
+use Rattle.paging.specs.Picture.{Picture, held, bytes_at}
 use Rattle.paging.specs.Parts.{IsFit}
-use Rattle.paging.specs.Calls.{Frees, KeepsRest, KeepsBesideFiles, UsesDevice, ObtainsCached, StallCause}
+use Rattle.paging.specs.Calls.{Frees, ObtainsCached, StallCause}
 use Rattle.paging.specs.Reading.{ReadsStore, IsRead, ReadCause}
-use Rattle.paging.specs.Steps.{BringsIn}
 use Rattle.paging.proofs.Arriving.{fit_brought, trees_brought, entries_brought, views_brought, held_else, held_here}
 use Rattle.paging.proofs.Places.{cases_page}
 use Rattle.mapping.specs.Changes.{KeepsSpaces, KeepsTables, KeepsRoom, KeepsSeen, KeepsBare}
-use Rattle.mapping.specs.Files.{IsBrought, Stays, Leaves, Comes, BringsPages, Proceeds}
-use Rattle.mapping.proofs.Steps.{spaces_then, room_then, seen_then, tables_then, bare_then, tables_same, spaces_freed, room_freed, seen_freed, tables_freed, bare_freed, device_none}
+use Rattle.mapping.specs.Files.{IsBrought, Stays, Leaves, Comes, BringsPages}
+use Rattle.mapping.proofs.Steps.{spaces_then, room_then, seen_then, tables_then, bare_then, tables_same, spaces_freed, room_freed, seen_freed, tables_freed, bare_freed}
 
 -- a frame was obtained, and the file page brought into it
 module _ (old new : Picture) (page : FilePage) (n : ℕ) (obtains : ObtainsCached old new page n) where

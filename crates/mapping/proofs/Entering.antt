@@ -1,11 +1,8 @@
 -- The fullest entry of a page set where no table is missing.
-use Rattle.std.proofs.Common.{◌≡◌, ◌≢◌, ℕ, inl, inr, Bool, true, false, Option, Some, None, [], get_or, refl, sym, ap, ◌∙◌, subst, arith}
+use Rattle.std.proofs.Common.{◌≡◌, ◌≢◌, ℕ, inl, Bool, true, false, Some, [], get_or, sym, ap, ◌∙◌, subst}
 use Rattle.vm_types.specs.declared.file.FilePage.{FilePage}
-use Rattle.vm_types.specs.declared.number.FrameNo.{FrameNo}
 use Rattle.vm_types.specs.declared.region.Attr.{Attr}
 use Rattle.vm_types.specs.Verdict.{is_past_end}
-use Rattle.frames.specs.declared.role.Role.TheVariants.{Table, Cache}
-use Rattle.frames.specs.FrameTable.{FrameTable, bytes_of, role_of}
 use Rattle.sv39_walk.specs.Entry.{frame_of}
 use Rattle.page_tables.specs.Tree.{IsPage, missing_of, page_entry}
 use Rattle.page_tables.specs.Change.{SetsEntry}
@@ -14,8 +11,8 @@ use Rattle.page_cache.specs.declared.place.Place.TheVariants.{Home, Frame}
 use Rattle.page_cache.specs.CacheTable.{place_of, is_touched}
 use Rattle.swap.specs.Slots.{slots_of}
 use Rattle.paging.specs.declared.kernel.Core.{Core}
-use Rattle.paging.specs.Seats.{seat, is_private}
-use Rattle.paging.specs.Picture.{Picture, picture_of, entry, view, view_of, own_in, root_in, attr_where}
+use Rattle.paging.specs.Seats.{seat}
+use Rattle.paging.specs.Picture.{Picture, picture_of, entry, view, own_in, root_in, attr_where}
 use Rattle.paging.specs.Parts.{IsFit, IsBehind, is_shared, nowhere}
 use Rattle.paging.specs.Shows.{KeepsFiles}
 use Rattle.paging.specs.Steps.{SameBeside, SetsPage}
@@ -26,7 +23,7 @@ use Rattle.paging.proofs.Moves.{behind_kept, view_kept}
 use Rattle.paging.proofs.Setting.{fit_set, set_views, set_held}
 use Rattle.paging.proofs.TableSteps.{sets_page, rooted_set}
 use Rattle.mapping.specs.Leaves.{IsFullEntry}
-use Rattle.mapping.specs.Changes.{IsLinked, Enters, KeepsAround, KeepsTables, KeepsViews, IsCalm, MarksTouched}
+use Rattle.mapping.specs.Changes.{IsLinked, Enters, KeepsAround, KeepsTables, KeepsViews}
 use Rattle.mapping.proofs.Forms.{full_entry, full_dirty_sound, mapped_page}
 use Rattle.mapping.proofs.Steps.{tables_same}
 

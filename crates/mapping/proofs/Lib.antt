@@ -8,3 +8,5 @@ pub mod Settling
 pub mod SwapSteps
 pub mod SwappedIn
 pub mod OwnSteps
+pub mod Staying
+pub mod Spawning

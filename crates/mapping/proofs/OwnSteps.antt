@@ -1,35 +1,33 @@
 -- A frame of its own given to a page, with the bytes that it showed.
-use Rattle.std.proofs.Common.{◌≡◌, ◌≢◌, ℕ, inl, inr, ◌⊎◌, ◌<◌, Bool, true, false, Option, Some, None, [], get_or, refl, sym, ap, ◌∙◌, subst, arith, eq-eqb, ne_eqb}
+use Rattle.std.proofs.Common.{◌≡◌, ◌≢◌, ℕ, inl, inr, Bool, true, false, Some, get_or, refl, sym, ap, ◌∙◌, subst, eq-eqb, ne_eqb}
 use Rattle.std.specs.Prelude.{◌&&◌, ◌==◌}
-use Rattle.std.proofs.lemmas.Bool.{cases_Bool, false≢true}
+use Rattle.std.proofs.lemmas.Bool.{cases_Bool}
 use Rattle.vm_types.specs.declared.file.FilePage.{FilePage}
 use Rattle.vm_types.specs.declared.region.Attr.{Attr}
 use Rattle.vm_types.specs.declared.region.Backing.{Backing}
 use Rattle.vm_types.specs.declared.region.Backing.TheVariants as Backings
 use Rattle.vm_types.specs.Permission.{can_write}
 use Rattle.vm_types.specs.Verdict.{is_past_end}
-use Rattle.frames.specs.declared.role.Role.{Role}
-use Rattle.frames.specs.declared.role.Role.TheVariants.{Free, Table, Private, Cache}
-use Rattle.frames.specs.FrameTable.{FrameTable, IsFrame, IsSound, frame_count, bytes_of, role_of, count_of, Releases}
+use Rattle.frames.specs.declared.role.Role.TheVariants.{Free, Table, Private}
+use Rattle.frames.specs.FrameTable.{IsSound, bytes_of, role_of, count_of, Releases}
 use Rattle.sv39_walk.specs.Entry.{frame_of}
 use Rattle.page_tables.specs.Tree.{IsPage, missing_of}
 use Rattle.page_tables.specs.Change.{SetsEntry}
 use Rattle.page_cache.specs.declared.place.Place.TheVariants.{Frame}
 use Rattle.paging.specs.Seats.{Seat, InFrame, InSlot, seat, is_private, is_swapped}
 use Rattle.std.specs.Prelude.{option_map}
-use Rattle.paging.specs.Picture.{Picture, entry, view, view_of, held, own_in, bytes_in}
+use Rattle.paging.specs.Picture.{Picture, entry, view, view_of, bytes_in}
 use Rattle.paging.specs.Parts.{IsFit, IsFitBut, IsBehind, is_shared}
 use Rattle.paging.specs.Shows.{KeepsFiles}
 use Rattle.paging.specs.Steps.{SameBeside}
 use Rattle.paging.proofs.Callers.{shown_stays}
 use Rattle.paging.proofs.Evicted.{fit_released}
 use Rattle.paging.proofs.Handed.{release_spares, same}
-use Rattle.paging.proofs.Moves.{view_kept}
 use Rattle.paging.proofs.Sparing.{missing_ends}
 use Rattle.mapping.specs.Leaves.{IsEntryOver, IsFullEntry}
-use Rattle.mapping.specs.Changes.{IsLinked, KeepsSpaces, KeepsTables, KeepsRoom, KeepsOtherViews, TakesCopy, frame_of_place, frame_behind, shown_frame, is_sole}
+use Rattle.mapping.specs.Changes.{IsLinked, KeepsSpaces, KeepsTables, KeepsRoom, KeepsOtherViews, KeepsOtherBare, TakesCopy, frame_of_place, frame_behind, shown_frame, is_sole}
 use Rattle.mapping.proofs.Forms.{mapped_page, behind_used, behind_datum, own_role, seat_own, seat_common}
-use Rattle.mapping.proofs.Settling.{settled_first, settled_moved, settled_views, settled_view, settled_held, settled_missing, settled_room, settled_full, settled_bytes, settled_role, settled_count, forest_mid, root_mid, whole_mid}
+use Rattle.mapping.proofs.Settling.{settled_first, settled_moved, settled_others, settled_views, settled_view, settled_held, settled_missing, settled_room, settled_full, settled_bytes, settled_count}
 use Rattle.mapping.proofs.Steps.{spaces_then, spaces_freed, room_then, room_freed, tables_then, tables_freed, tables_same}
 
 some_attr : (a b : Attr) → Some a ≡ Some b → a ≡ b
@@ -168,6 +166,11 @@ module _ (old : Picture) (pid page m : ℕ) (a : Attr) (sound : IsSound old.fram
           settled_views found mid pid page r n a copy.fit copy.changes copy.role copy.count copy.noted lives_found whole_found at_found set sets beside alone inside q p other
           ∙ copy.frees.pages.views q p
 
+      pub bare_set : KeepsOtherBare old set pid page
+      bare_set q p h other none =
+          settled_others found mid pid page r n a copy.fit copy.changes copy.role copy.count copy.noted lives_found whole_found at_found set sets beside alone inside q p h other
+          ∙ copy.frees.entries q p h (inl none) ∙ none
+
       pub files_set : KeepsFiles old set
       files_set = keeps_files_then old found set copy.frees.pages.files (record {
         held = λ p. inl (settled_held found mid pid page r n a copy.fit copy.changes copy.role copy.count copy.noted lives_found whole_found at_found set sets beside alone inside p);
@@ -236,6 +239,9 @@ module _ (old : Picture) (pid page m : ℕ) (a : Attr) (sound : IsSound old.fram
 
           pub others_shared : KeepsOtherViews old new pid page
           others_shared q p other = (release_spares set new m 0 fit_moved' role_shared releases beside').pages.views q p ∙ others_set q p other
+
+          pub bare_shared : KeepsOtherBare old new pid page
+          bare_shared q p h other none = same set new m 0 fit_moved' role_shared releases beside' q p ∙ bare_set q p h other none
 
           pub files_shared : KeepsFiles old new
           files_shared = keeps_files_then old set new files_set (release_spares set new m 0 fit_moved' role_shared releases beside').pages.files

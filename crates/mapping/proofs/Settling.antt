@@ -1,18 +1,18 @@
 -- A frame that was taken for a page is given to it: its entry names the frame as its process's own.
-use Rattle.std.proofs.Common.{◌≡◌, ◌≢◌, ℕ, inl, inr, ◌⊎◌, ◌<◌, true, false, Option, Some, None, get_or, refl, sym, ap, ◌∙◌, subst, arith}
+use Rattle.std.proofs.Common.{◌≡◌, ◌≢◌, ℕ, ◌⊎◌, ◌<◌, true, false, Some, None, get_or, sym, ap, ◌∙◌, subst, arith}
 use Rattle.std.specs.Prelude.{option_map}
 use Rattle.std.proofs.lemmas.Bool.{false≢true}
 use Rattle.vm_types.specs.declared.file.FilePage.{FilePage}
 use Rattle.vm_types.specs.declared.region.Attr.{Attr}
 use Rattle.vm_types.specs.Verdict.{is_past_end}
-use Rattle.frames.specs.declared.role.Role.TheVariants.{Table, Private, Cache}
-use Rattle.frames.specs.FrameTable.{FrameTable, IsFrame, frame_count, bytes_of, role_of, count_of}
+use Rattle.frames.specs.declared.role.Role.TheVariants.{Table, Private}
+use Rattle.frames.specs.FrameTable.{frame_count, bytes_of, role_of, count_of}
 use Rattle.sv39_walk.specs.Entry.{is_valid, frame_of}
 use Rattle.page_tables.specs.Tree.{IsPage, IsForest, IsRoot, missing_of}
 use Rattle.page_tables.specs.Change.{SetsEntry}
-use Rattle.paging.specs.Seats.{Seat, InFrame, InSlot, seat, is_private}
+use Rattle.paging.specs.Seats.{Seat, InFrame, seat, is_private}
 use Rattle.paging.specs.Picture.{Picture, entry, view, view_of, held, bytes_in, IsOwned}
-use Rattle.paging.specs.Parts.{IsFit, IsFitBut, IsRootedBut, IsEntryFor, is_shared, nowhere}
+use Rattle.paging.specs.Parts.{IsFit, IsFitBut, IsRootedBut, IsEntryFor, is_shared}
 use Rattle.paging.specs.Steps.{SameBeside, SetsPage, ChangesFrame}
 use Rattle.paging.proofs.Granting.{entry_for-same, past_end-same}
 use Rattle.paging.proofs.Moves.{behind_kept, fit_moved, owned_forth}
@@ -88,6 +88,9 @@ module _ (found mid : Picture) (pid page r n : ℕ) (a : Attr) (fit : IsFit foun
 
     pub settled_entry : entry new pid page ≡ sets.0
     settled_entry = set.changed
+
+    pub settled_others : (q p : ℕ) → IsPage 2 p → (q ≢ pid) ⊎ (p ≢ page) → entry new q p ≡ entry found q p
+    settled_others q p h other = set.others q p h other ∙ entry_mid q p
 
     pub settled_full : IsFullEntry mid a n true (entry new pid page)
     settled_full = let P : ℕ → Type 0 = λ e. IsFullEntry mid a n true e in subst P (sym set.changed) sets.1

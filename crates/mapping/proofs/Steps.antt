@@ -1,16 +1,15 @@
 -- How the steps of a call follow one another.
-use Rattle.std.proofs.Common.{◌≡◌, ◌≢◌, ◌+◌, ◌≤◌, ℕ, inl, inr, ◌⊎◌, Option, Some, None, refl, sym, ap, ◌∙◌, subst, arith}
+use Rattle.std.proofs.Common.{◌≡◌, ℕ, inl, inr, Option, Some, None, refl, sym, ap, ◌∙◌, subst, arith}
 use Rattle.disk_model.specs.declared.sector_disk.SectorDisk.{Ghosts}
-use Rattle.vm_types.specs.declared.file.FilePage.{FilePage}
 use Rattle.vm_types.specs.declared.number.FrameNo.{FrameNo}
 use Rattle.frames.specs.FrameTable.{FrameTable}
 use Rattle.page_tables.specs.Tree.{missing_of}
 use Rattle.swap.specs.declared.slots.Swap.{Swap}
 use Rattle.swap.specs.Slots.{IsReady, slots_of}
 use Rattle.paging.specs.declared.kernel.Core.{Core}
-use Rattle.paging.specs.Picture.{Picture, picture_of}
+use Rattle.paging.specs.Picture.{Picture, picture_of, entry}
 use Rattle.paging.specs.Parts.{IsFit}
-use Rattle.paging.specs.Calls.{Frees, KeepsRest, UsesDevice}
+use Rattle.paging.specs.Calls.{Frees, IsStaying, KeepsRest, UsesDevice}
 use Rattle.paging.specs.Steps.{SameBeside}
 use Rattle.mapping.specs.Changes.{KeepsTables, KeepsBare, KeepsSpaces, KeepsRoom, KeepsSeen, Enters, Moves}
 
@@ -52,6 +51,38 @@ module _ (old new : Picture) (keep : Option FrameNo) (frees : Frees old new keep
 
   pub bare_freed : KeepsBare old new
   bare_freed pid p h none = frees.entries pid p h (inl none) ∙ none
+
+-- what stays where a frame is kept stays where none is
+stays_any : (keep : Option FrameNo) (e : ℕ) → IsStaying None e → IsStaying keep e
+stays_any keep e stays = elim stays [
+  | inl none ↦ inl none
+  | inr rest ↦ elim rest [
+    | inl away ↦ inr (inl away)
+    | inr here ↦ elim here [
+      | inl zero_page ↦ inr (inr (inl zero_page))
+      | inr kept ↦ absurd kept
+    ]
+  ]
+]
+
+-- frames were given up, and nothing is said of the one that was kept
+pub frees_any : (old new : Picture) (keep : Option FrameNo) → Frees old new keep → Frees old new None
+frees_any old new keep frees = record {
+  pages = frees.pages;
+  count = frees.count;
+  roles = frees.roles;
+  missing = frees.missing;
+  ends = frees.ends;
+  entries = λ pid page h stays. frees.entries pid page h (stays_any keep (entry old pid page) stays);
+  slots = frees.slots;
+  total = frees.total;
+  home = frees.home;
+  slotted = frees.slotted;
+  kept_place = λ p n kept. absurd kept;
+  kept_role = λ n kept. absurd kept;
+  kept_count = λ n kept. absurd kept;
+  kept_bytes = λ n kept. absurd kept;
+}
 
 pub same_with : (c : Picture) (t : FrameTable) → SameBeside c (record c { frames = t })
 same_with c t = record { slots = refl; root = λ pid. refl; at = λ pid page. refl; page_of = λ n. refl; place = λ p. refl; touched = λ p. refl; files = λ f. refl }

@@ -1,13 +1,11 @@
 -- A page's own copy read from its slot into a frame.
-use Rattle.std.proofs.Common.{◌≡◌, ◌≢◌, ℕ, inl, inr, ◌⊎◌, ◌+◌, ◌*◌, ◌<◌, ◌^◌, true, false, List, Option, Some, None, refl, sym, ap, ◌∙◌, subst, arith}
+use Rattle.std.proofs.Common.{◌≡◌, ◌≢◌, ℕ, inl, inr, ◌+◌, ◌*◌, ◌<◌, ◌^◌, true, false, List, Option, Some, None, refl, sym, ap, ◌∙◌, subst, arith}
 use Rattle.std.proofs.lemmas.Bool.{cases_eq, cases_Bool, false≢true}
 use Rattle.vm_types.specs.declared.file.FilePage.{FilePage}
 use Rattle.vm_types.specs.declared.number.SlotNo.{SlotNo}
 use Rattle.vm_types.specs.declared.region.Attr.{Attr}
-use Rattle.vm_types.specs.Verdict.{is_past_end}
-use Rattle.frames.specs.declared.role.Role.{Role}
-use Rattle.frames.specs.declared.role.Role.TheVariants.{Free, Table, Private}
-use Rattle.frames.specs.FrameTable.{FrameTable, bytes_of, role_of, count_of, SameButFor, Takes, with_bytes, Releases}
+use Rattle.frames.specs.declared.role.Role.TheVariants.{Table, Private}
+use Rattle.frames.specs.FrameTable.{FrameTable, bytes_of, count_of, SameButFor, Takes, with_bytes, Releases}
 use Rattle.frames.proofs.FrameLemmas.{with_bytes-others}
 use Rattle.std.specs.Prelude.{◌&&◌, ◌==◌, ◌≤◌}
 use Rattle.vm_types.specs.Permission.{can_write}
@@ -18,7 +16,7 @@ use Rattle.swap.specs.Written.{IsAsWritten}
 use Rattle.mapping.specs.Leaves.{IsEntryOver, IsFullEntry}
 use Rattle.swap.specs.Slots.{SlotTable, IsInUse, IsReady, slots_of}
 use Rattle.swap.specs.Slots as Slots
-use Rattle.sv39_walk.specs.Entry.{is_valid, has_bit, frame_of}
+use Rattle.sv39_walk.specs.Entry.{is_valid, has_bit}
 use Rattle.page_tables.specs.declared.forms.Entry.{Entry}
 use Rattle.page_tables.specs.declared.forms.Entry.TheVariants.{Leaf, Swapped, Parked}
 use Rattle.page_tables.specs.declared.forms.Entry.TheVariants as Entries
@@ -26,7 +24,7 @@ use Rattle.page_tables.specs.Entry.{number_of, IsEntry}
 use Rattle.page_cache.specs.declared.place.Place.{Place}
 use Rattle.page_cache.specs.declared.place.Place.TheVariants.{Home, Frame, Slot}
 use Rattle.page_tables.specs.Tree.{IsPage}
-use Rattle.paging.specs.Seats.{Seat, InFrame, InSlot, seat, is_private, is_swapped}
+use Rattle.paging.specs.Seats.{Seat, InFrame, InSlot, seat, is_swapped}
 use Rattle.paging.specs.Picture.{Picture, entry, view, held, bytes_at, bytes_in, IsOwned}
 use Rattle.paging.specs.Parts.{IsFit, IsFitBut, IsEntryFor, Nothing, Resident, Away, IsSwapped}
 use Rattle.paging.specs.Calls.{ObtainsOwn}
@@ -34,7 +32,6 @@ use Rattle.paging.specs.Steps.{TakesOwn, ChangesFrame}
 use Rattle.paging.proofs.Taking.{changes_taken, entries_changed}
 use Rattle.paging.proofs.Handing.{away_number}
 use Rattle.paging.proofs.Puts.{SameButSlots}
-use Rattle.paging.proofs.Putting.{with_slots}
 use Rattle.paging.proofs.Setting.{each_view, view_seated}
 use Rattle.mapping.proofs.Bits.{parked_framed}
 use Rattle.mapping.proofs.Forms.{seat_away}

@@ -1,28 +1,27 @@
 -- What a page's own copy leaves that was read from its slot.
-use Rattle.std.proofs.Common.{◌≡◌, ◌≢◌, ℕ, inl, inr, ◌⊎◌, ◌+◌, ◌*◌, ◌<◌, ◌^◌, true, false, Option, Some, None, get_or, refl, sym, ap, ◌∙◌, subst, arith}
+use Rattle.std.proofs.Common.{◌≡◌, ◌≢◌, ℕ, inl, inr, ◌+◌, ◌*◌, ◌<◌, ◌^◌, true, false, Some, None, refl, sym, ap, ◌∙◌, subst}
 use Rattle.std.specs.Prelude.{option_map}
 use Rattle.vm_types.specs.declared.file.FilePage.{FilePage}
 use Rattle.vm_types.specs.declared.region.Attr.{Attr}
 use Rattle.vm_types.specs.Verdict.{is_past_end}
-use Rattle.frames.specs.declared.role.Role.TheVariants.{Free, Table, Private}
+use Rattle.frames.specs.declared.role.Role.TheVariants.{Private}
 use Rattle.frames.specs.FrameTable.{bytes_of, role_of, count_of}
 use Rattle.swap.specs.Slots.{SlotTable, IsInUse, Releases}
 use Rattle.page_tables.specs.Tree.{IsPage, missing_of}
 use Rattle.page_tables.specs.Change.{SetsEntry}
-use Rattle.paging.specs.Seats.{Seat, InFrame, InSlot, seat, is_swapped}
-use Rattle.paging.specs.Picture.{Picture, entry, view, view_of, held, bytes_in, own_in, IsOwned}
+use Rattle.paging.specs.Seats.{InFrame, InSlot, seat, is_swapped}
+use Rattle.paging.specs.Picture.{Picture, entry, view, view_of, held, bytes_in, IsOwned}
 use Rattle.paging.specs.Parts.{IsFit, IsFitBut, is_shared}
 use Rattle.paging.specs.Calls.{ObtainsOwn}
 use Rattle.paging.specs.Shows.{KeepsFiles}
 use Rattle.paging.specs.Steps.{SameBeside, ChangesFrame}
 use Rattle.paging.proofs.Putting.{with_slots}
-use Rattle.paging.proofs.Shown.{keeps_then}
 use Rattle.paging.proofs.SlotReleased.{fit_slot_released}
 use Rattle.paging.proofs.Ways.{by_page}
 use Rattle.mapping.specs.Leaves.{IsFullEntry}
-use Rattle.mapping.specs.Changes.{IsLinked, KeepsSpaces, KeepsTables, KeepsRoom, KeepsViews, KeepsOtherViews}
+use Rattle.mapping.specs.Changes.{IsLinked, KeepsSpaces, KeepsTables, KeepsRoom, KeepsViews, KeepsOtherViews, KeepsOtherBare}
 use Rattle.mapping.proofs.Forms.{mapped_page}
-use Rattle.mapping.proofs.Settling.{settled_moved, settled_owned, settled_views, settled_view, settled_held, settled_missing, settled_room, settled_full}
+use Rattle.mapping.proofs.Settling.{settled_moved, settled_owned, settled_others, settled_views, settled_view, settled_held, settled_missing, settled_room, settled_full}
 use Rattle.mapping.proofs.Steps.{spaces_then, spaces_freed, room_then, room_freed, tables_then, tables_freed, tables_same}
 use Rattle.mapping.proofs.SwapSteps.{swapped_page, away_seat, views_given, held_given}
 
@@ -36,6 +35,11 @@ files_then a b c first held_same touched files = record {
   touched = λ p. touched p ∙ first.touched p;
   files = λ f. files f ∙ first.files f;
 }
+
+-- entries are in frames
+slots_aside : (c : Picture) (t : SlotTable) (q p : ℕ) → entry (record c { slots = t }) q p ≡ entry c q p
+unfolding entry
+slots_aside c t q p = refl
 
 module _ (old taken : Picture) (pid page n k r : ℕ) (a : Attr) (obtains : ObtainsOwn old taken None n page) (linked : IsLinked old pid page) (lives : old.root pid ≡ Some r)
     (at : old.at pid page ≡ Some a) (away : is_swapped (entry old pid page) ≡ true) (number : entry old pid page ≡ k * 1024 + 2) (low : k < 2 ^ 32)
@@ -111,6 +115,12 @@ module _ (old taken : Picture) (pid page n k r : ℕ) (a : Attr) (obtains : Obta
           views_given set new k 1 0 (InSlot k) fit_moved' (with_slots set t) releases q p
           ∙ settled_views found written pid page r n a obtains.fit changes role one noted lives_of whole_of at_of set sets beside not_shared inside q p other
           ∙ obtains.frees.pages.views q p
+
+      pub bare_in : KeepsOtherBare old (record set { slots = t }) pid page
+      bare_in q p h other none =
+          slots_aside set t q p
+          ∙ settled_others found written pid page r n a obtains.fit changes role one noted lives_of whole_of at_of set sets beside not_shared inside q p h other
+          ∙ obtains.frees.entries q p h (inl none) ∙ none
 
       pub files_in : KeepsFiles old (record set { slots = t })
       files_in = files_then old found new obtains.frees.pages.files

@@ -1,18 +1,17 @@
 -- A table linked: what every process and file sees stays.
-use Rattle.std.proofs.Common.{◌≡◌, ◌≢◌, ◌≤◌, ℕ, inl, inr, ◌⊎◌, Some, Option, get_or, refl, sym, ap, ◌∙◌, subst, arith}
+use Rattle.std.proofs.Common.{◌≡◌, ◌≢◌, ◌≤◌, ℕ, inl, inr, Some, Option, get_or, sym, ap, ◌∙◌, subst, arith}
 use Rattle.std.specs.Prelude.{IsSome}
 use Rattle.std.proofs.lemmas.Bool.{cases_eq}
-use Rattle.vm_types.specs.declared.file.FilePage.{FilePage}
 use Rattle.vm_types.specs.declared.region.Attr.{Attr}
 use Rattle.frames.specs.declared.role.Role.{Role}
 use Rattle.frames.specs.declared.role.Role.TheVariants.{Free, Table, Private, Cache}
 use Rattle.frames.specs.FrameTable.{FrameTable, role_of, bytes_of}
-use Rattle.page_tables.specs.Change.{AddsTable, LinksTable}
-use Rattle.page_tables.specs.Tree.{IsPage, IsRoot, missing_of}
+use Rattle.page_tables.specs.Change.{LinksTable}
+use Rattle.page_tables.specs.Tree.{IsRoot, missing_of}
 use Rattle.paging.specs.Seats.{Seat, InFrame, InSlot, seat}
-use Rattle.paging.specs.Picture.{Picture, entry, view, held, bytes_in, IsOwned}
+use Rattle.paging.specs.Picture.{Picture, entry, bytes_in, IsOwned}
 use Rattle.paging.specs.Parts.{IsFit, IsMapped}
-use Rattle.paging.specs.Calls.{KeepsPages, Frees, ObtainsTable}
+use Rattle.paging.specs.Calls.{KeepsPages, ObtainsTable}
 use Rattle.paging.specs.Steps.{SameBeside}
 use Rattle.paging.proofs.Entries.{entry-same}
 use Rattle.paging.proofs.Linked.{loose_table, fit_linked}

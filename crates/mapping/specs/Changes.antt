@@ -39,6 +39,10 @@ KeepsTables old new = (pid r page : ℕ) → old.root pid ≡ Some r → missing
 abbrev pub KeepsBare : Picture → Picture → Type 0
 KeepsBare old new = (pid page : ℕ) → IsPage top_level page → entry old pid page ≡ 0 → entry new pid page ≡ 0
 
+-- every page but one that had no entry has none
+abbrev pub KeepsOtherBare : Picture → Picture → ℕ → ℕ → Type 0
+KeepsOtherBare old new pid page = (q p : ℕ) → IsPage top_level p → (q ≢ pid) ⊎ (p ≢ page) → entry old q p ≡ 0 → entry new q p ≡ 0
+
 -- the same processes live, with the same regions
 pub record KeepsSpaces (old new : Picture) : Type 0 where
   pub root : (pid : ℕ) → new.root pid ≡ old.root pid

@@ -1,5 +1,5 @@
 //! File pages brought into memory.
-ghost use Rattle.std.specs.Prelude.{◌≡◌, ◌⊎◌, ℕ, IfOk, IfErr, OnOk, OnErr};
+ghost use Rattle.std.specs.Prelude.{◌≡◌, ◌⊎◌, None, IfOk, IfErr, OnOk, OnErr};
 ghost use Rattle.vm_types.specs.declared.number.FrameNo.{FrameNo};
 ghost use Rattle.vm_types.specs.declared.refusal.Stall.TheVariants as Stall;
 ghost use Rattle.file_store.specs.Standing.{IsPageOf};
@@ -8,6 +8,7 @@ ghost use Rattle.swap.specs.Slots.{IsReady};
 ghost use Rattle.page_cache.specs.declared.place.Place.TheVariants.{Home, Frame};
 ghost use Rattle.paging.specs.Picture.{picture_of};
 ghost use Rattle.paging.specs.Parts.{IsFit};
+ghost use Rattle.paging.specs.Calls.{Frees};
 ghost use Rattle.paging.specs.Capacity.{IsShort};
 ghost use Rattle.paging.specs.Reading.{ReadCause};
 ghost use Rattle.mapping.specs.Changes.{KeepsBare, KeepsSeen};
@@ -38,6 +39,7 @@ pub fn cached<D: SectorDisk, E: SectorDisk>(
     ensures bare { KeepsBare (picture_of core.old) (picture_of core.new) }
     ensures placed { IfOk result (λ n. (picture_of core.new).place page ≡ Frame n) }
     ensures idle { (n : FrameNo) → (picture_of core.old).place page ≡ Frame n → (core.new ≡ core.old) × OnErr result ⊥ }
+    ensures frees { OnErr result (Frees (picture_of core.old) (picture_of core.new) None) }
     ensures home { IfErr result (λ stall. stall ≡ Stall.StoreDevice → (picture_of core.old).place page ≡ Home) }
     ensures read { (core.new.store ≡ core.old.store) ⊎ ((picture_of core.old).place page ≡ Home) }
     ensures store_calm { OnOk result (D.failures core.new.store.disk ≡ D.failures core.old.store.disk) }

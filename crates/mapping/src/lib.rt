@@ -11,6 +11,8 @@ mod linking;
 mod owning;
 mod showing;
 mod swapping;
+#[cfg(test)]
+mod tests;
 
 pub use arriving::cached;
 pub use leaves::{Grant, entry_over};

@@ -1,5 +1,5 @@
 //! Frames of a process's own.
-ghost use Rattle.std.specs.Prelude.{◌≡◌, ◌≢◌, ℕ, ◌<◌, ◌^◌, Some, true, false, IfOk, IfErr, OnOk, OnErr};
+ghost use Rattle.std.specs.Prelude.{◌≡◌, ◌≢◌, ℕ, ◌<◌, ◌^◌, None, Some, true, false, IfOk, IfErr, OnOk, OnErr};
 ghost use Rattle.vm_types.specs.Permission.{can_write};
 ghost use Rattle.vm_types.specs.Verdict.{is_past_end};
 ghost use Rattle.frames.specs.declared.role.Role.TheVariants.{Free, Table};
@@ -12,7 +12,7 @@ ghost use Rattle.paging.specs.Calls.{Frees, KeepsRest, UsesDevice, StallCause};
 ghost use Rattle.paging.specs.Capacity.{IsShort};
 ghost use Rattle.paging.specs.Shows.{KeepsFiles};
 ghost use Rattle.mapping.specs.Leaves.{IsEntryOver};
-ghost use Rattle.mapping.specs.Changes.{IsLinked, KeepsViews, KeepsOtherViews, IsCalm, Moves, TakesCopy, is_sole, shown_frame, shown_bytes};
+ghost use Rattle.mapping.specs.Changes.{IsLinked, KeepsViews, KeepsOtherViews, KeepsOtherBare, IsCalm, Moves, TakesCopy, is_sole, shown_frame, shown_bytes};
 
 use crate::linking::root_of;
 use crate::showing::{ZERO_PAGE, regrant, set_full};
@@ -54,6 +54,8 @@ pub fn own_frame<D, E: SectorDisk>(
     ensures behind { (n : ℕ) → is_private (entry (picture_of core.old) pid page) ≡ false → IsBehind (picture_of core.old) attr.backing n
         → IsBehind (picture_of core.new) attr.backing n × (bytes_of core.new.frames n ≡ bytes_of core.old.frames n) }
     ensures others { KeepsOtherViews (picture_of core.old) (picture_of core.new) pid page }
+    ensures bare { KeepsOtherBare (picture_of core.old) (picture_of core.new) pid page }
+    ensures frees { OnErr result (Frees (picture_of core.old) (picture_of core.new) None) }
     ensures same { OnErr result (KeepsViews (picture_of core.old) (picture_of core.new)) }
     ensures files { KeepsFiles (picture_of core.old) (picture_of core.new) }
     ensures wanted { OnErr result (is_sole (picture_of core.old) (entry (picture_of core.old) pid page) ≡ false) }
@@ -100,6 +102,8 @@ fn copy_page<D, E: SectorDisk>(
     ensures behind { (n : ℕ) → is_private (entry (picture_of core.old) pid page) ≡ false → IsBehind (picture_of core.old) attr.backing n
         → IsBehind (picture_of core.new) attr.backing n × (bytes_of core.new.frames n ≡ bytes_of core.old.frames n) }
     ensures others { KeepsOtherViews (picture_of core.old) (picture_of core.new) pid page }
+    ensures bare { KeepsOtherBare (picture_of core.old) (picture_of core.new) pid page }
+    ensures frees { OnErr result (Frees (picture_of core.old) (picture_of core.new) None) }
     ensures same { OnErr result (KeepsViews (picture_of core.old) (picture_of core.new)) }
     ensures files { KeepsFiles (picture_of core.old) (picture_of core.new) }
     ensures short { IfErr result (IsShort (picture_of core.new)) }
@@ -122,7 +126,7 @@ fn shown_frame<D, E>(core: &Core<D, E>, entry: Pte, backing: Backing) -> FrameNo
     ensures { result.0 ≡ shown_frame (picture_of core.now) entry.0 backing }
 {
     if entry.is_private() {
-        return FrameNo(entry.frame() as u32);
+        return entry.frame_number();
     }
     match backing {
         Backing::Anon => ZERO_PAGE,

@@ -43,18 +43,24 @@ pub fn show_zero<D, E>(core: &mut Core<D, E>, pid: Pid, page: Vpn, attr: Attr)
 /// Shows the frame of its file page at a page of a file without an own copy. Stores are let through to a shared page of a
 /// touched file page alone, so that the first one to any other is noticed: it finds D clear (RISC-V Privileged
 /// Specification, "Sv39 page table entry", the scheme of Svade).
-pub fn show_cached<D, E>(core: &mut Core<D, E>, pid: Pid, page: Vpn, attr: Attr, frame: FrameNo)
+pub fn show_cached<D, E>(
+    core: &mut Core<D, E>,
+    pid: Pid,
+    page: Vpn,
+    attr: Attr,
+    cache_frame: FrameNo,
+)
     requires linked { IsLinked (picture_of core.old) pid page }
     requires attr { (picture_of core.old).at pid page ≡ Some attr }
-    requires behind { IsBehind (picture_of core.old) attr.backing frame.0 }
+    requires behind { IsBehind (picture_of core.old) attr.backing cache_frame.0 }
     requires inside { is_past_end (picture_of core.old).files attr.backing ≡ false }
     requires none { seat (entry (picture_of core.old) pid page) ≡ None }
     ensures enters { Enters core.old core.new pid page }
-    ensures entry { IsFullEntry (picture_of core.old) attr frame.0 false (entry (picture_of core.new) pid page) }
+    ensures entry { IsFullEntry (picture_of core.old) attr cache_frame.0 false (entry (picture_of core.new) pid page) }
     ensures files { KeepsFiles (picture_of core.old) (picture_of core.new) }
 {
     let root = root_of(core, pid);
-    set_full(core, root, page, attr, frame, false);
+    set_full(core, root, page, attr, cache_frame, false);
 }
 
 /// Gives a page that lies in a frame the entry that lets be done all that its permission and the sharing of its frame
@@ -77,7 +83,7 @@ pub fn regrant<D, E>(core: &mut Core<D, E>, pid: Pid, page: Vpn, attr: Attr)
         root,
         page,
         attr,
-        FrameNo(entry.frame() as u32),
+        entry.frame_number(),
         entry.is_private(),
     );
 }

@@ -1,13 +1,13 @@
 //! Own copies brought back from slots.
-ghost use Rattle.std.specs.Prelude.{◌≡◌, ◌≢◌, ℕ, Some, true, IfOk, IfErr, OnOk, OnErr};
+ghost use Rattle.std.specs.Prelude.{◌≡◌, None, Some, true, IfOk, IfErr, OnOk, OnErr};
 ghost use Rattle.frames.specs.FrameTable.{count_of};
 ghost use Rattle.swap.specs.Slots.{IsReady};
 ghost use Rattle.paging.specs.Picture.{picture_of, entry, is_swapped};
-ghost use Rattle.paging.specs.Calls.{StallCause};
+ghost use Rattle.paging.specs.Calls.{Frees, StallCause};
 ghost use Rattle.paging.specs.Capacity.{IsShort};
 ghost use Rattle.paging.specs.Shows.{KeepsFiles};
 ghost use Rattle.mapping.specs.Leaves.{IsFullEntry};
-ghost use Rattle.mapping.specs.Changes.{IsLinked, KeepsViews, KeepsOtherViews, Moves};
+ghost use Rattle.mapping.specs.Changes.{IsLinked, KeepsViews, KeepsOtherViews, KeepsOtherBare, Moves};
 
 use crate::linking::root_of;
 use crate::showing::set_full;
@@ -35,6 +35,8 @@ pub fn swap_in<D, E: SectorDisk>(
     ensures entry { IfOk result (λ n. IsFullEntry (picture_of core.new) attr n.0 true (entry (picture_of core.new) pid page)) }
     ensures sole { IfOk result (λ n. count_of core.new.frames n.0 ≡ 1) }
     ensures others { KeepsOtherViews (picture_of core.old) (picture_of core.new) pid page }
+    ensures bare { KeepsOtherBare (picture_of core.old) (picture_of core.new) pid page }
+    ensures frees { OnErr result (Frees (picture_of core.old) (picture_of core.new) None) }
     ensures same { OnErr result (KeepsViews (picture_of core.old) (picture_of core.new)) }
     ensures seen { E.keeps_model core.new.swap.pages.disk → KeepsViews (picture_of core.old) (picture_of core.new) }
     ensures files { KeepsFiles (picture_of core.old) (picture_of core.new) }

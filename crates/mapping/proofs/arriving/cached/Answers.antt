@@ -1,8 +1,7 @@
-use Rattle.std.proofs.Common.{◌≡◌, ◌≢◌, ◌≤◌, false, true, inl, inr, refl, sym, ap, ◌∙◌, subst, arith}
+use Rattle.std.proofs.Common.{◌≡◌, false, inl, inr, refl, sym, ap, ◌∙◌, subst, arith}
 use Rattle.file_store.specs.declared.store.FileStore.{FileStore}
 use Rattle.file_store.specs.Store.{IsReadyStore}
-use Rattle.std.proofs.lemmas.Bool.{cases_Bool, false≢true}
-use Rattle.vm_types.specs.declared.number.FrameNo.{FrameNo}
+use Rattle.std.proofs.lemmas.Bool.{cases_Bool}
 use Rattle.page_cache.specs.declared.place.Place.TheVariants.{Home, Frame, Slot}
 use Rattle.paging.specs.Picture.{Picture, picture_of}
 use Rattle.paging.specs.Parts.{IsFit}

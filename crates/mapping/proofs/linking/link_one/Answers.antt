@@ -1,6 +1,5 @@
-use Rattle.std.proofs.Common.{◌≡◌, ◌≢◌, ℕ, inl, inr, sym, ◌∙◌}
+use Rattle.std.proofs.Common.{◌≡◌, inl, inr, sym, ◌∙◌}
 use Rattle.frames.specs.declared.role.Role.TheVariants.{Free, Private}
-use Rattle.page_tables.specs.Tree.{IsRoot}
 use Rattle.paging.specs.Picture.{Picture, picture_of}
 use Rattle.mapping.proofs.Steps.{same_with, moves_freed, bare_freed}
 use Rattle.mapping.proofs.TablesLinked.{pages_linked, bare_linked, tables_linked, spaces_linked, room_linked, fit_after, no_copy_linked, missing_taken}

@@ -1,4 +1,4 @@
-use Rattle.std.proofs.Common.{◌≡◌, ℕ, inl, Option, refl, sym, ◌∙◌, subst, arith}
+use Rattle.std.proofs.Common.{inl, Option, refl, sym, ◌∙◌, subst, arith}
 use Rattle.std.specs.Prelude.{IsSome}
 use Rattle.vm_types.specs.declared.region.Attr.{Attr}
 use Rattle.paging.specs.Picture.{picture_of}

@@ -1,22 +1,21 @@
-use Rattle.std.proofs.Common.{◌≡◌, ◌≢◌, ℕ, ◌<◌, Bool, true, false, Some, inl, inr, get_or, refl, sym, ap, ◌∙◌, subst, arith}
+use Rattle.std.proofs.Common.{◌≡◌, None, inl, refl, sym, ap, ◌∙◌, subst}
 use Rattle.std.specs.Prelude.{IsTrue}
 use Rattle.std.proofs.lemmas.Bool.{false≢true}
 use Rattle.frames.specs.declared.role.Role.{Role}
-use Rattle.frames.specs.declared.role.Role.TheVariants.{Free, Table, Private}
-use Rattle.frames.specs.FrameTable.{IsFrame, is_handed_out, frame_count, bytes_of, count_of, role_of}
-use Rattle.sv39_walk.specs.Entry.{frame_of}
+use Rattle.frames.specs.declared.role.Role.TheVariants.{Free, Private}
+use Rattle.frames.specs.FrameTable.{is_handed_out}
 use Rattle.swap.specs.declared.slots.Swap.{Swap}
 use Rattle.swap.specs.Slots.{IsReady}
-use Rattle.paging.specs.Calls.{UsesDevice}
-use Rattle.paging.specs.Picture.{Picture, picture_of, entry, is_private}
-use Rattle.paging.specs.Parts.{IsBehind}
+use Rattle.regions.proofs.ResultLemmas.{on_err}
+use Rattle.paging.specs.Calls.{Frees, UsesDevice}
+use Rattle.paging.specs.Picture.{Picture, picture_of, is_private}
 use Rattle.paging.specs.Steps.{SameBeside}
 use Rattle.paging.proofs.Granting.{past_end-same}
 use Rattle.mapping.proofs.Entering.{beside_around}
-use Rattle.mapping.proofs.OwnSteps.{shown_used, shown_datum, lives_found, whole_found, at_found, spaces_set, tables_set, room_set, others_set, files_set, bytes_set, own_set, entry_set, count_set, fit_first, behind_first, role_shared, fit_shared, spaces_shared, tables_shared, room_shared, others_shared, files_shared, bytes_shared, own_shared, entry_shared, count_shared}
+use Rattle.mapping.proofs.OwnSteps.{shown_used, shown_datum, lives_found, whole_found, at_found, spaces_set, tables_set, room_set, others_set, bare_set, files_set, bytes_set, own_set, entry_set, count_set, fit_first, behind_first, role_shared, fit_shared, spaces_shared, tables_shared, room_shared, others_shared, bare_shared, files_shared, bytes_shared, own_shared, entry_shared, count_shared}
 use Rattle.mapping.proofs.Forms.{used_inside}
 use Rattle.mapping.proofs.Settling.{forest_mid, root_mid, whole_mid}
-use Rattle.mapping.proofs.Steps.{same_with, moves_freed}
+use Rattle.mapping.proofs.Steps.{same_with, frees_any, moves_freed}
 use Rattle.mapping.proofs.owning.copy_page.Goals as goal
 
 pub take_copy-requires-clause-source : goal.take_copy-requires-clause-source
@@ -192,6 +191,23 @@ returns-then-is_private-clause-others g c =
     let releases = c.release.ensures.change in
     others_shared old c.args.pid c.args.page c.args.shown.0 c.args.attr c.args.core.now.sound c.requires.linked c.requires.attr c.requires.resident c.requires.own c.requires.common mid n r copy c.root_of-root.ensures set sets beside c.requires.not_shared inside private new releases beside'
 
+pub returns-then-is_private-clause-bare : goal.returns-then-is_private-clause-bare
+returns-then-is_private-clause-bare g c =
+    let old : Picture = picture_of c.args.core.now in
+    let mid : Picture = picture_of c.take_copy.new.core in
+    let set : Picture = picture_of c.set_full.new.core in
+    let sets = c.set_full.ensures.sets in
+    let beside = beside_around c.take_copy.new.core c.set_full.new.core c.set_full.ensures.rest in
+    let copy = c.in_ok-own.ensures.taken in
+    let n = c.in_ok-own.own.0 in
+    let r = c.root_of-root.result.0 in
+    let inside = past_end-same old copy.found c.args.attr.backing copy.frees.pages.files.files ∙ c.requires.inside in
+    let private = sym (ap is_private c.requires.was) ∙ sym c.is_private.ensures ∙ c.if-is_private.true in
+    let new : Picture = record set { frames = c.release.new.self } in
+    let beside' : SameBeside set new = same_with set c.release.new.self in
+    let releases = c.release.ensures.change in
+    bare_shared old c.args.pid c.args.page c.args.shown.0 c.args.attr c.args.core.now.sound c.requires.linked c.requires.attr c.requires.resident c.requires.own c.requires.common mid n r copy c.root_of-root.ensures set sets beside c.requires.not_shared inside private new releases beside'
+
 pub returns-then-is_private-clause-files : goal.returns-then-is_private-clause-files
 returns-then-is_private-clause-files g c =
     let old : Picture = picture_of c.args.core.now in
@@ -319,6 +335,20 @@ returns-else-is_private-clause-others g c =
     let common = sym (ap is_private c.requires.was) ∙ sym c.is_private.ensures ∙ c.if-is_private.false in
     others_set old c.args.pid c.args.page c.args.shown.0 c.args.attr c.args.core.now.sound c.requires.linked c.requires.attr c.requires.resident c.requires.own c.requires.common mid n r copy c.root_of-root.ensures set sets beside c.requires.not_shared inside
 
+pub returns-else-is_private-clause-bare : goal.returns-else-is_private-clause-bare
+returns-else-is_private-clause-bare g c =
+    let old : Picture = picture_of c.args.core.now in
+    let mid : Picture = picture_of c.take_copy.new.core in
+    let set : Picture = picture_of c.set_full.new.core in
+    let sets = c.set_full.ensures.sets in
+    let beside = beside_around c.take_copy.new.core c.set_full.new.core c.set_full.ensures.rest in
+    let copy = c.in_ok-own.ensures.taken in
+    let n = c.in_ok-own.own.0 in
+    let r = c.root_of-root.result.0 in
+    let inside = past_end-same old copy.found c.args.attr.backing copy.frees.pages.files.files ∙ c.requires.inside in
+    let common = sym (ap is_private c.requires.was) ∙ sym c.is_private.ensures ∙ c.if-is_private.false in
+    bare_set old c.args.pid c.args.page c.args.shown.0 c.args.attr c.args.core.now.sound c.requires.linked c.requires.attr c.requires.resident c.requires.own c.requires.common mid n r copy c.root_of-root.ensures set sets beside c.requires.not_shared inside
+
 pub returns-else-is_private-clause-files : goal.returns-else-is_private-clause-files
 returns-else-is_private-clause-files g c =
     let old : Picture = picture_of c.args.core.now in
@@ -351,3 +381,12 @@ pub returns-in_err-own-clause-moves : goal.returns-in_err-own-clause-moves
 returns-in_err-own-clause-moves g c =
     let done = c.in_err-own.ensures in
     moves_freed g.E.SectorDisk c.args.core.now c.take_copy.new.core _ done.fit done.swap done.frees done.rest done.device
+
+pub returns-in_err-own-clause-frees : goal.returns-in_err-own-clause-frees
+returns-in_err-own-clause-frees g c =
+    let old = picture_of c.args.core.now in
+    let new = picture_of c.take_copy.new.core in
+    on_err c.from_residual.result (Frees old new None) (frees_any old new _ c.in_err-own.ensures.frees)
+
+pub returns-in_err-own-clause-bare : goal.returns-in_err-own-clause-bare
+returns-in_err-own-clause-bare g c = λ q p h other none. c.in_err-own.ensures.frees.entries q p h (inl none) ∙ none

@@ -1,18 +1,16 @@
-use Rattle.std.proofs.Common.{◌≡◌, ◌≢◌, ℕ, ◌<◌, Bool, true, false, Some, Result, Ok, Err, inl, inr, get_or, refl, sym, ap, ◌∙◌, subst, arith}
-use Rattle.std.specs.Prelude.{IsTrue, IfOk, OnErr}
+use Rattle.std.proofs.Common.{◌≡◌, ◌≢◌, ℕ, Bool, true, false, Some, Result, Ok, Err, inl, inr, get_or, sym, ap, ◌∙◌, subst, arith}
+use Rattle.std.specs.Prelude.{IfOk, OnErr}
 use Rattle.std.proofs.lemmas.Bool.{cases_Bool, false≢true}
-use Rattle.frames.specs.declared.role.Role.{Role}
 use Rattle.frames.specs.declared.role.Role.TheVariants.{Free, Table, Private}
-use Rattle.frames.specs.FrameTable.{IsFrame, is_handed_out, frame_count, bytes_of, count_of, role_of}
+use Rattle.frames.specs.FrameTable.{bytes_of, count_of}
 use Rattle.sv39_walk.specs.Entry.{frame_of}
 use Rattle.paging.specs.Picture.{Picture, picture_of, entry, is_private, view}
 use Rattle.paging.specs.Parts.{IsBehind}
-use Rattle.paging.specs.Steps.{SameBeside}
 use Rattle.paging.proofs.Entries.{entry-of}
 use Rattle.mapping.specs.Leaves.{IsEntryOver, IsFullEntry}
 use Rattle.mapping.specs.Changes.{shown_frame, is_sole}
-use Rattle.mapping.proofs.Forms.{mapped_page, used_inside, own_role, seat_own, seat_zero, none_common}
-use Rattle.mapping.proofs.OwnSteps.{shown_used, shown_own, shown_behind, sole_when, common_when, several_when, full_own, own_view}
+use Rattle.mapping.proofs.Forms.{mapped_page, used_inside, own_role, seat_zero, none_common}
+use Rattle.mapping.proofs.OwnSteps.{shown_used, shown_own, shown_behind, common_when, several_when, full_own, own_view}
 use Rattle.mapping.proofs.Steps.{moves_entered}
 use Rattle.mapping.proofs.owning.own_frame.Goals as goal
 use Rattle.mapping.proofs.owning.own_frame.Goals.{else-is_private-via-then-is_private+else-count-eq1, else-is_private-via-else-is_private}
@@ -136,6 +134,9 @@ returns-then-count-eq1-clause-behind g c =
     let frame = shown ∙ shown_own old (entry old c.args.pid c.args.page) c.args.attr.backing own in
     let one = ap (count_of old.frames) (sym frame) ∙ sym c.count.ensures ∙ c.if-count-eq1.true in
     λ x not_own. absurd (false≢true (sym not_own ∙ own))
+
+pub returns-then-count-eq1-clause-bare : goal.returns-then-count-eq1-clause-bare
+returns-then-count-eq1-clause-bare g c = λ q p h other none. c.regrant.ensures.enters.calm.others q p h other ∙ none
 
 pub copy_page-requires-clause-own : goal.copy_page-requires-clause-own
 copy_page-requires-clause-own g c =

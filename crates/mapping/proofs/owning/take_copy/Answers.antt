@@ -1,6 +1,5 @@
-use Rattle.std.proofs.Common.{◌≡◌, ◌≢◌, ◌<◌, refl, sym, ap, ◌∙◌, subst, arith}
-use Rattle.frames.specs.declared.role.Role.TheVariants.{Free}
-use Rattle.frames.specs.FrameTable.{FrameTable, IsFrame, frame_count, bytes_of, role_of, count_of, with_bytes}
+use Rattle.std.proofs.Common.{◌≢◌, refl, sym, ap, ◌∙◌, subst, arith}
+use Rattle.frames.specs.FrameTable.{FrameTable, IsFrame, bytes_of, role_of, count_of}
 use Rattle.frames.proofs.FrameLemmas.{with_bytes-others, with_bytes-same}
 use Rattle.paging.specs.Picture.{Picture, picture_of}
 use Rattle.paging.specs.Steps.{ChangesFrame}

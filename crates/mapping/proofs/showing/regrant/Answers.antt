@@ -1,6 +1,4 @@
-use Rattle.std.proofs.Common.{◌≡◌, ℕ, Bool, true, false, inl, inr, refl, sym, ap, ◌∙◌, subst, arith}
-use Rattle.std.proofs.lemmas.Bool.{false≢true}
-use Rattle.vm_types.specs.declared.region.Backing.{Backing}
+use Rattle.std.proofs.Common.{ℕ, Bool, sym, ap, ◌∙◌, subst, arith}
 use Rattle.frames.specs.FrameTable.{IsFrame}
 use Rattle.sv39_walk.specs.Entry.{frame_of}
 use Rattle.paging.specs.Picture.{Picture, picture_of, entry, is_private}
@@ -20,16 +18,16 @@ set_full-requires-clause-root g c = c.requires.linked.fit.rooted.roots c.args.pi
 pub set_full-requires-clause-inside : goal.set_full-requires-clause-inside
 set_full-requires-clause-inside g c =
     let old : Picture = picture_of c.args.core.now in
-    let is = c.frame.ensures.frame ∙ ap frame_of (c.entry_number-entry.ensures ∙ sym (entry-of old c.args.pid c.root_of-root.result.0 c.args.page c.root_of-root.ensures)) in
+    let is = c.frame_number.ensures ∙ ap frame_of (c.entry_number-entry.ensures ∙ sym (entry-of old c.args.pid c.root_of-root.result.0 c.args.page c.root_of-root.ensures)) in
     let P : ℕ → Type 0 = λ x. IsFrame old.frames x in
     subst P (sym is) (used_inside old.frames (frame_of (entry old c.args.pid c.args.page)) c.args.core.now.sound
     (resident_used old c.args.pid c.args.page c.args.attr c.args.core.now.sound c.requires.linked.fit (mapped_page old c.args.pid c.args.page c.args.attr c.requires.linked.fit.granting c.requires.attr)
     c.requires.attr c.requires.resident c.requires.here))
 
-pub overflow_cast-frame : goal.overflow_cast-frame
-overflow_cast-frame g c =
+pub frame_number-requires : goal.frame_number-requires
+frame_number-requires g c =
     let old : Picture = picture_of c.args.core.now in
-    let is = c.frame.ensures.frame ∙ ap frame_of (c.entry_number-entry.ensures ∙ sym (entry-of old c.args.pid c.root_of-root.result.0 c.args.page c.root_of-root.ensures)) in
+    let is = ap frame_of (c.entry_number-entry.ensures ∙ sym (entry-of old c.args.pid c.root_of-root.result.0 c.args.page c.root_of-root.ensures)) in
     let low = used_inside old.frames (frame_of (entry old c.args.pid c.args.page)) c.args.core.now.sound
     (resident_used old c.args.pid c.args.page c.args.attr c.args.core.now.sound c.requires.linked.fit (mapped_page old c.args.pid c.args.page c.args.attr c.requires.linked.fit.granting c.requires.attr)
     c.requires.attr c.requires.resident c.requires.here) in
@@ -42,12 +40,12 @@ returns-clause-enters g c =
     let sets = c.set_full.ensures.sets in
     let e = c.entry_number-entry.ensures ∙ sym (entry-of old c.args.pid c.root_of-root.result.0 c.args.page c.root_of-root.ensures) in
     let own = c.is_private.ensures ∙ ap is_private e in
-    let is = c.frame.ensures.frame ∙ ap frame_of e in
+    let is = c.frame_number.ensures ∙ ap frame_of e in
     let resident = resident_page old c.args.pid c.args.page c.args.attr c.requires.linked.fit.granting
     (mapped_page old c.args.pid c.args.page c.args.attr c.requires.linked.fit.granting c.requires.attr) c.requires.attr c.requires.resident c.requires.here in
-    enters_set c.args.core.now c.set_full.new.core c.args.pid c.args.page c.root_of-root.result.0 c.args.attr c.frame.result c.is_private.result c.requires.linked c.root_of-root.ensures c.requires.attr
+    enters_set c.args.core.now c.set_full.new.core c.args.pid c.args.page c.root_of-root.result.0 c.args.attr c.frame_number.result.0 c.is_private.result c.requires.linked c.root_of-root.ensures c.requires.attr
     sets c.set_full.ensures.rest c.set_full.ensures.not_refused
-    (seat_kept (entry old c.args.pid c.args.page) sets.0 c.args.attr c.frame.result c.is_private.result _ _ sets.1 own (λ _. is) c.requires.here)
+    (seat_kept (entry old c.args.pid c.args.page) sets.0 c.args.attr c.frame_number.result.0 c.is_private.result _ _ sets.1 own (λ _. is) c.requires.here)
     (λ p. resident.private (sym own ∙ p))
     (λ common. let P : ℕ → Type 0 = λ x. IsBehind old c.args.attr.backing x in subst P (sym is) (resident.behind (sym own ∙ common))) resident.inside
 
@@ -56,14 +54,14 @@ returns-clause-entry g c =
     let old : Picture = picture_of c.args.core.now in
     let new : Picture = picture_of c.set_full.new.core in
     let e = c.entry_number-entry.ensures ∙ sym (entry-of old c.args.pid c.root_of-root.result.0 c.args.page c.root_of-root.ensures) in
-    let full = full_entry_now old new c.args.pid c.args.page c.root_of-root.result.0 c.args.attr c.frame.result c.is_private.result c.requires.linked c.root_of-root.ensures c.requires.attr
+    let full = full_entry_now old new c.args.pid c.args.page c.root_of-root.result.0 c.args.attr c.frame_number.result.0 c.is_private.result c.requires.linked c.root_of-root.ensures c.requires.attr
     c.set_full.ensures.sets (beside_around c.args.core.now c.set_full.new.core c.set_full.ensures.rest) in
     let now = entry new c.args.pid c.args.page in
     let P : ℕ → Type 0 = λ x. IsFullEntry old c.args.attr x c.is_private.result now in
     let Q : Bool → Type 0 = λ x. IsFullEntry old c.args.attr (frame_of (entry old c.args.pid c.args.page)) x now in
-    subst Q (c.is_private.ensures ∙ ap is_private e) (subst P (c.frame.ensures.frame ∙ ap frame_of e) full)
+    subst Q (c.is_private.ensures ∙ ap is_private e) (subst P (c.frame_number.ensures ∙ ap frame_of e) full)
 
 pub returns-clause-files : goal.returns-clause-files
 returns-clause-files g c =
-    full_files (picture_of c.args.core.now) (picture_of c.set_full.new.core) c.args.pid c.args.page c.root_of-root.result.0 c.args.attr c.frame.result c.is_private.result c.requires.linked
+    full_files (picture_of c.args.core.now) (picture_of c.set_full.new.core) c.args.pid c.args.page c.root_of-root.result.0 c.args.attr c.frame_number.result.0 c.is_private.result c.requires.linked
     c.root_of-root.ensures c.requires.attr c.set_full.ensures.sets (beside_around c.args.core.now c.set_full.new.core c.set_full.ensures.rest)

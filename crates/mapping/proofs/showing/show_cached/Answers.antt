@@ -1,7 +1,6 @@
-use Rattle.std.proofs.Common.{◌≡◌, ℕ, Bool, true, false, inl, inr, refl, sym, ap, ◌∙◌, subst, arith}
+use Rattle.std.proofs.Common.{false, sym, ◌∙◌}
 use Rattle.std.proofs.lemmas.Bool.{false≢true}
-use Rattle.vm_types.specs.declared.region.Backing.{Backing}
-use Rattle.paging.specs.Picture.{Picture, picture_of, entry}
+use Rattle.paging.specs.Picture.{Picture, picture_of}
 use Rattle.mapping.proofs.Entering.{beside_around, full_entry_now, full_files, enters_set}
 use Rattle.mapping.proofs.Forms.{seat_over_common, used_inside, behind_used}
 use Rattle.mapping.proofs.showing.show_cached.Goals as goal
@@ -12,21 +11,21 @@ set_full-requires-clause-root g c = c.requires.linked.fit.rooted.roots c.args.pi
 pub set_full-requires-clause-inside : goal.set_full-requires-clause-inside
 set_full-requires-clause-inside g c =
     let old : Picture = picture_of c.args.core.now in
-    used_inside old.frames c.args.frame.0 c.args.core.now.sound (behind_used old c.args.attr.backing c.args.frame.0 c.args.core.now.sound c.requires.linked.fit.places c.requires.behind)
+    used_inside old.frames c.args.cache_frame.0 c.args.core.now.sound (behind_used old c.args.attr.backing c.args.cache_frame.0 c.args.core.now.sound c.requires.linked.fit.places c.requires.behind)
 
 pub returns-clause-enters : goal.returns-clause-enters
 returns-clause-enters g c =
     let sets = c.set_full.ensures.sets in
-    enters_set c.args.core.now c.set_full.new.core c.args.pid c.args.page c.root_of-root.result.0 c.args.attr c.args.frame.0 false c.requires.linked c.root_of-root.ensures c.requires.attr
-    sets c.set_full.ensures.rest c.set_full.ensures.not_refused (seat_over_common sets.0 c.args.attr c.args.frame.0 _ _ sets.1 ∙ sym c.requires.none)
+    enters_set c.args.core.now c.set_full.new.core c.args.pid c.args.page c.root_of-root.result.0 c.args.attr c.args.cache_frame.0 false c.requires.linked c.root_of-root.ensures c.requires.attr
+    sets c.set_full.ensures.rest c.set_full.ensures.not_refused (seat_over_common sets.0 c.args.attr c.args.cache_frame.0 _ _ sets.1 ∙ sym c.requires.none)
     (λ own. absurd (false≢true own)) (λ _. c.requires.behind) c.requires.inside
 
 pub returns-clause-entry : goal.returns-clause-entry
 returns-clause-entry g c =
-    full_entry_now (picture_of c.args.core.now) (picture_of c.set_full.new.core) c.args.pid c.args.page c.root_of-root.result.0 c.args.attr c.args.frame.0 false c.requires.linked
+    full_entry_now (picture_of c.args.core.now) (picture_of c.set_full.new.core) c.args.pid c.args.page c.root_of-root.result.0 c.args.attr c.args.cache_frame.0 false c.requires.linked
     c.root_of-root.ensures c.requires.attr c.set_full.ensures.sets (beside_around c.args.core.now c.set_full.new.core c.set_full.ensures.rest)
 
 pub returns-clause-files : goal.returns-clause-files
 returns-clause-files g c =
-    full_files (picture_of c.args.core.now) (picture_of c.set_full.new.core) c.args.pid c.args.page c.root_of-root.result.0 c.args.attr c.args.frame.0 false c.requires.linked
+    full_files (picture_of c.args.core.now) (picture_of c.set_full.new.core) c.args.pid c.args.page c.root_of-root.result.0 c.args.attr c.args.cache_frame.0 false c.requires.linked
     c.root_of-root.ensures c.requires.attr c.set_full.ensures.sets (beside_around c.args.core.now c.set_full.new.core c.set_full.ensures.rest)

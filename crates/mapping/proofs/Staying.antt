@@ -1,0 +1,21 @@
+-- A page on whose way no table is missing stays so.
+use Rattle.std.proofs.Common.{◌≢◌, ℕ, None, sym, ◌∙◌, arith}
+use Rattle.paging.specs.Picture.{Picture}
+use Rattle.paging.specs.Parts.{IsFit}
+use Rattle.mapping.specs.Changes.{IsLinked, IsWhole, KeepsSpaces, KeepsTables}
+
+-- no process came or went, and no table came to be missing
+pub linked_kept : (old new : Picture) (pid page : ℕ) → IsLinked old pid page → IsFit new → KeepsSpaces old new → KeepsTables old new → IsLinked new pid page
+linked_kept old new pid page linked fit spaces tables = record {
+  fit = fit;
+  lives = λ none. linked.lives (sym (spaces.root pid) ∙ none);
+  whole = λ r e. (
+      let was = sym (spaces.root pid) ∙ e in
+      let less = tables pid r page was in
+      let none = linked.whole r was in
+      omega (arith, less, none));
+}
+
+-- its tables were made
+pub linked_now : (old new : Picture) (pid page : ℕ) → old.root pid ≢ None → IsFit new → KeepsSpaces old new → IsWhole new pid page → IsLinked new pid page
+linked_now old new pid page lives fit spaces whole = record { fit = fit; lives = λ none. lives (sym (spaces.root pid) ∙ none); whole = whole }
