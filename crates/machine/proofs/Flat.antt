@@ -54,8 +54,8 @@ halted_accesses : {D E : Type 0} (c : Core D E) (command : Command) → Accesses
 halted_accesses c (Load pid addr width) = (halted_asks c pid addr Kinds.Load, λ place walked. refl)
 halted_accesses c (Fetch pid addr) = (halted_asks c pid addr Kinds.Fetch, λ place walked. refl)
 halted_accesses c (Store pid addr stored) = (halted_asks c pid addr Kinds.Store, λ place walked done. absurd (let never : Halted ≡ Done = done in cc))
-halted_accesses c Spawn = tt
-halted_accesses c (Fork pid) = tt
+halted_accesses c Spawn = λ stall e. absurd (no_stall stall e)
+halted_accesses c (Fork pid) = λ stall e. absurd (no_stall stall e)
 halted_accesses c (Exit pid) = tt
 halted_accesses c (Mmap pid addr len prot source placing) = tt
 halted_accesses c (Munmap pid addr len) = tt

@@ -1,4 +1,5 @@
 pub mod Accesses
+pub mod Births
 pub mod Calls
 pub mod Idle
 pub mod Mappings

@@ -5,6 +5,7 @@ ghost use Rattle.vm_types.specs.declared.command.Command.TheVariants.{Spawn, For
 ghost use Rattle.residency.specs.Calls.{KeepsRoom};
 ghost use Rattle.residency.specs.Shows.{KeepsDevices};
 ghost use Rattle.syncing.specs.Shows.{IsSoundCore};
+ghost use Rattle.spaces.specs.Births.{SpawnAsksFor, ForkAsksFor};
 ghost use Rattle.spaces.specs.Calls.{Carries, IsCaused};
 
 use disk_model::SectorDisk;
@@ -15,8 +16,7 @@ use vm_types::{Answer, Errno};
 
 /// Starts a process with an empty space, and answers its number, the least that is free.
 ///
-/// `EAGAIN` where 64 processes live (fork(2)). It may stall: `NoFrames` where a frame was wanted and refused; then there is
-/// no such process.
+/// `EAGAIN` where 64 processes live (fork(2)). It may stall: `NoFrames` where no frame is free; then there is no such process.
 pub fn spawn<D: SectorDisk, E>(core: &mut Core<D, E>) -> Answer
     requires sound { IsSoundCore D.SectorDisk core.old }
     ensures sound { IsSoundCore D.SectorDisk core.new }
@@ -24,6 +24,7 @@ pub fn spawn<D: SectorDisk, E>(core: &mut Core<D, E>) -> Answer
     ensures devices { KeepsDevices core.old core.new }
     ensures room { KeepsRoom core.old core.new }
     ensures caused { IsCaused D.SectorDisk core.old core.new (reply_of result) }
+    ensures wanted { SpawnAsksFor core.old (reply_of result) }
 {
     let Some(pid) = free_pid(core) else {
         return Answer::Refused(Errno::EAGAIN);
@@ -37,8 +38,8 @@ pub fn spawn<D: SectorDisk, E>(core: &mut Core<D, E>) -> Answer
 /// Starts a process with the pages of another, own copies included (fork(2)), and answers its number, the least that is
 /// free. Each of the two sees its own later stores alone, but for those through shared pages.
 ///
-/// In this order: `ESRCH` where there is no such parent, `EAGAIN` where 64 processes live. It may stall: `NoFrames` where a
-/// frame was wanted and refused; then there is no child.
+/// In this order: `ESRCH` where there is no such parent, `EAGAIN` where 64 processes live. It may stall: `NoFrames` where no
+/// frame is free, or fewer than the tables on the way to the parent's own copies; then there is no child.
 pub fn fork<D: SectorDisk, E>(core: &mut Core<D, E>, pid: u64) -> Answer
     requires sound { IsSoundCore D.SectorDisk core.old }
     ensures sound { IsSoundCore D.SectorDisk core.new }
@@ -46,6 +47,7 @@ pub fn fork<D: SectorDisk, E>(core: &mut Core<D, E>, pid: u64) -> Answer
     ensures devices { KeepsDevices core.old core.new }
     ensures room { KeepsRoom core.old core.new }
     ensures caused { IsCaused D.SectorDisk core.old core.new (reply_of result) }
+    ensures wanted { ForkAsksFor core.old pid (reply_of result) }
 {
     let Some(parent) = live(core, pid) else {
         return Answer::Refused(Errno::ESRCH);

@@ -7,7 +7,7 @@ abbrev pub counts_of : Inside → List ℕ
 counts_of c = c.counts.items
 
 -- the slots without a share are on the stack, which has room for all
-pub record IsWhole (c : Inside) : Type 0 where
+pub record StacksFreeSlots (c : Inside) : Type 0 where
   pub sound : AreSoundCounts c.counts.items
   pub stack : IsStack c.counts.items c.free.items
   pub room : length c.counts.items ≤ vec_capacity c.free

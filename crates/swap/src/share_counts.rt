@@ -18,11 +18,11 @@ impl Model for ShareCounts {
 
     ghost Value = { List ℕ };
 
-    ghost use Rattle.swap.specs.Inside.{counts_of, IsWhole};
+    ghost use Rattle.swap.specs.Inside.{counts_of, StacksFreeSlots};
 
     ghost view = { counts_of };
 
-    ghost invariant = { IsWhole };
+    ghost invariant = { StacksFreeSlots };
 }
 
 impl ShareCounts {

@@ -41,7 +41,7 @@ use Rattle.syncing.specs.declared.chosen.CachedPage.{CachedPage}
 use Rattle.syncing.specs.declared.chosen.Chosen.{Chosen}
 use Rattle.syncing.specs.Choice.{page_at, Lists, TakesSame, IsListed}
 use Rattle.syncing.specs.Core.{KeepsMemory, Acknowledged, Failed, Commits}
-use Rattle.syncing.specs.Settling.{cached_at, frame_at, AreCached, HasFrames, Settles, KeepsEntries}
+use Rattle.syncing.specs.Settling.{cached_at, frame_at, AreCached, HasFrames, Settles, KeepsEntriesButDirty}
 use Rattle.syncing.specs.Shows.{IsSoundCore, Shows}
 
 -- what stands at a place of a list
@@ -246,7 +246,7 @@ module _ (c : Picture) (s : State) (pid first count : ℕ) (pages : List FilePag
 
 -- of all entries only leaves over the pages that were taken lost D
 pub entries_synced : (c new : Picture) (chosen : Chosen) (list : List CachedPage) → IsFit c → IsListed c chosen
-    → HasFrames c (take chosen.count chosen.list) list → Settles c new list → KeepsEntries c new
+    → HasFrames c (take chosen.count chosen.list) list → Settles c new list → KeepsEntriesButDirty c new
 entries_synced c new chosen list fit listed frames settles pid page h = elim (settles.entries pid page h) [
   | inl same ↦ inl same
   | inr lost ↦ (

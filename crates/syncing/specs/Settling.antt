@@ -156,5 +156,5 @@ pub record LosesTouched (old new : Picture) (e e' : ℕ) : Type 0 where
   pub now : new.touched page ≡ false
 
 -- Every entry of every process is the number that it was, but for D of leaves over file pages that were made durable.
-abbrev pub KeepsEntries : Picture → Picture → Type 0
-KeepsEntries old new = (pid page : ℕ) → IsPage top_level page → (entry new pid page ≡ entry old pid page) ⊎ LosesTouched old new (entry old pid page) (entry new pid page)
+abbrev pub KeepsEntriesButDirty : Picture → Picture → Type 0
+KeepsEntriesButDirty old new = (pid page : ℕ) → IsPage top_level page → (entry new pid page ≡ entry old pid page) ⊎ LosesTouched old new (entry old pid page) (entry new pid page)

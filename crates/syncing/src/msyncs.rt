@@ -17,7 +17,7 @@ ghost use Rattle.residency.specs.Calls.{KeepsRoom};
 ghost use Rattle.syncing.specs.Core.{Commits};
 ghost use Rattle.syncing.specs.Shows.{IsSoundCore, Shows};
 ghost use Rattle.syncing.specs.Choice.{IsListed, TakesSame, page_at};
-ghost use Rattle.syncing.specs.Settling.{HasFrames, IsCached, KeepsEntries};
+ghost use Rattle.syncing.specs.Settling.{HasFrames, IsCached, KeepsEntriesButDirty};
 
 use crate::choosing::rule;
 use crate::chosen::{CachedPage, Chosen, Ruling};
@@ -61,7 +61,7 @@ pub fn msync<D: SectorDisk, E>(
     ensures calm { result ≢ Answer.Refused EIO → D.failures core.new.store.disk ≡ D.failures core.old.store.disk }
     ensures no_stall { (stall : Stall) → result ≡ Answer.Stalled stall → ⊥ }
     ensures refused { core.new.refused ≡ core.old.refused }
-    ensures entries { KeepsEntries (picture_of core.old) (picture_of core.new) }
+    ensures entries { KeepsEntriesButDirty (picture_of core.old) (picture_of core.new) }
     ensures unasked { (errno : Errno) → result ≡ Answer.Refused errno → errno ≢ EIO → core.new ≡ core.old }
 {
     match rule(core, pid, addr, len, mode) {
@@ -89,7 +89,7 @@ fn commit<D: SectorDisk, E>(core: &mut Core<D, E>, chosen: &Chosen) -> Answer
     ensures calm { result ≢ Answer.Refused EIO → D.failures core.new.store.disk ≡ D.failures core.old.store.disk }
     ensures no_stall { (stall : Stall) → result ≡ Answer.Stalled stall → ⊥ }
     ensures refused { core.new.refused ≡ core.old.refused }
-    ensures entries { KeepsEntries (picture_of core.old) (picture_of core.new) }
+    ensures entries { KeepsEntriesButDirty (picture_of core.old) (picture_of core.new) }
     ensures answers { (result ≡ Answer.Done) ⊎ (result ≡ Answer.Refused EIO) }
 {
     let list = &chosen.list[..chosen.count];

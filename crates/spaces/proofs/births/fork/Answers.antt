@@ -1,4 +1,7 @@
-use Rattle.std.proofs.Common.{ℕ, subst}
+use Rattle.std.proofs.Common.{ℕ, ◌⊎◌, subst}
+use Rattle.forks.specs.Steps.{HasCopy}
+use Rattle.frames.specs.FrameTable.{IsFull}
+use Rattle.page_entries.specs.Tables.{FallsShort}
 use Rattle.processes.specs.Changes.{AddsProcess}
 use Rattle.residency.specs.Picture.{picture_of, view}
 use Rattle.spaces.proofs.Living.{fork_refused, forks_to, fork_stalls}
@@ -26,3 +29,8 @@ returns-in-Ok-clause-room g c = room_same c.args.core.now c.fork.new.core c.fork
 
 pub returns-in-Err-clause-room : goal.returns-in-Err-clause-room
 returns-in-Err-clause-room g c = room_same c.args.core.now c.fork.new.core c.fork.ensures.cache
+
+pub returns-in-Err-clause-wanted : goal.returns-in-Err-clause-wanted
+returns-in-Err-clause-wanted g c = λ stall e.
+    let old = picture_of c.args.core.now in
+    subst (λ (p : ℕ). IsFull old.frames ⊎ ((r : ℕ) × FallsShort (HasCopy old p) old.frames r)) c.in-Some.ensures.found.0 c.in-Err.ensures.wanted

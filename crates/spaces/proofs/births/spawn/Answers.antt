@@ -1,3 +1,4 @@
+use Rattle.std.proofs.Common.{refl}
 use Rattle.spaces.proofs.Living.{spawn_refused, spawns, spawn_stalls}
 use Rattle.residency.proofs.Room.{room_same}
 use Rattle.spaces.proofs.births.spawn.Goals as goal
@@ -21,3 +22,6 @@ returns-in-Ok-clause-room g c = room_same c.args.core.now c.spawn.new.core c.spa
 
 pub returns-in-Err-clause-room : goal.returns-in-Err-clause-room
 returns-in-Err-clause-room g c = room_same c.args.core.now c.spawn.new.core c.spawn.ensures.cache
+
+pub returns-in-Err-clause-wanted : goal.returns-in-Err-clause-wanted
+returns-in-Err-clause-wanted g c = λ stall e. c.spawn.ensures.none_free.0 (rw c.in-Err.is refl)

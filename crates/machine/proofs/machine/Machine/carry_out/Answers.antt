@@ -14,14 +14,14 @@ pub returns-in-Spawn-clause-meets : goal.returns-in-Spawn-clause-meets
 returns-in-Spawn-clause-meets g c = λ s shows readable.
     rw c.in-Spawn.is (carried g.D.SectorDisk g.E.SectorDisk (λ d i k left. g.met.D.SectorDisk.only_now d i k left) c.args.self.now c.spawn.new.core c.args.self.now.halted c.args.self.now.past s
     Spawn (reply_of c.spawn.result) shows c.if-self.false c.if-self.false refl refl
-    (unread g.D.SectorDisk g.E.SectorDisk c.args.self.now.core c.spawn.new.core c.spawn.ensures.devices) (λ _. c.spawn.ensures.devices) c.spawn.ensures.room tt
+    (unread g.D.SectorDisk g.E.SectorDisk c.args.self.now.core c.spawn.new.core c.spawn.ensures.devices) (λ _. c.spawn.ensures.devices) c.spawn.ensures.room c.spawn.ensures.wanted
     c.spawn.ensures.comes (λ r. readable (ap reads_files c.in-Spawn.is ∙ r)))
 
 pub returns-in-Fork-clause-meets : goal.returns-in-Fork-clause-meets
 returns-in-Fork-clause-meets g c = λ s shows readable.
     rw c.in-Fork.is (carried g.D.SectorDisk g.E.SectorDisk (λ d i k left. g.met.D.SectorDisk.only_now d i k left) c.args.self.now c.fork.new.core c.args.self.now.halted c.args.self.now.past s
     (Fork c.in-Fork.pid) (reply_of c.fork.result) shows c.if-self.false c.if-self.false refl refl
-    (unread g.D.SectorDisk g.E.SectorDisk c.args.self.now.core c.fork.new.core c.fork.ensures.devices) (λ _. c.fork.ensures.devices) c.fork.ensures.room tt
+    (unread g.D.SectorDisk g.E.SectorDisk c.args.self.now.core c.fork.new.core c.fork.ensures.devices) (λ _. c.fork.ensures.devices) c.fork.ensures.room c.fork.ensures.wanted
     c.fork.ensures.comes (λ r. readable (ap reads_files c.in-Fork.is ∙ r)))
 
 pub returns-in-Exit-clause-meets : goal.returns-in-Exit-clause-meets
