@@ -30,6 +30,7 @@ pub fn format<D: SectorDisk, R: Read>(
     ensures later { D.failures disk.old ≤ D.failures disk.new }
     ensures device { IsErrOf result FormatFault.Device → D.failures disk.old < D.failures disk.new }
     ensures calm { OnOk result (D.failures disk.new ≡ D.failures disk.old) }
+    ensures still { OnErr result (IsErrOf result FormatFault.Device ⊎ (D.failures disk.new ≡ D.failures disk.old)) }
 
     ensures too_large { IsErrOf result FormatFault.TooLarge ↔ IsTooLarge (D.sector_count disk.old) sources.old }
     ensures formatted { D.keeps_model disk.new → IsErrOf result FormatFault.Formatted → D.content disk.old 0 ≡ mark }
@@ -72,6 +73,7 @@ fn check_unmarked<D: SectorDisk>(disk: &mut D) -> Result<(), FormatFault>
     ensures marked { D.keeps_model disk.new → IsErrOf result FormatFault.Formatted → D.content disk.old 0 ≡ mark }
     ensures device { IsErrOf result FormatFault.Device → D.failures disk.old < D.failures disk.new }
     ensures calm { OnOk result (D.failures disk.new ≡ D.failures disk.old) }
+    ensures still { OnErr result (IsErrOf result FormatFault.Device ⊎ (D.failures disk.new ≡ D.failures disk.old)) }
     ensures others { OnErr result (IsErrOf result FormatFault.Formatted ⊎ IsErrOf result FormatFault.Device) }
 {
     let mut sector = [0; SECTOR_BYTES];
@@ -93,6 +95,7 @@ fn write_unmarked<D: SectorDisk, R: Read>(
     ensures run { Runs D.SectorDisk (IsFrom 1) disk.old disk.new }
     ensures device { IsErrOf result FormatFault.Device → D.failures disk.old < D.failures disk.new }
     ensures calm { OnOk result (D.failures disk.new ≡ D.failures disk.old) }
+    ensures still { OnErr result (IsErrOf result FormatFault.Device ⊎ (D.failures disk.new ≡ D.failures disk.old)) }
     ensures others { OnErr result (IsErrOf result FormatFault.Source ⊎ IsErrOf result FormatFault.Device) }
     ensures source { IsErrOf result FormatFault.Source → HasReader sources.old }
     ensures whole { OnOk result (AreWhole R.remaining sources.old (length sources.old)) }
@@ -114,6 +117,7 @@ fn write_homes<D: SectorDisk, R: Read>(
     ensures run { Runs D.SectorDisk (IsFrom first_home_sector) disk.old disk.new }
     ensures device { IsErrOf result FormatFault.Device → D.failures disk.old < D.failures disk.new }
     ensures calm { OnOk result (D.failures disk.new ≡ D.failures disk.old) }
+    ensures still { OnErr result (IsErrOf result FormatFault.Device ⊎ (D.failures disk.new ≡ D.failures disk.old)) }
     ensures others { OnErr result (IsErrOf result FormatFault.Source ⊎ IsErrOf result FormatFault.Device) }
     ensures source { IsErrOf result FormatFault.Source → HasReader sources.old }
     ensures whole { OnOk result (AreWhole R.remaining sources.old (length sources.old)) }
@@ -139,6 +143,7 @@ fn write_file<D: SectorDisk, R: Read>(
     ensures run { Runs D.SectorDisk (IsFrom (home_sector first)) disk.old disk.new }
     ensures device { IsErrOf result FormatFault.Device → D.failures disk.old < D.failures disk.new }
     ensures calm { OnOk result (D.failures disk.new ≡ D.failures disk.old) }
+    ensures still { OnErr result (IsErrOf result FormatFault.Device ⊎ (D.failures disk.new ≡ D.failures disk.old)) }
     ensures others { OnErr result (IsErrOf result FormatFault.Source ⊎ IsErrOf result FormatFault.Device) }
     ensures source { IsErrOf result FormatFault.Source → IsSome source.old.bytes × (0 < source.old.length) }
     ensures whole { OnOk result ((told : List ℕ) → reader_tells R.remaining source.old.bytes ≡ Some told → source.old.length ≤ length told) }
