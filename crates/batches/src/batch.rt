@@ -2,14 +2,14 @@
 ghost use Rattle.std.specs.Prelude.{◌≡◌, ◌≤◌, length};
 ghost use Rattle.sync_journal.specs.Layout.{page_limit};
 
-use crate::pages::MAX_PAGES;
 use std::alloc::{AllocError, Global};
+use sync_journal::PAGE_LIMIT;
 use vm_types::FilePage;
 
 /// Room for a batch, and the pages brought so far.
 #[derive(Drop)]
 pub(crate) struct Batch {
-    pages: [FilePage; MAX_PAGES],
+    pages: [FilePage; PAGE_LIMIT],
     bytes: Vec<[u8; 4096]>,
     count: usize,
     /// More pages were brought than a batch may have.
@@ -22,8 +22,8 @@ pub(crate) struct Batch {
 impl Batch {
     pub(crate) fn new(alloc: Global) -> Result<Batch, AllocError> {
         Ok(Batch {
-            pages: [FilePage { file: 0, page: 0 }; MAX_PAGES],
-            bytes: Vec::from_elem(alloc, [0; 4096], MAX_PAGES)?,
+            pages: [FilePage { file: 0, page: 0 }; PAGE_LIMIT],
+            bytes: Vec::from_elem(alloc, [0; 4096], PAGE_LIMIT)?,
             count: 0,
             over: false,
         })
@@ -31,7 +31,7 @@ impl Batch {
 
     /// Adds a page. Past 127 it is only noted that there are too many.
     pub(crate) fn add(&mut self, page: FilePage, bytes: &[u8; 4096]) {
-        if self.count >= MAX_PAGES {
+        if self.count >= PAGE_LIMIT {
             self.over = true;
             return;
         }

@@ -7,10 +7,8 @@ ghost use Rattle.file_store.specs.Store.{files_of};
 
 use disk_model::SectorDisk;
 use file_store::FileStore;
+use sync_journal::PAGE_LIMIT;
 use vm_types::FilePage;
-
-/// The most pages of a batch.
-pub(crate) const MAX_PAGES: usize = 127;
 
 /// Why a store takes no such batch.
 #[derive(Clone, Copy, Debug, PartialEq, Eq)]
@@ -56,7 +54,7 @@ fn are_pages<D: SectorDisk>(store: &FileStore<D>, pages: &[FilePage]) -> bool
     ensures good { IsTrue result → ArePages (files_of store.now) pages.now }
     ensures bad { IsFalse result → ArePages (files_of store.now) pages.now → ⊥ }
 {
-    if pages.is_empty() || pages.len() > MAX_PAGES {
+    if pages.is_empty() || pages.len() > PAGE_LIMIT {
         return false;
     }
     for i in 0..pages.len() {

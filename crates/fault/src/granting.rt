@@ -83,7 +83,7 @@ fn grant_read<D: SectorDisk, E>(
 {
     let entry = entry_at(core, pid, page);
     if entry.to_u64() != 0 {
-        return enter_again(core, pid, page, attr, FrameNo(entry.frame() as u32));
+        return enter_again(core, pid, page, attr, entry.frame_number());
     }
     match attr.backing {
         Backing::Anon => enter_zeros(core, pid, page, attr),

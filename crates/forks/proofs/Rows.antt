@@ -11,7 +11,7 @@ use Rattle.page_tables.proofs.Ways.{ends}
 use Rattle.residency.specs.Picture.{Picture}
 use Rattle.residency.specs.Parts.{IsRootedBut, IsFit}
 use Rattle.residency.proofs.Used.{fit_steady}
-use Rattle.page_entries.specs.Changes.{IsReady}
+use Rattle.page_entries.specs.Changes.{HasWay}
 use Rattle.forks.specs.Steps.{IsTableFor}
 
 -- a row keeps its table where no pointer to a table goes
@@ -53,7 +53,7 @@ one_root : (o : Option ℕ) (r : ℕ) → o ≡ Some r → o ≢ None
 one_root o r is none = let bad : None ≡ Some r = sym none ∙ is in (cc)
 
 -- a page of a row that has its table can be set
-pub ready_in : (c : Picture) (pid page r n : ℕ) → IsFit c → c.root pid ≡ Some r → IsTableFor c pid (page / 512) n → IsReady c pid page
+pub ready_in : (c : Picture) (pid page r n : ℕ) → IsFit c → c.root pid ≡ Some r → IsTableFor c pid (page / 512) n → HasWay c pid page
 ready_in c pid page r n fit root place = record {
   steady = fit_steady c fit;
   lives = one_root (c.root pid) r root;

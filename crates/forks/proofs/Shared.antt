@@ -30,7 +30,7 @@ use Rattle.residency.proofs.Start.{no_bit}
 use Rattle.residency.proofs.TableSteps.{behind_kept, sets_page, rooted_set}
 use Rattle.residency.proofs.Used.{steady_fit, view-none}
 use Rattle.residency.proofs.Views.{view-common, views_same, views_set, sole_page}
-use Rattle.page_entries.specs.Changes.{IsReady, KeepsEntries, KeepsViews, KeepsSpaces}
+use Rattle.page_entries.specs.Changes.{HasWay, KeepsEntries, KeepsViews, KeepsSpaces}
 use Rattle.page_entries.specs.Tables.{KeepsTables}
 use Rattle.processes.proofs.Keeping.{files_then}
 use Rattle.forks.specs.Steps.{without_write, lowered_entry, given_entry, IsTableFor, LowersPage, Withdraws, GivesPage}
@@ -184,7 +184,7 @@ own_noted c pid page e steady h is own =
     subst P is (steady.counted.noted pid page h (ap is_private is ∙ own))
 
 -- One more shares the frame of a page of the parent's own, and the child's entry of the page is the parent's.
-module _ (old mid new : Picture) (parent child r page e : ℕ) (ready : IsReady old child page) (h : IsPage 2 page) (source : entry old parent page ≡ e) (own : is_private e ≡ true)
+module _ (old mid new : Picture) (parent child r page e : ℕ) (ready : HasWay old child page) (h : IsPage 2 page) (source : entry old parent page ≡ e) (own : is_private e ≡ true)
     (unwritten : is_valid e ≡ true → can_write e ≡ false) (bare : entry old child page ≡ 0) (alike : old.at child page ≡ old.at parent page)
     (root : old.root child ≡ Some r) (shares : Shares old.frames mid.frames (frame_of e)) (beside : SameBeside old mid)
     (sets : SetsEntry mid.frames new.frames 2 r page e) (beside' : SameBeside mid new) where
@@ -299,7 +299,7 @@ pub record IsGiven (old new : Picture) (parent child page : ℕ) : Type 0 where
 
 -- The parent's leaf was made one without W, the child's tables were made, the frame was shared, and the child's entry was set.
 pub page_given : (old lowered linked : Picture) (t t' : FrameTable) (parent child r page e n : ℕ) → Withdraws old lowered parent page e → KeepsSpaces old lowered → KeepsFiles old lowered
-    → IsReady linked child page → KeepsEntries lowered linked → KeepsViews lowered linked → KeepsSpaces lowered linked → KeepsFiles lowered linked
+    → HasWay linked child page → KeepsEntries lowered linked → KeepsViews lowered linked → KeepsSpaces lowered linked → KeepsFiles lowered linked
     → IsPage 2 page → parent ≢ child → is_private (entry old parent page) ≡ true → old.at child page ≡ old.at parent page → entry old child page ≡ 0 → linked.root child ≡ Some r → n ≡ frame_of e
     → Shares linked.frames t n → SetsEntry t t' 2 r page e → IsGiven old (record linked { frames = t' }) parent child page
 page_given old lowered linked t t' parent child r page e n withdraws spaces files ready entries views spaces' files' h apart was_own alike bare root is_frame shares sets =

@@ -6,7 +6,7 @@ ghost use Rattle.residency.specs.Picture.{picture_of, entry, is_live, view};
 ghost use Rattle.residency.specs.Parts.{IsFit};
 ghost use Rattle.residency.specs.Calls.{KeepsRest, Stalls};
 ghost use Rattle.residency.specs.Shows.{KeepsFiles};
-ghost use Rattle.page_entries.specs.Changes.{IsReady, KeepsEntries, KeepsSpaces, KeepsViews};
+ghost use Rattle.page_entries.specs.Changes.{HasWay, KeepsEntries, KeepsSpaces, KeepsViews};
 ghost use Rattle.page_entries.specs.Tables.{AddsTables, KeepsTables, FallsShort};
 ghost use Rattle.page_entries.specs.Wants.{IsWhole};
 ghost use Rattle.processes.specs.Changes.{TakesNoCopy};
@@ -186,7 +186,7 @@ fn child_table<D, E>(
     requires fit { IsFit (picture_of core.old) }
     requires child { is_live (picture_of core.old) child ≡ true }
     requires known { IfSome known (λ n. IsTableFor (picture_of core.old) child (page / 512) n.0) }
-    ensures ready { OnOk result (IsReady (picture_of core.new) child page) }
+    ensures ready { OnOk result (HasWay (picture_of core.new) child page) }
     ensures found { IfOk result (λ n. IsTableFor (picture_of core.new) child (page / 512) n.0) }
     ensures places { OnOk result ((q row n : ℕ) → IsTableFor (picture_of core.old) q row n → IsTableFor (picture_of core.new) q row n) }
     ensures fit { OnErr result (IsFit (picture_of core.new)) }

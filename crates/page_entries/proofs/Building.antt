@@ -21,7 +21,7 @@ use Rattle.residency.proofs.Used.{steady_used, steady_fit, fit_steady}
 use Rattle.residency.proofs.Views.{views_same}
 use Rattle.page_entries.specs.Tables.{KeepsTables}
 use Rattle.page_entries.proofs.Tables.{tables_same, adds_none, adds_then, adds_linked}
-use Rattle.page_entries.specs.Changes.{IsReady, KeepsDataFrames, KeepsSpaces, KeepsViews, KeepsEntries, IsUnderWay, Builds}
+use Rattle.page_entries.specs.Changes.{HasWay, KeepsDataFrames, KeepsSpaces, KeepsViews, KeepsEntries, IsUnderWay, Builds}
 
 -- what a call leaves that changes frames and the count of refused requests alone
 pub beside_rest : {D E : Type 0} (old new : Core D E) → KeepsRest old new → SameBeside (picture_of old) (picture_of new)
@@ -205,7 +205,7 @@ files_kept old new steady beside kept = record {
 }
 
 -- all tables on the way are there
-pub built_ready : (old new : Picture) (root page pid : ℕ) → old.root pid ≡ Some root → Builds old new root page → missing_of new.frames 2 root page ≡ 0 → IsReady new pid page
+pub built_ready : (old new : Picture) (root page pid : ℕ) → old.root pid ≡ Some root → Builds old new root page → missing_of new.frames 2 root page ≡ 0 → HasWay new pid page
 built_ready old new root page pid lives built whole =
     let now : new.root pid ≡ Some root = built.beside.root pid ∙ lives in
     let same : (r : ℕ) → new.root pid ≡ Some r → root ≡ r = λ r e. (let both : Some root ≡ Some r = sym now ∙ e in (cc)) in
@@ -242,5 +242,5 @@ fit_under_way c root page pid lives fit = record {
 }
 
 -- for callers: a page whose tables are all there
-pub fit_ready : (c : Picture) (root page pid : ℕ) → c.root pid ≡ Some root → IsFit c → missing_of c.frames 2 root page ≡ 0 → IsReady c pid page
+pub fit_ready : (c : Picture) (root page pid : ℕ) → c.root pid ≡ Some root → IsFit c → missing_of c.frames 2 root page ≡ 0 → HasWay c pid page
 fit_ready c root page pid lives fit whole = built_ready c c root page pid lives (builds_none c root page (fit_under_way c root page pid lives fit)) whole

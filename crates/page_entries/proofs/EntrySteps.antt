@@ -31,7 +31,7 @@ use Rattle.page_entries.specs.Leaves.{IsFullEntry}
 use Rattle.page_entries.proofs.Bits.{over_some}
 use Rattle.page_entries.proofs.Building.{files_kept}
 use Rattle.page_entries.proofs.Forms.{full_entry, full_dirty_sound, mapped_page}
-use Rattle.page_entries.specs.Changes.{IsReady, KeepsDataFrames, KeepsViews, KeepsOtherEntries, MarksTouched}
+use Rattle.page_entries.specs.Changes.{HasWay, KeepsDataFrames, KeepsViews, KeepsOtherEntries, MarksTouched}
 use Rattle.page_entries.specs.Wants.{IsCalm}
 
 own_same : (t t' : FrameTable) (e e' : ℕ) → SameOwner e e' → (is_private e ≡ true → bytes_of t' (frame_of e) ≡ bytes_of t (frame_of e)) → own_in t' e' ≡ own_in t e
@@ -64,7 +64,7 @@ data_set old new r page number sets = record {
   cache_bytes = λ n e. sets.kept.bytes n (not_table (role_of old n) Cache e (λ f. (cc)));
 }
 
-module _ (old new : Picture) (pid page r number : ℕ) (ready : IsReady old pid page) (lives : old.root pid ≡ Some r) (h : IsPage 2 page)
+module _ (old new : Picture) (pid page r number : ℕ) (ready : HasWay old pid page) (lives : old.root pid ≡ Some r) (h : IsPage 2 page)
     (sets : SetsEntry old.frames new.frames 2 r page number) (beside : SameBeside old new) where
   pub page_set : SetsPage old new pid page number
   page_set = sets_page old new 0 pid r page number ready.steady.rooted lives h sets beside
@@ -100,7 +100,7 @@ module _ (old new : Picture) (pid page r number : ℕ) (ready : IsReady old pid 
     ]
 
 -- The fullest entry was set over the frame in which the page lies as before: the process's own, or that behind the page.
-module _ (old new : Picture) (pid page r : ℕ) (a : Attr) (frame : ℕ) (private : Bool) (ready : IsReady old pid page) (lives : old.root pid ≡ Some r)
+module _ (old new : Picture) (pid page r : ℕ) (a : Attr) (frame : ℕ) (private : Bool) (ready : HasWay old pid page) (lives : old.root pid ≡ Some r)
     (at : old.at pid page ≡ Some a) (sets : (number : ℕ) × IsFullEntry old a frame private number × SetsEntry old.frames new.frames 2 r page number) (beside : SameBeside old new) where
   here : IsPage 2 page
   here = mapped_page old pid page a ready.steady.granting at
@@ -143,7 +143,7 @@ module _ (old mid : Picture) (fp : FilePage) (frame : ℕ) (frames : mid.frames 
   steady_marked steady =
       steady_touched old mid 0 0 0 fp steady frames (λ home. let bad : Home ≡ Frame (record { 0 = frame }) = sym home ∙ there in (cc)) touched others place root at page_of files
 
-  pub ready_marked : (pid page : ℕ) → IsReady old pid page → IsReady mid pid page
+  pub ready_marked : (pid page : ℕ) → HasWay old pid page → HasWay mid pid page
   ready_marked pid page ready = record {
     steady = steady_marked ready.steady;
     lives = λ none. ready.lives (sym (root pid) ∙ none);

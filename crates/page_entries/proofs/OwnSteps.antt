@@ -29,7 +29,7 @@ use Rattle.residency.proofs.TableSteps.{sets_page, rooted_set, behind_kept, shar
 use Rattle.residency.proofs.Used.{steady_used, steady_fit, view-same, view-none, unmapped_past}
 use Rattle.residency.proofs.Views.{view-own}
 use Rattle.page_entries.specs.Leaves.{IsEntryOver, IsFullEntry}
-use Rattle.page_entries.specs.Changes.{IsReady, KeepsSpaces, KeepsOtherViews, KeepsOtherEntries, TakesCopy, frame_of_place, frame_behind, shown_frame}
+use Rattle.page_entries.specs.Changes.{HasWay, KeepsSpaces, KeepsOtherViews, KeepsOtherEntries, TakesCopy, frame_of_place, frame_behind, shown_frame}
 use Rattle.page_entries.specs.Wants.{is_sole}
 use Rattle.page_entries.proofs.Bits.{over_some}
 use Rattle.page_entries.proofs.Building.{tight_but_same, entries_used, tight_but_used, beside_then}
@@ -137,7 +137,7 @@ past_end-same f g Backing.Anon same = refl
 past_end-same f g (Backing.Private p) same = ap (λ i. is_past_end_of i p.page) (same p.file)
 past_end-same f g (Backing.Shared p) same = ap (λ i. is_past_end_of i p.page) (same p.file)
 
-module _ (old mid new : Picture) (pid page r n m : ℕ) (a : Attr) (ready : IsReady old pid page) (lives : old.root pid ≡ Some r) (at : old.at pid page ≡ Some a)
+module _ (old mid new : Picture) (pid page r n m : ℕ) (a : Attr) (ready : HasWay old pid page) (lives : old.root pid ≡ Some r) (at : old.at pid page ≡ Some a)
     (copy : TakesCopy old mid n page m) (sets : (number : ℕ) × IsFullEntry mid a n true number × SetsEntry mid.frames new.frames 2 r page number)
     (beside : SameBeside mid new) (alone : is_shared a.backing ≡ false) (inside : is_past_end old.files a.backing ≡ false) where
   here : IsPage 2 page
@@ -232,7 +232,7 @@ full_own c a n e one writable full =
     subst Q both (subst P both full)
 
 -- what the page and all others are then
-module _ (old mid new : Picture) (pid page n m number : ℕ) (a : Attr) (ready : IsReady old pid page) (at : old.at pid page ≡ Some a)
+module _ (old mid new : Picture) (pid page n m number : ℕ) (a : Attr) (ready : HasWay old pid page) (at : old.at pid page ≡ Some a)
     (copy : TakesCopy old mid n page m) (settles : Settles mid new pid page number) where
   pub settled_others : KeepsOtherEntries old new pid page
   settled_others q p h other = settles.others q p h other ∙ copy.entries q p

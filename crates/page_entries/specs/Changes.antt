@@ -19,7 +19,7 @@ use Rattle.page_entries.specs.Tables.{AddsTables}
 
 -- Within a call on one page of a live process: no table is missing on the way to it, and of the tables below roots those
 -- on that way alone may be without entries.
-pub record IsReady (c : Picture) (pid page : ℕ) : Type 0 where
+pub record HasWay (c : Picture) (pid page : ℕ) : Type 0 where
   pub steady : IsSteady c
   pub lives : c.root pid ≢ None
   pub whole : (r : ℕ) → c.root pid ≡ Some r → missing_of c.frames top_level r page ≡ 0

@@ -8,7 +8,7 @@ ghost use Rattle.residency.specs.Picture.{picture_of};
 ghost use Rattle.residency.specs.Parts.{IsFit};
 ghost use Rattle.residency.specs.Calls.{Stalls, KeepsRest};
 ghost use Rattle.residency.specs.Shows.{KeepsFiles};
-ghost use Rattle.page_entries.specs.Changes.{IsReady, KeepsDataFrames, KeepsSpaces, KeepsViews, KeepsEntries, IsUnderWay, Builds};
+ghost use Rattle.page_entries.specs.Changes.{HasWay, KeepsDataFrames, KeepsSpaces, KeepsViews, KeepsEntries, IsUnderWay, Builds};
 ghost use Rattle.page_entries.specs.Tables.{AddsTables, KeepsTables, FallsShort};
 ghost use Rattle.page_entries.specs.Wants.{IsWhole};
 
@@ -36,7 +36,7 @@ pub fn root_of<D, E>(core: &Core<D, E>, pid: Pid) -> FrameNo
 pub fn link_tables<D, E>(core: &mut Core<D, E>, pid: Pid, page: Vpn) -> Result<(), Stall>
     requires fit { IsFit (picture_of core.old) }
     requires live { (picture_of core.old).root pid ≢ None }
-    ensures ready { OnOk result (IsReady (picture_of core.new) pid page) }
+    ensures ready { OnOk result (HasWay (picture_of core.new) pid page) }
     ensures fit { OnErr result (IsFit (picture_of core.new)) }
     ensures entries { KeepsEntries (picture_of core.old) (picture_of core.new) }
     ensures views { KeepsViews (picture_of core.old) (picture_of core.new) }

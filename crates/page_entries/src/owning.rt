@@ -11,7 +11,7 @@ ghost use Rattle.residency.specs.Parts.{IsFit, IsSteady, is_shared, IsBehind};
 ghost use Rattle.residency.specs.Calls.{Stalls, KeepsAround, KeepsUsed};
 ghost use Rattle.residency.specs.Shows.{KeepsFiles, KeepsDevices};
 ghost use Rattle.page_entries.specs.Leaves.{IsEntryOver};
-ghost use Rattle.page_entries.specs.Changes.{IsReady, KeepsSpaces, KeepsOtherViews, KeepsOtherEntries, shown_frame, shown_bytes, TakesCopy};
+ghost use Rattle.page_entries.specs.Changes.{HasWay, KeepsSpaces, KeepsOtherViews, KeepsOtherEntries, shown_frame, shown_bytes, TakesCopy};
 ghost use Rattle.page_entries.specs.Wants.{is_sole, IsCalm};
 
 use crate::linking::root_of;
@@ -36,7 +36,7 @@ pub fn own_frame<D, E>(
     page: Vpn,
     attr: Attr,
 ) -> Result<FrameNo, Stall>
-    requires ready { IsReady (picture_of core.old) pid page }
+    requires ready { HasWay (picture_of core.old) pid page }
     requires attr { (picture_of core.old).at pid page ≡ Some attr }
     requires writable { can_write attr.prot ≡ true }
     requires not_shared { is_shared attr.backing ≡ false }
@@ -94,7 +94,7 @@ fn shown_frame<D, E>(core: &Core<D, E>, entry: Pte, backing: Backing) -> FrameNo
     ensures { result.0 ≡ shown_frame (picture_of core.now) entry.0 backing }
 {
     if entry.is_private() {
-        return FrameNo(entry.frame() as u32);
+        return entry.frame_number();
     }
     match backing {
         Backing::Anon => ZERO_PAGE,

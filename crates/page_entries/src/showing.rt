@@ -14,7 +14,7 @@ ghost use Rattle.residency.specs.Parts.{IsFit, is_shared, IsBehind};
 ghost use Rattle.residency.specs.Calls.{KeepsRest, KeepsRoom};
 ghost use Rattle.residency.specs.Shows.{KeepsFiles, KeepsDevices};
 ghost use Rattle.page_entries.specs.Leaves.{IsEntryOver, IsFullEntry, full_write, full_dirty, is_touched_behind};
-ghost use Rattle.page_entries.specs.Changes.{IsReady, KeepsDataFrames, KeepsSpaces, KeepsViews, KeepsOtherEntries, MarksTouched};
+ghost use Rattle.page_entries.specs.Changes.{HasWay, KeepsDataFrames, KeepsSpaces, KeepsViews, KeepsOtherEntries, MarksTouched};
 ghost use Rattle.page_entries.specs.Wants.{IsCalm};
 
 use crate::leaves::{Grant, entry_over};
@@ -29,7 +29,7 @@ pub const ZERO_PAGE: FrameNo = FrameNo(0);
 /// Shows the zero page at an anonymous page that has no entry. Its leaf is without W and D (RISC-V Privileged Specification,
 /// "Sv39 page table entry"): each store asks for a frame first.
 pub fn show_zero<D, E>(core: &mut Core<D, E>, pid: Pid, page: Vpn, attr: Attr)
-    requires ready { IsReady (picture_of core.old) pid page }
+    requires ready { HasWay (picture_of core.old) pid page }
     requires attr { (picture_of core.old).at pid page ≡ Some attr }
     requires anonymous { attr.backing ≡ Anon }
     requires none { entry (picture_of core.old) pid page ≡ 0 }
@@ -52,7 +52,7 @@ pub fn show_zero<D, E>(core: &mut Core<D, E>, pid: Pid, page: Vpn, attr: Attr)
 /// touched file page alone, so that the first one to any other is noticed: it finds D clear (RISC-V Privileged
 /// Specification, "Sv39 page table entry", the scheme of Svade).
 pub fn show_cached<D, E>(core: &mut Core<D, E>, pid: Pid, page: Vpn, attr: Attr, frame: FrameNo)
-    requires ready { IsReady (picture_of core.old) pid page }
+    requires ready { HasWay (picture_of core.old) pid page }
     requires attr { (picture_of core.old).at pid page ≡ Some attr }
     requires behind { IsBehind (picture_of core.old) attr.backing frame.0 }
     requires inside { is_past_end (picture_of core.old).files attr.backing ≡ false }
@@ -76,7 +76,7 @@ pub fn show_cached<D, E>(core: &mut Core<D, E>, pid: Pid, page: Vpn, attr: Attr,
 /// allow: W over a frame that nobody else has and over that of a shared page, D there where the file page is touched
 /// (RISC-V Privileged Specification, "Sv39 page table entry").
 pub fn regrant<D, E>(core: &mut Core<D, E>, pid: Pid, page: Vpn, attr: Attr)
-    requires ready { IsReady (picture_of core.old) pid page }
+    requires ready { HasWay (picture_of core.old) pid page }
     requires attr { (picture_of core.old).at pid page ≡ Some attr }
     requires resident { entry (picture_of core.old) pid page ≢ 0 }
     ensures fit { IsFit (picture_of core.new) }
@@ -98,7 +98,7 @@ pub fn regrant<D, E>(core: &mut Core<D, E>, pid: Pid, page: Vpn, attr: Attr)
         root,
         page,
         attr,
-        FrameNo(entry.frame() as u32),
+        entry.frame_number(),
         entry.is_private(),
     );
 }
@@ -113,7 +113,7 @@ pub fn touch<D, E>(
     file_page: FilePage,
     frame: FrameNo,
 )
-    requires ready { IsReady (picture_of core.old) pid page }
+    requires ready { HasWay (picture_of core.old) pid page }
     requires attr { (picture_of core.old).at pid page ≡ Some attr }
     requires shared { attr.backing ≡ Shared file_page }
     requires writable { can_write attr.prot ≡ true }

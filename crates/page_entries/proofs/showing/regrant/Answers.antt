@@ -19,16 +19,16 @@ set_full-requires-clause-root g c = c.requires.ready.steady.rooted.roots c.args.
 pub set_full-requires-clause-inside : goal.set_full-requires-clause-inside
 set_full-requires-clause-inside g c =
     let old : Picture = picture_of c.args.core.now in
-    let is = c.frame.ensures.frame ∙ ap frame_of (c.entry_number-entry.ensures ∙ sym (entry-of old c.args.pid c.root_of-root.result.0 c.args.page c.root_of-root.ensures)) in
+    let is = c.frame_number.ensures ∙ ap frame_of (c.entry_number-entry.ensures ∙ sym (entry-of old c.args.pid c.root_of-root.result.0 c.args.page c.root_of-root.ensures)) in
     let P : ℕ → Type 0 = λ x. IsFrame old.frames x in
     subst P (sym is) (used_inside old.frames (frame_of (entry old c.args.pid c.args.page)) c.args.core.now.sound
     (resident_used old c.args.pid c.args.page c.args.attr c.args.core.now.sound c.requires.ready.steady (mapped_page old c.args.pid c.args.page c.args.attr c.requires.ready.steady.granting c.requires.attr)
     c.requires.attr c.requires.resident))
 
-pub overflow_cast-frame : goal.overflow_cast-frame
-overflow_cast-frame g c =
+pub frame_number-requires : goal.frame_number-requires
+frame_number-requires g c =
     let old : Picture = picture_of c.args.core.now in
-    let is = c.frame.ensures.frame ∙ ap frame_of (c.entry_number-entry.ensures ∙ sym (entry-of old c.args.pid c.root_of-root.result.0 c.args.page c.root_of-root.ensures)) in
+    let is = ap frame_of (c.entry_number-entry.ensures ∙ sym (entry-of old c.args.pid c.root_of-root.result.0 c.args.page c.root_of-root.ensures)) in
     let low = used_inside old.frames (frame_of (entry old c.args.pid c.args.page)) c.args.core.now.sound
     (resident_used old c.args.pid c.args.page c.args.attr c.args.core.now.sound c.requires.ready.steady (mapped_page old c.args.pid c.args.page c.args.attr c.requires.ready.steady.granting c.requires.attr)
     c.requires.attr c.requires.resident) in
@@ -40,26 +40,26 @@ returns-clause-entry g c =
     let old : Picture = picture_of c.args.core.now in
     let new : Picture = picture_of c.set_full.new.core in
     let e = c.entry_number-entry.ensures ∙ sym (entry-of old c.args.pid c.root_of-root.result.0 c.args.page c.root_of-root.ensures) in
-    let full = full_entry_now old new c.args.pid c.args.page c.root_of-root.result.0 c.args.attr c.frame.result c.is_private.result c.requires.ready c.root_of-root.ensures c.requires.attr
+    let full = full_entry_now old new c.args.pid c.args.page c.root_of-root.result.0 c.args.attr c.frame_number.result.0 c.is_private.result c.requires.ready c.root_of-root.ensures c.requires.attr
     c.set_full.ensures.sets (beside_rest c.args.core.now c.set_full.new.core c.set_full.ensures.rest) in
     let now = entry new c.args.pid c.args.page in
     let P : ℕ → Type 0 = λ x. IsFullEntry old c.args.attr x c.is_private.result now in
     let Q : Bool → Type 0 = λ x. IsFullEntry old c.args.attr (frame_of (entry old c.args.pid c.args.page)) x now in
-    subst Q (c.is_private.ensures ∙ ap is_private e) (subst P (c.frame.ensures.frame ∙ ap frame_of e) full)
+    subst Q (c.is_private.ensures ∙ ap is_private e) (subst P (c.frame_number.ensures ∙ ap frame_of e) full)
 
 pub returns-clause-others : goal.returns-clause-others
 returns-clause-others g c =
-    full_others (picture_of c.args.core.now) (picture_of c.set_full.new.core) c.args.pid c.args.page c.root_of-root.result.0 c.args.attr c.frame.result c.is_private.result c.requires.ready
+    full_others (picture_of c.args.core.now) (picture_of c.set_full.new.core) c.args.pid c.args.page c.root_of-root.result.0 c.args.attr c.frame_number.result.0 c.is_private.result c.requires.ready
     c.root_of-root.ensures c.requires.attr c.set_full.ensures.sets (beside_rest c.args.core.now c.set_full.new.core c.set_full.ensures.rest)
 
 pub returns-clause-files : goal.returns-clause-files
 returns-clause-files g c =
-    full_files (picture_of c.args.core.now) (picture_of c.set_full.new.core) c.args.pid c.args.page c.root_of-root.result.0 c.args.attr c.frame.result c.is_private.result c.requires.ready
+    full_files (picture_of c.args.core.now) (picture_of c.set_full.new.core) c.args.pid c.args.page c.root_of-root.result.0 c.args.attr c.frame_number.result.0 c.is_private.result c.requires.ready
     c.root_of-root.ensures c.requires.attr c.set_full.ensures.sets (beside_rest c.args.core.now c.set_full.new.core c.set_full.ensures.rest)
 
 pub returns-clause-kept : goal.returns-clause-kept
 returns-clause-kept g c =
-    full_kept (picture_of c.args.core.now) (picture_of c.set_full.new.core) c.args.pid c.args.page c.root_of-root.result.0 c.args.attr c.frame.result c.is_private.result c.requires.ready
+    full_kept (picture_of c.args.core.now) (picture_of c.set_full.new.core) c.args.pid c.args.page c.root_of-root.result.0 c.args.attr c.frame_number.result.0 c.is_private.result c.requires.ready
     c.root_of-root.ensures c.requires.attr c.set_full.ensures.sets (beside_rest c.args.core.now c.set_full.new.core c.set_full.ensures.rest)
 
 pub returns-clause-views : goal.returns-clause-views
@@ -67,10 +67,10 @@ returns-clause-views g c =
     let old : Picture = picture_of c.args.core.now in
     let e = c.entry_number-entry.ensures ∙ sym (entry-of old c.args.pid c.root_of-root.result.0 c.args.page c.root_of-root.ensures) in
     let own = c.is_private.ensures ∙ ap is_private e in
-    let is = c.frame.ensures.frame ∙ ap frame_of e in
+    let is = c.frame_number.ensures ∙ ap frame_of e in
     let resident = resident_page old c.args.pid c.args.page c.args.attr c.requires.ready.steady.granting
     (mapped_page old c.args.pid c.args.page c.args.attr c.requires.ready.steady.granting c.requires.attr) c.requires.attr c.requires.resident in
-    full_views (picture_of c.args.core.now) (picture_of c.set_full.new.core) c.args.pid c.args.page c.root_of-root.result.0 c.args.attr c.frame.result c.is_private.result c.requires.ready
+    full_views (picture_of c.args.core.now) (picture_of c.set_full.new.core) c.args.pid c.args.page c.root_of-root.result.0 c.args.attr c.frame_number.result.0 c.is_private.result c.requires.ready
     c.root_of-root.ensures c.requires.attr c.set_full.ensures.sets (beside_rest c.args.core.now c.set_full.new.core c.set_full.ensures.rest)
     own (λ _. is)
 
@@ -79,10 +79,10 @@ returns-clause-fit g c =
     let old : Picture = picture_of c.args.core.now in
     let e = c.entry_number-entry.ensures ∙ sym (entry-of old c.args.pid c.root_of-root.result.0 c.args.page c.root_of-root.ensures) in
     let own = c.is_private.ensures ∙ ap is_private e in
-    let is = c.frame.ensures.frame ∙ ap frame_of e in
+    let is = c.frame_number.ensures ∙ ap frame_of e in
     let resident = resident_page old c.args.pid c.args.page c.args.attr c.requires.ready.steady.granting
     (mapped_page old c.args.pid c.args.page c.args.attr c.requires.ready.steady.granting c.requires.attr) c.requires.attr c.requires.resident in
-    full_fit (picture_of c.args.core.now) (picture_of c.set_full.new.core) c.args.pid c.args.page c.root_of-root.result.0 c.args.attr c.frame.result c.is_private.result c.requires.ready
+    full_fit (picture_of c.args.core.now) (picture_of c.set_full.new.core) c.args.pid c.args.page c.root_of-root.result.0 c.args.attr c.frame_number.result.0 c.is_private.result c.requires.ready
     c.root_of-root.ensures c.requires.attr c.set_full.ensures.sets (beside_rest c.args.core.now c.set_full.new.core c.set_full.ensures.rest)
     own (λ _. is) (λ p. resident.private (sym own ∙ p))
     (λ common. let P : ℕ → Type 0 = λ x. IsBehind old c.args.attr.backing x in subst P (sym is) (resident.behind (sym own ∙ common))) resident.inside
