@@ -1,0 +1,73 @@
+use Rattle.std.proofs.Common.{◌≡◌, ◌<◌, ◌≤◌, ◌^◌, ℕ, inl, inr, sym, refl, ◌∙◌, subst, arith}
+use Rattle.std.proofs.lemmas.Bool.{cases_lt, false≢true}
+use Rattle.paging.specs.Picture.{picture_of}
+use Rattle.paging.proofs.Shown.{keeps_then}
+use Rattle.mapping.proofs.Steps.{moves_none, moves_then, bare_then}
+use Rattle.page_ranges.proofs.Emptied.{low_zero}
+use Rattle.copy_on_write.specs.Steps.{HasTables, HasTablesFrom, LacksTable}
+use Rattle.copy_on_write.proofs.Linked.{on_err, below_then, lacks_before, all_below, none_wanted}
+use Rattle.copy_on_write.proofs.linking.link_copies.Goals as goal
+
+pub loop-page-init : goal.loop-page-init
+loop-page-init g c =
+    let old = picture_of c.args.core.now in
+    record {
+      from = omega arith;
+      moves = moves_none g.E.SectorDisk c.args.core.now c.requires.fit c.requires.swap;
+      pages = record { root = λ q. refl; at = λ q k. refl; views = λ q k. refl; files = record { held = λ p. inl refl; touched = λ p. refl; files = λ f. refl } };
+      bare = λ q k h none. none;
+      linked = λ page low copy. none_wanted old c.args.parent c.args.child 0 16 (λ p from below. low_zero old c.args.parent p c.requires.fit.granting below) page (omega arith) low copy;
+      idle = λ has. refl;
+      no_copy = λ n is. is;
+      not_refused = refl;
+    }
+
+pub loop-page-preserved : goal.loop-page-preserved
+loop-page-preserved g c =
+    let first = c.args.core.now in
+    let mid = c.loop-page.core in
+    let last = c.link_next.new.core in
+    let k = c.loop-page.invariant in
+    let step = c.in_ok-number.ensures in
+    let at : c.in-Some.page ≡ c.loop-page.number = c.in-Some.ensures.found in
+    let F : ℕ → Type 0 = λ x. x < c.in_ok-number.number in
+    let H : ℕ → Type 0 = λ x. HasTablesFrom (picture_of last) c.args.parent c.args.child x c.in_ok-number.number in
+    let later = subst F at step.further in
+    let from = k.from in
+    record {
+      from = omega (arith, later, from);
+      moves = moves_then g.E.SectorDisk first mid last k.moves step.moves;
+      pages = keeps_then (picture_of first) (picture_of mid) (picture_of last) k.pages step.pages;
+      bare = bare_then (picture_of first) (picture_of mid) (picture_of last) k.bare step.bare;
+      linked = below_then (picture_of mid) (picture_of last) c.args.parent c.args.child c.loop-page.number c.in_ok-number.number step.moves.fit.granting step.pages step.moves.tables
+          k.linked (subst H at step.linked);
+      idle = λ has. (
+          let same = k.idle has in
+          let P : _ → Type 0 = λ x. HasTables (picture_of x) c.args.parent c.args.child in
+          step.idle (subst P (sym same) has) ∙ same);
+      no_copy = λ n is. k.no_copy n (step.no_copy n is);
+      not_refused = step.not_refused ∙ k.not_refused;
+    }
+
+pub returns-in_err-number-clause-moves : goal.returns-in_err-number-clause-moves
+returns-in_err-number-clause-moves g c =
+    moves_then g.E.SectorDisk c.args.core.now c.loop-page.core c.link_next.new.core c.loop-page.invariant.moves c.in_err-number.ensures.moves
+
+pub returns-in_err-number-clause-pages : goal.returns-in_err-number-clause-pages
+returns-in_err-number-clause-pages g c =
+    keeps_then (picture_of c.args.core.now) (picture_of c.loop-page.core) (picture_of c.link_next.new.core) c.loop-page.invariant.pages c.in_err-number.ensures.pages
+
+pub returns-in_err-number-clause-wanted : goal.returns-in_err-number-clause-wanted
+returns-in_err-number-clause-wanted g c =
+    let k = c.loop-page.invariant in
+    on_err c.from_residual.result (LacksTable (picture_of c.args.core.now) c.args.parent c.args.child)
+    (lacks_before (picture_of c.args.core.now) (picture_of c.loop-page.core) c.args.parent c.args.child k.moves.fit.granting k.pages k.moves.tables c.in_err-number.ensures.wanted)
+
+pub returns-clause-linked : goal.returns-clause-linked
+returns-clause-linked g c =
+    let k = c.loop-page.invariant in
+    let past : 2 ^ 26 ≤ c.loop-page.number = elim (cases_lt c.loop-page.number (2 ^ 26)) [
+      | inl below ↦ absurd (false≢true (c.in_default.ensures.known.1 (k.from, below)))
+      | inr past ↦ past
+    ] in
+    all_below (picture_of c.loop-page.core) c.args.parent c.args.child c.loop-page.number k.moves.fit.granting past k.linked

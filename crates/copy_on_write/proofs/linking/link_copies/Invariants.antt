@@ -1,0 +1,23 @@
+use Rattle.std.proofs.Common.{◌≡◌, ◌-◌, ◌≤◌, ◌^◌, ℕ}
+use Rattle.frames.specs.declared.role.Role.TheVariants.{Private}
+use Rattle.frames.specs.FrameTable.{role_of}
+use Rattle.paging.specs.Calls.{KeepsPages}
+use Rattle.paging.specs.Picture.{picture_of}
+use Rattle.mapping.specs.Changes.{KeepsBare, Moves}
+use Rattle.copy_on_write.specs.Steps.{HasTables, HasTablesBelow}
+use Rattle.copy_on_write.proofs.linking.link_copies.Given as goal
+
+abbrev pub invariant-loop-page : goal.invariant-loop-page
+invariant-loop-page g l = record {
+  from : 16 ≤ l.number;
+  moves : Moves g.E.SectorDisk l.fn.core l.core;
+  pages : KeepsPages (picture_of l.fn.core) (picture_of l.core);
+  bare : KeepsBare (picture_of l.fn.core) (picture_of l.core);
+  linked : HasTablesBelow (picture_of l.core) l.parent l.child l.number;
+  idle : HasTables (picture_of l.fn.core) l.parent l.child → l.core ≡ l.fn.core;
+  no_copy : (n : ℕ) → role_of l.core.frames n ≡ Private → role_of l.fn.core.frames n ≡ Private;
+  not_refused : l.core.refused.number ≡ l.fn.core.refused.number;
+}
+
+abbrev pub decreases-loop-page : goal.decreases-loop-page
+decreases-loop-page g l = 2 ^ 26 - l.number

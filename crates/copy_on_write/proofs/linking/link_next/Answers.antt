@@ -1,0 +1,25 @@
+use Rattle.std.proofs.Common.{Option, sym, ◌∙◌, subst, arith}
+use Rattle.std.specs.Prelude.{IsSome}
+use Rattle.vm_types.specs.declared.region.Attr.{Attr}
+use Rattle.paging.specs.Picture.{picture_of}
+use Rattle.page_ranges.proofs.Gaps.{in_row_of}
+use Rattle.copy_on_write.proofs.Copies.{copied_mapped}
+use Rattle.copy_on_write.proofs.Linked.{none_wanted, row_whole}
+use Rattle.copy_on_write.proofs.linking.link_next.Goals as goal
+
+pub returns-in-Some-clause-linked : goal.returns-in-Some-clause-linked
+returns-in-Some-clause-linked g c = none_wanted (picture_of c.args.core.now) c.args.parent c.args.child c.args.page c.in-Some.next c.in-Some.ensures.gap
+
+pub link_tables-requires-clause-mapped : goal.link_tables-requires-clause-mapped
+link_tables-requires-clause-mapped g c =
+    let old = picture_of c.args.core.now in
+    let P : Option Attr → Type 0 = λ x. IsSome x in
+    let copy = c.in-Some-first_copy.ensures.some in
+    subst P (sym (c.requires.same c.in-Some-first_copy.copied))
+    (copied_mapped old c.args.parent c.in-Some-first_copy.copied c.requires.fit.granting copy.0 copy.1)
+
+pub returns-in_ok-link_tables-clause-linked : goal.returns-in_ok-link_tables-clause-linked
+returns-in_ok-link_tables-clause-linked g c page from below copy =
+    let same = in_row_of c.args.page page c.table_end-end.result c.table_end-end.result from below (omega arith) c.table_end-end.ensures in
+    row_whole (picture_of c.link_tables.new.core) c.args.child c.in-Some-first_copy.copied page (c.in-Some-first_copy.ensures.row ∙ sym same)
+    c.in_ok-link_tables.ensures.whole

@@ -1,0 +1,32 @@
+-- What the steps of a fork need and leave.
+use Rattle.std.specs.Prelude.{◌≡◌, ◌≢◌, ℕ, ◌+◌, ◌*◌, ◌/◌, ◌<◌, ◌≤◌, ◌⊎◌, None}
+use Rattle.vm_types.specs.Limits.{top_level}
+use Rattle.page_tables.specs.Tree.{IsPage}
+use Rattle.paging.specs.Seats.{seat}
+use Rattle.paging.specs.Picture.{Picture, entry}
+use Rattle.mapping.specs.Changes.{IsWhole}
+use Rattle.page_ranges.specs.Steps.{IsGapEnd}
+
+-- the process has a copy of its own of a page, in a frame or in a slot
+abbrev pub HasCopy : Picture → ℕ → ℕ → Type 0
+HasCopy c pid page = IsPage top_level page × (seat (entry c pid page) ≢ None)
+
+-- no table is missing for the child on the way to a page of which the parent has a copy of its own
+abbrev pub HasTables : Picture → ℕ → ℕ → Type 0
+HasTables c parent child = (page : ℕ) → HasCopy c parent page → IsWhole c child page
+
+-- the same, of the pages below one
+abbrev pub HasTablesBelow : Picture → ℕ → ℕ → ℕ → Type 0
+HasTablesBelow c parent child end = (page : ℕ) → page < end → HasCopy c parent page → IsWhole c child page
+
+-- the same, of the pages from one up to, not including, another
+abbrev pub HasTablesFrom : Picture → ℕ → ℕ → ℕ → ℕ → Type 0
+HasTablesFrom c parent child low high = (page : ℕ) → low ≤ page → page < high → HasCopy c parent page → IsWhole c child page
+
+-- a table is missing for the child on the way to a page of which the parent has a copy of its own
+abbrev pub LacksTable : Picture → ℕ → ℕ → Type 0
+LacksTable c parent child = (page : ℕ) × HasCopy c parent page × (IsWhole c child page → ⊥)
+
+-- where a step over the pages ends: past all pages of the lowest table of a process, or of one that is missing
+abbrev pub IsNextPage : Picture → ℕ → ℕ → ℕ → Type 0
+IsNextPage c pid page next = (IsWhole c pid page × (next ≡ (page / 512 + 1) * 512)) ⊎ IsGapEnd c pid page next

@@ -1,0 +1,131 @@
+//! The child's tables.
+ghost use Rattle.std.specs.Prelude.{◌≡◌, ◌≢◌, ℕ, ◌+◌, ◌*◌, ◌/◌, ◌<◌, ◌≤◌, ◌^◌, true, false, None, OnOk, OnErr, IfOk, IfErr, IfSome, IfNone};
+ghost use Rattle.vm_types.specs.Limits.{user_end};
+ghost use Rattle.frames.specs.declared.role.Role.TheVariants.{Private};
+ghost use Rattle.frames.specs.FrameTable.{role_of};
+ghost use Rattle.page_tables.specs.Entry.{number_of, IsEntry};
+ghost use Rattle.swap.specs.Slots.{IsReady};
+ghost use Rattle.paging.specs.Seats.{seat};
+ghost use Rattle.paging.specs.Picture.{picture_of, entry, is_live};
+ghost use Rattle.paging.specs.Parts.{IsFit};
+ghost use Rattle.paging.specs.Calls.{KeepsPages, StallCause};
+ghost use Rattle.paging.specs.Capacity.{IsShort};
+ghost use Rattle.mapping.specs.Changes.{IsWhole, KeepsBare, Moves};
+ghost use Rattle.copy_on_write.specs.Steps.{HasCopy, HasTables, HasTablesFrom, LacksTable, IsNextPage};
+
+use disk_model::SectorDisk;
+use mapping::{link_tables, root_of};
+use page_ranges::{gap_end, table_end, user_page};
+use page_tables::{Entry, decode, number_in, table_of};
+use paging::Core;
+use vm_types::{Pid, Stall, USER_START, Vpn};
+
+/// Makes for the child, whose pages are mapped as the parent's, every table that is missing on the way to a page of which the
+/// parent has a copy of its own, in a frame or in a slot. A frame is asked for only where such a table is missing; to have one,
+/// frames may be given up, and no process sees that. No entry is set. It costs the tables of the parent and their entries,
+/// whatever is mapped (fork(2); RISC-V Privileged Specification, "Virtual Address Translation Process").
+///
+/// # Errors
+/// As `obtain`, where a table is missing and no frame is to be had for it. The tables that were made stay.
+pub fn link_copies<D, E: SectorDisk>(
+    core: &mut Core<D, E>,
+    parent: Pid,
+    child: Pid,
+) -> Result<(), Stall>
+    requires fit { IsFit (picture_of core.old) }
+    requires swap { IsReady E.SectorDisk core.old.swap }
+    requires parent { is_live (picture_of core.old) parent ≡ true }
+    requires child { is_live (picture_of core.old) child ≡ true }
+    requires same { (page : ℕ) → (picture_of core.old).at child page ≡ (picture_of core.old).at parent page }
+    ensures moves { Moves E.SectorDisk core.old core.new }
+    ensures pages { KeepsPages (picture_of core.old) (picture_of core.new) }
+    ensures bare { KeepsBare (picture_of core.old) (picture_of core.new) }
+    ensures linked { OnOk result (HasTables (picture_of core.new) parent child) }
+    ensures idle { HasTables (picture_of core.old) parent child → core.new ≡ core.old }
+    ensures wanted { OnErr result (LacksTable (picture_of core.old) parent child) }
+    ensures no_copy { (n : ℕ) → role_of core.new.frames n ≡ Private → role_of core.old.frames n ≡ Private }
+    ensures short { IfErr result (IsShort (picture_of core.new)) }
+    ensures cause { IfErr result (StallCause E.SectorDisk core.old core.new) }
+    ensures not_refused { OnOk result (core.new.refused.number ≡ core.old.refused.number) }
+{
+    let mut number = USER_START;
+    while let Some(page) = Vpn::new(number) {
+        number = link_next(core, parent, child, page)?;
+    }
+    Ok(())
+}
+
+/// Makes the child's tables for the pages of one table of the parent, from `page` on; the result is the first page past that
+/// table. Where a table of the parent is missing, the pages of the missing one are passed over.
+fn link_next<D, E: SectorDisk>(
+    core: &mut Core<D, E>,
+    parent: Pid,
+    child: Pid,
+    page: Vpn,
+) -> Result<u64, Stall>
+    requires fit { IsFit (picture_of core.old) }
+    requires swap { IsReady E.SectorDisk core.old.swap }
+    requires parent { is_live (picture_of core.old) parent ≡ true }
+    requires child { is_live (picture_of core.old) child ≡ true }
+    requires same { (p : ℕ) → (picture_of core.old).at child p ≡ (picture_of core.old).at parent p }
+    ensures moves { Moves E.SectorDisk core.old core.new }
+    ensures pages { KeepsPages (picture_of core.old) (picture_of core.new) }
+    ensures bare { KeepsBare (picture_of core.old) (picture_of core.new) }
+    ensures further { IfOk result (λ next. page < next) }
+    ensures next { IfOk result (IsNextPage (picture_of core.old) parent page) }
+    ensures linked { IfOk result (HasTablesFrom (picture_of core.new) parent child page) }
+    ensures idle { HasTables (picture_of core.old) parent child → core.new ≡ core.old }
+    ensures wanted { OnErr result (LacksTable (picture_of core.old) parent child) }
+    ensures no_copy { (n : ℕ) → role_of core.new.frames n ≡ Private → role_of core.old.frames n ≡ Private }
+    ensures short { IfErr result (IsShort (picture_of core.new)) }
+    ensures cause { IfErr result (StallCause E.SectorDisk core.old core.new) }
+    ensures not_refused { OnOk result (core.new.refused.number ≡ core.old.refused.number) }
+{
+    if let Some(next) = gap_end(core, parent, page) {
+        return Ok(next);
+    }
+    let end = table_end(page);
+    if let Some(copied) = first_copy(core, parent, page, end) {
+        link_tables(core, child, copied)?;
+    }
+    Ok(end)
+}
+
+/// The first page from `start` up to, not including, `end` of which a live process has a copy of its own. The entries of
+/// those pages stand in one table.
+fn first_copy<D, E>(core: &Core<D, E>, pid: Pid, start: Vpn, end: u64) -> Option<Vpn>
+    requires fit { IsFit (picture_of core.now) }
+    requires live { is_live (picture_of core.now) pid ≡ true }
+    requires whole { IsWhole (picture_of core.now) pid start }
+    requires one_table { end ≡ (start / 512 + 1) * 512 }
+    ensures row { IfSome result (λ page. page / 512 ≡ start / 512) }
+    ensures some { IfSome result (HasCopy (picture_of core.now) pid) }
+    ensures none { IfNone result ((page : ℕ) → start ≤ page → page < end → seat (entry (picture_of core.now) pid page) ≡ None) }
+{
+    let root = root_of(core, pid);
+    let Ok(table) = table_of(&core.frames, root, start) else {
+        unreachable!();
+    };
+    for page in start.get()..end {
+        let index = (page % 512) as usize;
+        if is_own(decode(number_in(&core.frames, table, index))) {
+            return Some(user_page(page));
+        }
+    }
+    None
+}
+
+/// Whether a page's entry names a copy of the process's own: a frame, by the bit that is the software's (RISC-V Privileged
+/// Specification, "Sv39 page table entry", RSW), or a slot.
+pub(crate) fn is_own(entry: Entry) -> bool
+    requires form { IsEntry entry }
+    ensures own { result ≡ true → seat (number_of entry) ≢ None }
+    ensures other { result ≡ false → seat (number_of entry) ≡ None }
+{
+    match entry {
+        Entry::Leaf(leaf) => leaf.is_private(),
+        Entry::Parked(_, private) => private,
+        Entry::Swapped(_) => true,
+        Entry::None => false,
+    }
+}
