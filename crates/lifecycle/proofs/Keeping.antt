@@ -1,0 +1,43 @@
+-- What steps keep of the processes and of the files.
+use Rattle.std.proofs.Common.{◌≡◌, ℕ, inl, inr, Option, Some, None, true, false, refl, sym, ap, ◌∙◌}
+use Rattle.std.specs.Prelude.{is_some}
+use Rattle.std.proofs.lemmas.Bool.{false≢true}
+use Rattle.vm_types.specs.declared.number.FrameNo.{FrameNo}
+use Rattle.frames.specs.declared.role.Role.TheVariants.{Free, Private}
+use Rattle.frames.specs.FrameTable.{role_of}
+use Rattle.paging.specs.Picture.{Picture, is_live}
+use Rattle.paging.specs.Calls.{KeepsPages, Frees}
+use Rattle.paging.specs.Shows.{KeepsFiles}
+use Rattle.lifecycle.specs.Changes.{KeepsProcesses, TakesNoCopy}
+
+-- whether a process lives
+pub live_same : (old new : Picture) (pid : ℕ) → new.root pid ≡ old.root pid → is_live new pid ≡ is_live old pid
+live_same old new pid root = ap is_some root
+
+pub dead_root : (root : Option ℕ) → is_some root ≡ false → root ≡ None
+dead_root None dead = refl
+dead_root (Some r) dead = absurd (false≢true (sym dead))
+
+pub pages_kept : (old new : Picture) → KeepsPages old new → KeepsProcesses old new
+pages_kept old new pages = record { live = λ pid. live_same old new pid (pages.root pid); views = pages.views }
+
+-- the files after one step and another
+pub files_then : (a b c : Picture) → KeepsFiles a b → KeepsFiles b c → KeepsFiles a c
+files_then a b c p q = record {
+  held = λ f. elim (q.held f) [
+    | inl e ↦ elim (p.held f) [
+      | inl e' ↦ inl (e ∙ e')
+      | inr home ↦ inr (e ∙ home.0, home.1)
+    ]
+    | inr home ↦ inr (home.0, sym (p.touched f) ∙ home.1)
+  ];
+  touched = λ f. q.touched f ∙ p.touched f;
+  files = λ f. q.files f ∙ p.files f;
+}
+
+-- a frame that is given up is no process's own
+pub no_copy_freed : (old new : Picture) (keep : Option FrameNo) → Frees old new keep → TakesNoCopy old.frames new.frames
+no_copy_freed old new keep frees n is = elim (frees.roles n) [
+  | inl same ↦ sym same ∙ is
+  | inr freed ↦ (let bad : Free ≡ Private = sym freed.0 ∙ is in (cc))
+]

@@ -1,0 +1,41 @@
+use Rattle.std.proofs.Common.{◌≡◌, ◌+◌, ◌-◌, inl, inr, Some, true, false, sym, ap, ◌∙◌, arith}
+use Rattle.std.specs.Prelude.{is_some}
+use Rattle.std.proofs.lemmas.Bool.{cases_lt, false≢true}
+use Rattle.vm_types.specs.Processes.{least_free_from}
+use Rattle.paging.specs.Picture.{picture_of, is_live}
+use Rattle.lifecycle.proofs.FreeNumbers.{some_number, least-here, least-next, least-none}
+use Rattle.lifecycle.proofs.numbers.free_pid.Goals as goal
+
+pub returns-then-is_none-clause-least : goal.returns-then-is_none-clause-least
+returns-then-is_none-clause-least g c =
+    let number = c.loop-pid.number in
+    let live = is_live (picture_of c.args.core.now) in
+    let high = (c.new.ensures.known.0 (ap is_some c.in-Some.is)).1 in
+    let free : live c.in-Some.pid ≡ false = ap is_some (sym c.root.ensures) ∙ some_number c.root.result ∙ c.if-is_none.ensures in
+    ap (λ n. Some n) c.in-Some.ensures.found
+    ∙ sym (c.loop-pid.invariant.2 ∙ least-here live number (65 - number) (omega (arith, high)) (ap live (sym c.in-Some.ensures.found) ∙ free))
+
+pub returns-then-is_none-clause-free : goal.returns-then-is_none-clause-free
+returns-then-is_none-clause-free g c = ap is_some (sym c.root.ensures) ∙ some_number c.root.result ∙ c.if-is_none.ensures
+
+pub loop-pid-preserved : goal.loop-pid-preserved
+loop-pid-preserved g c =
+    let number = c.loop-pid.number in
+    let live = is_live (picture_of c.args.core.now) in
+    let high = (c.new.ensures.known.0 (ap is_some c.in-Some.is)).1 in
+    let taken : live c.in-Some.pid ≡ true = ap is_some (sym c.root.ensures) ∙ some_number c.root.result ∙ c.if-is_none.ensures in
+    let rest : 65 - number - 1 ≡ 65 - (number + 1) = omega arith in (
+      omega arith,
+      omega (arith, high),
+      c.loop-pid.invariant.2 ∙ least-next live number (65 - number) (omega (arith, high)) (ap live (sym c.in-Some.ensures.found) ∙ taken)
+          ∙ ap (least_free_from live (number + 1)) rest,
+    )
+
+pub returns-clause-least : goal.returns-clause-least
+returns-clause-least g c =
+    let number = c.loop-pid.number in
+    let past : 65 - number ≡ 0 = elim (cases_lt number 65) [
+      | inl low ↦ absurd (false≢true (ap is_some (sym c.in_default.is) ∙ c.new.ensures.known.1 (c.loop-pid.invariant.0, omega (arith, low))))
+      | inr high ↦ omega (arith, high)
+    ] in
+    sym (c.loop-pid.invariant.2 ∙ least-none (is_live (picture_of c.args.core.now)) number (65 - number) past)

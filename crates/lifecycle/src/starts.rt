@@ -1,0 +1,44 @@
+//! A process comes.
+ghost use Rattle.std.specs.Prelude.{◌≡◌, ℕ, false, None, OnOk, OnErr, IfErr};
+ghost use Rattle.swap.specs.Slots.{IsReady};
+ghost use Rattle.paging.specs.Picture.{picture_of, is_live};
+ghost use Rattle.paging.specs.Parts.{IsFit};
+ghost use Rattle.paging.specs.Calls.{Frees, UsesDevice, StallCause};
+ghost use Rattle.paging.specs.Capacity.{IsShort};
+ghost use Rattle.paging.specs.Shows.{KeepsFiles};
+ghost use Rattle.mapping.specs.Changes.{KeepsBare, KeepsRoom};
+ghost use Rattle.lifecycle.specs.Changes.{AddsProcess, KeepsProcesses, TakesRoot, TakesNoCopy};
+
+use disk_model::SectorDisk;
+use paging::Core;
+use vm_types::{Pid, Stall};
+
+/// Makes a process of that number, which no live process has, without a page (our choice: there is no process to copy at
+/// first). It takes one frame, for the root of its tables; where none is free another is given up for it.
+///
+/// # Errors
+/// As `obtain` (`ENOMEM` in fork(2)). Then there is no such process, and nothing that a process or a file shows has changed.
+pub fn spawn<D, E: SectorDisk>(core: &mut Core<D, E>, pid: Pid) -> Result<(), Stall>
+    requires fit { IsFit (picture_of core.old) }
+    requires swap { IsReady E.SectorDisk core.old.swap }
+    requires dead { is_live (picture_of core.old) pid ≡ false }
+    ensures fit { IsFit (picture_of core.new) }
+    ensures swap { IsReady E.SectorDisk core.new.swap }
+    ensures ok { OnOk result (AddsProcess (picture_of core.old) (picture_of core.new) pid (λ page. None)) }
+    ensures err { OnErr result (KeepsProcesses (picture_of core.old) (picture_of core.new)) }
+    ensures taken { OnOk result ((n : ℕ) × TakesRoot (picture_of core.old) (picture_of core.new) pid n) }
+    ensures frees { OnErr result (Frees (picture_of core.old) (picture_of core.new) None) }
+    ensures bare { KeepsBare (picture_of core.old) (picture_of core.new) }
+    ensures copies { TakesNoCopy core.old.frames core.new.frames }
+    ensures files { KeepsFiles (picture_of core.old) (picture_of core.new) }
+    ensures room { KeepsRoom (picture_of core.old) (picture_of core.new) }
+    ensures store { core.new.store ≡ core.old.store }
+    ensures device { UsesDevice E.SectorDisk core.old.swap.pages.disk core.new.swap.pages.disk }
+    ensures short { IfErr result (IsShort (picture_of core.new)) }
+    ensures cause { IfErr result (StallCause E.SectorDisk core.old core.new) }
+    ensures not_refused { OnOk result (core.new.refused.number ≡ core.old.refused.number) }
+{
+    let root = core.take_table()?;
+    core.add_process(pid, root);
+    Ok(())
+}
