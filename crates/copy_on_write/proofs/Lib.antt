@@ -1,3 +1,10 @@
 pub mod Copies
 pub mod Linked
 pub mod Alike
+pub mod Weaker
+pub mod Raised
+pub mod Given
+pub mod Lowered
+pub mod Live
+pub mod Sharers
+pub mod SharedRows
