@@ -5,6 +5,7 @@ pub mod Entries
 pub mod Seats
 pub mod Start
 pub mod Rooted
+pub mod Roots
 pub mod Granting
 pub mod Places
 pub mod Moves
@@ -33,3 +34,5 @@ pub mod Setting
 pub mod Arriving
 pub mod Taking
 pub mod Returning
+pub mod Mapping
+pub mod Exiting

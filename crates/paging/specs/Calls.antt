@@ -129,6 +129,14 @@ module _ {D E : Type 0} where
     pub page_of : new.page_of ≡ old.page_of
     pub refused : new.refused ≡ old.refused
 
+  -- all but the frames and the processes is as it was, the count of refused requests too
+  pub record KeepsBesideTrees (old new : Core D E) : Type 0 where
+    pub store : new.store ≡ old.store
+    pub swap : new.swap ≡ old.swap
+    pub cache : new.cache ≡ old.cache
+    pub page_of : new.page_of ≡ old.page_of
+    pub refused : new.refused ≡ old.refused
+
 module _ {E : Type 0} (g : Ghosts E) where
   -- a device that was read and written
   pub record UsesDevice (old new : E) : Type 0 where

@@ -7,7 +7,7 @@ use Rattle.frames.specs.FrameTable.{FrameTable, bytes_of, role_of, count_of, Sam
 use Rattle.page_cache.specs.declared.place.Place.TheVariants.{Frame, Slot}
 use Rattle.swap.specs.Slots.{IsInUse}
 use Rattle.file_store.specs.Standing.{IsPageOf}
-use Rattle.page_tables.specs.Tree.{IsPage}
+use Rattle.page_tables.specs.Tree.{IsPage, IsSpare}
 use Rattle.paging.specs.Picture.{Picture, entry}
 
 -- nothing but the frames changed
@@ -105,6 +105,22 @@ pub record Remaps (old new : Picture) (pid : ℕ) : Type 0 where
   pub frames : new.frames ≡ old.frames
   pub root : (q : ℕ) → new.root q ≡ old.root q
   pub others : (q page : ℕ) → q ≢ pid → new.at q page ≡ old.at q page
+  pub page_of : (m : ℕ) → new.page_of m ≡ old.page_of m
+  pub place : (p : FilePage) → new.place p ≡ old.place p
+  pub touched : (p : FilePage) → new.touched p ≡ old.touched p
+  pub files : (f : ℕ) → new.files f ≡ old.files f
+
+-- a process went, and its root table, which had no entry, is free
+pub record Exits (old new : Picture) (pid root : ℕ) : Type 0 where
+  pub slots : new.slots ≡ old.slots
+  pub lived : old.root pid ≡ Some root
+  pub gone : new.root pid ≡ None
+  pub others : (q : ℕ) → q ≢ pid → new.root q ≡ old.root q
+  pub spare : IsSpare old.frames root
+  pub frames : SameButFor root old.frames new.frames
+  pub free : role_of new.frames root ≡ Free
+  pub unmapped : (page : ℕ) → new.at pid page ≡ None
+  pub at : (q page : ℕ) → q ≢ pid → new.at q page ≡ old.at q page
   pub page_of : (m : ℕ) → new.page_of m ≡ old.page_of m
   pub place : (p : FilePage) → new.place p ≡ old.place p
   pub touched : (p : FilePage) → new.touched p ≡ old.touched p

@@ -1,10 +1,11 @@
 //! The root tables and the regions of the processes.
 ghost use Rattle.std.specs.Prelude.{◌≡◌, ℕ, true, Some, None};
 ghost use Rattle.std.specs.Option.{option_map};
+ghost use Rattle.page_tables.specs.Tree.{IsSpare};
 ghost use Rattle.regions.specs.RunList.{attr_at};
 ghost use Rattle.paging.specs.Picture.{picture_of, number_of_frame, is_live};
-ghost use Rattle.paging.specs.Steps.{Spawns, Remaps};
-ghost use Rattle.paging.specs.Calls.{KeepsBesideProcesses};
+ghost use Rattle.paging.specs.Steps.{Spawns, Remaps, Exits};
+ghost use Rattle.paging.specs.Calls.{KeepsBesideProcesses, KeepsBesideTrees};
 
 use crate::kernel::Core;
 use regions::Regions;
@@ -59,5 +60,19 @@ impl<D, E> Core<D, E> {
         ensures rest { KeepsBesideProcesses self.old self.new }
     {
         self.regions[usize::from(pid.get())] = regions;
+    }
+
+    /// Ends a live process whose root table has no entry: the table is free, and so is its number.
+    pub fn remove_process(&mut self, pid: Pid)
+        requires live { is_live (picture_of self.old) pid ≡ true }
+        requires spare { (r : ℕ) → (picture_of self.old).root pid ≡ Some r → IsSpare self.old.frames r }
+        ensures exits { (r : ℕ) × Exits (picture_of self.old) (picture_of self.new) pid r }
+        ensures rest { KeepsBesideTrees self.old self.new }
+    {
+        let place = usize::from(pid.get());
+        if let Some(root) = self.roots[place] {
+            self.frames.release(root);
+            self.roots[place] = None;
+        }
     }
 }

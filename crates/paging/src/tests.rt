@@ -264,3 +264,16 @@ fn a_process_is_made_and_mapped(rt: HostRuntime) -> Result<(), Fail> {
     assert_eq!(rt; core.regions(pid).runs(), 0);
     Ok(())
 }
+
+#[test]
+fn a_process_without_pages_ends(rt: HostRuntime) -> Result<(), Fail> {
+    let mut core = made(rt.alloc(), 0)?;
+    let pid = Pid::new(1).expect(&rt, "a number of a process");
+    let root = core.take_table()?;
+    core.add_process(pid, root);
+    core.remove_process(pid);
+    assert_eq!(rt; core.root(pid), None);
+    assert!(rt; root.0 < core.frames.len());
+    assert_eq!(rt; core.frames.role(root), Role::Free);
+    Ok(())
+}
