@@ -94,9 +94,11 @@ sole_holder : (c : Picture) (q k pid page : ℕ) (y : Seat) → IsFit c → IsPa
 unfolding holders_at
 sole_holder c q k pid page y fit h' h there here one =
     let same : k ≡ page = sym (fit.counted.1.noted q k y h' there) ∙ fit.counted.1.noted pid page y h here in
-    let at : seat (entry c q page) ≡ Some y = ap (λ x. seat (entry c q x)) (sym same) ∙ there in
-    (count-sole (λ p. is_seat (seat (entry c p page)) y) q pid 65 (seat_number c 0 q page y fit.rooted at) (seat_number c 0 pid page y fit.rooted here)
-    (sits (seat (entry c q page)) y at) (sits (seat (entry c pid page)) y here) (sym (counted_at c pid page y fit h here) ∙ one), same)
+    let at : seat (entry c q page) ≡ Some y = ap (λ x. seat (entry c q x)) (sym same) ∙ there in (
+      count-sole (λ p. is_seat (seat (entry c p page)) y) q pid 65 (seat_number c 0 q page y fit.rooted at) (seat_number c 0 pid page y fit.rooted here)
+          (sits (seat (entry c q page)) y at) (sits (seat (entry c pid page)) y here) (sym (counted_at c pid page y fit h here) ∙ one),
+      same,
+    )
 
 written : (c : Picture) (attr : Option Attr) (e : ℕ) (y : Seat) → IsEntryFor c attr e → seat e ≡ Some y → is_valid e ≡ true → can_write e ≡ true → count_in c y ≡ 1
 written c attr e y (Nothing none) is valid write = let bad : None ≡ Some y = sym (ap seat none ∙ seat-none) ∙ is in (cc)
