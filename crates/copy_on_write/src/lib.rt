@@ -3,7 +3,5 @@
 #![tactic(auto)]
 
 mod linking;
-#[cfg(test)]
-mod tests;
 
 pub use linking::link_copies;
