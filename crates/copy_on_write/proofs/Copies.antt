@@ -1,7 +1,7 @@
 -- The seats that entries name, and the pages of one table.
-use Rattle.std.proofs.Common.{◌≡◌, ◌≢◌, ℕ, inl, inr, Bool, true, false, Option, Some, None, refl, sym, ap, ◌∙◌, subst}
+use Rattle.std.proofs.Common.{◌≡◌, ◌≢◌, ◌⊎◌, ℕ, inl, inr, Bool, true, false, Option, Some, None, refl, sym, ap, ◌∙◌, subst}
 use Rattle.std.specs.Prelude.{IsSome}
-use Rattle.std.proofs.lemmas.Bool.{cases_Bool}
+use Rattle.std.proofs.lemmas.Bool.{cases_Bool, false≢true}
 use Rattle.vm_types.specs.declared.number.FrameNo.{FrameNo}
 use Rattle.vm_types.specs.declared.number.SlotNo.{SlotNo}
 use Rattle.vm_types.specs.declared.region.Attr.{Attr}
@@ -14,10 +14,11 @@ use Rattle.page_tables.specs.Tree.{IsPage}
 use Rattle.paging.specs.Seats.{Seat, InFrame, InSlot, seat, is_private, is_swapped}
 use Rattle.paging.specs.Picture.{Picture, entry}
 use Rattle.paging.specs.Parts.{IsEntryFor, Nothing, Resident, Away, IsGranting, IsMapped}
-use Rattle.paging.proofs.Start.{seat-none}
+use Rattle.paging.proofs.Start.{seat-none, no_bit}
 use Rattle.mapping.proofs.Bits.{parked_private, parked_framed}
 use Rattle.mapping.proofs.Forms.{seat_own, seat_common}
 use Rattle.mapping.proofs.SwapSteps.{away_seat}
+use Rattle.page_ranges.proofs.Returning.{not_away, no_seat}
 
 -- an entry that names a frame as the process's own names a seat
 pub own_some : (e : ℕ) → is_private e ≡ true → seat e ≢ None
@@ -56,6 +57,21 @@ pub slot_seat : (entry : Entry) (k : SlotNo) → entry ≡ Swapped k → IsEntry
 slot_seat entry k is form =
     let P : Entry → Type 0 = λ x. IsEntry x in
     ap (λ x. seat (number_of x)) is ∙ away_seat k.0 (subst P is form)
+
+-- an entry that names a frame as the process's own is one of a page in a frame
+in_one_place : (n k : ℕ) → Some (InFrame n) ≡ Some (InSlot k) → ⊥
+in_one_place n k e = (cc)
+
+pub own_framed : (entry : Entry) → IsEntry entry → is_private (number_of entry) ≡ true → (entry ≡ Entries.None) ⊎ ((k : SlotNo) × (entry ≡ Swapped k)) → ⊥
+own_framed entry form own (inl is) = false≢true (sym no_bit ∙ sym (ap (λ x. is_private (number_of x)) is) ∙ own)
+own_framed entry form own (inr slot) = in_one_place (frame_of (number_of entry)) slot.0.0 (sym (seat_own (number_of entry) own) ∙ slot_seat entry slot.0 slot.1 form)
+
+-- and so does an entry that names a seat, and isn't that of a page in a slot
+pub framed_own : (entry : Entry) → IsEntry entry → ((k : SlotNo) → entry ≢ Swapped k) → seat (number_of entry) ≢ None → is_private (number_of entry) ≡ true
+framed_own entry form other some = elim (cases_Bool (is_private (number_of entry))) [
+  | inl own ↦ own
+  | inr common ↦ absurd (some (no_seat (number_of entry) common (not_away (number_of entry) entry refl form other)))
+]
 
 pub nothing_common : (entry : Entry) → entry ≡ Entries.None → seat (number_of entry) ≡ None
 nothing_common entry is = ap (λ x. seat (number_of x)) is ∙ seat-none

@@ -8,3 +8,4 @@ pub mod Lowered
 pub mod Live
 pub mod Sharers
 pub mod SharedRows
+pub mod SharedPage

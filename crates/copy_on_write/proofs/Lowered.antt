@@ -1,14 +1,13 @@
 -- The entry of a process's own page is set to a weaker one.
-use Rattle.std.proofs.Common.{◌≡◌, ◌≢◌, ℕ, inl, inr, true, false, Option, Some, None, get_or, refl, sym, ap, ◌∙◌}
+use Rattle.std.proofs.Common.{◌≡◌, ◌≢◌, ℕ, inl, inr, true, Some, None, get_or, refl, sym, ap, ◌∙◌}
 use Rattle.std.proofs.lemmas.Bool.{cases_Bool, false≢true}
 use Rattle.frames.specs.declared.role.Role.TheVariants.{Free}
-use Rattle.frames.specs.FrameTable.{role_of}
 use Rattle.sv39_walk.specs.Entry.{is_valid, frame_of}
 use Rattle.page_tables.specs.Change.{SetsEntry}
 use Rattle.page_tables.specs.Tree.{IsPage}
 use Rattle.page_tables.proofs.Places.{row_stays}
 use Rattle.paging.specs.Seats.{InFrame, seat, is_private}
-use Rattle.paging.specs.Picture.{Picture, entry, count_in}
+use Rattle.paging.specs.Picture.{Picture, entry}
 use Rattle.paging.specs.Parts.{IsRootedBut, IsEntryFor, IsFit, nowhere}
 use Rattle.paging.specs.Steps.{SameBeside, SetsPage}
 use Rattle.paging.proofs.Granting.{entry_for-same}
@@ -16,7 +15,7 @@ use Rattle.paging.proofs.Moves.{behind_kept}
 use Rattle.paging.proofs.Setting.{fit_set, set_views, set_held}
 use Rattle.paging.proofs.TableSteps.{sets_page, rooted_set}
 use Rattle.mapping.proofs.Forms.{seat_own}
-use Rattle.mapping.proofs.Steps.{tables_same, same_with}
+use Rattle.mapping.proofs.Steps.{tables_same}
 use Rattle.copy_on_write.specs.Shares.{IsTableFor, Weakens, Withdraws, lowered_entry}
 use Rattle.copy_on_write.proofs.Given.{set_counts}
 use Rattle.copy_on_write.proofs.Weaker.{weaker_for, weaker_seat, weaker_lowered, leaf_own}

@@ -1,23 +1,21 @@
 -- One more shares a frame or a slot, for which no entry names it yet: no process sees that.
-use Rattle.std.proofs.Common.{◌≡◌, ◌≢◌, ℕ, inl, inr, ◌⊎◌, ◌+◌, ◌<◌, ◌≤◌, true, false, [], Option, Some, None, get_or, refl, sym, ap, ◌∙◌, subst, arith}
+use Rattle.std.proofs.Common.{◌≡◌, ◌≢◌, ℕ, inl, inr, ◌<◌, ◌≤◌, true, [], Option, Some, get_or, refl, sym, ap, ◌∙◌, subst, arith}
 use Rattle.std.proofs.lemmas.Bool.{cases_eq, false≢true}
 use Rattle.vm_types.specs.declared.file.FilePage.{FilePage}
 use Rattle.vm_types.specs.declared.region.Attr.{Attr}
 use Rattle.vm_types.specs.declared.region.Backing.{Backing}
 use Rattle.vm_types.specs.declared.region.Backing.TheVariants as Backings
-use Rattle.frames.specs.declared.role.Role.TheVariants.{Free, Table, Private, Cache}
+use Rattle.frames.specs.declared.role.Role.TheVariants.{Free, Table, Private}
 use Rattle.frames.specs.FrameTable.{FrameTable, bytes_of, role_of, count_of, Shares}
 use Rattle.swap.specs.Slots.{SlotTable, IsInUse}
 use Rattle.swap.specs.Slots as Slots
 use Rattle.sv39_walk.specs.Entry.{is_valid, can_write, frame_of}
-use Rattle.page_tables.specs.Tree.{IsPage}
-use Rattle.page_tables.specs.Places.{IsTableOf}
 use Rattle.page_tables.proofs.Data.{KeepsTrees, data_shared}
 use Rattle.page_tables.proofs.Places.{row_same}
 use Rattle.page_cache.specs.declared.place.Place.{Place}
 use Rattle.page_cache.specs.declared.place.Place.TheVariants.{Home, Frame, Slot}
 use Rattle.paging.specs.Seats.{Seat, InFrame, InSlot, seat, is_private}
-use Rattle.paging.specs.Picture.{Picture, entry, view, held, bytes_at, bytes_in, IsOwned, count_in, page_in}
+use Rattle.paging.specs.Picture.{Picture, entry, held, bytes_at, bytes_in, IsOwned, count_in, page_in}
 use Rattle.paging.specs.Parts.{IsEntryFor, Nothing, Resident, Away, IsBehind, IsGranting, IsFit, IsFitBut, nowhere}
 use Rattle.paging.specs.Steps.{SameBeside}
 use Rattle.paging.proofs.Entries.{entries_kept}
@@ -31,11 +29,7 @@ use Rattle.paging.proofs.Seats.{counted_shared}
 use Rattle.paging.proofs.Setting.{each_view, view_seated, held_same}
 use Rattle.mapping.proofs.Forms.{seat_own}
 use Rattle.mapping.proofs.Steps.{same_with, tables_same}
-use Rattle.copy_on_write.specs.Shares.{RaisesSeat}
-
--- no leaf lets a store through to a seat
-abbrev pub IsUnwritten : Picture → Seat → Type 0
-IsUnwritten c y = (q p : ℕ) → IsPage 2 p → seat (entry c q p) ≡ Some y → is_valid (entry c q p) ≡ true → can_write (entry c q p) ≡ false
+use Rattle.copy_on_write.specs.Shares.{IsUnwritten, RaisesSeat}
 
 behind-same : (old new : Picture) (b : Backing) (n : ℕ) → KeepsBehind old new → IsBehind old b n → IsBehind new b n
 behind-same old new Backings.Anon n kept behind = behind

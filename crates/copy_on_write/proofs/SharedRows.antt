@@ -1,24 +1,25 @@
 -- Rows of pages given to the child, one after the other.
-use Rattle.std.proofs.Common.{◌≡◌, ◌≢◌, ℕ, inl, inr, ◌⊎◌, ◌+◌, ◌<◌, ◌≤◌, ◌^◌, true, false, Option, Some, None, refl, sym, ap, ◌∙◌, subst, arith}
-use Rattle.std.specs.Prelude.{IsSome, option_map}
+use Rattle.std.proofs.Common.{◌≡◌, ◌≢◌, ℕ, inl, inr, ◌⊎◌, ◌+◌, ◌<◌, ◌*◌, ◌/◌, ◌≤◌, ◌^◌, true, Option, Some, None, refl, sym, ap, ◌∙◌, arith}
+use Rattle.std.specs.Prelude.{option_map}
 use Rattle.std.proofs.lemmas.Bool.{cases_lt}
-use Rattle.vm_types.specs.declared.region.Attr.{Attr}
-use Rattle.page_tables.specs.Tree.{IsPage}
-use Rattle.swap.specs.Slots.{SlotTable, IsInUse}
+use Rattle.page_tables.specs.Tree.{IsPage, missing_of}
+use Rattle.swap.specs.Slots.{IsInUse}
 use Rattle.paging.specs.Seats.{Seat, InSlot, seat}
-use Rattle.paging.specs.Picture.{Picture, entry, view, bytes_in, count_in}
-use Rattle.paging.specs.Parts.{IsGranting, IsFit}
-use Rattle.paging.proofs.Moves.{view-none}
+use Rattle.paging.specs.Picture.{Picture, entry, bytes_in, is_live}
+use Rattle.paging.specs.Parts.{IsFit}
 use Rattle.paging.proofs.Start.{seat-none}
 use Rattle.mapping.proofs.Forms.{none_common, none_here}
 use Rattle.mapping.proofs.Steps.{tables_same, tables_then, room_then}
+use Rattle.mapping.specs.Changes.{IsWhole}
 use Rattle.page_ranges.proofs.ClearedPages.{but_then}
+use Rattle.page_ranges.proofs.Gaps.{one_or_two, gap_at}
 use Rattle.page_ranges.proofs.Returning.{same_but-refl}
-use Rattle.copy_on_write.specs.Steps.{HasTables}
+use Rattle.copy_on_write.specs.Steps.{HasTables, IsNextPage}
 use Rattle.copy_on_write.specs.Shares.{lowered_entry, given_entry, SharesRow}
-use Rattle.copy_on_write.proofs.Copies.{copied_mapped}
 use Rattle.copy_on_write.proofs.Given.{view_alike}
-use Rattle.copy_on_write.proofs.Linked.{whole_kept}
+use Rattle.copy_on_write.proofs.Linked.{whole_kept, row_whole}
+use Rattle.copy_on_write.proofs.Live.{live_root}
+use Rattle.copy_on_write.proofs.Weaker.{seat_lowered}
 
 lowered_none : (e : ℕ) → seat e ≡ None → e ≡ lowered_entry e
 lowered_none e none = let common = none_common e none in rw common refl
@@ -115,3 +116,37 @@ pub tables_shared : (a b : Picture) (parent child low high : ℕ) → parent ≢
     → HasTables a parent child → HasTables b parent child
 tables_shared a b parent child low high apart shares same has p copy =
     whole_kept a b child p shares.beside.root shares.tables (has p (copy.0, λ none. copy.1 (same p copy.0 ∙ none)))
+
+-- the parent has the copies that it had
+pub seats_kept : (a b : Picture) (parent child low high : ℕ) → SharesRow a b parent child low high → (p : ℕ) → IsPage 2 p → seat (entry b parent p) ≡ seat (entry a parent p)
+seats_kept a b parent child low high shares p h = elim (cases_lt p low) [
+  | inl under ↦ ap seat (shares.others parent p h (inr (inl under)))
+  | inr least ↦ elim (cases_lt p high) [
+    | inl inside ↦ ap seat (shares.lowered p h least inside) ∙ seat_lowered (entry a parent p)
+    | inr over ↦ ap seat (shares.others parent p h (inr (inr over)))
+  ]
+]
+
+none_or_some : {T : Type 0} (o : Option T) → (o ≡ None) ⊎ (o ≢ None)
+none_or_some None = inl refl
+none_or_some (Some x) = inr (λ none. (let bad : Some x ≡ None = none in (cc)))
+
+-- where the child has no table for the pages of one table, the parent has no copy of them
+pub none_of_row : (c : Picture) (parent child start p : ℕ) → HasTables c parent child → (IsWhole c child start → ⊥) → p / 512 ≡ start / 512 → IsPage 2 p → seat (entry c parent p) ≡ None
+none_of_row c parent child start p has missing same h = elim (none_or_some (seat (entry c parent p))) [
+  | inl none ↦ none
+  | inr some ↦ absurd (missing (row_whole c child p start same (has p (h, some))))
+]
+
+-- a step over the pages ends with the user pages at the latest
+gap_most : (page next m : ℕ) → page < 2 ^ 26 → (m ≡ 1) ⊎ (m ≡ 2) → next ≡ (page / 512 ^ m + 1) * 512 ^ m → next ≤ 2 ^ 26
+gap_most page next m user (inl one) is = let at = gap_at page next m 1 one is in omega (arith, at, user)
+gap_most page next m user (inr two) is = let at = gap_at page next m 2 two is in omega (arith, at, user)
+
+pub next_within : (c : Picture) (pid page next : ℕ) → IsFit c → is_live c pid ≡ true → page < 2 ^ 26 → IsNextPage c pid page next → next ≤ 2 ^ 26
+next_within c pid page next fit live user (inl whole) = let end = whole.1 in omega (arith, end, user)
+next_within c pid page next fit live user (inr gap) =
+    let r = live_root (c.root pid) live in
+    let end = gap r.0 r.1 in
+    gap_most page next (missing_of c.frames 2 r.0 page) user
+    (one_or_two c.frames r.0 page fit.rooted.forest (fit.rooted.roots pid r.0 r.1).table end.0) end.1

@@ -1,13 +1,12 @@
 -- Who shares a seat: fewer than there are processes, where one has no entry, and nobody who may store to it.
-use Rattle.std.proofs.Common.{◌≡◌, ◌≢◌, ℕ, zero, suc, inl, inr, ◌⊎◌, ◌+◌, ◌<◌, ◌≤◌, Bool, true, false, Option, Some, None, refl, sym, ap, ◌∙◌, subst, arith}
+use Rattle.std.proofs.Common.{◌≡◌, ℕ, zero, suc, inl, inr, ◌⊎◌, ◌+◌, ◌<◌, ◌≤◌, Bool, true, false, Option, Some, None, refl, sym, ap, ◌∙◌, subst, arith}
 use Rattle.std.proofs.lemmas.Bool.{cases_eq, cases_Bool, false≢true}
 use Rattle.vm_types.specs.Counting.{count_below}
 use Rattle.vm_types.specs.declared.region.Attr.{Attr}
-use Rattle.frames.specs.FrameTable.{count_of}
 use Rattle.sv39_walk.specs.Entry.{is_valid, can_write, frame_of}
 use Rattle.page_tables.specs.Tree.{IsPage}
 use Rattle.paging.specs.Seats.{Seat, InFrame, seat, is_seat, holders_at, is_private}
-use Rattle.paging.specs.Picture.{Picture, entry, count_in, page_in, IsOwned}
+use Rattle.paging.specs.Picture.{Picture, entry, count_in, page_in}
 use Rattle.paging.specs.Parts.{IsEntryFor, Nothing, Resident, Away, IsFit, nowhere}
 use Rattle.paging.proofs.Counts.{count-sole}
 use Rattle.paging.proofs.Evicted.{seat_number}
@@ -15,7 +14,7 @@ use Rattle.paging.proofs.Seats.{off-none, seat-same}
 use Rattle.paging.proofs.Start.{entry-dead, seat-none}
 use Rattle.mapping.proofs.Forms.{seat_own}
 use Rattle.copy_on_write.proofs.Given.{some_seat}
-use Rattle.copy_on_write.proofs.Raised.{IsUnwritten}
+use Rattle.copy_on_write.specs.Shares.{IsUnwritten}
 use Rattle.copy_on_write.proofs.Weaker.{leaf_own}
 
 sits : (o : Option Seat) (y : Seat) → o ≡ Some y → is_seat o y ≡ true

@@ -1,19 +1,18 @@
 -- An entry without W.
-use Rattle.std.proofs.Common.{◌≡◌, ◌≢◌, ℕ, ◌+◌, ◌-◌, ◌*◌, ◌/◌, ◌%◌, ◌^◌, ◌<◌, ◌≤◌, inl, inr, ◌⊎◌, ◌==◌, Bool, true, false, Option, refl, sym, ap, ◌∙◌, arith, eqb-true}
-use Rattle.std.proofs.lemmas.Bool.{false≢true}
+use Rattle.std.specs.Prelude.{◌&&◌}
+use Rattle.std.proofs.Common.{◌≡◌, ◌≢◌, ℕ, ◌+◌, ◌-◌, ◌*◌, ◌/◌, ◌%◌, ◌^◌, inl, inr, ◌==◌, Bool, true, false, Option, refl, sym, ap, ◌∙◌, subst, arith, eqb-true}
+use Rattle.std.proofs.lemmas.Bool.{cases_Bool, false≢true, and_parts}
 use Rattle.vm_types.specs.declared.number.FrameNo.{FrameNo}
-use Rattle.vm_types.specs.declared.number.SlotNo.{SlotNo}
 use Rattle.sv39_walk.specs.declared.pte.Pte.{Pte}
 use Rattle.sv39_walk.specs.Entry.{has_bit, is_valid, can_write, is_leaf, frame_of}
 use Rattle.page_tables.specs.Entry.{number_of}
 use Rattle.page_tables.specs.declared.forms.Entry.{Entry}
 use Rattle.page_tables.specs.declared.forms.Entry.TheVariants.{None, Leaf, Swapped, Parked}
 use Rattle.vm_types.specs.declared.region.Attr.{Attr}
-use Rattle.paging.specs.Seats.{is_private, is_swapped, seat, InFrame}
+use Rattle.paging.specs.Seats.{is_private, seat}
 use Rattle.paging.specs.Picture.{Picture}
 use Rattle.paging.specs.Parts.{IsEntryFor, Nothing, Resident, Away}
 use Rattle.paging.proofs.Start.{no_bit}
-use Rattle.std.proofs.lemmas.Bool.{cases_Bool}
 use Rattle.copy_on_write.specs.Shares.{Weakens, without_write, lowered_entry}
 
 bit_set : (e : ℕ) → can_write e ≡ true → e / 4 % 2 ≡ 1
@@ -140,4 +139,30 @@ pub leaf_own : (e : ℕ) → is_valid e ≡ true → seat e ≢ Option.None → 
 leaf_own e valid some = elim (cases_Bool (is_private e)) [
   | inl own ↦ own
   | inr common ↦ absurd (some (rw (common, valid) refl))
+]
+
+-- the entry without W
+pub weakened : (e : ℕ) → Weakens e (without_write e)
+weakened e = elim (cases_Bool (is_valid e && can_write e)) [
+  | inl both ↦ (
+      let parts = and_parts (is_valid e) (can_write e) both in
+      let P : ℕ → Type 0 = λ x. Weakens e x in
+      subst P (number_less e parts.0 parts.1) (weaker_leaf e parts.0 parts.1))
+  | inr none ↦ (
+      let unwritten : is_valid e ≡ true → can_write e ≡ false = λ valid. (let P : Bool → Type 0 = λ x. (x && can_write e) ≡ false in subst P valid none) in
+      let P : ℕ → Type 0 = λ x. Weakens e x in
+      subst P (number_same e unwritten) (unchanged e unwritten))
+]
+
+lowered_own : (e : ℕ) → is_private e ≡ true → lowered_entry e ≡ without_write e
+lowered_own e own = rw own refl
+
+lowered_common : (e : ℕ) → is_private e ≡ false → lowered_entry e ≡ e
+lowered_common e common = rw common refl
+
+-- the entry of a shared page names the seat that it named
+pub seat_lowered : (e : ℕ) → seat (lowered_entry e) ≡ seat e
+seat_lowered e = elim (cases_Bool (is_private e)) [
+  | inl own ↦ ap seat (lowered_own e own) ∙ weaker_seat e (without_write e) (weakened e)
+  | inr common ↦ ap seat (lowered_common e common)
 ]

@@ -1,15 +1,15 @@
 -- What giving a child its shares leaves.
-use Rattle.std.specs.Prelude.{◌≡◌, ◌≢◌, ℕ, ◌+◌, ◌-◌, ◌<◌, ◌≤◌, ◌⊎◌, true, false, Option, Some, None, ◌&&◌, if◌then◌else◌}
+use Rattle.std.specs.Prelude.{◌≡◌, ◌≢◌, ℕ, ◌+◌, ◌-◌, ◌<◌, ◌≤◌, ◌⊎◌, true, false, Some, ◌&&◌, if◌then◌else◌}
 use Rattle.vm_types.specs.Limits.{top_level}
 use Rattle.vm_types.specs.declared.file.FilePage.{FilePage}
-use Rattle.frames.specs.FrameTable.{FrameTable, role_of}
+use Rattle.frames.specs.FrameTable.{role_of}
 use Rattle.sv39_walk.specs.Entry.{is_valid, can_read, can_write, can_execute, frame_of}
 use Rattle.page_tables.specs.Tree.{IsPage}
 use Rattle.page_tables.specs.Places.{IsTableOf}
 use Rattle.swap.specs.Slots.{IsInUse}
 use Rattle.paging.specs.Seats.{Seat, seat, is_private, is_swapped}
-use Rattle.paging.specs.Picture.{Picture, entry, view, held, count_in}
-use Rattle.paging.specs.Steps.{SameBeside, SetsPage}
+use Rattle.paging.specs.Picture.{Picture, entry, view, held, count_in, IsOwned}
+use Rattle.paging.specs.Steps.{SetsPage}
 use Rattle.mapping.specs.Changes.{KeepsTables, KeepsRoom}
 use Rattle.page_ranges.specs.Steps.{SameButMemory}
 
@@ -48,6 +48,16 @@ pub record Withdraws (old new : Picture) (pid page number : ℕ) : Type 0 where
   pub tables : KeepsTables old new
   pub roles : (n : ℕ) → role_of new.frames n ≡ role_of old.frames n
   pub counts : (z : Seat) → count_in new z ≡ count_in old z
+
+-- no leaf lets a store through to a seat
+abbrev pub IsUnwritten : Picture → Seat → Type 0
+IsUnwritten c y = (q p : ℕ) → IsPage top_level p → seat (entry c q p) ≡ Some y → is_valid (entry c q p) ≡ true → can_write (entry c q p) ≡ false
+
+-- One more may share a seat: it is that of own copies, fewer than 64 share it, and no leaf lets a store through to it.
+pub record MayShare (c : Picture) (y : Seat) : Type 0 where
+  pub owned : IsOwned c y
+  pub few : count_in c y < 64
+  pub unwritten : IsUnwritten c y
 
 -- one more shares a seat, and no entry, table, view or byte is another one
 pub record RaisesSeat (old new : Picture) (y : Seat) : Type 0 where

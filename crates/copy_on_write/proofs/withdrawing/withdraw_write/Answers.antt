@@ -1,0 +1,49 @@
+use Rattle.std.proofs.Common.{◌≡◌, ℕ, ◌%◌, true, refl, sym, ap, ◌∙◌, subst, arith}
+use Rattle.sv39_walk.specs.Entry.{is_valid}
+use Rattle.page_tables.specs.Entry.{number_of}
+use Rattle.paging.specs.Seats.{seat}
+use Rattle.paging.specs.Picture.{Picture, picture_of, entry}
+use Rattle.page_ranges.proofs.ClearedPages.{same_beside}
+use Rattle.copy_on_write.specs.Shares.{Weakens}
+use Rattle.copy_on_write.proofs.Live.{live_root}
+use Rattle.copy_on_write.proofs.Lowered.{fit_lowered, withdraws, places_set}
+use Rattle.copy_on_write.proofs.withdrawing.withdraw_write.Goals as goal
+
+pub returns-clause-fit : goal.returns-clause-fit
+returns-clause-fit g c =
+    let old : Picture = picture_of c.args.core.now in
+    let new : Picture = record old { frames = c.set_in.new.frames } in
+    let r = live_root (old.root c.args.pid) c.requires.live in
+    let valid : is_valid (entry old c.args.pid c.args.page) ≡ true = ap is_valid (sym c.requires.before) ∙ c.in-Some.ensures.valid in
+    let W : ℕ → Type 0 = λ x. Weakens x (number_of c.in-Some.after) in
+    let sets = c.set_in.ensures.sets r.0 c.args.page (c.requires.fit.rooted.roots c.args.pid r.0 r.1) (omega (arith, c.get.ensures)) (c.requires.place r.0 r.1)
+    (ap (λ x. x % 512) (sym c.get.ensures.number)) in
+    fit_lowered old new c.args.pid r.0 c.args.page (number_of c.in-Some.after) c.requires.fit r.1 (omega (arith, c.get.ensures)) valid c.requires.own
+    (subst W c.requires.before c.in-Some.ensures.weaker) sets (same_beside old c.set_in.new.frames)
+
+pub returns-clause-withdrawn : goal.returns-clause-withdrawn
+returns-clause-withdrawn g c =
+    let old : Picture = picture_of c.args.core.now in
+    let new : Picture = record old { frames = c.set_in.new.frames } in
+    let r = live_root (old.root c.args.pid) c.requires.live in
+    let valid : is_valid (entry old c.args.pid c.args.page) ≡ true = ap is_valid (sym c.requires.before) ∙ c.in-Some.ensures.valid in
+    let W : ℕ → Type 0 = λ x. Weakens x (number_of c.in-Some.after) in
+    let sets = c.set_in.ensures.sets r.0 c.args.page (c.requires.fit.rooted.roots c.args.pid r.0 r.1) (omega (arith, c.get.ensures)) (c.requires.place r.0 r.1)
+    (ap (λ x. x % 512) (sym c.get.ensures.number)) in
+    withdraws old new c.args.pid r.0 c.args.page (number_of c.in-Some.after) c.requires.fit r.1 (omega (arith, c.get.ensures)) valid c.requires.own
+    (subst W c.requires.before c.in-Some.ensures.weaker) sets (same_beside old c.set_in.new.frames)
+
+pub returns-clause-own : goal.returns-clause-own
+returns-clause-own g c none = c.requires.own (sym (returns-clause-withdrawn g c).seated ∙ none)
+
+pub returns-in_default-clause-own : goal.returns-in_default-clause-own
+returns-in_default-clause-own g c none = c.requires.own (ap seat (sym c.requires.before) ∙ none)
+
+pub returns-clause-places : goal.returns-clause-places
+returns-clause-places g c =
+    let old : Picture = picture_of c.args.core.now in
+    let new : Picture = record old { frames = c.set_in.new.frames } in
+    let r = live_root (old.root c.args.pid) c.requires.live in
+    let sets = c.set_in.ensures.sets r.0 c.args.page (c.requires.fit.rooted.roots c.args.pid r.0 r.1) (omega (arith, c.get.ensures)) (c.requires.place r.0 r.1)
+    (ap (λ x. x % 512) (sym c.get.ensures.number)) in
+    places_set old new 0 r.0 c.args.page (number_of c.in-Some.after) c.requires.fit.rooted (λ q. refl) sets

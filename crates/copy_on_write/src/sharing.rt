@@ -1,0 +1,143 @@
+//! The parent's own pages, given to the child.
+ghost use Rattle.std.specs.Prelude.{◌≡◌, ◌≢◌, ℕ, ◌+◌, ◌*◌, ◌/◌, ◌<◌, ◌≤◌, true, IfSome, IfNone};
+ghost use Rattle.vm_types.specs.Limits.{top_level, user_start, user_end};
+ghost use Rattle.page_tables.specs.Tree.{IsPage};
+ghost use Rattle.paging.specs.Picture.{picture_of, entry, is_live};
+ghost use Rattle.paging.specs.Parts.{IsFit};
+ghost use Rattle.mapping.specs.Changes.{IsWhole};
+ghost use Rattle.page_ranges.specs.Steps.{KeepsRest};
+ghost use Rattle.copy_on_write.specs.Steps.{HasTables, IsNextPage};
+ghost use Rattle.copy_on_write.specs.Shares.{SharesRow, IsTableFor};
+
+use crate::linking::is_own;
+use crate::withdrawing::{add_share, withdraw_write};
+use mapping::root_of;
+use page_ranges::{gap_end, table_end, user_page};
+use page_tables::{decode, number_in, set_in, table_of};
+use paging::Core;
+use vm_types::{FrameNo, Pid, USER_START, Vpn};
+
+/// Gives the child, whose pages are mapped as the parent's and have no entry, a share of each page of which the parent has a
+/// copy of its own, in a frame or in a slot. No store is let through to such a frame any more, so that the next one is noticed
+/// and gets a copy (fork(2), copy-on-write). `link_copies` has made the tables that the child wants, so no frame is asked for
+/// and no device, and the call can't fail. It costs the tables of the parent and their entries, and no page.
+pub fn share_pages<D, E>(core: &mut Core<D, E>, parent: Pid, child: Pid)
+    requires fit { IsFit (picture_of core.old) }
+    requires parent { is_live (picture_of core.old) parent ≡ true }
+    requires child { is_live (picture_of core.old) child ≡ true }
+    requires apart { parent ≢ child }
+    requires same { (page : ℕ) → (picture_of core.old).at child page ≡ (picture_of core.old).at parent page }
+    requires bare { (page : ℕ) → IsPage top_level page → entry (picture_of core.old) child page ≡ 0 }
+    requires linked { HasTables (picture_of core.old) parent child }
+    ensures fit { IsFit (picture_of core.new) }
+    ensures shares { SharesRow (picture_of core.old) (picture_of core.new) parent child user_start user_end }
+    ensures rest { KeepsRest core.old core.new }
+    ensures refused { core.new.refused ≡ core.old.refused }
+{
+    let mut number = USER_START;
+    while let Some(page) = Vpn::new(number) {
+        number = share_next(core, parent, child, page);
+    }
+}
+
+/// Gives the child its shares of the pages of one table of the parent, from `page` on; the result is the first page past that
+/// table. Where a table of the parent is missing, the pages of the missing one are passed over.
+fn share_next<D, E>(core: &mut Core<D, E>, parent: Pid, child: Pid, page: Vpn) -> u64
+    requires fit { IsFit (picture_of core.old) }
+    requires parent { is_live (picture_of core.old) parent ≡ true }
+    requires child { is_live (picture_of core.old) child ≡ true }
+    requires apart { parent ≢ child }
+    requires same { (p : ℕ) → (picture_of core.old).at child p ≡ (picture_of core.old).at parent p }
+    requires bare { (p : ℕ) → IsPage top_level p → page ≤ p → entry (picture_of core.old) child p ≡ 0 }
+    requires linked { HasTables (picture_of core.old) parent child }
+    ensures fit { IsFit (picture_of core.new) }
+    ensures further { page < result }
+    ensures next { IsNextPage (picture_of core.old) parent page result }
+    ensures shares { SharesRow (picture_of core.old) (picture_of core.new) parent child page result }
+    ensures rest { KeepsRest core.old core.new }
+    ensures refused { core.new.refused ≡ core.old.refused }
+{
+    if let Some(next) = gap_end(core, parent, page) {
+        return next;
+    }
+    let end = table_end(page);
+    share_table(core, parent, child, page, end);
+    end
+}
+
+/// Gives the child its shares of the pages from `start` up to, not including, `end`. Their entries stand in one table of the
+/// parent and in one of the child, which are looked for once and not for each page. Where the child has no table for them, the
+/// parent has no copy of any of them.
+fn share_table<D, E>(core: &mut Core<D, E>, parent: Pid, child: Pid, start: Vpn, end: u64)
+    requires fit { IsFit (picture_of core.old) }
+    requires parent { is_live (picture_of core.old) parent ≡ true }
+    requires child { is_live (picture_of core.old) child ≡ true }
+    requires apart { parent ≢ child }
+    requires same { (p : ℕ) → (picture_of core.old).at child p ≡ (picture_of core.old).at parent p }
+    requires bare { (p : ℕ) → IsPage top_level p → start ≤ p → entry (picture_of core.old) child p ≡ 0 }
+    requires linked { HasTables (picture_of core.old) parent child }
+    requires whole { IsWhole (picture_of core.old) parent start }
+    requires one_table { end ≡ (start / 512 + 1) * 512 }
+    ensures fit { IsFit (picture_of core.new) }
+    ensures shares { SharesRow (picture_of core.old) (picture_of core.new) parent child start end }
+    ensures rest { KeepsRest core.old core.new }
+    ensures refused { core.new.refused ≡ core.old.refused }
+{
+    let Some(from) = table_for(core, parent, start) else {
+        unreachable!();
+    };
+    let Some(to) = table_for(core, child, start) else {
+        return;
+    };
+    for page in start.get()..end {
+        share_page(core, parent, child, from, to, user_page(page));
+    }
+}
+
+/// The lowest table of a live process in which the entry of a page stands; `None` where a table is missing on the way.
+fn table_for<D, E>(core: &Core<D, E>, pid: Pid, page: Vpn) -> Option<FrameNo>
+    requires fit { IsFit (picture_of core.now) }
+    requires live { is_live (picture_of core.now) pid ≡ true }
+    ensures found { IfSome result (λ n. IsTableFor (picture_of core.now) pid (page / 512) n.0) }
+    ensures missing { IfNone result (IsWhole (picture_of core.now) pid page → ⊥) }
+{
+    let root = root_of(core, pid);
+    match table_of(&core.frames, root, page) {
+        Ok(table) => Some(table),
+        Err(_) => None,
+    }
+}
+
+/// Gives the child a share of one page, if the parent has a copy of its own of it. Its entry stands in table `from` of the
+/// parent, and in table `to` of the child.
+fn share_page<D, E>(
+    core: &mut Core<D, E>,
+    parent: Pid,
+    child: Pid,
+    from: FrameNo,
+    to: FrameNo,
+    page: Vpn,
+)
+    requires fit { IsFit (picture_of core.old) }
+    requires parent { is_live (picture_of core.old) parent ≡ true }
+    requires child { is_live (picture_of core.old) child ≡ true }
+    requires apart { parent ≢ child }
+    requires same { (p : ℕ) → (picture_of core.old).at child p ≡ (picture_of core.old).at parent p }
+    requires bare { entry (picture_of core.old) child page ≡ 0 }
+    requires from { IsTableFor (picture_of core.old) parent (page / 512) from.0 }
+    requires to { IsTableFor (picture_of core.old) child (page / 512) to.0 }
+    ensures fit { IsFit (picture_of core.new) }
+    ensures shares { SharesRow (picture_of core.old) (picture_of core.new) parent child page (page + 1) }
+    ensures places { (q row n : ℕ) → IsTableFor (picture_of core.old) q row n → IsTableFor (picture_of core.new) q row n }
+    ensures rest { KeepsRest core.old core.new }
+    ensures refused { core.new.refused ≡ core.old.refused }
+{
+    let index = (page.get() % 512) as usize;
+    let before = decode(number_in(&core.frames, from, index));
+    if !is_own(before) {
+        return;
+    }
+    let shared = withdraw_write(core, parent, from, page, before);
+    add_share(core, shared);
+    set_in(&mut core.frames, to, index, shared);
+}
