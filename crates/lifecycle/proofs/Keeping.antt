@@ -1,10 +1,9 @@
 -- What steps keep of the processes and of the files.
-use Rattle.std.proofs.Common.{◌≡◌, ℕ, inl, inr, Option, Some, None, true, false, refl, sym, ap, ◌∙◌}
+use Rattle.std.proofs.Common.{◌≡◌, ℕ, inl, inr, Option, Some, None, false, refl, sym, ap, ◌∙◌}
 use Rattle.std.specs.Prelude.{is_some}
 use Rattle.std.proofs.lemmas.Bool.{false≢true}
 use Rattle.vm_types.specs.declared.number.FrameNo.{FrameNo}
 use Rattle.frames.specs.declared.role.Role.TheVariants.{Free, Private}
-use Rattle.frames.specs.FrameTable.{role_of}
 use Rattle.paging.specs.Picture.{Picture, is_live}
 use Rattle.paging.specs.Calls.{KeepsPages, Frees}
 use Rattle.paging.specs.Shows.{KeepsFiles}

@@ -1,16 +1,30 @@
 -- What the calls do to the processes. fork(2), exit(2).
-use Rattle.std.specs.Prelude.{◌≡◌, ◌≢◌, ℕ, ◌⊎◌, true, Option, Some}
+use Rattle.std.specs.Prelude.{◌≡◌, ◌≢◌, ℕ, ◌+◌, ◌<◌, ◌≤◌, ◌⊎◌, true, false, Option, Some, None}
 use Rattle.vm_types.specs.Limits.{top_level}
 use Rattle.vm_types.specs.View.{View}
+use Rattle.vm_types.specs.Capacity.{tables_of}
+use Rattle.vm_types.specs.declared.refusal.Stall.{Stall}
+use Rattle.vm_types.specs.declared.refusal.Stall.TheVariants.{NoFrames, NoSwap, SwapDevice, StoreDevice}
 use Rattle.frames.specs.declared.role.Role.TheVariants.{Free, Table, Private}
 use Rattle.frames.specs.FrameTable.{FrameTable, frame_count, role_of}
-use Rattle.page_tables.specs.Tree.{missing_of}
-use Rattle.paging.specs.Picture.{Picture, is_live, is_data, view}
+use Rattle.sv39_walk.specs.Entry.{is_valid, can_write}
+use Rattle.page_tables.specs.Tree.{IsPage, IsTable, IsOnWay, missing_of}
+use Rattle.paging.specs.Seats.{seat, is_private}
+use Rattle.paging.specs.Picture.{Picture, is_live, is_data, entry, view}
+use Rattle.paging.specs.Capacity.{tables_over, copies_over}
+use Rattle.paging.specs.Shows.{KeepsFiles}
 
 -- a process came, with these pages, and every other process is as it was
 pub record AddsProcess (old new : Picture) (pid : ℕ) (space : ℕ → Option View) : Type 0 where
   pub lives : is_live new pid ≡ true
   pub pages : (page : ℕ) → view new pid page ≡ space page
+  pub others_live : (q : ℕ) → q ≢ pid → is_live new q ≡ is_live old q
+  pub others : (q page : ℕ) → q ≢ pid → view new q page ≡ view old q page
+
+-- a process went, and every other process is as it was
+pub record RemovesProcess (old new : Picture) (pid : ℕ) : Type 0 where
+  pub gone : is_live new pid ≡ false
+  pub pages : (page : ℕ) → view new pid page ≡ None
   pub others_live : (q : ℕ) → q ≢ pid → is_live new q ≡ is_live old q
   pub others : (q page : ℕ) → q ≢ pid → view new q page ≡ view old q page
 
@@ -33,3 +47,38 @@ pub record TakesRoot (old new : Picture) (pid n : ℕ) : Type 0 where
 -- no frame came to hold a page of a process's own
 abbrev pub TakesNoCopy : FrameTable → FrameTable → Type 0
 TakesNoCopy old new = (n : ℕ) → role_of new n ≡ Private → role_of old n ≡ Private
+
+-- The tables of a process are free, its root and those below it, and every other table stays one. No free frame is used.
+pub record FreesTables (old new : Picture) (pid : ℕ) : Type 0 where
+  pub own : (r page n : ℕ) → old.root pid ≡ Some r → IsOnWay old.frames top_level r page n → role_of new.frames n ≡ Free
+  pub others : (n : ℕ) → IsTable old.frames n
+      → IsTable new.frames n ⊎ ((r : ℕ) × (page : ℕ) × (old.root pid ≡ Some r) × IsOnWay old.frames top_level r page n)
+  pub free : (n : ℕ) → role_of old.frames n ≡ Free → role_of new.frames n ≡ Free
+
+-- A process without a page has those of another now, and none of them has an entry.
+pub record MapsAlike (old new : Picture) (parent child : ℕ) : Type 0 where
+  pub root : (q : ℕ) → new.root q ≡ old.root q
+  pub same : (page : ℕ) → new.at child page ≡ new.at parent page
+  pub bare : (page : ℕ) → IsPage top_level page → entry new child page ≡ 0
+  pub entries : (q page : ℕ) → entry new q page ≡ entry old q page
+  pub views : (q page : ℕ) → q ≢ child → view new q page ≡ view old q page
+  pub files : KeepsFiles old new
+
+-- Each copy of the parent's own, in a frame or in a slot, is the child's too, by the same entry, and no other page of the child
+-- has one. No leaf over such a frame lets stores through.
+pub record SharesCopies (c : Picture) (parent child : ℕ) : Type 0 where
+  pub shared : (page : ℕ) → IsPage top_level page → seat (entry c parent page) ≢ None → entry c child page ≡ entry c parent page
+  pub bare : (page : ℕ) → IsPage top_level page → seat (entry c parent page) ≡ None → entry c child page ≡ 0
+  pub unwritten : (page : ℕ) → IsPage top_level page → is_private (entry c parent page) ≡ true → is_valid (entry c parent page) ≡ true → can_write (entry c parent page) ≡ false
+
+-- a page of any process but one that had no entry has none
+abbrev pub KeepsBareOfOthers : Picture → Picture → ℕ → Type 0
+KeepsBareOfOthers old new pid = (q page : ℕ) → IsPage top_level page → q ≢ pid → entry old q page ≡ 0 → entry new q page ≡ 0
+
+-- Why no copy of a process was to be had, by what processes see and files are touched: the tables that they need with those of the
+-- copy, the zero page and one frame more fill memory; or the own copies and touched pages that there are don't go into swap.
+unfoldable pub IsShortToFork : Picture → ℕ → Stall → Type 0
+IsShortToFork c parent NoFrames = frame_count c.frames ≤ tables_over (is_live c) (view c) + tables_of (view c parent) + 2
+IsShortToFork c parent NoSwap = c.slots.total < copies_over (view c) (λ file page. c.touched (record { file = file; page = page }))
+IsShortToFork c parent SwapDevice = Unit {0}
+IsShortToFork c parent StoreDevice = Unit {0}

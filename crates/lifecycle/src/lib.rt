@@ -1,10 +1,14 @@
-//! Processes over memory that evicts: their numbers, and how they come.
+//! Processes over memory that evicts: their numbers, and how they come, are copied and go.
 #![tactic(auto)]
 
+mod endings;
+mod forking;
 mod numbers;
 mod starts;
 #[cfg(test)]
 mod tests;
 
+pub use endings::exit;
+pub use forking::fork;
 pub use numbers::free_pid;
 pub use starts::spawn;

@@ -1,0 +1,64 @@
+-- What an access asks for.
+use Rattle.std.proofs.Common.{ℕ, ◌≡◌, ◌⊎◌, ◌/◌, true, false, Some, is_some, List, Result, Ok, Err, sym, ap, ◌∙◌, subst}
+use Rattle.disk_model.specs.declared.sector_disk.SectorDisk.{Ghosts}
+use Rattle.page_faults.specs.declared.refusal.AccessRefusal.{AccessRefusal}
+use Rattle.page_faults.specs.declared.refusal.AccessRefusal.TheVariants as Refusal
+use Rattle.page_faults.specs.Outcome.{IsRefusal}
+use Rattle.frames.specs.FrameTable.{bytes_of, with_bytes}
+use Rattle.page_faults.specs.Wants.{Wants, ReadsHome}
+use Rattle.paging.specs.declared.kernel.Core.{Core}
+use Rattle.mapping.specs.Changes.{KeepsAround}
+use Rattle.paging.specs.Picture.{Picture, picture_of, is_live}
+use Rattle.vm_types.specs.declared.access.Access.{Access}
+use Rattle.vm_types.specs.declared.access.StoredValue.{StoredValue}
+use Rattle.vm_types.specs.declared.number.Phys.{Phys}
+use Rattle.vm_types.specs.declared.refusal.Stall.{Stall}
+use Rattle.vm_types.specs.declared.refusal.Stall.TheVariants.{StoreDevice}
+use Rattle.vm_types.specs.declared.reply.Reply.{Reply}
+use Rattle.vm_types.specs.declared.reply.Reply.TheVariants.{Faulted, Stalled}
+use Rattle.vm_types.specs.declared.width.Width.{Width}
+use Rattle.vm_types.specs.Access.{with_number}
+use Rattle.vm_types.specs.Replies.{reply_of}
+use Rattle.vm_types.specs.Width.{byte_count}
+use Rattle.calls.specs.Accesses.{answer_of, AsksFor, WritesNumber}
+use Rattle.calls.proofs.Refusals.{no_stall, same_stall}
+
+module _ {D E : Type 0} (old new : Core D E) (pid addr : ℕ) (access : Access) (read : (new.store ≡ old.store) ⊎ ReadsHome (picture_of old) pid (addr / 4096))
+    (slots : (Wants (picture_of old) pid (addr / 4096) access → ⊥) → new.swap ≡ old.swap) where
+  pub asks_unstalled : (reply : Reply) → ((stall : Stall) → reply ≡ Stalled stall → ⊥) → AsksFor old new pid addr access reply
+  asks_unstalled reply none = record { wanted = λ stall e. absurd (none stall e); home = λ e. absurd (none StoreDevice e); read = read; slots = slots }
+
+  -- an access without a place
+  pub asks_refused : (g : Ghosts D) (h : Ghosts E) (width : Width) (refusal : AccessRefusal) → IsRefusal g h old new pid addr width access refusal
+      → AsksFor old new pid addr access (reply_of (answer_of refusal))
+  asks_refused g h width (Refusal.Fault fault) is = asks_unstalled (Faulted fault) (no_stall fault)
+  asks_refused g h width (Refusal.Stall stall) is = record {
+    wanted = λ other e. is.stalled.wanted;
+    home = λ e. is.stalled.home (same_stall stall StoreDevice e);
+    read = read;
+    slots = slots;
+  }
+
+-- the tables of no process grant nothing
+pub no_root : (c : Picture) (pid root : ℕ) → is_live c pid ≡ false → c.root pid ≡ Some root → ⊥
+no_root c pid root dead lives = let bad : false ≡ true = sym dead ∙ ap is_some lives in cc
+
+-- an access has one end
+pub one_end : (r : Result Phys AccessRefusal) (place : Phys) (refusal : AccessRefusal) → r ≡ Err refusal → r ≡ Ok place → ⊥
+one_end r place refusal err ok = let bad : ◌≡◌ {A = Result Phys AccessRefusal} (Err refusal) (Ok place) = sym err ∙ ok in cc
+
+pub one_place : (r : Result Phys AccessRefusal) (a b : Phys) → r ≡ Ok a → r ≡ Ok b → a ≡ b
+one_place r a b here there = let same : ◌≡◌ {A = Result Phys AccessRefusal} (Ok a) (Ok b) = sym here ∙ there in cc
+
+-- a store that the tables granted
+pub writes_walked : {D E : Type 0} (old mid new : Core D E) (n m offset : ℕ) (stored : StoredValue) (page : List ℕ) → mid ≡ old → n ≡ m → KeepsAround mid new
+    → new.clock ≡ mid.clock → new.refused ≡ mid.refused → new.frames ≡ with_bytes mid.frames n page
+    → page ≡ with_number (bytes_of mid.frames n) offset (byte_count stored.width) stored.value → WritesNumber old new m offset stored
+writes_walked old mid new n m offset stored page same number around clock refused frames is =
+    subst (λ (k : Core _ _). WritesNumber k new m offset stored) same (record {
+      frames = frames ∙ ap (λ (b : List ℕ). with_bytes mid.frames n b) is
+          ∙ ap (λ (x : ℕ). with_bytes mid.frames x (with_number (bytes_of mid.frames x) offset (byte_count stored.width) stored.value)) number;
+      around = around;
+      clock = clock;
+      refused = refused;
+    })

@@ -1,0 +1,122 @@
+-- munmap of the flat model in a state that memory shows.
+use Rattle.std.proofs.Common.{ℕ, ◌+◌, ◌-◌, ◌/◌, ◌%◌, ◌≡◌, ◌≢◌, ◌<◌, ◌≤◌, ◌^◌, ◌==◌, ◌||◌, not, Bool, true, false, min, if◌then◌else◌, nat_lt, List, [], ◌∷◌, Option, Some, None, IsSome, option_map, refl, sym, ap, ◌∙◌, arith}
+use Rattle.std.proofs.lemmas.Bool.Decides.{nat_tests}
+use Rattle.disk_model.specs.declared.sector_disk.SectorDisk.{Ghosts}
+use Rattle.regions.specs.declared.run.Run.{Run}
+use Rattle.regions.specs.RunList.{attr_at}
+use Rattle.page_ranges.specs.Rows.{plain, remapped, RemapsRow}
+use Rattle.paging.specs.declared.kernel.Core.{Core}
+use Rattle.paging.specs.Picture.{Picture, picture_of, is_live, entry, own_in, view, view_of}
+use Rattle.paging.specs.Shows.{ShowsPages}
+use Rattle.vm_types.specs.declared.command.Command.TheVariants.{Munmap}
+use Rattle.vm_types.specs.declared.refusal.Errno.{Errno}
+use Rattle.vm_types.specs.declared.refusal.Errno.TheVariants.{ESRCH, EINVAL, ENOMEM}
+use Rattle.vm_types.specs.declared.region.Attr.{Attr}
+use Rattle.vm_types.specs.declared.reply.Reply.TheVariants.{Done, Refused}
+use Rattle.vm_types.specs.Checks.{first_of, page_count, pages_from}
+use Rattle.vm_types.specs.Ranges.{munmap_checks, unmapped}
+use Rattle.vm_types.specs.Rows.{in_row, removed, IsUserMap}
+use Rattle.vm_types.specs.Runs.{run_count}
+use Rattle.vm_types.specs.State.{State}
+use Rattle.vm_types.specs.Step.{Outcome, refused_or}
+use Rattle.vm_types.specs.View.{View}
+use Rattle.calls.specs.Calls.{Comes}
+use Rattle.calls.proofs.Calls.{does, does_answer, with_pages, shows_pages}
+use Rattle.calls.proofs.Pages.{attrs_by_runs}
+use Rattle.calls.proofs.Protects.{count_from}
+
+none_if : (o : Option Attr) → (IsSome o → ⊥) → o ≡ None
+none_if None h = refl
+none_if (Some attr) h = absurd (h refl)
+
+-- no page past the user pages is mapped
+past_user : (map : ℕ → Option Attr) (page : ℕ) → IsUserMap map → 2 ^ 26 ≤ page → map page ≡ None
+past_user map page user high = none_if (map page) (λ h. let inside = user.user_pages page h in absurd (omega (arith, inside.1)))
+
+unseen : (own : Option (List ℕ)) (o : Option Attr) → o ≡ None → view_of own o ≡ None
+unseen own o none = rw none refl
+
+unseen_past : (c : Picture) (pid page : ℕ) → IsUserMap (c.at pid) → 2 ^ 26 ≤ page → view c pid page ≡ None
+unfolding view
+unseen_past c pid page user high = unseen (own_in c.frames c.slots (entry c pid page)) (c.at pid page) (past_user (c.at pid) page user high)
+
+-- a row, and its part in the user pages
+module _ (first pages start count : ℕ) (from : start ≡ min first (2 ^ 26)) (size : count ≡ min (first + pages) (2 ^ 26) - start) where
+  in_both : (page : ℕ) → in_row start count page ≡ true → in_row first pages page ≡ true
+  in_both page e = grind (arith, nat_tests)
+
+  past_end : (page : ℕ) → in_row start count page ≡ false → in_row first pages page ≡ true → 2 ^ 26 ≤ page
+  past_end page out e = grind (arith, nat_tests)
+
+  -- what is mapped outside of that part
+  pub others_stay : (old : Picture) (pid : ℕ) (runs next : List Run) → IsUserMap (old.at pid) → ((page : ℕ) → attr_at runs page ≡ old.at pid page)
+      → ((page : ℕ) → attr_at next page ≡ removed (attr_at runs) first pages page)
+      → (page : ℕ) → in_row start count page ≡ false → attr_at next page ≡ old.at pid page
+  others_stay old pid runs next user here map page out =
+      elim (in_row first pages page) as (λ (b : Bool). in_row first pages page ≡ b → attr_at next page ≡ old.at pid page) [
+        | true ↦ λ e.
+            let gone : attr_at next page ≡ None = map page ∙ ap (λ (b : Bool). if b then None else attr_at runs page) e in
+            gone ∙ sym (past_user (old.at pid) page user (past_end page out e))
+        | false ↦ λ e. map page ∙ ap (λ (b : Bool). if b then None else attr_at runs page) e ∙ here page
+      ] refl
+
+  unmapped_page : (old : Picture) (pid : ℕ) (map : ℕ → Option Attr) (page : ℕ) → IsUserMap (old.at pid)
+      → (in_row first pages page ≡ true → map page ≡ None)
+      → unmapped (view old pid) first pages page ≡ remapped (view old pid) map start count page
+  unmapped_page old pid map page user gone =
+      elim (in_row start count page) as (λ (b : Bool). in_row start count page ≡ b
+      → unmapped (view old pid) first pages page ≡ (if b then option_map plain (map page) else view old pid page)) [
+        | true ↦ λ e.
+            let inside = in_both page e in
+            ap (λ (b : Bool). if b then None else view old pid page) inside ∙ sym (ap (λ (o : Option Attr). option_map plain o) (gone inside))
+        | false ↦ λ out.
+            elim (in_row first pages page) as (λ (b : Bool). in_row first pages page ≡ b → (if b then None else view old pid page) ≡ view old pid page) [
+              | true ↦ λ e. sym (unseen_past old pid page user (past_end page out e))
+              | false ↦ λ e. refl
+            ] refl
+      ] refl
+
+last_check : (a b c : Bool) → a ≡ true → b ≡ false → first_of ((not a, ESRCH) ∷ (b, EINVAL) ∷ (c, ENOMEM) ∷ []) ≡ first_of ((c, ENOMEM) ∷ [])
+last_check a b c e f = rw (e, f) refl
+
+module _ {D E : Type 0} (g : Ghosts D) (h : Ghosts E) (old : Core D E) (s : State) (pid addr len : ℕ) (shows : ShowsPages (picture_of old) s)
+    (live : is_live (picture_of old) pid ≡ true) (some : len ≢ 0) (aligned : addr % 4096 ≡ 0)
+    (runs : List Run) (here : (page : ℕ) → attr_at runs page ≡ (picture_of old).at pid page) (pages : ℕ) (count : pages ≡ page_count len) where
+  abbrev rest : Option Errno → (ℕ → Option View) → Outcome
+  rest errno space = refused_or s errno (record { reply = Done; state = with_pages s pid space })
+
+  abbrev after : ℕ → Option View
+  after = unmapped (s.views pid) (addr / 4096) (pages_from addr len)
+
+  ruled : first_of (munmap_checks s pid addr len) ≡ first_of ((nat_lt 256 (run_count (removed (attr_at runs) (addr / 4096) pages)), ENOMEM) ∷ [])
+  ruled =
+      let e : s.live pid ≡ true = shows.live pid ∙ live in
+      let f : (len == 0 || not (addr % 4096 == 0)) ≡ false = grind (arith, nat_tests) in
+      last_check (s.live pid) (len == 0 || not (addr % 4096 == 0)) _ e f
+      ∙ ap (λ (map : ℕ → Option Attr). first_of ((nat_lt 256 (run_count (removed map (addr / 4096) (pages_from addr len))), ENOMEM) ∷ []))
+      (attrs_by_runs (picture_of old) s pid runs shows here)
+      ∙ ap (λ (n : ℕ). first_of ((nat_lt 256 (run_count (removed (attr_at runs) (addr / 4096) n)), ENOMEM) ∷ [])) (count_from addr len aligned ∙ sym count)
+
+  pub refused_many : 256 < run_count (removed (attr_at runs) (addr / 4096) pages) → Comes g h old old s (Munmap pid addr len) (Refused ENOMEM)
+  refused_many many =
+      let e : nat_lt 256 (run_count (removed (attr_at runs) (addr / 4096) pages)) ≡ true = grind (arith, nat_tests, many) in
+      does_answer g h old old s (Munmap pid addr len) (Refused ENOMEM) shows
+      (ap (λ (o : Option Errno). rest o after) (ruled ∙ ap (λ (b : Bool). first_of ((b, ENOMEM) ∷ [])) e))
+
+  module _ (few : run_count (removed (attr_at runs) (addr / 4096) pages) ≤ 256) (next : List Run)
+      (map : (page : ℕ) → attr_at next page ≡ removed (attr_at runs) (addr / 4096) pages page) (user : IsUserMap ((picture_of old).at pid))
+      (start size : ℕ) (from : start ≡ min (addr / 4096) (2 ^ 26)) (to : size ≡ min (addr / 4096 + pages) (2 ^ 26) - start) where
+    after_is : (new : Core D E) → RemapsRow (picture_of old) (picture_of new) pid start size (attr_at next) → (page : ℕ) → after page ≡ view (picture_of new) pid page
+    after_is new row page =
+        ap (λ (n : ℕ). unmapped (s.views pid) (addr / 4096) n page) (count_from addr len aligned ∙ sym count)
+        ∙ ap (λ (o : Option View). if in_row (addr / 4096) pages page then None else o) (shows.views pid page)
+        ∙ unmapped_page (addr / 4096) pages start size from to (picture_of old) pid (attr_at next) page user
+        (λ e. map page ∙ ap (λ (b : Bool). if b then None else attr_at runs page) e)
+        ∙ sym (row.views page)
+
+    pub unmaps : (new : Core D E) → RemapsRow (picture_of old) (picture_of new) pid start size (attr_at next) → Comes g h old new s (Munmap pid addr len) Done
+    unmaps new row =
+        let e : nat_lt 256 (run_count (removed (attr_at runs) (addr / 4096) pages)) ≡ false = grind (arith, nat_tests, few) in
+        does g h old new s (Munmap pid addr len) Done (record { reply = Done; state = with_pages s pid after })
+        (ap (λ (o : Option Errno). rest o after) (ruled ∙ ap (λ (b : Bool). first_of ((b, ENOMEM) ∷ [])) e)) refl
+        (shows_pages (picture_of old) (picture_of new) s pid after shows row.files row.root (after_is new row) row.others)

@@ -1,0 +1,163 @@
+use Rattle.std.proofs.Common.{ℕ, ◌≡◌, ◌⊎◌, inl, true, false, is_some, ◌/◌, ◌%◌, List, refl, sym, ap, ◌∙◌, subst}
+use Rattle.page_faults.specs.Outcome.{Grants, IsReadyToStore, IsOpenToStore, IsRefusal, IsWalked}
+use Rattle.page_faults.specs.Wants.{Wants, ReadsHome}
+use Rattle.mapping.specs.Changes.{KeepsOtherViews}
+use Rattle.paging.specs.Picture.{picture_of, is_live}
+use Rattle.vm_types.specs.declared.access.Access.TheVariants as Accesses
+use Rattle.vm_types.specs.declared.command.Command.TheVariants.{Store}
+use Rattle.vm_types.specs.declared.number.Phys.{Phys}
+use Rattle.vm_types.specs.declared.refusal.Errno.TheVariants.{ESRCH}
+use Rattle.vm_types.specs.declared.reply.Answer.{Answer}
+use Rattle.vm_types.specs.declared.reply.Reply.TheVariants.{Done, Refused}
+use Rattle.vm_types.specs.Access.{with_number}
+use Rattle.vm_types.specs.Width.{byte_count}
+use Rattle.vm_types.specs.Replies.{reply_of}
+use Rattle.calls.specs.Accesses.{answer_of, AsksFor}
+use Rattle.calls.specs.Calls.{Comes, IsCaused}
+use Rattle.calls.specs.Idle.{is_denial}
+use Rattle.calls.proofs.Asking.{asks_refused, asks_unstalled, no_root, one_end, one_place, writes_walked}
+use Rattle.calls.proofs.Calls.{found_lives}
+use Rattle.calls.proofs.Refusals.{refused_idle, refused_caused}
+use Rattle.calls.proofs.Writing.{fit_stored, open_held, others_stored, room_stored, store_refused, stores}
+use Rattle.calls.proofs.accesses.store.Goals as goal
+
+pub frame_of-frame-requires : goal.frame_of-frame-requires
+frame_of-frame-requires g c =
+    let placed = c.in-Ok.ensures.placed in
+    (open_held (picture_of c.access.new.core) c.in-Some.pid (c.args.addr / 4096) placed.seen.attr.backing (c.in-Ok.place.0 / 4096) placed.usable).inside
+
+pub returns-in-Ok-clause-reads : goal.returns-in-Ok-clause-reads
+returns-in-Ok-clause-reads g c = c.access.ensures.proceeds.reads
+
+pub returns-in-Ok-clause-device : goal.returns-in-Ok-clause-device
+returns-in-Ok-clause-device g c = c.access.ensures.proceeds.device
+
+pub returns-in-Ok-clause-room : goal.returns-in-Ok-clause-room
+returns-in-Ok-clause-room g c =
+    room_stored (picture_of c.args.core.now) (picture_of c.access.new.core) _ c.frame_of-frame.result.0 c.write_number.new.page c.access.ensures.proceeds.room refl refl
+
+pub returns-in-Ok-clause-sound : goal.returns-in-Ok-clause-sound
+returns-in-Ok-clause-sound g c =
+    let a = c.args in
+    let mid = c.access.new.core in
+    let n = c.frame_of-frame.result.0 in
+    let placed = c.in-Ok.ensures.placed in
+    let goes = c.access.ensures.proceeds in
+    let usable = subst (λ (k : ℕ). IsOpenToStore (picture_of mid) c.in-Some.pid (a.addr / 4096) placed.seen.attr.backing k) (sym c.frame_of-frame.ensures) placed.usable in
+    record {
+      ready = goes.ready;
+      swap = goes.swap;
+      fit = fit_stored (picture_of mid) _ c.in-Some.pid (a.addr / 4096) placed.seen.attr.backing n c.write_number.new.page goes.fit usable refl
+          (record { slots = refl; root = λ q. refl; at = λ q k. refl; page_of = λ m. refl; place = λ p. refl; touched = λ p. refl; files = λ f. refl });
+    }
+
+pub returns-in-Ok-clause-comes : goal.returns-in-Ok-clause-comes
+returns-in-Ok-clause-comes g c = λ s shows keeps swaps.
+    let a = c.args in
+    let mid = c.access.new.core in
+    let n = c.frame_of-frame.result.0 in
+    let granted = subst (λ (p : ℕ). Grants (picture_of a.core.now) (picture_of mid) p a.addr a.stored.width Accesses.Store c.in-Ok.place) c.in-Some.ensures.found.0
+    (c.in-Ok.ensures.granted (λ away. swaps refl)) in
+    let ready = subst (λ (k : ℕ). IsReadyToStore (picture_of a.core.now) (picture_of mid) a.pid (a.addr / 4096) granted.seen granted.seen.attr.backing k)
+    (sym c.frame_of-frame.ensures) granted.ready in
+    stores g.D.SectorDisk g.E.SectorDisk a.core.now mid _ s shows (keeps refl) (swaps refl) c.requires.sound.fit c.access.ensures.proceeds c.access.ensures.brings
+    a.pid a.addr (found_lives (picture_of a.core.now) c.in-Some.pid a.pid c.in-Some.ensures.found) a.stored granted.seen granted.fine n _ c.write_number.new.page refl
+    (record { slots = refl; root = λ q. refl; at = λ q k. refl; page_of = λ m. refl; place = λ p. refl; touched = λ p. refl; files = λ f. refl })
+    ready
+    (c.write_number.ensures
+    ∙ ap (λ (b : List ℕ). with_number b (a.addr % 4096) (byte_count a.stored.width) a.stored.value) c.bytes_mut-page.ensures.value)
+
+pub returns-in-Ok-clause-others : goal.returns-in-Ok-clause-others
+returns-in-Ok-clause-others g c =
+    let a = c.args in
+    let old = picture_of a.core.now in
+    let mid = picture_of c.access.new.core in
+    let placed = c.in-Ok.ensures.placed in
+    let here = subst (λ (p : ℕ). IsOpenToStore mid p (a.addr / 4096) placed.seen.attr.backing (c.in-Ok.place.0 / 4096)) c.in-Some.ensures.found.0 placed.usable in
+    let usable = subst (λ (k : ℕ). IsOpenToStore mid a.pid (a.addr / 4096) placed.seen.attr.backing k) (sym c.frame_of-frame.ensures) here in
+    let others = subst (λ (p : ℕ). KeepsOtherViews old mid p (a.addr / 4096)) c.in-Some.ensures.found.0 c.access.ensures.others in
+    others_stored old mid _ a.pid (a.addr / 4096) placed.seen.attr.backing c.frame_of-frame.result.0 c.write_number.new.page c.access.ensures.proceeds.fit
+    usable refl (record { slots = refl; root = λ q. refl; at = λ q k. refl; page_of = λ m. refl; place = λ p. refl; touched = λ p. refl; files = λ f. refl })
+    others
+
+pub returns-in-Ok-clause-walked : goal.returns-in-Ok-clause-walked
+returns-in-Ok-clause-walked g c place walked =
+    let a = c.args in
+    let mid = c.access.new.core in
+    let granted = c.access.ensures.walked place (subst (λ (p : ℕ). IsWalked (picture_of a.core.now) p a.addr a.stored.width Accesses.Store place) (sym c.in-Some.ensures.found.0) walked) in
+    let number = c.frame_of-frame.ensures ∙ ap (λ (p : Phys). p.0 / 4096) (one_place c.access.result c.in-Ok.place place c.in-Ok.is granted.1) in
+    writes_walked a.core.now mid _ c.frame_of-frame.result.0 (place.0 / 4096) (a.addr % 4096) a.stored c.write_number.new.page granted.0 number
+    (record { store = refl; swap = refl; cache = refl; roots = refl; regions = refl; page_of = refl }) refl refl refl
+    (c.write_number.ensures
+    ∙ ap (λ (b : List ℕ). with_number b (a.addr % 4096) (byte_count a.stored.width) a.stored.value) c.bytes_mut-page.ensures.value)
+
+pub returns-in-Ok-clause-asks : goal.returns-in-Ok-clause-asks
+returns-in-Ok-clause-asks g c =
+    let a = c.args in
+    let old = picture_of a.core.now in
+    let read = subst (λ (p : ℕ). (c.access.new.core.store ≡ a.core.now.store) ⊎ ReadsHome old p (a.addr / 4096)) c.in-Some.ensures.found.0
+    c.access.ensures.read in
+    let slots = subst (λ (p : ℕ). (Wants old p (a.addr / 4096) Accesses.Store → ⊥) → c.access.new.core.swap ≡ a.core.now.swap) c.in-Some.ensures.found.0
+    (λ none. (c.access.ensures.calm none).swap) in
+    asks_unstalled a.core.now _ a.pid a.addr Accesses.Store read slots Done (λ stall e. cc)
+
+pub returns-in-Err-clause-comes : goal.returns-in-Err-clause-comes
+returns-in-Err-clause-comes g c = λ s shows keeps swaps.
+    let a = c.args in
+    let refusal = subst (λ (p : ℕ). IsRefusal g.D.SectorDisk g.E.SectorDisk a.core.now c.access.new.core p a.addr a.stored.width Accesses.Store c.in-Err.refusal) c.in-Some.ensures.found.0
+    c.in-Err.ensures.refusal in
+    subst (λ (r : Answer). Comes g.D.SectorDisk g.E.SectorDisk a.core.now c.access.new.core s (Store a.pid a.addr a.stored) (reply_of r)) (sym c.refused.ensures)
+    (store_refused g.D.SectorDisk g.E.SectorDisk a.core.now c.access.new.core _ s shows (keeps refl) (swaps refl) c.requires.sound.fit c.access.ensures.proceeds c.access.ensures.brings
+    a.pid a.addr (found_lives (picture_of a.core.now) c.in-Some.pid a.pid c.in-Some.ensures.found) a.stored c.in-Err.refusal refusal)
+
+pub returns-in-Err-clause-reads : goal.returns-in-Err-clause-reads
+returns-in-Err-clause-reads g c = c.access.ensures.proceeds.reads
+
+pub returns-in-Err-clause-device : goal.returns-in-Err-clause-device
+returns-in-Err-clause-device g c = c.access.ensures.proceeds.device
+
+pub returns-in-Err-clause-others : goal.returns-in-Err-clause-others
+returns-in-Err-clause-others g c =
+    let a = c.args in
+    subst (λ (p : ℕ). KeepsOtherViews (picture_of a.core.now) (picture_of c.access.new.core) p (a.addr / 4096)) c.in-Some.ensures.found.0 c.access.ensures.others
+
+pub returns-in-Err-clause-room : goal.returns-in-Err-clause-room
+returns-in-Err-clause-room g c = c.access.ensures.proceeds.room
+
+pub returns-in-Err-clause-denied : goal.returns-in-Err-clause-denied
+returns-in-Err-clause-denied g c =
+    subst (λ (r : Answer). is_denial (reply_of r) ≡ true → c.access.new.core ≡ c.args.core.now) (sym c.refused.ensures)
+    (refused_idle g.D.SectorDisk g.E.SectorDisk c.args.core.now c.access.new.core c.in-Some.pid c.args.addr c.args.stored.width Accesses.Store c.in-Err.refusal c.in-Err.ensures.refusal)
+
+pub returns-in-Err-clause-walked : goal.returns-in-Err-clause-walked
+returns-in-Err-clause-walked g c place walked =
+    let a = c.args in
+    let granted = c.access.ensures.walked place (subst (λ (p : ℕ). IsWalked (picture_of a.core.now) p a.addr a.stored.width Accesses.Store place) (sym c.in-Some.ensures.found.0) walked) in
+    absurd (one_end c.access.result place c.in-Err.refusal c.in-Err.is granted.1)
+
+pub returns-in-Err-clause-asks : goal.returns-in-Err-clause-asks
+returns-in-Err-clause-asks g c =
+    let a = c.args in
+    subst (λ (r : Answer). AsksFor a.core.now c.access.new.core a.pid a.addr Accesses.Store (reply_of r)) (sym c.refused.ensures)
+    (subst (λ (p : ℕ). AsksFor a.core.now c.access.new.core p a.addr Accesses.Store (reply_of (answer_of c.in-Err.refusal))) c.in-Some.ensures.found.0
+    (asks_refused a.core.now c.access.new.core c.in-Some.pid a.addr Accesses.Store c.access.ensures.read (λ none. (c.access.ensures.calm none).swap) g.D.SectorDisk g.E.SectorDisk
+    a.stored.width c.in-Err.refusal c.in-Err.ensures.refusal))
+
+pub returns-in-Err-clause-caused : goal.returns-in-Err-clause-caused
+returns-in-Err-clause-caused g c =
+    let goes = c.access.ensures.proceeds in
+    subst (λ (r : Answer). IsCaused g.D.SectorDisk g.E.SectorDisk c.args.core.now c.access.new.core (reply_of r)) (sym c.refused.ensures)
+    (refused_caused g.D.SectorDisk g.E.SectorDisk c.args.core.now c.access.new.core c.in-Some.pid c.args.addr c.args.stored.width Accesses.Store c.in-Err.refusal
+    goes.reads.failures goes.device.later c.in-Err.ensures.refusal)
+
+pub returns-in_default-clause-walked : goal.returns-in_default-clause-walked
+returns-in_default-clause-walked g c place walked =
+    let dead : is_live (picture_of c.args.core.now) c.args.pid ≡ false = sym c.live.ensures.known ∙ ap is_some c.in_default.is in
+    absurd (no_root (picture_of c.args.core.now) c.args.pid walked.root dead walked.lives)
+
+pub returns-in_default-clause-asks : goal.returns-in_default-clause-asks
+returns-in_default-clause-asks g c =
+    asks_unstalled c.args.core.now c.args.core.now c.args.pid c.args.addr Accesses.Store (inl refl) (λ none. refl) (Refused ESRCH) (λ stall e. cc)
+
+pub returns-in_default-clause-others : goal.returns-in_default-clause-others
+returns-in_default-clause-others g c = λ q k other. refl

@@ -1,0 +1,32 @@
+use Rattle.std.proofs.Common.{ℕ, subst}
+use Rattle.lifecycle.specs.Changes.{AddsProcess, IsShortToFork}
+use Rattle.paging.specs.Picture.{picture_of, view}
+use Rattle.calls.proofs.Calls.{found_lives}
+use Rattle.calls.proofs.Living.{fork_refused, forks_to, fork_stalls, birth_caused}
+use Rattle.calls.proofs.births.fork.Goals as goal
+
+pub returns-in_default-free_pid-clause-comes : goal.returns-in_default-free_pid-clause-comes
+returns-in_default-free_pid-clause-comes g c = λ s shows reads swaps.
+    fork_refused g.D.SectorDisk g.E.SectorDisk c.args.core.now s shows.pages c.free_pid.result c.free_pid.ensures.least c.args.pid
+    (found_lives (picture_of c.args.core.now) c.in-Some.parent c.args.pid c.in-Some.ensures.found) c.in_default-free_pid.is
+
+pub returns-in-Ok-clause-comes : goal.returns-in-Ok-clause-comes
+returns-in-Ok-clause-comes g c = λ s shows reads swaps.
+    let old = picture_of c.args.core.now in
+    forks_to g.D.SectorDisk g.E.SectorDisk c.args.core.now s shows.pages c.free_pid.result c.free_pid.ensures.least c.args.pid
+    (found_lives old c.in-Some.parent c.args.pid c.in-Some.ensures.found)
+    c.in-Some-free_pid.child c.in-Some-free_pid.is c.fork.new.core c.fork.ensures.files
+    (subst (λ (p : ℕ). AddsProcess old (picture_of c.fork.new.core) c.in-Some-free_pid.child (view old p)) c.in-Some.ensures.found.0 c.in-Ok.ensures.ok)
+
+pub returns-in-Err-clause-comes : goal.returns-in-Err-clause-comes
+returns-in-Err-clause-comes g c = λ s shows reads swaps.
+    let old = picture_of c.args.core.now in
+    fork_stalls g.D.SectorDisk g.E.SectorDisk c.args.core.now s shows.pages c.free_pid.result c.free_pid.ensures.least c.args.pid
+    (found_lives old c.in-Some.parent c.args.pid c.in-Some.ensures.found)
+    c.in-Some-free_pid.child c.in-Some-free_pid.is c.fork.new.core c.in-Err.stall c.in-Err.ensures.cause
+    (subst (λ (p : ℕ). IsShortToFork old p c.in-Err.stall) c.in-Some.ensures.found.0 c.in-Err.ensures.short) c.fork.ensures.room
+    c.fork.ensures.files c.in-Err.ensures.err
+
+pub returns-in-Err-clause-caused : goal.returns-in-Err-clause-caused
+returns-in-Err-clause-caused g c =
+    birth_caused g.D.SectorDisk g.E.SectorDisk c.args.core.now c.fork.new.core c.in-Err.stall c.fork.ensures.store c.fork.ensures.device.later c.in-Err.ensures.cause

@@ -1,0 +1,38 @@
+-- What an access answers where it has no place, and what it asks for.
+use Rattle.std.specs.Prelude.{ℕ, ◌≡◌, ◌⊎◌, ◌/◌}
+use Rattle.page_faults.specs.declared.refusal.AccessRefusal.{AccessRefusal}
+use Rattle.page_faults.specs.declared.refusal.AccessRefusal.TheVariants as Refusal
+use Rattle.frames.specs.FrameTable.{bytes_of, with_bytes}
+use Rattle.page_faults.specs.Wants.{Wants, ReadsHome}
+use Rattle.paging.specs.declared.kernel.Core.{Core}
+use Rattle.mapping.specs.Changes.{KeepsAround}
+use Rattle.paging.specs.Picture.{picture_of}
+use Rattle.vm_types.specs.declared.access.Access.{Access}
+use Rattle.vm_types.specs.declared.access.StoredValue.{StoredValue}
+use Rattle.vm_types.specs.declared.refusal.Stall.{Stall}
+use Rattle.vm_types.specs.declared.refusal.Stall.TheVariants.{StoreDevice}
+use Rattle.vm_types.specs.declared.reply.Answer.{Answer}
+use Rattle.vm_types.specs.declared.reply.Answer.TheVariants.{Faulted, Stalled}
+use Rattle.vm_types.specs.declared.reply.Reply.{Reply}
+use Rattle.vm_types.specs.Access.{with_number}
+use Rattle.vm_types.specs.Width.{byte_count}
+
+abbrev pub answer_of : AccessRefusal → Answer
+answer_of (Refusal.Fault fault) = Faulted fault
+answer_of (Refusal.Stall stall) = Stalled stall
+
+module _ {D E : Type 0} where
+  -- What an access that is so answered asks for: it stalls only where a frame is wanted, and for the store's device only where
+  -- its page is to be read from its home; the store is read there alone, and slots are asked for and read only where a frame is wanted.
+  pub record AsksFor (old new : Core D E) (pid addr : ℕ) (access : Access) (reply : Reply) : Type 0 where
+    pub wanted : (stall : Stall) → reply ≡ Reply.Stalled stall → Wants (picture_of old) pid (addr / 4096) access
+    pub home : reply ≡ Reply.Stalled StoreDevice → ReadsHome (picture_of old) pid (addr / 4096)
+    pub read : (new.store ≡ old.store) ⊎ ReadsHome (picture_of old) pid (addr / 4096)
+    pub slots : (Wants (picture_of old) pid (addr / 4096) access → ⊥) → new.swap ≡ old.swap
+
+  -- a number was written into frame n from that byte of it on, and nothing else changed
+  pub record WritesNumber (old new : Core D E) (n offset : ℕ) (stored : StoredValue) : Type 0 where
+    pub frames : new.frames ≡ with_bytes old.frames n (with_number (bytes_of old.frames n) offset (byte_count stored.width) stored.value)
+    pub around : KeepsAround old new
+    pub clock : new.clock ≡ old.clock
+    pub refused : new.refused ≡ old.refused

@@ -1,0 +1,6 @@
+pub mod Accesses
+pub mod Calls
+pub mod Idle
+pub mod Mappings
+pub mod Protections
+pub mod Space

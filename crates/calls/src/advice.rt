@@ -1,0 +1,53 @@
+//! madvise with MADV_DONTNEED.
+ghost use Rattle.std.specs.Prelude.{◌≡◌, true};
+ghost use Rattle.vm_types.specs.Replies.{reply_of};
+ghost use Rattle.vm_types.specs.declared.command.Command.TheVariants.{Dontneed};
+ghost use Rattle.mapping.specs.Changes.{KeepsRoom};
+ghost use Rattle.page_ranges.specs.Steps.{KeepsDevices};
+ghost use Rattle.msync.specs.Shows.{IsSoundCore};
+ghost use Rattle.paging.specs.Picture.{picture_of};
+ghost use Rattle.calls.specs.Calls.{Carries, IsCaused};
+ghost use Rattle.calls.specs.Idle.{is_denial};
+
+use crate::space::PAGE;
+use disk_model::SectorDisk;
+use page_ranges::clear_row;
+use paging::Core;
+use vm_types::{Answer, Errno};
+
+/// Gives up the own copies of the pages of the range of `len` bytes from `addr` on (madvise(2), MADV_DONTNEED): each shows what
+/// stands behind it again. File pages keep what was stored to them through shared pages, and stay touched.
+///
+/// In this order: `ESRCH` where there is no such process, `EINVAL` where the address is no multiple of the page size; a
+/// length of 0 is done with; `ENOMEM` where a page isn't mapped. A refused call changes nothing, also over a hole.
+pub fn dontneed<D: SectorDisk, E: SectorDisk>(
+    core: &mut Core<D, E>,
+    pid: u64,
+    addr: u64,
+    len: u64,
+) -> Answer
+    requires sound { IsSoundCore D.SectorDisk E.SectorDisk core.old }
+    ensures sound { IsSoundCore D.SectorDisk E.SectorDisk core.new }
+    ensures comes { Carries D.SectorDisk E.SectorDisk core.old core.new (Dontneed pid addr len) (reply_of result) }
+    ensures devices { KeepsDevices core.old core.new }
+    ensures denied { is_denial (reply_of result) ≡ true → core.new ≡ core.old }
+    ensures room { KeepsRoom (picture_of core.old) (picture_of core.new) }
+    ensures caused { IsCaused D.SectorDisk E.SectorDisk core.old core.new (reply_of result) }
+{
+    let Some(pid) = core.live(pid) else {
+        return Answer::Refused(Errno::ESRCH);
+    };
+    if addr % PAGE != 0 {
+        return Answer::Refused(Errno::EINVAL);
+    }
+    if len == 0 {
+        return Answer::Done;
+    }
+    let first = addr / PAGE;
+    let pages = len.div_ceil(PAGE);
+    if !core.regions(pid).covers(first, pages) {
+        return Answer::Refused(Errno::ENOMEM);
+    }
+    clear_row(core, pid, first, pages);
+    Answer::Done
+}

@@ -1,0 +1,86 @@
+//! Processes that come and go.
+ghost use Rattle.std.specs.Prelude.{◌≡◌, true};
+ghost use Rattle.vm_types.specs.Replies.{reply_of};
+ghost use Rattle.vm_types.specs.declared.command.Command.TheVariants.{Spawn, Fork, Exit};
+ghost use Rattle.mapping.specs.Changes.{KeepsRoom};
+ghost use Rattle.page_ranges.specs.Steps.{KeepsDevices};
+ghost use Rattle.msync.specs.Shows.{IsSoundCore};
+ghost use Rattle.paging.specs.Calls.{UsesDevice};
+ghost use Rattle.paging.specs.Picture.{picture_of};
+ghost use Rattle.calls.specs.Calls.{Carries, IsCaused};
+ghost use Rattle.calls.specs.Idle.{is_denial};
+
+use disk_model::SectorDisk;
+use lifecycle::free_pid;
+use paging::Core;
+use vm_types::{Answer, Errno};
+
+/// Starts a process with an empty space, and answers its number, the least that is free.
+///
+/// `EAGAIN` where 64 processes live (fork(2)). It may stall for a frame: `NoFrames` where the tables of all processes, its own
+/// included, and two more frames fill memory, `NoSwap` where slots are fewer than own copies and touched file pages, `SwapDevice`
+/// where that device failed as a frame was given up; then there is no such process, and nobody sees a change.
+pub fn spawn<D: SectorDisk, E: SectorDisk>(core: &mut Core<D, E>) -> Answer
+    requires sound { IsSoundCore D.SectorDisk E.SectorDisk core.old }
+    ensures sound { IsSoundCore D.SectorDisk E.SectorDisk core.new }
+    ensures comes { Carries D.SectorDisk E.SectorDisk core.old core.new Spawn (reply_of result) }
+    ensures store { core.new.store ≡ core.old.store }
+    ensures device { UsesDevice E.SectorDisk core.old.swap.pages.disk core.new.swap.pages.disk }
+    ensures denied { is_denial (reply_of result) ≡ true → core.new ≡ core.old }
+    ensures room { KeepsRoom (picture_of core.old) (picture_of core.new) }
+    ensures caused { IsCaused D.SectorDisk E.SectorDisk core.old core.new (reply_of result) }
+{
+    let Some(pid) = free_pid(core) else {
+        return Answer::Refused(Errno::EAGAIN);
+    };
+    match lifecycle::spawn(core, pid) {
+        Ok(()) => Answer::Process(pid),
+        Err(stall) => Answer::Stalled(stall),
+    }
+}
+
+/// Starts a process with the pages of another, own copies included (fork(2)), and answers its number, the least that is
+/// free. Each of the two sees its own later stores alone, but for those through shared pages.
+///
+/// In this order: `ESRCH` where there is no such parent, `EAGAIN` where 64 processes live. It may stall as a
+/// spawn does, for the child's tables; then there is no child.
+pub fn fork<D: SectorDisk, E: SectorDisk>(core: &mut Core<D, E>, pid: u64) -> Answer
+    requires sound { IsSoundCore D.SectorDisk E.SectorDisk core.old }
+    ensures sound { IsSoundCore D.SectorDisk E.SectorDisk core.new }
+    ensures comes { Carries D.SectorDisk E.SectorDisk core.old core.new (Fork pid) (reply_of result) }
+    ensures store { core.new.store ≡ core.old.store }
+    ensures device { UsesDevice E.SectorDisk core.old.swap.pages.disk core.new.swap.pages.disk }
+    ensures denied { is_denial (reply_of result) ≡ true → core.new ≡ core.old }
+    ensures room { KeepsRoom (picture_of core.old) (picture_of core.new) }
+    ensures caused { IsCaused D.SectorDisk E.SectorDisk core.old core.new (reply_of result) }
+{
+    let Some(parent) = core.live(pid) else {
+        return Answer::Refused(Errno::ESRCH);
+    };
+    let Some(child) = free_pid(core) else {
+        return Answer::Refused(Errno::EAGAIN);
+    };
+    match lifecycle::fork(core, parent, child) {
+        Ok(()) => Answer::Process(child),
+        Err(stall) => Answer::Stalled(stall),
+    }
+}
+
+/// Ends a process (_exit(2)): its space is gone and its number free. What it stored to files through shared pages stays.
+///
+/// `ESRCH` where there is no such process.
+pub fn exit<D: SectorDisk, E: SectorDisk>(core: &mut Core<D, E>, pid: u64) -> Answer
+    requires sound { IsSoundCore D.SectorDisk E.SectorDisk core.old }
+    ensures sound { IsSoundCore D.SectorDisk E.SectorDisk core.new }
+    ensures comes { Carries D.SectorDisk E.SectorDisk core.old core.new (Exit pid) (reply_of result) }
+    ensures devices { KeepsDevices core.old core.new }
+    ensures denied { is_denial (reply_of result) ≡ true → core.new ≡ core.old }
+    ensures room { KeepsRoom (picture_of core.old) (picture_of core.new) }
+    ensures caused { IsCaused D.SectorDisk E.SectorDisk core.old core.new (reply_of result) }
+{
+    let Some(pid) = core.live(pid) else {
+        return Answer::Refused(Errno::ESRCH);
+    };
+    lifecycle::exit(core, pid);
+    Answer::Done
+}

@@ -1,0 +1,67 @@
+-- A process without a page has those of another.
+use Rattle.std.proofs.Common.{◌≡◌, ◌≢◌, ℕ, inl, List, Option, Some, None, refl, sym, ap, ◌∙◌}
+use Rattle.vm_types.specs.declared.region.Attr.{Attr}
+use Rattle.frames.specs.FrameTable.{bytes_of}
+use Rattle.page_tables.specs.Tree.{IsPage}
+use Rattle.regions.specs.declared.run.Run.{Run}
+use Rattle.regions.specs.RunList.{attr_at}
+use Rattle.paging.specs.Seats.{Seat, InFrame, InSlot, seat}
+use Rattle.paging.specs.Picture.{Picture, entry, view, view_of, own_in, bytes_in}
+use Rattle.paging.specs.Parts.{IsFit, IsEntryFor, Nothing, Resident, Away}
+use Rattle.paging.specs.Steps.{Remaps}
+use Rattle.paging.proofs.Granting.{user_map-same, readable-same}
+use Rattle.paging.proofs.Setting.{view_seated, held_same}
+use Rattle.mapping.proofs.Spawning.{entries_remapped, fit_mapped}
+use Rattle.lifecycle.specs.Changes.{MapsAlike}
+
+unmapped_in : (own : Option (List ℕ)) (attr : Option Attr) → view_of own attr ≡ None → attr ≡ None
+unmapped_in own None none = refl
+unmapped_in own (Some a) none = absurd (let bad : Some (record { attr = a; own = own }) ≡ None = none in (cc))
+
+-- a page that isn't seen isn't mapped
+pub unmapped_view : (c : Picture) (pid page : ℕ) → view c pid page ≡ None → c.at pid page ≡ None
+unfolding view
+unmapped_view c pid page none = unmapped_in (own_in c.frames c.slots (entry c pid page)) (c.at pid page) none
+
+bare_for : (c : Picture) (attr : Option Attr) (e : ℕ) → attr ≡ None → IsEntryFor c attr e → e ≡ 0
+bare_for c attr e none (Nothing is) = is
+bare_for c attr e none (Resident a at resident) = absurd (let bad : None ≡ Some a = sym none ∙ at in (cc))
+bare_for c attr e none (Away a at away) = absurd (let bad : None ≡ Some a = sym none ∙ at in (cc))
+
+-- a page that isn't mapped has no entry
+pub bare_page : (c : Picture) (pid page : ℕ) → IsFit c → c.at pid page ≡ None → IsPage 2 page → entry c pid page ≡ 0
+bare_page c pid page fit none h = bare_for c (c.at pid page) (entry c pid page) none (fit.granting.entries pid page h)
+
+-- what the step leaves
+pub record IsAlike (old new : Picture) (parent child : ℕ) : Type 0 where
+  pub fit : IsFit new
+  pub maps : MapsAlike old new parent child
+
+module _ (old new : Picture) (runs : List Run) (parent child : ℕ) (fit : IsFit old) (apart : parent ≢ child) (empty : (page : ℕ) → view old child page ≡ None)
+    (there : (page : ℕ) → attr_at runs page ≡ old.at parent page) (remaps : Remaps old new child) (here : (page : ℕ) → new.at child page ≡ attr_at runs page) where
+  seat_bytes : (z : Seat) → bytes_in new.frames new.slots z ≡ bytes_in old.frames old.slots z
+  seat_bytes (InFrame n) = ap (λ t. bytes_of t n) remaps.frames
+  seat_bytes (InSlot k) = ap (λ t. t.bytes k) remaps.slots
+
+  bare : (page : ℕ) → IsPage 2 page → entry old child page ≡ 0
+  bare page h = bare_page old child page fit (unmapped_view old child page (empty page)) h
+
+  pub alike : IsAlike old new parent child
+  alike =
+      let entries = entries_remapped old new child fit remaps in
+      record {
+        fit = fit_mapped old new child runs fit remaps here (user_map-same (old.at parent) (attr_at runs) there (fit.granting.user parent))
+            (readable-same (old.at parent) (attr_at runs) there (fit.granting.readable parent)) bare (λ page. unmapped_view old child page (empty page));
+        maps = record {
+          root = remaps.root;
+          same = λ page. here page ∙ there page ∙ sym (remaps.others parent page apart);
+          bare = λ page h. entries child page ∙ bare page h;
+          entries = entries;
+          views = λ q page ne. view_seated old new q page (remaps.others q page ne) (ap seat (entries q page)) (λ z is. seat_bytes z);
+          files = record {
+            held = λ p. inl (held_same old new p (remaps.place p) remaps.slots (λ m at. ap (λ t. bytes_of t m) remaps.frames));
+            touched = remaps.touched;
+            files = remaps.files;
+          };
+        };
+      }

@@ -1,0 +1,216 @@
+-- A process goes of which no page has an entry or a table.
+use Rattle.std.proofs.Common.{◌≡◌, ◌≢◌, ℕ, zero, suc, inl, inr, ◌⊎◌, ◌+◌, ◌≤◌, ◌<◌, ◌^◌, Some, refl, sym, ap, ◌∙◌, subst, arith}
+use Rattle.std.specs.Prelude.{is_some}
+use Rattle.std.proofs.lemmas.Bool.{cases_eq}
+use Rattle.disk_model.specs.declared.sector_disk.SectorDisk.{Ghosts}
+use Rattle.frames.specs.declared.role.Role.{Role}
+use Rattle.frames.specs.declared.role.Role.TheVariants.{Free, Table, Private, Cache}
+use Rattle.frames.specs.FrameTable.{FrameTable, bytes_of, role_of}
+use Rattle.sv39_walk.specs.Entry.{entry_at, is_pointer, frame_of}
+use Rattle.sv39_walk.specs.Walk.{index_of}
+use Rattle.page_tables.specs.Tree.{IsPage, IsTable, Points, IsSpare, Way, IsBelowRoot, last_table, missing_of}
+use Rattle.page_tables.proofs.Ways.{cases_bool, only_way, last_table-stop}
+use Rattle.page_tables.proofs.Ends.{way_forth, missing_of-is, last_entry-is}
+use Rattle.page_tables.proofs.Hollow.{page_at, field_two}
+use Rattle.swap.specs.Slots.{SlotTable, IsReady}
+use Rattle.paging.specs.declared.kernel.Core.{Core}
+use Rattle.paging.specs.Seats.{Seat, InFrame, InSlot, seat}
+use Rattle.paging.specs.Picture.{Picture, picture_of, view, bytes_in, IsOwned}
+use Rattle.paging.specs.Parts.{IsFit, IsUsed, AsRoot, OnWay}
+use Rattle.paging.specs.Steps.{Exits}
+use Rattle.paging.specs.Shows.{KeepsFiles}
+use Rattle.paging.proofs.Exiting.{entries_left, fit_left}
+use Rattle.paging.proofs.Moves.{view-none}
+use Rattle.paging.proofs.Setting.{view_seated, held_same}
+use Rattle.paging.proofs.LeafSteps.{cases_attr}
+use Rattle.mapping.proofs.SwapSteps.{ready_released}
+use Rattle.mapping.proofs.Spawning.{one_some}
+use Rattle.page_ranges.specs.Rows.{RemapsRow}
+use Rattle.page_ranges.specs.Steps.{KeepsDevices, KeepsEntriesOfOthers, ReturnsTables, ReturnsSlots, IsMappedBeside, IsWithoutTables}
+use Rattle.lifecycle.specs.Changes.{RemovesProcess, FreesTables, TakesNoCopy}
+use Rattle.lifecycle.proofs.Keeping.{live_same, files_then}
+
+-- a table of a process that no longer has tables for its pages is its root, or another process's
+module _ (c : Picture) (pid r : ℕ) (fit : IsFit c) (root : c.root pid ≡ Some r) (bare : IsWithoutTables c pid 0 (2 ^ 26)) where
+  -- a way that leads to the table begins at the root of another process
+  used_apart : (m : ℕ) → IsUsed c (IsMappedBeside c pid 0 (2 ^ 26)) m
+      → ((q : ℕ) × (c.root q ≡ Some m)) ⊎ ((q : ℕ) × (x : ℕ) × (page : ℕ) × (q ≢ pid) × (c.root q ≡ Some x) × IsBelowRoot c.frames 2 x page m)
+  used_apart m (AsRoot q is) = inl (q, is)
+  used_apart m (OnWay q x page is here below) = elim here.1 [
+    | inl ne ↦ inr (q, x, page, ne, is, below)
+    | inr side ↦ absurd (elim side [
+      | inl low ↦ omega (arith, low)
+      | inr past ↦ (let user = ((fit.granting.user q).user_pages page here.0).1 in omega (arith, past, user))
+    ])
+  ]
+
+  other_root : (q x : ℕ) → q ≢ pid → c.root q ≡ Some x → x ≢ r
+  other_root q x ne is e = ne (fit.rooted.apart q pid r (is ∙ ap (λ y. Some y) e) root)
+
+  -- no pointer is left in the root
+  no_pointer : (i m : ℕ) → Points c.frames r i m → ⊥
+  no_pointer i m p = elim (used_apart m (bare m (fit.rooted.forest.onto_tables r i m p))) [
+    | inl is ↦ (fit.rooted.roots is.0 m is.1).unlinked r i p
+    | inr on ↦ (
+        let q = on.0 in
+        let x = on.1 in
+        let page = on.2 in
+        let below = on.5 in
+        let one = fit.rooted.forest.one_way below.2.0 _ r i m below.2.2 p in
+        let W : ℕ → Type 0 = λ y. Way c.frames 2 x page below.0 y in
+        let way : Way c.frames 2 x page below.0 r = subst W one.0 below.2.1 in
+        let ends = only_way c.frames 2 fit.rooted.forest x page r page (fit.rooted.roots q x on.4).unlinked (fit.rooted.roots pid r root).unlinked below.0 0 r way refl in
+        other_root q x on.3 on.4 ends.1)
+  ]
+
+  -- so it has no entry
+  pub spare_root : IsSpare c.frames r
+  spare_root =
+      let is_root = fit.rooted.roots pid r root in
+      record {
+        table = is_root.table;
+        unlinked = is_root.unlinked;
+        empty = λ i h. elim (cases_bool (is_pointer (entry_at c.frames r i))) [
+          | inl pointer ↦ absurd (no_pointer i (frame_of (entry_at c.frames r i)) (record { table = is_root.table; index = h; pointer = pointer; target = refl }))
+          | inr stop ↦ (
+              let p = page_at i 0 0 in
+              let at : index_of p 2 ≡ i = field_two i 0 0 h (omega arith) (omega arith) in
+              let last : last_table c.frames p 2 r ≡ (2, r) = last_table-stop c.frames p 1 r (ap (λ j. is_pointer (entry_at c.frames r j)) at ∙ stop) in
+              let missing : missing_of c.frames 2 r p ≡ 2 = missing_of-is c.frames 2 r p ∙ ap (λ x. x.0) last in
+              ap (entry_at c.frames r) (sym at) ∙ sym (last_entry-is c.frames 2 r p ∙ ap (λ x. entry_at c.frames x.1 (index_of p x.0)) last)
+              ∙ is_root.bare p (λ none. (omega (arith, missing, none))))
+        ];
+      }
+
+-- the way back to the tables as they were
+way_back : (old new : FrameTable) → ((a i b : ℕ) → Points new a i b → Points old a i b) → (r page d n : ℕ) → Way new 2 r page d n → Way old 2 r page d n
+way_back old new back r page d n way = way_forth new old back 2 r page d n way
+
+-- frames of two roles are two
+other_frame : (t : FrameTable) (n m : ℕ) (r s : Role) → role_of t n ≡ r → r ≢ s → role_of t m ≡ s → m ≢ n
+other_frame t n m r s here ne there e = ne (sym here ∙ ap (role_of t) (sym e) ∙ there)
+
+-- a process went whose root had no entry
+module _ (old new : Picture) (pid r : ℕ) (fit : IsFit old) (exits : Exits old new pid r) where
+  bytes_kept : (n : ℕ) (kind : Role) → role_of old.frames n ≡ kind → Table ≢ kind → bytes_of new.frames n ≡ bytes_of old.frames n
+  bytes_kept n kind is ne = exits.frames.bytes n (other_frame old.frames r n Table kind exits.spare.table.role ne is)
+
+  seat_bytes : (z : Seat) → IsOwned old z → bytes_in new.frames new.slots z ≡ bytes_in old.frames old.slots z
+  seat_bytes (InFrame n) is = bytes_kept n Private is (λ e. (cc))
+  seat_bytes (InSlot k) is = ap (λ t. t.bytes k) exits.slots
+
+  others_seen : (q page : ℕ) → q ≢ pid → view new q page ≡ view old q page
+  others_seen q page ne = elim (cases_attr (old.at q page)) [
+    | inl none ↦ view-none new q page (exits.at q page ne ∙ none) ∙ sym (view-none old q page none)
+    | inr some ↦ (
+        let user = ((fit.granting.user q).user_pages page some).1 in
+        let h : IsPage 2 page = omega (arith, user) in
+        view_seated old new q page (exits.at q page ne) (ap seat (entries_left old new pid r fit exits q page))
+        (λ z is. seat_bytes z (fit.counted.1.named q page z h is)))
+  ]
+
+  pub process_removed : RemovesProcess old new pid
+  process_removed = record {
+    gone = ap is_some exits.gone;
+    pages = λ page. view-none new pid page (exits.unmapped page);
+    others_live = λ q ne. live_same old new q (exits.others q ne);
+    others = others_seen;
+  }
+
+  pub files_ended : KeepsFiles old new
+  files_ended = record {
+    held = λ p. inl (held_same old new p (exits.place p) exits.slots (λ m at. bytes_kept m Cache (fit.places.cached p m at) (λ e. (cc))));
+    touched = exits.touched;
+    files = exits.files;
+  }
+
+-- what exit leaves
+pub record IsEnded (old new : Picture) (pid : ℕ) : Type 0 where
+  pub fit : IsFit new
+  pub removed : RemovesProcess old new pid
+  pub others : KeepsEntriesOfOthers old new pid
+  pub tables : FreesTables old new pid
+  pub slots : ReturnsSlots old new pid 0 (2 ^ 26)
+  pub copies : TakesNoCopy old.frames new.frames
+  pub files : KeepsFiles old new
+
+-- All pages of a process were cleared, and then it was removed.
+module _ (first old new : Picture) (pid r : ℕ) (begun : IsFit first) (fit : IsFit old) (row : RemapsRow first old pid 0 (2 ^ 26) (first.at pid))
+    (beside : KeepsEntriesOfOthers first old pid) (returned : ReturnsTables first old pid) (bare : IsWithoutTables old pid 0 (2 ^ 26))
+    (slots : ReturnsSlots first old pid 0 (2 ^ 26)) (exits : Exits old new pid r) where
+  was_root : first.root pid ≡ Some r
+  was_root = sym (row.root pid) ∙ exits.lived
+
+  -- a table on the way from its root to one of its pages is no table any more
+  below_gone : (page d n : ℕ) → Way first.frames 2 r page (suc d) n → IsTable old.frames n → ⊥
+  below_gone page d n way table = elim (used_apart old pid r fit exits.lived bare n (bare n table)) [
+    | inl is ↦ (begun.rooted.roots is.0 n (sym (row.root is.0) ∙ is.1)).unlinked way.0 _ way.2
+    | inr on ↦ (
+        let q = on.0 in
+        let x = on.1 in
+        let below = on.5 in
+        let was : first.root q ≡ Some x = sym (row.root q) ∙ on.4 in
+        let there = way_back first.frames old.frames returned.pointers x on.2 (suc below.0) n below.2 in
+        let ends = only_way first.frames 2 begun.rooted.forest x on.2 r page (begun.rooted.roots q x was).unlinked (begun.rooted.roots pid r was_root).unlinked (suc below.0) (suc d) n there way in
+        other_root old pid r fit exits.lived bare q x on.3 on.4 ends.1)
+  ]
+
+  role_same : (m : ℕ) → m ≢ r → role_of new.frames m ≡ role_of old.frames m
+  role_same = exits.frames.roles
+
+  free_kept : (n : ℕ) → role_of old.frames n ≡ Free → role_of new.frames n ≡ Free
+  free_kept n e = elim (cases_eq n r) [
+    | inl is ↦ ap (role_of new.frames) is ∙ exits.free
+    | inr ne ↦ role_same n ne ∙ e
+  ]
+
+  own_freed : (page d n : ℕ) → Way first.frames 2 r page d n → role_of new.frames n ≡ Free
+  own_freed page zero n way = ap (role_of new.frames) way ∙ exits.free
+  own_freed page (suc d) n way = free_kept n (elim (returned.tables n (begun.rooted.forest.onto_tables way.0 _ n way.2)) [
+    | inl still ↦ absurd (below_gone page d n way still)
+    | inr back ↦ back.0
+  ])
+
+  pub ended : IsEnded first new pid
+  ended =
+      let left = process_removed old new pid r fit exits in
+      record {
+        fit = fit_left old new pid r fit exits;
+        removed = record {
+          gone = left.gone;
+          pages = left.pages;
+          others_live = λ q ne. left.others_live q ne ∙ live_same first old q (row.root q);
+          others = λ q page ne. left.others q page ne ∙ row.others q page ne;
+        };
+        others = λ q page h ne. entries_left old new pid r fit exits q page ∙ beside q page h ne;
+        tables = record {
+          own = λ x page n e on. (
+              let W : ℕ → Type 0 = λ y. Way first.frames 2 y page on.0 n in
+              own_freed page on.0 n (subst W (one_some x r (sym e ∙ was_root)) on.2));
+          others = λ n table. elim (returned.tables n table) [
+            | inr back ↦ (let under = back.1.3 in inr (back.1.0, back.1.1, back.1.2, (suc under.0, (omega (arith, under.1)), under.2)))
+            | inl still ↦ elim (cases_eq n r) [
+              | inl is ↦ inr (r, 0, was_root, (0, (omega arith), is))
+              | inr ne ↦ inl (record { inside = rw exits.frames.frames still.inside; role = role_same n ne ∙ still.role })
+            ]
+          ];
+          free = λ n e. free_kept n (returned.free n e);
+        };
+        slots = record {
+          total = ap (λ t. t.total) exits.slots ∙ slots.total;
+          fewer = (let P : SlotTable → Type 0 = λ t. (k : ℕ) → t.count k ≤ first.slots.count k in subst P (sym exits.slots) slots.fewer);
+          given = λ k page h low high is. (let P : SlotTable → Type 0 = λ t. t.count k + 1 ≡ first.slots.count k in subst P (sym exits.slots) (slots.given k page h low high is));
+          kept = λ k none. ap (λ t. t.count k) exits.slots ∙ slots.kept k none;
+          bytes = (let P : SlotTable → Type 0 = λ t. (k : ℕ) → 0 < t.count k → t.bytes k ≡ first.slots.bytes k in subst P (sym exits.slots) slots.bytes);
+        };
+        copies = λ n e. elim (cases_eq n r) [
+          | inl is ↦ absurd (let bad : Free ≡ Private = sym exits.free ∙ ap (role_of new.frames) (sym is) ∙ e in (cc))
+          | inr ne ↦ returned.copies n (sym (role_same n ne) ∙ e)
+        ];
+        files = files_then first old new row.files (files_ended old new pid r fit exits);
+      }
+
+module _ {D E : Type 0} (h : Ghosts E) where
+  -- swap that was ready is, after a process went
+  pub ready_ended : (old new : Core D E) (pid low high : ℕ) → KeepsDevices old new → ReturnsSlots (picture_of old) (picture_of new) pid low high → IsReady h old.swap → IsReady h new.swap
+  ready_ended old new pid low high devices slots ready = ready_released h old.swap old.swap new.swap refl devices.pages slots.total ready

@@ -1,0 +1,116 @@
+-- Why there was no copy of a process, told by the processes before the call.
+use Rattle.std.proofs.Common.{◌≡◌, ◌≢◌, ℕ, zero, suc, inl, inr, ◌+◌, ◌*◌, ◌<◌, ◌^◌, Bool, true, false, if◌then◌else◌, Option, Some, None, is_some, List, refl, sym, ap, ◌∙◌, subst, arith}
+use Rattle.std.proofs.Math.Path.{fun_ext}
+use Rattle.std.proofs.lemmas.Bool.{cases_eq}
+use Rattle.vm_types.specs.Capacity.{tables_of, has_own}
+use Rattle.vm_types.specs.Counting.{any_below, count_below, sum_below}
+use Rattle.vm_types.specs.View.{View}
+use Rattle.vm_types.specs.declared.region.Attr.{Attr}
+use Rattle.vm_types.specs.declared.refusal.Stall.{Stall}
+use Rattle.vm_types.specs.declared.refusal.Stall.TheVariants.{NoFrames, NoSwap, SwapDevice, StoreDevice}
+use Rattle.vm_types.specs.declared.file.FilePage.{FilePage}
+use Rattle.paging.specs.Picture.{Picture, is_live, entry, view, view_of, own_in}
+use Rattle.paging.specs.Capacity.{IsShort, tables_over, copies_over}
+use Rattle.paging.proofs.Counts.{count-same}
+use Rattle.paging.proofs.Tables.{sum-below}
+use Rattle.mapping.specs.Changes.{KeepsRoom}
+use Rattle.lifecycle.specs.Changes.{KeepsProcesses, IsShortToFork}
+
+-- one summand is that much more
+sum-more : (f g : ℕ → ℕ) (x d n : ℕ) → x < n → f x ≡ g x + d → ((k : ℕ) → k ≢ x → f k ≡ g k) → sum_below f n ≡ sum_below g n + d
+unfolding sum_below
+sum-more f g x d zero below here others = absurd (omega arith)
+sum-more f g x d (suc n) below here others = elim (cases_eq n x) [
+  | inl e ↦ (
+      let P : ℕ → Type 0 = λ y. f y ≡ g y + d in
+      let here_n : f n ≡ g n + d = subst P (sym e) here in
+      let rest : sum_below f n ≡ sum_below g n = sum-below f g x n (omega (arith, e)) others in
+      omega (arith, here_n, rest))
+  | inr ne ↦ (
+      let rest = sum-more f g x d n (omega (arith, below, ne)) here others in
+      let same = others n ne in
+      omega (arith, rest, same))
+]
+
+-- the tables of a process are told by which pages are mapped
+abbrev tables_by : (ℕ → Bool) → ℕ
+tables_by mapped = 1 + (count_below (λ row. any_below (λ i. mapped (2 ^ 18 * row + i)) (2 ^ 18)) (2 ^ 8) + count_below (λ row. any_below (λ i. mapped (2 ^ 9 * row + i)) (2 ^ 9)) (2 ^ 17))
+
+tables_alike : (a b : ℕ → Option View) → ((page : ℕ) → is_some (a page) ≡ is_some (b page)) → tables_of a ≡ tables_of b
+tables_alike a b same = let e : (λ page. is_some (a page)) ≡ (λ page. is_some (b page)) = fun_ext same in ap tables_by e
+
+-- the tables of all processes with one more
+tables_more : (live live' : ℕ → Bool) (views views' : ℕ → ℕ → Option View) (pid d : ℕ) → pid < 65 → live pid ≡ false → live' pid ≡ true → tables_of (views' pid) ≡ d
+    → ((q : ℕ) → q ≢ pid → live' q ≡ live q) → ((q page : ℕ) → q ≢ pid → views' q page ≡ views q page) → tables_over live' views' ≡ tables_over live views + d
+unfolding tables_over
+tables_more live live' views views' pid d below dead lives here others same =
+    sum-more (λ q. if live' q then tables_of (views' q) else 0) (λ q. if live q then tables_of (views q) else 0) pid d 65 below
+    (let z : d ≡ 0 + d = omega arith in rw (dead, lives) (here ∙ z))
+    (λ q ne. ap (λ b. if b then tables_of (views' q) else 0) (others q ne) ∙ ap (λ v. if live q then tables_of v else 0) (fun_ext (λ page. same q page ne)))
+
+-- own copies and touched pages are told by which pages have one
+copies_alike : (views views' : ℕ → ℕ → Option View) (touched touched' : ℕ → ℕ → Bool) → ((q page : ℕ) → has_own (views' q page) ≡ has_own (views q page))
+    → ((f k : ℕ) → touched' f k ≡ touched f k) → copies_over views' touched' ≡ copies_over views touched
+unfolding copies_over
+copies_alike views views' touched touched' same same' =
+    let a = sum-below (λ q. count_below (λ page. has_own (views' q page)) (2 ^ 26)) (λ q. count_below (λ page. has_own (views q page)) (2 ^ 26)) 65 65 (omega arith)
+    (λ q ne. count-same (λ page. has_own (views' q page)) (λ page. has_own (views q page)) (2 ^ 26) (same q)) in
+    let b = sum-below (λ f. count_below (touched' f) (2 ^ 20)) (λ f. count_below (touched f) (2 ^ 20)) 64 64 (omega arith)
+    (λ f ne. count-same (touched' f) (touched f) (2 ^ 20) (same' f)) in
+    omega (arith, a, b)
+
+abbrev touched_of : Picture → ℕ → ℕ → Bool
+touched_of c file page = c.touched (record { file = file; page = page })
+
+-- memory is short of less than a copy of a process wants
+pub short_before : (old new : Picture) (parent : ℕ) (stall : Stall) → KeepsProcesses old new → KeepsRoom old new → ((p : FilePage) → new.touched p ≡ old.touched p)
+    → IsShort new stall → IsShortToFork old parent stall
+unfolding IsShort IsShortToFork
+short_before old new parent NoFrames keeps room touched short =
+    let live : is_live new ≡ is_live old = fun_ext keeps.live in
+    let views : view new ≡ view old = fun_ext (λ q. fun_ext (keeps.views q)) in
+    let same : tables_over (is_live new) (view new) ≡ tables_over (is_live old) (view old) = ap (λ l. tables_over l (view new)) live ∙ ap (tables_over (is_live old)) views in
+    let frames = room.frames in
+    omega (arith, frames, same, short)
+short_before old new parent NoSwap keeps room touched short =
+    let same = copies_alike (view old) (view new) (touched_of old) (touched_of new) (λ q page. ap has_own (keeps.views q page)) (λ f k. touched (record { file = f; page = k })) in
+    let slots = room.slots in
+    omega (arith, slots, same, short)
+short_before old new parent SwapDevice keeps room touched short = tt
+short_before old new parent StoreDevice keeps room touched short = tt
+
+some_view : (own : Option (List ℕ)) (o : Option Attr) → is_some (view_of own o) ≡ is_some o
+some_view own None = refl
+some_view own (Some a) = refl
+
+pub some_mapped : (c : Picture) (pid page : ℕ) → is_some (view c pid page) ≡ is_some (c.at pid page)
+unfolding view
+some_mapped c pid page = some_view (own_in c.frames c.slots (entry c pid page)) (c.at pid page)
+
+-- A process came whose pages are mapped as those of another, none with a copy of its own. Memory is short of what all need then.
+module _ (old new : Picture) (parent child : ℕ) (apart : parent ≢ child) (below : child < 65) (dead : is_live old child ≡ false) (lives : is_live new child ≡ true)
+    (others_live : (q : ℕ) → q ≢ child → is_live new q ≡ is_live old q) (others : (q page : ℕ) → q ≢ child → view new q page ≡ view old q page)
+    (same : (page : ℕ) → new.at child page ≡ new.at parent page) (none : (page : ℕ) → has_own (view new child page) ≡ false)
+    (was_none : (page : ℕ) → has_own (view old child page) ≡ false) (room : KeepsRoom old new) (touched : (p : FilePage) → new.touched p ≡ old.touched p) where
+  tables_here : tables_of (view new child) ≡ tables_of (view old parent)
+  tables_here = tables_alike (view new child) (view old parent) (λ page.
+      some_mapped new child page ∙ ap (λ o. is_some o) (same page) ∙ sym (some_mapped new parent page) ∙ ap (λ o. is_some o) (others parent page apart))
+
+  owned : (q page : ℕ) → has_own (view new q page) ≡ has_own (view old q page)
+  owned q page = elim (cases_eq q child) [
+    | inl is ↦ (let P : ℕ → Type 0 = λ x. has_own (view new x page) ≡ has_own (view old x page) in subst P (sym is) (none page ∙ sym (was_none page)))
+    | inr ne ↦ ap has_own (others q page ne)
+  ]
+
+  pub short_alike : (stall : Stall) → IsShort new stall → IsShortToFork old parent stall
+  unfolding IsShort IsShortToFork
+  short_alike NoFrames short =
+      let all = tables_more (is_live old) (is_live new) (view old) (view new) child (tables_of (view old parent)) below dead lives tables_here others_live others in
+      let frames = room.frames in
+      omega (arith, frames, all, short)
+  short_alike NoSwap short =
+      let all = copies_alike (view old) (view new) (touched_of old) (touched_of new) owned (λ f k. touched (record { file = f; page = k })) in
+      let slots = room.slots in
+      omega (arith, slots, all, short)
+  short_alike SwapDevice short = tt
+  short_alike StoreDevice short = tt
