@@ -92,6 +92,16 @@ class Model:
         name, *words = command
         return getattr(self, name)(*words)
 
+    # what it needs
+
+    def tables(self):
+        """The page tables of all processes: a root, and one for each 2^18 and each 2^9 pages with a mapped one."""
+        return sum(1 + len({page >> 18 for page in space}) + len({page >> 9 for page in space}) for space in self.spaces.values())
+
+    def held(self):
+        """The pages that only memory or swap can hold: own copies, and touched file pages."""
+        return sum(view.own is not None for space in self.spaces.values() for view in space.values()) + len(self.touched)
+
     # processes
 
     def free_pid(self):

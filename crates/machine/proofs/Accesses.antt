@@ -1,13 +1,14 @@
 -- Accesses, whose faults are kept.
 use Rattle.std.proofs.Common.{ℕ, ◌≡◌, Bool, true, false, if◌then◌else◌, List, refl, sym, ◌∙◌, subst}
 use Rattle.disk_model.specs.declared.sector_disk.SectorDisk.{Ghosts}
-use Rattle.residency.specs.Reading.{ReadsStore}
-use Rattle.residency.specs.Picture.{picture_of, is_live}
-use Rattle.residency.specs.Shows.{KeepsDevices}
-use Rattle.residency.specs.declared.kernel.Core.{Core}
-use Rattle.residency.specs.Calls.{KeepsRoom}
-use Rattle.spaces.specs.Calls as Calls
-use Rattle.spaces.specs.Idle.{is_idle}
+use Rattle.paging.specs.Calls.{UsesDevice}
+use Rattle.paging.specs.Reading.{ReadsStore}
+use Rattle.paging.specs.Picture.{picture_of, is_live}
+use Rattle.paging.specs.declared.kernel.Core.{Core}
+use Rattle.mapping.specs.Changes.{KeepsRoom}
+use Rattle.page_ranges.specs.Steps.{KeepsDevices}
+use Rattle.calls.specs.Calls as Calls
+use Rattle.calls.specs.Idle.{is_idle}
 use Rattle.vm_types.specs.declared.access.StoredValue.{StoredValue}
 use Rattle.vm_types.specs.declared.command.Command.{Command}
 use Rattle.vm_types.specs.declared.refusal.Errno.{Errno}
@@ -23,13 +24,12 @@ use Rattle.vm_types.specs.declared.width.Width.{Width}
 use Rattle.vm_types.specs.Access.{with_shown_bytes}
 use Rattle.vm_types.specs.History.{Past}
 use Rattle.vm_types.specs.Replies.{reply_of}
-use Rattle.vm_types.specs.Stalls.{reads_files}
 use Rattle.vm_types.specs.State.{State}
 use Rattle.vm_types.specs.Step.{Outcome, outcome, answers, load_outcome, store_outcome, fetch_outcome, past_after, ruling, takes}
 use Rattle.vm_types.specs.Verdict.{Verdict, Fine, Faults}
 use Rattle.vm_types.specs.View.{View}
 use Rattle.machine.specs.Accesses.{Accesses}
-use Rattle.machine.specs.Machine.{Shows, Meets}
+use Rattle.machine.specs.Machine.{Shows, Meets, IsReadable}
 use Rattle.machine.specs.declared.machine.Machine.{Machine}
 use Rattle.machine.proofs.Flat.{OnlyNow, carried, shows_core, is_running}
 
@@ -76,25 +76,28 @@ module _ {D E : Type 0} (g : Ghosts D) (h : Ghosts E) where
       → ◌≡◌ {A = Machine D E} (record { core = core; halted = halted; past = past }) m
   machine_is m core halted past a b c = λ t. record { core = sym a t; halted = sym b t; past = sym c t }
 
-  lives : (old core : Core D E) (s : State) (command : Command) (reply : Reply) (pid : ℕ) → Calls.Comes g old core s command reply
+  lives : (old core : Core D E) (s : State) (command : Command) (reply : Reply) (pid : ℕ) → Calls.Comes g h old core s command reply
       → ((fault : Fault) → (outcome s command).reply ≡ Faulted fault → (outcome s command).state.live pid ≡ true)
       → (fault : Fault) → reply ≡ Faulted fault → is_live (picture_of core) pid ≡ true
   lives old core s command reply pid (Calls.Does answer pages) living fault e = sym (pages.live pid) ∙ living fault (sym answer ∙ e)
-  lives old core s command reply pid (Calls.Stalls stall may answer pages) living fault e = absurd (let never : Stalled stall ≡ Faulted fault = sym answer ∙ e in cc)
+  lives old core s command reply pid (Calls.Stalls stall may short answer pages) living fault e = absurd (let never : Stalled stall ≡ Faulted fault = sym answer ∙ e in cc)
 
   -- an access is carried out, and its fault is kept
   pub accessed : (only_now : OnlyNow g h) (old new : Machine D E) (core : Core D E) (s : State) (command : Command) (reply result : Reply) (pid : ℕ)
       → Shows g h old s → old.halted ≡ false → takes s (ruling s command) s.durable ≡ s.durable
-      → ReadsStore g old.core.store core.store → (is_idle s command reply ≡ true → KeepsDevices old.core core) → KeepsRoom old.core core → Accesses old.core core command reply → Calls.Carries g old.core core command reply
-      → (reads_files command ≡ true → g.keeps_model new.core.store.disk)
+      → ReadsStore g old.core.store core.store → UsesDevice h old.core.swap.pages.disk core.swap.pages.disk → (is_idle s command reply ≡ true → KeepsDevices old.core core)
+      → KeepsRoom (picture_of old.core) (picture_of core) → Accesses old.core core command reply → Calls.Carries g h old.core core command reply → IsReadable g h new s command
       → ((fault : Fault) → (outcome s command).reply ≡ Faulted fault → (outcome s command).state.live pid ≡ true)
       → result ≡ reply → new.core ≡ core → new.halted ≡ old.halted
       → (((fault : Fault) → reply ≡ Faulted fault → is_live (picture_of core) pid ≡ true) → new.past ≡ past_after command reply old.past)
       → (t : State) × Meets g h old new s t command result
-  accessed only_now old new core s command reply result pid shows run none reads idle room asks carries honest living same core_is halted_is noted =
-      let readable : reads_files command ≡ true → g.keeps_model core.store.disk = λ r. subst (λ (k : Core D E). g.keeps_model k.store.disk) core_is (honest r) in
-      let comes = carries s (shows_core g h old s shows (is_running g h old s shows run)) readable in
+  accessed only_now old new core s command reply result pid shows run none reads device idle room asks carries honest living same core_is halted_is noted =
+      let readable : IsReadable g h (record { core = core; halted = old.halted; past = past_after command reply old.past }) s command = record {
+        files = λ r. subst (λ (k : Core D E). g.keeps_model k.store.disk) core_is (honest.files r);
+        slots = λ r. subst (λ (k : Core D E). h.keeps_model k.swap.pages.disk) core_is (honest.slots r);
+      } in
+      let comes = carries s (shows_core g h old s shows (is_running g h old s shows run)) readable.files readable.slots in
       let past : new.past ≡ past_after command reply old.past = noted (lives old.core core s command reply pid comes living) in
       subst (λ (r : Reply). (t : State) × Meets g h old new s t command r) (sym same)
       (subst (λ (m : Machine D E). (t : State) × Meets g h old m s t command reply) (machine_is new core old.halted (past_after command reply old.past) core_is halted_is past)
-      (carried g h only_now old core old.halted (past_after command reply old.past) s command reply shows run run none refl reads idle room asks carries readable))
+      (carried g h only_now old core old.halted (past_after command reply old.past) s command reply shows run run none refl reads device idle room asks carries readable))

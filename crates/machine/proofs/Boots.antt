@@ -1,5 +1,5 @@
 -- What a boot leaves, from what the store's opening says.
-use Rattle.std.proofs.Common.{ℕ, ◌≡◌, ◌⊎◌, inl, inr, ⊎_elim, false, None, is_some, [], refl, sym, ap, ◌∙◌, subst}
+use Rattle.std.proofs.Common.{ℕ, ◌≡◌, ◌⊎◌, inl, inr, ⊎_elim, false, List, Some, None, is_some, [], refl, sym, ap, ◌∙◌, subst}
 use Rattle.std.specs.Option.{option_map}
 use Rattle.disk_model.specs.Moments.{LeavesNow, LeavesOnly}
 use Rattle.disk_model.specs.Stop.{Image, MayLeave}
@@ -11,14 +11,14 @@ use Rattle.file_store.specs.Store as Stores
 use Rattle.file_store.specs.declared.faults.OpenFault.{OpenFault}
 use Rattle.file_store.specs.declared.faults.OpenFault.TheVariants.{Device as StoreDevice, BadLayout as StoreLayout, BadJournal as StoreJournal}
 use Rattle.file_store.specs.declared.store.FileStore.{FileStore}
-use Rattle.page_cache.specs.declared.place.Place.TheVariants.{Home, Frame}
-use Rattle.residency.specs.Calls.{IsStart}
-use Rattle.residency.specs.Picture.{Picture, picture_of, view}
-use Rattle.residency.specs.Shows.{ShowsPages}
+use Rattle.page_cache.specs.declared.place.Place.TheVariants.{Home}
+use Rattle.vm_types.specs.declared.file.FilePage.{FilePage}
+use Rattle.paging.specs.Calls.{IsStart}
+use Rattle.paging.specs.Picture.{Picture, picture_of, view, held}
+use Rattle.paging.specs.Shows.{ShowsPages}
 use Rattle.sync_journal.specs.Standing.{IsBadJournal}
 use Rattle.vm_types.specs.State.{State}
-use Rattle.machine.specs.declared.boot.BootFault.{BootFault}
-use Rattle.machine.specs.declared.boot.BootFault.TheVariants.{Frames, Slots, Device, BadLayout, BadJournal}
+use Rattle.machine.specs.declared.boot.BootFault.TheVariants.{Frames, Slots, BadLayout, BadJournal}
 use Rattle.machine.specs.declared.machine.Machine.{Machine}
 use Rattle.machine.specs.Boot.{Boots}
 use Rattle.machine.specs.Fault.{boot_fault}
@@ -95,6 +95,11 @@ unmapped : (c : Picture) (pid page : ℕ) → c.at pid page ≡ None → view c 
 unfolding view
 unmapped c pid page none = rw none refl
 
+-- what is at home is not in memory
+at_home : (c : Picture) (p : FilePage) (bytes : List ℕ) → c.place p ≡ Home → held c p ≡ Some bytes → ⊥
+unfolding held
+at_home c p bytes home is = let never : None ≡ Some bytes = sym (rw home refl) ∙ is in cc
+
 module _ {D E : Type 0} (g : Ghosts D) (h : Ghosts E) where
   -- the state that a machine starts in over an image
   abbrev start : Machine D E → Image → State
@@ -109,9 +114,9 @@ module _ {D E : Type 0} (g : Ghosts D) (h : Ghosts E) where
     ends = None;
   }
 
-  held : (entry : D) (m : Machine D E) → IsOpened g entry m.core.store → g.keeps_model m.core.store.disk
+  stands_at_start : (entry : D) (m : Machine D E) → IsOpened g entry m.core.store → g.keeps_model m.core.store.disk
       → StandsFor (g.sector_count entry) (Stores.files_of m.core.store) (standing_page (g.content entry)) (g.content entry)
-  held entry m opened keeps = record {
+  stands_at_start entry m opened keeps = record {
     layout = opened.layout keeps;
     journal = opened.journal keeps;
     facts = λ f. sym (same_files g entry m.core.store opened keeps f);
@@ -124,8 +129,8 @@ module _ {D E : Type 0} (g : Ghosts D) (h : Ghosts E) where
     views = λ pid page. sym (unmapped (picture_of m.core) pid page (rw (fresh.none pid) refl));
     files = λ f. refl;
     touched = λ p. sym (fresh.untouched p);
-    framed = λ p n e. absurd (let never : Home ≡ Frame n = sym (fresh.at_home p) ∙ e in cc);
-    home = λ p e inside. refl;
+    held = λ p bytes e. absurd (at_home (picture_of m.core) p bytes (fresh.at_home p) e);
+    clean = λ p e inside. refl;
   }
 
   pub boots : (entry : D) (m : Machine D E) (frames slots : ℕ) → m.halted ≡ false → m.past ≡ [] → IsOpened g entry m.core.store → IsStart m.core frames slots → Boots g h entry m
@@ -139,7 +144,7 @@ module _ {D E : Type 0} (g : Ghosts D) (h : Ghosts E) where
         standing_page (g.content entry),
         refl,
         subst (λ (n : ℕ). StandsFor n (Stores.files_of m.core.store) (standing_page (g.content entry)) c) (sym opened.size)
-            (opened.leaves keeps c may (Stores.files_of m.core.store) (standing_page (g.content entry)) (held entry m opened keeps)),
+            (opened.leaves keeps c may (Stores.files_of m.core.store) (standing_page (g.content entry)) (stands_at_start entry m opened keeps)),
       );
     };
     start = record {
@@ -150,5 +155,5 @@ module _ {D E : Type 0} (g : Ghosts D) (h : Ghosts E) where
       past = refl;
       running = refl;
     };
-    stands = λ keeps. held entry m opened keeps;
+    stands = λ keeps. stands_at_start entry m opened keeps;
   }

@@ -1,36 +1,45 @@
 -- msync on a machine.
 use Rattle.std.proofs.Common.{ℕ, ◌≡◌, ◌<◌, ◌≤◌, ◌⊎◌, inl, inr, ⊎_elim, ◌∷◌, [], Bool, true, false, not, ◌==◌, ◌%◌, ◌/◌, if◌then◌else◌, nat_lt, List, Option, Some, None, is_some, refl, sym, ap, ◌∙◌, subst}
+use Rattle.disk_model.specs.Moments.{LeavesOnly}
 use Rattle.disk_model.specs.Stop.{Image, MayLeave}
 use Rattle.disk_model.specs.declared.sector_disk.SectorDisk.{Ghosts}
 use Rattle.disk_model.proofs.Moments.{weaker, holds_now}
 use Rattle.file_store.specs.Commit.{StandsForEither}
-use Rattle.residency.specs.Picture.{picture_of}
-use Rattle.residency.specs.Shows.{ShowsPages, KeepsDevices}
-use Rattle.residency.specs.declared.kernel.Core.{Core}
-use Rattle.residency.specs.Calls.{KeepsRoom}
-use Rattle.spaces.specs.Calls as Calls
-use Rattle.spaces.specs.Idle.{is_denial, is_idle}
-use Rattle.syncing.specs.Shows as Syncing
-use Rattle.syncing.specs.Core.{KeepsMemory, Commits, Acknowledged, Failed}
+use Rattle.file_store.specs.Standing.{StandsFor}
+use Rattle.frames.specs.FrameTable.{frame_count}
+use Rattle.swap.specs.Slots.{slots_of}
+use Rattle.paging.specs.Calls.{UsesDevice}
+use Rattle.paging.specs.Picture.{picture_of}
+use Rattle.paging.specs.Shows.{ShowsPages}
+use Rattle.paging.specs.declared.kernel.Core.{Core}
+use Rattle.mapping.specs.Changes.{KeepsRoom}
+use Rattle.page_ranges.specs.Steps.{KeepsDevices}
+use Rattle.calls.specs.Calls as Calls
+use Rattle.calls.specs.Idle.{is_denial, is_idle}
+use Rattle.msync.specs.Shows as Syncing
+use Rattle.msync.specs.Core.{KeepsMemory, GivesBack, Commits, Acknowledged, Failed, Unread}
 use Rattle.vm_types.specs.declared.command.Command.{Command}
 use Rattle.vm_types.specs.declared.command.Command.TheVariants.{Msync}
 use Rattle.vm_types.specs.declared.command.MsyncMode.{MsyncMode}
 use Rattle.vm_types.specs.declared.command.MsyncMode.TheVariants.{Sync, Async}
 use Rattle.vm_types.specs.declared.refusal.Errno.{Errno}
 use Rattle.vm_types.specs.declared.refusal.Errno.TheVariants.{ESRCH, EIO, EINVAL, ENOMEM, ENOSPC}
+use Rattle.vm_types.specs.declared.refusal.Stall.{Stall}
+use Rattle.vm_types.specs.declared.refusal.Stall.TheVariants.{SwapDevice}
 use Rattle.vm_types.specs.declared.reply.Reply.{Reply}
-use Rattle.vm_types.specs.declared.reply.Reply.TheVariants.{Done, Refused}
+use Rattle.vm_types.specs.declared.reply.Reply.TheVariants.{Done, Refused, Stalled}
 use Rattle.vm_types.specs.Checks.{Check, first_of, pages_from}
 use Rattle.vm_types.specs.Msync.{Ruling, Refuses, Passes, Takes, or_else, row_ruling, msync_ruling, touched_count, committed}
 use Rattle.vm_types.specs.Prefix.{is_io_error, may_have_taken}
 use Rattle.vm_types.specs.Rows.{is_covered}
-use Rattle.vm_types.specs.Run.{Answers, Fails}
+use Rattle.vm_types.specs.Run.{Answers, Fails, Stalls}
+use Rattle.vm_types.specs.Stalls.{is_success}
 use Rattle.vm_types.specs.State.{State, IsRunning, halted}
 use Rattle.vm_types.specs.Step.{noted, outcome, msync_outcome, ruling, commit_of, commits, takes}
 use Rattle.vm_types.specs.View.{Pages, attrs_of}
 use Rattle.machine.specs.declared.machine.Machine.{Machine}
 use Rattle.machine.specs.Machine.{stands_in, MayStand, HoldsIn, StandsForSome, Shows, Meets}
-use Rattle.machine.proofs.Flat.{with_past, OnlyNow, is_running, shows_core, answered, unread}
+use Rattle.machine.proofs.Flat.{with_past, OnlyNow, is_running, shows_core, answered, unread, keeps_all}
 use Rattle.machine.proofs.Steps.{outcome_keeps, commit_takes}
 
 -- no check answers EIO
@@ -108,6 +117,21 @@ never_idle s pid addr len mode reply after commit taken idle =
     let never : false ≡ true = sym taken ∙ asked in
     cc
 
+-- it stalls for the swap device alone
+done_no_stall : (stall : Stall) → Done ≡ Stalled stall → ⊥
+done_no_stall stall e = cc
+
+refused_no_stall : (errno : Errno) (stall : Stall) → Refused errno ≡ Stalled stall → ⊥
+refused_no_stall errno stall e = cc
+
+stall_is : (stall : Stall) → Stalled SwapDevice ≡ Stalled stall → SwapDevice ≡ stall
+stall_is stall e = cc
+
+-- one that makes pages durable reads the swap device
+reads_slots : (s : State) (pid addr len : ℕ) (mode : MsyncMode) (after : Pages) → commits s (Msync pid addr len mode) ≡ Some after
+    → is_some (commits s (Msync pid addr len mode)) ≡ true
+reads_slots s pid addr len mode after commit = ap is_some commit
+
 none_or_some : (o : Option Pages) → (o ≡ None) ⊎ ((after : Pages) × (o ≡ Some after))
 none_or_some None = inl refl
 none_or_some (Some after) = inr (after, refl)
@@ -125,11 +149,11 @@ module _ {D E : Type 0} (g : Ghosts D) (h : Ghosts E) where
 
   -- the commit was made
   commit_done : (old : Machine D E) (core : Core D E) (s : State) (pid addr len : ℕ) (mode : MsyncMode) (reply : Reply) (after : Pages)
-      → Shows g h old s → IsRunning s → KeepsRoom old.core core → commits s (Msync pid addr len mode) ≡ Some after
-      → Commits g old.core core s after (Msync pid addr len mode) reply → reply ≡ Done
+      → Shows g h old s → IsRunning s → KeepsRoom (picture_of old.core) (picture_of core) → UsesDevice h old.core.swap.pages.disk core.swap.pages.disk → commits s (Msync pid addr len mode) ≡ Some after
+      → (back : GivesBack g h old.core core pid addr len) → Commits g h (GivesBack g h old.core core pid addr len) old.core core s after (Msync pid addr len mode) reply → reply ≡ Done
       → Syncing.Shows g core (outcome s (Msync pid addr len mode)).state
       → (t : State) × Meets g h old (record { core = core; halted = false; past = old.past }) s t (Msync pid addr len mode) reply
-  commit_done old core s pid addr len mode reply after shows run room commit made done now =
+  commit_done old core s pid addr len mode reply after shows run room device commit back made done now =
       let x = Msync pid addr len mode in
       let new : Machine D E = record { core = core; halted = false; past = old.past } in
       let n = g.sector_count old.core.store.disk in
@@ -144,24 +168,27 @@ module _ {D E : Type 0} (g : Ghosts D) (h : Ghosts E) where
           past = shows.past ∙ sym all.past;
           stands = λ k c may. (t.durable, subst (λ (o : Option (List Pages)). stands_in o t.durable t.durable) (sym goes_on) refl, now.stands k c may);
         };
+        capacity = λ stall e. absurd (done_no_stall stall (sym done ∙ e));
         room = room;
         accesses = tt;
         size = made.size;
+        swap_size = device.size;
         kept = made.kept;
+        swap_kept = device.kept;
         idle = λ e. absurd (never_idle s pid addr len mode reply after commit (ap is_denial done) e);
         moments = λ k. weaker g old.core.store.disk core.store.disk (StandsForEither n s.files s.durable after) (StandsForSome n s.files (HoldsIn s x reply))
             (λ c either. holds_either n s x reply after c run commit (ap may_have_taken done) either)
-            (made.either k);
+            (made.either k back);
       } in
       (t, meets)
 
   -- the store failed in it
   commit_failed : (counts_now : CountsNow) (old : Machine D E) (core : Core D E) (s : State) (pid addr len : ℕ) (mode : MsyncMode) (reply : Reply) (after : Pages)
-      → Shows g h old s → IsRunning s → KeepsRoom old.core core → commits s (Msync pid addr len mode) ≡ Some after
-      → Commits g old.core core s after (Msync pid addr len mode) reply → reply ≡ Refused EIO
+      → Shows g h old s → IsRunning s → KeepsRoom (picture_of old.core) (picture_of core) → UsesDevice h old.core.swap.pages.disk core.swap.pages.disk → commits s (Msync pid addr len mode) ≡ Some after
+      → (back : GivesBack g h old.core core pid addr len) → Commits g h (GivesBack g h old.core core pid addr len) old.core core s after (Msync pid addr len mode) reply → reply ≡ Refused EIO
       → g.failures old.core.store.disk < g.failures core.store.disk → KeepsMemory old.core core
       → (t : State) × Meets g h old (record { core = core; halted = true; past = old.past }) s t (Msync pid addr len mode) reply
-  commit_failed counts_now old core s pid addr len mode reply after shows run room commit made failed grew memory =
+  commit_failed counts_now old core s pid addr len mode reply after shows run room device commit back made failed grew memory =
       let x = Msync pid addr len mode in
       let new : Machine D E = record { core = core; halted = true; past = old.past } in
       let n = g.sector_count old.core.store.disk in
@@ -171,42 +198,86 @@ module _ {D E : Type 0} (g : Ghosts D) (h : Ghosts E) where
         views = shows.pages.views;
         files = shows.pages.files;
         touched = shows.pages.touched;
-        framed = shows.pages.framed;
-        home = shows.pages.home;
+        held = shows.pages.held;
+        clean = shows.pages.clean;
       } in
       let meets : Meets g h old new s t x reply = record {
         step = Fails after run commit grew failed refl;
         shows = record {
-          pages = rw (memory.frames, memory.cache, memory.roots, memory.regions, memory.page_of, memory.directory) pages;
+          pages = rw (memory.frames, memory.slots, memory.cache, memory.roots, memory.regions, memory.page_of, memory.directory) pages;
           running = refl;
           past = shows.past;
           stands = λ k c may.
               subst (λ (sectors : ℕ). StandsForSome sectors s.files (MayStand t) c) (sym made.size)
               (⊎_elim (λ b. (s.durable, inl refl, b)) (λ a. (after, inr (inl refl), a))
               (holds_now g old.core.store.disk core.store.disk (StandsForEither n s.files s.durable after)
-              (λ m i le ml. counts_now core.store.disk m i k le ml) (made.either k) c may));
+              (λ m i le ml. counts_now core.store.disk m i k le ml) (made.either k back) c may));
         };
+        capacity = λ stall e. absurd (refused_no_stall EIO stall (sym failed ∙ e));
         room = room;
         accesses = tt;
         size = made.size;
+        swap_size = device.size;
         kept = made.kept;
+        swap_kept = device.kept;
         idle = λ e. absurd (never_idle s pid addr len mode reply after commit (ap is_denial failed) e);
         moments = λ k. weaker g old.core.store.disk core.store.disk (StandsForEither n s.files s.durable after) (StandsForSome n s.files (HoldsIn s x reply))
             (λ c either. holds_either n s x reply after c run commit (ap may_have_taken failed) either)
-            (made.either k);
+            (made.either k back);
       } in
       (t, meets)
 
-  -- what spaces says of an msync, in a state that they show
-  pub record Msynced (old core : Core D E) (s : State) (command : Command) (reply : Reply) : Type 0 where
-    pub passes : commits s command ≡ None → (reply ≡ (outcome s command).reply) × (core ≡ old)
-    pub commits_so : (after : Pages) → commits s command ≡ Some after → Commits g old core s after command reply
+  -- a slot couldn't be read
+  commit_unread : (old : Machine D E) (core : Core D E) (s : State) (pid addr len : ℕ) (mode : MsyncMode) (reply : Reply) (after : Pages)
+      → Shows g h old s → IsRunning s → KeepsRoom (picture_of old.core) (picture_of core) → UsesDevice h old.core.swap.pages.disk core.swap.pages.disk → commits s (Msync pid addr len mode) ≡ Some after
+      → Commits g h (GivesBack g h old.core core pid addr len) old.core core s after (Msync pid addr len mode) reply → reply ≡ Stalled SwapDevice
+      → h.failures old.core.swap.pages.disk < h.failures core.swap.pages.disk → Syncing.Shows g core s
+      → (g.keeps_model core.store.disk → LeavesOnly g old.core.store.disk core.store.disk (StandsFor (g.sector_count old.core.store.disk) s.files s.durable))
+      → (t : State) × Meets g h old (record { core = core; halted = false; past = old.past }) s t (Msync pid addr len mode) reply
+  commit_unread old core s pid addr len mode reply after shows run room device commit made stalled grew now only =
+      let x = Msync pid addr len mode in
+      let new : Machine D E = record { core = core; halted = false; past = old.past } in
+      let n = g.sector_count old.core.store.disk in
+      let meets : Meets g h old new s s x reply = record {
+        step = Stalls SwapDevice run
+            (record {
+              otherwise = ap is_success (done_of s (ruling s x) after commit);
+              open_to = reads_slots s pid addr len mode after commit;
+              cause = grew;
+            }) stalled refl;
+        shows = record {
+          pages = now.pages;
+          running = ap is_some run;
+          past = shows.past;
+          stands = λ k c may. (s.durable, subst (λ (o : Option (List Pages)). stands_in o s.durable s.durable) (sym run) refl, now.stands k c may);
+        };
+        capacity = λ stall e. subst (Calls.FallsShort (frame_count core.frames) (slots_of core.swap).total s x) (stall_is stall (sym stalled ∙ e)) tt;
+        room = room;
+        accesses = tt;
+        size = made.size;
+        swap_size = device.size;
+        kept = made.kept;
+        swap_kept = device.kept;
+        idle = λ e. absurd (never_idle s pid addr len mode reply after commit (ap is_denial stalled) e);
+        moments = λ k. weaker g old.core.store.disk core.store.disk (StandsFor n s.files s.durable) (StandsForSome n s.files (HoldsIn s x reply))
+            (λ c stands. (s.durable, inl (subst (λ (o : Option (List Pages)). stands_in o s.durable s.durable) (sym run) refl), stands))
+            (only k);
+      } in
+      (s, meets)
+
+  -- what is said of an msync, in a state that memory shows
+  pub record Msynced (old core : Core D E) (s : State) (pid addr len : ℕ) (mode : MsyncMode) (reply : Reply) : Type 0 where
+    pub passes : commits s (Msync pid addr len mode) ≡ None → (reply ≡ (outcome s (Msync pid addr len mode)).reply) × (core ≡ old)
+    pub commits_so : (after : Pages) → commits s (Msync pid addr len mode) ≡ Some after
+        → Commits g h (GivesBack g h old core pid addr len) old core s after (Msync pid addr len mode) reply
+    pub back : (after : Pages) → commits s (Msync pid addr len mode) ≡ Some after → GivesBack g h old core pid addr len
 
   -- answered by EIO, it halts the machine
   pub msync_halts : (counts_now : CountsNow) (old : Machine D E) (core : Core D E) (s : State) (pid addr len : ℕ) (mode : MsyncMode) (reply : Reply)
-      → Shows g h old s → old.halted ≡ false → KeepsRoom old.core core → (Syncing.Shows g old.core s → Msynced old.core core s (Msync pid addr len mode) reply)
+      → Shows g h old s → old.halted ≡ false → KeepsRoom (picture_of old.core) (picture_of core) → UsesDevice h old.core.swap.pages.disk core.swap.pages.disk
+      → (Syncing.Shows g old.core s → Msynced old.core core s pid addr len mode reply)
       → reply ≡ Refused EIO → (t : State) × Meets g h old (record { core = core; halted = true; past = old.past }) s t (Msync pid addr len mode) reply
-  msync_halts counts_now old core s pid addr len mode reply shows live room said e =
+  msync_halts counts_now old core s pid addr len mode reply shows live room device said e =
       let x = Msync pid addr len mode in
       let run = is_running g h old s shows live in
       let told = said (shows_core g h old s shows run) in
@@ -214,16 +285,18 @@ module _ {D E : Type 0} (g : Ghosts D) (h : Ghosts E) where
       (λ (some : (after : Pages) × (commits s x ≡ Some after)).
       let made = told.commits_so some.0 some.1 in
       elim made.end as (λ _. (t : State) × Meets g h old (record { core = core; halted = true; past = old.past }) s t x reply) [
-        | Acknowledged done now sound ↦ absurd (let never : Done ≡ Refused EIO = sym done ∙ e in cc)
-        | Failed failed grew memory ↦ commit_failed counts_now old core s pid addr len mode reply some.0 shows run room some.1 made e grew memory
+        | Acknowledged done pages now sound ↦ absurd (let never : Done ≡ Refused EIO = sym done ∙ e in cc)
+        | Failed failed grew memory ↦ commit_failed counts_now old core s pid addr len mode reply some.0 shows run room device some.1 (told.back some.0 some.1) made e grew memory
+        | Unread stalled grew memory now sound only ↦ absurd (let never : Stalled SwapDevice ≡ Refused EIO = sym stalled ∙ e in cc)
       ])
       (none_or_some (commits s x))
 
   -- answered otherwise, it lets the machine go on
   pub msync_goes_on : (only_now : OnlyNow g h) (old : Machine D E) (core : Core D E) (s : State) (pid addr len : ℕ) (mode : MsyncMode) (reply : Reply)
-      → Shows g h old s → old.halted ≡ false → KeepsRoom old.core core → (Syncing.Shows g old.core s → Msynced old.core core s (Msync pid addr len mode) reply)
+      → Shows g h old s → old.halted ≡ false → KeepsRoom (picture_of old.core) (picture_of core) → UsesDevice h old.core.swap.pages.disk core.swap.pages.disk
+      → (Syncing.Shows g old.core s → Msynced old.core core s pid addr len mode reply)
       → (reply ≡ Refused EIO → ⊥) → (t : State) × Meets g h old (record { core = core; halted = false; past = old.past }) s t (Msync pid addr len mode) reply
-  msync_goes_on only_now old core s pid addr len mode reply shows live room said otherwise =
+  msync_goes_on only_now old core s pid addr len mode reply shows live room device said otherwise =
       let x = Msync pid addr len mode in
       let run = is_running g h old s shows live in
       let told = said (shows_core g h old s shows run) in
@@ -232,22 +305,24 @@ module _ {D E : Type 0} (g : Ghosts D) (h : Ghosts E) where
       let same : core ≡ old.core = (told.passes none).1 in
       let pages : ShowsPages (picture_of core) (outcome s x).state =
       subst (λ (t : State). ShowsPages (picture_of core) t) (sym stays.0) (subst (λ (o : Core D E). ShowsPages (picture_of o) s) (sym same) shows.pages) in
-      let keeps : KeepsDevices old.core core = record { store = ap (λ (o : Core D E). o.store) same; swap = ap (λ (o : Core D E). o.swap) same } in
-      answered g h only_now old core false old.past s x reply shows live refl stays.1 refl (unread g h old.core core keeps) (λ _. keeps) room tt (Calls.Does (told.passes none).0 pages))
+      let keeps : KeepsDevices old.core core = keeps_all g h old.core core same in
+      answered g h only_now old core false old.past s x reply shows live refl stays.1 refl (unread g h old.core.store core.store keeps.store) device (λ _. keeps) room tt (Calls.Does (told.passes none).0 pages))
       (λ (some : (after : Pages) × (commits s x ≡ Some after)).
       let made = told.commits_so some.0 some.1 in
       elim made.end as (λ _. (t : State) × Meets g h old (record { core = core; halted = false; past = old.past }) s t x reply) [
-        | Acknowledged done now sound ↦ commit_done old core s pid addr len mode reply some.0 shows run room some.1 made done now
+        | Acknowledged done pages now sound ↦ commit_done old core s pid addr len mode reply some.0 shows run room device some.1 (told.back some.0 some.1) made done (now (told.back some.0 some.1))
         | Failed failed grew memory ↦ absurd (otherwise failed)
+        | Unread stalled grew memory now sound only ↦ commit_unread old core s pid addr len mode reply some.0 shows run room device some.1 made stalled grew now only
       ])
       (none_or_some (commits s x))
 
   -- either way
   pub msync_meets : (only_now : OnlyNow g h) (counts_now : CountsNow) (old : Machine D E) (core : Core D E) (stops : Bool) (s : State) (pid addr len : ℕ) (mode : MsyncMode) (reply : Reply)
-      → Shows g h old s → old.halted ≡ false → KeepsRoom old.core core → (Syncing.Shows g old.core s → Msynced old.core core s (Msync pid addr len mode) reply)
+      → Shows g h old s → old.halted ≡ false → KeepsRoom (picture_of old.core) (picture_of core) → UsesDevice h old.core.swap.pages.disk core.swap.pages.disk
+      → (Syncing.Shows g old.core s → Msynced old.core core s pid addr len mode reply)
       → (stops ≡ true → reply ≡ Refused EIO) → (stops ≡ false → reply ≡ Refused EIO → ⊥)
       → (t : State) × Meets g h old (record { core = core; halted = stops; past = old.past }) s t (Msync pid addr len mode) reply
-  msync_meets only_now counts_now old core true s pid addr len mode reply shows live room said failed otherwise =
-      msync_halts counts_now old core s pid addr len mode reply shows live room said (failed refl)
-  msync_meets only_now counts_now old core false s pid addr len mode reply shows live room said failed otherwise =
-      msync_goes_on only_now old core s pid addr len mode reply shows live room said (otherwise refl)
+  msync_meets only_now counts_now old core true s pid addr len mode reply shows live room device said failed otherwise =
+      msync_halts counts_now old core s pid addr len mode reply shows live room device said (failed refl)
+  msync_meets only_now counts_now old core false s pid addr len mode reply shows live room device said failed otherwise =
+      msync_goes_on only_now old core s pid addr len mode reply shows live room device said (otherwise refl)

@@ -6,33 +6,38 @@ use Rattle.disk_model.specs.declared.sector_disk.SectorDisk.{Ghosts}
 use Rattle.disk_model.proofs.Moments.{stays, started, goes_on, still_leaves}
 use Rattle.file_store.specs.Standing.{StandsFor}
 use Rattle.file_store.specs.declared.store.FileStore.{FileStore}
-use Rattle.residency.specs.Reading.{ReadsStore}
-use Rattle.residency.specs.Picture.{Picture, picture_of}
-use Rattle.residency.specs.Shows.{ShowsPages, KeepsDevices}
-use Rattle.residency.specs.declared.kernel.Core.{Core}
-use Rattle.residency.specs.Calls.{KeepsRoom}
-use Rattle.spaces.specs.Accesses.{AsksFor}
-use Rattle.spaces.specs.Calls as Calls
-use Rattle.spaces.specs.Idle.{is_idle}
-use Rattle.syncing.specs.Shows as Syncing
+use Rattle.frames.specs.FrameTable.{frame_count}
+use Rattle.swap.specs.Slots.{slots_of}
+use Rattle.paging.specs.Calls.{UsesDevice}
+use Rattle.paging.specs.Reading.{ReadsStore}
+use Rattle.paging.specs.Picture.{Picture, picture_of}
+use Rattle.paging.specs.Shows.{ShowsPages}
+use Rattle.paging.specs.declared.kernel.Core.{Core}
+use Rattle.mapping.specs.Changes.{KeepsRoom}
+use Rattle.page_ranges.specs.Steps.{KeepsDevices}
+use Rattle.msync.specs.Shows as Syncing
+use Rattle.calls.specs.Accesses.{AsksFor}
+use Rattle.calls.specs.Calls as Calls
+use Rattle.calls.specs.Idle.{is_idle}
 use Rattle.vm_types.specs.declared.access.Access.{Access}
 use Rattle.vm_types.specs.declared.access.Access.TheVariants as Kinds
 use Rattle.vm_types.specs.declared.command.Command.{Command}
 use Rattle.vm_types.specs.declared.command.Command.TheVariants.{Spawn, Fork, Exit, Mmap, Munmap, Mprotect, Dontneed, Msync, Load, Store, Fetch, PastFaults}
 use Rattle.vm_types.specs.declared.refusal.Stall.{Stall}
-use Rattle.vm_types.specs.declared.refusal.Stall.TheVariants.{NoFrames, NoSwap, SwapDevice, StoreDevice}
+use Rattle.vm_types.specs.declared.refusal.Stall.TheVariants.{StoreDevice}
 use Rattle.vm_types.specs.declared.reply.Reply.{Reply}
 use Rattle.vm_types.specs.declared.reply.Reply.TheVariants.{Done, Halted}
 use Rattle.vm_types.specs.Files.{Files}
 use Rattle.vm_types.specs.History.{Past}
 use Rattle.vm_types.specs.Run.{Answers, Stalls, Stays}
-use Rattle.vm_types.specs.Stalls.{MayStall, reads_files}
+use Rattle.vm_types.specs.Stalls.{MayStall}
 use Rattle.vm_types.specs.State.{State, IsRunning}
 use Rattle.vm_types.specs.Step.{outcome, noted, past_after, ruling, takes}
 use Rattle.vm_types.specs.View.{Pages}
-use Rattle.machine.specs.Machine.{stands_in, MayStand, HoldsIn, StandsForSome, Shows, Meets, causes}
+use Rattle.machine.specs.Machine.{stands_in, MayStand, HoldsIn, StandsForSome, Shows, Meets, IsReadable}
 use Rattle.machine.specs.Accesses.{Accesses}
 use Rattle.machine.specs.declared.machine.Machine.{Machine}
+use Rattle.machine.proofs.Outcomes.{never_stalls}
 use Rattle.machine.proofs.Steps.{outcome_keeps, past_stalled}
 
 running_of : (o : Option (List Pages)) → is_some o ≡ false → o ≡ None
@@ -47,15 +52,18 @@ halted_of (Some x) e = (x, refl)
 no_stall : (stall : Stall) → Halted ≡ Reply.Stalled stall → ⊥
 no_stall stall e = cc
 
+same_stall : (stall other : Stall) → Reply.Stalled stall ≡ Reply.Stalled other → stall ≡ other
+same_stall stall other e = cc
+
 halted_asks : {D E : Type 0} (c : Core D E) (pid addr : ℕ) (access : Access) → AsksFor c c pid addr access Halted
-halted_asks c pid addr access = record { wanted = λ stall e. absurd (no_stall stall e); home = λ e. absurd (no_stall StoreDevice e); read = inl refl }
+halted_asks c pid addr access = record { wanted = λ stall e. absurd (no_stall stall e); home = λ e. absurd (no_stall StoreDevice e); read = inl refl; slots = λ none. refl }
 
 halted_accesses : {D E : Type 0} (c : Core D E) (command : Command) → Accesses c c command Halted
 halted_accesses c (Load pid addr width) = (halted_asks c pid addr Kinds.Load, λ place walked. refl)
 halted_accesses c (Fetch pid addr) = (halted_asks c pid addr Kinds.Fetch, λ place walked. refl)
 halted_accesses c (Store pid addr stored) = (halted_asks c pid addr Kinds.Store, λ place walked done. absurd (let never : Halted ≡ Done = done in cc))
-halted_accesses c Spawn = λ stall e. absurd (no_stall stall e)
-halted_accesses c (Fork pid) = λ stall e. absurd (no_stall stall e)
+halted_accesses c Spawn = tt
+halted_accesses c (Fork pid) = tt
 halted_accesses c (Exit pid) = tt
 halted_accesses c (Mmap pid addr len prot source placing) = tt
 halted_accesses c (Munmap pid addr len) = tt
@@ -109,22 +117,14 @@ module _ {D E : Type 0} (g : Ghosts D) (h : Ghosts E) where
       goes_on g Nothing old old new (StandsForSome n s.files (HoldsIn s command reply)) (no_time only_now old n s command reply keeps stands) run
       (λ c may. let p = stands c (record { kept = λ k. ⊎_elim (⊎_elim inl (λ none. absurd none)) inr (may.kept k) }) in (p.0, inl p.1, p.2))
 
-  -- a stall of a call is one of the machine
-  stall_of : (old new : Machine D E) (s : State) (command : Command) (stall : Stall)
-      → MayStall (Calls.causes g old.core new.core) s command stall → MayStall (causes g h old new) s command stall
-  stall_of old new s command NoFrames may = record { otherwise = may.otherwise; open_to = may.open_to; cause = may.cause }
-  stall_of old new s command NoSwap may = record { otherwise = may.otherwise; open_to = may.open_to; cause = may.cause }
-  stall_of old new s command SwapDevice may = absurd may.cause
-  stall_of old new s command StoreDevice may = record { otherwise = may.otherwise; open_to = may.open_to; cause = may.cause }
-
   -- memory knows nothing of the history
   pub with_past : (c : Picture) (s : State) (past : Past) → ShowsPages c s → ShowsPages c (record s { past = past })
-  with_past c s past shows = record { live = shows.live; views = shows.views; files = shows.files; touched = shows.touched; framed = shows.framed; home = shows.home }
+  with_past c s past shows = record { live = shows.live; views = shows.views; files = shows.files; touched = shows.touched; held = shows.held; clean = shows.clean }
 
   -- the state after it, where the store was only read
   module _ (only_now : OnlyNow) (old : Machine D E) (core : Core D E) (past : Past) (s : State) (command : Command) (reply : Reply)
-      (shows : Shows g h old s) (run : old.halted ≡ false) (reads : ReadsStore g old.core.store core.store)
-      (kept_past : past ≡ past_after command reply old.past) (idle : is_idle s command reply ≡ true → KeepsDevices old.core core) (room : KeepsRoom old.core core) (accesses : Accesses old.core core command reply) where
+      (shows : Shows g h old s) (run : old.halted ≡ false) (reads : ReadsStore g old.core.store core.store) (device : UsesDevice h old.core.swap.pages.disk core.swap.pages.disk)
+      (kept_past : past ≡ past_after command reply old.past) (idle : is_idle s command reply ≡ true → KeepsDevices old.core core) (room : KeepsRoom (picture_of old.core) (picture_of core)) (accesses : Accesses old.core core command reply) where
     abbrev new : Machine D E
     new = record { core = core; halted = false; past = past }
 
@@ -158,68 +158,96 @@ module _ {D E : Type 0} (g : Ghosts D) (h : Ghosts E) where
             past = kept_past ∙ ap (past_after command reply) (shows.past ∙ sym all.past);
             stands = moved t kept;
           };
+          capacity = λ stall e. absurd (never_stalls s command stall (sym answer ∙ e));
           room = room;
           accesses = accesses;
           size = reads.size;
+          swap_size = device.size;
           kept = reads.kept;
+          swap_kept = device.kept;
           idle = idle;
           moments = during;
         } in
         (t, meets)
 
-    stalled : (stall : Stall) → MayStall (Calls.causes g old.core core) s command stall → reply ≡ Reply.Stalled stall → ShowsPages (picture_of core) s
-        → (t : State) × Meets g h old new s t command reply
-    stalled stall may answer pages =
+    stalled : (stall : Stall) → MayStall (Calls.causes g h old.core core) s command stall → Calls.FallsShort (frame_count core.frames) (slots_of core.swap).total s command stall
+        → reply ≡ Reply.Stalled stall → ShowsPages (picture_of core) s → (t : State) × Meets g h old new s t command reply
+    stalled stall may short answer pages =
         let kept : Leaves s s = record { files = refl; ends = refl; durable_is = refl } in
         let meets : Meets g h old new s s command reply = record {
-          step = Stalls stall (is_running old s shows run) (stall_of old new s command stall may) answer refl;
+          step = Stalls stall (is_running old s shows run) may answer refl;
           shows = record {
             pages = pages;
             running = goes s kept;
             past = kept_past ∙ ap (λ (r : Reply). past_after command r old.past) answer ∙ past_stalled command stall old.past ∙ shows.past;
             stands = moved s kept;
           };
+          capacity = λ other e. subst (Calls.FallsShort (frame_count core.frames) (slots_of core.swap).total s command) (same_stall stall other (sym answer ∙ e)) short;
           room = room;
           accesses = accesses;
           size = reads.size;
+          swap_size = device.size;
           kept = reads.kept;
+          swap_kept = device.kept;
           idle = idle;
           moments = during;
         } in
         (s, meets)
 
-    pub read_meets : takes s (ruling s command) s.durable ≡ s.durable → Calls.Comes g old.core core s command reply
+    pub read_meets : takes s (ruling s command) s.durable ≡ s.durable → Calls.Comes g h old.core core s command reply
         → (t : State) × Meets g h old new s t command reply
     read_meets none (Calls.Does answer pages) = did none answer pages
-    read_meets none (Calls.Stalls stall may answer pages) = stalled stall may answer pages
+    read_meets none (Calls.Stalls stall may short answer pages) = stalled stall may short answer pages
 
-  -- a call that leaves the devices alone reads the store, too
-  pub unread : (old core : Core D E) → KeepsDevices old core → ReadsStore g old.store core.store
-  unread old core keeps = record {
-    size = ap (λ (store : FileStore D). g.sector_count store.disk) keeps.store;
-    kept = λ k. subst (λ (store : FileStore D). g.keeps_model store.disk) keeps.store k;
-    failures = rw keeps.store (omega arith);
-    touches = λ k. subst (λ (store : FileStore D). Touches g Nothing old.store.disk store.disk) (sym keeps.store) (stays g Nothing old.store.disk);
-    directory = ap (λ (store : FileStore D). store.directory) keeps.store;
+  -- a call that leaves the store alone reads it, too
+  pub unread : (old core : FileStore D) → core ≡ old → ReadsStore g old core
+  unread old core same = record {
+    size = ap (λ (store : FileStore D). g.sector_count store.disk) same;
+    kept = λ k. subst (λ (store : FileStore D). g.keeps_model store.disk) same k;
+    failures = rw same (omega arith);
+    touches = λ k. subst (λ (store : FileStore D). Touches g Nothing old.disk store.disk) (sym same) (stays g Nothing old.disk);
+    directory = ap (λ (store : FileStore D). store.directory) same;
   }
+
+  -- a device that was not asked
+  pub unused : (old new : E) → new ≡ old → UsesDevice h old new
+  unused old new same = record {
+    size = ap h.sector_count same;
+    kept = λ k. subst h.keeps_model same k;
+    later = rw same (omega arith);
+  }
+
+  -- what a call that leaves both devices alone says of the swap device
+  pub unswapped : (old core : Core D E) → KeepsDevices old core → UsesDevice h old.swap.pages.disk core.swap.pages.disk
+  unswapped old core keeps = unused old.swap.pages.disk core.swap.pages.disk (ap (λ pages. pages.disk) keeps.pages)
+
+  -- what is asked of a command is asked of the same one
+  pub reads_as : (m : Machine D E) (s : State) (x y : Command) → x ≡ y → IsReadable g h m s x → IsReadable g h m s y
+  reads_as m s x y same readable = subst (IsReadable g h m s) same readable
+
+  -- a call that changed nothing
+  pub keeps_all : (old core : Core D E) → core ≡ old → KeepsDevices old core
+  keeps_all old core same = record { store = ap (λ (o : Core D E). o.store) same; pages = ap (λ (o : Core D E). o.swap.pages) same }
 
   pub answered : (only_now : OnlyNow) (old : Machine D E) (core : Core D E) (halted : Bool) (past : Past) (s : State) (command : Command) (reply : Reply)
       → Shows g h old s → old.halted ≡ false → halted ≡ false → takes s (ruling s command) s.durable ≡ s.durable
-      → past ≡ past_after command reply old.past → ReadsStore g old.core.store core.store → (is_idle s command reply ≡ true → KeepsDevices old.core core) → KeepsRoom old.core core → Accesses old.core core command reply → Calls.Comes g old.core core s command reply
+      → past ≡ past_after command reply old.past → ReadsStore g old.core.store core.store → UsesDevice h old.core.swap.pages.disk core.swap.pages.disk
+      → (is_idle s command reply ≡ true → KeepsDevices old.core core) → KeepsRoom (picture_of old.core) (picture_of core) → Accesses old.core core command reply → Calls.Comes g h old.core core s command reply
       → (t : State) × Meets g h old (record { core = core; halted = halted; past = past }) s t command reply
-  answered only_now old core halted past s command reply shows run goes_on none kept_past reads idle room accesses comes =
+  answered only_now old core halted past s command reply shows run goes_on none kept_past reads device idle room accesses comes =
       subst (λ (b : Bool). (t : State) × Meets g h old (record { core = core; halted = b; past = past }) s t command reply) (sym goes_on)
-      (read_meets only_now old core past s command reply shows run reads kept_past idle room accesses none comes)
+      (read_meets only_now old core past s command reply shows run reads device kept_past idle room accesses none comes)
 
-  -- what a call of spaces says of a machine that runs
+  -- what a call says of a machine that runs
   pub carried : (only_now : OnlyNow) (old : Machine D E) (core : Core D E) (halted : Bool) (past : Past) (s : State) (command : Command) (reply : Reply)
       → Shows g h old s → old.halted ≡ false → halted ≡ false → takes s (ruling s command) s.durable ≡ s.durable
-      → past ≡ past_after command reply old.past → ReadsStore g old.core.store core.store → (is_idle s command reply ≡ true → KeepsDevices old.core core)
-      → KeepsRoom old.core core → Accesses old.core core command reply → Calls.Carries g old.core core command reply → (reads_files command ≡ true → g.keeps_model core.store.disk)
+      → past ≡ past_after command reply old.past → ReadsStore g old.core.store core.store → UsesDevice h old.core.swap.pages.disk core.swap.pages.disk
+      → (is_idle s command reply ≡ true → KeepsDevices old.core core) → KeepsRoom (picture_of old.core) (picture_of core) → Accesses old.core core command reply → Calls.Carries g h old.core core command reply
+      → IsReadable g h (record { core = core; halted = halted; past = past }) s command
       → (t : State) × Meets g h old (record { core = core; halted = halted; past = past }) s t command reply
-  carried only_now old core halted past s command reply shows run goes_on none kept_past reads idle room accesses carries readable =
-      answered only_now old core halted past s command reply shows run goes_on none kept_past reads idle room accesses
-      (carries s (shows_core old s shows (is_running old s shows run)) readable)
+  carried only_now old core halted past s command reply shows run goes_on none kept_past reads device idle room accesses carries readable =
+      answered only_now old core halted past s command reply shows run goes_on none kept_past reads device idle room accesses
+      (carries s (shows_core old s shows (is_running old s shows run)) readable.files readable.slots)
 
   pub stays_halted : (only_now : OnlyNow) (old : Machine D E) (s : State) (command : Command) → Shows g h old s → old.halted ≡ true
       → (t : State) × Meets g h old old s t command Halted
@@ -229,11 +257,14 @@ module _ {D E : Type 0} (g : Ghosts D) (h : Ghosts E) where
       let meets : Meets g h old old s s command Halted = record {
         step = Stays ends.0 ends.1 refl refl;
         shows = shows;
+        capacity = λ stall e. absurd (no_stall stall e);
         room = record { frames = refl; slots = refl };
         accesses = halted_accesses old.core command;
         size = refl;
+        swap_size = refl;
         kept = λ k. k;
-        idle = λ _. record { store = refl; swap = refl };
+        swap_kept = λ k. k;
+        idle = λ _. record { store = refl; pages = refl };
         moments = λ k. no_time only_now old.core.store.disk n s command Halted k (shows.stands k);
       } in
       (s, meets)

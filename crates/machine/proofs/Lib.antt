@@ -1,7 +1,9 @@
 pub mod Accesses
 pub mod Boots
+pub mod Causes
 pub mod Commits
 pub mod Counts
 pub mod Flat
+pub mod Outcomes
 pub mod Runs
 pub mod Steps

@@ -11,8 +11,8 @@ use Rattle.vm_types.specs.Step.{ruling, takes}
 use Rattle.vm_types.specs.View.{Pages}
 use Rattle.machine.specs.Chain.{event, Caused, Chain, after, Runs}
 use Rattle.machine.specs.Machine.{IsCaused, IsOneOf, stands_in, MayStand, HoldsIn, StandsForSome, Shows, Meets, causes}
-use Rattle.residency.proofs.Room.{room_none, room_then}
-use Rattle.residency.specs.Calls.{KeepsRoom}
+use Rattle.mapping.specs.Changes.{KeepsRoom}
+use Rattle.paging.specs.Picture.{Picture, picture_of}
 use Rattle.machine.specs.declared.machine.Machine.{Machine}
 use Rattle.machine.proofs.Steps.{step_files, Failed, goes_on_or_fails, halted_stays, failed_event, prefix_here, prefix_more, prefix_from_start, prefix_during, failed_before, failed_after, halted_event}
 
@@ -20,14 +20,19 @@ use Rattle.machine.proofs.Steps.{step_files, Failed, goes_on_or_fails, halted_st
 pub some_more : (sectors : ℕ) (files : Files) (P Q : Pages → Type 0) (c : Image) → ((p : Pages) → P p → Q p) → StandsForSome sectors files P c → StandsForSome sectors files Q c
 some_more sectors files P Q c more h = (h.0, more h.0 h.1, h.2)
 
-module _ {D E : Type 0} (g : Ghosts D) where
-  -- one reply more
-  pub caused_more : (old mid new : Machine D E) (replies : List Reply) (r : Reply) → Caused g old replies mid → IsCaused g mid new r
-      → Caused g old (replies ++ r ∷ []) new
-  caused_more old mid new [] r c is = (new, subst (λ (m : Machine D E). IsCaused g m new r) c is, refl)
-  caused_more old mid new (q ∷ qs) r c is = (c.0, c.1, caused_more c.0 mid new qs r c.2 is)
+pub room_none : (c : Picture) → KeepsRoom c c
+room_none c = record { frames = refl; slots = refl }
+
+pub room_then : (a b c : Picture) → KeepsRoom a b → KeepsRoom b c → KeepsRoom a c
+room_then a b c first second = record { frames = second.frames ∙ first.frames; slots = second.slots ∙ first.slots }
 
 module _ {D E : Type 0} (g : Ghosts D) (h : Ghosts E) where
+  -- one reply more
+  pub caused_more : (old mid new : Machine D E) (replies : List Reply) (r : Reply) → Caused g h old replies mid → IsCaused g h mid new r
+      → Caused g h old (replies ++ r ∷ []) new
+  caused_more old mid new [] r c is = (new, subst (λ (m : Machine D E). IsCaused g h m new r) c is, refl)
+  caused_more old mid new (q ∷ qs) r c is = (c.0, c.1, caused_more c.0 mid new qs r c.2 is)
+
   -- commands carried out so far
   pub record RanSoFar (old new : Machine D E) (s : State) (commands : List Command) (replies : List Reply) : Type 0 where
     pub last : State
@@ -46,9 +51,9 @@ module _ {D E : Type 0} (g : Ghosts D) (h : Ghosts E) where
 
   -- a chain keeps the numbers of frames and slots
   pub chain_room : (old : Machine D E) (s : State) (commands : List Command) (replies : List Reply) (events : List Event) (new : Machine D E) (t : State)
-      → Chain g h old s commands replies events new t → KeepsRoom old.core new.core
-  chain_room old s [] [] [] new t c = subst (λ (m : Machine D E). KeepsRoom old.core m.core) (sym c.0) (room_none old.core)
-  chain_room old s (x ∷ xs) (r ∷ rs) (e ∷ es) new t c = room_then old.core c.0.core new.core c.3.room (chain_room c.0 c.1 xs rs es new t c.4)
+      → Chain g h old s commands replies events new t → KeepsRoom (picture_of old.core) (picture_of new.core)
+  chain_room old s [] [] [] new t c = subst (λ (m : Machine D E). KeepsRoom (picture_of old.core) (picture_of m.core)) (sym c.0) (room_none (picture_of old.core))
+  chain_room old s (x ∷ xs) (r ∷ rs) (e ∷ es) new t c = room_then (picture_of old.core) (picture_of c.0.core) (picture_of new.core) c.3.room (chain_room c.0 c.1 xs rs es new t c.4)
   chain_room old s [] [] (e ∷ es) new t c = absurd c
   chain_room old s [] (r ∷ rs) es new t c = absurd c
   chain_room old s (x ∷ xs) [] es new t c = absurd c

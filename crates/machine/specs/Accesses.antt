@@ -1,10 +1,9 @@
--- What a load, a store, a fetch, a spawn and a fork ask for, and when the first three change nothing.
-use Rattle.std.specs.Prelude.{ℕ, ◌≡◌, ◌/◌, ◌%◌}
-use Rattle.fault.specs.Outcome.{IsWalked}
-use Rattle.residency.specs.Picture.{picture_of}
-use Rattle.residency.specs.declared.kernel.Core.{Core}
-use Rattle.spaces.specs.Accesses.{AsksFor, WritesNumber}
-use Rattle.spaces.specs.Births.{SpawnAsksFor, ForkAsksFor}
+-- What a load, a store and a fetch ask for, and when they change nothing.
+use Rattle.std.specs.Prelude.{◌≡◌, ◌/◌, ◌%◌}
+use Rattle.page_faults.specs.Outcome.{IsWalked}
+use Rattle.paging.specs.Picture.{picture_of}
+use Rattle.paging.specs.declared.kernel.Core.{Core}
+use Rattle.calls.specs.Accesses.{AsksFor, WritesNumber}
 use Rattle.vm_types.specs.declared.access.Access.TheVariants as Access
 use Rattle.vm_types.specs.declared.command.Command.{Command}
 use Rattle.vm_types.specs.declared.command.Command.TheVariants.{Spawn, Fork, Exit, Mmap, Munmap, Mprotect, Dontneed, Msync, Load, Store, Fetch, PastFaults}
@@ -14,8 +13,7 @@ use Rattle.vm_types.specs.declared.reply.Reply.TheVariants.{Done}
 use Rattle.vm_types.specs.declared.width.Width.TheVariants.{Four}
 
 module _ {D E : Type 0} where
-  -- An access asks for no more than it wants, nor does a spawn or a fork. Where the tables grant an access nothing changes, but the
-  -- number that a store writes.
+  -- An access asks for no more than it wants. Where the tables grant it nothing changes, but the number that a store writes.
   abbrev pub Accesses : Core D E → Core D E → Command → Reply → Type 0
   Accesses old new (Load pid addr width) reply =
       AsksFor old new pid addr Access.Load reply × ((place : Phys) → IsWalked (picture_of old) pid addr width Access.Load place → new ≡ old)
@@ -24,8 +22,8 @@ module _ {D E : Type 0} where
   Accesses old new (Store pid addr stored) reply =
       AsksFor old new pid addr Access.Store reply × ((place : Phys) → IsWalked (picture_of old) pid addr stored.width Access.Store place
       → reply ≡ Done → WritesNumber old new (place.0 / 4096) (addr % 4096) stored)
-  Accesses old new Spawn reply = SpawnAsksFor old reply
-  Accesses old new (Fork pid) reply = ForkAsksFor old pid reply
+  Accesses old new Spawn reply = Unit {0}
+  Accesses old new (Fork pid) reply = Unit {0}
   Accesses old new (Exit pid) reply = Unit {0}
   Accesses old new (Mmap pid addr len prot source placing) reply = Unit {0}
   Accesses old new (Munmap pid addr len) reply = Unit {0}

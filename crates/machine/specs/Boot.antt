@@ -3,7 +3,7 @@ use Rattle.std.specs.Prelude.{ℕ, ◌*◌, ◌^◌, ◌≡◌, ◌<◌, ◌⊎�
 use Rattle.disk_model.specs.declared.sector_disk.SectorDisk.{Ghosts}
 use Rattle.file_store.specs.Standing.{StandsFor}
 use Rattle.frames.specs.FrameTable.{frame_count}
-use Rattle.page_cache.specs.CacheTable.{slot_count}
+use Rattle.swap.specs.Slots.{slots_of}
 use Rattle.vm_types.specs.State.{State, IsRunning}
 use Rattle.machine.specs.declared.boot.Config.{Config}
 use Rattle.machine.specs.declared.machine.Machine.{Machine}
@@ -20,7 +20,7 @@ HasBadSlots config sectors = (2 ^ 16 < config.slots) ⊎ (sectors < 8 * config.s
 -- as many frames and as much room for slots as were asked for
 pub record HasRoom {D E : Type 0} (m : Machine D E) (config : Config) : Type 0 where
   pub frames : frame_count m.core.frames ≡ config.frames
-  pub slots : slot_count m.core.cache ≡ config.slots
+  pub slots : (slots_of m.core.swap).total ≡ config.slots
 
 -- The flat model as it starts: no process, and files of which nothing was stored to.
 pub record IsBootState (s : State) : Type 0 where

@@ -6,7 +6,8 @@ use Rattle.vm_types.specs.declared.command.Command.{Command}
 use Rattle.vm_types.specs.declared.reply.Reply.{Reply}
 use Rattle.vm_types.specs.Prefix.{Event, IsPrefixHolding}
 use Rattle.vm_types.specs.State.{State, IsRunning}
-use Rattle.residency.specs.Calls.{KeepsRoom}
+use Rattle.mapping.specs.Changes.{KeepsRoom}
+use Rattle.paging.specs.Picture.{picture_of}
 use Rattle.machine.specs.declared.machine.Machine.{Machine}
 use Rattle.machine.specs.Machine.{IsCaused, Shows, Meets, StandsForSome}
 
@@ -14,14 +15,13 @@ use Rattle.machine.specs.Machine.{IsCaused, Shows, Meets, StandsForSome}
 abbrev pub event : State → Command → Reply → Event
 event s command reply = record { state = s; command = command; reply = reply }
 
-module _ {D E : Type 0} (g : Ghosts D) where
+module _ {D E : Type 0} (g : Ghosts D) (h : Ghosts E) where
   -- Whatever the devices do: there is a machine after each reply, up to the last one, and what the reply names came to pass
   -- between the machine before it and that one.
   abbrev pub Caused : Machine D E → List Reply → Machine D E → Type 0
   Caused old [] new = new ≡ old
-  Caused old (reply ∷ replies) new = (mid : Machine D E) × IsCaused g old mid reply × Caused mid replies new
+  Caused old (reply ∷ replies) new = (mid : Machine D E) × IsCaused g h old mid reply × Caused mid replies new
 
-module _ {D E : Type 0} (g : Ghosts D) (h : Ghosts E) where
   -- the machine goes from one state to another by these commands with these replies, each carried out
   abbrev pub Chain : Machine D E → State → List Command → List Reply → List Event → Machine D E → State → Type 0
   Chain old s [] [] [] new t = (new ≡ old) × (t ≡ s)
@@ -59,5 +59,5 @@ module _ {D E : Type 0} (g : Ghosts D) (h : Ghosts E) where
     pub events : List Event
     pub chain : Chain old s commands replies events new last
     pub shows : Shows g h new last
-    pub room : KeepsRoom old.core new.core
+    pub room : KeepsRoom (picture_of old.core) (picture_of new.core)
     pub prefixes : IsRunning s → g.keeps_model new.core.store.disk → LeavesPrefixes old s commands replies events new last chain

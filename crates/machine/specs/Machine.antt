@@ -1,21 +1,26 @@
 -- How a machine is a state of the flat model, stops included.
-use Rattle.std.specs.Prelude.{ℕ, ◌≡◌, ◌+◌, ◌<◌, ◌⊎◌, true, false, List, [], ◌∷◌, Option, Some, None, is_some}
+use Rattle.std.specs.Prelude.{ℕ, ◌≡◌, ◌⊎◌, true, false, List, [], ◌∷◌, Option, Some, None, is_some}
 use Rattle.disk_model.specs.Moments.{LeavesNow, LeavesOnly}
 use Rattle.disk_model.specs.Stop.{Image}
 use Rattle.disk_model.specs.declared.sector_disk.SectorDisk.{Ghosts}
 use Rattle.file_store.specs.Standing.{StandsFor}
-use Rattle.residency.specs.Picture.{picture_of}
-use Rattle.residency.specs.Calls.{KeepsRoom}
-use Rattle.residency.specs.Shows.{ShowsPages, KeepsDevices}
-use Rattle.spaces.specs.Calls as Spaces
-use Rattle.spaces.specs.Idle.{is_idle}
-use Rattle.syncing.specs.Shows as Calls
+use Rattle.frames.specs.FrameTable.{frame_count}
+use Rattle.swap.specs.Slots.{slots_of}
+use Rattle.paging.specs.Picture.{picture_of}
+use Rattle.paging.specs.Shows.{ShowsPages}
+use Rattle.mapping.specs.Changes.{KeepsRoom}
+use Rattle.page_ranges.specs.Steps.{KeepsDevices}
+use Rattle.msync.specs.Shows.{IsSoundCore}
+use Rattle.calls.specs.Calls as Calls
+use Rattle.calls.specs.Idle.{is_idle}
 use Rattle.vm_types.specs.declared.command.Command.{Command}
+use Rattle.vm_types.specs.declared.refusal.Stall.{Stall}
 use Rattle.vm_types.specs.declared.reply.Reply.{Reply}
+use Rattle.vm_types.specs.declared.reply.Reply.TheVariants.{Stalled}
 use Rattle.vm_types.specs.Files.{Files}
 use Rattle.vm_types.specs.Prefix.{may_have_taken}
 use Rattle.vm_types.specs.Run.{Step}
-use Rattle.vm_types.specs.Stalls.{Causes, reads_files}
+use Rattle.vm_types.specs.Stalls.{Causes, reads_files, reads_swap}
 use Rattle.vm_types.specs.State.{State, IsRunning}
 use Rattle.vm_types.specs.Step.{ruling, takes}
 use Rattle.vm_types.specs.View.{Pages}
@@ -44,15 +49,15 @@ HoldsIn s command reply pages =
 abbrev pub StandsForSome : ℕ → Files → (Pages → Type 0) → Image → Type 0
 StandsForSome sectors files P image = (pages : Pages) × P pages × StandsFor sectors files pages image
 
-module _ {D E : Type 0} (g : Ghosts D) where
+module _ {D E : Type 0} (g : Ghosts D) (h : Ghosts E) where
   -- whatever the devices do: what the reply names came to pass between the two machines
   abbrev pub IsCaused : Machine D E → Machine D E → Reply → Type 0
-  IsCaused old new reply = Spaces.IsCaused g old.core new.core reply
+  IsCaused old new reply = Calls.IsCaused g h old.core new.core reply
 
-module _ {D E : Type 0} (g : Ghosts D) (h : Ghosts E) where
-  -- The machine may go on: unless it has halted, its store may be read and committed to, and its memory is fit.
+  -- The machine may go on: unless it has halted, its store may be read and committed to, slots may be put and got, and its memory
+  -- is fit.
   pub record IsSoundMachine (m : Machine D E) : Type 0 where
-    pub going : m.halted ≡ false → Calls.IsSoundCore g m.core
+    pub going : m.halted ≡ false → IsSoundCore g h m.core
 
   -- The machine is in that state: its memory shows it, and so does every image that a stop may leave now.
   pub record Shows (m : Machine D E) (s : State) : Type 0 where
@@ -64,25 +69,25 @@ module _ {D E : Type 0} (g : Ghosts D) (h : Ghosts E) where
 
   -- what came to pass between two states of the machine
   abbrev pub causes : Machine D E → Machine D E → Causes
-  causes old new = record {
-    store = g.failures old.core.store.disk < g.failures new.core.store.disk;
-    swap = h.failures old.core.swap < h.failures new.core.swap;
-    refused = new.core.refused.number ≡ old.core.refused.number + 1;
-  }
+  causes old new = Calls.causes g h old.core new.core
 
-  -- A command was carried out: as the flat model does, with as many frames and slots as there were, and with nothing else
-  -- durable at any moment.
+  -- A command was carried out: as the flat model does, stalled for want of memory only where that is short, with as many frames and
+  -- slots as there were, and with nothing else durable at any moment.
   pub record Meets (old new : Machine D E) (s t : State) (command : Command) (reply : Reply) : Type 0 where
     pub step : Step (causes old new) s command reply t
     pub shows : Shows new t
-    pub room : KeepsRoom old.core new.core
+    pub capacity : (stall : Stall) → reply ≡ Stalled stall → Calls.FallsShort (frame_count new.core.frames) (slots_of new.core.swap).total s command stall
+    pub room : KeepsRoom (picture_of old.core) (picture_of new.core)
     pub accesses : Accesses old.core new.core command reply
     pub size : g.sector_count new.core.store.disk ≡ g.sector_count old.core.store.disk
+    pub swap_size : h.sector_count new.core.swap.pages.disk ≡ h.sector_count old.core.swap.pages.disk
     pub kept : g.keeps_model new.core.store.disk → g.keeps_model old.core.store.disk
+    pub swap_kept : h.keeps_model new.core.swap.pages.disk → h.keeps_model old.core.swap.pages.disk
     pub idle : is_idle s command reply ≡ true → KeepsDevices old.core new.core
     pub moments : g.keeps_model new.core.store.disk
         → LeavesOnly g old.core.store.disk new.core.store.disk (StandsForSome (g.sector_count old.core.store.disk) s.files (HoldsIn s command reply))
 
-  -- The premise of a command's contract: a store that it reads keeps its model.
-  abbrev pub IsReadable : Machine D E → Command → Type 0
-  IsReadable m command = reads_files command ≡ true → g.keeps_model m.core.store.disk
+  -- The premise of a command's contract: a device that it reads keeps its model.
+  pub record IsReadable (m : Machine D E) (s : State) (command : Command) : Type 0 where
+    pub files : reads_files command ≡ true → g.keeps_model m.core.store.disk
+    pub slots : reads_swap s command ≡ true → h.keeps_model m.core.swap.pages.disk

@@ -12,8 +12,9 @@ use crate::fault_log::FaultLog;
 use crate::machine::Machine;
 use disk_model::SectorDisk;
 use file_store::{FileStore, OpenFault};
-use residency::Core;
+use paging::Core;
 use std::alloc::Global;
+use swap::Swap;
 
 /// The fewest and the most frames.
 const MIN_FRAMES: u32 = 8;
@@ -88,7 +89,8 @@ impl<D: SectorDisk, E: SectorDisk + Drop> Machine<D, E> {
         ensures sound { IfOk result (λ m. IsSoundMachine D.SectorDisk E.SectorDisk m) }
         ensures boots { IfOk result (λ m. Boots D.SectorDisk E.SectorDisk store m) }
         ensures room { IfOk result (λ m. HasRoom m config) }
-        ensures swap { IfOk result (λ m. m.core.swap ≡ swap) }
+        // The swap device is as it came.
+        ensures swap { IfOk result (λ m. m.core.swap.pages.disk ≡ swap) }
         ensures size { IfOk result (λ m. D.sector_count m.core.store.disk ≡ D.sector_count store) }
         ensures kept { IfOk result (λ m. D.keeps_model m.core.store.disk → D.keeps_model store) }
         ensures later { IfOk result (λ m. D.failures store ≤ D.failures m.core.store.disk) }
@@ -137,6 +139,9 @@ impl<D: SectorDisk, E: SectorDisk + Drop> Machine<D, E> {
             Err((fault, disk)) => return Err((BootFault::from(fault), disk)),
         };
         let Ok(past) = FaultLog::new(alloc) else {
+            return Err((BootFault::OutOfMemory, store.into_disk()));
+        };
+        let Ok(swap) = Swap::new(alloc, swap, config.slots) else {
             return Err((BootFault::OutOfMemory, store.into_disk()));
         };
         match Core::new(alloc, store, swap, config.frames, config.slots) {

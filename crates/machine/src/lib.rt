@@ -4,7 +4,7 @@
 mod boot;
 mod fault_log;
 mod machine;
-mod msync;
+mod syncs;
 #[cfg(test)]
 mod tests;
 

@@ -2,9 +2,9 @@
 ghost use Rattle.std.specs.Prelude.{◌≡◌, ◌≤◌, ◌<◌, length, is_some, true};
 ghost use Rattle.vm_types.specs.State.{State};
 ghost use Rattle.machine.specs.Machine.{IsCaused, IsSoundMachine, IsReadable, Shows, Meets};
-ghost use Rattle.residency.specs.Calls.{KeepsRoom};
-ghost use Rattle.residency.specs.Parts.{IsFit};
-ghost use Rattle.residency.specs.Picture.{picture_of, is_live};
+ghost use Rattle.mapping.specs.Changes.{KeepsRoom};
+ghost use Rattle.paging.specs.Parts.{IsFit};
+ghost use Rattle.paging.specs.Picture.{picture_of, is_live};
 ghost use Rattle.vm_types.specs.Replies.{reply_of, told};
 ghost use Rattle.vm_types.specs.Step.{noted_fault};
 ghost use Rattle.vm_types.specs.declared.refusal.Fault.{Fault};
@@ -13,8 +13,7 @@ ghost use Rattle.machine.specs.Counts.{Counts};
 
 use crate::fault_log::FaultLog;
 use disk_model::SectorDisk;
-use fault::live;
-use residency::Core;
+use paging::Core;
 use vm_types::{Answer, Command, History, Reply};
 
 /// A machine over a store device `D` and a swap device `E`, made by `boot`.
@@ -61,9 +60,10 @@ impl<D: SectorDisk, E: SectorDisk> Machine<D, E> {
         requires sound { IsSoundMachine D.SectorDisk E.SectorDisk self.old }
         ensures sound { IsSoundMachine D.SectorDisk E.SectorDisk self.new }
         ensures kept { D.keeps_model self.new.core.store.disk → D.keeps_model self.old.core.store.disk }
-        ensures room { KeepsRoom self.old.core self.new.core }
-        ensures caused { IsCaused D.SectorDisk self.old self.new (told self.new.past result) }
-        ensures meets { (s : State) → Shows D.SectorDisk E.SectorDisk self.old s → IsReadable D.SectorDisk E.SectorDisk self.new command
+        ensures swap_kept { E.keeps_model self.new.core.swap.pages.disk → E.keeps_model self.old.core.swap.pages.disk }
+        ensures room { KeepsRoom (picture_of self.old.core) (picture_of self.new.core) }
+        ensures caused { IsCaused D.SectorDisk E.SectorDisk self.old self.new (told self.new.past result) }
+        ensures meets { (s : State) → Shows D.SectorDisk E.SectorDisk self.old s → IsReadable D.SectorDisk E.SectorDisk self.new s command
             → (t : State) × Meets D.SectorDisk E.SectorDisk self.old self.new s t command (told self.new.past result) }
     {
         if self.halted {
@@ -71,9 +71,9 @@ impl<D: SectorDisk, E: SectorDisk> Machine<D, E> {
         }
         let core = &mut self.core;
         match command {
-            Command::Spawn => Some(spaces::spawn(core)),
-            Command::Fork { pid } => Some(spaces::fork(core, pid)),
-            Command::Exit { pid } => Some(spaces::exit(core, pid)),
+            Command::Spawn => Some(calls::spawn(core)),
+            Command::Fork { pid } => Some(calls::fork(core, pid)),
+            Command::Exit { pid } => Some(calls::exit(core, pid)),
             Command::Mmap {
                 pid,
                 addr,
@@ -81,31 +81,31 @@ impl<D: SectorDisk, E: SectorDisk> Machine<D, E> {
                 prot,
                 source,
                 placing,
-            } => Some(spaces::mmap(core, pid, addr, len, prot, source, placing)),
-            Command::Munmap { pid, addr, len } => Some(spaces::munmap(core, pid, addr, len)),
+            } => Some(calls::mmap(core, pid, addr, len, prot, source, placing)),
+            Command::Munmap { pid, addr, len } => Some(calls::munmap(core, pid, addr, len)),
             Command::Mprotect {
                 pid,
                 addr,
                 len,
                 prot,
-            } => Some(spaces::mprotect(core, pid, addr, len, prot)),
+            } => Some(calls::mprotect(core, pid, addr, len, prot)),
             Command::Msync {
                 pid,
                 addr,
                 len,
                 mode,
             } => Some(self.msync(pid, addr, len, mode)),
-            Command::Dontneed { pid, addr, len } => Some(spaces::dontneed(core, pid, addr, len)),
+            Command::Dontneed { pid, addr, len } => Some(calls::dontneed(core, pid, addr, len)),
             Command::Load { pid, addr, width } => {
-                let answer = spaces::load(core, pid, addr, width);
+                let answer = calls::load(core, pid, addr, width);
                 Some(self.noted(pid, answer))
             }
             Command::Store { pid, addr, stored } => {
-                let answer = spaces::store(core, pid, addr, stored);
+                let answer = calls::store(core, pid, addr, stored);
                 Some(self.noted(pid, answer))
             }
             Command::Fetch { pid, addr } => {
-                let answer = spaces::fetch(core, pid, addr);
+                let answer = calls::fetch(core, pid, addr);
                 Some(self.noted(pid, answer))
             }
             Command::PastFaults => None,
@@ -119,16 +119,20 @@ impl<D: SectorDisk, E: SectorDisk> Machine<D, E> {
         self.past.history()
     }
 
-    /// Carries out one command. It takes no memory of the host. A command that would succeed stalls where a frame or a
-    /// device is wanting, and then has changed nothing. A failure of the store in an msync is answered by `EIO`, only
-    /// where the device failed in this call, and halts the machine: from then on every command answers `Halted`.
+    /// Carries out one command. It takes no memory of the host. A command that would succeed may stall, and then has
+    /// changed nothing that a process or a file shows: `NoFrames` only where memory has fewer frames than the tables of the
+    /// state after it and three more, `NoSwap` only where there are fewer slots than pages that processes have of their own and
+    /// touched file pages, `SwapDevice` and `StoreDevice` only where that device failed in this call. A failure of the store in
+    /// an msync is answered by `EIO`, only where the device failed in this call, and halts the machine: from then on every
+    /// command answers `Halted`.
     pub fn step(&mut self, command: Command) -> Reply
         requires sound { IsSoundMachine D.SectorDisk E.SectorDisk self.old }
         ensures sound { IsSoundMachine D.SectorDisk E.SectorDisk self.new }
         ensures kept { D.keeps_model self.new.core.store.disk → D.keeps_model self.old.core.store.disk }
-        ensures room { KeepsRoom self.old.core self.new.core }
-        ensures caused { IsCaused D.SectorDisk self.old self.new result }
-        ensures meets { (s : State) → Shows D.SectorDisk E.SectorDisk self.old s → IsReadable D.SectorDisk E.SectorDisk self.new command
+        ensures swap_kept { E.keeps_model self.new.core.swap.pages.disk → E.keeps_model self.old.core.swap.pages.disk }
+        ensures room { KeepsRoom (picture_of self.old.core) (picture_of self.new.core) }
+        ensures caused { IsCaused D.SectorDisk E.SectorDisk self.old self.new result }
+        ensures meets { (s : State) → Shows D.SectorDisk E.SectorDisk self.old s → IsReadable D.SectorDisk E.SectorDisk self.new s command
             → (t : State) × Meets D.SectorDisk E.SectorDisk self.old self.new s t command result }
     {
         match self.carry_out(command) {
@@ -147,25 +151,26 @@ impl<D: SectorDisk, E: SectorDisk> Machine<D, E> {
             → self.new.past ≡ noted_fault pid (reply_of answer) self.old.past }
     {
         if let Answer::Faulted(fault) = answer {
-            if let Some(pid) = live(&self.core, pid) {
+            if let Some(pid) = self.core.live(pid) {
                 self.past.note(pid, fault);
             }
         }
         answer
     }
 
-    /// Carries out commands one after another, and writes the reply to each. Whatever the devices do, the store failed at
-    /// least once for each reply that names it, and not at all where none does, and as many requests for a frame were refused as
-    /// replies name the want of one.
+    /// Carries out commands one after another, and writes the reply to each. Whatever the devices do, each failed at least once
+    /// for each reply that names it, the store not at all where none does, and as many requests for a frame were refused as
+    /// replies name the want of one or of a slot.
     pub fn run(&mut self, commands: &[Command], replies: &mut [Reply])
         requires sound { IsSoundMachine D.SectorDisk E.SectorDisk self.old }
         requires lengths { length replies.old ≡ length commands.now }
         ensures sound { IsSoundMachine D.SectorDisk E.SectorDisk self.new }
         ensures kept { D.keeps_model self.new.core.store.disk → D.keeps_model self.old.core.store.disk }
-        ensures room { KeepsRoom self.old.core self.new.core }
-        ensures caused { Caused D.SectorDisk self.old replies.new self.new }
-        ensures counts { Counts D.SectorDisk self.old self.new replies.new }
-        ensures run { (s : State) → Shows D.SectorDisk E.SectorDisk self.old s → D.keeps_model self.new.core.store.disk
+        ensures swap_kept { E.keeps_model self.new.core.swap.pages.disk → E.keeps_model self.old.core.swap.pages.disk }
+        ensures room { KeepsRoom (picture_of self.old.core) (picture_of self.new.core) }
+        ensures caused { Caused D.SectorDisk E.SectorDisk self.old replies.new self.new }
+        ensures counts { Counts D.SectorDisk E.SectorDisk self.old self.new replies.new }
+        ensures run { (s : State) → Shows D.SectorDisk E.SectorDisk self.old s → D.keeps_model self.new.core.store.disk → E.keeps_model self.new.core.swap.pages.disk
             → Runs D.SectorDisk E.SectorDisk self.old self.new commands.now replies.new s }
     {
         for (i, command) in commands.iter().enumerate() {

@@ -1,11 +1,12 @@
 //! Each call of a machine over devices in memory.
-ghost use Rattle.std.specs.Prelude.{ℕ, IfOk};
+ghost use Rattle.std.specs.Prelude.{ℕ, IfOk, OnOk};
 ghost use Rattle.machine.specs.Machine.{IsSoundMachine};
 
 use crate::{BootFault, Config, Machine};
 use disk_model::{SectorDisk, SimDisk};
 use file_store::{FileSource, format};
 use std::alloc::Global;
+use std::process::Abort;
 use std::test::Fail;
 use vm_types::{
     Code, Command, Errno, Fault, MapSource, MsyncMode, Pid, Placing, Prot, Reply, StoredValue,
@@ -98,6 +99,14 @@ fn storing_more() -> Result<Command, Fail> {
     })
 }
 
+/// The reply to a load of a byte.
+fn value(value: u64) -> Reply {
+    Reply::Value {
+        width: Width::One,
+        value,
+    }
+}
+
 /// The fault of an access to an address that isn't mapped.
 fn unmapped(cause: u8) -> Reply {
     Reply::Faulted(Fault {
@@ -107,9 +116,16 @@ fn unmapped(cause: u8) -> Reply {
     })
 }
 
-#[test]
-fn commands_are_carried_out(rt: HostRuntime) -> Result<(), Fail> {
-    let mut machine = booted(rt.alloc(), None)?;
+// A test that goes through a machine borrows it, so that its ways out let go of nothing: each of them would have to be proved to.
+
+/// Maps a page, stores to it, makes that durable and unmaps it.
+fn carry_out_all<E: SectorDisk>(
+    rt: &impl Abort,
+    machine: &mut Machine<SimDisk, E>,
+) -> Result<(), Fail>
+    requires sound { IsSoundMachine ⟦<SimDisk as SectorDisk>⟧ E.SectorDisk machine.old }
+    ensures sound { OnOk result (IsSoundMachine ⟦<SimDisk as SectorDisk>⟧ E.SectorDisk machine.new) }
+{
     let pid = Pid::new(1).ok_or("1 is a process")?;
     let at_boot = machine.store().syncs();
     let mut replies = [Reply::Halted; 7];
@@ -128,10 +144,6 @@ fn commands_are_carried_out(rt: HostRuntime) -> Result<(), Fail> {
         code: Code::SegvAccerr,
         addr: 0x10000,
     });
-    let value = Reply::Value {
-        width: Width::One,
-        value: 0x5a,
-    };
     assert_eq!(rt;
         replies,
         [
@@ -141,7 +153,7 @@ fn commands_are_carried_out(rt: HostRuntime) -> Result<(), Fail> {
             Reply::Done,
             Reply::Done,
             Reply::Done,
-            value
+            value(0x5a)
         ]
     );
     // The map and the page's body, and the gate opened: the page's home is written with a later msync.
@@ -154,20 +166,60 @@ fn commands_are_carried_out(rt: HostRuntime) -> Result<(), Fail> {
 }
 
 #[test]
-fn a_failed_msync_halts(rt: HostRuntime) -> Result<(), Fail> {
+fn commands_are_carried_out(rt: HostRuntime) -> Result<(), Fail> {
+    let mut machine = booted(rt.alloc(), None)?;
+    let told = carry_out_all(&rt, &mut machine);
+    let _ = machine.into_store();
+    told
+}
+
+/// Maps a page and stores a byte to it.
+fn store_a_byte<D: SectorDisk, E: SectorDisk>(
+    rt: &impl Abort,
+    machine: &mut Machine<D, E>,
+) -> Result<(), Fail>
+    requires sound { IsSoundMachine D.SectorDisk E.SectorDisk machine.old }
+    ensures sound { OnOk result (IsSoundMachine D.SectorDisk E.SectorDisk machine.new) }
+{
     let stored = [Command::Spawn, MAP, PROTECT, storing()?];
     let mut replies = [Reply::Halted; 4];
-    let mut healthy = booted(rt.alloc(), None)?;
-    healthy.run(&stored, &mut replies);
-    let first_of_msync = healthy.store().calls().saturating_add(1);
-    let mut machine = booted(rt.alloc(), Some(first_of_msync))?;
     machine.run(&stored, &mut replies);
     assert_eq!(rt; replies[3], Reply::Done);
+    Ok(())
+}
+
+/// Which call of the store's device is the first of an msync of that byte.
+fn first_of_msync<R: AllocGlobal + Abort>(rt: &R) -> Result<u64, Fail> {
+    let mut machine = booted(rt.alloc(), None)?;
+    let stored = store_a_byte(rt, &mut machine);
+    let store = machine.into_store();
+    stored?;
+    Ok(store.calls().saturating_add(1))
+}
+
+/// Stores a byte, and fails to make it durable.
+fn fail_to_sync<D: SectorDisk, E: SectorDisk>(
+    rt: &impl Abort,
+    machine: &mut Machine<D, E>,
+) -> Result<(), Fail>
+    requires sound { IsSoundMachine D.SectorDisk E.SectorDisk machine.old }
+    ensures sound { OnOk result (IsSoundMachine D.SectorDisk E.SectorDisk machine.new) }
+{
+    store_a_byte(rt, machine)?;
     assert!(rt; !machine.is_halted());
     assert_eq!(rt; machine.step(SYNC), Reply::Refused(Errno::EIO));
     assert!(rt; machine.is_halted());
     assert_eq!(rt; machine.step(Command::Spawn), Reply::Halted);
     Ok(())
+}
+
+#[test]
+fn a_failed_msync_halts(rt: HostRuntime) -> Result<(), Fail> {
+    let call = first_of_msync(&rt)?;
+    let mut machine = booted(rt.alloc(), Some(call))?;
+    let told = fail_to_sync(&rt, &mut machine);
+    let _ = machine.into_store();
+    told
 }
 
 #[test]
@@ -232,67 +284,65 @@ fn slots_need_sectors(rt: HostRuntime) -> Result<(), Fail> {
     }
 }
 
-/// Another machine over the store of one that is done with: what was synced stands, and what was only stored doesn't.
-#[test]
-fn a_store_is_handed_on(rt: HostRuntime) -> Result<(), Fail> {
-    let mut first = booted(rt.alloc(), None)?;
-    let mut replies = [Reply::Halted; 6];
-    first.run(
-        &[
-            Command::Spawn,
-            MAP,
-            PROTECT,
-            storing()?,
-            SYNC,
-            storing_more()?,
-        ],
-        &mut replies,
-    );
-    assert_eq!(rt; replies[4], Reply::Done);
-    assert_eq!(rt; replies[5], Reply::Done);
+/// Stores a byte and makes it durable, and stores another.
+fn store_twice<D: SectorDisk, E: SectorDisk>(
+    rt: &impl Abort,
+    machine: &mut Machine<D, E>,
+) -> Result<(), Fail>
+    requires sound { IsSoundMachine D.SectorDisk E.SectorDisk machine.old }
+    ensures sound { OnOk result (IsSoundMachine D.SectorDisk E.SectorDisk machine.new) }
+{
+    store_a_byte(rt, machine)?;
+    assert_eq!(rt; machine.step(SYNC), Reply::Done);
+    assert_eq!(rt; machine.step(storing_more()?), Reply::Done);
+    Ok(())
+}
+
+/// What a new process finds where the byte was stored.
+fn found<D: SectorDisk, E: SectorDisk>(machine: &mut Machine<D, E>) -> Reply
+    requires sound { IsSoundMachine D.SectorDisk E.SectorDisk machine.old }
+    ensures sound { IsSoundMachine D.SectorDisk E.SectorDisk machine.new }
+{
+    let mut replies = [Reply::Halted; 3];
+    machine.run(&[Command::Spawn, MAP, LOAD], &mut replies);
+    replies[2]
+}
+
+/// The same of a machine that starts on a store that another one had.
+fn found_on(alloc: Global, store: SimDisk) -> Result<Reply, Fail> {
     let config = Config {
         frames: 8,
         slots: 16,
     };
-    let swap = SimDisk::new(rt.alloc(), 128)?;
-    let Ok(mut second) = Machine::boot(rt.alloc(), config, first.into_store(), swap) else {
-        return Err(Fail::new("it didn't boot"));
-    };
-    let mut replies = [Reply::Halted; 3];
-    second.run(&[Command::Spawn, MAP, LOAD], &mut replies);
-    let value = Reply::Value {
-        width: Width::One,
-        value: 0x5a,
-    };
-    assert_eq!(rt; replies[2], value);
+    match Machine::boot(alloc, config, store, SimDisk::new(alloc, 128)?) {
+        Ok(mut machine) => {
+            let reply = found(&mut machine);
+            let _ = machine.into_store();
+            Ok(reply)
+        }
+        Err((fault, _)) => Err(Fail::new(format_args!("boot: {fault:?}"))),
+    }
+}
+
+/// Another machine over the store of one that is done with: what was synced stands, and what was only stored doesn't.
+#[test]
+fn a_store_is_handed_on(rt: HostRuntime) -> Result<(), Fail> {
+    let mut machine = booted(rt.alloc(), None)?;
+    let told = store_twice(&rt, &mut machine);
+    let store = machine.into_store();
+    told?;
+    assert_eq!(rt; found_on(rt.alloc(), store)?, value(0x5a));
     Ok(())
 }
 
 /// After a failed msync the store has unsynced writes; it is handed on all the same.
 #[test]
 fn the_store_of_a_halted_machine_is_handed_on(rt: HostRuntime) -> Result<(), Fail> {
-    let stored = [Command::Spawn, MAP, PROTECT, storing()?];
-    let mut replies = [Reply::Halted; 4];
-    let mut healthy = booted(rt.alloc(), None)?;
-    healthy.run(&stored, &mut replies);
-    let first_of_msync = healthy.store().calls().saturating_add(1);
-    let mut machine = booted(rt.alloc(), Some(first_of_msync))?;
-    machine.run(&stored, &mut replies);
-    assert_eq!(rt; machine.step(SYNC), Reply::Refused(Errno::EIO));
-    let config = Config {
-        frames: 8,
-        slots: 16,
-    };
-    let swap = SimDisk::new(rt.alloc(), 128)?;
-    let Ok(mut second) = Machine::boot(rt.alloc(), config, machine.into_store(), swap) else {
-        return Err(Fail::new("it didn't boot"));
-    };
-    let mut replies = [Reply::Halted; 3];
-    second.run(&[Command::Spawn, MAP, LOAD], &mut replies);
-    let value = Reply::Value {
-        width: Width::One,
-        value: 0,
-    };
-    assert_eq!(rt; replies[2], value);
+    let call = first_of_msync(&rt)?;
+    let mut machine = booted(rt.alloc(), Some(call))?;
+    let told = fail_to_sync(&rt, &mut machine);
+    let store = machine.into_store();
+    told?;
+    assert_eq!(rt; found_on(rt.alloc(), store)?, value(0));
     Ok(())
 }

@@ -31,7 +31,7 @@ same_bad_line line bad command form =
 module _ {D E : Type 0} (g : Ghosts D) (h : Ghosts E) where
   pub answers_line : (old new : Machine D E) (line text : List ℕ) → Answers g h old (take 257 line) text new → Answers g h old line text new
   answers_line old new line text answers = elim answers [
-    | inl o ↦ inl (record { command = o.command; reply = o.reply; form = same_form line o.command o.form; steps = o.steps; caused = o.caused; kept = o.kept; text_is = o.text_is })
+    | inl o ↦ inl (record { command = o.command; reply = o.reply; form = same_form line o.command o.form; steps = o.steps; caused = o.caused; kept = o.kept; swap_kept = o.swap_kept; text_is = o.text_is })
     | inr r ↦ inr (record { bad = same_bad_line line r.bad; same = r.same; text_is = r.text_is })
   ]
 

@@ -8,7 +8,7 @@ use Rattle.vm_types.specs.declared.reply.Reply.{Reply}
 use Rattle.vm_types.specs.Prefix.{Event}
 use Rattle.vm_types.specs.State.{State}
 use Rattle.machine.specs.declared.machine.Machine.{Machine}
-use Rattle.machine.specs.Machine.{Shows, Meets}
+use Rattle.machine.specs.Machine.{IsReadable, Shows, Meets}
 use Rattle.machine.specs.Chain.{event, Caused, Chain, Runs}
 use Rattle.machine.proofs.Runs.{chain_room, leaves_prefix}
 use Rattle.trace_lang.specs.Lines.{lines_of}
@@ -38,7 +38,7 @@ module _ {D E : Type 0} (g : Ghosts D) (h : Ghosts E) where
     commands : List Command
     replies : List Reply
     answered : Answered lines commands replies text
-    caused : Caused g old replies new
+    caused : Caused g h old replies new
 
   replied : (old new : Machine D E) (lines : List (List ℕ)) (text : List ℕ) → CarriesOut g h old lines text new → Replied old new lines text
   replied old new [] text carried = record { commands = []; replies = []; answered = (refl, refl, carried.0); caused = carried.1 }
@@ -55,7 +55,7 @@ module _ {D E : Type 0} (g : Ghosts D) (h : Ghosts E) where
           commands = later.commands;
           replies = later.replies;
           answered = answered_none old carried.0 line lines later.commands later.replies carried.1 carried.2 text r carried.5 later.answered;
-          caused = subst (λ m. Caused g m later.replies new) r.same later.caused;
+          caused = subst (λ m. Caused g h m later.replies new) r.same later.caused;
         }
       ]
 
@@ -86,7 +86,7 @@ module _ {D E : Type 0} (g : Ghosts D) (h : Ghosts E) where
 
   pub caused_trace : (end : RunEnd) (old new : Machine D E) (left left_then held held_then : Option (List ℕ)) (bytes : List ℕ)
       → Consumes left left_then bytes → EndsSo g h end left_then (stage old [] [] held) (stage new [] [] held_then) bytes []
-      → CausedTrace g end old new (streams left held) (streams left_then held_then)
+      → CausedTrace g h end old new (streams left held) (streams left_then held_then)
   caused_trace end old new left left_then held held_then bytes read ended =
       let r = ran end old new left left_then held held_then bytes ended in
       let a = replied old new r.lines r.text r.runs in
@@ -113,12 +113,30 @@ module _ {D E : Type 0} (g : Ghosts D) (h : Ghosts E) where
         | inr r ↦ subst (λ m. g.keeps_model m.core.store.disk) r.same mid
       ]
 
+  -- and so a swap device
+  swap_kept_all : (old new : Machine D E) (lines : List (List ℕ)) (text : List ℕ) → CarriesOut g h old lines text new
+      → h.keeps_model new.core.swap.pages.disk → h.keeps_model old.core.swap.pages.disk
+  swap_kept_all old new [] text carried keeps = subst (λ m. h.keeps_model m.core.swap.pages.disk) carried.1 keeps
+  swap_kept_all old new (line ∷ lines) text carried keeps =
+      let mid = swap_kept_all carried.0 new lines carried.2 carried.4 keeps in
+      elim carried.3 [
+        | inl o ↦ o.swap_kept mid
+        | inr r ↦ subst (λ m. h.keeps_model m.core.swap.pages.disk) r.same mid
+      ]
+
   pub kept_trace : (end : RunEnd) (old new : Machine D E) (left left_then held held_then : Option (List ℕ)) (bytes : List ℕ)
       → EndsSo g h end left_then (stage old [] [] held) (stage new [] [] held_then) bytes []
       → g.keeps_model new.core.store.disk → g.keeps_model old.core.store.disk
   kept_trace end old new left left_then held held_then bytes ended keeps =
       let r = ran end old new left left_then held held_then bytes ended in
       kept_all old new r.lines r.text r.runs keeps
+
+  pub swap_kept_trace : (end : RunEnd) (old new : Machine D E) (left left_then held held_then : Option (List ℕ)) (bytes : List ℕ)
+      → EndsSo g h end left_then (stage old [] [] held) (stage new [] [] held_then) bytes []
+      → h.keeps_model new.core.swap.pages.disk → h.keeps_model old.core.swap.pages.disk
+  swap_kept_trace end old new left left_then held held_then bytes ended keeps =
+      let r = ran end old new left left_then held held_then bytes ended in
+      swap_kept_all old new r.lines r.text r.runs keeps
 
 module _ {D E : Type 0} (g : Ghosts D) (h : Ghosts E)
     (only_now : (d : D) (image : Image) → g.keeps_model d → g.left_since d (g.moment d) image → MayLeave (g.content d) (g.unsynced d) image) where
@@ -158,8 +176,9 @@ module _ {D E : Type 0} (g : Ghosts D) (h : Ghosts E)
   }
 
   relates : (old new : Machine D E) (s : State) (lines : List (List ℕ)) (text : List ℕ)
-      → CarriesOut g h old lines text new → Shows g h old s → g.keeps_model new.core.store.disk → Session old new s lines text
-  relates old new s [] text carried shows keeps = record {
+      → CarriesOut g h old lines text new → Shows g h old s → g.keeps_model new.core.store.disk → h.keeps_model new.core.swap.pages.disk
+      → Session old new s lines text
+  relates old new s [] text carried shows keeps swap_keeps = record {
     commands = [];
     replies = [];
     events = [];
@@ -168,16 +187,20 @@ module _ {D E : Type 0} (g : Ghosts D) (h : Ghosts E)
     chain = (carried.1, refl);
     shows = subst (λ m. Shows g h m s) (sym carried.1) shows;
   }
-  relates old new s (line ∷ lines) text carried shows keeps =
+  relates old new s (line ∷ lines) text carried shows keeps swap_keeps =
       let mid = carried.0 in
       elim carried.3 [
         | inl o ↦
-            let step = o.steps s shows (λ _. kept_all g h mid new lines carried.2 carried.4 keeps) in
+            let readable : IsReadable g h mid s o.command = record {
+              files = λ _. kept_all g h mid new lines carried.2 carried.4 keeps;
+              slots = λ _. swap_kept_all g h mid new lines carried.2 carried.4 swap_keeps;
+            } in
+            let step = o.steps s shows readable in
             obeyed old mid new s line lines carried.1 carried.2 text o carried.5 step
-            (relates mid new step.0 lines carried.2 carried.4 step.1.shows keeps)
+            (relates mid new step.0 lines carried.2 carried.4 step.1.shows keeps swap_keeps)
         | inr r ↦
             rejected old mid new s line lines carried.1 carried.2 text r carried.5
-            (relates old new s lines carried.2 (subst (λ m. CarriesOut g h m lines carried.2 new) r.same carried.4) shows keeps)
+            (relates old new s lines carried.2 (subst (λ m. CarriesOut g h m lines carried.2 new) r.same carried.4) shows keeps swap_keeps)
       ]
 
   runs : (old new : Machine D E) (s : State) (lines : List (List ℕ)) (text : List ℕ) (before : Shows g h old s)
@@ -194,10 +217,10 @@ module _ {D E : Type 0} (g : Ghosts D) (h : Ghosts E)
 
   pub runs_trace : (end : RunEnd) (old new : Machine D E) (s : State) (left left_then held held_then : Option (List ℕ)) (bytes : List ℕ)
       → Consumes left left_then bytes → EndsSo g h end left_then (stage old [] [] held) (stage new [] [] held_then) bytes []
-      → Shows g h old s → g.keeps_model new.core.store.disk → RunsTrace g h end old new (streams left held) (streams left_then held_then) s
-  runs_trace end old new s left left_then held held_then bytes read ended shows keeps =
+      → Shows g h old s → g.keeps_model new.core.store.disk → h.keeps_model new.core.swap.pages.disk → RunsTrace g h end old new (streams left held) (streams left_then held_then) s
+  runs_trace end old new s left left_then held held_then bytes read ended shows keeps swap_keeps =
       let r = ran g h end old new left left_then held held_then bytes ended in
-      let a = relates old new s r.lines r.text r.runs shows keeps in
+      let a = relates old new s r.lines r.text r.runs shows keeps swap_keeps in
       record {
         bytes = bytes;
         read = read;

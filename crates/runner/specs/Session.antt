@@ -14,10 +14,10 @@ abbrev pub IsBadLine : List ℕ → Type 0
 IsBadLine line = (command : Command) → IsCommand line command → ⊥
 
 module _ {D E : Type 0} (g : Ghosts D) (h : Ghosts E) where
-  -- in whatever state the machine is, it carries the command out, as long as a store that it reads keeps the disk model
+  -- in whatever state the machine is, it carries the command out, as long as the devices that it reads keep the disk model
   abbrev pub Steps : Machine D E → Command → Reply → Machine D E → Type 0
   Steps old command reply new =
-      (s : State) → Shows g h old s → IsReadable g h new command → (t : State) × Meets g h old new s t command reply
+      (s : State) → Shows g h old s → IsReadable g h new s command → (t : State) × Meets g h old new s t command reply
 
   -- the line's command is run and its reply is the text
   pub record Obeys (old : Machine D E) (line text : List ℕ) (new : Machine D E) : Type 0 where
@@ -25,8 +25,9 @@ module _ {D E : Type 0} (g : Ghosts D) (h : Ghosts E) where
     pub reply : Reply
     pub form : IsCommand line command
     pub steps : Steps old command reply new
-    pub caused : IsCaused g old new reply
+    pub caused : IsCaused g h old new reply
     pub kept : g.keeps_model new.core.store.disk → g.keeps_model old.core.store.disk
+    pub swap_kept : h.keeps_model new.core.swap.pages.disk → h.keeps_model old.core.swap.pages.disk
     pub text_is : text ≡ text_of reply
 
   -- the line stands for no command, and nothing else happens

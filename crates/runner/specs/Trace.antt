@@ -32,7 +32,7 @@ EndsTrace WriteFault bytes lines text old new =
     (((front more rest : List ℕ) × (bytes ≡ front ++ more) × Cuts front lines rest) ⊎ (IsAtEnd new.left × (lines ≡ lines_of bytes)))
     × WritesBeginning old.held new.held text
 
-module _ {D E : Type 0} (g : Ghosts D) where
+module _ {D E : Type 0} (g : Ghosts D) (h : Ghosts E) where
   -- Whatever the devices do: the lines that were run are answered by replies to their commands, and a reply names a device
   -- or the want of a frame only where it failed as its command was carried out, or was refused.
   pub record CausedTrace (end : RunEnd) (old new : Machine D E) (before after : Streams) : Type 0 where
@@ -43,10 +43,9 @@ module _ {D E : Type 0} (g : Ghosts D) where
     pub replies : List Reply
     pub text : List ℕ
     pub answered : Answered lines commands replies text
-    pub caused : Caused g old replies new
+    pub caused : Caused g h old replies new
     pub ends : EndsTrace end bytes lines text before after
 
-module _ {D E : Type 0} (g : Ghosts D) (h : Ghosts E) where
   -- The lines that were run are answered as the flat model answers their commands, and every image of a stop meanwhile
   -- stands for what some of their msyncs left.
   pub record RunsTrace (end : RunEnd) (old new : Machine D E) (before after : Streams) (s : State) : Type 0 where

@@ -295,7 +295,7 @@ fn run_turns<R: Read, W: Write, D: SectorDisk, E: SectorDisk>(
 /// - `WriteFault`: the writer failed or took no bytes. What it took is a beginning of the answers to the lines that were
 ///   run, which are the first of the complete ones read, or all where the reader is at its end.
 ///
-/// Whatever the devices do, a reply names the store or the want of a frame only where the store failed as its command was
+/// Whatever the devices do, a reply names a device or the want of a frame only where that device failed as its command was
 /// carried out, or a frame was refused.
 ///
 /// Where a reader or a writer does not tell its bytes, as a file or a terminal, the contract claims nothing of these.
@@ -307,10 +307,11 @@ pub fn run<R: Read, W: Write, D: SectorDisk, E: SectorDisk>(
     requires { IsSoundMachine D.SectorDisk E.SectorDisk machine.old }
     ensures sound { IsSoundMachine D.SectorDisk E.SectorDisk machine.new }
     ensures kept { D.keeps_model machine.new.core.store.disk → D.keeps_model machine.old.core.store.disk }
-    ensures caused { CausedTrace D.SectorDisk result machine.old machine.new
+    ensures swap_kept { E.keeps_model machine.new.core.swap.pages.disk → E.keeps_model machine.old.core.swap.pages.disk }
+    ensures caused { CausedTrace D.SectorDisk E.SectorDisk result machine.old machine.new
         (streams (R.remaining reader.old) (W.contents writer.old)) (streams (R.remaining reader.new) (W.contents writer.new)) }
     ensures runs { (s : State) → Shows D.SectorDisk E.SectorDisk machine.old s → D.keeps_model machine.new.core.store.disk
-        → RunsTrace D.SectorDisk E.SectorDisk result machine.old machine.new
+        → E.keeps_model machine.new.core.swap.pages.disk → RunsTrace D.SectorDisk E.SectorDisk result machine.old machine.new
         (streams (R.remaining reader.old) (W.contents writer.old)) (streams (R.remaining reader.new) (W.contents writer.new)) s }
 {
     run_turns(reader, writer, machine)

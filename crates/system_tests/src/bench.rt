@@ -66,12 +66,13 @@ pub(crate) fn image_of_two(alloc: Global) -> Result<SimDisk, Fail> {
     Ok(disk)
 }
 
-/// The fault that a device is to have.
+/// The fault that a device is to have: the store's, or that of swap, whose calls are counted from the start of the machine on.
 #[derive(Clone, Copy, Debug, PartialEq, Eq)]
 pub(crate) enum Armed {
     Nothing,
     StopAtWrite(u64),
     FailAtCall(u64),
+    SwapFailsAtCall(u64),
 }
 
 pub(crate) const CONFIG: Config = Config {
@@ -120,12 +121,14 @@ fn booted(
     ensures { IfOk result (λ machine. IsSoundMachine ⟦<SimDisk as SectorDisk>⟧ ⟦<SimDisk as SectorDisk>⟧ machine) }
 {
     let mut store = image.left(alloc, &[])?;
+    let mut swap = SimDisk::new(alloc, 128)?;
     match armed {
         Armed::Nothing => {}
         Armed::StopAtWrite(write) => store.stop_at(write),
         Armed::FailAtCall(call) => store.fail_at(call),
+        Armed::SwapFailsAtCall(call) => swap.fail_at(call),
     }
-    match Machine::boot(alloc, config, store, SimDisk::new(alloc, 128)?) {
+    match Machine::boot(alloc, config, store, swap) {
         Ok(machine) => Ok(machine),
         Err((fault, _)) => Err(Fail::new(format_args!("boot: {fault:?}"))),
     }

@@ -79,7 +79,7 @@ fn copies_are_given_up_and_faults_kept(rt: HostRuntime) -> Result<(), Fail> {
 }
 
 /// Forty lines over sixteen pages of anonymous memory, and their replies.
-const FORTY_LINES: (&[u8], &[u8]) = (
+pub(crate) const FORTY_LINES: (&[u8], &[u8]) = (
     b"spawn\nmmap 1 0 0x10000 rw- anon\nstore 1 0x10000 1 0x1\nstore 1 0x11000 1 0x2\n\
 store 1 0x12000 1 0x3\nstore 1 0x13000 1 0x4\nstore 1 0x14000 1 0x5\nstore 1 0x15000 1 0x6\n\
 store 1 0x16000 1 0x7\nstore 1 0x17000 1 0x8\nstore 1 0x18000 1 0x9\nstore 1 0x19000 1 0xa\n\

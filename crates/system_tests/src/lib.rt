@@ -4,6 +4,8 @@
 #[cfg(test)]
 mod bench;
 #[cfg(test)]
+mod evictions;
+#[cfg(test)]
 mod failing_devices;
 #[cfg(test)]
 mod failing_streams;

@@ -76,12 +76,13 @@ fn a_fork_that_stalls_gives_its_tables_back(rt: HostRuntime) -> Result<(), Fail>
         frames: 8,
         slots: 0,
     };
-    // The zero page, three tables and a page of process 1, and the root of process 2 leave two frames; a copy needs three.
+    // The zero page, three tables and a page of process 1, and the root of process 2 leave two frames; a copy needs three, and
+    // the page can't be given up without a slot. The child's copy of it needs a frame beside it, when all others are tables.
     let trace =
         b"spawn\nmmap 1 0 4096 rw- anon\nstore 1 0x10000 1 1\nspawn\nfork 1\nfork 1\nload 1 0x10000 1\nexit 2\n\
 fork 1\nload 2 0x10000 1\nstore 2 0x10000 1 2\nexit 1\nstore 2 0x10000 1 3\nload 2 0x10000 1\n";
     let wanted =
-        b"pid 1\naddr 0x10000\nok\npid 2\nstall 1 NOFRAMES\nstall 1 NOFRAMES\nvalue 0x01\nok\npid 2\nvalue 0x01\n\
+        b"pid 1\naddr 0x10000\nok\npid 2\nstall 2 NOSWAP\nstall 2 NOSWAP\nvalue 0x01\nok\npid 2\nvalue 0x01\n\
 stall 1 NOFRAMES\nok\nok\nvalue 0x03\n";
     let (end, output) = replies_in(rt.alloc(), config, trace.as_slice())?;
     assert_eq!(rt; end, RunEnd::Done);

@@ -12,6 +12,7 @@ returns-clause-booted g c = record {
   later = c.in-Ok.ensures.later;
   calm = c.in-Ok.ensures.calm;
   kept = c.run-end.ensures.kept;
+  swap_kept = c.run-end.ensures.swap_kept;
   honest = c.in-Ok.ensures.kept;
   layout = c.in-Ok.ensures.layout;
   journal = c.in-Ok.ensures.journal;

@@ -30,8 +30,8 @@ pub returns-in-Err-clause-bad_journal : goal.returns-in-Err-clause-bad_journal
 returns-in-Err-clause-bad_journal g c = λ keeps e.
     c.in-Err.ensures.bad_journal keeps (was_journal c.in-Err.fault (sym c.from-in-Err.ensures ∙ e))
 
-pub returns-in-Ok-new-2-clause-boots : goal.returns-in-Ok-new-2-clause-boots
-returns-in-Ok-new-2-clause-boots g c =
+pub returns-in-Ok-new-3-clause-boots : goal.returns-in-Ok-new-3-clause-boots
+returns-in-Ok-new-3-clause-boots g c =
     let e = c.in-Ok.ensures in
     let opened : IsOpened g.D.SectorDisk c.args.store c.in-Ok.store = record {
       ready = e.ready;
@@ -40,13 +40,13 @@ returns-in-Ok-new-2-clause-boots g c =
       journal = e.good_journal;
       leaves = e.now;
     } in
-    let made = c.in-Ok-new-2.ensures in
+    let made = c.in-Ok-new-3.ensures in
     boots g.D.SectorDisk g.E.SectorDisk c.args.store _ c.args.config.frames c.args.config.slots refl c.in-Ok-new.ensures
     (subst (λ store. IsOpened g.D.SectorDisk c.args.store store) (sym made.store) opened) made.start
 
-pub returns-in-Ok-new-2-clause-layout : goal.returns-in-Ok-new-2-clause-layout
-returns-in-Ok-new-2-clause-layout g c = λ keeps bad.
-    c.in-Ok.ensures.good_layout (rw (sym c.in-Ok-new-2.ensures.store) keeps) bad
+pub returns-in-Ok-new-3-clause-layout : goal.returns-in-Ok-new-3-clause-layout
+returns-in-Ok-new-3-clause-layout g c = λ keeps bad.
+    c.in-Ok.ensures.good_layout (rw (sym c.in-Ok-new-3.ensures.store) keeps) bad
 
 pub returns-in-Err-clause-layout_first : goal.returns-in-Err-clause-layout_first
 returns-in-Err-clause-layout_first g c = λ keeps e bad.
@@ -61,13 +61,13 @@ returns-in-Err-clause-unwritten g c = λ keeps either.
     c.in-Err.ensures.unwritten keeps
     (no_device c.in-Err.fault (subst (λ (boot : BootFault). (boot ≡ BadLayout) ⊎ (boot ≡ BadJournal)) c.from-in-Err.ensures either))
 
-pub returns-in-Ok-new-2-clause-journal : goal.returns-in-Ok-new-2-clause-journal
-returns-in-Ok-new-2-clause-journal g c = λ keeps bad.
-    c.in-Ok.ensures.good_journal (rw (sym c.in-Ok-new-2.ensures.store) keeps) bad
+pub returns-in-Ok-new-3-clause-journal : goal.returns-in-Ok-new-3-clause-journal
+returns-in-Ok-new-3-clause-journal g c = λ keeps bad.
+    c.in-Ok.ensures.good_journal (rw (sym c.in-Ok-new-3.ensures.store) keeps) bad
 
-pub returns-in-Ok-new-2-clause-in_a_row : goal.returns-in-Ok-new-2-clause-in_a_row
-returns-in-Ok-new-2-clause-in_a_row g c = λ keeps synced first stands.
-    rw c.in-Ok-new-2.ensures.store (c.in-Ok.ensures.in_a_row (rw (sym c.in-Ok-new-2.ensures.store) keeps) synced first stands)
+pub returns-in-Ok-new-3-clause-in_a_row : goal.returns-in-Ok-new-3-clause-in_a_row
+returns-in-Ok-new-3-clause-in_a_row g c = λ keeps synced first stands.
+    rw c.in-Ok-new-3.ensures.store (c.in-Ok.ensures.in_a_row (rw (sym c.in-Ok-new-3.ensures.store) keeps) synced first stands)
 
 pub returns-in_default-clause-err_in_a_row : goal.returns-in_default-clause-err_in_a_row
 returns-in_default-clause-err_in_a_row g c = λ keeps synced first stands.
@@ -77,3 +77,7 @@ pub returns-in-Err-new-clause-err_in_a_row : goal.returns-in-Err-new-clause-err_
 returns-in-Err-new-clause-err_in_a_row g c = λ keeps synced first stands.
     rw (c.into_disk-in-Err-new.ensures, c.in-Err-new.ensures.err)
     (c.in-Ok.ensures.in_a_row (rw (c.into_disk-in-Err-new.ensures, c.in-Err-new.ensures.err) at keeps) synced first stands)
+
+pub returns-in_default-new-clause-err_in_a_row : goal.returns-in_default-new-clause-err_in_a_row
+returns-in_default-new-clause-err_in_a_row g c = λ keeps synced first stands.
+    rw c.into_disk-in_default-new.ensures (c.in-Ok.ensures.in_a_row (rw c.into_disk-in_default-new.ensures at keeps) synced first stands)

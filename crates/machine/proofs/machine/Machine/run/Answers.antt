@@ -2,11 +2,11 @@ use Rattle.std.proofs.Common.{◌≡◌, ◌+◌, ◌++◌, ◌∷◌, [], ◌<�
 use Rattle.std.proofs.lemmas.List.{take_more, take_more_set}
 use Rattle.vm_types.specs.declared.command.Command.{Command}
 use Rattle.vm_types.specs.declared.reply.Reply.{Reply}
-use Rattle.residency.proofs.Room.{room_then}
+use Rattle.paging.specs.Picture.{picture_of}
 use Rattle.machine.specs.Chain.{Caused}
 use Rattle.machine.specs.Counts.{Counts}
 use Rattle.machine.proofs.Counts.{counts}
-use Rattle.machine.proofs.Runs.{all_ran, caused_more, ran_more, RanSoFar}
+use Rattle.machine.proofs.Runs.{all_ran, caused_more, ran_more, room_then, RanSoFar}
 use Rattle.machine.proofs.machine.Machine.run.Goals as goal
 
 pub loop-i-preserved : goal.loop-i-preserved
@@ -26,14 +26,16 @@ loop-i-preserved g c =
       sound = c.step.ensures.sound;
       lengths = length-set _ _ _ ∙ inv.lengths;
       kept = λ k. inv.kept (c.step.ensures.kept k);
-      room = room_then c.args.self.now.core c.loop-i.self.core c.step.new.self.core inv.room c.step.ensures.room;
+      swap_kept = λ k. inv.swap_kept (c.step.ensures.swap_kept k);
+      room = room_then (picture_of c.args.self.now.core) (picture_of c.loop-i.self.core) (picture_of c.step.new.self.core) inv.room c.step.ensures.room;
       caused =
           let old = c.args.self.now in
-          subst (λ (zs : List Reply). Caused g.D.SectorDisk old zs c.step.new.self) (sym ys)
-          (caused_more g.D.SectorDisk old c.loop-i.self c.step.new.self (take i replies) r inv.caused c.step.ensures.caused);
-      ran = λ s shows keeps.
+          subst (λ (zs : List Reply). Caused g.D.SectorDisk g.E.SectorDisk old zs c.step.new.self) (sym ys)
+          (caused_more g.D.SectorDisk g.E.SectorDisk old c.loop-i.self c.step.new.self (take i replies) r inv.caused c.step.ensures.caused);
+      ran = λ s shows keeps swap_keeps.
           let old = c.args.self.now in
-          let one = ran_more g.D.SectorDisk g.E.SectorDisk old c.loop-i.self c.step.new.self s (take i commands) (take i replies) x r (inv.ran s shows (c.step.ensures.kept keeps)) (λ u at. c.step.ensures.meets u at (λ _. keeps)) in
+          let one = ran_more g.D.SectorDisk g.E.SectorDisk old c.loop-i.self c.step.new.self s (take i commands) (take i replies) x r (inv.ran s shows (c.step.ensures.kept keeps) (c.step.ensures.swap_kept swap_keeps))
+          (λ u at. c.step.ensures.meets u at (record { files = λ _. keeps; slots = λ _. swap_keeps })) in
           subst (λ (zs : List Command). RanSoFar g.D.SectorDisk g.E.SectorDisk old c.step.new.self s zs (take (i + 1) (set replies i r))) (sym xs)
           (subst (λ (zs : List Reply). RanSoFar g.D.SectorDisk g.E.SectorDisk old c.step.new.self s (take i commands ++ x ∷ []) zs) (sym ys) one);
     }
@@ -41,21 +43,21 @@ loop-i-preserved g c =
 pub returns-clause-caused : goal.returns-clause-caused
 returns-clause-caused g c =
     let every : take c.loop-i.i c.loop-i.replies ≡ c.loop-i.replies = take_all c.loop-i.i c.loop-i.replies (omega (arith, c.loop-i.invariant.lengths)) in
-    subst (λ (zs : List Reply). Caused g.D.SectorDisk c.args.self.now zs c.loop-i.self) every c.loop-i.invariant.caused
+    subst (λ (zs : List Reply). Caused g.D.SectorDisk g.E.SectorDisk c.args.self.now zs c.loop-i.self) every c.loop-i.invariant.caused
 
 pub returns-clause-counts : goal.returns-clause-counts
 returns-clause-counts g c =
     let every : take c.loop-i.i c.loop-i.replies ≡ c.loop-i.replies = take_all c.loop-i.i c.loop-i.replies (omega (arith, c.loop-i.invariant.lengths)) in
-    subst (λ (zs : List Reply). Counts g.D.SectorDisk c.args.self.now c.loop-i.self zs) every
-    (counts g.D.SectorDisk c.args.self.now (take c.loop-i.i c.loop-i.replies) c.loop-i.self c.loop-i.invariant.caused)
+    subst (λ (zs : List Reply). Counts g.D.SectorDisk g.E.SectorDisk c.args.self.now c.loop-i.self zs) every
+    (counts g.D.SectorDisk g.E.SectorDisk c.args.self.now (take c.loop-i.i c.loop-i.replies) c.loop-i.self c.loop-i.invariant.caused)
 
 pub returns-clause-run : goal.returns-clause-run
-returns-clause-run g c = λ s shows keeps.
+returns-clause-run g c = λ s shows keeps swap_keeps.
     let commands = c.args.commands.now in
     let replies = c.loop-i.replies in
     let all : take c.loop-i.i commands ≡ commands = take_all c.loop-i.i commands (omega arith) in
     let every : take c.loop-i.i replies ≡ replies = take_all c.loop-i.i replies (omega (arith, c.loop-i.invariant.lengths)) in
-    let ran = c.loop-i.invariant.ran s shows keeps in
+    let ran = c.loop-i.invariant.ran s shows keeps swap_keeps in
     all_ran g.D.SectorDisk g.E.SectorDisk c.args.self.now c.loop-i.self s commands replies (λ d i k left. g.met.D.SectorDisk.only_now d i k left) shows
     (subst (λ (xs : List Command). RanSoFar g.D.SectorDisk g.E.SectorDisk c.args.self.now c.loop-i.self s xs replies) all
     (subst (λ (ys : List Reply). RanSoFar g.D.SectorDisk g.E.SectorDisk c.args.self.now c.loop-i.self s (take c.loop-i.i commands) ys) every ran))

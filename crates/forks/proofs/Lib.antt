@@ -1,9 +1,0 @@
-pub mod Sharers
-pub mod Weaker
-pub mod Lowered
-pub mod Rows
-pub mod Shared
-pub mod Passing
-pub mod Alike
-pub mod Copied
-pub mod Taken

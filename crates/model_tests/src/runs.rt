@@ -1,0 +1,215 @@
+//! Machines of 8 to 12 frames under random commands.
+ghost use Rattle.std.specs.Prelude.{ℕ, IfOk};
+ghost use Rattle.machine.specs.Machine.{IsSoundMachine};
+
+use crate::acts::Act;
+use crate::draws::Draws;
+use crate::flat::{FILE_PAGES, Flat};
+use disk_model::{SectorDisk, SimDisk};
+use file_store::{FileSource, format};
+use machine::{Config, Machine};
+use std::alloc::Global;
+use std::test::Fail;
+use vm_types::{Reply, Stall};
+
+/// Commands of a run.
+const COMMANDS: usize = 400;
+
+/// An image of one file of zeros.
+fn image(alloc: Global) -> Result<SimDisk, Fail> {
+    let pages = FILE_PAGES as u64;
+    let mut disk = SimDisk::new(alloc, 1020 + 8 * pages)?;
+    let mut files: [FileSource<&[u8]>; 1] = [FileSource {
+        read_only: false,
+        length: 4096 * pages as u32,
+        bytes: None,
+    }];
+    format(&mut disk, &mut files)?;
+    Ok(disk.left(alloc, &[])?)
+}
+
+/// A machine over that image, of whose swap device call `failing` fails.
+fn booted(
+    alloc: Global,
+    config: Config,
+    failing: Option<u64>,
+) -> Result<Machine<SimDisk, SimDisk>, Fail>
+    ensures { IfOk result (λ m. IsSoundMachine ⟦<SimDisk as SectorDisk>⟧ ⟦<SimDisk as SectorDisk>⟧ m) }
+{
+    let mut swap = SimDisk::new(alloc, 8 * u64::from(config.slots))?;
+    if let Some(call) = failing {
+        swap.fail_at(call);
+    }
+    match Machine::boot(alloc, config, image(alloc)?, swap) {
+        Ok(machine) => Ok(machine),
+        Err((fault, _)) => Err(Fail::new(format_args!("boot: {fault:?}"))),
+    }
+}
+
+/// Whether the command that leads from one model to the other may stall so: memory is short of the tables of the later one and three
+/// frames more, or the slots of what the earlier one has that only memory or swap can hold, or the swap device may fail.
+fn may_stall(setting: Setting, before: &Flat, after: &Flat, stall: Stall) -> bool {
+    match stall {
+        Stall::NoFrames => after.tables().saturating_add(3) > u64::from(setting.config.frames),
+        Stall::NoSwap => before.held() > u64::from(setting.config.slots),
+        Stall::SwapDevice => setting.failing.is_some(),
+        Stall::StoreDevice => false,
+    }
+}
+
+fn is_success(reply: Reply) -> bool {
+    match reply {
+        Reply::Process(_) | Reply::Address(_) | Reply::Done | Reply::Value { .. } => true,
+        Reply::Faulted(_)
+        | Reply::Refused(_)
+        | Reply::Stalled(_)
+        | Reply::Halted
+        | Reply::Past(_) => false,
+    }
+}
+
+/// What a run is made in.
+#[derive(Clone, Copy, Debug, PartialEq, Eq)]
+struct Setting {
+    config: Config,
+    /// The call of the swap device that fails, from 1 on.
+    failing: Option<u64>,
+}
+
+/// How one command went.
+#[derive(Clone, Copy, Debug, PartialEq, Eq)]
+enum Step {
+    Done(Flat),
+    Stalled(Stall),
+}
+
+/// Carries out a command, and has its reply be the model's, or a stall that may be.
+fn go_on<D: SectorDisk, E: SectorDisk>(
+    machine: &mut Machine<D, E>,
+    setting: Setting,
+    flat: Flat,
+    act: Act,
+) -> Result<Step, Fail>
+    requires sound { IsSoundMachine D.SectorDisk E.SectorDisk machine.old }
+    ensures sound { IsSoundMachine D.SectorDisk E.SectorDisk machine.new }
+{
+    let Some(command) = act.command() else {
+        return Ok(Step::Done(flat));
+    };
+    let (wanted, after) = act.answer(flat);
+    let reply = machine.step(command);
+    if reply == wanted {
+        return Ok(Step::Done(after));
+    }
+    match reply {
+        Reply::Stalled(stall) if is_success(wanted) && may_stall(setting, &flat, &after, stall) => {
+            Ok(Step::Stalled(stall))
+        }
+        _ => Err(Fail::new(format_args!(
+            "{act:?} in {setting:?}: {reply:?} where {wanted:?} is wanted"
+        ))),
+    }
+}
+
+/// How many commands of a run stalled, and how many of them for the swap device.
+#[derive(Clone, Copy, Debug, PartialEq, Eq)]
+struct Told {
+    stalls: u64,
+    swap_device: u64,
+}
+
+/// A run of random commands.
+fn run(alloc: Global, setting: Setting, seed: u64) -> Result<Told, Fail> {
+    let mut machine = booted(alloc, setting.config, setting.failing)?;
+    carry_out(&mut machine, setting, seed)
+}
+
+/// Carries out random commands one after another.
+fn carry_out<D: SectorDisk, E: SectorDisk>(
+    machine: &mut Machine<D, E>,
+    setting: Setting,
+    seed: u64,
+) -> Result<Told, Fail>
+    requires sound { IsSoundMachine D.SectorDisk E.SectorDisk machine.old }
+    ensures sound { IsSoundMachine D.SectorDisk E.SectorDisk machine.new }
+{
+    let mut draws = Draws::new(seed);
+    let mut flat = Flat::new();
+    let mut told = Told {
+        stalls: 0,
+        swap_device: 0,
+    };
+    for _ in 0..COMMANDS {
+        let act = Act::drawn(&mut draws, &flat);
+        match go_on(machine, setting, flat, act)? {
+            Step::Done(after) => flat = after,
+            Step::Stalled(stall) => {
+                told.stalls = told.stalls.wrapping_add(1);
+                if stall == Stall::SwapDevice {
+                    told.swap_device = told.swap_device.wrapping_add(1);
+                }
+            }
+        }
+    }
+    Ok(told)
+}
+
+/// Memory for all tables, but not for all pages, and slots for them.
+const ENOUGH: Config = Config {
+    frames: 18,
+    slots: 48,
+};
+
+/// Every reply is the flat model's, or a stall that memory or slots are short for: runs in 8 to 12 frames with few slots and with many.
+#[test]
+fn few_frames_and_random_commands(rt: HostRuntime) -> Result<(), Fail> {
+    for seed in 0..5 {
+        for frames in 8..13 {
+            for slots in [0, 3, 16] {
+                let setting = Setting {
+                    config: Config { frames, slots },
+                    failing: None,
+                };
+                run(rt.alloc(), setting, 100 * seed + u64::from(frames))?;
+            }
+        }
+    }
+    Ok(())
+}
+
+/// Where there is enough no command stalls.
+#[test]
+fn nothing_stalls_where_there_is_enough(rt: HostRuntime) -> Result<(), Fail> {
+    for seed in 0..10 {
+        let setting = Setting {
+            config: ENOUGH,
+            failing: None,
+        };
+        let told = run(rt.alloc(), setting, seed)?;
+        if told.stalls != 0 {
+            return Err(Fail::new(format_args!("seed {seed}: {told:?}")));
+        }
+    }
+    Ok(())
+}
+
+/// A swap device that fails one call stalls one command at most, which has changed nothing.
+#[test]
+fn a_swap_device_that_fails_once(rt: HostRuntime) -> Result<(), Fail> {
+    let mut told = 0_u64;
+    for call in 1..30 {
+        let setting = Setting {
+            config: ENOUGH,
+            failing: Some(11 * call),
+        };
+        let stalls = run(rt.alloc(), setting, call)?;
+        if stalls.stalls != stalls.swap_device || stalls.swap_device > 1 {
+            return Err(Fail::new(format_args!("call {call}: {stalls:?}")));
+        }
+        told = told.wrapping_add(stalls.swap_device);
+    }
+    if told == 0 {
+        return Err(Fail::new(format_args!("no call of the swap device failed")));
+    }
+    Ok(())
+}

@@ -1,4 +1,0 @@
-pub mod Leaves
-pub mod Changes
-pub mod Wants
-pub mod Tables

@@ -1,4 +1,0 @@
-pub mod Keeping
-pub mod FreeNumbers
-pub mod Starting
-pub mod Ending

@@ -1,4 +1,0 @@
-pub mod Choice
-pub mod Settling
-pub mod Shows
-pub mod Core
