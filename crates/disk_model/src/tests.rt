@@ -1,4 +1,4 @@
-ghost use Rattle.std.specs.Prelude.{◌≡◌, ◌<◌};
+ghost use Rattle.std.specs.Prelude.{◌≡◌, ◌+◌, ◌<◌, ◌≤◌, ◌^◌};
 
 use crate::{DiskFault, FileDisk, SectorDisk, SimDisk};
 use std::fs::{self, File, OpenOptions};
@@ -120,6 +120,63 @@ fn keeps_sectors_in_a_file(rt: HostRuntime) -> Result<(), Fail> {
     // A read that ends early is a fault.
     fs::write(&rt, PATH, b"short".as_slice())?;
     assert_eq!(rt; get(&mut again, 3), Err(DiskFault));
+    fs::remove_dir_all(&rt, FOLDER)?;
+    Ok(())
+}
+
+/// Writes a page to the eight sectors from `n` on, by one call.
+fn put_page<D: SectorDisk>(disk: &mut D, n: u64, byte: u8) -> Result<(), DiskFault>
+    requires room { n + 8 ≤ D.sector_count disk.old }
+    requires fits { n < 2 ^ 60 }
+    ensures { D.sector_count disk.new ≡ D.sector_count disk.old }
+{
+    disk.write_page(n, &[byte; 4096])
+}
+
+/// The page in the eight sectors from `n` on.
+fn get_page<D: SectorDisk>(disk: &mut D, n: u64) -> Result<[u8; 4096], DiskFault>
+    requires room { n + 8 ≤ D.sector_count disk.old }
+    requires fits { n < 2 ^ 60 }
+    ensures { D.sector_count disk.new ≡ D.sector_count disk.old }
+{
+    let mut bytes = [0; 4096];
+    disk.read_page(n, &mut bytes)?;
+    Ok(bytes)
+}
+
+#[test]
+fn a_page_is_eight_sectors(rt: HostRuntime) -> Result<(), Fail> {
+    let mut disk = SimDisk::new(rt.alloc(), 12)?;
+    put_page(&mut disk, 2, 7)?;
+    assert_eq!(rt; disk.writes(), 8);
+    assert_eq!(rt; get(&mut disk, 1)?, all(0));
+    assert_eq!(rt; get(&mut disk, 2)?, all(7));
+    assert_eq!(rt; get(&mut disk, 9)?, all(7));
+    assert_eq!(rt; get(&mut disk, 10)?, all(0));
+    assert_eq!(rt; get_page(&mut disk, 2)? == [7; 4096], true);
+    Ok(())
+}
+
+#[test]
+fn a_stop_within_a_page_leaves_some_of_its_sectors(rt: HostRuntime) -> Result<(), Fail> {
+    let mut disk = SimDisk::new(rt.alloc(), 12)?;
+    put_page(&mut disk, 2, 7)?;
+    let after = disk.left(rt.alloc(), &[(3, all(7))])?;
+    assert_eq!(rt; *after.sector(2), all(0));
+    assert_eq!(rt; *after.sector(3), all(7));
+    Ok(())
+}
+
+#[test]
+fn keeps_pages_in_a_file(rt: HostRuntime) -> Result<(), Fail> {
+    let mut disk: FileDisk = FileDisk::new(file_of(&rt, 12 * 512)?)?;
+    assert_eq!(rt; disk.sectors(), 12);
+    put_page(&mut disk, 3, 5)?;
+    sync(&mut disk)?;
+    assert_eq!(rt; get(&mut disk, 2)?, all(0));
+    assert_eq!(rt; get(&mut disk, 10)?, all(5));
+    assert_eq!(rt; get(&mut disk, 11)?, all(0));
+    assert_eq!(rt; get_page(&mut disk, 3)? == [5; 4096], true);
     fs::remove_dir_all(&rt, FOLDER)?;
     Ok(())
 }
