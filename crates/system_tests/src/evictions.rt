@@ -1,9 +1,11 @@
 //! Traces that need more pages than memory has frames: frames are given up, and their pages come back from swap.
-use crate::bench::{Armed, Exchange, Told, image, ran_in, replies};
+use crate::bench::{Armed, Exchange, Told, expect_file, image, ran_in, replies};
 use crate::histories::FORTY_LINES;
+use disk_model::SimDisk;
 use machine::Config;
 use runner::RunEnd;
 use std::alloc::Global;
+use std::process::Abort;
 use std::test::Fail;
 
 /// The fewest frames: with one process and pages that lie together there are four for pages, beside the zero page and three tables.
@@ -67,6 +69,10 @@ fn one_write_lost(alloc: Global) -> Result<Exchange, Fail> {
         let reply = format!(in alloc; "value 0x{byte:02x}\n")?;
         exchange.push(line.as_bytes(), reply.as_bytes())?;
     }
+    exchange.push(
+        b"dontneed 1 0x10000 0x1000\nload 1 0x10000 1\nstore 1 0x1f000 1 0xff\nload 1 0x1f000 1\nexit 1\nload 1 0x10000 1\n",
+        b"ok\nvalue 0x00\nok\nvalue 0xff\nok\nerror 3 ESRCH\n",
+    )?;
     Ok(exchange)
 }
 
@@ -154,13 +160,7 @@ fn touched_pages_go_to_swap(rt: HostRuntime) -> Result<(), Fail> {
     )?;
     assert_eq!(rt; told.output.as_slice(), exchange.wanted.as_slice());
     assert_eq!(rt; told.store.writes(), 0);
-    let shown = b"spawn\nmmap 1 0 0x8000 r-- shared 0 0\nload 1 0x10000 1\nload 1 0x17000 1\n";
-    let (_, output) = replies(rt.alloc(), &told.store, shown.as_slice())?;
-    assert_eq!(rt;
-        output.as_slice(),
-        b"pid 1\naddr 0x10000\nvalue 0x00\nvalue 0x00\n".as_slice()
-    );
-    Ok(())
+    expect_file(rt.alloc(), &told.store, 0, &[])
 }
 
 /// An msync makes durable what lies in frames and in slots: 64 sectors of the body, the map and the gate, with two syncs.
@@ -233,54 +233,54 @@ fn an_msync_that_could_not_read_a_slot_is_asked_again(rt: HostRuntime) -> Result
     Ok(())
 }
 
-/// A page that is clean goes without a slot, and is read again from where it stands: from the journal, as long as that holds it.
-#[test]
-fn a_clean_page_is_read_again_from_the_journal(rt: HostRuntime) -> Result<(), Fail> {
+/// An msync of one page, loads of all others, and one of that page again.
+fn looks_after_an_msync(alloc: Global) -> Result<Exchange, Fail> {
+    let mut exchange = Exchange::new(alloc);
+    exchange.push(
+        b"spawn\nmmap 1 0 0xa000 rw- shared 0 0\nstore 1 0x10000 1 7\nmsync 1 0x10000 0x1000 sync\n",
+        b"pid 1\naddr 0x10000\nok\nok\n",
+    )?;
+    for page in 1..10_u64 {
+        let line = format!(in alloc; "load 1 {} 1\n", 0x10000 + 4096 * page)?;
+        exchange.push(line.as_bytes(), b"value 0x00\n")?;
+    }
+    exchange.push(b"load 1 0x10000 1\n", b"value 0x07\n")?;
+    Ok(exchange)
+}
+
+/// How many writes and syncs of the store a machine of eight frames and no slot makes once it has started, which answers what
+/// is wanted.
+fn asked_of_store<R: AllocGlobal + Abort>(
+    rt: &R,
+    disk: &SimDisk,
+    exchange: &Exchange,
+) -> Result<(u64, u64), Fail> {
     let config = Config {
         frames: 8,
         slots: 0,
     };
+    let idle = ran_in(rt.alloc(), disk, Armed::Nothing, config, b"")?;
+    let at_boot = (idle.store.writes(), idle.store.syncs());
+    drop(idle);
+    let trace = exchange.trace.as_slice();
+    let told = ran_in(rt.alloc(), disk, Armed::Nothing, config, trace)?;
+    assert_eq!(rt; told.end, RunEnd::Done);
+    assert_eq!(rt; told.output.as_slice(), exchange.wanted.as_slice());
+    let writes = told.store.writes().saturating_sub(at_boot.0);
+    let syncs = told.store.syncs().saturating_sub(at_boot.1);
+    Ok((writes, syncs))
+}
+
+/// A page that is clean goes without a slot, and is read again from where it stands: from the journal, as long as that holds it.
+#[test]
+fn a_clean_page_is_read_again_from_the_journal(rt: HostRuntime) -> Result<(), Fail> {
     let disk = image(rt.alloc(), 0xa000)?;
-    let once =
-        b"spawn\nmmap 1 0 0xa000 rw- shared 0 0\nstore 1 0x10000 1 7\nmsync 1 0x10000 0x1000 sync\n\
-load 1 0x11000 1\nload 1 0x12000 1\nload 1 0x13000 1\nload 1 0x14000 1\nload 1 0x15000 1\nload 1 0x16000 1\n\
-load 1 0x17000 1\nload 1 0x18000 1\nload 1 0x19000 1\nload 1 0x10000 1\n";
-    let twice = b"store 1 0x10000 1 8\nmsync 1 0x10000 0x1000 sync\n";
-    let mut exchange = Exchange::new(rt.alloc());
+    let mut exchange = looks_after_an_msync(rt.alloc())?;
+    assert_eq!(rt; asked_of_store(&rt, &disk, &exchange)?, (10, 2));
     exchange.push(
-        once,
-        b"pid 1\naddr 0x10000\nok\nok\nvalue 0x00\nvalue 0x00\nvalue 0x00\nvalue 0x00\nvalue 0x00\nvalue 0x00\n\
-value 0x00\nvalue 0x00\nvalue 0x00\nvalue 0x07\n",
+        b"store 1 0x10000 1 8\nmsync 1 0x10000 0x1000 sync\n",
+        b"ok\nok\n",
     )?;
-    let at_boot = ran_in(rt.alloc(), &disk, Armed::Nothing, config, b"")?;
-    let first = ran_in(
-        rt.alloc(),
-        &disk,
-        Armed::Nothing,
-        config,
-        exchange.trace.as_slice(),
-    )?;
-    assert_eq!(rt; first.output.as_slice(), exchange.wanted.as_slice());
-    assert_eq!(rt;
-        first.store.writes(),
-        at_boot.store.writes().saturating_add(10)
-    );
-    exchange.push(twice, b"ok\nok\n")?;
-    let second = ran_in(
-        rt.alloc(),
-        &disk,
-        Armed::Nothing,
-        config,
-        exchange.trace.as_slice(),
-    )?;
-    assert_eq!(rt; second.output.as_slice(), exchange.wanted.as_slice());
-    assert_eq!(rt;
-        second.store.writes(),
-        at_boot.store.writes().saturating_add(29)
-    );
-    assert_eq!(rt;
-        second.store.syncs(),
-        at_boot.store.syncs().saturating_add(6)
-    );
+    assert_eq!(rt; asked_of_store(&rt, &disk, &exchange)?, (29, 6));
     Ok(())
 }

@@ -1,5 +1,5 @@
 //! Files of any length, several of them, and what an msync makes durable.
-use crate::bench::{Armed, image, image_of_two, ran, replies};
+use crate::bench::{Armed, expect_file, image, image_of_two, ran, replies};
 use disk_model::SimDisk;
 use runner::RunEnd;
 use std::alloc::Global;
@@ -40,16 +40,7 @@ store 2 0x10001 1 0x0b\nmsync 1 0x10000 4096 sync\nstore 2 0x10001 1 0x0c\nmsync
     let disk = image(rt.alloc(), 4096)?;
     let told = ran(rt.alloc(), &disk, Armed::Nothing, trace.as_slice())?;
     assert_eq!(rt; told.output.as_slice(), wanted.as_slice());
-    let (_, output) = replies(
-        rt.alloc(),
-        &told.store,
-        b"spawn\nmmap 1 0 4096 r-- shared 0 0\nload 1 0x10000 4\n",
-    )?;
-    assert_eq!(rt;
-        output.as_slice(),
-        b"pid 1\naddr 0x10000\nvalue 0x00000c0a\n".as_slice()
-    );
-    Ok(())
+    expect_file(rt.alloc(), &told.store, 0, &[b"\x0a\x0c"])
 }
 
 /// The sector of the gate after a stop within its write: so many bytes of the words that open it, and zeros.
@@ -63,15 +54,16 @@ fn gate(count: usize) -> [u8; 512] {
     bytes
 }
 
-/// What both files begin with once the device is left with that gate.
-fn shown(alloc: Global, disk: &SimDisk, gate: [u8; 512]) -> Result<Vec<u8>, Fail> {
+/// Sees what both files begin with once the device is left with that gate; all else is zeros.
+fn expect_files(
+    alloc: Global,
+    disk: &SimDisk,
+    gate: [u8; 512],
+    starts: [&[u8]; 2],
+) -> Result<(), Fail> {
     let left = disk.left(alloc, &[(2, gate)])?;
-    let (_, output) = replies(
-        alloc,
-        &left,
-        b"spawn\nmmap 1 0 4096 r-- shared 0 0\nmmap 1 0 4096 r-- shared 1 0\nload 1 0x10000 2\nload 1 0x11000 2\n",
-    )?;
-    Ok(output)
+    expect_file(alloc, &left, 0, &[starts[0]])?;
+    expect_file(alloc, &left, 1, &[starts[1]])
 }
 
 /// An msync over two files that is stopped within the write of the gate leaves both old or both new.
@@ -86,13 +78,8 @@ store 1 0x11000 1 2\nmsync 1 0x10000 0x2000 sync\n";
         told.output.as_slice(),
         b"pid 1\naddr 0x10000\naddr 0x11000\nok\nok\nerror 5 EIO\n".as_slice()
     );
-    let old = b"pid 1\naddr 0x10000\naddr 0x11000\nvalue 0x0000\nvalue 0x0000\n";
-    let new = b"pid 1\naddr 0x10000\naddr 0x11000\nvalue 0x0001\nvalue 0x0002\n";
     for open in [0, 256] {
-        let output = shown(rt.alloc(), &told.store, gate(open))?;
-        assert_eq!(rt; output.as_slice(), old.as_slice());
+        expect_files(rt.alloc(), &told.store, gate(open), [b"", b""])?;
     }
-    let output = shown(rt.alloc(), &told.store, gate(512))?;
-    assert_eq!(rt; output.as_slice(), new.as_slice());
-    Ok(())
+    expect_files(rt.alloc(), &told.store, gate(512), [b"\x01", b"\x02"])
 }

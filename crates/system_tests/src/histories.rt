@@ -97,16 +97,15 @@ ok\nvalue 0xff\nok\nerror 3 ESRCH\n",
 
 #[test]
 fn sixteen_pages_keep_their_bytes(rt: HostRuntime) -> Result<(), Fail> {
-    let config = Config {
-        frames: 64,
-        slots: 0,
-    };
     let (trace, wanted) = FORTY_LINES;
     let disk = image(rt.alloc(), 4096)?;
-    let told = ran_in(rt.alloc(), &disk, Armed::Nothing, config, trace)?;
-    assert_eq!(rt; told.end, RunEnd::Done);
-    assert_eq!(rt; told.output.as_slice(), wanted);
-    assert_eq!(rt; told.store.writes(), 0);
+    for slots in [16, 0] {
+        let config = Config { frames: 64, slots };
+        let told = ran_in(rt.alloc(), &disk, Armed::Nothing, config, trace)?;
+        assert_eq!(rt; told.end, RunEnd::Done);
+        assert_eq!(rt; told.output.as_slice(), wanted);
+        assert_eq!(rt; told.store.writes(), 0);
+    }
     Ok(())
 }
 

@@ -1,7 +1,9 @@
 //! Many mappings in one process: rows of calls on ranges, and their replies.
 ghost use Rattle.std.specs.Prelude.{◌≤◌};
 
-use crate::bench::{Armed, Exchange, image, image_of, ran, ran_in, replies, replies_over_zeros};
+use crate::bench::{
+    Armed, Exchange, expect_file, image, image_of, ran, ran_in, replies, replies_over_zeros,
+};
 use disk_model::SimDisk;
 use machine::Config;
 use runner::RunEnd;
@@ -145,43 +147,6 @@ fn two_msyncs(alloc: Global) -> Result<Exchange, Fail> {
     Ok(exchange)
 }
 
-/// A look at each page of a file of 128 pages that has one byte at the start of the first `pages` pages and another at the
-/// start of the others.
-fn looks(alloc: Global, pages: u64, byte: u8, rest: u8) -> Result<Exchange, Fail> {
-    let mut exchange = Exchange::new(alloc);
-    exchange.push(
-        b"spawn\nmmap 1 0 0x80000 r-- shared 0 0\n",
-        b"pid 1\naddr 0x10000\n",
-    )?;
-    for page in 0..128_u64 {
-        let line = format!(in alloc; "load 1 {} 1\n", 0x10000 + 4096 * page)?;
-        let shown = if page < pages { byte } else { rest };
-        let reply = format!(in alloc; "value 0x{shown:02x}\n")?;
-        exchange.push(line.as_bytes(), reply.as_bytes())?;
-    }
-    Ok(exchange)
-}
-
-/// Whether a file of 128 pages, as it stands, has one byte at the start of the first `pages` pages and another at the
-/// start of the others.
-fn begin_with(
-    alloc: Global,
-    store: &SimDisk,
-    pages: u64,
-    byte: u8,
-    rest: u8,
-) -> Result<bool, Fail> {
-    let exchange = looks(alloc, pages, byte, rest)?;
-    let told = ran_in(
-        alloc,
-        store,
-        Armed::Nothing,
-        ROOMY,
-        exchange.trace.as_slice(),
-    )?;
-    Ok(told.output.as_slice() == exchange.wanted.as_slice())
-}
-
 /// The device of a file of 128 pages of zeros, as a machine leaves it that answers what is wanted.
 fn left_by<R: AllocGlobal + Abort>(rt: &R, exchange: &Exchange) -> Result<SimDisk, Fail> {
     let disk = image(rt.alloc(), 524288)?;
@@ -196,14 +161,15 @@ fn left_by<R: AllocGlobal + Abort>(rt: &R, exchange: &Exchange) -> Result<SimDis
 fn an_msync_takes_127_pages(rt: HostRuntime) -> Result<(), Fail> {
     let mut exchange = two_msyncs(rt.alloc())?;
     let refused = left_by(&rt, &exchange)?;
-    assert!(rt; begin_with(rt.alloc(), &refused, 127, 1, 0)?);
+    let ones: [&[u8]; 127] = [b"\x01"; 127];
+    expect_file(rt.alloc(), &refused, 0, &ones)?;
     exchange.push(
         b"msync 1 0x10000 0x40000 sync\nmsync 1 0x50000 0x40000 sync\n",
         b"ok\nok\n",
     )?;
     let halves = left_by(&rt, &exchange)?;
-    assert!(rt; begin_with(rt.alloc(), &halves, 128, 2, 0)?);
-    Ok(())
+    let twos: [&[u8]; 128] = [b"\x02"; 128];
+    expect_file(rt.alloc(), &halves, 0, &twos)
 }
 
 /// Two mappings of one page are one page of an msync: through either, both see the byte, and it is committed once.

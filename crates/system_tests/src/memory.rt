@@ -4,7 +4,7 @@ use runner::RunEnd;
 use std::test::Fail;
 
 /// Traces on an image of a page of zeros, each from a new start, and their replies.
-const ROWS: [(&[u8], &[u8]); 9] = [
+const ROWS: [(&[u8], &[u8]); 10] = [
     // Anonymous memory begins with zeros.
     (
         b"spawn\nmmap 1 0 1 rw- anon\nload 1 0x10ff8 8\n",
@@ -63,6 +63,15 @@ mprotect 1 0x20000 0 r--\nstore 1 0x20000 1 2\n",
 mmap 1 0 1 r-- anon\nmunmap 1 0x10000 0x3fffff0000\nload 1 0x3fffffffff 1\n",
         b"pid 1\nerror 12 ENOMEM\naddr 0x10000\nvalue 0x00\nerror 12 ENOMEM\nok\n\
 fault 13 SEGV_MAPERR 0x3fffffffff\n",
+    ),
+    // Lines that are nearly a command, and numbers up to the largest of 64 bits.
+    (
+        b"spawn\nload 1 0x10000 1 \nload 1  0x10000 1\nload 1 0X10000 1\nload 1 0x 1\nload 1 0x10000 1\r\n\
+load 1 18446744073709551616 1\nload 1 18446744073709551615 1\nfork 18446744073709551615\n\
+mmap 1 0 18446744073709551615 rw- anon\nmmap 1 0 4096 r-- shared 0 18446744073709547520\n\
+munmap 1 0xfffffffffffff000 0xffffffffffffffff\nmmap 1 0xfffffffffffff000 4096 rw- anon\n",
+        b"pid 1\nbad line\nbad line\nbad line\nbad line\nbad line\nbad line\n\
+fault 13 SEGV_MAPERR 0xffffffffffffffff\nerror 3 ESRCH\nerror 12 ENOMEM\nerror 75 EOVERFLOW\nok\naddr 0x10000\n",
     ),
 ];
 

@@ -60,9 +60,9 @@ fn a_process_needs_a_frame(rt: HostRuntime) -> Result<(), Fail> {
         frames: 8,
         slots: 16,
     };
-    let trace = b"spawn\nspawn\nspawn\nspawn\nspawn\nspawn\nspawn\nspawn\nfork 1\nexit 7\nspawn\n";
+    let trace = b"spawn\nspawn\nspawn\nspawn\nspawn\nspawn\nspawn\nspawn\nexit 7\nspawn\nfork 1\n";
     let wanted =
-        b"pid 1\npid 2\npid 3\npid 4\npid 5\npid 6\npid 7\nstall 1 NOFRAMES\nstall 1 NOFRAMES\nok\npid 7\n";
+        b"pid 1\npid 2\npid 3\npid 4\npid 5\npid 6\npid 7\nstall 1 NOFRAMES\nok\npid 7\nstall 1 NOFRAMES\n";
     let (end, output) = replies_in(rt.alloc(), config, trace.as_slice())?;
     assert_eq!(rt; end, RunEnd::Done);
     assert_eq!(rt; output.as_slice(), wanted.as_slice());
@@ -108,7 +108,7 @@ fn all_processes(alloc: Global) -> Result<Exchange, Fail> {
 fn there_are_64_processes(rt: HostRuntime) -> Result<(), Fail> {
     let config = Config {
         frames: 128,
-        slots: 0,
+        slots: 16,
     };
     let exchange = all_processes(rt.alloc())?;
     let (_, output) = replies_in(rt.alloc(), config, exchange.trace.as_slice())?;

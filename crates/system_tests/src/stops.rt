@@ -1,5 +1,7 @@
 //! A stop at each write of an msync, and failing device calls.
-use crate::bench::{Armed, SHOWN, STORED_AND_SYNCED, calls_at_boot, image, ran, refused, replies};
+use crate::bench::{
+    Armed, SHOWN, STORED_AND_SYNCED, calls_at_boot, expect_file, image, ran, refused, replies,
+};
 use disk_model::{SectorDisk, SimDisk};
 use machine::BootFault;
 use runner::RunEnd;
@@ -154,39 +156,73 @@ fn a_stop_in_a_second_msync_keeps_the_first(rt: HostRuntime) -> Result<(), Fail>
 /// The reads that bring a page in.
 const PAGE_READS: u64 = 8;
 
-/// An msync, and four lines more.
-const SYNCED_AND_ASKED: &[u8] =
-    b"spawn\nmmap 1 0 4096 rw- shared 0 0\nstore 1 0x10000 1 0x5a\nmsync 1 0x10000 4096 sync\n\
-load 1 0x10000 1\nfaults\nspawn\nfork\n";
+/// The calls of an msync of one page that sync: the first behind nine writes, the second behind that of the gate.
+const FIRST_SYNC: u64 = 10;
 
-/// The device of a machine whose call so many after boot and the reads of its page failed in an msync, once it has answered
-/// four lines more.
-fn failed_at<R: AllocGlobal + Abort>(rt: &R, call: u64) -> Result<SimDisk, Fail> {
+const SECOND_SYNC: u64 = 12;
+
+/// The device of a machine whose call so many after boot and the reads of its page failed, and which answered what is wanted.
+fn failed_at<R: AllocGlobal + Abort>(
+    rt: &R,
+    call: u64,
+    trace: &[u8],
+    wanted: &[u8],
+) -> Result<SimDisk, Fail> {
     let disk = image(rt.alloc(), 4096)?;
     let at_boot = calls_at_boot(rt.alloc(), &disk)?;
     let armed = Armed::FailAtCall(at_boot.saturating_add(PAGE_READS).saturating_add(call));
-    let told = ran(rt.alloc(), &disk, armed, SYNCED_AND_ASKED)?;
-    assert_eq!(rt;
-        told.output.as_slice(),
-        b"pid 1\naddr 0x10000\nok\nerror 5 EIO\nhalted\nhalted\nhalted\nbad line\n".as_slice()
-    );
+    let told = ran(rt.alloc(), &disk, armed, trace)?;
+    assert_eq!(rt; told.output.as_slice(), wanted);
     assert_eq!(rt; told.end, RunEnd::Done);
     Ok(told.store)
 }
 
+/// Sees that the file begins so after a stop that left this filling, and recovery, and that all else in it is zeros.
+fn expect_start(
+    alloc: Global,
+    stopped: &SimDisk,
+    filling: Filling,
+    start: &[u8],
+) -> Result<(), Fail> {
+    let disk = left_with(alloc, stopped, filling)?;
+    expect_file(alloc, &disk, 0, &[start])
+}
+
 #[test]
 fn a_failed_sync_halts_the_machine(rt: HostRuntime) -> Result<(), Fail> {
-    // Nine writes come before the first sync: the gate is closed in every image.
-    let closed = failed_at(&rt, 10)?;
+    let trace =
+        b"spawn\nmmap 1 0 4096 rw- shared 0 0\nstore 1 0x10000 1 9\nmsync 1 0x10000 4096 sync\n\
+load 1 0x10000 1\nfaults\n";
+    let wanted = b"pid 1\naddr 0x10000\nok\nerror 5 EIO\nhalted\nhalted\n";
+    // The gate is closed in every image.
+    let closed = failed_at(&rt, FIRST_SYNC, trace.as_slice(), wanted.as_slice())?;
+    assert_eq!(rt; closed.writes(), GATE - 1);
     for filling in FILLINGS {
-        let output = shown(rt.alloc(), &closed, filling)?;
-        assert_eq!(rt; output.as_slice(), OLD);
+        expect_start(rt.alloc(), &closed, filling, b"")?;
     }
-    // Then the gate is written, and synced: what stands is what its sector says.
-    let written = failed_at(&rt, 12)?;
+    // What stands is what the gate's sector says.
+    let written = failed_at(&rt, SECOND_SYNC, trace.as_slice(), wanted.as_slice())?;
+    assert_eq!(rt; written.writes(), GATE);
     for filling in FILLINGS {
-        let output = shown(rt.alloc(), &written, filling)?;
-        assert_eq!(rt; output.as_slice(), standing_after(GATE, filling));
+        let start: &[u8] = if filling == Filling::Open {
+            b"\x09"
+        } else {
+            b""
+        };
+        expect_start(rt.alloc(), &written, filling, start)?;
+    }
+    Ok(())
+}
+
+/// A halted machine still tells which lines are no command.
+#[test]
+fn a_bad_line_is_told_after_a_halt(rt: HostRuntime) -> Result<(), Fail> {
+    let trace =
+        b"spawn\nmmap 1 0 4096 rw- shared 0 0\nstore 1 0x10000 1 0x5a\nmsync 1 0x10000 4096 sync\n\
+load 1 0x10000 1\nfaults\nspawn\nfork\n";
+    let wanted = b"pid 1\naddr 0x10000\nok\nerror 5 EIO\nhalted\nhalted\nhalted\nbad line\n";
+    for sync in [FIRST_SYNC, SECOND_SYNC] {
+        drop(failed_at(&rt, sync, trace.as_slice(), wanted.as_slice())?);
     }
     Ok(())
 }
