@@ -1,9 +1,9 @@
 //! Recoveries that are stopped in turn, three deep, before one runs to its end.
 //!
 //! The first stop comes at each write of the trace, with each filling of the unsynced sectors; then recovery is stopped at each of
-//! its writes, what that leaves is recovered and stopped at each write, and so once more. Of the 125 ways to fill what the three
+//! its writes, what that leaves is recovered and stopped at each write, and so once more. Of the ways to fill what the three
 //! stopped recoveries leave, those are left out in which the filling of one isn't the next of `FILLINGS` after that of the one
-//! before: all of them take minutes.
+//! before; for the longest trace the first stop takes one filling a write, the next each time. So each test takes seconds.
 use crate::bench::{Armed, Case, expect, homes, opened, stopped_opening};
 use crate::cases::{partial_page, two_files, two_processes};
 use crate::fillings::{FILLINGS, Filling};
@@ -62,13 +62,18 @@ fn stop_thrice(
     Ok(())
 }
 
-/// Stops the recoveries of what a stop at that write leaves, which give the files as one recovery would.
-fn stop_at(alloc: Global, case: &Case, write: u64) -> Result<(), Fail> {
+/// Stops the recoveries of what a stop at that write leaves with that filling, which give the files as one recovery would.
+fn stop_at(alloc: Global, case: &Case, write: u64, filling: Filling) -> Result<(), Fail> {
     let told = case.ran(alloc, Armed::StopAtWrite(write))?;
+    let left = filling.left(alloc, &told.store)?;
+    let (_, wanted) = recovered(alloc, &left)?;
+    stop_thrice(alloc, &left, filling.next(), wanted.as_slice())
+}
+
+/// The same with each filling.
+fn stop_with_each_filling(alloc: Global, case: &Case, write: u64) -> Result<(), Fail> {
     for filling in FILLINGS {
-        let left = filling.left(alloc, &told.store)?;
-        let (_, wanted) = recovered(alloc, &left)?;
-        stop_thrice(alloc, &left, filling.next(), wanted.as_slice())?;
+        stop_at(alloc, case, write, filling)?;
     }
     Ok(())
 }
@@ -76,7 +81,17 @@ fn stop_at(alloc: Global, case: &Case, write: u64) -> Result<(), Fail> {
 /// The same at each write of the whole trace.
 fn stop_at_each(alloc: Global, case: &Case) -> Result<(), Fail> {
     for write in 1..=case.whole(alloc)?.writes() {
-        stop_at(alloc, case, write)?;
+        stop_with_each_filling(alloc, case, write)?;
+    }
+    Ok(())
+}
+
+/// At each write of the whole trace, with the next filling each time.
+fn stop_in_turn(alloc: Global, case: &Case) -> Result<(), Fail> {
+    let mut filling = Filling::Open;
+    for write in 1..=case.whole(alloc)?.writes() {
+        stop_at(alloc, case, write, filling)?;
+        filling = filling.next();
     }
     Ok(())
 }
@@ -93,5 +108,5 @@ fn stopped_recoveries_of_two_files_change_nothing(rt: HostRuntime) -> Result<(),
 
 #[test]
 fn stopped_recoveries_of_a_second_msync_change_nothing(rt: HostRuntime) -> Result<(), Fail> {
-    stop_at_each(rt.alloc(), &two_processes(rt.alloc())?)
+    stop_in_turn(rt.alloc(), &two_processes(rt.alloc())?)
 }
