@@ -192,6 +192,12 @@ pub(crate) fn ran(
     Ok(ran_over(alloc, config, store, swap, trace))
 }
 
+/// How many calls of the store's device a start makes.
+pub(crate) fn calls_at_boot(alloc: Global, case: &Case) -> Result<u64, Fail> {
+    let told = ran(alloc, &case.image, case.config, Armed::Nothing, b"")?;
+    Ok(told.store.calls())
+}
+
 /// Runs a trace on a machine of that size over these devices.
 fn ran_over(alloc: Global, config: Config, store: SimDisk, swap: SimDisk, trace: &[u8]) -> Told {
     let mut reader = trace;

@@ -33,6 +33,27 @@ pub(crate) fn partial_page(alloc: Global) -> Result<Case, Fail> {
     Ok(case)
 }
 
+/// A file of one page, of which a byte is made durable.
+pub(crate) fn one_page(alloc: Global) -> Result<Case, Fail> {
+    let mut case = Case::new(alloc, CONFIG, &[4096], &[10, 29])?;
+    case.push(
+        b"spawn\nmmap 1 0 4096 rw- shared 0 0\n",
+        b"pid 1\naddr 0x10000\n",
+    )?;
+    case.store(alloc, 1, 0, 0x5a)?;
+    case.msync(alloc, 0, 4096)?;
+    case.load(alloc, 0, 0x5a)?;
+    Ok(case)
+}
+
+/// The same, and makes a second byte of the page durable.
+pub(crate) fn one_page_twice(alloc: Global) -> Result<Case, Fail> {
+    let mut case = one_page(alloc)?;
+    case.store(alloc, 1, 1, 0x6b)?;
+    case.msync(alloc, 0, 4096)?;
+    Ok(case)
+}
+
 /// Maps two files of a page each, and makes a byte of both durable.
 pub(crate) fn two_files(alloc: Global) -> Result<Case, Fail> {
     let mut case = Case::new(alloc, CONFIG, &[4096, 4096], &[18, 53])?;

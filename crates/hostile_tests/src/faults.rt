@@ -158,8 +158,7 @@ fn check_refused(alloc: Global, case: &Case, told: &Told, fault: BootFault) -> R
     Ok(())
 }
 
-/// That call of the store fails: the machine does not start, or a line stalls, or an msync fails and halts it. Whether there was
-/// one of these is told.
+/// That call of the store fails: the machine does not start, or a line stalls, or an msync fails and halts it.
 fn fail_at(alloc: Global, case: &Case, call: u64) -> Result<(), Fail> {
     let told = case.ran(alloc, Armed::FailAtCall(call))?;
     if let Err(fault) = told.end {

@@ -10,6 +10,8 @@ mod faults;
 #[cfg(test)]
 mod fillings;
 #[cfg(test)]
+mod halts;
+#[cfg(test)]
 mod recoveries;
 #[cfg(test)]
 mod stops;

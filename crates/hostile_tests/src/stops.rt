@@ -1,8 +1,8 @@
 //! A stop at each write of the store, with each filling of the unsynced sectors.
 use crate::bench::{Armed, Case, acknowledged};
 use crate::cases::{
-    most_pages, page_in_the_journal, pages_in_slots, partial_page, two_files, two_files_twice,
-    two_processes,
+    most_pages, one_page, one_page_twice, page_in_the_journal, pages_in_slots, partial_page,
+    two_files, two_files_twice, two_processes,
 };
 use crate::fillings::{FILLINGS, Filling, recovered};
 use std::alloc::Global;
@@ -31,6 +31,18 @@ fn stop_at_each(alloc: Global, case: &Case) -> Result<(), Fail> {
         stop_at(alloc, case, write)?;
     }
     Ok(())
+}
+
+#[test]
+fn a_page_is_old_or_new(rt: HostRuntime) -> Result<(), Fail> {
+    stop_at_each(rt.alloc(), &one_page(rt.alloc())?)
+}
+
+/// First the home of the first msync's page is written, then the gate is closed, and only then the map, the body and the gate of
+/// the second.
+#[test]
+fn a_stop_in_a_second_msync_keeps_the_first(rt: HostRuntime) -> Result<(), Fail> {
+    stop_at_each(rt.alloc(), &one_page_twice(rt.alloc())?)
 }
 
 #[test]

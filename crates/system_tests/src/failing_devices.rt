@@ -1,5 +1,6 @@
-//! Store devices that fail where a file page is read.
+//! Store devices that fail where a file page is read, and a halted machine.
 use crate::bench::{Armed, calls_at_boot, image, ran};
+use runner::RunEnd;
 use std::test::Fail;
 
 /// A failed read stalls the access and changes nothing; the next access tries again, and a page that was read stays.
@@ -31,5 +32,24 @@ fn a_stalled_store_stores_nothing(rt: HostRuntime) -> Result<(), Fail> {
     let wanted = b"pid 1\naddr 0x10000\nstall 4 STOREDEV\nok\nvalue 0x00\n";
     let told = ran(rt.alloc(), &disk, armed, trace.as_slice())?;
     assert_eq!(rt; told.output.as_slice(), wanted.as_slice());
+    Ok(())
+}
+
+/// The calls of a start, then the reads of a page, and then nine writes of an msync: the call after those is its first sync.
+const FIRST_SYNC: u64 = 8 + 10;
+
+/// A halted machine still tells which lines are no command.
+#[test]
+fn a_bad_line_is_told_after_a_halt(rt: HostRuntime) -> Result<(), Fail> {
+    let disk = image(rt.alloc(), 4096)?;
+    let at_boot = calls_at_boot(rt.alloc(), &disk)?;
+    let armed = Armed::FailAtCall(at_boot.saturating_add(FIRST_SYNC));
+    let trace =
+        b"spawn\nmmap 1 0 4096 rw- shared 0 0\nstore 1 0x10000 1 0x5a\nmsync 1 0x10000 4096 sync\n\
+load 1 0x10000 1\nfaults\nspawn\nfork\n";
+    let wanted = b"pid 1\naddr 0x10000\nok\nerror 5 EIO\nhalted\nhalted\nhalted\nbad line\n";
+    let told = ran(rt.alloc(), &disk, armed, trace.as_slice())?;
+    assert_eq!(rt; told.output.as_slice(), wanted.as_slice());
+    assert_eq!(rt; told.end, RunEnd::Done);
     Ok(())
 }

@@ -1,6 +1,7 @@
 //! Files of any length, several of them, and what an msync makes durable.
-use crate::bench::{Armed, expect_file, image, image_of_two, ran, replies};
-use disk_model::SimDisk;
+use crate::bench::{Armed, expect_file, image, image_of_two, ran, refused, replies};
+use disk_model::{SectorDisk, SimDisk};
+use machine::BootFault;
 use runner::RunEnd;
 use std::alloc::Global;
 use std::test::Fail;
@@ -43,7 +44,7 @@ store 2 0x10001 1 0x0b\nmsync 1 0x10000 4096 sync\nstore 2 0x10001 1 0x0c\nmsync
     expect_file(rt.alloc(), &told.store, 0, &[b"\x0a\x0c"])
 }
 
-/// The sector of the gate after a stop within its write: so many bytes of the words that open it, and zeros.
+/// The sector of a gate: so many bytes of the words that open it, and zeros.
 fn gate(count: usize) -> [u8; 512] {
     let mut bytes = [0; 512];
     for (i, byte) in bytes.iter_mut().enumerate() {
@@ -82,4 +83,19 @@ store 1 0x11000 1 2\nmsync 1 0x10000 0x2000 sync\n";
         expect_files(rt.alloc(), &told.store, gate(open), [b"", b""])?;
     }
     expect_files(rt.alloc(), &told.store, gate(512), [b"\x01", b"\x02"])
+}
+
+#[test]
+fn an_open_gate_over_a_map_of_too_many_pages_is_refused(rt: HostRuntime) -> Result<(), Fail> {
+    let mut disk = image(rt.alloc(), 4096)?;
+    assert!(rt; disk.sectors() > 3);
+    let mut map = [0; 512];
+    map[0] = 128;
+    disk.write(3, &map)?;
+    disk.write(2, &gate(512))?;
+    disk.sync()?;
+    let (fault, writes) = refused(rt.alloc(), &disk)?;
+    assert_eq!(rt; fault, BootFault::BadJournal);
+    assert_eq!(rt; writes, 0);
+    Ok(())
 }

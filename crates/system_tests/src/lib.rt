@@ -20,6 +20,4 @@ mod memory;
 #[cfg(test)]
 mod process_traces;
 #[cfg(test)]
-mod stops;
-#[cfg(test)]
 mod traces;
