@@ -5,29 +5,37 @@ ghost use Rattle.file_store.specs.declared.faults.OpenFault.TheVariants.{Device,
 use crate::directory::BadDirectory;
 use disk_model::DiskFault;
 use sync_journal::RecoverFault;
+use thiserror::Error;
 
-/// Why a store could not be opened.
-#[derive(Clone, Copy, Debug, PartialEq, Eq)]
+/// Why a store could not be opened. `Display` gives its name, as the programs tell it.
+#[derive(Clone, Copy, Debug, PartialEq, Eq, Error)]
 pub enum OpenFault {
     /// The device failed.
+    #[error("DEVICE")]
     Device = 1,
     /// The device has fewer than 1,020 sectors, sector 0 is not the layout mark, or the directory is bad: an entry of
     /// no file is not zero, a file's homes do not end within the store, or two files share a home. Nothing was written.
+    #[error("BADLAYOUT")]
     BadLayout = 2,
     /// The journal is open with a map that no commit writes. Nothing was written.
+    #[error("BADJOURNAL")]
     BadJournal = 3,
 }
 
-/// Why a store could not be made.
-#[derive(Clone, Copy, Debug, PartialEq, Eq)]
+/// Why a store could not be made. `Display` gives its name, as the programs tell it.
+#[derive(Clone, Copy, Debug, PartialEq, Eq, Error)]
 pub enum FormatFault {
     /// The device failed.
+    #[error("DEVICE")]
     Device = 1,
     /// There are over 64 files, fewer than 1,020 sectors, or not enough home pages. Nothing was written.
+    #[error("TOOLARGE")]
     TooLarge = 2,
     /// Sector 0 is the layout mark already. Nothing was written.
+    #[error("FORMATTED")]
     Formatted = 3,
     /// A source failed or ended early.
+    #[error("SOURCE")]
     Source = 4,
 }
 

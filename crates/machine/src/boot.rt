@@ -15,6 +15,7 @@ use file_store::{FileStore, OpenFault};
 use paging::Core;
 use std::alloc::Global;
 use swap::Swap;
+use thiserror::Error;
 
 /// The fewest and the most frames.
 const MIN_FRAMES: u32 = 8;
@@ -35,20 +36,26 @@ pub struct Config {
     pub slots: u32,
 }
 
-/// Why a machine doesn't start.
-#[derive(Clone, Copy, Debug, PartialEq, Eq)]
+/// Why a machine doesn't start. `Display` gives its name, as the programs tell it.
+#[derive(Clone, Copy, Debug, PartialEq, Eq, Error)]
 pub enum BootFault {
     /// Fewer than 8 or more than 65,536 frames.
+    #[error("FRAMES")]
     Frames = 1,
     /// More than 65,536 slots, or more than the swap device has room for.
+    #[error("SLOTS")]
     Slots = 2,
     /// Want of memory.
+    #[error("OUTOFMEMORY")]
     OutOfMemory = 3,
     /// The store device failed.
+    #[error("DEVICE")]
     Device = 4,
     /// The store isn't laid out as one.
+    #[error("BADLAYOUT")]
     BadLayout = 5,
     /// The journal is open with a map that no commit writes.
+    #[error("BADJOURNAL")]
     BadJournal = 6,
 }
 

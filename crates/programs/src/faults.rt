@@ -22,13 +22,13 @@ pub(crate) enum ProgramFault<'a> {
     BadSpec(&'a str),
     #[error("cannot open {}", OneLine(*.0))]
     CannotOpen(&'a str),
-    #[error("format {} {}", *.0 as u8, format_fault_name(*.0))]
+    #[error("format {} {}", *.0 as u8, *.0)]
     Format(FormatFault),
-    #[error("open {} {}", *.0 as u8, open_fault_name(*.0))]
+    #[error("open {} {}", *.0 as u8, *.0)]
     Open(OpenFault),
     #[error("no file {0}")]
     NoFile(u32),
-    #[error("boot {} {}", *.0 as u8, boot_fault_name(*.0))]
+    #[error("boot {} {}", *.0 as u8, *.0)]
     Boot(BootFault),
     #[error("read failed")]
     ReadFailed,
@@ -50,34 +50,6 @@ impl Display for OneLine<'_> {
             }
         }
         Ok(())
-    }
-}
-
-fn format_fault_name(fault: FormatFault) -> &'static str {
-    match fault {
-        FormatFault::Device => "DEVICE",
-        FormatFault::TooLarge => "TOOLARGE",
-        FormatFault::Formatted => "FORMATTED",
-        FormatFault::Source => "SOURCE",
-    }
-}
-
-fn open_fault_name(fault: OpenFault) -> &'static str {
-    match fault {
-        OpenFault::Device => "DEVICE",
-        OpenFault::BadLayout => "BADLAYOUT",
-        OpenFault::BadJournal => "BADJOURNAL",
-    }
-}
-
-fn boot_fault_name(fault: BootFault) -> &'static str {
-    match fault {
-        BootFault::Frames => "FRAMES",
-        BootFault::Slots => "SLOTS",
-        BootFault::OutOfMemory => "OUTOFMEMORY",
-        BootFault::Device => "DEVICE",
-        BootFault::BadLayout => "BADLAYOUT",
-        BootFault::BadJournal => "BADJOURNAL",
     }
 }
 
