@@ -5,9 +5,9 @@ use Rattle.page_faults.specs.declared.refusal.AccessRefusal.{AccessRefusal}
 use Rattle.page_faults.specs.declared.refusal.AccessRefusal.TheVariants as Refusal
 use Rattle.page_faults.specs.Outcome.{IsRefusal}
 use Rattle.frames.specs.FrameTable.{bytes_of, with_bytes}
-use Rattle.page_faults.specs.Wants.{Wants, ReadsHome}
+use Rattle.page_faults.specs.Wants.{Wants, ReadsHome, ShowsFile}
 use Rattle.paging.specs.declared.kernel.Core.{Core}
-use Rattle.mapping.specs.Changes.{KeepsAround}
+use Rattle.mapping.specs.Changes.{KeepsAround, KeepsSlotted, IsThatPage}
 use Rattle.paging.specs.Picture.{Picture, picture_of, is_live}
 use Rattle.vm_types.specs.declared.access.Access.{Access}
 use Rattle.vm_types.specs.declared.access.StoredValue.{StoredValue}
@@ -24,9 +24,10 @@ use Rattle.calls.specs.Accesses.{answer_of, AsksFor, WritesNumber}
 use Rattle.calls.proofs.Refusals.{no_stall, same_stall}
 
 module _ {D E : Type 0} (old new : Core D E) (pid addr : ℕ) (access : Access) (read : (new.store ≡ old.store) ⊎ ReadsHome (picture_of old) pid (addr / 4096))
-    (slots : (Wants (picture_of old) pid (addr / 4096) access → ⊥) → new.swap ≡ old.swap) where
+    (slots : (Wants (picture_of old) pid (addr / 4096) access → ⊥) → new.swap ≡ old.swap)
+    (slotted : KeepsSlotted (ShowsFile (picture_of old) pid (addr / 4096)) (IsThatPage pid (addr / 4096)) (picture_of old) (picture_of new)) where
   pub asks_unstalled : (reply : Reply) → ((stall : Stall) → reply ≡ Stalled stall → ⊥) → AsksFor old new pid addr access reply
-  asks_unstalled reply none = record { wanted = λ stall e. absurd (none stall e); home = λ e. absurd (none StoreDevice e); read = read; slots = slots }
+  asks_unstalled reply none = record { wanted = λ stall e. absurd (none stall e); home = λ e. absurd (none StoreDevice e); read = read; slots = slots; slotted = slotted }
 
   -- an access without a place
   pub asks_refused : (g : Ghosts D) (h : Ghosts E) (width : Width) (refusal : AccessRefusal) → IsRefusal g h old new pid addr width access refusal
@@ -37,6 +38,7 @@ module _ {D E : Type 0} (old new : Core D E) (pid addr : ℕ) (access : Access) 
     home = λ e. is.stalled.home (same_stall stall StoreDevice e);
     read = read;
     slots = slots;
+    slotted = slotted;
   }
 
 -- the tables of no process grant nothing

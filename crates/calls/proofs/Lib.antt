@@ -13,6 +13,7 @@ pub mod Refusals
 pub mod Room
 pub mod Short
 pub mod Shown
+pub mod Taking
 pub mod Uncopied
 pub mod Unmapped
 pub mod Writing

@@ -69,8 +69,8 @@ module _ (old new : Picture) (s : State) (shows : ShowsPages old s) (files : Kee
 
 -- why a process didn't come
 cause_is : {D E : Type 0} (g : Ghosts D) (h : Ghosts E) (old new : Core D E) (stall : Stall) → StallCause h old new stall → cause_of (causes g h old new) stall
-cause_is g h old new NoFrames cause = cause
-cause_is g h old new NoSwap cause = cause
+cause_is g h old new NoFrames cause = cause.0
+cause_is g h old new NoSwap cause = cause.0
 cause_is g h old new SwapDevice cause = cause.1
 cause_is g h old new StoreDevice cause = absurd cause
 
@@ -92,8 +92,8 @@ stalled g h old new s command stall o cause e fine frames swaps short shows =
 
 -- the stall says of the store's device that it was left alone
 stall_read : {D E : Type 0} (g : Ghosts D) (h : Ghosts E) (old new : Core D E) (stall : Stall) → new.store ≡ old.store → StallCause h old new stall → ReadCause g h old new stall
-stall_read g h old new NoFrames same cause = (cause, ap (λ (t : FileStore _). g.failures t.disk) same)
-stall_read g h old new NoSwap same cause = (cause, ap (λ (t : FileStore _). g.failures t.disk) same)
+stall_read g h old new NoFrames same cause = (cause.0, ap (λ (t : FileStore _). g.failures t.disk) same, cause.1)
+stall_read g h old new NoSwap same cause = (cause.0, ap (λ (t : FileStore _). g.failures t.disk) same, cause.1)
 stall_read g h old new SwapDevice same cause = (cause.0, ap (λ (t : FileStore _). g.failures t.disk) same, cause.1)
 stall_read g h old new StoreDevice same cause = absurd cause
 

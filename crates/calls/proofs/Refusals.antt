@@ -16,7 +16,7 @@ use Rattle.vm_types.specs.declared.width.Width.{Width}
 use Rattle.vm_types.specs.Replies.{reply_of}
 use Rattle.calls.specs.Accesses.{answer_of}
 use Rattle.calls.specs.Calls.{IsCaused}
-use Rattle.calls.specs.Idle.{is_denial, refused_by, stalls_store}
+use Rattle.calls.specs.Idle.{is_denial, refused_by, stalls_store, stalls_swap}
 
 -- a fault is no stall and no failure, nor is a stall a failure
 no_failure : (fault : Fault) → Faulted fault ≡ Refused EIO → ⊥
@@ -45,6 +45,13 @@ module _ {D E : Type 0} (g : Ghosts D) (h : Ghosts E) where
   calm old new SwapDevice cause other = cause.1
   calm old new StoreDevice cause other = absurd (let never : true ≡ false = other in cc)
 
+  swap_calm : (old new : Core D E) (stall : Stall) → ReadCause g h old new stall → stalls_swap stall ≡ false
+      → h.failures new.swap.pages.disk ≡ h.failures old.swap.pages.disk
+  swap_calm old new NoFrames cause other = cause.2
+  swap_calm old new NoSwap cause other = cause.2
+  swap_calm old new SwapDevice cause other = absurd (let never : true ≡ false = other in cc)
+  swap_calm old new StoreDevice cause other = cause.2
+
   -- a stall comes of what it names
   pub stall_caused : (old new : Core D E) (stall : Stall) → g.failures old.store.disk ≤ g.failures new.store.disk
       → h.failures old.swap.pages.disk ≤ h.failures new.swap.pages.disk → ReadCause g h old new stall → IsCaused g h old new (Stalled stall)
@@ -52,6 +59,7 @@ module _ {D E : Type 0} (g : Ghosts D) (h : Ghosts E) where
     later = later;
     swap_later = swap_later;
     calm = λ other. calm old new stall cause other;
+    swap_calm = λ other. swap_calm old new stall cause other;
     counted = counted old new stall cause;
     failed = λ e. absurd (stall_no_failure stall e);
     stalled = λ other e. subst (λ (x : Stall). ReadCause g h old new x) (same_stall stall other e) cause;
@@ -70,6 +78,7 @@ module _ {D E : Type 0} (g : Ghosts D) (h : Ghosts E) where
       later = later;
       swap_later = swap_later;
       calm = λ named. ap (λ (c : Core D E). g.failures c.store.disk) is.3;
+      swap_calm = λ named. ap (λ (c : Core D E). h.failures c.swap.pages.disk) is.3;
       counted = let same : new.refused.number ≡ old.refused.number = ap (λ (c : Core D E). c.refused.number) is.3 in omega (arith, same);
       failed = λ e. absurd (no_failure fault e);
       stalled = λ stall e. absurd (no_stall fault stall e);

@@ -1,16 +1,16 @@
 -- Stores of the flat model in a state that memory shows.
-use Rattle.std.proofs.Common.{ℕ, ◌/◌, ◌%◌, ◌≡◌, ◌&&◌, Bool, true, false, not, if◌then◌else◌, List, Option, Some, None, is_some, refl, sym, ap, ◌∙◌, subst, arith}
+use Rattle.std.proofs.Common.{ℕ, ◌/◌, ◌%◌, ◌≡◌, ◌&&◌, Bool, true, false, not, if◌then◌else◌, ◌⊎◌, inl, inr, List, Option, Some, None, is_some, refl, sym, ap, ◌∙◌, subst, arith}
 use Rattle.std.specs.Prelude.{◌==◌}
 use Rattle.std.proofs.lemmas.Bool.Decides.{nat_tests}
 use Rattle.disk_model.specs.declared.sector_disk.SectorDisk.{Ghosts}
 use Rattle.page_faults.specs.declared.refusal.AccessRefusal.{AccessRefusal}
-use Rattle.mapping.specs.Changes.{KeepsRoom, KeepsOtherViews}
+use Rattle.mapping.specs.Changes.{KeepsRoom, KeepsOtherViews, KeepsSlotted}
 use Rattle.mapping.specs.Files.{Proceeds, BringsFiles}
 use Rattle.page_faults.specs.Outcome.{IsReadyToStore, IsOpenToStore, IsRefusal, verdict_of}
 use Rattle.page_faults.proofs.Ready.{view-mapped, own_in-none}
 use Rattle.page_faults.proofs.Settled.{one_view}
 use Rattle.page_faults.proofs.Showing.{ShowsFiles, bytes_shown, shows_own, shows_shared}
-use Rattle.page_faults.proofs.Storing.{view-attr, fit_own, fit_file, views_others, views_file}
+use Rattle.page_faults.proofs.Storing.{view-attr, fit_own, fit_file, views_others, views_file, entries_own, entries_file}
 use Rattle.mapping.proofs.Forms.{mapped_page, shared_none}
 use Rattle.frames.proofs.FrameLemmas.{with_bytes-others}
 use Rattle.frames.specs.FrameTable as Frames
@@ -97,6 +97,33 @@ others_stored old mid new pid page (Private p) n w fit usable frames beside othe
     views_others mid new n w fit usable.0 frames beside pid page usable.1 q k other ∙ others q k other
 others_stored old mid new pid page (Shared p) n w fit usable frames beside others = λ q k other.
     views_file mid new n w fit usable.0 frames beside p usable.1 q k ∙ others q k other
+
+-- nor has a page another entry
+entries_stored : (mid new : Picture) (pid page : ℕ) (b : Backing) (n : ℕ) (w : List ℕ) → IsFit mid → IsOpenToStore mid pid page b n
+    → new.frames ≡ Frames.with_bytes mid.frames n w → SameBeside mid new → (q k : ℕ) → entry new q k ≡ entry mid q k
+entries_stored mid new pid page Anon n w fit usable frames beside = entries_own mid new n w fit usable.0 frames beside pid page usable.1
+entries_stored mid new pid page (Private p) n w fit usable frames beside = entries_own mid new n w fit usable.0 frames beside pid page usable.1
+entries_stored mid new pid page (Shared p) n w fit usable frames beside = entries_file mid new n w fit usable.0 frames beside p usable.1
+
+slotted_on : (files : FilePage → Type 0) (own : ℕ → ℕ → Type 0) (old mid new : Picture) → ((p : FilePage) → new.place p ≡ mid.place p)
+    → ((q k : ℕ) → entry new q k ≡ entry mid q k) → KeepsSlotted files own old mid → KeepsSlotted files own old new
+slotted_on files own old mid new place entries slotted = record {
+  file_pages = λ p k at. elim (slotted.file_pages p k at) [
+    | inl came ↦ inl came
+    | inr there ↦ inr (place p ∙ there)
+  ];
+  copies = λ q p inside away. elim (slotted.copies q p inside away) [
+    | inl came ↦ inl came
+    | inr same ↦ inr (entries q p ∙ same)
+  ];
+}
+
+-- and what lay in a slot is still there
+pub slotted_stored : (old mid new : Picture) (pid page : ℕ) (b : Backing) (n : ℕ) (w : List ℕ) (files : FilePage → Type 0) (own : ℕ → ℕ → Type 0)
+    → IsFit mid → IsOpenToStore mid pid page b n → new.frames ≡ Frames.with_bytes mid.frames n w → SameBeside mid new
+    → KeepsSlotted files own old mid → KeepsSlotted files own old new
+slotted_stored old mid new pid page b n w files own fit usable frames beside slotted =
+    slotted_on files own old mid new beside.place (entries_stored mid new pid page b n w fit usable frames beside) slotted
 
 -- that frame was handed out
 pub open_held : (c : Picture) (pid page : ℕ) (b : Backing) (n : ℕ) → IsOpenToStore c pid page b n → IsHeld c.frames n

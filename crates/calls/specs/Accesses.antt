@@ -3,9 +3,9 @@ use Rattle.std.specs.Prelude.{ℕ, ◌≡◌, ◌⊎◌, ◌/◌}
 use Rattle.page_faults.specs.declared.refusal.AccessRefusal.{AccessRefusal}
 use Rattle.page_faults.specs.declared.refusal.AccessRefusal.TheVariants as Refusal
 use Rattle.frames.specs.FrameTable.{bytes_of, with_bytes}
-use Rattle.page_faults.specs.Wants.{Wants, ReadsHome}
+use Rattle.page_faults.specs.Wants.{Wants, ReadsHome, ShowsFile}
 use Rattle.paging.specs.declared.kernel.Core.{Core}
-use Rattle.mapping.specs.Changes.{KeepsAround}
+use Rattle.mapping.specs.Changes.{KeepsAround, KeepsSlotted, IsThatPage}
 use Rattle.paging.specs.Picture.{picture_of}
 use Rattle.vm_types.specs.declared.access.Access.{Access}
 use Rattle.vm_types.specs.declared.access.StoredValue.{StoredValue}
@@ -23,12 +23,14 @@ answer_of (Refusal.Stall stall) = Stalled stall
 
 module _ {D E : Type 0} where
   -- What an access that is so answered asks for: it stalls only where a frame is wanted, and for the store's device only where
-  -- its page is to be read from its home; the store is read there alone, and slots are asked for and read only where a frame is wanted.
+  -- its page is to be read from its home; the store is read there alone, slots are asked for and read only where a frame is wanted, and
+  -- no other page comes back from one.
   pub record AsksFor (old new : Core D E) (pid addr : ℕ) (access : Access) (reply : Reply) : Type 0 where
     pub wanted : (stall : Stall) → reply ≡ Reply.Stalled stall → Wants (picture_of old) pid (addr / 4096) access
     pub home : reply ≡ Reply.Stalled StoreDevice → ReadsHome (picture_of old) pid (addr / 4096)
     pub read : (new.store ≡ old.store) ⊎ ReadsHome (picture_of old) pid (addr / 4096)
     pub slots : (Wants (picture_of old) pid (addr / 4096) access → ⊥) → new.swap ≡ old.swap
+    pub slotted : KeepsSlotted (ShowsFile (picture_of old) pid (addr / 4096)) (IsThatPage pid (addr / 4096)) (picture_of old) (picture_of new)
 
   -- a number was written into frame n from that byte of it on, and nothing else changed
   pub record WritesNumber (old new : Core D E) (n offset : ℕ) (stored : StoredValue) : Type 0 where

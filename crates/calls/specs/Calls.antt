@@ -18,7 +18,7 @@ use Rattle.vm_types.specs.declared.reply.Reply.TheVariants.{Refused, Stalled}
 use Rattle.vm_types.specs.Stalls.{Causes, MayStall, reads_files, reads_swap}
 use Rattle.vm_types.specs.State.{State}
 use Rattle.vm_types.specs.Step.{outcome}
-use Rattle.calls.specs.Idle.{names_store, refused_count}
+use Rattle.calls.specs.Idle.{names_store, names_swap, refused_count}
 
 -- Memory of so many frames, or so many slots, are short of what a command needs: the tables of the state after it and three more
 -- frames, or a slot for each page that processes have of their own and each touched file page.
@@ -51,11 +51,12 @@ module _ {D E : Type 0} (g : Ghosts D) (h : Ghosts E) where
       → (reads_swap s command ≡ true → h.keeps_model new.swap.pages.disk) → Comes old new s command reply
 
   -- Whatever the devices do: a reply names a device or the want of a frame exactly where that failed in the call, or was refused.
-  -- No failure is forgotten, neither an earlier one nor one of the store in the call, and no more than one request was refused.
+  -- No failure is forgotten, neither an earlier one nor one in the call, and no more than one request was refused.
   pub record IsCaused (old new : Core D E) (reply : Reply) : Type 0 where
     pub later : g.failures old.store.disk ≤ g.failures new.store.disk
     pub swap_later : h.failures old.swap.pages.disk ≤ h.failures new.swap.pages.disk
     pub calm : names_store reply ≡ false → g.failures new.store.disk ≡ g.failures old.store.disk
+    pub swap_calm : names_swap reply ≡ false → h.failures new.swap.pages.disk ≡ h.failures old.swap.pages.disk
     pub counted : new.refused.number ≡ old.refused.number + refused_count reply
     pub failed : reply ≡ Refused EIO → g.failures old.store.disk < g.failures new.store.disk
     pub stalled : (stall : Stall) → reply ≡ Stalled stall → ReadCause g h old new stall

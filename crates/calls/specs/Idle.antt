@@ -1,5 +1,5 @@
--- What replies and commands say of devices and frames: which leave both devices alone, which name a failure of the store, and
--- which refused a frame. Our own.
+-- What replies and commands say of devices and frames: which leave both devices alone, which name a failure of the store or of
+-- swap, and which refused a frame. Our own.
 use Rattle.std.specs.Prelude.{ℕ, Bool, true, false, not, if◌then◌else◌, is_some}
 use Rattle.vm_types.specs.declared.command.Command.{Command}
 use Rattle.vm_types.specs.declared.command.Command.TheVariants.{Spawn, Fork, Exit, Mmap, Munmap, Mprotect, Dontneed, Msync, Load, Store, Fetch, PastFaults}
@@ -60,6 +60,25 @@ names_store (Value width value) = false
 names_store (Faulted fault) = false
 names_store Halted = false
 names_store (Past past) = false
+
+-- whether a command that stalls so names a failure of the swap device
+abbrev pub stalls_swap : Stall → Bool
+stalls_swap NoFrames = false
+stalls_swap NoSwap = false
+stalls_swap SwapDevice = true
+stalls_swap StoreDevice = false
+
+-- whether a reply names one
+abbrev pub names_swap : Reply → Bool
+names_swap (Stalled stall) = stalls_swap stall
+names_swap (Process pid) = false
+names_swap (Address addr) = false
+names_swap Done = false
+names_swap (Value width value) = false
+names_swap (Faulted fault) = false
+names_swap (Refused errno) = false
+names_swap Halted = false
+names_swap (Past past) = false
 
 -- how many requests for a frame were refused where a command stalls so
 abbrev pub refused_by : Stall → ℕ

@@ -2,5 +2,6 @@ pub mod Accesses
 pub mod Calls
 pub mod Idle
 pub mod Mappings
+pub mod Processes
 pub mod Protections
 pub mod Space

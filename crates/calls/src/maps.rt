@@ -208,7 +208,7 @@ fn planned(
     }
 }
 
-/// Maps the pages that `len` bytes take, anonymous ones or those of a file from an offset on, and answers the mapping's
+/// Maps the pages that `len` bytes take, anonymous ones or those of a file from an offset on, and returns the mapping's
 /// address, in bytes. Who may write there may read there as well (our choice).
 ///
 /// The errors of mmap(2), in our order: `ESRCH` where there is no such process; `EINVAL` where the length is 0, or the

@@ -175,6 +175,7 @@ module _ (old low mid new : Picture) (parent child r page e : ℕ) (y : Seat) (f
           subst P (sym same) (omega (arith, c, r, w)))
       | inr ne ↦ (let c = counts z in let o = raises.others z ne in let w = withdraws.counts z in omega (arith, c, o, w))
     ];
+    pointers = λ n i m p. (sets.pointers n i m).0 (raises.pointers n i m (withdraws.pointers n i m p));
     bytes = λ k used. (
         let there : 0 < low.slots.count k = (let w = withdraws.counts (InSlot k) in omega (arith, w, used)) in
         ap (λ t. t.bytes k) beside.slots ∙ raises.bytes k there ∙ ap (λ t. t.bytes k) withdraws.sets.beside.slots);

@@ -1,5 +1,5 @@
 -- How the steps of the first pass follow one another.
-use Rattle.std.proofs.Common.{◌≡◌, ℕ, inl, inr, ◌<◌, ◌≤◌, ◌/◌, ◌^◌, List, Option, Some, None, Result, Ok, Err, OnErr, refl, sym, ap, ◌∙◌, arith}
+use Rattle.std.proofs.Common.{◌≡◌, ℕ, suc, inl, inr, ◌<◌, ◌≤◌, ◌/◌, ◌^◌, List, Option, Some, None, Result, Ok, Err, OnErr, refl, sym, ap, ◌∙◌, arith}
 use Rattle.std.specs.Prelude.{IsSome, option_map}
 use Rattle.std.proofs.lemmas.Bool.{cases_lt}
 use Rattle.vm_types.specs.declared.region.Attr.{Attr}
@@ -8,10 +8,12 @@ use Rattle.paging.specs.Seats.{Seat, seat}
 use Rattle.paging.specs.Picture.{Picture, entry, view, view_of, own_in, bytes_in}
 use Rattle.paging.specs.Parts.{IsGranting}
 use Rattle.paging.specs.Calls.{KeepsPages}
+use Rattle.paging.specs.Ages.{GivesForTables}
 use Rattle.paging.proofs.Start.{seat-none}
-use Rattle.mapping.specs.Changes.{IsWhole, KeepsTables}
+use Rattle.page_tables.proofs.Ends.{way_forth}
+use Rattle.mapping.specs.Changes.{IsWhole, IsTableOnWay, KeepsTables, LinksTables}
 use Rattle.page_ranges.proofs.Gaps.{missing_same}
-use Rattle.copy_on_write.specs.Steps.{HasCopy, HasTables, HasTablesBelow, HasTablesFrom, LacksTable}
+use Rattle.copy_on_write.specs.Steps.{HasCopy, HasTables, HasTablesBelow, HasTablesFrom, LacksTable, LinksCopies}
 use Rattle.copy_on_write.proofs.Copies.{copied_mapped}
 
 pub on_err : {T E : Type 0} (result : Result T E) (X : Type 0) → X → OnErr result X
@@ -34,16 +36,24 @@ some_attr : (o : Option Attr) → IsSome o → (a : Attr) × (o ≡ Some a)
 some_attr None some = absurd (let bad : IsSome {T = Attr} None = some in (cc))
 some_attr (Some a) some = (a, refl)
 
--- whose copies processes have is seen
-pub copy_kept : (old new : Picture) (pid page : ℕ) → IsGranting new → KeepsPages old new → HasCopy new pid page → HasCopy old pid page
-copy_kept old new pid page granting keeps copy =
-    let mapped = some_attr (new.at pid page) (copied_mapped new pid page granting copy.0 copy.1) in
-    let was : old.at pid page ≡ Some mapped.0 = sym (keeps.at pid page) ∙ mapped.1 in (
+-- of which pages a process has copies is seen
+copy_seen : (c d : Picture) (pid page : ℕ) → IsGranting c → d.at pid page ≡ c.at pid page → view c pid page ≡ view d pid page → HasCopy c pid page → HasCopy d pid page
+copy_seen c d pid page granting at views copy =
+    let mapped = some_attr (c.at pid page) (copied_mapped c pid page granting copy.0 copy.1) in
+    let other : d.at pid page ≡ Some mapped.0 = at ∙ mapped.1 in (
       copy.0,
-      λ none. copy.1 (none_mapped (bytes_in new.frames new.slots) (seat (entry new pid page))
-          (sym (view-own new pid page mapped.0 mapped.1) ∙ ap own_of (keeps.views pid page) ∙ view-own old pid page mapped.0 was
-          ∙ ap (λ o. option_map (bytes_in old.frames old.slots) o) none)),
+      λ none. copy.1 (none_mapped (bytes_in c.frames c.slots) (seat (entry c pid page))
+          (sym (view-own c pid page mapped.0 mapped.1) ∙ ap own_of views ∙ view-own d pid page mapped.0 other
+          ∙ ap (λ o. option_map (bytes_in d.frames d.slots) o) none)),
     )
+
+-- a copy that a process has it had
+pub copy_kept : (old new : Picture) (pid page : ℕ) → IsGranting new → KeepsPages old new → HasCopy new pid page → HasCopy old pid page
+copy_kept old new pid page granting keeps copy = copy_seen new old pid page granting (sym (keeps.at pid page)) (keeps.views pid page) copy
+
+-- a copy that a process had it has
+pub copy_stays : (old new : Picture) (pid page : ℕ) → IsGranting old → KeepsPages old new → HasCopy old pid page → HasCopy new pid page
+copy_stays old new pid page granting keeps copy = copy_seen old new pid page granting (keeps.at pid page) (sym (keeps.views pid page)) copy
 
 pub whole_kept : (old new : Picture) (pid page : ℕ) → ((q : ℕ) → new.root q ≡ old.root q) → KeepsTables old new → IsWhole old pid page → IsWhole new pid page
 whole_kept old new pid page root tables whole r e =
@@ -78,3 +88,28 @@ none_wanted c parent child low high none page from below copy = absurd (copy.1 (
 -- the pages of one table want the same tables
 pub row_whole : (c : Picture) (pid page other : ℕ) → page / 512 ≡ other / 512 → IsWhole c pid page → IsWhole c pid other
 row_whole c pid page other same whole r e = missing_same c.frames page other r same ∙ whole r e
+
+-- a table on the way to a page is on that way still
+way_kept : (old new : Picture) (tried : Option ℕ) (pid page n : ℕ) → GivesForTables old new tried → KeepsPages old new
+    → IsTableOnWay old pid page n → IsTableOnWay new pid page n
+way_kept old new tried pid page n gives keeps way =
+    let below = way.2 in
+    (way.0, keeps.root pid ∙ way.1, (below.0, below.1, way_forth old.frames new.frames gives.pointers 2 way.0 page (suc below.0) n below.2))
+
+-- the tables on the way to one page of which the parent has a copy
+pub links_one : (old new : Picture) (parent child page : ℕ) → HasCopy old parent page → LinksTables old new child page → LinksCopies old new parent child
+links_one old new parent child page copy links n is = elim (links n is) [
+  | inl was ↦ inl was
+  | inr way ↦ inr (page, copy, way)
+]
+
+-- more tables were linked for copies
+pub links_then : (a b c : Picture) (tried : Option ℕ) (parent child : ℕ) → IsGranting b → KeepsPages a b → KeepsPages b c → GivesForTables b c tried
+    → LinksCopies a b parent child → LinksCopies b c parent child → LinksCopies a c parent child
+links_then a b c tried parent child granting before keeps gives links more n is = elim (more n is) [
+  | inl was ↦ elim (links n was) [
+    | inl first ↦ inl first
+    | inr way ↦ inr (way.0, way.1, way_kept b c tried child way.0 n gives keeps way.2)
+  ]
+  | inr way ↦ inr (way.0, copy_kept a b parent way.0 granting before way.1, way.2)
+]

@@ -56,6 +56,7 @@ module _ (old new : Picture) (pid r page e : ℕ) (fit : IsFit old) (root : old.
     tables = tables_same old new (λ q x p lives. sets.missing x p (fit.rooted.roots q x lives));
     roles = λ n. ap (λ rs. get_or rs n Free) sets.kept.roles;
     counts = set_counts old new beside.slots sets.kept;
+    pointers = λ n i m. (sets.pointers n i m).0;
   }
 
 same_beside : (c : Picture) → SameBeside c c
@@ -86,4 +87,5 @@ withdrawn_already c pid page e here weaker = record {
   tables = tables_same c c (λ q r p lives. refl);
   roles = λ n. refl;
   counts = λ z. refl;
+  pointers = λ n i m p. p;
 }

@@ -140,6 +140,7 @@ module _ (old : Picture) (n : ℕ) (fit : IsFit old) (own : role_of old.frames n
         row_same old.frames t fit.rooted.forest trees.forest trees.same r row m table ((trees.tables r).0 table) here);
     raised = shares.raised;
     others = counts;
+    pointers = λ m i k. trees.same.forth m i k;
     bytes = λ k used. refl;
   }
 
@@ -237,5 +238,6 @@ module _ (old : Picture) (k : ℕ) (fit : IsFit old) (own : IsOwned old (InSlot 
     rows = λ q r row m lives here. here;
     raised = shares.raised;
     others = slot_counts;
+    pointers = λ n i m p. p;
     bytes = slot_bytes;
   }

@@ -45,6 +45,7 @@ shares_none c parent child low high same bare none = record {
   raised = λ y p h least under is. (let bad : None ≡ Some y = sym (none p h least under) ∙ is in (cc));
   kept = λ y other. refl;
   no_fewer = λ y. omega arith;
+  pointers = λ n i m p. p;
   bytes = λ k used. refl;
 }
 
@@ -108,6 +109,7 @@ module _ (a b c : Picture) (parent child low mid high : ℕ) (fit : IsFit a) (ap
     kept = λ y other. two.kept y (λ q hq from below there. other q hq (omega (arith, le, from)) below (sym (ap seat (above q hq from)) ∙ there))
         ∙ one.kept y (λ q hq from below. other q hq from (omega (arith, below, le')));
     no_fewer = λ y. (let x = one.no_fewer y in let z = two.no_fewer y in omega (arith, x, z));
+    pointers = λ n i m p. two.pointers n i m (one.pointers n i m p);
     bytes = λ k used. two.bytes k (used_still k used (one.no_fewer (InSlot k))) ∙ one.bytes k used;
   }
 

@@ -4,7 +4,7 @@ use Rattle.vm_types.specs.Limits.{top_level}
 use Rattle.vm_types.specs.declared.file.FilePage.{FilePage}
 use Rattle.frames.specs.FrameTable.{role_of}
 use Rattle.sv39_walk.specs.Entry.{is_valid, can_read, can_write, can_execute, frame_of}
-use Rattle.page_tables.specs.Tree.{IsPage}
+use Rattle.page_tables.specs.Tree.{IsPage, Points}
 use Rattle.page_tables.specs.Places.{IsTableOf}
 use Rattle.swap.specs.Slots.{IsInUse}
 use Rattle.paging.specs.Seats.{Seat, seat, is_private, is_swapped}
@@ -48,6 +48,7 @@ pub record Withdraws (old new : Picture) (pid page number : ℕ) : Type 0 where
   pub tables : KeepsTables old new
   pub roles : (n : ℕ) → role_of new.frames n ≡ role_of old.frames n
   pub counts : (z : Seat) → count_in new z ≡ count_in old z
+  pub pointers : (n i m : ℕ) → Points old.frames n i m → Points new.frames n i m
 
 -- no leaf lets a store through to a seat
 abbrev pub IsUnwritten : Picture → Seat → Type 0
@@ -71,6 +72,7 @@ pub record RaisesSeat (old new : Picture) (y : Seat) : Type 0 where
   pub rows : (q r row n : ℕ) → old.root q ≡ Some r → IsTableOf old.frames r row n → IsTableOf new.frames r row n
   pub raised : count_in new y ≡ count_in old y + 1
   pub others : (z : Seat) → z ≢ y → count_in new z ≡ count_in old z
+  pub pointers : (n i m : ℕ) → Points old.frames n i m → Points new.frames n i m
   pub bytes : (k : ℕ) → IsInUse old.slots k → new.slots.bytes k ≡ old.slots.bytes k
 
 -- Of the pages from low up to, not including, high, the child has a share of each own copy of the parent: its views are the
@@ -90,6 +92,7 @@ pub record SharesRow (old new : Picture) (parent child low high : ℕ) : Type 0 
   pub raised : (y : Seat) (p : ℕ) → IsPage top_level p → low ≤ p → p < high → seat (entry old parent p) ≡ Some y → count_in new y ≡ count_in old y + 1
   pub kept : (y : Seat) → ((p : ℕ) → IsPage top_level p → low ≤ p → p < high → seat (entry old parent p) ≢ Some y) → count_in new y ≡ count_in old y
   pub no_fewer : (y : Seat) → count_in old y ≤ count_in new y
+  pub pointers : (n i m : ℕ) → Points old.frames n i m → Points new.frames n i m
   pub bytes : (k : ℕ) → IsInUse old.slots k → new.slots.bytes k ≡ old.slots.bytes k
 
 -- the entries of the 512 pages of that row of a process stand in table n

@@ -1,10 +1,10 @@
 -- What the steps of a fork need and leave.
 use Rattle.std.specs.Prelude.{◌≡◌, ◌≢◌, ℕ, ◌+◌, ◌*◌, ◌/◌, ◌<◌, ◌≤◌, ◌⊎◌, None}
 use Rattle.vm_types.specs.Limits.{top_level}
-use Rattle.page_tables.specs.Tree.{IsPage}
+use Rattle.page_tables.specs.Tree.{IsPage, IsTable}
 use Rattle.paging.specs.Seats.{seat}
 use Rattle.paging.specs.Picture.{Picture, entry}
-use Rattle.mapping.specs.Changes.{IsWhole}
+use Rattle.mapping.specs.Changes.{IsWhole, IsTableOnWay}
 use Rattle.page_ranges.specs.Steps.{IsGapEnd}
 
 -- the process has a copy of its own of a page, in a frame or in a slot
@@ -26,6 +26,11 @@ HasTablesFrom c parent child low high = (page : ℕ) → low ≤ page → page <
 -- a table is missing for the child on the way to a page of which the parent has a copy of its own
 abbrev pub LacksTable : Picture → ℕ → ℕ → Type 0
 LacksTable c parent child = (page : ℕ) × HasCopy c parent page × (IsWhole c child page → ⊥)
+
+-- Each frame that came to be a table is one of the child's, on the way to a page of which the parent has a copy of its own.
+abbrev pub LinksCopies : Picture → Picture → ℕ → ℕ → Type 0
+LinksCopies old new parent child = (n : ℕ) → IsTable new.frames n
+    → IsTable old.frames n ⊎ ((page : ℕ) × HasCopy old parent page × IsTableOnWay new child page n)
 
 -- where a step over the pages ends: past all pages of the lowest table of a process, or of one that is missing
 abbrev pub IsNextPage : Picture → ℕ → ℕ → ℕ → Type 0

@@ -1,8 +1,8 @@
 //! The child's tables.
-ghost use Rattle.std.specs.Prelude.{◌≡◌, ◌≢◌, ℕ, ◌+◌, ◌*◌, ◌/◌, ◌<◌, ◌≤◌, ◌^◌, true, false, None, OnOk, OnErr, IfOk, IfErr, IfSome, IfNone};
+ghost use Rattle.std.specs.Prelude.{◌≡◌, ◌≢◌, ℕ, ◌+◌, ◌*◌, ◌/◌, ◌<◌, ◌≤◌, ◌^◌, true, false, Option, None, OnOk, OnErr, IfOk, IfErr, IfSome, IfNone};
 ghost use Rattle.vm_types.specs.Limits.{user_end};
 ghost use Rattle.frames.specs.declared.role.Role.TheVariants.{Private};
-ghost use Rattle.frames.specs.FrameTable.{role_of};
+ghost use Rattle.frames.specs.FrameTable.{role_of, IsFull};
 ghost use Rattle.page_tables.specs.Entry.{number_of, IsEntry};
 ghost use Rattle.swap.specs.Slots.{IsReady};
 ghost use Rattle.paging.specs.Seats.{seat};
@@ -10,8 +10,9 @@ ghost use Rattle.paging.specs.Picture.{picture_of, entry, is_live};
 ghost use Rattle.paging.specs.Parts.{IsFit};
 ghost use Rattle.paging.specs.Calls.{KeepsPages, StallCause};
 ghost use Rattle.paging.specs.Capacity.{IsShort};
+ghost use Rattle.paging.specs.Ages.{GivesForTables};
 ghost use Rattle.mapping.specs.Changes.{IsWhole, KeepsBare, Moves};
-ghost use Rattle.copy_on_write.specs.Steps.{HasCopy, HasTables, HasTablesFrom, LacksTable, IsNextPage};
+ghost use Rattle.copy_on_write.specs.Steps.{HasCopy, HasTables, HasTablesFrom, LacksTable, LinksCopies, IsNextPage};
 
 use disk_model::SectorDisk;
 use mapping::{link_tables, root_of};
@@ -43,10 +44,16 @@ pub fn link_copies<D, E: SectorDisk>(
     ensures linked { OnOk result (HasTables (picture_of core.new) parent child) }
     ensures idle { HasTables (picture_of core.old) parent child → core.new ≡ core.old }
     ensures wanted { OnErr result (LacksTable (picture_of core.old) parent child) }
+    ensures lacks { OnErr result (LacksTable (picture_of core.new) parent child) }
+    ensures gives { OnOk result (GivesForTables (picture_of core.old) (picture_of core.new) None) }
+    ensures tried { OnErr result ((tried : Option ℕ) × GivesForTables (picture_of core.old) (picture_of core.new) tried) }
+    ensures tables { LinksCopies (picture_of core.old) (picture_of core.new) parent child }
+    ensures full { OnErr result (IsFull core.new.frames) }
     ensures no_copy { (n : ℕ) → role_of core.new.frames n ≡ Private → role_of core.old.frames n ≡ Private }
     ensures short { IfErr result (IsShort (picture_of core.new)) }
     ensures cause { IfErr result (StallCause E.SectorDisk core.old core.new) }
     ensures not_refused { OnOk result (core.new.refused.number ≡ core.old.refused.number) }
+    ensures swap_calm { OnOk result (E.failures core.new.swap.pages.disk ≡ E.failures core.old.swap.pages.disk) }
 {
     let mut number = USER_START;
     while let Some(page) = Vpn::new(number) {
@@ -76,10 +83,16 @@ fn link_next<D, E: SectorDisk>(
     ensures linked { IfOk result (HasTablesFrom (picture_of core.new) parent child page) }
     ensures idle { HasTables (picture_of core.old) parent child → core.new ≡ core.old }
     ensures wanted { OnErr result (LacksTable (picture_of core.old) parent child) }
+    ensures lacks { OnErr result (LacksTable (picture_of core.new) parent child) }
+    ensures gives { OnOk result (GivesForTables (picture_of core.old) (picture_of core.new) None) }
+    ensures tried { OnErr result ((tried : Option ℕ) × GivesForTables (picture_of core.old) (picture_of core.new) tried) }
+    ensures tables { LinksCopies (picture_of core.old) (picture_of core.new) parent child }
+    ensures full { OnErr result (IsFull core.new.frames) }
     ensures no_copy { (n : ℕ) → role_of core.new.frames n ≡ Private → role_of core.old.frames n ≡ Private }
     ensures short { IfErr result (IsShort (picture_of core.new)) }
     ensures cause { IfErr result (StallCause E.SectorDisk core.old core.new) }
     ensures not_refused { OnOk result (core.new.refused.number ≡ core.old.refused.number) }
+    ensures swap_calm { OnOk result (E.failures core.new.swap.pages.disk ≡ E.failures core.old.swap.pages.disk) }
 {
     if let Some(next) = gap_end(core, parent, page) {
         return Ok(next);

@@ -192,13 +192,13 @@ module _ (old mid : Picture) (parent child : ℕ) (ready : IsReadied old mid par
     bare_past : (pid page : ℕ) → IsPage 2 page → ((16 ≤ page) × (page < 2 ^ 26) → ⊥) → entry mid pid page ≡ 0
     bare_past pid page h out = bare_page mid pid page ready.fit (past_none mid pid page ready.fit.granting out) h
 
-    lowered : (page : ℕ) → IsPage 2 page → entry new parent page ≡ lowered_entry (entry mid parent page)
+    pub lowered : (page : ℕ) → IsPage 2 page → entry new parent page ≡ lowered_entry (entry mid parent page)
     lowered page h = elim (sides page) [
       | inl user ↦ shares.lowered page h user.0 user.1
       | inr out ↦ (let none = bare_past parent page h out.1 in shares.others parent page h (inr out.0) ∙ none ∙ sym zero_lowered ∙ sym (ap lowered_entry none))
     ]
 
-    given : (page : ℕ) → IsPage 2 page → entry new child page ≡ given_entry (entry mid parent page)
+    pub given : (page : ℕ) → IsPage 2 page → entry new child page ≡ given_entry (entry mid parent page)
     given page h = elim (sides page) [
       | inl user ↦ shares.given page h user.0 user.1
       | inr out ↦ shares.others child page h (inr out.0) ∙ ready.bare page h ∙ sym zero_given ∙ sym (ap given_entry (bare_past parent page h out.1))

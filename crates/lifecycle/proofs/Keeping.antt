@@ -1,11 +1,14 @@
 -- What steps keep of the processes and of the files.
-use Rattle.std.proofs.Common.{◌≡◌, ℕ, inl, inr, Option, Some, None, false, refl, sym, ap, ◌∙◌}
+use Rattle.std.proofs.Common.{◌≡◌, ℕ, inl, inr, Option, Some, None, false, refl, sym, ap, ◌∙◌, subst}
 use Rattle.std.specs.Prelude.{is_some}
 use Rattle.std.proofs.lemmas.Bool.{false≢true}
 use Rattle.vm_types.specs.declared.number.FrameNo.{FrameNo}
 use Rattle.frames.specs.declared.role.Role.TheVariants.{Free, Private}
-use Rattle.paging.specs.Picture.{Picture, is_live}
+use Rattle.frames.specs.FrameTable.{FrameTable, frame_count, role_of}
+use Rattle.page_tables.specs.Tree.{Points}
+use Rattle.paging.specs.Picture.{Picture, is_live, entry}
 use Rattle.paging.specs.Calls.{KeepsPages, Frees}
+use Rattle.paging.specs.Ages.{Same, GivesForTables}
 use Rattle.paging.specs.Shows.{KeepsFiles}
 use Rattle.lifecycle.specs.Changes.{KeepsProcesses, TakesNoCopy}
 
@@ -40,3 +43,13 @@ no_copy_freed old new keep frees n is = elim (frees.roles n) [
   | inl same ↦ sym same ∙ is
   | inr freed ↦ (let bad : Free ≡ Private = sym freed.0 ∙ is in (cc))
 ]
+
+-- nothing is given up where frames and entries are the same
+pub gives_alike : (old new : Picture) → new.frames ≡ old.frames → ((q page : ℕ) → entry new q page ≡ entry old q page) → GivesForTables old new None
+gives_alike old new frames entries = record {
+  count = ap frame_count frames;
+  roles = λ n. inl (ap (λ t. role_of t n) frames);
+  entries = λ q page h. Same (entries q page);
+  pointers = λ n i m points. (let P : FrameTable → Type 0 = λ t. Points t n i m in subst P (sym frames) points);
+  needed = inr (record { roles = λ n held. ap (λ t. role_of t n) frames; entries = λ q page h. entries q page });
+}

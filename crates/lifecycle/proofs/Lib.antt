@@ -5,3 +5,5 @@ pub mod Ending
 pub mod Alike
 pub mod Shortage
 pub mod Copying
+pub mod Taking
+pub mod Stalling

@@ -1,5 +1,5 @@
 -- A process comes.
-use Rattle.std.proofs.Common.{◌≡◌, ◌≢◌, ℕ, inl, inr, None, sym, ap, ◌∙◌, arith}
+use Rattle.std.proofs.Common.{◌≡◌, ◌≢◌, ℕ, inl, inr, None, sym, ap, ◌∙◌, subst, arith}
 use Rattle.std.specs.Prelude.{is_some}
 use Rattle.std.proofs.lemmas.Bool.{cases_eq}
 use Rattle.frames.specs.declared.role.Role.{Role}
@@ -12,6 +12,9 @@ use Rattle.paging.specs.Parts.{IsFit}
 use Rattle.paging.specs.Calls.{ObtainsTable}
 use Rattle.paging.specs.Steps.{Spawns}
 use Rattle.paging.specs.Shows.{KeepsFiles}
+use Rattle.paging.specs.Ages.{GivesForTables, KeepsRolesBut}
+use Rattle.paging.proofs.Aging.{gives_then}
+use Rattle.paging.proofs.Start.{entry-dead}
 use Rattle.paging.proofs.Entries.{entry-same}
 use Rattle.paging.proofs.LeafSteps.{cases_attr}
 use Rattle.mapping.proofs.Spawning.{bare_started}
@@ -20,7 +23,7 @@ use Rattle.paging.proofs.Setting.{view_seated, held_same}
 use Rattle.mapping.specs.Changes.{KeepsBare, KeepsRoom}
 use Rattle.mapping.proofs.Steps.{bare_freed}
 use Rattle.lifecycle.specs.Changes.{AddsProcess, TakesRoot, TakesNoCopy}
-use Rattle.lifecycle.proofs.Keeping.{live_same, files_then, no_copy_freed}
+use Rattle.lifecycle.proofs.Keeping.{live_same, files_then, no_copy_freed, gives_alike}
 
 -- A frame was obtained and taken for a table, and that is the root of a process that was made.
 module _ (old mid new : Picture) (pid n : ℕ) (obtains : ObtainsTable old mid n) (spawns : Spawns mid new pid n) where
@@ -72,8 +75,8 @@ module _ (old mid new : Picture) (pid n : ℕ) (obtains : ObtainsTable old mid n
     others = others_seen;
   }
 
-  pub root_taken : TakesRoot old new pid n
-  root_taken = record {
+  pub root_taken : KeepsRolesBut old mid n → TakesRoot old new pid n
+  root_taken only = record {
     was_free = elim (obtains.frees.roles n) [
       | inl same ↦ inl (sym same ∙ obtains.adds.takes.was_free)
       | inr freed ↦ inr freed.1
@@ -81,15 +84,24 @@ module _ (old mid new : Picture) (pid n : ℕ) (obtains : ObtainsTable old mid n
     table = ap (λ t. role_of t n) spawns.frames ∙ obtains.adds.takes.kind_set;
     root = spawns.lives;
     others = λ q ne. root_same q ne ∙ obtains.frees.pages.root q;
-    roles = λ m ne. elim (obtains.frees.roles m) [
-      | inl same ↦ inl (role_same m ne ∙ same)
-      | inr freed ↦ inr (role_same m ne ∙ freed.0, freed.1)
-    ];
+    roles = λ m ne. ap (λ t. role_of t m) spawns.frames ∙ only m ne;
     frames = ap frame_count spawns.frames ∙ obtains.adds.takes.others.frames ∙ obtains.frees.count;
     missing = λ q r page e. (
         ap (λ t. missing_of t 2 r page) spawns.frames
         ∙ obtains.adds.missing r page (fit.rooted.roots q r (obtains.frees.pages.root q ∙ e)) ∙ obtains.frees.missing q r page e);
   }
+
+  -- the process has no entry, and it had none
+  entries_spawned : (q p : ℕ) → entry new q p ≡ entry mid q p
+  entries_spawned q p = elim (cases_eq q pid) [
+    | inl is ↦ (
+        let P : ℕ → Type 0 = λ x. entry new x p ≡ entry mid x p in
+        subst P (sym is) (bare_started old mid new pid n obtains spawns p ∙ sym (entry-dead mid pid p spawns.was_free)))
+    | inr ne ↦ entry-same mid new q p (spawns.others q ne) (λ x e. ap (λ t. page_entry t 2 x p) spawns.frames)
+  ]
+
+  pub root_given : GivesForTables old mid None → GivesForTables old new None
+  root_given gives = gives_then old mid new None gives (gives_alike mid new spawns.frames entries_spawned)
 
   pub bare_kept : KeepsBare old new
   bare_kept q p h none = elim (cases_eq q pid) [

@@ -6,13 +6,18 @@ use Rattle.vm_types.specs.Capacity.{tables_of}
 use Rattle.vm_types.specs.declared.refusal.Stall.{Stall}
 use Rattle.vm_types.specs.declared.refusal.Stall.TheVariants.{NoFrames, NoSwap, SwapDevice, StoreDevice}
 use Rattle.frames.specs.declared.role.Role.TheVariants.{Free, Table, Private}
-use Rattle.frames.specs.FrameTable.{FrameTable, frame_count, role_of}
+use Rattle.frames.specs.FrameTable.{FrameTable, frame_count, role_of, IsFull}
 use Rattle.sv39_walk.specs.Entry.{is_valid, can_write}
 use Rattle.page_tables.specs.Tree.{IsPage, IsTable, IsOnWay, missing_of}
 use Rattle.paging.specs.Seats.{seat, is_private}
 use Rattle.paging.specs.Picture.{Picture, is_live, is_data, entry, view}
 use Rattle.paging.specs.Capacity.{tables_over, copies_over}
 use Rattle.paging.specs.Shows.{KeepsFiles}
+use Rattle.paging.specs.Parts.{IsFit}
+use Rattle.paging.specs.Ages.{Ages, IsGiven, GivesForTables}
+use Rattle.mapping.specs.Changes.{IsTableOnWay}
+use Rattle.copy_on_write.specs.Steps.{HasCopy, LacksTable}
+use Rattle.copy_on_write.specs.Shares.{lowered_entry, given_entry}
 
 -- a process came, with these pages, and every other process is as it was
 pub record AddsProcess (old new : Picture) (pid : ℕ) (space : ℕ → Option View) : Type 0 where
@@ -34,13 +39,13 @@ pub record KeepsProcesses (old new : Picture) : Type 0 where
   pub views : (pid page : ℕ) → view new pid page ≡ view old pid page
 
 -- A frame that was free, or that held a page of a process or of a file, is a table now, the root of that process. Every other
--- frame has the use that it had, or held a page and is free. No table came or went on the way to a page of another process.
+-- frame has the use that it had. No table came or went on the way to a page of another process.
 pub record TakesRoot (old new : Picture) (pid n : ℕ) : Type 0 where
   pub was_free : (role_of old.frames n ≡ Free) ⊎ (is_data (role_of old.frames n) ≡ true)
   pub table : role_of new.frames n ≡ Table
   pub root : new.root pid ≡ Some n
   pub others : (q : ℕ) → q ≢ pid → new.root q ≡ old.root q
-  pub roles : (m : ℕ) → m ≢ n → (role_of new.frames m ≡ role_of old.frames m) ⊎ ((role_of new.frames m ≡ Free) × (is_data (role_of old.frames m) ≡ true))
+  pub roles : (m : ℕ) → m ≢ n → role_of new.frames m ≡ role_of old.frames m
   pub frames : frame_count new.frames ≡ frame_count old.frames
   pub missing : (q r page : ℕ) → old.root q ≡ Some r → missing_of new.frames top_level r page ≡ missing_of old.frames top_level r page
 
@@ -70,6 +75,41 @@ pub record SharesCopies (c : Picture) (parent child : ℕ) : Type 0 where
   pub shared : (page : ℕ) → IsPage top_level page → seat (entry c parent page) ≢ None → entry c child page ≡ entry c parent page
   pub bare : (page : ℕ) → IsPage top_level page → seat (entry c parent page) ≡ None → entry c child page ≡ 0
   pub unwritten : (page : ℕ) → IsPage top_level page → is_private (entry c parent page) ≡ true → is_valid (entry c parent page) ≡ true → can_write (entry c parent page) ≡ false
+
+-- Until the pages were shared entries lost A alone, or their frames, which were given up for tables; none did unless no frame is
+-- free now. Then the child's were given from the parent's, which have no W since, and those of other processes stayed.
+pub record ForksEntries (old new : Picture) (parent child : ℕ) : Type 0 where
+  pub aged : ℕ → ℕ → ℕ
+  pub ages : (q page : ℕ) → IsPage top_level page → Ages (IsGiven old new None) (entry old q page) (aged q page)
+  pub needed : IsFull new.frames ⊎ ((q page : ℕ) → IsPage top_level page → aged q page ≡ entry old q page)
+  pub lowered : (page : ℕ) → IsPage top_level page → entry new parent page ≡ lowered_entry (aged parent page)
+  pub given : (page : ℕ) → IsPage top_level page → entry new child page ≡ given_entry (aged parent page)
+  pub others : (q page : ℕ) → q ≢ parent → q ≢ child → IsPage top_level page → entry new q page ≡ aged q page
+
+-- Frames became tables of the child: its root, or one on the way to a page of which the parent has a copy of its own. Some were
+-- given up for that, none unless no frame is free now. Of other frames none has another use.
+pub record TakesTables (old new : Picture) (parent child : ℕ) : Type 0 where
+  pub roles : (n : ℕ) → (role_of new.frames n ≡ role_of old.frames n)
+      ⊎ ((role_of new.frames n ≡ Table) × ((role_of old.frames n ≡ Free) ⊎ (is_data (role_of old.frames n) ≡ true)))
+  pub linked : (n : ℕ) → IsTable new.frames n
+      → IsTable old.frames n ⊎ ((new.root child ≡ Some n) ⊎ ((page : ℕ) × HasCopy old parent page × IsTableOnWay new child page n))
+  pub needed : IsFull new.frames ⊎ ((n : ℕ) → is_data (role_of old.frames n) ≡ true → role_of new.frames n ≡ role_of old.frames n)
+
+-- Why and how a fork stalled, by memory as it was when a frame was refused: no frame was free, and the child had no root or lacked a
+-- table on the way to a page of which the parent has a copy of its own. Until then frames became the child's tables alone, and some
+-- were given up for that. Since then those tables came to be free, and nothing else changed.
+pub record StallsToFork (old new : Picture) (parent child : ℕ) : Type 0 where
+  pub asked : Picture
+  pub fit : IsFit asked
+  pub tried : Option ℕ
+  pub gives : GivesForTables old asked tried
+  pub linked : (n : ℕ) → IsTable asked.frames n
+      → IsTable old.frames n ⊎ ((asked.root child ≡ Some n) ⊎ ((page : ℕ) × HasCopy old parent page × IsTableOnWay asked child page n))
+  pub full : IsFull asked.frames
+  pub lacking : (asked.root child ≡ None) ⊎ LacksTable asked parent child
+  pub roles : (n : ℕ) → (role_of new.frames n ≡ role_of asked.frames n) ⊎ ((role_of new.frames n ≡ Free) × IsTable asked.frames n)
+  pub tables : (n : ℕ) → IsTable new.frames n → IsTable old.frames n
+  pub entries : (q page : ℕ) → q ≢ child → IsPage top_level page → entry new q page ≡ entry asked q page
 
 -- a page of any process but one that had no entry has none
 abbrev pub KeepsBareOfOthers : Picture → Picture → ℕ → Type 0

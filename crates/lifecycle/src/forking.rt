@@ -6,7 +6,7 @@ ghost use Rattle.paging.specs.Parts.{IsFit};
 ghost use Rattle.paging.specs.Calls.{KeepsBesideProcesses, UsesDevice, StallCause};
 ghost use Rattle.paging.specs.Shows.{KeepsFiles};
 ghost use Rattle.mapping.specs.Changes.{KeepsRoom, KeepsTables};
-ghost use Rattle.lifecycle.specs.Changes.{AddsProcess, KeepsProcesses, KeepsBareOfOthers, MapsAlike, SharesCopies, TakesNoCopy, IsShortToFork};
+ghost use Rattle.lifecycle.specs.Changes.{AddsProcess, KeepsProcesses, KeepsBareOfOthers, MapsAlike, SharesCopies, ForksEntries, TakesTables, StallsToFork, TakesNoCopy, IsShortToFork};
 
 use crate::{exit, spawn};
 use copy_on_write::{link_copies, share_pages};
@@ -33,6 +33,9 @@ pub fn fork<D, E: SectorDisk>(core: &mut Core<D, E>, parent: Pid, child: Pid) ->
     ensures ok { OnOk result (AddsProcess (picture_of core.old) (picture_of core.new) child (view (picture_of core.old) parent)) }
     ensures err { OnErr result (KeepsProcesses (picture_of core.old) (picture_of core.new)) }
     ensures shared { OnOk result (SharesCopies (picture_of core.new) parent child) }
+    ensures entries { OnOk result (ForksEntries (picture_of core.old) (picture_of core.new) parent child) }
+    ensures takes { OnOk result (TakesTables (picture_of core.old) (picture_of core.new) parent child) }
+    ensures stalls { OnErr result (StallsToFork (picture_of core.old) (picture_of core.new) parent child) }
     ensures bare { KeepsBareOfOthers (picture_of core.old) (picture_of core.new) child }
     ensures tables { OnOk result (KeepsTables (picture_of core.old) (picture_of core.new)) }
     ensures files { KeepsFiles (picture_of core.old) (picture_of core.new) }
@@ -43,6 +46,7 @@ pub fn fork<D, E: SectorDisk>(core: &mut Core<D, E>, parent: Pid, child: Pid) ->
     ensures short { IfErr result (IsShortToFork (picture_of core.old) parent) }
     ensures cause { IfErr result (StallCause E.SectorDisk core.old core.new) }
     ensures not_refused { OnOk result (core.new.refused.number ≡ core.old.refused.number) }
+    ensures swap_calm { OnOk result (E.failures core.new.swap.pages.disk ≡ E.failures core.old.swap.pages.disk) }
 {
     spawn(core, child)?;
     map_alike(core, parent, child);

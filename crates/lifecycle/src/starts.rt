@@ -1,10 +1,12 @@
 //! A process comes.
-ghost use Rattle.std.specs.Prelude.{◌≡◌, ℕ, false, None, OnOk, OnErr, IfErr};
+ghost use Rattle.std.specs.Prelude.{◌≡◌, ℕ, false, Option, None, OnOk, OnErr, IfErr};
 ghost use Rattle.swap.specs.Slots.{IsReady};
 ghost use Rattle.paging.specs.Picture.{picture_of, is_live};
 ghost use Rattle.paging.specs.Parts.{IsFit};
 ghost use Rattle.paging.specs.Calls.{Frees, UsesDevice, StallCause};
 ghost use Rattle.paging.specs.Capacity.{IsShort};
+ghost use Rattle.paging.specs.Ages.{GivesForTables, KeepsRoles};
+ghost use Rattle.frames.specs.FrameTable.{IsFull};
 ghost use Rattle.paging.specs.Shows.{KeepsFiles};
 ghost use Rattle.mapping.specs.Changes.{KeepsBare, KeepsRoom};
 ghost use Rattle.lifecycle.specs.Changes.{AddsProcess, KeepsProcesses, TakesRoot, TakesNoCopy};
@@ -27,6 +29,10 @@ pub fn spawn<D, E: SectorDisk>(core: &mut Core<D, E>, pid: Pid) -> Result<(), St
     ensures ok { OnOk result (AddsProcess (picture_of core.old) (picture_of core.new) pid (λ page. None)) }
     ensures err { OnErr result (KeepsProcesses (picture_of core.old) (picture_of core.new)) }
     ensures taken { OnOk result ((n : ℕ) × TakesRoot (picture_of core.old) (picture_of core.new) pid n) }
+    ensures gives { OnOk result (GivesForTables (picture_of core.old) (picture_of core.new) None) }
+    ensures tried { OnErr result ((tried : Option ℕ) × GivesForTables (picture_of core.old) (picture_of core.new) tried) }
+    ensures still { OnErr result (KeepsRoles (picture_of core.old) (picture_of core.new)) }
+    ensures full { OnErr result (IsFull core.new.frames) }
     ensures frees { OnErr result (Frees (picture_of core.old) (picture_of core.new) None) }
     ensures bare { KeepsBare (picture_of core.old) (picture_of core.new) }
     ensures copies { TakesNoCopy core.old.frames core.new.frames }
@@ -37,6 +43,7 @@ pub fn spawn<D, E: SectorDisk>(core: &mut Core<D, E>, pid: Pid) -> Result<(), St
     ensures short { IfErr result (IsShort (picture_of core.new)) }
     ensures cause { IfErr result (StallCause E.SectorDisk core.old core.new) }
     ensures not_refused { OnOk result (core.new.refused.number ≡ core.old.refused.number) }
+    ensures swap_calm { OnOk result (E.failures core.new.swap.pages.disk ≡ E.failures core.old.swap.pages.disk) }
 {
     let root = core.take_table()?;
     core.add_process(pid, root);

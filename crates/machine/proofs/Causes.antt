@@ -1,11 +1,11 @@
 -- What an msync's answer comes from.
-use Rattle.std.proofs.Common.{◌≡◌, ◌≢◌, ◌<◌, ◌≤◌, false, refl, sym, ap, ◌∙◌, subst, arith}
+use Rattle.std.proofs.Common.{◌≡◌, ◌≢◌, ◌<◌, ◌≤◌, true, false, refl, sym, ap, ◌∙◌, subst, arith}
 use Rattle.disk_model.specs.declared.sector_disk.SectorDisk.{Ghosts}
 use Rattle.disk_model.specs.declared.ghost_data.Count.{Count}
 use Rattle.paging.specs.declared.kernel.Core.{Core}
 use Rattle.paging.specs.Reading.{ReadCause}
 use Rattle.calls.specs.Calls.{IsCaused}
-use Rattle.calls.specs.Idle.{names_store, refused_count}
+use Rattle.calls.specs.Idle.{names_store, names_swap, refused_count}
 use Rattle.vm_types.specs.declared.refusal.Errno.TheVariants.{EIO}
 use Rattle.vm_types.specs.declared.refusal.Stall.{Stall}
 use Rattle.vm_types.specs.declared.refusal.Stall.TheVariants.{SwapDevice}
@@ -41,6 +41,13 @@ none_refused Halted only = refl
 failure_named : (a : Answer) → names_store (reply_of a) ≡ false → a ≢ Refused EIO
 failure_named a calm is = absurd (let named : names_store (reply_of (Refused EIO)) ≡ false = subst (λ (b : Answer). names_store (reply_of b) ≡ false) is calm in cc)
 
+-- an answer that doesn't name the swap device, where only that one stalls, is no stall
+unstalled : (a : Answer) → ((stall : Stall) → a ≡ Stalled stall → stall ≡ SwapDevice) → names_swap (reply_of a) ≡ false → (stall : Stall) → a ≢ Stalled stall
+unstalled a only calm stall is =
+    let named : names_swap (reply_of (Stalled SwapDevice)) ≡ false =
+    subst (λ (b : Answer). names_swap (reply_of b) ≡ false) (is ∙ ap (λ (x : Stall). Stalled x) (only stall is)) calm in
+    absurd (let never : true ≡ false = named in cc)
+
 module _ {D E : Type 0} (g : Ghosts D) (h : Ghosts E) where
   stall_cause : (old new : Core D E) (stall : Stall) → stall ≡ SwapDevice → new.refused ≡ old.refused → g.failures new.store.disk ≡ g.failures old.store.disk
       → h.failures old.swap.pages.disk < h.failures new.swap.pages.disk → ReadCause g h old new stall
@@ -51,11 +58,13 @@ module _ {D E : Type 0} (g : Ghosts D) (h : Ghosts E) where
       → (a ≡ Refused EIO → g.failures old.store.disk < g.failures new.store.disk)
       → (a ≢ Refused EIO → g.failures new.store.disk ≡ g.failures old.store.disk)
       → ((stall : Stall) → a ≡ Stalled stall → (stall ≡ SwapDevice) × (h.failures old.swap.pages.disk < h.failures new.swap.pages.disk))
+      → (((stall : Stall) → a ≢ Stalled stall) → h.failures new.swap.pages.disk ≡ h.failures old.swap.pages.disk)
       → new.refused ≡ old.refused → IsCaused g h old new (reply_of a)
-  msync_caused old new a later swap_later cause calm stalled refused = record {
+  msync_caused old new a later swap_later cause calm stalled still refused = record {
     later = later;
     swap_later = swap_later;
     calm = λ names. calm (failure_named a names);
+    swap_calm = λ names. still (unstalled a (λ stall is. (stalled stall is).0) names);
     counted = omega (arith, ap (λ (c : Count). c.number) refused, none_refused a (λ stall is. (stalled stall is).0));
     failed = λ r. cause (refused_so a EIO r);
     stalled = λ stall r.

@@ -8,7 +8,7 @@ use Rattle.vm_types.specs.declared.refusal.Stall.{Stall}
 use Rattle.vm_types.specs.declared.refusal.Stall.TheVariants.{NoFrames, NoSwap, SwapDevice, StoreDevice}
 use Rattle.vm_types.specs.declared.reply.Reply.{Reply}
 use Rattle.vm_types.specs.declared.reply.Reply.TheVariants.{Process, Address, Done, Value, Faulted, Refused, Stalled, Halted, Past}
-use Rattle.calls.specs.Idle.{names_store, refused_count}
+use Rattle.calls.specs.Idle.{names_store, names_swap, refused_count}
 use Rattle.machine.specs.Chain.{Caused}
 use Rattle.machine.specs.Counts.{failed_count, swap_failed_count, Counts}
 use Rattle.machine.specs.Machine.{IsCaused}
@@ -76,9 +76,14 @@ module _ {D E : Type 0} (g : Ghosts D) (h : Ghosts E) where
       → g.failures new.core.store.disk ≡ g.failures old.core.store.disk
   calm_once old new reply is none = is.calm (not_counted (names_store reply) (failed_count reply) refl none)
 
+  -- where it doesn't name the swap device
+  swap_calm_once : (old new : Machine D E) (reply : Reply) → IsCaused g h old new reply → swap_failed_count reply ≡ 0
+      → h.failures new.core.swap.pages.disk ≡ h.failures old.core.swap.pages.disk
+  swap_calm_once old new reply is none = is.swap_calm (not_counted (names_swap reply) (swap_failed_count reply) refl none)
+
   pub counts : (old : Machine D E) (replies : List Reply) (new : Machine D E) → Caused g h old replies new → Counts g h old new replies
   counts old [] new same =
-      subst (λ (m : Machine D E). Counts g h old m []) (sym same) (record { refused = omega arith; failed = omega arith; swap_failed = omega arith; calm = λ none. refl })
+      subst (λ (m : Machine D E). Counts g h old m []) (sym same) (record { refused = omega arith; failed = omega arith; swap_failed = omega arith; calm = λ none. refl; swap_calm = λ none. refl })
   counts old (r ∷ rs) new c =
       let mid = c.0 in
       let rest = counts mid rs new c.2 in
@@ -92,4 +97,8 @@ module _ {D E : Type 0} (g : Ghosts D) (h : Ghosts E) where
             let here : failed_count r ≡ 0 = omega (arith, none, sum_by-cons failed_count r rs) in
             let there : sum_by failed_count rs ≡ 0 = omega (arith, none, sum_by-cons failed_count r rs) in
             rest.calm there ∙ calm_once old mid r c.1 here;
+        swap_calm = λ none.
+            let here : swap_failed_count r ≡ 0 = omega (arith, none, sum_by-cons swap_failed_count r rs) in
+            let there : sum_by swap_failed_count rs ≡ 0 = omega (arith, none, sum_by-cons swap_failed_count r rs) in
+            rest.swap_calm there ∙ swap_calm_once old mid r c.1 here;
       }

@@ -15,6 +15,7 @@ use Rattle.paging.specs.Shows.{ShowsPages}
 use Rattle.paging.specs.declared.kernel.Core.{Core}
 use Rattle.mapping.specs.Changes.{KeepsRoom}
 use Rattle.page_ranges.specs.Steps.{KeepsDevices}
+use Rattle.page_faults.proofs.Slotted.{slotted_same}
 use Rattle.msync.specs.Shows as Syncing
 use Rattle.calls.specs.Accesses.{AsksFor}
 use Rattle.calls.specs.Calls as Calls
@@ -52,18 +53,31 @@ halted_of (Some x) e = (x, refl)
 no_stall : (stall : Stall) → Halted ≡ Reply.Stalled stall → ⊥
 no_stall stall e = cc
 
+no_process : (pid : ℕ) → Halted ≡ Reply.Process pid → ⊥
+no_process pid e = cc
+
 same_stall : (stall other : Stall) → Reply.Stalled stall ≡ Reply.Stalled other → stall ≡ other
 same_stall stall other e = cc
 
 halted_asks : {D E : Type 0} (c : Core D E) (pid addr : ℕ) (access : Access) → AsksFor c c pid addr access Halted
-halted_asks c pid addr access = record { wanted = λ stall e. absurd (no_stall stall e); home = λ e. absurd (no_stall StoreDevice e); read = inl refl; slots = λ none. refl }
+halted_asks c pid addr access = record { wanted = λ stall e. absurd (no_stall stall e); home = λ e. absurd (no_stall StoreDevice e); read = inl refl; slots = λ none. refl; slotted = slotted_same _ _ (picture_of c) }
 
 halted_accesses : {D E : Type 0} (c : Core D E) (command : Command) → Accesses c c command Halted
 halted_accesses c (Load pid addr width) = (halted_asks c pid addr Kinds.Load, λ place walked. refl)
 halted_accesses c (Fetch pid addr) = (halted_asks c pid addr Kinds.Fetch, λ place walked. refl)
 halted_accesses c (Store pid addr stored) = (halted_asks c pid addr Kinds.Store, λ place walked done. absurd (let never : Halted ≡ Done = done in cc))
-halted_accesses c Spawn = tt
-halted_accesses c (Fork pid) = tt
+halted_accesses c Spawn = record {
+  root = λ pid e. absurd (no_process pid e);
+  gives = λ pid e. absurd (no_process pid e);
+  tried = λ stall e. absurd (no_stall stall e);
+  still = λ stall e. absurd (no_stall stall e);
+  full = λ stall e. absurd (no_stall stall e);
+}
+halted_accesses c (Fork pid) = record {
+  entries = λ child e. absurd (no_process child e);
+  tables = λ child e. absurd (no_process child e);
+  stalls = λ stall e. absurd (no_stall stall e);
+}
 halted_accesses c (Exit pid) = tt
 halted_accesses c (Mmap pid addr len prot source placing) = tt
 halted_accesses c (Munmap pid addr len) = tt

@@ -1,9 +1,10 @@
--- What a load, a store and a fetch ask for, and when they change nothing.
+-- What a load, a store and a fetch ask for, and when they change nothing; and what a spawn and a fork take of memory.
 use Rattle.std.specs.Prelude.{◌≡◌, ◌/◌, ◌%◌}
 use Rattle.page_faults.specs.Outcome.{IsWalked}
 use Rattle.paging.specs.Picture.{picture_of}
 use Rattle.paging.specs.declared.kernel.Core.{Core}
 use Rattle.calls.specs.Accesses.{AsksFor, WritesNumber}
+use Rattle.calls.specs.Processes.{ForkTakes, SpawnTakes}
 use Rattle.vm_types.specs.declared.access.Access.TheVariants as Access
 use Rattle.vm_types.specs.declared.command.Command.{Command}
 use Rattle.vm_types.specs.declared.command.Command.TheVariants.{Spawn, Fork, Exit, Mmap, Munmap, Mprotect, Dontneed, Msync, Load, Store, Fetch, PastFaults}
@@ -13,7 +14,8 @@ use Rattle.vm_types.specs.declared.reply.Reply.TheVariants.{Done}
 use Rattle.vm_types.specs.declared.width.Width.TheVariants.{Four}
 
 module _ {D E : Type 0} where
-  -- An access asks for no more than it wants. Where the tables grant it nothing changes, but the number that a store writes.
+  -- An access asks for no more than it wants. Where the tables grant it nothing changes, but the number that a store writes. A spawn
+  -- and a fork take frames for tables alone, and give others up only for that.
   abbrev pub Accesses : Core D E → Core D E → Command → Reply → Type 0
   Accesses old new (Load pid addr width) reply =
       AsksFor old new pid addr Access.Load reply × ((place : Phys) → IsWalked (picture_of old) pid addr width Access.Load place → new ≡ old)
@@ -22,8 +24,8 @@ module _ {D E : Type 0} where
   Accesses old new (Store pid addr stored) reply =
       AsksFor old new pid addr Access.Store reply × ((place : Phys) → IsWalked (picture_of old) pid addr stored.width Access.Store place
       → reply ≡ Done → WritesNumber old new (place.0 / 4096) (addr % 4096) stored)
-  Accesses old new Spawn reply = Unit {0}
-  Accesses old new (Fork pid) reply = Unit {0}
+  Accesses old new Spawn reply = SpawnTakes (picture_of old) (picture_of new) reply
+  Accesses old new (Fork pid) reply = ForkTakes (picture_of old) (picture_of new) pid reply
   Accesses old new (Exit pid) reply = Unit {0}
   Accesses old new (Mmap pid addr len prot source placing) reply = Unit {0}
   Accesses old new (Munmap pid addr len) reply = Unit {0}

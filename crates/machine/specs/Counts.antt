@@ -1,41 +1,24 @@
 -- How often devices failed and requests for a frame were refused in a run, by its replies. Our own.
 use Rattle.std.specs.Prelude.{ℕ, ◌+◌, ◌≡◌, ◌≤◌, List, sum_by, if◌then◌else◌}
 use Rattle.disk_model.specs.declared.sector_disk.SectorDisk.{Ghosts}
-use Rattle.vm_types.specs.declared.refusal.Stall.{Stall}
-use Rattle.vm_types.specs.declared.refusal.Stall.TheVariants.{NoFrames, NoSwap, SwapDevice, StoreDevice}
 use Rattle.vm_types.specs.declared.reply.Reply.{Reply}
-use Rattle.vm_types.specs.declared.reply.Reply.TheVariants.{Process, Address, Done, Value, Faulted, Refused, Stalled, Halted, Past}
-use Rattle.calls.specs.Idle.{names_store, refused_count}
+use Rattle.calls.specs.Idle.{names_store, names_swap, refused_count}
 use Rattle.machine.specs.declared.machine.Machine.{Machine}
 
 -- how often the store failed, at the least, where a command is so answered
 abbrev pub failed_count : Reply → ℕ
 failed_count reply = if names_store reply then 1 else 0
 
--- how often the swap device failed, at the least, where a command stalls so
-abbrev pub swap_failed_by : Stall → ℕ
-swap_failed_by NoFrames = 0
-swap_failed_by NoSwap = 0
-swap_failed_by SwapDevice = 1
-swap_failed_by StoreDevice = 0
-
 -- how often the swap device failed, at the least, where a command is so answered
 abbrev pub swap_failed_count : Reply → ℕ
-swap_failed_count (Stalled stall) = swap_failed_by stall
-swap_failed_count (Process pid) = 0
-swap_failed_count (Address addr) = 0
-swap_failed_count Done = 0
-swap_failed_count (Value width value) = 0
-swap_failed_count (Faulted fault) = 0
-swap_failed_count (Refused errno) = 0
-swap_failed_count Halted = 0
-swap_failed_count (Past past) = 0
+swap_failed_count reply = if names_swap reply then 1 else 0
 
 module _ {D E : Type 0} (g : Ghosts D) (h : Ghosts E) where
-  -- As many requests for a frame were refused as replies say. Each device failed for each reply that names it, and the store, where
+  -- As many requests for a frame were refused as replies say. Each device failed for each reply that names it, and where
   -- none does, not at all.
   pub record Counts (old new : Machine D E) (replies : List Reply) : Type 0 where
     pub refused : new.core.refused.number ≡ old.core.refused.number + sum_by refused_count replies
     pub failed : g.failures old.core.store.disk + sum_by failed_count replies ≤ g.failures new.core.store.disk
     pub swap_failed : h.failures old.core.swap.pages.disk + sum_by swap_failed_count replies ≤ h.failures new.core.swap.pages.disk
     pub calm : sum_by failed_count replies ≡ 0 → g.failures new.core.store.disk ≡ g.failures old.core.store.disk
+    pub swap_calm : sum_by swap_failed_count replies ≡ 0 → h.failures new.core.swap.pages.disk ≡ h.failures old.core.swap.pages.disk

@@ -124,7 +124,7 @@ impl<D: SectorDisk, E: SectorDisk> Machine<D, E> {
     /// state after it and three more, `NoSwap` only where there are fewer slots than pages that processes have of their own and
     /// touched file pages, `SwapDevice` and `StoreDevice` only where that device failed in this call. A failure of the store in
     /// an msync is answered by `EIO`, only where the device failed in this call, and halts the machine: from then on every
-    /// command answers `Halted`.
+    /// command returns `Halted`.
     pub fn step(&mut self, command: Command) -> Reply
         requires sound { IsSoundMachine D.SectorDisk E.SectorDisk self.old }
         ensures sound { IsSoundMachine D.SectorDisk E.SectorDisk self.new }

@@ -17,8 +17,9 @@ use Rattle.paging.specs.Calls.{Frees, ObtainsCached, StallCause}
 use Rattle.paging.specs.Reading.{ReadsStore, IsRead, ReadCause}
 use Rattle.paging.proofs.Arriving.{fit_brought, trees_brought, entries_brought, views_brought, held_else, held_here}
 use Rattle.paging.proofs.Places.{cases_page}
-use Rattle.mapping.specs.Changes.{KeepsSpaces, KeepsTables, KeepsRoom, KeepsSeen, KeepsBare}
+use Rattle.mapping.specs.Changes.{KeepsSpaces, KeepsTables, KeepsRoom, KeepsSeen, KeepsBare, KeepsSlotted}
 use Rattle.mapping.specs.Files.{IsBrought, Stays, Leaves, Comes, BringsPages}
+use Rattle.mapping.proofs.Slotted.{slotted_then, slotted_frees}
 use Rattle.mapping.proofs.Steps.{spaces_then, room_then, seen_then, tables_then, bare_then, tables_same, spaces_freed, room_freed, seen_freed, tables_freed, bare_freed}
 
 -- a frame was obtained, and the file page brought into it
@@ -42,6 +43,15 @@ module _ (old new : Picture) (page : FilePage) (n : ℕ) (obtains : ObtainsCache
 
   bare_came : KeepsBare old new
   bare_came = bare_then old found new (bare_freed old found _ obtains.frees) (λ q p h none. entries_brought found new page n obtains.fit obtains.brings q p ∙ none)
+
+  slotted_came : KeepsSlotted (λ p. p ≡ page) (λ q p. ⊥) old new
+  slotted_came = slotted_then (λ p. p ≡ page) (λ q p. ⊥) old found new (slotted_frees (λ p. p ≡ page) (λ q p. ⊥) old found _ obtains.frees) (record {
+    file_pages = λ p k at. elim (cases_page p page) [
+      | inl is ↦ inl is
+      | inr ne ↦ inr (obtains.brings.others p ne ∙ at)
+    ];
+    copies = λ q p h away. inr (entries_brought found new page n obtains.fit obtains.brings q p);
+  })
 
   fit_came : IsFit new
   fit_came = fit_brought found new page n obtains.fit obtains.brings
@@ -70,6 +80,10 @@ module _ (old new : Picture) (page : FilePage) where
   pub bare_of : (r : Result FrameNo Stall) → IfOk r (λ n. ObtainsCached old new page n.0) → OnErr r (Frees old new None) → KeepsBare old new
   bare_of (Ok n) obtains frees = bare_came old new page n.0 obtains
   bare_of (Err s) obtains frees = bare_freed old new None frees
+
+  pub slotted_of : (r : Result FrameNo Stall) → IfOk r (λ n. ObtainsCached old new page n.0) → OnErr r (Frees old new None) → KeepsSlotted (λ p. p ≡ page) (λ q p. ⊥) old new
+  slotted_of (Ok n) obtains frees = slotted_came old new page n.0 obtains
+  slotted_of (Err s) obtains frees = slotted_frees (λ p. p ≡ page) (λ q p. ⊥) old new None frees
 
   pub placed_of : (r : Result FrameNo Stall) → IfOk r (λ n. ObtainsCached old new page n.0) → IfOk r (λ n. new.place page ≡ Frame n)
   placed_of (Ok n) obtains = obtains.brings.placed
@@ -157,8 +171,8 @@ module _ {D : Type 0} (g : Ghosts D) where
   module _ {E : Type 0} (h : Ghosts E) where
     -- what a stall of the swap device's layer is by both devices
     pub cause_of : (old new : Core D E) (stall : Stall) → new.store ≡ old.store → StallCause h old new stall → ReadCause g h old new stall
-    cause_of old new NoFrames same c = (c, ap (λ s. g.failures s.disk) same)
-    cause_of old new NoSwap same c = (c, ap (λ s. g.failures s.disk) same)
+    cause_of old new NoFrames same c = (c.0, ap (λ s. g.failures s.disk) same, c.1)
+    cause_of old new NoSwap same c = (c.0, ap (λ s. g.failures s.disk) same, c.1)
     cause_of old new SwapDevice same c = (c.0, ap (λ s. g.failures s.disk) same, c.1)
     cause_of old new StoreDevice same c = absurd c
 

@@ -1,6 +1,8 @@
 pub mod Bits
 pub mod Steps
+pub mod Slotted
 pub mod TablesLinked
+pub mod TablesGiven
 pub mod Forms
 pub mod Entering
 pub mod Arrivals

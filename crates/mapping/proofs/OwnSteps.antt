@@ -25,9 +25,10 @@ use Rattle.paging.proofs.Evicted.{fit_released}
 use Rattle.paging.proofs.Handed.{release_spares, same}
 use Rattle.paging.proofs.Sparing.{missing_ends}
 use Rattle.mapping.specs.Leaves.{IsEntryOver, IsFullEntry}
-use Rattle.mapping.specs.Changes.{IsLinked, KeepsSpaces, KeepsTables, KeepsRoom, KeepsOtherViews, KeepsOtherBare, TakesCopy, frame_of_place, frame_behind, shown_frame, is_sole}
+use Rattle.mapping.specs.Changes.{IsLinked, KeepsSpaces, KeepsTables, KeepsRoom, KeepsOtherViews, KeepsOtherBare, KeepsSlotted, IsThatPage, TakesCopy, frame_of_place, frame_behind, shown_frame, is_sole}
 use Rattle.mapping.proofs.Forms.{mapped_page, behind_used, behind_datum, own_role, seat_own, seat_common}
 use Rattle.mapping.proofs.Settling.{settled_first, settled_moved, settled_others, settled_views, settled_view, settled_held, settled_missing, settled_room, settled_full, settled_bytes, settled_count}
+use Rattle.mapping.proofs.Slotted.{slotted_then, slotted_frees, slotted_but, slotted_same}
 use Rattle.mapping.proofs.Steps.{spaces_then, spaces_freed, room_then, room_freed, tables_then, tables_freed, tables_same}
 
 some_attr : (a b : Attr) → Some a ≡ Some b → a ≡ b
@@ -171,6 +172,11 @@ module _ (old : Picture) (pid page m : ℕ) (a : Attr) (sound : IsSound old.fram
           settled_others found mid pid page r n a copy.fit copy.changes copy.role copy.count copy.noted lives_found whole_found at_found set sets beside alone inside q p h other
           ∙ copy.frees.entries q p h (inl none) ∙ none
 
+      pub slotted_set : KeepsSlotted (λ p. ⊥) (IsThatPage pid page) old set
+      slotted_set = slotted_then (λ p. ⊥) (IsThatPage pid page) old found set (slotted_frees (λ p. ⊥) (IsThatPage pid page) old found _ copy.frees)
+          (slotted_but (λ p. ⊥) found set pid page (λ p. beside.place p ∙ copy.changes.place p)
+          (settled_others found mid pid page r n a copy.fit copy.changes copy.role copy.count copy.noted lives_found whole_found at_found set sets beside alone inside))
+
       pub files_set : KeepsFiles old set
       files_set = keeps_files_then old found set copy.frees.pages.files (record {
         held = λ p. inl (settled_held found mid pid page r n a copy.fit copy.changes copy.role copy.count copy.noted lives_found whole_found at_found set sets beside alone inside p);
@@ -242,6 +248,10 @@ module _ (old : Picture) (pid page m : ℕ) (a : Attr) (sound : IsSound old.fram
 
           pub bare_shared : KeepsOtherBare old new pid page
           bare_shared q p h other none = same set new m 0 fit_moved' role_shared releases beside' q p ∙ bare_set q p h other none
+
+          pub slotted_shared : KeepsSlotted (λ p. ⊥) (IsThatPage pid page) old new
+          slotted_shared = slotted_then (λ p. ⊥) (IsThatPage pid page) old set new slotted_set
+              (slotted_same (λ p. ⊥) (IsThatPage pid page) set new beside'.place (λ q p h. same set new m 0 fit_moved' role_shared releases beside' q p))
 
           pub files_shared : KeepsFiles old new
           files_shared = keeps_files_then old set new files_set (release_spares set new m 0 fit_moved' role_shared releases beside').pages.files

@@ -19,9 +19,10 @@ use Rattle.paging.proofs.Putting.{with_slots}
 use Rattle.paging.proofs.SlotReleased.{fit_slot_released}
 use Rattle.paging.proofs.Ways.{by_page}
 use Rattle.mapping.specs.Leaves.{IsFullEntry}
-use Rattle.mapping.specs.Changes.{IsLinked, KeepsSpaces, KeepsTables, KeepsRoom, KeepsViews, KeepsOtherViews, KeepsOtherBare}
+use Rattle.mapping.specs.Changes.{IsLinked, KeepsSpaces, KeepsTables, KeepsRoom, KeepsViews, KeepsOtherViews, KeepsOtherBare, KeepsSlotted, IsThatPage}
 use Rattle.mapping.proofs.Forms.{mapped_page}
 use Rattle.mapping.proofs.Settling.{settled_moved, settled_owned, settled_others, settled_views, settled_view, settled_held, settled_missing, settled_room, settled_full}
+use Rattle.mapping.proofs.Slotted.{slotted_then, slotted_frees, slotted_but}
 use Rattle.mapping.proofs.Steps.{spaces_then, spaces_freed, room_then, room_freed, tables_then, tables_freed, tables_same}
 use Rattle.mapping.proofs.SwapSteps.{swapped_page, away_seat, views_given, held_given}
 
@@ -121,6 +122,12 @@ module _ (old taken : Picture) (pid page n k r : ℕ) (a : Attr) (obtains : Obta
           slots_aside set t q p
           ∙ settled_others found written pid page r n a obtains.fit changes role one noted lives_of whole_of at_of set sets beside not_shared inside q p h other
           ∙ obtains.frees.entries q p h (inl none) ∙ none
+
+      pub slotted_in : KeepsSlotted (λ p. ⊥) (IsThatPage pid page) old (record set { slots = t })
+      slotted_in = slotted_then (λ p. ⊥) (IsThatPage pid page) old found new (slotted_frees (λ p. ⊥) (IsThatPage pid page) old found None obtains.frees)
+          (slotted_but (λ p. ⊥) found new pid page (λ p. beside.place p ∙ changes.place p) (λ q p h other.
+          slots_aside set t q p
+          ∙ settled_others found written pid page r n a obtains.fit changes role one noted lives_of whole_of at_of set sets beside not_shared inside q p h other))
 
       pub files_in : KeepsFiles old (record set { slots = t })
       files_in = files_then old found new obtains.frees.pages.files

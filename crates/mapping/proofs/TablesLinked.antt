@@ -17,7 +17,8 @@ use Rattle.paging.proofs.Entries.{entry-same}
 use Rattle.paging.proofs.Linked.{loose_table, fit_linked}
 use Rattle.paging.proofs.Setting.{each_view, view_seated, held_same}
 use Rattle.paging.proofs.Shown.{keeps_then}
-use Rattle.mapping.specs.Changes.{KeepsTables, KeepsBare, KeepsRoom, KeepsSpaces}
+use Rattle.mapping.specs.Changes.{KeepsTables, KeepsBare, KeepsSlotted, KeepsRoom, KeepsSpaces}
+use Rattle.mapping.proofs.Slotted.{slotted_then, slotted_frees, slotted_same}
 use Rattle.mapping.proofs.Steps.{tables_then, bare_then, tables_freed, bare_freed, room_freed, room_then, spaces_freed, spaces_then}
 
 not_free : (t : FrameTable) (n m : ℕ) (r : Role) → role_of t n ≡ Free → role_of t m ≡ r → r ≢ Free → m ≢ n
@@ -95,6 +96,10 @@ module _ (old taken new : Picture) (pid root page table : ℕ) (obtains : Obtain
 
   pub bare_linked : KeepsBare old new
   bare_linked = bare_then old found new (bare_freed old found _ obtains.frees) (λ q p h none. entries_linked q p ∙ none)
+
+  pub slotted_linked : KeepsSlotted (λ p. ⊥) (λ q p. ⊥) old new
+  slotted_linked = slotted_then (λ p. ⊥) (λ q p. ⊥) old found new (slotted_frees (λ p. ⊥) (λ q p. ⊥) old found _ obtains.frees)
+      (slotted_same (λ p. ⊥) (λ q p. ⊥) found new beside_found.place (λ q p h. entries_linked q p))
 
   tables_found : KeepsTables found new
   tables_found q r p e =

@@ -3,6 +3,7 @@ use Rattle.std.specs.Prelude.{Bool, ◌&&◌, ◌==◌, ◌≡◌, ◌≢◌, �
 use Rattle.vm_types.specs.Limits.{top_level}
 use Rattle.vm_types.specs.declared.file.FilePage.{FilePage}
 use Rattle.vm_types.specs.declared.number.FrameNo.{FrameNo}
+use Rattle.vm_types.specs.declared.number.SlotNo.{SlotNo}
 use Rattle.vm_types.specs.declared.region.Attr.{Attr}
 use Rattle.vm_types.specs.declared.region.Backing.{Backing}
 use Rattle.vm_types.specs.declared.region.Backing.TheVariants.{Anon, Private, Shared}
@@ -10,13 +11,13 @@ use Rattle.disk_model.specs.declared.sector_disk.SectorDisk.{Ghosts}
 use Rattle.frames.specs.declared.role.Role.TheVariants as Role
 use Rattle.frames.specs.FrameTable.{frame_count, bytes_of, role_of, count_of, IsFrame}
 use Rattle.sv39_walk.specs.Entry.{frame_of}
-use Rattle.page_tables.specs.Tree.{IsPage, missing_of}
+use Rattle.page_tables.specs.Tree.{IsPage, IsTable, IsBelowRoot, missing_of}
 use Rattle.page_tables.specs.Change.{KeepsFrames}
 use Rattle.page_cache.specs.declared.place.Place.{Place}
 use Rattle.page_cache.specs.declared.place.Place.TheVariants.{Home, Frame, Slot}
 use Rattle.swap.specs.Slots.{IsReady}
 use Rattle.paging.specs.declared.kernel.Core.{Core}
-use Rattle.paging.specs.Picture.{Picture, picture_of, entry, is_private, view}
+use Rattle.paging.specs.Picture.{Picture, picture_of, entry, is_private, is_swapped, view}
 use Rattle.paging.specs.Parts.{IsFit}
 use Rattle.paging.specs.Calls.{Frees, UsesDevice}
 use Rattle.paging.specs.Steps.{ChangesFrame}
@@ -35,6 +36,14 @@ pub record IsLinked (c : Picture) (pid page : ℕ) : Type 0 where
 abbrev pub KeepsTables : Picture → Picture → Type 0
 KeepsTables old new = (pid r page : ℕ) → old.root pid ≡ Some r → missing_of new.frames top_level r page ≤ missing_of old.frames top_level r page
 
+-- table n lies below the root of a process on the way to a page of it
+abbrev pub IsTableOnWay : Picture → ℕ → ℕ → ℕ → Type 0
+IsTableOnWay c pid page n = (r : ℕ) × (c.root pid ≡ Some r) × IsBelowRoot c.frames top_level r page n
+
+-- each frame that came to be a table is one on the way to that page
+abbrev pub LinksTables : Picture → Picture → ℕ → ℕ → Type 0
+LinksTables old new pid page = (n : ℕ) → IsTable new.frames n → IsTable old.frames n ⊎ IsTableOnWay new pid page n
+
 -- a page that had no entry has none
 abbrev pub KeepsBare : Picture → Picture → Type 0
 KeepsBare old new = (pid page : ℕ) → IsPage top_level page → entry old pid page ≡ 0 → entry new pid page ≡ 0
@@ -42,6 +51,15 @@ KeepsBare old new = (pid page : ℕ) → IsPage top_level page → entry old pid
 -- every page but one that had no entry has none
 abbrev pub KeepsOtherBare : Picture → Picture → ℕ → ℕ → Type 0
 KeepsOtherBare old new pid page = (q p : ℕ) → IsPage top_level p → (q ≢ pid) ⊎ (p ≢ page) → entry old q p ≡ 0 → entry new q p ≡ 0
+
+-- that page of that process
+abbrev pub IsThatPage : ℕ → ℕ → ℕ → ℕ → Type 0
+IsThatPage pid page q p = (q ≡ pid) × (p ≡ page)
+
+-- What lies in a slot stays there, but for these file pages, and for the own copies of these pages of processes.
+pub record KeepsSlotted (files : FilePage → Type 0) (own : ℕ → ℕ → Type 0) (old new : Picture) : Type 0 where
+  pub file_pages : (p : FilePage) (k : SlotNo) → old.place p ≡ Slot k → files p ⊎ (new.place p ≡ Slot k)
+  pub copies : (q p : ℕ) → IsPage top_level p → is_swapped (entry old q p) ≡ true → own q p ⊎ (entry new q p ≡ entry old q p)
 
 -- the same processes live, with the same regions
 pub record KeepsSpaces (old new : Picture) : Type 0 where

@@ -11,7 +11,7 @@ ghost use Rattle.paging.specs.Parts.{IsFit};
 ghost use Rattle.paging.specs.Calls.{Frees};
 ghost use Rattle.paging.specs.Capacity.{IsShort};
 ghost use Rattle.paging.specs.Reading.{ReadCause};
-ghost use Rattle.mapping.specs.Changes.{KeepsBare, KeepsSeen};
+ghost use Rattle.mapping.specs.Changes.{KeepsBare, KeepsSeen, KeepsSlotted};
 ghost use Rattle.mapping.specs.Files.{Proceeds, BringsFiles};
 
 use disk_model::SectorDisk;
@@ -37,6 +37,7 @@ pub fn cached<D: SectorDisk, E: SectorDisk>(
     ensures brings { BringsFiles D.SectorDisk E.SectorDisk (λ p. p ≡ page) core.old core.new }
     ensures keeps { KeepsSeen (picture_of core.old) (picture_of core.new) }
     ensures bare { KeepsBare (picture_of core.old) (picture_of core.new) }
+    ensures slotted { KeepsSlotted (λ p. p ≡ page) (λ q p. ⊥) (picture_of core.old) (picture_of core.new) }
     ensures placed { IfOk result (λ n. (picture_of core.new).place page ≡ Frame n) }
     ensures idle { (n : FrameNo) → (picture_of core.old).place page ≡ Frame n → (core.new ≡ core.old) × OnErr result ⊥ }
     ensures frees { OnErr result (Frees (picture_of core.old) (picture_of core.new) None) }
@@ -46,6 +47,7 @@ pub fn cached<D: SectorDisk, E: SectorDisk>(
     ensures short { IfErr result (IsShort (picture_of core.new)) }
     ensures cause { IfErr result (ReadCause D.SectorDisk E.SectorDisk core.old core.new) }
     ensures not_refused { OnOk result (core.new.refused.number ≡ core.old.refused.number) }
+    ensures swap_calm { OnOk result (E.failures core.new.swap.pages.disk ≡ E.failures core.old.swap.pages.disk) }
 {
     match core.cache.place(page) {
         Place::Frame(frame) => Ok(frame),

@@ -1,15 +1,16 @@
 //! The tables on the way to a page.
-ghost use Rattle.std.specs.Prelude.{ℕ, ◌≡◌, ◌≢◌, ◌+◌, None, Some, IfErr, OnOk, OnErr};
+ghost use Rattle.std.specs.Prelude.{ℕ, ◌≡◌, ◌≢◌, ◌+◌, Option, None, Some, IfErr, OnOk, OnErr};
 ghost use Rattle.vm_types.specs.Limits.{top_level};
 ghost use Rattle.frames.specs.declared.role.Role.TheVariants.{Private};
-ghost use Rattle.frames.specs.FrameTable.{role_of};
+ghost use Rattle.frames.specs.FrameTable.{role_of, IsFull};
 ghost use Rattle.page_tables.specs.Tree.{missing_of};
 ghost use Rattle.swap.specs.Slots.{IsReady};
 ghost use Rattle.paging.specs.Picture.{picture_of};
 ghost use Rattle.paging.specs.Parts.{IsFit, IsMapped};
 ghost use Rattle.paging.specs.Calls.{KeepsPages, StallCause};
 ghost use Rattle.paging.specs.Capacity.{IsShort};
-ghost use Rattle.mapping.specs.Changes.{IsWhole, KeepsBare, Moves};
+ghost use Rattle.paging.specs.Ages.{GivesForTables};
+ghost use Rattle.mapping.specs.Changes.{IsWhole, KeepsBare, KeepsSlotted, LinksTables, Moves};
 
 use disk_model::SectorDisk;
 use page_tables::{link_table, missing_tables};
@@ -45,11 +46,18 @@ pub fn link_tables<D, E: SectorDisk>(
     ensures pages { KeepsPages (picture_of core.old) (picture_of core.new) }
     ensures no_copy { (n : ℕ) → role_of core.new.frames n ≡ Private → role_of core.old.frames n ≡ Private }
     ensures bare { KeepsBare (picture_of core.old) (picture_of core.new) }
+    ensures slotted { KeepsSlotted (λ p. ⊥) (λ q p. ⊥) (picture_of core.old) (picture_of core.new) }
     ensures whole { OnOk result (IsWhole (picture_of core.new) pid page) }
+    ensures wanted { OnErr result (IsWhole (picture_of core.new) pid page → ⊥) }
+    ensures gives { OnOk result (GivesForTables (picture_of core.old) (picture_of core.new) None) }
+    ensures tried { OnErr result ((tried : Option ℕ) × GivesForTables (picture_of core.old) (picture_of core.new) tried) }
+    ensures tables { LinksTables (picture_of core.old) (picture_of core.new) pid page }
+    ensures full { OnErr result (IsFull core.new.frames) }
     ensures idle { IsWhole (picture_of core.old) pid page → (core.new ≡ core.old) × OnErr result ⊥ }
     ensures short { IfErr result (IsShort (picture_of core.new)) }
     ensures cause { IfErr result (StallCause E.SectorDisk core.old core.new) }
     ensures not_refused { OnOk result (core.new.refused.number ≡ core.old.refused.number) }
+    ensures swap_calm { OnOk result (E.failures core.new.swap.pages.disk ≡ E.failures core.old.swap.pages.disk) }
 {
     let root = root_of(core, pid);
     while missing_tables(&core.frames, root, page) > 0 {
@@ -74,10 +82,17 @@ fn link_one<D, E: SectorDisk>(
     ensures pages { KeepsPages (picture_of core.old) (picture_of core.new) }
     ensures no_copy { (n : ℕ) → role_of core.new.frames n ≡ Private → role_of core.old.frames n ≡ Private }
     ensures bare { KeepsBare (picture_of core.old) (picture_of core.new) }
+    ensures slotted { KeepsSlotted (λ p. ⊥) (λ q p. ⊥) (picture_of core.old) (picture_of core.new) }
     ensures lowered { OnOk result (missing_of core.new.frames top_level root.0 page + 1 ≡ missing_of core.old.frames top_level root.0 page) }
+    ensures wanted { OnErr result (IsWhole (picture_of core.new) pid page → ⊥) }
+    ensures gives { OnOk result (GivesForTables (picture_of core.old) (picture_of core.new) None) }
+    ensures tried { OnErr result ((tried : Option ℕ) × GivesForTables (picture_of core.old) (picture_of core.new) tried) }
+    ensures tables { LinksTables (picture_of core.old) (picture_of core.new) pid page }
+    ensures full { OnErr result (IsFull core.new.frames) }
     ensures short { IfErr result (IsShort (picture_of core.new)) }
     ensures cause { IfErr result (StallCause E.SectorDisk core.old core.new) }
     ensures not_refused { OnOk result (core.new.refused.number ≡ core.old.refused.number) }
+    ensures swap_calm { OnOk result (E.failures core.new.swap.pages.disk ≡ E.failures core.old.swap.pages.disk) }
 {
     let table = core.take_table()?;
     link_table(&mut core.frames, root, page, table);

@@ -12,7 +12,7 @@ ghost use Rattle.paging.specs.Calls.{Frees, KeepsRest, UsesDevice, StallCause};
 ghost use Rattle.paging.specs.Capacity.{IsShort};
 ghost use Rattle.paging.specs.Shows.{KeepsFiles};
 ghost use Rattle.mapping.specs.Leaves.{IsEntryOver};
-ghost use Rattle.mapping.specs.Changes.{IsLinked, KeepsViews, KeepsOtherViews, KeepsOtherBare, IsCalm, Moves, TakesCopy, is_sole, shown_frame, shown_bytes};
+ghost use Rattle.mapping.specs.Changes.{IsLinked, KeepsViews, KeepsOtherViews, KeepsOtherBare, KeepsSlotted, IsCalm, IsThatPage, Moves, TakesCopy, is_sole, shown_frame, shown_bytes};
 
 use crate::linking::root_of;
 use crate::showing::{ZERO_PAGE, regrant, set_full};
@@ -55,6 +55,7 @@ pub fn own_frame<D, E: SectorDisk>(
         → IsBehind (picture_of core.new) attr.backing n × (bytes_of core.new.frames n ≡ bytes_of core.old.frames n) }
     ensures others { KeepsOtherViews (picture_of core.old) (picture_of core.new) pid page }
     ensures bare { KeepsOtherBare (picture_of core.old) (picture_of core.new) pid page }
+    ensures slotted { KeepsSlotted (λ p. ⊥) (IsThatPage pid page) (picture_of core.old) (picture_of core.new) }
     ensures frees { OnErr result (Frees (picture_of core.old) (picture_of core.new) None) }
     ensures same { OnErr result (KeepsViews (picture_of core.old) (picture_of core.new)) }
     ensures files { KeepsFiles (picture_of core.old) (picture_of core.new) }
@@ -63,6 +64,7 @@ pub fn own_frame<D, E: SectorDisk>(
     ensures short { IfErr result (IsShort (picture_of core.new)) }
     ensures cause { IfErr result (StallCause E.SectorDisk core.old core.new) }
     ensures not_refused { OnOk result (core.new.refused.number ≡ core.old.refused.number) }
+    ensures swap_calm { OnOk result (E.failures core.new.swap.pages.disk ≡ E.failures core.old.swap.pages.disk) }
 {
     let root = root_of(core, pid);
     let entry = entry_number(&core.frames, root, page);
@@ -103,12 +105,14 @@ fn copy_page<D, E: SectorDisk>(
         → IsBehind (picture_of core.new) attr.backing n × (bytes_of core.new.frames n ≡ bytes_of core.old.frames n) }
     ensures others { KeepsOtherViews (picture_of core.old) (picture_of core.new) pid page }
     ensures bare { KeepsOtherBare (picture_of core.old) (picture_of core.new) pid page }
+    ensures slotted { KeepsSlotted (λ p. ⊥) (IsThatPage pid page) (picture_of core.old) (picture_of core.new) }
     ensures frees { OnErr result (Frees (picture_of core.old) (picture_of core.new) None) }
     ensures same { OnErr result (KeepsViews (picture_of core.old) (picture_of core.new)) }
     ensures files { KeepsFiles (picture_of core.old) (picture_of core.new) }
     ensures short { IfErr result (IsShort (picture_of core.new)) }
     ensures cause { IfErr result (StallCause E.SectorDisk core.old core.new) }
     ensures not_refused { OnOk result (core.new.refused.number ≡ core.old.refused.number) }
+    ensures swap_calm { OnOk result (E.failures core.new.swap.pages.disk ≡ E.failures core.old.swap.pages.disk) }
 {
     let root = root_of(core, pid);
     let own = take_copy(core, shown, page)?;
@@ -158,6 +162,7 @@ fn take_copy<D, E: SectorDisk>(
     ensures short { IfErr result (IsShort (picture_of core.new)) }
     ensures cause { IfErr result (StallCause E.SectorDisk core.old core.new) }
     ensures not_refused { OnOk result (core.new.refused.number ≡ core.old.refused.number) }
+    ensures swap_calm { OnOk result (E.failures core.new.swap.pages.disk ≡ E.failures core.old.swap.pages.disk) }
 {
     let own = core.take_own(page, Some(from))?;
     fill(&mut core.frames, from, own);

@@ -7,7 +7,7 @@ ghost use Rattle.paging.specs.Calls.{Frees, StallCause};
 ghost use Rattle.paging.specs.Capacity.{IsShort};
 ghost use Rattle.paging.specs.Shows.{KeepsFiles};
 ghost use Rattle.mapping.specs.Leaves.{IsFullEntry};
-ghost use Rattle.mapping.specs.Changes.{IsLinked, KeepsViews, KeepsOtherViews, KeepsOtherBare, Moves};
+ghost use Rattle.mapping.specs.Changes.{IsLinked, KeepsViews, KeepsOtherViews, KeepsOtherBare, KeepsSlotted, IsThatPage, Moves};
 
 use crate::linking::root_of;
 use crate::showing::set_full;
@@ -36,6 +36,7 @@ pub fn swap_in<D, E: SectorDisk>(
     ensures sole { IfOk result (λ n. count_of core.new.frames n.0 ≡ 1) }
     ensures others { KeepsOtherViews (picture_of core.old) (picture_of core.new) pid page }
     ensures bare { KeepsOtherBare (picture_of core.old) (picture_of core.new) pid page }
+    ensures slotted { KeepsSlotted (λ p. ⊥) (IsThatPage pid page) (picture_of core.old) (picture_of core.new) }
     ensures frees { OnErr result (Frees (picture_of core.old) (picture_of core.new) None) }
     ensures same { OnErr result (KeepsViews (picture_of core.old) (picture_of core.new)) }
     ensures seen { E.keeps_model core.new.swap.pages.disk → KeepsViews (picture_of core.old) (picture_of core.new) }
@@ -43,6 +44,7 @@ pub fn swap_in<D, E: SectorDisk>(
     ensures short { IfErr result (IsShort (picture_of core.new)) }
     ensures cause { IfErr result (StallCause E.SectorDisk core.old core.new) }
     ensures not_refused { OnOk result (core.new.refused.number ≡ core.old.refused.number) }
+    ensures swap_calm { OnOk result (E.failures core.new.swap.pages.disk ≡ E.failures core.old.swap.pages.disk) }
 {
     let frame = core.take_own(page, None)?;
     let root = root_of(core, pid);

@@ -97,12 +97,12 @@ module _ {D E : Type 0} (old mid : Core D E) (pid page : ℕ) (p : FilePage) (sh
 
     -- or a frame was refused afterwards
     pub stalled_on : (new : Core D E) (access : Access) (r : Result FrameNo Stall) → ((n : FrameNo) → (picture_of old).place p ≡ Frame n → mid ≡ old) → KeepsSeen (picture_of old) (picture_of mid)
-        → UsesDevice h old.swap.pages.disk mid.swap.pages.disk → mid.refused.number ≡ old.refused.number → g.failures mid.store.disk ≡ g.failures old.store.disk
+        → h.failures mid.swap.pages.disk ≡ h.failures old.swap.pages.disk → mid.refused.number ≡ old.refused.number → g.failures mid.store.disk ≡ g.failures old.store.disk
         → IfErr r (StallCause h mid new) → IfErr r (IsStalled g h mid new pid page access) → IfErr r (IsStalled g h old new pid page access)
-    stalled_on new access (Ok n) idle keeps device same calm cause stalled = tt
-    stalled_on new access (Err s) idle keeps device same calm cause stalled = record {
+    stalled_on new access (Ok n) idle keeps swap_calm same calm cause stalled = tt
+    stalled_on new access (Err s) idle keeps swap_calm same calm cause stalled = record {
       keeps = seen_then (picture_of old) (picture_of mid) (picture_of new) keeps stalled.keeps;
-      cause = cause_then g h old mid new s device same calm stalled.cause;
+      cause = cause_then g h old mid new s swap_calm same calm stalled.cause;
       short = stalled.short;
       wanted = wants_then idle access stalled.wanted;
       home = λ is. absurd (no_store h mid new s cause is);

@@ -7,6 +7,7 @@ pub mod Verdicts
 pub mod Settled
 pub mod Steps
 pub mod Wanted
+pub mod Slotted
 pub mod Linked
 pub mod Brought
 pub mod Owned

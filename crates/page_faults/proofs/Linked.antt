@@ -31,7 +31,7 @@ use Rattle.page_faults.specs.Granted.{IsReadyAt}
 use Rattle.page_faults.specs.Outcome.{IsStalled}
 use Rattle.page_faults.specs.Wants.{LacksTable, ShowsFile, Wants, ForTable, ReadsHome}
 use Rattle.page_faults.proofs.Settled.{ready_after}
-use Rattle.page_faults.proofs.Steps.{keeps_seen, brings_after, cause_after, ok_then, stall_then, no_store}
+use Rattle.page_faults.proofs.Steps.{keeps_seen, brings_after, cause_then, ok_then, stall_then, no_store}
 use Rattle.page_faults.proofs.Wanted.{whole_or, shows_back}
 
 past_still : (old new : Picture) (b : Backing) → ((f : ℕ) → new.files f ≡ old.files f) → is_past_end old.files b ≡ false → is_past_end new.files b ≡ false
@@ -112,19 +112,20 @@ module _ {D E : Type 0} (old mid : Core D E) (pid page : ℕ) (lives : (r : ℕ)
         subst P moves.store
         (brings_after g mid.store.disk new.store.disk W V (picture_of old) (picture_of mid) (picture_of new) shows_before pages.files (brings kept))
 
-    one_stalled : (new : Core D E) (access : Access) (stall : Stall) → mid.refused.number ≡ old.refused.number → IsStalled g h mid new pid page access stall → IsStalled g h old new pid page access stall
-    one_stalled new access stall same stalled = record {
+    one_stalled : (new : Core D E) (access : Access) (stall : Stall) → mid.refused.number ≡ old.refused.number → h.failures mid.swap.pages.disk ≡ h.failures old.swap.pages.disk
+        → IsStalled g h mid new pid page access stall → IsStalled g h old new pid page access stall
+    one_stalled new access stall same swap_calm stalled = record {
       keeps = seen_then (picture_of old) (picture_of mid) (picture_of new) (keeps_seen (picture_of old) (picture_of mid) pages) stalled.keeps;
-      cause = cause_after g h old mid new stall moves same stalled.cause;
+      cause = cause_then g h old mid new stall swap_calm same (ap (λ s. g.failures s.disk) moves.store) stalled.cause;
       short = stalled.short;
       wanted = wants_back access stalled.wanted;
       home = λ device. home_back (stalled.home device);
     }
 
-    pub stalled_back : (new : Core D E) (access : Access) (r : Result FrameNo Stall) → mid.refused.number ≡ old.refused.number → IfErr r (IsStalled g h mid new pid page access)
-        → IfErr r (IsStalled g h old new pid page access)
-    stalled_back new access r same stalled =
-        stall_then (IsStalled g h mid new pid page access) (IsStalled g h old new pid page access) r (λ s. one_stalled new access s same) stalled
+    pub stalled_back : (new : Core D E) (access : Access) (r : Result FrameNo Stall) → mid.refused.number ≡ old.refused.number → h.failures mid.swap.pages.disk ≡ h.failures old.swap.pages.disk
+        → IfErr r (IsStalled g h mid new pid page access) → IfErr r (IsStalled g h old new pid page access)
+    stalled_back new access r same swap_calm stalled =
+        stall_then (IsStalled g h mid new pid page access) (IsStalled g h old new pid page access) r (λ s. one_stalled new access s same swap_calm) stalled
 
     -- no frame was had for a table
     pub stalled_tables : (access : Access) (stall : Stall) → StallCause h old mid stall → IsShort (picture_of mid) stall → LacksTable (picture_of old) pid page

@@ -1,5 +1,5 @@
 -- How the steps of an access follow one another.
-use Rattle.std.proofs.Common.{◌≡◌, ◌+◌, ◌<◌, ℕ, false, inl, inr, ◌⊎◌, Option, Some, None, Result, Ok, Err, refl, sym, ap, ◌∙◌, subst, arith}
+use Rattle.std.proofs.Common.{◌≡◌, ◌+◌, ℕ, false, inl, inr, ◌⊎◌, Option, Some, None, Result, Ok, Err, refl, sym, ap, ◌∙◌, subst, arith}
 use Rattle.std.specs.Option.{option_map}
 use Rattle.std.specs.Prelude.{IfOk, IfErr, OnOk}
 use Rattle.vm_types.specs.declared.file.FileInfo.{FileInfo}
@@ -17,7 +17,7 @@ use Rattle.page_cache.specs.declared.place.Place.TheVariants.{Home, Frame, Slot}
 use Rattle.frames.specs.FrameTable.{bytes_of}
 use Rattle.paging.specs.declared.kernel.Core.{Core}
 use Rattle.paging.specs.Picture.{Picture, picture_of, held, bytes_at}
-use Rattle.paging.specs.Calls.{KeepsPages, UsesDevice, StallCause}
+use Rattle.paging.specs.Calls.{KeepsPages, StallCause}
 use Rattle.paging.specs.Reading.{ReadsStore, ReadCause}
 use Rattle.paging.specs.Shows.{KeepsFiles}
 use Rattle.mapping.specs.Changes.{KeepsSeen, Moves, MarksTouched}
@@ -142,22 +142,13 @@ module _ {D : Type 0} (g : Ghosts D) where
           device = q.device;
         }
 
-    -- a stall after a step that read no store and refused no frame
-    pub cause_after : (a b c : Core D E) (stall : Stall) → Moves h a b → b.refused.number ≡ a.refused.number → ReadCause g h b c stall → ReadCause g h a c stall
-    cause_after a b c NoFrames moves same x = (x.0 ∙ ap (λ n. n + 1) same, x.1 ∙ ap (λ s. g.failures s.disk) moves.store)
-    cause_after a b c NoSwap moves same x = (x.0 ∙ ap (λ n. n + 1) same, x.1 ∙ ap (λ s. g.failures s.disk) moves.store)
-    cause_after a b c SwapDevice moves same x =
-        (x.0 ∙ same, x.1 ∙ ap (λ s. g.failures s.disk) moves.store, (let l = moves.device.later in let m = x.2 in omega (arith, l, m)))
-    cause_after a b c StoreDevice moves same x =
-        (x.0 ∙ same, (let P : FileStore D → Type 0 = λ s. g.failures s.disk < g.failures c.store.disk in subst P moves.store x.1))
-
-    -- or after one that read the store, which didn't fail
-    pub cause_then : (a b c : Core D E) (stall : Stall) → UsesDevice h a.swap.pages.disk b.swap.pages.disk → b.refused.number ≡ a.refused.number
+    -- a stall after a step in which neither device failed and no frame was refused
+    pub cause_then : (a b c : Core D E) (stall : Stall) → h.failures b.swap.pages.disk ≡ h.failures a.swap.pages.disk → b.refused.number ≡ a.refused.number
         → g.failures b.store.disk ≡ g.failures a.store.disk → ReadCause g h b c stall → ReadCause g h a c stall
-    cause_then a b c NoFrames device same calm x = (x.0 ∙ ap (λ n. n + 1) same, x.1 ∙ calm)
-    cause_then a b c NoSwap device same calm x = (x.0 ∙ ap (λ n. n + 1) same, x.1 ∙ calm)
-    cause_then a b c SwapDevice device same calm x = (x.0 ∙ same, x.1 ∙ calm, (let l = device.later in let m = x.2 in omega (arith, l, m)))
-    cause_then a b c StoreDevice device same calm x = (x.0 ∙ same, (let m = x.1 in omega (arith, calm, m)))
+    cause_then a b c NoFrames swap_calm same calm x = (x.0 ∙ ap (λ n. n + 1) same, x.1 ∙ calm, x.2 ∙ swap_calm)
+    cause_then a b c NoSwap swap_calm same calm x = (x.0 ∙ ap (λ n. n + 1) same, x.1 ∙ calm, x.2 ∙ swap_calm)
+    cause_then a b c SwapDevice swap_calm same calm x = (x.0 ∙ same, x.1 ∙ calm, (let m = x.2 in omega (arith, swap_calm, m)))
+    cause_then a b c StoreDevice swap_calm same calm x = (x.0 ∙ same, (let m = x.1 in omega (arith, calm, m)), x.2 ∙ swap_calm)
 
 pub ok_then : (P Q : FrameNo → Type 0) (r : Result FrameNo Stall) → ((n : FrameNo) → P n → Q n) → IfOk r P → IfOk r Q
 ok_then P Q (Ok n) each is = each n is

@@ -98,6 +98,9 @@ module _ (old new : Picture) (n : ℕ) (w : List ℕ) (fit : IsFit old) (held_th
     pub fit_own : IsFit new
     fit_own = fit_data own_data
 
+    pub entries_own : (q k : ℕ) → entry new q k ≡ entry old q k
+    entries_own = same_entries own_data
+
     pub view_own : (v : View) → view old pid page ≡ Some v → view new pid page ≡ Some (record v { own = Some w })
     view_own v seen =
         let same = same_entries own_data pid page in
@@ -131,6 +134,9 @@ module _ (old new : Picture) (n : ℕ) (w : List ℕ) (fit : IsFit old) (held_th
 
     pub fit_file : IsFit new
     fit_file = fit_data file_data
+
+    pub entries_file : (q k : ℕ) → entry new q k ≡ entry old q k
+    entries_file = same_entries file_data
 
     owned_else : (z : Seat) → IsOwned old z → z ≢ InFrame n
     owned_else z owned e =

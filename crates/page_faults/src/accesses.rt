@@ -5,7 +5,7 @@ ghost use Rattle.file_store.specs.Store.{IsReadyStore};
 ghost use Rattle.swap.specs.Slots.{IsReady};
 ghost use Rattle.paging.specs.Picture.{picture_of, is_live, entry, is_swapped};
 ghost use Rattle.paging.specs.Parts.{IsFit};
-ghost use Rattle.mapping.specs.Changes.{IsCalm, KeepsOtherViews};
+ghost use Rattle.mapping.specs.Changes.{IsCalm, IsThatPage, KeepsOtherViews, KeepsSlotted};
 ghost use Rattle.mapping.specs.Files.{Proceeds, BringsFiles};
 ghost use Rattle.page_faults.specs.Wants.{Wants, ReadsHome, ShowsFile};
 ghost use Rattle.page_faults.specs.Outcome.{IsPlaced, Grants, IsRefusal, IsWalked};
@@ -49,10 +49,12 @@ pub fn access<D: SectorDisk, E: SectorDisk>(
     ensures granted { (is_swapped (entry (picture_of core.old) pid (addr / 4096)) ≡ true → E.keeps_model core.new.swap.pages.disk)
         → IfOk result (λ place. Grants (picture_of core.old) (picture_of core.new) pid addr width access place) }
     ensures others { KeepsOtherViews (picture_of core.old) (picture_of core.new) pid (addr / 4096) }
+    ensures slotted { KeepsSlotted (ShowsFile (picture_of core.old) pid (addr / 4096)) (IsThatPage pid (addr / 4096)) (picture_of core.old) (picture_of core.new) }
     ensures walked { (place : Phys) → IsWalked (picture_of core.old) pid addr width access place → (core.new ≡ core.old) × (result ≡ Ok place) }
     ensures calm { (Wants (picture_of core.old) pid (addr / 4096) access → ⊥) → IsCalm core.old core.new pid (addr / 4096) }
     ensures read { (core.new.store ≡ core.old.store) ⊎ ReadsHome (picture_of core.old) pid (addr / 4096) }
     ensures not_refused { OnOk result (core.new.refused.number ≡ core.old.refused.number) }
+    ensures swap_calm { OnOk result (E.failures core.new.swap.pages.disk ≡ E.failures core.old.swap.pages.disk) }
     ensures device_calm { OnOk result (D.failures core.new.store.disk ≡ D.failures core.old.store.disk) }
     ensures refusal { IfErr result (IsRefusal D.SectorDisk E.SectorDisk core.old core.new pid addr width access) }
 {

@@ -7,7 +7,7 @@ ghost use Rattle.swap.specs.Slots.{IsReady};
 ghost use Rattle.paging.specs.Seats.{seat};
 ghost use Rattle.paging.specs.Picture.{picture_of, is_live, entry, is_private, is_swapped};
 ghost use Rattle.paging.specs.Parts.{IsFit, IsBehind, is_shared};
-ghost use Rattle.mapping.specs.Changes.{IsLinked, IsCalm, KeepsOtherViews};
+ghost use Rattle.mapping.specs.Changes.{IsLinked, IsCalm, IsThatPage, KeepsOtherViews, KeepsSlotted};
 ghost use Rattle.mapping.specs.Files.{Proceeds, BringsFiles};
 ghost use Rattle.page_faults.specs.Wants.{Wants, ReadsHome, ShowsFile};
 ghost use Rattle.page_faults.specs.Found.{IsOpenTo};
@@ -46,9 +46,11 @@ pub(crate) fn grant<D: SectorDisk, E: SectorDisk>(
     ensures ready { (is_swapped (entry (picture_of core.old) pid page) ≡ true → E.keeps_model core.new.swap.pages.disk)
         → IfOk result (λ frame. IsReadyAt (picture_of core.old) (picture_of core.new) pid page attr access frame.0) }
     ensures others { KeepsOtherViews (picture_of core.old) (picture_of core.new) pid page }
+    ensures slotted { KeepsSlotted (ShowsFile (picture_of core.old) pid page) (IsThatPage pid page) (picture_of core.old) (picture_of core.new) }
     ensures calm { (Wants (picture_of core.old) pid page access → ⊥) → IsCalm core.old core.new pid page }
     ensures read { (core.new.store ≡ core.old.store) ⊎ ReadsHome (picture_of core.old) pid page }
     ensures not_refused { OnOk result (core.new.refused.number ≡ core.old.refused.number) }
+    ensures swap_calm { OnOk result (E.failures core.new.swap.pages.disk ≡ E.failures core.old.swap.pages.disk) }
     ensures device_calm { OnOk result (D.failures core.new.store.disk ≡ D.failures core.old.store.disk) }
     ensures stalled { IfErr result (IsStalled D.SectorDisk E.SectorDisk core.old core.new pid page access) }
 {
@@ -74,9 +76,11 @@ fn grant_linked<D: SectorDisk, E: SectorDisk>(
     ensures ready { (is_swapped (entry (picture_of core.old) pid page) ≡ true → E.keeps_model core.new.swap.pages.disk)
         → IfOk result (λ frame. IsReadyAt (picture_of core.old) (picture_of core.new) pid page attr access frame.0) }
     ensures others { KeepsOtherViews (picture_of core.old) (picture_of core.new) pid page }
+    ensures slotted { KeepsSlotted (ShowsFile (picture_of core.old) pid page) (IsThatPage pid page) (picture_of core.old) (picture_of core.new) }
     ensures calm { (Wants (picture_of core.old) pid page access → ⊥) → IsCalm core.old core.new pid page }
     ensures read { (core.new.store ≡ core.old.store) ⊎ ReadsHome (picture_of core.old) pid page }
     ensures not_refused { OnOk result (core.new.refused.number ≡ core.old.refused.number) }
+    ensures swap_calm { OnOk result (E.failures core.new.swap.pages.disk ≡ E.failures core.old.swap.pages.disk) }
     ensures device_calm { OnOk result (D.failures core.new.store.disk ≡ D.failures core.old.store.disk) }
     ensures stalled { IfErr result (IsStalled D.SectorDisk E.SectorDisk core.old core.new pid page access) }
 {
@@ -108,9 +112,11 @@ fn grant_read<D: SectorDisk, E: SectorDisk>(
     ensures entered { IfOk result (λ frame. IsEntered (picture_of core.new) pid page attr access frame.0) }
     ensures ready { IfOk result (λ frame. IsReadyAt (picture_of core.old) (picture_of core.new) pid page attr access frame.0) }
     ensures others { KeepsOtherViews (picture_of core.old) (picture_of core.new) pid page }
+    ensures slotted { KeepsSlotted (ShowsFile (picture_of core.old) pid page) (IsThatPage pid page) (picture_of core.old) (picture_of core.new) }
     ensures calm { (Wants (picture_of core.old) pid page access → ⊥) → IsCalm core.old core.new pid page }
     ensures read { (core.new.store ≡ core.old.store) ⊎ ReadsHome (picture_of core.old) pid page }
     ensures not_refused { OnOk result (core.new.refused.number ≡ core.old.refused.number) }
+    ensures swap_calm { OnOk result (E.failures core.new.swap.pages.disk ≡ E.failures core.old.swap.pages.disk) }
     ensures device_calm { OnOk result (D.failures core.new.store.disk ≡ D.failures core.old.store.disk) }
     ensures stalled { IfErr result (IsStalled D.SectorDisk E.SectorDisk core.old core.new pid page access) }
 {
@@ -149,9 +155,11 @@ fn grant_store<D: SectorDisk, E: SectorDisk>(
     ensures entered { IfOk result (λ frame. IsEntered (picture_of core.new) pid page attr Access.Store frame.0) }
     ensures ready { IfOk result (λ frame. IsReadyAt (picture_of core.old) (picture_of core.new) pid page attr Access.Store frame.0) }
     ensures others { KeepsOtherViews (picture_of core.old) (picture_of core.new) pid page }
+    ensures slotted { KeepsSlotted (ShowsFile (picture_of core.old) pid page) (IsThatPage pid page) (picture_of core.old) (picture_of core.new) }
     ensures calm { (Wants (picture_of core.old) pid page Access.Store → ⊥) → IsCalm core.old core.new pid page }
     ensures read { (core.new.store ≡ core.old.store) ⊎ ReadsHome (picture_of core.old) pid page }
     ensures not_refused { OnOk result (core.new.refused.number ≡ core.old.refused.number) }
+    ensures swap_calm { OnOk result (E.failures core.new.swap.pages.disk ≡ E.failures core.old.swap.pages.disk) }
     ensures device_calm { OnOk result (D.failures core.new.store.disk ≡ D.failures core.old.store.disk) }
     ensures stalled { IfErr result (IsStalled D.SectorDisk E.SectorDisk core.old core.new pid page Access.Store) }
 {
@@ -187,9 +195,11 @@ fn grant_own<D: SectorDisk, E: SectorDisk>(
     ensures entered { IfOk result (λ frame. IsEntered (picture_of core.new) pid page attr Access.Store frame.0) }
     ensures ready { IfOk result (λ frame. IsReadyAt (picture_of core.old) (picture_of core.new) pid page attr Access.Store frame.0) }
     ensures others { KeepsOtherViews (picture_of core.old) (picture_of core.new) pid page }
+    ensures slotted { KeepsSlotted (ShowsFile (picture_of core.old) pid page) (IsThatPage pid page) (picture_of core.old) (picture_of core.new) }
     ensures calm { (Wants (picture_of core.old) pid page Access.Store → ⊥) → IsCalm core.old core.new pid page }
     ensures read { (core.new.store ≡ core.old.store) ⊎ ReadsHome (picture_of core.old) pid page }
     ensures not_refused { OnOk result (core.new.refused.number ≡ core.old.refused.number) }
+    ensures swap_calm { OnOk result (E.failures core.new.swap.pages.disk ≡ E.failures core.old.swap.pages.disk) }
     ensures device_calm { OnOk result (D.failures core.new.store.disk ≡ D.failures core.old.store.disk) }
     ensures stalled { IfErr result (IsStalled D.SectorDisk E.SectorDisk core.old core.new pid page Access.Store) }
 {
@@ -215,9 +225,11 @@ fn grant_copy<D: SectorDisk, E: SectorDisk>(
     ensures entered { IfOk result (λ frame. IsEntered (picture_of core.new) pid page attr Access.Store frame.0) }
     ensures ready { IfOk result (λ frame. IsReadyAt (picture_of core.old) (picture_of core.new) pid page attr Access.Store frame.0) }
     ensures others { KeepsOtherViews (picture_of core.old) (picture_of core.new) pid page }
+    ensures slotted { KeepsSlotted (ShowsFile (picture_of core.old) pid page) (IsThatPage pid page) (picture_of core.old) (picture_of core.new) }
     ensures calm { (Wants (picture_of core.old) pid page Access.Store → ⊥) → IsCalm core.old core.new pid page }
     ensures read { (core.new.store ≡ core.old.store) ⊎ ReadsHome (picture_of core.old) pid page }
     ensures not_refused { OnOk result (core.new.refused.number ≡ core.old.refused.number) }
+    ensures swap_calm { OnOk result (E.failures core.new.swap.pages.disk ≡ E.failures core.old.swap.pages.disk) }
     ensures device_calm { OnOk result (D.failures core.new.store.disk ≡ D.failures core.old.store.disk) }
     ensures stalled { IfErr result (IsStalled D.SectorDisk E.SectorDisk core.old core.new pid page Access.Store) }
 {
@@ -243,9 +255,11 @@ fn grant_shared<D: SectorDisk, E: SectorDisk>(
     ensures entered { IfOk result (λ frame. IsEntered (picture_of core.new) pid page attr Access.Store frame.0) }
     ensures ready { IfOk result (λ frame. IsReadyAt (picture_of core.old) (picture_of core.new) pid page attr Access.Store frame.0) }
     ensures others { KeepsOtherViews (picture_of core.old) (picture_of core.new) pid page }
+    ensures slotted { KeepsSlotted (ShowsFile (picture_of core.old) pid page) (IsThatPage pid page) (picture_of core.old) (picture_of core.new) }
     ensures calm { (Wants (picture_of core.old) pid page Access.Store → ⊥) → IsCalm core.old core.new pid page }
     ensures read { (core.new.store ≡ core.old.store) ⊎ ReadsHome (picture_of core.old) pid page }
     ensures not_refused { OnOk result (core.new.refused.number ≡ core.old.refused.number) }
+    ensures swap_calm { OnOk result (E.failures core.new.swap.pages.disk ≡ E.failures core.old.swap.pages.disk) }
     ensures device_calm { OnOk result (D.failures core.new.store.disk ≡ D.failures core.old.store.disk) }
     ensures stalled { IfErr result (IsStalled D.SectorDisk E.SectorDisk core.old core.new pid page Access.Store) }
 {

@@ -1,4 +1,4 @@
-//! Writes a file of an image out. What it takes and answers stands at `programs::pagecat`.
+//! Writes a file of an image out. What it takes and returns stands at `programs::pagecat`.
 #![tactic(auto)]
 
 use programs::{given_words, pagecat};

@@ -1,4 +1,4 @@
-//! Makes an image of a store. What it takes and answers stands at `programs::pagefmt`.
+//! Makes an image of a store. What it takes and returns stands at `programs::pagefmt`.
 #![tactic(auto)]
 
 use programs::{given_words, pagefmt};

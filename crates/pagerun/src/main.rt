@@ -1,4 +1,4 @@
-//! Runs a trace on an image. What it takes and answers stands at `programs::pagerun`.
+//! Runs a trace on an image. What it takes and returns stands at `programs::pagerun`.
 #![tactic(auto)]
 
 use programs::{given_words, pagerun};

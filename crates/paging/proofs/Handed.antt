@@ -14,6 +14,7 @@ use Rattle.paging.specs.Seats.{Seat, InFrame, InSlot, seat}
 use Rattle.paging.specs.Picture.{Picture, entry, held, bytes_at, is_data, own_in, bytes_in, IsOwned, count_in, page_in}
 use Rattle.paging.specs.Parts.{IsFitBut}
 use Rattle.paging.specs.Steps.{SameBeside}
+use Rattle.paging.specs.Ages.{Same}
 use Rattle.paging.specs.Evictions.{Spares}
 use Rattle.paging.proofs.Entries.{entries_kept}
 use Rattle.paging.proofs.Evicted.{seat_number}
@@ -80,6 +81,8 @@ module _ (old new : Picture) (n k : ℕ) (fit : IsFitBut old (InFrame n) 1 0) (o
     bytes = λ m ne used. releases.others.bytes m ne;
     ends = λ pid r p e. (let table = (fit.rooted.roots pid r e).table in (same_last old.frames new.frames fit.rooted.forest trees.forest trees.same 2 r p table ((trees.tables r).0 table)).0);
     entries = λ pid p h stays. same pid p;
+    ages = λ pid p h. Same (same pid p);
+    pointers = trees.same.forth;
     slots = λ j ne used. (ap (λ t. t.bytes j) beside.slots, ap (λ t. t.count j) beside.slots);
     total = ap (λ t. t.total) beside.slots;
     place = λ p ne. beside.place p;

@@ -1,5 +1,5 @@
 -- An own copy handed over to a slot.
-use Rattle.std.proofs.Common.{◌≡◌, ◌≢◌, ℕ, inl, inr, ◌⊎◌, ◌+◌, ◌*◌, ◌/◌, ◌%◌, ◌^◌, ◌<◌, true, false, [], Option, Some, None, get_or, refl, sym, ap, ◌∙◌, subst, arith}
+use Rattle.std.proofs.Common.{◌≡◌, ◌≢◌, ℕ, inl, inr, ◌⊎◌, ◌+◌, ◌*◌, ◌/◌, ◌%◌, ◌^◌, ◌<◌, true, false, [], Option, Some, None, get_or, refl, sym, ap, ◌∙◌, subst, arith, ne_eqb}
 use Rattle.std.proofs.lemmas.Bool.{cases_eq, cases_Bool, false≢true}
 use Rattle.vm_types.specs.declared.file.FilePage.{FilePage}
 use Rattle.page_cache.specs.declared.place.Place.{Place}
@@ -15,6 +15,9 @@ use Rattle.paging.specs.Seats.{Seat, InFrame, InSlot, seat, is_private, is_swapp
 use Rattle.paging.specs.Picture.{Picture, entry, view, held, bytes_at, bytes_in}
 use Rattle.paging.specs.Parts.{IsEntryFor, Nothing, Resident, Away, IsFitBut, IsFit}
 use Rattle.paging.specs.Steps.{SameBeside, SetsPage}
+use Rattle.paging.specs.declared.leaves.Change.TheVariants.{Forget}
+use Rattle.paging.specs.Leaves.{concerns}
+use Rattle.paging.specs.Ages.{Ages, Same, Left}
 use Rattle.paging.specs.Evictions.{HasShare}
 use Rattle.paging.proofs.Entries.{entry-of}
 use Rattle.paging.proofs.TableSteps.{sets_page, rooted_set}
@@ -157,6 +160,15 @@ module _ (old mid new : Picture) (k pid r page n number : ℕ) (share : HasShare
   here_resident : is_swapped (entry old pid page) ≡ false
   here_resident = own_not_swapped old (old.at pid page) (entry old pid page) (share.fit.granting.entries pid page h) (frame_seat (entry old pid page) n from)
 
+  here_concerned : concerns Forget (entry old pid page) ≡ true
+  here_concerned =
+      let some : entry old pid page ≢ 0 = λ none. (let bad : None ≡ Some (InFrame n) = sym (ap seat none ∙ seat-none) ∙ from in (cc)) in
+      rw (ne_eqb (entry old pid page) 0 some, here_resident) refl
+
+  -- the entry lost its frame to the slot
+  here_ages : Ages (λ m. m ≡ n) (entry old pid page) (entry mid pid page)
+  here_ages = Left here_concerned here_frame (inl (frame_seat (entry old pid page) n from, ap is_swapped set_page.changed ∙ away.swapped))
+
   hand_spares : bytes_in old.frames old.slots (InSlot k) ≡ bytes_in old.frames old.slots (InFrame n) → Spares n k old mid
   hand_spares alike = record {
     pages = record {
@@ -181,6 +193,14 @@ module _ (old mid new : Picture) (k pid r page n number : ℕ) (share : HasShare
           absurd (not_here (subst Q e.1 (subst P e.0 stays)) here_frame here_resident))
       | inr other ↦ set_page.others q p h' other
     ];
+    ages = λ q p h'. elim (by_page q p pid page) [
+      | inl e ↦ (
+          let P : ℕ → Type 0 = λ x. Ages (λ m. m ≡ n) (entry old x p) (entry mid x p) in
+          let Q : ℕ → Type 0 = λ x. Ages (λ m. m ≡ n) (entry old pid x) (entry mid pid x) in
+          subst P (sym e.0) (subst Q (sym e.1) here_ages))
+      | inr other ↦ Same (set_page.others q p h' other)
+    ];
+    pointers = λ a i m. (sets.pointers a i m).0;
     slots = λ j ne used. (ap (λ t. t.bytes j) beside.slots, ap (λ t. t.count j) beside.slots);
     total = ap (λ t. t.total) beside.slots;
     place = λ p ne. beside.place p;

@@ -254,6 +254,7 @@ module _ (old new : Picture) (change : Change) (n pid r page number : ℕ) (fit 
           view_kept old new q p (beside.at q p) (own_kept (seat (entry old q p)) (seat (entry new q p)) (seats q p h') (λ z is. seat_bytes z (fit.counted.1.named q p z h' is))))
     ];
     ends = λ q x p e. last_set old.frames new.frames r page number fit.rooted.forest sets x p (fit.rooted.roots q x e).table;
+    pointers = λ m i t. (sets.pointers m i t).0;
     entries = λ q p h'. elim (by_page q p pid page) [
       | inl e ↦ (
           let P : ℕ → Type 0 = λ x. IsOver old change n x p × IsChanged change (entry old x p) (entry new x p) in
@@ -277,6 +278,7 @@ changes_none change n c = record {
   counts = λ m. refl;
   views = λ q p. refl;
   ends = λ q r p e. refl;
+  pointers = λ m i t points. points;
   entries = λ q p h. inl refl;
 }
 
@@ -304,6 +306,7 @@ changes_then change n a b c f g = record {
   counts = λ m. g.counts m ∙ f.counts m;
   views = λ q p. g.views q p ∙ f.views q p;
   ends = λ q r p e. g.ends q r p (f.beside.root q ∙ e) ∙ f.ends q r p e;
+  pointers = λ m i t points. g.pointers m i t (f.pointers m i t points);
   entries = λ q p h. elim (f.entries q p h) [
     | inl same ↦ elim (g.entries q p h) [
       | inl was ↦ inl (was ∙ same)

@@ -18,6 +18,7 @@ use Rattle.page_cache.specs.declared.place.Place.TheVariants.{Home, Frame, Slot}
 use Rattle.paging.specs.Seats.{Seat, InFrame, InSlot, seat, is_private, is_swapped}
 use Rattle.paging.specs.declared.leaves.Change.TheVariants.{Forget}
 use Rattle.paging.specs.Leaves.{IsClear}
+use Rattle.paging.specs.Ages.{Same}
 use Rattle.paging.specs.Evictions.{Spares}
 use Rattle.paging.proofs.LeafSteps.{cases_attr}
 use Rattle.paging.proofs.Moves.{view_kept, view-none}
@@ -304,6 +305,8 @@ module _ (old new : Picture) (page : FilePage) (v : ℕ) (at : Place) (x : Seat)
     bytes = λ n ne used. leaves.frames.bytes n ne;
     ends = λ pid r p e. (let table = (fit.rooted.roots pid r e).table in (same_last old.frames new.frames fit.rooted.forest trees.forest trees.same 2 r p table ((trees.tables r).0 table)).0);
     entries = λ pid p h stays. same pid p h;
+    ages = λ pid p h. Same (same pid p h);
+    pointers = trees.same.forth;
     slots = λ j ne used. (ap (λ t. t.bytes j) leaves.slots, ap (λ t. t.count j) leaves.slots);
     total = ap (λ t. t.total) leaves.slots;
     place = λ p ne. leaves.others p (λ e. ne (ap old.place e ∙ leaves.was));

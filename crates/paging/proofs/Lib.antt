@@ -36,3 +36,5 @@ pub mod Taking
 pub mod Returning
 pub mod Mapping
 pub mod Exiting
+pub mod Aging
+pub mod Giving

@@ -3,15 +3,16 @@ use Rattle.std.proofs.Common.{◌≡◌, ◌≢◌, ℕ, inl, inr, ◌<◌, List
 use Rattle.std.specs.Prelude.{option_map}
 use Rattle.std.proofs.lemmas.Bool.{cases_eq}
 use Rattle.vm_types.specs.declared.file.FilePage.{FilePage}
-use Rattle.frames.specs.FrameTable.{frame_count, role_of, count_of, bytes_of}
+use Rattle.frames.specs.FrameTable.{FrameTable, frame_count, role_of, count_of, bytes_of}
 use Rattle.sv39_walk.specs.Entry.{frame_of}
 use Rattle.swap.specs.Slots.{SlotTable, IsInUse, Same, Puts, Shares}
-use Rattle.page_tables.specs.Tree.{IsPage, last_table}
+use Rattle.page_tables.specs.Tree.{IsPage, Points, last_table}
 use Rattle.page_cache.specs.declared.place.Place.{Place}
 use Rattle.page_cache.specs.declared.place.Place.TheVariants.{Home, Frame, Slot}
 use Rattle.paging.specs.Seats.{Seat, InFrame, InSlot, seat}
 use Rattle.paging.specs.Picture.{Picture, entry, held, bytes_at, own_in, bytes_in, IsOwned, count_in, page_in}
 use Rattle.paging.specs.Parts.{IsFit, nowhere}
+use Rattle.paging.specs.Ages.{Same as SameAge}
 use Rattle.paging.specs.Evictions.{HasShare, Spares}
 use Rattle.paging.proofs.Granting.{granting_same}
 use Rattle.paging.proofs.LeafSteps.{cases_attr}
@@ -74,6 +75,8 @@ module _ (old new : Picture) (fit : IsFit old) (same : SameButSlots old new)
     bytes = λ n ne used. ap (λ t. bytes_of t n) same.frames;
     ends = λ pid r p e. ap (λ t. last_table t p 2 r) same.frames;
     entries = λ pid p h stays. same.entries pid p;
+    ages = λ pid p h. SameAge (same.entries pid p);
+    pointers = λ n i m points. (let P : FrameTable → Type 0 = λ t. Points t n i m in subst P (sym same.frames) points);
     slots = λ j ne used. (kept j used, counts j ne used);
     total = total;
     place = λ p ne. same.place p;

@@ -12,16 +12,20 @@ use Rattle.swap.specs.declared.slots.Swap.{Swap}
 use Rattle.swap.specs.Slots.{IsInUse, slots_of}
 use Rattle.page_cache.specs.declared.place.Place.{Place}
 use Rattle.page_cache.specs.declared.place.Place.TheVariants.{Home, Frame, Slot}
-use Rattle.page_tables.specs.Tree.{missing_of, last_table}
+use Rattle.page_tables.specs.Tree.{IsPage, missing_of, last_table}
 use Rattle.page_tables.proofs.Ends.{missing_of-is}
 use Rattle.paging.specs.declared.leaves.Change.{Change}
+use Rattle.paging.specs.declared.leaves.Change.TheVariants.{Forget}
 use Rattle.paging.specs.Seats.{is_swapped}
 use Rattle.paging.specs.Picture.{Picture, entry, held, bytes_at, is_data}
 use Rattle.paging.specs.Parts.{IsFit}
-use Rattle.paging.specs.Calls.{Frees, IsKept, IsStaying}
+use Rattle.paging.specs.Ages.{Same, Left}
+use Rattle.paging.specs.Calls.{Frees, KeepsPages, IsKept, IsStaying}
 use Rattle.paging.specs.Evictions.{Spares, GivesUp}
 use Rattle.paging.specs.Leaves.{Changes, IsOver}
+use Rattle.paging.proofs.Aging.{ages_then}
 use Rattle.paging.proofs.Bits.{some_framed}
+use Rattle.paging.proofs.LeafSteps.{over_common}
 use Rattle.paging.proofs.Places.{one_frame}
 use Rattle.paging.proofs.Shown.{keeps_then}
 
@@ -43,6 +47,16 @@ cases_place (Frame n) v = elim (cases_eq n.0 v) [
   | inr ne ↦ inr (λ e. ne (one_frame v n.0 (sym e)))
 ]
 
+-- what stays isn't over a frame that isn't kept
+not_kept : (v : ℕ) (keep : Option FrameNo) → (IsKept keep v → ⊥) → (n : ℕ) → IsKept keep n → n ≢ v
+not_kept v keep other n kept e = let P : ℕ → Type 0 = λ i. IsKept keep i in other (subst P e kept)
+
+staying : (v : ℕ) (keep : Option FrameNo) → v ≢ 0 → (IsKept keep v → ⊥) → (e : ℕ) → IsStaying keep e → (e ≡ 0) ⊎ ((is_swapped e ≡ true) ⊎ (frame_of e ≢ v))
+staying v keep above other e (inl none) = inl none
+staying v keep above other e (inr (inl away)) = inr (inl away)
+staying v keep above other e (inr (inr (inl zero_page))) = inr (inr (λ is. above (sym is ∙ zero_page)))
+staying v keep above other e (inr (inr (inr kept))) = inr (inr (not_kept v keep other (frame_of e) kept))
+
 -- the frame isn't kept: what was to stay does
 pub frees_of : (v k : ℕ) (old new : Picture) (keep : Option FrameNo) → Spares v k old new → v ≢ 0
     → ((j : ℕ) → IsInUse old.slots j → (new.slots.bytes j ≡ old.slots.bytes j) × (new.slots.count j ≡ old.slots.count j)) → (IsKept keep v → ⊥) → Frees old new keep
@@ -55,58 +69,63 @@ frees_of v k old new keep s above slots other = record {
   ];
   missing = λ pid r page e. missing_ends old new r page (s.ends pid r page e);
   ends = s.ends;
-  entries = λ pid page h stays. s.entries pid page h (staying pid page stays);
+  entries = λ pid page h stays. s.entries pid page h (staying v keep above other (entry old pid page) stays);
   slots = slots;
   total = s.total;
   home = λ p e. s.place p (λ there. (let bad : Home ≡ Frame (record { 0 = v }) = sym e ∙ there in (cc))) ∙ e;
   slotted = λ p j e. s.place p (λ there. (let bad : Slot (record { 0 = j }) ≡ Frame (record { 0 = v }) = sym e ∙ there in (cc))) ∙ e;
-  kept_place = λ p n kept e. s.place p (λ there. not_v n kept (one_frame v n (sym there ∙ e))) ∙ e;
-  kept_role = λ n kept. s.roles n (not_v n kept);
-  kept_count = λ n kept. s.counts n (not_v n kept);
-  kept_bytes = λ n kept datum. s.bytes n (not_v n kept) datum;
+  kept_place = λ p n kept e. s.place p (λ there. not_kept v keep other n kept (one_frame v n (sym there ∙ e))) ∙ e;
+  kept_role = λ n kept. s.roles n (not_kept v keep other n kept);
+  kept_count = λ n kept. s.counts n (not_kept v keep other n kept);
+  kept_bytes = λ n kept datum. s.bytes n (not_kept v keep other n kept) datum;
 }
-  where
-    not_v : (n : ℕ) → IsKept keep n → n ≢ v
-    not_v n kept e = (let P : ℕ → Type 0 = λ i. IsKept keep i in other (subst P e kept))
-
-    staying : (pid page : ℕ) → IsStaying keep (entry old pid page) → (entry old pid page ≡ 0) ⊎ ((is_swapped (entry old pid page) ≡ true) ⊎ (frame_of (entry old pid page) ≢ v))
-    staying pid page (inl none) = inl none
-    staying pid page (inr (inl away)) = inr (inl away)
-    staying pid page (inr (inr (inl zero_page))) = inr (inr (λ e. above (sym e ∙ zero_page)))
-    staying pid page (inr (inr (inr kept))) = inr (inr (not_v _ kept))
 
 -- changed entries show nothing
-pub changes_spares : (change : Change) (n k : ℕ) (old new : Picture) → IsFit old → Changes change n old new → Spares n k old new
-unfolding held
-changes_spares change n k old new fit ch = record {
-  pages = record { root = ch.beside.root; at = ch.beside.at; views = ch.views; files = record { held = λ p. inl (held_same p); touched = ch.beside.touched; files = ch.beside.files } };
+module _ (change : Change) (n : ℕ) (old new : Picture) (fit : IsFit old) (ch : Changes change n old new) where
+  not_over : (pid page : ℕ) → IsOver old change n pid page → (entry old pid page ≡ 0) ⊎ ((is_swapped (entry old pid page) ≡ true) ⊎ (frame_of (entry old pid page) ≢ n)) → ⊥
+  not_over pid page over (inl none) = (some_framed change (entry old pid page) over.concerned).0 none
+  not_over pid page over (inr (inl away)) = false≢true (sym (some_framed change (entry old pid page) over.concerned).1 ∙ away)
+  not_over pid page over (inr (inr other)) = other over.frame
+
+  entries_unchanged : (pid page : ℕ) → IsPage 2 page → (entry old pid page ≡ 0) ⊎ ((is_swapped (entry old pid page) ≡ true) ⊎ (frame_of (entry old pid page) ≢ n))
+      → entry new pid page ≡ entry old pid page
+  entries_unchanged pid page h stays = elim (ch.entries pid page h) [
+    | inl same ↦ same
+    | inr was ↦ absurd (not_over pid page was.0 stays)
+  ]
+
+  bytes_there : (x : Place) → ((m : ℕ) → x ≡ Frame (record { 0 = m }) → role_of old.frames m ≢ Table) → bytes_at new.frames new.slots x ≡ bytes_at old.frames old.slots x
+  bytes_there Home datum = refl
+  bytes_there (Frame m) datum = ap (λ (w : _). Some w) (ch.bytes m.0 (datum m.0 refl))
+  bytes_there (Slot j) datum = ap (λ t. Some (t.bytes j.0)) ch.beside.slots
+
+  held_same : (p : FilePage) → held new p ≡ held old p
+  unfolding held
+  held_same p = ap (λ x. bytes_at new.frames new.slots x) (ch.beside.place p) ∙ bytes_there (old.place p) (λ m is table. (let bad : Cache ≡ Table = sym (fit.places.cached p m is) ∙ table in (cc)))
+
+  pages_unchanged : KeepsPages old new
+  pages_unchanged = record { root = ch.beside.root; at = ch.beside.at; views = ch.views; files = record { held = λ p. inl (held_same p); touched = ch.beside.touched; files = ch.beside.files } }
+
+-- entries over a file page's frame were forgotten
+pub forgotten_spares : (n k : ℕ) (old new : Picture) → IsFit old → role_of old.frames n ≡ Cache → Changes Forget n old new → Spares n k old new
+forgotten_spares n k old new fit cache ch = record {
+  pages = pages_unchanged Forget n old new fit ch;
   count = ch.frames;
   roles = λ m ne. ch.roles m;
   role = inl (ch.roles n);
   counts = λ m ne. ch.counts m;
   bytes = λ m ne. ch.bytes m;
   ends = ch.ends;
-  entries = λ pid page h stays. elim (ch.entries pid page h) [
-    | inl same ↦ same
-    | inr was ↦ absurd (not_over pid page was.0 stays)
+  entries = entries_unchanged Forget n old new fit ch;
+  ages = λ pid page h. elim (ch.entries pid page h) [
+    | inl same ↦ Same same
+    | inr was ↦ Left was.0.concerned was.0.frame (inr (over_common old Forget n pid page fit h was.0 cache, was.1))
   ];
+  pointers = ch.pointers;
   slots = λ j ne used. (ap (λ t. t.bytes j) ch.beside.slots, ap (λ t. t.count j) ch.beside.slots);
   total = ap (λ t. t.total) ch.beside.slots;
   place = λ p ne. ch.beside.place p;
 }
-  where
-    not_over : (pid page : ℕ) → IsOver old change n pid page → (entry old pid page ≡ 0) ⊎ ((is_swapped (entry old pid page) ≡ true) ⊎ (frame_of (entry old pid page) ≢ n)) → ⊥
-    not_over pid page over (inl none) = (some_framed change (entry old pid page) over.concerned).0 none
-    not_over pid page over (inr (inl away)) = false≢true (sym (some_framed change (entry old pid page) over.concerned).1 ∙ away)
-    not_over pid page over (inr (inr other)) = other over.frame
-
-    bytes_there : (x : Place) → ((m : ℕ) → x ≡ Frame (record { 0 = m }) → role_of old.frames m ≢ Table) → bytes_at new.frames new.slots x ≡ bytes_at old.frames old.slots x
-    bytes_there Home datum = refl
-    bytes_there (Frame m) datum = ap (λ (w : _). Some w) (ch.bytes m.0 (datum m.0 refl))
-    bytes_there (Slot j) datum = ap (λ t. Some (t.bytes j.0)) ch.beside.slots
-
-    held_same : (p : FilePage) → held new p ≡ held old p
-    held_same p = ap (λ x. bytes_at new.frames new.slots x) (ch.beside.place p) ∙ bytes_there (old.place p) (λ m is table. (let bad : Cache ≡ Table = sym (fit.places.cached p m is) ∙ table in (cc)))
 
 pub spares_then : (v k : ℕ) (a b c : Picture) → Spares v k a b → Spares v k b c → Spares v k a c
 spares_then v k a b c f g = record {
@@ -127,6 +146,8 @@ spares_then v k a b c f g = record {
       let first = f.entries pid page h stays in
       let P : ℕ → Type 0 = λ e. (e ≡ 0) ⊎ ((is_swapped e ≡ true) ⊎ (frame_of e ≢ v)) in
       g.entries pid page h (subst P (sym first) stays) ∙ first);
+  ages = λ pid page h. ages_then (λ n. n ≡ v) (entry a pid page) (entry b pid page) (entry c pid page) (f.ages pid page h) (g.ages pid page h);
+  pointers = λ n i m points. g.pointers n i m (f.pointers n i m points);
   slots = λ j ne used. (
       let first = f.slots j ne used in
       let P : ℕ → Type 0 = λ n. 0 < n in
@@ -146,6 +167,8 @@ spares_none v k c = record {
   bytes = λ n ne used. refl;
   ends = λ pid r page e. refl;
   entries = λ pid page h stays. refl;
+  ages = λ pid page h. Same refl;
+  pointers = λ n i m points. points;
   slots = λ j ne used. (refl, refl);
   total = refl;
   place = λ p ne. refl;
@@ -206,8 +229,22 @@ gives_frees v old new keep gives above other =
     frees_of v gives.0 old new keep gives.2 above (λ j used. gives.2.slots j (λ e. (let P : ℕ → Type 0 = λ i. IsInUse old.slots i in gives.1 (subst P e used))) used) other
 
 pub changes_frees : (change : Change) (n : ℕ) (old new : Picture) (keep : Option FrameNo) → IsFit old → Changes change n old new → n ≢ 0 → (IsKept keep n → ⊥) → Frees old new keep
-changes_frees change n old new keep fit ch above other =
-    frees_of n 0 old new keep (changes_spares change n 0 old new fit ch) above (λ j used. (ap (λ t. t.bytes j) ch.beside.slots, ap (λ t. t.count j) ch.beside.slots)) other
+changes_frees change n old new keep fit ch above other = record {
+  pages = pages_unchanged change n old new fit ch;
+  count = ch.frames;
+  roles = λ m. inl (ch.roles m);
+  missing = λ pid r page e. missing_ends old new r page (ch.ends pid r page e);
+  ends = ch.ends;
+  entries = λ pid page h stays. entries_unchanged change n old new fit ch pid page h (staying n keep above other (entry old pid page) stays);
+  slots = λ j used. (ap (λ t. t.bytes j) ch.beside.slots, ap (λ t. t.count j) ch.beside.slots);
+  total = ap (λ t. t.total) ch.beside.slots;
+  home = λ p e. ch.beside.place p ∙ e;
+  slotted = λ p j e. ch.beside.place p ∙ e;
+  kept_place = λ p m kept e. ch.beside.place p ∙ e;
+  kept_role = λ m kept. ch.roles m;
+  kept_count = λ m kept. ch.counts m;
+  kept_bytes = λ m kept. ch.bytes m;
+}
 
 -- a slot past the last isn't in use
 pub past_unused : {E : Type 0} (s : Swap E) → IsInUse (slots_of s) (slots_of s).total → ⊥

@@ -145,9 +145,9 @@ module _ {E : Type 0} (g : Ghosts E) where
     pub later : g.failures old ≤ g.failures new
 
   module _ {D : Type 0} where
-    -- what a stall comes from, and what is counted of it
+    -- what a stall comes from, and what is counted of it: where it doesn't name the device, that counted no failure
     abbrev pub StallCause : Core D E → Core D E → Stall → Type 0
-    StallCause old new NoFrames = new.refused.number ≡ old.refused.number + 1
-    StallCause old new NoSwap = new.refused.number ≡ old.refused.number + 1
+    StallCause old new NoFrames = (new.refused.number ≡ old.refused.number + 1) × (g.failures new.swap.pages.disk ≡ g.failures old.swap.pages.disk)
+    StallCause old new NoSwap = (new.refused.number ≡ old.refused.number + 1) × (g.failures new.swap.pages.disk ≡ g.failures old.swap.pages.disk)
     StallCause old new SwapDevice = (new.refused.number ≡ old.refused.number) × (g.failures old.swap.pages.disk < g.failures new.swap.pages.disk)
     StallCause old new StoreDevice = ⊥

@@ -8,7 +8,7 @@ use Rattle.frames.specs.FrameTable.{frame_count, bytes_of, role_of, count_of}
 use Rattle.sv39_walk.specs.Entry.{frame_of}
 use Rattle.swap.specs.Slots.{IsInUse, IsFull}
 use Rattle.page_cache.specs.declared.place.Place.TheVariants.{Frame}
-use Rattle.page_tables.specs.Tree.{IsPage, last_table}
+use Rattle.page_tables.specs.Tree.{IsPage, Points, last_table}
 use Rattle.paging.specs.declared.kernel.Core.{Core}
 use Rattle.paging.specs.declared.leaves.Change.TheVariants.{ClearAccessed}
 use Rattle.paging.specs.Seats.{InSlot, is_swapped}
@@ -16,6 +16,7 @@ use Rattle.paging.specs.Picture.{Picture, entry, IsOwned, is_data}
 use Rattle.paging.specs.Parts.{IsFitBut}
 use Rattle.paging.specs.Calls.{KeepsPages, IsSpareable, NeedsSlot}
 use Rattle.paging.specs.Leaves.{IsMarked}
+use Rattle.paging.specs.Ages.{Ages, KeepsRoles}
 
 -- slot k has a share for which no entry names it yet, at that page
 pub record HasShare (c : Picture) (k page : ℕ) : Type 0 where
@@ -44,6 +45,8 @@ pub record Spares (v k : ℕ) (old new : Picture) : Type 0 where
   pub ends : (pid r page : ℕ) → old.root pid ≡ Some r → last_table new.frames page top_level r ≡ last_table old.frames page top_level r
   pub entries : (pid page : ℕ) → IsPage top_level page → (entry old pid page ≡ 0) ⊎ ((is_swapped (entry old pid page) ≡ true) ⊎ (frame_of (entry old pid page) ≢ v))
       → entry new pid page ≡ entry old pid page
+  pub ages : (pid page : ℕ) → IsPage top_level page → Ages (λ n. n ≡ v) (entry old pid page) (entry new pid page)
+  pub pointers : (n i m : ℕ) → Points old.frames n i m → Points new.frames n i m
   pub slots : (j : ℕ) → j ≢ k → IsInUse old.slots j → (new.slots.bytes j ≡ old.slots.bytes j) × (new.slots.count j ≡ old.slots.count j)
   pub total : new.slots.total ≡ old.slots.total
   pub place : (p : FilePage) → old.place p ≢ Frame (record { 0 = v }) → new.place p ≡ old.place p
@@ -59,6 +62,12 @@ IsAccessed c n = (is_data (role_of c.frames n) ≡ true) × IsMarked c ClearAcce
 -- frame v is given up, or was to be: at most one slot is in use that wasn't
 abbrev pub GivesUp : ℕ → Picture → Picture → Type 0
 GivesUp v old new = (k : ℕ) × (IsInUse old.slots k → ⊥) × Spares v k old new
+
+-- marks of accesses alone were cleared
+pub record ClearsMarks (old new : Picture) : Type 0 where
+  pub roles : KeepsRoles old new
+  pub entries : (pid page : ℕ) → IsPage top_level page → Ages (λ n. ⊥) (entry old pid page) (entry new pid page)
+  pub pointers : (n i m : ℕ) → Points old.frames n i m → Points new.frames n i m
 
 module _ {D E : Type 0} where
   -- a look at frames: bits that grant nothing were cleared

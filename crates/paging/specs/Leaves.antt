@@ -8,7 +8,7 @@ use Rattle.vm_types.specs.Attributes.{attr_after, backed_by}
 use Rattle.frames.specs.declared.role.Role.TheVariants as Role
 use Rattle.frames.specs.FrameTable.{frame_count, bytes_of, role_of, count_of}
 use Rattle.sv39_walk.specs.Entry.{is_valid, can_read, can_write, can_execute, is_accessed, is_dirty, frame_of}
-use Rattle.page_tables.specs.Tree.{IsPage, last_table}
+use Rattle.page_tables.specs.Tree.{IsPage, Points, last_table}
 use Rattle.regions.specs.declared.run.Run.{Run}
 use Rattle.page_cache.specs.declared.place.Place.TheVariants.{Frame}
 use Rattle.paging.specs.declared.kernel.Core.{Core}
@@ -75,6 +75,7 @@ pub record Changes (change : Change) (n : ℕ) (old new : Picture) : Type 0 wher
   pub counts : (m : ℕ) → count_of new.frames m ≡ count_of old.frames m
   pub views : (pid page : ℕ) → view new pid page ≡ view old pid page
   pub ends : (pid r page : ℕ) → old.root pid ≡ Some r → last_table new.frames page top_level r ≡ last_table old.frames page top_level r
+  pub pointers : (n i m : ℕ) → Points old.frames n i m → Points new.frames n i m
   pub entries : (pid page : ℕ) → IsPage top_level page
       → (entry new pid page ≡ entry old pid page) ⊎ (IsOver old change n pid page × IsChanged change (entry old pid page) (entry new pid page))
 

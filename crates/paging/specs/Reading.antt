@@ -23,10 +23,10 @@ module _ {D : Type 0} (g : Ghosts D) where
   IsRead before after p bytes = g.keeps_model after → bytes ≡ standing_page (g.content before) p.file p.page
 
   module _ {E : Type 0} (h : Ghosts E) where
-    -- What a stall comes from, and what is counted of it. The device that it names failed, and where it doesn't name the
-    -- store's that one counted no failure.
+    -- What a stall comes from, and what is counted of it. The device that it names failed, and the other one,
+    -- or both where it names none, counted no failure.
     abbrev pub ReadCause : Core D E → Core D E → Stall → Type 0
-    ReadCause old new NoFrames = (new.refused.number ≡ old.refused.number + 1) × (g.failures new.store.disk ≡ g.failures old.store.disk)
-    ReadCause old new NoSwap = (new.refused.number ≡ old.refused.number + 1) × (g.failures new.store.disk ≡ g.failures old.store.disk)
+    ReadCause old new NoFrames = (new.refused.number ≡ old.refused.number + 1) × (g.failures new.store.disk ≡ g.failures old.store.disk) × (h.failures new.swap.pages.disk ≡ h.failures old.swap.pages.disk)
+    ReadCause old new NoSwap = (new.refused.number ≡ old.refused.number + 1) × (g.failures new.store.disk ≡ g.failures old.store.disk) × (h.failures new.swap.pages.disk ≡ h.failures old.swap.pages.disk)
     ReadCause old new SwapDevice = (new.refused.number ≡ old.refused.number) × (g.failures new.store.disk ≡ g.failures old.store.disk) × (h.failures old.swap.pages.disk < h.failures new.swap.pages.disk)
-    ReadCause old new StoreDevice = (new.refused.number ≡ old.refused.number) × (g.failures old.store.disk < g.failures new.store.disk)
+    ReadCause old new StoreDevice = (new.refused.number ≡ old.refused.number) × (g.failures old.store.disk < g.failures new.store.disk) × (h.failures new.swap.pages.disk ≡ h.failures old.swap.pages.disk)

@@ -5,11 +5,12 @@ use Rattle.vm_types.specs.declared.number.FrameNo.{FrameNo}
 use Rattle.paging.specs.declared.kernel.Core.{Core}
 use Rattle.paging.specs.Picture.{Picture, picture_of}
 use Rattle.paging.specs.Calls.{Frees}
-use Rattle.paging.specs.Evictions.{Looked}
+use Rattle.paging.specs.Evictions.{ClearsMarks, Looked}
 
 module _ {D E : Type 0} where
   pub record Follows (old new : Core D E) (keep keep' : Option FrameNo) : Type 0 where
     pub kept : keep' ≡ keep
     pub frees : (s : Picture) → Frees s (picture_of old) keep → Frees s (picture_of new) keep'
+    pub marks : (s : Picture) → ClearsMarks s (picture_of old) → ClearsMarks s (picture_of new)
     pub full : IsFull old.frames → IsFull new.frames
     pub looked : Looked old new

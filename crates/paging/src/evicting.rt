@@ -1,5 +1,5 @@
 //! A frame given up: its own copies go to a slot, its file page to a slot or home.
-ghost use Rattle.std.specs.Prelude.{◌≡◌, ℕ, true, false, IfErr, OnOk};
+ghost use Rattle.std.specs.Prelude.{◌≡◌, ℕ, true, false, IfErr, OnOk, OnErr};
 ghost use Rattle.frames.specs.declared.role.Role.TheVariants as Roles;
 ghost use Rattle.frames.specs.FrameTable.{IsFrame, role_of};
 ghost use Rattle.page_cache.specs.declared.place.Place.TheVariants.{Frame};
@@ -7,6 +7,7 @@ ghost use Rattle.swap.specs.Slots.{slots_of, IsReady, IsFull};
 ghost use Rattle.vm_types.specs.declared.refusal.Stall.TheVariants as Stalls;
 ghost use Rattle.paging.specs.Picture.{picture_of, is_data};
 ghost use Rattle.paging.specs.Parts.{IsFit};
+ghost use Rattle.paging.specs.Ages.{KeepsRoles};
 ghost use Rattle.paging.specs.Calls.{NeedsSlot, UsesDevice, StallCause};
 ghost use Rattle.paging.specs.Evictions.{Spares, GivesUp, KeepsPlain};
 
@@ -54,8 +55,10 @@ fn send_away<D, E: SectorDisk>(
     ensures swap { IsReady E.SectorDisk core.new.swap }
     ensures gives { GivesUp victim.0 (picture_of core.old) (picture_of core.new) }
     ensures free { OnOk result (role_of core.new.frames victim.0 ≡ Roles.Free) }
+    ensures still { OnErr result (KeepsRoles (picture_of core.old) (picture_of core.new)) }
     ensures plain { KeepsPlain core.old core.new }
     ensures device { UsesDevice E.SectorDisk core.old.swap.pages.disk core.new.swap.pages.disk }
+    ensures swap_calm { OnOk result (E.failures core.new.swap.pages.disk ≡ E.failures core.old.swap.pages.disk) }
     ensures fault { IfErr result (λ s. s ≡ Stalls.SwapDevice) }
     ensures cause { IfErr result (StallCause E.SectorDisk core.old core.new) }
 {
@@ -85,8 +88,10 @@ fn send_copies<D, E: SectorDisk>(core: &mut Core<D, E>, victim: FrameNo) -> Resu
     ensures swap { IsReady E.SectorDisk core.new.swap }
     ensures gives { GivesUp victim.0 (picture_of core.old) (picture_of core.new) }
     ensures free { OnOk result (role_of core.new.frames victim.0 ≡ Roles.Free) }
+    ensures still { OnErr result (KeepsRoles (picture_of core.old) (picture_of core.new)) }
     ensures plain { KeepsPlain core.old core.new }
     ensures device { UsesDevice E.SectorDisk core.old.swap.pages.disk core.new.swap.pages.disk }
+    ensures swap_calm { OnOk result (E.failures core.new.swap.pages.disk ≡ E.failures core.old.swap.pages.disk) }
     ensures fault { IfErr result (λ s. s ≡ Stalls.SwapDevice) }
     ensures cause { IfErr result (StallCause E.SectorDisk core.old core.new) }
 {
@@ -114,8 +119,10 @@ pub(crate) fn evict<D, E: SectorDisk>(core: &mut Core<D, E>, victim: FrameNo) ->
     ensures swap { IsReady E.SectorDisk core.new.swap }
     ensures gives { GivesUp victim.0 (picture_of core.old) (picture_of core.new) }
     ensures free { OnOk result (role_of core.new.frames victim.0 ≡ Roles.Free) }
+    ensures still { OnErr result (KeepsRoles (picture_of core.old) (picture_of core.new)) }
     ensures plain { KeepsPlain core.old core.new }
     ensures device { UsesDevice E.SectorDisk core.old.swap.pages.disk core.new.swap.pages.disk }
+    ensures swap_calm { OnOk result (E.failures core.new.swap.pages.disk ≡ E.failures core.old.swap.pages.disk) }
     ensures fault { IfErr result (λ s. s ≡ Stalls.SwapDevice) }
     ensures cause { IfErr result (StallCause E.SectorDisk core.old core.new) }
 {

@@ -6,7 +6,7 @@ ghost use Rattle.swap.specs.Slots.{slots_of};
 ghost use Rattle.paging.specs.Picture.{picture_of, is_data};
 ghost use Rattle.paging.specs.Parts.{IsFit};
 ghost use Rattle.paging.specs.Calls.{Frees, IsKept, IsSpareable, NeedsSlot};
-ghost use Rattle.paging.specs.Evictions.{IsEvictable, IsAccessed, Looked};
+ghost use Rattle.paging.specs.Evictions.{IsEvictable, IsAccessed, ClearsMarks, Looked};
 
 use crate::kernel::Core;
 use crate::leaves::{Change, change_leaves, has_leaf};
@@ -55,9 +55,9 @@ impl<D, E> FrameView for View<'_, D, E> {
         change_leaves(self.core, FrameNo(n), Change::ClearAccessed);
     }
 
-    ghost stays = { λ v. (refl, record { kept = refl; full = λ f. f; frees = λ s f. f; looked = record { store = refl; swap = refl; roots = refl; regions = refl; refused = refl } }) };
+    ghost stays = { λ v. (refl, record { kept = refl; marks = λ s f. f; full = λ f. f; frees = λ s f. f; looked = record { store = refl; swap = refl; roots = refl; regions = refl; refused = refl } }) };
 
-    ghost goes_on = { λ a b c p q. (q.0 ∙ p.0, record { kept = q.1.kept ∙ p.1.kept; full = λ f. q.1.full (p.1.full f); frees = λ s f. q.1.frees s (p.1.frees s f); looked = record { store = q.1.looked.store ∙ p.1.looked.store; swap = q.1.looked.swap ∙ p.1.looked.swap; roots = q.1.looked.roots ∙ p.1.looked.roots; regions = q.1.looked.regions ∙ p.1.looked.regions; refused = q.1.looked.refused ∙ p.1.looked.refused } }) };
+    ghost goes_on = { λ a b c p q. (q.0 ∙ p.0, record { kept = q.1.kept ∙ p.1.kept; marks = λ s f. q.1.marks s (p.1.marks s f); full = λ f. q.1.full (p.1.full f); frees = λ s f. q.1.frees s (p.1.frees s f); looked = record { store = q.1.looked.store ∙ p.1.looked.store; swap = q.1.looked.swap ∙ p.1.looked.swap; roots = q.1.looked.roots ∙ p.1.looked.roots; regions = q.1.looked.regions ∙ p.1.looked.regions; refused = q.1.looked.refused ∙ p.1.looked.refused } }) };
 }
 
 /// Whether the frame holds a page and isn't to be kept.
@@ -119,6 +119,7 @@ pub(crate) fn choose<D, E>(
     requires fit { IsFit (picture_of core.old) }
     ensures fit { IsFit (picture_of core.new) }
     ensures frees { Frees (picture_of core.old) (picture_of core.new) keep }
+    ensures marks { ClearsMarks (picture_of core.old) (picture_of core.new) }
     ensures looked { Looked core.old core.new }
     ensures full { IsFull core.old.frames → IsFull core.new.frames }
     ensures found { IfOk result (λ n. IsEvictable (picture_of core.new) keep n.0) }

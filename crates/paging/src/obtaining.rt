@@ -1,9 +1,10 @@
 //! A frame for a page.
 ghost use Rattle.frames.specs.FrameTable.{IsFrame, IsFull};
+ghost use Rattle.paging.specs.Ages.{GivesFrame, KeepsRoles};
 ghost use Rattle.paging.specs.Calls.{IsSpareable};
 ghost use Rattle.paging.specs.Shows.{ShowsPages};
 ghost use Rattle.vm_types.specs.State.{State};
-ghost use Rattle.std.specs.Prelude.{true, false, ℕ, ◌≡◌, ◌+◌, IsErr, IfOk, IfErr, OnOk, OnErr};
+ghost use Rattle.std.specs.Prelude.{true, false, ℕ, ◌≡◌, ◌+◌, ◌⊎◌, IsErr, IfOk, IfErr, OnOk, OnErr};
 ghost use Rattle.swap.specs.Slots.{IsReady};
 ghost use Rattle.paging.specs.Picture.{picture_of};
 ghost use Rattle.paging.specs.Parts.{IsFit};
@@ -36,11 +37,17 @@ pub fn obtain<D, E: SectorDisk>(
     ensures rest { KeepsRest core.old core.new }
     ensures device { UsesDevice E.SectorDisk core.old.swap.pages.disk core.new.swap.pages.disk }
     ensures free { IfOk result (λ n. IsFreeFrame core.new.frames n.0) }
+    ensures gives { IfOk result (λ n. GivesFrame (picture_of core.old) (picture_of core.new) n.0) }
+    ensures tried { OnErr result ((v : ℕ) × GivesFrame (picture_of core.old) (picture_of core.new) v) }
+    ensures still { OnErr result (KeepsRoles (picture_of core.old) (picture_of core.new)) }
     ensures idle { (IsFull core.old.frames → ⊥) → core.new ≡ core.old }
+    ensures needed { IsFull core.old.frames ⊎ (core.new ≡ core.old) }
+    ensures full { OnErr result (IsFull core.new.frames) }
     ensures refuses { IfErr result (Refuses (picture_of core.new) keep) }
     ensures short { IfErr result (IsShort (picture_of core.new)) }
     ensures cause { IfErr result (StallCause E.SectorDisk core.old core.new) }
     ensures not_refused { OnOk result (core.new.refused.number ≡ core.old.refused.number) }
+    ensures swap_calm { OnOk result (E.failures core.new.swap.pages.disk ≡ E.failures core.old.swap.pages.disk) }
 {
     match core.frames.next_free() {
         Some(n) => Ok(n),
@@ -62,9 +69,13 @@ fn give_up<D, E: SectorDisk>(core: &mut Core<D, E>, keep: Option<FrameNo>) -> Re
     ensures rest { KeepsRest core.old core.new }
     ensures device { UsesDevice E.SectorDisk core.old.swap.pages.disk core.new.swap.pages.disk }
     ensures free { IfOk result (λ n. IsFreeFrame core.new.frames n.0) }
+    ensures gives { IfOk result (λ n. GivesFrame (picture_of core.old) (picture_of core.new) n.0) }
+    ensures tried { OnErr result ((v : ℕ) × GivesFrame (picture_of core.old) (picture_of core.new) v) }
+    ensures still { OnErr result (KeepsRoles (picture_of core.old) (picture_of core.new)) }
     ensures refuses { IfErr result (Refuses (picture_of core.new) keep) }
     ensures cause { IfErr result (StallCause E.SectorDisk core.old core.new) }
     ensures not_refused { OnOk result (core.new.refused.number ≡ core.old.refused.number) }
+    ensures swap_calm { OnOk result (E.failures core.new.swap.pages.disk ≡ E.failures core.old.swap.pages.disk) }
 {
     let choice = choose(core, keep);
     match choice {

@@ -1,14 +1,15 @@
 //! What the calls above do to memory, a step at a time.
-ghost use Rattle.std.specs.Prelude.{◌≡◌, ◌≢◌, None, IfOk, IfErr, OnOk, OnErr};
+ghost use Rattle.std.specs.Prelude.{◌≡◌, ◌≢◌, ℕ, Option, None, IfOk, IfErr, OnOk, OnErr};
 ghost use Rattle.file_store.specs.Standing.{IsPageOf};
 ghost use Rattle.file_store.specs.Store.{IsReadyStore};
-ghost use Rattle.frames.specs.FrameTable.{bytes_of};
+ghost use Rattle.frames.specs.FrameTable.{bytes_of, IsFull};
 ghost use Rattle.page_cache.specs.declared.place.Place.TheVariants.{Home, Slot};
 ghost use Rattle.swap.specs.Slots.{IsReady};
 ghost use Rattle.vm_types.specs.declared.refusal.Stall.TheVariants as Stalls;
 ghost use Rattle.paging.specs.Picture.{picture_of};
 ghost use Rattle.paging.specs.Parts.{IsFit};
 ghost use Rattle.paging.specs.Capacity.{IsShort};
+ghost use Rattle.paging.specs.Ages.{GivesForTables, KeepsRoles, KeepsRolesBut};
 ghost use Rattle.paging.specs.Calls.{Frees, KeepsRest, KeepsBesideFiles, Refuses, UsesDevice, StallCause, ObtainsOwn, ObtainsTable, ObtainsCached};
 ghost use Rattle.paging.specs.Reading.{ReadsStore, IsRead, ReadCause};
 
@@ -39,6 +40,7 @@ impl<D, E: SectorDisk> Core<D, E> {
         ensures short { IfErr result (IsShort (picture_of self.new)) }
         ensures cause { IfErr result (StallCause E.SectorDisk self.old self.new) }
         ensures not_refused { OnOk result (self.new.refused.number ≡ self.old.refused.number) }
+        ensures swap_calm { OnOk result (E.failures self.new.swap.pages.disk ≡ E.failures self.old.swap.pages.disk) }
     {
         obtain(self, keep)?;
         match self.frames.take(Role::Private) {
@@ -58,6 +60,11 @@ impl<D, E: SectorDisk> Core<D, E> {
         requires fit { IsFit (picture_of self.old) }
         requires swap { IsReady E.SectorDisk self.old.swap }
         ensures taken { IfOk result (λ n. ObtainsTable (picture_of self.old) (picture_of self.new) n.0) }
+        ensures gives { OnOk result (GivesForTables (picture_of self.old) (picture_of self.new) None) }
+        ensures only { IfOk result (λ n. KeepsRolesBut (picture_of self.old) (picture_of self.new) n.0) }
+        ensures tried { OnErr result ((tried : Option ℕ) × GivesForTables (picture_of self.old) (picture_of self.new) tried) }
+        ensures still { OnErr result (KeepsRoles (picture_of self.old) (picture_of self.new)) }
+        ensures full { OnErr result (IsFull self.new.frames) }
         ensures fit { OnErr result (IsFit (picture_of self.new)) }
         ensures frees { OnErr result (Frees (picture_of self.old) (picture_of self.new) None) }
         ensures swap { IsReady E.SectorDisk self.new.swap }
@@ -67,6 +74,7 @@ impl<D, E: SectorDisk> Core<D, E> {
         ensures short { IfErr result (IsShort (picture_of self.new)) }
         ensures cause { IfErr result (StallCause E.SectorDisk self.old self.new) }
         ensures not_refused { OnOk result (self.new.refused.number ≡ self.old.refused.number) }
+        ensures swap_calm { OnOk result (E.failures self.new.swap.pages.disk ≡ E.failures self.old.swap.pages.disk) }
     {
         obtain(self, None)?;
         match take_table(&mut self.frames) {
@@ -95,6 +103,7 @@ impl<D, E: SectorDisk> Core<D, E> {
         ensures short { IfErr result (IsShort (picture_of self.new)) }
         ensures cause { IfErr result (StallCause E.SectorDisk self.old self.new) }
         ensures not_refused { OnOk result (self.new.refused.number ≡ self.old.refused.number) }
+        ensures swap_calm { OnOk result (E.failures self.new.swap.pages.disk ≡ E.failures self.old.swap.pages.disk) }
     {
         obtain(self, None)?;
         let Ok(frame) = self.frames.take(Role::Cache) else {
@@ -141,6 +150,7 @@ impl<D: SectorDisk, E: SectorDisk> Core<D, E> {
         ensures short { IfErr result (IsShort (picture_of self.new)) }
         ensures cause { IfErr result (ReadCause D.SectorDisk E.SectorDisk self.old self.new) }
         ensures not_refused { OnOk result (self.new.refused.number ≡ self.old.refused.number) }
+        ensures swap_calm { OnOk result (E.failures self.new.swap.pages.disk ≡ E.failures self.old.swap.pages.disk) }
     {
         obtain(self, None)?;
         let Ok(frame) = self.frames.take(Role::Cache) else {

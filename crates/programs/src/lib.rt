@@ -1,4 +1,4 @@
-//! The programs: each is a function of the words after its name and of its streams, and answers its exit status.
+//! The programs: each is a function of the words after its name and of its streams, and returns its exit status.
 #![tactic(auto)]
 
 mod faults;

@@ -1,11 +1,14 @@
-use Rattle.std.proofs.Common.{◌≡◌, ◌<◌, ◌≤◌, ◌^◌, ℕ, inl, inr, sym, refl, ◌∙◌, subst, arith}
+use Rattle.std.proofs.Common.{◌≡◌, ◌<◌, ◌≤◌, ◌^◌, ℕ, inl, inr, Option, None, sym, refl, ◌∙◌, subst, arith}
 use Rattle.std.proofs.lemmas.Bool.{cases_lt, false≢true}
 use Rattle.paging.specs.Picture.{picture_of}
+use Rattle.paging.specs.Ages.{GivesForTables}
+use Rattle.paging.specs.Calls.{StallCause}
+use Rattle.paging.proofs.Aging.{gives_same, gives_then}
 use Rattle.paging.proofs.Shown.{keeps_then}
-use Rattle.mapping.proofs.Steps.{moves_none, moves_then, bare_then}
+use Rattle.mapping.proofs.Steps.{moves_none, moves_then, bare_then, stall_then, stalls_as}
 use Rattle.page_ranges.proofs.Emptied.{low_zero}
 use Rattle.copy_on_write.specs.Steps.{HasTables, HasTablesFrom, LacksTable}
-use Rattle.copy_on_write.proofs.Linked.{on_err, below_then, lacks_before, all_below, none_wanted}
+use Rattle.copy_on_write.proofs.Linked.{on_err, below_then, lacks_before, all_below, none_wanted, links_then}
 use Rattle.copy_on_write.proofs.linking.link_copies.Goals as goal
 
 pub loop-page-init : goal.loop-page-init
@@ -18,8 +21,11 @@ loop-page-init g c =
       bare = λ q k h none. none;
       linked = λ page low copy. none_wanted old c.args.parent c.args.child 0 16 (λ p from below. low_zero old c.args.parent p c.requires.fit.granting below) page (omega arith) low copy;
       idle = λ has. refl;
+      gives = gives_same old;
+      tables = λ n is. inl is;
       no_copy = λ n is. is;
       not_refused = refl;
+      swap_calm = refl;
     }
 
 pub loop-page-preserved : goal.loop-page-preserved
@@ -45,8 +51,12 @@ loop-page-preserved g c =
           let same = k.idle has in
           let P : _ → Type 0 = λ x. HasTables (picture_of x) c.args.parent c.args.child in
           step.idle (subst P (sym same) has) ∙ same);
+      gives = gives_then (picture_of first) (picture_of mid) (picture_of last) None k.gives step.gives;
+      tables = links_then (picture_of first) (picture_of mid) (picture_of last) None c.args.parent c.args.child k.moves.fit.granting k.pages step.pages step.gives
+          k.tables step.tables;
       no_copy = λ n is. k.no_copy n (step.no_copy n is);
       not_refused = step.not_refused ∙ k.not_refused;
+      swap_calm = step.swap_calm ∙ k.swap_calm;
     }
 
 pub returns-in_err-number-clause-moves : goal.returns-in_err-number-clause-moves
@@ -63,6 +73,27 @@ returns-in_err-number-clause-wanted g c =
     on_err c.from_residual.result (LacksTable (picture_of c.args.core.now) c.args.parent c.args.child)
     (lacks_before (picture_of c.args.core.now) (picture_of c.loop-page.core) c.args.parent c.args.child k.moves.fit.granting k.pages k.moves.tables c.in_err-number.ensures.wanted)
 
+pub returns-in_err-number-clause-idle : goal.returns-in_err-number-clause-idle
+returns-in_err-number-clause-idle g c has =
+    let same = c.loop-page.invariant.idle has in
+    let P : _ → Type 0 = λ x. HasTables (picture_of x) c.args.parent c.args.child in
+    c.in_err-number.ensures.idle (subst P (sym same) has) ∙ same
+
+pub returns-in_err-number-clause-tried : goal.returns-in_err-number-clause-tried
+returns-in_err-number-clause-tried g c =
+    let old = picture_of c.args.core.now in
+    let mid = picture_of c.loop-page.core in
+    let new = picture_of c.link_next.new.core in
+    let step = c.in_err-number.ensures.tried in
+    on_err c.from_residual.result ((tried : Option ℕ) × GivesForTables old new tried) (step.0, gives_then old mid new step.0 c.loop-page.invariant.gives step.1)
+
+pub returns-in_err-number-clause-tables : goal.returns-in_err-number-clause-tables
+returns-in_err-number-clause-tables g c =
+    let k = c.loop-page.invariant in
+    let step = c.in_err-number.ensures in
+    links_then (picture_of c.args.core.now) (picture_of c.loop-page.core) (picture_of c.link_next.new.core) step.tried.0 c.args.parent c.args.child k.moves.fit.granting k.pages
+    step.pages step.tried.1 k.tables step.tables
+
 pub returns-clause-linked : goal.returns-clause-linked
 returns-clause-linked g c =
     let k = c.loop-page.invariant in
@@ -71,3 +102,9 @@ returns-clause-linked g c =
       | inr past ↦ past
     ] in
     all_below (picture_of c.loop-page.core) c.args.parent c.args.child c.loop-page.number k.moves.fit.granting past k.linked
+
+pub returns-in_err-number-clause-cause : goal.returns-in_err-number-clause-cause
+returns-in_err-number-clause-cause g c =
+    let k = c.loop-page.invariant in
+    stalls_as (StallCause g.E.SectorDisk c.args.core.now c.link_next.new.core) c.from_residual.result c.in_err-number.field-0.0 c.from_residual.ensures.1
+    (stall_then g.E.SectorDisk c.args.core.now c.loop-page.core c.link_next.new.core c.in_err-number.field-0.0 k.not_refused k.swap_calm c.in_err-number.ensures.cause)

@@ -3,8 +3,9 @@ use Rattle.std.specs.Prelude.{IsSome}
 use Rattle.vm_types.specs.declared.region.Attr.{Attr}
 use Rattle.paging.specs.Picture.{picture_of}
 use Rattle.page_ranges.proofs.Gaps.{in_row_of}
+use Rattle.copy_on_write.specs.Steps.{LacksTable}
 use Rattle.copy_on_write.proofs.Copies.{copied_mapped}
-use Rattle.copy_on_write.proofs.Linked.{none_wanted, row_whole}
+use Rattle.copy_on_write.proofs.Linked.{on_err, copy_stays, links_one, none_wanted, row_whole}
 use Rattle.copy_on_write.proofs.linking.link_next.Goals as goal
 
 pub returns-in-Some-clause-linked : goal.returns-in-Some-clause-linked
@@ -23,3 +24,22 @@ returns-in_ok-link_tables-clause-linked g c page from below copy =
     let same = in_row_of c.args.page page c.table_end-end.result c.table_end-end.result from below (omega arith) c.table_end-end.ensures in
     row_whole (picture_of c.link_tables.new.core) c.args.child c.in-Some-first_copy.copied page (c.in-Some-first_copy.ensures.row ∙ sym same)
     c.in_ok-link_tables.ensures.whole
+
+pub returns-in_ok-link_tables-clause-tables : goal.returns-in_ok-link_tables-clause-tables
+returns-in_ok-link_tables-clause-tables g c =
+    links_one (picture_of c.args.core.now) (picture_of c.link_tables.new.core) c.args.parent c.args.child c.in-Some-first_copy.copied c.in-Some-first_copy.ensures.some
+    c.in_ok-link_tables.ensures.tables
+
+pub returns-in_err-link_tables-clause-tables : goal.returns-in_err-link_tables-clause-tables
+returns-in_err-link_tables-clause-tables g c =
+    links_one (picture_of c.args.core.now) (picture_of c.link_tables.new.core) c.args.parent c.args.child c.in-Some-first_copy.copied c.in-Some-first_copy.ensures.some
+    c.in_err-link_tables.ensures.tables
+
+pub returns-in_err-link_tables-clause-lacks : goal.returns-in_err-link_tables-clause-lacks
+returns-in_err-link_tables-clause-lacks g c =
+    let old = picture_of c.args.core.now in
+    let new = picture_of c.link_tables.new.core in
+    let done = c.in_err-link_tables.ensures in
+    let page = c.in-Some-first_copy.copied in
+    on_err c.from_residual.result (LacksTable new c.args.parent c.args.child)
+    (page, copy_stays old new c.args.parent page c.requires.fit.granting done.pages c.in-Some-first_copy.ensures.some, done.wanted)

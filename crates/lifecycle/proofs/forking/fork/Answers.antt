@@ -1,19 +1,24 @@
 use Rattle.std.proofs.Common.{◌≡◌, ◌≢◌, ℕ, [], None, refl, sym, ap, ◌∙◌, subst}
 use Rattle.std.specs.Prelude.{slice_index_or}
 use Rattle.std.proofs.lemmas.Bool.{false≢true}
-use Rattle.frames.specs.FrameTable.{frame_count}
+use Rattle.frames.specs.FrameTable.{frame_count, role_of}
+use Rattle.page_cache.specs.CacheTable.{place_of}
+use Rattle.regions.proofs.ResultLemmas.{on_err}
 use Rattle.swap.specs.declared.slots.Swap.{Swap}
 use Rattle.swap.specs.declared.pages.Pages.{Pages}
 use Rattle.swap.specs.Slots.{slots_of}
 use Rattle.paging.specs.Picture.{Picture, picture_of, attr_where, is_live}
 use Rattle.paging.specs.Calls.{UsesDevice}
+use Rattle.paging.proofs.Aging.{gives_then}
 use Rattle.mapping.proofs.Steps.{device_then}
 use Rattle.mapping.proofs.SwapSteps.{ready_released}
-use Rattle.lifecycle.specs.Changes.{IsShortToFork}
-use Rattle.lifecycle.proofs.Keeping.{dead_root, files_then}
+use Rattle.lifecycle.specs.Changes.{IsShortToFork, StallsToFork}
+use Rattle.lifecycle.proofs.Keeping.{dead_root, live_same, files_then}
 use Rattle.lifecycle.proofs.Ending.{ready_ended}
 use Rattle.lifecycle.proofs.Shortage.{short_before}
 use Rattle.lifecycle.proofs.Copying.{readied, short_readied, unmade, copied, copies_shared, bare_shared, tables_kept, as_stall}
+use Rattle.lifecycle.proofs.Taking.{gives_mapped, tables_mid, entries_forked, tables_taken}
+use Rattle.lifecycle.proofs.Stalling.{stalls_first, stalls_later}
 use Rattle.lifecycle.proofs.forking.fork.Goals as goal
 
 pub returns-in_err-spawn-clause-short : goal.returns-in_err-spawn-clause-short
@@ -149,3 +154,80 @@ returns-clause-tables g c =
     tables_kept (picture_of c.args.core.now) (picture_of c.spawn.new.core) (picture_of c.map_alike.new.core) (picture_of c.link_copies.new.core)
     (picture_of c.share_pages.new.core) c.args.child taken.0 c.requires.dead taken.1 c.map_alike.ensures.rest.frames c.map_alike.ensures.mapped.root
     c.in_default.ensures.moves.spaces.root c.in_default.ensures.moves.tables c.share_pages.ensures.shares.tables
+
+pub returns-in_err-spawn-clause-stalls : goal.returns-in_err-spawn-clause-stalls
+returns-in_err-spawn-clause-stalls g c =
+    let old : Picture = picture_of c.args.core.now in
+    let new : Picture = picture_of c.spawn.new.core in
+    let done = c.in_err-spawn.ensures in
+    on_err c.from_residual.result (StallsToFork old new c.args.parent c.args.child)
+    (stalls_first old new c.args.parent c.args.child (dead_root (old.root c.args.child) c.requires.dead) done.fit done.frees done.tried done.still done.full)
+
+pub returns-in-Err-clause-stalls : goal.returns-in-Err-clause-stalls
+returns-in-Err-clause-stalls g c =
+    let old : Picture = picture_of c.args.core.now in
+    let spawned : Picture = picture_of c.spawn.new.core in
+    let mapped : Picture = picture_of c.map_alike.new.core in
+    let mid : Picture = picture_of c.link_copies.new.core in
+    let new : Picture = picture_of c.exit.new.core in
+    let first = c.in_ok-spawn.ensures in
+    let maps = c.map_alike.ensures.mapped in
+    let frames = c.map_alike.ensures.rest.frames in
+    let done = c.in-Err.ensures in
+    let roots = done.moves.spaces.root in
+    let gives = gives_mapped old spawned mapped mid c.args.parent c.args.child first.taken.0 first.gives first.taken.1 frames maps roots done.tables in
+    stalls_later mid new c.args.child done.moves.fit c.exit.ensures.fit c.link_copies.new.core.sound c.exit.new.core.sound c.exit.ensures.tables c.exit.ensures.others
+    (λ page h. done.bare c.args.child page h (maps.bare page h)) (λ p. ap (λ x. place_of x p) c.exit.ensures.cache) c.exit.ensures.room old c.args.parent
+    (tables_mid old spawned mapped mid c.args.parent c.args.child first.taken.0 first.gives first.taken.1 frames maps roots done.tables)
+    done.tried.0 (gives_then old mapped mid done.tried.0 gives done.tried.1) done.full done.lacks
+
+pub returns-clause-entries : goal.returns-clause-entries
+returns-clause-entries g c =
+    let old : Picture = picture_of c.args.core.now in
+    let spawned : Picture = picture_of c.spawn.new.core in
+    let mapped : Picture = picture_of c.map_alike.new.core in
+    let mid : Picture = picture_of c.link_copies.new.core in
+    let apart : c.args.parent ≢ c.args.child = λ is. false≢true (sym c.requires.dead ∙ ap (is_live old) (sym is) ∙ c.requires.live) in
+    let unmapped : (page : ℕ) → old.at c.args.child page ≡ None =
+    λ page. ap (λ r. attr_where r (slice_index_or c.args.core.now.regions.items c.args.child []) page) (dead_root (old.root c.args.child) c.requires.dead) in
+    let first = c.in_ok-spawn.ensures in
+    let done = c.in_default.ensures in
+    let rest = c.map_alike.ensures.rest in
+    let ready =
+    readied old spawned mapped mid c.args.parent c.args.child apart c.requires.dead unmapped first.ok first.bare first.files first.room c.map_alike.ensures.mapped
+    (record { frames = ap frame_count rest.frames; slots = ap (λ s. (slots_of s).total) rest.swap }) done.moves.fit done.pages done.bare done.moves.room in
+    let gives =
+    gives_mapped old spawned mapped mid c.args.parent c.args.child first.taken.0 first.gives first.taken.1 rest.frames c.map_alike.ensures.mapped
+    done.moves.spaces.root done.tables in
+    entries_forked old mid (picture_of c.share_pages.new.core) c.args.parent c.args.child (gives_then old mapped mid None gives done.gives) c.share_pages.ensures.shares ready
+
+pub returns-clause-takes : goal.returns-clause-takes
+returns-clause-takes g c =
+    let old : Picture = picture_of c.args.core.now in
+    let spawned : Picture = picture_of c.spawn.new.core in
+    let mapped : Picture = picture_of c.map_alike.new.core in
+    let mid : Picture = picture_of c.link_copies.new.core in
+    let first = c.in_ok-spawn.ensures in
+    let maps = c.map_alike.ensures.mapped in
+    let frames = c.map_alike.ensures.rest.frames in
+    let done = c.in_default.ensures in
+    let roots = done.moves.spaces.root in
+    let gives = gives_mapped old spawned mapped mid c.args.parent c.args.child first.taken.0 first.gives first.taken.1 frames maps roots done.tables in
+    tables_taken old mid (picture_of c.share_pages.new.core) c.args.parent c.args.child (gives_then old mapped mid None gives done.gives) c.share_pages.ensures.shares
+    (tables_mid old spawned mapped mid c.args.parent c.args.child first.taken.0 first.gives first.taken.1 frames maps roots done.tables)
+
+pub exit-requires-clause-live : goal.exit-requires-clause-live
+exit-requires-clause-live g c =
+    let mapped : Picture = picture_of c.map_alike.new.core in
+    live_same mapped (picture_of c.link_copies.new.core) c.args.child (c.in-Err.ensures.moves.spaces.root c.args.child)
+    ∙ live_same (picture_of c.spawn.new.core) mapped c.args.child (c.map_alike.ensures.mapped.root c.args.child) ∙ c.in_ok-spawn.ensures.ok.lives
+
+pub returns-in-Err-clause-bare : goal.returns-in-Err-clause-bare
+returns-in-Err-clause-bare g c q page h ne none =
+    let before = c.map_alike.ensures.mapped.entries q page ∙ c.in_ok-spawn.ensures.bare q page h none in
+    c.exit.ensures.others q page h ne ∙ c.in-Err.ensures.bare q page h before
+
+pub returns-in-Err-clause-copies : goal.returns-in-Err-clause-copies
+returns-in-Err-clause-copies g c n is =
+    let mapped = c.in-Err.ensures.no_copy n (c.exit.ensures.copies n is) in
+    c.in_ok-spawn.ensures.copies n (sym (ap (λ t. role_of t n) c.map_alike.ensures.rest.frames) ∙ mapped)

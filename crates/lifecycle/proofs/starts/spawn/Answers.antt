@@ -5,7 +5,7 @@ use Rattle.mapping.proofs.Spawning.{fit_started}
 use Rattle.mapping.proofs.Steps.{bare_freed, room_freed}
 use Rattle.lifecycle.specs.Changes.{KeepsProcesses}
 use Rattle.lifecycle.proofs.Keeping.{dead_root, pages_kept, no_copy_freed}
-use Rattle.lifecycle.proofs.Starting.{process_added, root_taken, bare_kept, no_copy, files_kept, room_kept}
+use Rattle.lifecycle.proofs.Starting.{process_added, root_taken, root_given, bare_kept, no_copy, files_kept, room_kept}
 use Rattle.lifecycle.proofs.starts.spawn.Goals as goal
 
 pub add_process-requires : goal.add_process-requires
@@ -27,8 +27,13 @@ pub returns-clause-taken : goal.returns-clause-taken
 returns-clause-taken g c = (
   c.in_ok-root.root.0,
   root_taken (picture_of c.args.core.now) (picture_of c.take_table.new.self) (picture_of c.add_process.new.self) c.args.pid c.in_ok-root.root.0
-      c.in_ok-root.ensures.taken c.add_process.ensures.spawns,
+      c.in_ok-root.ensures.taken c.add_process.ensures.spawns c.in_ok-root.ensures.only,
 )
+
+pub returns-clause-gives : goal.returns-clause-gives
+returns-clause-gives g c =
+    root_given (picture_of c.args.core.now) (picture_of c.take_table.new.self) (picture_of c.add_process.new.self) c.args.pid c.in_ok-root.root.0
+    c.in_ok-root.ensures.taken c.add_process.ensures.spawns c.in_ok-root.ensures.gives
 
 pub returns-clause-bare : goal.returns-clause-bare
 returns-clause-bare g c =

@@ -6,7 +6,8 @@ use Rattle.page_cache.specs.declared.place.Place.TheVariants.{Home, Frame, Slot}
 use Rattle.paging.specs.Picture.{Picture, picture_of}
 use Rattle.paging.specs.Parts.{IsFit}
 use Rattle.vm_types.specs.declared.file.FilePage.{FilePage}
-use Rattle.mapping.proofs.Arrivals.{spaces_of, tables_of, room_of, seen_of, bare_of, placed_of, reads_none, brings_none, brings_home_of, brings_slot_of, causes_of, never_store, ok_always, err_always}
+use Rattle.mapping.proofs.Arrivals.{spaces_of, tables_of, room_of, seen_of, bare_of, slotted_of, placed_of, reads_none, brings_none, brings_home_of, brings_slot_of, causes_of, never_store, ok_always, err_always}
+use Rattle.mapping.proofs.Slotted.{slotted_same}
 use Rattle.mapping.proofs.Steps.{device_none}
 use Rattle.mapping.proofs.arriving.cached.Goals as goal
 
@@ -45,6 +46,9 @@ returns-in-Home-clause-keeps g c = seen_of (picture_of c.args.core.now) (picture
 
 pub returns-in-Home-clause-bare : goal.returns-in-Home-clause-bare
 returns-in-Home-clause-bare g c = bare_of (picture_of c.args.core.now) (picture_of c.bring_in.new.self) c.args.page c.bring_in.result c.bring_in.ensures.brought c.bring_in.ensures.frees
+
+pub returns-in-Home-clause-slotted : goal.returns-in-Home-clause-slotted
+returns-in-Home-clause-slotted g c = slotted_of (picture_of c.args.core.now) (picture_of c.bring_in.new.self) c.args.page c.bring_in.result c.bring_in.ensures.brought c.bring_in.ensures.frees
 
 pub returns-in-Home-clause-placed : goal.returns-in-Home-clause-placed
 returns-in-Home-clause-placed g c = placed_of (picture_of c.args.core.now) (picture_of c.bring_in.new.self) c.args.page c.bring_in.result c.bring_in.ensures.brought
@@ -86,6 +90,9 @@ returns-in-Slot-clause-keeps g c = seen_of (picture_of c.args.core.now) (picture
 pub returns-in-Slot-clause-bare : goal.returns-in-Slot-clause-bare
 returns-in-Slot-clause-bare g c = bare_of (picture_of c.args.core.now) (picture_of c.bring_back.new.self) c.args.page c.bring_back.result c.bring_back.ensures.brought c.bring_back.ensures.frees
 
+pub returns-in-Slot-clause-slotted : goal.returns-in-Slot-clause-slotted
+returns-in-Slot-clause-slotted g c = slotted_of (picture_of c.args.core.now) (picture_of c.bring_back.new.self) c.args.page c.bring_back.result c.bring_back.ensures.brought c.bring_back.ensures.frees
+
 pub returns-in-Slot-clause-placed : goal.returns-in-Slot-clause-placed
 returns-in-Slot-clause-placed g c = placed_of (picture_of c.args.core.now) (picture_of c.bring_back.new.self) c.args.page c.bring_back.result c.bring_back.ensures.brought
 
@@ -112,6 +119,9 @@ returns-in-Frame-clause-proceeds g c = record {
   reads = reads_none g.D.SectorDisk c.args.core.now.store c.args.core.now.store refl;
   device = device_none g.E.SectorDisk c.args.core.now.swap.pages.disk;
 }
+
+pub returns-in-Frame-clause-slotted : goal.returns-in-Frame-clause-slotted
+returns-in-Frame-clause-slotted g c = slotted_same _ _ (picture_of c.args.core.now) (picture_of c.args.core.now) (λ p. refl) (λ q p h. refl)
 
 pub returns-in-Frame-clause-brings : goal.returns-in-Frame-clause-brings
 returns-in-Frame-clause-brings g c = λ kept. brings_none g.D.SectorDisk c.args.core.now.store.disk c.args.core.now.store.disk _ (picture_of c.args.core.now)

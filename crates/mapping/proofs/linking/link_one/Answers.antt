@@ -1,8 +1,12 @@
 use Rattle.std.proofs.Common.{◌≡◌, inl, inr, sym, ◌∙◌}
 use Rattle.frames.specs.declared.role.Role.TheVariants.{Free, Private}
+use Rattle.regions.proofs.ResultLemmas.{on_err}
 use Rattle.paging.specs.Picture.{Picture, picture_of}
+use Rattle.mapping.specs.Changes.{IsWhole}
 use Rattle.mapping.proofs.Steps.{same_with, moves_freed, bare_freed}
-use Rattle.mapping.proofs.TablesLinked.{pages_linked, bare_linked, tables_linked, spaces_linked, room_linked, fit_after, no_copy_linked, missing_taken}
+use Rattle.mapping.proofs.Slotted.{slotted_frees}
+use Rattle.mapping.proofs.TablesLinked.{pages_linked, bare_linked, slotted_linked, tables_linked, spaces_linked, room_linked, fit_after, no_copy_linked, missing_taken}
+use Rattle.mapping.proofs.TablesGiven.{still_wanted, links_none, gives_linked, links_linked}
 use Rattle.mapping.proofs.linking.link_one.Goals as goal
 
 pub link_table-requires-clause-root : goal.link_table-requires-clause-root
@@ -48,6 +52,12 @@ returns-clause-bare g c =
     bare_linked (picture_of c.args.core.now) taken (record taken { frames = c.link_table.new.frames }) c.args.pid c.args.root.0 c.args.page c.in_ok-table.table.0 c.in_ok-table.ensures.taken c.requires.lives
     c.link_table.ensures.links (same_with taken c.link_table.new.frames)
 
+pub returns-clause-slotted : goal.returns-clause-slotted
+returns-clause-slotted g c =
+    let taken : Picture = picture_of c.take_table.new.self in
+    slotted_linked (picture_of c.args.core.now) taken (record taken { frames = c.link_table.new.frames }) c.args.pid c.args.root.0 c.args.page c.in_ok-table.table.0 c.in_ok-table.ensures.taken c.requires.lives
+    c.link_table.ensures.links (same_with taken c.link_table.new.frames)
+
 pub returns-clause-no_copy : goal.returns-clause-no_copy
 returns-clause-no_copy g c =
     let taken : Picture = picture_of c.take_table.new.self in
@@ -61,6 +71,18 @@ returns-clause-lowered g c =
     ∙ missing_taken (picture_of c.args.core.now) taken (record taken { frames = c.link_table.new.frames }) c.args.pid c.args.root.0 c.args.page c.in_ok-table.table.0 c.in_ok-table.ensures.taken c.requires.lives
     c.link_table.ensures.links (same_with taken c.link_table.new.frames)
 
+pub returns-clause-gives : goal.returns-clause-gives
+returns-clause-gives g c =
+    let taken : Picture = picture_of c.take_table.new.self in
+    gives_linked (picture_of c.args.core.now) taken (record taken { frames = c.link_table.new.frames }) c.args.pid c.args.root.0 c.args.page c.in_ok-table.table.0 c.in_ok-table.ensures.taken c.requires.lives
+    c.link_table.ensures.links (same_with taken c.link_table.new.frames) c.in_ok-table.ensures.gives
+
+pub returns-clause-tables : goal.returns-clause-tables
+returns-clause-tables g c =
+    let taken : Picture = picture_of c.take_table.new.self in
+    links_linked (picture_of c.args.core.now) taken (record taken { frames = c.link_table.new.frames }) c.args.pid c.args.root.0 c.args.page c.in_ok-table.table.0 c.in_ok-table.ensures.taken c.requires.lives
+    c.link_table.ensures.links (same_with taken c.link_table.new.frames) c.in_ok-table.ensures.gives c.in_ok-table.ensures.only
+
 pub returns-in_err-table-clause-moves : goal.returns-in_err-table-clause-moves
 returns-in_err-table-clause-moves g c =
     let done = c.in_err-table.ensures in
@@ -69,8 +91,23 @@ returns-in_err-table-clause-moves g c =
 pub returns-in_err-table-clause-bare : goal.returns-in_err-table-clause-bare
 returns-in_err-table-clause-bare g c = bare_freed (picture_of c.args.core.now) (picture_of c.take_table.new.self) _ c.in_err-table.ensures.frees
 
+pub returns-in_err-table-clause-slotted : goal.returns-in_err-table-clause-slotted
+returns-in_err-table-clause-slotted g c = slotted_frees (λ p. ⊥) (λ q p. ⊥) (picture_of c.args.core.now) (picture_of c.take_table.new.self) _ c.in_err-table.ensures.frees
+
 pub returns-in_err-table-clause-no_copy : goal.returns-in_err-table-clause-no_copy
 returns-in_err-table-clause-no_copy g c n is = elim (c.in_err-table.ensures.frees.roles n) [
   | inl same ↦ sym same ∙ is
   | inr freed ↦ (let bad : Free ≡ Private = sym freed.0 ∙ is in (cc))
 ]
+
+pub returns-in_err-table-clause-wanted : goal.returns-in_err-table-clause-wanted
+returns-in_err-table-clause-wanted g c =
+    let old : Picture = picture_of c.args.core.now in
+    let new : Picture = picture_of c.take_table.new.self in
+    on_err c.from_residual.result (IsWhole new c.args.pid c.args.page → ⊥)
+    (still_wanted old new c.args.pid c.args.root.0 c.args.page c.in_err-table.ensures.frees c.requires.lives c.requires.missing)
+
+pub returns-in_err-table-clause-tables : goal.returns-in_err-table-clause-tables
+returns-in_err-table-clause-tables g c =
+    let done = c.in_err-table.ensures in
+    links_none (picture_of c.args.core.now) (picture_of c.take_table.new.self) c.args.pid c.args.page done.frees.count done.still

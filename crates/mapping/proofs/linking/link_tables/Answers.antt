@@ -1,9 +1,15 @@
-use Rattle.std.proofs.Common.{inl, Option, refl, sym, ◌∙◌, subst, arith}
+use Rattle.std.proofs.Common.{ℕ, inl, Option, None, refl, sym, ◌∙◌, subst, arith}
 use Rattle.std.specs.Prelude.{IsSome}
 use Rattle.vm_types.specs.declared.region.Attr.{Attr}
-use Rattle.paging.specs.Picture.{picture_of}
+use Rattle.regions.proofs.ResultLemmas.{on_err}
+use Rattle.paging.specs.Ages.{GivesForTables}
+use Rattle.paging.specs.Calls.{StallCause}
+use Rattle.paging.specs.Picture.{Picture, picture_of}
 use Rattle.paging.proofs.Shown.{keeps_then}
-use Rattle.mapping.proofs.Steps.{moves_none, moves_then, bare_then}
+use Rattle.mapping.proofs.Slotted.{slotted_then, slotted_same}
+use Rattle.mapping.proofs.Steps.{moves_none, moves_then, bare_then, stall_then, stalls_as}
+use Rattle.paging.proofs.Aging.{gives_same, gives_then}
+use Rattle.mapping.proofs.TablesGiven.{links_then}
 use Rattle.mapping.proofs.linking.link_tables.Goals as goal
 
 pub missing_tables-requires-clause-root : goal.missing_tables-requires-clause-root
@@ -20,6 +26,10 @@ loop-pid-init g c = (
   omega arith,
   λ none. refl,
   λ n is. is,
+  gives_same (picture_of c.args.core.now),
+  λ n table. inl table,
+  slotted_same (λ p. ⊥) (λ q p. ⊥) (picture_of c.args.core.now) (picture_of c.args.core.now) (λ p. refl) (λ q p h. refl),
+  refl,
 )
 
 pub loop-pid-preserved : goal.loop-pid-preserved
@@ -39,4 +49,34 @@ loop-pid-preserved g c =
       omega (arith, step.lowered, k.6),
       λ none. absurd (omega (arith, none, step.lowered, k.6)),
       λ n is. k.8 n (step.no_copy n is),
+      gives_then (picture_of first) (picture_of mid) (picture_of last) None k.9 step.gives,
+      links_then (picture_of first) (picture_of mid) (picture_of last) c.args.pid c.args.page None (step.moves.spaces.root c.args.pid) step.gives k.10 step.tables,
+      slotted_then (λ p. ⊥) (λ q p. ⊥) (picture_of first) (picture_of mid) (picture_of last) k.11 step.slotted,
+      step.swap_calm ∙ k.12,
     )
+
+pub returns-in_err-link_one-clause-tried : goal.returns-in_err-link_one-clause-tried
+returns-in_err-link_one-clause-tried g c =
+    let first : Picture = picture_of c.args.core.now in
+    let mid : Picture = picture_of c.loop-pid.core in
+    let last : Picture = picture_of c.link_one.new.core in
+    let step = c.in_err-link_one.ensures.tried in
+    on_err c.from_residual.result ((tried : Option ℕ) × GivesForTables first last tried)
+    (step.0, gives_then first mid last step.0 c.loop-pid.invariant.9 step.1)
+
+pub returns-in_err-link_one-clause-tables : goal.returns-in_err-link_one-clause-tables
+returns-in_err-link_one-clause-tables g c =
+    let k = c.loop-pid.invariant in
+    let step = c.in_err-link_one.ensures in
+    links_then (picture_of c.args.core.now) (picture_of c.loop-pid.core) (picture_of c.link_one.new.core) c.args.pid c.args.page step.tried.0
+    (step.moves.spaces.root c.args.pid) step.tried.1 k.10 step.tables
+
+pub returns-in_err-link_one-clause-slotted : goal.returns-in_err-link_one-clause-slotted
+returns-in_err-link_one-clause-slotted g c =
+    slotted_then (λ p. ⊥) (λ q p. ⊥) (picture_of c.args.core.now) (picture_of c.loop-pid.core) (picture_of c.link_one.new.core) c.loop-pid.invariant.11 c.in_err-link_one.ensures.slotted
+
+pub returns-in_err-link_one-clause-cause : goal.returns-in_err-link_one-clause-cause
+returns-in_err-link_one-clause-cause g c =
+    let k = c.loop-pid.invariant in
+    stalls_as (StallCause g.E.SectorDisk c.args.core.now c.link_one.new.core) c.from_residual.result c.in_err-link_one.field-0.0 c.from_residual.ensures.1
+    (stall_then g.E.SectorDisk c.args.core.now c.loop-pid.core c.link_one.new.core c.in_err-link_one.field-0.0 k.3 k.12 c.in_err-link_one.ensures.cause)

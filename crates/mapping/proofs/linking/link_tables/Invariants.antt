@@ -1,11 +1,12 @@
-use Rattle.std.proofs.Common.{◌≡◌, ◌≤◌, ℕ, Some}
+use Rattle.std.proofs.Common.{◌≡◌, ◌≤◌, ℕ, Some, None}
 use Rattle.frames.specs.declared.role.Role.TheVariants.{Private}
 use Rattle.frames.specs.FrameTable.{role_of}
 use Rattle.page_tables.specs.Tree.{missing_of}
 use Rattle.paging.specs.Picture.{picture_of}
 use Rattle.paging.specs.Parts.{IsMapped}
 use Rattle.paging.specs.Calls.{KeepsPages}
-use Rattle.mapping.specs.Changes.{KeepsBare, Moves}
+use Rattle.paging.specs.Ages.{GivesForTables}
+use Rattle.mapping.specs.Changes.{KeepsBare, KeepsSlotted, LinksTables, Moves}
 use Rattle.mapping.proofs.linking.link_tables.Given as goal
 
 abbrev pub invariant-loop-pid : goal.invariant-loop-pid
@@ -15,6 +16,9 @@ invariant-loop-pid g l =
     × (missing_of l.core.frames 2 l.root.0 l.page ≤ missing_of l.initial.core.frames 2 l.root.0 l.page)
     × (missing_of l.initial.core.frames 2 l.root.0 l.page ≡ 0 → l.core ≡ l.initial.core)
     × ((n : ℕ) → role_of l.core.frames n ≡ Private → role_of l.initial.core.frames n ≡ Private)
+    × GivesForTables (picture_of l.initial.core) (picture_of l.core) None × LinksTables (picture_of l.initial.core) (picture_of l.core) l.pid l.page
+    × KeepsSlotted (λ p. ⊥) (λ q p. ⊥) (picture_of l.initial.core) (picture_of l.core)
+    × (g.E.SectorDisk.failures l.core.swap.pages.disk ≡ g.E.SectorDisk.failures l.initial.core.swap.pages.disk)
 
 abbrev pub decreases-loop-pid : goal.decreases-loop-pid
 decreases-loop-pid g l = missing_of l.core.frames 2 l.root.0 l.page

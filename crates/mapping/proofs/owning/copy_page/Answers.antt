@@ -11,10 +11,12 @@ use Rattle.paging.specs.Calls.{Frees, UsesDevice}
 use Rattle.paging.specs.Picture.{Picture, picture_of, is_private}
 use Rattle.paging.specs.Steps.{SameBeside}
 use Rattle.paging.proofs.Granting.{past_end-same}
+use Rattle.mapping.specs.Changes.{IsThatPage}
 use Rattle.mapping.proofs.Entering.{beside_around}
-use Rattle.mapping.proofs.OwnSteps.{shown_used, shown_datum, lives_found, whole_found, at_found, spaces_set, tables_set, room_set, others_set, bare_set, files_set, bytes_set, own_set, entry_set, count_set, fit_first, behind_first, role_shared, fit_shared, spaces_shared, tables_shared, room_shared, others_shared, bare_shared, files_shared, bytes_shared, own_shared, entry_shared, count_shared}
+use Rattle.mapping.proofs.OwnSteps.{shown_used, shown_datum, lives_found, whole_found, at_found, spaces_set, tables_set, room_set, others_set, bare_set, slotted_set, files_set, bytes_set, own_set, entry_set, count_set, fit_first, behind_first, role_shared, fit_shared, spaces_shared, tables_shared, room_shared, others_shared, bare_shared, slotted_shared, files_shared, bytes_shared, own_shared, entry_shared, count_shared}
 use Rattle.mapping.proofs.Forms.{used_inside}
 use Rattle.mapping.proofs.Settling.{forest_mid, root_mid, whole_mid}
+use Rattle.mapping.proofs.Slotted.{slotted_frees}
 use Rattle.mapping.proofs.Steps.{same_with, frees_any, moves_freed}
 use Rattle.mapping.proofs.owning.copy_page.Goals as goal
 
@@ -208,6 +210,23 @@ returns-then-is_private-clause-bare g c =
     let releases = c.release.ensures.change in
     bare_shared old c.args.pid c.args.page c.args.shown.0 c.args.attr c.args.core.now.sound c.requires.linked c.requires.attr c.requires.resident c.requires.own c.requires.common mid n r copy c.root_of-root.ensures set sets beside c.requires.not_shared inside private new releases beside'
 
+pub returns-then-is_private-clause-slotted : goal.returns-then-is_private-clause-slotted
+returns-then-is_private-clause-slotted g c =
+    let old : Picture = picture_of c.args.core.now in
+    let mid : Picture = picture_of c.take_copy.new.core in
+    let set : Picture = picture_of c.set_full.new.core in
+    let sets = c.set_full.ensures.sets in
+    let beside = beside_around c.take_copy.new.core c.set_full.new.core c.set_full.ensures.rest in
+    let copy = c.in_ok-own.ensures.taken in
+    let n = c.in_ok-own.own.0 in
+    let r = c.root_of-root.result.0 in
+    let inside = past_end-same old copy.found c.args.attr.backing copy.frees.pages.files.files ∙ c.requires.inside in
+    let private = sym (ap is_private c.requires.was) ∙ sym c.is_private.ensures ∙ c.if-is_private.true in
+    let new : Picture = record set { frames = c.release.new.self } in
+    let beside' : SameBeside set new = same_with set c.release.new.self in
+    let releases = c.release.ensures.change in
+    slotted_shared old c.args.pid c.args.page c.args.shown.0 c.args.attr c.args.core.now.sound c.requires.linked c.requires.attr c.requires.resident c.requires.own c.requires.common mid n r copy c.root_of-root.ensures set sets beside c.requires.not_shared inside private new releases beside'
+
 pub returns-then-is_private-clause-files : goal.returns-then-is_private-clause-files
 returns-then-is_private-clause-files g c =
     let old : Picture = picture_of c.args.core.now in
@@ -349,6 +368,20 @@ returns-else-is_private-clause-bare g c =
     let common = sym (ap is_private c.requires.was) ∙ sym c.is_private.ensures ∙ c.if-is_private.false in
     bare_set old c.args.pid c.args.page c.args.shown.0 c.args.attr c.args.core.now.sound c.requires.linked c.requires.attr c.requires.resident c.requires.own c.requires.common mid n r copy c.root_of-root.ensures set sets beside c.requires.not_shared inside
 
+pub returns-else-is_private-clause-slotted : goal.returns-else-is_private-clause-slotted
+returns-else-is_private-clause-slotted g c =
+    let old : Picture = picture_of c.args.core.now in
+    let mid : Picture = picture_of c.take_copy.new.core in
+    let set : Picture = picture_of c.set_full.new.core in
+    let sets = c.set_full.ensures.sets in
+    let beside = beside_around c.take_copy.new.core c.set_full.new.core c.set_full.ensures.rest in
+    let copy = c.in_ok-own.ensures.taken in
+    let n = c.in_ok-own.own.0 in
+    let r = c.root_of-root.result.0 in
+    let inside = past_end-same old copy.found c.args.attr.backing copy.frees.pages.files.files ∙ c.requires.inside in
+    let common = sym (ap is_private c.requires.was) ∙ sym c.is_private.ensures ∙ c.if-is_private.false in
+    slotted_set old c.args.pid c.args.page c.args.shown.0 c.args.attr c.args.core.now.sound c.requires.linked c.requires.attr c.requires.resident c.requires.own c.requires.common mid n r copy c.root_of-root.ensures set sets beside c.requires.not_shared inside
+
 pub returns-else-is_private-clause-files : goal.returns-else-is_private-clause-files
 returns-else-is_private-clause-files g c =
     let old : Picture = picture_of c.args.core.now in
@@ -390,3 +423,7 @@ returns-in_err-own-clause-frees g c =
 
 pub returns-in_err-own-clause-bare : goal.returns-in_err-own-clause-bare
 returns-in_err-own-clause-bare g c = λ q p h other none. c.in_err-own.ensures.frees.entries q p h (inl none) ∙ none
+
+pub returns-in_err-own-clause-slotted : goal.returns-in_err-own-clause-slotted
+returns-in_err-own-clause-slotted g c =
+    slotted_frees (λ p. ⊥) (IsThatPage c.args.pid c.args.page) (picture_of c.args.core.now) (picture_of c.take_copy.new.core) _ c.in_err-own.ensures.frees

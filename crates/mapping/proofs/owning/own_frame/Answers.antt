@@ -11,6 +11,7 @@ use Rattle.mapping.specs.Leaves.{IsEntryOver, IsFullEntry}
 use Rattle.mapping.specs.Changes.{shown_frame, is_sole}
 use Rattle.mapping.proofs.Forms.{mapped_page, used_inside, own_role, seat_zero, none_common}
 use Rattle.mapping.proofs.OwnSteps.{shown_used, shown_own, shown_behind, common_when, several_when, full_own, own_view}
+use Rattle.mapping.proofs.Slotted.{slotted_calm}
 use Rattle.mapping.proofs.Steps.{moves_entered}
 use Rattle.mapping.proofs.owning.own_frame.Goals as goal
 use Rattle.mapping.proofs.owning.own_frame.Goals.{else-is_private-via-then-is_private+else-count-eq1, else-is_private-via-else-is_private}
@@ -137,6 +138,9 @@ returns-then-count-eq1-clause-behind g c =
 
 pub returns-then-count-eq1-clause-bare : goal.returns-then-count-eq1-clause-bare
 returns-then-count-eq1-clause-bare g c = λ q p h other none. c.regrant.ensures.enters.calm.others q p h other ∙ none
+
+pub returns-then-count-eq1-clause-slotted : goal.returns-then-count-eq1-clause-slotted
+returns-then-count-eq1-clause-slotted g c = slotted_calm (λ p. ⊥) c.args.core.now c.regrant.new.core c.args.pid c.args.page c.regrant.ensures.enters.calm
 
 pub copy_page-requires-clause-own : goal.copy_page-requires-clause-own
 copy_page-requires-clause-own g c =

@@ -19,7 +19,9 @@ use Rattle.frames.proofs.FrameLemmas.{with_bytes-same}
 use Rattle.paging.proofs.Taking.{fit_spent}
 use Rattle.paging.proofs.Returning.{frees_spent}
 use Rattle.paging.proofs.Sparing.{frees_then}
-use Rattle.mapping.proofs.SwappedIn.{lives_of, whole_of, at_of, slot_set, slot_used, fit_in, spaces_in, tables_in, room_in, others_in, bare_in, files_in, seen_in, entry_in}
+use Rattle.mapping.specs.Changes.{IsThatPage}
+use Rattle.mapping.proofs.Slotted.{slotted_frees}
+use Rattle.mapping.proofs.SwappedIn.{lives_of, whole_of, at_of, slot_set, slot_used, fit_in, spaces_in, tables_in, room_in, others_in, bare_in, slotted_in, files_in, seen_in, entry_in}
 use Rattle.mapping.proofs.Settling.{forest_mid, root_mid, whole_mid}
 use Rattle.mapping.proofs.Steps.{moves_freed, device_then}
 use Rattle.mapping.proofs.swapping.swap_in.Goals as goal
@@ -129,6 +131,28 @@ returns-in-Ok-clause-bare g c =
     let beside = beside_around _ c.set_full.new.core c.set_full.ensures.rest in
     let t = slots_of c.release.new.self in
     bare_in old taken c.args.pid c.args.page n k r c.args.attr took c.requires.linked lives c.requires.attr c.requires.away number low written changes took.own.takes.kind_set took.own.takes.counted took.own.noted set sets beside t c.release.ensures.releases
+
+pub returns-in-Ok-clause-slotted : goal.returns-in-Ok-clause-slotted
+returns-in-Ok-clause-slotted g c =
+    let old : Picture = picture_of c.args.core.now in
+    let taken : Picture = picture_of c.take_own.new.self in
+    let took = c.in_ok-frame.ensures.taken in
+    let n = c.in_ok-frame.frame.0 in
+    let k = c.in-Swapped.slot.0 in
+    let r = c.root_of-root.result.0 in
+    let lives : old.root c.args.pid ≡ Some r = sym (took.own.root c.args.pid ∙ took.frees.pages.root c.args.pid) ∙ c.root_of-root.ensures in
+    let here = mapped_page old c.args.pid c.args.page c.args.attr c.requires.linked.fit.granting c.requires.attr in
+    let same_entry : entry taken c.args.pid c.args.page ≡ entry old c.args.pid c.args.page = entry_taken old taken c.args.pid c.args.page n took here c.requires.away in
+    let number : entry old c.args.pid c.args.page ≡ k * 1024 + 2 =
+    sym same_entry ∙ entry-of taken c.args.pid r c.args.page c.root_of-root.ensures ∙ sym c.entry.ensures.entry ∙ ap number_of c.in-Swapped.is in
+    let low : k < 2 ^ 32 = (let P : Entry → Type 0 = λ e. IsEntry e in subst P c.in-Swapped.is c.entry.ensures.form) in
+    let written : Picture = record taken { slots = slots_of c.get.new.self; frames = with_bytes c.take_own.new.self.frames n c.get.new.to } in
+    let changes : ChangesFrame took.found written n = changes_written took.found taken n c.args.page took.own (slots_of c.get.new.self) c.get.ensures.same c.get.new.to in
+    let set : Picture = picture_of c.set_full.new.core in
+    let sets = c.set_full.ensures.sets in
+    let beside = beside_around _ c.set_full.new.core c.set_full.ensures.rest in
+    let t = slots_of c.release.new.self in
+    slotted_in old taken c.args.pid c.args.page n k r c.args.attr took c.requires.linked lives c.requires.attr c.requires.away number low written changes took.own.takes.kind_set took.own.takes.counted took.own.noted set sets beside t c.release.ensures.releases
 
 pub returns-in-Ok-clause-files : goal.returns-in-Ok-clause-files
 returns-in-Ok-clause-files g c =
@@ -340,6 +364,19 @@ returns-in-Err-clause-bare g c =
     let frees = frees_then old took.found new _ took.frees (frees_spent took.found new n took.fit changes free) in
     λ q p h other none. frees.entries q p h (inl none) ∙ none
 
+pub returns-in-Err-clause-slotted : goal.returns-in-Err-clause-slotted
+returns-in-Err-clause-slotted g c =
+    let old : Picture = picture_of c.args.core.now in
+    let taken : Picture = picture_of c.take_own.new.self in
+    let took = c.in_ok-frame.ensures.taken in
+    let n = c.in_ok-frame.frame.0 in
+    let new : Picture = record taken { slots = slots_of c.get.new.self; frames = c.release-in-Err.new.self } in
+    let changes : ChangesFrame took.found new n = changes_spent took.found taken n c.args.page took.own (slots_of c.get.new.self) c.get.ensures.same c.get.new.to c.release-in-Err.new.self c.release-in-Err.ensures.change in
+    let free : role_of c.release-in-Err.new.self n ≡ Free = c.release-in-Err.ensures.change.freed took.own.takes.counted in
+    let datum : role_of c.release-in-Err.new.self n ≢ Table = λ table. (let bad : Free ≡ Table = sym free ∙ table in (cc)) in
+    let frees = frees_then old took.found new _ took.frees (frees_spent took.found new n took.fit changes free) in
+    slotted_frees (λ p. ⊥) (IsThatPage c.args.pid c.args.page) old new _ frees
+
 pub returns-in-Err-clause-frees : goal.returns-in-Err-clause-frees
 returns-in-Err-clause-frees g c =
     let old : Picture = picture_of c.args.core.now in
@@ -399,3 +436,7 @@ returns-in_err-frame-clause-moves g c =
 
 pub returns-in_err-frame-clause-bare : goal.returns-in_err-frame-clause-bare
 returns-in_err-frame-clause-bare g c = λ q p h other none. c.in_err-frame.ensures.frees.entries q p h (inl none) ∙ none
+
+pub returns-in_err-frame-clause-slotted : goal.returns-in_err-frame-clause-slotted
+returns-in_err-frame-clause-slotted g c =
+    slotted_frees (λ p. ⊥) (IsThatPage c.args.pid c.args.page) (picture_of c.args.core.now) (picture_of c.take_own.new.self) _ c.in_err-frame.ensures.frees

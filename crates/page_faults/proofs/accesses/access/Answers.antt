@@ -1,12 +1,13 @@
 use Rattle.std.proofs.Common.{◌≡◌, ℕ, inl, refl, ◌⊎◌, Ok, ◌*◌, ◌+◌, ◌%◌, ◌/◌, ◌^◌, ◌<◌, true, sym, ap, ◌∙◌, subst}
 use Rattle.vm_types.specs.Verdict.{Fine}
 use Rattle.paging.specs.Picture.{Picture, picture_of, entry, is_swapped}
-use Rattle.mapping.specs.Changes.{IsCalm, KeepsOtherViews}
+use Rattle.mapping.specs.Changes.{IsCalm, IsThatPage, KeepsOtherViews, KeepsSlotted}
 use Rattle.mapping.specs.Files.{BringsFiles}
 use Rattle.mapping.proofs.Steps.{moves_none}
 use Rattle.page_faults.specs.Granted.{IsEntered, IsReadyAt}
 use Rattle.page_faults.specs.Outcome.{seen_at, IsPlaced, Grants, IsStalled}
 use Rattle.page_faults.specs.Wants.{Wants, ReadsHome, ShowsFile}
+use Rattle.page_faults.proofs.Slotted.{slotted_same}
 use Rattle.page_faults.proofs.Steps.{proceeds_moves, brings_none}
 use Rattle.page_faults.proofs.Verdicts.{placed_made, grants_made, page_user}
 use Rattle.page_faults.proofs.Wanted.{root_live, calm_same, walked_same, no_walk, refused_as}
@@ -153,3 +154,25 @@ pub returns-in_ok-frame-in-Page-clause-others : goal.returns-in_ok-frame-in-Page
 returns-in_ok-frame-in-Page-clause-others g c =
     let P : ℕ → Type 0 = λ x. KeepsOtherViews (picture_of c.args.core.now) (picture_of c.grant.new.core) c.args.pid x in
     subst P c.in-Page.ensures.page_is c.grant.ensures.others
+
+pub returns-in-Place-clause-slotted : goal.returns-in-Place-clause-slotted
+returns-in-Place-clause-slotted g c =
+    let old : Picture = picture_of c.args.core.now in
+    slotted_same (ShowsFile old c.args.pid (c.args.addr / 4096)) (IsThatPage c.args.pid (c.args.addr / 4096)) old
+
+pub returns-in-Fault-clause-slotted : goal.returns-in-Fault-clause-slotted
+returns-in-Fault-clause-slotted g c =
+    let old : Picture = picture_of c.args.core.now in
+    slotted_same (ShowsFile old c.args.pid (c.args.addr / 4096)) (IsThatPage c.args.pid (c.args.addr / 4096)) old
+
+pub returns-in_err-frame-in-Page-clause-slotted : goal.returns-in_err-frame-in-Page-clause-slotted
+returns-in_err-frame-in-Page-clause-slotted g c =
+    let old : Picture = picture_of c.args.core.now in
+    let P : ℕ → Type 0 = λ x. KeepsSlotted (ShowsFile old c.args.pid x) (IsThatPage c.args.pid x) old (picture_of c.grant.new.core) in
+    subst P c.in-Page.ensures.page_is c.grant.ensures.slotted
+
+pub returns-in_ok-frame-in-Page-clause-slotted : goal.returns-in_ok-frame-in-Page-clause-slotted
+returns-in_ok-frame-in-Page-clause-slotted g c =
+    let old : Picture = picture_of c.args.core.now in
+    let P : ℕ → Type 0 = λ x. KeepsSlotted (ShowsFile old c.args.pid x) (IsThatPage c.args.pid x) old (picture_of c.grant.new.core) in
+    subst P c.in-Page.ensures.page_is c.grant.ensures.slotted

@@ -5,6 +5,7 @@ use Rattle.paging.specs.Picture.{Picture, picture_of}
 use Rattle.mapping.proofs.Forms.{mapped_page}
 use Rattle.page_faults.specs.Wants.{ForTable, ShowsFile}
 use Rattle.page_faults.proofs.Linked.{open_still, calm_back, read_back, away_back, ready_back, brings_back, stalled_back, stalled_tables}
+use Rattle.page_faults.proofs.Slotted.{slotted_none, slotted_back}
 use Rattle.page_faults.proofs.Steps.{proceeds_moves, proceeds_after, brings_none, on_ok_then}
 use Rattle.page_faults.proofs.Wanted.{stalled_as, root_live, root_lives, whole_or}
 use Rattle.page_faults.proofs.granting.grant.Goals as goal
@@ -110,10 +111,22 @@ returns-clause-stalled g c =
     let old : Picture = picture_of c.args.core.now in
     let done = c.in_ok-link_tables.ensures in
     stalled_back c.args.core.now c.link_tables.new.core c.args.pid c.args.page (root_live old c.args.pid c.requires.lives) done.pages (λ whole. (done.idle whole).0)
-    g.D.SectorDisk g.E.SectorDisk done.moves c.grant_linked.new.core c.args.access c.grant_linked.result done.not_refused c.grant_linked.ensures.stalled
+    g.D.SectorDisk g.E.SectorDisk done.moves c.grant_linked.new.core c.args.access c.grant_linked.result done.not_refused done.swap_calm c.grant_linked.ensures.stalled
 
 pub returns-in_err-link_tables-clause-others : goal.returns-in_err-link_tables-clause-others
 returns-in_err-link_tables-clause-others g c = λ q k other. c.in_err-link_tables.ensures.pages.views q k
 
 pub returns-clause-others : goal.returns-clause-others
 returns-clause-others g c = λ q k other. c.grant_linked.ensures.others q k other ∙ c.in_ok-link_tables.ensures.pages.views q k
+
+pub returns-clause-swap_calm : goal.returns-clause-swap_calm
+returns-clause-swap_calm g c = on_ok_then _ _ c.grant_linked.result (λ same. same ∙ c.in_ok-link_tables.ensures.swap_calm) c.grant_linked.ensures.swap_calm
+
+pub returns-in_err-link_tables-clause-slotted : goal.returns-in_err-link_tables-clause-slotted
+returns-in_err-link_tables-clause-slotted g c =
+    slotted_none (picture_of c.args.core.now) (picture_of c.link_tables.new.core) c.args.pid c.args.page c.in_err-link_tables.ensures.slotted
+
+pub returns-clause-slotted : goal.returns-clause-slotted
+returns-clause-slotted g c =
+    let done = c.in_ok-link_tables.ensures in
+    slotted_back (picture_of c.args.core.now) (picture_of c.link_tables.new.core) c.args.pid c.args.page (picture_of c.grant_linked.new.core) done.pages done.slotted c.grant_linked.ensures.slotted

@@ -9,6 +9,7 @@ use Rattle.page_faults.proofs.Linked.{open_still}
 use Rattle.page_faults.proofs.Owned.{owned_ready, owned_entered, owned_calm, owned_stalled}
 use Rattle.page_faults.proofs.Pages.{page_inside, frame_behind}
 use Rattle.page_faults.proofs.Settled.{none_same, ready_after}
+use Rattle.page_faults.proofs.Slotted.{slotted_brought, slotted_on}
 use Rattle.page_faults.proofs.Steps.{proceeds_then, files_read, calm_store, ok_then, on_ok, on_ok_then}
 use Rattle.page_faults.proofs.Wanted.{stalled_as, shows_file, page_there}
 use Rattle.page_faults.proofs.granting.grant_copy.Goals as goal
@@ -141,7 +142,7 @@ returns-clause-stalled g c =
     let first = c.in_ok-cached.ensures in
     let done = c.own_frame.ensures in
     stalled_on c.args.core.now c.cached.new.core c.args.pid c.args.page c.args.file_page shows g.D.SectorDisk g.E.SectorDisk c.own_frame.new.core Store c.own_frame.result
-    (λ n at. (first.idle n at).0) first.keeps first.proceeds.device first.not_refused first.store_calm done.cause
+    (λ n at. (first.idle n at).0) first.keeps first.swap_calm first.not_refused first.store_calm done.cause
     (owned_stalled c.cached.new.core c.own_frame.new.core c.args.pid c.args.page c.args.attr (first.proceeds.spaces.at c.args.pid c.args.page ∙ c.requires.allowed.mapped)
     (ap is_shared c.requires.private) g.D.SectorDisk g.E.SectorDisk c.own_frame.result done.moves.store done.files done.same done.wanted done.cause done.short)
 
@@ -150,3 +151,18 @@ returns-in_err-cached-clause-others g c = λ q k other. c.in_err-cached.ensures.
 
 pub returns-clause-others : goal.returns-clause-others
 returns-clause-others g c = λ q k other. c.own_frame.ensures.others q k other ∙ c.in_ok-cached.ensures.keeps.views q k
+
+pub returns-clause-swap_calm : goal.returns-clause-swap_calm
+returns-clause-swap_calm g c = on_ok_then _ _ c.own_frame.result (λ same. same ∙ c.in_ok-cached.ensures.swap_calm) c.own_frame.ensures.swap_calm
+
+pub returns-in_err-cached-clause-slotted : goal.returns-in_err-cached-clause-slotted
+returns-in_err-cached-clause-slotted g c =
+    let old : Picture = picture_of c.args.core.now in
+    let shows = shows_file old c.args.pid c.args.page c.args.attr c.args.file_page c.requires.allowed.mapped (inl c.requires.private) c.requires.none in
+    slotted_brought old (picture_of c.cached.new.core) c.args.pid c.args.page c.args.file_page shows c.in_err-cached.ensures.slotted
+
+pub returns-clause-slotted : goal.returns-clause-slotted
+returns-clause-slotted g c =
+    let old : Picture = picture_of c.args.core.now in
+    let shows = shows_file old c.args.pid c.args.page c.args.attr c.args.file_page c.requires.allowed.mapped (inl c.requires.private) c.requires.none in
+    slotted_on old (picture_of c.cached.new.core) c.args.pid c.args.page (picture_of c.own_frame.new.core) c.args.file_page shows c.in_ok-cached.ensures.slotted c.own_frame.ensures.slotted

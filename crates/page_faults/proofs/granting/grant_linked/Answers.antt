@@ -6,6 +6,7 @@ use Rattle.mapping.proofs.Forms.{mapped_page}
 use Rattle.mapping.proofs.SwapSteps.{swapped_page}
 use Rattle.page_faults.specs.Wants.{Wants, ForSlot, ShowsFile}
 use Rattle.page_faults.proofs.Entered.{swapped_entered, swapped_ready, swapped_stalled}
+use Rattle.page_faults.proofs.Slotted.{slotted_own}
 use Rattle.page_faults.proofs.Steps.{proceeds_moves, brings_none, on_ok}
 use Rattle.page_faults.proofs.granting.grant_linked.Goals as goal
 
@@ -61,3 +62,7 @@ pub returns-in-Store-clause-calm : goal.returns-in-Store-clause-calm
 returns-in-Store-clause-calm g c =
     let P : Access → Type 0 = λ a. (Wants (picture_of c.args.core.now) c.args.pid c.args.page a → ⊥) → IsCalm c.args.core.now c.grant_store.new.core c.args.pid c.args.page in
     subst P (sym c.in-Store.is) c.grant_store.ensures.calm
+
+pub returns-then-is_swapped-clause-slotted : goal.returns-then-is_swapped-clause-slotted
+returns-then-is_swapped-clause-slotted g c =
+    slotted_own (picture_of c.args.core.now) (picture_of c.swap_in.new.core) c.args.pid c.args.page c.swap_in.ensures.slotted

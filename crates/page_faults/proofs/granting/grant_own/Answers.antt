@@ -2,6 +2,7 @@ use Rattle.std.proofs.Common.{inl, ap, ◌∙◌}
 use Rattle.paging.specs.Picture.{Picture, picture_of}
 use Rattle.page_faults.specs.Wants.{ShowsFile}
 use Rattle.page_faults.proofs.Steps.{proceeds_moves, brings_none, on_ok}
+use Rattle.page_faults.proofs.Slotted.{slotted_own}
 use Rattle.page_faults.proofs.Owned.{owned_ready, owned_entered, owned_calm, owned_stalled}
 use Rattle.page_faults.proofs.granting.grant_own.Goals as goal
 
@@ -48,3 +49,7 @@ returns-clause-stalled g c =
     let done = c.own_frame.ensures in
     owned_stalled c.args.core.now c.own_frame.new.core c.args.pid c.args.page c.args.attr c.requires.allowed.mapped c.requires.not_shared g.D.SectorDisk g.E.SectorDisk
     c.own_frame.result done.moves.store done.files done.same done.wanted done.cause done.short
+
+pub returns-clause-slotted : goal.returns-clause-slotted
+returns-clause-slotted g c =
+    slotted_own (picture_of c.args.core.now) (picture_of c.own_frame.new.core) c.args.pid c.args.page c.own_frame.ensures.slotted

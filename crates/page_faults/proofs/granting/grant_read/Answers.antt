@@ -10,6 +10,7 @@ use Rattle.page_faults.proofs.Entered.{read_ready, read_entered}
 use Rattle.page_faults.proofs.Linked.{open_still}
 use Rattle.page_faults.proofs.Pages.{page_inside, frame_behind}
 use Rattle.page_faults.proofs.Settled.{none_same}
+use Rattle.page_faults.proofs.Slotted.{slotted_calm, slotted_brought, slotted_on}
 use Rattle.page_faults.proofs.Steps.{proceeds_moves, proceeds_then, brings_none, files_read, calm_store}
 use Rattle.page_faults.proofs.Wanted.{stalled_as, shows_file, page_there}
 use Rattle.page_faults.proofs.granting.grant_read.Goals as goal
@@ -244,3 +245,36 @@ returns-in_err-frame-in-Private-clause-others g c = λ q k other. c.in_err-frame
 
 pub returns-in_ok-frame-in-Private-clause-others : goal.returns-in_ok-frame-in-Private-clause-others
 returns-in_ok-frame-in-Private-clause-others g c = λ q k other. c.show_cached.ensures.enters.views q k ∙ c.in_ok-frame-in-Private.ensures.keeps.views q k
+
+pub returns-then-to_u64-ne0-clause-swap_calm : goal.returns-then-to_u64-ne0-clause-swap_calm
+returns-then-to_u64-ne0-clause-swap_calm g c = ap (λ s. g.E.SectorDisk.failures s.pages.disk) c.regrant.ensures.enters.calm.swap
+
+pub returns-then-to_u64-ne0-clause-slotted : goal.returns-then-to_u64-ne0-clause-slotted
+returns-then-to_u64-ne0-clause-slotted g c =
+    slotted_calm (ShowsFile (picture_of c.args.core.now) c.args.pid c.args.page) c.args.core.now c.regrant.new.core c.args.pid c.args.page c.regrant.ensures.enters.calm
+
+pub returns-in-Anon-clause-swap_calm : goal.returns-in-Anon-clause-swap_calm
+returns-in-Anon-clause-swap_calm g c = ap (λ s. g.E.SectorDisk.failures s.pages.disk) c.show_zero.ensures.enters.calm.swap
+
+pub returns-in-Anon-clause-slotted : goal.returns-in-Anon-clause-slotted
+returns-in-Anon-clause-slotted g c =
+    slotted_calm (ShowsFile (picture_of c.args.core.now) c.args.pid c.args.page) c.args.core.now c.show_zero.new.core c.args.pid c.args.page c.show_zero.ensures.enters.calm
+
+pub returns-in_err-frame-in-Private-clause-slotted : goal.returns-in_err-frame-in-Private-clause-slotted
+returns-in_err-frame-in-Private-clause-slotted g c =
+    let old : Picture = picture_of c.args.core.now in
+    let none = seat_zero _ (sym c.entry_at-entry.ensures ∙ sym c.to_u64.ensures ∙ c.if-to_u64-ne0.false) in
+    let shows = shows_file old c.args.pid c.args.page c.args.attr c.in-Private.file_page c.requires.allowed.mapped c.in-Private.is none in
+    slotted_brought old (picture_of c.cached.new.core) c.args.pid c.args.page c.in-Private.file_page shows c.in_err-frame-in-Private.ensures.slotted
+
+pub returns-in_ok-frame-in-Private-clause-swap_calm : goal.returns-in_ok-frame-in-Private-clause-swap_calm
+returns-in_ok-frame-in-Private-clause-swap_calm g c =
+    ap (λ s. g.E.SectorDisk.failures s.pages.disk) c.show_cached.ensures.enters.calm.swap ∙ c.in_ok-frame-in-Private.ensures.swap_calm
+
+pub returns-in_ok-frame-in-Private-clause-slotted : goal.returns-in_ok-frame-in-Private-clause-slotted
+returns-in_ok-frame-in-Private-clause-slotted g c =
+    let old : Picture = picture_of c.args.core.now in
+    let none = seat_zero _ (sym c.entry_at-entry.ensures ∙ sym c.to_u64.ensures ∙ c.if-to_u64-ne0.false) in
+    let shows = shows_file old c.args.pid c.args.page c.args.attr c.in-Private.file_page c.requires.allowed.mapped c.in-Private.is none in
+    slotted_on old (picture_of c.cached.new.core) c.args.pid c.args.page (picture_of c.show_cached.new.core) c.in-Private.file_page shows c.in_ok-frame-in-Private.ensures.slotted
+    (slotted_calm (λ p. ⊥) c.cached.new.core c.show_cached.new.core c.args.pid c.args.page c.show_cached.ensures.enters.calm)

@@ -10,6 +10,7 @@ use Rattle.page_faults.proofs.Linked.{open_still}
 use Rattle.page_faults.proofs.Opening.{reads_too}
 use Rattle.page_faults.proofs.Pages.{page_inside}
 use Rattle.page_faults.proofs.Settled.{entered_store, entered_ready, ready_shared, touched_entry, touches_after}
+use Rattle.page_faults.proofs.Slotted.{slotted_calm, slotted_brought, slotted_on}
 use Rattle.page_faults.proofs.Steps.{proceeds_then, files_read, calm_store, held_marked}
 use Rattle.page_faults.proofs.Wanted.{stalled_as, shows_file, page_there}
 use Rattle.page_faults.proofs.granting.grant_shared.Goals as goal
@@ -140,3 +141,23 @@ returns-in_err-frame-clause-others g c = λ q k other. c.in_err-frame.ensures.ke
 
 pub returns-clause-others : goal.returns-clause-others
 returns-clause-others g c = λ q k other. c.touch.ensures.enters.views q k ∙ c.in_ok-frame.ensures.keeps.views q k
+
+pub returns-clause-swap_calm : goal.returns-clause-swap_calm
+returns-clause-swap_calm g c = ap (λ s. g.E.SectorDisk.failures s.pages.disk) c.touch.ensures.enters.calm.swap ∙ c.in_ok-frame.ensures.swap_calm
+
+pub returns-in_err-frame-clause-slotted : goal.returns-in_err-frame-clause-slotted
+returns-in_err-frame-clause-slotted g c =
+    let old : Picture = picture_of c.args.core.now in
+    let none = shared_none old c.args.pid c.args.page c.args.attr c.requires.linked.fit.granting c.requires.allowed.mapped
+    (mapped_page old c.args.pid c.args.page c.args.attr c.requires.linked.fit.granting c.requires.allowed.mapped) (ap is_shared c.requires.shared) in
+    let shows = shows_file old c.args.pid c.args.page c.args.attr c.args.file_page c.requires.allowed.mapped (inr c.requires.shared) none in
+    slotted_brought old (picture_of c.cached.new.core) c.args.pid c.args.page c.args.file_page shows c.in_err-frame.ensures.slotted
+
+pub returns-clause-slotted : goal.returns-clause-slotted
+returns-clause-slotted g c =
+    let old : Picture = picture_of c.args.core.now in
+    let none = shared_none old c.args.pid c.args.page c.args.attr c.requires.linked.fit.granting c.requires.allowed.mapped
+    (mapped_page old c.args.pid c.args.page c.args.attr c.requires.linked.fit.granting c.requires.allowed.mapped) (ap is_shared c.requires.shared) in
+    let shows = shows_file old c.args.pid c.args.page c.args.attr c.args.file_page c.requires.allowed.mapped (inr c.requires.shared) none in
+    slotted_on old (picture_of c.cached.new.core) c.args.pid c.args.page (picture_of c.touch.new.core) c.args.file_page shows c.in_ok-frame.ensures.slotted
+    (slotted_calm (λ p. ⊥) c.cached.new.core c.touch.new.core c.args.pid c.args.page c.touch.ensures.enters.calm)

@@ -5,14 +5,13 @@ use Rattle.frames.specs.FrameTable.{bytes_of}
 use Rattle.swap.specs.Slots.{SlotTable, slots_of, IsInUse}
 use Rattle.page_cache.specs.declared.place.Place.TheVariants.{Frame, Slot}
 use Rattle.page_cache.specs.CacheTable.{place_of, is_touched}
-use Rattle.paging.specs.declared.leaves.Change.TheVariants.{Forget}
 use Rattle.paging.specs.Seats.{InSlot}
 use Rattle.paging.specs.Picture.{Picture, picture_of, entry, held, bytes_at}
 use Rattle.paging.proofs.Leaving.{Leaves, fit_slot, left_spares, unnamed_of}
 use Rattle.paging.proofs.Places.{cases_page}
 use Rattle.paging.proofs.Puts.{fit_put}
 use Rattle.paging.proofs.Putting.{put_spares, fit_unput, with_slots, kept_by, owned_by}
-use Rattle.paging.proofs.Sparing.{changes_spares, spares_then, past_unused}
+use Rattle.paging.proofs.Sparing.{forgotten_spares, spares_then, past_unused}
 use Rattle.paging.proofs.evicting.send_away.Goals as goal
 
 held_there : (old new : Picture) (p : FilePage) (v k : ℕ) → old.place p ≡ Frame (record { 0 = v }) → new.place p ≡ Slot (record { 0 = k }) → new.slots.bytes k ≡ bytes_of old.frames v → held new p ≡ held old p
@@ -86,7 +85,7 @@ returns-in-Ok-clause-gives g c =
       ];
       files = λ f. refl;
     } in
-    let first = changes_spares Forget v k old mid c.requires.fit ch in
+    let first = forgotten_spares v k old mid c.requires.fit (c.requires.fit.places.cached c.args.page v c.requires.placed) ch in
     let puts_counts : (j : ℕ) → j ≢ k → IsInUse mid.slots j → t.count j ≡ mid.slots.count j = λ j ne used. (kept_by mid.slots t k _ puts j used).1 in
     let second = put_spares mid put fit (with_slots mid t) (λ j used. (kept_by mid.slots t k _ puts j used).0) v k puts.others.total puts_counts in
     let third = left_spares put new c.args.page v (Slot (record { 0 = k })) (InSlot k) 1 (fit_put mid put k 0 0 _ fit (with_slots mid t) puts (omega arith)) leaves
@@ -111,6 +110,9 @@ returns-in-Err-Device-clause-gives g c =
     let same = c.in-Err-Device.ensures.same in (
       k,
       past_unused c.args.core.now.swap,
-      spares_then v k old mid put (changes_spares Forget v k old mid c.requires.fit c.change_leaves.ensures.changes)
+      spares_then v k old mid put (forgotten_spares v k old mid c.requires.fit (c.requires.fit.places.cached c.args.page v c.requires.placed) c.change_leaves.ensures.changes)
           (put_spares mid put c.change_leaves.ensures.fit (with_slots mid t) (λ j used. same.bytes j used) v k same.total (λ j ne used. same.counts j)),
     )
+
+pub returns-in-Err-Device-clause-still : goal.returns-in-Err-Device-clause-still
+returns-in-Err-Device-clause-still g c = λ n. c.change_leaves.ensures.changes.roles n

@@ -4,12 +4,11 @@ use Rattle.frames.specs.declared.role.Role.TheVariants.{Zero, Private, Cache}
 use Rattle.frames.specs.FrameTable.{role_of}
 use Rattle.page_cache.specs.declared.place.Place.TheVariants.{Home}
 use Rattle.page_cache.specs.CacheTable.{place_of, is_touched}
-use Rattle.paging.specs.declared.leaves.Change.TheVariants.{Forget}
 use Rattle.paging.specs.Picture.{Picture, picture_of, held, bytes_at}
 use Rattle.paging.specs.Parts.{nowhere}
 use Rattle.paging.proofs.Leaving.{Leaves, fit_home, left_spares, unnamed_of}
 use Rattle.paging.proofs.Places.{cases_page}
-use Rattle.paging.proofs.Sparing.{changes_spares, spares_then}
+use Rattle.paging.proofs.Sparing.{forgotten_spares, spares_then}
 use Rattle.paging.proofs.evicting.send_home.Goals as goal
 
 gone_home : (c : Picture) (p : FilePage) → c.place p ≡ Home → held c p ≡ None
@@ -70,6 +69,6 @@ returns-clause-spares g c = λ k.
       ];
       files = λ f. refl;
     } in
-    spares_then c.args.victim.0 k old mid new (changes_spares Forget c.args.victim.0 k old mid c.requires.fit ch)
+    spares_then c.args.victim.0 k old mid new (forgotten_spares c.args.victim.0 k old mid c.requires.fit (c.requires.fit.places.cached c.args.page c.args.victim.0 c.requires.placed) ch)
     (left_spares mid new c.args.page c.args.victim.0 Home nowhere 0 c.change_leaves.ensures.fit leaves (unnamed_of mid c.args.victim.0 c.change_leaves.ensures.clear) k
     (inr (gone_home new c.args.page c.set_place.ensures.placed, ch.beside.touched c.args.page ∙ c.requires.untouched)))

@@ -7,7 +7,8 @@ use Rattle.frames.specs.FrameTable.{IsFrame, IsFull}
 use Rattle.paging.specs.Picture.{picture_of}
 use Rattle.paging.specs.Parts.{IsFit}
 use Rattle.paging.specs.Calls.{Frees}
-use Rattle.paging.specs.Evictions.{IsEvictable}
+use Rattle.paging.specs.Evictions.{IsEvictable, ClearsMarks}
+use Rattle.paging.proofs.Giving.{marks_none}
 use Rattle.paging.proofs.Sparing.{frees_none}
 use Rattle.paging.proofs.looking.choose.Goals as goal
 
@@ -31,6 +32,14 @@ returns-clause-frees g c =
     let there = follows.1.frees old (frees_none old c.args.keep) in
     let P : Option FrameNo → Type 0 = λ k. Frees old (picture_of c.victim-choice.new.view.core.now) k in
     subst (λ y. Frees old (picture_of y) c.args.keep) (sym same) (subst P follows.1.kept there)
+
+pub returns-clause-marks : goal.returns-clause-marks
+returns-clause-marks g c =
+    let v = c.victim-choice.ensures in
+    let follows = both c.victim-choice.result _ _ _ v.chooses v.kept (λ n ch. ch.passes.follows) (λ p. p.follows) in
+    let same = c.core-1.given.1 (sym follows.0) in
+    let old = picture_of c.args.core.now in
+    subst (λ y. ClearsMarks old (picture_of y)) (sym same) (follows.1.marks old (marks_none old))
 
 ok_then : {T E : Type 0} (r : Result T E) (P P' : T → Type 0) → IfOk r P → ((n : T) → P n → P' n) → IfOk r P'
 ok_then (Ok n) P P' ok f = f n ok

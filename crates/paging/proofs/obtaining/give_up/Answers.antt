@@ -1,5 +1,7 @@
-use Rattle.std.proofs.Common.{arith}
+use Rattle.std.proofs.Common.{ℕ, arith}
 use Rattle.paging.specs.Picture.{picture_of}
+use Rattle.paging.specs.Ages.{GivesFrame}
+use Rattle.paging.proofs.Giving.{on_err_same, frame_given}
 use Rattle.paging.proofs.Sparing.{frees_then, gives_frees}
 use Rattle.paging.proofs.Refusing.{inside_of, above_of, all_need, no_slot_free}
 use Rattle.paging.proofs.obtaining.give_up.Goals as goal
@@ -48,3 +50,14 @@ returns-else-has_spareable-clause-refuses g c =
     let now = picture_of c.choose-choice.new.core in
     let sound = c.choose-choice.new.core.sound in
     (c.choose-choice.ensures.full c.requires.full, λ n spare. c.has_spareable.ensures.none c.if-has_spareable.false n (inside_of now.frames n sound spare.0) spare)
+
+pub returns-in_ok-evict-in-Ok-clause-gives : goal.returns-in_ok-evict-in-Ok-clause-gives
+returns-in_ok-evict-in-Ok-clause-gives g c = frame_given (picture_of c.args.core.now) (picture_of c.choose-choice.new.core) (picture_of c.evict.new.core) c.in-Ok.victim.0
+    c.choose-choice.ensures.marks c.evict.ensures.gives c.in-Ok.ensures.found.0.0
+
+pub returns-in_err-evict-in-Ok-clause-tried : goal.returns-in_err-evict-in-Ok-clause-tried
+returns-in_err-evict-in-Ok-clause-tried g c =
+    let old = picture_of c.args.core.now in
+    let new = picture_of c.evict.new.core in
+    let gives = frame_given old (picture_of c.choose-choice.new.core) new c.in-Ok.victim.0 c.choose-choice.ensures.marks c.evict.ensures.gives c.in-Ok.ensures.found.0.0 in
+    on_err_same ((v : ℕ) × GivesFrame old new v) c.from_residual.result (c.in-Ok.victim.0, gives)

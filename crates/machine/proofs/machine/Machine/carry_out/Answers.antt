@@ -13,14 +13,14 @@ pub returns-in-Spawn-clause-meets : goal.returns-in-Spawn-clause-meets
 returns-in-Spawn-clause-meets g c = λ s shows readable.
     rw c.in-Spawn.is (carried g.D.SectorDisk g.E.SectorDisk (λ d i k left. g.met.D.SectorDisk.only_now d i k left) c.args.self.now c.spawn.new.core c.args.self.now.halted c.args.self.now.past s
     Spawn (reply_of c.spawn.result) shows c.if-self.false c.if-self.false refl refl
-    (unread g.D.SectorDisk g.E.SectorDisk c.args.self.now.core.store c.spawn.new.core.store c.spawn.ensures.store) c.spawn.ensures.device (λ i. keeps_all g.D.SectorDisk g.E.SectorDisk c.args.self.now.core c.spawn.new.core (c.spawn.ensures.denied i)) c.spawn.ensures.room tt
+    (unread g.D.SectorDisk g.E.SectorDisk c.args.self.now.core.store c.spawn.new.core.store c.spawn.ensures.store) c.spawn.ensures.device (λ i. keeps_all g.D.SectorDisk g.E.SectorDisk c.args.self.now.core c.spawn.new.core (c.spawn.ensures.denied i)) c.spawn.ensures.room c.spawn.ensures.takes
     c.spawn.ensures.comes (reads_as g.D.SectorDisk g.E.SectorDisk _ s _ _ c.in-Spawn.is readable))
 
 pub returns-in-Fork-clause-meets : goal.returns-in-Fork-clause-meets
 returns-in-Fork-clause-meets g c = λ s shows readable.
     rw c.in-Fork.is (carried g.D.SectorDisk g.E.SectorDisk (λ d i k left. g.met.D.SectorDisk.only_now d i k left) c.args.self.now c.fork.new.core c.args.self.now.halted c.args.self.now.past s
     (Fork c.in-Fork.pid) (reply_of c.fork.result) shows c.if-self.false c.if-self.false refl refl
-    (unread g.D.SectorDisk g.E.SectorDisk c.args.self.now.core.store c.fork.new.core.store c.fork.ensures.store) c.fork.ensures.device (λ i. keeps_all g.D.SectorDisk g.E.SectorDisk c.args.self.now.core c.fork.new.core (c.fork.ensures.denied i)) c.fork.ensures.room tt
+    (unread g.D.SectorDisk g.E.SectorDisk c.args.self.now.core.store c.fork.new.core.store c.fork.ensures.store) c.fork.ensures.device (λ i. keeps_all g.D.SectorDisk g.E.SectorDisk c.args.self.now.core c.fork.new.core (c.fork.ensures.denied i)) c.fork.ensures.room c.fork.ensures.takes
     c.fork.ensures.comes (reads_as g.D.SectorDisk g.E.SectorDisk _ s _ _ c.in-Fork.is readable))
 
 pub returns-in-Exit-clause-meets : goal.returns-in-Exit-clause-meets

@@ -19,7 +19,7 @@ pub returns-clause-caused : goal.returns-clause-caused
 returns-clause-caused g c =
     let e = c.msync-answer.ensures in
     msync_caused g.D.SectorDisk g.E.SectorDisk c.args.self.now.core c.msync-answer.new.core c.msync-answer.result
-    e.later e.device.later e.cause e.calm e.stalled e.refused
+    e.later e.device.later e.cause e.calm e.stalled e.still e.refused
 
 pub returns-clause-meets : goal.returns-clause-meets
 returns-clause-meets g c = λ s shows readable.

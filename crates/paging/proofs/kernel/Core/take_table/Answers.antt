@@ -1,5 +1,10 @@
-use Rattle.std.proofs.Common.{refl}
-use Rattle.paging.specs.Picture.{picture_of}
+use Rattle.std.proofs.Common.{ℕ, Option, refl, Some, None, ap, inl, inr, ◌⊎◌, ◌≡◌}
+use Rattle.frames.specs.FrameTable.{FrameTable, IsFull}
+use Rattle.paging.specs.Picture.{Picture, picture_of}
+use Rattle.paging.specs.Ages.{GivesForTables}
+use Rattle.paging.specs.Steps.{SameBeside}
+use Rattle.paging.specs.declared.kernel.Core.{Core}
+use Rattle.paging.proofs.Giving.{on_err_same, frame_taken, roles_but, table_given, tables_tried}
 use Rattle.paging.proofs.Returning.{zero_no_table}
 use Rattle.paging.proofs.kernel.Core.take_table.Goals as goal
 
@@ -12,3 +17,39 @@ returns-clause-taken g c = record {
   beside = record { slots = refl; root = λ q. refl; at = λ q k. refl; page_of = λ n. refl; place = λ p. refl; touched = λ p. refl; files = λ f. refl };
   zero_page = zero_no_table (picture_of c.args.self.now) (picture_of c.obtain.new.core) c.args.self.now.sound c.obtain.ensures.frees;
 }
+
+-- why a frame was given up, if one was
+needed_of : {D E : Type 0} (old found : Core D E) → IsFull old.frames ⊎ (found ≡ old) → IsFull old.frames ⊎ (picture_of found ≡ picture_of old)
+needed_of old found (inl full) = inl full
+needed_of old found (inr same) = inr (ap picture_of same)
+
+same_beside : (c : Picture) (t : FrameTable) → SameBeside c (record c { frames = t })
+same_beside c t = record { slots = refl; root = λ q. refl; at = λ q k. refl; page_of = λ n. refl; place = λ p. refl; touched = λ p. refl; files = λ f. refl }
+
+pub returns-clause-gives : goal.returns-clause-gives
+returns-clause-gives g c =
+    let old = picture_of c.args.self.now in
+    let found = picture_of c.obtain.new.core in
+    let new : Picture = record found { frames = c.take_table.new.frames } in
+    let needed = needed_of c.args.self.now c.obtain.new.core c.obtain.ensures.needed in
+    let adds = c.in-Ok.ensures.taken in
+    let gives = frame_taken old found None c.in_ok-obtain.field-0.0 c.in-Ok.table.0 c.obtain.ensures.frees c.in_ok-obtain.ensures.gives needed adds.takes.inside adds.takes.was_free in
+    table_given old found new c.in-Ok.table.0 c.obtain.ensures.fit c.obtain.ensures.frees adds (same_beside found c.take_table.new.frames) gives needed
+
+pub returns-clause-only : goal.returns-clause-only
+returns-clause-only g c =
+    let old = picture_of c.args.self.now in
+    let found = picture_of c.obtain.new.core in
+    let new : Picture = record found { frames = c.take_table.new.frames } in
+    let needed = needed_of c.args.self.now c.obtain.new.core c.obtain.ensures.needed in
+    let adds = c.in-Ok.ensures.taken in
+    let gives = frame_taken old found None c.in_ok-obtain.field-0.0 c.in-Ok.table.0 c.obtain.ensures.frees c.in_ok-obtain.ensures.gives needed adds.takes.inside adds.takes.was_free in
+    roles_but old found new c.in-Ok.table.0 c.obtain.ensures.fit c.obtain.ensures.frees adds (same_beside found c.take_table.new.frames) gives
+
+pub returns-in_err-obtain-clause-tried : goal.returns-in_err-obtain-clause-tried
+returns-in_err-obtain-clause-tried g c =
+    let old = picture_of c.args.self.now in
+    let new = picture_of c.obtain.new.core in
+    let failed = c.in_err-obtain.ensures in
+    let gives = tables_tried old new None failed.tried.0 c.obtain.ensures.frees failed.tried.1 failed.still failed.full in
+    on_err_same ((tried : Option ℕ) × GivesForTables old new tried) c.from_residual.result (Some failed.tried.0, gives)

@@ -1,6 +1,7 @@
 use Rattle.std.proofs.Common.{refl, sym, ◌∙◌, arith}
 use Rattle.paging.specs.declared.leaves.Change.TheVariants.{ClearAccessed}
 use Rattle.paging.specs.Picture.{picture_of}
+use Rattle.paging.proofs.Giving.{marks_then}
 use Rattle.paging.proofs.Sparing.{changes_frees, frees_then}
 use Rattle.paging.proofs.looking.ViewFrameView.clear.Goals as goal
 
@@ -14,6 +15,7 @@ returns-clause-follows g c =
       record {
         kept = refl;
         frees = λ s f. frees_then s old new v.keep f (changes_frees ClearAccessed c.args.n old new v.keep c.requires.open done.changes (λ e. (let a = done.above in omega (arith, a, e))) c.requires.evictable.0.1);
+        marks = λ s f. marks_then s old new c.args.n f done.changes;
         full = λ full n inside free. full n (let k = done.changes.frames in omega (arith, k, inside)) (sym (done.changes.roles n) ∙ free);
         looked = record { store = done.beside.store; swap = done.beside.swap; roots = done.beside.roots; regions = done.beside.regions; refused = done.beside.refused };
       },

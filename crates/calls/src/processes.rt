@@ -7,6 +7,7 @@ ghost use Rattle.page_ranges.specs.Steps.{KeepsDevices};
 ghost use Rattle.msync.specs.Shows.{IsSoundCore};
 ghost use Rattle.paging.specs.Calls.{UsesDevice};
 ghost use Rattle.paging.specs.Picture.{picture_of};
+ghost use Rattle.calls.specs.Processes.{ForkTakes, SpawnTakes};
 ghost use Rattle.calls.specs.Calls.{Carries, IsCaused};
 ghost use Rattle.calls.specs.Idle.{is_denial};
 
@@ -15,7 +16,7 @@ use lifecycle::free_pid;
 use paging::Core;
 use vm_types::{Answer, Errno};
 
-/// Starts a process with an empty space, and answers its number, the least that is free.
+/// Starts a process with an empty space, and returns its number, the least that is free.
 ///
 /// `EAGAIN` where 64 processes live (fork(2)). It may stall for a frame: `NoFrames` where the tables of all processes, its own
 /// included, and two more frames fill memory, `NoSwap` where slots are fewer than own copies and touched file pages, `SwapDevice`
@@ -24,6 +25,7 @@ pub fn spawn<D: SectorDisk, E: SectorDisk>(core: &mut Core<D, E>) -> Answer
     requires sound { IsSoundCore D.SectorDisk E.SectorDisk core.old }
     ensures sound { IsSoundCore D.SectorDisk E.SectorDisk core.new }
     ensures comes { Carries D.SectorDisk E.SectorDisk core.old core.new Spawn (reply_of result) }
+    ensures takes { SpawnTakes (picture_of core.old) (picture_of core.new) (reply_of result) }
     ensures store { core.new.store ≡ core.old.store }
     ensures device { UsesDevice E.SectorDisk core.old.swap.pages.disk core.new.swap.pages.disk }
     ensures denied { is_denial (reply_of result) ≡ true → core.new ≡ core.old }
@@ -39,7 +41,7 @@ pub fn spawn<D: SectorDisk, E: SectorDisk>(core: &mut Core<D, E>) -> Answer
     }
 }
 
-/// Starts a process with the pages of another, own copies included (fork(2)), and answers its number, the least that is
+/// Starts a process with the pages of another, own copies included (fork(2)), and returns its number, the least that is
 /// free. Each of the two sees its own later stores alone, but for those through shared pages.
 ///
 /// In this order: `ESRCH` where there is no such parent, `EAGAIN` where 64 processes live. It may stall as a
@@ -48,6 +50,7 @@ pub fn fork<D: SectorDisk, E: SectorDisk>(core: &mut Core<D, E>, pid: u64) -> An
     requires sound { IsSoundCore D.SectorDisk E.SectorDisk core.old }
     ensures sound { IsSoundCore D.SectorDisk E.SectorDisk core.new }
     ensures comes { Carries D.SectorDisk E.SectorDisk core.old core.new (Fork pid) (reply_of result) }
+    ensures takes { ForkTakes (picture_of core.old) (picture_of core.new) pid (reply_of result) }
     ensures store { core.new.store ≡ core.old.store }
     ensures device { UsesDevice E.SectorDisk core.old.swap.pages.disk core.new.swap.pages.disk }
     ensures denied { is_denial (reply_of result) ≡ true → core.new ≡ core.old }

@@ -3,7 +3,7 @@ use Rattle.lifecycle.specs.Changes.{RemovesProcess}
 use Rattle.paging.specs.Picture.{picture_of}
 use Rattle.calls.proofs.Calls.{found_lives}
 use Rattle.calls.proofs.Living.{exits}
-use Rattle.calls.proofs.births.exit.Goals as goal
+use Rattle.calls.proofs.processes.exit.Goals as goal
 
 pub returns-clause-comes : goal.returns-clause-comes
 returns-clause-comes g c = λ s shows reads swaps.

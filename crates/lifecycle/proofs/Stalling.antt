@@ -1,0 +1,131 @@
+-- A fork that stalls: what it took of memory is given back.
+use Rattle.std.proofs.Common.{◌≡◌, ◌≢◌, ℕ, zero, suc, inl, inr, ◌⊎◌, ◌+◌, Option, Some, None, refl, sym, ap, ◌∙◌, subst, arith}
+use Rattle.std.proofs.lemmas.Bool.{cases_eq}
+use Rattle.vm_types.specs.declared.file.FilePage.{FilePage}
+use Rattle.frames.specs.declared.role.Role.{Role}
+use Rattle.frames.specs.declared.role.Role.TheVariants.{Free, Zero, Table, Private, Cache}
+use Rattle.frames.specs.FrameTable.{role_of, count_of, IsCountFor, IsFull, IsSound}
+use Rattle.page_tables.specs.Tree.{IsPage, IsTable}
+use Rattle.paging.specs.Seats.{InFrame, seat, holders_at, off}
+use Rattle.paging.specs.Picture.{Picture, entry, page_in}
+use Rattle.paging.specs.Parts.{IsFit, nowhere}
+use Rattle.paging.specs.Calls.{Frees}
+use Rattle.paging.specs.Ages.{GivesForTables, KeepsRoles}
+use Rattle.paging.proofs.Seats.{holders_none, off-none}
+use Rattle.paging.proofs.Start.{seat-none}
+use Rattle.mapping.specs.Changes.{KeepsRoom, IsTableOnWay}
+use Rattle.mapping.proofs.Forms.{used_inside}
+use Rattle.page_ranges.specs.Steps.{KeepsEntriesOfOthers}
+use Rattle.copy_on_write.specs.Steps.{HasCopy, LacksTable}
+use Rattle.lifecycle.specs.Changes.{FreesTables, StallsToFork}
+
+-- no frame was to be had for the root
+pub stalls_first : (old new : Picture) (parent child : ℕ) → old.root child ≡ None → IsFit new → Frees old new None
+    → (tried : Option ℕ) × GivesForTables old new tried → KeepsRoles old new → IsFull new.frames → StallsToFork old new parent child
+stalls_first old new parent child dead fit frees gives still full =
+    let was_table : (n : ℕ) → IsTable new.frames n → IsTable old.frames n = λ n table. (
+    let low = table.inside in
+    let count = frees.count in
+    record { inside = omega (arith, low, count); role = sym (still n) ∙ table.role }) in
+    record {
+      asked = new;
+      fit = fit;
+      tried = gives.0;
+      gives = gives.1;
+      linked = λ n table. inl (was_table n table);
+      full = full;
+      lacking = inl (frees.pages.root child ∙ dead);
+      roles = λ n. inl refl;
+      tables = was_table;
+      entries = λ q page ne h. refl;
+    }
+
+private_or : (r : Role) → (r ≡ Private) ⊎ (r ≢ Private)
+private_or Free = inr (λ e. (cc))
+private_or Zero = inr (λ e. (cc))
+private_or Table = inr (λ e. (cc))
+private_or Private = inl refl
+private_or Cache = inr (λ e. (cc))
+
+-- A process without entries went, and its tables with it.
+module _ (old new : Picture) (pid : ℕ) (fit : IsFit old) (fit' : IsFit new) (sound : IsSound old.frames) (sound' : IsSound new.frames) (tables : FreesTables old new pid)
+    (others : KeepsEntriesOfOthers old new pid) (bare : (page : ℕ) → IsPage 2 page → entry old pid page ≡ 0) (place : (p : FilePage) → new.place p ≡ old.place p)
+    (room : KeepsRoom old new) where
+  -- a frame of own copies has a sharer, which is another process
+  private_left : (n : ℕ) → role_of old.frames n ≡ Private → role_of new.frames n ≡ Private
+  private_left n is = elim (private_or (role_of new.frames n)) [
+    | inl private ↦ private
+    | inr other ↦ absurd (
+        let page = page_in old fit.counted.0 (InFrame n) in
+        let h : IsPage 2 page = fit.counted.1.pages (InFrame n) is in
+        let none : holders_at (entry old) page (InFrame n) ≡ 0 = holders_none (entry old) page (InFrame n) (λ q there. elim (cases_eq q pid) [
+          | inl e ↦ (
+              let gone : seat (entry old q page) ≡ None = ap seat (ap (λ x. entry old x page) e ∙ bare page h) ∙ seat-none in
+              let bad : None ≡ Some (InFrame n) = sym gone ∙ there in (cc))
+          | inr ne ↦ other (fit'.counted.1.named q page (InFrame n) h (ap seat (others q page h ne) ∙ there))
+        ]) in
+        let count : count_of old.frames n ≡ holders_at (entry old) page (InFrame n) + off nowhere 0 (InFrame n) = fit.counted.1.counts (InFrame n) is in
+        let zero = off-none nowhere (InFrame n) in
+        let P : Role → Type 0 = λ r. IsCountFor r (count_of old.frames n) in
+        let used = used_inside old.frames n sound (λ free. (let bad : Private ≡ Free = sym is ∙ free in (cc))) in
+        let some = (subst P is (sound.counted n used)).0 in
+        omega (arith, none, count, zero, some))
+  ]
+
+  by_role : (n : ℕ) (kind : Role) → role_of old.frames n ≡ kind → (role_of new.frames n ≡ kind) ⊎ ((role_of new.frames n ≡ Free) × IsTable old.frames n)
+  by_role n Free is = inl (tables.free n is)
+  by_role n Zero is = inl (ap (role_of new.frames) (sound.zero_alone n is) ∙ sound'.zero_role)
+  by_role n Table is =
+      let used = used_inside old.frames n sound (λ free. (let bad : Table ≡ Free = sym is ∙ free in (cc))) in
+      let table : IsTable old.frames n = record { inside = used; role = is } in
+      elim (tables.others n table) [
+        | inl still ↦ inl still.role
+        | inr on ↦ inr (tables.own on.0 on.1 n on.2 on.3, table)
+      ]
+  by_role n Private is = inl (private_left n is)
+  by_role n Cache is = let p = fit.places.held n is in inl (fit'.places.cached p.0 n (place p.0 ∙ p.1))
+
+  roles_left : (n : ℕ) → (role_of new.frames n ≡ role_of old.frames n) ⊎ ((role_of new.frames n ≡ Free) × IsTable old.frames n)
+  roles_left n = by_role n (role_of old.frames n) refl
+
+  no_free_table : (n : ℕ) → IsTable new.frames n → role_of new.frames n ≡ Free → ⊥
+  no_free_table n table free = let bad : Table ≡ Free = sym table.role ∙ free in (cc)
+
+  still_table : (n : ℕ) → IsTable new.frames n → IsTable old.frames n
+  still_table n table = elim (roles_left n) [
+    | inl same ↦ (
+        let low = table.inside in
+        let count = room.frames in
+        record { inside = omega (arith, low, count); role = sym same ∙ table.role })
+    | inr freed ↦ freed.1
+  ]
+
+  -- Its tables were made since memory was as it was first, to no avail.
+  module _ (first : Picture) (parent : ℕ)
+      (linked : (n : ℕ) → IsTable old.frames n
+      → IsTable first.frames n ⊎ ((old.root pid ≡ Some n) ⊎ ((page : ℕ) × HasCopy first parent page × IsTableOnWay old pid page n))) where
+    table_first : (n : ℕ) → IsTable new.frames n → IsTable first.frames n
+    table_first n table = elim (linked n (still_table n table)) [
+      | inl was ↦ was
+      | inr own ↦ absurd (no_free_table n table (elim own [
+        | inl root ↦ tables.own n 0 n root (0, (omega arith), refl)
+        | inr on ↦ (
+            let way = on.2 in
+            let below = way.2 in
+            tables.own way.0 on.0 n way.1 (suc below.0, (let low = below.1 in omega (arith, low)), below.2))
+      ]))
+    ]
+
+    pub stalls_later : (tried : Option ℕ) → GivesForTables first old tried → IsFull old.frames → LacksTable old parent pid → StallsToFork first new parent pid
+    stalls_later tried gives full lacks = record {
+      asked = old;
+      fit = fit;
+      tried = tried;
+      gives = gives;
+      linked = linked;
+      full = full;
+      lacking = inr lacks;
+      roles = roles_left;
+      tables = table_first;
+      entries = λ q page ne h. others q page h ne;
+    }

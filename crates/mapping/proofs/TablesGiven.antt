@@ -1,0 +1,101 @@
+-- What tables taken and linked take of memory.
+use Rattle.std.proofs.Common.{◌≡◌, ◌≢◌, ◌-◌, ◌<◌, ◌≤◌, ℕ, zero, suc, inl, inr, Option, Some, None, get_or, sym, ap, ◌∙◌, subst, arith}
+use Rattle.std.proofs.lemmas.Bool.{cases_eq}
+use Rattle.frames.specs.declared.role.Role.TheVariants.{Free}
+use Rattle.frames.specs.FrameTable.{FrameTable, frame_count, role_of}
+use Rattle.page_tables.specs.Change.{LinksTable}
+use Rattle.page_tables.specs.Tree.{IsTable, IsBelowRoot, Points, Way, last_table, missing_of}
+use Rattle.page_tables.proofs.Ways.{ends}
+use Rattle.page_tables.proofs.Ends.{way_forth}
+use Rattle.paging.specs.Ages.{Same, GivesForTables, KeepsRoles, KeepsRolesBut}
+use Rattle.paging.specs.Picture.{Picture, entry}
+use Rattle.paging.specs.Calls.{Frees, ObtainsTable}
+use Rattle.paging.specs.Steps.{SameBeside}
+use Rattle.paging.proofs.Aging.{gives_then}
+use Rattle.paging.proofs.Entries.{entry-same}
+use Rattle.paging.proofs.Linked.{loose_table}
+use Rattle.mapping.specs.Changes.{IsWhole, IsTableOnWay, LinksTables}
+
+-- a frame that has its role was a table if it is one
+table_before : (old new : FrameTable) (n : ℕ) → frame_count new ≡ frame_count old → role_of new n ≡ role_of old n → IsTable new n → IsTable old n
+table_before old new n count role table =
+    let P : ℕ → Type 0 = λ k. n < k in
+    record { inside = subst P count table.inside; role = sym role ∙ table.role }
+
+-- a table on the way to a page that is not the root
+below_root : (t : FrameTable) (root page n depth : ℕ) → depth ≤ 2 → Way t 2 root page depth n → n ≢ root → IsBelowRoot t 2 root page n
+below_root t root page n zero least way ne = absurd (ne way)
+below_root t root page n (suc depth) least way ne = (depth, omega (arith, least), way)
+
+-- where roots and pointers stand, a table is on the ways that it was on
+pub way_stands : (old new : Picture) (pid page n : ℕ) → new.root pid ≡ old.root pid → ((a i b : ℕ) → Points old.frames a i b → Points new.frames a i b)
+    → IsTableOnWay old pid page n → IsTableOnWay new pid page n
+way_stands old new pid page n root pointers way =
+    let below : IsBelowRoot old.frames 2 way.0 page n = way.2 in
+    (way.0, root ∙ way.1, (below.0, below.1, way_forth old.frames new.frames pointers 2 way.0 page (suc below.0) n below.2))
+
+pub links_then : (a b c : Picture) (pid page : ℕ) (tried : Option ℕ) → c.root pid ≡ b.root pid → GivesForTables b c tried
+    → LinksTables a b pid page → LinksTables b c pid page → LinksTables a c pid page
+links_then a b c pid page tried root gives first second n table = elim (second n table) [
+  | inl was ↦ elim (first n was) [
+    | inl start ↦ inl start
+    | inr way ↦ inr (way_stands b c pid page n root gives.pointers way)
+  ]
+  | inr way ↦ inr way
+]
+
+-- no frame came to another use
+pub links_none : (old new : Picture) (pid page : ℕ) → frame_count new.frames ≡ frame_count old.frames → KeepsRoles old new → LinksTables old new pid page
+links_none old new pid page count still n table = inl (table_before old.frames new.frames n count (still n) table)
+
+-- frames were given up: a table that was missing still is
+pub still_wanted : (old new : Picture) (pid root page : ℕ) → Frees old new None → old.root pid ≡ Some root → missing_of old.frames 2 root page ≢ 0
+    → IsWhole new pid page → ⊥
+still_wanted old new pid root page frees lives missing whole =
+    missing (sym (frees.missing pid root page lives) ∙ whole root (frees.pages.root pid ∙ lives))
+
+-- a frame was obtained, taken for a table, and linked on the way to a page
+module _ (old taken new : Picture) (pid root page table : ℕ) (obtains : ObtainsTable old taken table) (lives : old.root pid ≡ Some root)
+    (links : LinksTable taken.frames new.frames 2 root page table) (beside : SameBeside taken new) where
+  lives_taken : taken.root pid ≡ Some root
+  lives_taken = obtains.beside.root pid ∙ obtains.frees.pages.root pid ∙ lives
+
+  apart : (q r : ℕ) → taken.root q ≡ Some r → r ≢ table
+  apart q r e is = loose_table obtains.found taken table obtains.fit.rooted obtains.adds obtains.beside.root q (e ∙ ap (λ x. Some x) is)
+
+  role_linked : (n : ℕ) → role_of new.frames n ≡ role_of taken.frames n
+  role_linked n = ap (λ rs. get_or rs n Free) links.kept.roles
+
+  entry_linked : (q p : ℕ) → entry new q p ≡ entry taken q p
+  entry_linked q p = entry-same taken new q p (beside.root q) (λ r e.
+      links.entries r p (apart q r e) (obtains.adds.roots r (obtains.fit.rooted.roots q r (sym (obtains.beside.root q) ∙ e))))
+
+  -- nothing pointed to the table before it was linked
+  pointer_linked : (n i m : ℕ) → Points taken.frames n i m → Points new.frames n i m
+  pointer_linked n i m points = (links.pointers n i m (λ is. obtains.adds.spare.unlinked n i (let P : ℕ → Type 0 = λ x. Points taken.frames n i x in subst P is points))).0 points
+
+  gives_linking : GivesForTables taken new None
+  gives_linking = record {
+    count = links.kept.frames;
+    roles = λ n. inl (role_linked n);
+    entries = λ q p h. Same (entry_linked q p);
+    pointers = pointer_linked;
+    needed = inr (record { roles = λ n data'. role_linked n; entries = λ q p h. entry_linked q p });
+  }
+
+  pub gives_linked : GivesForTables old taken None → GivesForTables old new None
+  gives_linked gives = gives_then old taken new None gives gives_linking
+
+  -- the way to the page ends at the table, which is not the root
+  on_way : (n : ℕ) → n ≡ table → IsTableOnWay new pid page n
+  on_way n e =
+      let last = last_table new.frames page 2 root in
+      let end = ends new.frames 2 root page links.forest links.stays.table in
+      let P : ℕ → Type 0 = λ x. Way new.frames 2 root page (2 - last.0) x in
+      (root, beside.root pid ∙ lives_taken, below_root new.frames root page n (2 - last.0) (omega arith) (subst P (links.ends ∙ sym e) end.way) (λ is. apart pid root lives_taken (sym is ∙ e)))
+
+  pub links_linked : GivesForTables old taken None → KeepsRolesBut old taken table → LinksTables old new pid page
+  links_linked gives only n is_table = elim (cases_eq n table) [
+    | inl e ↦ inr (on_way n e)
+    | inr ne ↦ inl (table_before old.frames new.frames n (links.kept.frames ∙ gives.count) (role_linked n ∙ only n ne) is_table)
+  ]
