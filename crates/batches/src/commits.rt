@@ -12,16 +12,20 @@ use crate::pages::{BadBatch, check_pages};
 use disk_model::SectorDisk;
 use file_store::FileStore;
 use sync_journal::{PageSource, SourceFault};
+use thiserror::Error;
 use vm_types::FilePage;
 
-/// Why a batch was not made durable.
-#[derive(Clone, Copy, Debug, PartialEq, Eq)]
+/// Why a batch was not made durable. `Display` gives its name, as `pagesync` replies with it.
+#[derive(Clone, Copy, Debug, PartialEq, Eq, Error)]
 pub enum BatchFault {
     /// The device failed: all of the batch is durable or none.
+    #[error("device")]
     Device,
     /// There is no page or there are over 127, one is named twice, or one does not begin inside its file.
+    #[error("{}", BadBatch::BadPages)]
     BadPages,
     /// The file of a page may only be read.
+    #[error("{}", BadBatch::ReadOnly)]
     ReadOnly,
 }
 

@@ -8,8 +8,6 @@ mod pages;
 mod program;
 mod requests;
 mod serving;
-#[cfg(test)]
-mod tests;
 
 pub use commits::{BatchFault, commit_pages};
 pub use pages::{BadBatch, check_page, check_pages};

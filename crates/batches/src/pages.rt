@@ -8,14 +8,17 @@ ghost use Rattle.file_store.specs.Store.{files_of};
 use disk_model::SectorDisk;
 use file_store::FileStore;
 use sync_journal::PAGE_LIMIT;
+use thiserror::Error;
 use vm_types::FilePage;
 
-/// Why a store takes no such batch.
-#[derive(Clone, Copy, Debug, PartialEq, Eq)]
+/// Why a store takes no such batch. `Display` gives its name, as `pagesync` replies with it.
+#[derive(Clone, Copy, Debug, PartialEq, Eq, Error)]
 pub enum BadBatch {
     /// There is no page or there are over 127, one is named twice, or one does not begin inside its file.
+    #[error("bad-pages")]
     BadPages,
     /// The file of a page may only be read.
+    #[error("read-only")]
     ReadOnly,
 }
 

@@ -2,11 +2,12 @@
 ghost use Rattle.std.specs.Prelude.{◌≤◌};
 
 use crate::serving::{ServeEnd, serve};
-use disk_model::{FileDisk, Unknown};
+use disk_model::{DiskFault, FileDisk, Unknown};
 use file_store::{FileStore, OpenFault};
 use std::fs::{self, File, Files, OpenOptions};
 use std::io::{self, BufReader, ErrorKind, Read, Write};
 use std::os::fd::AsRawFd;
+use thiserror::Error;
 
 /// The file that has no bytes and takes none where it is opened to be read.
 const NOTHING: &str = "/dev/null";
@@ -15,18 +16,27 @@ const NOTHING: &str = "/dev/null";
 const LAST_STREAM: i32 = 2;
 
 /// Why the program gives up.
-#[derive(Clone, Copy, Debug, PartialEq, Eq)]
+#[derive(Clone, Copy, Debug, PartialEq, Eq, Error)]
 enum ProgramFault {
+    #[error("usage")]
     Usage,
+    #[error("out of memory")]
     OutOfMemory,
+    #[error("cannot open the image")]
     CannotOpen,
-    Open(OpenFault),
+    #[error("the image has no layout of a store")]
+    BadLayout,
+    #[error("the image has a bad journal")]
+    BadJournal,
+    #[error("{}", DiskFault)]
+    Device,
+    #[error("{0}")]
     Served(ServeEnd),
 }
 
-/// `pagesync IMAGE`: opens and locks an image, and carries out the requests of `reader`, whose answers go to `writer`.
+/// `pagesync IMAGE`: opens and locks an image, and carries out the requests of `reader`, whose replies go to `writer`.
 ///
-/// Answers the exit status: 0 where the input ended between two batches; 1 a fault; 2 other words. For 1 and 2 one line on
+/// Returns the exit status: 0 where the input ended between two batches; 1 a fault; 2 other words. For 1 and 2 one line on
 /// `errors` says why.
 pub fn pagesync<R: Files<File = File> + AllocGlobal, I: Read + Drop, O: Write, X: Write>(
     rt: &R,
@@ -40,8 +50,8 @@ pub fn pagesync<R: Files<File = File> + AllocGlobal, I: Read + Drop, O: Write, X
     let Err(fault) = run(rt, words, reader, writer) else {
         return 0;
     };
-    // Where this stream fails too, the status alone tells.
-    let _ = writeln!(errors, "pagesync: {}", text_of(fault));
+    // Where this stream fails too, the status alone says so.
+    let _ = writeln!(errors, "pagesync: {fault}");
     if fault == ProgramFault::Usage { 2 } else { 1 }
 }
 
@@ -65,7 +75,7 @@ fn run<R: Files<File = File> + AllocGlobal, I: Read + Drop, O: Write>(
     };
     let mut store = match FileStore::open(disk) {
         Ok(store) => store,
-        Err((fault, _)) => return Err(ProgramFault::Open(fault)),
+        Err((fault, _)) => return Err(unopened(fault)),
     };
     let Ok(mut input) = BufReader::new(rt.alloc(), reader) else {
         return Err(ProgramFault::OutOfMemory);
@@ -80,7 +90,7 @@ fn run<R: Files<File = File> + AllocGlobal, I: Read + Drop, O: Write>(
 }
 
 /// Gives the numbers of the standard streams that the program was started without to a file that has no bytes and takes
-/// none, so that the image gets none of them: else its bytes would be taken for requests, or answers written over them.
+/// none, so that the image gets none of them: else its bytes would be taken for requests, or replies written over them.
 fn held_places<R: Files<File = File>>(rt: &R) -> io::Result<[Option<File>; 3]> {
     let mut places = [None, None, None];
     for place in &mut places {
@@ -104,18 +114,11 @@ fn open_alone<R: Files<File = File>>(rt: &R, path: &str) -> io::Result<File> {
     Ok(file)
 }
 
-fn text_of(fault: ProgramFault) -> &'static str {
+/// Why the program gives up where the store could not be opened.
+fn unopened(fault: OpenFault) -> ProgramFault {
     match fault {
-        ProgramFault::Usage => "usage",
-        ProgramFault::OutOfMemory => "out of memory",
-        ProgramFault::CannotOpen => "cannot open the image",
-        ProgramFault::Open(OpenFault::BadLayout) => "the image has no layout of a store",
-        ProgramFault::Open(OpenFault::BadJournal) => "the image has a bad journal",
-        ProgramFault::Open(OpenFault::Device) | ProgramFault::Served(ServeEnd::Device) => {
-            "the device failed"
-        }
-        ProgramFault::Served(ServeEnd::BadLine) => "a line in no form",
-        ProgramFault::Served(ServeEnd::Output) => "write failed",
-        ProgramFault::Served(_) => "the input ended within a batch",
+        OpenFault::Device => ProgramFault::Device,
+        OpenFault::BadLayout => ProgramFault::BadLayout,
+        OpenFault::BadJournal => ProgramFault::BadJournal,
     }
 }

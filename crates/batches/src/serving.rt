@@ -1,33 +1,39 @@
 //! Requests carried out one after the other.
-ghost use Rattle.std.specs.Prelude.{OnOk};
+ghost use Rattle.std.specs.Prelude.{◌≢◌, OnOk};
 ghost use Rattle.file_store.specs.Store.{IsReadyStore};
 
 use crate::batch::Batch;
 use crate::commits::{BatchFault, commit_pages};
 use crate::pages::check_page;
 use crate::requests::{Request, next_request};
-use disk_model::SectorDisk;
+use disk_model::{DiskFault, SectorDisk};
 use file_store::FileStore;
 use std::alloc::{AllocError, Global};
 use std::io::{Read, Write};
+use thiserror::Error;
 use vm_types::FilePage;
 
 /// How the requests of a client ended.
-#[derive(Clone, Copy, Debug, PartialEq, Eq)]
+#[derive(Clone, Copy, Debug, PartialEq, Eq, Error)]
 pub enum ServeEnd {
     /// The input ended between two batches.
+    #[error("the input ended between two batches")]
     Done,
     /// The input failed, or ended within a request or a batch.
+    #[error("the input ended within a batch")]
     Cut,
     /// A line was in no form.
+    #[error("a line in no form")]
     BadLine,
     /// The device failed.
+    #[error("{}", DiskFault)]
     Device,
     /// The output failed.
+    #[error("write failed")]
     Output,
 }
 
-/// Carries out requests until the input ends or something fails: see docs/FORMATS.md for their forms and answers.
+/// Carries out requests until the input ends or something fails: see docs/FORMATS.md for their forms and replies.
 ///
 /// # Errors
 ///
@@ -67,17 +73,30 @@ fn serve_request<D: SectorDisk, I: Read, O: Write>(
         Request::End => Err(ServeEnd::Done),
         Request::Fault => Err(ServeEnd::Cut),
         Request::Bad => {
-            answer(output, b"bad-line\n")?;
+            reply(output, b"bad-line\n")?;
             Err(ServeEnd::BadLine)
         }
     }
 }
 
-fn answer<O: Write>(output: &mut O, bytes: &[u8]) -> Result<(), ServeEnd> {
+fn reply<O: Write>(output: &mut O, bytes: &[u8]) -> Result<(), ServeEnd> {
     if output.write_all(bytes).is_ok() && output.flush().is_ok() {
         Ok(())
     } else {
         Err(ServeEnd::Output)
+    }
+}
+
+/// Replies with the name of a fault, and ends where it is the device's.
+fn refuse<O: Write>(output: &mut O, fault: BatchFault) -> Result<(), ServeEnd>
+    ensures { OnOk result (fault ≢ BatchFault.Device) }
+{
+    if writeln!(output, "{fault}").is_err() || output.flush().is_err() {
+        return Err(ServeEnd::Output);
+    }
+    match fault {
+        BatchFault::Device => Err(ServeEnd::Device),
+        BatchFault::BadPages | BatchFault::ReadOnly => Ok(()),
     }
 }
 
@@ -104,17 +123,12 @@ fn commit_batch<D: SectorDisk, O: Write>(
     let outcome = commit_pages(store, pages, bytes);
     batch.clear();
     match outcome {
-        Ok(()) => answer(output, b"ok\n"),
-        Err(BatchFault::BadPages) => answer(output, b"bad-pages\n"),
-        Err(BatchFault::ReadOnly) => answer(output, b"read-only\n"),
-        Err(BatchFault::Device) => {
-            answer(output, b"device\n")?;
-            Err(ServeEnd::Device)
-        }
+        Ok(()) => reply(output, b"ok\n"),
+        Err(fault) => refuse(output, fault),
     }
 }
 
-/// Answers a page of the store. What the batch brings is not seen before it is durable.
+/// Replies with a page of the store. What the batch brings is not seen before it is durable.
 fn show_page<D: SectorDisk, O: Write>(
     store: &mut FileStore<D>,
     page: FilePage,
@@ -124,13 +138,12 @@ fn show_page<D: SectorDisk, O: Write>(
     ensures { OnOk result (IsReadyStore D.SectorDisk store.new) }
 {
     if !check_page(store, page) {
-        return answer(output, b"bad-pages\n");
+        return refuse(output, BatchFault::BadPages);
     }
     let mut bytes = [0; 4096];
     if store.read_page(page, &mut bytes).is_err() {
-        answer(output, b"device\n")?;
-        return Err(ServeEnd::Device);
+        return refuse(output, BatchFault::Device);
     }
-    answer(output, b"ok\n")?;
-    answer(output, &bytes)
+    reply(output, b"ok\n")?;
+    reply(output, &bytes)
 }

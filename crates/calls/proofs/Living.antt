@@ -98,9 +98,9 @@ stall_read g h old new SwapDevice same cause = (cause.0, ap (λ (t : FileStore _
 stall_read g h old new StoreDevice same cause = absurd cause
 
 -- so it is told what the stall came from
-pub birth_caused : {D E : Type 0} (g : Ghosts D) (h : Ghosts E) (old new : Core D E) (stall : Stall) → new.store ≡ old.store
+pub store_kept_caused : {D E : Type 0} (g : Ghosts D) (h : Ghosts E) (old new : Core D E) (stall : Stall) → new.store ≡ old.store
     → h.failures old.swap.pages.disk ≤ h.failures new.swap.pages.disk → StallCause h old new stall → IsCaused g h old new (Stalled stall)
-birth_caused g h old new stall same later cause =
+store_kept_caused g h old new stall same later cause =
     let still : g.failures new.store.disk ≡ g.failures old.store.disk = ap (λ (t : FileStore _). g.failures t.disk) same in
     stall_caused g h old new stall (omega (arith, still)) later (stall_read g h old new stall same cause)
 

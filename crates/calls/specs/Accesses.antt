@@ -1,4 +1,4 @@
--- What an access answers where it has no place, and what it asks for.
+-- What an access returns where it has no place, and what it asks for.
 use Rattle.std.specs.Prelude.{ℕ, ◌≡◌, ◌⊎◌, ◌/◌}
 use Rattle.page_faults.specs.declared.refusal.AccessRefusal.{AccessRefusal}
 use Rattle.page_faults.specs.declared.refusal.AccessRefusal.TheVariants as Refusal

@@ -37,7 +37,7 @@ module _ {D E : Type 0} (g : Ghosts D) (h : Ghosts E) where
     refused = new.refused.number ≡ old.refused.number + 1;
   }
 
-  -- The call answers as the flat model does and leaves the memory of its state, or it stalls, memory or slots being short where it
+  -- The call returns what the flat model does and leaves the memory of its state, or it stalls, memory or slots being short where it
   -- names one of them, and nobody sees a change.
   pub data Comes (old new : Core D E) (s : State) (command : Command) (reply : Reply) : Type 0 where
     Does : reply ≡ (outcome s command).reply → ShowsPages (picture_of new) (outcome s command).state → Comes old new s command reply

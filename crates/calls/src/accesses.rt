@@ -56,7 +56,7 @@ fn frame_of(frames: &Frames, place: Phys) -> FrameNo
     FrameNo((place.0 / PAGE) as u32)
 }
 
-/// What is answered where an access has no place in memory.
+/// What an access returns that has no place in memory.
 fn refused(refusal: AccessRefusal) -> Answer
     ensures { result ≡ answer_of refusal }
 {

@@ -18,7 +18,7 @@ use paging::Core;
 use vm_types::{FrameNo, Pid, USER_START, Vpn};
 
 /// Gives the child, whose pages are mapped as the parent's and have no entry, a share of each page of which the parent has a
-/// copy of its own, in a frame or in a slot. No store is let through to such a frame any more, so that the next one is noticed
+/// copy of its own, in a frame or in a slot. No store to such a frame is allowed any more, so that the next one is noticed
 /// and gets a copy (fork(2), copy-on-write). `link_copies` has made the tables that the child wants, so no frame is asked for
 /// and no device, and the call can't fail. It costs the tables of the parent and their entries, and no page.
 pub fn share_pages<D, E>(core: &mut Core<D, E>, parent: Pid, child: Pid)

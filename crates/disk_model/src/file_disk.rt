@@ -30,7 +30,7 @@ pub trait FileContents: Drop {
     ghost after_fault: { ℕ → ℕ → List ℕ };
 }
 
-/// For programs to name. No proof can tell which bytes these are.
+/// For programs to name. No proof can know which bytes these are.
 #[derive(Drop)]
 pub struct Unknown;
 
@@ -41,7 +41,7 @@ impl FileContents for Unknown {
 }
 
 /// A device in a file: sector `n` is the file's 512 bytes from byte `512 n` on, by `pread`, `pwrite` and
-/// `fdatasync`. Its model is told from the record of its calls and their answers, which contracts alone see.
+/// `fdatasync`. Its model is defined from the record of its calls and their results, which contracts alone see.
 ///
 /// That the file keeps the model cannot be proved of any real file, and is a premise of what is promised of the contents.
 /// `keeps_model` speaks of reads alone: each read that succeeded gave, in each of its sectors, what the last write of that
@@ -60,7 +60,7 @@ pub struct FileDisk<C: FileContents = Unknown> {
     ghost lost_by_calls: { lost ≡ is_lost calls.notes },
 }
 
-/// What a call answers that the system carried out, or didn't.
+/// What a call returns that the system carried out, or didn't.
 fn answer(done: bool) -> Result<(), DiskFault>
     ensures { is_ok result ≡ done }
 {
@@ -75,7 +75,7 @@ impl<C: FileContents> FileDisk<C> {
     ///
     /// # Errors
     ///
-    /// The system's, where the sync fails or the length of the file is not told.
+    /// The system's, where the sync fails or the length of the file can't be had.
     pub fn new(file: File) -> io::Result<FileDisk<C>>
         ensures fresh { IfOk result (λ d. d.calls.notes ≡ []) }
         ensures kept { IfOk result (λ d. ⟦<FileDisk<C> as SectorDisk>⟧.keeps_model d) }

@@ -9,8 +9,6 @@ mod file_disk;
 mod ghost_data;
 mod sector_disk;
 mod sim_disk;
-#[cfg(test)]
-mod tests;
 
 pub use file_disk::{FileContents, FileDisk, Unknown};
 pub use ghost_data::{Count, Log};

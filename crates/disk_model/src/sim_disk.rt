@@ -50,7 +50,7 @@ fn filled<T: Copy>(alloc: Global, count: u64, value: T) -> Result<Vec<T>, AllocE
     Ok(items)
 }
 
-/// Answers a call, and counts its failure.
+/// The result of a call, whose failure is counted.
 fn answer(fails: bool, failures: &mut Count) -> Result<(), DiskFault>
     ensures fails { is_err result ≡ fails }
     ensures cause { HasCause failures.old.number failures.new.number result }

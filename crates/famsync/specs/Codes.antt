@@ -1,4 +1,4 @@
--- What an export answers.
+-- What an export returns.
 use Rattle.std.specs.Prelude.{ℕ}
 
 abbrev pub done : ℕ

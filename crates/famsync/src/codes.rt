@@ -1,4 +1,4 @@
-//! What an export answers, and the states of a handle. C takes no enum from a library, so these are numbers.
+//! What an export returns, and the states of a handle. C takes no enum from a library, so these are numbers.
 ghost use Rattle.std.specs.Prelude.{◌≡◌, ◌≢◌, ◌≤◌};
 ghost use Rattle.famsync.specs.Codes.{done, out_of_turn, bad_layout, bad_journal, bad_pages, read_only, no_room};
 

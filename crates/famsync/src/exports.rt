@@ -1,9 +1,9 @@
-//! What C programs call. `image` is what the file holds, a sector a row, and is never written here. After the answer 0 of
+//! What C programs call. `image` is what the file holds, a sector a row, and is never written here. After the result 0 of
 //! `famsync_open` or `famsync_commit` the first `used` calls of the plan have to be made of the file, in their order, and
-//! then `famsync_done` is called, or `famsync_failed` where one of them failed. After any other answer there is nothing to
+//! then `famsync_done` is called, or `famsync_failed` where one of them failed. After any other result there is nothing to
 //! do. `scratch` is room to work in: nothing is said of what it holds.
 //!
-//! What `StopLeaves` an image leaves is told in `specs/Plans.antt`. The numbers of answers stand in `codes`.
+//! `StopLeaves` in `specs/Plans.antt` says what a stop leaves of an image. The numbers that are returned stand in `codes`.
 ghost use Rattle.std.specs.Prelude.{◌≡◌, ◌≢◌, ◌≤◌, ◌<◌, ◌↔◌, ℕ, List, Option, Some, None, length};
 ghost use Rattle.vm_types.specs.declared.file.FileInfo.{FileInfo};
 ghost use Rattle.disk_model.specs.Stop.{Image};

@@ -7,7 +7,7 @@ use disk_model::DiskFault;
 use sync_journal::RecoverFault;
 use thiserror::Error;
 
-/// Why a store could not be opened. `Display` gives its name, as the programs tell it.
+/// Why a store could not be opened. `Display` gives its name, as the programs print it.
 #[derive(Clone, Copy, Debug, PartialEq, Eq, Error)]
 pub enum OpenFault {
     /// The device failed.
@@ -22,7 +22,7 @@ pub enum OpenFault {
     BadJournal = 3,
 }
 
-/// Why a store could not be made. `Display` gives its name, as the programs tell it.
+/// Why a store could not be made. `Display` gives its name, as the programs print it.
 #[derive(Clone, Copy, Debug, PartialEq, Eq, Error)]
 pub enum FormatFault {
     /// The device failed.

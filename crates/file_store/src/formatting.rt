@@ -48,7 +48,7 @@ pub fn format<D: SectorDisk, R: Read>(
     ensures marked { D.keeps_model disk.new → OnOk result (D.content disk.new 0 ≡ mark) }
     ensures synced { D.keeps_model disk.new → OnOk result ((k : ℕ) → D.unsynced disk.new k → ⊥) }
 
-    // Whatever it answers, every image that a stop at any moment of the call might leave lacks the mark or is the store,
+    // Whatever it returns, every image that a stop at any moment of the call might leave lacks the mark or is the store,
     // where the device had no mark and nothing unsynced.
     ensures any_moment { D.keeps_model disk.new → ((k : ℕ) → D.unsynced disk.old k → ⊥) → D.content disk.old 0 ≢ mark
         → LeavesOnly D.SectorDisk disk.old disk.new (IsStoreIfMarked R.remaining (D.sector_count disk.old) sources.old) }

@@ -31,6 +31,3 @@ pub use formatting::format;
 pub use opening::stops_in_a_row;
 pub use sources::{FileSource, image_bytes};
 pub use store::FileStore;
-
-#[cfg(test)]
-mod tests;

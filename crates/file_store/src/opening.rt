@@ -58,7 +58,7 @@ impl<D: SectorDisk> FileStore<D> {
         ensures err_calm { IfErr result (λ e. (e.0 ≡ OpenFault.Device → ⊥) → D.failures e.1 ≡ D.failures disk) }
         ensures bad_layout { IfErr result (λ e. D.keeps_model e.1 → e.0 ≡ OpenFault.BadLayout → IsBadLayout (D.sector_count disk) (D.content disk)) }
         ensures bad_journal { IfErr result (λ e. D.keeps_model e.1 → e.0 ≡ OpenFault.BadJournal → IsBadJournal (D.sector_count disk) (D.content disk)) }
-        // A bad layout is told before a bad journal.
+        // A bad layout is reported before a bad journal.
         ensures layout_first { IfErr result (λ e. D.keeps_model e.1 → e.0 ≡ OpenFault.BadJournal → IsBadLayout (D.sector_count disk) (D.content disk) → ⊥) }
         ensures unwritten { IfErr result (λ e. D.keeps_model e.1 → (e.0 ≡ OpenFault.Device → ⊥) → Touches D.SectorDisk Nothing disk e.1) }
         ensures err_moment { IfErr result (λ e. D.keeps_model e.1 → ((k : ℕ) → D.unsynced disk k → ⊥)

@@ -3,8 +3,6 @@
 
 mod memory;
 mod role;
-#[cfg(test)]
-mod tests;
 
 pub use memory::{FRAME_BYTES, Frames};
 pub use role::Role;

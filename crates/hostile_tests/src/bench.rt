@@ -18,7 +18,7 @@ pub(crate) enum Armed {
     SwapFailsAtCall(u64),
 }
 
-/// A trace over an image of files of zeros, mapped from 0x10000 on in the order of their homes: what is answered where no device
+/// A trace over an image of files of zeros, mapped from 0x10000 on in the order of their homes: the replies where no device
 /// fails, and what the homes hold after each of its msyncs.
 #[derive(Drop)]
 pub(crate) struct Case {
@@ -28,7 +28,7 @@ pub(crate) struct Case {
     pub wanted: Vec<u8>,
     /// The writes of the store that open a gate, the first write being 1.
     pub gates: &'static [u64],
-    /// What the homes hold at first, and after each msync that was answered by `ok`.
+    /// What the homes hold at first, and after each msync that returned `ok`.
     pub durable: Vec<Vec<u8>>,
     /// What the pages of the files show.
     volatile: Vec<u8>,
@@ -127,7 +127,7 @@ impl Case {
         )
     }
 
-    /// The store once it ran where no device fails, and was answered as it is to be.
+    /// The store once it ran where no device fails, with the replies that are wanted.
     pub(crate) fn whole(&self, alloc: Global) -> Result<SimDisk, Fail> {
         let told = self.ran(alloc, Armed::Nothing)?;
         let is_wanted = told.output.as_slice() == self.wanted.as_slice();
@@ -165,7 +165,7 @@ pub(crate) fn homes(alloc: Global, disk: &SimDisk) -> Result<Vec<u8>, Fail> {
     Ok(bytes)
 }
 
-/// How a run ended, or why there was none, what was answered, and the device of the store as it was left.
+/// How a run ended, or why there was none, the replies, and the device of the store as it was left.
 #[derive(Drop)]
 pub(crate) struct Told {
     pub end: Result<RunEnd, BootFault>,
@@ -234,7 +234,7 @@ pub(crate) fn stopped_opening(alloc: Global, image: &SimDisk, write: u64) -> Res
     }
 }
 
-/// How many msyncs of a trace were answered by `ok`.
+/// How many msyncs of a trace returned `ok`.
 pub(crate) fn acknowledged(trace: &[u8], output: &[u8]) -> usize {
     let mut count: usize = 0;
     let replies = output.split(|byte| *byte == b'\n');

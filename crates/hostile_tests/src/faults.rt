@@ -67,8 +67,8 @@ fn sorted(alloc: Global, trace: &[u8], output: &[u8], stall: &[u8]) -> Result<An
     Ok(answered)
 }
 
-/// At most one line stalled or failed, and the lines that were carried out are answered the same where no device fails. That run's
-/// store is handed back.
+/// At most one line stalled or failed, and the lines that were carried out have the same replies where no device fails. Returns
+/// that run's store.
 fn replayed(alloc: Global, case: &Case, answered: &Answered) -> Result<SimDisk, Fail> {
     expect(
         answered.stalls.saturating_add(answered.failed) < 2,
@@ -88,7 +88,7 @@ fn replayed(alloc: Global, case: &Case, answered: &Answered) -> Result<SimDisk, 
     Ok(again.store)
 }
 
-/// How many lines stall where that call of the swap device fails: all others are answered as if they had been the whole trace.
+/// How many lines stall where that call of the swap device fails: all others have the replies of a trace of them alone.
 fn swap_stalls(alloc: Global, case: &Case, call: u64) -> Result<usize, Fail> {
     let told = case.ran(alloc, Armed::SwapFailsAtCall(call))?;
     expect(told.end == Ok(RunEnd::Done), "a run that isn't done")?;
@@ -144,7 +144,7 @@ fn check_store(alloc: Global, case: &Case, told: &Told, answered: &Answered) -> 
     Ok(())
 }
 
-/// A store that failed as the machine started: nothing was answered, and the files are as they were.
+/// A store that failed as the machine started: there are no replies, and the files are as they were.
 fn check_refused(alloc: Global, case: &Case, told: &Told, fault: BootFault) -> Result<(), Fail> {
     expect(
         fault == BootFault::Device && fault.number() == 4,

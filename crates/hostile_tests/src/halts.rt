@@ -31,7 +31,7 @@ fn halting(alloc: Global) -> Result<Case, Fail> {
     Ok(case)
 }
 
-/// What is told where that call of an msync of one page fails, after so many writes.
+/// How a run ends where that call of an msync of one page fails, after so many writes.
 fn halted_at(alloc: Global, case: &Case, call: u64, writes: u64) -> Result<Told, Fail> {
     let at_boot = calls_at_boot(alloc, case)?;
     let call = at_boot.saturating_add(PAGE_READS).saturating_add(call);

@@ -11,7 +11,7 @@ use disk_model::SimDisk;
 use std::alloc::Global;
 use std::test::Fail;
 
-/// Recovers an image, and tells how many writes that took and what the homes then hold.
+/// Recovers an image, and returns how many writes that took and what the homes then hold.
 fn recovered(alloc: Global, image: &SimDisk) -> Result<(u64, Vec<u8>), Fail> {
     let disk = opened(image.left(alloc, &[])?)?;
     let bytes = homes(alloc, &disk)?;

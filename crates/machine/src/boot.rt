@@ -36,7 +36,7 @@ pub struct Config {
     pub slots: u32,
 }
 
-/// Why a machine doesn't start. `Display` gives its name, as the programs tell it.
+/// Why a machine doesn't start. `Display` gives its name, as the programs print it.
 #[derive(Clone, Copy, Debug, PartialEq, Eq, Error)]
 pub enum BootFault {
     /// Fewer than 8 or more than 65,536 frames.
@@ -129,7 +129,7 @@ impl<D: SectorDisk, E: SectorDisk + Drop> Machine<D, E> {
         ensures err_calm { IfErr result (λ e. (e.0 ≡ BootFault.Device → ⊥) → D.failures e.1 ≡ D.failures store) }
         ensures bad_layout { IfErr result (λ e. D.keeps_model e.1 → e.0 ≡ BootFault.BadLayout → IsBadLayout (D.sector_count store) (D.content store)) }
         ensures bad_journal { IfErr result (λ e. D.keeps_model e.1 → e.0 ≡ BootFault.BadJournal → IsBadJournal (D.sector_count store) (D.content store)) }
-        // A bad layout is told before a bad journal.
+        // A bad layout is reported before a bad journal.
         ensures layout_first { IfErr result (λ e. D.keeps_model e.1 → e.0 ≡ BootFault.BadJournal → IsBadLayout (D.sector_count store) (D.content store) → ⊥) }
         // Nothing was asked of the store, or nothing written to it.
         ensures unasked { IfErr result (λ e. (e.0 ≡ BootFault.Frames) ⊎ (e.0 ≡ BootFault.Slots) → e.1 ≡ store) }

@@ -40,7 +40,7 @@ impl FaultLog {
         self.faults.push_back((pid, fault));
     }
 
-    /// The faults, as they are told.
+    /// The faults, as a reply has them.
     pub(crate) fn history(&self) -> History
         ensures { result ≡ self.now }
     {

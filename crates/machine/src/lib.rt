@@ -5,8 +5,6 @@ mod boot;
 mod fault_log;
 mod machine;
 mod syncs;
-#[cfg(test)]
-mod tests;
 
 pub use boot::{BootFault, Config};
 pub use machine::Machine;

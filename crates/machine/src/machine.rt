@@ -46,7 +46,7 @@ impl<D: SectorDisk, E: SectorDisk> Machine<D, E> {
         self.core.store.into_disk()
     }
 
-    /// Whether an msync was answered by `EIO`: every command is then answered by `Halted`, and none otherwise.
+    /// Whether an msync returned `EIO`: every command then returns `Halted`, and none otherwise.
     pub fn is_halted(&self) -> bool
         ensures halted { result ≡ self.now.halted }
         ensures ends { (s : State) → Shows D.SectorDisk E.SectorDisk self.now s → result ≡ is_some s.ends }
@@ -54,8 +54,8 @@ impl<D: SectorDisk, E: SectorDisk> Machine<D, E> {
         self.halted
     }
 
-    /// Carries out one command, as `step` does, and tells the reply in the few bytes that all but a history take. `None` where
-    /// the reply is the history, which `history` tells. It takes no memory of the host.
+    /// Carries out one command, as `step` does, and returns the reply in the few bytes that all but a history take. `None` where
+    /// the reply is the history, which `history` returns. It takes no memory of the host.
     pub fn carry_out(&mut self, command: Command) -> Option<Answer>
         requires sound { IsSoundMachine D.SectorDisk E.SectorDisk self.old }
         ensures sound { IsSoundMachine D.SectorDisk E.SectorDisk self.new }
@@ -122,8 +122,8 @@ impl<D: SectorDisk, E: SectorDisk> Machine<D, E> {
     /// Carries out one command. It takes no memory of the host. A command that would succeed may stall, and then has
     /// changed nothing that a process or a file shows: `NoFrames` only where memory has fewer frames than the tables of the
     /// state after it and three more, `NoSwap` only where there are fewer slots than pages that processes have of their own and
-    /// touched file pages, `SwapDevice` and `StoreDevice` only where that device failed in this call. A failure of the store in
-    /// an msync is answered by `EIO`, only where the device failed in this call, and halts the machine: from then on every
+    /// touched file pages, `SwapDevice` and `StoreDevice` only where that device failed in this call. Where the store fails
+    /// in an msync it returns `EIO`, only where the device failed in this call, and the machine halts: from then on every
     /// command returns `Halted`.
     pub fn step(&mut self, command: Command) -> Reply
         requires sound { IsSoundMachine D.SectorDisk E.SectorDisk self.old }
@@ -141,7 +141,7 @@ impl<D: SectorDisk, E: SectorDisk> Machine<D, E> {
         }
     }
 
-    /// The answer to an access of a process. The fault of one that faulted is kept.
+    /// What an access of a process returned. The fault of one that faulted is kept.
     fn noted(&mut self, pid: u64, answer: Answer) -> Answer
         requires fit { IsFit (picture_of self.old.core) }
         ensures answer { result ≡ answer }

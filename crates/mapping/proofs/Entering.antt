@@ -16,7 +16,7 @@ use Rattle.paging.specs.Picture.{Picture, picture_of, entry, view, own_in, root_
 use Rattle.paging.specs.Parts.{IsFit, IsBehind, is_shared, nowhere}
 use Rattle.paging.specs.Shows.{KeepsFiles}
 use Rattle.paging.specs.Steps.{SameBeside, SetsPage}
-use Rattle.paging.proofs.Arriving.{fit_touched}
+use Rattle.paging.proofs.BroughtIn.{fit_touched}
 use Rattle.paging.proofs.Entries.{entry-same}
 use Rattle.paging.proofs.Granting.{entry_for-same}
 use Rattle.paging.proofs.Moves.{behind_kept, view_kept}

@@ -5,7 +5,7 @@ pub mod TablesLinked
 pub mod TablesGiven
 pub mod Forms
 pub mod Entering
-pub mod Arrivals
+pub mod BroughtIn
 pub mod Settling
 pub mod SwapSteps
 pub mod SwappedIn

@@ -8,14 +8,14 @@ use page_tables::Entry;
 use sv39_walk::Pte;
 use vm_types::{FrameNo, Prot};
 
-/// Where a page lies, and what an entry for it lets be done beside what its permission says.
+/// Where a page lies, and what an entry for it allows beside what its permission says.
 #[derive(Clone, Copy, Debug, PartialEq, Eq)]
 pub struct Grant {
     /// The frame.
     pub frame: FrameNo,
     /// The frame is the process's own.
     pub private: bool,
-    /// W: stores are let through.
+    /// W: stores are allowed.
     pub write: bool,
     /// D: a store needs no further mark.
     pub dirty: bool,
@@ -36,7 +36,7 @@ const DIRTY: u64 = 0x80;
 const PRIVATE: u64 = 0x100;
 
 /// The entry of a page of that permission (RISC-V Privileged Specification, "Sv39 page table entry"): a leaf with A, or,
-/// where the permission lets nothing be done, a parked frame, whose V is clear.
+/// where the permission allows nothing, a parked frame, whose V is clear.
 pub fn entry_over(prot: Prot, grant: Grant) -> Entry
     requires readable { can_write prot ≡ true → can_read prot ≡ true }
     requires writable { grant.write ≡ true → can_write prot ≡ true }
@@ -49,7 +49,7 @@ pub fn entry_over(prot: Prot, grant: Grant) -> Entry
     Entry::Leaf(leaf(prot, grant))
 }
 
-// Whether a permission lets nothing be done: who may write may read.
+// Whether a permission allows nothing: who may write may read.
 fn is_barred(prot: Prot) -> bool
     ensures { result ≡ is_barred prot }
 {

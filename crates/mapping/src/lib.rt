@@ -5,18 +5,16 @@
 //! Svade, where the walk sets neither).
 #![tactic(auto)]
 
-mod arriving;
 mod leaves;
 mod linking;
 mod owning;
+mod page_in;
 mod showing;
 mod swapping;
-#[cfg(test)]
-mod tests;
 
-pub use arriving::cached;
 pub use leaves::{Grant, entry_over};
 pub use linking::{link_tables, root_of};
 pub use owning::own_frame;
+pub use page_in::cached;
 pub use showing::{ZERO_PAGE, regrant, show_cached, show_zero, touch};
 pub use swapping::swap_in;

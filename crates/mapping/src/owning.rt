@@ -24,8 +24,8 @@ use paging::Core;
 use sv39_walk::Pte;
 use vm_types::{Attr, Backing, FrameNo, Pid, Stall, Vpn};
 
-/// Gives a page that may be written, and that isn't shared, a frame of its own that shows the same bytes and lets stores
-/// through, by W and D (RISC-V Privileged Specification, "Sv39 page table entry"). Where it is the only one to have its
+/// Gives a page that may be written, and that isn't shared, a frame of its own that shows the same bytes and allows
+/// stores, by W and D (RISC-V Privileged Specification, "Sv39 page table entry"). Where it is the only one to have its
 /// private frame, that is the one. What the page shows is in memory.
 ///
 /// # Errors

@@ -40,7 +40,7 @@ pub fn show_zero<D, E>(core: &mut Core<D, E>, pid: Pid, page: Vpn, attr: Attr)
     set_full(core, root, page, attr, ZERO_PAGE, false);
 }
 
-/// Shows the frame of its file page at a page of a file without an own copy. Stores are let through to a shared page of a
+/// Shows the frame of its file page at a page of a file without an own copy. Stores are allowed to a shared page of a
 /// touched file page alone, so that the first one to any other is noticed: it finds D clear (RISC-V Privileged
 /// Specification, "Sv39 page table entry", the scheme of Svade).
 pub fn show_cached<D, E>(
@@ -63,8 +63,8 @@ pub fn show_cached<D, E>(
     set_full(core, root, page, attr, cache_frame, false);
 }
 
-/// Gives a page that lies in a frame the entry that lets be done all that its permission and the sharing of its frame
-/// allow: W over a frame that nobody else has and over that of a shared page, D there where the file page is touched
+/// Gives a page that lies in a frame the entry that allows all that its permission and the sharing of its frame
+/// do: W over a frame that nobody else has and over that of a shared page, D there where the file page is touched
 /// (RISC-V Privileged Specification, "Sv39 page table entry").
 pub fn regrant<D, E>(core: &mut Core<D, E>, pid: Pid, page: Vpn, attr: Attr)
     requires linked { IsLinked (picture_of core.old) pid page }
@@ -88,7 +88,7 @@ pub fn regrant<D, E>(core: &mut Core<D, E>, pid: Pid, page: Vpn, attr: Attr)
     );
 }
 
-/// Marks the file page of a shared page touched, and shows its frame there with stores let through, by W and D: one follows
+/// Marks the file page of a shared page touched, and shows its frame there with stores allowed, by W and D: one follows
 /// at once (RISC-V Privileged Specification, "Sv39 page table entry").
 pub fn touch<D, E>(
     core: &mut Core<D, E>,
@@ -136,7 +136,7 @@ pub(crate) fn set_full<D, E>(
     set(&mut core.frames, root, page, entry_over(attr.prot, grant));
 }
 
-// What the fullest entry of a page over a frame lets be done.
+// What the fullest entry of a page over a frame allows.
 fn full_grant<D, E>(core: &Core<D, E>, attr: Attr, frame: FrameNo, private: bool) -> Grant
     requires { IsFrame core.now.frames frame.0 }
     ensures frame { result.frame ≡ frame }

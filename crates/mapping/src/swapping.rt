@@ -16,8 +16,8 @@ use page_tables::{Entry, entry};
 use paging::Core;
 use vm_types::{Attr, FrameNo, Pid, Stall, Vpn};
 
-/// Reads a page's own copy from its slot into a frame, which no other process has, and gives the page the entry that lets be
-/// done all that its permission allows. The process's share of the slot is given back.
+/// Reads a page's own copy from its slot into a frame, which no other process has, and gives the page the entry that
+/// allows all that its permission does. The process's share of the slot is given back.
 ///
 /// # Errors
 /// As `obtain`, where no frame is to be had, and `SwapDevice` where the swap device failed. Then the page lies where it lay.

@@ -104,7 +104,7 @@ impl Act {
         })
     }
 
-    /// What it is to be answered, and the model once it is carried out.
+    /// The reply that is wanted, and the model once it is carried out.
     pub(crate) fn answer(self, flat: Flat) -> (Reply, Flat) {
         match self {
             Act::Spawn => born(flat, [None; PLACES]),

@@ -1,4 +1,4 @@
-//! A flat model: processes as rows of pages, and a file as a row of pages, of each of which one byte is told.
+//! A flat model: processes as rows of pages, and a file as a row of pages, of each of which one byte is kept.
 use vm_types::{Code, Fault, Pid, Reply, Width};
 
 /// The pages that commands name, in rows of four neighbours, each row under a table of its own.
@@ -31,7 +31,7 @@ pub(crate) struct Page {
 /// The pages of a process.
 pub(crate) type Space = [Option<Page>; PLACES];
 
-/// Of all processes and of the file, what commands are answered by.
+/// Of all processes and of the file, what replies depend on.
 #[derive(Clone, Copy, Debug, PartialEq, Eq)]
 pub(crate) struct Flat {
     spaces: [Option<Space>; PROCESSES],

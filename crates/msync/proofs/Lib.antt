@@ -10,4 +10,3 @@ pub mod Homing
 pub mod Settled
 pub mod SettledPages
 pub mod Committing
-pub mod Trying

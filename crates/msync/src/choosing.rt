@@ -69,7 +69,7 @@ fn choose(regions: &Regions, cache: &PageCache, first: u64, count: u64) -> Rulin
     }
 }
 
-/// Lists the touched pages behind the pages from `first` up to, not including, `end`, run by run, and answers how many there
+/// Lists the touched pages behind the pages from `first` up to, not including, `end`, run by run, and returns how many there
 /// are; `TooMany` exactly where that would be over 127.
 fn choose_between(
     regions: &Regions,

@@ -9,6 +9,3 @@ mod page_source;
 mod settling;
 
 pub use msyncs::msync;
-
-#[cfg(test)]
-mod tests;

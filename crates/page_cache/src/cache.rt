@@ -156,7 +156,7 @@ impl PageCache {
     }
 
     /// Appends the touched pages among `count` pages of the file from page `first` on, whose numbers are under 2 ^ 32, to the
-    /// first `used` entries of the list, but those that are among these already. Answers how many entries there are then.
+    /// first `used` entries of the list, but those that are among these already. Returns how many entries there are then.
     /// Its time is that of the shorter of two: a look at each page of the row, or at each touched page.
     ///
     /// # Errors
@@ -238,7 +238,7 @@ impl PageCache {
         Ok(n)
     }
 
-    /// Sends the file page home and untouched. Answers whether it was touched.
+    /// Sends the file page home and untouched. Returns whether it was touched.
     fn take_out(&mut self, page: FilePage) -> bool
         ensures was { result ≡ is_touched self.old page }
         ensures placed { place_of self.new page ≡ Home }

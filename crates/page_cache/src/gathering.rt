@@ -27,7 +27,7 @@ fn is_listed(list: &[FilePage; MSYNC_PAGES], used: usize, page: FilePage) -> boo
     false
 }
 
-/// Puts the page behind the first `n` entries, unless it is among the first `used`. Answers how many entries there are.
+/// Puts the page behind the first `n` entries, unless it is among the first `used`. Returns how many entries there are.
 ///
 /// # Errors
 /// `TooMany` exactly where it would be entry 128; then nothing changes.

@@ -7,8 +7,6 @@ mod gathering;
 mod index;
 mod node_set;
 mod place;
-#[cfg(test)]
-mod tests;
 
 pub use cache::PageCache;
 pub use place::{Place, TooMany};

@@ -17,7 +17,7 @@ use Rattle.paging.specs.Capacity.{IsShort}
 use Rattle.paging.specs.Shows.{KeepsFiles}
 use Rattle.mapping.specs.Leaves.{IsEntryOver, IsFullEntry}
 use Rattle.mapping.specs.Changes.{KeepsSeen, KeepsViews}
-use Rattle.mapping.proofs.Arrivals.{cause_of}
+use Rattle.mapping.proofs.BroughtIn.{cause_of}
 use Rattle.mapping.proofs.Bits.{over_some}
 use Rattle.mapping.proofs.Forms.{mapped_page, over_here}
 use Rattle.mapping.proofs.OwnSteps.{full_own}

@@ -14,4 +14,3 @@ pub mod Owned
 pub mod Entered
 pub mod Storing
 pub mod Showing
-pub mod Started

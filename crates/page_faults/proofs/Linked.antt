@@ -23,7 +23,7 @@ use Rattle.paging.specs.Capacity.{IsShort}
 use Rattle.paging.proofs.Entries.{entry-of}
 use Rattle.mapping.specs.Changes.{IsWhole, IsCalm, KeepsBare, Moves}
 use Rattle.mapping.specs.Files.{BringsPages, BringsFiles}
-use Rattle.mapping.proofs.Arrivals.{cause_of}
+use Rattle.mapping.proofs.BroughtIn.{cause_of}
 use Rattle.mapping.proofs.Forms.{none_here, seat_zero}
 use Rattle.mapping.proofs.Steps.{seen_then}
 use Rattle.page_faults.specs.Found.{IsOpenTo}

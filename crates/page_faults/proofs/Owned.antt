@@ -16,7 +16,7 @@ use Rattle.paging.specs.Capacity.{IsShort}
 use Rattle.paging.specs.Shows.{KeepsFiles}
 use Rattle.mapping.specs.Leaves.{IsEntryOver}
 use Rattle.mapping.specs.Changes.{IsCalm, KeepsViews, KeepsOtherViews, is_sole, shown_bytes}
-use Rattle.mapping.proofs.Arrivals.{cause_of}
+use Rattle.mapping.proofs.BroughtIn.{cause_of}
 use Rattle.page_faults.specs.Granted.{IsEntered, IsReadyAt}
 use Rattle.page_faults.specs.Outcome.{IsStalled}
 use Rattle.page_faults.specs.Wants.{Wants, ForStore}

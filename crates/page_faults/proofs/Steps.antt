@@ -23,7 +23,7 @@ use Rattle.paging.specs.Shows.{KeepsFiles}
 use Rattle.mapping.specs.Changes.{KeepsSeen, Moves, MarksTouched}
 use Rattle.mapping.specs.Files.{IsBrought, Stays, Leaves, Comes, BringsPages, Proceeds}
 use Rattle.mapping.proofs.Steps.{spaces_then, room_then, tables_then, device_then}
-use Rattle.mapping.proofs.Arrivals.{reads_none}
+use Rattle.mapping.proofs.BroughtIn.{reads_none}
 
 pub keeps_seen : (old new : Picture) → KeepsPages old new → KeepsSeen old new
 keeps_seen old new pages = record { views = pages.views; touched = pages.files.touched }

@@ -23,7 +23,7 @@ Judges c pid page access (Finding.Place phys) = ⊥
 Judges c pid page access (Finding.Page found attr) = (found ≡ page) × IsOpenTo c pid page access attr
 Judges c pid page access (Finding.Fault code) = page_verdict c.files (view c pid page) access ≡ Faults code
 
--- the walk from the process's root answers no place
+-- the walk from the process's root returns no place
 abbrev pub IsUnwalked : Picture → ℕ → ℕ → Access → Type 0
 IsUnwalked c pid addr access = (root : ℕ) (phys : Phys) → c.root pid ≡ Some root → translated top_level c.frames root addr access ≢ Ok phys
 

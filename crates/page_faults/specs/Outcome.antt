@@ -100,7 +100,7 @@ pub record Grants (old new : Picture) (pid addr : ℕ) (width : Width) (access :
   pub fine : verdict_of old pid addr width access ≡ Fine seen
   pub ready : IsReadyFor access old new pid (addr / 4096) seen (phys.0 / 4096)
 
--- The access is fine, and the walk from the process's root answers that place: the tables grant it.
+-- The access is fine, and the walk from the process's root returns that place: the tables grant it.
 pub record IsWalked (c : Picture) (pid addr : ℕ) (width : Width) (access : Access) (phys : Phys) : Type 0 where
   pub seen : View
   pub fine : verdict_of c pid addr width access ≡ Fine seen

@@ -23,8 +23,8 @@ use paging::Core;
 use sv39_walk::Pte;
 use vm_types::{Access, Attr, Backing, FilePage, FrameNo, Pid, Stall, Vpn};
 
-/// Makes the entry of a mapped page, which lets the access, grant it: first the tables on its way are made, then the page is
-/// brought in from where it lies by then. Answers the frame that the page lies in.
+/// Makes the entry of a mapped page, which allows the access, grant it: first the tables on its way are made, then the page is
+/// brought in from where it lies by then. Returns the frame that the page lies in.
 ///
 /// # Errors
 /// As `obtain`, where a frame is wanted and none is to be had; `SwapDevice` or `StoreDevice` where that device failed.

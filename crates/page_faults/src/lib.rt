@@ -8,8 +8,6 @@ mod finding;
 mod granting;
 mod processes;
 mod refusal;
-#[cfg(test)]
-mod tests;
 
 pub use accesses::access;
 pub use refusal::AccessRefusal;

@@ -11,9 +11,9 @@ ghost use Rattle.mapping.specs.Changes.{IsWhole};
 ghost use Rattle.page_ranges.specs.Rows.{RemapsRow};
 ghost use Rattle.page_ranges.specs.Steps.{KeepsRest, KeepsEntriesOfOthers, SameTables, ReturnsTables, ReturnsSlots, Clears, IsWithoutTables, IsCleared, LacksHolder, GivesBack, IsStepEnd};
 
-use crate::rows::{gap_end, table_end, user_page};
+use crate::rows::{middle_end, table_end, user_page};
 use mapping::root_of;
-use page_tables::{Entry, decode, number_in, prune, set_in, table_of};
+use page_tables::{Entry, decode, missing_tables, number_in, prune, set_in, table_of};
 use paging::Core;
 use sv39_walk::Pte;
 use vm_types::{FrameNo, Pid, USER_START, Vpn};
@@ -42,8 +42,8 @@ pub fn clear_row<D, E>(core: &mut Core<D, E>, pid: Pid, first: u64, pages: u64)
 }
 
 /// Clears the pages from `start` on whose entries stand in one table, as far as `end`. The result is the first page
-/// past them. Where a table is missing on the way, there is nothing to clear on all its pages; but a table above it may be
-/// without entries, since a call that stalled for the want of a frame leaves the tables that it linked.
+/// past them. Where a table is missing on the way, there is nothing to clear on all its pages; but a table between it and the
+/// root may be without entries, since a call that stalled for the want of a frame leaves the tables that it linked.
 fn clear_next<D, E>(core: &mut Core<D, E>, pid: Pid, start: Vpn, end: u64) -> u64
     requires fit { IsFit (picture_of core.old) }
     requires live { is_live (picture_of core.old) pid ≡ true }
@@ -58,17 +58,18 @@ fn clear_next<D, E>(core: &mut Core<D, E>, pid: Pid, start: Vpn, end: u64) -> u6
     ensures rest { KeepsRest core.old core.new }
     ensures refused { core.new.refused ≡ core.old.refused }
 {
-    match gap_end(core, pid, start) {
-        Some(gap) => {
-            let top_table = root_of(core, pid);
-            prune(&mut core.frames, top_table, start);
-            end.min(gap)
-        }
-        None => {
+    let top_table = root_of(core, pid);
+    match missing_tables(&core.frames, top_table, start) {
+        0 => {
             let stop = end.min(table_end(start));
             clear_table(core, pid, start, stop);
             stop
         }
+        1 => {
+            prune(&mut core.frames, top_table, start);
+            end.min(table_end(start))
+        }
+        _ => end.min(middle_end(start)),
     }
 }
 

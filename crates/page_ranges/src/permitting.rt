@@ -24,9 +24,9 @@ use regions::Regions;
 use sv39_walk::Pte;
 use vm_types::{FrameNo, Pid, Prot, USER_START, Vpn};
 
-/// Gives the `pages` pages from `first` on of a live process the permission `prot`, which lets read what it lets write,
+/// Gives the `pages` pages from `first` on of a live process the permission `prot`, which allows reading what it allows writing,
 /// and the process the regions that say so. A resident page stays in its frame, where it can be read and run at once, as
-/// the permission says: its leaf has A, and D where it needs no further mark. It has W exactly where the permission lets
+/// the permission says: its leaf has A, and D where it needs no further mark. It has W exactly where the permission allows
 /// stores, and either the frame is the process's own and nobody else has it, or the page is a shared one; a store that finds no
 /// W or no D needs a fault first. A page in a slot stays there, and its entry, which has no permission, is the same number: the
 /// next access brings it back with what its region allows (mprotect(2); RISC-V Privileged Specification, "Sv39 page table
@@ -161,7 +161,7 @@ fn is_swapped(number: Pte) -> bool
     !number.is_valid() && number.is_readable()
 }
 
-/// Whether a store may go to the frame that a page's entry names: the permission lets it, and either the frame is the
+/// Whether a store may go to the frame that a page's entry names: the permission allows it, and either the frame is the
 /// process's own and nobody else has it, or it is not, and the page is a shared one.
 fn takes_stores<D, E>(core: &Core<D, E>, pid: Pid, page: Vpn, number: Pte, prot: Prot) -> bool
     requires live { is_live (picture_of core.now) pid ≡ true }

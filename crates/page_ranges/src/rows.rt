@@ -34,7 +34,7 @@ pub fn table_end(page: Vpn) -> u64
 }
 
 /// The first page past those of the same table of the level above the lowest.
-fn middle_end(page: Vpn) -> u64
+pub(crate) fn middle_end(page: Vpn) -> u64
     ensures { result ≡ (page / 262144 + 1) * 262144 }
 {
     let span = TABLE_ENTRIES * TABLE_ENTRIES;

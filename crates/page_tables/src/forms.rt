@@ -14,7 +14,7 @@ pub enum Entry {
     Leaf(Pte),
     /// A private page that lies in a slot of the swap device.
     Swapped(SlotNo),
-    /// A page that lies in a frame, and whose permission lets nothing be done; the second is whether the frame is private.
+    /// A page that lies in a frame, and whose permission allows nothing; the second is whether the frame is private.
     Parked(FrameNo, bool),
 }
 

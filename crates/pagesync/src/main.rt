@@ -1,4 +1,4 @@
-//! Makes batches of pages of an image durable. What it takes and answers stands at `batches::pagesync`.
+//! Makes batches of pages of an image durable. What it takes and returns stands at `batches::pagesync`.
 #![tactic(auto)]
 
 use batches::pagesync;

@@ -31,7 +31,7 @@ pub mod Stalls
 pub mod SlotReleased
 pub mod Passing
 pub mod Setting
-pub mod Arriving
+pub mod BroughtIn
 pub mod Taking
 pub mod Returning
 pub mod Mapping

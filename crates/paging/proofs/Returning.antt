@@ -13,7 +13,7 @@ use Rattle.paging.specs.Picture.{Picture}
 use Rattle.paging.specs.Parts.{IsFit}
 use Rattle.paging.specs.Calls.{Frees}
 use Rattle.paging.specs.Steps.{LeavesSlot, ChangesFrame}
-use Rattle.paging.proofs.Arriving.{frames_written}
+use Rattle.paging.proofs.BroughtIn.{frames_written}
 use Rattle.paging.proofs.Taking.{trees_changed, entries_changed, views_changed, held_changed}
 
 slot_number : Place → ℕ

@@ -10,8 +10,6 @@ mod obtaining;
 mod processes;
 mod shares;
 mod steps;
-#[cfg(test)]
-mod tests;
 
 pub use kernel::{Core, PLACES};
 pub use leaves::{Change, change_leaves};

@@ -6,8 +6,6 @@
 mod attributes;
 mod run;
 mod table;
-#[cfg(test)]
-mod tests;
 
 pub use run::Run;
 pub use table::Regions;

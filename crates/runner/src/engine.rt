@@ -22,7 +22,7 @@ const READ_BYTES: usize = 32768;
 /// How a run ended.
 #[derive(Clone, Copy, Debug, PartialEq, Eq)]
 pub enum RunEnd {
-    /// The reader is at its end, and each line is answered.
+    /// The reader is at its end, and each line has its reply.
     Done,
     /// The reader failed.
     ReadFault,
@@ -34,7 +34,7 @@ pub enum RunEnd {
 #[derive(Drop)]
 struct ReadFault;
 
-// Adds the text of the history. (It stays out of the way of the other answers, since a history takes some 400 bytes.)
+// Adds the text of the history. (It stays out of the way of the other replies, since a history takes some 400 bytes.)
 #[cold]
 #[inline(never)]
 fn answer_history<D: SectorDisk, E: SectorDisk>(output: &mut OutputBuffer, machine: &Machine<D, E>)
@@ -45,7 +45,7 @@ fn answer_history<D: SectorDisk, E: SectorDisk>(output: &mut OutputBuffer, machi
     output.push_history(&machine.history());
 }
 
-// Runs one line and adds the text that answers it to the output.
+// Runs one line and adds its reply's text to the output.
 fn answer<D: SectorDisk, E: SectorDisk>(
     line: &[u8],
     output: &mut OutputBuffer,
@@ -286,19 +286,19 @@ fn run_turns<R: Read, W: Write, D: SectorDisk, E: SectorDisk>(
 /// Runs a trace: reads its lines, has the machine carry out the commands that they stand for, one after another, and
 /// writes the text of each reply, or `bad line` for a line that stands for none. It takes no memory.
 ///
-/// Each complete line is answered, and its answer given to the writer, before more is read. The reader and the writer are
+/// Each complete line is run, and its reply given to the writer, before more is read. The reader and the writer are
 /// called again where they were interrupted.
 ///
-/// - `Done`: the reader is at its end. All lines were answered, the last one with or without a newline.
-/// - `ReadFault`: the reader failed, or was called 2^64 - 1 times. The complete lines read before were answered; an
+/// - `Done`: the reader is at its end. All lines were run, the last one with or without a newline.
+/// - `ReadFault`: the reader failed, or was called 2^64 - 1 times. The complete lines read before were run; an
 ///   unfinished one was not run.
-/// - `WriteFault`: the writer failed or took no bytes. What it took is a beginning of the answers to the lines that were
+/// - `WriteFault`: the writer failed or took no bytes. What it took is a beginning of the replies to the lines that were
 ///   run, which are the first of the complete ones read, or all where the reader is at its end.
 ///
 /// Whatever the devices do, a reply names a device or the want of a frame only where that device failed as its command was
 /// carried out, or a frame was refused.
 ///
-/// Where a reader or a writer does not tell its bytes, as a file or a terminal, the contract claims nothing of these.
+/// Where a reader or a writer does not say which bytes it has, as a file or a terminal, the contract claims nothing of these.
 pub fn run<R: Read, W: Write, D: SectorDisk, E: SectorDisk>(
     reader: &mut R,
     writer: &mut W,

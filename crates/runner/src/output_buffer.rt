@@ -64,7 +64,7 @@ impl OutputBuffer {
         self.len = end;
     }
 
-    /// Adds the text of an answer, for which there must be room.
+    /// Adds the text of a reply, for which there must be room.
     pub(crate) fn push_answer(&mut self, answer: &Answer)
         requires { length self.old + 1024 ≤ 34816 }
         ensures text { self.new ≡ self.old ++ text_of (reply_of answer.now) }

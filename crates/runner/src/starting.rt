@@ -55,7 +55,7 @@ pub fn run_on<R: Read, W: Write, D: SectorDisk, E: SectorDisk + Drop>(
     ensures err_calm { IfErr result (λ e. (e.0 ≡ BootFault.Device → ⊥) → D.failures e.1 ≡ D.failures store) }
     ensures bad_layout { IfErr result (λ e. D.keeps_model e.1 → e.0 ≡ BootFault.BadLayout → IsBadLayout (D.sector_count store) (D.content store)) }
     ensures bad_journal { IfErr result (λ e. D.keeps_model e.1 → e.0 ≡ BootFault.BadJournal → IsBadJournal (D.sector_count store) (D.content store)) }
-    // A bad layout is told before a bad journal.
+    // A bad layout is reported before a bad journal.
     ensures layout_first { IfErr result (λ e. D.keeps_model e.1 → e.0 ≡ BootFault.BadJournal → IsBadLayout (D.sector_count store) (D.content store) → ⊥) }
     // Nothing was asked of the store, or nothing written to it.
     ensures unasked { IfErr result (λ e. (e.0 ≡ BootFault.Frames) ⊎ (e.0 ≡ BootFault.Slots) → e.1 ≡ store) }

@@ -3,8 +3,6 @@
 #![tactic(auto)]
 
 mod pte;
-#[cfg(test)]
-mod tests;
 mod translation;
 
 pub use pte::{Pte, read_entry};

@@ -166,7 +166,7 @@ impl Pte {
         self.is_valid() && !self.is_reserved() && !self.is_leaf()
     }
 
-    /// Whether the entry lets that access: R for a load, W for a store, X for a fetch.
+    /// Whether the entry allows that access: R for a load, W for a store, X for a fetch.
     pub fn grants(self, access: Access) -> bool
         ensures { result ≡ grants access self.0 }
     {

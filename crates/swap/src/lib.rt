@@ -4,7 +4,5 @@
 mod pages;
 mod share_counts;
 mod slots;
-#[cfg(test)]
-mod tests;
 
 pub use slots::{PutFault, Swap};

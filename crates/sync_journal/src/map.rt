@@ -29,7 +29,7 @@ fn write_map(map: &mut [u8], homes: &[u32])
     LittleEndian::write_u32_into(homes, &mut map[4..4 + 4 * homes.len()]);
 }
 
-/// Reads the homes that a map names into the front of `homes`, and answers how many they are. `None` exactly where
+/// Reads the homes that a map names into the front of `homes`, and returns how many they are. `None` exactly where
 /// the map names over 127 pages, a home that isn't under `limit` or a home twice.
 pub(crate) fn read_homes(
     map: &[u8; 512],

@@ -82,7 +82,7 @@ pub(crate) const CONFIG: Config = Config {
     slots: 16,
 };
 
-/// A trace, and what a machine is to answer.
+/// A trace, and the replies that are wanted.
 #[derive(Drop)]
 pub(crate) struct Exchange {
     pub trace: Vec<u8>,
@@ -105,7 +105,7 @@ impl Exchange {
     }
 }
 
-/// What a machine answered, how its run ended, and the device of its store as it was left.
+/// A machine's replies, how its run ended, and the device of its store as it was left.
 #[derive(Drop)]
 pub(crate) struct Told {
     pub end: RunEnd,

@@ -46,8 +46,8 @@ store 1 0x12000 1 0x3\nstore 1 0x13000 1 0x4\nstore 1 0x14000 1 0x5\nload 1 0x10
     Ok(())
 }
 
-/// The first write of the swap device fails: the store that it was for stalls, and its page shows zeros later on. Nothing else is
-/// answered otherwise.
+/// The first write of the swap device fails: the store that it was for stalls, and its page shows zeros later on. No other
+/// reply is another.
 fn one_write_lost(alloc: Global) -> Result<Exchange, Fail> {
     let mut exchange = Exchange::new(alloc);
     exchange.push(
@@ -248,8 +248,8 @@ fn looks_after_an_msync(alloc: Global) -> Result<Exchange, Fail> {
     Ok(exchange)
 }
 
-/// How many writes and syncs of the store a machine of eight frames and no slot makes once it has started, which answers what
-/// is wanted.
+/// How many writes and syncs of the store a machine of eight frames and no slot makes once it has started, with the replies
+/// that are wanted.
 fn asked_of_store<R: AllocGlobal + Abort>(
     rt: &R,
     disk: &SimDisk,

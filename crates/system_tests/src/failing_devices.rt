@@ -38,7 +38,7 @@ fn a_stalled_store_stores_nothing(rt: HostRuntime) -> Result<(), Fail> {
 /// The calls of a start, then the reads of a page, and then nine writes of an msync: the call after those is its first sync.
 const FIRST_SYNC: u64 = 8 + 10;
 
-/// A halted machine still tells which lines are no command.
+/// A halted machine still says which lines are no command.
 #[test]
 fn a_bad_line_is_told_after_a_halt(rt: HostRuntime) -> Result<(), Fail> {
     let disk = image(rt.alloc(), 4096)?;

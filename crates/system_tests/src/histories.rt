@@ -34,7 +34,7 @@ dontneed 1 0x20000 1\nload 1 0x20000 1\n",
         b"pid 1\naddr 0x20000\naddr 0x22000\nok\nerror 3 ESRCH\nerror 22 EINVAL\nok\nerror 12 ENOMEM\nvalue 0x07\n\
 ok\nvalue 0x00\n",
     ),
-    // What faulted is told, oldest first.
+    // The faults, oldest first.
     (
         b"spawn\nload 1 0x0 1\nstore 1 0x20001 2 0\nfaults\n",
         b"pid 1\nfault 13 SEGV_MAPERR 0x0\nfault 6 BUS_ADRALN 0x20001\n\

@@ -147,7 +147,7 @@ fn two_msyncs(alloc: Global) -> Result<Exchange, Fail> {
     Ok(exchange)
 }
 
-/// The device of a file of 128 pages of zeros, as a machine leaves it that answers what is wanted.
+/// The device of a file of 128 pages of zeros, as a machine leaves it whose replies are those wanted.
 fn left_by<R: AllocGlobal + Abort>(rt: &R, exchange: &Exchange) -> Result<SimDisk, Fail> {
     let disk = image(rt.alloc(), 524288)?;
     let trace = exchange.trace.as_slice();

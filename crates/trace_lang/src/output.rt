@@ -3,7 +3,7 @@ ghost use Rattle.std.specs.Prelude.{◌≡◌, ◌+◌, ◌≤◌, ◌<◌, ◌+
 ghost use Rattle.std.specs.Fmt.{digits, digit_glyph};
 ghost use Rattle.trace_lang.specs.Texts.{hex_digits, hexadecimal};
 
-/// Writes a text at `at`, and answers the place behind it.
+/// Writes a text at `at`, and returns the place behind it.
 pub(crate) fn push(out: &mut [u8; 1024], at: usize, text: &[u8]) -> usize
     requires { at + length text.now ≤ 1024 }
     ensures end { result ≡ at + length text.now }

@@ -105,7 +105,7 @@ fn push_numbered(out: &mut [u8; 1024], kind: &[u8], number: u8, name: &[u8]) -> 
     push(out, at, name)
 }
 
-/// Writes the answer's text and a newline to the front of `out`, and answers how many bytes that is, at most 1,024.
+/// Writes the answer's text and a newline to the front of `out`, and returns how many bytes that is, at most 1,024.
 pub fn answer_text(answer: &Answer, out: &mut [u8; 1024]) -> usize
     ensures text { take result out.new ≡ text_of (reply_of answer.now) }
     ensures room { result ≤ 1024 }
@@ -135,7 +135,7 @@ pub fn answer_text(answer: &Answer, out: &mut [u8; 1024]) -> usize
     push(out, at, b"\n")
 }
 
-/// Writes the history's text and a newline to the front of `out`, and answers how many bytes that is, at most 1,024.
+/// Writes the history's text and a newline to the front of `out`, and returns how many bytes that is, at most 1,024.
 pub fn history_text(history: &History, out: &mut [u8; 1024]) -> usize
     ensures text { take result out.new ≡ text_of (Past history.now) }
     ensures room { result ≤ 1024 }
@@ -144,7 +144,7 @@ pub fn history_text(history: &History, out: &mut [u8; 1024]) -> usize
     push(out, at, b"\n")
 }
 
-/// Writes the reply's text and a newline to the front of `out`, and answers how many bytes that is, at most 1,024.
+/// Writes the reply's text and a newline to the front of `out`, and returns how many bytes that is, at most 1,024.
 pub fn reply_text(reply: &Reply, out: &mut [u8; 1024]) -> usize
     ensures text { take result out.new ≡ text_of reply.now }
     ensures room { result ≤ 1024 }
@@ -168,87 +168,9 @@ pub fn reply_text(reply: &Reply, out: &mut [u8; 1024]) -> usize
     }
 }
 
-/// What answers a line in no form, with its newline.
+/// The reply to a line in no form, with its newline.
 pub fn bad_line_text() -> &'static [u8]
     ensures { result.now ≡ bad_line_text }
 {
     b"bad line\n"
-}
-
-#[cfg(test)]
-mod tests {
-    use super::*;
-    use std::process::Abort;
-    use vm_types::{Pid, Width};
-
-    fn expect(rt: &impl Abort, reply: Reply, want: &[u8]) {
-        let mut out = [0; 1024];
-        let len = reply_text(&reply, &mut out);
-        assert_eq!(rt; &out[..len], want);
-    }
-
-    #[test]
-    fn each_reply_has_its_text(rt: HostRuntime) {
-        let Some(pid) = Pid::new(64) else {
-            return assert!(rt; false);
-        };
-        expect(&rt, Reply::Process(pid), b"pid 64\n");
-        expect(&rt, Reply::Address(0x10000), b"addr 0x10000\n");
-        expect(&rt, Reply::Address(0), b"addr 0x0\n");
-        expect(&rt, Reply::Done, b"ok\n");
-        expect(
-            &rt,
-            Reply::Value {
-                width: Width::One,
-                value: 0,
-            },
-            b"value 0x00\n",
-        );
-        expect(
-            &rt,
-            Reply::Value {
-                width: Width::Four,
-                value: 0x11223344,
-            },
-            b"value 0x11223344\n",
-        );
-        expect(
-            &rt,
-            Reply::Value {
-                width: Width::Eight,
-                value: 0xab,
-            },
-            b"value 0x00000000000000ab\n",
-        );
-        let misaligned = Fault {
-            cause: 4,
-            code: Code::BusAdraln,
-            addr: 0x20004,
-        };
-        expect(
-            &rt,
-            Reply::Faulted(misaligned),
-            b"fault 4 BUS_ADRALN 0x20004\n",
-        );
-        let unmapped = Fault {
-            cause: 13,
-            code: Code::SegvMaperr,
-            addr: 0xffff_ffff_ffff_ffff,
-        };
-        expect(
-            &rt,
-            Reply::Faulted(unmapped),
-            b"fault 13 SEGV_MAPERR 0xffffffffffffffff\n",
-        );
-        expect(
-            &rt,
-            Reply::Refused(Errno::EOVERFLOW),
-            b"error 75 EOVERFLOW\n",
-        );
-        expect(&rt, Reply::Refused(Errno::EAGAIN), b"error 11 EAGAIN\n");
-        expect(&rt, Reply::Stalled(Stall::NoFrames), b"stall 1 NOFRAMES\n");
-        expect(&rt, Reply::Stalled(Stall::SwapDevice), b"stall 3 SWAPDEV\n");
-        expect(&rt, Reply::Halted, b"halted\n");
-        assert_eq!(rt; bad_line_text(), b"bad line\n".as_slice());
-    }
 }

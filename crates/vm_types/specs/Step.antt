@@ -1,4 +1,4 @@
--- What each command answers and what it leaves.
+-- What each command returns and what it leaves.
 -- mmap(2), munmap(2), mprotect(2), fork(2), _exit(2), msync(2), sigaction(2); the order of the checks is our choice.
 use Rattle.std.specs.Prelude.{ℕ, zero, suc, List, length, slice_get, ◌≡◌, refl, ◌+◌, ◌%◌, ◌*◌, ◌/◌, ◌==◌, ◌&&◌, not, false, nat_lt, if◌then◌else◌, [], ◌∷◌, Option, Some, None}
 use Rattle.vm_types.specs.declared.access.Access.{Access}
@@ -121,7 +121,7 @@ fetch_outcome s addr (Fine view) = answers s (Value Four (loaded (shown s.volati
 abbrev pub judged : State → ℕ → ℕ → Width → Access → Verdict
 judged s pid addr width access = verdict s.files (s.views pid) addr (byte_count width) access
 
--- what a machine that runs and lacks nothing answers and leaves
+-- what a machine that runs and lacks nothing returns and leaves
 abbrev pub outcome : State → Command → Outcome
 outcome s Spawn = spawn_outcome s (least_free_pid s.live)
 outcome s (Fork pid) = if s.live pid then fork_outcome s pid (least_free_pid s.live) else answers s (Refused ESRCH)

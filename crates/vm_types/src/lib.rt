@@ -47,6 +47,3 @@ pub const FAULTS: usize = 16;
 
 /// The most touched pages that one msync makes durable.
 pub const MSYNC_PAGES: usize = 127;
-
-#[cfg(test)]
-mod tests;

@@ -41,21 +41,21 @@ impl Flags for Prot {
 impl Prot {
     ghost use Rattle.vm_types.specs.Permission.{can_read, can_write, can_execute, kept};
 
-    /// Whether it lets read.
+    /// Whether it allows reading.
     pub fn is_readable(self) -> bool
         ensures { result ≡ can_read self }
     {
         self.contains(Prot::READ)
     }
 
-    /// Whether it lets write.
+    /// Whether it allows writing.
     pub fn is_writable(self) -> bool
         ensures { result ≡ can_write self }
     {
         self.contains(Prot::WRITE)
     }
 
-    /// Whether it lets run.
+    /// Whether it allows running.
     pub fn is_executable(self) -> bool
         ensures { result ≡ can_execute self }
     {

@@ -1,4 +1,4 @@
-//! What a command answers.
+//! What a command returns.
 ghost use Rattle.std.specs.Prelude.{◌≡◌};
 ghost use Rattle.vm_types.specs.Replies.{reply_of};
 
@@ -7,7 +7,7 @@ use crate::number::Pid;
 use crate::refusal::{Errno, Fault, Stall};
 use crate::width::Width;
 
-/// The answer to a command, in the few bytes that all but a history take.
+/// What a command returns, in the few bytes that all but a history take.
 #[derive(Clone, Copy, Debug, PartialEq, Eq)]
 pub enum Answer {
     /// The process that a spawn or a fork made.

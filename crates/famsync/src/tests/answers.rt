@@ -1,4 +1,4 @@
-//! What the exports answer.
+//! What the exports return.
 use super::client::{Client, filled, lent_of, new_store, rows_of};
 use super::stops::open_words;
 use crate::exports::{famsync_done, famsync_failed};

@@ -174,7 +174,7 @@ impl Client {
         )
     }
 
-    /// Tells a file's length, and leaves `to` as it was where it tells none.
+    /// Puts a file's length into `to`, which is left as it was where there is no such file.
     pub(crate) fn length(&mut self, image: &[[u8; 512]], file: u8, to: &mut u32) -> u32 {
         famsync_length(&self.handle, image, &mut self.scratch[0], file, to)
     }
@@ -189,7 +189,7 @@ impl Client {
         Ok(())
     }
 
-    /// Opens what a device holds, and answers the bytes of all pages.
+    /// Opens what a device holds, and returns the bytes of all pages.
     pub(crate) fn opened(&mut self, alloc: Global, disk: &mut SimDisk) -> Result<Vec<u8>, Fail> {
         if self.open(&rows_of(alloc, disk)?) != 0 {
             return Err(Fail::new("the image was not opened"));

@@ -101,7 +101,7 @@ fn changed(
     Ok((pages, bytes))
 }
 
-/// Commits the pages whose byte changes: stops the plan everywhere, and then carries it out. Answers how many calls it has.
+/// Commits the pages whose byte changes: stops the plan everywhere, and then carries it out. Returns how many calls it has.
 fn committed<R: AllocGlobal + Abort>(
     rt: &R,
     client: &mut Client,

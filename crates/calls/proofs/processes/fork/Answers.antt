@@ -4,7 +4,7 @@ use Rattle.paging.specs.Picture.{picture_of, view}
 use Rattle.vm_types.specs.declared.refusal.Errno.TheVariants.{ESRCH, EAGAIN}
 use Rattle.calls.proofs.Taking.{fork_refused_takes, forked_takes, fork_stalled_takes}
 use Rattle.calls.proofs.Calls.{found_lives}
-use Rattle.calls.proofs.Living.{fork_refused, forks_to, fork_stalls, birth_caused}
+use Rattle.calls.proofs.Living.{fork_refused, forks_to, fork_stalls, store_kept_caused}
 use Rattle.calls.proofs.processes.fork.Goals as goal
 
 pub returns-in_default-free_pid-clause-comes : goal.returns-in_default-free_pid-clause-comes
@@ -31,7 +31,7 @@ returns-in-Err-clause-comes g c = λ s shows reads swaps.
 
 pub returns-in-Err-clause-caused : goal.returns-in-Err-clause-caused
 returns-in-Err-clause-caused g c =
-    birth_caused g.D.SectorDisk g.E.SectorDisk c.args.core.now c.fork.new.core c.in-Err.stall c.fork.ensures.store c.fork.ensures.device.later c.in-Err.ensures.cause
+    store_kept_caused g.D.SectorDisk g.E.SectorDisk c.args.core.now c.fork.new.core c.in-Err.stall c.fork.ensures.store c.fork.ensures.device.later c.in-Err.ensures.cause
 
 pub returns-in_default-clause-takes : goal.returns-in_default-clause-takes
 returns-in_default-clause-takes g c = fork_refused_takes (picture_of c.args.core.now) (picture_of c.args.core.now) c.args.pid ESRCH

@@ -1,7 +1,7 @@
 use Rattle.paging.specs.Picture.{picture_of}
 use Rattle.vm_types.specs.declared.refusal.Errno.TheVariants.{EAGAIN}
 use Rattle.calls.proofs.Taking.{spawn_refused_takes, spawned_takes, spawn_stalled_takes}
-use Rattle.calls.proofs.Living.{spawn_refused, spawns, spawn_stalls, birth_caused}
+use Rattle.calls.proofs.Living.{spawn_refused, spawns, spawn_stalls, store_kept_caused}
 use Rattle.calls.proofs.processes.spawn.Goals as goal
 
 pub returns-in_default-clause-comes : goal.returns-in_default-clause-comes
@@ -20,7 +20,7 @@ returns-in-Err-clause-comes g c = λ s shows reads swaps.
 
 pub returns-in-Err-clause-caused : goal.returns-in-Err-clause-caused
 returns-in-Err-clause-caused g c =
-    birth_caused g.D.SectorDisk g.E.SectorDisk c.args.core.now c.spawn.new.core c.in-Err.stall c.spawn.ensures.store c.spawn.ensures.device.later c.in-Err.ensures.cause
+    store_kept_caused g.D.SectorDisk g.E.SectorDisk c.args.core.now c.spawn.new.core c.in-Err.stall c.spawn.ensures.store c.spawn.ensures.device.later c.in-Err.ensures.cause
 
 pub returns-in_default-clause-takes : goal.returns-in_default-clause-takes
 returns-in_default-clause-takes g c = spawn_refused_takes (picture_of c.args.core.now) (picture_of c.args.core.now) EAGAIN

@@ -8,7 +8,7 @@ use Rattle.page_cache.specs.declared.place.Place.TheVariants.{Home, Frame}
 use Rattle.page_cache.specs.CacheTable.{is_touched}
 use Rattle.paging.specs.Picture.{Picture, picture_of}
 use Rattle.paging.specs.Capacity.{IsShort}
-use Rattle.paging.proofs.Arriving.{frames_written, fit_brought}
+use Rattle.paging.proofs.BroughtIn.{frames_written, fit_brought}
 use Rattle.paging.proofs.Places.{cases_page}
 use Rattle.paging.proofs.Returning.{leaves_none, frames_spent, frees_spent}
 use Rattle.paging.proofs.Sparing.{frees_then}

@@ -1,0 +1,34 @@
+//! Numbers as lines write them.
+use trace_lang::parse_number;
+
+#[test]
+fn numbers_are_read(rt: HostRuntime) {
+    for (text, number) in [
+        (b"0".as_slice(), 0),
+        (b"1", 1),
+        (b"0x10", 16),
+        (b"0xAbC", 0xabc),
+        (b"0000000000000000000000012", 12),
+        (b"0x00000000000000000000001f", 31),
+        (b"18446744073709551615", u64::MAX),
+        (b"0xffffffffffffffff", u64::MAX),
+    ] {
+        assert_eq!(rt; parse_number(text), Some(number), "at {text:?}");
+    }
+    for text in [
+        b"".as_slice(),
+        b"x",
+        b"0x",
+        b"0X10",
+        b"+1",
+        b"-1",
+        b" 1",
+        b"1 ",
+        b"1a",
+        b"0xg",
+        b"18446744073709551616",
+        b"0x10000000000000000",
+    ] {
+        assert_eq!(rt; parse_number(text), None, "at {text:?}");
+    }
+}

@@ -1,0 +1,238 @@
+//! Lines, and the commands that they stand for.
+use trace_lang::{BadLine, parse_line};
+use vm_types::{Command, MapSource, MsyncMode, Placing, Prot, StoredValue, Width};
+
+fn load(addr: u64, width: Width) -> Result<Command, BadLine> {
+    Ok(Command::Load {
+        pid: 1,
+        addr,
+        width,
+    })
+}
+
+fn mapping(prot: Prot, source: MapSource, placing: Placing) -> Result<Command, BadLine> {
+    Ok(Command::Mmap {
+        pid: 1,
+        addr: 0x22000,
+        len: 0x1000,
+        prot,
+        source,
+        placing,
+    })
+}
+
+fn protection(addr: u64, len: u64, prot: Prot) -> Result<Command, BadLine> {
+    Ok(Command::Mprotect {
+        pid: 1,
+        addr,
+        len,
+        prot,
+    })
+}
+
+#[test]
+fn each_form_is_read(rt: HostRuntime) {
+    assert_eq!(rt; parse_line(b"spawn"), Ok(Command::Spawn));
+    assert_eq!(rt; parse_line(b"fork 1"), Ok(Command::Fork { pid: 1 }));
+    assert_eq!(rt; parse_line(b"exit 0x07"), Ok(Command::Exit { pid: 7 }));
+    let fetch = Command::Fetch {
+        pid: 1,
+        addr: 0x20002,
+    };
+    assert_eq!(rt; parse_line(b"fetch 1 0x20002"), Ok(fetch));
+    assert_eq!(rt;
+        parse_line(b"load 1 0x10ff8 8"),
+        load(0x10ff8, Width::Eight)
+    );
+    assert_eq!(rt;
+        parse_line(b"load 1 18446744073709551615 0x1"),
+        load(u64::MAX, Width::One)
+    );
+    assert_eq!(rt;
+        parse_line(b"load 1 0xAbCdEf 1"),
+        load(0xabcdef, Width::One)
+    );
+    for (line, mode) in [
+        (b"msync 1 0x10000 12288 sync".as_slice(), MsyncMode::Sync),
+        (b"msync 1 0x10000 12288 async".as_slice(), MsyncMode::Async),
+    ] {
+        let msync = Command::Msync {
+            pid: 1,
+            addr: 0x10000,
+            len: 12288,
+            mode,
+        };
+        assert_eq!(rt; parse_line(line), Ok(msync));
+    }
+    let stored = StoredValue::new(Width::Eight, 0x1122334455667788);
+    let store = stored.map(|stored| Command::Store {
+        pid: 1,
+        addr: 0x10000,
+        stored,
+    });
+    assert_eq!(rt;
+        parse_line(b"store 1 0x10000 8 0x1122334455667788").ok(),
+        store
+    );
+}
+
+#[test]
+fn mappings_are_read_with_each_placing(rt: HostRuntime) {
+    for (line, placing) in [
+        (
+            b"mmap 1 0x22000 0x1000 rw- shared 0 0x2000".as_slice(),
+            Placing::Hint,
+        ),
+        (
+            b"mmap 1 0x22000 0x1000 rw- shared 0 0x2000 fixed",
+            Placing::Fixed,
+        ),
+        (
+            b"mmap 1 0x22000 4096 rw- shared 0 8192 noreplace",
+            Placing::NoReplace,
+        ),
+    ] {
+        let shared = MapSource::Shared {
+            file: 0,
+            offset: 0x2000,
+        };
+        assert_eq!(rt;
+            parse_line(line),
+            mapping(Prot::READ | Prot::WRITE, shared, placing)
+        );
+    }
+}
+
+#[test]
+fn mappings_are_read_with_each_source(rt: HostRuntime) {
+    let private = MapSource::Private {
+        file: 63,
+        offset: 0x100000000000,
+    };
+    for (line, source, placing) in [
+        (
+            b"mmap 1 0x22000 4096 -w- anon".as_slice(),
+            MapSource::Anon,
+            Placing::Hint,
+        ),
+        (
+            b"mmap 1 0x22000 0x1000 -w- anon noreplace",
+            MapSource::Anon,
+            Placing::NoReplace,
+        ),
+        (
+            b"mmap 1 0x22000 0x1000 -w- private 63 0x100000000000",
+            private,
+            Placing::Hint,
+        ),
+        (
+            b"mmap 1 0x22000 0x1000 -w- private 0x3f 0x100000000000 fixed",
+            private,
+            Placing::Fixed,
+        ),
+    ] {
+        assert_eq!(rt; parse_line(line), mapping(Prot::WRITE, source, placing));
+    }
+}
+
+#[test]
+fn changes_of_mappings_are_read(rt: HostRuntime) {
+    let removal = Command::Munmap {
+        pid: 1,
+        addr: 0x21000,
+        len: 0x3000,
+    };
+    assert_eq!(rt; parse_line(b"munmap 1 0x21000 0x3000"), Ok(removal));
+    assert_eq!(rt;
+        parse_line(b"mprotect 1 0x20001 0x1000 r--"),
+        protection(0x20001, 0x1000, Prot::READ)
+    );
+    assert_eq!(rt;
+        parse_line(b"mprotect 1 0x20000 0 r--"),
+        protection(0x20000, 0, Prot::READ)
+    );
+    assert_eq!(rt;
+        parse_line(b"mprotect 1 0x10000 4096 rw-"),
+        protection(0x10000, 4096, Prot::READ | Prot::WRITE)
+    );
+}
+
+#[test]
+fn other_lines_are_bad(rt: HostRuntime) {
+    for line in [
+        b"".as_slice(),
+        b" ",
+        b"spawn ",
+        b" spawn",
+        b"spawn\r",
+        b"SPAWN",
+        b"fork",
+        b"fork ",
+        b"fork  1",
+        b"fork 1 1",
+        b"fork 18446744073709551616",
+        b"exit",
+        b"exit all",
+        b"exit 1 ",
+        b"exit 1 1",
+        b"fetch 1",
+        b"fetch 1  0x10000",
+        b"fetch 1 0x10000 4",
+        b"fetch 1 0x10000000000000000",
+        b"load  1 0x10000 1",
+        b"load 1 0x10000 1 ",
+        b"load 1 0x10000",
+        b"load 1 0x10000 1 1",
+        b"load 1 0X10000 1",
+        b"load 1 0x 1",
+        b"load 1 +1 1",
+        b"load 1 1a 1",
+        b"load 1 18446744073709551616 1",
+        b"load 1 0x10000000000000000 1",
+        b"load 1 0x10000 3",
+        b"store 1 0x10000 1 0x100",
+        b"msync 1 0x10000 4096 later",
+        b"mmap 1 0 4096 wr- shared 0 0",
+        b"mmap 1 0 4096 rw shared 0 0",
+        b"mmap 1 0 4096 rw- shared 0",
+        b"mmap 1 0 4096 rw- shared 0 0 fixed twice",
+        b"mmap 1 0 4096 rw- shared 0 0 fixed noreplace",
+        b"mmap 1 0 4096 rw- shared 0 0 Fixed",
+        b"mmap 1 0 4096 rw- shared 0 0 ",
+        b"mmap 1 0 4096 rw- shared 0 fixed",
+        b"mmap 1 0 4096 rw- fixed shared 0 0",
+        b"mmap 1 0 4096 rw- fixed",
+        b"mmap 1 0 1 rw-",
+        b"mmap 1 0 1 rw-  anon",
+        b"mmap 1 0 1 rw- ANON",
+        b"mmap 1 0 1 rw- anonymous",
+        b"mmap 1 0 1 rw- anon 0",
+        b"mmap 1 0 1 rw- anon 0 0",
+        b"mmap 1 0 1 rw- anon fixed noreplace",
+        b"mmap 1 0 1 rw- private",
+        b"mmap 1 0 1 rw- private 0",
+        b"mmap 1 0 1 rw- private 0 0 0",
+        b"mmap 1 0 1 rw- private fixed 0 0",
+        b"mmap 1 0 1 rw- private 0 18446744073709551616",
+        b"mmap 1 0 1 rw- anon shared 0 0",
+        b"munmap 1 0x10000",
+        b"munmap 1 0x10000 4096 4096",
+        b"munmap 1 0x10000 4096 fixed",
+        b"mprotect 1 0x10000 4096",
+        b"mprotect 1 0x10000 4096 rw",
+        b"mprotect 1 0x10000 4096 rw- rw-",
+        b"mprotect 1 0x10000 0x r--",
+    ] {
+        assert_eq!(rt; parse_line(line), Err(BadLine), "at {line:?}");
+    }
+}
+
+#[test]
+fn lines_have_at_most_256_bytes(rt: HostRuntime) {
+    let mut line = [b'0'; 257];
+    line[..9].copy_from_slice(b"load 1 0x");
+    line[249..256].copy_from_slice(b"10000 1");
+    assert_eq!(rt; parse_line(&line[..256]), load(0x10000, Width::One));
+    line[249..].copy_from_slice(b"010000 1");
+    assert_eq!(rt; parse_line(&line), Err(BadLine));
+}

@@ -1,0 +1,5 @@
+//! Tests of each call of a machine, over devices in memory.
+#![tactic(auto)]
+
+#[cfg(test)]
+mod machines;

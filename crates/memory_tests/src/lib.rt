@@ -1,0 +1,17 @@
+//! Tests of what memory is made of: numbers, frames, entries, places of file pages, slots, the clock, and regions.
+#![tactic(auto)]
+
+#[cfg(test)]
+mod frame_table;
+#[cfg(test)]
+mod hands;
+#[cfg(test)]
+mod places;
+#[cfg(test)]
+mod runs;
+#[cfg(test)]
+mod slots;
+#[cfg(test)]
+mod types;
+#[cfg(test)]
+mod walks;

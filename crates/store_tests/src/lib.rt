@@ -1,0 +1,9 @@
+//! Tests of devices, of stores on them, and of batches of their pages.
+#![tactic(auto)]
+
+#[cfg(test)]
+mod disks;
+#[cfg(test)]
+mod requests;
+#[cfg(test)]
+mod stores;
