@@ -1,0 +1,14 @@
+//! Physical memory with a buffer of the translations that walks of its page tables found. It has the calls of `frames` and of
+//! `page_tables`; each of them that changes a leaf drops the leaf's line, so a line never says anything else than the tables.
+#![tactic(auto)]
+
+mod memory;
+mod trees;
+mod walking;
+
+pub use memory::Memory;
+pub use trees::{
+    entry, entry_number, link_table, missing_tables, number_in, prune, set, set_in, table_of,
+    take_table,
+};
+pub use walking::walk;

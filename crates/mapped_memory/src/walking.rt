@@ -1,0 +1,86 @@
+//! The walk, by the buffer where it has the page's line.
+ghost use Rattle.std.specs.Prelude.{◌≡◌, ◌<◌, ◌^◌, true};
+ghost use Rattle.vm_types.specs.Limits.{top_level, user_end};
+ghost use Rattle.frames.specs.FrameTable.{frame_count};
+ghost use Rattle.sv39_walk.specs.Entry.{frame_of};
+ghost use Rattle.sv39_walk.specs.Walk.{page_of, translated};
+ghost use Rattle.page_tables.specs.Tree.{IsForest, IsRoot};
+ghost use Rattle.walk_buffer.specs.Lines.{lets, place_in};
+ghost use Rattle.mapped_memory.specs.Kept.{IsKept};
+
+use crate::memory::Memory;
+use frames::Frames;
+use page_tables::entry_number;
+use sv39_walk::{Pte, WalkFault};
+use vm_types::{Access, FrameNo, PAGE_BYTES, Phys, Vpn};
+use walk_buffer::{TranslationBuffer, lets};
+
+// Bytes of a page, as a number of addresses.
+const PAGE: u64 = PAGE_BYTES as u64;
+
+/// Where an access to the address in user mode goes in the tree of `root`. The buffer is looked at once, before any entry is read;
+/// where it has no line for the page and the walk finds a place, the page's leaf is kept. Memory stays as it is.
+///
+/// # Errors
+/// The reason, exactly where there is one.
+pub fn walk(
+    memory: &mut Memory,
+    root: FrameNo,
+    addr: u64,
+    access: Access,
+) -> Result<Phys, WalkFault>
+    requires forest { IsForest memory.old }
+    requires root { IsRoot top_level memory.old root.0 }
+    ensures walked { result ≡ translated top_level memory.old root.0 addr access }
+    ensures same { memory.new ≡ memory.old }
+{
+    let Some(page) = Vpn::new(addr / PAGE) else {
+        return sv39_walk::walk(&memory.frames, root, addr, access);
+    };
+    match memory.buffer.look(root, page, access) {
+        Some(frame) => {
+            memory.hits = memory.hits.saturating_add(1);
+            Ok(place_in(frame, addr))
+        }
+        None => walk_and_keep(&memory.frames, &mut memory.buffer, root, page, addr, access),
+    }
+}
+
+// The walk to a page that has no line. Its leaf is kept where that lets the access go through.
+fn walk_and_keep(
+    frames: &Frames,
+    buffer: &mut TranslationBuffer,
+    root: FrameNo,
+    page: Vpn,
+    addr: u64,
+    access: Access,
+) -> Result<Phys, WalkFault>
+    requires forest { IsForest frames.now }
+    requires root { IsRoot top_level frames.now root.0 }
+    requires page { page_of addr ≡ page }
+    requires small { page < user_end }
+    requires kept { IsKept frames.now buffer.old }
+    ensures walked { result ≡ translated top_level frames.now root.0 addr access }
+    ensures kept { IsKept frames.now buffer.new }
+{
+    let leaf = entry_number(frames, root, page);
+    if is_usable(frames, leaf, access) {
+        buffer.keep(root, page, leaf);
+        return Ok(place_in(leaf.frame_number(), addr));
+    }
+    sv39_walk::walk(frames, root, addr, access)
+}
+
+// Whether a leaf lets the access go through, into a frame of memory.
+fn is_usable(frames: &Frames, leaf: Pte, access: Access) -> bool
+    ensures { result ≡ true → (lets access leaf.0 ≡ true) × (frame_of leaf.0 < frame_count frames.now) × (frame_of leaf.0 < 2 ^ 32) }
+{
+    lets(leaf, access) && leaf.frame() < u64::from(frames.len())
+}
+
+// The address in that frame.
+fn place_in(frame: FrameNo, addr: u64) -> Phys
+    ensures { result ≡ place_in frame.0 addr }
+{
+    Phys(u64::from(frame.0) * PAGE + addr % PAGE)
+}
