@@ -16,4 +16,6 @@ mod refusals;
 #[cfg(test)]
 mod rows;
 #[cfg(test)]
+mod stops;
+#[cfg(test)]
 mod turns;

@@ -7,8 +7,9 @@ use std::fs::{self, OpenOptions};
 use std::io::{Read, Write};
 use std::os::unix::fs::FileExt;
 use std::test::Fail;
+use stop_trials::pagestops;
 
-/// What a program has to answer: its exit status, and what it writes to standard output and to standard error.
+/// How a program has to end: its exit status, and what it writes to standard output and to standard error.
 #[derive(Clone, Copy)]
 pub(crate) struct Ending<'a> {
     pub status: u8,
@@ -39,6 +40,7 @@ pub(crate) enum Program {
     Format,
     Run,
     Cat,
+    Stops,
 }
 
 /// Sees that the bytes found are those that are wanted.
@@ -93,6 +95,7 @@ pub(crate) fn ran_over<I: Read, O: Write>(
         Program::Format => pagefmt(rt, words, reader, writer, &mut errors),
         Program::Run => pagerun(rt, words, reader, writer, &mut errors),
         Program::Cat => pagecat(rt, words, reader, writer, &mut errors),
+        Program::Stops => pagestops(rt, words, reader, writer, &mut errors),
     };
     Ok((status, errors))
 }

@@ -21,7 +21,7 @@ fn replies_before_reads(rt: &HostRuntime, words: &[&str]) -> Result<(), Fail> {
     let (status, errors) = ran_over(rt, Program::Run, words, &mut reader, &mut writer)?;
     same("standard error", errors.as_slice(), b"")?;
     same_number("exit status", status.into(), 0)?;
-    // Nine bytes a call: a line and a half, two more lines, one more, and the last one's end. `exit 3` is answered once
+    // Nine bytes a call: a line and a half, two more lines, one more, and the last one's end. `exit 3` is carried out once
     // the reader is at its end.
     if reader.taken_before.as_slice() != [0, 6, 21, 27].as_slice() {
         return Err(Fail::new("other calls of the reader"));

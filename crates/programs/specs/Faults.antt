@@ -1,9 +1,9 @@
 -- What faults, and the ends of runs, are told by.
-use Rattle.std.specs.Prelude.{ℕ, Bool, true, false}
+use Rattle.std.specs.Prelude.{◌≡◌, ℕ, List, Bool, true, false}
 use Rattle.clap.specs.declared.error.kind.ErrorKind.{ErrorKind}
 use Rattle.clap.specs.declared.error.kind.ErrorKind.TheVariants.{OutOfMemory as MemoryKind}
 use Rattle.programs.specs.declared.faults.ProgramFault.{ProgramFault}
-use Rattle.programs.specs.declared.faults.ProgramFault.TheVariants.{Usage, OutOfMemory}
+use Rattle.programs.specs.declared.faults.ProgramFault.TheVariants.{Usage, OutOfMemory, CannotOpen}
 use Rattle.programs.specs.declared.showing.CopyFault.{CopyFault}
 use Rattle.programs.specs.declared.showing.CopyFault.TheVariants.{Read as CopyRead, Write as CopyWrite}
 use Rattle.programs.specs.declared.showing.ShowFault.{ShowFault}
@@ -18,6 +18,11 @@ fault_status fault = 1
 abbrev pub words_fault : ErrorKind → ProgramFault
 words_fault MemoryKind = OutOfMemory
 words_fault kind = Usage
+
+-- the file of this name can't be opened
+abbrev pub IsUnopened : List ℕ → ProgramFault → Type 0
+IsUnopened name (CannotOpen path) = path.now ≡ name
+IsUnopened name fault = ⊥
 
 -- a trace that was read to its end is told by 3 where the machine has halted, else by 0
 abbrev pub end_status : Bool → ℕ

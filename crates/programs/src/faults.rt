@@ -11,32 +11,42 @@ use std::fmt::{self, Display, Formatter, Write as _};
 use std::io::Write;
 use thiserror::Error;
 
-/// Why a program gives up. A path or a spec is the word that named it.
+/// Why a program gives up. A path or a spec is the word that named it. `Display` gives it in one line, as the programs tell it.
 #[derive(Debug, Drop, Error)]
-pub(crate) enum ProgramFault<'a> {
+pub enum ProgramFault<'a> {
+    /// Other words than the program takes.
     #[error("usage")]
     Usage,
+    /// The host has no memory.
     #[error("out of memory")]
     OutOfMemory,
+    /// A spec that asks for no file, or for one of 2^32 bytes or more.
     #[error("bad spec {}", OneLine(*.0))]
     BadSpec(&'a str),
+    /// A file that can't be opened as the program has to.
     #[error("cannot open {}", OneLine(*.0))]
     CannotOpen(&'a str),
+    /// No store was made.
     #[error("format {} {}", *.0 as u8, *.0)]
     Format(FormatFault),
+    /// A store was not opened.
     #[error("open {} {}", *.0 as u8, *.0)]
     Open(OpenFault),
+    /// The store has no file of that number.
     #[error("no file {0}")]
     NoFile(u32),
+    /// The machine did not start.
     #[error("boot {} {}", *.0 as u8, *.0)]
     Boot(BootFault),
+    /// The input, or the device that is read from, failed.
     #[error("read failed")]
     ReadFailed,
+    /// The output failed, or took no bytes.
     #[error("write failed")]
     WriteFailed,
 }
 
-/// A word as it is told in one line: its control characters are escaped as Rust does, `\n` for a newline.
+/// A word as it is printed in one line: its control characters are escaped as Rust does, `\n` for a newline.
 #[derive(Drop)]
 struct OneLine<'a>(&'a str);
 
@@ -86,19 +96,16 @@ impl ProgramFault<'_> {
     }
 }
 
-/// The exit status of a program that ended so. A fault is told in one line first.
-pub(crate) fn report<X: Write>(
-    program: &str,
-    outcome: Result<u8, ProgramFault<'_>>,
-    errors: &mut X,
-) -> u8
+/// The exit status of a program of that name that ended so: its own, or for a fault 2 where it took other words and else 1. A
+/// fault is reported in one line on `errors` first.
+pub fn report<X: Write>(program: &str, outcome: Result<u8, ProgramFault<'_>>, errors: &mut X) -> u8
     ensures ok { IfOk outcome.entry (λ status. result ≡ status) }
     ensures err { IfErr outcome.entry (λ fault. result ≡ fault_status fault) }
 {
     match outcome {
         Ok(status) => status,
         Err(fault) => {
-            // Where this stream fails too, the status alone tells.
+            // Where this stream fails too, the status alone says so.
             let _ = writeln!(errors, "{program}: {fault}");
             fault.status()
         }

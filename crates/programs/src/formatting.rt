@@ -18,9 +18,9 @@ const MAX_FILES: usize = 64;
 /// home pages of the specs, and formats it. The files get numbers and homes in the order of the specs. SPEC is `zero:LEN`,
 /// a writable file of LEN zero bytes, or `rw:PATH` or `ro:PATH`, a writable or a read-only file of the bytes of a host
 /// file, which is read a page at a time. All specs are looked at, and their host files opened, before IMAGE is made; over
-/// 64 specs, and an IMAGE that is an image already, are told before it is lengthened.
+/// 64 specs, and an IMAGE that is an image already, are reported before it is lengthened.
 ///
-/// Answers the exit status: 0 done; 1 a fault; 2 other words. For 1 and 2 one line on `errors` says why.
+/// Returns the exit status: 0 done; 1 a fault; 2 other words. For 1 and 2 one line on `errors` says why.
 pub fn pagefmt<R: Files<File = File> + AllocGlobal, I: Read, O: Write, X: Write>(
     rt: &R,
     words: &[String],

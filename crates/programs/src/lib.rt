@@ -12,7 +12,12 @@ mod sources;
 mod start;
 mod words;
 
+pub use faults::{ProgramFault, report};
 pub use formatting::pagefmt;
+pub use numbers::number;
+pub use places::held_places;
 pub use running::pagerun;
-pub use showing::{ShowFault, pagecat, show};
+pub use showing::{ShowFault, pagecat, show, show_opened};
+pub use sources::open_sources;
 pub use start::given_words;
+pub use words::DEFAULT_CONFIG;

@@ -6,7 +6,7 @@ use trace_lang::parse_number;
 
 /// The number that a word writes as a trace does, in decimal, or after `0x` in hexadecimal with digits of either case;
 /// `None` exactly where it writes none or one of 2^32 or more.
-pub(crate) fn number(text: &str) -> Option<u32>
+pub fn number(text: &str) -> Option<u32>
     ensures found { IfSome result (λ n. IsNumber text.now n) }
     ensures only { (n : ℕ) → IsNumber text.now n → n < 2 ^ 32 → result ≡ Some n }
 {

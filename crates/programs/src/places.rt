@@ -1,4 +1,7 @@
 //! The numbers of the standard streams.
+ghost use Rattle.std.specs.Prelude.{IfErr};
+ghost use Rattle.programs.specs.Faults.{IsUnopened};
+
 use crate::faults::ProgramFault;
 use std::fs::{File, Files};
 use std::os::fd::AsRawFd;
@@ -10,11 +13,15 @@ const NOTHING: &str = "/dev/null";
 const LAST_STREAM: i32 = 2;
 
 /// Gives the numbers of the standard streams that the program was started without to a file that has no bytes and takes
-/// none, so that no file opened before the answer is dropped gets one of them: else its bytes would be taken for input, or
+/// none, so that no file opened before the result is dropped gets one of them: else its bytes would be taken for input, or
 /// replies written over them. A closed input is empty so, and a closed output fails.
-pub(crate) fn held_places<'a, R: Files<File = File>>(
-    rt: &R,
-) -> Result<[Option<File>; 3], ProgramFault<'a>> {
+///
+/// # Errors
+///
+/// `CannotOpen` of `/dev/null`, where this can't be opened.
+pub fn held_places<'a, R: Files<File = File>>(rt: &R) -> Result<[Option<File>; 3], ProgramFault<'a>>
+    ensures { IfErr result (IsUnopened NOTHING.now) }
+{
     let mut places = [None, None, None];
     for place in &mut places {
         let Ok(file) = File::open(rt, NOTHING) else {

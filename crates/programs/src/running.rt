@@ -23,7 +23,7 @@ const HALTED: u8 = 3;
 /// `4096 * SLOTS` bytes where SLOTS is at most 65,536, boots a machine on the image and runs the trace of `reader`, whose
 /// replies go to `writer`. FRAMES is 64 and SLOTS 16 where they are not given.
 ///
-/// Answers the exit status: 0 done; 1 a fault; 2 other words; 3 the end of the trace with a halted machine. For 1 and 2
+/// Returns the exit status: 0 done; 1 a fault; 2 other words; 3 the end of the trace with a halted machine. For 1 and 2
 /// one line on `errors` says why.
 pub fn pagerun<R: Files<File = File> + AllocGlobal, I: Read, O: Write, X: Write>(
     rt: &R,
@@ -59,7 +59,7 @@ fn run_image<
     }
 }
 
-/// What the end of a run is told by: a trace that was answered to its end by 3 where the machine has halted, else by 0.
+/// The exit status at the end of a run: of a trace that ran to its end 3 where the machine has halted, else 0.
 fn status_of<'a, D: SectorDisk, E: SectorDisk>(
     end: RunEnd,
     machine: &Machine<D, E>,

@@ -24,7 +24,7 @@ use vm_types::{FilePage, PAGE_BYTES};
 /// `pagecat IMAGE N`: opens the image, which carries out an open journal, and writes the bytes of file N to `writer`, a
 /// page at a time. An image that may not be written is only read, and its journal has to be closed.
 ///
-/// Answers the exit status: 0 done; 1 a fault; 2 other words. For 1 and 2 one line on `errors` says why.
+/// Returns the exit status: 0 done; 1 a fault; 2 other words. For 1 and 2 one line on `errors` says why.
 pub fn pagecat<R: Files<File = File> + AllocGlobal, I: Read, O: Write, X: Write>(
     rt: &R,
     words: &[String],
@@ -96,8 +96,8 @@ impl From<CopyFault> for ShowFault {
 /// unsynced, and writes the bytes of a file, as the image stood for them, to the writer. Where nothing was unsynced, every
 /// image that a stop might leave meanwhile stands for what the device did at first, and for what it did before any earlier stop.
 ///
-/// After a fault the writer took a beginning of the bytes, and after `Open` none. `Open` tells of a bad layout or a bad
-/// journal exactly where the image has one, unless the device fails first, and of the device only where it failed
+/// After a fault the writer took a beginning of the bytes, and after `Open` none. `Open` reports a bad layout or a bad
+/// journal exactly where the image has one, unless the device fails first, and the device only where it failed
 /// (`FileStore::open`); the other faults come only once the image is open: `NoFile` where it has no file of that number,
 /// `Read` only where the device failed, and `Write` where the writer failed or took no bytes. Each fault hands the device back,
 /// and no failure of it is forgotten. An image that is no store has had nothing written.
@@ -124,7 +124,7 @@ pub fn show<D: SectorDisk + Drop, W: Write>(
     ensures err_calm { IfErr result (λ e. (e.0 ≡ ShowFault.Open OpenFault.Device → ⊥) → (e.0 ≡ ShowFault.Read → ⊥) → D.failures e.1 ≡ D.failures disk) }
     ensures bad_layout { IfErr result (λ e. D.keeps_model e.1 → e.0 ≡ ShowFault.Open OpenFault.BadLayout → IsBadLayout (D.sector_count disk) (D.content disk)) }
     ensures bad_journal { IfErr result (λ e. D.keeps_model e.1 → e.0 ≡ ShowFault.Open OpenFault.BadJournal → IsBadJournal (D.sector_count disk) (D.content disk)) }
-    // A bad layout is told before a bad journal, and either before every fault but the device's.
+    // A bad layout is reported before a bad journal, and either before every fault but the device's.
     ensures layout_first { IfErr result (λ e. D.keeps_model e.1 → e.0 ≡ ShowFault.Open OpenFault.BadJournal → IsBadLayout (D.sector_count disk) (D.content disk) → ⊥) }
     ensures err_layout { IfErr result (λ e. D.keeps_model e.1 → ((fault : OpenFault) → e.0 ≡ ShowFault.Open fault → ⊥) → IsBadLayout (D.sector_count disk) (D.content disk) → ⊥) }
     ensures err_journal { IfErr result (λ e. D.keeps_model e.1 → ((fault : OpenFault) → e.0 ≡ ShowFault.Open fault → ⊥) → IsBadJournal (D.sector_count disk) (D.content disk) → ⊥) }
@@ -152,8 +152,13 @@ pub fn show<D: SectorDisk + Drop, W: Write>(
     }
 }
 
-/// Writes the bytes of a file of an open store to the writer.
-fn show_opened<D: SectorDisk, W: Write>(
+/// Writes the bytes of a file of an open store to the writer; after a fault it took a beginning of them. Nothing is written
+/// to the device.
+///
+/// # Errors
+///
+/// `NoFile` exactly where the store has no such file, `Read` only where the device failed, and `Write` where the writer did.
+pub fn show_opened<D: SectorDisk, W: Write>(
     store: &mut FileStore<D>,
     file: u32,
     writer: &mut W,

@@ -42,8 +42,12 @@ fn file_spec(spec: &str) -> Option<FileSpec<'_>>
 }
 
 /// The sources that the specs name, in their order. The host files are opened, and the first spec that does not serve is
-/// told: a bad one, or one whose host file can't be opened or has 2^32 bytes or more.
-pub(crate) fn open_sources<'a, R: Files<File = File>>(
+/// reported: a bad one, or one whose host file can't be opened or has 2^32 bytes or more.
+///
+/// # Errors
+///
+/// `BadSpec`, `CannotOpen` of the host file's path, and `OutOfMemory` for want of room for the list.
+pub fn open_sources<'a, R: Files<File = File>>(
     alloc: Global,
     rt: &R,
     specs: &[&'a str],

@@ -5,7 +5,7 @@ use crate::faults::{ProgramFault, report};
 use std::env::{self, Env};
 use std::io::{self, ErrorKind, Write};
 
-/// The words after the program's name; else the exit status with which the program ends, which was told on `errors`: 1
+/// The words after the program's name; else the exit status with which the program ends, the fault being reported on `errors`: 1
 /// where memory is wanting, 2 where a word is no UTF-8 and so none that a program takes.
 pub fn given_words<R: Env + AllocGlobal, X: Write>(
     rt: &R,

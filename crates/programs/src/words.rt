@@ -6,7 +6,7 @@ use machine::Config;
 use std::alloc::Global;
 
 /// The page frames and slots of a machine where none are named.
-const DEFAULT_CONFIG: Config = Config {
+pub const DEFAULT_CONFIG: Config = Config {
     frames: 64,
     slots: 16,
 };

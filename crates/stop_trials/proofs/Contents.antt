@@ -1,0 +1,57 @@
+-- The bytes of all files, as an image stands for them and as an open store gives them.
+use Rattle.std.proofs.Common.{◌≡◌, ◌≤◌, ◌<◌, ◌+◌, ◌*◌, ◌/◌, ℕ, List, [], take, Option, Some, None, refl, sym, ap, ◌∙◌, arith}
+use Rattle.std.specs.Option.{option_map, unwrap_or}
+use Rattle.vm_types.specs.declared.file.FileInfo.{FileInfo}
+use Rattle.disk_model.specs.Stop.{Image}
+use Rattle.disk_model.specs.declared.sector_disk.SectorDisk.{Ghosts}
+use Rattle.sync_journal.specs.Standing.{joined, IsBadJournal}
+use Rattle.sync_journal.proofs.Pieces.{joined-same}
+use Rattle.file_store.specs.declared.store.FileStore.{FileStore}
+use Rattle.file_store.specs.Layout.{page_count}
+use Rattle.file_store.specs.Standing.{IsBadLayout, IsPageOf, StandsAs, bytes_of_pages, directory_entry, file_info, standing_file, standing_page}
+use Rattle.file_store.specs.Store.{IsReadyStore, entry_of, files_of}
+use Rattle.stop_trials.specs.Standing.{standing_bytes, standing_contents}
+
+-- the bytes of a file of these pages, none where there is none
+of_file : (ℕ → List ℕ) → Option FileInfo → List ℕ
+of_file pages info = unwrap_or (option_map (bytes_of_pages pages) info) []
+
+-- the same bytes for pages that are the same inside the file
+same_pages : (info : Option FileInfo) (xs ys : ℕ → List ℕ) → ((k : ℕ) (i : FileInfo) → info ≡ Some i → 4096 * k < i.length → xs k ≡ ys k) → of_file xs info ≡ of_file ys info
+unfolding of_file
+same_pages None xs ys same = refl
+same_pages (Some i) xs ys same = ap (take i.length) (joined-same (page_count i.length) xs ys (λ k lt. same k i refl (inside i k lt)))
+  where
+    inside : (i : FileInfo) (k : ℕ) → k < page_count i.length → 4096 * k < i.length
+    inside i k lt = omega (arith, lt)
+
+same_bytes : (old new : Image) (f : ℕ) → file_info new f ≡ file_info old f → ((k : ℕ) → IsPageOf (file_info old) f k → standing_page new f k ≡ standing_page old f k)
+    → standing_bytes new f ≡ standing_bytes old f
+unfolding of_file
+same_bytes old new f facts pages =
+    ap (of_file (standing_page new f)) facts ∙ same_pages (file_info old f) (standing_page new f) (standing_page old f) (λ k i is inside. pages k (i, is, inside))
+
+-- an image that stands for what another one does has the same bytes in its files
+pub same_contents : (sectors : ℕ) (old new : Image) → (IsBadLayout sectors old → ⊥) → (IsBadJournal sectors old → ⊥) → StandsAs sectors old new → standing_contents new ≡ standing_contents old
+same_contents sectors old new layout journal stands =
+    let now = stands (file_info old) (standing_page old) (record { layout = layout; journal = journal; facts = λ f. refl; same = λ f k inside. refl }) in
+    joined-same 64 (standing_bytes new) (standing_bytes old) (λ f lt. same_bytes old new f (now.facts f) (now.same f))
+
+module _ {D : Type 0} (g : Ghosts D) where
+  -- what an open store says of a file is what its device stands for
+  told : (store : FileStore D) (f : ℕ) → IsReadyStore g store → g.keeps_model store.disk → file_info (g.content store.disk) f ≡ files_of store f
+  told store f ready keeps = ap (option_map (λ e. e.info)) (sym ((ready.at_rest keeps).directory f))
+
+  pub known_file : (store : FileStore D) (f : ℕ) (info : FileInfo) → IsReadyStore g store → g.keeps_model store.disk → files_of store f ≡ Some info
+      → standing_file (g.content store.disk) f ≡ Some (standing_bytes (g.content store.disk) f)
+  known_file store f info ready keeps file =
+      let image = g.content store.disk in
+      let facts : file_info image f ≡ Some info = told store f ready keeps ∙ file in
+      let bytes : Option FileInfo → Option (List ℕ) = option_map (bytes_of_pages (standing_page image f)) in
+      ap bytes facts ∙ sym (ap (λ (i : Option FileInfo). Some (unwrap_or (bytes i) [])) facts)
+
+  pub no_file : (store : FileStore D) (f : ℕ) → IsReadyStore g store → g.keeps_model store.disk → files_of store f ≡ None → standing_bytes (g.content store.disk) f ≡ []
+  no_file store f ready keeps none =
+      let image = g.content store.disk in
+      let facts : file_info image f ≡ None = told store f ready keeps ∙ none in
+      ap (λ (i : Option FileInfo). unwrap_or (option_map (bytes_of_pages (standing_page image f)) i) []) facts

@@ -1,0 +1,4 @@
+mod Writes
+mod Choices
+mod Contents
+mod Tried

@@ -1,0 +1,17 @@
+use Rattle.std.proofs.Common.{inr, refl, ◌∙◌}
+use Rattle.disk_model.specs.SimDisk.{sectors_in, sector_of}
+use Rattle.stop_trials.proofs.Contents.{same_contents}
+use Rattle.stop_trials.proofs.recovery.recovered.Goals as goal
+
+pub returns-clause-layout : goal.returns-clause-layout
+returns-clause-layout c = c.in-Ok.ensures.good_layout tt
+
+pub returns-clause-journal : goal.returns-clause-journal
+returns-clause-journal c = c.in-Ok.ensures.good_journal tt
+
+pub returns-clause-bytes : goal.returns-clause-bytes
+returns-clause-bytes c =
+    let image = sector_of c.in-Ok.store.disk in
+    c.in_ok-bytes.ensures.bytes tt
+    ∙ same_contents (sectors_in c.args.disk) (sector_of c.args.disk) image (c.in-Ok.ensures.good_layout tt) (c.in-Ok.ensures.good_journal tt)
+    (c.in-Ok.ensures.now tt image (record { kept = λ k. inr refl }))

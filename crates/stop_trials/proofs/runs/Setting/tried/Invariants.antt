@@ -1,0 +1,6 @@
+use Rattle.std.proofs.Common.{◌≡◌, ◌+◌}
+use Rattle.stop_trials.specs.Trials.{AreTried}
+use Rattle.stop_trials.proofs.runs.Setting.tried.Given as goal
+
+abbrev pub invariant-loop-i : goal.invariant-loop-i
+invariant-loop-i g l = record { tried : AreTried l.states l.every l.summary; next : l.summary.stops + 1 ≡ l.i }

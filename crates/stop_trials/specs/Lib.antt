@@ -1,0 +1,5 @@
+pub mod Stopping
+pub mod Parts
+pub mod Fillings
+pub mod Standing
+pub mod Trials

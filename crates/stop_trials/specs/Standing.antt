@@ -1,0 +1,26 @@
+-- What files hold, and after how many msyncs they do.
+use Rattle.std.specs.Prelude.{◌≡◌, ◌≤◌, ◌<◌, ℕ, List, [], Option, Some, None, slice_get}
+use Rattle.std.specs.Option.{option_map, unwrap_or}
+use Rattle.std.specs.declared.alloc.Global.{Global}
+use Rattle.std.specs.declared.vec.Vec.{Vec}
+use Rattle.disk_model.specs.Stop.{Image}
+use Rattle.sync_journal.specs.Standing.{joined}
+use Rattle.file_store.specs.Standing.{standing_file}
+
+-- the bytes of file f as they stand, none where there is no such file
+abbrev pub standing_bytes : Image → ℕ → List ℕ
+standing_bytes image f = unwrap_or (standing_file image f) []
+
+-- the bytes of all files as they stand, one file after another
+abbrev pub standing_contents : Image → List ℕ
+standing_contents image = joined (standing_bytes image) 64
+
+-- what the files hold after so many msyncs
+abbrev pub state_after : List (Vec ℕ Global) → ℕ → Option (List ℕ)
+state_after states n = option_map (λ v. v.items) (slice_get states n)
+
+-- The files hold what they do after n msyncs, the acknowledged ones among them, and after no fewer of those.
+pub record IsStanding (states : List (Vec ℕ Global)) (acknowledged : ℕ) (bytes : List ℕ) (n : ℕ) : Type 0 where
+  pub whole : acknowledged ≤ n
+  pub same : state_after states n ≡ Some bytes
+  pub least : (m : ℕ) → acknowledged ≤ m → m < n → state_after states m ≡ Some bytes → ⊥

@@ -1,0 +1,85 @@
+//! The program that tries stops.
+ghost use Rattle.std.specs.Prelude.{◌≤◌, IfOk};
+
+use crate::runs::Setting;
+use crate::words::{StopWords, stop_words};
+use disk_model::{SECTOR_BYTES, SimDisk};
+use file_store::{format, image_bytes};
+use programs::{ProgramFault, held_places, open_sources, report};
+use std::alloc::{AllocError, Global};
+use std::fs::{File, Files};
+use std::io::{ErrorKind, Read, Write};
+
+/// `pagestops [--every K] [--frames N] [--slots N] SPEC...`: formats a store in memory for the specs, as `pagefmt` does an image,
+/// and runs the trace of `reader` on it. The run is stopped in each event of the store's device, a write of a sector or a
+/// sync, or in each Kth; what is left is recovered with five fillings of the sectors that were not synced (`Filling`), and
+/// a line on `writer` says after how many msyncs the files stand. The last line counts the stops, the recoveries and the bad
+/// stops: those that leave anything but the files as after some of the msyncs, each acknowledged one among them. The machine has
+/// N frames and N slots, 64 and 16 where they are not given.
+///
+/// Returns the exit status: 0 done, and no stop was bad; 1 a bad stop, or a fault; 2 other words, or a K of 0. For a fault and for 2
+/// one line on `errors` says why.
+pub fn pagestops<R: Files<File = File> + AllocGlobal, I: Read, O: Write, X: Write>(
+    rt: &R,
+    words: &[String],
+    reader: &mut I,
+    writer: &mut O,
+    errors: &mut X,
+) -> u8
+    ensures statuses { result ≤ 2 }
+{
+    report("pagestops", tried(rt, words, reader, writer), errors)
+}
+
+/// Does what `pagestops` says.
+fn tried<'a, R: Files<File = File> + AllocGlobal, I: Read, O: Write>(
+    rt: &R,
+    words: &'a [String],
+    reader: &mut I,
+    writer: &mut O,
+) -> Result<u8, ProgramFault<'a>>
+    ensures { IfOk result (λ status. status ≤ 1) }
+{
+    let words = stop_words(rt.alloc(), words)?;
+    let _places = held_places(rt)?;
+    let image = new_image(rt, &words)?;
+    let trace = whole_trace(rt.alloc(), reader)?;
+    let lines = lines_of(rt.alloc(), trace.as_slice())?;
+    let setting = Setting {
+        alloc: rt.alloc(),
+        image: &image,
+        config: words.config,
+        lines: lines.as_slice(),
+    };
+    let summary = setting.try_stops(u64::from(words.every), writer)?;
+    Ok(summary.status())
+}
+
+/// A device with a new store of the files that the words name.
+fn new_image<'a, R: Files<File = File> + AllocGlobal>(
+    rt: &R,
+    words: &StopWords<'a>,
+) -> Result<SimDisk, ProgramFault<'a>> {
+    let mut sources = open_sources(rt.alloc(), rt, words.specs.as_slice())?;
+    let sectors = image_bytes(sources.as_slice()) / SECTOR_BYTES as u64;
+    let mut image = SimDisk::new(rt.alloc(), sectors)?;
+    match format(&mut image, sources.as_mut_slice()) {
+        Ok(()) => Ok(image),
+        Err(fault) => Err(ProgramFault::Format(fault)),
+    }
+}
+
+/// The lines of a trace, without the newlines that end them.
+fn lines_of(alloc: Global, trace: &[u8]) -> Result<Vec<&[u8]>, AllocError> {
+    trace.split(|byte| *byte == b'\n').collect(alloc)
+}
+
+/// All bytes of the reader.
+fn whole_trace<'a, I: Read>(alloc: Global, reader: &mut I) -> Result<Vec<u8>, ProgramFault<'a>> {
+    let mut trace = Vec::new(alloc);
+    match reader.read_to_end(&mut trace) {
+        Ok(_) => Ok(trace),
+        Err(error) if error.kind() == ErrorKind::OutOfMemory => Err(ProgramFault::OutOfMemory),
+        Err(_) => Err(ProgramFault::ReadFailed),
+    }
+}

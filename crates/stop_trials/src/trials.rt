@@ -1,0 +1,211 @@
+//! Trials of stops, and what they come to.
+ghost use Rattle.std.specs.Prelude.{◌≡◌, ◌≤◌, ◌↔◌, ℕ, List, IsTrue, IfOk, IfSome};
+ghost use Rattle.std.specs.declared.alloc.Global.{Global};
+ghost use Rattle.std.specs.declared.vec.Vec.{Vec};
+ghost use Rattle.disk_model.specs.Plan.{one_more};
+ghost use Rattle.stop_trials.specs.Trials.{AllStand, StandsWith, StandWithEach, IsTrial, AreTried};
+
+use crate::fillings::Filling;
+use crate::recovery::recovered;
+use crate::runs::{Run, Setting};
+use crate::standing::msyncs_standing;
+use crate::stopping::Event;
+use programs::ProgramFault;
+use runner::write_bytes;
+use std::alloc::Global;
+use std::fmt::{self, Display, Formatter};
+use std::io::Write;
+
+/// How many fillings a stop is tried with.
+const FILLINGS: u64 = 5;
+
+/// A stop, and for each filling what it leaves. `Display` gives its line.
+#[derive(Clone, Copy, Debug, PartialEq, Eq)]
+pub(crate) struct Trial {
+    /// The number of the event, the first being 1, and what it was.
+    pub number: u64,
+    pub event: Event,
+    /// How many msyncs were answered by `ok`.
+    pub acknowledged: usize,
+    /// For each filling after how many msyncs the files stand; `None` where that is no number of them that holds each
+    /// acknowledged one, or the store can't be opened.
+    pub standing: [Option<usize>; 5],
+}
+
+impl Trial {
+    /// Whether with each filling the files stand as after some of the msyncs, each acknowledged one among them.
+    fn is_good(&self) -> bool
+        ensures { IsTrue result ↔ AllStand self.now }
+    {
+        self.standing.iter().all(|standing| standing.is_some())
+    }
+}
+
+impl Display for Trial {
+    fn fmt<W: fmt::Write>(&self, f: &mut Formatter<W>) -> fmt::Result {
+        write!(f, "stop {} {}", self.number, self.event)?;
+        write!(f, " acknowledged {} left", self.acknowledged)?;
+        for standing in &self.standing {
+            match standing {
+                Some(msyncs) => write!(f, " {msyncs}")?,
+                None => f.write_str(" -")?,
+            }
+        }
+        if self.is_good() {
+            Ok(())
+        } else {
+            f.write_str(" BAD")
+        }
+    }
+}
+
+/// How many stops were tried, and how many of them were bad. `Display` gives its line.
+#[derive(Clone, Copy, Debug, PartialEq, Eq)]
+pub(crate) struct Summary {
+    pub stops: u64,
+    pub bad: u64,
+}
+
+impl Summary {
+    /// Counts a trial.
+    fn add(&mut self, trial: &Trial)
+        ensures stops { self.new.stops ≡ one_more self.old.stops }
+        ensures good { AllStand trial.now → self.new.bad ≡ self.old.bad }
+        ensures bad { (AllStand trial.now → ⊥) → self.new.bad ≡ one_more self.old.bad }
+        ensures none { self.new.bad ≡ 0 → AllStand trial.now × (self.old.bad ≡ 0) }
+    {
+        self.stops = self.stops.saturating_add(1);
+        if !trial.is_good() {
+            self.bad = self.bad.saturating_add(1);
+        }
+    }
+
+    /// The exit status: 0 exactly where no stop was bad, else 1.
+    pub(crate) fn status(self) -> u8
+        ensures bound { result ≤ 1 }
+        ensures good { result ≡ 0 → self.bad ≡ 0 }
+        ensures bad { self.bad ≡ 0 → result ≡ 0 }
+    {
+        if self.bad == 0 { 0 } else { 1 }
+    }
+}
+
+impl Display for Summary {
+    fn fmt<W: fmt::Write>(&self, f: &mut Formatter<W>) -> fmt::Result {
+        let recoveries = self.stops.saturating_mul(FILLINGS);
+        write!(
+            f,
+            "stops {} recoveries {recoveries} bad {}",
+            self.stops, self.bad
+        )
+    }
+}
+
+/// Writes a line.
+fn write_line<'a, T: Display, W: Write>(
+    alloc: Global,
+    line: &T,
+    writer: &mut W,
+) -> Result<(), ProgramFault<'a>> {
+    let text = format!(in alloc; "{line}\n")?;
+    match write_bytes(text.as_bytes(), writer) {
+        Ok(()) => Ok(()),
+        Err(_) => Err(ProgramFault::WriteFailed),
+    }
+}
+
+impl Setting<'_> {
+    /// After how many msyncs the files stand that a stopped run leaves with that filling; `None` where that is no number of
+    /// them that holds each acknowledged one, or the store can't be opened.
+    fn judged<'b>(
+        &self,
+        states: &[Vec<u8>],
+        ran: &Run,
+        filling: Filling,
+    ) -> Result<Option<usize>, ProgramFault<'b>>
+        ensures { IfOk result (λ standing. IfSome standing (StandsWith states.now ran.now.acknowledged ran.now.device.disk filling)) }
+    {
+        let left = filling.left(self.alloc, ran.device.disk())?;
+        match recovered(self.alloc, left) {
+            Ok(bytes) => Ok(msyncs_standing(states, ran.acknowledged, bytes.as_slice())),
+            Err(ProgramFault::OutOfMemory) => Err(ProgramFault::OutOfMemory),
+            Err(_) => Ok(None),
+        }
+    }
+
+    /// The same for each filling.
+    fn judged_with_each<'b>(
+        &self,
+        states: &[Vec<u8>],
+        ran: &Run,
+    ) -> Result<[Option<usize>; 5], ProgramFault<'b>>
+        ensures { IfOk result (StandWithEach states.now ran.now.acknowledged ran.now.device.disk) }
+    {
+        let old = self.judged(states, ran, Filling::Old)?;
+        let zeros = self.judged(states, ran, Filling::Zeros)?;
+        let ones = self.judged(states, ran, Filling::Ones)?;
+        let half = self.judged(states, ran, Filling::HalfOpen)?;
+        let whole = self.judged(states, ran, Filling::Open)?;
+        Ok([old, zeros, ones, half, whole])
+    }
+
+    /// The trial of a stop in that event, or none where the run has no such event.
+    fn trial<'b>(&self, states: &[Vec<u8>], number: u64) -> Result<Option<Trial>, ProgramFault<'b>>
+        ensures { IfOk result (λ trial. IfSome trial (IsTrial states.now number)) }
+    {
+        let ran = self.run(Some(number), usize::MAX)?;
+        let Some(event) = ran.device.stopped() else {
+            return Ok(None);
+        };
+        let standing = self.judged_with_each(states, &ran)?;
+        Ok(Some(Trial {
+            number,
+            event,
+            acknowledged: ran.acknowledged,
+            standing,
+        }))
+    }
+
+    /// The trials of stops in each event whose number is a multiple of `every`, up to the first that the run does not have.
+    /// A line of each goes to the writer.
+    fn tried<'b, W: Write>(
+        &self,
+        states: &[Vec<u8>],
+        every: u64,
+        writer: &mut W,
+    ) -> Result<Summary, ProgramFault<'b>>
+        ensures { IfOk result (AreTried states.now every) }
+    {
+        let mut summary = Summary { stops: 0, bad: 0 };
+        for i in 1..u64::MAX {
+            let number = every.saturating_mul(i);
+            let judged = self.trial(states, number)?;
+            let Some(found) = judged else {
+                return Ok(summary);
+            };
+            write_line(self.alloc, &found, writer)?;
+            summary.add(&found);
+        }
+        Ok(summary)
+    }
+
+    /// Tries a stop in each event of the store's device whose number is a multiple of `every`, and reports each in a line on the
+    /// writer, and then what they come to. Where no stop was bad, each left with each filling the files as after some of the
+    /// msyncs, all that were acknowledged by then among them.
+    ///
+    /// # Errors
+    ///
+    /// `Boot` where the machine does not start, `WriteFailed` where the writer fails or takes no bytes, and `OutOfMemory`.
+    pub(crate) fn try_stops<'b, W: Write>(
+        &self,
+        every: u64,
+        writer: &mut W,
+    ) -> Result<Summary, ProgramFault<'b>>
+        ensures { IfOk result (λ summary. (states : List (Vec ℕ Global)) × AreTried states every summary) }
+    {
+        let states = self.states()?;
+        let summary = self.tried(states.as_slice(), every, writer)?;
+        write_line(self.alloc, &summary, writer)?;
+        Ok(summary)
+    }
+}

@@ -1,0 +1,54 @@
+//! What the words after the program's name ask for.
+ghost use Rattle.std.specs.Prelude.{◌<◌, IfOk};
+
+use clap::{Arg, Command};
+use machine::Config;
+use programs::{DEFAULT_CONFIG, ProgramFault, number};
+use std::alloc::Global;
+
+/// The words of `pagestops [--every K] [--frames N] [--slots N] SPEC...`.
+#[derive(Debug, Drop)]
+pub(crate) struct StopWords<'a> {
+    /// The events to stop in are this one and its multiples.
+    pub every: u32,
+    pub config: Config,
+    pub specs: Vec<&'a str>,
+}
+
+/// Reads the words. The specs are not looked at yet.
+pub(crate) fn stop_words<'a>(
+    alloc: Global,
+    words: &'a [String],
+) -> Result<StopWords<'a>, ProgramFault<'a>>
+    ensures { IfOk result (λ words. 0 < words.every) }
+{
+    let command = Command::new(alloc, "pagestops")
+        .no_binary_name(true)
+        .arg(Arg::new(alloc, "every").long("every"))?
+        .arg(Arg::new(alloc, "frames").long("frames"))?
+        .arg(Arg::new(alloc, "slots").long("slots"))?
+        .arg(Arg::new(alloc, "SPEC").required(true).num_args(1..))?;
+    let matches = command.try_get_matches_from(words)?;
+    let specs = matches.get_strs("SPEC").ok_or(ProgramFault::Usage)?;
+    let config = Config {
+        frames: number_or(matches.get_str("frames"), DEFAULT_CONFIG.frames)?,
+        slots: number_or(matches.get_str("slots"), DEFAULT_CONFIG.slots)?,
+    };
+    let every = number_or(matches.get_str("every"), 1)?;
+    if every == 0 {
+        return Err(ProgramFault::Usage);
+    }
+    Ok(StopWords {
+        every,
+        config,
+        specs: Vec::from_slice(alloc, specs)?,
+    })
+}
+
+/// The number that a word writes, or the one that stands where none is given.
+fn number_or<'a>(word: Option<&str>, otherwise: u32) -> Result<u32, ProgramFault<'a>> {
+    match word {
+        Some(word) => number(word).ok_or(ProgramFault::Usage),
+        None => Ok(otherwise),
+    }
+}
