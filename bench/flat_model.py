@@ -1,4 +1,4 @@
-"""The flat model by another hand: what a trace's lines are answered, and what is durable. Written from docs/MODEL.md and docs/FORMATS.md
+"""The flat model by another hand: the replies to a trace's lines, and what is durable. Written from docs/MODEL.md and docs/FORMATS.md
 alone; it shares nothing with the machine. Processes are maps from page to view, and files rows of bytes."""
 import re
 from collections import deque
@@ -12,6 +12,10 @@ NUMBERS = {"ESRCH": 3, "EIO": 5, "EBADF": 9, "EAGAIN": 11, "ENOMEM": 12, "EACCES
 MISALIGNED = {"load": 4, "store": 6, "fetch": 0}
 PAGE_FAULT = {"load": 13, "store": 15, "fetch": 12}
 NEEDED = {"load": "r", "store": "w", "fetch": "x"}
+NOFRAMES, NOSWAP, SWAPDEV, STOREDEV = "stall 1 NOFRAMES", "stall 2 NOSWAP", "stall 3 SWAPDEV", "stall 4 STOREDEV"
+# what wants a frame may ask the swap device for it, and an access reads the store too
+FRAMED = (NOFRAMES, NOSWAP, SWAPDEV)
+STALLS = {"spawn": FRAMED, "fork": FRAMED, **{name: (*FRAMED, STOREDEV) for name in NEEDED}}
 
 
 class Backing(NamedTuple):
@@ -73,6 +77,13 @@ def is_covered(space, pages):
 def within(space, pages):
     """The pages of a range that are mapped, without a look at each of a long range."""
     return [page for page in (pages if len(pages) <= len(space) else sorted(space)) if page in pages and page in space]
+
+
+def open_stalls(command, effect):
+    """The stalls that are open to a command which would succeed; an msync asks the swap device where it has pages to make durable."""
+    if command[0] == "msync":
+        return (SWAPDEV,) if effect else ()
+    return STALLS.get(command[0], ())
 
 
 class Model:

@@ -1,11 +1,17 @@
-/* Preloaded into a program, in front of the C library: the device calls on one file fail, or the power goes.
+/* Preloaded into a program, in front of the C library: calls of a store device and of a swap device fail, or the power goes.
  *
- * TORN_FILE is the file. The TORN_CALL-th call on it (writes and syncs, and with TORN_READS reads too) fails with EIO where TORN_KIND is "fail";
- * where it is "stop" the program ends there, and each sector that was written since the last sync holds its old bytes, its new ones, zeros,
- * noise or half of each, by chance (TORN_SEED). That is what the disk model lets a stop leave. */
+ * TORN_FILE is the store's file. The TORN_CALL-th call on it (writes and syncs, and with TORN_READS reads too) fails with EIO where TORN_KIND is
+ * "fail"; where it is "stop" the program ends there, and each sector that was written since the last sync holds its old bytes, its new ones,
+ * zeros, noise or half of each, by chance (TORN_SEED). That is what the disk model lets a stop leave.
+ *
+ * TORN_SWAP is the swap device's file. TORN_SWAP_COUNT calls on it (reads, writes and syncs) fail with EIO, from the TORN_SWAP_CALL-th on.
+ *
+ * A write that fails leaves its sectors as a stop would, and a read that fails leaves noise. TORN_TOLD is a file that gets a line for each call that
+ * failed: store, swap or stop. */
 #define _GNU_SOURCE
 #include <dlfcn.h>
 #include <errno.h>
+#include <fcntl.h>
 #include <stdint.h>
 #include <stdlib.h>
 #include <string.h>
@@ -19,9 +25,16 @@ struct unsynced {
     unsigned char before[SECTOR], after[SECTOR];
 };
 
+/* A device: how many calls of it are still to succeed, and how many are to fail then. */
+struct device {
+    const char *name, *path;
+    int counts_reads;
+    long left, failing;
+};
+
+static struct device store = {.name = "store\n"}, swap = {.name = "swap\n"};
 static struct unsynced *written;
 static size_t count;
-static long calls_left;
 static uint64_t noise;
 
 static ssize_t (*next_pread)(int, void *, size_t, off_t);
@@ -29,14 +42,25 @@ static ssize_t (*next_pwrite)(int, const void *, size_t, off_t);
 static int (*next_fsync)(int);
 static int (*next_fdatasync)(int);
 
+static long number(const char *name) {
+    const char *word = getenv(name);
+    return word ? atol(word) : 0;
+}
+
 __attribute__((constructor)) static void find(void) {
     next_pread = dlsym(RTLD_NEXT, "pread64");
     next_pwrite = dlsym(RTLD_NEXT, "pwrite64");
     next_fsync = dlsym(RTLD_NEXT, "fsync");
     next_fdatasync = dlsym(RTLD_NEXT, "fdatasync");
-    const char *call = getenv("TORN_CALL"), *seed = getenv("TORN_SEED");
-    calls_left = call ? atol(call) : 0;
-    noise = 0x9e3779b97f4a7c15u * (uint64_t)(seed ? atol(seed) + 1 : 1);
+    store.path = getenv("TORN_FILE");
+    store.counts_reads = getenv("TORN_READS") != NULL;
+    store.left = number("TORN_CALL") - 1;
+    store.failing = store.left >= 0;
+    swap.path = getenv("TORN_SWAP");
+    swap.counts_reads = 1;
+    swap.left = number("TORN_SWAP_CALL") - 1;
+    swap.failing = number("TORN_SWAP_COUNT");
+    noise = 0x9e3779b97f4a7c15u * (uint64_t)(number("TORN_SEED") + 1);
     written = calloc(MOST, sizeof *written);
 }
 
@@ -47,21 +71,29 @@ static uint64_t chance(void) {
     return noise;
 }
 
-/* Whether the descriptor is one of the file. */
-static int is_it(int fd) {
-    struct stat it, wanted;
-    const char *path = getenv("TORN_FILE");
-    return path && !stat(path, &wanted) && !fstat(fd, &it) && it.st_ino == wanted.st_ino && it.st_dev == wanted.st_dev;
+static void fill(unsigned char *bytes, size_t size) {
+    for (size_t i = 0; i < size; i++) bytes[i] = (unsigned char)chance();
 }
 
-/* What a sector holds after the stop. */
+static int is_at(const char *path, const struct stat *it) {
+    struct stat wanted;
+    return path && !stat(path, &wanted) && it->st_ino == wanted.st_ino && it->st_dev == wanted.st_dev;
+}
+
+/* The device whose file the descriptor is of, or none. */
+static struct device *device_of(int fd) {
+    struct stat it;
+    if (fstat(fd, &it)) return NULL;
+    return is_at(store.path, &it) ? &store : is_at(swap.path, &it) ? &swap : NULL;
+}
+
+/* What a sector holds after a stop, or after a write that failed. */
 static void tear(const struct unsynced *it, unsigned char *left) {
     uint64_t kind = chance() % 5;
     memcpy(left, kind == 0 ? it->before : it->after, SECTOR);
     if (kind == 2) memset(left, 0, SECTOR);
     if (kind == 3) memcpy(left + SECTOR / 2, it->before + SECTOR / 2, SECTOR / 2);
-    if (kind == 4)
-        for (int i = 0; i < SECTOR; i++) left[i] = (unsigned char)chance();
+    if (kind == 4) fill(left, SECTOR);
 }
 
 static void stop(int fd) {
@@ -89,30 +121,67 @@ static void note(int fd, const unsigned char *bytes, size_t size, off_t at) {
     }
 }
 
-/* Whether this is the call; a stop does not return. */
-static int is_the_call(int fd) {
-    if (!calls_left || --calls_left) return 0;
-    if (!strcmp(getenv("TORN_KIND"), "stop")) stop(fd);
-    errno = EIO;
+/* Leaves the sectors of a write that fails. */
+static void spoil(int fd, const unsigned char *bytes, size_t size, off_t at) {
+    unsigned char left[SECTOR];
+    for (size_t done = 0; done + SECTOR <= size; done += SECTOR) {
+        struct unsynced it = {.at = at + (off_t)done};
+        if (next_pread(fd, it.before, SECTOR, it.at) < 0) abort();
+        memcpy(it.after, bytes + done, SECTOR);
+        tear(&it, left);
+        next_pwrite(fd, left, SECTOR, it.at);
+    }
+}
+
+static void tell(const char *name) {
+    const char *path = getenv("TORN_TOLD");
+    int file = path ? open(path, O_WRONLY | O_APPEND | O_CREAT | O_CLOEXEC, 0600) : -1;
+    if (file < 0) return;
+    if (write(file, name, strlen(name)) < 0) abort();
+    close(file);
+}
+
+/* Whether this call of the device fails; a stop does not return. */
+static int fails(struct device *device, int fd) {
+    if (device->left > 0) {
+        device->left--;
+        return 0;
+    }
+    if (device->failing <= 0) return 0;
+    device->failing--;
+    if (device == &store && !strcmp(getenv("TORN_KIND"), "stop")) {
+        tell("stop\n");
+        stop(fd);
+    }
+    tell(device->name);
     return 1;
 }
 
+static int failed(void) {
+    errno = EIO;
+    return -1;
+}
+
 ssize_t pwrite64(int fd, const void *bytes, size_t size, off_t at) {
-    if (!is_it(fd)) return next_pwrite(fd, bytes, size, at);
-    note(fd, bytes, size, at);
-    return is_the_call(fd) ? -1 : next_pwrite(fd, bytes, size, at);
+    struct device *device = device_of(fd);
+    if (device == &store) note(fd, bytes, size, at);
+    if (!device || !fails(device, fd)) return next_pwrite(fd, bytes, size, at);
+    spoil(fd, bytes, size, at);
+    return failed();
 }
 
 ssize_t pread64(int fd, void *bytes, size_t size, off_t at) {
-    if (is_it(fd) && getenv("TORN_READS") && is_the_call(fd)) return -1;
-    return next_pread(fd, bytes, size, at);
+    struct device *device = device_of(fd);
+    if (!device || !device->counts_reads || !fails(device, fd)) return next_pread(fd, bytes, size, at);
+    fill(bytes, size);
+    return failed();
 }
 
 static int synced(int fd, int (*next)(int)) {
-    if (!is_it(fd)) return next(fd);
-    if (is_the_call(fd)) return -1;
+    struct device *device = device_of(fd);
+    if (device && fails(device, fd)) return failed();
     int result = next(fd);
-    if (!result) count = 0;
+    if (!result && device == &store) count = 0;
     return result;
 }
 
