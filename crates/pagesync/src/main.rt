@@ -2,16 +2,33 @@
 #![tactic(auto)]
 
 use batches::pagesync;
-use std::env;
+use std::env::{self, Env};
+use std::io::{self, ErrorKind, Write};
 use std::process::ExitCode;
 
 fn main(rt: HostRuntime) -> ExitCode {
     let (input, mut output, mut errors) = (rt.stdin(), rt.stdout(), rt.stderr());
-    let Ok(args) = env::args(&rt) else {
-        return ExitCode::from(2);
+    let status = match given_words(&rt) {
+        Ok(words) => pagesync(&rt, words.as_slice(), input, &mut output, &mut errors),
+        Err(error) => report(&error, &mut errors),
     };
-    let Ok(words) = args.skip(1).collect::<Vec<String>>(rt.alloc()) else {
-        return ExitCode::from(1);
-    };
-    ExitCode::from(pagesync(&rt, words.as_slice(), input, &mut output, &mut errors))
+    ExitCode::from(status)
+}
+
+/// The words after the program's name.
+fn given_words<R: Env + AllocGlobal>(rt: &R) -> io::Result<Vec<String>> {
+    let words = env::args(rt)?.skip(1).collect(rt.alloc())?;
+    Ok(words)
+}
+
+/// The exit status where the words were not had, which is said in one line: 1 for want of memory, 2 where one is no UTF-8.
+fn report<X: Write>(error: &io::Error, errors: &mut X) -> u8 {
+    // Where this stream fails too, the status alone says it.
+    if error.kind() == ErrorKind::OutOfMemory {
+        let _ = writeln!(errors, "pagesync: out of memory");
+        1
+    } else {
+        let _ = writeln!(errors, "pagesync: usage");
+        2
+    }
 }
