@@ -11,4 +11,4 @@ pub use trees::{
     entry, entry_number, link_table, missing_tables, number_in, prune, set, set_in, table_of,
     take_table,
 };
-pub use walking::walk;
+pub use walking::{keep, walk};

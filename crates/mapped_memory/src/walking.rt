@@ -1,5 +1,5 @@
 //! The walk, by the buffer where it has the page's line.
-ghost use Rattle.std.specs.Prelude.{◌≡◌, ◌<◌, ◌^◌, true};
+ghost use Rattle.std.specs.Prelude.{ℕ, ◌≡◌, ◌<◌, ◌^◌, true, Ok, IfSome};
 ghost use Rattle.vm_types.specs.Limits.{top_level, user_end};
 ghost use Rattle.frames.specs.FrameTable.{frame_count};
 ghost use Rattle.sv39_walk.specs.Entry.{frame_of};
@@ -46,6 +46,16 @@ pub fn walk(
     }
 }
 
+/// Keeps the leaf of a page where it lets the access go through, so that the next walk to the page finds its line. Memory
+/// stays as it is.
+pub fn keep(memory: &mut Memory, root: FrameNo, page: Vpn, access: Access)
+    requires forest { IsForest memory.old }
+    requires root { IsRoot top_level memory.old root.0 }
+    ensures same { memory.new ≡ memory.old }
+{
+    let _ = keep_leaf(&memory.frames, &mut memory.buffer, root, page, access);
+}
+
 // The walk to a page that has no line. Its leaf is kept where that lets the access go through.
 fn walk_and_keep(
     frames: &Frames,
@@ -63,12 +73,34 @@ fn walk_and_keep(
     ensures walked { result ≡ translated top_level frames.now root.0 addr access }
     ensures kept { IsKept frames.now buffer.new }
 {
-    let leaf = entry_number(frames, root, page);
-    if is_usable(frames, leaf, access) {
-        buffer.keep(root, page, leaf);
-        return Ok(place_in(leaf.frame_number(), addr));
+    match keep_leaf(frames, buffer, root, page, access) {
+        Some(frame) => Ok(place_in(frame, addr)),
+        None => sv39_walk::walk(frames, root, addr, access),
     }
-    sv39_walk::walk(frames, root, addr, access)
+}
+
+// Keeps the leaf of a page where it lets the access go through, into a frame of memory, and returns that frame: the walk to
+// each address of the page ends there.
+fn keep_leaf(
+    frames: &Frames,
+    buffer: &mut TranslationBuffer,
+    root: FrameNo,
+    page: Vpn,
+    access: Access,
+) -> Option<FrameNo>
+    requires forest { IsForest frames.now }
+    requires root { IsRoot top_level frames.now root.0 }
+    requires small { page < user_end }
+    requires kept { IsKept frames.now buffer.old }
+    ensures walked { IfSome result (λ frame. (addr : ℕ) → page_of addr ≡ page → translated top_level frames.now root.0 addr access ≡ Ok (place_in frame.0 addr)) }
+    ensures kept { IsKept frames.now buffer.new }
+{
+    let leaf = entry_number(frames, root, page);
+    if !is_usable(frames, leaf, access) {
+        return None;
+    }
+    buffer.keep(root, page, leaf);
+    Some(leaf.frame_number())
 }
 
 // Whether a leaf lets the access go through, into a frame of memory.

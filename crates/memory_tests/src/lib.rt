@@ -6,11 +6,15 @@ mod frame_table;
 #[cfg(test)]
 mod hands;
 #[cfg(test)]
+mod mapped_frames;
+#[cfg(test)]
 mod places;
 #[cfg(test)]
 mod runs;
 #[cfg(test)]
 mod slots;
+#[cfg(test)]
+mod translations;
 #[cfg(test)]
 mod types;
 #[cfg(test)]

@@ -4,8 +4,6 @@
 
 mod buffer;
 mod line;
-#[cfg(test)]
-mod tests;
 
 pub use buffer::{PLACES, TranslationBuffer, lets};
 pub use line::Line;

@@ -1,7 +1,8 @@
-use crate::{TranslationBuffer, lets};
+//! Lines of a buffer, and what a leaf lets through.
 use std::test::Fail;
 use sv39_walk::Pte;
 use vm_types::{Access, FrameNo, Vpn};
+use walk_buffer::{TranslationBuffer, lets};
 
 // Readable, writable, accessed and dirty, over frame 5.
 const LEAF: u64 = 0x14d7;
