@@ -21,7 +21,7 @@ ghost use Rattle.calls.specs.Idle.{is_denial};
 use crate::space::PAGE;
 use byteorder::{ByteOrder, LittleEndian};
 use disk_model::SectorDisk;
-use frames::Frames;
+use mapped_memory::Memory;
 use page_faults::{AccessRefusal, access};
 use paging::Core;
 use vm_types::{Access, Answer, Errno, FrameNo, Phys, StoredValue, Width};
@@ -47,7 +47,7 @@ fn write_number(page: &mut [u8; 4096], at: usize, stored: StoredValue)
 }
 
 /// The frame of a place in memory.
-fn frame_of(frames: &Frames, place: Phys) -> FrameNo
+fn frame_of(frames: &Memory, place: Phys) -> FrameNo
     requires { IsFrame frames.now (place.0 / 4096) }
     ensures { result.0 ≡ place.0 / 4096 }
 {

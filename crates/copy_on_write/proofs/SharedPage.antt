@@ -61,6 +61,9 @@ module _ (old low mid : Picture) (parent child page e to : ℕ) (h : IsPage 2 pa
   pub table_raised : IsTable mid.frames to
   table_raised = place_mid.table
 
+  pub place_raised : (r : ℕ) × IsRoot 2 mid.frames r × IsTableOf mid.frames r (page / 512) to
+  place_raised = (lives.0, fit.rooted.roots child lives.0 root, place_mid)
+
   -- the child's entry is set
   module _ (t : FrameTable) (set : (r : ℕ) → IsRoot 2 mid.frames r → IsTableOf mid.frames r (page / 512) to → SetsEntry mid.frames t 2 r page e) where
     abbrev new : Picture

@@ -15,9 +15,10 @@ ghost use Rattle.mapping.specs.Changes.{IsWhole, KeepsBare, Moves};
 ghost use Rattle.copy_on_write.specs.Steps.{HasCopy, HasTables, HasTablesFrom, LacksTable, LinksCopies, IsNextPage};
 
 use disk_model::SectorDisk;
+use mapped_memory::{number_in, table_of};
 use mapping::{link_tables, root_of};
 use page_ranges::{gap_end, table_end, user_page};
-use page_tables::{Entry, decode, number_in, table_of};
+use page_tables::{Entry, decode};
 use paging::Core;
 use vm_types::{Pid, Stall, USER_START, Vpn};
 

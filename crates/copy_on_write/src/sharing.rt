@@ -11,9 +11,10 @@ ghost use Rattle.copy_on_write.specs.Shares.{SharesRow, IsTableFor};
 
 use crate::linking::is_own;
 use crate::withdrawing::{add_share, withdraw_write};
+use mapped_memory::{number_in, set_in, table_of};
 use mapping::root_of;
 use page_ranges::{gap_end, table_end, user_page};
-use page_tables::{decode, number_in, set_in, table_of};
+use page_tables::decode;
 use paging::Core;
 use vm_types::{FrameNo, Pid, USER_START, Vpn};
 

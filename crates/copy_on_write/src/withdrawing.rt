@@ -8,7 +8,8 @@ ghost use Rattle.paging.specs.Parts.{IsFit, IsFitBut};
 ghost use Rattle.page_ranges.specs.Steps.{KeepsRest};
 ghost use Rattle.copy_on_write.specs.Shares.{IsTableFor, MayShare, RaisesSeat, Weakens, Withdraws};
 
-use page_tables::{Entry, set_in};
+use mapped_memory::set_in;
+use page_tables::Entry;
 use paging::Core;
 use vm_types::{FrameNo, Pid, Vpn};
 

@@ -112,6 +112,12 @@ impl<D: SectorDisk, E: SectorDisk> Machine<D, E> {
         }
     }
 
+    /// How many accesses have found the translation of their page kept from an earlier one (RISC-V Privileged Specification,
+    /// "Supervisor Memory-Management Fence Instruction"); it stays at its greatest value. No clause speaks of it.
+    pub fn hits(&self) -> u64 {
+        self.core.frames.hits()
+    }
+
     /// The last faults of accesses, oldest first, each with its process: 16 at most.
     pub fn history(&self) -> History
         ensures { result ≡ self.now.past }

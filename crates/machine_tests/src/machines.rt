@@ -346,3 +346,44 @@ fn the_store_of_a_halted_machine_is_handed_on(rt: HostRuntime) -> Result<(), Fai
     assert_eq!(rt; found_on(rt.alloc(), store)?, value(0));
     Ok(())
 }
+
+/// Maps a page of zeros where the other mappings would go.
+fn mapping_own() -> Command {
+    Command::Mmap {
+        pid: 1,
+        addr: 0,
+        len: 1,
+        prot: Prot::READ | Prot::WRITE,
+        source: MapSource::Anon,
+        placing: Placing::Hint,
+    }
+}
+
+/// Stores a byte to such a page and loads it ten times: how many translations were found before the loads, and after them.
+fn hits_of_ten_loads<D: SectorDisk, E: SectorDisk>(
+    rt: &impl Abort,
+    machine: &mut Machine<D, E>,
+) -> Result<(u64, u64), Fail>
+    requires sound { IsSoundMachine D.SectorDisk E.SectorDisk machine.old }
+    ensures sound { OnOk result (IsSoundMachine D.SectorDisk E.SectorDisk machine.new) }
+{
+    let mut replies = [Reply::Halted; 3];
+    machine.run(&[Command::Spawn, mapping_own(), storing()?], &mut replies);
+    assert_eq!(rt; replies[2], Reply::Done);
+    let before = machine.hits();
+    let mut loaded = [Reply::Halted; 10];
+    machine.run(&[LOAD; 10], &mut loaded);
+    assert_eq!(rt; loaded, [value(0x5a); 10]);
+    Ok((before, machine.hits()))
+}
+
+/// The store's own access keeps its translation, so each of the loads finds it. A buffer that keeps nothing would meet every
+/// contract: this test refuses it.
+#[test]
+fn ten_loads_are_ten_hits(rt: HostRuntime) -> Result<(), Fail> {
+    let mut machine = booted(rt.alloc(), None)?;
+    let hits = hits_of_ten_loads(&rt, &mut machine);
+    let _ = machine.into_store();
+    assert_eq!(rt; hits?, (0, 10));
+    Ok(())
+}

@@ -13,7 +13,7 @@ ghost use Rattle.paging.specs.Ages.{GivesForTables};
 ghost use Rattle.mapping.specs.Changes.{IsWhole, KeepsBare, KeepsSlotted, LinksTables, Moves};
 
 use disk_model::SectorDisk;
-use page_tables::{link_table, missing_tables};
+use mapped_memory::{link_table, missing_tables};
 use paging::Core;
 use vm_types::{FrameNo, Pid, Stall, Vpn};
 

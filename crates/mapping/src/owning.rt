@@ -17,9 +17,8 @@ ghost use Rattle.mapping.specs.Changes.{IsLinked, KeepsViews, KeepsOtherViews, K
 use crate::linking::root_of;
 use crate::showing::{ZERO_PAGE, regrant, set_full};
 use disk_model::SectorDisk;
-use frames::Frames;
+use mapped_memory::{Memory, entry_number};
 use page_cache::Place;
-use page_tables::entry_number;
 use paging::Core;
 use sv39_walk::Pte;
 use vm_types::{Attr, Backing, FrameNo, Pid, Stall, Vpn};
@@ -170,7 +169,7 @@ fn take_copy<D, E: SectorDisk>(
 }
 
 // Gives a frame of zeros the bytes of another. Those of the zero page aren't copied.
-fn fill(frames: &mut Frames, from: FrameNo, own: FrameNo)
+fn fill(frames: &mut Memory, from: FrameNo, own: FrameNo)
     requires source { IsFrame frames.old from.0 }
     requires target { IsHeld frames.old own.0 }
     requires zeros { bytes_of frames.old own.0 ≡ zero_bytes }

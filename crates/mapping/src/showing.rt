@@ -18,7 +18,7 @@ ghost use Rattle.mapping.specs.Changes.{IsLinked, Enters, KeepsAround, MarksTouc
 
 use crate::leaves::{Grant, entry_over};
 use crate::linking::root_of;
-use page_tables::{entry_number, set};
+use mapped_memory::{entry_number, set};
 use paging::Core;
 use vm_types::{Attr, Backing, FilePage, FrameNo, Pid, Vpn};
 

@@ -12,7 +12,8 @@ ghost use Rattle.mapping.specs.Changes.{IsLinked, KeepsViews, KeepsOtherViews, K
 use crate::linking::root_of;
 use crate::showing::set_full;
 use disk_model::{DiskFault, SectorDisk};
-use page_tables::{Entry, entry};
+use mapped_memory::entry;
+use page_tables::Entry;
 use paging::Core;
 use vm_types::{Attr, FrameNo, Pid, Stall, Vpn};
 

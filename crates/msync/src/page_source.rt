@@ -6,7 +6,7 @@ ghost use Rattle.swap.specs.Slots.{slots_of, IsReady};
 
 use crate::chosen::{Residence, Spot};
 use disk_model::{DiskFault, SectorDisk};
-use frames::Frames;
+use mapped_memory::Memory;
 use swap::Swap;
 use sync_journal::{PageSource, SourceFault};
 
@@ -14,7 +14,7 @@ use sync_journal::{PageSource, SourceFault};
 /// page in a slot.
 #[derive(Drop)]
 pub(crate) struct TouchedPages<'a, E> {
-    pub frames: &'a Frames,
+    pub frames: &'a Memory,
     pub swap: &'a mut Swap<E>,
     pub spots: &'a [Spot],
 }

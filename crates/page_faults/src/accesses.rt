@@ -11,7 +11,7 @@ ghost use Rattle.page_faults.specs.Wants.{Wants, ReadsHome, ShowsFile};
 ghost use Rattle.page_faults.specs.Outcome.{IsPlaced, Grants, IsRefusal, IsWalked};
 
 use crate::faults::fault;
-use crate::finding::{Finding, PAGE, find};
+use crate::finding::{Finding, PAGE, find, keep_line};
 use crate::granting::grant;
 use crate::refusal::AccessRefusal;
 use disk_model::SectorDisk;
@@ -63,6 +63,7 @@ pub fn access<D: SectorDisk, E: SectorDisk>(
         Finding::Fault(code) => Err(AccessRefusal::Fault(fault(access, code, addr))),
         Finding::Page(page, attr) => {
             let frame = grant(core, pid, page, attr, access)?;
+            keep_line(core, pid, page, access);
             Ok(Phys(u64::from(frame.0) * PAGE + addr % PAGE))
         }
     }

@@ -7,9 +7,9 @@ ghost use Rattle.page_faults.specs.Found.{Finds, Judges};
 use crate::faults::{is_past_end, lets};
 use crate::processes::attr_at;
 use disk_model::SectorDisk;
+use mapped_memory::{keep, walk};
 use mapping::root_of;
 use paging::Core;
-use sv39_walk::walk;
 use vm_types::{Access, Attr, Code, PAGE_BYTES, Phys, Pid, Vpn, Width};
 
 /// Bytes of a page, as a number of addresses.
@@ -29,16 +29,18 @@ pub(crate) enum Finding {
 /// Looks for the page of an access of a live process. The tables decide where they grant it, since they grant no more than the
 /// regions do; else the first of these that holds is the fault (its order is our choice; sigaction(2), si_code): the address
 /// is no multiple of the width, its page isn't mapped, the permission lacks the access, the page lies past the file's end.
+/// Nothing changes but what the buffer of translations has.
 pub(crate) fn find<D: SectorDisk, E>(
-    core: &Core<D, E>,
+    core: &mut Core<D, E>,
     pid: Pid,
     addr: u64,
     width: Width,
     access: Access,
 ) -> Finding
-    requires fit { IsFit (picture_of core.now) }
-    requires lives { is_live (picture_of core.now) pid ≡ true }
-    ensures { Finds (picture_of core.now) pid addr width access result }
+    requires fit { IsFit (picture_of core.old) }
+    requires lives { is_live (picture_of core.old) pid ≡ true }
+    ensures found { Finds (picture_of core.old) pid addr width access result }
+    ensures same { core.new ≡ core.old }
 {
     if addr % u64::from(width.bytes()) != 0 {
         return Finding::Fault(Code::BusAdraln);
@@ -46,7 +48,8 @@ pub(crate) fn find<D: SectorDisk, E>(
     let Some(page) = Vpn::new(addr / PAGE) else {
         return Finding::Fault(Code::SegvMaperr);
     };
-    if let Ok(place) = walk(&core.frames, root_of(core, pid), addr, access) {
+    let root = root_of(core, pid);
+    if let Ok(place) = walk(&mut core.frames, root, addr, access) {
         return Finding::Place(place);
     }
     judge(core, pid, page, access)
@@ -67,4 +70,14 @@ fn judge<D: SectorDisk, E>(core: &Core<D, E>, pid: Pid, page: Vpn, access: Acces
         return Finding::Fault(Code::BusAdrerr);
     }
     Finding::Page(page, attr)
+}
+
+/// Keeps the leaf of a page that an access was just granted in the buffer of translations, for the next access to the page.
+pub(crate) fn keep_line<D, E>(core: &mut Core<D, E>, pid: Pid, page: Vpn, access: Access)
+    requires fit { IsFit (picture_of core.old) }
+    requires lives { is_live (picture_of core.old) pid ≡ true }
+    ensures { core.new ≡ core.old }
+{
+    let root = root_of(core, pid);
+    keep(&mut core.frames, root, page, access);
 }

@@ -3,8 +3,8 @@ ghost use Rattle.std.specs.Prelude.{◌≡◌, true};
 ghost use Rattle.paging.specs.Picture.{picture_of, is_live, entry};
 ghost use Rattle.mapping.specs.Changes.{IsLinked};
 
+use mapped_memory::entry_number;
 use mapping::root_of;
-use page_tables::entry_number;
 use paging::Core;
 use sv39_walk::Pte;
 use vm_types::{Attr, Pid, Vpn};

@@ -12,8 +12,9 @@ ghost use Rattle.page_ranges.specs.Rows.{RemapsRow};
 ghost use Rattle.page_ranges.specs.Steps.{KeepsRest, KeepsEntriesOfOthers, SameTables, ReturnsTables, ReturnsSlots, Clears, IsWithoutTables, IsCleared, LacksHolder, GivesBack, IsStepEnd};
 
 use crate::rows::{middle_end, table_end, user_page};
+use mapped_memory::{missing_tables, number_in, prune, set_in, table_of};
 use mapping::root_of;
-use page_tables::{Entry, decode, missing_tables, number_in, prune, set_in, table_of};
+use page_tables::{Entry, decode};
 use paging::Core;
 use sv39_walk::Pte;
 use vm_types::{FrameNo, Pid, USER_START, Vpn};

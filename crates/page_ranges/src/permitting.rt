@@ -17,8 +17,8 @@ ghost use Rattle.page_ranges.specs.Steps.{KeepsEntriesOfOthers, IsStepEnd};
 
 use crate::leaves::permitted;
 use crate::rows::{gap_end, table_end, user_page};
+use mapped_memory::{number_in, set_in, table_of};
 use mapping::root_of;
-use page_tables::{number_in, set_in, table_of};
 use paging::Core;
 use regions::Regions;
 use sv39_walk::Pte;

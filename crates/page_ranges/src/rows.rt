@@ -6,8 +6,8 @@ ghost use Rattle.paging.specs.Parts.{IsRootedBut};
 ghost use Rattle.mapping.specs.Changes.{IsWhole};
 ghost use Rattle.page_ranges.specs.Steps.{IsGapEnd};
 
+use mapped_memory::missing_tables;
 use mapping::root_of;
-use page_tables::missing_tables;
 use paging::Core;
 use vm_types::{Pid, Vpn};
 

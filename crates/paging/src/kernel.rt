@@ -11,7 +11,7 @@ ghost use Rattle.paging.specs.Sound.{IsSound-prop, AreBounded-prop};
 use clock_replace::Clock;
 use disk_model::Count;
 use file_store::FileStore;
-use frames::Frames;
+use mapped_memory::Memory;
 use page_cache::PageCache;
 use regions::Regions;
 use std::alloc::{AllocError, Global};
@@ -30,8 +30,8 @@ pub struct Core<D, E> {
     pub store: FileStore<D>,
     /// The slots that pages are swapped to.
     pub swap: Swap<E>,
-    /// Physical memory.
-    pub frames: Frames,
+    /// Physical memory, with its buffer of translations.
+    pub frames: Memory,
     /// Where each file page is.
     pub cache: PageCache,
     /// The root table of each live process.
@@ -114,7 +114,7 @@ impl<D, E> Core<D, E> {
 /// All memory that is taken of the host, with no process in it.
 #[derive(Drop)]
 struct Room {
-    frames: Frames,
+    frames: Memory,
     cache: PageCache,
     roots: Vec<Option<FrameNo>>,
     regions: Vec<Regions>,
@@ -135,7 +135,7 @@ impl Room {
         let roots = no_roots(alloc)?;
         let regions = no_regions(alloc)?;
         let cache = PageCache::new(alloc, frames, slots)?;
-        let frames = Frames::new(alloc, frames)?;
+        let frames = Memory::new(alloc, frames)?;
         // (brings in that the table of frames is sound)
         let _ = frames.len();
         Ok(Room {

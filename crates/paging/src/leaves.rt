@@ -16,7 +16,8 @@ ghost use Rattle.paging.specs.Leaves.{concerns, IsOver, IsNext, IsChanged, Drops
 
 use crate::kernel::{Core, PLACES};
 use frames::Role;
-use page_tables::{Entry, entry, entry_number, set};
+use mapped_memory::{entry, entry_number, set};
+use page_tables::Entry;
 use regions::Run;
 use sv39_walk::Pte;
 use vm_types::{FilePage, FrameNo, Vpn};

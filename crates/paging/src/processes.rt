@@ -71,7 +71,7 @@ impl<D, E> Core<D, E> {
     {
         let place = usize::from(pid.get());
         if let Some(root) = self.roots[place] {
-            self.frames.release(root);
+            self.frames.release_root(root);
             self.roots[place] = None;
         }
     }

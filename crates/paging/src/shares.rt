@@ -11,7 +11,8 @@ ghost use Rattle.paging.specs.Evictions.{HasShare, IsHanding, Spares, KeepsPlain
 
 use crate::kernel::{Core, PLACES};
 use disk_model::SectorDisk;
-use page_tables::{Entry, entry_number, set};
+use mapped_memory::{entry_number, set};
+use page_tables::Entry;
 use sv39_walk::Pte;
 use vm_types::{FrameNo, SlotNo, Vpn};
 

@@ -17,8 +17,8 @@ use crate::kernel::Core;
 use crate::obtaining::obtain;
 use disk_model::{DiskFault, SectorDisk};
 use frames::Role;
+use mapped_memory::take_table;
 use page_cache::Place;
-use page_tables::take_table;
 use vm_types::{FilePage, FrameNo, NoFree, SlotNo, Stall, Vpn};
 
 impl<D, E: SectorDisk> Core<D, E> {

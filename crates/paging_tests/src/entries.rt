@@ -15,12 +15,13 @@ ghost use Rattle.mapping.specs.Files.{Proceeds};
 
 use crate::bench::made;
 use disk_model::{SectorDisk, SimDisk};
+use mapped_memory::{entry, entry_number};
 use mapping::{
     Grant, cached, entry_over, link_tables, own_frame, regrant, root_of, show_cached, show_zero,
     swap_in, touch,
 };
 use page_cache::Place;
-use page_tables::{Entry, entry, entry_number};
+use page_tables::Entry;
 use paging::Core;
 use regions::Regions;
 use std::alloc::Global;

@@ -5,7 +5,7 @@ use Rattle.paging.specs.Seats.{seat}
 use Rattle.paging.specs.Picture.{Picture, picture_of, entry}
 use Rattle.paging.proofs.Entries.{entry-of}
 use Rattle.copy_on_write.proofs.Live.{live_root}
-use Rattle.copy_on_write.proofs.SharedPage.{may_give, forest_raised, table_raised, fit_page, shares_page, places_page}
+use Rattle.copy_on_write.proofs.SharedPage.{may_give, forest_raised, table_raised, place_raised, fit_page, shares_page, places_page}
 use Rattle.copy_on_write.proofs.SharedRows.{shares_none}
 use Rattle.copy_on_write.proofs.sharing.share_page.Goals as goal
 
@@ -74,7 +74,7 @@ returns-clause-fit g c =
     fit_page old (picture_of c.withdraw_write-shared.new.core) (picture_of c.add_share.new.core) c.args.parent c.args.child c.args.page (number_of c.withdraw_write-shared.result) c.args.to.0
     (omega (arith, c.get.ensures)) c.requires.apart c.requires.child c.requires.bare (c.requires.same c.args.page) c.requires.to c.withdraw_write-shared.ensures.withdrawn
     c.withdraw_write-shared.ensures.places c.withdraw_write-shared.ensures.own c.add_share.ensures.fit c.add_share.ensures.raises
-    c.set_in.new.frames
+    c.set_in.new.memory
     (λ r root at. c.set_in.ensures.sets r c.args.page root (omega (arith, c.get.ensures)) at (ap (λ x. x % 512) (sym c.get.ensures.number)))
 
 pub returns-clause-shares : goal.returns-clause-shares
@@ -83,7 +83,7 @@ returns-clause-shares g c =
     shares_page old (picture_of c.withdraw_write-shared.new.core) (picture_of c.add_share.new.core) c.args.parent c.args.child c.args.page (number_of c.withdraw_write-shared.result) c.args.to.0
     (omega (arith, c.get.ensures)) c.requires.apart c.requires.child c.requires.bare (c.requires.same c.args.page) c.requires.to c.withdraw_write-shared.ensures.withdrawn
     c.withdraw_write-shared.ensures.places c.withdraw_write-shared.ensures.own c.add_share.ensures.fit c.add_share.ensures.raises
-    c.set_in.new.frames
+    c.set_in.new.memory
     (λ r root at. c.set_in.ensures.sets r c.args.page root (omega (arith, c.get.ensures)) at (ap (λ x. x % 512) (sym c.get.ensures.number)))
 
 pub returns-clause-places : goal.returns-clause-places
@@ -92,5 +92,13 @@ returns-clause-places g c =
     places_page old (picture_of c.withdraw_write-shared.new.core) (picture_of c.add_share.new.core) c.args.parent c.args.child c.args.page (number_of c.withdraw_write-shared.result) c.args.to.0
     (omega (arith, c.get.ensures)) c.requires.apart c.requires.child c.requires.bare (c.requires.same c.args.page) c.requires.to c.withdraw_write-shared.ensures.withdrawn
     c.withdraw_write-shared.ensures.places c.withdraw_write-shared.ensures.own c.add_share.ensures.fit c.add_share.ensures.raises
-    c.set_in.new.frames
+    c.set_in.new.memory
     (λ r root at. c.set_in.ensures.sets r c.args.page root (omega (arith, c.get.ensures)) at (ap (λ x. x % 512) (sym c.get.ensures.number)))
+
+pub set_in-requires-clause-placed : goal.set_in-requires-clause-placed
+set_in-requires-clause-placed g c =
+    let old : Picture = picture_of c.args.core.now in
+    let placed = place_raised old (picture_of c.withdraw_write-shared.new.core) (picture_of c.add_share.new.core) c.args.parent c.args.child c.args.page (number_of c.withdraw_write-shared.result) c.args.to.0
+    (omega (arith, c.get.ensures)) c.requires.apart c.requires.child c.requires.bare (c.requires.same c.args.page) c.requires.to c.withdraw_write-shared.ensures.withdrawn
+    c.withdraw_write-shared.ensures.places c.withdraw_write-shared.ensures.own c.add_share.ensures.fit c.add_share.ensures.raises in
+    (placed.0, c.args.page, placed.1, omega (arith, c.get.ensures), placed.2, ap (λ x. x % 512) (sym c.get.ensures.number))

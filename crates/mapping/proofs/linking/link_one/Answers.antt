@@ -24,11 +24,11 @@ pub returns-clause-moves : goal.returns-clause-moves
 returns-clause-moves g c =
     let old : Picture = picture_of c.args.core.now in
     let taken : Picture = picture_of c.take_table.new.self in
-    let new : Picture = record taken { frames = c.link_table.new.frames } in
+    let new : Picture = record taken { frames = c.link_table.new.memory } in
     let took = c.in_ok-table.ensures.taken in
     let done = c.in_ok-table.ensures in
     let links = c.link_table.ensures.links in
-    let beside = same_with taken c.link_table.new.frames in
+    let beside = same_with taken c.link_table.new.memory in
     let n = c.in_ok-table.table.0 in
     record {
       fit = fit_after old taken new c.args.pid c.args.root.0 c.args.page n took c.requires.lives links beside c.requires.mapped;
@@ -43,45 +43,45 @@ returns-clause-moves g c =
 pub returns-clause-pages : goal.returns-clause-pages
 returns-clause-pages g c =
     let taken : Picture = picture_of c.take_table.new.self in
-    pages_linked (picture_of c.args.core.now) taken (record taken { frames = c.link_table.new.frames }) c.args.pid c.args.root.0 c.args.page c.in_ok-table.table.0 c.in_ok-table.ensures.taken c.requires.lives
-    c.link_table.ensures.links (same_with taken c.link_table.new.frames)
+    pages_linked (picture_of c.args.core.now) taken (record taken { frames = c.link_table.new.memory }) c.args.pid c.args.root.0 c.args.page c.in_ok-table.table.0 c.in_ok-table.ensures.taken c.requires.lives
+    c.link_table.ensures.links (same_with taken c.link_table.new.memory)
 
 pub returns-clause-bare : goal.returns-clause-bare
 returns-clause-bare g c =
     let taken : Picture = picture_of c.take_table.new.self in
-    bare_linked (picture_of c.args.core.now) taken (record taken { frames = c.link_table.new.frames }) c.args.pid c.args.root.0 c.args.page c.in_ok-table.table.0 c.in_ok-table.ensures.taken c.requires.lives
-    c.link_table.ensures.links (same_with taken c.link_table.new.frames)
+    bare_linked (picture_of c.args.core.now) taken (record taken { frames = c.link_table.new.memory }) c.args.pid c.args.root.0 c.args.page c.in_ok-table.table.0 c.in_ok-table.ensures.taken c.requires.lives
+    c.link_table.ensures.links (same_with taken c.link_table.new.memory)
 
 pub returns-clause-slotted : goal.returns-clause-slotted
 returns-clause-slotted g c =
     let taken : Picture = picture_of c.take_table.new.self in
-    slotted_linked (picture_of c.args.core.now) taken (record taken { frames = c.link_table.new.frames }) c.args.pid c.args.root.0 c.args.page c.in_ok-table.table.0 c.in_ok-table.ensures.taken c.requires.lives
-    c.link_table.ensures.links (same_with taken c.link_table.new.frames)
+    slotted_linked (picture_of c.args.core.now) taken (record taken { frames = c.link_table.new.memory }) c.args.pid c.args.root.0 c.args.page c.in_ok-table.table.0 c.in_ok-table.ensures.taken c.requires.lives
+    c.link_table.ensures.links (same_with taken c.link_table.new.memory)
 
 pub returns-clause-no_copy : goal.returns-clause-no_copy
 returns-clause-no_copy g c =
     let taken : Picture = picture_of c.take_table.new.self in
-    no_copy_linked (picture_of c.args.core.now) taken (record taken { frames = c.link_table.new.frames }) c.args.pid c.args.root.0 c.args.page c.in_ok-table.table.0 c.in_ok-table.ensures.taken c.requires.lives
-    c.link_table.ensures.links (same_with taken c.link_table.new.frames)
+    no_copy_linked (picture_of c.args.core.now) taken (record taken { frames = c.link_table.new.memory }) c.args.pid c.args.root.0 c.args.page c.in_ok-table.table.0 c.in_ok-table.ensures.taken c.requires.lives
+    c.link_table.ensures.links (same_with taken c.link_table.new.memory)
 
 pub returns-clause-lowered : goal.returns-clause-lowered
 returns-clause-lowered g c =
     let taken : Picture = picture_of c.take_table.new.self in
     c.link_table.ensures.links.lowered
-    ∙ missing_taken (picture_of c.args.core.now) taken (record taken { frames = c.link_table.new.frames }) c.args.pid c.args.root.0 c.args.page c.in_ok-table.table.0 c.in_ok-table.ensures.taken c.requires.lives
-    c.link_table.ensures.links (same_with taken c.link_table.new.frames)
+    ∙ missing_taken (picture_of c.args.core.now) taken (record taken { frames = c.link_table.new.memory }) c.args.pid c.args.root.0 c.args.page c.in_ok-table.table.0 c.in_ok-table.ensures.taken c.requires.lives
+    c.link_table.ensures.links (same_with taken c.link_table.new.memory)
 
 pub returns-clause-gives : goal.returns-clause-gives
 returns-clause-gives g c =
     let taken : Picture = picture_of c.take_table.new.self in
-    gives_linked (picture_of c.args.core.now) taken (record taken { frames = c.link_table.new.frames }) c.args.pid c.args.root.0 c.args.page c.in_ok-table.table.0 c.in_ok-table.ensures.taken c.requires.lives
-    c.link_table.ensures.links (same_with taken c.link_table.new.frames) c.in_ok-table.ensures.gives
+    gives_linked (picture_of c.args.core.now) taken (record taken { frames = c.link_table.new.memory }) c.args.pid c.args.root.0 c.args.page c.in_ok-table.table.0 c.in_ok-table.ensures.taken c.requires.lives
+    c.link_table.ensures.links (same_with taken c.link_table.new.memory) c.in_ok-table.ensures.gives
 
 pub returns-clause-tables : goal.returns-clause-tables
 returns-clause-tables g c =
     let taken : Picture = picture_of c.take_table.new.self in
-    links_linked (picture_of c.args.core.now) taken (record taken { frames = c.link_table.new.frames }) c.args.pid c.args.root.0 c.args.page c.in_ok-table.table.0 c.in_ok-table.ensures.taken c.requires.lives
-    c.link_table.ensures.links (same_with taken c.link_table.new.frames) c.in_ok-table.ensures.gives c.in_ok-table.ensures.only
+    links_linked (picture_of c.args.core.now) taken (record taken { frames = c.link_table.new.memory }) c.args.pid c.args.root.0 c.args.page c.in_ok-table.table.0 c.in_ok-table.ensures.taken c.requires.lives
+    c.link_table.ensures.links (same_with taken c.link_table.new.memory) c.in_ok-table.ensures.gives c.in_ok-table.ensures.only
 
 pub returns-in_err-table-clause-moves : goal.returns-in_err-table-clause-moves
 returns-in_err-table-clause-moves g c =

@@ -29,8 +29,8 @@ prune-requires-clause-root g c = c.requires.fit.rooted.roots c.args.pid c.root_o
 pub returns-in-1-clause-fit : goal.returns-in-1-clause-fit
 returns-in-1-clause-fit g c =
     let old : Picture = picture_of c.args.core.now in
-    let new : Picture = record old { frames = c.prune.new.frames } in
-    fit_pruned old new c.args.pid c.root_of-top_table.result.0 _ c.requires.fit c.args.core.now.sound c.root_of-top_table.ensures c.prune.ensures.prunes (same_beside old c.prune.new.frames)
+    let new : Picture = record old { frames = c.prune.new.memory } in
+    fit_pruned old new c.args.pid c.root_of-top_table.result.0 _ c.requires.fit c.args.core.now.sound c.root_of-top_table.ensures c.prune.ensures.prunes (same_beside old c.prune.new.memory)
 
 -- where the lowest table is missing, no page of its row has an entry
 no_row : (c : Picture) (pid r start end stop : ℕ) → c.root pid ≡ Some r → missing_of c.frames 2 r start ≢ 0 → stop ≤ end → end ≡ (start / 512 + 1) * 512
@@ -45,9 +45,9 @@ no_block c pid r start end stop root two le is page h from below = gap_high c pi
 pub returns-in-1-clause-clears : goal.returns-in-1-clause-clears
 returns-in-1-clause-clears g c =
     let old : Picture = picture_of c.args.core.now in
-    let new : Picture = record old { frames = c.prune.new.frames } in
+    let new : Picture = record old { frames = c.prune.new.memory } in
     let some : c.missing_tables.result ≢ 0 = λ e. omega (arith, c.in-1.is, e) in
-    clears_pruned old new c.args.pid c.root_of-top_table.result.0 _ c.requires.fit c.args.core.now.sound c.root_of-top_table.ensures c.prune.ensures.prunes (same_beside old c.prune.new.frames)
+    clears_pruned old new c.args.pid c.root_of-top_table.result.0 _ c.requires.fit c.args.core.now.sound c.root_of-top_table.ensures c.prune.ensures.prunes (same_beside old c.prune.new.memory)
     c.args.start c.min.result
     (no_row old c.args.pid c.root_of-top_table.result.0 c.args.start c.table_end-in-1.result c.min.result c.root_of-top_table.ensures (λ e. some (c.missing_tables.ensures.missing ∙ e))
     (omega (arith, c.min.ensures)) c.table_end-in-1.ensures)
@@ -55,11 +55,11 @@ returns-in-1-clause-clears g c =
 pub returns-in-1-clause-cleared : goal.returns-in-1-clause-cleared
 returns-in-1-clause-cleared g c low le cleared =
     let old : Picture = picture_of c.args.core.now in
-    let new : Picture = record old { frames = c.prune.new.frames } in
+    let new : Picture = record old { frames = c.prune.new.memory } in
     let some : c.missing_tables.result ≢ 0 = λ e. omega (arith, c.in-1.is, e) in
     let within : c.min.result ≤ c.table_end-in-1.result = omega (arith, c.min.ensures) in
     cleared_block old new c.args.pid c.root_of-top_table.result.0 c.args.start c.requires.fit c.args.core.now.sound c.root_of-top_table.ensures c.prune.ensures.prunes
-    (same_beside old c.prune.new.frames) low c.min.result le cleared
+    (same_beside old c.prune.new.memory) low c.min.result le cleared
     (no_row old c.args.pid c.root_of-top_table.result.0 c.args.start c.table_end-in-1.result c.min.result c.root_of-top_table.ensures (λ e. some (c.missing_tables.ensures.missing ∙ e))
     within c.table_end-in-1.ensures)
     c.prune.ensures.pruned

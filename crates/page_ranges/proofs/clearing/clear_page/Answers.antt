@@ -28,49 +28,53 @@ give_back-requires-clause-form g c =
 pub give_back-requires-clause-lacks : goal.give_back-requires-clause-lacks
 give_back-requires-clause-lacks g c =
     let old : Picture = picture_of c.args.core.now in
-    let mid : Picture = record old { frames = c.set_in.new.frames } in
+    let mid : Picture = record old { frames = c.set_in.new.memory } in
     let at = ap (λ x. x % 512) (sym c.get.ensures.number) in
     let is : c.number_in-number.result.0 ≡ entry old c.args.pid c.args.page =
     c.number_in-number.ensures c.args.root.0 c.args.page c.requires.place at ∙ sym (entry-of old c.args.pid c.args.root.0 c.args.page c.requires.root) in
     let sets = c.set_in.ensures.sets c.args.root.0 c.args.page (c.requires.fit.rooted.roots c.args.pid c.args.root.0 c.requires.root) c.requires.inside c.requires.place at in
     let P : ℕ → Type 0 = λ x. LacksHolder mid (seat x) in
-    subst P (sym is) (lacks_out old mid c.args.pid c.args.root.0 c.args.page c.requires.fit c.requires.root c.requires.inside sets (same_beside old c.set_in.new.frames))
+    subst P (sym is) (lacks_out old mid c.args.pid c.args.root.0 c.args.page c.requires.fit c.requires.root c.requires.inside sets (same_beside old c.set_in.new.memory))
 
 pub returns-clause-clears : goal.returns-clause-clears
 returns-clause-clears g c =
     let old : Picture = picture_of c.args.core.now in
-    let mid : Picture = record old { frames = c.set_in.new.frames } in
+    let mid : Picture = record old { frames = c.set_in.new.memory } in
     let new : Picture = picture_of c.give_back.new.core in
     let at = ap (λ x. x % 512) (sym c.get.ensures.number) in
     let is : c.number_in-number.result.0 ≡ entry old c.args.pid c.args.page =
     c.number_in-number.ensures c.args.root.0 c.args.page c.requires.place at ∙ sym (entry-of old c.args.pid c.args.root.0 c.args.page c.requires.root) in
     let sets = c.set_in.ensures.sets c.args.root.0 c.args.page (c.requires.fit.rooted.roots c.args.pid c.args.root.0 c.requires.root) c.requires.inside c.requires.place at in
     let P : ℕ → Type 0 = λ x. GivesBack mid new (seat x) in
-    clears_page old mid c.args.pid c.args.root.0 c.args.page c.requires.fit c.requires.root c.requires.inside sets (same_beside old c.set_in.new.frames) new
+    clears_page old mid c.args.pid c.args.root.0 c.args.page c.requires.fit c.requires.root c.requires.inside sets (same_beside old c.set_in.new.memory) new
     (subst P is c.give_back.ensures.gives)
 
 pub returns-clause-tables : goal.returns-clause-tables
 returns-clause-tables g c =
     let old : Picture = picture_of c.args.core.now in
-    let mid : Picture = record old { frames = c.set_in.new.frames } in
+    let mid : Picture = record old { frames = c.set_in.new.memory } in
     let new : Picture = picture_of c.give_back.new.core in
     let at = ap (λ x. x % 512) (sym c.get.ensures.number) in
     let is : c.number_in-number.result.0 ≡ entry old c.args.pid c.args.page =
     c.number_in-number.ensures c.args.root.0 c.args.page c.requires.place at ∙ sym (entry-of old c.args.pid c.args.root.0 c.args.page c.requires.root) in
     let sets = c.set_in.ensures.sets c.args.root.0 c.args.page (c.requires.fit.rooted.roots c.args.pid c.args.root.0 c.requires.root) c.requires.inside c.requires.place at in
     let P : ℕ → Type 0 = λ x. GivesBack mid new (seat x) in
-    tables_page old mid c.args.pid c.args.root.0 c.args.page c.requires.fit c.requires.root c.requires.inside sets (same_beside old c.set_in.new.frames) new
+    tables_page old mid c.args.pid c.args.root.0 c.args.page c.requires.fit c.requires.root c.requires.inside sets (same_beside old c.set_in.new.memory) new
     (subst P is c.give_back.ensures.gives)
 
 pub returns-clause-places : goal.returns-clause-places
 returns-clause-places g c =
     let old : Picture = picture_of c.args.core.now in
-    let mid : Picture = record old { frames = c.set_in.new.frames } in
+    let mid : Picture = record old { frames = c.set_in.new.memory } in
     let new : Picture = picture_of c.give_back.new.core in
     let at = ap (λ x. x % 512) (sym c.get.ensures.number) in
     let is : c.number_in-number.result.0 ≡ entry old c.args.pid c.args.page =
     c.number_in-number.ensures c.args.root.0 c.args.page c.requires.place at ∙ sym (entry-of old c.args.pid c.args.root.0 c.args.page c.requires.root) in
     let sets = c.set_in.ensures.sets c.args.root.0 c.args.page (c.requires.fit.rooted.roots c.args.pid c.args.root.0 c.requires.root) c.requires.inside c.requires.place at in
     let P : ℕ → Type 0 = λ x. GivesBack mid new (seat x) in
-    places_page old mid c.args.pid c.args.root.0 c.args.page c.requires.fit c.requires.root c.requires.inside sets (same_beside old c.set_in.new.frames) new
+    places_page old mid c.args.pid c.args.root.0 c.args.page c.requires.fit c.requires.root c.requires.inside sets (same_beside old c.set_in.new.memory) new
     (subst P is c.give_back.ensures.gives)
+
+pub set_in-requires-clause-placed : goal.set_in-requires-clause-placed
+set_in-requires-clause-placed g c =
+    (c.args.root.0, c.args.page, c.requires.fit.rooted.roots c.args.pid c.args.root.0 c.requires.root, c.requires.inside, c.requires.place, ap (λ x. x % 512) (sym c.get.ensures.number))

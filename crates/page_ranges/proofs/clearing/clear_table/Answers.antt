@@ -61,31 +61,31 @@ prune-requires-clause-root g c = c.loop-page.invariant.fit.rooted.roots c.args.p
 pub returns-clause-fit : goal.returns-clause-fit
 returns-clause-fit g c =
     let mid : Picture = picture_of c.loop-page.core in
-    let new : Picture = record mid { frames = c.prune.new.frames } in
+    let new : Picture = record mid { frames = c.prune.new.memory } in
     fit_pruned mid new c.args.pid c.root_of-root.result.0 _ c.loop-page.invariant.fit c.loop-page.core.sound c.loop-page.invariant.root_is
-    c.prune.ensures.prunes (same_beside mid c.prune.new.frames)
+    c.prune.ensures.prunes (same_beside mid c.prune.new.memory)
 
 pub returns-clause-clears : goal.returns-clause-clears
 returns-clause-clears g c =
     let old : Picture = picture_of c.args.core.now in
     let mid : Picture = picture_of c.loop-page.core in
-    let new : Picture = record mid { frames = c.prune.new.frames } in
+    let new : Picture = record mid { frames = c.prune.new.memory } in
     let end : c.loop-page.page ≡ c.args.stop = omega (arith, c.get-page.ensures.number, c.requires.some, c.loop-page.auto.page-end, c.loop-page-test.false) in
     let P : ℕ → Type 0 = λ x. Clears old mid c.args.pid c.args.start x in
     clears_then old mid new c.args.pid c.args.start c.args.stop c.args.stop c.requires.fit (omega (arith, c.requires.some)) (omega arith)
     (subst P end c.loop-page.invariant.clears)
     (clears_pruned mid new c.args.pid c.root_of-root.result.0 _ c.loop-page.invariant.fit c.loop-page.core.sound c.loop-page.invariant.root_is
-    c.prune.ensures.prunes (same_beside mid c.prune.new.frames) c.args.stop c.args.stop (λ page h least below. absurd (omega (arith, least, below))))
+    c.prune.ensures.prunes (same_beside mid c.prune.new.memory) c.args.stop c.args.stop (λ page h least below. absurd (omega (arith, least, below))))
 
 pub returns-clause-cleared : goal.returns-clause-cleared
 returns-clause-cleared g c low le cleared =
     let old : Picture = picture_of c.args.core.now in
     let mid : Picture = picture_of c.loop-page.core in
-    let new : Picture = record mid { frames = c.prune.new.frames } in
+    let new : Picture = record mid { frames = c.prune.new.memory } in
     let end : c.loop-page.page ≡ c.args.stop = omega (arith, c.get-page.ensures.number, c.requires.some, c.loop-page.auto.page-end, c.loop-page-test.false) in
     let P : ℕ → Type 0 = λ x. Clears old mid c.args.pid c.args.start x in
     let clears : Clears old mid c.args.pid c.args.start c.args.stop = subst P end c.loop-page.invariant.clears in
     cleared_block mid new c.args.pid c.root_of-root.result.0 c.args.start c.loop-page.invariant.fit c.loop-page.core.sound c.loop-page.invariant.root_is
-    c.prune.ensures.prunes (same_beside mid c.prune.new.frames) low c.args.stop le
+    c.prune.ensures.prunes (same_beside mid c.prune.new.memory) low c.args.stop le
     (cleared_still old mid c.args.pid low c.args.start c.args.stop clears c.loop-page.invariant.tables cleared) clears.gone c.prune.ensures.pruned
     (λ p from below. in_row_of c.args.start p c.args.stop ((c.args.start / 512 + 1) * 512) from below c.requires.one_table refl)

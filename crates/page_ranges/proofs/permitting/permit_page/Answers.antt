@@ -50,9 +50,9 @@ permitted-requires-clause-frame g c =
 pub returns-clause-rooted : goal.returns-clause-rooted
 returns-clause-rooted g c =
     let old : Picture = picture_of c.args.core.now in
-    let new : Picture = record old { frames = c.set_in.new.frames } in
+    let new : Picture = record old { frames = c.set_in.new.memory } in
     rooted_permitted old new c.args.pid c.args.root.0 c.args.page (number_of c.permitted.result) c.args.prot c.requires.rooted c.requires.root
-    c.requires.inside (c.set_in.ensures.sets c.args.root.0 c.args.page (c.requires.rooted.roots c.args.pid c.args.root.0 c.requires.root) c.requires.inside c.requires.place (ap (λ x. x % 512) (sym c.get.ensures.number))) (same_beside old c.set_in.new.frames)
+    c.requires.inside (c.set_in.ensures.sets c.args.root.0 c.args.page (c.requires.rooted.roots c.args.pid c.args.root.0 c.requires.root) c.requires.inside c.requires.place (ap (λ x. x % 512) (sym c.get.ensures.number))) (same_beside old c.set_in.new.memory)
 
 some : (g : Over) (c : goal.After-core-1 g) → entry (picture_of c.args.core.now) c.args.pid c.args.page ≢ 0
 some g c z = c.if-to_u64-eq0.false (c.to_u64.ensures ∙ is_entry g c ∙ z)
@@ -75,20 +75,24 @@ becomes g c =
 pub returns-clause-named : goal.returns-clause-named
 returns-clause-named g c =
     let old : Picture = picture_of c.args.core.now in
-    let new : Picture = record old { frames = c.set_in.new.frames } in
+    let new : Picture = record old { frames = c.set_in.new.memory } in
     named_permitted old new c.args.pid c.args.root.0 c.args.page (number_of c.permitted.result) c.args.prot c.requires.rooted c.requires.root
-    c.requires.inside (c.set_in.ensures.sets c.args.root.0 c.args.page (c.requires.rooted.roots c.args.pid c.args.root.0 c.requires.root) c.requires.inside c.requires.place (ap (λ x. x % 512) (sym c.get.ensures.number))) (same_beside old c.set_in.new.frames) c.takes_stores-writable.result (some g c) (here g c) (stores g c) (becomes g c) c.requires.named
+    c.requires.inside (c.set_in.ensures.sets c.args.root.0 c.args.page (c.requires.rooted.roots c.args.pid c.args.root.0 c.requires.root) c.requires.inside c.requires.place (ap (λ x. x % 512) (sym c.get.ensures.number))) (same_beside old c.set_in.new.memory) c.takes_stores-writable.result (some g c) (here g c) (stores g c) (becomes g c) c.requires.named
 
 pub returns-clause-permits : goal.returns-clause-permits
 returns-clause-permits g c =
     let old : Picture = picture_of c.args.core.now in
-    let new : Picture = record old { frames = c.set_in.new.frames } in
+    let new : Picture = record old { frames = c.set_in.new.memory } in
     permits_set old new c.args.pid c.args.root.0 c.args.page (number_of c.permitted.result) c.args.prot c.requires.rooted c.requires.root
-    c.requires.inside (c.set_in.ensures.sets c.args.root.0 c.args.page (c.requires.rooted.roots c.args.pid c.args.root.0 c.requires.root) c.requires.inside c.requires.place (ap (λ x. x % 512) (sym c.get.ensures.number))) (same_beside old c.set_in.new.frames) c.takes_stores-writable.result (some g c) (here g c) (stores g c) (becomes g c)
+    c.requires.inside (c.set_in.ensures.sets c.args.root.0 c.args.page (c.requires.rooted.roots c.args.pid c.args.root.0 c.requires.root) c.requires.inside c.requires.place (ap (λ x. x % 512) (sym c.get.ensures.number))) (same_beside old c.set_in.new.memory) c.takes_stores-writable.result (some g c) (here g c) (stores g c) (becomes g c)
 
 pub returns-clause-places : goal.returns-clause-places
 returns-clause-places g c =
     let old : Picture = picture_of c.args.core.now in
-    let new : Picture = record old { frames = c.set_in.new.frames } in
+    let new : Picture = record old { frames = c.set_in.new.memory } in
     places_permitted old new c.args.pid c.args.root.0 c.args.page (number_of c.permitted.result) c.args.prot c.requires.rooted c.requires.root
-    c.requires.inside (c.set_in.ensures.sets c.args.root.0 c.args.page (c.requires.rooted.roots c.args.pid c.args.root.0 c.requires.root) c.requires.inside c.requires.place (ap (λ x. x % 512) (sym c.get.ensures.number))) (same_beside old c.set_in.new.frames)
+    c.requires.inside (c.set_in.ensures.sets c.args.root.0 c.args.page (c.requires.rooted.roots c.args.pid c.args.root.0 c.requires.root) c.requires.inside c.requires.place (ap (λ x. x % 512) (sym c.get.ensures.number))) (same_beside old c.set_in.new.memory)
+
+pub set_in-requires-clause-placed : goal.set_in-requires-clause-placed
+set_in-requires-clause-placed g c =
+    (c.args.root.0, c.args.page, c.requires.rooted.roots c.args.pid c.args.root.0 c.requires.root, c.requires.inside, c.requires.place, ap (λ x. x % 512) (sym c.get.ensures.number))

@@ -28,26 +28,26 @@ set-requires-clause-whole g c =
 pub returns-clause-fit : goal.returns-clause-fit
 returns-clause-fit g c =
     let old : Picture = picture_of c.args.core.now in
-    let new : Picture = record old { frames = c.set.new.frames } in
+    let new : Picture = record old { frames = c.set.new.memory } in
     let is : number_of c.entry.result ≡ entry old c.args.pid c.args.page = c.entry.ensures.entry ∙ sym (entry-of old c.args.pid c.args.root.0 c.args.page c.requires.lives) in
     let P : ℕ → Type 0 = λ x. IsChanged c.args.change x (number_of c.changed-entry.result) in
     fit_changed old new c.args.change c.args.frame.0 c.args.pid c.args.root.0 c.args.page (number_of c.changed-entry.result) c.requires.fit c.requires.lives
-    (let small = c.requires.user in omega (arith, small)) c.requires.over c.requires.filed (subst P is c.changed-entry.ensures.changed) c.set.ensures.sets (same old c.set.new.frames)
+    (let small = c.requires.user in omega (arith, small)) c.requires.over c.requires.filed (subst P is c.changed-entry.ensures.changed) c.set.ensures.sets (same old c.set.new.memory)
 
 pub returns-clause-changes : goal.returns-clause-changes
 returns-clause-changes g c =
     let old : Picture = picture_of c.args.core.now in
-    let new : Picture = record old { frames = c.set.new.frames } in
+    let new : Picture = record old { frames = c.set.new.memory } in
     let is : number_of c.entry.result ≡ entry old c.args.pid c.args.page = c.entry.ensures.entry ∙ sym (entry-of old c.args.pid c.args.root.0 c.args.page c.requires.lives) in
     let P : ℕ → Type 0 = λ x. IsChanged c.args.change x (number_of c.changed-entry.result) in
     changes_one old new c.args.change c.args.frame.0 c.args.pid c.args.root.0 c.args.page (number_of c.changed-entry.result) c.requires.fit c.requires.lives
-    (let small = c.requires.user in omega (arith, small)) c.requires.over c.requires.filed (subst P is c.changed-entry.ensures.changed) c.set.ensures.sets (same old c.set.new.frames)
+    (let small = c.requires.user in omega (arith, small)) c.requires.over c.requires.filed (subst P is c.changed-entry.ensures.changed) c.set.ensures.sets (same old c.set.new.memory)
 
 pub returns-clause-clear : goal.returns-clause-clear
 returns-clause-clear g c =
     let old : Picture = picture_of c.args.core.now in
-    let new : Picture = record old { frames = c.set.new.frames } in
+    let new : Picture = record old { frames = c.set.new.memory } in
     let is : number_of c.entry.result ≡ entry old c.args.pid c.args.page = c.entry.ensures.entry ∙ sym (entry-of old c.args.pid c.args.root.0 c.args.page c.requires.lives) in
     let P : ℕ → Type 0 = λ x. IsChanged c.args.change x (number_of c.changed-entry.result) in
     clear_here old new c.args.change c.args.frame.0 c.args.pid c.args.root.0 c.args.page (number_of c.changed-entry.result) c.requires.fit c.requires.lives
-    (let small = c.requires.user in omega (arith, small)) c.requires.over c.requires.filed (subst P is c.changed-entry.ensures.changed) c.set.ensures.sets (same old c.set.new.frames)
+    (let small = c.requires.user in omega (arith, small)) c.requires.over c.requires.filed (subst P is c.changed-entry.ensures.changed) c.set.ensures.sets (same old c.set.new.memory)

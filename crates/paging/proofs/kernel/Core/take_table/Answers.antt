@@ -30,21 +30,21 @@ pub returns-clause-gives : goal.returns-clause-gives
 returns-clause-gives g c =
     let old = picture_of c.args.self.now in
     let found = picture_of c.obtain.new.core in
-    let new : Picture = record found { frames = c.take_table.new.frames } in
+    let new : Picture = record found { frames = c.take_table.new.memory } in
     let needed = needed_of c.args.self.now c.obtain.new.core c.obtain.ensures.needed in
     let adds = c.in-Ok.ensures.taken in
     let gives = frame_taken old found None c.in_ok-obtain.field-0.0 c.in-Ok.table.0 c.obtain.ensures.frees c.in_ok-obtain.ensures.gives needed adds.takes.inside adds.takes.was_free in
-    table_given old found new c.in-Ok.table.0 c.obtain.ensures.fit c.obtain.ensures.frees adds (same_beside found c.take_table.new.frames) gives needed
+    table_given old found new c.in-Ok.table.0 c.obtain.ensures.fit c.obtain.ensures.frees adds (same_beside found c.take_table.new.memory) gives needed
 
 pub returns-clause-only : goal.returns-clause-only
 returns-clause-only g c =
     let old = picture_of c.args.self.now in
     let found = picture_of c.obtain.new.core in
-    let new : Picture = record found { frames = c.take_table.new.frames } in
+    let new : Picture = record found { frames = c.take_table.new.memory } in
     let needed = needed_of c.args.self.now c.obtain.new.core c.obtain.ensures.needed in
     let adds = c.in-Ok.ensures.taken in
     let gives = frame_taken old found None c.in_ok-obtain.field-0.0 c.in-Ok.table.0 c.obtain.ensures.frees c.in_ok-obtain.ensures.gives needed adds.takes.inside adds.takes.was_free in
-    roles_but old found new c.in-Ok.table.0 c.obtain.ensures.fit c.obtain.ensures.frees adds (same_beside found c.take_table.new.frames) gives
+    roles_but old found new c.in-Ok.table.0 c.obtain.ensures.fit c.obtain.ensures.frees adds (same_beside found c.take_table.new.memory) gives
 
 pub returns-in_err-obtain-clause-tried : goal.returns-in_err-obtain-clause-tried
 returns-in_err-obtain-clause-tried g c =
