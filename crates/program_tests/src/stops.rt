@@ -3,6 +3,7 @@ use crate::program_bench::{
     Ending, Program, done, expect, expect_refusal, failed, ran_over, same, same_number,
 };
 use std::test::Fail;
+use stop_trials::{Event, Trial};
 use test_streams::{FailingReader, Full, LimitedWriter};
 
 /// One msync of one page: its events are the sync of the boot, 8 writes of the body, one of the map, a sync, the write of the
@@ -19,6 +20,20 @@ stop 6 body acknowledged 0 left 0 0 0 0 0\nstop 7 body acknowledged 0 left 0 0 0
 stop 9 body acknowledged 0 left 0 0 0 0 0\nstop 10 map acknowledged 0 left 0 0 0 0 0\nstop 11 sync acknowledged 0 left 0 0 0 0 0\n\
 stop 12 gate acknowledged 0 left 0 0 0 0 1\nstop 13 sync acknowledged 0 left 0 0 0 0 1\nstops 13 recoveries 65 bad 0\n";
     expect(&rt, Program::Stops, &["zero:1"], ONE_MSYNC, done(lines))
+}
+
+/// No store gives such a line: with one filling an acknowledged msync is lost.
+#[test]
+fn a_stop_that_loses_an_acknowledged_msync_is_bad(rt: HostRuntime) -> Result<(), Fail> {
+    let trial = Trial {
+        number: 12,
+        event: Event::Sync,
+        acknowledged: 2,
+        standing: [Some(2), Some(3), None, Some(2), Some(2)],
+    };
+    let line = format!(in rt.alloc(); "{trial}")?;
+    let wanted = b"stop 12 sync acknowledged 2 left 2 3 - 2 2 BAD";
+    same("line", line.as_bytes(), wanted)
 }
 
 #[test]

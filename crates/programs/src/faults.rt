@@ -3,6 +3,7 @@ ghost use Rattle.std.specs.Prelude.{◌≡◌, IfOk, IfErr};
 ghost use Rattle.clap.specs.Values.{kind_of};
 ghost use Rattle.programs.specs.Faults.{fault_status, words_fault};
 
+use crate::showing::ShowFault;
 use clap::error::ErrorKind;
 use file_store::{FormatFault, OpenFault};
 use machine::BootFault;
@@ -30,19 +31,19 @@ pub enum ProgramFault<'a> {
     #[error("format {} {}", *.0 as u8, *.0)]
     Format(FormatFault),
     /// A store was not opened.
-    #[error("open {} {}", *.0 as u8, *.0)]
+    #[error("{}", ShowFault::Open(*.0))]
     Open(OpenFault),
     /// The store has no file of that number.
-    #[error("no file {0}")]
+    #[error("{} {}", ShowFault::NoFile, *.0)]
     NoFile(u32),
     /// The machine did not start.
     #[error("boot {} {}", *.0 as u8, *.0)]
     Boot(BootFault),
     /// The input, or the device that is read from, failed.
-    #[error("read failed")]
+    #[error("{}", ShowFault::Read)]
     ReadFailed,
     /// The output failed, or took no bytes.
-    #[error("write failed")]
+    #[error("{}", ShowFault::Write)]
     WriteFailed,
 }
 

@@ -19,6 +19,7 @@ use file_store::{FileStore, OpenFault};
 use runner::{WriteFault, write_bytes};
 use std::fs::{File, Files};
 use std::io::{Read, Write};
+use thiserror::Error;
 use vm_types::{FilePage, PAGE_BYTES};
 
 /// `pagecat IMAGE N`: opens the image, which carries out an open journal, and writes the bytes of file N to `writer`, a
@@ -66,16 +67,20 @@ fn told<'a>(fault: ShowFault, file: u32) -> ProgramFault<'a> {
     }
 }
 
-/// Why a file was not shown.
-#[derive(Clone, Copy, Debug, PartialEq, Eq)]
+/// Why a file was not shown. `Display` gives it as the program tells it, which adds the file's number.
+#[derive(Clone, Copy, Debug, PartialEq, Eq, Error)]
 pub enum ShowFault {
     /// The image could not be opened.
+    #[error("open {} {}", *.0 as u8, *.0)]
     Open(OpenFault),
     /// The image has no file of that number.
+    #[error("no file")]
     NoFile,
     /// The device failed while the file was read.
+    #[error("read failed")]
     Read,
     /// The writer failed, or took no bytes.
+    #[error("{}", WriteFault)]
     Write,
 }
 

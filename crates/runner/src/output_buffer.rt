@@ -8,11 +8,13 @@ ghost use Rattle.runner.specs.Bytes.{WritesBeginning};
 
 use std::io::{ErrorKind, Write};
 use std::marker::Model;
+use thiserror::Error;
 use trace_lang::{answer_text, history_text};
 use vm_types::{Answer, History};
 
-/// The writer failed, or took no bytes.
-#[derive(Clone, Copy, Debug, PartialEq, Eq)]
+/// The writer failed, or took no bytes. `Display` says so as the programs tell it.
+#[derive(Clone, Copy, Debug, PartialEq, Eq, Error)]
+#[error("write failed")]
 pub struct WriteFault;
 
 /// From so many bytes on the buffer is written out: 32 KiB.

@@ -13,3 +13,5 @@ mod trials;
 mod words;
 
 pub use program::pagestops;
+pub use stopping::Event;
+pub use trials::Trial;

@@ -10,7 +10,7 @@ use std::alloc::{AllocError, Global};
 
 /// What a device is asked for that a stop can come in.
 #[derive(Clone, Copy, Debug, PartialEq, Eq)]
-pub(crate) enum Event {
+pub enum Event {
     /// The write of that sector.
     Write(u64),
     /// A sync.

@@ -21,9 +21,10 @@ const FILLINGS: u64 = 5;
 
 /// A stop, and for each filling what it leaves. `Display` gives its line.
 #[derive(Clone, Copy, Debug, PartialEq, Eq)]
-pub(crate) struct Trial {
-    /// The number of the event, the first being 1, and what it was.
+pub struct Trial {
+    /// The number of the event, the first being 1.
     pub number: u64,
+    /// What the event was.
     pub event: Event,
     /// How many msyncs were answered by `ok`.
     pub acknowledged: usize,
