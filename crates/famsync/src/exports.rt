@@ -21,7 +21,8 @@ use crate::lent_pages::PageBytes;
 use crate::planning::{file_facts, plan_commit, plan_open, read_page};
 use vm_types::FilePage;
 
-/// Plans that the image is opened. It must hold what the file holds, all of it synced.
+/// Plans that the image is opened. It must hold what the file holds, all of it synced. Returns 0, and the handle is pending then; 2 or 3
+/// where the image is no store or its journal is bad, 6 where 2,048 calls do not suffice: then the plan is empty and the handle closed.
 #[unsafe(no_mangle)]
 pub extern "C" fn famsync_open(
     handle: &mut Handle,
@@ -61,7 +62,8 @@ pub extern "C" fn famsync_open(
 }
 
 /// Plans that these pages become durable all at once: page `pages[i]` becomes the bytes at `bytes[i]`, with zeros past its
-/// file's end.
+/// file's end. There are 1 to 127 pages, none twice, each of which begins inside its file. Returns 0, and the handle is pending then; 1 exactly
+/// where the handle is not ready; 2 to 6 as in `codes`. After another result than 0 the plan is empty and the handle as it was.
 #[unsafe(no_mangle)]
 pub extern "C" fn famsync_commit(
     handle: &mut Handle,
@@ -112,7 +114,8 @@ pub extern "C" fn famsync_commit(
     }
 }
 
-/// Reads a page that begins inside its file: the file's bytes, and zeros past its end.
+/// Reads a page that begins inside its file: the file's bytes, and zeros past its end. Returns 0; 1 exactly where the handle is not ready; 2, 3
+/// and 6 as an opening does; 4 where the page does not begin inside its file, or there is no such file.
 #[unsafe(no_mangle)]
 pub extern "C" fn famsync_read(
     handle: &Handle,
@@ -142,7 +145,7 @@ pub extern "C" fn famsync_read(
     }
 }
 
-/// Tells the length of a file in bytes.
+/// Tells the length of a file in bytes. Returns as `famsync_read`, 4 where there is no such file.
 #[unsafe(no_mangle)]
 pub extern "C" fn famsync_length(
     handle: &Handle,
@@ -173,7 +176,8 @@ pub extern "C" fn famsync_length(
     }
 }
 
-/// The calls of the plan were made, and all of them succeeded.
+/// The calls of the plan were made, and all of them succeeded. Returns 0, and the handle is ready then; 1 exactly where it was not pending,
+/// and it stays as it was.
 #[unsafe(no_mangle)]
 pub extern "C" fn famsync_done(handle: &mut Handle) -> u32
     ensures state { result ≡ done → (handle.old.state ≡ pending) × (handle.new.state ≡ ready) }
@@ -188,7 +192,7 @@ pub extern "C" fn famsync_done(handle: &mut Handle) -> u32
     OK
 }
 
-/// A call failed. None may be made after it until the image is opened again.
+/// A call failed. None may be made after it until the image is opened again: the handle is closed then, whatever it was.
 #[unsafe(no_mangle)]
 pub extern "C" fn famsync_failed(handle: &mut Handle)
     ensures { handle.new.state ≡ closed }

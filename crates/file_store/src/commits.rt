@@ -20,7 +20,8 @@ use vm_types::FilePage;
 
 impl<D: SectorDisk> FileStore<D> {
     /// Makes pages of files durable all at once, in all files of the list: page `pages[i]` becomes page `i` of the
-    /// source, with zeros past its file's end.
+    /// source, with zeros past its file's end. There are 1 to 127 pages, none twice, each of which begins inside its file; whether a file may
+    /// only be read is not looked at.
     ///
     /// `Source` comes only where the source failed: the store then stands for what it did, at every moment, and commit
     /// may be called again. `Device` comes only where the device failed: every image that a stop might have left stands

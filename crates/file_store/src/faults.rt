@@ -4,21 +4,21 @@ ghost use Rattle.file_store.specs.declared.faults.OpenFault.TheVariants.{Device,
 
 use crate::directory::BadDirectory;
 use disk_model::DiskFault;
-use sync_journal::RecoverFault;
+use sync_journal::{CommitFault, RecoverFault};
 use thiserror::Error;
 
 /// Why a store could not be opened. `Display` gives its name, as the programs print it.
 #[derive(Clone, Copy, Debug, PartialEq, Eq, Error)]
 pub enum OpenFault {
     /// The device failed.
-    #[error("DEVICE")]
+    #[error("{}", RecoverFault::Device)]
     Device = 1,
     /// The device has fewer than 1,020 sectors, sector 0 is not the layout mark, or the directory is bad: an entry of
     /// no file is not zero, a file's homes do not end within the store, or two files share a home. Nothing was written.
     #[error("BADLAYOUT")]
     BadLayout = 2,
     /// The journal is open with a map that no commit writes. Nothing was written.
-    #[error("BADJOURNAL")]
+    #[error("{}", RecoverFault::BadJournal)]
     BadJournal = 3,
 }
 
@@ -26,7 +26,7 @@ pub enum OpenFault {
 #[derive(Clone, Copy, Debug, PartialEq, Eq, Error)]
 pub enum FormatFault {
     /// The device failed.
-    #[error("DEVICE")]
+    #[error("{}", RecoverFault::Device)]
     Device = 1,
     /// There are over 64 files, fewer than 1,020 sectors, or not enough home pages. Nothing was written.
     #[error("TOOLARGE")]
@@ -35,7 +35,7 @@ pub enum FormatFault {
     #[error("FORMATTED")]
     Formatted = 3,
     /// A source failed or ended early.
-    #[error("SOURCE")]
+    #[error("{}", CommitFault::Source)]
     Source = 4,
 }
 

@@ -16,8 +16,11 @@ use vm_types::FileInfo;
 /// it has. Without a reader it has `length` zero bytes.
 #[derive(Debug, Drop)]
 pub struct FileSource<R> {
+    /// Whether stores through shared pages are refused.
     pub read_only: bool,
+    /// In bytes.
     pub length: u32,
+    /// Its bytes from the first on; `None` for zeros.
     pub bytes: Option<R>,
 }
 

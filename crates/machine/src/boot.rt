@@ -49,13 +49,13 @@ pub enum BootFault {
     #[error("OUTOFMEMORY")]
     OutOfMemory = 3,
     /// The store device failed.
-    #[error("DEVICE")]
+    #[error("{}", OpenFault::Device)]
     Device = 4,
-    /// The store isn't laid out as one.
-    #[error("BADLAYOUT")]
+    /// The image has no layout of a store, as `OpenFault::BadLayout` says. Nothing was written.
+    #[error("{}", OpenFault::BadLayout)]
     BadLayout = 5,
-    /// The journal is open with a map that no commit writes.
-    #[error("BADJOURNAL")]
+    /// The journal is open with a map that no commit writes. Nothing was written.
+    #[error("{}", OpenFault::BadJournal)]
     BadJournal = 6,
 }
 

@@ -1,13 +1,16 @@
 //! Why an access has no place in memory.
 
+use thiserror::Error;
 use vm_types::{Fault, Stall};
 
 /// Why an access has no place in memory.
-#[derive(Clone, Copy, Debug, PartialEq, Eq)]
+#[derive(Clone, Copy, Debug, PartialEq, Eq, Error)]
 pub enum AccessRefusal {
     /// The access faults.
+    #[error("the access faults")]
     Fault(Fault),
     /// The access is fine, but memory, swap or a device is wanting.
+    #[error("the access stalls")]
     Stall(Stall),
 }
 

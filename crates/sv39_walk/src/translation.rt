@@ -8,29 +8,39 @@ ghost use Rattle.sv39_walk.specs.Walk.{translated, is_canonical, last_of, answer
 use crate::TOP_LEVEL;
 use crate::pte::{Pte, read_entry};
 use frames::Frames;
+use thiserror::Error;
 use vm_types::{Access, FrameNo, Phys};
 
 /// Why an address has no physical address. Each is a page fault (RISC-V Privileged Specification, "Virtual Address
-/// Translation Process"); the names and their order are our own.
-#[derive(Clone, Copy, Debug, PartialEq, Eq)]
+/// Translation Process"); the names and their order are our own. `Display` gives its name.
+#[derive(Clone, Copy, Debug, PartialEq, Eq, Error)]
 pub enum WalkFault {
     /// Bits 63 to 39 of the address differ from bit 38.
+    #[error("NONCANONICAL")]
     NonCanonical = 1,
     /// V is clear.
+    #[error("INVALID")]
     Invalid = 2,
     /// W without R, or one of bits 54 to 63.
+    #[error("RESERVED")]
     Reserved = 3,
     /// A pointer at the lowest level.
+    #[error("TOODEEP")]
     TooDeep = 4,
     /// The root, the next table or the page lies outside memory.
+    #[error("OUTSIDE")]
     Outside = 5,
     /// A leaf above the lowest level whose low bits of the physical page number aren't zero.
+    #[error("MISALIGNED")]
     Misaligned = 6,
     /// U is clear, or the leaf lacks the access.
+    #[error("DENIED")]
     Denied = 7,
     /// A is clear.
+    #[error("NOTACCESSED")]
     NotAccessed = 8,
     /// A store where D is clear.
+    #[error("NOTDIRTY")]
     NotDirty = 9,
 }
 

@@ -7,6 +7,7 @@ use crate::pages::Pages;
 use crate::share_counts::ShareCounts;
 use disk_model::{DiskFault, SectorDisk};
 use std::alloc::{AllocError, Global};
+use thiserror::Error;
 use vm_types::SlotNo;
 
 /// A device of slots of 4,096 bytes, at most 65,536: slot `n` is sectors `8n` to `8n + 7`. Nothing that lies on it is used
@@ -23,11 +24,13 @@ pub struct Swap<D> {
 }
 
 /// Why a page got no slot.
-#[derive(Clone, Copy, Debug, PartialEq, Eq)]
+#[derive(Clone, Copy, Debug, PartialEq, Eq, Error)]
 pub enum PutFault {
     /// No slot is free.
+    #[error("no slot is free")]
     Full,
     /// The device failed.
+    #[error("{}", DiskFault)]
     Device,
 }
 

@@ -5,13 +5,16 @@ ghost use Rattle.sync_journal.specs.declared.faults.RecoverFault.TheVariants.{De
 
 use crate::source::SourceFault;
 use disk_model::DiskFault;
+use thiserror::Error;
 
-/// Why a commit gave up.
-#[derive(Clone, Copy, Debug, PartialEq, Eq)]
+/// Why a commit gave up. `Display` gives its name.
+#[derive(Clone, Copy, Debug, PartialEq, Eq, Error)]
 pub enum CommitFault {
     /// The source failed. The store stands for what it did, and the commit may be tried again.
+    #[error("SOURCE")]
     Source = 1,
     /// The device failed. The journal isn't used again until recovery.
+    #[error("{}", RecoverFault::Device)]
     Device = 2,
 }
 
@@ -31,12 +34,14 @@ impl From<SourceFault> for CommitFault {
     }
 }
 
-/// Why a recovery gave up.
-#[derive(Clone, Copy, Debug, PartialEq, Eq)]
+/// Why a recovery gave up. `Display` gives its name.
+#[derive(Clone, Copy, Debug, PartialEq, Eq, Error)]
 pub enum RecoverFault {
     /// The device failed.
+    #[error("DEVICE")]
     Device = 1,
     /// The gate is open before a map that no commit writes. Nothing was written.
+    #[error("BADJOURNAL")]
     BadJournal = 2,
 }
 
