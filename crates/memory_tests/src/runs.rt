@@ -51,6 +51,8 @@ fn anonymous_pages_split_and_merge(rt: HostRuntime) -> Result<(), Fail> {
         Vpn::new(0x10),
         "taken: the lowest page"
     );
+    regions.clear();
+    assert_eq!(rt; regions.runs(), 0);
     Ok(())
 }
 

@@ -48,7 +48,7 @@ impl<D, E> Core<D, E> {
     {
         let place = usize::from(pid.get());
         self.roots[place] = Some(root);
-        self.regions[place] = Regions::new();
+        self.regions[place].clear();
     }
 
     /// Gives a live process these regions, whatever entries its pages have.

@@ -47,6 +47,14 @@ impl Regions {
         Regions::empty()
     }
 
+    /// Removes every page. Only the number of runs is written, whatever the table holds.
+    pub fn clear(&mut self)
+        ensures empty { (page : ℕ) → attr_at self.new page ≡ None }
+        ensures user { IsUserMap (attr_at self.new) }
+    {
+        self.len = 0;
+    }
+
     /// The table without a run.
     fn empty() -> Regions
         ensures { result ≡ [] }
