@@ -1,5 +1,6 @@
 -- What steps keep of the processes and of the files.
 use Rattle.std.proofs.Common.{◌≡◌, ℕ, inl, inr, Option, Some, None, false, refl, sym, ap, ◌∙◌, subst}
+use Rattle.vm_types.specs.declared.file.FilePage.{FilePage}
 use Rattle.std.specs.Prelude.{is_some}
 use Rattle.std.proofs.lemmas.Bool.{false≢true}
 use Rattle.vm_types.specs.declared.number.FrameNo.{FrameNo}
@@ -44,12 +45,13 @@ no_copy_freed old new keep frees n is = elim (frees.roles n) [
   | inr freed ↦ (let bad : Free ≡ Private = sym freed.0 ∙ is in (cc))
 ]
 
--- nothing is given up where frames and entries are the same
-pub gives_alike : (old new : Picture) → new.frames ≡ old.frames → ((q page : ℕ) → entry new q page ≡ entry old q page) → GivesForTables old new None
-gives_alike old new frames entries = record {
+-- nothing is given up where frames, entries and places are the same
+pub gives_alike : (old new : Picture) → new.frames ≡ old.frames → ((q page : ℕ) → entry new q page ≡ entry old q page) → ((p : FilePage) → new.place p ≡ old.place p)
+    → GivesForTables old new None
+gives_alike old new frames entries places = record {
   count = ap frame_count frames;
   roles = λ n. inl (ap (λ t. role_of t n) frames);
   entries = λ q page h. Same (entries q page);
   pointers = λ n i m points. (let P : FrameTable → Type 0 = λ t. Points t n i m in subst P (sym frames) points);
-  needed = inr (record { roles = λ n held. ap (λ t. role_of t n) frames; entries = λ q page h. entries q page });
+  needed = inr (record { roles = λ n held. ap (λ t. role_of t n) frames; entries = λ q page h. entries q page; places = places });
 }

@@ -101,7 +101,7 @@ module _ (old mid new : Picture) (pid n : ℕ) (obtains : ObtainsTable old mid n
   ]
 
   pub root_given : GivesForTables old mid None → GivesForTables old new None
-  root_given gives = gives_then old mid new None gives (gives_alike mid new spawns.frames entries_spawned)
+  root_given gives = gives_then old mid new None gives (gives_alike mid new spawns.frames entries_spawned spawns.place)
 
   pub bare_kept : KeepsBare old new
   bare_kept q p h none = elim (cases_eq q pid) [

@@ -80,7 +80,7 @@ module _ (old taken new : Picture) (pid root page table : ℕ) (obtains : Obtain
     roles = λ n. inl (role_linked n);
     entries = λ q p h. Same (entry_linked q p);
     pointers = pointer_linked;
-    needed = inr (record { roles = λ n data'. role_linked n; entries = λ q p h. entry_linked q p });
+    needed = inr (record { roles = λ n data'. role_linked n; entries = λ q p h. entry_linked q p; places = λ p. beside.place p });
   }
 
   pub gives_linked : GivesForTables old taken None → GivesForTables old new None

@@ -1,5 +1,5 @@
 -- An access goes on after the tables on its way were linked.
-use Rattle.std.proofs.Common.{◌≡◌, ℕ, inl, inr, ◌⊎◌, true, false, Some, Result, refl, sym, ap, ◌∙◌, subst}
+use Rattle.std.proofs.Common.{◌≡◌, ℕ, inl, inr, ◌⊎◌, true, false, None, Some, Result, refl, sym, ap, ◌∙◌, subst}
 use Rattle.std.specs.Prelude.{IfOk, IfErr}
 use Rattle.std.proofs.lemmas.Bool.{false≢true}
 use Rattle.vm_types.specs.declared.access.Access.{Access}
@@ -16,12 +16,13 @@ use Rattle.file_store.specs.declared.store.FileStore.{FileStore}
 use Rattle.page_tables.specs.Tree.{IsPage}
 use Rattle.page_tables.proofs.Ends.{page_entry-missing}
 use Rattle.paging.specs.declared.kernel.Core.{Core}
+use Rattle.paging.specs.Ages.{GivesForTables}
 use Rattle.paging.specs.Seats.{is_swapped}
 use Rattle.paging.specs.Picture.{Picture, picture_of, entry}
 use Rattle.paging.specs.Calls.{KeepsPages, StallCause}
 use Rattle.paging.specs.Capacity.{IsShort}
 use Rattle.paging.proofs.Entries.{entry-of}
-use Rattle.mapping.specs.Changes.{IsWhole, IsCalm, KeepsBare, Moves}
+use Rattle.mapping.specs.Changes.{IsWhole, IsCalm, KeepsBare, LinksTables, Moves}
 use Rattle.mapping.specs.Files.{BringsPages, BringsFiles}
 use Rattle.mapping.proofs.BroughtIn.{cause_of}
 use Rattle.mapping.proofs.Forms.{none_here, seat_zero}
@@ -74,20 +75,29 @@ module _ {D E : Type 0} (old mid : Core D E) (pid page : ℕ) (lives : (r : ℕ)
   shows_before : (p : FilePage) → ShowsFile (picture_of mid) pid page p → ShowsFile (picture_of old) pid page p
   shows_before p = shows_back (picture_of old) (picture_of mid) pid page p pages.at (keeps_seen (picture_of old) (picture_of mid) pages)
 
-  pub home_back : ReadsHome (picture_of mid) pid page → ReadsHome (picture_of old) pid page
-  home_back home = elim (whole_or (picture_of old) pid page lives) [
+  -- the page's file page is to be read once the tables are made: it was at home, or they fill memory
+  pub home_back : IsWhole (picture_of mid) pid page → GivesForTables (picture_of old) (picture_of mid) None → LinksTables (picture_of old) (picture_of mid) pid page
+      → ReadsHome (picture_of mid) pid page → ReadsHome (picture_of old) pid page
+  home_back linked gives tables home = elim (whole_or (picture_of old) pid page lives) [
     | inl whole ↦ (let P : Core D E → Type 0 = λ k. ReadsHome (picture_of k) pid page in subst P (idle whole) home)
     | inr lacks ↦ record {
       file = home.file;
       shows = shows_before home.file home.shows;
       untouched = sym (pages.files.touched home.file) ∙ home.untouched;
-      home = inr lacks;
+      home = elim home.home [
+        | inl here ↦ elim gives.needed [
+          | inl full ↦ inr (record { lacks = lacks; linked = picture_of mid; gives = gives; tables = tables; full = full })
+          | inr none ↦ inl (sym (none.places home.file) ∙ here)
+        ]
+        | inr again ↦ absurd (again.lacks.missing (linked again.lacks.root again.lacks.lives))
+      ];
     }
   ]
 
-  pub read_back : (new : FileStore D) → mid.store ≡ old.store → (new ≡ mid.store) ⊎ ReadsHome (picture_of mid) pid page → (new ≡ old.store) ⊎ ReadsHome (picture_of old) pid page
-  read_back new same (inl e) = inl (e ∙ same)
-  read_back new same (inr home) = inr (home_back home)
+  pub read_back : IsWhole (picture_of mid) pid page → GivesForTables (picture_of old) (picture_of mid) None → LinksTables (picture_of old) (picture_of mid) pid page
+      → (new : FileStore D) → mid.store ≡ old.store → (new ≡ mid.store) ⊎ ReadsHome (picture_of mid) pid page → (new ≡ old.store) ⊎ ReadsHome (picture_of old) pid page
+  read_back linked gives tables new same (inl e) = inl (e ∙ same)
+  read_back linked gives tables new same (inr home) = inr (home_back linked gives tables home)
 
   -- a page that lies in a slot lay there
   pub away_back : IsPage 2 page → KeepsBare (picture_of old) (picture_of mid) → is_swapped (entry (picture_of mid) pid page) ≡ true → is_swapped (entry (picture_of old) pid page) ≡ true
@@ -112,20 +122,20 @@ module _ {D E : Type 0} (old mid : Core D E) (pid page : ℕ) (lives : (r : ℕ)
         subst P moves.store
         (brings_after g mid.store.disk new.store.disk W V (picture_of old) (picture_of mid) (picture_of new) shows_before pages.files (brings kept))
 
-    one_stalled : (new : Core D E) (access : Access) (stall : Stall) → mid.refused.number ≡ old.refused.number → h.failures mid.swap.pages.disk ≡ h.failures old.swap.pages.disk
+    one_stalled : IsWhole (picture_of mid) pid page → GivesForTables (picture_of old) (picture_of mid) None → LinksTables (picture_of old) (picture_of mid) pid page → (new : Core D E) (access : Access) (stall : Stall) → mid.refused.number ≡ old.refused.number → h.failures mid.swap.pages.disk ≡ h.failures old.swap.pages.disk
         → IsStalled g h mid new pid page access stall → IsStalled g h old new pid page access stall
-    one_stalled new access stall same swap_calm stalled = record {
+    one_stalled linked gives tables new access stall same swap_calm stalled = record {
       keeps = seen_then (picture_of old) (picture_of mid) (picture_of new) (keeps_seen (picture_of old) (picture_of mid) pages) stalled.keeps;
       cause = cause_then g h old mid new stall swap_calm same (ap (λ s. g.failures s.disk) moves.store) stalled.cause;
       short = stalled.short;
       wanted = wants_back access stalled.wanted;
-      home = λ device. home_back (stalled.home device);
+      home = λ device. home_back linked gives tables (stalled.home device);
     }
 
-    pub stalled_back : (new : Core D E) (access : Access) (r : Result FrameNo Stall) → mid.refused.number ≡ old.refused.number → h.failures mid.swap.pages.disk ≡ h.failures old.swap.pages.disk
+    pub stalled_back : IsWhole (picture_of mid) pid page → GivesForTables (picture_of old) (picture_of mid) None → LinksTables (picture_of old) (picture_of mid) pid page → (new : Core D E) (access : Access) (r : Result FrameNo Stall) → mid.refused.number ≡ old.refused.number → h.failures mid.swap.pages.disk ≡ h.failures old.swap.pages.disk
         → IfErr r (IsStalled g h mid new pid page access) → IfErr r (IsStalled g h old new pid page access)
-    stalled_back new access r same swap_calm stalled =
-        stall_then (IsStalled g h mid new pid page access) (IsStalled g h old new pid page access) r (λ s. one_stalled new access s same swap_calm) stalled
+    stalled_back linked gives tables new access r same swap_calm stalled =
+        stall_then (IsStalled g h mid new pid page access) (IsStalled g h old new pid page access) r (λ s. one_stalled linked gives tables new access s same swap_calm) stalled
 
     -- no frame was had for a table
     pub stalled_tables : (access : Access) (stall : Stall) → StallCause h old mid stall → IsShort (picture_of mid) stall → LacksTable (picture_of old) pid page

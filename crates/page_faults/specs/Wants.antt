@@ -8,12 +8,14 @@ use Rattle.vm_types.specs.declared.number.FrameNo.{FrameNo}
 use Rattle.vm_types.specs.declared.region.Attr.{Attr}
 use Rattle.vm_types.specs.declared.region.Backing.{Backing}
 use Rattle.vm_types.specs.declared.region.Backing.TheVariants.{Anon, Private, Shared}
+use Rattle.frames.specs.FrameTable.{IsFull}
 use Rattle.page_tables.specs.Tree.{missing_of}
 use Rattle.page_cache.specs.declared.place.Place.TheVariants.{Home, Frame}
+use Rattle.paging.specs.Ages.{GivesForTables}
 use Rattle.paging.specs.Seats.{seat, is_swapped}
 use Rattle.paging.specs.Picture.{Picture, entry}
 use Rattle.paging.specs.Parts.{is_shared}
-use Rattle.mapping.specs.Changes.{is_sole}
+use Rattle.mapping.specs.Changes.{is_sole, LinksTables}
 
 -- a table is missing on the way to a page of a process
 pub record LacksTable (c : Picture) (pid page : ℕ) : Type 0 where
@@ -43,10 +45,19 @@ pub data Wants (c : Picture) (pid page : ℕ) (access : Access) : Type 0 where
   ForStore : (attr : Attr) → access ≡ Store → c.at pid page ≡ Some attr → is_shared attr.backing ≡ false
       → is_sole c (entry c pid page) ≡ false → Wants c pid page access
 
--- The page shows a file page that nobody has touched, and that is to be read from its home: it lies there, or a table is
--- missing on the page's way, for which a frame may be given up that holds it.
+-- Tables are missing on a page's way, and no frame is free once they are made: those frames, the tables on this way alone, may
+-- be had by giving up one that holds the file page.
+pub record FillsMemory (c : Picture) (pid page : ℕ) : Type 0 where
+  pub lacks : LacksTable c pid page
+  pub linked : Picture
+  pub gives : GivesForTables c linked None
+  pub tables : LinksTables c linked pid page
+  pub full : IsFull linked.frames
+
+-- The page shows a file page that nobody has touched, and that is to be read from its home: it lies there, or the frame that it
+-- lies in may be given up for the tables that are missing on the page's way.
 pub record ReadsHome (c : Picture) (pid page : ℕ) : Type 0 where
   pub file : FilePage
   pub shows : ShowsFile c pid page file
   pub untouched : c.touched file ≡ false
-  pub home : (c.place file ≡ Home) ⊎ LacksTable c pid page
+  pub home : (c.place file ≡ Home) ⊎ FillsMemory c pid page

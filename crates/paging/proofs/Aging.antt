@@ -41,7 +41,7 @@ gives_same c = record {
   roles = λ n. inl refl;
   entries = λ pid page h. Same refl;
   pointers = λ n i m points. points;
-  needed = inr (record { roles = λ n datum. refl; entries = λ pid page h. refl });
+  needed = inr (record { roles = λ n datum. refl; entries = λ pid page h. refl; places = λ p. refl });
 }
 
 pub full_then : (old new : Picture) (tried : Option ℕ) → GivesForTables old new tried → IsFull old.frames → IsFull new.frames
@@ -77,6 +77,7 @@ none_then : (a b c : Picture) → GivesNone a b → GivesNone b c → GivesNone 
 none_then a b c f g = record {
   roles = λ n datum. (let first = f.roles n datum in g.roles n (ap is_data first ∙ datum) ∙ first);
   entries = λ pid page h. g.entries pid page h ∙ f.entries pid page h;
+  places = λ p. g.places p ∙ f.places p;
 }
 
 pub gives_then : (a b c : Picture) (tried : Option ℕ) → GivesForTables a b None → GivesForTables b c tried → GivesForTables a c tried

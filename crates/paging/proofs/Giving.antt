@@ -110,6 +110,7 @@ module _ (old found new : Picture) (n : ℕ) (fit : IsFit found) (frees : Frees 
       | inr ne ↦ roles_but m ne
     ];
     entries = λ pid page h. entries_same pid page ∙ ap (λ (c : Picture). entry c pid page) same;
+    places = λ p. beside.place p ∙ ap (λ (c : Picture). c.place p) same;
   }
 
   pub table_given : IsFull old.frames ⊎ (found ≡ old) → GivesForTables old new None

@@ -1,6 +1,7 @@
 -- What giving frames up does to entries, and which frames are given up.
 use Rattle.std.specs.Prelude.{◌≡◌, ◌≢◌, ℕ, ◌⊎◌, true, false, Option, Some}
 use Rattle.vm_types.specs.Limits.{top_level}
+use Rattle.vm_types.specs.declared.file.FilePage.{FilePage}
 use Rattle.frames.specs.declared.role.Role.TheVariants.{Free, Table}
 use Rattle.frames.specs.FrameTable.{frame_count, role_of, IsFull}
 use Rattle.sv39_walk.specs.Entry.{frame_of}
@@ -32,10 +33,11 @@ pub record GivesFrame (old new : Picture) (v : ℕ) : Type 0 where
 abbrev pub IsGiven : Picture → Picture → Option ℕ → ℕ → Type 0
 IsGiven old new tried n = (is_data (role_of old.frames n) ≡ true) × ((is_data (role_of new.frames n) ≡ false) ⊎ (tried ≡ Some n))
 
--- no frame was given up: each that held a page has its use, and every entry is as it was
+-- no frame was given up: each that held a page has its use, every entry is as it was, and every file page lies where it lay
 pub record GivesNone (old new : Picture) : Type 0 where
   pub roles : (n : ℕ) → is_data (role_of old.frames n) ≡ true → role_of new.frames n ≡ role_of old.frames n
   pub entries : (pid page : ℕ) → IsPage top_level page → entry new pid page ≡ entry old pid page
+  pub places : (p : FilePage) → new.place p ≡ old.place p
 
 -- Frames became tables, and some of them were given up for that; of the others none has another use. Only entries over those
 -- that were given up lost their frames, every pointer to a table stands, and none was given up unless no frame is free now.

@@ -1,6 +1,7 @@
 use Rattle.std.proofs.Common.{◌≡◌, ◌≢◌, ℕ, [], None, refl, sym, ap, ◌∙◌, subst}
 use Rattle.std.specs.Prelude.{slice_index_or}
 use Rattle.std.proofs.lemmas.Bool.{false≢true}
+use Rattle.vm_types.specs.declared.file.FilePage.{FilePage}
 use Rattle.frames.specs.FrameTable.{frame_count, role_of}
 use Rattle.page_cache.specs.CacheTable.{place_of}
 use Rattle.regions.proofs.ResultLemmas.{on_err}
@@ -173,12 +174,13 @@ returns-in-Err-clause-stalls g c =
     let first = c.in_ok-spawn.ensures in
     let maps = c.map_alike.ensures.mapped in
     let frames = c.map_alike.ensures.rest.frames in
+    let places : (p : FilePage) → mapped.place p ≡ spawned.place p = λ p. ap (λ x. place_of x p) c.map_alike.ensures.rest.cache in
     let done = c.in-Err.ensures in
     let roots = done.moves.spaces.root in
-    let gives = gives_mapped old spawned mapped mid c.args.parent c.args.child first.taken.0 first.gives first.taken.1 frames maps roots done.tables in
+    let gives = gives_mapped old spawned mapped mid c.args.parent c.args.child first.taken.0 first.gives first.taken.1 frames places maps roots done.tables in
     stalls_later mid new c.args.child done.moves.fit c.exit.ensures.fit c.link_copies.new.core.sound c.exit.new.core.sound c.exit.ensures.tables c.exit.ensures.others
     (λ page h. done.bare c.args.child page h (maps.bare page h)) (λ p. ap (λ x. place_of x p) c.exit.ensures.cache) c.exit.ensures.room old c.args.parent
-    (tables_mid old spawned mapped mid c.args.parent c.args.child first.taken.0 first.gives first.taken.1 frames maps roots done.tables)
+    (tables_mid old spawned mapped mid c.args.parent c.args.child first.taken.0 first.gives first.taken.1 frames places maps roots done.tables)
     done.tried.0 (gives_then old mapped mid done.tried.0 gives done.tried.1) done.full done.lacks
 
 pub returns-clause-entries : goal.returns-clause-entries
@@ -197,7 +199,7 @@ returns-clause-entries g c =
     readied old spawned mapped mid c.args.parent c.args.child apart c.requires.dead unmapped first.ok first.bare first.files first.room c.map_alike.ensures.mapped
     (record { frames = ap frame_count rest.frames; slots = ap (λ s. (slots_of s).total) rest.swap }) done.moves.fit done.pages done.bare done.moves.room in
     let gives =
-    gives_mapped old spawned mapped mid c.args.parent c.args.child first.taken.0 first.gives first.taken.1 rest.frames c.map_alike.ensures.mapped
+    gives_mapped old spawned mapped mid c.args.parent c.args.child first.taken.0 first.gives first.taken.1 rest.frames (λ p. ap (λ x. place_of x p) rest.cache) c.map_alike.ensures.mapped
     done.moves.spaces.root done.tables in
     entries_forked old mid (picture_of c.share_pages.new.core) c.args.parent c.args.child (gives_then old mapped mid None gives done.gives) c.share_pages.ensures.shares ready
 
@@ -210,11 +212,12 @@ returns-clause-takes g c =
     let first = c.in_ok-spawn.ensures in
     let maps = c.map_alike.ensures.mapped in
     let frames = c.map_alike.ensures.rest.frames in
+    let places : (p : FilePage) → mapped.place p ≡ spawned.place p = λ p. ap (λ x. place_of x p) c.map_alike.ensures.rest.cache in
     let done = c.in_default.ensures in
     let roots = done.moves.spaces.root in
-    let gives = gives_mapped old spawned mapped mid c.args.parent c.args.child first.taken.0 first.gives first.taken.1 frames maps roots done.tables in
+    let gives = gives_mapped old spawned mapped mid c.args.parent c.args.child first.taken.0 first.gives first.taken.1 frames places maps roots done.tables in
     tables_taken old mid (picture_of c.share_pages.new.core) c.args.parent c.args.child (gives_then old mapped mid None gives done.gives) c.share_pages.ensures.shares
-    (tables_mid old spawned mapped mid c.args.parent c.args.child first.taken.0 first.gives first.taken.1 frames maps roots done.tables)
+    (tables_mid old spawned mapped mid c.args.parent c.args.child first.taken.0 first.gives first.taken.1 frames places maps roots done.tables)
 
 pub exit-requires-clause-live : goal.exit-requires-clause-live
 exit-requires-clause-live g c =

@@ -97,7 +97,7 @@ returns-clause-read g c =
     let old : Picture = picture_of c.args.core.now in
     let done = c.in_ok-link_tables.ensures in
     read_back c.args.core.now c.link_tables.new.core c.args.pid c.args.page (root_live old c.args.pid c.requires.lives) done.pages (λ whole. (done.idle whole).0)
-    c.grant_linked.new.core.store done.moves.store c.grant_linked.ensures.read
+    done.whole done.gives done.tables c.grant_linked.new.core.store done.moves.store c.grant_linked.ensures.read
 
 pub returns-clause-not_refused : goal.returns-clause-not_refused
 returns-clause-not_refused g c = on_ok_then _ _ c.grant_linked.result (λ same. same ∙ c.in_ok-link_tables.ensures.not_refused) c.grant_linked.ensures.not_refused
@@ -111,7 +111,7 @@ returns-clause-stalled g c =
     let old : Picture = picture_of c.args.core.now in
     let done = c.in_ok-link_tables.ensures in
     stalled_back c.args.core.now c.link_tables.new.core c.args.pid c.args.page (root_live old c.args.pid c.requires.lives) done.pages (λ whole. (done.idle whole).0)
-    g.D.SectorDisk g.E.SectorDisk done.moves c.grant_linked.new.core c.args.access c.grant_linked.result done.not_refused done.swap_calm c.grant_linked.ensures.stalled
+    g.D.SectorDisk g.E.SectorDisk done.moves done.whole done.gives done.tables c.grant_linked.new.core c.args.access c.grant_linked.result done.not_refused done.swap_calm c.grant_linked.ensures.stalled
 
 pub returns-in_err-link_tables-clause-others : goal.returns-in_err-link_tables-clause-others
 returns-in_err-link_tables-clause-others g c = λ q k other. c.in_err-link_tables.ensures.pages.views q k
