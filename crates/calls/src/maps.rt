@@ -10,7 +10,7 @@ ghost use Rattle.vm_types.specs.Mapping.{first_attr, first_backing, is_exact, is
 ghost use Rattle.vm_types.specs.Placement.{fixed_place, is_free};
 ghost use Rattle.vm_types.specs.declared.command.Command.TheVariants.{Mmap};
 ghost use Rattle.mapping.specs.Changes.{KeepsRoom};
-ghost use Rattle.page_ranges.specs.Steps.{KeepsDevices};
+ghost use Rattle.page_ranges.specs.Steps.{KeepsDevices, KeepsEntriesOfOthers};
 ghost use Rattle.msync.specs.Shows.{IsSoundCore};
 ghost use Rattle.paging.specs.Picture.{picture_of};
 ghost use Rattle.calls.specs.Calls.{Carries, IsCaused};
@@ -229,6 +229,7 @@ pub fn mmap<D: SectorDisk, E: SectorDisk>(
     ensures sound { IsSoundCore D.SectorDisk E.SectorDisk core.new }
     ensures comes { Carries D.SectorDisk E.SectorDisk core.old core.new (Mmap pid addr len prot source placing) (reply_of result) }
     ensures devices { KeepsDevices core.old core.new }
+    ensures others { KeepsEntriesOfOthers (picture_of core.old) (picture_of core.new) pid }
     ensures denied { is_denial (reply_of result) ≡ true → core.new ≡ core.old }
     ensures room { KeepsRoom (picture_of core.old) (picture_of core.new) }
     ensures caused { IsCaused D.SectorDisk E.SectorDisk core.old core.new (reply_of result) }

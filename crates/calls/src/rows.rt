@@ -7,7 +7,7 @@ ghost use Rattle.vm_types.specs.Counting.{any_below};
 ghost use Rattle.vm_types.specs.Ranges.{denies_stores, is_guarded, is_guarded_page};
 ghost use Rattle.vm_types.specs.declared.command.Command.TheVariants.{Munmap, Mprotect};
 ghost use Rattle.mapping.specs.Changes.{KeepsRoom};
-ghost use Rattle.page_ranges.specs.Steps.{KeepsDevices};
+ghost use Rattle.page_ranges.specs.Steps.{KeepsDevices, KeepsEntriesOfOthers};
 ghost use Rattle.msync.specs.Shows.{IsSoundCore};
 ghost use Rattle.paging.specs.Picture.{picture_of};
 ghost use Rattle.calls.specs.Calls.{Carries, IsCaused};
@@ -114,6 +114,7 @@ pub fn munmap<D: SectorDisk, E: SectorDisk>(
     ensures sound { IsSoundCore D.SectorDisk E.SectorDisk core.new }
     ensures comes { Carries D.SectorDisk E.SectorDisk core.old core.new (Munmap pid addr len) (reply_of result) }
     ensures devices { KeepsDevices core.old core.new }
+    ensures others { KeepsEntriesOfOthers (picture_of core.old) (picture_of core.new) pid }
     ensures denied { is_denial (reply_of result) ≡ true → core.new ≡ core.old }
     ensures room { KeepsRoom (picture_of core.old) (picture_of core.new) }
     ensures caused { IsCaused D.SectorDisk E.SectorDisk core.old core.new (reply_of result) }
@@ -154,6 +155,7 @@ pub fn mprotect<D: SectorDisk, E: SectorDisk>(
     ensures sound { IsSoundCore D.SectorDisk E.SectorDisk core.new }
     ensures comes { Carries D.SectorDisk E.SectorDisk core.old core.new (Mprotect pid addr len prot) (reply_of result) }
     ensures devices { KeepsDevices core.old core.new }
+    ensures others { KeepsEntriesOfOthers (picture_of core.old) (picture_of core.new) pid }
     ensures swap { core.new.swap ≡ core.old.swap }
     ensures denied { is_denial (reply_of result) ≡ true → core.new ≡ core.old }
     ensures room { KeepsRoom (picture_of core.old) (picture_of core.new) }

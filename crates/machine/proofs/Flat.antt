@@ -78,12 +78,12 @@ halted_accesses c (Fork pid) = record {
   tables = λ child e. absurd (no_process child e);
   stalls = λ stall e. absurd (no_stall stall e);
 }
-halted_accesses c (Exit pid) = tt
-halted_accesses c (Mmap pid addr len prot source placing) = tt
-halted_accesses c (Munmap pid addr len) = tt
-halted_accesses c (Mprotect pid addr len prot) = tt
-halted_accesses c (Dontneed pid addr len) = tt
-halted_accesses c (Msync pid addr len mode) = tt
+halted_accesses c (Exit pid) = λ q page h ne. refl
+halted_accesses c (Mmap pid addr len prot source placing) = λ q page h ne. refl
+halted_accesses c (Munmap pid addr len) = λ q page h ne. refl
+halted_accesses c (Mprotect pid addr len prot) = λ q page h ne. refl
+halted_accesses c (Dontneed pid addr len) = λ q page h ne. refl
+halted_accesses c (Msync pid addr len mode) = λ q page h. inl refl
 halted_accesses c PastFaults = tt
 
 module _ {D E : Type 0} (g : Ghosts D) (h : Ghosts E) where

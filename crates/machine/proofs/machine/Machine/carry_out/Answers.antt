@@ -27,35 +27,35 @@ pub returns-in-Exit-clause-meets : goal.returns-in-Exit-clause-meets
 returns-in-Exit-clause-meets g c = λ s shows readable.
     rw c.in-Exit.is (carried g.D.SectorDisk g.E.SectorDisk (λ d i k left. g.met.D.SectorDisk.only_now d i k left) c.args.self.now c.exit.new.core c.args.self.now.halted c.args.self.now.past s
     (Exit c.in-Exit.pid) (reply_of c.exit.result) shows c.if-self.false c.if-self.false refl refl
-    (unread g.D.SectorDisk g.E.SectorDisk c.args.self.now.core.store c.exit.new.core.store c.exit.ensures.devices.store) (unswapped g.D.SectorDisk g.E.SectorDisk c.args.self.now.core c.exit.new.core c.exit.ensures.devices) (λ _. c.exit.ensures.devices) c.exit.ensures.room tt
+    (unread g.D.SectorDisk g.E.SectorDisk c.args.self.now.core.store c.exit.new.core.store c.exit.ensures.devices.store) (unswapped g.D.SectorDisk g.E.SectorDisk c.args.self.now.core c.exit.new.core c.exit.ensures.devices) (λ _. c.exit.ensures.devices) c.exit.ensures.room c.exit.ensures.others
     c.exit.ensures.comes (reads_as g.D.SectorDisk g.E.SectorDisk _ s _ _ c.in-Exit.is readable))
 
 pub returns-in-Mmap-clause-meets : goal.returns-in-Mmap-clause-meets
 returns-in-Mmap-clause-meets g c = λ s shows readable.
     rw c.in-Mmap.is (carried g.D.SectorDisk g.E.SectorDisk (λ d i k left. g.met.D.SectorDisk.only_now d i k left) c.args.self.now c.mmap.new.core c.args.self.now.halted c.args.self.now.past s
     (Mmap c.in-Mmap.pid c.in-Mmap.addr c.in-Mmap.len c.in-Mmap.prot c.in-Mmap.source c.in-Mmap.placing) (reply_of c.mmap.result) shows c.if-self.false c.if-self.false refl refl
-    (unread g.D.SectorDisk g.E.SectorDisk c.args.self.now.core.store c.mmap.new.core.store c.mmap.ensures.devices.store) (unswapped g.D.SectorDisk g.E.SectorDisk c.args.self.now.core c.mmap.new.core c.mmap.ensures.devices) (λ _. c.mmap.ensures.devices) c.mmap.ensures.room tt
+    (unread g.D.SectorDisk g.E.SectorDisk c.args.self.now.core.store c.mmap.new.core.store c.mmap.ensures.devices.store) (unswapped g.D.SectorDisk g.E.SectorDisk c.args.self.now.core c.mmap.new.core c.mmap.ensures.devices) (λ _. c.mmap.ensures.devices) c.mmap.ensures.room c.mmap.ensures.others
     c.mmap.ensures.comes (reads_as g.D.SectorDisk g.E.SectorDisk _ s _ _ c.in-Mmap.is readable))
 
 pub returns-in-Munmap-clause-meets : goal.returns-in-Munmap-clause-meets
 returns-in-Munmap-clause-meets g c = λ s shows readable.
     rw c.in-Munmap.is (carried g.D.SectorDisk g.E.SectorDisk (λ d i k left. g.met.D.SectorDisk.only_now d i k left) c.args.self.now c.munmap.new.core c.args.self.now.halted c.args.self.now.past s
     (Munmap c.in-Munmap.pid c.in-Munmap.addr c.in-Munmap.len) (reply_of c.munmap.result) shows c.if-self.false c.if-self.false refl refl
-    (unread g.D.SectorDisk g.E.SectorDisk c.args.self.now.core.store c.munmap.new.core.store c.munmap.ensures.devices.store) (unswapped g.D.SectorDisk g.E.SectorDisk c.args.self.now.core c.munmap.new.core c.munmap.ensures.devices) (λ _. c.munmap.ensures.devices) c.munmap.ensures.room tt
+    (unread g.D.SectorDisk g.E.SectorDisk c.args.self.now.core.store c.munmap.new.core.store c.munmap.ensures.devices.store) (unswapped g.D.SectorDisk g.E.SectorDisk c.args.self.now.core c.munmap.new.core c.munmap.ensures.devices) (λ _. c.munmap.ensures.devices) c.munmap.ensures.room c.munmap.ensures.others
     c.munmap.ensures.comes (reads_as g.D.SectorDisk g.E.SectorDisk _ s _ _ c.in-Munmap.is readable))
 
 pub returns-in-Mprotect-clause-meets : goal.returns-in-Mprotect-clause-meets
 returns-in-Mprotect-clause-meets g c = λ s shows readable.
     rw c.in-Mprotect.is (carried g.D.SectorDisk g.E.SectorDisk (λ d i k left. g.met.D.SectorDisk.only_now d i k left) c.args.self.now c.mprotect.new.core c.args.self.now.halted c.args.self.now.past s
     (Mprotect c.in-Mprotect.pid c.in-Mprotect.addr c.in-Mprotect.len c.in-Mprotect.prot) (reply_of c.mprotect.result) shows c.if-self.false c.if-self.false refl refl
-    (unread g.D.SectorDisk g.E.SectorDisk c.args.self.now.core.store c.mprotect.new.core.store c.mprotect.ensures.devices.store) (unswapped g.D.SectorDisk g.E.SectorDisk c.args.self.now.core c.mprotect.new.core c.mprotect.ensures.devices) (λ _. c.mprotect.ensures.devices) c.mprotect.ensures.room tt
+    (unread g.D.SectorDisk g.E.SectorDisk c.args.self.now.core.store c.mprotect.new.core.store c.mprotect.ensures.devices.store) (unswapped g.D.SectorDisk g.E.SectorDisk c.args.self.now.core c.mprotect.new.core c.mprotect.ensures.devices) (λ _. c.mprotect.ensures.devices) c.mprotect.ensures.room c.mprotect.ensures.others
     c.mprotect.ensures.comes (reads_as g.D.SectorDisk g.E.SectorDisk _ s _ _ c.in-Mprotect.is readable))
 
 pub returns-in-Dontneed-clause-meets : goal.returns-in-Dontneed-clause-meets
 returns-in-Dontneed-clause-meets g c = λ s shows readable.
     rw c.in-Dontneed.is (carried g.D.SectorDisk g.E.SectorDisk (λ d i k left. g.met.D.SectorDisk.only_now d i k left) c.args.self.now c.dontneed.new.core c.args.self.now.halted c.args.self.now.past s
     (Dontneed c.in-Dontneed.pid c.in-Dontneed.addr c.in-Dontneed.len) (reply_of c.dontneed.result) shows c.if-self.false c.if-self.false refl refl
-    (unread g.D.SectorDisk g.E.SectorDisk c.args.self.now.core.store c.dontneed.new.core.store c.dontneed.ensures.devices.store) (unswapped g.D.SectorDisk g.E.SectorDisk c.args.self.now.core c.dontneed.new.core c.dontneed.ensures.devices) (λ _. c.dontneed.ensures.devices) c.dontneed.ensures.room tt
+    (unread g.D.SectorDisk g.E.SectorDisk c.args.self.now.core.store c.dontneed.new.core.store c.dontneed.ensures.devices.store) (unswapped g.D.SectorDisk g.E.SectorDisk c.args.self.now.core c.dontneed.new.core c.dontneed.ensures.devices) (λ _. c.dontneed.ensures.devices) c.dontneed.ensures.room c.dontneed.ensures.others
     c.dontneed.ensures.comes (reads_as g.D.SectorDisk g.E.SectorDisk _ s _ _ c.in-Dontneed.is readable))
 
 pub returns-in-Load-clause-meets : goal.returns-in-Load-clause-meets
