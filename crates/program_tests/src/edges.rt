@@ -57,10 +57,11 @@ fn swap_in_use(rt: &HostRuntime, image: &str, swap: &str) -> Result<(), Fail> {
     seen
 }
 
-/// The locks are gone with the programs.
+/// The locks are gone with the programs, and the short file of slots is lengthened to sixteen of them.
 fn no_longer_in_use(rt: &HostRuntime, image: &str, swap: &str) -> Result<(), Fail> {
     let words = [image, swap];
     expect(rt, Program::Run, &words, b"spawn\n", done(b"pid 1\n"))?;
+    expect_length(rt, swap, 65_536)?;
     removed(rt, &words)
 }
 

@@ -6,6 +6,7 @@ use crate::program_bench::{
 use disk_model::SimDisk;
 use file_store::{FileSource, FormatFault, format};
 use std::fs;
+use std::os::unix::fs::symlink;
 use std::test::Fail;
 
 #[test]
@@ -130,6 +131,28 @@ fn bad_specs_are_told_before_a_file_is_made(rt: HostRuntime) -> Result<(), Fail>
 fn bad_spec(rt: &HostRuntime, image: &str, spec: &str) -> Result<(), Fail> {
     let words = ["new", image, "zero:1", spec, "worse"];
     expect_refusal(rt, Program::Format, &words, "pagefmt: bad spec", spec)
+}
+
+#[test]
+fn what_is_in_the_way_of_an_image_stays(rt: HostRuntime) -> Result<(), Fail> {
+    no_image_at(&rt, "/tmp")?;
+    no_image_at(&rt, "/tmp/none/none")?;
+    let (link, missing) = (path(&rt, "link")?, path(&rt, "link-to")?);
+    no_image_behind(&rt, link.as_str(), missing.as_str())
+}
+
+/// A link to a file that is missing stays, and nothing is made through it.
+fn no_image_behind(rt: &HostRuntime, link: &str, missing: &str) -> Result<(), Fail> {
+    symlink(rt, missing, link)?;
+    no_image_at(rt, link)?;
+    expect_none(rt, missing)?;
+    removed(rt, &[link])
+}
+
+/// No image is made at that path.
+fn no_image_at(rt: &HostRuntime, image: &str) -> Result<(), Fail> {
+    let words = ["new", image, "zero:1"];
+    expect_refusal(rt, Program::Format, &words, "pagefmt: cannot open", image)
 }
 
 #[test]

@@ -8,8 +8,8 @@ use crate::sources::open_sources;
 use crate::words::format_words;
 use disk_model::{FileContents, FileDisk, SectorDisk, Unknown};
 use file_store::{FileSource, FormatFault, format, image_bytes};
-use std::fs::{self, File, Files};
-use std::io::{Read, Write};
+use std::fs::{self, File, Files, TryLockError};
+use std::io::{self, ErrorKind, Read, Write};
 
 /// The most files of an image.
 const MAX_FILES: usize = 64;
@@ -18,7 +18,8 @@ const MAX_FILES: usize = 64;
 /// home pages of the specs, and formats it. The files get numbers and homes in the order of the specs. SPEC is `zero:LEN`,
 /// a writable file of LEN zero bytes, or `rw:PATH` or `ro:PATH`, a writable or a read-only file of the bytes of a host
 /// file, which is read a page at a time. All specs are looked at, and their host files opened, before IMAGE is made; over
-/// 64 specs, and an IMAGE that is an image already, are reported before it is lengthened.
+/// 64 specs, and an IMAGE that is an image already, are reported before it is lengthened. What can't be locked, lengthened
+/// or synced keeps its bytes and its length, or is unmade again; only a file that another program locks first is left to it.
 ///
 /// Returns the exit status: 0 done; 1 a fault; 2 other words. For 1 and 2 one line on `errors` says why.
 pub fn pagefmt<R: Files<File = File> + AllocGlobal, I: Read, O: Write, X: Write>(
@@ -49,6 +50,15 @@ fn format_image<'a, C: FileContents, R: Files<File = File> + AllocGlobal>(
     }
 }
 
+/// What stood at the path of IMAGE before this run.
+#[derive(Clone, Copy, Debug, PartialEq, Eq)]
+enum Former {
+    /// Nothing: what is there now was made by this run.
+    Missing,
+    /// A file of so many bytes.
+    Bytes(u64),
+}
+
 /// The device for an image of these files. Where it is refused, the file is as it was, or unmade.
 fn new_image<'a, C: FileContents, R: Files<File = File>>(
     rt: &R,
@@ -61,23 +71,100 @@ fn new_image<'a, C: FileContents, R: Files<File = File>>(
     if sources.len() > MAX_FILES {
         return Err(ProgramFault::Format(FormatFault::TooLarge));
     }
-    let is_there = fs::exists(rt, path).unwrap_or(true);
-    let file = match open_alone(rt, path, Access::Make) {
-        Ok(file) => file,
+    let (file, former) = match image_file(rt, path) {
+        Ok(opened) => opened,
         Err(_) => return Err(ProgramFault::CannotOpen(path)),
     };
-    match has_mark(&file) {
+    match unmarked_disk::<C>(path, &file, image_bytes(sources)) {
+        Ok(disk) => Ok(disk),
+        Err(fault) => {
+            set_back(rt, path, &file, former);
+            Err(fault)
+        }
+    }
+}
+
+/// The file of that path under a lock that no other program of ours has, and what stood there before. One that is missing is
+/// made; a link to one that is missing is not opened.
+fn image_file<R: Files<File = File>>(rt: &R, path: &str) -> io::Result<(File, Former)> {
+    match File::create_new(rt, path) {
+        Ok(file) => lock_made(rt, path, file),
+        Err(error) if error.kind() == ErrorKind::AlreadyExists => found_file(rt, path),
+        Err(error) => Err(error),
+    }
+}
+
+fn found_file<R: Files<File = File>>(rt: &R, path: &str) -> io::Result<(File, Former)> {
+    let file = open_alone(rt, path, Access::Write)?;
+    let bytes = file.metadata()?.len();
+    Ok((file, Former::Bytes(bytes)))
+}
+
+/// The same of a file that this run has just made. Where it gets no lock it is removed again, unless another program has one.
+fn lock_made<R: Files<File = File>>(rt: &R, path: &str, file: File) -> io::Result<(File, Former)> {
+    match file.try_lock() {
+        Ok(()) => {
+            let former = former_of_made(&file);
+            Ok((file, former))
+        }
+        Err(TryLockError::WouldBlock) => Err(io::Error::from(ErrorKind::WouldBlock)),
+        Err(TryLockError::Error(error)) => {
+            let _ = fs::remove_file(rt, path);
+            Err(error)
+        }
+    }
+}
+
+/// What a file was that this run has made: where there are bytes in it, another program found it before it was locked, and
+/// wrote them.
+fn former_of_made(file: &File) -> Former {
+    match file.metadata() {
+        Ok(now) if now.len() > 0 => Former::Bytes(now.len()),
+        _ => Former::Missing,
+    }
+}
+
+/// The device in a file that is no image, which is lengthened with zeros to so many bytes where it is shorter. The device has
+/// a handle of its own, so that the lock stands until the file is set back.
+fn unmarked_disk<'a, C: FileContents>(
+    path: &'a str,
+    file: &File,
+    length: u64,
+) -> Result<FileDisk<C>, ProgramFault<'a>>
+    ensures kept { IfOk result (λ disk. ⟦<FileDisk<C> as SectorDisk>⟧.keeps_model disk) }
+    ensures synced { IfOk result (λ disk. (k : ℕ) → ⟦<FileDisk<C> as SectorDisk>⟧.unsynced disk k → ⊥) }
+{
+    match has_mark(file) {
         Ok(false) => {}
         Ok(true) => return Err(ProgramFault::Format(FormatFault::Formatted)),
         Err(_) => return Err(ProgramFault::Format(FormatFault::Device)),
     }
-    match disk_in::<C>(file, image_bytes(sources)) {
+    let Ok(own) = file.try_clone() else {
+        return Err(ProgramFault::CannotOpen(path));
+    };
+    match disk_in::<C>(own, length) {
         Ok(disk) => Ok(disk),
-        Err(_) => {
-            if !is_there {
-                let _ = fs::remove_file(rt, path);
-            }
-            Err(ProgramFault::CannotOpen(path))
+        Err(_) => Err(ProgramFault::CannotOpen(path)),
+    }
+}
+
+/// Takes back what this run did to the file of that path, which was not formatted. Where the system fails in that too, an
+/// empty file stays, or zeros at a file's end.
+fn set_back<R: Files<File = File>>(rt: &R, path: &str, file: &File, former: Former) {
+    match former {
+        Former::Missing => {
+            let _ = fs::remove_file(rt, path);
         }
+        Former::Bytes(bytes) => cut_back(file, bytes),
+    }
+}
+
+/// Cuts a file to so many bytes where it has more.
+fn cut_back(file: &File, bytes: u64) {
+    match file.metadata() {
+        Ok(now) if now.len() > bytes => {
+            let _ = file.set_len(bytes);
+        }
+        _ => {}
     }
 }
