@@ -1,6 +1,8 @@
 //! Each call of a device failing once.
 use crate::bench::{Armed, Case, Told, acknowledged, expect, homes, opened, ran};
-use crate::cases::{most_pages, own_pages, partial_page, shared_copy, two_files, two_processes};
+use crate::cases::{
+    most_pages, own_pages, pages_in_slots, partial_page, shared_copy, two_files, two_processes,
+};
 use crate::fillings::{FILLINGS, Filling, recovered};
 use disk_model::SimDisk;
 use machine::{BootFault, Config};
@@ -123,6 +125,12 @@ fn a_failing_call_of_swap_stalls_one_access(rt: HostRuntime) -> Result<(), Fail>
 #[test]
 fn a_failing_call_of_swap_keeps_shared_copies(rt: HostRuntime) -> Result<(), Fail> {
     fail_each_of_swap(rt.alloc(), &shared_copy(rt.alloc())?, 100)
+}
+
+/// Among the calls are those by which an msync reads the pages that lie in slots.
+#[test]
+fn a_failing_call_of_swap_stalls_an_msync(rt: HostRuntime) -> Result<(), Fail> {
+    fail_each_of_swap(rt.alloc(), &pages_in_slots(rt.alloc())?, 250)
 }
 
 /// What the store holds after recovery is what the lines that were carried out leave, or where an msync failed what that leaves as

@@ -33,6 +33,7 @@ fn protection(addr: u64, len: u64, prot: Prot) -> Result<Command, BadLine> {
 #[test]
 fn each_form_is_read(rt: HostRuntime) {
     assert_eq!(rt; parse_line(b"spawn"), Ok(Command::Spawn));
+    assert_eq!(rt; parse_line(b"faults"), Ok(Command::PastFaults));
     assert_eq!(rt; parse_line(b"fork 1"), Ok(Command::Fork { pid: 1 }));
     assert_eq!(rt; parse_line(b"exit 0x07"), Ok(Command::Exit { pid: 7 }));
     let fetch = Command::Fetch {
@@ -43,6 +44,10 @@ fn each_form_is_read(rt: HostRuntime) {
     assert_eq!(rt;
         parse_line(b"load 1 0x10ff8 8"),
         load(0x10ff8, Width::Eight)
+    );
+    assert_eq!(rt;
+        parse_line(b"load 1 0x10000 0x08"),
+        load(0x10000, Width::Eight)
     );
     assert_eq!(rt;
         parse_line(b"load 1 18446744073709551615 0x1"),
@@ -64,16 +69,36 @@ fn each_form_is_read(rt: HostRuntime) {
         };
         assert_eq!(rt; parse_line(line), Ok(msync));
     }
-    let stored = StoredValue::new(Width::Eight, 0x1122334455667788);
-    let store = stored.map(|stored| Command::Store {
-        pid: 1,
-        addr: 0x10000,
-        stored,
-    });
-    assert_eq!(rt;
-        parse_line(b"store 1 0x10000 8 0x1122334455667788").ok(),
-        store
-    );
+}
+
+/// Stores, also of the largest value of each width.
+#[test]
+fn stores_are_read_with_each_width(rt: HostRuntime) {
+    for (line, width, value) in [
+        (
+            b"store 1 0x10000 8 0x1122334455667788".as_slice(),
+            Width::Eight,
+            0x1122334455667788,
+        ),
+        (b"store 1 0x10000 1 0xff", Width::One, 0xff),
+        (b"store 1 0x10000 2 0xffff", Width::Two, 0xffff),
+        (b"store 1 0x10000 4 0xffffffff", Width::Four, 0xffff_ffff),
+        (
+            b"store 1 0x10000 8 18446744073709551615",
+            Width::Eight,
+            u64::MAX,
+        ),
+    ] {
+        let Some(stored) = StoredValue::new(width, value) else {
+            return assert!(rt; false);
+        };
+        let store = Command::Store {
+            pid: 1,
+            addr: 0x10000,
+            stored,
+        };
+        assert_eq!(rt; parse_line(line), Ok(store), "at {line:?}");
+    }
 }
 
 #[test]
@@ -143,6 +168,12 @@ fn changes_of_mappings_are_read(rt: HostRuntime) {
         len: 0x3000,
     };
     assert_eq!(rt; parse_line(b"munmap 1 0x21000 0x3000"), Ok(removal));
+    let giving_up = Command::Dontneed {
+        pid: 1,
+        addr: 0x21000,
+        len: 0x3000,
+    };
+    assert_eq!(rt; parse_line(b"dontneed 1 0x21000 0x3000"), Ok(giving_up));
     assert_eq!(rt;
         parse_line(b"mprotect 1 0x20001 0x1000 r--"),
         protection(0x20001, 0x1000, Prot::READ)
@@ -189,8 +220,13 @@ fn other_lines_are_bad(rt: HostRuntime) {
         b"load 1 1a 1",
         b"load 1 18446744073709551616 1",
         b"load 1 0x10000000000000000 1",
+        b"load 1 0x10000 0",
         b"load 1 0x10000 3",
+        b"load 1 0x10000 16",
         b"store 1 0x10000 1 0x100",
+        b"store 1 0x10000 2 0x10000",
+        b"store 1 0x10000 4 0x100000000",
+        b"store 1 0x10000 8 18446744073709551616",
         b"msync 1 0x10000 4096 later",
         b"mmap 1 0 4096 wr- shared 0 0",
         b"mmap 1 0 4096 rw shared 0 0",
@@ -218,10 +254,14 @@ fn other_lines_are_bad(rt: HostRuntime) {
         b"munmap 1 0x10000",
         b"munmap 1 0x10000 4096 4096",
         b"munmap 1 0x10000 4096 fixed",
+        b"dontneed 1 0x10000",
+        b"dontneed 1 0x10000 4096 1",
         b"mprotect 1 0x10000 4096",
         b"mprotect 1 0x10000 4096 rw",
         b"mprotect 1 0x10000 4096 rw- rw-",
         b"mprotect 1 0x10000 0x r--",
+        b"faults ",
+        b"faults 1",
     ] {
         assert_eq!(rt; parse_line(line), Err(BadLine), "at {line:?}");
     }

@@ -9,8 +9,8 @@ use std::alloc::Global;
 use std::process::Abort;
 use std::test::Fail;
 use vm_types::{
-    Code, Command, Errno, Fault, MapSource, MsyncMode, Pid, Placing, Prot, Reply, StoredValue,
-    Width,
+    Answer, Code, Command, Errno, Fault, MapSource, MsyncMode, Pid, Placing, Prot, Reply,
+    StoredValue, Width,
 };
 
 /// An image of one file of one page of zeros, as a stop leaves it, of which call `failing` fails.
@@ -31,19 +31,27 @@ fn image(alloc: Global, failing: Option<u64>) -> Result<SimDisk, Fail>
     Ok(left)
 }
 
-/// A machine over that image.
-fn booted(alloc: Global, failing: Option<u64>) -> Result<Machine<SimDisk, SimDisk>, Fail>
+/// A machine of so many frames over that image.
+fn booted_with(
+    alloc: Global,
+    frames: u32,
+    failing: Option<u64>,
+) -> Result<Machine<SimDisk, SimDisk>, Fail>
     ensures { IfOk result (λ m. IsSoundMachine ⟦<SimDisk as SectorDisk>⟧ ⟦<SimDisk as SectorDisk>⟧ m) }
 {
-    let config = Config {
-        frames: 8,
-        slots: 16,
-    };
+    let config = Config { frames, slots: 16 };
     let store = image(alloc, failing)?;
     match Machine::boot(alloc, config, store, SimDisk::new(alloc, 128)?) {
         Ok(machine) => Ok(machine),
         Err((fault, _)) => Err(Fail::new(format_args!("boot: {fault:?}"))),
     }
+}
+
+/// A machine of the fewest frames over that image.
+fn booted(alloc: Global, failing: Option<u64>) -> Result<Machine<SimDisk, SimDisk>, Fail>
+    ensures { IfOk result (λ m. IsSoundMachine ⟦<SimDisk as SectorDisk>⟧ ⟦<SimDisk as SectorDisk>⟧ m) }
+{
+    booted_with(alloc, 8, failing)
 }
 
 const MAP: Command = Command::Mmap {
@@ -81,21 +89,19 @@ const LOAD: Command = Command::Load {
     width: Width::One,
 };
 
-/// Stores a byte where the page is mapped.
-fn storing() -> Result<Command, Fail> {
-    Ok(Command::Store {
-        pid: 1,
-        addr: 0x10000,
-        stored: StoredValue::new(Width::One, 0x5a).ok_or("a byte")?,
-    })
-}
+/// The fault of a load where no page is mapped.
+const UNMAPPED: Fault = Fault {
+    cause: 13,
+    code: Code::SegvMaperr,
+    addr: 0x10000,
+};
 
-/// Stores another byte there.
-fn storing_more() -> Result<Command, Fail> {
+/// Stores this byte where the page is mapped.
+fn storing(byte: u64) -> Result<Command, Fail> {
     Ok(Command::Store {
         pid: 1,
         addr: 0x10000,
-        stored: StoredValue::new(Width::One, 0x6b).ok_or("a byte")?,
+        stored: StoredValue::new(Width::One, byte).ok_or("a byte")?,
     })
 }
 
@@ -105,15 +111,6 @@ fn value(value: u64) -> Reply {
         width: Width::One,
         value,
     }
-}
-
-/// The fault of an access to an address that isn't mapped.
-fn unmapped(cause: u8) -> Reply {
-    Reply::Faulted(Fault {
-        cause,
-        code: Code::SegvMaperr,
-        addr: 0x10000,
-    })
 }
 
 // A test that goes through a machine borrows it, so that its ways out let go of nothing: each of them would have to be proved to.
@@ -132,9 +129,9 @@ fn carry_out_all<E: SectorDisk>(
     let commands = [
         Command::Spawn,
         MAP,
-        storing()?,
+        storing(0x5a)?,
         PROTECT,
-        storing()?,
+        storing(0x5a)?,
         SYNC,
         LOAD,
     ];
@@ -160,7 +157,7 @@ fn carry_out_all<E: SectorDisk>(
     assert_eq!(rt; machine.store().writes(), 10);
     assert_eq!(rt; machine.store().syncs(), at_boot.saturating_add(2));
     assert_eq!(rt; machine.step(UNMAP), Reply::Done);
-    assert_eq!(rt; machine.step(LOAD), unmapped(13));
+    assert_eq!(rt; machine.step(LOAD), Reply::Faulted(UNMAPPED));
     assert!(rt; !machine.is_halted());
     Ok(())
 }
@@ -181,7 +178,7 @@ fn store_a_byte<D: SectorDisk, E: SectorDisk>(
     requires sound { IsSoundMachine D.SectorDisk E.SectorDisk machine.old }
     ensures sound { OnOk result (IsSoundMachine D.SectorDisk E.SectorDisk machine.new) }
 {
-    let stored = [Command::Spawn, MAP, PROTECT, storing()?];
+    let stored = [Command::Spawn, MAP, PROTECT, storing(0x5a)?];
     let mut replies = [Reply::Halted; 4];
     machine.run(&stored, &mut replies);
     assert_eq!(rt; replies[3], Reply::Done);
@@ -294,7 +291,7 @@ fn store_twice<D: SectorDisk, E: SectorDisk>(
 {
     store_a_byte(rt, machine)?;
     assert_eq!(rt; machine.step(SYNC), Reply::Done);
-    assert_eq!(rt; machine.step(storing_more()?), Reply::Done);
+    assert_eq!(rt; machine.step(storing(0x6b)?), Reply::Done);
     Ok(())
 }
 
@@ -368,12 +365,12 @@ fn hits_of_ten_loads<D: SectorDisk, E: SectorDisk>(
     ensures sound { OnOk result (IsSoundMachine D.SectorDisk E.SectorDisk machine.new) }
 {
     let mut replies = [Reply::Halted; 3];
-    machine.run(&[Command::Spawn, mapping_own(), storing()?], &mut replies);
+    machine.run(&[Command::Spawn, mapping_own(), storing(1)?], &mut replies);
     assert_eq!(rt; replies[2], Reply::Done);
     let before = machine.hits();
     let mut loaded = [Reply::Halted; 10];
     machine.run(&[LOAD; 10], &mut loaded);
-    assert_eq!(rt; loaded, [value(0x5a); 10]);
+    assert_eq!(rt; loaded, [value(1); 10]);
     Ok((before, machine.hits()))
 }
 
@@ -381,9 +378,39 @@ fn hits_of_ten_loads<D: SectorDisk, E: SectorDisk>(
 /// contract: this test refuses it.
 #[test]
 fn ten_loads_are_ten_hits(rt: HostRuntime) -> Result<(), Fail> {
-    let mut machine = booted(rt.alloc(), None)?;
+    let mut machine = booted_with(rt.alloc(), 64, None)?;
     let hits = hits_of_ten_loads(&rt, &mut machine);
     let _ = machine.into_store();
     assert_eq!(rt; hits?, (0, 10));
     Ok(())
+}
+
+/// Loads where no page is mapped, and asks for the history; then another process is made.
+fn ask_for_the_history<D: SectorDisk, E: SectorDisk>(
+    rt: &impl Abort,
+    machine: &mut Machine<D, E>,
+) -> Result<(), Fail>
+    requires sound { IsSoundMachine D.SectorDisk E.SectorDisk machine.old }
+    ensures sound { OnOk result (IsSoundMachine D.SectorDisk E.SectorDisk machine.new) }
+{
+    let first = Pid::new(1).ok_or("1 is a process")?;
+    let second = Pid::new(2).ok_or("2 is a process")?;
+    assert_eq!(rt; machine.step(Command::Spawn), Reply::Process(first));
+    assert_eq!(rt; machine.step(LOAD), Reply::Faulted(UNMAPPED));
+    let history = machine.history();
+    assert_eq!(rt; history.as_slice(), [(first, UNMAPPED)].as_slice());
+    let past = machine.step(Command::PastFaults);
+    assert_eq!(rt; past, Reply::Past(machine.history()));
+    assert_eq!(rt; machine.carry_out(Command::PastFaults), None);
+    let another = machine.carry_out(Command::Spawn);
+    assert_eq!(rt; another, Some(Answer::Process(second)));
+    Ok(())
+}
+
+#[test]
+fn a_fault_is_kept(rt: HostRuntime) -> Result<(), Fail> {
+    let mut machine = booted(rt.alloc(), None)?;
+    let told = ask_for_the_history(&rt, &mut machine);
+    let _ = machine.into_store();
+    told
 }

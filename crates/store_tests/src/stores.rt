@@ -8,6 +8,7 @@ use file_store::{
     FileSource, FileStore, FormatFault, OpenFault, format, image_bytes, stops_in_a_row,
 };
 use std::alloc::Global;
+use std::process::Abort;
 use std::test::Fail;
 use sync_journal::{PageSource, SourceFault};
 use vm_types::{FileInfo, FilePage};
@@ -85,8 +86,8 @@ fn fault_of(disk: SimDisk) -> Option<OpenFault> {
     opened(disk).err()
 }
 
-// The first byte of a page, or none where it does not begin inside its file.
-fn first_byte<D: SectorDisk>(store: &mut FileStore<D>, page: FilePage) -> Option<u8>
+// The bytes of a page, or none where it does not begin inside its file.
+fn whole_page<D: SectorDisk>(store: &mut FileStore<D>, page: FilePage) -> Option<[u8; 4096]>
     requires { IsReadyStore D.SectorDisk store.old }
     ensures { IsReadyStore D.SectorDisk store.new }
 {
@@ -96,7 +97,16 @@ fn first_byte<D: SectorDisk>(store: &mut FileStore<D>, page: FilePage) -> Option
     }
     let mut bytes = [0; 4096];
     store.read_page(page, &mut bytes).ok()?;
-    Some(bytes[0])
+    Some(bytes)
+}
+
+// The first of them.
+fn first_byte<D: SectorDisk>(store: &mut FileStore<D>, page: FilePage) -> Option<u8>
+    requires { IsReadyStore D.SectorDisk store.old }
+    ensures { IsReadyStore D.SectorDisk store.new }
+{
+    let bytes = whole_page(store, page)?;
+    bytes.first().copied()
 }
 
 // A source whose pages are all the same.
@@ -424,43 +434,60 @@ fn tells_a_source_that_ends_early(rt: HostRuntime) -> Result<(), Fail> {
     Ok(())
 }
 
+// Sees that a device has a store of one writable file, a page of this byte.
+fn expect_whole<R: Abort>(rt: &R, disk: SimDisk, byte: u8) -> Result<(), Fail> {
+    let mut store = opened(disk)?;
+    let page = FilePage { file: 0, page: 0 };
+    assert_eq!(rt; whole_page(&mut store, page) == Some([byte; 4096]), true);
+    assert_eq!(rt;
+        store.file(0),
+        Some(FileInfo {
+            length: 4096,
+            read_only: false
+        })
+    );
+    Ok(())
+}
+
+// What the format of a file of a page leaves that is stopped at that write: no mark, or where the mark's own write has reached the
+// device, all of the file. Each byte of the file is this one, as the source gives it.
+fn stop_at<R: AllocGlobal + Abort>(
+    rt: &R,
+    write: u64,
+    bytes: Option<&[u8]>,
+    byte: u8,
+) -> Result<(), Fail> {
+    let source = FileSource {
+        read_only: false,
+        length: 4096,
+        bytes,
+    };
+    let mut disk = SimDisk::new(rt.alloc(), 1028)?;
+    disk.stop_at(write);
+    assert_eq!(rt; format(&mut disk, &mut [source]), Err(FormatFault::Device));
+    // All eight sectors of a page are tried.
+    assert_eq!(rt; disk.writes(), write.max(8));
+    // The mark's own write may be lost, or reach the device.
+    assert_eq!(rt;
+        fault_of(disk.left(rt.alloc(), &[])?),
+        Some(OpenFault::BadLayout)
+    );
+    let after = disk.left(rt.alloc(), &[(0, repeated(b"FAMSYNC1"))])?;
+    if write < 11 {
+        assert_eq!(rt; fault_of(after), Some(OpenFault::BadLayout));
+        Ok(())
+    } else {
+        expect_whole(rt, after, byte)
+    }
+}
+
+// The mark is the last of eleven writes, whether a reader gives the file's bytes or they are zeros.
 #[test]
 fn a_stop_leaves_no_mark_or_a_whole_store(rt: HostRuntime) -> Result<(), Fail> {
-    let mark = repeated(b"FAMSYNC1");
+    let page: &[u8] = &[0x61; 4096];
     for write in 1..12 {
-        let page: &[u8] = &[0x61; 4096];
-        let source = FileSource {
-            read_only: false,
-            length: 4096,
-            bytes: Some(page),
-        };
-        let mut disk = SimDisk::new(rt.alloc(), 1028)?;
-        disk.stop_at(write);
-        assert_eq!(rt; format(&mut disk, &mut [source]), Err(FormatFault::Device));
-        // All eight sectors of a page are tried.
-        assert_eq!(rt; disk.writes(), write.max(8));
-        // The mark's own write may be lost, or reach the device.
-        assert_eq!(rt;
-            fault_of(disk.left(rt.alloc(), &[])?),
-            Some(OpenFault::BadLayout)
-        );
-        let after = disk.left(rt.alloc(), &[(0, mark)])?;
-        if write < 11 {
-            assert_eq!(rt; fault_of(after), Some(OpenFault::BadLayout));
-        } else {
-            let mut store = opened(after)?;
-            assert_eq!(rt;
-                first_byte(&mut store, FilePage { file: 0, page: 0 }),
-                Some(0x61)
-            );
-            assert_eq!(rt;
-                store.file(0),
-                Some(FileInfo {
-                    length: 4096,
-                    read_only: false
-                })
-            );
-        }
+        stop_at(&rt, write, Some(page), 0x61)?;
+        stop_at(&rt, write, None, 0)?;
     }
     Ok(())
 }

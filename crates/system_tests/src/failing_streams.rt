@@ -54,6 +54,14 @@ fn a_failing_writer_has_a_beginning_of_the_replies(rt: HostRuntime) -> Result<()
 }
 
 #[test]
+fn a_writer_that_takes_nothing_has_no_reply(rt: HostRuntime) -> Result<(), Fail> {
+    let (end, output) = written(&rt, 100, 0, Full::TakesNothing)?;
+    assert_eq!(rt; end, RunEnd::WriteFault);
+    assert!(rt; output.is_empty());
+    Ok(())
+}
+
+#[test]
 fn a_writer_of_one_byte_a_call_changes_nothing(rt: HostRuntime) -> Result<(), Fail> {
     let (end, output) = written(&rt, 1, 1000, Full::Fails)?;
     assert_eq!(rt; end, RunEnd::Done);

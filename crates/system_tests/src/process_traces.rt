@@ -115,3 +115,35 @@ fn there_are_64_processes(rt: HostRuntime) -> Result<(), Fail> {
     assert_eq!(rt; output.as_slice(), exchange.wanted.as_slice());
     Ok(())
 }
+
+/// In eight frames seven processes are made, and all other lines stall; one that has ended makes room for a copy of another, and
+/// for no more.
+fn more_processes_than_frames(alloc: Global) -> Result<Exchange, Fail> {
+    let mut exchange = Exchange::new(alloc);
+    for pid in 1..65_u64 {
+        if pid < 8 {
+            let reply = format!(in alloc; "pid {pid}\n")?;
+            exchange.push(b"spawn\n", reply.as_bytes())?;
+        } else {
+            exchange.push(b"spawn\n", b"stall 1 NOFRAMES\n")?;
+        }
+    }
+    exchange.push(
+        b"fork 1\nexit 3\nfork 1\nspawn\n",
+        b"stall 1 NOFRAMES\nok\npid 3\nstall 1 NOFRAMES\n",
+    )?;
+    Ok(exchange)
+}
+
+#[test]
+fn eight_frames_have_room_for_seven_processes(rt: HostRuntime) -> Result<(), Fail> {
+    let config = Config {
+        frames: 8,
+        slots: 16,
+    };
+    let exchange = more_processes_than_frames(rt.alloc())?;
+    let (end, output) = replies_in(rt.alloc(), config, exchange.trace.as_slice())?;
+    assert_eq!(rt; end, RunEnd::Done);
+    assert_eq!(rt; output.as_slice(), exchange.wanted.as_slice());
+    Ok(())
+}
