@@ -1,5 +1,5 @@
-"""The flat model by another hand: the replies to a trace's lines, and what is durable. Written from docs/MODEL.md and docs/FORMATS.md
-alone; it shares nothing with the machine. Processes are maps from page to view, and files rows of bytes."""
+"""The flat model, written apart, sharing no code: the replies to a trace's lines, and what is durable. Written from docs/MODEL.md and
+docs/FORMATS.md alone. Processes are maps from page to view, and files rows of bytes."""
 import re
 from collections import deque
 from dataclasses import dataclass, replace

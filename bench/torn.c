@@ -6,6 +6,8 @@
  *
  * TORN_SWAP is the swap device's file. TORN_SWAP_COUNT calls on it (reads, writes and syncs) fail with EIO, from the TORN_SWAP_CALL-th on.
  *
+ * With TORN_LOCK the store's file gets no lock: that fails with ENOLCK.
+ *
  * A write that fails leaves its sectors as a stop would, and a read that fails leaves noise. TORN_TOLD is a file that gets a line for each call that
  * failed: store, swap or stop. */
 #define _GNU_SOURCE
@@ -15,6 +17,7 @@
 #include <stdint.h>
 #include <stdlib.h>
 #include <string.h>
+#include <sys/file.h>
 #include <sys/stat.h>
 #include <unistd.h>
 
@@ -41,6 +44,7 @@ static ssize_t (*next_pread)(int, void *, size_t, off_t);
 static ssize_t (*next_pwrite)(int, const void *, size_t, off_t);
 static int (*next_fsync)(int);
 static int (*next_fdatasync)(int);
+static int (*next_flock)(int, int);
 
 static long number(const char *name) {
     const char *word = getenv(name);
@@ -52,6 +56,7 @@ __attribute__((constructor)) static void find(void) {
     next_pwrite = dlsym(RTLD_NEXT, "pwrite64");
     next_fsync = dlsym(RTLD_NEXT, "fsync");
     next_fdatasync = dlsym(RTLD_NEXT, "fdatasync");
+    next_flock = dlsym(RTLD_NEXT, "flock");
     store.path = getenv("TORN_FILE");
     store.counts_reads = getenv("TORN_READS") != NULL;
     store.left = number("TORN_CALL") - 1;
@@ -183,6 +188,12 @@ static int synced(int fd, int (*next)(int)) {
     int result = next(fd);
     if (!result && device == &store) count = 0;
     return result;
+}
+
+int flock(int fd, int how) {
+    if (!getenv("TORN_LOCK") || device_of(fd) != &store) return next_flock(fd, how);
+    errno = ENOLCK;
+    return -1;
 }
 
 int fsync(int fd) { return synced(fd, next_fsync); }
