@@ -1,11 +1,11 @@
 /* What libfamsync.a exports (crates/famsync): plans of device calls for an image that the caller has in memory. The
-   library touches no file. Every pointer must be valid and, but for `image`, be passed to one call at a time. */
+   library touches no file. Every pointer must be valid for its count; only `image` may be shared. */
 #ifndef FAMSYNC_H
 #define FAMSYNC_H
 #include <stddef.h>
 #include <stdint.h>
 
-/* Answers. */
+/* Results. */
 enum {
   FAMSYNC_OK = 0,
   FAMSYNC_TURN = 1,        /* another call's turn: see the states */
@@ -33,7 +33,7 @@ struct famsync_plan {
 struct famsync_page { uint8_t file; uint32_t page; };
 struct famsync_bytes { const unsigned char *at; };
 
-/* `image` is `sectors` sectors, what the file holds; `scratch` is room to work in. After the answer 0 the caller makes the
+/* `image` is `sectors` sectors, what the file holds; `scratch` is room to work in. After the result 0 the caller makes the
    first plan->used calls in their order, and then calls famsync_done, or famsync_failed where one failed. */
 uint32_t famsync_open(struct famsync_handle *handle, const void *image, size_t sectors, struct famsync_plan *scratch,
                       struct famsync_plan *plan);
