@@ -14,8 +14,3 @@ pub use maps::mmap;
 pub use msync::msync;
 pub use processes::{exit, fork, spawn};
 pub use rows::{mprotect, munmap};
-
-#[cfg(test)]
-mod access_tests;
-#[cfg(test)]
-mod tests;

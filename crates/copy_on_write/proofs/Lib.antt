@@ -1,6 +1,5 @@
 pub mod Copies
 pub mod Linked
-pub mod Alike
 pub mod Weaker
 pub mod Raised
 pub mod Given

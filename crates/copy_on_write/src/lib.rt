@@ -5,8 +5,6 @@
 
 mod linking;
 mod sharing;
-#[cfg(test)]
-mod tests;
 mod withdrawing;
 
 pub use linking::link_copies;

@@ -5,8 +5,6 @@ mod endings;
 mod forking;
 mod numbers;
 mod starts;
-#[cfg(test)]
-mod tests;
 
 pub use endings::exit;
 pub use forking::fork;

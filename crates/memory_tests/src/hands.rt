@@ -1,9 +1,9 @@
 //! Rounds of the clock's hand over four frames.
 ghost use Rattle.std.specs.Prelude.{◌≡◌, ◌<◌, ◌↔◌, ℕ, true, false, slice_index_or};
 
+use crate::bench::equal;
 use clock_replace::{Clock, FrameView, NoVictim};
 use disk_model::Count;
-use std::test::Fail;
 use vm_types::FrameNo;
 
 /// Four frames.
@@ -65,39 +65,57 @@ impl FrameView for Row {
     ghost goes_on = { λ a b c p q. tt };
 }
 
+// What the clock's next victim is, the marks after it, and the looks until then.
+fn after_a_victim(clock: &mut Clock, row: &mut Row) -> (Result<FrameNo, NoVictim>, [bool; 4], u8)
+    requires { clock.old.hand < 4 }
+    ensures { clock.new.hand < 4 }
+{
+    let victim = clock.victim(row);
+    (victim, row.marked, row.asked)
+}
+
 #[test]
-fn takes_the_first_without_a_mark(rt: HostRuntime) -> Result<(), Fail> {
+fn takes_the_first_without_a_mark(rt: HostRuntime) {
     let mut clock = Clock::new();
     let mut row = Row::new([true; 4], [true, false, true, false]);
-    assert_eq!(rt; clock.victim(&mut row), Ok(FrameNo(1)));
-    assert_eq!(rt; row.marked, [false, false, true, false]);
-    assert_eq!(rt; row.asked, 2);
+    equal(
+        &rt,
+        after_a_victim(&mut clock, &mut row),
+        (Ok(FrameNo(1)), [false, false, true, false], 2),
+    );
     // The hand stands at frame 2, which loses its mark.
-    assert_eq!(rt; clock.victim(&mut row), Ok(FrameNo(3)));
-    assert_eq!(rt; row.marked, [false; 4]);
+    equal(
+        &rt,
+        after_a_victim(&mut clock, &mut row),
+        (Ok(FrameNo(3)), [false; 4], 4),
+    );
     // Frame 0 is next.
-    assert_eq!(rt; clock.victim(&mut row), Ok(FrameNo(0)));
-    assert_eq!(rt; row.asked, 5);
-    Ok(())
+    equal(
+        &rt,
+        after_a_victim(&mut clock, &mut row),
+        (Ok(FrameNo(0)), [false; 4], 5),
+    );
 }
 
 #[test]
-fn goes_round_again_where_all_have_marks(rt: HostRuntime) -> Result<(), Fail> {
+fn goes_round_again_where_all_have_marks(rt: HostRuntime) {
     let mut clock = Clock::new();
     let mut row = Row::new([false, false, true, false], [true; 4]);
-    assert_eq!(rt; clock.victim(&mut row), Ok(FrameNo(2)));
     // What may not be given up keeps its mark.
-    assert_eq!(rt; row.marked, [true, true, false, true]);
-    assert_eq!(rt; row.asked, 7);
-    Ok(())
+    equal(
+        &rt,
+        after_a_victim(&mut clock, &mut row),
+        (Ok(FrameNo(2)), [true, true, false, true], 7),
+    );
 }
 
 #[test]
-fn finds_none_where_none_may_be_given_up(rt: HostRuntime) -> Result<(), Fail> {
+fn finds_none_where_none_may_be_given_up(rt: HostRuntime) {
     let mut clock = Clock::new();
     let mut row = Row::new([false; 4], [true, false, true, false]);
-    assert_eq!(rt; clock.victim(&mut row), Err(NoVictim));
-    assert_eq!(rt; row.marked, [true, false, true, false]);
-    assert_eq!(rt; row.asked, 8);
-    Ok(())
+    equal(
+        &rt,
+        after_a_victim(&mut clock, &mut row),
+        (Err(NoVictim), [true, false, true, false], 8),
+    );
 }

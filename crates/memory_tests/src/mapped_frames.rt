@@ -7,6 +7,7 @@ ghost use Rattle.page_tables.specs.Change.{AddsTable};
 ghost use Rattle.page_tables.specs.Entry.{IsEntry};
 ghost use Rattle.page_tables.specs.Tree.{IsForest, IsRoot};
 
+use crate::bench::equal;
 use frames::Role;
 use mapped_memory::{
     Memory, entry, entry_number, keep, link_table, missing_tables, number_in, prune, set, set_in,
@@ -79,7 +80,7 @@ fn plant_tree(rt: &impl Abort, alloc: Global) -> Result<Tree, AllocError>
     let root = new_table(rt, &mut memory);
     add_table(rt, &mut memory, root, page);
     add_table(rt, &mut memory, root, page);
-    assert_eq!(rt; missing_tables(&memory, root, page), 0);
+    assert!(rt; missing_tables(&memory, root, page) == 0);
     set(&mut memory, root, page, leaf_over(rt, data));
     Ok(Tree {
         memory,
@@ -103,8 +104,8 @@ fn check_walk(
     ensures { memory.new ≡ memory.old }
 {
     let place = end.map(|frame| Phys(u64::from(frame.0) * 4096 + 0x387));
-    assert_eq!(rt; walk(memory, root, ADDR, Access::Load), place);
-    assert_eq!(rt; memory.hits(), hits);
+    let found = walk(memory, root, ADDR, Access::Load);
+    equal(rt, (found, memory.hits()), (place, hits));
 }
 
 #[test]
@@ -112,7 +113,7 @@ fn a_line_is_found_until_its_leaf_changes(rt: HostRuntime) -> Result<(), Fail> {
     let mut tree = plant_tree(&rt, rt.alloc())?;
     check_walk(&rt, &mut tree.memory, tree.root, Ok(tree.data), 0);
     check_walk(&rt, &mut tree.memory, tree.root, Ok(tree.data), 1);
-    assert_eq!(rt; missing_tables(&tree.memory, tree.root, tree.page), 0);
+    assert!(rt; missing_tables(&tree.memory, tree.root, tree.page) == 0);
     set(
         &mut tree.memory,
         tree.root,
@@ -142,9 +143,9 @@ fn clear(rt: &impl Abort, memory: &mut Memory, root: FrameNo, page: Vpn)
     let table = table_of(memory, root, page).expect(rt, "a lowest table");
     let index = (page.get() % 512) as usize;
     let number = entry_number(memory, root, page);
-    assert_eq!(rt; number_in(memory, table, index), number);
+    equal(rt, number_in(memory, table, index), number);
     set_in(memory, table, index, Entry::None);
-    assert_eq!(rt; entry(memory, root, page), Entry::None);
+    equal(rt, entry(memory, root, page), Entry::None);
 }
 
 #[test]
@@ -154,7 +155,7 @@ fn a_page_without_an_entry_has_no_line(rt: HostRuntime) -> Result<(), Fail> {
     clear(&rt, &mut tree.memory, tree.root, tree.page);
     check_walk(&rt, &mut tree.memory, tree.root, Err(WalkFault::Invalid), 0);
     prune(&mut tree.memory, tree.root, tree.page);
-    assert_eq!(rt; missing_tables(&tree.memory, tree.root, tree.page), 2);
+    equal(&rt, missing_tables(&tree.memory, tree.root, tree.page), 2);
     check_walk(&rt, &mut tree.memory, tree.root, Err(WalkFault::Invalid), 0);
     Ok(())
 }
@@ -188,14 +189,14 @@ fn write_shared(rt: &impl Abort, memory: &mut Memory, root: FrameNo, data: Frame
     ensures root { IsRoot top_level memory.new root.0 }
 {
     assert!(rt; data.0 < memory.len());
-    assert_eq!(rt; memory.role(data), Role::Private);
-    assert_eq!(rt; memory.count(data), 1);
+    assert!(rt; memory.role(data) == Role::Private);
+    assert!(rt; memory.count(data) == 1);
     memory.share(data);
-    assert_eq!(rt; memory.count(data), 2);
+    equal(rt, memory.count(data), 2);
     memory.bytes_mut(data)[0x387] = 7;
     memory.release(data);
-    assert_eq!(rt; memory.role(data), Role::Private);
-    assert_eq!(rt; memory.count(data), 1);
+    assert!(rt; memory.role(data) == Role::Private);
+    equal(rt, memory.count(data), 1);
 }
 
 // Copies a frame to another, which is given back.
@@ -213,15 +214,15 @@ fn copy_and_release(
 {
     assert!(rt; data.0 < memory.len());
     assert!(rt; twin.0 < memory.len());
-    assert_eq!(rt; memory.role(twin), Role::Private);
+    assert!(rt; memory.role(twin) == Role::Private);
     memory.copy(data, twin);
-    assert_eq!(rt; memory.bytes(twin)[0x387], 7);
+    equal(rt, memory.bytes(twin)[0x387], 7);
     memory.release(twin);
-    assert_eq!(rt; memory.role(twin), Role::Free);
+    assert!(rt; memory.role(twin) == Role::Free);
     let next = memory
         .next_free()
         .expect(rt, "the frame that was given back");
-    assert_eq!(rt; memory.role(next), Role::Free);
+    equal(rt, memory.role(next), Role::Free);
 }
 
 #[test]

@@ -1,4 +1,5 @@
 //! Where file pages are, and the touched ones.
+use crate::bench::equal;
 use page_cache::{PageCache, Place, TooMany};
 use std::process::Abort;
 use std::test::Fail;
@@ -16,13 +17,13 @@ fn page_of(file: u8, page: u32) -> FilePage {
 
 fn put_in_frame(rt: &impl Abort, cache: &mut PageCache, page: FilePage, n: u32) {
     assert!(rt; n < cache.frames());
-    assert_eq!(rt; cache.page_in_frame(FrameNo(n)), None);
+    assert!(rt; cache.page_in_frame(FrameNo(n)).is_none());
     cache.set_place(page, Place::Frame(FrameNo(n)));
 }
 
 fn put_in_slot(rt: &impl Abort, cache: &mut PageCache, page: FilePage, n: u32) {
     assert!(rt; n < cache.slots());
-    assert_eq!(rt; cache.page_in_slot(SlotNo(n)), None);
+    assert!(rt; cache.page_in_slot(SlotNo(n)).is_none());
     cache.set_place(page, Place::Slot(SlotNo(n)));
 }
 
@@ -41,31 +42,33 @@ fn store(rt: &impl Abort, cache: &mut PageCache, page: FilePage, n: u32) {
     touch(rt, cache, page);
 }
 
+/// Where a page is, and whether it is touched.
+fn state(cache: &PageCache, page: FilePage) -> (Place, bool) {
+    (cache.place(page), cache.is_touched(page))
+}
+
 #[test]
 fn a_page_goes_to_a_frame_to_a_slot_and_home(rt: HostRuntime) -> Result<(), Fail> {
     let mut cache = PageCache::new(rt.alloc(), 8, 4)?;
-    assert_eq!(rt; cache.frames(), 8);
-    assert_eq!(rt; cache.slots(), 4);
+    equal(&rt, (cache.frames(), cache.slots()), (8, 4));
     let page = page_of(3, 70_000);
-    assert_eq!(rt; cache.place(page), Place::Home);
+    equal(&rt, cache.place(page), Place::Home);
 
     put_in_frame(&rt, &mut cache, page, 7);
-    assert_eq!(rt; cache.place(page), Place::Frame(FrameNo(7)));
-    assert_eq!(rt; cache.place(page_of(3, 70_001)), Place::Home);
-    assert!(rt; !cache.is_touched(page));
+    equal(&rt, state(&cache, page), (Place::Frame(FrameNo(7)), false));
+    equal(&rt, cache.place(page_of(3, 70_001)), Place::Home);
     touch(&rt, &mut cache, page);
-    assert!(rt; cache.is_touched(page));
+    equal(&rt, cache.is_touched(page), true);
 
     put_in_slot(&rt, &mut cache, page, 0);
-    assert_eq!(rt; cache.place(page), Place::Slot(SlotNo(0)));
-    assert!(rt; cache.is_touched(page));
-    assert_eq!(rt; cache.slots(), 4);
-    assert_eq!(rt; cache.page_in_slot(SlotNo(0)), Some(page));
+    equal(&rt, state(&cache, page), (Place::Slot(SlotNo(0)), true));
+    assert!(rt; cache.slots() == 4);
+    equal(&rt, cache.page_in_slot(SlotNo(0)), Some(page));
 
     cache.clean(page);
-    assert!(rt; !cache.is_touched(page));
+    equal(&rt, cache.is_touched(page), false);
     send_home(&rt, &mut cache, page);
-    assert_eq!(rt; cache.place(page), Place::Home);
+    equal(&rt, cache.place(page), Place::Home);
     put_in_slot(&rt, &mut cache, page_of(0, 0), 0);
     Ok(())
 }
@@ -84,18 +87,20 @@ fn every_frame_and_slot_holds_its_page(rt: HostRuntime) -> Result<(), Fail> {
         put_in_frame(&rt, &mut cache, page_of(2, 2 * n), 2 * n + 1);
     }
     for n in 0..32 {
-        assert_eq!(rt; cache.place(page_of(1, 2048 * n)), Place::Home);
-        assert_eq!(rt;
-            cache.place(page_of(1, 2048 * n + 1024)),
-            Place::Frame(FrameNo(62 - 2 * n))
-        );
-        assert_eq!(rt;
-            cache.place(page_of(2, 2 * n)),
-            Place::Frame(FrameNo(2 * n + 1))
-        );
-        assert_eq!(rt;
-            cache.place(page_of(2, 2 * n + 1)),
-            Place::Slot(SlotNo(2 * n + 1))
+        equal(
+            &rt,
+            [
+                cache.place(page_of(1, 2048 * n)),
+                cache.place(page_of(1, 2048 * n + 1024)),
+                cache.place(page_of(2, 2 * n)),
+                cache.place(page_of(2, 2 * n + 1)),
+            ],
+            [
+                Place::Home,
+                Place::Frame(FrameNo(62 - 2 * n)),
+                Place::Frame(FrameNo(2 * n + 1)),
+                Place::Slot(SlotNo(2 * n + 1)),
+            ],
         );
     }
     Ok(())
@@ -112,38 +117,43 @@ fn a_row_lists_its_touched_pages_once(rt: HostRuntime) -> Result<(), Fail> {
     let mut list = [FILLER; MSYNC_PAGES];
 
     // two pages of the row against four touched ones: by the row
-    assert_eq!(rt; cache.dirty_in(1, 7, 2, &mut list, 0), Ok(2));
-    assert_eq!(rt; list[0], page_of(1, 7));
-    assert_eq!(rt; list[1], page_of(1, 8));
-    assert_eq!(rt; list[2], FILLER);
+    equal(&rt, cache.dirty_in(1, 7, 2, &mut list, 0), Ok(2));
+    equal(
+        &rt,
+        [list[0], list[1], list[2]],
+        [page_of(1, 7), page_of(1, 8), FILLER],
+    );
 
     // a thousand pages: by the touched ones, of which two are listed
-    assert_eq!(rt; cache.dirty_in(1, 0, 1000, &mut list, 2), Ok(3));
-    assert_eq!(rt; list[0], page_of(1, 7));
-    assert_eq!(rt; list[2], page_of(1, 5));
-    assert_eq!(rt; list[3], FILLER);
+    equal(&rt, cache.dirty_in(1, 0, 1000, &mut list, 2), Ok(3));
+    equal(
+        &rt,
+        [list[0], list[2], list[3]],
+        [page_of(1, 7), page_of(1, 5), FILLER],
+    );
 
     // three pages by the row, all of them listed
-    assert_eq!(rt; cache.dirty_in(1, 5, 3, &mut list, 3), Ok(3));
+    equal(&rt, cache.dirty_in(1, 5, 3, &mut list, 3), Ok(3));
     // another file
-    assert_eq!(rt; cache.dirty_in(2, 5, 1, &mut list, 3), Ok(4));
-    assert_eq!(rt; list[3], page_of(2, 5));
+    equal(&rt, cache.dirty_in(2, 5, 1, &mut list, 3), Ok(4));
+    equal(&rt, list[3], page_of(2, 5));
     // a row with no touched page, and one with no page
-    assert_eq!(rt; cache.dirty_in(3, 0, 1000, &mut list, 4), Ok(4));
-    assert_eq!(rt; cache.dirty_in(1, 5, 0, &mut list, 4), Ok(4));
+    equal(&rt, cache.dirty_in(3, 0, 1000, &mut list, 4), Ok(4));
+    equal(&rt, cache.dirty_in(1, 5, 0, &mut list, 4), Ok(4));
 
     cache.clean(page_of(1, 7));
-    assert_eq!(rt; cache.dirty_in(1, 0, 1000, &mut list, 0), Ok(2));
+    equal(&rt, cache.dirty_in(1, 0, 1000, &mut list, 0), Ok(2));
     Ok(())
 }
 
 #[test]
 fn the_last_page_of_all_is_listed(rt: HostRuntime) -> Result<(), Fail> {
     let mut cache = PageCache::new(rt.alloc(), 8, 0)?;
-    store(&rt, &mut cache, page_of(0, u32::MAX), 1);
+    let last = page_of(0, u32::MAX);
+    store(&rt, &mut cache, last, 1);
     let mut list = [FILLER; MSYNC_PAGES];
-    assert_eq!(rt; cache.dirty_in(0, 1, u32::MAX, &mut list, 0), Ok(1));
-    assert_eq!(rt; list[0], page_of(0, u32::MAX));
+    let listed = cache.dirty_in(0, 1, u32::MAX, &mut list, 0);
+    equal(&rt, (listed, list[0]), (Ok(1), last));
     Ok(())
 }
 
@@ -156,15 +166,23 @@ fn entry_128_is_too_many(rt: HostRuntime) -> Result<(), Fail> {
     store(&rt, &mut cache, page_of(6, 0), 128);
     let mut list = [FILLER; MSYNC_PAGES];
 
-    // by the row
-    assert_eq!(rt; cache.dirty_in(5, 1, 127, &mut list, 0), Ok(127));
-    assert_eq!(rt; cache.dirty_in(5, 0, 128, &mut list, 127), Err(TooMany));
-    assert_eq!(rt; cache.dirty_in(5, 1, 127, &mut list, 127), Ok(127));
-    assert_eq!(rt; cache.dirty_in(6, 0, 1, &mut list, 127), Err(TooMany));
-    assert_eq!(rt; list[126], page_of(5, 127));
-    // by the touched pages
-    assert_eq!(rt; cache.dirty_in(5, 1, 1000, &mut list, 0), Ok(127));
-    assert_eq!(rt; cache.dirty_in(5, 0, 1000, &mut list, 0), Err(TooMany));
-    assert_eq!(rt; cache.dirty_in(6, 0, 1000, &mut list, 126), Ok(127));
+    let by_the_row = [
+        cache.dirty_in(5, 1, 127, &mut list, 0),
+        cache.dirty_in(5, 0, 128, &mut list, 127),
+        cache.dirty_in(5, 1, 127, &mut list, 127),
+        cache.dirty_in(6, 0, 1, &mut list, 127),
+    ];
+    equal(
+        &rt,
+        by_the_row,
+        [Ok(127), Err(TooMany), Ok(127), Err(TooMany)],
+    );
+    equal(&rt, list[126], page_of(5, 127));
+    let by_the_touched_pages = [
+        cache.dirty_in(5, 1, 1000, &mut list, 0),
+        cache.dirty_in(5, 0, 1000, &mut list, 0),
+        cache.dirty_in(6, 0, 1000, &mut list, 126),
+    ];
+    equal(&rt, by_the_touched_pages, [Ok(127), Err(TooMany), Ok(127)]);
     Ok(())
 }

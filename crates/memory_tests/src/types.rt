@@ -1,73 +1,91 @@
 //! Numbers, widths, permissions and refusals: what no clause says, that each call succeeds, at values from the manuals.
+use crate::bench::equal;
 use bitflags::Flags;
-use std::test::Fail;
 use vm_types::{
     Backing, Errno, FilePage, PAGE_BYTES, Pid, Prot, Stall, StoredValue, USER_END, USER_START, Vpn,
     Width,
 };
 
 #[test]
-fn widths_are_powers_of_two(rt: HostRuntime) -> Result<(), Fail> {
+fn widths_are_powers_of_two(rt: HostRuntime) {
     for bytes in [1, 2, 4, 8] {
-        let width = Width::from_bytes(bytes).ok_or("no width")?;
-        assert_eq!(rt; width.bytes() as u64, bytes);
+        let width = Width::from_bytes(bytes).expect(&rt, "a width");
+        equal(&rt, width.bytes() as u64, bytes);
     }
-    assert_eq!(rt; Width::from_bytes(3), None);
-    Ok(())
+    equal(&rt, Width::from_bytes(3), None);
 }
 
 #[test]
-fn stored_values_fit(rt: HostRuntime) -> Result<(), Fail> {
-    let stored = StoredValue::new(Width::One, 0xff).ok_or("255 fits a byte")?;
-    assert_eq!(rt; stored.value, 0xff);
-    assert_eq!(rt; StoredValue::new(Width::One, 0x100), None);
-    assert!(rt; StoredValue::new(Width::Eight, u64::MAX).is_some());
-    Ok(())
-}
-
-#[test]
-fn numbers_have_ranges(rt: HostRuntime) -> Result<(), Fail> {
-    assert_eq!(rt; Pid::new(64).ok_or("64 is a process")?.get(), 64);
-    assert_eq!(rt; Pid::new(0), None);
-    assert_eq!(rt; Pid::new(65), None);
-    assert_eq!(rt; Vpn::new(0x10).ok_or("16 is a page")?.get(), 0x10);
-    assert_eq!(rt;
-        Vpn::new(0x3ff_ffff).ok_or("the last user page")?.get(),
-        0x3ff_ffff
+fn stored_values_fit(rt: HostRuntime) {
+    let stored = StoredValue::new(Width::One, 0xff).expect(&rt, "255 fits a byte");
+    equal(&rt, stored.value, 0xff);
+    equal(&rt, StoredValue::new(Width::One, 0x100), None);
+    equal(
+        &rt,
+        StoredValue::new(Width::Eight, u64::MAX).is_some(),
+        true,
     );
-    assert_eq!(rt; Vpn::new(0xf), None);
-    assert_eq!(rt; Vpn::new(0x400_0000), None);
-    assert_eq!(rt; USER_START * PAGE_BYTES as u64, 0x10000);
-    assert_eq!(rt; USER_END * PAGE_BYTES as u64, 0x3f_ffff_ffff + 1);
-    Ok(())
+}
+
+#[test]
+fn numbers_have_ranges(rt: HostRuntime) {
+    let pid = Pid::new(64).expect(&rt, "64 is a process");
+    equal(&rt, pid.get(), 64);
+    equal(&rt, [Pid::new(0), Pid::new(65)], [None; 2]);
+    let first = Vpn::new(0x10).expect(&rt, "16 is a page");
+    let last = Vpn::new(0x3ff_ffff).expect(&rt, "the last user page");
+    equal(&rt, [first.get(), last.get()], [0x10, 0x3ff_ffff]);
+    equal(&rt, [Vpn::new(0xf), Vpn::new(0x400_0000)], [None; 2]);
+    let bytes = PAGE_BYTES as u64;
+    equal(
+        &rt,
+        [USER_START * bytes, USER_END * bytes],
+        [0x10000, 0x3f_ffff_ffff + 1],
+    );
 }
 
 #[test]
 fn write_is_kept_with_read(rt: HostRuntime) {
-    assert_eq!(rt; Prot::WRITE.kept(), Prot::READ | Prot::WRITE);
-    assert_eq!(rt; Prot::EXECUTE.kept(), Prot::EXECUTE);
-    assert!(rt; !Prot::WRITE.is_readable());
-    assert!(rt; Prot::WRITE.is_writable());
-    assert!(rt; !Prot::WRITE.is_executable());
-    assert!(rt; (Prot::READ | Prot::EXECUTE).is_executable());
-    assert_eq!(rt; Prot::empty().bits(), 0);
+    equal(
+        &rt,
+        [Prot::WRITE.kept(), Prot::EXECUTE.kept()],
+        [Prot::READ | Prot::WRITE, Prot::EXECUTE],
+    );
+    equal(
+        &rt,
+        [
+            Prot::WRITE.is_readable(),
+            Prot::WRITE.is_writable(),
+            Prot::WRITE.is_executable(),
+            (Prot::READ | Prot::EXECUTE).is_executable(),
+        ],
+        [false, true, false, true],
+    );
+    equal(&rt, Prot::empty().bits(), 0);
 }
 
 #[test]
 fn what_stands_behind_a_page(rt: HostRuntime) {
     let page = FilePage { file: 3, page: 7 };
     let backings = [Backing::Anon, Backing::Private(page), Backing::Shared(page)];
-    assert_eq!(rt; backings.map(Backing::is_shared), [false, false, true]);
-    assert_eq!(rt;
+    equal(&rt, backings.map(Backing::is_shared), [false, false, true]);
+    equal(
+        &rt,
         backings.map(Backing::file_page),
-        [None, Some(page), Some(page)]
+        [None, Some(page), Some(page)],
     );
 }
 
 #[test]
 fn refusals_have_their_numbers(rt: HostRuntime) {
-    assert_eq!(rt; Errno::ESRCH.number(), 3);
-    assert_eq!(rt; Errno::EOVERFLOW.number(), 75);
-    assert_eq!(rt; Stall::NoFrames.number(), 1);
-    assert_eq!(rt; Stall::StoreDevice.number(), 4);
+    equal(
+        &rt,
+        [Errno::ESRCH.number(), Errno::EOVERFLOW.number()],
+        [3, 75],
+    );
+    equal(
+        &rt,
+        [Stall::NoFrames.number(), Stall::StoreDevice.number()],
+        [1, 4],
+    );
 }

@@ -1,9 +1,11 @@
 //! Walks over tables, and the bits of entries.
 ghost use Rattle.std.specs.Prelude.{◌≤◌};
 
+use crate::bench::equal;
 use byteorder::{ByteOrder, LittleEndian};
 use frames::{Frames, Role};
 use std::alloc::Global;
+use std::process::Abort;
 use std::test::Fail;
 use sv39_walk::{Pte, WalkFault, next_table, read_entry, table_index, walk};
 use vm_types::{Access, FrameNo, Phys};
@@ -34,7 +36,7 @@ fn walk_over(
 }
 
 #[test]
-fn pages_of_4096_bytes(rt: HostRuntime) -> Result<(), Fail> {
+fn pages_of_4096_bytes(rt: HostRuntime) {
     for (last, access, want) in [
         (0x15d7, Access::Load, Ok(Phys(21383))),
         (0x15d7, Access::Fetch, Err(WalkFault::Denied)),
@@ -49,13 +51,13 @@ fn pages_of_4096_bytes(rt: HostRuntime) -> Result<(), Fail> {
         (0x0, Access::Load, Err(WalkFault::Invalid)),
     ] {
         let got = walk_over(rt.alloc(), 0xc01, last, 0x11387, access);
-        assert_eq!(rt; got.ok_or("no memory")?, want, "at {last:#x}");
+        // The number is there to be told where a test fails, and None is want of memory.
+        equal(&rt, (last, got), (last, Some(want)));
     }
-    Ok(())
 }
 
 #[test]
-fn larger_pages_and_bad_addresses(rt: HostRuntime) -> Result<(), Fail> {
+fn larger_pages_and_bad_addresses(rt: HostRuntime) {
     for (second, addr, want) in [
         (0x15d7, 0x11387, Err(WalkFault::Misaligned)),
         (0x1d7, 0x5387, Ok(Phys(21383))),
@@ -64,9 +66,8 @@ fn larger_pages_and_bad_addresses(rt: HostRuntime) -> Result<(), Fail> {
         (0x1d7, 0x3f_ffff_ffff, Err(WalkFault::Invalid)),
     ] {
         let got = walk_over(rt.alloc(), second, 0, addr, Access::Load);
-        assert_eq!(rt; got.ok_or("no memory")?, want, "at {addr:#x}");
+        equal(&rt, (addr, got), (addr, Some(want)));
     }
-    Ok(())
 }
 
 #[test]
@@ -79,39 +80,45 @@ fn fields_of_addresses(rt: HostRuntime) {
             table_index(page, 0),
         ]
     };
-    assert_eq!(rt; places(0x11387), [0, 0, 17]);
-    assert_eq!(rt; places(0x3f_ffff_ffff), [255, 511, 511]);
+    equal(
+        &rt,
+        [places(0x11387), places(0x3f_ffff_ffff)],
+        [[0, 0, 17], [255, 511, 511]],
+    );
 }
 
 #[test]
 fn bits_of_entries(rt: HostRuntime) {
     let leaf = Pte::from_u64(0x15d7);
-    assert_eq!(rt; leaf.to_u64(), 5591);
-    assert_eq!(rt; leaf.frame(), 5);
-    assert_eq!(rt;
+    equal(&rt, (leaf.to_u64(), leaf.frame()), (5591, 5));
+    equal(
+        &rt,
         [
             leaf.is_valid(),
             leaf.is_readable(),
             leaf.is_writable(),
-            leaf.is_executable()
+            leaf.is_executable(),
         ],
-        [true, true, true, false]
+        [true, true, true, false],
     );
-    assert_eq!(rt;
+    equal(
+        &rt,
         [leaf.is_user(), leaf.is_accessed(), leaf.is_dirty()],
-        [true; 3]
+        [true; 3],
     );
-    assert_eq!(rt;
+    equal(
+        &rt,
         [leaf.is_leaf(), leaf.is_pointer(), leaf.is_reserved()],
-        [true, false, false]
+        [true, false, false],
     );
-    assert_eq!(rt;
+    equal(
+        &rt,
         [
             leaf.grants(Access::Load),
             leaf.grants(Access::Store),
-            leaf.grants(Access::Fetch)
+            leaf.grants(Access::Fetch),
         ],
-        [true, true, false]
+        [true, true, false],
     );
 }
 
@@ -120,25 +127,36 @@ fn bits_of_entries(rt: HostRuntime) {
 fn entries_with_a_bit_less(rt: HostRuntime) {
     let leaf = Pte::from_u64(0x15d7);
     assert!(rt; leaf.is_private());
-    assert_eq!(rt; leaf.without_write(), Pte(0x15d3));
-    assert_eq!(rt; leaf.without_accessed(), Pte(0x1597));
-    assert_eq!(rt; leaf.without_dirty(), Pte(0x1557));
-    assert_eq!(rt; leaf.frame_number(), FrameNo(5));
-    assert_eq!(rt;
+    equal(
+        &rt,
+        [
+            leaf.without_write(),
+            leaf.without_accessed(),
+            leaf.without_dirty(),
+        ],
+        [Pte(0x15d3), Pte(0x1597), Pte(0x1557)],
+    );
+    equal(&rt, leaf.frame_number(), FrameNo(5));
+    equal(
+        &rt,
         Pte::from_u64(0x8000_0000_0000_1fff).frame_number(),
-        FrameNo(7)
+        FrameNo(7),
     );
 }
 
 #[test]
 fn a_pointer_in_a_table_leads_on(rt: HostRuntime) -> Result<(), Fail> {
     let mut frames = Frames::new(rt.alloc(), 8)?;
-    let table = frames.take(Role::Table).expect(&rt, "a free frame");
-    let pointer = Pte::pointer(FrameNo(3));
-    assert_eq!(rt; pointer.to_u64(), 3073);
-    frames.bytes_mut(table)[136..144].copy_from_slice(&[1, 0x0c, 0, 0, 0, 0, 0, 0]);
-    let entry = read_entry(&frames, table, table_index(0x11387 / 4096, 0));
-    assert_eq!(rt; entry, pointer);
-    assert_eq!(rt; next_table(&frames, entry), Some(FrameNo(3)));
+    follow_a_pointer(&rt, &mut frames);
     Ok(())
+}
+
+fn follow_a_pointer(rt: &impl Abort, frames: &mut Frames) {
+    let table = frames.take(Role::Table).expect(rt, "a free frame");
+    let pointer = Pte::pointer(FrameNo(3));
+    equal(rt, pointer.to_u64(), 3073);
+    frames.bytes_mut(table)[136..144].copy_from_slice(&[1, 0x0c, 0, 0, 0, 0, 0, 0]);
+    let entry = read_entry(frames, table, table_index(0x11387 / 4096, 0));
+    equal(rt, entry, pointer);
+    equal(rt, next_table(frames, entry), Some(FrameNo(3)));
 }

@@ -9,4 +9,3 @@ pub mod NewRegions
 pub mod LeafEntries
 pub mod PermittedRows
 pub mod Reprotected
-pub mod Spawned

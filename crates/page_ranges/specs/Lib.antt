@@ -1,4 +1,3 @@
 pub mod Steps
 pub mod Leaves
 pub mod Rows
-pub mod Tests

@@ -8,8 +8,6 @@ mod leaves;
 mod permitting;
 mod remapping;
 mod rows;
-#[cfg(test)]
-mod tests;
 
 pub use clearing::clear_row;
 pub use permitting::reprotect;

@@ -1,7 +1,8 @@
 //! What the tests share: a formatted image, and a trace that is run on it.
 //!
-//! No other file here holds a machine. In a test each `?` is a way out, which lets go of all that the test holds, and for a
-//! machine that takes long to prove.
+//! No other file here holds a machine, or compares replies by itself: a test names a trace and the replies that are wanted. Each
+//! comparison and each `?` is a way out, which lets go of all that a function holds, and for a machine, a device or replies that
+//! takes long to prove.
 ghost use Rattle.std.specs.Prelude.{IfOk};
 ghost use Rattle.file_store.specs.Store.{IsReadyStore};
 ghost use Rattle.machine.specs.Machine.{IsSoundMachine};
@@ -11,6 +12,7 @@ use file_store::{FileSource, FileStore, format};
 use machine::{BootFault, Config, Machine};
 use runner::{RunEnd, run, run_on};
 use std::alloc::Global;
+use std::fmt::Debug;
 use std::io::{Read, Write};
 use std::test::Fail;
 use vm_types::FilePage;
@@ -38,7 +40,7 @@ pub(crate) fn image(alloc: Global, length: u32) -> Result<SimDisk, Fail> {
 }
 
 /// An image of one file of one page.
-pub(crate) fn image_of(alloc: Global, read_only: bool, page: &[u8; 4096]) -> Result<SimDisk, Fail> {
+fn image_of(alloc: Global, read_only: bool, page: &[u8; 4096]) -> Result<SimDisk, Fail> {
     let mut disk = SimDisk::new(alloc, 1028)?;
     let mut files: [FileSource<&[u8]>; 1] = [FileSource {
         read_only,
@@ -50,7 +52,7 @@ pub(crate) fn image_of(alloc: Global, read_only: bool, page: &[u8; 4096]) -> Res
 }
 
 /// An image of two files of a page of zeros each.
-pub(crate) fn image_of_two(alloc: Global) -> Result<SimDisk, Fail> {
+fn image_of_two(alloc: Global) -> Result<SimDisk, Fail> {
     let mut disk = SimDisk::new(alloc, 1036)?;
     let mut files: [FileSource<&[u8]>; 2] = [
         FileSource {
@@ -82,6 +84,12 @@ pub(crate) const CONFIG: Config = Config {
     slots: 16,
 };
 
+/// The fewest frames: with one process and pages that lie together there are four for pages, beside the zero page and three tables.
+pub(crate) const SMALL: Config = Config {
+    frames: 8,
+    slots: 16,
+};
+
 /// A trace, and the replies that are wanted.
 #[derive(Drop)]
 pub(crate) struct Exchange {
@@ -103,14 +111,43 @@ impl Exchange {
         self.wanted.extend_from_slice(replies)?;
         Ok(())
     }
+
+    /// The trace and the replies.
+    pub(crate) fn parts(&self) -> (&[u8], &[u8]) {
+        (self.trace.as_slice(), self.wanted.as_slice())
+    }
+}
+
+/// Sees that the value found is the one that is wanted.
+pub(crate) fn same<T: Copy + PartialEq + Debug>(
+    what: &str,
+    found: T,
+    wanted: T,
+) -> Result<(), Fail> {
+    if found == wanted {
+        Ok(())
+    } else {
+        Err(Fail::new(format_args!("{what}: {found:?}, and not {wanted:?}")))
+    }
+}
+
+/// Sees that a run ended like that, and with these replies.
+pub(crate) fn expect_end(
+    end: RunEnd,
+    ending: RunEnd,
+    replies: &[u8],
+    wanted: &[u8],
+) -> Result<(), Fail> {
+    same("replies", replies, wanted)?;
+    same("end", end, ending)
 }
 
 /// A machine's replies, how its run ended, and the device of its store as it was left.
 #[derive(Drop)]
-pub(crate) struct Told {
-    pub end: RunEnd,
-    pub output: Vec<u8>,
-    pub store: SimDisk,
+struct Told {
+    end: RunEnd,
+    output: Vec<u8>,
+    store: SimDisk,
 }
 
 /// A machine of that size on the image as it was last synced.
@@ -137,7 +174,7 @@ fn booted(
 }
 
 /// Runs a trace on a machine of that size over the image as it was last synced.
-pub(crate) fn ran_in(
+fn ran_in(
     alloc: Global,
     image: &SimDisk,
     armed: Armed,
@@ -152,33 +189,105 @@ pub(crate) fn ran_in(
     Ok(Told { end, output, store })
 }
 
-/// Runs a trace on a machine of 64 frames over the image as it was last synced.
-pub(crate) fn ran(
+/// The device of the store, as a machine of that size leaves it that gives these replies to a trace, over the image as it was last
+/// synced.
+fn left_over(
     alloc: Global,
     image: &SimDisk,
     armed: Armed,
-    trace: &[u8],
-) -> Result<Told, Fail> {
-    ran_in(alloc, image, armed, CONFIG, trace)
+    config: Config,
+    exchange: (&[u8], &[u8]),
+) -> Result<SimDisk, Fail> {
+    let (trace, wanted) = exchange;
+    let told = ran_in(alloc, image, armed, config, trace)?;
+    expect_end(told.end, RunEnd::Done, told.output.as_slice(), wanted)?;
+    Ok(told.store)
 }
 
-/// How a trace ends on a machine of 64 frames over the image as it was last synced, and its replies.
-pub(crate) fn replies(
-    alloc: Global,
-    image: &SimDisk,
-    trace: &[u8],
-) -> Result<(RunEnd, Vec<u8>), Fail> {
-    let told = ran_in(alloc, image, Armed::Nothing, CONFIG, trace)?;
-    Ok((told.end, told.output))
-}
-
-/// How a trace ends on a machine of 64 frames over a file of so many zeros, and its replies.
-pub(crate) fn replies_over_zeros(
+/// The same over a file of so many zeros.
+pub(crate) fn left_in(
     alloc: Global,
     length: u32,
-    trace: &[u8],
-) -> Result<(RunEnd, Vec<u8>), Fail> {
-    replies(alloc, &image(alloc, length)?, trace)
+    armed: Armed,
+    config: Config,
+    exchange: (&[u8], &[u8]),
+) -> Result<SimDisk, Fail> {
+    left_over(alloc, &image(alloc, length)?, armed, config, exchange)
+}
+
+/// The same of a machine of 64 frames, whose devices have no fault.
+pub(crate) fn left(alloc: Global, length: u32, exchange: (&[u8], &[u8])) -> Result<SimDisk, Fail> {
+    left_in(alloc, length, Armed::Nothing, CONFIG, exchange)
+}
+
+/// The same over two files, where the device stops at that write.
+pub(crate) fn left_of_two(
+    alloc: Global,
+    write: u64,
+    exchange: (&[u8], &[u8]),
+) -> Result<SimDisk, Fail> {
+    let disk = image_of_two(alloc)?;
+    left_over(alloc, &disk, Armed::StopAtWrite(write), CONFIG, exchange)
+}
+
+/// Sees that a machine of that size gives these replies to a trace over a file of so many zeros: how many writes and syncs its
+/// store's device had.
+pub(crate) fn asked_in(
+    alloc: Global,
+    length: u32,
+    armed: Armed,
+    config: Config,
+    exchange: (&[u8], &[u8]),
+) -> Result<(u64, u64), Fail> {
+    let store = left_in(alloc, length, armed, config, exchange)?;
+    Ok((store.writes(), store.syncs()))
+}
+
+/// How many of them there were once the machine had started.
+pub(crate) fn asked_after_start(
+    alloc: Global,
+    length: u32,
+    config: Config,
+    exchange: (&[u8], &[u8]),
+) -> Result<(u64, u64), Fail> {
+    let at_start = asked_in(alloc, length, Armed::Nothing, config, (b"", b""))?;
+    let asked = asked_in(alloc, length, Armed::Nothing, config, exchange)?;
+    Ok((
+        asked.0.saturating_sub(at_start.0),
+        asked.1.saturating_sub(at_start.1),
+    ))
+}
+
+/// Sees that a machine of that size gives these replies to a trace over a file of so many zeros.
+pub(crate) fn expect_in(
+    alloc: Global,
+    length: u32,
+    armed: Armed,
+    config: Config,
+    exchange: (&[u8], &[u8]),
+) -> Result<(), Fail> {
+    let _ = asked_in(alloc, length, armed, config, exchange)?;
+    Ok(())
+}
+
+/// Sees that a machine of 64 frames gives these replies to a trace over the image as it was last synced.
+pub(crate) fn expect(alloc: Global, image: &SimDisk, exchange: (&[u8], &[u8])) -> Result<(), Fail> {
+    let _ = left_over(alloc, image, Armed::Nothing, CONFIG, exchange)?;
+    Ok(())
+}
+
+/// Sees that a machine of 64 frames gives these replies to a trace over a file of so many zeros.
+pub(crate) fn expect_over_zeros(
+    alloc: Global,
+    length: u32,
+    exchange: (&[u8], &[u8]),
+) -> Result<(), Fail> {
+    expect_in(alloc, length, Armed::Nothing, CONFIG, exchange)
+}
+
+/// Sees the same over a file of one page of the letter A, which may only be read.
+pub(crate) fn expect_over_letters(alloc: Global, exchange: (&[u8], &[u8])) -> Result<(), Fail> {
+    expect(alloc, &image_of(alloc, true, &[0x41; 4096])?, exchange)
 }
 
 /// How a run of that reader and that writer ends on a machine of 64 frames over a file of one page of zeros.
@@ -207,7 +316,7 @@ pub(crate) fn ran_on(
 }
 
 /// Why no machine starts on this image, and how many writes were made to it.
-pub(crate) fn refused(alloc: Global, image: &SimDisk) -> Result<(BootFault, u64), Fail> {
+fn refused(alloc: Global, image: &SimDisk) -> Result<(BootFault, u64), Fail> {
     let store = image.left(alloc, &[])?;
     match Machine::boot(alloc, CONFIG, store, SimDisk::new(alloc, 128)?) {
         Ok(_) => Err(Fail::new("it booted")),
@@ -215,10 +324,21 @@ pub(crate) fn refused(alloc: Global, image: &SimDisk) -> Result<(BootFault, u64)
     }
 }
 
-/// How many calls of the store's device a start makes.
-pub(crate) fn calls_at_boot(alloc: Global, image: &SimDisk) -> Result<u64, Fail> {
-    let machine = booted(alloc, image, Armed::Nothing, CONFIG)?;
-    Ok(machine.store().calls())
+/// Sees that no machine starts on this image, for that reason, and that nothing was written to it.
+pub(crate) fn expect_refusal(
+    alloc: Global,
+    image: &SimDisk,
+    wanted: BootFault,
+) -> Result<(), Fail> {
+    let (fault, writes) = refused(alloc, image)?;
+    same("fault", fault, wanted)?;
+    same("writes", writes, 0)
+}
+
+/// The fault of the call of the store's device that comes so many calls after a start over a file of so many zeros.
+pub(crate) fn failing_after_start(alloc: Global, length: u32, calls: u64) -> Result<Armed, Fail> {
+    let machine = booted(alloc, &image(alloc, length)?, Armed::Nothing, CONFIG)?;
+    Ok(Armed::FailAtCall(machine.store().calls().saturating_add(calls)))
 }
 
 /// A page that begins with these bytes; all else is zeros.

@@ -1,33 +1,17 @@
 //! Traces that need more pages than memory has frames: frames are given up, and their pages come back from swap.
-use crate::bench::{Armed, Exchange, Told, expect_file, image, ran_in, replies};
-use crate::histories::FORTY_LINES;
-use disk_model::SimDisk;
-use machine::Config;
-use runner::RunEnd;
-use std::alloc::Global;
-use std::process::Abort;
-use std::test::Fail;
-
-/// The fewest frames: with one process and pages that lie together there are four for pages, beside the zero page and three tables.
-const SMALL: Config = Config {
-    frames: 8,
-    slots: 16,
+use crate::bench::{
+    Armed, Exchange, SMALL, asked_after_start, asked_in, expect, expect_file, expect_in, left_in,
+    same,
 };
-
-/// How a trace ends on a machine of that size over a page of zeros, and its replies.
-fn told_in(alloc: Global, armed: Armed, config: Config, trace: &[u8]) -> Result<Told, Fail> {
-    let disk = image(alloc, 4096)?;
-    ran_in(alloc, &disk, armed, config, trace)
-}
+use crate::histories::FORTY_LINES;
+use machine::Config;
+use std::alloc::Global;
+use std::test::Fail;
 
 #[test]
 fn sixteen_pages_come_back_to_four_frames(rt: HostRuntime) -> Result<(), Fail> {
-    let (trace, wanted) = FORTY_LINES;
-    let told = told_in(rt.alloc(), Armed::Nothing, SMALL, trace)?;
-    assert_eq!(rt; told.end, RunEnd::Done);
-    assert_eq!(rt; told.output.as_slice(), wanted);
-    assert_eq!(rt; told.store.writes(), 0);
-    Ok(())
+    let (writes, _) = asked_in(rt.alloc(), 4096, Armed::Nothing, SMALL, FORTY_LINES)?;
+    same("writes", writes, 0)
 }
 
 /// Without a slot no page of a process's own can be given up: the fifth store stalls.
@@ -40,10 +24,7 @@ fn four_pages_have_room_without_swap(rt: HostRuntime) -> Result<(), Fail> {
     let trace = b"spawn\nmmap 1 0 0x10000 rw- anon\nstore 1 0x10000 1 0x1\nstore 1 0x11000 1 0x2\n\
 store 1 0x12000 1 0x3\nstore 1 0x13000 1 0x4\nstore 1 0x14000 1 0x5\nload 1 0x10000 1\nload 1 0x14000 1\n";
     let wanted = b"pid 1\naddr 0x10000\nok\nok\nok\nok\nstall 2 NOSWAP\nvalue 0x01\nvalue 0x00\n";
-    let told = told_in(rt.alloc(), Armed::Nothing, config, trace.as_slice())?;
-    assert_eq!(rt; told.end, RunEnd::Done);
-    assert_eq!(rt; told.output.as_slice(), wanted.as_slice());
-    Ok(())
+    expect_in(rt.alloc(), 4096, Armed::Nothing, config, (trace, wanted))
 }
 
 /// The first write of the swap device fails: the store that it was for stalls, and its page shows zeros later on. No other
@@ -80,10 +61,7 @@ fn one_write_lost(alloc: Global) -> Result<Exchange, Fail> {
 fn a_failed_write_of_swap_stalls_one_store(rt: HostRuntime) -> Result<(), Fail> {
     let exchange = one_write_lost(rt.alloc())?;
     let armed = Armed::SwapFailsAtCall(1);
-    let told = told_in(rt.alloc(), armed, SMALL, exchange.trace.as_slice())?;
-    assert_eq!(rt; told.end, RunEnd::Done);
-    assert_eq!(rt; told.output.as_slice(), exchange.wanted.as_slice());
-    Ok(())
+    expect_in(rt.alloc(), 4096, armed, SMALL, exchange.parts())
 }
 
 /// Two processes share pages of their own that went to swap, until one stores to them.
@@ -99,10 +77,7 @@ store 1 0x12000 1 0x21\nstore 1 0x13000 1 0x21\nstore 1 0x14000 1 0x21\nstore 1 
 store 2 0x10001 1 0x22\nload 1 0x10000 2\nload 2 0x10000 2\n";
     let wanted =
         b"pid 1\naddr 0x10000\nok\npid 2\nok\nok\nok\nok\nok\nok\nvalue 0x0011\nvalue 0x2211\n";
-    let told = told_in(rt.alloc(), Armed::Nothing, config, trace.as_slice())?;
-    assert_eq!(rt; told.end, RunEnd::Done);
-    assert_eq!(rt; told.output.as_slice(), wanted.as_slice());
-    Ok(())
+    expect_in(rt.alloc(), 4096, Armed::Nothing, config, (trace, wanted))
 }
 
 /// The zero page, six tables and two pages: a fork and a store of the child, and there are two slots for two pages.
@@ -115,10 +90,7 @@ fn two_processes_fit_into_nine_frames(rt: HostRuntime) -> Result<(), Fail> {
     let trace = b"spawn\nmmap 1 0 4096 rw- anon\nstore 1 0x10000 1 1\nfork 1\nstore 2 0x10000 1 2\n\
 load 1 0x10000 1\nload 2 0x10000 1\n";
     let wanted = b"pid 1\naddr 0x10000\nok\npid 2\nok\nvalue 0x01\nvalue 0x02\n";
-    let told = told_in(rt.alloc(), Armed::Nothing, config, trace.as_slice())?;
-    assert_eq!(rt; told.end, RunEnd::Done);
-    assert_eq!(rt; told.output.as_slice(), wanted.as_slice());
-    Ok(())
+    expect_in(rt.alloc(), 4096, Armed::Nothing, config, (trace, wanted))
 }
 
 /// Stores a byte in each of the eight pages of a file: k + 1 in page k.
@@ -145,57 +117,54 @@ fn push_eight_loads(alloc: Global, exchange: &mut Exchange) -> Result<(), Fail> 
     Ok(())
 }
 
+/// Stores a byte in each of the eight pages, and loads them.
+fn eight_stores_and_loads(alloc: Global) -> Result<Exchange, Fail> {
+    let mut exchange = eight_stores(alloc)?;
+    push_eight_loads(alloc, &mut exchange)?;
+    Ok(exchange)
+}
+
 /// Touched pages of a file go to swap and never home: the store has no write before the msync, and a stop leaves zeros.
 #[test]
 fn touched_pages_go_to_swap(rt: HostRuntime) -> Result<(), Fail> {
-    let disk = image(rt.alloc(), 0x8000)?;
-    let mut exchange = eight_stores(rt.alloc())?;
-    push_eight_loads(rt.alloc(), &mut exchange)?;
-    let told = ran_in(
-        rt.alloc(),
-        &disk,
-        Armed::Nothing,
-        SMALL,
-        exchange.trace.as_slice(),
+    let exchange = eight_stores_and_loads(rt.alloc())?;
+    let left = left_in(rt.alloc(), 0x8000, Armed::Nothing, SMALL, exchange.parts())?;
+    drop(exchange);
+    same("writes", left.writes(), 0)?;
+    expect_file(rt.alloc(), &left, 0, &[])
+}
+
+/// Stores and loads of the eight pages, and then an msync of all.
+fn eight_pages_synced(alloc: Global) -> Result<Exchange, Fail> {
+    let mut exchange = eight_stores_and_loads(alloc)?;
+    exchange.push(
+        b"msync 1 0x10000 0x8000 sync\nload 1 0x17000 1\n",
+        b"ok\nvalue 0x08\n",
     )?;
-    assert_eq!(rt; told.output.as_slice(), exchange.wanted.as_slice());
-    assert_eq!(rt; told.store.writes(), 0);
-    expect_file(rt.alloc(), &told.store, 0, &[])
+    Ok(exchange)
+}
+
+/// Maps the eight pages for reading, and loads what was stored.
+fn eight_pages_shown(alloc: Global) -> Result<Exchange, Fail> {
+    let mut shown = Exchange::new(alloc);
+    shown.push(
+        b"spawn\nmmap 1 0 0x8000 r-- shared 0 0\n",
+        b"pid 1\naddr 0x10000\n",
+    )?;
+    push_eight_loads(alloc, &mut shown)?;
+    Ok(shown)
 }
 
 /// An msync makes durable what lies in frames and in slots: 64 sectors of the body, the map and the gate, with two syncs.
 #[test]
 fn an_msync_takes_pages_from_swap(rt: HostRuntime) -> Result<(), Fail> {
-    let disk = image(rt.alloc(), 0x8000)?;
-    let mut exchange = eight_stores(rt.alloc())?;
-    push_eight_loads(rt.alloc(), &mut exchange)?;
-    exchange.push(
-        b"msync 1 0x10000 0x8000 sync\nload 1 0x17000 1\n",
-        b"ok\nvalue 0x08\n",
-    )?;
-    let at_boot = ran_in(rt.alloc(), &disk, Armed::Nothing, SMALL, b"")?;
-    let told = ran_in(
-        rt.alloc(),
-        &disk,
-        Armed::Nothing,
-        SMALL,
-        exchange.trace.as_slice(),
-    )?;
-    assert_eq!(rt; told.output.as_slice(), exchange.wanted.as_slice());
-    assert_eq!(rt;
-        told.store.writes(),
-        at_boot.store.writes().saturating_add(66)
-    );
-    assert_eq!(rt; told.store.syncs(), at_boot.store.syncs().saturating_add(2));
-    let mut shown = Exchange::new(rt.alloc());
-    shown.push(
-        b"spawn\nmmap 1 0 0x8000 r-- shared 0 0\n",
-        b"pid 1\naddr 0x10000\n",
-    )?;
-    push_eight_loads(rt.alloc(), &mut shown)?;
-    let (_, output) = replies(rt.alloc(), &told.store, shown.trace.as_slice())?;
-    assert_eq!(rt; output.as_slice(), shown.wanted.as_slice());
-    Ok(())
+    let exchange = eight_pages_synced(rt.alloc())?;
+    let asked = asked_after_start(rt.alloc(), 0x8000, SMALL, exchange.parts())?;
+    same("writes and syncs", asked, (66, 2))?;
+    let left = left_in(rt.alloc(), 0x8000, Armed::Nothing, SMALL, exchange.parts())?;
+    drop(exchange);
+    let shown = eight_pages_shown(rt.alloc())?;
+    expect(rt.alloc(), &left, shown.parts())
 }
 
 /// Four frames and three slots have room for seven touched pages.
@@ -205,32 +174,31 @@ fn a_touched_page_needs_a_slot(rt: HostRuntime) -> Result<(), Fail> {
         frames: 8,
         slots: 3,
     };
-    let disk = image(rt.alloc(), 0x8000)?;
     let trace = b"spawn\nmmap 1 0 0x8000 rw- shared 0 0\nstore 1 0x10000 1 1\nstore 1 0x11000 1 2\n\
 store 1 0x12000 1 3\nstore 1 0x13000 1 4\nstore 1 0x14000 1 5\nstore 1 0x15000 1 6\n\
 store 1 0x16000 1 7\nstore 1 0x17000 1 8\nmsync 1 0x10000 0x8000 sync\nstore 1 0x17000 1 8\n";
     let wanted = b"pid 1\naddr 0x10000\nok\nok\nok\nok\nok\nok\nok\nstall 2 NOSWAP\nok\nok\n";
-    let told = ran_in(rt.alloc(), &disk, Armed::Nothing, config, trace.as_slice())?;
-    assert_eq!(rt; told.output.as_slice(), wanted.as_slice());
-    Ok(())
+    expect_in(rt.alloc(), 0x8000, Armed::Nothing, config, (trace, wanted))
+}
+
+/// Stores in the eight pages, two msyncs of all, and loads: the first msync stalls.
+fn eight_pages_synced_again(alloc: Global) -> Result<Exchange, Fail> {
+    let mut exchange = eight_stores(alloc)?;
+    exchange.push(
+        b"msync 1 0x10000 0x8000 sync\nmsync 1 0x10000 0x8000 sync\n",
+        b"stall 3 SWAPDEV\nok\n",
+    )?;
+    push_eight_loads(alloc, &mut exchange)?;
+    Ok(exchange)
 }
 
 /// Four of the pages lie in slots, by 32 writes of the swap device; the next call is the first read of the msync. It stalls, and
 /// the machine goes on: the same msync, asked again, makes all of them durable.
 #[test]
 fn an_msync_that_could_not_read_a_slot_is_asked_again(rt: HostRuntime) -> Result<(), Fail> {
-    let disk = image(rt.alloc(), 0x8000)?;
-    let mut exchange = eight_stores(rt.alloc())?;
-    exchange.push(
-        b"msync 1 0x10000 0x8000 sync\nmsync 1 0x10000 0x8000 sync\n",
-        b"stall 3 SWAPDEV\nok\n",
-    )?;
-    push_eight_loads(rt.alloc(), &mut exchange)?;
+    let exchange = eight_pages_synced_again(rt.alloc())?;
     let armed = Armed::SwapFailsAtCall(33);
-    let told = ran_in(rt.alloc(), &disk, armed, SMALL, exchange.trace.as_slice())?;
-    assert_eq!(rt; told.end, RunEnd::Done);
-    assert_eq!(rt; told.output.as_slice(), exchange.wanted.as_slice());
-    Ok(())
+    expect_in(rt.alloc(), 0x8000, armed, SMALL, exchange.parts())
 }
 
 /// An msync of one page, loads of all others, and one of that page again.
@@ -248,39 +216,30 @@ fn looks_after_an_msync(alloc: Global) -> Result<Exchange, Fail> {
     Ok(exchange)
 }
 
-/// How many writes and syncs of the store a machine of eight frames and no slot makes once it has started, with the replies
+/// The same, and an msync of that page once more.
+fn looks_after_two_msyncs(alloc: Global) -> Result<Exchange, Fail> {
+    let mut exchange = looks_after_an_msync(alloc)?;
+    exchange.push(
+        b"store 1 0x10000 1 8\nmsync 1 0x10000 0x1000 sync\n",
+        b"ok\nok\n",
+    )?;
+    Ok(exchange)
+}
+
+/// Sees how many writes and syncs of the store a machine of eight frames and no slot makes once it has started, with the replies
 /// that are wanted.
-fn asked_of_store<R: AllocGlobal + Abort>(
-    rt: &R,
-    disk: &SimDisk,
-    exchange: &Exchange,
-) -> Result<(u64, u64), Fail> {
+fn expect_asked(alloc: Global, exchange: &Exchange, wanted: (u64, u64)) -> Result<(), Fail> {
     let config = Config {
         frames: 8,
         slots: 0,
     };
-    let idle = ran_in(rt.alloc(), disk, Armed::Nothing, config, b"")?;
-    let at_boot = (idle.store.writes(), idle.store.syncs());
-    drop(idle);
-    let trace = exchange.trace.as_slice();
-    let told = ran_in(rt.alloc(), disk, Armed::Nothing, config, trace)?;
-    assert_eq!(rt; told.end, RunEnd::Done);
-    assert_eq!(rt; told.output.as_slice(), exchange.wanted.as_slice());
-    let writes = told.store.writes().saturating_sub(at_boot.0);
-    let syncs = told.store.syncs().saturating_sub(at_boot.1);
-    Ok((writes, syncs))
+    let asked = asked_after_start(alloc, 0xa000, config, exchange.parts())?;
+    same("writes and syncs", asked, wanted)
 }
 
 /// A page that is clean goes without a slot, and is read again from where it stands: from the journal, as long as that holds it.
 #[test]
 fn a_clean_page_is_read_again_from_the_journal(rt: HostRuntime) -> Result<(), Fail> {
-    let disk = image(rt.alloc(), 0xa000)?;
-    let mut exchange = looks_after_an_msync(rt.alloc())?;
-    assert_eq!(rt; asked_of_store(&rt, &disk, &exchange)?, (10, 2));
-    exchange.push(
-        b"store 1 0x10000 1 8\nmsync 1 0x10000 0x1000 sync\n",
-        b"ok\nok\n",
-    )?;
-    assert_eq!(rt; asked_of_store(&rt, &disk, &exchange)?, (29, 6));
-    Ok(())
+    expect_asked(rt.alloc(), &looks_after_an_msync(rt.alloc())?, (10, 2))?;
+    expect_asked(rt.alloc(), &looks_after_two_msyncs(rt.alloc())?, (29, 6))
 }

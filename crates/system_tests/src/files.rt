@@ -1,9 +1,9 @@
 //! Files of any length, several of them, and what an msync makes durable.
-use crate::bench::{Armed, expect_file, image, image_of_two, ran, refused, replies};
+use crate::bench::{expect, expect_file, expect_refusal, image, left, left_of_two};
 use disk_model::{SectorDisk, SimDisk};
 use machine::BootFault;
-use runner::RunEnd;
 use std::alloc::Global;
+use std::process::Abort;
 use std::test::Fail;
 
 /// The last page of a file of 5,000 bytes: what is stored past its end is gone with the next msync.
@@ -15,20 +15,10 @@ load 1 0x11387 1\n";
     let wanted =
         b"pid 1\naddr 0x10000\nok\nvalue 0x00\nok\nvalue 0xbb\nfault 13 BUS_ADRERR 0x12000\nok\nvalue 0x00\n\
 value 0xaa\n";
-    let disk = image(rt.alloc(), 5000)?;
-    let told = ran(rt.alloc(), &disk, Armed::Nothing, trace.as_slice())?;
-    assert_eq!(rt; told.end, RunEnd::Done);
-    assert_eq!(rt; told.output.as_slice(), wanted.as_slice());
-    let (_, output) = replies(
-        rt.alloc(),
-        &told.store,
-        b"spawn\nmmap 1 0 8192 r-- shared 0 0\nload 1 0x11386 2\nload 1 0x11388 8\n",
-    )?;
-    assert_eq!(rt;
-        output.as_slice(),
-        b"pid 1\naddr 0x10000\nvalue 0xaa00\nvalue 0x0000000000000000\n".as_slice()
-    );
-    Ok(())
+    let shown = b"spawn\nmmap 1 0 8192 r-- shared 0 0\nload 1 0x11386 2\nload 1 0x11388 8\n";
+    let kept = b"pid 1\naddr 0x10000\nvalue 0xaa00\nvalue 0x0000000000000000\n";
+    let disk = left(rt.alloc(), 5000, (trace, wanted))?;
+    expect(rt.alloc(), &disk, (shown, kept))
 }
 
 /// What another process stored is made durable as well, and is touched anew by its next store.
@@ -38,10 +28,8 @@ fn an_msync_takes_the_stores_of_all(rt: HostRuntime) -> Result<(), Fail> {
         b"spawn\nspawn\nmmap 1 0 4096 rw- shared 0 0\nmmap 2 0 4096 rw- shared 0 0\nstore 1 0x10000 1 0x0a\n\
 store 2 0x10001 1 0x0b\nmsync 1 0x10000 4096 sync\nstore 2 0x10001 1 0x0c\nmsync 1 0x10000 4096 sync\n";
     let wanted = b"pid 1\npid 2\naddr 0x10000\naddr 0x10000\nok\nok\nok\nok\nok\n";
-    let disk = image(rt.alloc(), 4096)?;
-    let told = ran(rt.alloc(), &disk, Armed::Nothing, trace.as_slice())?;
-    assert_eq!(rt; told.output.as_slice(), wanted.as_slice());
-    expect_file(rt.alloc(), &told.store, 0, &[b"\x0a\x0c"])
+    let disk = left(rt.alloc(), 4096, (trace, wanted))?;
+    expect_file(rt.alloc(), &disk, 0, &[b"\x0a\x0c"])
 }
 
 /// The sector of a gate: so many bytes of the words that open it, and zeros.
@@ -67,35 +55,39 @@ fn expect_files(
     expect_file(alloc, &left, 1, &[starts[1]])
 }
 
+/// Sees that both files are old where only a part of the gate has reached the device, and both new where all of it has.
+fn expect_old_or_new(alloc: Global, disk: &SimDisk) -> Result<(), Fail> {
+    for open in [0, 256] {
+        expect_files(alloc, disk, gate(open), [b"", b""])?;
+    }
+    expect_files(alloc, disk, gate(512), [b"\x01", b"\x02"])
+}
+
 /// An msync over two files that is stopped within the write of the gate leaves both old or both new.
 #[test]
 fn two_files_change_at_once(rt: HostRuntime) -> Result<(), Fail> {
     let trace =
         b"spawn\nmmap 1 0 0x1000 rw- shared 0 0\nmmap 1 0 0x1000 rw- shared 1 0\nstore 1 0x10000 1 1\n\
 store 1 0x11000 1 2\nmsync 1 0x10000 0x2000 sync\n";
-    let disk = image_of_two(rt.alloc())?;
-    let told = ran(rt.alloc(), &disk, Armed::StopAtWrite(18), trace.as_slice())?;
-    assert_eq!(rt;
-        told.output.as_slice(),
-        b"pid 1\naddr 0x10000\naddr 0x11000\nok\nok\nerror 5 EIO\n".as_slice()
-    );
-    for open in [0, 256] {
-        expect_files(rt.alloc(), &told.store, gate(open), [b"", b""])?;
-    }
-    expect_files(rt.alloc(), &told.store, gate(512), [b"\x01", b"\x02"])
+    let wanted = b"pid 1\naddr 0x10000\naddr 0x11000\nok\nok\nerror 5 EIO\n";
+    let disk = left_of_two(rt.alloc(), 18, (trace, wanted))?;
+    expect_old_or_new(rt.alloc(), &disk)
 }
 
-#[test]
-fn an_open_gate_over_a_map_of_too_many_pages_is_refused(rt: HostRuntime) -> Result<(), Fail> {
-    let mut disk = image(rt.alloc(), 4096)?;
+/// Opens the gate of a device over a map of 128 pages.
+fn open_gate_over_128_pages(rt: &impl Abort, disk: &mut SimDisk) -> Result<(), Fail> {
     assert!(rt; disk.sectors() > 3);
     let mut map = [0; 512];
     map[0] = 128;
     disk.write(3, &map)?;
     disk.write(2, &gate(512))?;
     disk.sync()?;
-    let (fault, writes) = refused(rt.alloc(), &disk)?;
-    assert_eq!(rt; fault, BootFault::BadJournal);
-    assert_eq!(rt; writes, 0);
     Ok(())
+}
+
+#[test]
+fn an_open_gate_over_a_map_of_too_many_pages_is_refused(rt: HostRuntime) -> Result<(), Fail> {
+    let mut disk = image(rt.alloc(), 4096)?;
+    open_gate_over_128_pages(&rt, &mut disk)?;
+    expect_refusal(rt.alloc(), &disk, BootFault::BadJournal)
 }

@@ -1,7 +1,6 @@
 //! Own copies that are given up, and faults that are kept.
-use crate::bench::{Armed, image, ran, ran_in, replies, replies_over_zeros};
+use crate::bench::{Armed, asked_in, expect, expect_over_zeros, left, same};
 use machine::Config;
-use runner::RunEnd;
 use std::test::Fail;
 
 /// Traces on an image of a page of zeros, each from a new start, and their replies.
@@ -70,10 +69,8 @@ past 1 13 SEGV_MAPERR 0x10\n",
 
 #[test]
 fn copies_are_given_up_and_faults_kept(rt: HostRuntime) -> Result<(), Fail> {
-    for (trace, wanted) in ROWS {
-        let (end, output) = replies_over_zeros(rt.alloc(), 4096, trace)?;
-        assert_eq!(rt; end, RunEnd::Done);
-        assert_eq!(rt; output.as_slice(), wanted);
+    for exchange in ROWS {
+        expect_over_zeros(rt.alloc(), 4096, exchange)?;
     }
     Ok(())
 }
@@ -97,14 +94,10 @@ ok\nvalue 0xff\nok\nerror 3 ESRCH\n",
 
 #[test]
 fn sixteen_pages_keep_their_bytes(rt: HostRuntime) -> Result<(), Fail> {
-    let (trace, wanted) = FORTY_LINES;
-    let disk = image(rt.alloc(), 4096)?;
     for slots in [16, 0] {
         let config = Config { frames: 64, slots };
-        let told = ran_in(rt.alloc(), &disk, Armed::Nothing, config, trace)?;
-        assert_eq!(rt; told.end, RunEnd::Done);
-        assert_eq!(rt; told.output.as_slice(), wanted);
-        assert_eq!(rt; told.store.writes(), 0);
+        let (writes, _) = asked_in(rt.alloc(), 4096, Armed::Nothing, config, FORTY_LINES)?;
+        same("writes", writes, 0)?;
     }
     Ok(())
 }
@@ -115,20 +108,9 @@ fn a_shared_page_stays_touched(rt: HostRuntime) -> Result<(), Fail> {
     let trace =
         b"spawn\nmmap 1 0 4096 rw- shared 0 0\nstore 1 0x10000 1 0x5a\ndontneed 1 0x10000 4096\n\
 msync 1 0x10000 4096 sync\n";
-    let disk = image(rt.alloc(), 4096)?;
-    let told = ran(rt.alloc(), &disk, Armed::Nothing, trace.as_slice())?;
-    assert_eq!(rt;
-        told.output.as_slice(),
-        b"pid 1\naddr 0x10000\nok\nok\nok\n".as_slice()
-    );
-    let (_, output) = replies(
-        rt.alloc(),
-        &told.store,
-        b"faults\nspawn\nmmap 1 0 4096 r-- shared 0 0\nload 1 0x10000 1\n",
-    )?;
-    assert_eq!(rt;
-        output.as_slice(),
-        b"faults 0\npid 1\naddr 0x10000\nvalue 0x5a\n".as_slice()
-    );
-    Ok(())
+    let wanted = b"pid 1\naddr 0x10000\nok\nok\nok\n";
+    let shown = b"faults\nspawn\nmmap 1 0 4096 r-- shared 0 0\nload 1 0x10000 1\n";
+    let kept = b"faults 0\npid 1\naddr 0x10000\nvalue 0x5a\n";
+    let disk = left(rt.alloc(), 4096, (trace, wanted))?;
+    expect(rt.alloc(), &disk, (shown, kept))
 }

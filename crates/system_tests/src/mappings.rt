@@ -2,13 +2,11 @@
 ghost use Rattle.std.specs.Prelude.{◌≤◌};
 
 use crate::bench::{
-    Armed, Exchange, expect_file, image, image_of, ran, ran_in, replies, replies_over_zeros,
+    Armed, CONFIG, Exchange, asked_in, expect_file, expect_over_letters, expect_over_zeros,
+    left_in, same,
 };
-use disk_model::SimDisk;
 use machine::Config;
-use runner::RunEnd;
 use std::alloc::Global;
-use std::process::Abort;
 use std::test::Fail;
 
 /// Traces on an image of eight pages of zeros, each from a new start, and their replies.
@@ -64,10 +62,8 @@ error 9 EBADF\nerror 12 ENOMEM\nerror 12 ENOMEM\n",
 
 #[test]
 fn ranges_are_mapped_and_unmapped(rt: HostRuntime) -> Result<(), Fail> {
-    for (trace, wanted) in ROWS {
-        let (end, output) = replies_over_zeros(rt.alloc(), 32768, trace)?;
-        assert_eq!(rt; end, RunEnd::Done);
-        assert_eq!(rt; output.as_slice(), wanted);
+    for exchange in ROWS {
+        expect_over_zeros(rt.alloc(), 32768, exchange)?;
     }
     Ok(())
 }
@@ -83,11 +79,7 @@ mprotect 1 0x10000 4096 rw-\nmunmap 1 0x50000 4096\nmprotect 1 0x10000 4096 r-x\
     let wanted =
         b"pid 1\nerror 22 EINVAL\nerror 13 EACCES\nerror 9 EBADF\nerror 22 EINVAL\nerror 12 ENOMEM\n\
 error 22 EINVAL\nerror 75 EOVERFLOW\naddr 0x10000\nvalue 0x41\nerror 13 EACCES\nok\nok\n";
-    let disk = image_of(rt.alloc(), true, &[0x41; 4096])?;
-    let (end, output) = replies(rt.alloc(), &disk, trace.as_slice())?;
-    assert_eq!(rt; end, RunEnd::Done);
-    assert_eq!(rt; output.as_slice(), wanted.as_slice());
-    Ok(())
+    expect_over_letters(rt.alloc(), (trace, wanted))
 }
 
 /// Takes every other page its right to be stored to, up to the limit of 256 runs.
@@ -111,9 +103,7 @@ fn runs_to_the_limit(alloc: Global) -> Result<Exchange, Fail> {
 #[test]
 fn a_process_has_at_most_256_runs(rt: HostRuntime) -> Result<(), Fail> {
     let exchange = runs_to_the_limit(rt.alloc())?;
-    let (_, output) = replies_over_zeros(rt.alloc(), 4096, exchange.trace.as_slice())?;
-    assert_eq!(rt; output.as_slice(), exchange.wanted.as_slice());
-    Ok(())
+    expect_over_zeros(rt.alloc(), 4096, exchange.parts())
 }
 
 /// Room for 128 pages of the file.
@@ -147,29 +137,29 @@ fn two_msyncs(alloc: Global) -> Result<Exchange, Fail> {
     Ok(exchange)
 }
 
-/// The device of a file of 128 pages of zeros, as a machine leaves it whose replies are those wanted.
-fn left_by<R: AllocGlobal + Abort>(rt: &R, exchange: &Exchange) -> Result<SimDisk, Fail> {
-    let disk = image(rt.alloc(), 524288)?;
-    let trace = exchange.trace.as_slice();
-    let told = ran_in(rt.alloc(), &disk, Armed::Nothing, ROOMY, trace)?;
-    assert_eq!(rt; told.output.as_slice(), exchange.wanted.as_slice());
-    Ok(told.store)
+/// The same, and then an msync of each half of the mapping.
+fn four_msyncs(alloc: Global) -> Result<Exchange, Fail> {
+    let mut exchange = two_msyncs(alloc)?;
+    exchange.push(
+        b"msync 1 0x10000 0x40000 sync\nmsync 1 0x50000 0x40000 sync\n",
+        b"ok\nok\n",
+    )?;
+    Ok(exchange)
+}
+
+/// Sees what the pages of a file of 128 pages begin with, once a machine is done that answers with the replies wanted.
+fn expect_pages_after(alloc: Global, exchange: &Exchange, starts: &[&[u8]]) -> Result<(), Fail> {
+    let disk = left_in(alloc, 524288, Armed::Nothing, ROOMY, exchange.parts())?;
+    expect_file(alloc, &disk, 0, starts)
 }
 
 /// An msync takes 127 touched pages, however many are mapped, and refuses 128 without taking any.
 #[test]
 fn an_msync_takes_127_pages(rt: HostRuntime) -> Result<(), Fail> {
-    let mut exchange = two_msyncs(rt.alloc())?;
-    let refused = left_by(&rt, &exchange)?;
     let ones: [&[u8]; 127] = [b"\x01"; 127];
-    expect_file(rt.alloc(), &refused, 0, &ones)?;
-    exchange.push(
-        b"msync 1 0x10000 0x40000 sync\nmsync 1 0x50000 0x40000 sync\n",
-        b"ok\nok\n",
-    )?;
-    let halves = left_by(&rt, &exchange)?;
+    expect_pages_after(rt.alloc(), &two_msyncs(rt.alloc())?, &ones)?;
     let twos: [&[u8]; 128] = [b"\x02"; 128];
-    expect_file(rt.alloc(), &halves, 0, &twos)
+    expect_pages_after(rt.alloc(), &four_msyncs(rt.alloc())?, &twos)
 }
 
 /// Two mappings of one page are one page of an msync: through either, both see the byte, and it is committed once.
@@ -178,12 +168,7 @@ fn a_page_mapped_twice_is_taken_once(rt: HostRuntime) -> Result<(), Fail> {
     let trace =
         b"spawn\nmmap 1 0 4096 rw- shared 0 0\nmmap 1 0x11000 4096 rw- shared 0 0\nstore 1 0x11000 1 7\n\
 load 1 0x10000 1\nmsync 1 0x10000 0x2000 sync\n";
-    let disk = image(rt.alloc(), 4096)?;
-    let told = ran(rt.alloc(), &disk, Armed::Nothing, trace.as_slice())?;
-    assert_eq!(rt;
-        told.output.as_slice(),
-        b"pid 1\naddr 0x10000\naddr 0x11000\nok\nvalue 0x07\nok\n".as_slice()
-    );
-    assert_eq!(rt; told.store.writes(), 10);
-    Ok(())
+    let wanted = b"pid 1\naddr 0x10000\naddr 0x11000\nok\nvalue 0x07\nok\n";
+    let (writes, _) = asked_in(rt.alloc(), 4096, Armed::Nothing, CONFIG, (trace, wanted))?;
+    same("writes", writes, 10)
 }

@@ -1,6 +1,5 @@
 //! Anonymous and private memory, and who may do what with a page.
-use crate::bench::{image_of, replies, replies_over_zeros};
-use runner::RunEnd;
+use crate::bench::{expect_over_letters, expect_over_zeros};
 use std::test::Fail;
 
 /// Traces on an image of a page of zeros, each from a new start, and their replies.
@@ -77,10 +76,8 @@ fault 13 SEGV_MAPERR 0xffffffffffffffff\nerror 3 ESRCH\nerror 12 ENOMEM\nerror 7
 
 #[test]
 fn memory_is_mapped_and_accessed(rt: HostRuntime) -> Result<(), Fail> {
-    for (trace, wanted) in ROWS {
-        let (end, output) = replies_over_zeros(rt.alloc(), 4096, trace)?;
-        assert_eq!(rt; end, RunEnd::Done);
-        assert_eq!(rt; output.as_slice(), wanted);
+    for exchange in ROWS {
+        expect_over_zeros(rt.alloc(), 4096, exchange)?;
     }
     Ok(())
 }
@@ -96,10 +93,7 @@ mprotect 1 0x10000 0x2000 rwx\nstore 1 0x10001 1 5\nfetch 1 0x10000\nload 1 0x11
     let wanted = b"pid 1\naddr 0x10000\naddr 0x11000\nok\nok\nok\nfault 13 SEGV_ACCERR 0x10000\n\
 fault 15 SEGV_ACCERR 0x11000\nok\nvalue 0x01\nvalue 0x02\nfault 15 SEGV_ACCERR 0x10000\nok\nok\n\
 value 0x00000501\nvalue 0x02\n";
-    let (end, output) = replies_over_zeros(rt.alloc(), 4096, trace.as_slice())?;
-    assert_eq!(rt; end, RunEnd::Done);
-    assert_eq!(rt; output.as_slice(), wanted.as_slice());
-    Ok(())
+    expect_over_zeros(rt.alloc(), 4096, (trace, wanted))
 }
 
 /// Refused calls, over a file that may only be read.
@@ -115,9 +109,5 @@ mmap 1 0 4096 rw- private 0 0\nstore 1 0x11000 1 0x42\nload 1 0x11000 2\nload 1 
         b"pid 1\nerror 22 EINVAL\nerror 13 EACCES\nerror 9 EBADF\nerror 22 EINVAL\nerror 12 ENOMEM\n\
 error 22 EINVAL\nerror 75 EOVERFLOW\naddr 0x10000\nvalue 0x41\nerror 13 EACCES\nok\nerror 3 ESRCH\n\
 error 3 ESRCH\nerror 3 ESRCH\naddr 0x11000\nok\nvalue 0x4142\nvalue 0x4141\n";
-    let disk = image_of(rt.alloc(), true, &[0x41; 4096])?;
-    let (end, output) = replies(rt.alloc(), &disk, trace.as_slice())?;
-    assert_eq!(rt; end, RunEnd::Done);
-    assert_eq!(rt; output.as_slice(), wanted.as_slice());
-    Ok(())
+    expect_over_letters(rt.alloc(), (trace, wanted))
 }

@@ -1,7 +1,6 @@
 //! Processes: made, copied and ended.
-use crate::bench::{Armed, Exchange, image, ran_in, replies_over_zeros};
+use crate::bench::{Armed, Exchange, SMALL, expect_in, expect_over_zeros};
 use machine::Config;
-use runner::RunEnd;
 use std::alloc::Global;
 use std::test::Fail;
 
@@ -38,35 +37,19 @@ value 0x05\nfault 13 SEGV_MAPERR 0x10000\n",
 
 #[test]
 fn processes_have_spaces_of_their_own(rt: HostRuntime) -> Result<(), Fail> {
-    for (trace, wanted) in ROWS {
-        let (end, output) = replies_over_zeros(rt.alloc(), 4096, trace)?;
-        assert_eq!(rt; end, RunEnd::Done);
-        assert_eq!(rt; output.as_slice(), wanted);
+    for exchange in ROWS {
+        expect_over_zeros(rt.alloc(), 4096, exchange)?;
     }
     Ok(())
-}
-
-/// How a trace ends on a machine of that size over a page of zeros, and its replies.
-fn replies_in(alloc: Global, config: Config, trace: &[u8]) -> Result<(RunEnd, Vec<u8>), Fail> {
-    let disk = image(alloc, 4096)?;
-    let told = ran_in(alloc, &disk, Armed::Nothing, config, trace)?;
-    Ok((told.end, told.output))
 }
 
 /// Each process takes a frame for its root table, and gives it back.
 #[test]
 fn a_process_needs_a_frame(rt: HostRuntime) -> Result<(), Fail> {
-    let config = Config {
-        frames: 8,
-        slots: 16,
-    };
     let trace = b"spawn\nspawn\nspawn\nspawn\nspawn\nspawn\nspawn\nspawn\nexit 7\nspawn\nfork 1\n";
     let wanted =
         b"pid 1\npid 2\npid 3\npid 4\npid 5\npid 6\npid 7\nstall 1 NOFRAMES\nok\npid 7\nstall 1 NOFRAMES\n";
-    let (end, output) = replies_in(rt.alloc(), config, trace.as_slice())?;
-    assert_eq!(rt; end, RunEnd::Done);
-    assert_eq!(rt; output.as_slice(), wanted.as_slice());
-    Ok(())
+    expect_in(rt.alloc(), 4096, Armed::Nothing, SMALL, (trace, wanted))
 }
 
 /// A fork for which there are too few frames leaves no table behind.
@@ -84,10 +67,7 @@ fork 1\nload 2 0x10000 1\nstore 2 0x10000 1 2\nexit 1\nstore 2 0x10000 1 3\nload
     let wanted =
         b"pid 1\naddr 0x10000\nok\npid 2\nstall 2 NOSWAP\nstall 2 NOSWAP\nvalue 0x01\nok\npid 2\nvalue 0x01\n\
 stall 1 NOFRAMES\nok\nok\nvalue 0x03\n";
-    let (end, output) = replies_in(rt.alloc(), config, trace.as_slice())?;
-    assert_eq!(rt; end, RunEnd::Done);
-    assert_eq!(rt; output.as_slice(), wanted.as_slice());
-    Ok(())
+    expect_in(rt.alloc(), 4096, Armed::Nothing, config, (trace, wanted))
 }
 
 /// All processes are made, then one more is refused, and one that has ended makes room for another.
@@ -111,9 +91,7 @@ fn there_are_64_processes(rt: HostRuntime) -> Result<(), Fail> {
         slots: 16,
     };
     let exchange = all_processes(rt.alloc())?;
-    let (_, output) = replies_in(rt.alloc(), config, exchange.trace.as_slice())?;
-    assert_eq!(rt; output.as_slice(), exchange.wanted.as_slice());
-    Ok(())
+    expect_in(rt.alloc(), 4096, Armed::Nothing, config, exchange.parts())
 }
 
 /// In eight frames seven processes are made, and all other lines stall; one that has ended makes room for a copy of another, and
@@ -137,13 +115,6 @@ fn more_processes_than_frames(alloc: Global) -> Result<Exchange, Fail> {
 
 #[test]
 fn eight_frames_have_room_for_seven_processes(rt: HostRuntime) -> Result<(), Fail> {
-    let config = Config {
-        frames: 8,
-        slots: 16,
-    };
     let exchange = more_processes_than_frames(rt.alloc())?;
-    let (end, output) = replies_in(rt.alloc(), config, exchange.trace.as_slice())?;
-    assert_eq!(rt; end, RunEnd::Done);
-    assert_eq!(rt; output.as_slice(), exchange.wanted.as_slice());
-    Ok(())
+    expect_in(rt.alloc(), 4096, Armed::Nothing, SMALL, exchange.parts())
 }

@@ -1,7 +1,7 @@
 //! Traces and their replies.
 use crate::bench::{
-    Armed, CONFIG, SHOWN, STORED, STORED_AND_SYNCED, image, ran, ran_on, replies,
-    replies_over_zeros,
+    Armed, CONFIG, SHOWN, STORED, STORED_AND_SYNCED, asked_in, expect, expect_over_zeros, image,
+    left, ran_on, same,
 };
 use disk_model::SimDisk;
 use machine::{BootFault, Config};
@@ -38,7 +38,7 @@ msync 1 0x10000 12288 sync\nload 1 0x11fff 1\n",
     // Who may write may read, who may only run may not.
     (
         b"spawn\nmmap 1 0 4096 -w- shared 0 0\nload 1 0x10000 1\nstore 1 0x10000 1 1\n",
-        b"pid 1\naddr 0x10000\nvalue 0x00\nok\n",
+        b"pid 1\naddr 0x10000\nvalue 0x01\nok\n",
     ),
     (
         b"spawn\nmmap 1 0 4096 --x shared 0 0\nload 1 0x10000 4\nstore 1 0x10000 1 1\n",
@@ -56,10 +56,8 @@ addr 0x10000\nfault 15 SEGV_ACCERR 0x10000\nerror 3 ESRCH\nerror 22 EINVAL\nerro
 
 #[test]
 fn traces_are_answered(rt: HostRuntime) -> Result<(), Fail> {
-    for (trace, wanted) in ROWS {
-        let (end, output) = replies_over_zeros(rt.alloc(), 8192, trace)?;
-        assert_eq!(rt; end, RunEnd::Done);
-        assert_eq!(rt; output.as_slice(), wanted);
+    for exchange in ROWS {
+        expect_over_zeros(rt.alloc(), 8192, exchange)?;
     }
     Ok(())
 }
@@ -84,78 +82,88 @@ fn uneven_lines(alloc: Global) -> Result<Vec<u8>, Fail> {
 #[test]
 fn lines_are_cut(rt: HostRuntime) -> Result<(), Fail> {
     let trace = uneven_lines(rt.alloc())?;
-    let (end, output) = replies_over_zeros(rt.alloc(), 4096, trace.as_slice())?;
-    assert_eq!(rt; end, RunEnd::Done);
     let wanted =
         b"pid 1\naddr 0x10000\nvalue 0x0000000000000000\nvalue 0x00\nbad line\nbad line\nbad line\nok\n";
-    assert_eq!(rt; output.as_slice(), wanted.as_slice());
-    Ok(())
+    expect_over_zeros(rt.alloc(), 4096, (trace.as_slice(), wanted))
 }
 
 #[test]
 fn an_empty_trace_writes_nothing(rt: HostRuntime) -> Result<(), Fail> {
-    let told = ran(rt.alloc(), &image(rt.alloc(), 4096)?, Armed::Nothing, b"")?;
-    assert_eq!(rt; told.end, RunEnd::Done);
-    assert!(rt; told.output.is_empty());
-    assert_eq!(rt; told.store.writes(), 0);
-    Ok(())
+    let (writes, _) = asked_in(rt.alloc(), 4096, Armed::Nothing, CONFIG, (b"", b""))?;
+    same("writes", writes, 0)
+}
+
+/// Sees the replies to a trace over a page of zeros, and those to the lines that show its file afterwards: how many writes and
+/// syncs the first machine's store had.
+fn asked_and_shown(
+    alloc: Global,
+    exchange: (&[u8], &[u8]),
+    shown: &[u8],
+) -> Result<(u64, u64), Fail> {
+    let disk = left(alloc, 4096, exchange)?;
+    expect(alloc, &disk, (SHOWN, shown))?;
+    Ok((disk.writes(), disk.syncs()))
 }
 
 #[test]
 fn a_second_run_sees_what_the_first_synced(rt: HostRuntime) -> Result<(), Fail> {
-    let disk = image(rt.alloc(), 4096)?;
-    let unsynced = ran(rt.alloc(), &disk, Armed::Nothing, STORED)?;
-    assert_eq!(rt;
-        unsynced.output.as_slice(),
-        b"pid 1\naddr 0x10000\nok\n".as_slice()
-    );
-    let at_boot = unsynced.store.syncs();
-    let (_, output) = replies(rt.alloc(), &unsynced.store, SHOWN)?;
-    assert_eq!(rt;
-        output.as_slice(),
-        b"pid 1\naddr 0x10000\nvalue 0x0000000000000000\n".as_slice()
-    );
-    drop(unsynced);
-
-    let synced = ran(rt.alloc(), &disk, Armed::Nothing, STORED_AND_SYNCED)?;
-    drop(disk);
-    assert_eq!(rt;
-        synced.output.as_slice(),
-        b"pid 1\naddr 0x10000\nok\nok\n".as_slice()
-    );
-    assert_eq!(rt; synced.store.writes(), 10);
-    assert_eq!(rt; synced.store.syncs(), at_boot.saturating_add(2));
-    let (_, output) = replies(rt.alloc(), &synced.store, SHOWN)?;
-    assert_eq!(rt;
-        output.as_slice(),
-        b"pid 1\naddr 0x10000\nvalue 0x000000000000005a\n".as_slice()
-    );
-    Ok(())
+    let (_, at_boot) = asked_and_shown(
+        rt.alloc(),
+        (STORED, b"pid 1\naddr 0x10000\nok\n"),
+        b"pid 1\naddr 0x10000\nvalue 0x0000000000000000\n",
+    )?;
+    let synced = asked_and_shown(
+        rt.alloc(),
+        (STORED_AND_SYNCED, b"pid 1\naddr 0x10000\nok\nok\n"),
+        b"pid 1\naddr 0x10000\nvalue 0x000000000000005a\n",
+    )?;
+    same("writes and syncs", synced, (11, at_boot.saturating_add(2)))
 }
 
-#[test]
-fn a_machine_boots_for_its_trace(rt: HostRuntime) -> Result<(), Fail> {
-    let store = image(rt.alloc(), 4096)?;
-    let mut reader: &[u8] = b"spawn\n";
-    let mut output = Vec::new(rt.alloc());
+/// Sees that no machine of 7 frames starts on these devices, and that nothing is written: the store's device, handed back.
+fn refused_for_frames(
+    alloc: Global,
+    devices: (SimDisk, SimDisk),
+    reader: &mut &[u8],
+) -> Result<SimDisk, Fail> {
     let few = Config {
         frames: 7,
         slots: 16,
     };
+    let mut output = Vec::new(alloc);
+    match ran_on(alloc, few, devices, reader, &mut output) {
+        Ok(_) => Err(Fail::new("7 frames are too few")),
+        Err((fault, store)) => {
+            same("fault", fault, BootFault::Frames)?;
+            same("replies", output.as_slice(), b"")?;
+            Ok(store)
+        }
+    }
+}
+
+/// Sees that a machine starts on these devices and isn't halted, and its replies.
+fn expect_run_on(
+    alloc: Global,
+    devices: (SimDisk, SimDisk),
+    reader: &mut &[u8],
+    wanted: &[u8],
+) -> Result<(), Fail> {
+    let mut output = Vec::new(alloc);
+    match ran_on(alloc, CONFIG, devices, reader, &mut output) {
+        Ok(told) => {
+            same("end and halt", told, (RunEnd::Done, false))?;
+            same("replies", output.as_slice(), wanted)
+        }
+        Err((fault, _)) => Err(Fail::new(format_args!("no machine: {fault:?}"))),
+    }
+}
+
+#[test]
+fn a_machine_boots_for_its_trace(rt: HostRuntime) -> Result<(), Fail> {
+    let mut reader: &[u8] = b"spawn\n";
     let swap = SimDisk::new(rt.alloc(), 128)?;
-    let devices = (store, swap);
-    let Err((fault, store)) = ran_on(rt.alloc(), few, devices, &mut reader, &mut output) else {
-        return Err(Fail::new(format_args!("7 frames are too few")));
-    };
-    assert_eq!(rt; fault, BootFault::Frames);
-    assert!(rt; output.is_empty());
+    let devices = (image(rt.alloc(), 4096)?, swap);
+    let store = refused_for_frames(rt.alloc(), devices, &mut reader)?;
     let swap = SimDisk::new(rt.alloc(), 128)?;
-    let devices = (store, swap);
-    let Ok((end, halted)) = ran_on(rt.alloc(), CONFIG, devices, &mut reader, &mut output) else {
-        return Err(Fail::new(format_args!("no machine")));
-    };
-    assert_eq!(rt; end, RunEnd::Done);
-    assert_eq!(rt; output.as_slice(), b"pid 1\n".as_slice());
-    assert!(rt; !halted);
-    Ok(())
+    expect_run_on(rt.alloc(), (store, swap), &mut reader, b"pid 2\n")
 }
