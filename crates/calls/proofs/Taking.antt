@@ -1,4 +1,4 @@
--- What a spawn and a fork take of memory, by what they answer.
+-- What a spawn and a fork take of memory, by what they return.
 use Rattle.std.proofs.Common.{ℕ, ◌≡◌, Option, None, subst}
 use Rattle.frames.specs.FrameTable.{IsFull}
 use Rattle.lifecycle.specs.Changes.{ForksEntries, StallsToFork, TakesRoot, TakesTables}

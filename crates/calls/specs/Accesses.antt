@@ -22,7 +22,7 @@ answer_of (Refusal.Fault fault) = Faulted fault
 answer_of (Refusal.Stall stall) = Stalled stall
 
 module _ {D E : Type 0} where
-  -- What an access that is so answered asks for: it stalls only where a frame is wanted, and for the store's device only where
+  -- What an access that returns this asks for: it stalls only where a frame is wanted, and for the store's device only where
   -- its page is to be read from its home; the store is read there alone, slots are asked for and read only where a frame is wanted, and
   -- no other page comes back from one.
   pub record AsksFor (old new : Core D E) (pid addr : ℕ) (access : Access) (reply : Reply) : Type 0 where

@@ -38,7 +38,7 @@ is_denial (Value width value) = false
 is_denial (Stalled stall) = false
 is_denial (Past past) = false
 
--- whether a command so answered asked no device
+-- whether a command that returns this asked no device
 abbrev pub is_idle : State → Command → Reply → Bool
 is_idle s command reply = if may_ask s command then is_denial reply else true
 
@@ -49,7 +49,7 @@ stalls_store NoSwap = false
 stalls_store SwapDevice = false
 stalls_store StoreDevice = true
 
--- whether a reply names one: an msync was answered EIO, or a command stalled for that device
+-- whether a reply names one: an msync returned EIO, or a command stalled for that device
 abbrev pub names_store : Reply → Bool
 names_store (Refused errno) = is_io_error errno
 names_store (Stalled stall) = stalls_store stall
@@ -87,7 +87,7 @@ refused_by NoSwap = 1
 refused_by SwapDevice = 0
 refused_by StoreDevice = 0
 
--- how many requests for a frame were refused where a command is so answered
+-- how many requests for a frame were refused where a command returns this
 abbrev pub refused_count : Reply → ℕ
 refused_count (Stalled stall) = refused_by stall
 refused_count (Process pid) = 0

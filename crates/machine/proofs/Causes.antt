@@ -1,4 +1,4 @@
--- What an msync's answer comes from.
+-- What the result of an msync comes from.
 use Rattle.std.proofs.Common.{◌≡◌, ◌≢◌, ◌<◌, ◌≤◌, true, false, refl, sym, ap, ◌∙◌, subst, arith}
 use Rattle.disk_model.specs.declared.sector_disk.SectorDisk.{Ghosts}
 use Rattle.disk_model.specs.declared.ghost_data.Count.{Count}

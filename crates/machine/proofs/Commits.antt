@@ -43,7 +43,7 @@ use Rattle.machine.specs.Machine.{stands_in, MayStand, HoldsIn, StandsForSome, S
 use Rattle.machine.proofs.Flat.{with_past, OnlyNow, is_running, shows_core, answered, unread, keeps_all}
 use Rattle.machine.proofs.Steps.{outcome_keeps, commit_takes}
 
--- no check answers EIO
+-- no check returns EIO
 abbrev IsNoFailure : Option Errno → Type 0
 IsNoFailure None = Unit {0}
 IsNoFailure (Some errno) = is_io_error errno ≡ false
@@ -97,7 +97,7 @@ ruled_so s (Takes pid first count) fine e = cc
 never_fails : (s : State) (pid addr len : ℕ) (mode : MsyncMode) → (outcome s (Msync pid addr len mode)).reply ≡ Refused EIO → ⊥
 never_fails s pid addr len mode e = ruled_so s (msync_ruling s pid addr len mode) (msync_refuses s pid addr len mode) e
 
--- what it answers, where it makes pages durable
+-- what it returns, where it makes pages durable
 done_of : (s : State) (r : Ruling) (after : Pages) → commit_of s r ≡ Some after → (msync_outcome s r).reply ≡ Done
 done_of s (Refuses errno) after e = absurd (let k : None ≡ Some after = e in cc)
 done_of s Passes after e = absurd (let k : None ≡ Some after = e in cc)
@@ -275,7 +275,7 @@ module _ {D E : Type 0} (g : Ghosts D) (h : Ghosts E) where
     pub back : (after : Pages) → commits s (Msync pid addr len mode) ≡ Some after → GivesBack g h old core pid addr len
     pub loses : LosesDirtyOnly (picture_of old) (picture_of core)
 
-  -- answered by EIO, it halts the machine
+  -- returning EIO, it halts the machine
   pub msync_halts : (counts_now : CountsNow) (old : Machine D E) (core : Core D E) (s : State) (pid addr len : ℕ) (mode : MsyncMode) (reply : Reply)
       → Shows g h old s → old.halted ≡ false → KeepsRoom (picture_of old.core) (picture_of core) → UsesDevice h old.core.swap.pages.disk core.swap.pages.disk
       → (Syncing.Shows g old.core s → Msynced old.core core s pid addr len mode reply)
@@ -294,7 +294,7 @@ module _ {D E : Type 0} (g : Ghosts D) (h : Ghosts E) where
       ])
       (none_or_some (commits s x))
 
-  -- answered otherwise, it lets the machine go on
+  -- returning anything else, it leaves the machine running
   pub msync_goes_on : (only_now : OnlyNow g h) (old : Machine D E) (core : Core D E) (s : State) (pid addr len : ℕ) (mode : MsyncMode) (reply : Reply)
       → Shows g h old s → old.halted ≡ false → KeepsRoom (picture_of old.core) (picture_of core) → UsesDevice h old.core.swap.pages.disk core.swap.pages.disk
       → (Syncing.Shows g old.core s → Msynced old.core core s pid addr len mode reply)

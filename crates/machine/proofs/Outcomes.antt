@@ -20,7 +20,7 @@ use Rattle.vm_types.specs.State.{State}
 use Rattle.vm_types.specs.Step.{Outcome, outcome, answers, refused_or, spawn_outcome, fork_outcome, fetch_outcome, mmap_outcome, protect_outcome, msync_outcome, load_outcome, store_outcome, uncopy_outcome}
 use Rattle.vm_types.specs.Verdict.{Verdict, Fine, Faults}
 
--- it answers otherwise
+-- it returns something else
 abbrev IsAnswer : Outcome → Type 0
 IsAnswer x = (stall : Stall) → x.reply ≡ Stalled stall → ⊥
 

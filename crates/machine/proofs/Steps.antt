@@ -150,7 +150,7 @@ either_way : (b : Bool) (d : Pages) → (if b then d else d) ≡ d
 either_way true d = refl
 either_way false d = refl
 
--- what an answered command made durable is what its event says
+-- what a command that returned made durable is what its event says
 msync_event : (s : State) (r : Ruling) (reply : Reply) (d : Pages) → reply ≡ (msync_outcome s r).reply → (if may_have_taken reply then takes s r d else d) ≡ takes s r d
 msync_event s (Refuses errno) reply d e = either_way (may_have_taken reply) d
 msync_event s Passes reply d e = either_way (may_have_taken reply) d

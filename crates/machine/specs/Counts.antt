@@ -5,11 +5,11 @@ use Rattle.vm_types.specs.declared.reply.Reply.{Reply}
 use Rattle.calls.specs.Idle.{names_store, names_swap, refused_count}
 use Rattle.machine.specs.declared.machine.Machine.{Machine}
 
--- how often the store failed, at the least, where a command is so answered
+-- how often the store failed, at the least, where a command returns this
 abbrev pub failed_count : Reply → ℕ
 failed_count reply = if names_store reply then 1 else 0
 
--- how often the swap device failed, at the least, where a command is so answered
+-- how often the swap device failed, at the least, where a command returns this
 abbrev pub swap_failed_count : Reply → ℕ
 swap_failed_count reply = if names_swap reply then 1 else 0
 

@@ -1,4 +1,4 @@
--- Lines that are run on a machine, one after the other, and the texts that answer them.
+-- Lines that are run on a machine, one after the other, and the texts of their replies.
 use Rattle.std.specs.Prelude.{◌≡◌, ℕ, List, [], ◌∷◌, ◌++◌, ◌⊎◌}
 use Rattle.vm_types.specs.declared.command.Command.{Command}
 use Rattle.vm_types.specs.declared.reply.Reply.{Reply}
@@ -39,7 +39,7 @@ module _ {D E : Type 0} (g : Ghosts D) (h : Ghosts E) where
   abbrev pub Answers : Machine D E → List ℕ → List ℕ → Machine D E → Type 0
   Answers old line text new = Obeys old line text new ⊎ Rejects old line text new
 
-  -- the lines are answered one after the other, and the text is that of the answers together
+  -- the lines get their replies one after the other, and the text is that of the replies together
   abbrev pub CarriesOut : Machine D E → List (List ℕ) → List ℕ → Machine D E → Type 0
   CarriesOut old [] text new = (text ≡ []) × (new ≡ old)
   CarriesOut old (line ∷ lines) text new =

@@ -21,7 +21,7 @@ pub record Streams : Type 0 where
 abbrev pub streams : Option (List ℕ) → Option (List ℕ) → Streams
 streams l h = record { left = l; held = h }
 
--- Which of the lines of the bytes that were read were run, and what was written of the texts that answer them.
+-- Which of the lines of the bytes that were read were run, and what was written of the texts of their replies.
 -- Done: the reader is at its end, and all was run and written. A read fault: the complete lines were run, an unfinished
 -- one was not, and all was written. A write fault: a beginning was written, and the lines that were run are the complete
 -- ones of a beginning of the bytes, or all where the reader is at its end.
@@ -33,7 +33,7 @@ EndsTrace WriteFault bytes lines text old new =
     × WritesBeginning old.held new.held text
 
 module _ {D E : Type 0} (g : Ghosts D) (h : Ghosts E) where
-  -- Whatever the devices do: the lines that were run are answered by replies to their commands, and a reply names a device
+  -- Whatever the devices do: the lines that were run got replies to their commands, and a reply names a device
   -- or the want of a frame only where it failed as its command was carried out, or was refused.
   pub record CausedTrace (end : RunEnd) (old new : Machine D E) (before after : Streams) : Type 0 where
     pub bytes : List ℕ
@@ -46,7 +46,7 @@ module _ {D E : Type 0} (g : Ghosts D) (h : Ghosts E) where
     pub caused : Caused g h old replies new
     pub ends : EndsTrace end bytes lines text before after
 
-  -- The lines that were run are answered as the flat model answers their commands, and every image of a stop meanwhile
+  -- The lines that were run got the replies of the flat model to their commands, and every image of a stop meanwhile
   -- stands for what some of their msyncs left.
   pub record RunsTrace (end : RunEnd) (old new : Machine D E) (before after : Streams) (s : State) : Type 0 where
     pub bytes : List ℕ

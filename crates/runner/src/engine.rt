@@ -166,10 +166,7 @@ fn take_piece<W: Write, D: SectorDisk, E: SectorDisk>(
         Ok(()) => {}
         Err(fault) => return Err(fault),
     }
-    match output.write_out(writer) {
-        Ok(()) => Ok(()),
-        Err(fault) => Err(fault),
-    }
+    output.write_out(writer)
 }
 
 // Runs the last line where no newline ended it.

@@ -29,14 +29,14 @@ pub(crate) struct Setting<'a> {
     pub lines: &'a [&'a [u8]],
 }
 
-/// A run that is over: the store's device as it left it, and how many msyncs were answered by `ok`.
+/// A run that is over: the store's device as it left it, and how many msyncs returned `ok`.
 #[derive(Drop)]
 pub(crate) struct Run {
     pub device: StoppingDisk,
     pub acknowledged: usize,
 }
 
-/// Carries out the command of a line, and says whether it was an msync that was answered by `ok`. A line that stands for no
+/// Carries out the command of a line, and says whether it was an msync that returned `ok`. A line that stands for no
 /// command changes nothing.
 fn acknowledges<D: SectorDisk, E: SectorDisk>(machine: &mut Machine<D, E>, line: &[u8]) -> bool
     requires { IsSoundMachine D.SectorDisk E.SectorDisk machine.old }
@@ -53,7 +53,7 @@ fn acknowledges<D: SectorDisk, E: SectorDisk>(machine: &mut Machine<D, E>, line:
     }
 }
 
-/// Carries out lines until so many msyncs are answered by `ok`, or else all of them, and says how many were.
+/// Carries out lines until so many msyncs have returned `ok`, or else all of them, and says how many were.
 fn run_lines<D: SectorDisk, E: SectorDisk>(
     machine: &mut Machine<D, E>,
     lines: &[&[u8]],
@@ -106,7 +106,7 @@ impl Setting<'_> {
         }
     }
 
-    /// What the files hold at first, and after each msync that is answered by `ok` where nothing stops the run.
+    /// What the files hold at first, and after each msync that returns `ok` where nothing stops the run.
     ///
     /// # Errors
     ///
@@ -124,7 +124,7 @@ impl Setting<'_> {
     }
 
     /// The run that is stopped in event `stop` of the store's device, the first being 1, where it has one, or goes on until
-    /// `most` msyncs are answered by `ok`, or to the end of the trace.
+    /// `most` msyncs have returned `ok`, or to the end of the trace.
     ///
     /// # Errors
     ///

@@ -26,7 +26,7 @@ pub struct Trial {
     pub number: u64,
     /// What the event was.
     pub event: Event,
-    /// How many msyncs were answered by `ok`.
+    /// How many msyncs returned `ok`.
     pub acknowledged: usize,
     /// For each filling after how many msyncs the files stand; `None` where that is no number of them that holds each
     /// acknowledged one, or the store can't be opened.
