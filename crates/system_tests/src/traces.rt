@@ -38,7 +38,7 @@ msync 1 0x10000 12288 sync\nload 1 0x11fff 1\n",
     // Who may write may read, who may only run may not.
     (
         b"spawn\nmmap 1 0 4096 -w- shared 0 0\nload 1 0x10000 1\nstore 1 0x10000 1 1\n",
-        b"pid 1\naddr 0x10000\nvalue 0x01\nok\n",
+        b"pid 1\naddr 0x10000\nvalue 0x00\nok\n",
     ),
     (
         b"spawn\nmmap 1 0 4096 --x shared 0 0\nload 1 0x10000 4\nstore 1 0x10000 1 1\n",
@@ -117,7 +117,7 @@ fn a_second_run_sees_what_the_first_synced(rt: HostRuntime) -> Result<(), Fail> 
         (STORED_AND_SYNCED, b"pid 1\naddr 0x10000\nok\nok\n"),
         b"pid 1\naddr 0x10000\nvalue 0x000000000000005a\n",
     )?;
-    same("writes and syncs", synced, (11, at_boot.saturating_add(2)))
+    same("writes and syncs", synced, (10, at_boot.saturating_add(2)))
 }
 
 /// Sees that no machine of 7 frames starts on these devices, and that nothing is written: the store's device, handed back.
@@ -165,5 +165,5 @@ fn a_machine_boots_for_its_trace(rt: HostRuntime) -> Result<(), Fail> {
     let devices = (image(rt.alloc(), 4096)?, swap);
     let store = refused_for_frames(rt.alloc(), devices, &mut reader)?;
     let swap = SimDisk::new(rt.alloc(), 128)?;
-    expect_run_on(rt.alloc(), (store, swap), &mut reader, b"pid 2\n")
+    expect_run_on(rt.alloc(), (store, swap), &mut reader, b"pid 1\n")
 }
