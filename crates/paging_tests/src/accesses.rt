@@ -10,7 +10,7 @@ ghost use Rattle.swap.specs.Slots.{IsReady};
 ghost use Rattle.paging.specs.Parts.{IsFit};
 ghost use Rattle.paging.specs.Picture.{picture_of, is_live};
 
-use crate::bench::{first_process, made};
+use crate::bench::{equal, first_process, made};
 use disk_model::{SectorDisk, SimDisk};
 use page_cache::Place;
 use page_faults::{AccessRefusal, access};
@@ -178,13 +178,13 @@ fn fault(cause: u8, code: Code, addr: u64) -> Result<Phys, AccessRefusal> {
 fn faults(rt: HostRuntime) -> Result<(), Fail> {
     let mut core = started(rt.alloc(), 0)?;
     let wide = go(&mut core, 0x20004, Width::Eight, Access::Store);
-    assert_eq!(rt; wide, fault(6, Code::BusAdraln, 0x20004));
+    equal(&rt, wide, fault(6, Code::BusAdraln, 0x20004));
     let low = go(&mut core, 0, Width::One, Access::Load);
-    assert_eq!(rt; low, fault(13, Code::SegvMaperr, 0));
+    equal(&rt, low, fault(13, Code::SegvMaperr, 0));
     let run = go(&mut core, 0x10000, Width::Four, Access::Fetch);
-    assert_eq!(rt; run, fault(12, Code::SegvAccerr, 0x10000));
+    equal(&rt, run, fault(12, Code::SegvAccerr, 0x10000));
     let past = go(&mut core, 0x13000, Width::One, Access::Load);
-    assert_eq!(rt; past, fault(13, Code::BusAdrerr, 0x13000));
+    equal(&rt, past, fault(13, Code::BusAdrerr, 0x13000));
     Ok(())
 }
 
@@ -197,11 +197,11 @@ fn copy_zeros(rt: &impl Abort, core: &mut Core<SimDisk, SimDisk>) -> Result<(), 
     requires lives { is_live (picture_of core.old) 1 ≡ true }
 {
     let zeros = go(core, 0x10ff8, Width::Eight, Access::Load)?;
-    assert_eq!(rt; zeros, Phys(0xff8));
+    equal(rt, zeros, Phys(0xff8));
     let own = go(core, 0x10000, Width::Eight, Access::Store)?;
     let (frame, _, byte) = at(core, own);
-    assert!(rt; frame != 0);
-    assert_eq!(rt; byte, 0);
+    equal(rt, frame == 0, false);
+    equal(rt, byte, 0);
     Ok(())
 }
 
@@ -218,13 +218,13 @@ fn show_and_copy(rt: &impl Abort, core: &mut Core<SimDisk, SimDisk>) -> Result<(
     requires lives { is_live (picture_of core.old) 1 ≡ true }
 {
     let shown = go(core, 0x11000, Width::One, Access::Load)?;
-    assert_eq!(rt; at(core, shown).2, 7);
+    equal(rt, at(core, shown).2, 7);
     let shared = store(core, 0x14000)?;
-    assert_eq!(rt; shared, shown);
+    equal(rt, shared, shown);
     let copy = store(core, 0x11000)?;
     let (frame, _, byte) = at(core, copy);
-    assert!(rt; frame != at(core, shown).0);
-    assert_eq!(rt; byte, 7);
+    equal(rt, frame == at(core, shown).0, false);
+    equal(rt, byte, 7);
     Ok(())
 }
 
@@ -241,15 +241,15 @@ fn send_away_and_back(rt: &impl Abort, core: &mut Core<SimDisk, SimDisk>) -> Res
     requires lives { is_live (picture_of core.old) 1 ≡ true }
 {
     let copy = store(core, 0x11000)?;
-    assert_eq!(rt; at(core, copy).2, 7);
+    equal(rt, at(core, copy).2, 7);
     store_six(core)?;
-    assert_eq!(rt; core.cache.place(FIRST), Place::Home);
-    assert_eq!(rt; core.swap.free_slots(), 1);
+    equal(rt, core.cache.place(FIRST), Place::Home);
+    equal(rt, core.swap.free_slots(), 1);
     let back = go(core, 0x11000, Width::One, Access::Load)?;
     let (frame, offset, byte) = at(core, back);
-    assert!(rt; frame != 0);
-    assert_eq!(rt; (offset, byte), (0, 7));
-    assert_eq!(rt; store(core, 0x11000)?, back);
+    equal(rt, frame == 0, false);
+    equal(rt, (offset, byte), (0, 7));
+    equal(rt, store(core, 0x11000)?, back);
     Ok(())
 }
 
@@ -267,11 +267,11 @@ fn touch_and_send_away(rt: &impl Abort, core: &mut Core<SimDisk, SimDisk>) -> Re
     requires lives { is_live (picture_of core.old) 1 ≡ true }
 {
     let shared = store(core, 0x14000)?;
-    assert_eq!(rt; at(core, shared).2, 7);
+    equal(rt, at(core, shared).2, 7);
     store_six(core)?;
     let back = go(core, 0x11000, Width::One, Access::Load)?;
-    assert_eq!(rt; at(core, back).2, 7);
-    assert!(rt; core.cache.is_touched(FIRST));
+    equal(rt, at(core, back).2, 7);
+    equal(rt, core.cache.is_touched(FIRST), true);
     Ok(())
 }
 
@@ -292,7 +292,7 @@ fn store_without_slots(rt: &impl Abort, core: &mut Core<SimDisk, SimDisk>) -> Re
     store(core, 0x22000)?;
     store(core, 0x23000)?;
     let last = store(core, 0x24000);
-    assert_eq!(rt; last, Err(AccessRefusal::Stall(Stall::NoSwap)));
+    equal(rt, last, Err(AccessRefusal::Stall(Stall::NoSwap)));
     Ok(())
 }
 

@@ -8,11 +8,49 @@ ghost use Rattle.paging.specs.Picture.{picture_of};
 
 use disk_model::{SectorDisk, SimDisk};
 use file_store::{FileStore, OpenFault};
+use frames::Role;
 use paging::Core;
 use std::alloc::Global;
+use std::fmt::Debug;
+use std::process::Abort;
 use std::test::Fail;
 use swap::Swap;
-use vm_types::Pid;
+use vm_types::{FrameNo, Pid, SlotNo};
+
+/// Ends the test where the value isn't the one that is wanted. A test that said `assert_eq!` itself would be proved to end well
+/// at each place.
+pub(crate) fn equal<T: PartialEq + Debug + Drop>(rt: &impl Abort, got: T, want: T) {
+    assert_eq!(rt; got, want);
+}
+
+/// What a frame is used for; `None` where memory has no such frame.
+pub(crate) fn role<D, E>(core: &Core<D, E>, frame: FrameNo) -> Option<Role> {
+    if frame.0 < core.frames.len() {
+        Some(core.frames.role(frame))
+    } else {
+        None
+    }
+}
+
+/// A byte of a frame; `None` where memory has no such frame.
+pub(crate) fn byte<D, E>(core: &Core<D, E>, frame: FrameNo, at: usize) -> Option<u8>
+    requires { at < 4096 }
+{
+    if frame.0 < core.frames.len() {
+        Some(core.frames.bytes(frame)[at])
+    } else {
+        None
+    }
+}
+
+/// The share count of a slot; `None` where memory has no such slot.
+pub(crate) fn sharers<D, E>(core: &Core<D, E>, slot: u32) -> Option<u8> {
+    if slot < core.swap.len() {
+        Some(core.swap.count(SlotNo(slot)))
+    } else {
+        None
+    }
+}
 
 // A device with a file of so many bytes in so many pages, which begins with 7.
 fn image(alloc: Global, pages: u64, length: u32) -> Result<SimDisk, Fail>

@@ -13,7 +13,7 @@ ghost use Rattle.paging.specs.Parts.{IsFit};
 ghost use Rattle.paging.specs.Picture.{picture_of, entry};
 ghost use Rattle.mapping.specs.Files.{Proceeds};
 
-use crate::bench::made;
+use crate::bench::{byte, equal, made, sharers};
 use disk_model::{SectorDisk, SimDisk};
 use mapped_memory::{entry, entry_number};
 use mapping::{
@@ -361,11 +361,11 @@ fn own_zeros(rt: &impl Abort, core: &mut Core<SimDisk, SimDisk>) -> Result<(), F
     requires swap { IsReady ⟦<SimDisk as SectorDisk>⟧ core.old.swap }
 {
     show(rt, core, 32)?;
-    assert_eq!(rt; seen(rt, core, 32), 0x53);
+    equal(rt, seen(rt, core, 32), 0x53);
     let frame = own_shown(rt, core, 32)?;
-    assert_eq!(rt; seen(rt, core, 32), u64::from(frame.0) * 1024 + 0x1d7);
+    equal(rt, seen(rt, core, 32), u64::from(frame.0) * 1024 + 0x1d7);
     grant(rt, core, 32)?;
-    assert_eq!(rt; seen(rt, core, 32), u64::from(frame.0) * 1024 + 0x1d7);
+    equal(rt, seen(rt, core, 32), u64::from(frame.0) * 1024 + 0x1d7);
     Ok(())
 }
 
@@ -381,13 +381,12 @@ fn show_and_touch(rt: &impl Abort, core: &mut Core<SimDisk, SimDisk>) -> Result<
     requires swap { IsReady ⟦<SimDisk as SectorDisk>⟧ core.old.swap }
 {
     let frame = show_filed(rt, core)?;
-    assert_eq!(rt; seen(rt, core, 32), u64::from(frame.0) * 1024 + 0x57);
-    assert!(rt; !core.cache.is_touched(FILE_PAGE));
+    equal(rt, seen(rt, core, 32), u64::from(frame.0) * 1024 + 0x57);
+    equal(rt, core.cache.is_touched(FILE_PAGE), false);
     touch_first(rt, core)?;
-    assert_eq!(rt; seen(rt, core, 32), u64::from(frame.0) * 1024 + 0xd7);
-    assert!(rt; core.cache.is_touched(FILE_PAGE));
-    assert!(rt; frame.0 < core.frames.len());
-    assert_eq!(rt; core.frames.bytes(frame)[0], 7);
+    equal(rt, seen(rt, core, 32), u64::from(frame.0) * 1024 + 0xd7);
+    equal(rt, core.cache.is_touched(FILE_PAGE), true);
+    equal(rt, byte(core, frame, 0), Some(7));
     Ok(())
 }
 
@@ -405,14 +404,11 @@ fn send_copy_away_and_back(rt: &impl Abort, core: &mut Core<SimDisk, SimDisk>) -
 {
     own_filed(rt, core)?;
     own_all(rt, core)?;
-    assert!(rt; core.swap.len() > 0);
-    assert_eq!(rt; core.swap.count(SlotNo(0)), 1);
+    equal(rt, sharers(core, 0), Some(1));
     let frame = back(rt, core)?;
-    assert_eq!(rt; seen(rt, core, 32), u64::from(frame.0) * 1024 + 0x1d7);
-    assert!(rt; frame.0 < core.frames.len());
-    assert_eq!(rt; core.frames.bytes(frame)[0], 7);
-    assert!(rt; core.swap.len() > 0);
-    assert_eq!(rt; core.swap.count(SlotNo(0)), 0);
+    equal(rt, seen(rt, core, 32), u64::from(frame.0) * 1024 + 0x1d7);
+    equal(rt, byte(core, frame, 0), Some(7));
+    equal(rt, sharers(core, 0), Some(0));
     Ok(())
 }
 
@@ -432,12 +428,11 @@ fn send_touched_away_and_back(
 {
     touch_first(rt, core)?;
     own_all(rt, core)?;
-    assert_eq!(rt; core.cache.place(FILE_PAGE), Place::Slot(SlotNo(0)));
+    equal(rt, core.cache.place(FILE_PAGE), Place::Slot(SlotNo(0)));
     let frame = bring(rt, core)?;
-    assert_eq!(rt; core.cache.place(FILE_PAGE), Place::Frame(frame));
-    assert!(rt; core.cache.is_touched(FILE_PAGE));
-    assert!(rt; frame.0 < core.frames.len());
-    assert_eq!(rt; core.frames.bytes(frame)[0], 7);
+    equal(rt, core.cache.place(FILE_PAGE), Place::Frame(frame));
+    equal(rt, core.cache.is_touched(FILE_PAGE), true);
+    equal(rt, byte(core, frame, 0), Some(7));
     Ok(())
 }
 

@@ -6,7 +6,7 @@ ghost use Rattle.swap.specs.Slots.{IsReady};
 ghost use Rattle.paging.specs.Parts.{IsFit};
 ghost use Rattle.paging.specs.Picture.{picture_of};
 
-use crate::bench::made;
+use crate::bench::{byte, equal, made, role, sharers};
 use disk_model::{SectorDisk, SimDisk};
 use frames::Role;
 use page_cache::Place;
@@ -139,19 +139,19 @@ fn give_up_two(rt: &impl Abort, core: &mut Core<SimDisk, SimDisk>) -> Result<(),
     requires store { IsReadyStore ⟦<SimDisk as SectorDisk>⟧ core.old.store }
     requires swap { IsReady ⟦<SimDisk as SectorDisk>⟧ core.old.swap }
 {
-    assert_eq!(rt; core.frames.next_free(), None);
-    assert_eq!(rt; place(core, 0), Place::Frame(FrameNo(1)));
+    equal(rt, core.frames.next_free(), None);
+    equal(rt, place(core, 0), Place::Frame(FrameNo(1)));
     touch(rt, core, 0);
-    assert_eq!(rt; obtain(core, None), Ok(FrameNo(1)));
-    assert_eq!(rt; place(core, 0), Place::Slot(SlotNo(0)));
-    assert_eq!(rt; bring(rt, core, 7)?, FrameNo(1));
-    assert_eq!(rt; obtain(core, None), Ok(FrameNo(2)));
-    assert_eq!(rt; place(core, 1), Place::Home);
+    equal(rt, obtain(core, None)?, FrameNo(1));
+    equal(rt, place(core, 0), Place::Slot(SlotNo(0)));
+    equal(rt, bring(rt, core, 7)?, FrameNo(1));
+    equal(rt, obtain(core, None)?, FrameNo(2));
+    equal(rt, place(core, 1), Place::Home);
     assert!(rt; core.swap.len() > 0);
     assert_eq!(rt; core.swap.count(SlotNo(0)), 1);
     let mut page = [0; 4096];
     core.swap.get(SlotNo(0), &mut page)?;
-    assert_eq!(rt; page[0], 7);
+    equal(rt, page[0], 7);
     Ok(())
 }
 
@@ -164,8 +164,8 @@ fn a_touched_page_goes_to_a_slot_and_another_home(rt: HostRuntime) -> Result<(),
 #[test]
 fn the_kept_frame_stays(rt: HostRuntime) -> Result<(), Fail> {
     let mut core = filled(&rt, rt.alloc(), 2)?;
-    assert_eq!(rt; obtain(&mut core, Some(FrameNo(1))), Ok(FrameNo(2)));
-    assert_eq!(rt; place(&core, 0), Place::Frame(FrameNo(1)));
+    equal(&rt, obtain(&mut core, Some(FrameNo(1))), Ok(FrameNo(2)));
+    equal(&rt, place(&core, 0), Place::Frame(FrameNo(1)));
     Ok(())
 }
 
@@ -173,7 +173,7 @@ fn the_kept_frame_stays(rt: HostRuntime) -> Result<(), Fail> {
 fn without_a_slot_touched_pages_stay(rt: HostRuntime) -> Result<(), Fail> {
     let mut core = filled(&rt, rt.alloc(), 0)?;
     touch_all(&rt, &mut core);
-    assert_eq!(rt; obtain(&mut core, None), Err(Stall::NoSwap));
+    equal(&rt, obtain(&mut core, None), Err(Stall::NoSwap));
     Ok(())
 }
 
@@ -192,13 +192,11 @@ fn a_touched_page_comes_back_from_its_slot(rt: HostRuntime) -> Result<(), Fail> 
     let mut core = filled(&rt, rt.alloc(), 2)?;
     touch(&rt, &mut core, 0);
     assert_eq!(rt; obtain(&mut core, None), Ok(FrameNo(1)));
-    assert_eq!(rt; place(&core, 0), Place::Slot(SlotNo(0)));
-    assert_eq!(rt; back(&mut core, 0)?, FrameNo(1));
-    assert_eq!(rt; place(&core, 0), Place::Frame(FrameNo(1)));
-    assert!(rt; core.swap.len() > 0);
-    assert_eq!(rt; core.swap.count(SlotNo(0)), 0);
-    assert!(rt; core.frames.len() > 1);
-    assert_eq!(rt; core.frames.bytes(FrameNo(1))[0], 7);
+    equal(&rt, place(&core, 0), Place::Slot(SlotNo(0)));
+    equal(&rt, back(&mut core, 0)?, FrameNo(1));
+    equal(&rt, place(&core, 0), Place::Frame(FrameNo(1)));
+    equal(&rt, sharers(&core, 0), Some(0));
+    equal(&rt, byte(&core, FrameNo(1), 0), Some(7));
     Ok(())
 }
 
@@ -207,9 +205,8 @@ fn a_frame_is_taken_for_a_page(rt: HostRuntime) -> Result<(), Fail> {
     let mut core = made(rt.alloc(), 8, 32_768, 0)?;
     let page = Vpn::new(16).expect(&rt, "a user page");
     let own = core.take_own(page, None)?;
-    assert!(rt; own.0 < core.frames.len());
-    assert_eq!(rt; core.frames.role(own), Role::Private);
-    assert_eq!(rt; core.frames.bytes(own)[4095], 0);
+    equal(&rt, role(&core, own), Some(Role::Private));
+    equal(&rt, byte(&core, own, 4095), Some(0));
     Ok(())
 }
 
@@ -223,7 +220,7 @@ fn a_process_is_made_and_mapped(rt: HostRuntime) -> Result<(), Fail> {
     core.add_process(pid, root);
     assert_eq!(rt; core.root(pid), Some(root));
     core.remap(pid, Regions::new());
-    assert_eq!(rt; core.regions(pid).runs(), 0);
+    equal(&rt, core.regions(pid).runs(), 0);
     Ok(())
 }
 
@@ -234,8 +231,7 @@ fn a_process_without_pages_ends(rt: HostRuntime) -> Result<(), Fail> {
     let root = core.take_table()?;
     core.add_process(pid, root);
     core.remove_process(pid);
-    assert_eq!(rt; core.root(pid), None);
-    assert!(rt; root.0 < core.frames.len());
-    assert_eq!(rt; core.frames.role(root), Role::Free);
+    equal(&rt, core.root(pid), None);
+    equal(&rt, role(&core, root), Some(Role::Free));
     Ok(())
 }

@@ -7,7 +7,7 @@ ghost use Rattle.page_cache.specs.declared.place.Place.TheVariants.{Frame};
 ghost use Rattle.paging.specs.Picture.{picture_of, is_live};
 ghost use Rattle.msync.specs.Shows.{IsSoundCore};
 
-use crate::bench::{first_process, opened};
+use crate::bench::{equal, first_process, opened, sharers};
 use disk_model::{SectorDisk, SimDisk};
 use file_store::{FileSource, format};
 use msync::msync;
@@ -249,7 +249,7 @@ fn commits_what_was_stored(rt: HostRuntime) -> Result<(), Fail> {
         MsyncMode::Async,
         Answer::Done,
     );
-    assert!(rt; core.cache.is_touched(file_page(5)));
+    equal(&rt, core.cache.is_touched(file_page(5)), true);
     answers(
         &rt,
         &mut core,
@@ -259,13 +259,17 @@ fn commits_what_was_stored(rt: HostRuntime) -> Result<(), Fail> {
         MsyncMode::Sync,
         Answer::Done,
     );
-    assert!(rt; !core.cache.is_touched(file_page(5)));
-    assert_eq!(rt; core.cache.place(file_page(5)), Place::Frame(FrameNo(2)));
+    equal(&rt, core.cache.is_touched(file_page(5)), false);
+    equal(
+        &rt,
+        core.cache.place(file_page(5)),
+        Place::Frame(FrameNo(2)),
+    );
     // the journal's first page begins at sector 4, byte 903 is byte 391 of its second sector, and 904 bytes are inside
     let disk = core.store.disk();
     assert_eq!(rt; disk.sectors(), 1068);
-    assert_eq!(rt; disk.sector(5)[391], 0xaa);
-    assert_eq!(rt; disk.sector(5)[392], 0);
+    equal(&rt, disk.sector(5)[391], 0xaa);
+    equal(&rt, disk.sector(5)[392], 0);
     Ok(())
 }
 
@@ -273,7 +277,7 @@ fn commits_what_was_stored(rt: HostRuntime) -> Result<(), Fail> {
 #[test]
 fn commits_from_a_slot(rt: HostRuntime) -> Result<(), Fail> {
     let mut core = sent_away(&rt, rt.alloc(), 0)?;
-    assert_eq!(rt; core.cache.place(file_page(0)), Place::Slot(SlotNo(0)));
+    equal(&rt, core.cache.place(file_page(0)), Place::Slot(SlotNo(0)));
     answers(
         &rt,
         &mut core,
@@ -283,14 +287,13 @@ fn commits_from_a_slot(rt: HostRuntime) -> Result<(), Fail> {
         MsyncMode::Sync,
         Answer::Done,
     );
-    assert!(rt; !core.cache.is_touched(file_page(0)));
-    assert_eq!(rt; core.cache.place(file_page(0)), Place::Home);
-    assert!(rt; core.swap.len() > 0);
-    assert_eq!(rt; core.swap.count(SlotNo(0)), 0);
+    equal(&rt, core.cache.is_touched(file_page(0)), false);
+    equal(&rt, core.cache.place(file_page(0)), Place::Home);
+    equal(&rt, sharers(&core, 0), Some(0));
     let disk = core.store.disk();
     assert_eq!(rt; disk.sectors(), 1068);
-    assert_eq!(rt; disk.sector(4)[0], 0xbb);
-    assert_eq!(rt; disk.sector(11)[511], 0xbb);
+    equal(&rt, disk.sector(4)[0], 0xbb);
+    equal(&rt, disk.sector(11)[511], 0xbb);
     Ok(())
 }
 
@@ -307,8 +310,8 @@ fn a_slot_that_cannot_be_read_leaves_the_page_touched(rt: HostRuntime) -> Result
         MsyncMode::Sync,
         Answer::Stalled(Stall::SwapDevice),
     );
-    assert!(rt; core.cache.is_touched(file_page(0)));
-    assert_eq!(rt; core.cache.place(file_page(0)), Place::Slot(SlotNo(0)));
+    equal(&rt, core.cache.is_touched(file_page(0)), true);
+    equal(&rt, core.cache.place(file_page(0)), Place::Slot(SlotNo(0)));
     answers(
         &rt,
         &mut core,
@@ -318,6 +321,6 @@ fn a_slot_that_cannot_be_read_leaves_the_page_touched(rt: HostRuntime) -> Result
         MsyncMode::Sync,
         Answer::Done,
     );
-    assert_eq!(rt; core.cache.place(file_page(0)), Place::Home);
+    equal(&rt, core.cache.place(file_page(0)), Place::Home);
     Ok(())
 }
