@@ -1,14 +1,21 @@
 //! Files that other programs use, that are no files, or that must stay as they are.
-use crate::program_bench::{
-    Program, done, expect, expect_bytes, expect_length, expect_none, expect_refusal, failed,
-    formatted, path, put, removed, repeated, resized, spec_of,
-};
-use std::fs::{self, File, OpenOptions};
-use std::os::unix::fs::PermissionsExt;
+use crate::program_bench::FileStep::{Becomes, GetsAt, Has, Holds, IsLong, IsMissing, Permits};
+use crate::program_bench::Program::{Cat, Format, Run};
+use crate::program_bench::Step::{self, Does, Fails, File, Files, Removes};
+use crate::program_bench::{TwoFiles, carry_out, carry_out_with, path, repeated};
+use crate::refusals::may_write;
+use std::fs::{self, OpenOptions};
 use std::test::Fail;
 
-/// The file of that path under a lock, as a program that runs has it.
-fn held(rt: &HostRuntime, path: &str) -> Result<File, Fail> {
+/// Carries out steps of that test while its file is locked, as by a program that runs.
+fn while_in_use(rt: &HostRuntime, test: &str, file: &str, steps: &[Step<'_>]) -> Result<(), Fail> {
+    let user = locked(rt, path(rt, test, file)?.as_str())?;
+    let seen = carry_out(rt, test, steps);
+    drop(user);
+    seen
+}
+
+fn locked(rt: &HostRuntime, path: &str) -> Result<fs::File, Fail> {
     let file = OpenOptions::new().read(true).write(true).open(rt, path)?;
     match file.try_lock() {
         Ok(()) => Ok(file),
@@ -18,211 +25,218 @@ fn held(rt: &HostRuntime, path: &str) -> Result<File, Fail> {
 
 #[test]
 fn files_in_use_are_told(rt: HostRuntime) -> Result<(), Fail> {
-    let (image, swap) = (path(&rt, "held")?, path(&rt, "held-swap")?);
-    formatted(&rt, image.as_str(), "zero:4096")?;
-    resized(&rt, swap.as_str(), 512)?;
-    let before = fs::read(&rt, image.as_str())?;
-    image_in_use(&rt, image.as_str(), swap.as_str())?;
-    swap_in_use(&rt, image.as_str(), swap.as_str())?;
-    expect_length(&rt, swap.as_str(), 512)?;
-    expect_bytes(&rt, image.as_str(), before.as_slice())?;
-    no_longer_in_use(&rt, image.as_str(), swap.as_str())
-}
-
-fn image_in_use(rt: &HostRuntime, image: &str, swap: &str) -> Result<(), Fail> {
-    let user = held(rt, image)?;
-    let seen = no_use(rt, image, swap);
-    drop(user);
-    seen
-}
-
-/// No program opens the image.
-fn no_use(rt: &HostRuntime, image: &str, swap: &str) -> Result<(), Fail> {
-    no_image(rt, image, swap)?;
-    let format = "pagefmt: cannot open";
-    expect_refusal(
-        rt,
-        Program::Format,
-        &["new", image, "zero:8192"],
-        format,
-        image,
+    carry_out(
+        &rt,
+        "held",
+        &[
+            Does(Format, &["new", "@image", "zero:4096"], b"", b""),
+            Files(TwoFiles::Copy, "@image", "@before"),
+            File("@swap", Becomes(512)),
+        ],
+    )?;
+    image_in_use(&rt)?;
+    swap_in_use(&rt)?;
+    carry_out(
+        &rt,
+        "held",
+        &[
+            File("@swap", IsLong(512)),
+            Files(TwoFiles::Alike, "@image", "@before"),
+            // The locks are gone with the programs, and the short file of slots is lengthened to sixteen of them.
+            Does(Run, &["@image", "@swap"], b"spawn\n", b"pid 1\n"),
+            File("@swap", IsLong(65_536)),
+            Removes(&["@image", "@swap", "@before"]),
+        ],
     )
 }
 
-fn swap_in_use(rt: &HostRuntime, image: &str, swap: &str) -> Result<(), Fail> {
-    let user = held(rt, swap)?;
-    let run = "pagerun: cannot open";
-    let seen = expect_refusal(rt, Program::Run, &[image, swap], run, swap);
-    drop(user);
-    seen
+/// No program opens the image.
+fn image_in_use(rt: &HostRuntime) -> Result<(), Fail> {
+    let new = ["new", "@image", "zero:8192"];
+    while_in_use(
+        rt,
+        "held",
+        "@image",
+        &[
+            Fails(Run, &["@image", "@swap"], "pagerun: cannot open @image\n"),
+            Fails(Cat, &["@image", "0"], "pagecat: cannot open @image\n"),
+            Fails(Format, &new, "pagefmt: cannot open @image\n"),
+        ],
+    )
 }
 
-/// The locks are gone with the programs, and the short file of slots is lengthened to sixteen of them.
-fn no_longer_in_use(rt: &HostRuntime, image: &str, swap: &str) -> Result<(), Fail> {
-    let words = [image, swap];
-    expect(rt, Program::Run, &words, b"spawn\n", done(b"pid 1\n"))?;
-    expect_length(rt, swap, 65_536)?;
-    removed(rt, &words)
+fn swap_in_use(rt: &HostRuntime) -> Result<(), Fail> {
+    let told = Fails(Run, &["@image", "@swap"], "pagerun: cannot open @swap\n");
+    while_in_use(rt, "held", "@swap", &[told])
 }
 
 #[test]
 fn one_file_does_not_serve_as_two(rt: HostRuntime) -> Result<(), Fail> {
-    let image = path(&rt, "both")?;
-    formatted(&rt, image.as_str(), "zero:4096")?;
-    let before = fs::read(&rt, image.as_str())?;
-    image_as_swap(&rt, image.as_str())?;
-    expect_bytes(&rt, image.as_str(), before.as_slice())?;
-    resized(&rt, image.as_str(), 5)?;
-    image_as_host_file(&rt, image.as_str())?;
-    expect_bytes(&rt, image.as_str(), b"FAMSY")?;
-    removed(&rt, &[image.as_str()])
-}
-
-fn image_as_swap(rt: &HostRuntime, image: &str) -> Result<(), Fail> {
-    let words = [image, image, "64", "4096"];
-    expect_refusal(rt, Program::Run, &words, "pagerun: cannot open", image)
-}
-
-fn image_as_host_file(rt: &HostRuntime, image: &str) -> Result<(), Fail> {
-    let spec = spec_of(rt, "rw", image)?;
-    let words = ["new", image, spec.as_str()];
-    expect_refusal(rt, Program::Format, &words, "pagefmt: cannot open", image)
+    let twice = ["@image", "@image", "64", "4096"];
+    let from_itself = ["new", "@image", "rw:@image"];
+    carry_out(
+        &rt,
+        "both",
+        &[
+            Does(Format, &["new", "@image", "zero:4096"], b"", b""),
+            Files(TwoFiles::Copy, "@image", "@before"),
+            Fails(Run, &twice, "pagerun: cannot open @image\n"),
+            Files(TwoFiles::Alike, "@image", "@before"),
+            File("@image", Becomes(5)),
+            Fails(Format, &from_itself, "pagefmt: cannot open @image\n"),
+            File("@image", Has(b"FAMSY")),
+            Removes(&["@image", "@before"]),
+        ],
+    )
 }
 
 #[test]
 fn a_host_file_may_be_two_files_of_an_image(rt: HostRuntime) -> Result<(), Fail> {
-    let (image, host) = (path(&rt, "twice-read")?, path(&rt, "twice-read-host")?);
-    fs::write(&rt, host.as_str(), "abc")?;
-    two_of_one(&rt, image.as_str(), host.as_str())?;
-    shows_abc(&rt, image.as_str(), "0")?;
-    shows_abc(&rt, image.as_str(), "1")?;
-    removed(&rt, &[image.as_str(), host.as_str()])
+    let specs = ["new", "@image", "rw:@host", "ro:@host"];
+    carry_out(
+        &rt,
+        "twice-read",
+        &[
+            File("@host", Holds(b"abc")),
+            Does(Format, &specs, b"", b""),
+            Does(Cat, &["@image", "0"], b"", b"abc"),
+            Does(Cat, &["@image", "1"], b"", b"abc"),
+            Removes(&["@image", "@host"]),
+        ],
+    )
 }
 
-fn shows_abc(rt: &HostRuntime, image: &str, file: &str) -> Result<(), Fail> {
-    expect(rt, Program::Cat, &[image, file], b"", done(b"abc"))
-}
-
-fn two_of_one(rt: &HostRuntime, image: &str, host: &str) -> Result<(), Fail> {
-    let writable = spec_of(rt, "rw", host)?;
-    let read_only = spec_of(rt, "ro", host)?;
-    let words = ["new", image, writable.as_str(), read_only.as_str()];
-    expect(rt, Program::Format, &words, b"", done(b""))
-}
+/// A file that no test makes.
+const UNMADE: &str = "/tmp/kefsdalv-unmade";
 
 #[test]
 fn what_is_no_regular_file_is_not_opened(rt: HostRuntime) -> Result<(), Fail> {
-    let (image, swap) = (path(&rt, "regular")?, path(&rt, "regular-swap")?);
     for device in ["/dev/null", "/dev/zero", "/dev/tty"] {
-        no_host_file(&rt, image.as_str(), "rw", device)?;
-        no_host_file(&rt, image.as_str(), "ro", device)?;
-        no_image(&rt, device, swap.as_str())?;
+        not_opened(&rt, device)?;
     }
-    expect_none(&rt, image.as_str())?;
-    expect_none(&rt, swap.as_str())
+    Ok(())
 }
 
-/// No image is made of a device.
-fn no_host_file(rt: &HostRuntime, image: &str, form: &str, device: &str) -> Result<(), Fail> {
-    let spec = spec_of(rt, form, device)?;
-    let words = ["new", image, spec.as_str()];
-    expect_refusal(rt, Program::Format, &words, "pagefmt: cannot open", device)
-}
-
-/// Neither program that reads an image opens that file.
-fn no_image(rt: &HostRuntime, image: &str, swap: &str) -> Result<(), Fail> {
-    let run = "pagerun: cannot open";
-    expect_refusal(rt, Program::Run, &[image, swap], run, image)?;
-    let cat = "pagecat: cannot open";
-    expect_refusal(rt, Program::Cat, &[image, "0"], cat, image)
+/// No image is made of a device, and a device is no image. Here `@` is the device.
+fn not_opened(rt: &HostRuntime, device: &str) -> Result<(), Fail> {
+    let writable = ["new", UNMADE, "rw:@"];
+    let read_only = ["new", UNMADE, "ro:@"];
+    carry_out_with(
+        rt,
+        device,
+        &[
+            Fails(Format, &writable, "pagefmt: cannot open @\n"),
+            Fails(Format, &read_only, "pagefmt: cannot open @\n"),
+            Fails(Run, &["@", UNMADE], "pagerun: cannot open @\n"),
+            Fails(Cat, &["@", "0"], "pagecat: cannot open @\n"),
+            File(UNMADE, IsMissing),
+        ],
+    )
 }
 
 #[test]
 fn a_refused_image_stays_as_it_was(rt: HostRuntime) -> Result<(), Fail> {
-    let image = path(&rt, "refused")?;
-    too_many_files(&rt, image.as_str())?;
-    expect_none(&rt, image.as_str())?;
-    fs::write(&rt, image.as_str(), "other")?;
-    too_many_files(&rt, image.as_str())?;
-    expect_bytes(&rt, image.as_str(), b"other")?;
-    fs::remove_file(&rt, image.as_str())?;
-    formatted(&rt, image.as_str(), "zero:1")?;
-    let before = fs::read(&rt, image.as_str())?;
-    already_formatted(&rt, image.as_str(), "zero:8192")?;
-    expect_bytes(&rt, image.as_str(), before.as_slice())?;
-    removed(&rt, &[image.as_str()])
+    let mut many = ["zero:1"; 2 + 65];
+    many[0] = "new";
+    many[1] = "@image";
+    let again = ["new", "@image", "zero:8192"];
+    carry_out(
+        &rt,
+        "refused",
+        &[
+            Fails(Format, &many, "pagefmt: format 2 TOOLARGE\n"),
+            File("@image", IsMissing),
+            File("@image", Holds(b"other")),
+            Fails(Format, &many, "pagefmt: format 2 TOOLARGE\n"),
+            File("@image", Has(b"other")),
+            Removes(&["@image"]),
+            Does(Format, &["new", "@image", "zero:1"], b"", b""),
+            Files(TwoFiles::Copy, "@image", "@before"),
+            Fails(Format, &again, "pagefmt: format 3 FORMATTED\n"),
+            Files(TwoFiles::Alike, "@image", "@before"),
+            Removes(&["@image", "@before"]),
+        ],
+    )
 }
 
 #[test]
 fn the_mark_alone_tells_an_image(rt: HostRuntime) -> Result<(), Fail> {
-    let image = path(&rt, "marked")?;
-    let image = image.as_str();
-    formatted(&rt, image, "zero:1")?;
-    // However short the file is.
-    resized(&rt, image, 512)?;
-    already_formatted(&rt, image, "zero:1")?;
-    expect_length(&rt, image, 512)?;
-    // One byte less of it does not.
-    put(&rt, image, 511, b"2")?;
-    formatted(&rt, image, "zero:1")?;
-    removed(&rt, &[image])
-}
-
-fn too_many_files(rt: &HostRuntime, image: &str) -> Result<(), Fail> {
-    let mut words = ["zero:1"; 2 + 65];
-    words[0] = "new";
-    words[1] = image;
-    let ending = failed(b"pagefmt: format 2 TOOLARGE\n");
-    expect(rt, Program::Format, &words, b"", ending)
-}
-
-fn already_formatted(rt: &HostRuntime, image: &str, spec: &str) -> Result<(), Fail> {
-    let ending = failed(b"pagefmt: format 3 FORMATTED\n");
-    expect(rt, Program::Format, &["new", image, spec], b"", ending)
+    let new = ["new", "@image", "zero:1"];
+    carry_out(
+        &rt,
+        "marked",
+        &[
+            Does(Format, &new, b"", b""),
+            // However short the file is.
+            File("@image", Becomes(512)),
+            Fails(Format, &new, "pagefmt: format 3 FORMATTED\n"),
+            File("@image", IsLong(512)),
+            // One byte less of it does not.
+            File("@image", GetsAt(511, b"2")),
+            Does(Format, &new, b"", b""),
+            Removes(&["@image"]),
+        ],
+    )
 }
 
 #[test]
 fn names_stay_on_one_line(rt: HostRuntime) -> Result<(), Fail> {
-    let swap = path(&rt, "line-swap")?;
-    let words = ["/tmp/none\n/no\\ne", swap.as_str()];
-    let ending = failed(b"pagerun: cannot open /tmp/none\\n/no\\ne\n");
-    expect(&rt, Program::Run, &words, b"", ending)?;
-    let words = ["/tmp/\u{e4}\t\r\u{1b}\u{85}", "0"];
-    let ending = failed(b"pagecat: cannot open /tmp/\xc3\xa4\\t\\r\\u{1b}\\u{85}\n");
-    expect(&rt, Program::Cat, &words, b"", ending)?;
-    let words = ["new", "/tmp/none/none", "zero:1\n"];
-    let ending = failed(b"pagefmt: bad spec zero:1\\n\n");
-    expect(&rt, Program::Format, &words, b"", ending)
+    let odd = "/tmp/\u{e4}\t\r\u{1b}\u{85}";
+    carry_out(
+        &rt,
+        "line",
+        &[
+            Fails(
+                Run,
+                &["/tmp/none\n/no\\ne", "@swap"],
+                "pagerun: cannot open /tmp/none\\n/no\\ne\n",
+            ),
+            Fails(
+                Cat,
+                &[odd, "0"],
+                "pagecat: cannot open /tmp/\u{e4}\\t\\r\\u{1b}\\u{85}\n",
+            ),
+            Fails(
+                Format,
+                &["new", "/tmp/none/none", "zero:1\n"],
+                "pagefmt: bad spec zero:1\\n\n",
+            ),
+        ],
+    )
 }
 
 #[test]
 fn an_image_that_is_only_read_is_shown(rt: HostRuntime) -> Result<(), Fail> {
-    let image = path(&rt, "only-read")?;
-    let image = image.as_str();
-    formatted(&rt, image, "zero:4096")?;
-    fs::set_permissions(&rt, image, fs::Permissions::from_mode(0o444))?;
+    carry_out(
+        &rt,
+        "only-read",
+        &[
+            Does(Format, &["new", "@image", "zero:4096"], b"", b""),
+            File("@image", Permits(0o444)),
+        ],
+    )?;
     // Root may write all files, and there is nothing to see.
-    if OpenOptions::new().write(true).open(&rt, image).is_err() {
-        let page = [0; 4096];
-        expect(&rt, Program::Cat, &[image, "0"], b"", done(&page))?;
-        open_journal_of(&rt, image)?;
-        no_recovery(&rt, image, fs::read(&rt, image)?.as_slice())?;
+    if !may_write(&rt, "only-read")? {
+        shown_unless_open(&rt, repeated(&rt, b"GATEOPEN", 64)?.as_slice())?;
     }
-    removed(&rt, &[image])
+    carry_out(&rt, "only-read", &[Removes(&["@image"])])
 }
 
-/// Opens the journal of an image that is only read.
-fn open_journal_of(rt: &HostRuntime, image: &str) -> Result<(), Fail> {
-    fs::set_permissions(rt, image, fs::Permissions::from_mode(0o644))?;
-    let gate = repeated(rt, b"GATEOPEN", 64)?;
-    put(rt, image, 1024, gate.as_slice())?;
-    put(rt, image, 1536, b"\x01\0\0\0\0\0\0\0")?;
-    fs::set_permissions(rt, image, fs::Permissions::from_mode(0o444))?;
-    Ok(())
-}
-
-fn no_recovery(rt: &HostRuntime, image: &str, before: &[u8]) -> Result<(), Fail> {
-    let ending = failed(b"pagecat: open 1 DEVICE\n");
-    expect(rt, Program::Cat, &[image, "0"], b"", ending)?;
-    expect_bytes(rt, image, before)
+/// It is shown as long as its journal is closed, and else stays as it is.
+fn shown_unless_open(rt: &HostRuntime, open_gate: &[u8]) -> Result<(), Fail> {
+    carry_out(
+        rt,
+        "only-read",
+        &[
+            Does(Cat, &["@image", "0"], b"", &[0; 4096]),
+            File("@image", Permits(0o644)),
+            File("@image", GetsAt(1024, open_gate)),
+            File("@image", GetsAt(1536, b"\x01\0\0\0\0\0\0\0")),
+            File("@image", Permits(0o444)),
+            Files(TwoFiles::Copy, "@image", "@before"),
+            Fails(Cat, &["@image", "0"], "pagecat: open 1 DEVICE\n"),
+            Files(TwoFiles::Alike, "@image", "@before"),
+            Removes(&["@before"]),
+        ],
+    )
 }

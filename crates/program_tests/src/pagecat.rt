@@ -1,12 +1,11 @@
 //! Files of an image that are written out, and images of which a machine runs.
-use crate::program_bench::{
-    Program, done, expect, expect_bytes, failed, formatted, path, put, ran_over, removed, repeated,
-    same, same_number, spec_of,
-};
+use crate::program_bench::FileStep::{GetsAt, HasAt, Holds, IsLong};
+use crate::program_bench::Program::{Cat, Format, Run};
+use crate::program_bench::Step::{self, Does, Fails, File, Files, Removes};
+use crate::program_bench::{TwoFiles, carry_out, ran_over, same, same_number};
 use disk_model::SimDisk;
 use file_store::{FileSource, format};
 use programs::{ShowFault, show};
-use std::fs;
 use std::test::Fail;
 use test_streams::{Full, LimitedWriter};
 
@@ -18,143 +17,122 @@ const SECTOR: u64 = 512;
 
 #[test]
 fn a_file_is_cut_at_its_length(rt: HostRuntime) -> Result<(), Fail> {
-    let image = path(&rt, "cat")?;
-    formatted(&rt, image.as_str(), "zero:5000")?;
-    // Byte 4,999 of the file, and a byte behind its end.
-    put(&rt, image.as_str(), HOMES + 4999, b"\xaa\xbb")?;
-    let mut wanted = repeated(&rt, b"\0", 4999)?;
-    wanted.push(0xaa)?;
-    let words = [image.as_str(), "0"];
-    expect(&rt, Program::Cat, &words, b"", done(wanted.as_slice()))?;
-    removed(&rt, &[image.as_str()])
+    let mut shown = [0; 5000];
+    shown[4999] = 0xaa;
+    carry_out(
+        &rt,
+        "cat",
+        &[
+            Does(Format, &["new", "@image", "zero:5000"], b"", b""),
+            // Byte 4,999 of the file, and a byte behind its end.
+            File("@image", GetsAt(HOMES + 4999, b"\xaa\xbb")),
+            Does(Cat, &["@image", "0"], b"", &shown),
+            Removes(&["@image"]),
+        ],
+    )
 }
 
 #[test]
 fn files_are_told_apart(rt: HostRuntime) -> Result<(), Fail> {
-    let (image, host) = (path(&rt, "apart")?, path(&rt, "apart-host")?);
-    let bytes = odd_bytes(&rt)?;
-    fs::write(&rt, host.as_str(), bytes.as_slice())?;
-    four_files(&rt, image.as_str(), host.as_str())?;
-    each_file(&rt, image.as_str(), bytes.as_slice())?;
-    no_other_file(&rt, image.as_str())?;
-    removed(&rt, &[image.as_str(), host.as_str()])
-}
-
-/// Two pages and a byte.
-fn odd_bytes(rt: &HostRuntime) -> Result<Vec<u8>, Fail> {
-    let mut bytes = repeated(rt, b"abcdefgh", 1024)?;
-    bytes.push(b'z')?;
-    Ok(bytes)
-}
-
-fn four_files(rt: &HostRuntime, image: &str, host: &str) -> Result<(), Fail> {
-    let writable = spec_of(rt, "rw", host)?;
-    let read_only = spec_of(rt, "ro", host)?;
-    let words = [
-        "new",
-        image,
-        "zero:3",
-        writable.as_str(),
-        "zero:0",
-        read_only.as_str(),
-    ];
-    expect(rt, Program::Format, &words, b"", done(b""))
-}
-
-fn each_file(rt: &HostRuntime, image: &str, bytes: &[u8]) -> Result<(), Fail> {
-    let files: [(&str, &[u8]); 4] = [("0", b"\0\0\0"), ("1", bytes), ("0x2", b""), ("03", bytes)];
-    for (file, wanted) in files {
-        expect(rt, Program::Cat, &[image, file], b"", done(wanted))?;
-    }
-    Ok(())
-}
-
-fn no_other_file(rt: &HostRuntime, image: &str) -> Result<(), Fail> {
-    let none: [(&str, &[u8]); 4] = [
-        ("7", b"pagecat: no file 7\n"),
-        ("0x40", b"pagecat: no file 64\n"),
-        ("256", b"pagecat: no file 256\n"),
-        ("4294967295", b"pagecat: no file 4294967295\n"),
-    ];
-    for (file, line) in none {
-        expect(rt, Program::Cat, &[image, file], b"", failed(line))?;
-    }
-    Ok(())
+    // Two pages and a byte.
+    let mut bytes = [b'a'; 8193];
+    bytes[8192] = b'z';
+    let specs = ["new", "@image", "zero:3", "rw:@host", "zero:0", "ro:@host"];
+    carry_out(
+        &rt,
+        "apart",
+        &[
+            File("@host", Holds(&bytes)),
+            Does(Format, &specs, b"", b""),
+            Does(Cat, &["@image", "0"], b"", b"\0\0\0"),
+            Does(Cat, &["@image", "1"], b"", &bytes),
+            Does(Cat, &["@image", "0x2"], b"", b""),
+            Does(Cat, &["@image", "03"], b"", &bytes),
+            Fails(Cat, &["@image", "7"], "pagecat: no file 7\n"),
+            Fails(Cat, &["@image", "0x40"], "pagecat: no file 64\n"),
+            Fails(Cat, &["@image", "256"], "pagecat: no file 256\n"),
+            Fails(
+                Cat,
+                &["@image", "4294967295"],
+                "pagecat: no file 4294967295\n",
+            ),
+            Removes(&["@image", "@host"]),
+        ],
+    )
 }
 
 #[test]
 fn a_failing_writer_is_told(rt: HostRuntime) -> Result<(), Fail> {
-    let image = path(&rt, "full")?;
-    formatted(&rt, image.as_str(), "zero:5000")?;
-    full_writer(&rt, image.as_str(), Full::Fails)?;
-    full_writer(&rt, image.as_str(), Full::TakesNothing)?;
-    removed(&rt, &[image.as_str()])
+    let new = Does(Format, &["new", "@image", "zero:5000"], b"", b"");
+    carry_out(&rt, "full", &[new])?;
+    full_writer(&rt, Full::Fails)?;
+    full_writer(&rt, Full::TakesNothing)?;
+    carry_out(&rt, "full", &[Removes(&["@image"])])
 }
 
-fn full_writer(rt: &HostRuntime, image: &str, full: Full) -> Result<(), Fail> {
+fn full_writer(rt: &HostRuntime, full: Full) -> Result<(), Fail> {
     let mut writer = LimitedWriter::new(rt.alloc(), 100, 4999, full);
     let mut reader: &[u8] = b"";
-    let words = [image, "0"];
-    let (status, errors) = ran_over(rt, Program::Cat, &words, &mut reader, &mut writer)?;
+    let words = ["@image", "0"];
+    let (status, errors) = ran_over(rt, "full", Cat, &words, &mut reader, &mut writer)?;
     same_number("exit status", status.into(), 1)?;
-    same(
-        "standard error",
-        errors.as_slice(),
-        b"pagecat: write failed\n",
-    )?;
+    let told = errors.as_slice();
+    same("standard error", told, b"pagecat: write failed\n")?;
     same_number("bytes taken", writer.taken.len() as u64, 4999)
 }
 
-/// Opens the gate of an image's journal.
-fn open_gate(rt: &HostRuntime, image: &str) -> Result<(), Fail> {
-    let gate = repeated(rt, b"GATEOPEN", 64)?;
-    put(rt, image, 2 * SECTOR, gate.as_slice())
+/// What the gate of an open journal begins with, and each eighth byte after.
+fn open_gate() -> [u8; 512] {
+    let mut gate = [0; 512];
+    for i in 0..512 {
+        gate[i] = b"GATEOPEN"[i % 8];
+    }
+    gate
 }
+
+/// An image of one page of zeros is made.
+const NEW: Step<'static> = Does(Format, &["new", "@image", "zero:4096"], b"", b"");
 
 #[test]
 fn a_bad_journal_is_told(rt: HostRuntime) -> Result<(), Fail> {
-    let (image, swap) = (path(&rt, "journal")?, path(&rt, "journal-swap")?);
-    formatted(&rt, image.as_str(), "zero:4096")?;
-    open_gate(&rt, image.as_str())?;
-    put(&rt, image.as_str(), 3 * SECTOR, b"\x80\0\0\0")?;
-    let before = fs::read(&rt, image.as_str())?;
-    bad_journal(&rt, image.as_str(), swap.as_str())?;
-    expect_bytes(&rt, image.as_str(), before.as_slice())?;
-    removed(&rt, &[image.as_str(), swap.as_str()])
+    carry_out(
+        &rt,
+        "journal",
+        &[
+            NEW,
+            File("@image", GetsAt(2 * SECTOR, &open_gate())),
+            File("@image", GetsAt(3 * SECTOR, b"\x80\0\0\0")),
+            Files(TwoFiles::Copy, "@image", "@before"),
+            Fails(Run, &["@image", "@swap"], "pagerun: boot 6 BADJOURNAL\n"),
+            Fails(Cat, &["@image", "0"], "pagecat: open 3 BADJOURNAL\n"),
+            Files(TwoFiles::Alike, "@image", "@before"),
+            Removes(&["@image", "@swap", "@before"]),
+        ],
+    )
 }
 
-fn bad_journal(rt: &HostRuntime, image: &str, swap: &str) -> Result<(), Fail> {
-    let ending = failed(b"pagerun: boot 6 BADJOURNAL\n");
-    expect(rt, Program::Run, &[image, swap], b"", ending)?;
-    let ending = failed(b"pagecat: open 3 BADJOURNAL\n");
-    expect(rt, Program::Cat, &[image, "0"], b"", ending)
-}
+/// A page of an image.
+const PAGE: [u8; 4096] = [0x5a; 4096];
 
+/// The journal is of one page, whose home is page 0; then its bytes are those of file 0.
 #[test]
 fn an_open_journal_is_carried_out(rt: HostRuntime) -> Result<(), Fail> {
-    let image = path(&rt, "open")?;
-    let page = repeated(&rt, b"\x5a", 4096)?;
-    formatted(&rt, image.as_str(), "zero:4096")?;
-    open_gate(&rt, image.as_str())?;
-    journaled(&rt, image.as_str(), page.as_slice())?;
-    carried_out(fs::read(&rt, image.as_str())?.as_slice(), page.as_slice())?;
-    removed(&rt, &[image.as_str()])
-}
-
-/// Writes a journal of one page, whose home is page 0, and its bytes; then they are those of file 0.
-fn journaled(rt: &HostRuntime, image: &str, page: &[u8]) -> Result<(), Fail> {
-    put(rt, image, 3 * SECTOR, b"\x01\0\0\0\0\0\0\0")?;
-    put(rt, image, 4 * SECTOR, page)?;
-    expect(rt, Program::Cat, &[image, "0"], b"", done(page))
-}
-
-/// The gate is closed, and the page is home.
-fn carried_out(image: &[u8], page: &[u8]) -> Result<(), Fail> {
-    let (Some(gate), Some(homes)) = (image.get(1024..1536), image.get(522_240..)) else {
-        return Err(Fail::new("the image is short"));
-    };
-    same("the gate", gate, &[0; 512])?;
-    same("the homes", homes, page)
+    carry_out(
+        &rt,
+        "open",
+        &[
+            NEW,
+            File("@image", GetsAt(2 * SECTOR, &open_gate())),
+            File("@image", GetsAt(3 * SECTOR, b"\x01\0\0\0\0\0\0\0")),
+            File("@image", GetsAt(4 * SECTOR, &PAGE)),
+            Does(Cat, &["@image", "0"], b"", &PAGE),
+            // The gate is closed, and the page is home.
+            File("@image", HasAt(1024, &[0; 512])),
+            File("@image", HasAt(522_240, &PAGE)),
+            File("@image", IsLong(526_336)),
+            Removes(&["@image"]),
+        ],
+    )
 }
 
 #[test]

@@ -1,104 +1,97 @@
 //! Images that are made.
-use crate::program_bench::{
-    Program, done, expect, expect_bytes, expect_length, expect_none, expect_refusal, failed,
-    formatted, path, removed, repeated, resized, same, same_number, spec_of,
-};
+use crate::program_bench::FileStep::{Becomes, HasAt, Holds, IsLong, IsMissing};
+use crate::program_bench::Program::Format;
+use crate::program_bench::Step::{Does, Fails, File, Files, Removes};
+use crate::program_bench::{TwoFiles, carry_out, carry_out_with, repeated};
 use disk_model::SimDisk;
 use file_store::{FileSource, FormatFault, format};
 use std::fs;
-use std::os::unix::fs::symlink;
 use std::test::Fail;
 
 #[test]
 fn an_image_has_the_length_of_its_homes(rt: HostRuntime) -> Result<(), Fail> {
-    let image = path(&rt, "lengths")?;
-    let image = image.as_str();
     let cases: [(&[&str], u64); 5] = [
-        (&["new", image, "zero:0"], 522_240),
-        (&["new", image, "zero:1"], 526_336),
-        (&["new", image, "zero:4096"], 526_336),
-        (&["new", image, "zero:5000"], 530_432),
+        (&["new", "@image", "zero:0"], 522_240),
+        (&["new", "@image", "zero:1"], 526_336),
+        (&["new", "@image", "zero:4096"], 526_336),
+        (&["new", "@image", "zero:5000"], 530_432),
         // Each file begins on a page of its own.
         (
-            &["new", image, "zero:1", "zero:0x1001", "zero:0", "zero:1"],
+            &["new", "@image", "zero:1", "zero:0x1001", "zero:0", "zero:1"],
             538_624,
         ),
     ];
     for (words, length) in cases {
-        length_of(&rt, words, image, length)?;
+        let made = Does(Format, words, b"", b"");
+        let long = File("@image", IsLong(length));
+        carry_out(&rt, "lengths", &[made, long, Removes(&["@image"])])?;
     }
     Ok(())
 }
 
-/// Sees that these words make an image of that length.
-fn length_of(rt: &HostRuntime, words: &[&str], image: &str, length: u64) -> Result<(), Fail> {
-    expect(rt, Program::Format, words, b"", done(b""))?;
-    expect_length(rt, image, length)?;
-    removed(rt, &[image])
-}
-
 #[test]
 fn the_directory_names_the_files_in_order(rt: HostRuntime) -> Result<(), Fail> {
-    let (image, host) = (path(&rt, "directory")?, path(&rt, "directory-host")?);
-    fs::write(&rt, host.as_str(), [b'A'; 4096].as_slice())?;
-    zeros_and_a_file(&rt, image.as_str(), host.as_str())?;
-    expect_layout(&rt, fs::read(&rt, image.as_str())?.as_slice())?;
-    removed(&rt, &[image.as_str(), host.as_str()])
-}
-
-fn zeros_and_a_file(rt: &HostRuntime, image: &str, host: &str) -> Result<(), Fail> {
-    let spec = spec_of(rt, "ro", host)?;
-    let words = ["new", image, "zero:5000", spec.as_str()];
-    expect(rt, Program::Format, &words, b"", done(b""))
-}
-
-fn expect_layout(rt: &HostRuntime, image: &[u8]) -> Result<(), Fail> {
-    let mark = repeated(rt, b"FAMSYNC1", 64)?;
-    expect_part(image, 0, mark.as_slice())?;
-    let entries: &[u8] = b"\x00\x00\x00\x80\x88\x13\x00\x00\x02\x00\x00\xc0\x00\x10\x00\x00";
-    expect_part(image, 512, entries)?;
-    // The rest of the directory, and the gate.
-    expect_part(image, 528, &[0; 512 + 496])?;
-    expect_part(image, 522_240, &[0; 8192])?;
-    expect_part(image, 530_432, &[b'A'; 4096])?;
-    same_number("the image's length", image.len() as u64, 530_432 + 4096)
-}
-
-/// Sees that an image has these bytes from byte `at` on.
-fn expect_part(image: &[u8], at: usize, wanted: &[u8]) -> Result<(), Fail> {
-    match image.get(at..at.saturating_add(wanted.len())) {
-        Some(found) => same("a part of the image", found, wanted),
-        None => Err(Fail::new("the image is short")),
+    let mut mark = [0; 512];
+    for i in 0..512 {
+        mark[i] = b"FAMSYNC1"[i % 8];
     }
+    let entries = b"\x00\x00\x00\x80\x88\x13\x00\x00\x02\x00\x00\xc0\x00\x10\x00\x00";
+    let specs = ["new", "@image", "zero:5000", "ro:@host"];
+    carry_out(
+        &rt,
+        "directory",
+        &[
+            File("@host", Holds(&[b'A'; 4096])),
+            Does(Format, &specs, b"", b""),
+            File("@image", IsLong(530_432 + 4096)),
+            File("@image", HasAt(0, &mark)),
+            File("@image", HasAt(512, entries)),
+            // The rest of the directory, and the gate.
+            File("@image", HasAt(528, &[0; 512 + 496])),
+            File("@image", HasAt(522_240, &[0; 8192])),
+            File("@image", HasAt(530_432, &[b'A'; 4096])),
+            Removes(&["@image", "@host"]),
+        ],
+    )
 }
 
 #[test]
 fn an_image_is_not_formatted_twice(rt: HostRuntime) -> Result<(), Fail> {
-    let image = path(&rt, "twice")?;
-    formatted(&rt, image.as_str(), "zero:1")?;
-    let before = fs::read(&rt, image.as_str())?;
-    let words = ["new", image.as_str(), "zero:1"];
-    let ending = failed(b"pagefmt: format 3 FORMATTED\n");
-    expect(&rt, Program::Format, &words, b"", ending)?;
-    expect_bytes(&rt, image.as_str(), before.as_slice())?;
-    removed(&rt, &[image.as_str()])
+    let words = ["new", "@image", "zero:1"];
+    carry_out(
+        &rt,
+        "twice",
+        &[
+            Does(Format, &words, b"", b""),
+            Files(TwoFiles::Copy, "@image", "@before"),
+            Fails(Format, &words, "pagefmt: format 3 FORMATTED\n"),
+            Files(TwoFiles::Alike, "@image", "@before"),
+            Removes(&["@image", "@before"]),
+        ],
+    )
 }
 
 #[test]
 fn a_store_has_at_most_64_files(rt: HostRuntime) -> Result<(), Fail> {
-    let image = path(&rt, "many")?;
     let mut words = ["zero:0"; 2 + 65];
     words[0] = "new";
-    words[1] = image.as_str();
-    let ending = failed(b"pagefmt: format 2 TOOLARGE\n");
-    expect(&rt, Program::Format, &words, b"", ending)?;
-    expect(&rt, Program::Format, &words[..2 + 64], b"", done(b""))?;
-    removed(&rt, &[image.as_str()])
+    words[1] = "@image";
+    carry_out(
+        &rt,
+        "many",
+        &[
+            Fails(Format, &words, "pagefmt: format 2 TOOLARGE\n"),
+            Does(Format, &words[..2 + 64], b"", b""),
+            Removes(&["@image"]),
+        ],
+    )
 }
+
+/// A file that no test makes.
+const UNMADE: &str = "/tmp/kefsdalv-unmade";
 
 #[test]
 fn bad_specs_are_told_before_a_file_is_made(rt: HostRuntime) -> Result<(), Fail> {
-    let image = path(&rt, "unmade")?;
     let specs = [
         "zero",
         "zero:",
@@ -122,74 +115,70 @@ fn bad_specs_are_told_before_a_file_is_made(rt: HostRuntime) -> Result<(), Fail>
         "",
     ];
     for spec in specs {
-        bad_spec(&rt, image.as_str(), spec)?;
+        bad_spec(&rt, spec)?;
     }
-    expect_none(&rt, image.as_str())
+    Ok(())
 }
 
-/// No image is made, though the spec before is good.
-fn bad_spec(rt: &HostRuntime, image: &str, spec: &str) -> Result<(), Fail> {
-    let words = ["new", image, "zero:1", spec, "worse"];
-    expect_refusal(rt, Program::Format, &words, "pagefmt: bad spec", spec)
+/// No image is made, though the spec before is good. Here `@` is the spec.
+fn bad_spec(rt: &HostRuntime, spec: &str) -> Result<(), Fail> {
+    let words = ["new", UNMADE, "zero:1", "@", "worse"];
+    let told = Fails(Format, &words, "pagefmt: bad spec @\n");
+    carry_out_with(rt, spec, &[told, File(UNMADE, IsMissing)])
 }
 
 #[test]
 fn what_is_in_the_way_of_an_image_stays(rt: HostRuntime) -> Result<(), Fail> {
-    no_image_at(&rt, "/tmp")?;
-    no_image_at(&rt, "/tmp/none/none")?;
-    let (link, missing) = (path(&rt, "link")?, path(&rt, "link-to")?);
-    no_image_behind(&rt, link.as_str(), missing.as_str())
-}
-
-/// A link to a file that is missing stays, and nothing is made through it.
-fn no_image_behind(rt: &HostRuntime, link: &str, missing: &str) -> Result<(), Fail> {
-    symlink(rt, missing, link)?;
-    no_image_at(rt, link)?;
-    expect_none(rt, missing)?;
-    removed(rt, &[link])
-}
-
-/// No image is made at that path.
-fn no_image_at(rt: &HostRuntime, image: &str) -> Result<(), Fail> {
-    let words = ["new", image, "zero:1"];
-    expect_refusal(rt, Program::Format, &words, "pagefmt: cannot open", image)
+    let folder = ["new", "/tmp", "zero:1"];
+    let no_folder = ["new", "/tmp/none/none", "zero:1"];
+    carry_out(
+        &rt,
+        "link",
+        &[
+            Fails(Format, &folder, "pagefmt: cannot open /tmp\n"),
+            Fails(Format, &no_folder, "pagefmt: cannot open /tmp/none/none\n"),
+            // Nothing is made through a link to a file that is missing.
+            Files(TwoFiles::Link, "@image", "@to"),
+            Fails(
+                Format,
+                &["new", "@image", "zero:1"],
+                "pagefmt: cannot open @image\n",
+            ),
+            File("@to", IsMissing),
+            Removes(&["@image"]),
+        ],
+    )
 }
 
 #[test]
 fn host_files_are_opened_at_their_specs(rt: HostRuntime) -> Result<(), Fail> {
-    let (image, large) = (path(&rt, "unmade-2")?, path(&rt, "large")?);
-    too_large(&rt, image.as_str(), large.as_str())?;
-    let image = image.as_str();
-    let cases: [(&[&str], &[u8]); 5] = [
-        (
-            &["new", image, "rw:/tmp/none/none"],
-            b"pagefmt: cannot open /tmp/none/none\n",
-        ),
-        (
-            &["new", image, "zero:1", "ro:/tmp/none/none", "bad"],
-            b"pagefmt: cannot open /tmp/none/none\n",
-        ),
-        (
-            &["new", image, "bad", "ro:/tmp/none/none"],
-            b"pagefmt: bad spec bad\n",
-        ),
-        (&["new", image, "ro:/tmp"], b"pagefmt: cannot open /tmp\n"),
-        (&["new", image, "rw:"], b"pagefmt: cannot open \n"),
-    ];
-    for (words, line) in cases {
-        expect(&rt, Program::Format, words, b"", failed(line))?;
-    }
-    expect_none(&rt, image)?;
-    removed(&rt, &[large.as_str()])
-}
-
-/// A host file of 2^32 bytes is longer than a file of an image may be.
-fn too_large(rt: &HostRuntime, image: &str, large: &str) -> Result<(), Fail> {
-    resized(rt, large, 4_294_967_296)?;
-    let spec = spec_of(rt, "rw", large)?;
-    let spec = spec.as_str();
-    let words = ["new", image, spec];
-    expect_refusal(rt, Program::Format, &words, "pagefmt: bad spec", spec)
+    let cannot = "pagefmt: cannot open /tmp/none/none\n";
+    let then_bad = ["new", "@image", "zero:1", "ro:/tmp/none/none", "bad"];
+    let bad_first = ["new", "@image", "bad", "ro:/tmp/none/none"];
+    carry_out(
+        &rt,
+        "unmade",
+        &[
+            // A host file of 2^32 bytes is longer than a file of an image may be.
+            File("@large", Becomes(4_294_967_296)),
+            Fails(
+                Format,
+                &["new", "@image", "rw:@large"],
+                "pagefmt: bad spec rw:@large\n",
+            ),
+            Fails(Format, &["new", "@image", "rw:/tmp/none/none"], cannot),
+            Fails(Format, &then_bad, cannot),
+            Fails(Format, &bad_first, "pagefmt: bad spec bad\n"),
+            Fails(
+                Format,
+                &["new", "@image", "ro:/tmp"],
+                "pagefmt: cannot open /tmp\n",
+            ),
+            Fails(Format, &["new", "@image", "rw:"], "pagefmt: cannot open \n"),
+            File("@image", IsMissing),
+            Removes(&["@large"]),
+        ],
+    )
 }
 
 #[test]
@@ -215,10 +204,17 @@ fn a_host_file_that_ends_early_is_a_fault(rt: HostRuntime) -> Result<(), Fail> {
         // This system has no such file.
         _ => return Ok(()),
     }
-    let image = path(&rt, "source")?;
-    let spec = spec_of(&rt, "ro", CUT)?;
-    let words = ["new", image.as_str(), spec.as_str()];
-    let ending = failed(b"pagefmt: format 4 SOURCE\n");
-    expect(&rt, Program::Format, &words, b"", ending)?;
-    removed(&rt, &[image.as_str()])
+    let words = [
+        "new",
+        "@image",
+        "ro:/sys/kernel/mm/transparent_hugepage/enabled",
+    ];
+    carry_out(
+        &rt,
+        "source",
+        &[
+            Fails(Format, &words, "pagefmt: format 4 SOURCE\n"),
+            Removes(&["@image"]),
+        ],
+    )
 }

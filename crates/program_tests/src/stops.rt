@@ -1,7 +1,7 @@
 //! Stops of a trace on a simulated store.
-use crate::program_bench::{
-    Ending, Program, done, expect, expect_refusal, failed, ran_over, same, same_number,
-};
+use crate::program_bench::Program::Stops;
+use crate::program_bench::Step::{Does, Fails, Refuses};
+use crate::program_bench::{carry_out, ran_over, same, same_number};
 use std::test::Fail;
 use stop_trials::{Event, Trial};
 use test_streams::{FailingReader, Full, LimitedWriter};
@@ -19,7 +19,8 @@ stop 3 body acknowledged 0 left 0 0 0 0 0\nstop 4 body acknowledged 0 left 0 0 0
 stop 6 body acknowledged 0 left 0 0 0 0 0\nstop 7 body acknowledged 0 left 0 0 0 0 0\nstop 8 body acknowledged 0 left 0 0 0 0 0\n\
 stop 9 body acknowledged 0 left 0 0 0 0 0\nstop 10 map acknowledged 0 left 0 0 0 0 0\nstop 11 sync acknowledged 0 left 0 0 0 0 0\n\
 stop 12 gate acknowledged 0 left 0 0 0 0 1\nstop 13 sync acknowledged 0 left 0 0 0 0 1\nstops 13 recoveries 65 bad 0\n";
-    expect(&rt, Program::Stops, &["zero:1"], ONE_MSYNC, done(lines))
+    let each = Does(Stops, &["zero:1"], ONE_MSYNC, lines);
+    carry_out(&rt, "stops", &[each])
 }
 
 /// No store gives such a line: with one filling an acknowledged msync is lost.
@@ -43,7 +44,7 @@ fn each_second_event_is_stopped_in(rt: HostRuntime) -> Result<(), Fail> {
         b"stop 2 body acknowledged 0 left 0 0 0 0 0\nstop 4 body acknowledged 0 left 0 0 0 0 0\n\
 stop 6 body acknowledged 0 left 0 0 0 0 0\nstop 8 body acknowledged 0 left 0 0 0 0 0\nstop 10 map acknowledged 0 left 0 0 0 0 0\n\
 stop 12 gate acknowledged 0 left 0 0 0 0 1\nstops 6 recoveries 30 bad 0\n";
-    expect(&rt, Program::Stops, &words, ONE_MSYNC, done(lines))
+    carry_out(&rt, "stops", &[Does(Stops, &words, ONE_MSYNC, lines)])
 }
 
 /// An msync of a file that changes nothing, and one that only checks, are acknowledged too; a history of faults and a bad
@@ -55,67 +56,72 @@ fn msyncs_that_write_nothing_are_counted(rt: HostRuntime) -> Result<(), Fail> {
 store 1 0x10000 1 0x5a\nmsync 1 0x10000 4096 async\nmsync 1 0x10000 4096 sync";
     let words = ["--every", "12", "zero:0", "zero:9000"];
     let lines = b"stop 12 gate acknowledged 2 left 2 2 2 2 3\nstops 1 recoveries 5 bad 0\n";
-    expect(&rt, Program::Stops, &words, trace, done(lines))
+    carry_out(&rt, "stops", &[Does(Stops, &words, trace, lines)])
 }
 
 #[test]
 fn a_trace_without_an_msync_has_the_boots_sync(rt: HostRuntime) -> Result<(), Fail> {
     let lines = b"stop 1 sync acknowledged 0 left 0 0 0 0 0\nstops 1 recoveries 5 bad 0\n";
-    expect(&rt, Program::Stops, &["zero:1"], b"spawn\n", done(lines))
+    let boot = Does(Stops, &["zero:1"], b"spawn\n", lines);
+    carry_out(&rt, "stops", &[boot])
 }
 
 #[test]
 fn other_words_of_pagestops_are_refused(rt: HostRuntime) -> Result<(), Fail> {
-    let cases: [&[&str]; 6] = [
-        &[],
-        &["--every", "0", "zero:1"],
-        &["--every", "zero:1"],
-        &["--frames", "+64", "zero:1"],
-        &["--slots", "4294967296", "zero:1"],
-        &["--help"],
-    ];
-    for words in cases {
-        let ending = Ending {
-            status: 2,
-            output: b"",
-            errors: b"pagestops: usage\n",
-        };
-        expect(&rt, Program::Stops, words, ONE_MSYNC, ending)?;
-    }
-    Ok(())
+    carry_out(
+        &rt,
+        "stops",
+        &[
+            Refuses(Stops, &[]),
+            Refuses(Stops, &["--every", "0", "zero:1"]),
+            Refuses(Stops, &["--every", "zero:1"]),
+            Refuses(Stops, &["--frames", "+64", "zero:1"]),
+            Refuses(Stops, &["--slots", "4294967296", "zero:1"]),
+            Refuses(Stops, &["--help"]),
+        ],
+    )
 }
 
 #[test]
 fn specs_and_sizes_that_do_not_serve_are_told(rt: HostRuntime) -> Result<(), Fail> {
-    let spec = "pagestops: bad spec";
-    expect_refusal(&rt, Program::Stops, &["zero:1", "none:1"], spec, "none:1")?;
-    let host = "/tmp/none/none";
-    let path = "pagestops: cannot open";
-    expect_refusal(&rt, Program::Stops, &["ro:/tmp/none/none"], path, host)?;
-    let frames = failed(b"pagestops: boot 1 FRAMES\n");
-    let words = ["--frames", "7", "zero:1"];
-    expect(&rt, Program::Stops, &words, ONE_MSYNC, frames)?;
-    let slots = failed(b"pagestops: boot 2 SLOTS\n");
-    let words = ["--slots", "65537", "zero:1"];
-    expect(&rt, Program::Stops, &words, ONE_MSYNC, slots)
+    carry_out(
+        &rt,
+        "stops",
+        &[
+            Fails(Stops, &["zero:1", "none:1"], "pagestops: bad spec none:1\n"),
+            Fails(
+                Stops,
+                &["ro:/tmp/none/none"],
+                "pagestops: cannot open /tmp/none/none\n",
+            ),
+            Fails(
+                Stops,
+                &["--frames", "7", "zero:1"],
+                "pagestops: boot 1 FRAMES\n",
+            ),
+            Fails(
+                Stops,
+                &["--slots", "65537", "zero:1"],
+                "pagestops: boot 2 SLOTS\n",
+            ),
+        ],
+    )
 }
 
 #[test]
 fn too_many_files_are_told(rt: HostRuntime) -> Result<(), Fail> {
-    let ending = failed(b"pagestops: format 2 TOOLARGE\n");
-    expect(&rt, Program::Stops, &["zero:0"; 65], b"", ending)
+    let told = "pagestops: format 2 TOOLARGE\n";
+    carry_out(&rt, "stops", &[Fails(Stops, &["zero:0"; 65], told)])
 }
 
 #[test]
 fn a_failing_input_of_pagestops_is_told(rt: HostRuntime) -> Result<(), Fail> {
     let mut reader = FailingReader { rest: b"spawn\n" };
     let mut output = Vec::new(rt.alloc());
-    let (status, errors) = ran_over(&rt, Program::Stops, &["zero:1"], &mut reader, &mut output)?;
-    same(
-        "standard error",
-        errors.as_slice(),
-        b"pagestops: read failed\n",
-    )?;
+    let words = ["zero:1"];
+    let (status, errors) = ran_over(&rt, "stops", Stops, &words, &mut reader, &mut output)?;
+    let told = errors.as_slice();
+    same("standard error", told, b"pagestops: read failed\n")?;
     same("standard output", output.as_slice(), b"")?;
     same_number("exit status", status.into(), 1)
 }
@@ -124,16 +130,11 @@ fn a_failing_input_of_pagestops_is_told(rt: HostRuntime) -> Result<(), Fail> {
 fn a_full_output_of_pagestops_is_told(rt: HostRuntime) -> Result<(), Fail> {
     let mut reader: &[u8] = b"spawn\n";
     let mut writer = LimitedWriter::new(rt.alloc(), 9, 20, Full::TakesNothing);
-    let (status, errors) = ran_over(&rt, Program::Stops, &["zero:1"], &mut reader, &mut writer)?;
-    same(
-        "standard error",
-        errors.as_slice(),
-        b"pagestops: write failed\n",
-    )?;
-    same(
-        "what was taken",
-        writer.taken.as_slice(),
-        b"stop 1 sync acknowle",
-    )?;
+    let words = ["zero:1"];
+    let (status, errors) = ran_over(&rt, "stops", Stops, &words, &mut reader, &mut writer)?;
+    let told = errors.as_slice();
+    same("standard error", told, b"pagestops: write failed\n")?;
+    let taken = writer.taken.as_slice();
+    same("what was taken", taken, b"stop 1 sync acknowle")?;
     same_number("exit status", status.into(), 1)
 }

@@ -1,24 +1,32 @@
 //! Which calls a trace makes of the standard streams, and when.
-use crate::program_bench::{
-    Program, done, expect, formatted, path, ran_over, removed, repeated, same, same_number,
-};
+use crate::program_bench::Program::{Cat, Format, Run};
+use crate::program_bench::Step::{self, Does, Removes};
+use crate::program_bench::{carry_out, ran_over, repeated, same, same_number};
 use std::test::Fail;
 use test_streams::{Calls, CountedReader, CountedWriter};
 
+/// An image of one page of zeros is made.
+const NEW: Step<'static> = Does(Format, &["new", "@image", "zero:4096"], b"", b"");
+
+/// A machine on it.
+const WORDS: [&str; 2] = ["@image", "@swap"];
+
+/// Both files are removed.
+const REMOVE: Step<'static> = Removes(&WORDS);
+
 #[test]
 fn replies_are_out_before_more_is_read(rt: HostRuntime) -> Result<(), Fail> {
-    let (image, swap) = (path(&rt, "turns")?, path(&rt, "turns-swap")?);
-    formatted(&rt, image.as_str(), "zero:4096")?;
-    replies_before_reads(&rt, &[image.as_str(), swap.as_str()])?;
-    removed(&rt, &[image.as_str(), swap.as_str()])
+    carry_out(&rt, "turns", &[NEW])?;
+    replies_before_reads(&rt)?;
+    carry_out(&rt, "turns", &[REMOVE])
 }
 
-fn replies_before_reads(rt: &HostRuntime, words: &[&str]) -> Result<(), Fail> {
+fn replies_before_reads(rt: &HostRuntime) -> Result<(), Fail> {
     let calls = Calls::new();
     let trace = b"spawn\nspawn\nx\nspawn\nexit 3";
     let mut reader = CountedReader::new(rt.alloc(), trace, 9, &calls);
     let mut writer = CountedWriter::new(1000, &calls);
-    let (status, errors) = ran_over(rt, Program::Run, words, &mut reader, &mut writer)?;
+    let (status, errors) = ran_over(rt, "turns", Run, &WORDS, &mut reader, &mut writer)?;
     same("standard error", errors.as_slice(), b"")?;
     same_number("exit status", status.into(), 0)?;
     // Nine bytes a call: a line and a half, two more lines, one more, and the last one's end. `exit 3` is carried out once
@@ -31,22 +39,18 @@ fn replies_before_reads(rt: &HostRuntime, words: &[&str]) -> Result<(), Fail> {
 
 #[test]
 fn nothing_is_read_after_a_failed_write(rt: HostRuntime) -> Result<(), Fail> {
-    let (image, swap) = (path(&rt, "swallow")?, path(&rt, "swallow-swap")?);
-    formatted(&rt, image.as_str(), "zero:4096")?;
-    no_read_after_a_failed_write(&rt, &[image.as_str(), swap.as_str()])?;
-    removed(&rt, &[image.as_str(), swap.as_str()])
+    carry_out(&rt, "swallow", &[NEW])?;
+    no_read_after_a_failed_write(&rt)?;
+    carry_out(&rt, "swallow", &[REMOVE])
 }
 
-fn no_read_after_a_failed_write(rt: &HostRuntime, words: &[&str]) -> Result<(), Fail> {
+fn no_read_after_a_failed_write(rt: &HostRuntime) -> Result<(), Fail> {
     let calls = Calls::new();
     let mut reader = CountedReader::new(rt.alloc(), b"spawn\nspawn\nspawn\n", 6, &calls);
     let mut writer = CountedWriter::new(8, &calls);
-    let (status, errors) = ran_over(rt, Program::Run, words, &mut reader, &mut writer)?;
-    same(
-        "standard error",
-        errors.as_slice(),
-        b"pagerun: write failed\n",
-    )?;
+    let (status, errors) = ran_over(rt, "swallow", Run, &WORDS, &mut reader, &mut writer)?;
+    let told = errors.as_slice();
+    same("standard error", told, b"pagerun: write failed\n")?;
     same_number("exit status", status.into(), 1)?;
     same_number("bytes taken", calls.taken.get() as u64, 8)?;
     same_number("reads", calls.reads.get() as u64, 2)
@@ -54,41 +58,36 @@ fn no_read_after_a_failed_write(rt: &HostRuntime, words: &[&str]) -> Result<(), 
 
 #[test]
 fn an_unfinished_line_is_not_run_after_a_failed_write(rt: HostRuntime) -> Result<(), Fail> {
-    let (image, swap) = (path(&rt, "unfinished")?, path(&rt, "unfinished-swap")?);
-    formatted(&rt, image.as_str(), "zero:4096")?;
-    unfinished_msync(&rt, &[image.as_str(), swap.as_str()])?;
-    let zeros = repeated(&rt, b"\0", 4096)?;
-    let words = [image.as_str(), "0"];
-    expect(&rt, Program::Cat, &words, b"", done(zeros.as_slice()))?;
-    removed(&rt, &[image.as_str(), swap.as_str()])
+    carry_out(&rt, "unfinished", &[NEW])?;
+    unfinished_msync(&rt)?;
+    let unchanged = Does(Cat, &["@image", "0"], b"", &[0; 4096]);
+    carry_out(&rt, "unfinished", &[unchanged, REMOVE])
 }
 
-fn unfinished_msync(rt: &HostRuntime, words: &[&str]) -> Result<(), Fail> {
+fn unfinished_msync(rt: &HostRuntime) -> Result<(), Fail> {
     let calls = Calls::new();
     // The msync's line is cut within the number of its bytes.
     let trace =
         b"spawn\nmmap 1 0 8192 rw- shared 0 0\nstore 1 0x10000 1 0x5a\nmsync 1 0x10000 4096";
     let mut reader = CountedReader::new(rt.alloc(), trace, 100, &calls);
     let mut writer = CountedWriter::new(3, &calls);
-    let (status, _) = ran_over(rt, Program::Run, words, &mut reader, &mut writer)?;
+    let (status, _) = ran_over(rt, "unfinished", Run, &WORDS, &mut reader, &mut writer)?;
     same_number("exit status", status.into(), 1)
 }
 
 #[test]
 fn a_trace_makes_few_calls(rt: HostRuntime) -> Result<(), Fail> {
-    let (image, swap) = (path(&rt, "calls")?, path(&rt, "calls-swap")?);
-    formatted(&rt, image.as_str(), "zero:4096")?;
+    carry_out(&rt, "calls", &[NEW])?;
     // 80,000 bytes of trace, and 360,000 bytes of replies.
-    let trace = repeated(&rt, b"x\n", 40_000)?;
-    few_calls(&rt, &[image.as_str(), swap.as_str()], trace.as_slice())?;
-    removed(&rt, &[image.as_str(), swap.as_str()])
+    few_calls(&rt, repeated(&rt, b"x\n", 40_000)?.as_slice())?;
+    carry_out(&rt, "calls", &[REMOVE])
 }
 
-fn few_calls(rt: &HostRuntime, words: &[&str], trace: &[u8]) -> Result<(), Fail> {
+fn few_calls(rt: &HostRuntime, trace: &[u8]) -> Result<(), Fail> {
     let calls = Calls::new();
     let mut reader = CountedReader::new(rt.alloc(), trace, 100_000, &calls);
     let mut writer = CountedWriter::new(1_000_000, &calls);
-    let (status, _) = ran_over(rt, Program::Run, words, &mut reader, &mut writer)?;
+    let (status, _) = ran_over(rt, "calls", Run, &WORDS, &mut reader, &mut writer)?;
     same_number("exit status", status.into(), 0)?;
     same_number("bytes taken", calls.taken.get() as u64, 360_000)?;
     // One for each 32 KiB that were begun, and the one that finds the end.
