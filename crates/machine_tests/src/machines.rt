@@ -6,12 +6,19 @@ use disk_model::{SectorDisk, SimDisk};
 use file_store::{FileSource, format};
 use machine::{BootFault, Config, Machine};
 use std::alloc::Global;
+use std::fmt::Debug;
 use std::process::Abort;
 use std::test::Fail;
 use vm_types::{
     Answer, Code, Command, Errno, Fault, MapSource, MsyncMode, Pid, Placing, Prot, Reply,
     StoredValue, Width,
 };
+
+/// Ends the test where the value isn't the one that is wanted. A test that said `assert_eq!` itself would be proved to
+/// end well at each place.
+pub(crate) fn equal<T: PartialEq + Debug + Drop>(rt: &impl Abort, got: T, want: T) {
+    assert_eq!(rt; got, want);
+}
 
 /// An image of one file of one page of zeros, as a stop leaves it, of which call `failing` fails.
 fn image(alloc: Global, failing: Option<u64>) -> Result<SimDisk, Fail>
@@ -141,7 +148,8 @@ fn carry_out_all<E: SectorDisk>(
         code: Code::SegvAccerr,
         addr: 0x10000,
     });
-    assert_eq!(rt;
+    equal(
+        rt,
         replies,
         [
             Reply::Process(pid),
@@ -150,15 +158,15 @@ fn carry_out_all<E: SectorDisk>(
             Reply::Done,
             Reply::Done,
             Reply::Done,
-            value(0x5a)
-        ]
+            value(0x5a),
+        ],
     );
     // The map and the page's body, and the gate opened: the page's home is written with a later msync.
-    assert_eq!(rt; machine.store().writes(), 10);
-    assert_eq!(rt; machine.store().syncs(), at_boot.saturating_add(2));
-    assert_eq!(rt; machine.step(UNMAP), Reply::Done);
-    assert_eq!(rt; machine.step(LOAD), Reply::Faulted(UNMAPPED));
-    assert!(rt; !machine.is_halted());
+    equal(rt, machine.store().writes(), 10);
+    equal(rt, machine.store().syncs(), at_boot.saturating_add(2));
+    equal(rt, machine.step(UNMAP), Reply::Done);
+    equal(rt, machine.step(LOAD), Reply::Faulted(UNMAPPED));
+    equal(rt, machine.is_halted(), false);
     Ok(())
 }
 
@@ -181,7 +189,7 @@ fn store_a_byte<D: SectorDisk, E: SectorDisk>(
     let stored = [Command::Spawn, MAP, PROTECT, storing(0x5a)?];
     let mut replies = [Reply::Halted; 4];
     machine.run(&stored, &mut replies);
-    assert_eq!(rt; replies[3], Reply::Done);
+    equal(rt, replies[3], Reply::Done);
     Ok(())
 }
 
@@ -203,10 +211,10 @@ fn fail_to_sync<D: SectorDisk, E: SectorDisk>(
     ensures sound { OnOk result (IsSoundMachine D.SectorDisk E.SectorDisk machine.new) }
 {
     store_a_byte(rt, machine)?;
-    assert!(rt; !machine.is_halted());
-    assert_eq!(rt; machine.step(SYNC), Reply::Refused(Errno::EIO));
-    assert!(rt; machine.is_halted());
-    assert_eq!(rt; machine.step(Command::Spawn), Reply::Halted);
+    equal(rt, machine.is_halted(), false);
+    equal(rt, machine.step(SYNC), Reply::Refused(Errno::EIO));
+    equal(rt, machine.is_halted(), true);
+    equal(rt, machine.step(Command::Spawn), Reply::Halted);
     Ok(())
 }
 
@@ -229,9 +237,9 @@ fn faults_are_numbered(rt: HostRuntime) -> Result<(), Fail> {
     match Machine::boot(rt.alloc(), config, store, SimDisk::new(rt.alloc(), 0)?) {
         Ok(_) => Err(Fail::new("it booted")),
         Err((fault, store)) => {
-            assert_eq!(rt; fault, BootFault::Frames);
-            assert_eq!(rt; fault.number(), 1);
-            assert_eq!(rt; store.calls(), 0);
+            equal(&rt, fault, BootFault::Frames);
+            equal(&rt, fault.number(), 1);
+            equal(&rt, store.calls(), 0);
             Ok(())
         }
     }
@@ -255,9 +263,9 @@ fn a_store_that_is_none_is_handed_back(rt: HostRuntime) -> Result<(), Fail> {
     match Machine::boot(rt.alloc(), config, blank(rt.alloc())?, swap) {
         Ok(_) => Err(Fail::new("it booted")),
         Err((fault, store)) => {
-            assert_eq!(rt; fault, BootFault::BadLayout);
-            assert_eq!(rt; fault.number(), 5);
-            assert_eq!(rt; store.writes(), 0);
+            equal(&rt, fault, BootFault::BadLayout);
+            equal(&rt, fault.number(), 5);
+            equal(&rt, store.writes(), 0);
             Ok(())
         }
     }
@@ -273,9 +281,9 @@ fn slots_need_sectors(rt: HostRuntime) -> Result<(), Fail> {
     match Machine::boot(rt.alloc(), config, store, SimDisk::new(rt.alloc(), 135)?) {
         Ok(_) => Err(Fail::new("it booted")),
         Err((fault, store)) => {
-            assert_eq!(rt; fault, BootFault::Slots);
-            assert_eq!(rt; fault.number(), 2);
-            assert_eq!(rt; store.calls(), 0);
+            equal(&rt, fault, BootFault::Slots);
+            equal(&rt, fault.number(), 2);
+            equal(&rt, store.calls(), 0);
             Ok(())
         }
     }
@@ -290,8 +298,8 @@ fn store_twice<D: SectorDisk, E: SectorDisk>(
     ensures sound { OnOk result (IsSoundMachine D.SectorDisk E.SectorDisk machine.new) }
 {
     store_a_byte(rt, machine)?;
-    assert_eq!(rt; machine.step(SYNC), Reply::Done);
-    assert_eq!(rt; machine.step(storing(0x6b)?), Reply::Done);
+    equal(rt, machine.step(SYNC), Reply::Done);
+    equal(rt, machine.step(storing(0x6b)?), Reply::Done);
     Ok(())
 }
 
@@ -328,7 +336,7 @@ fn a_store_is_handed_on(rt: HostRuntime) -> Result<(), Fail> {
     let told = store_twice(&rt, &mut machine);
     let store = machine.into_store();
     told?;
-    assert_eq!(rt; found_on(rt.alloc(), store)?, value(0x5a));
+    equal(&rt, found_on(rt.alloc(), store)?, value(0x5a));
     Ok(())
 }
 
@@ -340,7 +348,7 @@ fn the_store_of_a_halted_machine_is_handed_on(rt: HostRuntime) -> Result<(), Fai
     let told = fail_to_sync(&rt, &mut machine);
     let store = machine.into_store();
     told?;
-    assert_eq!(rt; found_on(rt.alloc(), store)?, value(0));
+    equal(&rt, found_on(rt.alloc(), store)?, value(0));
     Ok(())
 }
 
@@ -366,11 +374,11 @@ fn hits_of_ten_loads<D: SectorDisk, E: SectorDisk>(
 {
     let mut replies = [Reply::Halted; 3];
     machine.run(&[Command::Spawn, mapping_own(), storing(1)?], &mut replies);
-    assert_eq!(rt; replies[2], Reply::Done);
+    equal(rt, replies[2], Reply::Done);
     let before = machine.hits();
     let mut loaded = [Reply::Halted; 10];
     machine.run(&[LOAD; 10], &mut loaded);
-    assert_eq!(rt; loaded, [value(1); 10]);
+    equal(rt, loaded, [value(1); 10]);
     Ok((before, machine.hits()))
 }
 
@@ -381,7 +389,7 @@ fn ten_loads_are_ten_hits(rt: HostRuntime) -> Result<(), Fail> {
     let mut machine = booted_with(rt.alloc(), 64, None)?;
     let hits = hits_of_ten_loads(&rt, &mut machine);
     let _ = machine.into_store();
-    assert_eq!(rt; hits?, (0, 10));
+    equal(&rt, hits?, (0, 10));
     Ok(())
 }
 
@@ -395,15 +403,15 @@ fn ask_for_the_history<D: SectorDisk, E: SectorDisk>(
 {
     let first = Pid::new(1).ok_or("1 is a process")?;
     let second = Pid::new(2).ok_or("2 is a process")?;
-    assert_eq!(rt; machine.step(Command::Spawn), Reply::Process(first));
-    assert_eq!(rt; machine.step(LOAD), Reply::Faulted(UNMAPPED));
+    equal(rt, machine.step(Command::Spawn), Reply::Process(first));
+    equal(rt, machine.step(LOAD), Reply::Faulted(UNMAPPED));
     let history = machine.history();
-    assert_eq!(rt; history.as_slice(), [(first, UNMAPPED)].as_slice());
+    equal(rt, history.as_slice(), [(first, UNMAPPED)].as_slice());
     let past = machine.step(Command::PastFaults);
-    assert_eq!(rt; past, Reply::Past(machine.history()));
-    assert_eq!(rt; machine.carry_out(Command::PastFaults), None);
+    equal(rt, past, Reply::Past(machine.history()));
+    equal(rt, machine.carry_out(Command::PastFaults), None);
     let another = machine.carry_out(Command::Spawn);
-    assert_eq!(rt; another, Some(Answer::Process(second)));
+    equal(rt, another, Some(Answer::Process(second)));
     Ok(())
 }
 
