@@ -1,8 +1,8 @@
 //! Files that other programs use, that are no files, or that must stay as they are.
-use crate::program_bench::FileStep::{Becomes, GetsAt, Has, Holds, IsLong, IsMissing, Permits};
+use crate::program_bench::FileStep::{Has, IsLong, IsMissing, SetLength, SetMode, Write, WriteAt};
 use crate::program_bench::Program::{Cat, Format, Run};
 use crate::program_bench::Step::{self, Does, Fails, File, Files, Removes};
-use crate::program_bench::{TwoFiles, carry_out, carry_out_with, path, repeated};
+use crate::program_bench::{NEW, TwoFiles, UNMADE, carry_out, carry_out_with, path, sector_of};
 use crate::refusals::may_write;
 use std::fs::{self, OpenOptions};
 use std::test::Fail;
@@ -29,9 +29,9 @@ fn files_in_use_are_told(rt: HostRuntime) -> Result<(), Fail> {
         &rt,
         "held",
         &[
-            Does(Format, &["new", "@image", "zero:4096"], b"", b""),
+            NEW,
             Files(TwoFiles::Copy, "@image", "@before"),
-            File("@swap", Becomes(512)),
+            File("@swap", SetLength(512)),
         ],
     )?;
     image_in_use(&rt)?;
@@ -78,11 +78,11 @@ fn one_file_does_not_serve_as_two(rt: HostRuntime) -> Result<(), Fail> {
         &rt,
         "both",
         &[
-            Does(Format, &["new", "@image", "zero:4096"], b"", b""),
+            NEW,
             Files(TwoFiles::Copy, "@image", "@before"),
             Fails(Run, &twice, "pagerun: cannot open @image\n"),
             Files(TwoFiles::Alike, "@image", "@before"),
-            File("@image", Becomes(5)),
+            File("@image", SetLength(5)),
             Fails(Format, &from_itself, "pagefmt: cannot open @image\n"),
             File("@image", Has(b"FAMSY")),
             Removes(&["@image", "@before"]),
@@ -97,7 +97,7 @@ fn a_host_file_may_be_two_files_of_an_image(rt: HostRuntime) -> Result<(), Fail>
         &rt,
         "twice-read",
         &[
-            File("@host", Holds(b"abc")),
+            File("@host", Write(b"abc")),
             Does(Format, &specs, b"", b""),
             Does(Cat, &["@image", "0"], b"", b"abc"),
             Does(Cat, &["@image", "1"], b"", b"abc"),
@@ -105,9 +105,6 @@ fn a_host_file_may_be_two_files_of_an_image(rt: HostRuntime) -> Result<(), Fail>
         ],
     )
 }
-
-/// A file that no test makes.
-const UNMADE: &str = "/tmp/kefsdalv-unmade";
 
 #[test]
 fn what_is_no_regular_file_is_not_opened(rt: HostRuntime) -> Result<(), Fail> {
@@ -146,7 +143,7 @@ fn a_refused_image_stays_as_it_was(rt: HostRuntime) -> Result<(), Fail> {
         &[
             Fails(Format, &many, "pagefmt: format 2 TOOLARGE\n"),
             File("@image", IsMissing),
-            File("@image", Holds(b"other")),
+            File("@image", Write(b"other")),
             Fails(Format, &many, "pagefmt: format 2 TOOLARGE\n"),
             File("@image", Has(b"other")),
             Removes(&["@image"]),
@@ -168,11 +165,11 @@ fn the_mark_alone_tells_an_image(rt: HostRuntime) -> Result<(), Fail> {
         &[
             Does(Format, &new, b"", b""),
             // However short the file is.
-            File("@image", Becomes(512)),
+            File("@image", SetLength(512)),
             Fails(Format, &new, "pagefmt: format 3 FORMATTED\n"),
             File("@image", IsLong(512)),
             // One byte less of it does not.
-            File("@image", GetsAt(511, b"2")),
+            File("@image", WriteAt(511, b"2")),
             Does(Format, &new, b"", b""),
             Removes(&["@image"]),
         ],
@@ -207,32 +204,25 @@ fn names_stay_on_one_line(rt: HostRuntime) -> Result<(), Fail> {
 
 #[test]
 fn an_image_that_is_only_read_is_shown(rt: HostRuntime) -> Result<(), Fail> {
-    carry_out(
-        &rt,
-        "only-read",
-        &[
-            Does(Format, &["new", "@image", "zero:4096"], b"", b""),
-            File("@image", Permits(0o444)),
-        ],
-    )?;
+    carry_out(&rt, "only-read", &[NEW, File("@image", SetMode(0o444))])?;
     // Root may write all files, and there is nothing to see.
     if !may_write(&rt, "only-read")? {
-        shown_unless_open(&rt, repeated(&rt, b"GATEOPEN", 64)?.as_slice())?;
+        shown_unless_open(&rt)?;
     }
     carry_out(&rt, "only-read", &[Removes(&["@image"])])
 }
 
 /// It is shown as long as its journal is closed, and else stays as it is.
-fn shown_unless_open(rt: &HostRuntime, open_gate: &[u8]) -> Result<(), Fail> {
+fn shown_unless_open(rt: &HostRuntime) -> Result<(), Fail> {
     carry_out(
         rt,
         "only-read",
         &[
             Does(Cat, &["@image", "0"], b"", &[0; 4096]),
-            File("@image", Permits(0o644)),
-            File("@image", GetsAt(1024, open_gate)),
-            File("@image", GetsAt(1536, b"\x01\0\0\0\0\0\0\0")),
-            File("@image", Permits(0o444)),
+            File("@image", SetMode(0o644)),
+            File("@image", WriteAt(1024, &sector_of(b"GATEOPEN"))),
+            File("@image", WriteAt(1536, b"\x01\0\0\0\0\0\0\0")),
+            File("@image", SetMode(0o444)),
             Files(TwoFiles::Copy, "@image", "@before"),
             Fails(Cat, &["@image", "0"], "pagecat: open 1 DEVICE\n"),
             Files(TwoFiles::Alike, "@image", "@before"),

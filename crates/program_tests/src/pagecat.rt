@@ -1,8 +1,8 @@
 //! Files of an image that are written out, and images of which a machine runs.
-use crate::program_bench::FileStep::{GetsAt, HasAt, Holds, IsLong};
+use crate::program_bench::FileStep::{HasAt, IsLong, Write, WriteAt};
 use crate::program_bench::Program::{Cat, Format, Run};
-use crate::program_bench::Step::{self, Does, Fails, File, Files, Removes};
-use crate::program_bench::{TwoFiles, carry_out, ran_over, same, same_number};
+use crate::program_bench::Step::{Does, Fails, File, Files, Removes};
+use crate::program_bench::{NEW, TwoFiles, carry_out, ran_over, same, same_number, sector_of};
 use disk_model::SimDisk;
 use file_store::{FileSource, format};
 use programs::{ShowFault, show};
@@ -25,7 +25,7 @@ fn a_file_is_cut_at_its_length(rt: HostRuntime) -> Result<(), Fail> {
         &[
             Does(Format, &["new", "@image", "zero:5000"], b"", b""),
             // Byte 4,999 of the file, and a byte behind its end.
-            File("@image", GetsAt(HOMES + 4999, b"\xaa\xbb")),
+            File("@image", WriteAt(HOMES + 4999, b"\xaa\xbb")),
             Does(Cat, &["@image", "0"], b"", &shown),
             Removes(&["@image"]),
         ],
@@ -34,15 +34,18 @@ fn a_file_is_cut_at_its_length(rt: HostRuntime) -> Result<(), Fail> {
 
 #[test]
 fn files_are_told_apart(rt: HostRuntime) -> Result<(), Fail> {
-    // Two pages and a byte.
-    let mut bytes = [b'a'; 8193];
-    bytes[8192] = b'z';
+    // Two pages that differ, and a byte.
+    let mut bytes = [b'z'; 8193];
+    for i in 0..8192 {
+        bytes[i] = b"abcdefgh"[i % 8];
+    }
+    bytes[4096] = b'2';
     let specs = ["new", "@image", "zero:3", "rw:@host", "zero:0", "ro:@host"];
     carry_out(
         &rt,
         "apart",
         &[
-            File("@host", Holds(&bytes)),
+            File("@host", Write(&bytes)),
             Does(Format, &specs, b"", b""),
             Does(Cat, &["@image", "0"], b"", b"\0\0\0"),
             Does(Cat, &["@image", "1"], b"", &bytes),
@@ -81,18 +84,6 @@ fn full_writer(rt: &HostRuntime, full: Full) -> Result<(), Fail> {
     same_number("bytes taken", writer.taken.len() as u64, 4999)
 }
 
-/// What the gate of an open journal begins with, and each eighth byte after.
-fn open_gate() -> [u8; 512] {
-    let mut gate = [0; 512];
-    for i in 0..512 {
-        gate[i] = b"GATEOPEN"[i % 8];
-    }
-    gate
-}
-
-/// An image of one page of zeros is made.
-const NEW: Step<'static> = Does(Format, &["new", "@image", "zero:4096"], b"", b"");
-
 #[test]
 fn a_bad_journal_is_told(rt: HostRuntime) -> Result<(), Fail> {
     carry_out(
@@ -100,8 +91,8 @@ fn a_bad_journal_is_told(rt: HostRuntime) -> Result<(), Fail> {
         "journal",
         &[
             NEW,
-            File("@image", GetsAt(2 * SECTOR, &open_gate())),
-            File("@image", GetsAt(3 * SECTOR, b"\x80\0\0\0")),
+            File("@image", WriteAt(2 * SECTOR, &sector_of(b"GATEOPEN"))),
+            File("@image", WriteAt(3 * SECTOR, b"\x80\0\0\0")),
             Files(TwoFiles::Copy, "@image", "@before"),
             Fails(Run, &["@image", "@swap"], "pagerun: boot 6 BADJOURNAL\n"),
             Fails(Cat, &["@image", "0"], "pagecat: open 3 BADJOURNAL\n"),
@@ -122,9 +113,9 @@ fn an_open_journal_is_carried_out(rt: HostRuntime) -> Result<(), Fail> {
         "open",
         &[
             NEW,
-            File("@image", GetsAt(2 * SECTOR, &open_gate())),
-            File("@image", GetsAt(3 * SECTOR, b"\x01\0\0\0\0\0\0\0")),
-            File("@image", GetsAt(4 * SECTOR, &PAGE)),
+            File("@image", WriteAt(2 * SECTOR, &sector_of(b"GATEOPEN"))),
+            File("@image", WriteAt(3 * SECTOR, b"\x01\0\0\0\0\0\0\0")),
+            File("@image", WriteAt(4 * SECTOR, &PAGE)),
             Does(Cat, &["@image", "0"], b"", &PAGE),
             // The gate is closed, and the page is home.
             File("@image", HasAt(1024, &[0; 512])),

@@ -1,8 +1,8 @@
 //! Images that are made.
-use crate::program_bench::FileStep::{Becomes, HasAt, Holds, IsLong, IsMissing};
+use crate::program_bench::FileStep::{HasAt, IsLong, IsMissing, SetLength, Write};
 use crate::program_bench::Program::Format;
 use crate::program_bench::Step::{Does, Fails, File, Files, Removes};
-use crate::program_bench::{TwoFiles, carry_out, carry_out_with, repeated};
+use crate::program_bench::{TwoFiles, UNMADE, carry_out, carry_out_with, sector_of};
 use disk_model::SimDisk;
 use file_store::{FileSource, FormatFault, format};
 use std::fs;
@@ -31,20 +31,16 @@ fn an_image_has_the_length_of_its_homes(rt: HostRuntime) -> Result<(), Fail> {
 
 #[test]
 fn the_directory_names_the_files_in_order(rt: HostRuntime) -> Result<(), Fail> {
-    let mut mark = [0; 512];
-    for i in 0..512 {
-        mark[i] = b"FAMSYNC1"[i % 8];
-    }
     let entries = b"\x00\x00\x00\x80\x88\x13\x00\x00\x02\x00\x00\xc0\x00\x10\x00\x00";
     let specs = ["new", "@image", "zero:5000", "ro:@host"];
     carry_out(
         &rt,
         "directory",
         &[
-            File("@host", Holds(&[b'A'; 4096])),
+            File("@host", Write(&[b'A'; 4096])),
             Does(Format, &specs, b"", b""),
             File("@image", IsLong(530_432 + 4096)),
-            File("@image", HasAt(0, &mark)),
+            File("@image", HasAt(0, &sector_of(b"FAMSYNC1"))),
             File("@image", HasAt(512, entries)),
             // The rest of the directory, and the gate.
             File("@image", HasAt(528, &[0; 512 + 496])),
@@ -86,9 +82,6 @@ fn a_store_has_at_most_64_files(rt: HostRuntime) -> Result<(), Fail> {
         ],
     )
 }
-
-/// A file that no test makes.
-const UNMADE: &str = "/tmp/kefsdalv-unmade";
 
 #[test]
 fn bad_specs_are_told_before_a_file_is_made(rt: HostRuntime) -> Result<(), Fail> {
@@ -160,7 +153,7 @@ fn host_files_are_opened_at_their_specs(rt: HostRuntime) -> Result<(), Fail> {
         "unmade",
         &[
             // A host file of 2^32 bytes is longer than a file of an image may be.
-            File("@large", Becomes(4_294_967_296)),
+            File("@large", SetLength(4_294_967_296)),
             Fails(
                 Format,
                 &["new", "@image", "rw:@large"],
@@ -183,12 +176,11 @@ fn host_files_are_opened_at_their_specs(rt: HostRuntime) -> Result<(), Fail> {
 
 #[test]
 fn a_source_that_ends_early_is_a_fault(rt: HostRuntime) -> Result<(), Fail> {
-    let bytes = repeated(&rt, b"A", 5000)?;
     let mut disk = SimDisk::new(rt.alloc(), 1020 + 16)?;
     let mut sources: [FileSource<&[u8]>; 1] = [FileSource {
         read_only: false,
         length: 5001,
-        bytes: Some(bytes.as_slice()),
+        bytes: Some(&[b'A'; 5000]),
     }];
     assert_eq!(rt; format(&mut disk, &mut sources), Err(FormatFault::Source));
     Ok(())

@@ -1,8 +1,8 @@
 //! Machines over images in files.
-use crate::program_bench::FileStep::{Holds, IsLong};
+use crate::program_bench::FileStep::{IsLong, Write};
 use crate::program_bench::Program::{Cat, Format, Run};
 use crate::program_bench::Step::{Does, File, Files, Removes};
-use crate::program_bench::{TwoFiles, carry_out, ran_over, same, same_number};
+use crate::program_bench::{NEW, TwoFiles, carry_out, ran_over, same, same_number};
 use std::test::Fail;
 use test_streams::{FailingReader, Full, LimitedWriter};
 
@@ -12,7 +12,7 @@ fn an_empty_trace_changes_nothing(rt: HostRuntime) -> Result<(), Fail> {
         &rt,
         "empty",
         &[
-            Does(Format, &["new", "@image", "zero:4096"], b"", b""),
+            NEW,
             Files(TwoFiles::Copy, "@image", "@before"),
             Does(Run, &["@image", "@swap"], b"", b""),
             Files(TwoFiles::Alike, "@image", "@before"),
@@ -41,7 +41,7 @@ load 1 0x10000 1\n";
         &rt,
         "outlives",
         &[
-            Does(Format, &["new", "@image", "zero:4096"], b"", b""),
+            NEW,
             Does(Run, &["@image", "@swap"], first, replies),
             Does(Run, &words, second, b"pid 1\naddr 0x10000\nvalue 0x5a\n"),
             Does(Cat, &["@image", "0"], b"", &page(0x5a)),
@@ -62,7 +62,7 @@ value 0x41\nfault 15 SEGV_ACCERR 0x10000\n";
         &rt,
         "read-only",
         &[
-            File("@host", Holds(&[b'A'; 4096])),
+            File("@host", Write(&[b'A'; 4096])),
             Does(Format, &["new", "@image", "ro:@host"], b"", b""),
             Does(Run, &["@image", "@swap"], trace, replies),
             Removes(&["@image", "@swap", "@host"]),
@@ -104,8 +104,7 @@ store 1 0x11388 1 0xbb\nstore 1 0x13000 1 0xcc\nmsync 1 0x10000 0x4000 sync\nloa
 
 #[test]
 fn failing_streams_are_told(rt: HostRuntime) -> Result<(), Fail> {
-    let new = Does(Format, &["new", "@image", "zero:4096"], b"", b"");
-    carry_out(&rt, "streams", &[new])?;
+    carry_out(&rt, "streams", &[NEW])?;
     failing_reader(&rt)?;
     failing_writer(&rt)?;
     carry_out(&rt, "streams", &[Removes(&["@image", "@swap"])])

@@ -35,7 +35,7 @@ pub(crate) enum Step<'a> {
     Removes(&'a [&'a str]),
 }
 
-/// What is done to a file, or seen of it.
+/// What is seen of a file, or done to it.
 #[derive(Clone, Copy)]
 pub(crate) enum FileStep<'a> {
     /// It has these bytes.
@@ -47,13 +47,13 @@ pub(crate) enum FileStep<'a> {
     /// There is no such file.
     IsMissing,
     /// It is made anew, of these bytes.
-    Holds(&'a [u8]),
+    Write(&'a [u8]),
     /// These bytes are written over those from that byte on.
-    GetsAt(u64, &'a [u8]),
+    WriteAt(u64, &'a [u8]),
     /// It is made so long, or cut.
-    Becomes(u64),
+    SetLength(u64),
     /// It gets these permissions.
-    Permits(u32),
+    SetMode(u32),
 }
 
 /// What is done with two files, or seen of them.
@@ -66,6 +66,17 @@ pub(crate) enum TwoFiles {
     /// The first becomes a link to the second.
     Link,
 }
+
+/// An image of one page of zeros is made.
+pub(crate) const NEW: Step<'static> = Step::Does(
+    Program::Format,
+    &["new", "@image", "zero:4096"],
+    b"",
+    b"",
+);
+
+/// A file that no test makes.
+pub(crate) const UNMADE: &str = "/tmp/kefsdalv-unmade";
 
 /// How a program has to end: its exit status, and what it writes to standard output and to standard error.
 #[derive(Clone, Copy)]
@@ -241,10 +252,10 @@ fn at_path(rt: &HostRuntime, path: &str, step: FileStep<'_>) -> Result<(), Fail>
         FileStep::HasAt(at, wanted) => same_part(fs::read(rt, path)?.as_slice(), at, wanted),
         FileStep::IsLong(wanted) => same_number(path, fs::metadata(rt, path)?.len(), wanted),
         FileStep::IsMissing => missing(rt, path),
-        FileStep::Holds(bytes) => Ok(fs::write(rt, path, bytes)?),
-        FileStep::GetsAt(at, bytes) => put(rt, path, at, bytes),
-        FileStep::Becomes(length) => resize(rt, path, length),
-        FileStep::Permits(mode) => {
+        FileStep::Write(bytes) => Ok(fs::write(rt, path, bytes)?),
+        FileStep::WriteAt(at, bytes) => put(rt, path, at, bytes),
+        FileStep::SetLength(length) => resize(rt, path, length),
+        FileStep::SetMode(mode) => {
             Ok(fs::set_permissions(rt, path, fs::Permissions::from_mode(mode))?)
         }
     }
@@ -302,6 +313,15 @@ fn remove(rt: &HostRuntime, start: &str, files: &[&str]) -> Result<(), Fail> {
         fs::remove_file(rt, named(rt, start, file)?.as_str())?;
     }
     Ok(())
+}
+
+/// A sector that holds these eight bytes all over, as those of a mark and of an open gate do.
+pub(crate) fn sector_of(word: &[u8; 8]) -> [u8; 512] {
+    let mut sector = [0; 512];
+    for i in 0..512 {
+        sector[i] = word[i % 8];
+    }
+    sector
 }
 
 /// The bytes, so many times.

@@ -1,8 +1,8 @@
 //! Words that are refused, and files that do not serve.
-use crate::program_bench::FileStep::{Becomes, Holds, IsMissing, Permits};
+use crate::program_bench::FileStep::{IsMissing, SetLength, SetMode, Write};
 use crate::program_bench::Program::{Cat, Format, Run};
-use crate::program_bench::Step::{self, Does, Fails, File, Refuses, Removes};
-use crate::program_bench::{carry_out, path};
+use crate::program_bench::Step::{self, Fails, File, Refuses, Removes};
+use crate::program_bench::{NEW, UNMADE, carry_out, carry_out_with, path};
 use std::fs::OpenOptions;
 use std::test::Fail;
 
@@ -61,34 +61,21 @@ fn other_words_of_pagecat_are_refused(rt: HostRuntime) -> Result<(), Fail> {
 
 #[test]
 fn missing_images_and_folders_are_told(rt: HostRuntime) -> Result<(), Fail> {
-    carry_out(
-        &rt,
-        "folders",
+    no_image(&rt, "/tmp/none/none")?;
+    no_image(&rt, "/tmp")
+}
+
+/// No program opens an image of that path, which is `@` here, and the image is opened before SWAP is made.
+fn no_image(rt: &HostRuntime, image: &str) -> Result<(), Fail> {
+    let new = ["new", "@", "zero:0"];
+    carry_out_with(
+        rt,
+        image,
         &[
-            Fails(
-                Run,
-                &["/tmp/none/none", "@swap"],
-                "pagerun: cannot open /tmp/none/none\n",
-            ),
-            Fails(
-                Cat,
-                &["/tmp/none/none", "0"],
-                "pagecat: cannot open /tmp/none/none\n",
-            ),
-            Fails(
-                Format,
-                &["new", "/tmp/none/none", "zero:0"],
-                "pagefmt: cannot open /tmp/none/none\n",
-            ),
-            Fails(Run, &["/tmp", "@swap"], "pagerun: cannot open /tmp\n"),
-            Fails(Cat, &["/tmp", "0"], "pagecat: cannot open /tmp\n"),
-            Fails(
-                Format,
-                &["new", "/tmp", "zero:0"],
-                "pagefmt: cannot open /tmp\n",
-            ),
-            // The image is opened before SWAP is made.
-            File("@swap", IsMissing),
+            Fails(Run, &["@", UNMADE], "pagerun: cannot open @\n"),
+            Fails(Cat, &["@", "0"], "pagecat: cannot open @\n"),
+            Fails(Format, &new, "pagefmt: cannot open @\n"),
+            File(UNMADE, IsMissing),
         ],
     )
 }
@@ -107,7 +94,7 @@ fn files_that_are_no_image_are_told(rt: HostRuntime) -> Result<(), Fail> {
         &rt,
         "short",
         &[
-            File("@image", Holds(b"short")),
+            File("@image", Write(b"short")),
             NOT_BOOTED,
             NOT_SHOWN,
             // Numbers of frames and of slots are looked at before the layout, and so is whether SWAP can be opened.
@@ -129,9 +116,9 @@ fn an_image_that_was_cut_is_told(rt: HostRuntime) -> Result<(), Fail> {
         &rt,
         "cut",
         &[
-            Does(Format, &["new", "@image", "zero:4096"], b"", b""),
+            NEW,
             // Its home page is one sector short.
-            File("@image", Becomes(526_336 - 512)),
+            File("@image", SetLength(526_336 - 512)),
             NOT_BOOTED,
             NOT_SHOWN,
             Removes(&["@image", "@swap"]),
@@ -141,14 +128,7 @@ fn an_image_that_was_cut_is_told(rt: HostRuntime) -> Result<(), Fail> {
 
 #[test]
 fn an_image_that_may_not_be_written_is_told(rt: HostRuntime) -> Result<(), Fail> {
-    carry_out(
-        &rt,
-        "kept",
-        &[
-            Does(Format, &["new", "@image", "zero:4096"], b"", b""),
-            File("@image", Permits(0o444)),
-        ],
-    )?;
+    carry_out(&rt, "kept", &[NEW, File("@image", SetMode(0o444))])?;
     // Root may write all files, and there is nothing to see.
     if !may_write(&rt, "kept")? {
         not_to_be_written(&rt)?;

@@ -1,5 +1,5 @@
 //! Worked rows, each a trace of a new image with its replies.
-use crate::program_bench::FileStep::Holds;
+use crate::program_bench::FileStep::Write;
 use crate::program_bench::Program::{Cat, Format, Run};
 use crate::program_bench::Step::{Does, File, Removes};
 use crate::program_bench::carry_out;
@@ -40,7 +40,7 @@ error 75 EOVERFLOW\naddr 0x10000\nvalue 0x41\nerror 13 EACCES\nok\nerror 3 ESRCH
         &rt,
         "checks",
         &[
-            File("@host", Holds(&[0x41; 4096])),
+            File("@host", Write(&[0x41; 4096])),
             Does(Format, &["new", "@image", "ro:@host"], b"", b""),
             Does(Run, &["@image", "@swap"], trace, replies),
             Removes(&["@image", "@swap", "@host"]),

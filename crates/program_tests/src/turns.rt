@@ -1,12 +1,9 @@
 //! Which calls a trace makes of the standard streams, and when.
-use crate::program_bench::Program::{Cat, Format, Run};
+use crate::program_bench::Program::{Cat, Run};
 use crate::program_bench::Step::{self, Does, Removes};
-use crate::program_bench::{carry_out, ran_over, repeated, same, same_number};
+use crate::program_bench::{NEW, carry_out, ran_over, repeated, same, same_number};
 use std::test::Fail;
 use test_streams::{Calls, CountedReader, CountedWriter};
-
-/// An image of one page of zeros is made.
-const NEW: Step<'static> = Does(Format, &["new", "@image", "zero:4096"], b"", b"");
 
 /// A machine on it.
 const WORDS: [&str; 2] = ["@image", "@swap"];
