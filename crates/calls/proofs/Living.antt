@@ -6,9 +6,8 @@ use Rattle.file_store.specs.declared.store.FileStore.{FileStore}
 use Rattle.frames.specs.FrameTable.{frame_count}
 use Rattle.lifecycle.specs.Changes.{AddsProcess, RemovesProcess, KeepsProcesses, IsShortToFork}
 use Rattle.mapping.specs.Changes.{KeepsRoom}
-use Rattle.paging.specs.Calls.{StallCause}
+use Rattle.paging.specs.Stalls.{StallCause, ReadCause}
 use Rattle.paging.specs.Capacity.{IsShort}
-use Rattle.paging.specs.Reading.{ReadCause}
 use Rattle.paging.specs.declared.kernel.Core.{Core}
 use Rattle.paging.specs.Picture.{Picture, picture_of, is_live, view}
 use Rattle.paging.specs.Shows.{ShowsPages, KeepsFiles}

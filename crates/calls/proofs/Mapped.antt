@@ -29,7 +29,7 @@ use Rattle.vm_types.specs.State.{State}
 use Rattle.vm_types.specs.Step.{outcome, mmap_outcome}
 use Rattle.vm_types.specs.View.{View, attrs_of}
 use Rattle.calls.specs.Calls.{Comes}
-use Rattle.calls.specs.Mappings.{mmap_asked_checks, place_checks, IsMapped}
+use Rattle.calls.specs.Mappings.{mmap_asked_checks, place_checks, MapsPages}
 use Rattle.calls.specs.Space.{space_of}
 use Rattle.calls.proofs.Calls.{does, does_answer, with_pages, shows_pages}
 use Rattle.calls.proofs.Checks.{first_of-append, first_of-some}
@@ -125,7 +125,7 @@ module _ {D E : Type 0} (g : Ghosts D) (h : Ghosts E) (old : Core D E) (s : Stat
           → Comes g h old old s (Mmap pid addr len prot source placing) (Refused errno)
       refused_place errno e = refuses errno (late_is (place_for placing (space_of runs) addr pages) refl ∙ e)
 
-      pub maps : (first : ℕ) (next : List Run) → IsMapped runs addr pages (first_attr source prot) placing first next
+      pub maps : (first : ℕ) (next : List Run) → MapsPages runs addr pages (first_attr source prot) placing first next
           → (new : Core D E) → RemapsRow (picture_of old) (picture_of new) pid first pages (attr_at next)
           → Comes g h old new s (Mmap pid addr len prot source placing) (Address (first * 4096))
       maps first next fits new row =

@@ -9,7 +9,7 @@ use Rattle.frames.specs.FrameTable.{IsFrame, bytes_of}
 use Rattle.mapping.specs.Changes.{KeepsSeen}
 use Rattle.mapping.specs.Files.{Proceeds, BringsFiles}
 use Rattle.paging.specs.Capacity.{IsShort}
-use Rattle.paging.specs.Reading.{ReadCause}
+use Rattle.paging.specs.Stalls.{ReadCause}
 use Rattle.paging.specs.declared.kernel.Core.{Core}
 use Rattle.paging.specs.Picture.{Picture, picture_of, is_live}
 use Rattle.paging.specs.Shows.{ShowsPages}

@@ -5,7 +5,7 @@ use Rattle.page_faults.specs.declared.refusal.AccessRefusal.{AccessRefusal}
 use Rattle.page_faults.specs.declared.refusal.AccessRefusal.TheVariants as Refusal
 use Rattle.page_faults.specs.Outcome as Faults
 use Rattle.paging.specs.declared.kernel.Core.{Core}
-use Rattle.paging.specs.Reading.{ReadCause}
+use Rattle.paging.specs.Stalls.{ReadCause}
 use Rattle.vm_types.specs.declared.access.Access.{Access}
 use Rattle.vm_types.specs.declared.refusal.Errno.TheVariants.{EIO}
 use Rattle.vm_types.specs.declared.refusal.Fault.{Fault}

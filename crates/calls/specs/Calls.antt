@@ -5,7 +5,7 @@ use Rattle.frames.specs.FrameTable.{frame_count}
 use Rattle.swap.specs.Slots.{slots_of}
 use Rattle.paging.specs.declared.kernel.Core.{Core}
 use Rattle.paging.specs.Picture.{picture_of}
-use Rattle.paging.specs.Reading.{ReadCause}
+use Rattle.paging.specs.Stalls.{ReadCause}
 use Rattle.paging.specs.Shows.{ShowsPages}
 use Rattle.msync.specs.Shows.{Shows}
 use Rattle.vm_types.specs.Capacity.{table_count, held_count}

@@ -58,7 +58,7 @@ pub record IsAsked (len : ℕ) (source : MapSource) : Type 0 where
   pub fits : backing_fits (first_backing source) (page_count len)
 
 -- A mapping that is not refused: its place, and the runs of the process with it.
-pub record IsMapped (runs : List Run) (addr pages : ℕ) (attr : Attr) (placing : Placing) (first : ℕ) (next : List Run) : Type 0 where
+pub record MapsPages (runs : List Run) (addr pages : ℕ) (attr : Attr) (placing : Placing) (first : ℕ) (next : List Run) : Type 0 where
   pub place : place_for placing (space_of runs) addr pages ≡ Some first
   pub fine : first_of (place_checks placing (space_of runs) pages attr (Some first)) ≡ None
   pub high : first + pages ≤ user_end

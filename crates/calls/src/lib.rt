@@ -2,15 +2,17 @@
 #![tactic(auto)]
 
 mod accesses;
-mod advice;
-mod maps;
+mod madvise;
+mod mappings;
 mod processes;
-mod rows;
+mod protections;
 mod space;
+mod unmapping;
 
 pub use accesses::{fetch, load, store};
-pub use advice::dontneed;
-pub use maps::mmap;
+pub use madvise::dontneed;
+pub use mappings::mmap;
 pub use msync::msync;
 pub use processes::{exit, fork, spawn};
-pub use rows::{mprotect, munmap};
+pub use protections::mprotect;
+pub use unmapping::munmap;

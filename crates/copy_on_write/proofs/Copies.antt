@@ -15,7 +15,7 @@ use Rattle.paging.specs.Seats.{Seat, InFrame, InSlot, seat, is_private, is_swapp
 use Rattle.paging.specs.Picture.{Picture, entry}
 use Rattle.paging.specs.Parts.{IsEntryFor, Nothing, Resident, Away, IsGranting, IsMapped}
 use Rattle.paging.proofs.Start.{seat-none, no_bit}
-use Rattle.mapping.proofs.Bits.{parked_private, parked_framed}
+use Rattle.page_tables.proofs.Bits.{parked_private, parked_framed}
 use Rattle.mapping.proofs.Forms.{seat_own, seat_common}
 use Rattle.mapping.proofs.SwapSteps.{away_seat}
 use Rattle.page_ranges.proofs.Returning.{not_away, no_seat}

@@ -13,7 +13,7 @@ use Rattle.paging.proofs.Start.{seat-none}
 use Rattle.page_tables.proofs.Ends.{way_forth}
 use Rattle.mapping.specs.Changes.{IsWhole, IsTableOnWay, KeepsTables, LinksTables}
 use Rattle.page_ranges.proofs.Gaps.{missing_same}
-use Rattle.copy_on_write.specs.Steps.{HasCopy, HasTables, HasTablesBelow, HasTablesFrom, LacksTable, LinksCopies}
+use Rattle.copy_on_write.specs.Steps.{HasCopy, HasTables, HasTablesBelow, HasTablesFrom, LacksTableForCopy, LinksCopies}
 use Rattle.copy_on_write.proofs.Copies.{copied_mapped}
 
 pub on_err : {T E : Type 0} (result : Result T E) (X : Type 0) → X → OnErr result X
@@ -71,7 +71,7 @@ below_then old new parent child page next granting keeps tables below more p und
 ]
 
 -- a table that is missing was missing
-pub lacks_before : (old new : Picture) (parent child : ℕ) → IsGranting new → KeepsPages old new → KeepsTables old new → LacksTable new parent child → LacksTable old parent child
+pub lacks_before : (old new : Picture) (parent child : ℕ) → IsGranting new → KeepsPages old new → KeepsTables old new → LacksTableForCopy new parent child → LacksTableForCopy old parent child
 lacks_before old new parent child granting keeps tables lacks =
     (lacks.0, copy_kept old new parent lacks.0 granting keeps lacks.1, λ whole. lacks.2 (whole_kept old new child lacks.0 keeps.root tables whole))
 

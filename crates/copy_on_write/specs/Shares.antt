@@ -1,5 +1,6 @@
 -- What giving a child its shares leaves.
 use Rattle.std.specs.Prelude.{◌≡◌, ◌≢◌, ℕ, ◌+◌, ◌-◌, ◌<◌, ◌≤◌, ◌⊎◌, true, false, Some, ◌&&◌, if◌then◌else◌}
+use Rattle.vm_types.specs.Processes.{process_limit}
 use Rattle.vm_types.specs.Limits.{top_level}
 use Rattle.vm_types.specs.declared.file.FilePage.{FilePage}
 use Rattle.frames.specs.FrameTable.{role_of}
@@ -57,7 +58,7 @@ IsUnwritten c y = (q p : ℕ) → IsPage top_level p → seat (entry c q p) ≡ 
 -- One more may share a seat: it is that of own copies, fewer than 64 share it, and no leaf lets a store through to it.
 pub record MayShare (c : Picture) (y : Seat) : Type 0 where
   pub owned : IsOwned c y
-  pub few : count_in c y < 64
+  pub few : count_in c y < process_limit
   pub unwritten : IsUnwritten c y
 
 -- one more shares a seat, and no entry, table, view or byte is another one

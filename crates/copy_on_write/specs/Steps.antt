@@ -24,8 +24,8 @@ abbrev pub HasTablesFrom : Picture → ℕ → ℕ → ℕ → ℕ → Type 0
 HasTablesFrom c parent child low high = (page : ℕ) → low ≤ page → page < high → HasCopy c parent page → IsWhole c child page
 
 -- a table is missing for the child on the way to a page of which the parent has a copy of its own
-abbrev pub LacksTable : Picture → ℕ → ℕ → Type 0
-LacksTable c parent child = (page : ℕ) × HasCopy c parent page × (IsWhole c child page → ⊥)
+abbrev pub LacksTableForCopy : Picture → ℕ → ℕ → Type 0
+LacksTableForCopy c parent child = (page : ℕ) × HasCopy c parent page × (IsWhole c child page → ⊥)
 
 -- Each frame that came to be a table is one of the child's, on the way to a page of which the parent has a copy of its own.
 abbrev pub LinksCopies : Picture → Picture → ℕ → ℕ → Type 0

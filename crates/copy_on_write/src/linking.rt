@@ -8,11 +8,12 @@ ghost use Rattle.swap.specs.Slots.{IsReady};
 ghost use Rattle.paging.specs.Seats.{seat};
 ghost use Rattle.paging.specs.Picture.{picture_of, entry, is_live};
 ghost use Rattle.paging.specs.Parts.{IsFit};
-ghost use Rattle.paging.specs.Calls.{KeepsPages, StallCause};
+ghost use Rattle.paging.specs.Calls.{KeepsPages};
+ghost use Rattle.paging.specs.Stalls.{HasStallCause};
 ghost use Rattle.paging.specs.Capacity.{IsShort};
 ghost use Rattle.paging.specs.Ages.{GivesForTables};
 ghost use Rattle.mapping.specs.Changes.{IsWhole, KeepsBare, Moves};
-ghost use Rattle.copy_on_write.specs.Steps.{HasCopy, HasTables, HasTablesFrom, LacksTable, LinksCopies, IsNextPage};
+ghost use Rattle.copy_on_write.specs.Steps.{HasCopy, HasTables, HasTablesFrom, LacksTableForCopy, LinksCopies, IsNextPage};
 
 use disk_model::SectorDisk;
 use mapped_memory::{number_in, table_of};
@@ -44,17 +45,15 @@ pub fn link_copies<D, E: SectorDisk>(
     ensures bare { KeepsBare (picture_of core.old) (picture_of core.new) }
     ensures linked { OnOk result (HasTables (picture_of core.new) parent child) }
     ensures idle { HasTables (picture_of core.old) parent child → core.new ≡ core.old }
-    ensures wanted { OnErr result (LacksTable (picture_of core.old) parent child) }
-    ensures lacks { OnErr result (LacksTable (picture_of core.new) parent child) }
+    ensures wanted { OnErr result (LacksTableForCopy (picture_of core.old) parent child) }
+    ensures lacks { OnErr result (LacksTableForCopy (picture_of core.new) parent child) }
     ensures gives { OnOk result (GivesForTables (picture_of core.old) (picture_of core.new) None) }
     ensures tried { OnErr result ((tried : Option ℕ) × GivesForTables (picture_of core.old) (picture_of core.new) tried) }
     ensures tables { LinksCopies (picture_of core.old) (picture_of core.new) parent child }
     ensures full { OnErr result (IsFull core.new.frames) }
     ensures no_copy { (n : ℕ) → role_of core.new.frames n ≡ Private → role_of core.old.frames n ≡ Private }
     ensures short { IfErr result (IsShort (picture_of core.new)) }
-    ensures cause { IfErr result (StallCause E.SectorDisk core.old core.new) }
-    ensures not_refused { OnOk result (core.new.refused.number ≡ core.old.refused.number) }
-    ensures swap_calm { OnOk result (E.failures core.new.swap.pages.disk ≡ E.failures core.old.swap.pages.disk) }
+    ensures cause { HasStallCause E.SectorDisk core.old core.new result }
 {
     let mut number = USER_START;
     while let Some(page) = Vpn::new(number) {
@@ -83,17 +82,15 @@ fn link_next<D, E: SectorDisk>(
     ensures next { IfOk result (IsNextPage (picture_of core.old) parent page) }
     ensures linked { IfOk result (HasTablesFrom (picture_of core.new) parent child page) }
     ensures idle { HasTables (picture_of core.old) parent child → core.new ≡ core.old }
-    ensures wanted { OnErr result (LacksTable (picture_of core.old) parent child) }
-    ensures lacks { OnErr result (LacksTable (picture_of core.new) parent child) }
+    ensures wanted { OnErr result (LacksTableForCopy (picture_of core.old) parent child) }
+    ensures lacks { OnErr result (LacksTableForCopy (picture_of core.new) parent child) }
     ensures gives { OnOk result (GivesForTables (picture_of core.old) (picture_of core.new) None) }
     ensures tried { OnErr result ((tried : Option ℕ) × GivesForTables (picture_of core.old) (picture_of core.new) tried) }
     ensures tables { LinksCopies (picture_of core.old) (picture_of core.new) parent child }
     ensures full { OnErr result (IsFull core.new.frames) }
     ensures no_copy { (n : ℕ) → role_of core.new.frames n ≡ Private → role_of core.old.frames n ≡ Private }
     ensures short { IfErr result (IsShort (picture_of core.new)) }
-    ensures cause { IfErr result (StallCause E.SectorDisk core.old core.new) }
-    ensures not_refused { OnOk result (core.new.refused.number ≡ core.old.refused.number) }
-    ensures swap_calm { OnOk result (E.failures core.new.swap.pages.disk ≡ E.failures core.old.swap.pages.disk) }
+    ensures cause { HasStallCause E.SectorDisk core.old core.new result }
 {
     if let Some(next) = gap_end(core, parent, page) {
         return Ok(next);

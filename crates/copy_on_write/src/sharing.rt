@@ -5,7 +5,7 @@ ghost use Rattle.page_tables.specs.Tree.{IsPage};
 ghost use Rattle.paging.specs.Picture.{picture_of, entry, is_live};
 ghost use Rattle.paging.specs.Parts.{IsFit};
 ghost use Rattle.mapping.specs.Changes.{IsWhole};
-ghost use Rattle.page_ranges.specs.Steps.{KeepsRest};
+ghost use Rattle.page_ranges.specs.Steps.{KeepsBesideMemory};
 ghost use Rattle.copy_on_write.specs.Steps.{HasTables, IsNextPage};
 ghost use Rattle.copy_on_write.specs.Shares.{SharesRow, IsTableFor};
 
@@ -32,7 +32,7 @@ pub fn share_pages<D, E>(core: &mut Core<D, E>, parent: Pid, child: Pid)
     requires linked { HasTables (picture_of core.old) parent child }
     ensures fit { IsFit (picture_of core.new) }
     ensures shares { SharesRow (picture_of core.old) (picture_of core.new) parent child user_start user_end }
-    ensures rest { KeepsRest core.old core.new }
+    ensures rest { KeepsBesideMemory core.old core.new }
     ensures refused { core.new.refused ≡ core.old.refused }
 {
     let mut number = USER_START;
@@ -55,7 +55,7 @@ fn share_next<D, E>(core: &mut Core<D, E>, parent: Pid, child: Pid, page: Vpn) -
     ensures further { page < result }
     ensures next { IsNextPage (picture_of core.old) parent page result }
     ensures shares { SharesRow (picture_of core.old) (picture_of core.new) parent child page result }
-    ensures rest { KeepsRest core.old core.new }
+    ensures rest { KeepsBesideMemory core.old core.new }
     ensures refused { core.new.refused ≡ core.old.refused }
 {
     if let Some(next) = gap_end(core, parent, page) {
@@ -81,7 +81,7 @@ fn share_table<D, E>(core: &mut Core<D, E>, parent: Pid, child: Pid, start: Vpn,
     requires one_table { end ≡ (start / 512 + 1) * 512 }
     ensures fit { IsFit (picture_of core.new) }
     ensures shares { SharesRow (picture_of core.old) (picture_of core.new) parent child start end }
-    ensures rest { KeepsRest core.old core.new }
+    ensures rest { KeepsBesideMemory core.old core.new }
     ensures refused { core.new.refused ≡ core.old.refused }
 {
     let Some(from) = table_for(core, parent, start) else {
@@ -130,7 +130,7 @@ fn share_page<D, E>(
     ensures fit { IsFit (picture_of core.new) }
     ensures shares { SharesRow (picture_of core.old) (picture_of core.new) parent child page (page + 1) }
     ensures places { (q row n : ℕ) → IsTableFor (picture_of core.old) q row n → IsTableFor (picture_of core.new) q row n }
-    ensures rest { KeepsRest core.old core.new }
+    ensures rest { KeepsBesideMemory core.old core.new }
     ensures refused { core.new.refused ≡ core.old.refused }
 {
     let index = (page.get() % 512) as usize;

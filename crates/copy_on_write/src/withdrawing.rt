@@ -5,7 +5,7 @@ ghost use Rattle.page_tables.specs.Entry.{number_of, IsEntry};
 ghost use Rattle.paging.specs.Seats.{Seat, seat, is_private};
 ghost use Rattle.paging.specs.Picture.{picture_of, entry, is_live};
 ghost use Rattle.paging.specs.Parts.{IsFit, IsFitBut};
-ghost use Rattle.page_ranges.specs.Steps.{KeepsRest};
+ghost use Rattle.page_ranges.specs.Steps.{KeepsBesideMemory};
 ghost use Rattle.copy_on_write.specs.Shares.{IsTableFor, MayShare, RaisesSeat, Weakens, Withdraws};
 
 use mapped_memory::set_in;
@@ -34,7 +34,7 @@ pub(crate) fn withdraw_write<D, E>(
     ensures own { seat (number_of result) ≢ None }
     ensures withdrawn { Withdraws (picture_of core.old) (picture_of core.new) pid page (number_of result) }
     ensures places { (q row n : ℕ) → IsTableFor (picture_of core.old) q row n → IsTableFor (picture_of core.new) q row n }
-    ensures rest { KeepsRest core.old core.new }
+    ensures rest { KeepsBesideMemory core.old core.new }
     ensures refused { core.new.refused ≡ core.old.refused }
 {
     let Some(after) = without_write(before) else {
@@ -70,7 +70,7 @@ pub(crate) fn add_share<D, E>(core: &mut Core<D, E>, shared: Entry)
     requires may { (y : Seat) → seat (number_of shared) ≡ Some y → MayShare (picture_of core.old) y }
     ensures fit { (y : Seat) → seat (number_of shared) ≡ Some y → IsFitBut (picture_of core.new) y 1 0 }
     ensures raises { (y : Seat) → seat (number_of shared) ≡ Some y → RaisesSeat (picture_of core.old) (picture_of core.new) y }
-    ensures rest { KeepsRest core.old core.new }
+    ensures rest { KeepsBesideMemory core.old core.new }
     ensures refused { core.new.refused ≡ core.old.refused }
 {
     if let Entry::Swapped(slot) = shared {

@@ -2,6 +2,7 @@
 -- Of the first number, bit 31 says that the file is there, bit 30 that it is read-only, and bits 0 to 29 are its first
 -- home page; its other home pages follow. The second is its length in bytes.
 use Rattle.std.specs.Prelude.{ℕ, ◌+◌, ◌*◌, ◌/◌, ◌%◌, ◌<◌, ◌≤◌, ◌≡◌, List, drop, get_or, Option, Some, None, nat_lt, if◌then◌else◌, ◌==◌}
+use Rattle.vm_types.specs.Limits.{file_limit}
 use Rattle.byteorder.specs.Endian.{little_number}
 use Rattle.file_store.specs.declared.directory.Entry.{Entry}
 use Rattle.file_store.specs.Layout.{page_count}
@@ -29,7 +30,7 @@ bytes_in sector f = drop (8 * f) sector
 
 -- the entry of file f in a directory sector
 unfoldable pub entry_in : List ℕ → ℕ → Option Entry
-entry_in sector f = if nat_lt f 64 then decoded (bytes_in sector f) else None
+entry_in sector f = if nat_lt f file_limit then decoded (bytes_in sector f) else None
 
 -- the home page behind a file's last
 abbrev pub end_of : Entry → ℕ
@@ -41,7 +42,7 @@ IsHomeOf e h = (e.first ≤ h) × (h < end_of e)
 -- A directory that no store of so many home pages has.
 pub data IsBadDirectory (homes : ℕ) (sector : List ℕ) : Type 0 where
   -- an entry of no file is not wholly zero
-  NotZero : (f : ℕ) → f < 64 → entry_in sector f ≡ None → (IsZero (bytes_in sector f) → ⊥) → IsBadDirectory homes sector
+  NotZero : (f : ℕ) → f < file_limit → entry_in sector f ≡ None → (IsZero (bytes_in sector f) → ⊥) → IsBadDirectory homes sector
   -- a file's homes do not end within the store
   Outside : (f : ℕ) (e : Entry) → entry_in sector f ≡ Some e → homes < end_of e → IsBadDirectory homes sector
   -- two files have a home page in common

@@ -1,5 +1,6 @@
 -- What a new store is made of.
 use Rattle.std.specs.Prelude.{ℕ, ◌+◌, ◌*◌, ◌%◌, ◌<◌, ◌≤◌, ◌≡◌, ◌⊎◌, List, [], ◌∷◌, take, drop, length, slice_get, replicate, Option, Some, None, IsSome}
+use Rattle.vm_types.specs.Limits.{file_limit}
 use Rattle.std.specs.Option.{option_map}
 use Rattle.vm_types.specs.declared.file.FileInfo.{FileInfo}
 use Rattle.disk_model.specs.Stop.{Image}
@@ -53,7 +54,7 @@ module _ {R : Type 0} where
 
   -- No store on so many sectors holds these files.
   pub data IsTooLarge (sectors : ℕ) (sources : List (FileSource R)) : Type 0 where
-    TooManyFiles : 64 < length sources → IsTooLarge sectors sources
+    TooManyFiles : file_limit < length sources → IsTooLarge sectors sources
     TooFewSectors : sectors < first_home_sector → IsTooLarge sectors sources
     TooManyPages : home_count sectors < total_pages sources → IsTooLarge sectors sources
 
@@ -91,7 +92,7 @@ module _ {R : Type 0} where
   -- the directory sector of these files
   pub record IsDirectoryOf (sources : List (FileSource R)) (sector : List ℕ) : Type 0 where
     pub entries : (f : ℕ) → entry_in sector f ≡ entry_given sources f
-    pub rest : (f : ℕ) → f < 64 → length sources ≤ f → IsZero (bytes_in sector f)
+    pub rest : (f : ℕ) → f < file_limit → length sources ≤ f → IsZero (bytes_in sector f)
 
   -- The homes from first on hold the first n pages of the source: the pages that it tells, where it does, and zeros past
   -- its end.

@@ -1,5 +1,6 @@
 -- The files that an image of a store stands for. The format is our own.
 use Rattle.std.specs.Prelude.{ℕ, ◌+◌, ◌*◌, ◌^◌, ◌<◌, ◌≡◌, ◌≢◌, List, [], take, Option, Some, None}
+use Rattle.vm_types.specs.Limits.{file_limit, file_page_limit}
 use Rattle.std.specs.Option.{option_map}
 use Rattle.vm_types.specs.declared.file.FileInfo.{FileInfo}
 use Rattle.disk_model.specs.Stop.{Image}
@@ -38,7 +39,7 @@ IsPageOf files f k = (info : FileInfo) × (files f ≡ Some info) × (4096 * k <
 
 -- Files that a directory can say: their numbers are under 64, and their lengths are of four bytes.
 pub record AreBounded (files : ℕ → Option FileInfo) : Type 0 where
-  pub each : (f k : ℕ) → IsPageOf files f k → (f < 64) × (k < 2 ^ 20)
+  pub each : (f k : ℕ) → IsPageOf files f k → (f < file_limit) × (k < file_page_limit)
 
 -- The image stands for these files, with these bytes in each of their pages: it has the layout of a store, and its
 -- journal is one that a commit wrote.

@@ -1,7 +1,7 @@
 //! The directory in memory.
 ghost use Rattle.std.specs.Prelude.{◌≡◌, ◌<◌, ◌≤◌, ◌+◌, ◌^◌, ℕ, length, get_or, drop, Option, Some, None, IsSome, IfOk, IfSome, OnOk, OnErr, IsTrue, IsFalse, ◌↔◌};
+ghost use Rattle.vm_types.specs.Limits.{file_limit};
 ghost use Rattle.file_store.specs.declared.directory.Entry.{Entry};
-ghost use Rattle.file_store.specs.Layout.{bytes_inside};
 ghost use Rattle.file_store.specs.Directory.{decoded, entry_in, end_of, IsHomeOf, IsZero, IsBadDirectory, AreGood, AreEntries};
 
 use crate::layout::{FILES, PAGE_BYTES};
@@ -93,16 +93,6 @@ impl Entry {
             None => false,
         }
     }
-
-    /// How many bytes of page `page` lie inside the file.
-    pub(crate) fn bytes_inside(&self, page: u32) -> usize
-        ensures { result ≡ bytes_inside self.now.info.length page }
-    {
-        let length = u64::from(self.info.length);
-        length
-            .saturating_sub(PAGE_BYTES * u64::from(page))
-            .min(PAGE_BYTES) as usize
-    }
 }
 
 /// Whether one of these files has a home page in common with `entry`.
@@ -133,7 +123,7 @@ impl Directory {
     /// The directory that a sector holds, for a store of so many home pages. It fails exactly where the sector is bad.
     pub(crate) fn from_sector(sector: &[u8; 512], homes: u64) -> Result<Directory, BadDirectory>
         ensures entries { IfOk result (λ directory. (f : ℕ) → entry_of directory f ≡ entry_in sector.now f) }
-        ensures good { OnOk result (AreGood homes sector.now 64) }
+        ensures good { OnOk result (AreGood homes sector.now file_limit) }
         ensures bad { OnErr result (IsBadDirectory homes sector.now) }
     {
         let mut entries = [None; FILES];
@@ -150,7 +140,7 @@ impl Directory {
         earlier: &[Option<Entry>],
     ) -> Result<Option<Entry>, BadDirectory>
         requires size { length sector.now ≡ 512 }
-        requires room { length earlier.now < 64 }
+        requires room { length earlier.now < file_limit }
         requires read { AreEntries sector.now earlier.now (length earlier.now) }
         requires good { AreGood homes sector.now (length earlier.now) }
         ensures entry { IfOk result (λ entry. entry ≡ entry_in sector.now (length earlier.now)) }
@@ -182,7 +172,7 @@ impl Directory {
     /// The entry of a file of any number.
     pub(crate) fn entry_at(&self, n: usize) -> Option<Entry>
         ensures entry { result ≡ entry_of self.now n }
-        ensures number { IsSome result → n < 64 }
+        ensures number { IsSome result → n < file_limit }
     {
         *self.entries.get(n)?
     }

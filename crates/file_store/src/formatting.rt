@@ -1,5 +1,6 @@
 //! New stores.
 ghost use Rattle.std.specs.Prelude.{◌≡◌, ◌≢◌, ◌+◌, ◌<◌, ◌≤◌, ◌⊎◌, ◌↔◌, ℕ, List, Some, OnOk, OnErr, IsErr, IsErrOf, IsSome, length, replicate};
+ghost use Rattle.vm_types.specs.Limits.{file_limit};
 ghost use Rattle.disk_model.specs.Moments.{Touches, Nothing, LeavesOnly};
 ghost use Rattle.sync_journal.specs.Layout.{home_count, home_sector, first_home_sector, gate_sector};
 ghost use Rattle.sync_journal.specs.Runs.{Runs};
@@ -89,7 +90,7 @@ fn write_unmarked<D: SectorDisk, R: Read>(
     disk: &mut D,
     sources: &mut [FileSource<R>],
 ) -> Result<(), FormatFault>
-    requires files { length sources.old ≤ 64 }
+    requires files { length sources.old ≤ file_limit }
     requires room { first_home_sector ≤ D.sector_count disk.old }
     requires homes { total_pages sources.old ≤ home_count (D.sector_count disk.old) }
     ensures run { Runs D.SectorDisk (IsFrom 1) disk.old disk.new }

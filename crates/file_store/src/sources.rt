@@ -1,5 +1,6 @@
 //! What files are made of.
 ghost use Rattle.std.specs.Prelude.{◌≡◌, ◌+◌, ◌-◌, ◌*◌, ◌≤◌, ◌^◌, ◌↔◌, ℕ, min, List, Some, length, drop, replicate, OnOk, OnErr, IsErrOf, IsSome, IsTrue};
+ghost use Rattle.vm_types.specs.Limits.{file_limit};
 ghost use Rattle.sync_journal.specs.Layout.{first_home_sector};
 ghost use Rattle.file_store.specs.Layout.{page_count, bytes_inside, trimmed};
 ghost use Rattle.file_store.specs.Format.{info_of, told_by, reader_tells, total_pages, IsTooLarge, IsDirectoryOf};
@@ -100,7 +101,7 @@ fn pages_of<R>(sources: &[FileSource<R>]) -> u64
 
 /// The directory sector of these files, whose homes follow one another.
 pub(crate) fn directory_of<R>(sources: &[FileSource<R>]) -> [u8; SECTOR_BYTES]
-    requires files { length sources.now ≤ 64 }
+    requires files { length sources.now ≤ file_limit }
     requires homes { total_pages sources.now ≤ 2 ^ 30 }
     ensures { IsDirectoryOf sources.now result }
 {

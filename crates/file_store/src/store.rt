@@ -1,5 +1,6 @@
 //! An open store.
 ghost use Rattle.std.specs.Prelude.{◌≡◌, ◌<◌, ◌≤◌, ℕ, IsSome, OnOk};
+ghost use Rattle.vm_types.specs.Limits.{file_limit};
 ghost use Rattle.disk_model.specs.Stop.{HasCause};
 ghost use Rattle.disk_model.specs.Moments.{Touches, Nothing};
 ghost use Rattle.file_store.specs.Standing.{standing_page, IsPageOf};
@@ -30,7 +31,7 @@ impl<D: SectorDisk> FileStore<D> {
     /// The facts of the file of any number, or none where the store has no such file.
     pub fn info(&self, n: u64) -> Option<FileInfo>
         ensures info { result ≡ files_of self.now n }
-        ensures number { IsSome result → n < 64 }
+        ensures number { IsSome result → n < file_limit }
     {
         self.directory.entry_at(n as usize).map(|entry| entry.info)
     }
@@ -67,7 +68,7 @@ impl<D: SectorDisk> FileStore<D> {
         };
         self.journal
             .read(&mut self.disk, self.directory.home_of(page), to)?;
-        trim(to, entry.bytes_inside(page.page));
+        trim(to, entry.info.bytes_inside(page.page));
         Ok(())
     }
 }

@@ -28,7 +28,7 @@ impl<S> Trimmed<'_, S> {
             return PAGE_BYTES;
         };
         match self.directory.entry(page.file) {
-            Some(entry) => entry.bytes_inside(page.page),
+            Some(entry) => entry.info.bytes_inside(page.page),
             None => PAGE_BYTES,
         }
     }

@@ -40,6 +40,7 @@ impl Frames {
     ghost use Rattle.frames.specs.FrameTable.{frame_count, bytes_of, role_of, count_of, IsFrame, IsSound, IsFresh, IsFull, IsHeld, is_handed_out, Takes, Shares, Releases, with_bytes};
     ghost use Rattle.frames.specs.Lending.{LendsFrame};
     ghost use Rattle.frames.specs.Chain.{IsAllTables};
+    ghost use Rattle.vm_types.specs.Processes.{process_limit};
 
     /// Memory of `count` frames, 8 to 65,536, all of them free but frame 0.
     pub fn new(alloc: Global, count: u32) -> Result<Frames, AllocError>
@@ -147,7 +148,7 @@ impl Frames {
     pub fn share(&mut self, n: FrameNo)
         requires inside { IsFrame self.old n.0 }
         requires private { role_of self.old n.0 ≡ Private }
-        requires room { count_of self.old n.0 < 64 }
+        requires room { count_of self.old n.0 < process_limit }
         ensures change { Shares self.old self.new n.0 }
         ensures sound { IsSound self.new }
     {

@@ -16,7 +16,7 @@ use Rattle.paging.proofs.Start.{seat-none}
 use Rattle.mapping.specs.Changes.{KeepsRoom, IsTableOnWay}
 use Rattle.mapping.proofs.Forms.{used_inside}
 use Rattle.page_ranges.specs.Steps.{KeepsEntriesOfOthers}
-use Rattle.copy_on_write.specs.Steps.{HasCopy, LacksTable}
+use Rattle.copy_on_write.specs.Steps.{HasCopy, LacksTableForCopy}
 use Rattle.lifecycle.specs.Changes.{FreesTables, StallsToFork}
 
 -- no frame was to be had for the root
@@ -116,7 +116,7 @@ module _ (old new : Picture) (pid : ℕ) (fit : IsFit old) (fit' : IsFit new) (s
       ]))
     ]
 
-    pub stalls_later : (tried : Option ℕ) → GivesForTables first old tried → IsFull old.frames → LacksTable old parent pid → StallsToFork first new parent pid
+    pub stalls_later : (tried : Option ℕ) → GivesForTables first old tried → IsFull old.frames → LacksTableForCopy old parent pid → StallsToFork first new parent pid
     stalls_later tried gives full lacks = record {
       asked = old;
       fit = fit;

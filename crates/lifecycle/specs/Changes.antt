@@ -16,7 +16,7 @@ use Rattle.paging.specs.Shows.{KeepsFiles}
 use Rattle.paging.specs.Parts.{IsFit}
 use Rattle.paging.specs.Ages.{Ages, IsGiven, GivesForTables}
 use Rattle.mapping.specs.Changes.{IsTableOnWay}
-use Rattle.copy_on_write.specs.Steps.{HasCopy, LacksTable}
+use Rattle.copy_on_write.specs.Steps.{HasCopy, LacksTableForCopy}
 use Rattle.copy_on_write.specs.Shares.{lowered_entry, given_entry}
 
 -- a process came, with these pages, and every other process is as it was
@@ -106,7 +106,7 @@ pub record StallsToFork (old new : Picture) (parent child : ℕ) : Type 0 where
   pub linked : (n : ℕ) → IsTable asked.frames n
       → IsTable old.frames n ⊎ ((asked.root child ≡ Some n) ⊎ ((page : ℕ) × HasCopy old parent page × IsTableOnWay asked child page n))
   pub full : IsFull asked.frames
-  pub lacking : (asked.root child ≡ None) ⊎ LacksTable asked parent child
+  pub lacking : (asked.root child ≡ None) ⊎ LacksTableForCopy asked parent child
   pub roles : (n : ℕ) → (role_of new.frames n ≡ role_of asked.frames n) ⊎ ((role_of new.frames n ≡ Free) × IsTable asked.frames n)
   pub tables : (n : ℕ) → IsTable new.frames n → IsTable old.frames n
   pub entries : (q page : ℕ) → q ≢ child → IsPage top_level page → entry new q page ≡ entry asked q page

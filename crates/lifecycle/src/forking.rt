@@ -3,7 +3,8 @@ ghost use Rattle.std.specs.Prelude.{◌≡◌, ◌≢◌, ℕ, true, false, None
 ghost use Rattle.swap.specs.Slots.{IsReady};
 ghost use Rattle.paging.specs.Picture.{picture_of, is_live, view};
 ghost use Rattle.paging.specs.Parts.{IsFit};
-ghost use Rattle.paging.specs.Calls.{KeepsBesideProcesses, UsesDevice, StallCause};
+ghost use Rattle.paging.specs.Calls.{KeepsBesideProcesses, UsesDevice};
+ghost use Rattle.paging.specs.Stalls.{HasStallCause};
 ghost use Rattle.paging.specs.Shows.{KeepsFiles};
 ghost use Rattle.mapping.specs.Changes.{KeepsRoom, KeepsTables};
 ghost use Rattle.lifecycle.specs.Changes.{AddsProcess, KeepsProcesses, KeepsBareOfOthers, MapsAlike, SharesCopies, ForksEntries, TakesTables, StallsToFork, TakesNoCopy, IsShortToFork};
@@ -44,9 +45,7 @@ pub fn fork<D, E: SectorDisk>(core: &mut Core<D, E>, parent: Pid, child: Pid) ->
     ensures device { UsesDevice E.SectorDisk core.old.swap.pages.disk core.new.swap.pages.disk }
     ensures copies { TakesNoCopy core.old.frames core.new.frames }
     ensures short { IfErr result (IsShortToFork (picture_of core.old) parent) }
-    ensures cause { IfErr result (StallCause E.SectorDisk core.old core.new) }
-    ensures not_refused { OnOk result (core.new.refused.number ≡ core.old.refused.number) }
-    ensures swap_calm { OnOk result (E.failures core.new.swap.pages.disk ≡ E.failures core.old.swap.pages.disk) }
+    ensures cause { HasStallCause E.SectorDisk core.old core.new result }
 {
     spawn(core, child)?;
     map_alike(core, parent, child);

@@ -3,7 +3,8 @@ ghost use Rattle.std.specs.Prelude.{◌≡◌, ℕ, false, Option, None, OnOk, O
 ghost use Rattle.swap.specs.Slots.{IsReady};
 ghost use Rattle.paging.specs.Picture.{picture_of, is_live};
 ghost use Rattle.paging.specs.Parts.{IsFit};
-ghost use Rattle.paging.specs.Calls.{Frees, UsesDevice, StallCause};
+ghost use Rattle.paging.specs.Calls.{Frees, UsesDevice};
+ghost use Rattle.paging.specs.Stalls.{HasStallCause};
 ghost use Rattle.paging.specs.Capacity.{IsShort};
 ghost use Rattle.paging.specs.Ages.{GivesForTables, KeepsRoles};
 ghost use Rattle.frames.specs.FrameTable.{IsFull};
@@ -41,9 +42,7 @@ pub fn spawn<D, E: SectorDisk>(core: &mut Core<D, E>, pid: Pid) -> Result<(), St
     ensures store { core.new.store ≡ core.old.store }
     ensures device { UsesDevice E.SectorDisk core.old.swap.pages.disk core.new.swap.pages.disk }
     ensures short { IfErr result (IsShort (picture_of core.new)) }
-    ensures cause { IfErr result (StallCause E.SectorDisk core.old core.new) }
-    ensures not_refused { OnOk result (core.new.refused.number ≡ core.old.refused.number) }
-    ensures swap_calm { OnOk result (E.failures core.new.swap.pages.disk ≡ E.failures core.old.swap.pages.disk) }
+    ensures cause { HasStallCause E.SectorDisk core.old core.new result }
 {
     let root = core.take_table()?;
     core.add_process(pid, root);

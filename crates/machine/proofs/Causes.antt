@@ -3,7 +3,7 @@ use Rattle.std.proofs.Common.{◌≡◌, ◌≢◌, ◌<◌, ◌≤◌, true, fa
 use Rattle.disk_model.specs.declared.sector_disk.SectorDisk.{Ghosts}
 use Rattle.disk_model.specs.declared.ghost_data.Count.{Count}
 use Rattle.paging.specs.declared.kernel.Core.{Core}
-use Rattle.paging.specs.Reading.{ReadCause}
+use Rattle.paging.specs.Stalls.{ReadCause}
 use Rattle.calls.specs.Calls.{IsCaused}
 use Rattle.calls.specs.Idle.{names_store, names_swap, refused_count}
 use Rattle.vm_types.specs.declared.refusal.Errno.TheVariants.{EIO}

@@ -16,12 +16,13 @@ pub(crate) struct FaultLog {
 impl Model for FaultLog {
     ghost use Rattle.std.specs.Prelude.{ℕ, List, length, ◌≤◌, ◌≡◌};
     ghost use Rattle.vm_types.specs.declared.refusal.Fault.{Fault};
+    ghost use Rattle.vm_types.specs.Limits.{fault_limit};
 
     ghost Value = { List (ℕ × Fault) };
 
     ghost view = { λ l. l.faults.items };
 
-    ghost invariant = { λ l. l.faults.capacity ≡ 16 };
+    ghost invariant = { λ l. l.faults.capacity ≡ fault_limit };
 }
 
 impl FaultLog {

@@ -18,7 +18,7 @@ use Rattle.page_tables.proofs.Keeping.{empty_not_linking, zeros_empty}
 use Rattle.page_tables.proofs.Setting.{entry_at-bytes}
 use Rattle.walk_buffer.specs.declared.buffer.TranslationBuffer.{TranslationBuffer}
 use Rattle.walk_buffer.specs.Lines.{line_at, place_of}
-use Rattle.mapped_memory.specs.Kept.{IsLeafOf, IsKept}
+use Rattle.mapped_memory.specs.Kept.{IsLeafOf, LinesAreLeaves}
 use Rattle.mapped_memory.proofs.Leaves.{nonzero, is_page, to_middle, to_lowest, is_entry, of_entry}
 
 -- the same way, over tables still, to the same entry
@@ -194,7 +194,7 @@ module _ (old new : FrameTable) (root : ℕ) (forest : IsForest old) (is_root : 
 
 -- lines that stay, or go, where all leaves stay
 pub kept_by : (old new : FrameTable) (b b' : TranslationBuffer) → ((r p e : ℕ) → line_at b' r p ≡ Some e → line_at b r p ≡ Some e)
-    → ((r p e : ℕ) → IsLeafOf old r p e → IsLeafOf new r p e) → IsKept old b → IsKept new b'
+    → ((r p e : ℕ) → IsLeafOf old r p e → IsLeafOf new r p e) → LinesAreLeaves old b → LinesAreLeaves new b'
 kept_by old new b b' fewer leaf kept = record { leaves = λ r p e at. leaf r p e (kept.leaves r p e (fewer r p e at)) }
 
 -- no line is new
@@ -206,7 +206,7 @@ never b r p e gone at = let bad : None ≡ Some e = sym gone ∙ at in (cc)
 
 -- a page's entry was set, and its line is gone
 pub kept_set : (old new : FrameTable) (root q number : ℕ) (b b' : TranslationBuffer) → IsForest old → IsRoot 2 old root → SetsEntry old new 2 root q number
-    → line_at b' root q ≡ None → ((r p e : ℕ) → line_at b' r p ≡ Some e → line_at b r p ≡ Some e) → IsKept old b → IsKept new b'
+    → line_at b' root q ≡ None → ((r p e : ℕ) → line_at b' r p ≡ Some e → line_at b r p ≡ Some e) → LinesAreLeaves old b → LinesAreLeaves new b'
 kept_set old new root q number b b' forest is_root sets gone fewer kept = record {
   leaves = λ r p e at.
       let leaf = kept.leaves r p e (fewer r p e at) in
@@ -242,7 +242,7 @@ fewer_place b b' place gone others r p e at = elim (cases_eq (place_of p) place)
 -- a leaf is kept
 pub kept_more : (t : FrameTable) (b b' : TranslationBuffer) (root q leaf : ℕ) → IsLeafOf t root q leaf → line_at b' root q ≡ Some leaf
     → ((r p : ℕ) → place_of p ≡ place_of q → (r ≢ root) ⊎ (p ≢ q) → line_at b' r p ≡ None)
-    → ((r p : ℕ) → place_of p ≢ place_of q → line_at b' r p ≡ line_at b r p) → IsKept t b → IsKept t b'
+    → ((r p : ℕ) → place_of p ≢ place_of q → line_at b' r p ≡ line_at b r p) → LinesAreLeaves t b → LinesAreLeaves t b'
 kept_more t b b' root q leaf l now replaced others kept = record {
   leaves = λ r p e at. elim (cases_eq (place_of p) (place_of q)) [
     | inl same ↦ (
@@ -265,15 +265,15 @@ kept_more t b b' root q leaf l now replaced others kept = record {
 }
 
 -- a frame was taken, or none
-pub kept_taken : (old new : FrameTable) (b : TranslationBuffer) (kind : Role) (r : Result FrameNo NoFree) → IsKept old b
-    → IfOk r (λ n. Takes old new kind n.0) → OnErr r (new ≡ old) → IsKept new b
+pub kept_taken : (old new : FrameTable) (b : TranslationBuffer) (kind : Role) (r : Result FrameNo NoFree) → LinesAreLeaves old b
+    → IfOk r (λ n. Takes old new kind n.0) → OnErr r (new ≡ old) → LinesAreLeaves new b
 kept_taken old new b kind (Ok n) kept taken err = kept_by old new b b (no_more b) (taken_leaf old new n.0 kind taken) kept
-kept_taken old new b kind (Err e) kept taken err = subst (λ (t : FrameTable). IsKept t b) (sym err) kept
+kept_taken old new b kind (Err e) kept taken err = subst (λ (t : FrameTable). LinesAreLeaves t b) (sym err) kept
 
 -- a frame was changed, and no line is left if it is a table
 pub kept_data : (old new : FrameTable) (n : ℕ) (b b' : TranslationBuffer)
     → ((r p e : ℕ) → line_at b' r p ≡ Some e → (line_at b r p ≡ Some e) × (role_of old n ≢ Table))
-    → (role_of old n ≢ Table → (r p e : ℕ) → IsLeafOf old r p e → IsLeafOf new r p e) → IsKept old b → IsKept new b'
+    → (role_of old n ≢ Table → (r p e : ℕ) → IsLeafOf old r p e → IsLeafOf new r p e) → LinesAreLeaves old b → LinesAreLeaves new b'
 kept_data old new n b b' fewer leaf kept = record {
   leaves = λ r p e at.
       let left = fewer r p e at in

@@ -14,7 +14,7 @@ use Rattle.page_tables.proofs.Ends.{last_from_way, missing_of-is, last_entry-is,
 use Rattle.vm_types.specs.declared.access.Access.{Access}
 use Rattle.walk_buffer.specs.declared.buffer.TranslationBuffer.{TranslationBuffer}
 use Rattle.walk_buffer.specs.Lines.{IsCoherent, IsLine, lets}
-use Rattle.mapped_memory.specs.Kept.{IsKept, IsLeafOf}
+use Rattle.mapped_memory.specs.Kept.{LinesAreLeaves, IsLeafOf}
 
 invalid_zero : is_valid 0 ≡ false
 unfolding has_bit
@@ -91,7 +91,7 @@ of_entry t root page leaf forest is_root small is valid target =
     }
 
 -- so what is kept says what the tables say
-pub coherent : (t : FrameTable) (b : TranslationBuffer) → IsKept t b → IsCoherent t b
+pub coherent : (t : FrameTable) (b : TranslationBuffer) → LinesAreLeaves t b → IsCoherent t b
 coherent t b kept = λ root page leaf at. is_line t root page leaf (kept.leaves root page leaf at)
 
 first_of : (a b : Bool) → (a && b) ≡ true → a ≡ true

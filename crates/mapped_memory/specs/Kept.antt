@@ -22,5 +22,5 @@ pub record IsLeafOf (t : FrameTable) (root page leaf : ℕ) : Type 0 where
   pub target : frame_of leaf < frame_count t
 
 -- each line is the leaf of its page under its root
-pub record IsKept (t : FrameTable) (b : TranslationBuffer) : Type 0 where
+pub record LinesAreLeaves (t : FrameTable) (b : TranslationBuffer) : Type 0 where
   pub leaves : (root page leaf : ℕ) → line_at b root page ≡ Some leaf → IsLeafOf t root page leaf

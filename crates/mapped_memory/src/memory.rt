@@ -21,13 +21,13 @@ pub struct Memory {
 
 impl Model for Memory {
     ghost use Rattle.frames.specs.FrameTable.{FrameTable};
-    ghost use Rattle.mapped_memory.specs.Kept.{IsKept};
+    ghost use Rattle.mapped_memory.specs.Kept.{LinesAreLeaves};
 
     ghost Value = { FrameTable };
 
     ghost view = { λ m. m.frames };
 
-    ghost invariant = { λ m. IsKept m.frames m.buffer };
+    ghost invariant = { λ m. LinesAreLeaves m.frames m.buffer };
 }
 
 impl Memory {

@@ -6,7 +6,7 @@ ghost use Rattle.sv39_walk.specs.Entry.{frame_of};
 ghost use Rattle.sv39_walk.specs.Walk.{page_of, translated};
 ghost use Rattle.page_tables.specs.Tree.{IsForest, IsRoot};
 ghost use Rattle.walk_buffer.specs.Lines.{lets, place_in};
-ghost use Rattle.mapped_memory.specs.Kept.{IsKept};
+ghost use Rattle.mapped_memory.specs.Kept.{LinesAreLeaves};
 
 use crate::memory::Memory;
 use frames::Frames;
@@ -69,9 +69,9 @@ fn walk_and_keep(
     requires root { IsRoot top_level frames.now root.0 }
     requires page { page_of addr ≡ page }
     requires small { page < user_end }
-    requires kept { IsKept frames.now buffer.old }
+    requires kept { LinesAreLeaves frames.now buffer.old }
     ensures walked { result ≡ translated top_level frames.now root.0 addr access }
-    ensures kept { IsKept frames.now buffer.new }
+    ensures kept { LinesAreLeaves frames.now buffer.new }
 {
     match keep_leaf(frames, buffer, root, page, access) {
         Some(frame) => Ok(place_in(frame, addr)),
@@ -91,9 +91,9 @@ fn keep_leaf(
     requires forest { IsForest frames.now }
     requires root { IsRoot top_level frames.now root.0 }
     requires small { page < user_end }
-    requires kept { IsKept frames.now buffer.old }
+    requires kept { LinesAreLeaves frames.now buffer.old }
     ensures walked { IfSome result (λ frame. (addr : ℕ) → page_of addr ≡ page → translated top_level frames.now root.0 addr access ≡ Ok (place_in frame.0 addr)) }
-    ensures kept { IsKept frames.now buffer.new }
+    ensures kept { LinesAreLeaves frames.now buffer.new }
 {
     let leaf = entry_number(frames, root, page);
     if !is_usable(frames, leaf, access) {

@@ -1,6 +1,6 @@
 -- A file page brought into a frame, or left where it was where the read failed.
 use Rattle.std.proofs.Common.{◌≡◌, ℕ, false, inl, inr, ◌⊎◌, Option, Some, None, Result, Ok, Err, refl, sym, ap, ◌∙◌, subst, arith}
-use Rattle.std.specs.Prelude.{IfOk, IfErr, OnErr, OnOk}
+use Rattle.std.specs.Prelude.{IfOk, IfErr, OnErr}
 use Rattle.vm_types.specs.declared.file.FilePage.{FilePage}
 use Rattle.vm_types.specs.declared.number.FrameNo.{FrameNo}
 use Rattle.vm_types.specs.declared.refusal.Stall.{Stall}
@@ -13,8 +13,9 @@ use Rattle.page_cache.specs.declared.place.Place.TheVariants.{Home, Frame, Slot}
 use Rattle.paging.specs.declared.kernel.Core.{Core}
 use Rattle.paging.specs.Picture.{Picture, held, bytes_at}
 use Rattle.paging.specs.Parts.{IsFit}
-use Rattle.paging.specs.Calls.{Frees, ObtainsCached, StallCause}
-use Rattle.paging.specs.Reading.{ReadsStore, IsRead, ReadCause}
+use Rattle.paging.specs.Calls.{Frees, ObtainsCached}
+use Rattle.paging.specs.Stalls.{StallCause, HasStallCause, ReadCause, HasReadCause}
+use Rattle.paging.specs.Reading.{ReadsStore, IsRead}
 use Rattle.paging.proofs.BroughtIn.{fit_brought, trees_brought, entries_brought, views_brought, held_else, held_here}
 use Rattle.paging.proofs.Places.{cases_page}
 use Rattle.mapping.specs.Changes.{KeepsSpaces, KeepsTables, KeepsRoom, KeepsSeen, KeepsBare, KeepsSlotted}
@@ -176,20 +177,16 @@ module _ {D : Type 0} (g : Ghosts D) where
     cause_of old new SwapDevice same c = (c.0, ap (λ s. g.failures s.disk) same, c.1)
     cause_of old new StoreDevice same c = absurd c
 
-    pub causes_of : (old new : Core D E) (r : Result FrameNo Stall) → new.store ≡ old.store → IfErr r (StallCause h old new) → IfErr r (ReadCause g h old new)
-    causes_of old new (Ok n) same c = tt
+    pub causes_of : (old new : Core D E) (r : Result FrameNo Stall) → new.store ≡ old.store → HasStallCause h old new r → HasReadCause g h old new r
+    causes_of old new (Ok n) same c = (c.0, ap (λ s. g.failures s.disk) same, c.1)
     causes_of old new (Err s) same c = cause_of old new s same c
 
     no_store : (old new : Core D E) (stall : Stall) → StallCause h old new stall → stall ≡ StoreDevice → ⊥
     no_store old new stall c is = (let P : Stall → Type 0 = λ s. StallCause h old new s in subst P is c)
 
-    pub never_store : (Q : Type 0) (old new : Core D E) (r : Result FrameNo Stall) → IfErr r (StallCause h old new) → IfErr r (λ stall. stall ≡ StoreDevice → Q)
+    pub never_store : (Q : Type 0) (old new : Core D E) (r : Result FrameNo Stall) → HasStallCause h old new r → IfErr r (λ stall. stall ≡ StoreDevice → Q)
     never_store Q old new (Ok n) c = tt
     never_store Q old new (Err s) c = λ is. absurd (no_store old new s c is)
-
-pub ok_always : (Q : Type 0) (r : Result FrameNo Stall) → Q → OnOk r Q
-ok_always Q (Ok n) q = q
-ok_always Q (Err s) q = tt
 
 pub err_always : (Q : Stall → Type 0) (r : Result FrameNo Stall) → ((s : Stall) → Q s) → IfErr r Q
 err_always Q (Ok n) q = tt

@@ -18,8 +18,9 @@ use Rattle.paging.specs.Seats.{InFrame, InSlot, seat, is_private, is_swapped}
 use Rattle.paging.specs.Picture.{Picture, entry}
 use Rattle.paging.specs.Parts.{IsGranting, IsEntryFor, Nothing, Resident, Away, IsResident, IsBehind, IsWithin, HasPlaces, IsFit, is_shared}
 use Rattle.paging.proofs.Start.{seat-none}
-use Rattle.mapping.specs.Leaves.{IsLeaf, IsEntryOver, IsFullEntry, is_barred, is_touched_behind, full_write}
-use Rattle.mapping.proofs.Bits.{parked_invalid, parked_framed}
+use Rattle.page_tables.specs.Leaves.{IsLeaf, IsEntryOver, is_barred}
+use Rattle.mapping.specs.Leaves.{IsFullEntry, is_touched_behind, full_write}
+use Rattle.page_tables.proofs.Bits.{parked_invalid, parked_framed}
 
 and_left : (a b : Bool) → (a && b) ≡ true → a ≡ true
 and_left true b e = refl

@@ -1,4 +1,3 @@
-pub mod Bits
 pub mod Steps
 pub mod Slotted
 pub mod TablesLinked

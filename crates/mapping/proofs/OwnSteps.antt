@@ -24,7 +24,8 @@ use Rattle.paging.proofs.Callers.{shown_stays}
 use Rattle.paging.proofs.Evicted.{fit_released}
 use Rattle.paging.proofs.Handed.{release_spares, same}
 use Rattle.paging.proofs.Sparing.{missing_ends}
-use Rattle.mapping.specs.Leaves.{IsEntryOver, IsFullEntry}
+use Rattle.page_tables.specs.Leaves.{IsEntryOver}
+use Rattle.mapping.specs.Leaves.{IsFullEntry}
 use Rattle.mapping.specs.Changes.{IsLinked, KeepsSpaces, KeepsTables, KeepsRoom, KeepsOtherViews, KeepsOtherBare, KeepsSlotted, IsThatPage, TakesCopy, frame_of_place, frame_behind, shown_frame, is_sole}
 use Rattle.mapping.proofs.Forms.{mapped_page, behind_used, behind_datum, own_role, seat_own, seat_common}
 use Rattle.mapping.proofs.Settling.{settled_first, settled_moved, settled_others, settled_views, settled_view, settled_held, settled_missing, settled_room, settled_full, settled_bytes, settled_count}

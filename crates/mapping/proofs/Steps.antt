@@ -1,6 +1,6 @@
 -- How the steps of a call follow one another.
 use Rattle.std.proofs.Common.{◌≡◌, ◌+◌, ℕ, inl, inr, Option, Some, None, Result, Ok, Err, refl, sym, ap, ◌∙◌, subst, arith}
-use Rattle.std.specs.Prelude.{IfErr, IsErrAnd}
+use Rattle.std.specs.Prelude.{IsErrAnd}
 use Rattle.vm_types.specs.declared.refusal.Stall.{Stall}
 use Rattle.vm_types.specs.declared.refusal.Stall.TheVariants.{NoFrames, NoSwap, SwapDevice, StoreDevice}
 use Rattle.disk_model.specs.declared.sector_disk.SectorDisk.{Ghosts}
@@ -12,13 +12,10 @@ use Rattle.swap.specs.Slots.{IsReady, slots_of}
 use Rattle.paging.specs.declared.kernel.Core.{Core}
 use Rattle.paging.specs.Picture.{Picture, picture_of, entry}
 use Rattle.paging.specs.Parts.{IsFit}
-use Rattle.paging.specs.Calls.{Frees, IsStaying, KeepsRest, StallCause, UsesDevice}
+use Rattle.paging.specs.Calls.{Frees, IsStaying, KeepsRest, UsesDevice}
+use Rattle.paging.specs.Stalls.{StallCause, HasStallCause}
 use Rattle.paging.specs.Steps.{SameBeside}
 use Rattle.mapping.specs.Changes.{KeepsTables, KeepsBare, KeepsSpaces, KeepsRoom, KeepsSeen, Enters, Moves}
-
-pub stalls_as : {T : Type 0} (P : Stall → Type 0) (r : Result T Stall) (stall : Stall) → IsErrAnd r (λ e. e ≡ stall) → P stall → IfErr r P
-stalls_as P (Ok x) stall is p = tt
-stalls_as P (Err e) stall is p = subst P (sym is) p
 
 pub spaces_then : (a b c : Picture) → KeepsSpaces a b → KeepsSpaces b c → KeepsSpaces a c
 spaces_then a b c p q = record { root = λ pid. q.root pid ∙ p.root pid; at = λ pid page. q.at pid page ∙ p.at pid page }
@@ -123,6 +120,11 @@ module _ {E : Type 0} (h : Ghosts E) where
     stall_then a b c NoSwap refused calm cause = (cause.0 ∙ ap (λ x. x + 1) refused, cause.1 ∙ calm)
     stall_then a b c SwapDevice refused calm cause = (cause.0 ∙ refused, (let later = cause.1 in omega (arith, calm, later)))
     stall_then a b c StoreDevice refused calm cause = absurd cause
+
+    -- a call that hands on the error of a step in it
+    pub cause_as : {T : Type 0} (a b : Core D E) (r : Result T Stall) (stall : Stall) → IsErrAnd r (λ e. e ≡ stall) → StallCause h a b stall → HasStallCause h a b r
+    cause_as a b (Ok x) stall is cause = absurd is
+    cause_as a b (Err e) stall is cause = subst (StallCause h a b) (sym is) cause
 
     pub moves_none : (a : Core D E) → IsFit (picture_of a) → IsReady h a.swap → Moves h a a
     moves_none a fit ready = record {

@@ -13,7 +13,8 @@ use Rattle.disk_model.specs.declared.sector_disk.SectorDisk.{Ghosts}
 use Rattle.swap.specs.declared.slots.Swap.{Swap}
 use Rattle.swap.specs.declared.pages.Pages.{Pages}
 use Rattle.swap.specs.Written.{IsAsWritten}
-use Rattle.mapping.specs.Leaves.{IsEntryOver, IsFullEntry}
+use Rattle.page_tables.specs.Leaves.{IsEntryOver}
+use Rattle.mapping.specs.Leaves.{IsFullEntry}
 use Rattle.swap.specs.Slots.{SlotTable, IsInUse, IsReady, slots_of}
 use Rattle.swap.specs.Slots as Slots
 use Rattle.sv39_walk.specs.Entry.{is_valid, has_bit}
@@ -33,7 +34,7 @@ use Rattle.paging.proofs.Taking.{changes_taken, entries_changed}
 use Rattle.paging.proofs.Handing.{away_number}
 use Rattle.paging.proofs.Puts.{SameButSlots}
 use Rattle.paging.proofs.Setting.{each_view, view_seated}
-use Rattle.mapping.proofs.Bits.{parked_framed}
+use Rattle.page_tables.proofs.Bits.{parked_framed}
 use Rattle.mapping.proofs.Forms.{seat_away}
 
 zero_here : is_swapped 0 ≡ false

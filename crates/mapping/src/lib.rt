@@ -5,14 +5,12 @@
 //! Svade, where the walk sets neither).
 #![tactic(auto)]
 
-mod leaves;
 mod linking;
 mod owning;
 mod page_in;
 mod showing;
 mod swapping;
 
-pub use leaves::{Grant, entry_over};
 pub use linking::{link_tables, root_of};
 pub use owning::own_frame;
 pub use page_in::cached;

@@ -7,7 +7,8 @@ ghost use Rattle.page_tables.specs.Tree.{missing_of};
 ghost use Rattle.swap.specs.Slots.{IsReady};
 ghost use Rattle.paging.specs.Picture.{picture_of};
 ghost use Rattle.paging.specs.Parts.{IsFit, IsMapped};
-ghost use Rattle.paging.specs.Calls.{KeepsPages, StallCause};
+ghost use Rattle.paging.specs.Calls.{KeepsPages};
+ghost use Rattle.paging.specs.Stalls.{HasStallCause};
 ghost use Rattle.paging.specs.Capacity.{IsShort};
 ghost use Rattle.paging.specs.Ages.{GivesForTables};
 ghost use Rattle.mapping.specs.Changes.{IsWhole, KeepsBare, KeepsSlotted, LinksTables, Moves};
@@ -55,9 +56,7 @@ pub fn link_tables<D, E: SectorDisk>(
     ensures full { OnErr result (IsFull core.new.frames) }
     ensures idle { IsWhole (picture_of core.old) pid page → (core.new ≡ core.old) × OnErr result ⊥ }
     ensures short { IfErr result (IsShort (picture_of core.new)) }
-    ensures cause { IfErr result (StallCause E.SectorDisk core.old core.new) }
-    ensures not_refused { OnOk result (core.new.refused.number ≡ core.old.refused.number) }
-    ensures swap_calm { OnOk result (E.failures core.new.swap.pages.disk ≡ E.failures core.old.swap.pages.disk) }
+    ensures cause { HasStallCause E.SectorDisk core.old core.new result }
 {
     let root = root_of(core, pid);
     while missing_tables(&core.frames, root, page) > 0 {
@@ -90,9 +89,7 @@ fn link_one<D, E: SectorDisk>(
     ensures tables { LinksTables (picture_of core.old) (picture_of core.new) pid page }
     ensures full { OnErr result (IsFull core.new.frames) }
     ensures short { IfErr result (IsShort (picture_of core.new)) }
-    ensures cause { IfErr result (StallCause E.SectorDisk core.old core.new) }
-    ensures not_refused { OnOk result (core.new.refused.number ≡ core.old.refused.number) }
-    ensures swap_calm { OnOk result (E.failures core.new.swap.pages.disk ≡ E.failures core.old.swap.pages.disk) }
+    ensures cause { HasStallCause E.SectorDisk core.old core.new result }
 {
     let table = core.take_table()?;
     link_table(&mut core.frames, root, page, table);

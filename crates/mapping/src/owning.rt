@@ -1,5 +1,5 @@
 //! Frames of a process's own.
-ghost use Rattle.std.specs.Prelude.{◌≡◌, ◌≢◌, ℕ, ◌<◌, ◌^◌, None, Some, true, false, IfOk, IfErr, OnOk, OnErr};
+ghost use Rattle.std.specs.Prelude.{◌≡◌, ◌≢◌, ℕ, ◌<◌, ◌^◌, None, Some, true, false, IfOk, IfErr, OnErr};
 ghost use Rattle.vm_types.specs.Permission.{can_write};
 ghost use Rattle.vm_types.specs.Verdict.{is_past_end};
 ghost use Rattle.frames.specs.declared.role.Role.TheVariants.{Free, Table};
@@ -8,10 +8,11 @@ ghost use Rattle.sv39_walk.specs.Entry.{frame_of};
 ghost use Rattle.swap.specs.Slots.{IsReady};
 ghost use Rattle.paging.specs.Picture.{picture_of, entry, is_private, is_swapped, view};
 ghost use Rattle.paging.specs.Parts.{IsFit, is_shared, IsBehind};
-ghost use Rattle.paging.specs.Calls.{Frees, KeepsRest, UsesDevice, StallCause};
+ghost use Rattle.paging.specs.Calls.{Frees, KeepsRest, UsesDevice};
+ghost use Rattle.paging.specs.Stalls.{HasStallCause};
 ghost use Rattle.paging.specs.Capacity.{IsShort};
 ghost use Rattle.paging.specs.Shows.{KeepsFiles};
-ghost use Rattle.mapping.specs.Leaves.{IsEntryOver};
+ghost use Rattle.page_tables.specs.Leaves.{IsEntryOver};
 ghost use Rattle.mapping.specs.Changes.{IsLinked, KeepsViews, KeepsOtherViews, KeepsOtherBare, KeepsSlotted, IsCalm, IsThatPage, Moves, TakesCopy, is_sole, shown_frame, shown_bytes};
 
 use crate::linking::root_of;
@@ -61,9 +62,7 @@ pub fn own_frame<D, E: SectorDisk>(
     ensures wanted { OnErr result (is_sole (picture_of core.old) (entry (picture_of core.old) pid page) ≡ false) }
     ensures calm { is_sole (picture_of core.old) (entry (picture_of core.old) pid page) ≡ true → IsCalm core.old core.new pid page }
     ensures short { IfErr result (IsShort (picture_of core.new)) }
-    ensures cause { IfErr result (StallCause E.SectorDisk core.old core.new) }
-    ensures not_refused { OnOk result (core.new.refused.number ≡ core.old.refused.number) }
-    ensures swap_calm { OnOk result (E.failures core.new.swap.pages.disk ≡ E.failures core.old.swap.pages.disk) }
+    ensures cause { HasStallCause E.SectorDisk core.old core.new result }
 {
     let root = root_of(core, pid);
     let entry = entry_number(&core.frames, root, page);
@@ -109,9 +108,7 @@ fn copy_page<D, E: SectorDisk>(
     ensures same { OnErr result (KeepsViews (picture_of core.old) (picture_of core.new)) }
     ensures files { KeepsFiles (picture_of core.old) (picture_of core.new) }
     ensures short { IfErr result (IsShort (picture_of core.new)) }
-    ensures cause { IfErr result (StallCause E.SectorDisk core.old core.new) }
-    ensures not_refused { OnOk result (core.new.refused.number ≡ core.old.refused.number) }
-    ensures swap_calm { OnOk result (E.failures core.new.swap.pages.disk ≡ E.failures core.old.swap.pages.disk) }
+    ensures cause { HasStallCause E.SectorDisk core.old core.new result }
 {
     let root = root_of(core, pid);
     let own = take_copy(core, shown, page)?;
@@ -159,9 +156,7 @@ fn take_copy<D, E: SectorDisk>(
     ensures rest { KeepsRest core.old core.new }
     ensures device { UsesDevice E.SectorDisk core.old.swap.pages.disk core.new.swap.pages.disk }
     ensures short { IfErr result (IsShort (picture_of core.new)) }
-    ensures cause { IfErr result (StallCause E.SectorDisk core.old core.new) }
-    ensures not_refused { OnOk result (core.new.refused.number ≡ core.old.refused.number) }
-    ensures swap_calm { OnOk result (E.failures core.new.swap.pages.disk ≡ E.failures core.old.swap.pages.disk) }
+    ensures cause { HasStallCause E.SectorDisk core.old core.new result }
 {
     let own = core.take_own(page, Some(from))?;
     fill(&mut core.frames, from, own);

@@ -1,5 +1,5 @@
 //! File pages brought into memory.
-ghost use Rattle.std.specs.Prelude.{◌≡◌, ◌⊎◌, None, IfOk, IfErr, OnOk, OnErr};
+ghost use Rattle.std.specs.Prelude.{◌≡◌, ◌⊎◌, None, IfOk, IfErr, OnErr};
 ghost use Rattle.vm_types.specs.declared.number.FrameNo.{FrameNo};
 ghost use Rattle.vm_types.specs.declared.refusal.Stall.TheVariants as Stall;
 ghost use Rattle.file_store.specs.Standing.{IsPageOf};
@@ -10,7 +10,7 @@ ghost use Rattle.paging.specs.Picture.{picture_of};
 ghost use Rattle.paging.specs.Parts.{IsFit};
 ghost use Rattle.paging.specs.Calls.{Frees};
 ghost use Rattle.paging.specs.Capacity.{IsShort};
-ghost use Rattle.paging.specs.Reading.{ReadCause};
+ghost use Rattle.paging.specs.Stalls.{HasReadCause};
 ghost use Rattle.mapping.specs.Changes.{KeepsBare, KeepsSeen, KeepsSlotted};
 ghost use Rattle.mapping.specs.Files.{Proceeds, BringsFiles};
 
@@ -43,11 +43,8 @@ pub fn cached<D: SectorDisk, E: SectorDisk>(
     ensures frees { OnErr result (Frees (picture_of core.old) (picture_of core.new) None) }
     ensures home { IfErr result (λ stall. stall ≡ Stall.StoreDevice → (picture_of core.old).place page ≡ Home) }
     ensures read { (core.new.store ≡ core.old.store) ⊎ ((picture_of core.old).place page ≡ Home) }
-    ensures store_calm { OnOk result (D.failures core.new.store.disk ≡ D.failures core.old.store.disk) }
     ensures short { IfErr result (IsShort (picture_of core.new)) }
-    ensures cause { IfErr result (ReadCause D.SectorDisk E.SectorDisk core.old core.new) }
-    ensures not_refused { OnOk result (core.new.refused.number ≡ core.old.refused.number) }
-    ensures swap_calm { OnOk result (E.failures core.new.swap.pages.disk ≡ E.failures core.old.swap.pages.disk) }
+    ensures cause { HasReadCause D.SectorDisk E.SectorDisk core.old core.new result }
 {
     match core.cache.place(page) {
         Place::Frame(frame) => Ok(frame),

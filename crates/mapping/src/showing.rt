@@ -13,12 +13,13 @@ ghost use Rattle.paging.specs.Seats.{seat};
 ghost use Rattle.paging.specs.Picture.{picture_of, entry, is_private, is_swapped};
 ghost use Rattle.paging.specs.Parts.{is_shared, IsBehind};
 ghost use Rattle.paging.specs.Shows.{KeepsFiles};
-ghost use Rattle.mapping.specs.Leaves.{IsEntryOver, IsFullEntry, full_write, full_dirty, is_touched_behind};
+ghost use Rattle.page_tables.specs.Leaves.{IsEntryOver};
+ghost use Rattle.mapping.specs.Leaves.{IsFullEntry, full_write, full_dirty, is_touched_behind};
 ghost use Rattle.mapping.specs.Changes.{IsLinked, Enters, KeepsAround, MarksTouched};
 
-use crate::leaves::{Grant, entry_over};
 use crate::linking::root_of;
 use mapped_memory::{entry_number, set};
+use page_tables::{Grant, entry_over};
 use paging::Core;
 use vm_types::{Attr, Backing, FilePage, FrameNo, Pid, Vpn};
 

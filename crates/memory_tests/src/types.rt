@@ -2,8 +2,8 @@
 use crate::bench::equal;
 use bitflags::Flags;
 use vm_types::{
-    Backing, Errno, FilePage, PAGE_BYTES, Pid, Prot, Stall, StoredValue, USER_END, USER_START, Vpn,
-    Width,
+    Backing, Errno, FileInfo, FilePage, PAGE_BYTES, Pid, Prot, Stall, StoredValue, USER_END,
+    USER_START, Vpn, Width,
 };
 
 #[test]
@@ -62,6 +62,19 @@ fn write_is_kept_with_read(rt: HostRuntime) {
         [false, true, false, true],
     );
     equal(&rt, Prot::empty().bits(), 0);
+}
+
+#[test]
+fn the_last_page_of_a_file_is_partly_inside(rt: HostRuntime) {
+    let file = FileInfo {
+        length: 5000,
+        read_only: false,
+    };
+    equal(
+        &rt,
+        [0, 1, 2].map(|page| file.bytes_inside(page)),
+        [4096, 904, 0],
+    );
 }
 
 #[test]

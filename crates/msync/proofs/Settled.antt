@@ -14,7 +14,7 @@ use Rattle.paging.specs.declared.leaves.Change.TheVariants.{ClearDirty}
 use Rattle.paging.specs.Seats.{Seat, InFrame, InSlot, seat}
 use Rattle.paging.specs.Picture.{Picture, entry, view, held, bytes_at, bytes_in, IsOwned}
 use Rattle.paging.specs.Parts.{IsFit, nowhere}
-use Rattle.paging.specs.Leaves.{IsOver, IsChanged, Changes}
+use Rattle.paging.specs.Leaves.{IsOver, IsChanged, ChangesLeaves}
 use Rattle.paging.specs.Steps.{SameBeside}
 use Rattle.paging.proofs.Bits.{leaf_dirty}
 use Rattle.paging.proofs.Setting.{fit_written, entries_written, bytes_else, view_seated, each_view, held_same}
@@ -81,7 +81,7 @@ leaf_cleared n e e' page concerned frame changed =
     }
 
 module _ (a b x y : Picture) (page : FilePage) (n : ℕ) (w : List ℕ) (fit_a : IsFit a) (fit_b : IsFit b) (fit_x : IsFit x) (placed : a.place page ≡ Frame (record { 0 = n }))
-    (inside : IsFrame a.frames n) (is : b.frames ≡ with_bytes a.frames n w) (beside : SameBeside a b) (changes : Changes ClearDirty n b x) (u : Untouches x y page)
+    (inside : IsFrame a.frames n) (is : b.frames ≡ with_bytes a.frames n w) (beside : SameBeside a b) (changes : ChangesLeaves ClearDirty n b x) (u : Untouches x y page)
     (bytes : w ≡ trimmed a.files page.file page.page (bytes_of a.frames n)) where
   place : (p : FilePage) → y.place p ≡ a.place p
   place p = u.place p ∙ changes.beside.place p ∙ beside.place p

@@ -13,7 +13,7 @@ use crate::chosen::{Residence, Spot};
 use disk_model::SectorDisk;
 use page_cache::Place;
 use paging::{Change, Core, change_leaves};
-use vm_types::{FileInfo, FilePage, FrameNo, PAGE_BYTES, SlotNo};
+use vm_types::{FilePage, FrameNo, SlotNo};
 
 /// Pages that were committed: bytes past the end of their files become zero, no entry says D of them, and they are touched
 /// no more. One that lay in a slot is at home then, and its slot is free. Every page keeps its own copy.
@@ -84,21 +84,10 @@ fn cut_tail<D: SectorDisk, E>(core: &mut Core<D, E>, page: FilePage, frame: Fram
         (cut (inside_of ((picture_of core.old).files page.file) page.page) (bytes_of core.old.frames frame.0)) }
 {
     let inside = match core.store.file(page.file) {
-        Some(info) => bytes_inside(info, page.page),
+        Some(info) => info.bytes_inside(page.page),
         None => 0,
     };
     cut_from(core.frames.bytes_mut(frame), inside);
-}
-
-/// How many bytes of a page lie inside its file.
-fn bytes_inside(info: FileInfo, page: u32) -> usize
-    ensures inside { result ≡ inside_of (Some info) page }
-    ensures most { result ≤ 4096 }
-{
-    let before = PAGE_BYTES as u64 * u64::from(page);
-    u64::from(info.length)
-        .saturating_sub(before)
-        .min(PAGE_BYTES as u64) as usize
 }
 
 /// Puts zeros in place of the bytes from `inside` on.

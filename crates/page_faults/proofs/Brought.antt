@@ -13,9 +13,9 @@ use Rattle.page_cache.specs.declared.place.Place.TheVariants.{Home, Frame}
 use Rattle.paging.specs.declared.kernel.Core.{Core}
 use Rattle.paging.specs.Picture.{Picture, picture_of, held}
 use Rattle.paging.specs.Parts.{IsFit}
-use Rattle.paging.specs.Calls.{UsesDevice, StallCause}
+use Rattle.paging.specs.Calls.{UsesDevice}
+use Rattle.paging.specs.Stalls.{HasStallCause, ReadCause}
 use Rattle.paging.specs.Capacity.{IsShort}
-use Rattle.paging.specs.Reading.{ReadCause}
 use Rattle.paging.specs.Shows.{KeepsFiles}
 use Rattle.mapping.specs.Changes.{IsLinked, IsCalm, KeepsSeen, KeepsSpaces, KeepsTables}
 use Rattle.mapping.specs.Files.{BringsPages, BringsFiles}
@@ -98,7 +98,7 @@ module _ {D E : Type 0} (old mid : Core D E) (pid page : ℕ) (p : FilePage) (sh
     -- or a frame was refused afterwards
     pub stalled_on : (new : Core D E) (access : Access) (r : Result FrameNo Stall) → ((n : FrameNo) → (picture_of old).place p ≡ Frame n → mid ≡ old) → KeepsSeen (picture_of old) (picture_of mid)
         → h.failures mid.swap.pages.disk ≡ h.failures old.swap.pages.disk → mid.refused.number ≡ old.refused.number → g.failures mid.store.disk ≡ g.failures old.store.disk
-        → IfErr r (StallCause h mid new) → IfErr r (IsStalled g h mid new pid page access) → IfErr r (IsStalled g h old new pid page access)
+        → HasStallCause h mid new r → IfErr r (IsStalled g h mid new pid page access) → IfErr r (IsStalled g h old new pid page access)
     stalled_on new access (Ok n) idle keeps swap_calm same calm cause stalled = tt
     stalled_on new access (Err s) idle keeps swap_calm same calm cause stalled = record {
       keeps = seen_then (picture_of old) (picture_of mid) (picture_of new) keeps stalled.keeps;

@@ -12,13 +12,14 @@ use Rattle.frames.specs.FrameTable.{bytes_of, count_of, IsSound}
 use Rattle.paging.specs.declared.kernel.Core.{Core}
 use Rattle.paging.specs.Picture.{Picture, picture_of, entry, is_swapped}
 use Rattle.paging.specs.Parts.{IsFit, is_shared}
-use Rattle.paging.specs.Calls.{StallCause}
+use Rattle.paging.specs.Stalls.{HasStallCause}
 use Rattle.paging.specs.Capacity.{IsShort}
 use Rattle.paging.specs.Shows.{KeepsFiles}
-use Rattle.mapping.specs.Leaves.{IsEntryOver, IsFullEntry}
+use Rattle.page_tables.specs.Leaves.{IsEntryOver}
+use Rattle.mapping.specs.Leaves.{IsFullEntry}
 use Rattle.mapping.specs.Changes.{KeepsSeen, KeepsViews}
 use Rattle.mapping.proofs.BroughtIn.{cause_of}
-use Rattle.mapping.proofs.Bits.{over_some}
+use Rattle.page_tables.proofs.Bits.{over_some}
 use Rattle.mapping.proofs.Forms.{mapped_page, over_here}
 use Rattle.mapping.proofs.OwnSteps.{full_own}
 use Rattle.page_faults.specs.Granted.{IsEntered, IsReadyAt}
@@ -94,7 +95,7 @@ module _ (old new : Picture) (pid page : ℕ) (a : Attr) (access : Access) (fit 
 -- or stayed there
 module _ {D E : Type 0} (g : Ghosts D) (h : Ghosts E) (old new : Core D E) (pid page : ℕ) (access : Access) where
   pub swapped_stalled : (r : Result FrameNo Stall) → new.store ≡ old.store → KeepsFiles (picture_of old) (picture_of new) → OnErr r (KeepsViews (picture_of old) (picture_of new))
-      → is_swapped (entry (picture_of old) pid page) ≡ true → IfErr r (StallCause h old new) → IfErr r (IsShort (picture_of new)) → IfErr r (IsStalled g h old new pid page access)
+      → is_swapped (entry (picture_of old) pid page) ≡ true → HasStallCause h old new r → IfErr r (IsShort (picture_of new)) → IfErr r (IsStalled g h old new pid page access)
   swapped_stalled (Ok n) same files views away cause short = tt
   swapped_stalled (Err s) same files views away cause short = record {
     keeps = record { views = views; touched = files.touched };

@@ -19,7 +19,8 @@ use Rattle.paging.specs.declared.kernel.Core.{Core}
 use Rattle.paging.specs.Ages.{GivesForTables}
 use Rattle.paging.specs.Seats.{is_swapped}
 use Rattle.paging.specs.Picture.{Picture, picture_of, entry}
-use Rattle.paging.specs.Calls.{KeepsPages, StallCause}
+use Rattle.paging.specs.Calls.{KeepsPages}
+use Rattle.paging.specs.Stalls.{StallCause}
 use Rattle.paging.specs.Capacity.{IsShort}
 use Rattle.paging.proofs.Entries.{entry-of}
 use Rattle.mapping.specs.Changes.{IsWhole, IsCalm, KeepsBare, LinksTables, Moves}

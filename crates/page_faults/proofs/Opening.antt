@@ -8,7 +8,7 @@ use Rattle.vm_types.specs.declared.region.Attr.{Attr}
 use Rattle.vm_types.specs.Permission as Permission
 use Rattle.vm_types.specs.Verdict.{lets}
 use Rattle.regions.specs.Permission.{ReadsToo}
-use Rattle.mapping.specs.Leaves.{IsEntryOver}
+use Rattle.page_tables.specs.Leaves.{IsEntryOver}
 use Rattle.paging.specs.Picture.{Picture}
 use Rattle.paging.specs.Parts.{IsFit}
 use Rattle.page_faults.specs.Granted.{Opens}

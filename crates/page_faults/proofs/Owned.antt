@@ -11,10 +11,10 @@ use Rattle.frames.specs.FrameTable.{bytes_of, IsSound}
 use Rattle.paging.specs.declared.kernel.Core.{Core}
 use Rattle.paging.specs.Picture.{Picture, picture_of, entry, is_private, is_swapped}
 use Rattle.paging.specs.Parts.{IsFit, IsBehind, is_shared}
-use Rattle.paging.specs.Calls.{StallCause}
+use Rattle.paging.specs.Stalls.{HasStallCause}
 use Rattle.paging.specs.Capacity.{IsShort}
 use Rattle.paging.specs.Shows.{KeepsFiles}
-use Rattle.mapping.specs.Leaves.{IsEntryOver}
+use Rattle.page_tables.specs.Leaves.{IsEntryOver}
 use Rattle.mapping.specs.Changes.{IsCalm, KeepsViews, KeepsOtherViews, is_sole, shown_bytes}
 use Rattle.mapping.proofs.BroughtIn.{cause_of}
 use Rattle.page_faults.specs.Granted.{IsEntered, IsReadyAt}
@@ -59,7 +59,7 @@ module _ {D E : Type 0} (old new : Core D E) (pid page : ℕ) (a : Attr) (was : 
 
   module _ (g : Ghosts D) (h : Ghosts E) where
     pub owned_stalled : (r : Result FrameNo Stall) → new.store ≡ old.store → KeepsFiles (picture_of old) (picture_of new) → OnErr r (KeepsViews (picture_of old) (picture_of new))
-        → OnErr r (is_sole (picture_of old) (entry (picture_of old) pid page) ≡ false) → IfErr r (StallCause h old new) → IfErr r (IsShort (picture_of new))
+        → OnErr r (is_sole (picture_of old) (entry (picture_of old) pid page) ≡ false) → HasStallCause h old new r → IfErr r (IsShort (picture_of new))
         → IfErr r (IsStalled g h old new pid page Store)
     owned_stalled (Ok n) same files views several cause short = tt
     owned_stalled (Err s) same files views several cause short = record {

@@ -16,9 +16,9 @@ use Rattle.sv39_walk.specs.Entry.{frame_of}
 use Rattle.paging.specs.Seats.{Seat, seat, is_private, is_swapped}
 use Rattle.paging.specs.Picture.{Picture, entry, own_in, bytes_in, view}
 use Rattle.paging.specs.Parts.{IsFit, IsBehind, is_shared}
-use Rattle.mapping.specs.Leaves.{IsEntryOver}
+use Rattle.page_tables.specs.Leaves.{IsEntryOver}
 use Rattle.mapping.specs.Changes.{KeepsSeen, KeepsOtherViews, frame_of_place, frame_behind, shown_bytes}
-use Rattle.mapping.proofs.Bits.{over_some}
+use Rattle.page_tables.proofs.Bits.{over_some}
 use Rattle.mapping.proofs.Forms.{mapped_page, over_here, seat_common}
 use Rattle.mapping.proofs.OwnSteps.{shown_own, shown_common}
 use Rattle.mapping.proofs.Steps.{seen_then}

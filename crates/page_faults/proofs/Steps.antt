@@ -17,10 +17,11 @@ use Rattle.page_cache.specs.declared.place.Place.TheVariants.{Home, Frame, Slot}
 use Rattle.frames.specs.FrameTable.{bytes_of}
 use Rattle.paging.specs.declared.kernel.Core.{Core}
 use Rattle.paging.specs.Picture.{Picture, picture_of, held, bytes_at}
-use Rattle.paging.specs.Calls.{KeepsPages, StallCause}
-use Rattle.paging.specs.Reading.{ReadsStore, ReadCause}
+use Rattle.paging.specs.Calls.{KeepsPages}
+use Rattle.paging.specs.Stalls.{StallCause, HasStallCause, CountsNothing, ReadCause}
+use Rattle.paging.specs.Reading.{ReadsStore}
 use Rattle.paging.specs.Shows.{KeepsFiles}
-use Rattle.mapping.specs.Changes.{KeepsSeen, Moves, MarksTouched}
+use Rattle.mapping.specs.Changes.{KeepsSeen, Moves, MarksTouched, IsCalm}
 use Rattle.mapping.specs.Files.{IsBrought, Stays, Leaves, Comes, BringsPages, Proceeds}
 use Rattle.mapping.proofs.Steps.{spaces_then, room_then, tables_then, device_then}
 use Rattle.mapping.proofs.BroughtIn.{reads_none}
@@ -93,9 +94,6 @@ module _ {D : Type 0} (g : Ghosts D) where
     files = λ f. files f ∙ brings.files f;
   }
 
-  pub calm_store : {E : Type 0} (a b c : Core D E) → c.store ≡ b.store → g.failures b.store.disk ≡ g.failures a.store.disk → g.failures c.store.disk ≡ g.failures a.store.disk
-  calm_store a b c same calm = ap (λ s. g.failures s.disk) same ∙ calm
-
   module _ {E : Type 0} (h : Ghosts E) where
     -- frames were given up before
     pub proceeds_after : (a b c : Core D E) → Moves h a b → Proceeds g h b c → Proceeds g h a c
@@ -150,6 +148,19 @@ module _ {D : Type 0} (g : Ghosts D) where
     cause_then a b c SwapDevice swap_calm same calm x = (x.0 ∙ same, x.1 ∙ calm, (let m = x.2 in omega (arith, swap_calm, m)))
     cause_then a b c StoreDevice swap_calm same calm x = (x.0 ∙ same, (let m = x.1 in omega (arith, calm, m)), x.2 ∙ swap_calm)
 
+    -- nothing is counted in two steps, one after the other
+    pub counts_then : (a b c : Core D E) → CountsNothing g h a b → CountsNothing g h b c → CountsNothing g h a c
+    counts_then a b c p q = (q.0 ∙ p.0, q.1 ∙ p.1, q.2 ∙ p.2)
+
+    -- nor where one entry changed
+    pub counts_calm : (a b : Core D E) (pid page : ℕ) → IsCalm a b pid page → CountsNothing g h a b
+    counts_calm a b pid page calm = (calm.refused, ap (λ s. g.failures s.disk) calm.store, ap (λ s. h.failures s.pages.disk) calm.swap)
+
+    -- nor where a frame was had, and the store was left alone
+    pub counts_done : (a b : Core D E) (r : Result FrameNo Stall) → b.store ≡ a.store → HasStallCause h a b r → OnOk r (CountsNothing g h a b)
+    counts_done a b (Ok n) same done = (done.0, ap (λ s. g.failures s.disk) same, done.1)
+    counts_done a b (Err s) same done = tt
+
 pub ok_then : (P Q : FrameNo → Type 0) (r : Result FrameNo Stall) → ((n : FrameNo) → P n → Q n) → IfOk r P → IfOk r Q
 ok_then P Q (Ok n) each is = each n is
 ok_then P Q (Err s) each is = tt
@@ -162,10 +173,6 @@ ok_from P R Q (Err s) each p q = tt
 pub stall_then : (P Q : Stall → Type 0) (r : Result FrameNo Stall) → ((s : Stall) → P s → Q s) → IfErr r P → IfErr r Q
 stall_then P Q (Ok n) each is = tt
 stall_then P Q (Err s) each is = each s is
-
-pub on_ok : (P : Type 0) (r : Result FrameNo Stall) → P → OnOk r P
-on_ok P (Ok n) p = p
-on_ok P (Err s) p = tt
 
 pub on_ok_then : (P Q : Type 0) (r : Result FrameNo Stall) → (P → Q) → OnOk r P → OnOk r Q
 on_ok_then P Q (Ok n) each p = each p

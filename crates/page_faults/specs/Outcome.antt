@@ -22,7 +22,7 @@ use Rattle.page_cache.specs.declared.place.Place.TheVariants.{Frame}
 use Rattle.paging.specs.declared.kernel.Core.{Core}
 use Rattle.paging.specs.Picture.{Picture, picture_of, view, entry, own_in}
 use Rattle.paging.specs.Capacity.{IsShort}
-use Rattle.paging.specs.Reading.{ReadCause}
+use Rattle.paging.specs.Stalls.{ReadCause}
 use Rattle.mapping.specs.Changes.{KeepsSeen}
 use Rattle.page_faults.specs.declared.refusal.AccessRefusal.{AccessRefusal}
 use Rattle.page_faults.specs.declared.refusal.AccessRefusal.TheVariants as Refusal

@@ -5,6 +5,7 @@ ghost use Rattle.file_store.specs.Store.{IsReadyStore};
 ghost use Rattle.swap.specs.Slots.{IsReady};
 ghost use Rattle.paging.specs.Picture.{picture_of, is_live, entry, is_swapped};
 ghost use Rattle.paging.specs.Parts.{IsFit};
+ghost use Rattle.paging.specs.Stalls.{CountsNothing};
 ghost use Rattle.mapping.specs.Changes.{IsCalm, IsThatPage, KeepsOtherViews, KeepsSlotted};
 ghost use Rattle.mapping.specs.Files.{Proceeds, BringsFiles};
 ghost use Rattle.page_faults.specs.Wants.{Wants, ReadsHome, ShowsFile};
@@ -53,9 +54,7 @@ pub fn access<D: SectorDisk, E: SectorDisk>(
     ensures walked { (place : Phys) → IsWalked (picture_of core.old) pid addr width access place → (core.new ≡ core.old) × (result ≡ Ok place) }
     ensures calm { (Wants (picture_of core.old) pid (addr / 4096) access → ⊥) → IsCalm core.old core.new pid (addr / 4096) }
     ensures read { (core.new.store ≡ core.old.store) ⊎ ReadsHome (picture_of core.old) pid (addr / 4096) }
-    ensures not_refused { OnOk result (core.new.refused.number ≡ core.old.refused.number) }
-    ensures swap_calm { OnOk result (E.failures core.new.swap.pages.disk ≡ E.failures core.old.swap.pages.disk) }
-    ensures device_calm { OnOk result (D.failures core.new.store.disk ≡ D.failures core.old.store.disk) }
+    ensures counts { OnOk result (CountsNothing D.SectorDisk E.SectorDisk core.old core.new) }
     ensures refusal { IfErr result (IsRefusal D.SectorDisk E.SectorDisk core.old core.new pid addr width access) }
 {
     match find(core, pid, addr, width, access) {

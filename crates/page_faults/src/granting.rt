@@ -7,6 +7,7 @@ ghost use Rattle.swap.specs.Slots.{IsReady};
 ghost use Rattle.paging.specs.Seats.{seat};
 ghost use Rattle.paging.specs.Picture.{picture_of, is_live, entry, is_private, is_swapped};
 ghost use Rattle.paging.specs.Parts.{IsFit, IsBehind, is_shared};
+ghost use Rattle.paging.specs.Stalls.{CountsNothing};
 ghost use Rattle.mapping.specs.Changes.{IsLinked, IsCalm, IsThatPage, KeepsOtherViews, KeepsSlotted};
 ghost use Rattle.mapping.specs.Files.{Proceeds, BringsFiles};
 ghost use Rattle.page_faults.specs.Wants.{Wants, ReadsHome, ShowsFile};
@@ -49,9 +50,7 @@ pub(crate) fn grant<D: SectorDisk, E: SectorDisk>(
     ensures slotted { KeepsSlotted (ShowsFile (picture_of core.old) pid page) (IsThatPage pid page) (picture_of core.old) (picture_of core.new) }
     ensures calm { (Wants (picture_of core.old) pid page access → ⊥) → IsCalm core.old core.new pid page }
     ensures read { (core.new.store ≡ core.old.store) ⊎ ReadsHome (picture_of core.old) pid page }
-    ensures not_refused { OnOk result (core.new.refused.number ≡ core.old.refused.number) }
-    ensures swap_calm { OnOk result (E.failures core.new.swap.pages.disk ≡ E.failures core.old.swap.pages.disk) }
-    ensures device_calm { OnOk result (D.failures core.new.store.disk ≡ D.failures core.old.store.disk) }
+    ensures counts { OnOk result (CountsNothing D.SectorDisk E.SectorDisk core.old core.new) }
     ensures stalled { IfErr result (IsStalled D.SectorDisk E.SectorDisk core.old core.new pid page access) }
 {
     link_tables(core, pid, page)?;
@@ -79,12 +78,10 @@ fn grant_linked<D: SectorDisk, E: SectorDisk>(
     ensures slotted { KeepsSlotted (ShowsFile (picture_of core.old) pid page) (IsThatPage pid page) (picture_of core.old) (picture_of core.new) }
     ensures calm { (Wants (picture_of core.old) pid page access → ⊥) → IsCalm core.old core.new pid page }
     ensures read { (core.new.store ≡ core.old.store) ⊎ ReadsHome (picture_of core.old) pid page }
-    ensures not_refused { OnOk result (core.new.refused.number ≡ core.old.refused.number) }
-    ensures swap_calm { OnOk result (E.failures core.new.swap.pages.disk ≡ E.failures core.old.swap.pages.disk) }
-    ensures device_calm { OnOk result (D.failures core.new.store.disk ≡ D.failures core.old.store.disk) }
+    ensures counts { OnOk result (CountsNothing D.SectorDisk E.SectorDisk core.old core.new) }
     ensures stalled { IfErr result (IsStalled D.SectorDisk E.SectorDisk core.old core.new pid page access) }
 {
-    if is_swapped(entry_at(core, pid, page)) {
+    if entry_at(core, pid, page).is_swapped() {
         return swap_in(core, pid, page, attr);
     }
     match access {
@@ -115,9 +112,7 @@ fn grant_read<D: SectorDisk, E: SectorDisk>(
     ensures slotted { KeepsSlotted (ShowsFile (picture_of core.old) pid page) (IsThatPage pid page) (picture_of core.old) (picture_of core.new) }
     ensures calm { (Wants (picture_of core.old) pid page access → ⊥) → IsCalm core.old core.new pid page }
     ensures read { (core.new.store ≡ core.old.store) ⊎ ReadsHome (picture_of core.old) pid page }
-    ensures not_refused { OnOk result (core.new.refused.number ≡ core.old.refused.number) }
-    ensures swap_calm { OnOk result (E.failures core.new.swap.pages.disk ≡ E.failures core.old.swap.pages.disk) }
-    ensures device_calm { OnOk result (D.failures core.new.store.disk ≡ D.failures core.old.store.disk) }
+    ensures counts { OnOk result (CountsNothing D.SectorDisk E.SectorDisk core.old core.new) }
     ensures stalled { IfErr result (IsStalled D.SectorDisk E.SectorDisk core.old core.new pid page access) }
 {
     let entry = entry_at(core, pid, page);
@@ -158,9 +153,7 @@ fn grant_store<D: SectorDisk, E: SectorDisk>(
     ensures slotted { KeepsSlotted (ShowsFile (picture_of core.old) pid page) (IsThatPage pid page) (picture_of core.old) (picture_of core.new) }
     ensures calm { (Wants (picture_of core.old) pid page Access.Store → ⊥) → IsCalm core.old core.new pid page }
     ensures read { (core.new.store ≡ core.old.store) ⊎ ReadsHome (picture_of core.old) pid page }
-    ensures not_refused { OnOk result (core.new.refused.number ≡ core.old.refused.number) }
-    ensures swap_calm { OnOk result (E.failures core.new.swap.pages.disk ≡ E.failures core.old.swap.pages.disk) }
-    ensures device_calm { OnOk result (D.failures core.new.store.disk ≡ D.failures core.old.store.disk) }
+    ensures counts { OnOk result (CountsNothing D.SectorDisk E.SectorDisk core.old core.new) }
     ensures stalled { IfErr result (IsStalled D.SectorDisk E.SectorDisk core.old core.new pid page Access.Store) }
 {
     match attr.backing {
@@ -198,9 +191,7 @@ fn grant_own<D: SectorDisk, E: SectorDisk>(
     ensures slotted { KeepsSlotted (ShowsFile (picture_of core.old) pid page) (IsThatPage pid page) (picture_of core.old) (picture_of core.new) }
     ensures calm { (Wants (picture_of core.old) pid page Access.Store → ⊥) → IsCalm core.old core.new pid page }
     ensures read { (core.new.store ≡ core.old.store) ⊎ ReadsHome (picture_of core.old) pid page }
-    ensures not_refused { OnOk result (core.new.refused.number ≡ core.old.refused.number) }
-    ensures swap_calm { OnOk result (E.failures core.new.swap.pages.disk ≡ E.failures core.old.swap.pages.disk) }
-    ensures device_calm { OnOk result (D.failures core.new.store.disk ≡ D.failures core.old.store.disk) }
+    ensures counts { OnOk result (CountsNothing D.SectorDisk E.SectorDisk core.old core.new) }
     ensures stalled { IfErr result (IsStalled D.SectorDisk E.SectorDisk core.old core.new pid page Access.Store) }
 {
     own_frame(core, pid, page, attr)
@@ -228,9 +219,7 @@ fn grant_copy<D: SectorDisk, E: SectorDisk>(
     ensures slotted { KeepsSlotted (ShowsFile (picture_of core.old) pid page) (IsThatPage pid page) (picture_of core.old) (picture_of core.new) }
     ensures calm { (Wants (picture_of core.old) pid page Access.Store → ⊥) → IsCalm core.old core.new pid page }
     ensures read { (core.new.store ≡ core.old.store) ⊎ ReadsHome (picture_of core.old) pid page }
-    ensures not_refused { OnOk result (core.new.refused.number ≡ core.old.refused.number) }
-    ensures swap_calm { OnOk result (E.failures core.new.swap.pages.disk ≡ E.failures core.old.swap.pages.disk) }
-    ensures device_calm { OnOk result (D.failures core.new.store.disk ≡ D.failures core.old.store.disk) }
+    ensures counts { OnOk result (CountsNothing D.SectorDisk E.SectorDisk core.old core.new) }
     ensures stalled { IfErr result (IsStalled D.SectorDisk E.SectorDisk core.old core.new pid page Access.Store) }
 {
     cached(core, file_page)?;
@@ -258,19 +247,10 @@ fn grant_shared<D: SectorDisk, E: SectorDisk>(
     ensures slotted { KeepsSlotted (ShowsFile (picture_of core.old) pid page) (IsThatPage pid page) (picture_of core.old) (picture_of core.new) }
     ensures calm { (Wants (picture_of core.old) pid page Access.Store → ⊥) → IsCalm core.old core.new pid page }
     ensures read { (core.new.store ≡ core.old.store) ⊎ ReadsHome (picture_of core.old) pid page }
-    ensures not_refused { OnOk result (core.new.refused.number ≡ core.old.refused.number) }
-    ensures swap_calm { OnOk result (E.failures core.new.swap.pages.disk ≡ E.failures core.old.swap.pages.disk) }
-    ensures device_calm { OnOk result (D.failures core.new.store.disk ≡ D.failures core.old.store.disk) }
+    ensures counts { OnOk result (CountsNothing D.SectorDisk E.SectorDisk core.old core.new) }
     ensures stalled { IfErr result (IsStalled D.SectorDisk E.SectorDisk core.old core.new pid page Access.Store) }
 {
     let frame = cached(core, file_page)?;
     touch(core, pid, page, attr, file_page, frame);
     Ok(frame)
-}
-
-/// Whether the page lies in a slot: V is clear, and bit 1, which is that of R in a leaf, set.
-fn is_swapped(entry: Pte) -> bool
-    ensures { result ≡ is_swapped entry.0 }
-{
-    !entry.is_valid() && entry.is_readable()
 }

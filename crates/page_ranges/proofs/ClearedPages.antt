@@ -20,7 +20,7 @@ use Rattle.paging.proofs.Evicted.{seat_number}
 use Rattle.paging.proofs.Setting.{fit_set, other_views, set_held}
 use Rattle.paging.proofs.Start.{seat-none}
 use Rattle.paging.proofs.TableSteps.{sets_page, rooted_set}
-use Rattle.page_ranges.specs.Steps.{IsBeside, KeepsRest, SameButMemory, SameTables, ReturnsTables, ReturnsSlots, Clears, LacksHolder, GivesBack}
+use Rattle.page_ranges.specs.Steps.{IsBeside, KeepsBesideMemory, SameButMemory, SameTables, ReturnsTables, ReturnsSlots, Clears, LacksHolder, ReturnsSeat}
 use Rattle.page_ranges.proofs.Returning.{same_but-refl}
 use Rattle.page_ranges.proofs.Sharing.{fit_emptied, owned_emptied}
 
@@ -56,10 +56,10 @@ but_then a b c one two = record {
   files = λ f. two.files f ∙ one.files f;
 }
 
-pub rest-refl : {D E : Type 0} (c : Core D E) → KeepsRest c c
+pub rest-refl : {D E : Type 0} (c : Core D E) → KeepsBesideMemory c c
 rest-refl c = record { store = refl; pages = refl; cache = refl; roots = refl; regions = refl; page_of = refl }
 
-pub rest_then : {D E : Type 0} (a b c : Core D E) → KeepsRest a b → KeepsRest b c → KeepsRest a c
+pub rest_then : {D E : Type 0} (a b c : Core D E) → KeepsBesideMemory a b → KeepsBesideMemory b c → KeepsBesideMemory a c
 rest_then a b c one two = record {
   store = two.store ∙ one.store;
   pages = two.pages ∙ one.pages;
@@ -217,7 +217,7 @@ module _ (old mid : Picture) (pid r page : ℕ) (fit : IsFit old) (root : old.ro
   lacks_out = lacks_seat (seat (entry old pid page)) refl
 
   -- and the share of what it named was given back
-  module _ (new : Picture) (gives : GivesBack mid new (seat (entry old pid page))) where
+  module _ (new : Picture) (gives : ReturnsSeat mid new (seat (entry old pid page))) where
     pub tables_page : SameTables old.frames new.frames
     tables_page = tables_then old.frames mid.frames new.frames tables_out gives.tables
 

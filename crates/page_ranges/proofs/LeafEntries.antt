@@ -6,8 +6,8 @@ use Rattle.vm_types.specs.declared.permission.Prot.{Prot}
 use Rattle.vm_types.specs.Permission as Permission
 use Rattle.sv39_walk.specs.Entry.{has_bit, is_valid, can_read, can_write, can_execute, is_dirty, frame_of}
 use Rattle.paging.specs.Picture.{is_private, is_swapped}
-use Rattle.mapping.specs.Leaves.{IsEntryOver, is_barred}
-use Rattle.mapping.proofs.Bits.{parked_invalid, parked_framed, parked_unexecutable, over_some}
+use Rattle.page_tables.specs.Leaves.{IsEntryOver, is_barred}
+use Rattle.page_tables.proofs.Bits.{parked_invalid, parked_framed, parked_unexecutable, over_some}
 use Rattle.page_ranges.specs.Leaves.{needs_no_mark, IsPermittedEntry}
 
 -- whether a permission lets anything be done

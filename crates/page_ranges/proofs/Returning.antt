@@ -25,7 +25,7 @@ use Rattle.paging.proofs.Setting.{held_same}
 use Rattle.paging.proofs.SlotReleased.{fit_slot_released}
 use Rattle.mapping.proofs.Forms.{seat_own, seat_common}
 use Rattle.mapping.proofs.SwapSteps.{swapped_form, away_seat, views_given, held_given}
-use Rattle.page_ranges.specs.Steps.{SameButMemory, LacksHolder, GivesBack}
+use Rattle.page_ranges.specs.Steps.{SameButMemory, LacksHolder, ReturnsSeat}
 use Rattle.page_ranges.proofs.Sharing.{private_data}
 
 -- what lacks the holder of a seat
@@ -57,7 +57,7 @@ pub same_but-refl : (c : Picture) → SameButMemory c c
 same_but-refl c = record { root = λ q. refl; at = λ q p. refl; page_of = λ n. refl; place = λ p. refl; touched = λ p. refl; files = λ f. refl }
 
 -- nothing was given back
-pub gives_none : (c : Picture) (o : Option Seat) → o ≡ None → GivesBack c c o
+pub gives_none : (c : Picture) (o : Option Seat) → o ≡ None → ReturnsSeat c c o
 gives_none c o none = record {
   beside = same_but-refl c;
   entries = λ q p. refl;
@@ -88,7 +88,7 @@ module _ (old : Picture) (k : ℕ) (fit : IsFitBut old (InSlot k) 1 0) (has : Is
   slot_counts : (j : ℕ) → j ≢ k → t.count j ≡ old.slots.count j
   slot_counts j ne = releases.others.counts j ne
 
-  pub gives_slot : GivesBack old (record old { slots = t }) o
+  pub gives_slot : ReturnsSeat old (record old { slots = t }) o
   gives_slot = record {
     beside = record { root = λ q. refl; at = λ q p. refl; page_of = λ n. refl; place = λ p. refl; touched = λ p. refl; files = λ f. refl };
     entries = (with_slots old t).entries;
@@ -137,7 +137,7 @@ module _ (old : Picture) (n : ℕ) (fit : IsFitBut old (InFrame n) 1 0) (own : r
     | inr ne ↦ sym (releases.others.roles m ne) ∙ e
   ]
 
-  pub gives_frame : GivesBack old new o
+  pub gives_frame : ReturnsSeat old new o
   gives_frame = record {
     beside = record { root = λ q. refl; at = λ q p. refl; page_of = λ m. refl; place = λ p. refl; touched = λ p. refl; files = λ f. refl };
     entries = same old new n 0 fit own releases beside;

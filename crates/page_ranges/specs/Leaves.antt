@@ -11,7 +11,7 @@ use Rattle.page_tables.specs.Tree.{IsPage}
 use Rattle.paging.specs.Parts.{is_shared}
 use Rattle.paging.specs.Picture.{Picture, entry, is_private, is_swapped}
 use Rattle.paging.specs.Steps.{SameBeside}
-use Rattle.mapping.specs.Leaves.{IsEntryOver}
+use Rattle.page_tables.specs.Leaves.{IsEntryOver}
 use Rattle.page_ranges.specs.Steps.{IsBeside}
 
 -- whether stores to the frame that an entry names need no further mark: it is the process's own, or D is set

@@ -27,7 +27,7 @@ pub record SameButMemory (old new : Picture) : Type 0 where
 
 module _ {D E : Type 0} where
   -- all but frames and the share counts of slots is as it was
-  pub record KeepsRest (old new : Core D E) : Type 0 where
+  pub record KeepsBesideMemory (old new : Core D E) : Type 0 where
     pub store : new.store ≡ old.store
     pub pages : new.swap.pages ≡ old.swap.pages
     pub cache : new.cache ≡ old.cache
@@ -107,7 +107,7 @@ pub record ReturnsShare (old new : SlotTable) (share : Option Seat) : Type 0 whe
 
 -- The share of a seat, if any, was given back: every entry is the same number, no page is seen otherwise, and all tables are
 -- as they were.
-pub record GivesBack (old new : Picture) (share : Option Seat) : Type 0 where
+pub record ReturnsSeat (old new : Picture) (share : Option Seat) : Type 0 where
   pub beside : SameButMemory old new
   pub entries : (q page : ℕ) → entry new q page ≡ entry old q page
   pub views : (q page : ℕ) → view new q page ≡ view old q page

@@ -9,7 +9,7 @@ ghost use Rattle.paging.specs.Picture.{picture_of, is_live};
 ghost use Rattle.paging.specs.Parts.{IsFit};
 ghost use Rattle.mapping.specs.Changes.{IsWhole};
 ghost use Rattle.page_ranges.specs.Rows.{RemapsRow};
-ghost use Rattle.page_ranges.specs.Steps.{KeepsRest, KeepsEntriesOfOthers, SameTables, ReturnsTables, ReturnsSlots, Clears, IsWithoutTables, IsCleared, LacksHolder, GivesBack, IsStepEnd};
+ghost use Rattle.page_ranges.specs.Steps.{KeepsBesideMemory, KeepsEntriesOfOthers, SameTables, ReturnsTables, ReturnsSlots, Clears, IsWithoutTables, IsCleared, LacksHolder, ReturnsSeat, IsStepEnd};
 
 use crate::rows::{middle_end, table_end, user_page};
 use mapped_memory::{missing_tables, number_in, prune, set_in, table_of};
@@ -32,7 +32,7 @@ pub fn clear_row<D, E>(core: &mut Core<D, E>, pid: Pid, first: u64, pages: u64)
     ensures tables { ReturnsTables (picture_of core.old) (picture_of core.new) pid }
     ensures none_left { IsWithoutTables (picture_of core.new) pid first (first + pages) }
     ensures slots { ReturnsSlots (picture_of core.old) (picture_of core.new) pid first (first + pages) }
-    ensures rest { KeepsRest core.old core.new }
+    ensures rest { KeepsBesideMemory core.old core.new }
     ensures refused { core.new.refused ≡ core.old.refused }
 {
     let end = first + pages;
@@ -56,7 +56,7 @@ fn clear_next<D, E>(core: &mut Core<D, E>, pid: Pid, start: Vpn, end: u64) -> u6
     ensures ends { IsStepEnd (picture_of core.old) pid start end result }
     ensures clears { Clears (picture_of core.old) (picture_of core.new) pid start result }
     ensures cleared { (low : ℕ) → low ≤ start → IsCleared (picture_of core.old) pid low start → IsCleared (picture_of core.new) pid low result }
-    ensures rest { KeepsRest core.old core.new }
+    ensures rest { KeepsBesideMemory core.old core.new }
     ensures refused { core.new.refused ≡ core.old.refused }
 {
     let top_table = root_of(core, pid);
@@ -86,7 +86,7 @@ fn clear_table<D, E>(core: &mut Core<D, E>, pid: Pid, start: Vpn, stop: u64)
     ensures fit { IsFit (picture_of core.new) }
     ensures clears { Clears (picture_of core.old) (picture_of core.new) pid start stop }
     ensures cleared { (low : ℕ) → low ≤ start → IsCleared (picture_of core.old) pid low start → IsCleared (picture_of core.new) pid low stop }
-    ensures rest { KeepsRest core.old core.new }
+    ensures rest { KeepsBesideMemory core.old core.new }
     ensures refused { core.new.refused ≡ core.old.refused }
 {
     let root = root_of(core, pid);
@@ -110,7 +110,7 @@ fn clear_page<D, E>(core: &mut Core<D, E>, pid: Pid, root: FrameNo, table: Frame
     ensures clears { Clears (picture_of core.old) (picture_of core.new) pid page (page + 1) }
     ensures tables { SameTables core.old.frames core.new.frames }
     ensures places { (row n : ℕ) → IsTableOf core.old.frames root.0 row n → IsTableOf core.new.frames root.0 row n }
-    ensures rest { KeepsRest core.old core.new }
+    ensures rest { KeepsBesideMemory core.old core.new }
     ensures refused { core.new.refused ≡ core.old.refused }
 {
     let index = (page.get() % 512) as usize;
@@ -128,8 +128,8 @@ fn give_back<D, E>(core: &mut Core<D, E>, number: Pte)
     requires form { IsPageEntry number.0 }
     requires lacks { LacksHolder (picture_of core.old) (seat number.0) }
     ensures fit { IsFit (picture_of core.new) }
-    ensures gives { GivesBack (picture_of core.old) (picture_of core.new) (seat number.0) }
-    ensures rest { KeepsRest core.old core.new }
+    ensures gives { ReturnsSeat (picture_of core.old) (picture_of core.new) (seat number.0) }
+    ensures rest { KeepsBesideMemory core.old core.new }
     ensures refused { core.new.refused ≡ core.old.refused }
 {
     if let Entry::Swapped(slot) = decode(number) {

@@ -7,8 +7,7 @@ ghost use Rattle.regions.specs.Permission.{ReadsToo};
 ghost use Rattle.paging.specs.Picture.{is_private};
 ghost use Rattle.page_ranges.specs.Leaves.{IsPermittedEntry};
 
-use mapping::{Grant, entry_over};
-use page_tables::Entry;
+use page_tables::{Entry, Grant, entry_over};
 use sv39_walk::Pte;
 use vm_types::Prot;
 

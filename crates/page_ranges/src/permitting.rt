@@ -142,7 +142,7 @@ fn permit_page<D, E>(
     if number.to_u64() == 0 {
         return;
     }
-    if is_swapped(number) {
+    if number.is_swapped() {
         return;
     }
     let writable = takes_stores(core, pid, page, number, prot);
@@ -152,13 +152,6 @@ fn permit_page<D, E>(
         index,
         permitted(number, prot, writable),
     );
-}
-
-/// Whether the page lies in a slot: V is clear, and bit 1, which is that of R in a leaf, set.
-fn is_swapped(number: Pte) -> bool
-    ensures { result ≡ is_swapped number.0 }
-{
-    !number.is_valid() && number.is_readable()
 }
 
 /// Whether a store may go to the frame that a page's entry names: the permission allows it, and either the frame is the

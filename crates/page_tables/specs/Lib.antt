@@ -1,4 +1,5 @@
 pub mod Entry
+pub mod Leaves
 pub mod Tree
 pub mod Change
 pub mod Places

@@ -3,11 +3,13 @@
 #![tactic(auto)]
 
 mod forms;
+mod leaves;
 mod tables;
 #[cfg(test)]
 mod tests;
 
 pub use forms::{Entry, decode};
+pub use leaves::{Grant, entry_over};
 pub use tables::{
     entry, entry_number, link_table, missing_tables, number_in, prune, set, set_in, table_of,
     take_table,

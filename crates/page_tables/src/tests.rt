@@ -1,9 +1,12 @@
 use crate::forms::encode;
-use crate::{Entry, entry, entry_number, link_table, missing_tables, prune, set, take_table};
+use crate::{
+    Entry, Grant, entry, entry_number, entry_over, link_table, missing_tables, prune, set,
+    take_table,
+};
 use frames::Frames;
 use std::test::Fail;
 use sv39_walk::Pte;
-use vm_types::{FrameNo, SlotNo, Vpn};
+use vm_types::{FrameNo, Prot, SlotNo, Vpn};
 
 #[test]
 fn numbers_of_entries(rt: HostRuntime) {
@@ -19,6 +22,34 @@ fn numbers_of_entries(rt: HostRuntime) {
     ] {
         assert_eq!(rt; entry.to_u64(), number);
         assert_eq!(rt; entry.to_u64().to_le_bytes(), [low, high, 0, 0, 0, 0, 0, 0]);
+    }
+}
+
+#[test]
+fn entries_of_pages_in_frames(rt: HostRuntime) {
+    let own = Grant {
+        frame: FrameNo(5),
+        private: true,
+        write: true,
+        dirty: true,
+    };
+    let common = Grant {
+        frame: FrameNo(9),
+        private: false,
+        write: false,
+        dirty: false,
+    };
+    for (entry, wanted) in [
+        (
+            entry_over(Prot::WRITE.kept(), own),
+            Entry::Leaf(Pte::from_u64(0x15d7)),
+        ),
+        (
+            entry_over(Prot::EXECUTE, common),
+            Entry::Leaf(Pte::from_u64(0x2459)),
+        ),
+    ] {
+        assert_eq!(rt; entry, wanted);
     }
 }
 

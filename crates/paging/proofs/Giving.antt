@@ -15,7 +15,7 @@ use Rattle.paging.specs.Parts.{IsFit}
 use Rattle.paging.specs.Steps.{SameBeside}
 use Rattle.paging.specs.Calls.{Frees}
 use Rattle.paging.specs.Evictions.{GivesUp, ClearsMarks}
-use Rattle.paging.specs.Leaves.{Changes}
+use Rattle.paging.specs.Leaves.{ChangesLeaves}
 use Rattle.paging.specs.Ages.{Ages, Same, Cleared, GivesFrame, GivesNone, GivesForTables, IsGiven, KeepsRoles, KeepsRolesBut}
 use Rattle.paging.proofs.Aging.{ages_map, ages_then}
 use Rattle.paging.proofs.Entries.{entries_kept}
@@ -29,7 +29,7 @@ on_err_same Q (Err e) is = is
 pub marks_none : (c : Picture) → ClearsMarks c c
 marks_none c = record { roles = λ n. refl; entries = λ pid page h. Same refl; pointers = λ n i m points. points }
 
-pub marks_then : (s old new : Picture) (n : ℕ) → ClearsMarks s old → Changes ClearAccessed n old new → ClearsMarks s new
+pub marks_then : (s old new : Picture) (n : ℕ) → ClearsMarks s old → ChangesLeaves ClearAccessed n old new → ClearsMarks s new
 marks_then s old new n marks ch = record {
   roles = λ m. ch.roles m ∙ marks.roles m;
   entries = λ pid page h. ages_then (λ m. ⊥) (entry s pid page) (entry old pid page) (entry new pid page) (marks.entries pid page h) (elim (ch.entries pid page h) [

@@ -29,7 +29,7 @@ use Rattle.paging.specs.Parts.{IsEntryFor, IsResident, IsBehind, IsFit, nowhere}
 use Rattle.paging.specs.Steps.{SameBeside, SetsPage}
 use Rattle.paging.specs.declared.leaves.Held.{Held}
 use Rattle.paging.specs.declared.leaves.Held.TheVariants.{Own, Filed}
-use Rattle.paging.specs.Leaves.{concerns, IsOver, IsChanged, Changes, Holds, KeepsAllButFrames, IsPageOver, IsRunOf}
+use Rattle.paging.specs.Leaves.{concerns, IsOver, IsChanged, ChangesLeaves, Holds, KeepsAllButFrames, IsPageOver, IsRunOf}
 use Rattle.paging.proofs.Bits.{some_framed, resident_of, changed_once, seat_changed, for_changed, valid_zero, leaf_accessed}
 use Rattle.paging.proofs.Entries.{entry-of}
 use Rattle.paging.proofs.Granting.{entry_for-same, granting_changed}
@@ -240,7 +240,7 @@ module _ (old new : Picture) (change : Change) (n pid r page number : ℕ) (fit 
   seat_bytes (InFrame m) is = sets.kept.bytes m (λ t. (let bad : Private ≡ Table = sym is ∙ t in (cc)))
   seat_bytes (InSlot j) is = ap (λ t. t.bytes j) beside.slots
 
-  pub changes_one : Changes change n old new
+  pub changes_one : ChangesLeaves change n old new
   changes_one = record {
     beside = beside;
     frames = sets.kept.frames;
@@ -269,7 +269,7 @@ module _ (old new : Picture) (change : Change) (n pid r page number : ℕ) (fit 
   clear_here now = false≢true (sym (changed_once change (entry old pid page) number changed) ∙ sym (ap (concerns change) one_page.changed) ∙ now.concerned)
 
 -- entries changed, and others after them
-pub changes_none : (change : Change) (n : ℕ) (c : Picture) → Changes change n c c
+pub changes_none : (change : Change) (n : ℕ) (c : Picture) → ChangesLeaves change n c c
 changes_none change n c = record {
   beside = record { slots = refl; root = λ p. refl; at = λ p k. refl; page_of = λ m. refl; place = λ p. refl; touched = λ p. refl; files = λ f. refl };
   frames = refl;
@@ -283,13 +283,13 @@ changes_none change n c = record {
 }
 
 -- what was clear is clear still
-pub still_clear : (change : Change) (n pid k : ℕ) (old new : Picture) → Changes change n old new → IsPage 2 k → (IsOver old change n pid k → ⊥) → IsOver new change n pid k → ⊥
+pub still_clear : (change : Change) (n pid k : ℕ) (old new : Picture) → ChangesLeaves change n old new → IsPage 2 k → (IsOver old change n pid k → ⊥) → IsOver new change n pid k → ⊥
 still_clear change n pid k old new changes h clear over = elim (changes.entries pid k h) [
   | inl same ↦ clear (record { concerned = ap (concerns change) (sym same) ∙ over.concerned; frame = ap frame_of (sym same) ∙ over.frame })
   | inr was ↦ clear was.0
 ]
 
-pub changes_then : (change : Change) (n : ℕ) (a b c : Picture) → Changes change n a b → Changes change n b c → Changes change n a c
+pub changes_then : (change : Change) (n : ℕ) (a b c : Picture) → ChangesLeaves change n a b → ChangesLeaves change n b c → ChangesLeaves change n a c
 changes_then change n a b c f g = record {
   beside = record {
     slots = g.beside.slots ∙ f.beside.slots;
@@ -321,7 +321,7 @@ changes_then change n a b c f g = record {
   ];
 }
 
-pub holds_kept : (change : Change) (n : ℕ) (old new : Picture) (held : Held) → Changes change n old new → Holds old n held → Holds new n held
+pub holds_kept : (change : Change) (n : ℕ) (old new : Picture) (held : Held) → ChangesLeaves change n old new → Holds old n held → Holds new n held
 holds_kept change n old new (Own page) changes is = (changes.roles n ∙ is.0, changes.beside.page_of n ∙ is.1)
 holds_kept change n old new (Filed p) changes is = changes.beside.place p ∙ is
 

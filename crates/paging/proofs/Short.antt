@@ -8,7 +8,7 @@ use Rattle.frames.specs.declared.role.Role.{Role}
 use Rattle.frames.specs.declared.role.Role.TheVariants.{Free, Zero, Table, Private, Cache}
 use Rattle.frames.specs.FrameTable.{FrameTable, frame_count, role_of, IsFrame, IsSound}
 use Rattle.paging.specs.Picture.{Picture, is_data}
-use Rattle.paging.specs.Calls.{IsKept, Refuses}
+use Rattle.paging.specs.Calls.{IsToKeep, Refuses}
 use Rattle.paging.specs.Capacity.{is_table, table_frames}
 
 count-or : (f g : ℕ → Bool) (n : ℕ) → count_below (λ k. f k || g k) n ≤ count_below f n + count_below g n
@@ -57,7 +57,7 @@ module _ (c : Picture) (keep : Option FrameNo) (sound : IsSound c.frames) (refus
   or_left false b t = absurd (false≢true t)
   or_left true b t = refl
 
-  kept : (keep' : Option FrameNo) (n : ℕ) → ((IsKept keep' n → ⊥) → ⊥) → (n == kept_number keep') ≡ true
+  kept : (keep' : Option FrameNo) (n : ℕ) → ((IsToKeep keep' n → ⊥) → ⊥) → (n == kept_number keep') ≡ true
   kept None n not_not = absurd (not_not (λ none. none))
   kept (Some k) n not_not = elim (cases_eq n k.0) [
     | inl e ↦ eq-eqb n k.0 e

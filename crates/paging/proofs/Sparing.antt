@@ -20,9 +20,9 @@ use Rattle.paging.specs.Seats.{is_swapped}
 use Rattle.paging.specs.Picture.{Picture, entry, held, bytes_at, is_data}
 use Rattle.paging.specs.Parts.{IsFit}
 use Rattle.paging.specs.Ages.{Same, Left}
-use Rattle.paging.specs.Calls.{Frees, KeepsPages, IsKept, IsStaying}
+use Rattle.paging.specs.Calls.{Frees, KeepsPages, IsToKeep, IsStaying}
 use Rattle.paging.specs.Evictions.{Spares, GivesUp}
-use Rattle.paging.specs.Leaves.{Changes, IsOver}
+use Rattle.paging.specs.Leaves.{ChangesLeaves, IsOver}
 use Rattle.paging.proofs.Aging.{ages_then}
 use Rattle.paging.proofs.Bits.{some_framed}
 use Rattle.paging.proofs.LeafSteps.{over_common}
@@ -48,10 +48,10 @@ cases_place (Frame n) v = elim (cases_eq n.0 v) [
 ]
 
 -- what stays isn't over a frame that isn't kept
-not_kept : (v : ℕ) (keep : Option FrameNo) → (IsKept keep v → ⊥) → (n : ℕ) → IsKept keep n → n ≢ v
-not_kept v keep other n kept e = let P : ℕ → Type 0 = λ i. IsKept keep i in other (subst P e kept)
+not_kept : (v : ℕ) (keep : Option FrameNo) → (IsToKeep keep v → ⊥) → (n : ℕ) → IsToKeep keep n → n ≢ v
+not_kept v keep other n kept e = let P : ℕ → Type 0 = λ i. IsToKeep keep i in other (subst P e kept)
 
-staying : (v : ℕ) (keep : Option FrameNo) → v ≢ 0 → (IsKept keep v → ⊥) → (e : ℕ) → IsStaying keep e → (e ≡ 0) ⊎ ((is_swapped e ≡ true) ⊎ (frame_of e ≢ v))
+staying : (v : ℕ) (keep : Option FrameNo) → v ≢ 0 → (IsToKeep keep v → ⊥) → (e : ℕ) → IsStaying keep e → (e ≡ 0) ⊎ ((is_swapped e ≡ true) ⊎ (frame_of e ≢ v))
 staying v keep above other e (inl none) = inl none
 staying v keep above other e (inr (inl away)) = inr (inl away)
 staying v keep above other e (inr (inr (inl zero_page))) = inr (inr (λ is. above (sym is ∙ zero_page)))
@@ -59,7 +59,7 @@ staying v keep above other e (inr (inr (inr kept))) = inr (inr (not_kept v keep 
 
 -- the frame isn't kept: what was to stay does
 pub frees_of : (v k : ℕ) (old new : Picture) (keep : Option FrameNo) → Spares v k old new → v ≢ 0
-    → ((j : ℕ) → IsInUse old.slots j → (new.slots.bytes j ≡ old.slots.bytes j) × (new.slots.count j ≡ old.slots.count j)) → (IsKept keep v → ⊥) → Frees old new keep
+    → ((j : ℕ) → IsInUse old.slots j → (new.slots.bytes j ≡ old.slots.bytes j) × (new.slots.count j ≡ old.slots.count j)) → (IsToKeep keep v → ⊥) → Frees old new keep
 frees_of v k old new keep s above slots other = record {
   pages = s.pages;
   count = s.count;
@@ -81,7 +81,7 @@ frees_of v k old new keep s above slots other = record {
 }
 
 -- changed entries show nothing
-module _ (change : Change) (n : ℕ) (old new : Picture) (fit : IsFit old) (ch : Changes change n old new) where
+module _ (change : Change) (n : ℕ) (old new : Picture) (fit : IsFit old) (ch : ChangesLeaves change n old new) where
   not_over : (pid page : ℕ) → IsOver old change n pid page → (entry old pid page ≡ 0) ⊎ ((is_swapped (entry old pid page) ≡ true) ⊎ (frame_of (entry old pid page) ≢ n)) → ⊥
   not_over pid page over (inl none) = (some_framed change (entry old pid page) over.concerned).0 none
   not_over pid page over (inr (inl away)) = false≢true (sym (some_framed change (entry old pid page) over.concerned).1 ∙ away)
@@ -107,7 +107,7 @@ module _ (change : Change) (n : ℕ) (old new : Picture) (fit : IsFit old) (ch :
   pages_unchanged = record { root = ch.beside.root; at = ch.beside.at; views = ch.views; files = record { held = λ p. inl (held_same p); touched = ch.beside.touched; files = ch.beside.files } }
 
 -- entries over a file page's frame were forgotten
-pub forgotten_spares : (n k : ℕ) (old new : Picture) → IsFit old → role_of old.frames n ≡ Cache → Changes Forget n old new → Spares n k old new
+pub forgotten_spares : (n k : ℕ) (old new : Picture) → IsFit old → role_of old.frames n ≡ Cache → ChangesLeaves Forget n old new → Spares n k old new
 forgotten_spares n k old new fit cache ch = record {
   pages = pages_unchanged Forget n old new fit ch;
   count = ch.frames;
@@ -224,11 +224,11 @@ frees_then a b c keep f g = record {
   kept_bytes = λ n kept datum. g.kept_bytes n kept (λ t. datum (sym (f.kept_role n kept) ∙ t)) ∙ f.kept_bytes n kept datum;
 }
 
-pub gives_frees : (v : ℕ) (old new : Picture) (keep : Option FrameNo) → GivesUp v old new → v ≢ 0 → (IsKept keep v → ⊥) → Frees old new keep
+pub gives_frees : (v : ℕ) (old new : Picture) (keep : Option FrameNo) → GivesUp v old new → v ≢ 0 → (IsToKeep keep v → ⊥) → Frees old new keep
 gives_frees v old new keep gives above other =
     frees_of v gives.0 old new keep gives.2 above (λ j used. gives.2.slots j (λ e. (let P : ℕ → Type 0 = λ i. IsInUse old.slots i in gives.1 (subst P e used))) used) other
 
-pub changes_frees : (change : Change) (n : ℕ) (old new : Picture) (keep : Option FrameNo) → IsFit old → Changes change n old new → n ≢ 0 → (IsKept keep n → ⊥) → Frees old new keep
+pub changes_frees : (change : Change) (n : ℕ) (old new : Picture) (keep : Option FrameNo) → IsFit old → ChangesLeaves change n old new → n ≢ 0 → (IsToKeep keep n → ⊥) → Frees old new keep
 changes_frees change n old new keep fit ch above other = record {
   pages = pages_unchanged change n old new fit ch;
   count = ch.frames;

@@ -43,13 +43,13 @@ pub record KeepsPages (old new : Picture) : Type 0 where
   pub files : KeepsFiles old new
 
 -- whether a frame is one that is to be kept
-abbrev pub IsKept : Option FrameNo → ℕ → Type 0
-IsKept None n = ⊥
-IsKept (Some k) n = n ≡ k.0
+abbrev pub IsToKeep : Option FrameNo → ℕ → Type 0
+IsToKeep None n = ⊥
+IsToKeep (Some k) n = n ≡ k.0
 
 -- an entry that names no frame which may be given up: no frame at all, the zero page, or the frame to keep
 abbrev pub IsStaying : Option FrameNo → ℕ → Type 0
-IsStaying keep e = (e ≡ 0) ⊎ ((is_swapped e ≡ true) ⊎ ((frame_of e ≡ 0) ⊎ IsKept keep (frame_of e)))
+IsStaying keep e = (e ≡ 0) ⊎ ((is_swapped e ≡ true) ⊎ ((frame_of e ≡ 0) ⊎ IsToKeep keep (frame_of e)))
 
 -- a frame needs a slot to be given up: it is private, or holds a touched file page
 abbrev pub NeedsSlot : Picture → ℕ → Type 0
@@ -57,7 +57,7 @@ NeedsSlot c n = (role_of c.frames n ≡ Private) ⊎ ((p : FilePage) × (c.place
 
 -- a page of a process or of a file lies in the frame, and it isn't to be kept
 abbrev pub IsSpareable : Picture → Option FrameNo → ℕ → Type 0
-IsSpareable c keep n = (is_data (role_of c.frames n) ≡ true) × (IsKept keep n → ⊥)
+IsSpareable c keep n = (is_data (role_of c.frames n) ≡ true) × (IsToKeep keep n → ⊥)
 
 -- Frames may have been given up, but for one: no page is seen otherwise. Every table is where it was, and so is everything
 -- that no frame holds. Of frames some are free now, and none is new.
@@ -72,10 +72,10 @@ pub record Frees (old new : Picture) (keep : Option FrameNo) : Type 0 where
   pub total : new.slots.total ≡ old.slots.total
   pub home : (p : FilePage) → old.place p ≡ Home → new.place p ≡ Home
   pub slotted : (p : FilePage) (k : ℕ) → old.place p ≡ Slot (record { 0 = k }) → new.place p ≡ Slot (record { 0 = k })
-  pub kept_place : (p : FilePage) (n : ℕ) → IsKept keep n → old.place p ≡ Frame (record { 0 = n }) → new.place p ≡ Frame (record { 0 = n })
-  pub kept_role : (n : ℕ) → IsKept keep n → role_of new.frames n ≡ role_of old.frames n
-  pub kept_count : (n : ℕ) → IsKept keep n → count_of new.frames n ≡ count_of old.frames n
-  pub kept_bytes : (n : ℕ) → IsKept keep n → role_of old.frames n ≢ Table → bytes_of new.frames n ≡ bytes_of old.frames n
+  pub kept_place : (p : FilePage) (n : ℕ) → IsToKeep keep n → old.place p ≡ Frame (record { 0 = n }) → new.place p ≡ Frame (record { 0 = n })
+  pub kept_role : (n : ℕ) → IsToKeep keep n → role_of new.frames n ≡ role_of old.frames n
+  pub kept_count : (n : ℕ) → IsToKeep keep n → count_of new.frames n ≡ count_of old.frames n
+  pub kept_bytes : (n : ℕ) → IsToKeep keep n → role_of old.frames n ≢ Table → bytes_of new.frames n ≡ bytes_of old.frames n
 
 -- a frame was obtained, and taken for one page
 pub record ObtainsOwn (old new : Picture) (keep : Option FrameNo) (n page : ℕ) : Type 0 where
@@ -143,11 +143,3 @@ module _ {E : Type 0} (g : Ghosts E) where
     pub size : g.sector_count new ≡ g.sector_count old
     pub kept : g.keeps_model new → g.keeps_model old
     pub later : g.failures old ≤ g.failures new
-
-  module _ {D : Type 0} where
-    -- what a stall comes from, and what is counted of it: where it doesn't name the device, that counted no failure
-    abbrev pub StallCause : Core D E → Core D E → Stall → Type 0
-    StallCause old new NoFrames = (new.refused.number ≡ old.refused.number + 1) × (g.failures new.swap.pages.disk ≡ g.failures old.swap.pages.disk)
-    StallCause old new NoSwap = (new.refused.number ≡ old.refused.number + 1) × (g.failures new.swap.pages.disk ≡ g.failures old.swap.pages.disk)
-    StallCause old new SwapDevice = (new.refused.number ≡ old.refused.number) × (g.failures old.swap.pages.disk < g.failures new.swap.pages.disk)
-    StallCause old new StoreDevice = ⊥

@@ -1,6 +1,6 @@
 -- How much memory and swap is in use, against what a state needs.
 use Rattle.std.specs.Prelude.{ℕ, ◌+◌, ◌^◌, ◌<◌, ◌≤◌, Bool, true, false, if◌then◌else◌, Option}
-use Rattle.vm_types.specs.Limits.{user_end}
+use Rattle.vm_types.specs.Limits.{user_end, file_limit, file_page_limit}
 use Rattle.vm_types.specs.Capacity.{tables_of, has_own}
 use Rattle.vm_types.specs.Counting.{count_below, sum_below}
 use Rattle.vm_types.specs.View.{View}
@@ -30,7 +30,7 @@ tables_over live views = sum_below (λ pid. if live pid then tables_of (views pi
 unfoldable pub copies_over : (ℕ → ℕ → Option View) → (ℕ → ℕ → Bool) → ℕ
 copies_over views touched =
     sum_below (λ pid. count_below (λ page. has_own (views pid page)) user_end) 65
-    + sum_below (λ file. count_below (touched file) (2 ^ 20)) 64
+    + sum_below (λ file. count_below (touched file) file_page_limit) file_limit
 
 -- why no frame was to be had, by what processes see and files are touched
 unfoldable pub IsShort : Picture → Stall → Type 0

@@ -15,7 +15,7 @@ use Rattle.paging.specs.Seats.{InSlot, is_swapped}
 use Rattle.paging.specs.Picture.{Picture, entry, IsOwned, is_data}
 use Rattle.paging.specs.Parts.{IsFitBut}
 use Rattle.paging.specs.Calls.{KeepsPages, IsSpareable, NeedsSlot}
-use Rattle.paging.specs.Leaves.{IsMarked}
+use Rattle.paging.specs.Leaves.{HasEntryOver}
 use Rattle.paging.specs.Ages.{Ages, KeepsRoles}
 
 -- slot k has a share for which no entry names it yet, at that page
@@ -57,7 +57,7 @@ IsEvictable c keep n = IsSpareable c keep n × (NeedsSlot c n → IsFull c.slots
 
 -- a leaf over the frame, which holds a page, has A
 abbrev pub IsAccessed : Picture → ℕ → Type 0
-IsAccessed c n = (is_data (role_of c.frames n) ≡ true) × IsMarked c ClearAccessed n
+IsAccessed c n = (is_data (role_of c.frames n) ≡ true) × HasEntryOver c ClearAccessed n
 
 -- frame v is given up, or was to be: at most one slot is in use that wasn't
 abbrev pub GivesUp : ℕ → Picture → Picture → Type 0

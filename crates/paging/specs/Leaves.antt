@@ -36,11 +36,11 @@ abbrev pub IsClear : Picture → Change → ℕ → Type 0
 IsClear c change n = (pid page : ℕ) → IsPage top_level page → IsOver c change n pid page → ⊥
 
 -- some process has one
-abbrev pub IsMarked : Picture → Change → ℕ → Type 0
-IsMarked c change n = (pid : ℕ) × (page : ℕ) × IsPage top_level page × IsOver c change n pid page
+abbrev pub HasEntryOver : Picture → Change → ℕ → Type 0
+HasEntryOver c change n = (pid : ℕ) × (page : ℕ) × IsPage top_level page × IsOver c change n pid page
 
 -- the first page of a process from a page on that has one
-pub record IsNext (c : Picture) (change : Change) (n pid low k : ℕ) : Type 0 where
+pub record IsFirstOver (c : Picture) (change : Change) (n pid low k : ℕ) : Type 0 where
   pub from : low ≤ k
   pub user : k < user_end
   pub over : IsOver c change n pid k
@@ -67,7 +67,7 @@ IsChanged ClearAccessed e e' = Drops e e' × (is_dirty e' ≡ is_dirty e) × (is
 IsChanged ClearDirty e e' = Drops e e' × (is_accessed e' ≡ is_accessed e) × (is_dirty e' ≡ false) × (e' + 128 ≡ e)
 
 -- entries over frame n were changed so, and nothing else was
-pub record Changes (change : Change) (n : ℕ) (old new : Picture) : Type 0 where
+pub record ChangesLeaves (change : Change) (n : ℕ) (old new : Picture) : Type 0 where
   pub beside : SameBeside old new
   pub frames : frame_count new.frames ≡ frame_count old.frames
   pub bytes : (m : ℕ) → role_of old.frames m ≢ Role.Table → bytes_of new.frames m ≡ bytes_of old.frames m

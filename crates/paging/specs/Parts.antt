@@ -1,5 +1,6 @@
 -- What holds of memory between two calls, in five parts.
 use Rattle.std.specs.Prelude.{◌≡◌, ◌≢◌, ℕ, ◌<◌, ◌≤◌, ◌⊎◌, Bool, true, false, Option, Some, IsSome}
+use Rattle.vm_types.specs.Processes.{process_limit}
 use Rattle.vm_types.specs.Limits.{top_level}
 pub use Rattle.vm_types.specs.Attributes.{is_shared}
 use Rattle.vm_types.specs.declared.file.FilePage.{FilePage}
@@ -50,7 +51,7 @@ pub record IsRootedBut (c : Picture) (n : ℕ) : Type 0 where
   pub forest : IsForest c.frames
   pub roots : (pid r : ℕ) → c.root pid ≡ Some r → IsRoot top_level c.frames r
   pub apart : (p q r : ℕ) → c.root p ≡ Some r → c.root q ≡ Some r → p ≡ q
-  pub numbers : (pid r : ℕ) → c.root pid ≡ Some r → (1 ≤ pid) × (pid ≤ 64)
+  pub numbers : (pid r : ℕ) → c.root pid ≡ Some r → (1 ≤ pid) × (pid ≤ process_limit)
   pub used : (m : ℕ) → IsTable c.frames m → (m ≡ n) ⊎ IsUsed c (IsMapped c) m
 
 -- frame n holds what stands behind a page: it is the zero page, or that of the file page

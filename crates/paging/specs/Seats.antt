@@ -1,19 +1,15 @@
 -- Where own copies lie, and who has them: a frame and a slot of swap by one notion.
-use Rattle.std.specs.Prelude.{◌≡◌, ◌≢◌, ◌⊎◌, ℕ, ◌+◌, ◌==◌, Bool, false, not, ◌&&◌, if◌then◌else◌, Option, Some, None}
+use Rattle.std.specs.Prelude.{◌≡◌, ◌≢◌, ◌⊎◌, ℕ, ◌+◌, ◌==◌, Bool, false, if◌then◌else◌, Option, Some, None}
 use Rattle.vm_types.specs.Limits.{top_level}
 use Rattle.vm_types.specs.Counting.{count_below}
-use Rattle.sv39_walk.specs.Entry.{is_valid, has_bit, frame_of}
-pub use Rattle.sv39_walk.specs.Entry.{is_private}
+use Rattle.sv39_walk.specs.Entry.{frame_of}
+pub use Rattle.sv39_walk.specs.Entry.{is_private, is_swapped}
 use Rattle.page_tables.specs.Tree.{IsPage}
 
 -- the place of an own copy
 pub data Seat : Type 0 where
   InFrame : ℕ → Seat
   InSlot : ℕ → Seat
-
--- an entry of a page that lies in a slot: V is clear, and bit 1 set
-abbrev pub is_swapped : ℕ → Bool
-is_swapped e = not (is_valid e) && has_bit e 1
 
 -- where the own copy lies that an entry names
 abbrev pub seat : ℕ → Option Seat

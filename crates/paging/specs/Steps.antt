@@ -1,5 +1,6 @@
 -- What one step of a call changes.
 use Rattle.std.specs.Prelude.{◌≡◌, ◌≢◌, ℕ, ◌<◌, ◌≤◌, ◌⊎◌, Some, None}
+use Rattle.vm_types.specs.Processes.{process_limit}
 use Rattle.vm_types.specs.Limits.{top_level}
 use Rattle.vm_types.specs.declared.file.FilePage.{FilePage}
 use Rattle.frames.specs.declared.role.Role.TheVariants.{Free, Table, Private, Cache}
@@ -89,7 +90,7 @@ pub record Spawns (old new : Picture) (pid root : ℕ) : Type 0 where
   pub slots : new.slots ≡ old.slots
   pub frames : new.frames ≡ old.frames
   pub was_free : old.root pid ≡ None
-  pub number : (1 ≤ pid) × (pid ≤ 64)
+  pub number : (1 ≤ pid) × (pid ≤ process_limit)
   pub lives : new.root pid ≡ Some root
   pub others : (q : ℕ) → q ≢ pid → new.root q ≡ old.root q
   pub unmapped : (page : ℕ) → new.at pid page ≡ None

@@ -8,7 +8,8 @@ ghost use Rattle.vm_types.specs.declared.refusal.Stall.TheVariants as Stalls;
 ghost use Rattle.paging.specs.Picture.{picture_of, is_data};
 ghost use Rattle.paging.specs.Parts.{IsFit};
 ghost use Rattle.paging.specs.Ages.{KeepsRoles};
-ghost use Rattle.paging.specs.Calls.{NeedsSlot, UsesDevice, StallCause};
+ghost use Rattle.paging.specs.Calls.{NeedsSlot, UsesDevice};
+ghost use Rattle.paging.specs.Stalls.{HasStallCause};
 ghost use Rattle.paging.specs.Evictions.{Spares, GivesUp, KeepsPlain};
 
 use crate::kernel::Core;
@@ -58,9 +59,8 @@ fn send_away<D, E: SectorDisk>(
     ensures still { OnErr result (KeepsRoles (picture_of core.old) (picture_of core.new)) }
     ensures plain { KeepsPlain core.old core.new }
     ensures device { UsesDevice E.SectorDisk core.old.swap.pages.disk core.new.swap.pages.disk }
-    ensures swap_calm { OnOk result (E.failures core.new.swap.pages.disk ≡ E.failures core.old.swap.pages.disk) }
     ensures fault { IfErr result (λ s. s ≡ Stalls.SwapDevice) }
-    ensures cause { IfErr result (StallCause E.SectorDisk core.old core.new) }
+    ensures cause { HasStallCause E.SectorDisk core.old core.new result }
 {
     change_leaves(core, victim, Change::Forget);
     match core.swap.put(core.frames.bytes(victim)) {
@@ -91,9 +91,8 @@ fn send_copies<D, E: SectorDisk>(core: &mut Core<D, E>, victim: FrameNo) -> Resu
     ensures still { OnErr result (KeepsRoles (picture_of core.old) (picture_of core.new)) }
     ensures plain { KeepsPlain core.old core.new }
     ensures device { UsesDevice E.SectorDisk core.old.swap.pages.disk core.new.swap.pages.disk }
-    ensures swap_calm { OnOk result (E.failures core.new.swap.pages.disk ≡ E.failures core.old.swap.pages.disk) }
     ensures fault { IfErr result (λ s. s ≡ Stalls.SwapDevice) }
-    ensures cause { IfErr result (StallCause E.SectorDisk core.old core.new) }
+    ensures cause { HasStallCause E.SectorDisk core.old core.new result }
 {
     match core.swap.put(core.frames.bytes(victim)) {
         Ok(slot) => {
@@ -122,9 +121,8 @@ pub(crate) fn evict<D, E: SectorDisk>(core: &mut Core<D, E>, victim: FrameNo) ->
     ensures still { OnErr result (KeepsRoles (picture_of core.old) (picture_of core.new)) }
     ensures plain { KeepsPlain core.old core.new }
     ensures device { UsesDevice E.SectorDisk core.old.swap.pages.disk core.new.swap.pages.disk }
-    ensures swap_calm { OnOk result (E.failures core.new.swap.pages.disk ≡ E.failures core.old.swap.pages.disk) }
     ensures fault { IfErr result (λ s. s ≡ Stalls.SwapDevice) }
-    ensures cause { IfErr result (StallCause E.SectorDisk core.old core.new) }
+    ensures cause { HasStallCause E.SectorDisk core.old core.new result }
 {
     match held_in(core, victim) {
         Held::Own(_) => send_copies(core, victim),

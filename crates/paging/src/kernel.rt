@@ -35,11 +35,11 @@ pub struct Core<D, E> {
     /// Where each file page is.
     pub cache: PageCache,
     /// The root table of each live process.
-    pub roots: Vec<Option<FrameNo>>,
+    pub(crate) roots: Vec<Option<FrameNo>>,
     /// The regions of each live process. Those at the place of another process number mean nothing.
-    pub regions: Vec<Regions>,
+    pub(crate) regions: Vec<Regions>,
     /// The page at which its processes have each private frame. What stands for another frame means nothing.
-    pub page_of: Vec<u32>,
+    pub(crate) page_of: Vec<u32>,
     /// The frame that is looked at first when one is to be given up.
     pub(crate) clock: Clock,
     /// How often `obtain` has refused a frame, for contracts alone. Nobody else can raise it.

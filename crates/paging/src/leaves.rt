@@ -11,8 +11,7 @@ ghost use Rattle.paging.specs.Picture.{picture_of, is_data};
 ghost use Rattle.paging.specs.Parts.{IsFit};
 ghost use Rattle.paging.specs.declared.leaves.Change.TheVariants as Kinds;
 ghost use Rattle.page_cache.specs.declared.place.Place.TheVariants.{Frame};
-ghost use Rattle.paging.specs.Seats.{is_swapped};
-ghost use Rattle.paging.specs.Leaves.{concerns, IsOver, IsNext, IsChanged, Drops, Holds, Changes, KeepsAllButFrames, IsClear, IsMarked, IsPageOver, IsRunOf};
+ghost use Rattle.paging.specs.Leaves.{concerns, IsOver, IsFirstOver, IsChanged, Drops, Holds, ChangesLeaves, KeepsAllButFrames, IsClear, HasEntryOver, IsPageOver, IsRunOf};
 
 use crate::kernel::{Core, PLACES};
 use frames::Role;
@@ -64,17 +63,10 @@ fn is_concerned(entry: Pte, change: Change) -> bool
     ensures { result ≡ concerns change entry.0 }
 {
     match change {
-        Change::Forget => entry.to_u64() != 0 && !is_swapped(entry),
+        Change::Forget => entry.to_u64() != 0 && !entry.is_swapped(),
         Change::ClearAccessed => entry.is_valid() && entry.is_accessed(),
         Change::ClearDirty => entry.is_valid() && entry.is_dirty(),
     }
-}
-
-/// Whether the page lies in a slot: V is clear, and bit 1, which is that of R in a leaf, set.
-fn is_swapped(entry: Pte) -> bool
-    ensures { result ≡ is_swapped entry.0 }
-{
-    !entry.is_valid() && entry.is_readable()
 }
 
 /// Whether the page has an entry over the frame that the change is for.
@@ -110,7 +102,7 @@ pub(crate) fn find_in<D, E>(
     requires above { 0 < frame.0 }
     requires number { pid < 65 }
     requires holds { Holds (picture_of core.now) frame.0 held }
-    ensures some { IfSome result (λ k. IsNext (picture_of core.now) change frame.0 pid low k) }
+    ensures some { IfSome result (λ k. IsFirstOver (picture_of core.now) change frame.0 pid low k) }
     ensures none { IfNone result ((k : ℕ) → low ≤ k → IsPage top_level k → IsOver (picture_of core.now) change frame.0 pid k → ⊥) }
 {
     match held {
@@ -134,7 +126,7 @@ fn find_own<D, E>(
     requires above { 0 < frame.0 }
     requires role { role_of core.now.frames frame.0 ≡ Roles.Private }
     requires noted { (picture_of core.now).page_of frame.0 ≡ page }
-    ensures some { IfSome result (λ k. IsNext (picture_of core.now) change frame.0 pid low k) }
+    ensures some { IfSome result (λ k. IsFirstOver (picture_of core.now) change frame.0 pid low k) }
     ensures none { IfNone result ((k : ℕ) → low ≤ k → IsPage top_level k → IsOver (picture_of core.now) change frame.0 pid k → ⊥) }
 {
     if page < low {
@@ -167,7 +159,7 @@ fn find_filed<D, E>(
     requires above { 0 < frame.0 }
     requires number { pid < 65 }
     requires placed { (picture_of core.now).place page ≡ Frame frame }
-    ensures some { IfSome result (λ k. IsNext (picture_of core.now) change frame.0 pid low k) }
+    ensures some { IfSome result (λ k. IsFirstOver (picture_of core.now) change frame.0 pid low k) }
     ensures none { IfNone result ((k : ℕ) → low ≤ k → IsPage top_level k → IsOver (picture_of core.now) change frame.0 pid k → ⊥) }
 {
     let mut from = low;
@@ -195,7 +187,7 @@ fn find_over<D, E>(
     requires above { 0 < frame.0 }
     requires placed { (picture_of core.now).place page ≡ Frame frame }
     requires run { IsRunOf (picture_of core.now) pid run }
-    ensures some { IfSome result (λ k. IsNext (picture_of core.now) change frame.0 pid run.first k × (k < run.end)) }
+    ensures some { IfSome result (λ k. IsFirstOver (picture_of core.now) change frame.0 pid run.first k × (k < run.end)) }
     ensures none { IfNone result ((k : ℕ) → run.first ≤ k → k < run.end → IsOver (picture_of core.now) change frame.0 pid k → ⊥) }
 {
     match page_over(run, page) {
@@ -260,7 +252,7 @@ fn change_at<D, E>(
     requires filed { change ≡ Kinds.Forget → role_of core.old.frames frame.0 ≡ Roles.Cache }
     ensures fit { IsFit (picture_of core.new) }
     ensures beside { KeepsAllButFrames core.old core.new }
-    ensures changes { Changes change frame.0 (picture_of core.old) (picture_of core.new) }
+    ensures changes { ChangesLeaves change frame.0 (picture_of core.old) (picture_of core.new) }
     ensures clear { IsOver (picture_of core.new) change frame.0 pid page → ⊥ }
 {
     let entry = changed(entry(&core.frames, root, page), change);
@@ -284,7 +276,7 @@ fn change_in<D, E>(
     requires filed { change ≡ Kinds.Forget → role_of core.old.frames frame.0 ≡ Roles.Cache }
     ensures fit { IsFit (picture_of core.new) }
     ensures beside { KeepsAllButFrames core.old core.new }
-    ensures changes { Changes change frame.0 (picture_of core.old) (picture_of core.new) }
+    ensures changes { ChangesLeaves change frame.0 (picture_of core.old) (picture_of core.new) }
     ensures clear { (page : ℕ) → IsPage top_level page → IsOver (picture_of core.new) change frame.0 pid page → ⊥ }
 {
     let mut low = 0;
@@ -303,7 +295,7 @@ fn change_of<D, E>(core: &mut Core<D, E>, pid: usize, held: Held, frame: FrameNo
     requires filed { change ≡ Kinds.Forget → role_of core.old.frames frame.0 ≡ Roles.Cache }
     ensures fit { IsFit (picture_of core.new) }
     ensures beside { KeepsAllButFrames core.old core.new }
-    ensures changes { Changes change frame.0 (picture_of core.old) (picture_of core.new) }
+    ensures changes { ChangesLeaves change frame.0 (picture_of core.old) (picture_of core.new) }
     ensures clear { (page : ℕ) → IsPage top_level page → IsOver (picture_of core.new) change frame.0 pid page → ⊥ }
 {
     match core.roots[pid] {
@@ -321,7 +313,7 @@ pub fn change_leaves<D, E>(core: &mut Core<D, E>, frame: FrameNo, change: Change
     requires filed { change ≡ Kinds.Forget → role_of core.old.frames frame.0 ≡ Roles.Cache }
     ensures fit { IsFit (picture_of core.new) }
     ensures beside { KeepsAllButFrames core.old core.new }
-    ensures changes { Changes change frame.0 (picture_of core.old) (picture_of core.new) }
+    ensures changes { ChangesLeaves change frame.0 (picture_of core.old) (picture_of core.new) }
     ensures clear { IsClear (picture_of core.new) change frame.0 }
     ensures above { 0 < frame.0 }
 {
@@ -336,7 +328,7 @@ pub(crate) fn has_leaf<D, E>(core: &Core<D, E>, frame: FrameNo, change: Change) 
     requires fit { IsFit (picture_of core.now) }
     requires inside { IsFrame core.now.frames frame.0 }
     requires data { is_data (role_of core.now.frames frame.0) ≡ true }
-    ensures { (result ≡ true) ↔ IsMarked (picture_of core.now) change frame.0 }
+    ensures { (result ≡ true) ↔ HasEntryOver (picture_of core.now) change frame.0 }
 {
     let held = held_in(core, frame);
     for pid in 1..PLACES {

@@ -4,12 +4,13 @@ ghost use Rattle.paging.specs.Ages.{GivesFrame, KeepsRoles};
 ghost use Rattle.paging.specs.Calls.{IsSpareable};
 ghost use Rattle.paging.specs.Shows.{ShowsPages};
 ghost use Rattle.vm_types.specs.State.{State};
-ghost use Rattle.std.specs.Prelude.{true, false, ℕ, ◌≡◌, ◌+◌, ◌⊎◌, IsErr, IfOk, IfErr, OnOk, OnErr};
+ghost use Rattle.std.specs.Prelude.{true, false, ℕ, ◌≡◌, ◌+◌, ◌⊎◌, IsErr, IfOk, IfErr, OnErr};
 ghost use Rattle.swap.specs.Slots.{IsReady};
 ghost use Rattle.paging.specs.Picture.{picture_of};
 ghost use Rattle.paging.specs.Parts.{IsFit};
 ghost use Rattle.paging.specs.Capacity.{IsShort};
-ghost use Rattle.paging.specs.Calls.{IsFreeFrame, Frees, KeepsRest, Refuses, UsesDevice, StallCause};
+ghost use Rattle.paging.specs.Calls.{IsFreeFrame, Frees, KeepsRest, Refuses, UsesDevice};
+ghost use Rattle.paging.specs.Stalls.{HasStallCause};
 
 use crate::evicting::evict;
 use crate::kernel::Core;
@@ -45,9 +46,7 @@ pub fn obtain<D, E: SectorDisk>(
     ensures full { OnErr result (IsFull core.new.frames) }
     ensures refuses { IfErr result (Refuses (picture_of core.new) keep) }
     ensures short { IfErr result (IsShort (picture_of core.new)) }
-    ensures cause { IfErr result (StallCause E.SectorDisk core.old core.new) }
-    ensures not_refused { OnOk result (core.new.refused.number ≡ core.old.refused.number) }
-    ensures swap_calm { OnOk result (E.failures core.new.swap.pages.disk ≡ E.failures core.old.swap.pages.disk) }
+    ensures cause { HasStallCause E.SectorDisk core.old core.new result }
 {
     match core.frames.next_free() {
         Some(n) => Ok(n),
@@ -73,9 +72,7 @@ fn give_up<D, E: SectorDisk>(core: &mut Core<D, E>, keep: Option<FrameNo>) -> Re
     ensures tried { OnErr result ((v : ℕ) × GivesFrame (picture_of core.old) (picture_of core.new) v) }
     ensures still { OnErr result (KeepsRoles (picture_of core.old) (picture_of core.new)) }
     ensures refuses { IfErr result (Refuses (picture_of core.new) keep) }
-    ensures cause { IfErr result (StallCause E.SectorDisk core.old core.new) }
-    ensures not_refused { OnOk result (core.new.refused.number ≡ core.old.refused.number) }
-    ensures swap_calm { OnOk result (E.failures core.new.swap.pages.disk ≡ E.failures core.old.swap.pages.disk) }
+    ensures cause { HasStallCause E.SectorDisk core.old core.new result }
 {
     let choice = choose(core, keep);
     match choice {

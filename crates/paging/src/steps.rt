@@ -10,8 +10,9 @@ ghost use Rattle.paging.specs.Picture.{picture_of};
 ghost use Rattle.paging.specs.Parts.{IsFit};
 ghost use Rattle.paging.specs.Capacity.{IsShort};
 ghost use Rattle.paging.specs.Ages.{GivesForTables, KeepsRoles, KeepsRolesBut};
-ghost use Rattle.paging.specs.Calls.{Frees, KeepsRest, KeepsBesideFiles, Refuses, UsesDevice, StallCause, ObtainsOwn, ObtainsTable, ObtainsCached};
-ghost use Rattle.paging.specs.Reading.{ReadsStore, IsRead, ReadCause};
+ghost use Rattle.paging.specs.Calls.{Frees, KeepsRest, KeepsBesideFiles, Refuses, UsesDevice, ObtainsOwn, ObtainsTable, ObtainsCached};
+ghost use Rattle.paging.specs.Stalls.{HasStallCause, HasReadCause};
+ghost use Rattle.paging.specs.Reading.{ReadsStore, IsRead};
 
 use crate::kernel::Core;
 use crate::obtaining::obtain;
@@ -38,9 +39,7 @@ impl<D, E: SectorDisk> Core<D, E> {
         ensures device { UsesDevice E.SectorDisk self.old.swap.pages.disk self.new.swap.pages.disk }
         ensures refuses { IfErr result (Refuses (picture_of self.new) keep) }
         ensures short { IfErr result (IsShort (picture_of self.new)) }
-        ensures cause { IfErr result (StallCause E.SectorDisk self.old self.new) }
-        ensures not_refused { OnOk result (self.new.refused.number ≡ self.old.refused.number) }
-        ensures swap_calm { OnOk result (E.failures self.new.swap.pages.disk ≡ E.failures self.old.swap.pages.disk) }
+        ensures cause { HasStallCause E.SectorDisk self.old self.new result }
     {
         obtain(self, keep)?;
         match self.frames.take(Role::Private) {
@@ -72,9 +71,7 @@ impl<D, E: SectorDisk> Core<D, E> {
         ensures device { UsesDevice E.SectorDisk self.old.swap.pages.disk self.new.swap.pages.disk }
         ensures refuses { IfErr result (Refuses (picture_of self.new) None) }
         ensures short { IfErr result (IsShort (picture_of self.new)) }
-        ensures cause { IfErr result (StallCause E.SectorDisk self.old self.new) }
-        ensures not_refused { OnOk result (self.new.refused.number ≡ self.old.refused.number) }
-        ensures swap_calm { OnOk result (E.failures self.new.swap.pages.disk ≡ E.failures self.old.swap.pages.disk) }
+        ensures cause { HasStallCause E.SectorDisk self.old self.new result }
     {
         obtain(self, None)?;
         match take_table(&mut self.frames) {
@@ -101,9 +98,7 @@ impl<D, E: SectorDisk> Core<D, E> {
         ensures device { UsesDevice E.SectorDisk self.old.swap.pages.disk self.new.swap.pages.disk }
         ensures refuses { IfErr result (Refuses (picture_of self.new) None) }
         ensures short { IfErr result (IsShort (picture_of self.new)) }
-        ensures cause { IfErr result (StallCause E.SectorDisk self.old self.new) }
-        ensures not_refused { OnOk result (self.new.refused.number ≡ self.old.refused.number) }
-        ensures swap_calm { OnOk result (E.failures self.new.swap.pages.disk ≡ E.failures self.old.swap.pages.disk) }
+        ensures cause { HasStallCause E.SectorDisk self.old self.new result }
     {
         obtain(self, None)?;
         let Ok(frame) = self.frames.take(Role::Cache) else {
@@ -144,13 +139,10 @@ impl<D: SectorDisk, E: SectorDisk> Core<D, E> {
         ensures rest { KeepsBesideFiles self.old self.new }
         ensures reads { ReadsStore D.SectorDisk self.old.store self.new.store }
         ensures device { UsesDevice E.SectorDisk self.old.swap.pages.disk self.new.swap.pages.disk }
-        ensures calm { OnOk result (D.failures self.new.store.disk ≡ D.failures self.old.store.disk) }
         ensures refuses { IfErr result (λ stall. stall ≢ Stalls.StoreDevice → Refuses (picture_of self.new) None stall) }
         ensures unread { IfErr result (λ stall. stall ≢ Stalls.StoreDevice → self.new.store ≡ self.old.store) }
         ensures short { IfErr result (IsShort (picture_of self.new)) }
-        ensures cause { IfErr result (ReadCause D.SectorDisk E.SectorDisk self.old self.new) }
-        ensures not_refused { OnOk result (self.new.refused.number ≡ self.old.refused.number) }
-        ensures swap_calm { OnOk result (E.failures self.new.swap.pages.disk ≡ E.failures self.old.swap.pages.disk) }
+        ensures cause { HasReadCause D.SectorDisk E.SectorDisk self.old self.new result }
     {
         obtain(self, None)?;
         let Ok(frame) = self.frames.take(Role::Cache) else {

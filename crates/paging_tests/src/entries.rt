@@ -17,8 +17,7 @@ use crate::bench::{byte, equal, made, sharers};
 use disk_model::{SectorDisk, SimDisk};
 use mapped_memory::{entry, entry_number};
 use mapping::{
-    Grant, cached, entry_over, link_tables, own_frame, regrant, root_of, show_cached, show_zero,
-    swap_in, touch,
+    cached, link_tables, own_frame, regrant, root_of, show_cached, show_zero, swap_in, touch,
 };
 use page_cache::Place;
 use page_tables::Entry;
@@ -327,31 +326,6 @@ fn touch_first<D: SectorDisk, E: SectorDisk>(
     let frame = bring(rt, core)?;
     touch(core, pid, page, attr, FILE_PAGE, frame);
     Ok(())
-}
-
-#[test]
-fn numbers_of_entries(rt: HostRuntime) {
-    let all = Prot::WRITE.kept();
-    let grant = Grant {
-        frame: FrameNo(5),
-        private: true,
-        write: true,
-        dirty: true,
-    };
-    match entry_over(all, grant) {
-        Entry::Leaf(leaf) => assert_eq!(rt; leaf.to_u64(), 0x15d7),
-        _ => assert!(rt; false),
-    }
-    let common = Grant {
-        frame: FrameNo(9),
-        private: false,
-        write: false,
-        dirty: false,
-    };
-    match entry_over(Prot::EXECUTE, common) {
-        Entry::Leaf(leaf) => assert_eq!(rt; leaf.to_u64(), 0x2459),
-        _ => assert!(rt; false),
-    }
 }
 
 // A test with more than one way out borrows its memory, so that these let go of nothing: each of them would have to be proved to.

@@ -34,14 +34,14 @@ module _ (P : Attr → Type 0) where
       row_either (in_row first count page) (option_map (with_prot prot) (map page)) (map page) (λ _. mapped_all prot (map page) new h) h
 
 -- a permission as pages keep it
-abbrev pub IsKept : Attr → Type 0
-IsKept attr = kept attr.prot ≡ attr.prot
+abbrev pub HasKeptProt : Attr → Type 0
+HasKeptProt attr = kept attr.prot ≡ attr.prot
 
-pub removed-kept : (map : ℕ → Option Attr) (first count : ℕ) → ((page : ℕ) → IfSome (map page) IsKept) → (page : ℕ) → IfSome (removed map first count page) IsKept
-removed-kept map first count h page = removed-all IsKept map first count page (h page)
+pub removed-kept : (map : ℕ → Option Attr) (first count : ℕ) → ((page : ℕ) → IfSome (map page) HasKeptProt) → (page : ℕ) → IfSome (removed map first count page) HasKeptProt
+removed-kept map first count h page = removed-all HasKeptProt map first count page (h page)
 
-pub replaced-kept : (map : ℕ → Option Attr) (first count : ℕ) (attr : Attr) → IsKept attr → ((page : ℕ) → IfSome (map page) IsKept) → (page : ℕ) → IfSome (replaced map first count attr page) IsKept
-replaced-kept map first count attr new h page = replaced-all IsKept map first count attr page (λ _ _. new) (h page)
+pub replaced-kept : (map : ℕ → Option Attr) (first count : ℕ) (attr : Attr) → HasKeptProt attr → ((page : ℕ) → IfSome (map page) HasKeptProt) → (page : ℕ) → IfSome (replaced map first count attr page) HasKeptProt
+replaced-kept map first count attr new h page = replaced-all HasKeptProt map first count attr page (λ _ _. new) (h page)
 
-pub protected-kept : (map : ℕ → Option Attr) (first count : ℕ) (prot : Prot) → kept prot ≡ prot → ((page : ℕ) → IfSome (map page) IsKept) → (page : ℕ) → IfSome (protected map first count prot page) IsKept
-protected-kept map first count prot new h page = protected-all IsKept map first count prot page (λ _ _. new) (h page)
+pub protected-kept : (map : ℕ → Option Attr) (first count : ℕ) (prot : Prot) → kept prot ≡ prot → ((page : ℕ) → IfSome (map page) HasKeptProt) → (page : ℕ) → IfSome (protected map first count prot page) HasKeptProt
+protected-kept map first count prot new h page = protected-all HasKeptProt map first count prot page (λ _ _. new) (h page)

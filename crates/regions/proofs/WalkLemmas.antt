@@ -54,9 +54,9 @@ user_map runs m = record { user_pages = λ page. (user_at 16 runs page m).0; fil
 -- a walk's next run
 
 -- whether the part is the next run of the map, or no page is mapped from the page on
-abbrev pub IsNext : (ℕ → Option Attr) → ℕ → Option Run → Type 0
-IsNext map page None = (k : ℕ) → page ≤ k → map k ≡ None
-IsNext map page (Some run) = IsNextRun map page run
+abbrev pub IsNextOrNone : (ℕ → Option Attr) → ℕ → Option Run → Type 0
+IsNextOrNone map page None = (k : ℕ) → page ≤ k → map k ≡ None
+IsNextOrNone map page (Some run) = IsNextRun map page run
 
 some_attr : (a b : Attr) → Some a ≡ Some b → a ≡ b
 some_attr a b e = cc
@@ -116,7 +116,7 @@ next_here page run runs r apart rest h =
           subst P (sym long) (not_joined run runs attr rest apart at_end);
     }
 
-next_later : (page : ℕ) (run : Run) (runs : List Run) (next : Option Run) → run.end ≤ page → IsNext (attr_at runs) page next → IsNext (attr_at (run ∷ runs)) page next
+next_later : (page : ℕ) (run : Run) (runs : List Run) (next : Option Run) → run.end ≤ page → IsNextOrNone (attr_at runs) page next → IsNextOrNone (attr_at (run ∷ runs)) page next
 next_later page run runs None h n = λ k a. ap (λ (o : Option Attr). or_else o (attr_at runs k)) (attr_in-above run k (omega arith)) ∙ n k a
 next_later page run runs (Some next) h n =
     let from : page ≤ next.first = n.from in
@@ -132,7 +132,7 @@ next_later page run runs (Some next) h n =
           n.ends attr (sym (ap (λ (o : Option Attr). or_else o (attr_at runs next.end)) (attr_in-above run next.end (omega arith))) ∙ there));
     }
 
-next_test : (page : ℕ) (run : Run) (runs : List Run) (b : Bool) → ltb (max run.first page) (min run.end (2 ^ 26)) ≡ b → IsRun run → joins_first run runs ≡ false → IsMaximal run.end runs → IsNext (attr_at runs) page (first_part page runs) → IsNext (attr_at (run ∷ runs)) page (run_or (if b then Some (cut None run (max run.first page) (min run.end (2 ^ 26))) else None) (first_part page runs))
+next_test : (page : ℕ) (run : Run) (runs : List Run) (b : Bool) → ltb (max run.first page) (min run.end (2 ^ 26)) ≡ b → IsRun run → joins_first run runs ≡ false → IsMaximal run.end runs → IsNextOrNone (attr_at runs) page (first_part page runs) → IsNextOrNone (attr_at (run ∷ runs)) page (run_or (if b then Some (cut None run (max run.first page) (min run.end (2 ^ 26))) else None) (first_part page runs))
 next_test page run runs true e r apart rest n = next_here page run runs r apart rest (ltb-true (max run.first page) (min run.end (2 ^ 26)) e)
 next_test page run runs false e r apart rest n =
     let empty : min run.end (2 ^ 26) ≤ max run.first page = ltb-false (max run.first page) (min run.end (2 ^ 26)) e in
@@ -140,15 +140,15 @@ next_test page run runs false e r apart rest n =
     let some : run.first < run.end = r.nonempty in
     next_later page run runs (first_part page runs) (omega arith) n
 
-pub first_part-is : (from page : ℕ) (runs : List Run) → IsMaximal from runs → IsNext (attr_at runs) page (first_part page runs)
+pub first_part-is : (from page : ℕ) (runs : List Run) → IsMaximal from runs → IsNextOrNone (attr_at runs) page (first_part page runs)
 first_part-is from page [] m = λ k a. refl
 first_part-is from page (run ∷ runs) m =
     next_test page run runs (ltb (max run.first page) (min run.end (2 ^ 26))) refl m.1 m.2 m.3 (first_part-is run.end page runs m.3)
 
-pub next_none : (map : ℕ → Option Attr) (page : ℕ) (o : Option Run) → IsNext map page o → IfNone o ((k : ℕ) → page ≤ k → map k ≡ None)
+pub next_none : (map : ℕ → Option Attr) (page : ℕ) (o : Option Run) → IsNextOrNone map page o → IfNone o ((k : ℕ) → page ≤ k → map k ≡ None)
 next_none map page None n = n
 next_none map page (Some run) n = tt
 
-pub next_some : (map : ℕ → Option Attr) (page : ℕ) (o : Option Run) → IsNext map page o → IfSome o (λ run. IsNextRun map page run)
+pub next_some : (map : ℕ → Option Attr) (page : ℕ) (o : Option Run) → IsNextOrNone map page o → IfSome o (λ run. IsNextRun map page run)
 next_some map page None n = tt
 next_some map page (Some run) n = n

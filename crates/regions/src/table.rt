@@ -1,5 +1,6 @@
 //! The table of runs, and the calls on it.
 ghost use Rattle.std.specs.Prelude.{◌≡◌, ◌+◌, ◌^◌, ◌<◌, ◌≤◌, ℕ, Some, None, IfNone, IfOk, IfSome, OnOk, OnErr, [], length, max};
+ghost use Rattle.vm_types.specs.Limits.{user_start};
 
 use crate::RUNS;
 use crate::run::Run;
@@ -23,10 +24,11 @@ impl Model for Regions {
     ghost Value = { List Run };
 
     ghost use Rattle.regions.specs.RunList.{IsMaximal};
+    ghost use Rattle.vm_types.specs.Limits.{user_start};
 
     ghost view = { λ r. take r.len r.runs };
 
-    ghost invariant = { λ r. (r.len ≤ 256) × (length r.runs ≡ 256) × IsMaximal 16 (take r.len r.runs) };
+    ghost invariant = { λ r. (r.len ≤ 256) × (length r.runs ≡ 256) × IsMaximal user_start (take r.len r.runs) };
 }
 
 impl Regions {
@@ -76,7 +78,7 @@ impl Regions {
     /// The runs in order.
     fn as_slice(&self) -> &[Run]
         ensures runs { result.now ≡ self.now }
-        ensures maximal { IsMaximal 16 self.now }
+        ensures maximal { IsMaximal user_start self.now }
         ensures room { length self.now ≤ 256 }
     {
         &self.runs[..self.len]
@@ -85,7 +87,7 @@ impl Regions {
     /// The runs from the first one on that ends behind the page. It is found by halves, in at most nine steps.
     fn runs_behind(&self, page: u64) -> &[Run]
         ensures runs { result.now ≡ runs_behind page self.now }
-        ensures maximal { IsMaximal 16 self.now }
+        ensures maximal { IsMaximal user_start self.now }
     {
         let runs = self.as_slice();
         let ended = runs.partition_point(|run| run.end <= page);
@@ -132,7 +134,7 @@ impl Regions {
     /// The part from the page on of the first run that has one.
     fn first_part(&self, page: u64) -> Option<Run>
         ensures part { result ≡ first_part page self.now }
-        ensures maximal { IsMaximal 16 self.now }
+        ensures maximal { IsMaximal user_start self.now }
     {
         let run = self.runs_behind(page).first()?;
         run.part(page, USER_END, None)
@@ -149,7 +151,7 @@ impl Regions {
     /// The first page from this one on that isn't mapped.
     fn gap_from(&self, page: u64) -> u64
         ensures gap { result ≡ gap_from page self.now }
-        ensures maximal { IsMaximal 16 self.now }
+        ensures maximal { IsMaximal user_start self.now }
     {
         let mut gap = page;
         for run in self.runs_behind(page) {
@@ -188,7 +190,7 @@ impl Regions {
     /// Whether no run has a page from `first` up to, not including, `end`.
     fn is_clear(&self, first: u64, end: u64) -> bool
         ensures clear { result ≡ is_clear first end self.now }
-        ensures maximal { IsMaximal 16 self.now }
+        ensures maximal { IsMaximal user_start self.now }
     {
         match self.runs_behind(first).first() {
             Some(run) => end <= run.first,
@@ -199,8 +201,8 @@ impl Regions {
     /// The lowest page where `pages` pages lie between two runs or behind the last.
     fn lowest_gap(&self, pages: u64) -> Option<Vpn>
         requires { 0 < pages }
-        ensures place { result ≡ lowest_gap pages 16 self.now }
-        ensures maximal { IsMaximal 16 self.now }
+        ensures place { result ≡ lowest_gap pages user_start self.now }
+        ensures maximal { IsMaximal user_start self.now }
     {
         let mut start = USER_START;
         for run in self.as_slice() {
@@ -286,8 +288,8 @@ impl Regions {
         high: u64,
         prot: Option<Prot>,
     ) -> Result<(), TooManyRuns>
-        requires maximal { IsMaximal 16 runs.now }
-        requires behind { end_of 16 self.old ≤ max low 16 }
+        requires maximal { IsMaximal user_start runs.now }
+        requires behind { end_of user_start self.old ≤ max low user_start }
         requires few { length self.old ≤ 256 }
         ensures ok { OnOk result (self.new ≡ pasted low high prot self.old runs.now) }
         ensures few { OnOk result (length self.new ≤ 256) }
@@ -304,7 +306,7 @@ impl Regions {
     /// Puts a run behind the others, joining it with the last where it goes on with that.
     fn push(&mut self, next: Run) -> Result<(), TooManyRuns>
         requires run { IsRun next }
-        requires behind { end_of 16 self.old ≤ next.first }
+        requires behind { end_of user_start self.old ≤ next.first }
         ensures ok { OnOk result (self.new ≡ pushed self.old next) }
         ensures few { OnOk result (length self.new ≤ 256) }
         ensures err { OnErr result (256 < length (pushed self.old next)) }

@@ -10,18 +10,18 @@ use Rattle.runner.specs.declared.engine.RunEnd.{RunEnd}
 use Rattle.runner.specs.declared.engine.RunEnd.TheVariants.{Done, ReadFault, WriteFault}
 use Rattle.runner.specs.Bytes.{WritesBeginning}
 use Rattle.runner.specs.Session.{Answers, CarriesOut}
-use Rattle.runner.specs.Progress.{Stage, stage, IsKept, Reads, RunsLast, Fails, GoesOn, BreaksOff, Ends}
+use Rattle.runner.specs.Progress.{Stage, stage, HoldsOpenLine, Reads, RunsLast, Fails, GoesOn, BreaksOff, Ends}
 use Rattle.runner.proofs.Lines.{lines_of-cut, lines_of-unfinished, Cuts-none}
 use Rattle.runner.proofs.Session.{answers_line, CarriesOut-one, CarriesOut-append}
 use Rattle.runner.proofs.Progress.{Advances-trans, breaks_later, wrote_beginning}
 
 -- an open line of which something is kept is a line of the trace
-pub lines_of-open : (kept open_line : List ℕ) → IsKept kept open_line → length kept ≢ 0 → lines_of open_line ≡ open_line ∷ []
+pub lines_of-open : (kept open_line : List ℕ) → HoldsOpenLine kept open_line → length kept ≢ 0 → lines_of open_line ≡ open_line ∷ []
 lines_of-open kept [] begun some = let none : length kept ≡ 0 = ap length begun.front in absurd (some none)
 lines_of-open kept (b ∷ line) begun some = lines_of-unfinished b line begun.unfinished
 
 -- an open line of which nothing is kept has no bytes
-pub nothing_open : (kept open_line : List ℕ) → IsKept kept open_line → length kept ≡ 0 → open_line ≡ []
+pub nothing_open : (kept open_line : List ℕ) → HoldsOpenLine kept open_line → length kept ≡ 0 → open_line ≡ []
 nothing_open kept [] begun none = refl
 nothing_open kept (b ∷ line) begun none =
     let kept_length = ap length begun.front ∙ length-take 257 (b ∷ line) in
@@ -44,7 +44,7 @@ wrote_all old mid new pending text written half others sent wrote more =
     (Appends-trans old mid new written (half ++ others) wrote more)
 
 module _ {D E : Type 0} (g : Ghosts D) (h : Ghosts E) where
-  pub runs_no_last : (machine : Machine D E) (kept open_line pending : List ℕ) → IsKept kept open_line → length kept ≡ 0
+  pub runs_no_last : (machine : Machine D E) (kept open_line pending : List ℕ) → HoldsOpenLine kept open_line → length kept ≡ 0
       → RunsLast g h machine machine open_line pending pending
   runs_no_last machine kept open_line pending begun none = record {
     text = [];
@@ -52,7 +52,7 @@ module _ {D E : Type 0} (g : Ghosts D) (h : Ghosts E) where
     sent = sym (append-nil pending);
   }
 
-  pub runs_last : (old new : Machine D E) (kept open_line pending more text : List ℕ) → IsKept kept open_line → length kept ≢ 0
+  pub runs_last : (old new : Machine D E) (kept open_line pending more text : List ℕ) → HoldsOpenLine kept open_line → length kept ≢ 0
       → Answers g h old kept text new → more ≡ pending ++ text → RunsLast g h old new open_line pending more
   runs_last old new kept open_line pending more text begun some answers sent = record {
     text = text;
@@ -62,7 +62,7 @@ module _ {D E : Type 0} (g : Ghosts D) (h : Ghosts E) where
   }
 
   pub finishes : (old new : Machine D E) (kept pending more left : List ℕ) (held held_then : Option (List ℕ))
-      → ((open_line : List ℕ) → IsKept kept open_line → RunsLast g h old new open_line pending more) → Appends held held_then more
+      → ((open_line : List ℕ) → HoldsOpenLine kept open_line → RunsLast g h old new open_line pending more) → Appends held held_then more
       → (remaining : Option (List ℕ)) → IsAtEnd remaining → Ends g h Done remaining (stage old kept pending held) (stage new kept left held_then) []
   finishes old new kept pending more left held held_then last wrote remaining all open_line begun =
       let runs = last open_line begun in (
@@ -75,7 +75,7 @@ module _ {D E : Type 0} (g : Ghosts D) (h : Ghosts E) where
       )
 
   pub finishes_badly : (old new : Machine D E) (kept pending more left : List ℕ) (held held_then : Option (List ℕ))
-      → ((open_line : List ℕ) → IsKept kept open_line → RunsLast g h old new open_line pending more) → WritesBeginning held held_then more
+      → ((open_line : List ℕ) → HoldsOpenLine kept open_line → RunsLast g h old new open_line pending more) → WritesBeginning held held_then more
       → (remaining : Option (List ℕ)) → IsAtEnd remaining → Ends g h WriteFault remaining (stage old kept pending held) (stage new kept left held_then) []
   finishes_badly old new kept pending more left held held_then last wrote remaining all open_line begun =
       let runs = last open_line begun in

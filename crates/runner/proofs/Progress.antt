@@ -9,7 +9,7 @@ use Rattle.disk_model.specs.declared.sector_disk.SectorDisk.{Ghosts}
 use Rattle.machine.specs.declared.machine.Machine.{Machine}
 use Rattle.runner.specs.Bytes.{WritesBeginning}
 use Rattle.runner.specs.Session.{Answers}
-use Rattle.runner.specs.Progress.{Stage, stage, IsKept, Advances, Reads, Breaks, GoesOn, BreaksOff}
+use Rattle.runner.specs.Progress.{Stage, stage, HoldsOpenLine, Advances, Reads, Breaks, GoesOn, BreaksOff}
 use Rattle.runner.proofs.Lines.{Cuts-trans, Cuts-none, Cuts-byte, Cuts-newline}
 use Rattle.runner.proofs.Session.{answers_line, CarriesOut-one, CarriesOut-append}
 
@@ -25,8 +25,8 @@ kept_byte line byte = elim (cases_lt (length line) 257) [
       ∙ sym (take-append-le 257 line (byte ∷ []) long)
 ]
 
-pub IsKept-none : IsKept [] []
-IsKept-none = record { front = refl; unfinished = All-nil (λ b. b ≢ 10) }
+pub HoldsOpenLine-none : HoldsOpenLine [] []
+HoldsOpenLine-none = record { front = refl; unfinished = All-nil (λ b. b ≢ 10) }
 
 -- what the writer took in the end, after what it took before
 pub wrote_beginning : (old mid new : Option (List ℕ)) (pending text written half others : List ℕ)
@@ -81,7 +81,7 @@ module _ {D E : Type 0} (g : Ghosts D) (h : Ghosts E) where
   }
 
   -- what the newline does to the machine
-  ends_line : (old new : Machine D E) (kept open_line text : List ℕ) → IsKept kept open_line → Answers g h old kept text new
+  ends_line : (old new : Machine D E) (kept open_line text : List ℕ) → HoldsOpenLine kept open_line → Answers g h old kept text new
       → Advances g h old open_line (10 ∷ []) text [] new
   ends_line old new kept open_line text begun answers = record {
     lines = open_line ∷ [];
@@ -98,7 +98,7 @@ module _ {D E : Type 0} (g : Ghosts D) (h : Ghosts E) where
     rest = [];
     written = [];
     advances = ends_line old new kept open_line text begun answers;
-    kept = subst (λ k. IsKept k []) (sym none) IsKept-none;
+    kept = subst (λ k. HoldsOpenLine k []) (sym none) HoldsOpenLine-none;
     sent = sym is;
     wrote = Appends-nil held;
   }
@@ -112,7 +112,7 @@ module _ {D E : Type 0} (g : Ghosts D) (h : Ghosts E) where
     rest = [];
     written = more;
     advances = ends_line old new kept open_line text begun answers;
-    kept = subst (λ k. IsKept k []) (sym none) IsKept-none;
+    kept = subst (λ k. HoldsOpenLine k []) (sym none) HoldsOpenLine-none;
     sent = sym is ∙ sym (append-nil more) ∙ ap (λ l. more ++ l) (sym gone);
     wrote = wrote;
   }

@@ -20,7 +20,7 @@ abbrev pub stage : {D E : Type 0} → Machine D E → List ℕ → List ℕ → 
 stage m k p h = record { machine = m; kept = k; pending = p; held = h }
 
 -- the buffer holds the beginning of the open line
-pub record IsKept (kept open_line : List ℕ) : Type 0 where
+pub record HoldsOpenLine (kept open_line : List ℕ) : Type 0 where
   pub front : kept ≡ take 257 open_line
   pub unfinished : HasNoNewline open_line
 
@@ -37,7 +37,7 @@ module _ {D E : Type 0} (g : Ghosts D) (h : Ghosts E) where
     pub rest : List ℕ
     pub written : List ℕ
     pub advances : Advances old.machine open_line bytes text rest new.machine
-    pub kept : IsKept new.kept rest
+    pub kept : HoldsOpenLine new.kept rest
     pub sent : old.pending ++ text ≡ written ++ new.pending
     pub wrote : Appends old.held new.held written
 
@@ -53,10 +53,10 @@ module _ {D E : Type 0} (g : Ghosts D) (h : Ghosts E) where
 
   -- the same, whatever the open line is that the buffer holds the beginning of
   abbrev pub GoesOn : Stage D E → Stage D E → List ℕ → Type 0
-  GoesOn old new bytes = (open_line : List ℕ) → IsKept old.kept open_line → Reads old new bytes open_line
+  GoesOn old new bytes = (open_line : List ℕ) → HoldsOpenLine old.kept open_line → Reads old new bytes open_line
 
   abbrev pub BreaksOff : Stage D E → Stage D E → List ℕ → Type 0
-  BreaksOff old new bytes = (open_line : List ℕ) → IsKept old.kept open_line → Breaks old new bytes open_line
+  BreaksOff old new bytes = (open_line : List ℕ) → HoldsOpenLine old.kept open_line → Breaks old new bytes open_line
 
   -- the open line was run as the last one where it has bytes, and its text was added to the output
   pub record RunsLast (old new : Machine D E) (open_line pending more : List ℕ) : Type 0 where
@@ -92,4 +92,4 @@ module _ {D E : Type 0} (g : Ghosts D) (h : Ghosts E) where
 
   -- the run ends after these bytes, whatever the open line is that the buffer holds the beginning of
   abbrev pub Ends : RunEnd → Option (List ℕ) → Stage D E → Stage D E → List ℕ → Type 0
-  Ends end left old new bytes = (open_line : List ℕ) → IsKept old.kept open_line → EndsSo end left old new bytes open_line
+  Ends end left old new bytes = (open_line : List ℕ) → HoldsOpenLine old.kept open_line → EndsSo end left old new bytes open_line

@@ -3,7 +3,7 @@ ghost use Rattle.std.specs.Prelude.{◌≡◌, ℕ, List, Option, [], ◌∷◌,
 ghost use Rattle.std.specs.Io.KnownBytes.{Consumes, IsAtEnd};
 ghost use Rattle.machine.specs.Machine.{IsSoundMachine, Shows};
 ghost use Rattle.vm_types.specs.State.{State};
-ghost use Rattle.runner.specs.Progress.{stage, IsKept, RunsLast, GoesOn, BreaksOff, Ends, EndsSo};
+ghost use Rattle.runner.specs.Progress.{stage, HoldsOpenLine, RunsLast, GoesOn, BreaksOff, Ends, EndsSo};
 ghost use Rattle.runner.specs.Session.{Answers};
 ghost use Rattle.trace_lang.specs.Texts.{text_of};
 ghost use Rattle.vm_types.specs.declared.reply.Reply.TheVariants.{Past};
@@ -178,7 +178,7 @@ fn answer_last<D: SectorDisk, E: SectorDisk>(
     requires room { length output.old < 32768 }
     requires sound { IsSoundMachine D.SectorDisk E.SectorDisk machine.old }
     ensures sound { IsSoundMachine D.SectorDisk E.SectorDisk machine.new }
-    ensures runs { (open_line : List ℕ) → IsKept line.now open_line
+    ensures runs { (open_line : List ℕ) → HoldsOpenLine line.now open_line
         → RunsLast D.SectorDisk E.SectorDisk machine.old machine.new open_line output.old output.new }
 {
     if line.is_empty() {

@@ -1,5 +1,6 @@
 -- What files hold, and after how many msyncs they do.
 use Rattle.std.specs.Prelude.{◌≡◌, ◌≤◌, ◌<◌, ℕ, List, [], Option, Some, None, slice_get}
+use Rattle.vm_types.specs.Limits.{file_limit}
 use Rattle.std.specs.Option.{option_map, unwrap_or}
 use Rattle.std.specs.declared.alloc.Global.{Global}
 use Rattle.std.specs.declared.vec.Vec.{Vec}
@@ -13,7 +14,7 @@ standing_bytes image f = unwrap_or (standing_file image f) []
 
 -- the bytes of all files as they stand, one file after another
 abbrev pub standing_contents : Image → List ℕ
-standing_contents image = joined (standing_bytes image) 64
+standing_contents image = joined (standing_bytes image) file_limit
 
 -- what the files hold after so many msyncs
 abbrev pub state_after : List (Vec ℕ Global) → ℕ → Option (List ℕ)

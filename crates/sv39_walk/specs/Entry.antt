@@ -38,6 +38,10 @@ is_dirty e = has_bit e 7
 abbrev pub is_private : ℕ → Bool
 is_private e = has_bit e 8
 
+-- an entry of a page that lies in a slot of the swap device: V is clear, so that all other bits are left to software, and bit 1 set
+abbrev pub is_swapped : ℕ → Bool
+is_swapped e = not (is_valid e) && has_bit e 1
+
 -- PPN, bits 10 to 53
 unfoldable pub frame_of : ℕ → ℕ
 frame_of e = e / 2 ^ 10 % 2 ^ 44

@@ -21,7 +21,7 @@ const DIRTY: u64 = 1 << 7;
 pub struct Pte(pub u64);
 
 impl Pte {
-    ghost use Rattle.sv39_walk.specs.Entry.{has_bit, is_valid, can_read, can_write, can_execute, is_user, is_accessed, is_dirty, is_private, is_reserved, is_leaf, grants};
+    ghost use Rattle.sv39_walk.specs.Entry.{has_bit, is_valid, can_read, can_write, can_execute, is_user, is_accessed, is_dirty, is_private, is_swapped, is_reserved, is_leaf, grants};
 
     /// The entry of that number.
     pub fn from_u64(number: u64) -> Pte
@@ -101,6 +101,14 @@ impl Pte {
         ensures { result ≡ is_private self.0 }
     {
         self.has(8)
+    }
+
+    /// The page lies in a slot of the swap device: V is clear, which leaves all other bits to software, and bit 1, which is that of R in
+    /// a leaf, set.
+    pub fn is_swapped(self) -> bool
+        ensures { result ≡ is_swapped self.0 }
+    {
+        !self.is_valid() && self.is_readable()
     }
 
     /// The entry with W clear.

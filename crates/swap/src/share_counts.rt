@@ -1,5 +1,6 @@
 //! The share counts of slots.
 ghost use Rattle.std.specs.Prelude.{◌≡◌, ℕ, ◌+◌, ◌-◌, ◌<◌, ◌≤◌, length, replicate, slice_set, IfOk, IfSome, IfNone};
+ghost use Rattle.vm_types.specs.Processes.{process_limit};
 ghost use Rattle.swap.specs.Counts.{count_at, free_count, AreSoundCounts};
 
 use std::alloc::{AllocError, Global};
@@ -81,7 +82,7 @@ impl ShareCounts {
     /// One share more of slot `n`.
     pub(crate) fn raise(&mut self, n: u32)
         requires in_use { 0 < count_at self.old n }
-        requires few { count_at self.old n < 64 }
+        requires few { count_at self.old n < process_limit }
         ensures raised { self.new ≡ slice_set self.old n (count_at self.old n + 1) }
         ensures sound { AreSoundCounts self.new }
     {

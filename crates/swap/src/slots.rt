@@ -124,6 +124,7 @@ impl<D: SectorDisk> Swap<D> {
 
 impl<D> Swap<D> {
     ghost use Rattle.swap.specs.Slots.{slots_of, IsInUse, IsFull, AreSoundSlots, Shares, Releases, free_slots};
+    ghost use Rattle.vm_types.specs.Processes.{process_limit};
 
     /// The number of slots, at most 65,536. The second clause is what is true of slots at all times.
     pub fn len(&self) -> u32
@@ -159,7 +160,7 @@ impl<D> Swap<D> {
     #[tactic(auto, using(crate::proofs::Sound::sound_slots))]
     pub fn share(&mut self, n: SlotNo)
         requires in_use { IsInUse (slots_of self.old) n.0 }
-        requires few { (slots_of self.old).count n.0 < 64 }
+        requires few { (slots_of self.old).count n.0 < process_limit }
         ensures shares { Shares (slots_of self.old) (slots_of self.new) n.0 }
         ensures pages { self.new.pages ≡ self.old.pages }
         ensures sound { AreSoundSlots (slots_of self.new) }

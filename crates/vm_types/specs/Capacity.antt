@@ -1,6 +1,6 @@
 -- How much memory and swap a state needs. Sv39: a table for each 512 entries, in three levels.
 use Rattle.std.specs.Prelude.{ℕ, ◌+◌, ◌*◌, ◌^◌, Bool, false, if◌then◌else◌, Option, Some, None, is_some}
-use Rattle.vm_types.specs.Limits.{user_end}
+use Rattle.vm_types.specs.Limits.{user_end, file_limit, file_page_limit}
 use Rattle.vm_types.specs.Counting.{any_below, count_below, sum_below}
 use Rattle.vm_types.specs.State.{State}
 use Rattle.vm_types.specs.View.{View}
@@ -26,4 +26,4 @@ has_own (Some view) = is_some view.own
 unfoldable pub held_count : State → ℕ
 held_count s =
     sum_below (λ pid. count_below (λ page. has_own (s.views pid page)) user_end) 65
-    + sum_below (λ file. count_below (s.touched file) (2 ^ 20)) 64
+    + sum_below (λ file. count_below (s.touched file) file_page_limit) file_limit

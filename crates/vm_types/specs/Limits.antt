@@ -1,4 +1,4 @@
--- The user half of an Sv39 address space. RISC-V Privileged Specification, "Sv39: Page-Based 39-bit Virtual-Memory System": three levels of
+-- Sizes. The user half of an Sv39 address space: RISC-V Privileged Specification, "Sv39: Page-Based 39-bit Virtual-Memory System": three levels of
 -- tables, and the addresses below 2 ^ 38 by their sign. The lowest pages stay free, as on Linux (vm.mmap_min_addr in proc_sys_vm(5)).
 use Rattle.std.specs.Prelude.{ℕ, ◌^◌}
 
@@ -17,3 +17,15 @@ user_end = 2 ^ 26
 -- the most pages that one msync makes durable
 abbrev pub msync_pages : ℕ
 msync_pages = 127
+
+-- the most files of an image
+abbrev pub file_limit : ℕ
+file_limit = 64
+
+-- more pages than any file has, whose length is below 2 ^ 32
+abbrev pub file_page_limit : ℕ
+file_page_limit = 2 ^ 20
+
+-- the most faults that are remembered
+abbrev pub fault_limit : ℕ
+fault_limit = 16

@@ -1,7 +1,7 @@
 -- msync: what it is asked for, when it is refused, and what it makes durable, all at once.
 -- msync(2); Park, Kelly and Shen, Failure-Atomic msync, EuroSys 2013.
 use Rattle.std.specs.Prelude.{ℕ, ◌+◌, ◌/◌, ◌%◌, ◌^◌, Bool, false, not, ◌==◌, ◌&&◌, nat_lt, if◌then◌else◌, [], ◌∷◌, Option, Some, None}
-use Rattle.vm_types.specs.Limits.{msync_pages}
+use Rattle.vm_types.specs.Limits.{msync_pages, file_limit, file_page_limit}
 use Rattle.vm_types.specs.declared.command.MsyncMode.{MsyncMode}
 use Rattle.vm_types.specs.declared.command.MsyncMode.TheVariants.{Sync, Async}
 use Rattle.vm_types.specs.declared.refusal.Errno.{Errno}
@@ -32,7 +32,7 @@ touched_in s pid first count file page = s.touched file page && any_below (λ i.
 
 -- how many file pages those are: a file has fewer than 2 ^ 20 pages, and there are 64
 unfoldable pub touched_count : State → ℕ → ℕ → ℕ → ℕ
-touched_count s pid first count = sum_below (λ file. count_below (touched_in s pid first count file) (2 ^ 20)) 64
+touched_count s pid first count = sum_below (λ file. count_below (touched_in s pid first count file) file_page_limit) file_limit
 
 -- How an msync is judged: refused, done without making anything durable, or taking the touched pages of a row.
 pub data Ruling : Type 0 where

@@ -1,4 +1,8 @@
 //! Files, which have numbers, fixed lengths and pages.
+ghost use Rattle.std.specs.Prelude.{◌≡◌, ◌≤◌};
+ghost use Rattle.vm_types.specs.Files.{bytes_inside};
+
+use crate::PAGE_BYTES;
 
 /// A page of a file: the file's number, 0 to 63, and the page's, counted from 0 in pages of 4,096 bytes.
 #[repr(C)]
@@ -13,4 +17,17 @@ pub struct FilePage {
 pub struct FileInfo {
     pub length: u32,
     pub read_only: bool,
+}
+
+impl FileInfo {
+    /// How many bytes of a page, counted from 0, lie inside the file.
+    pub fn bytes_inside(self, page: u32) -> usize
+        ensures inside { result ≡ bytes_inside self.length page }
+        ensures most { result ≤ 4096 }
+    {
+        let before = PAGE_BYTES as u64 * u64::from(page);
+        u64::from(self.length)
+            .saturating_sub(before)
+            .min(PAGE_BYTES as u64) as usize
+    }
 }

@@ -1,5 +1,6 @@
 //! The faults that are kept.
 ghost use Rattle.std.specs.Prelude.{◌≡◌, ◌<◌, ◌≤◌, ◌∷◌, [], ◌++◌, length};
+ghost use Rattle.vm_types.specs.Limits.{fault_limit};
 
 use crate::FAULTS;
 use crate::number::Pid;
@@ -19,18 +20,19 @@ impl Model for History {
     ghost use Rattle.vm_types.specs.declared.refusal.Fault.{Fault};
     ghost use Rattle.std.proofs.Common.{arith, ap, sym, ◌∙◌, length-take-le, take-append-drop};
     ghost use Rattle.vm_types.specs.Blank.{blank, filled};
+    ghost use Rattle.vm_types.specs.Limits.{fault_limit};
 
     ghost Value = { List (ℕ × Fault) };
 
     ghost view = { λ h. take h.count h.list };
 
-    ghost invariant = { λ h. (h.count ≤ 16) × (length h.list ≡ 16) × (drop h.count h.list ≡ replicate (16 - h.count) blank) };
+    ghost invariant = { λ h. (h.count ≤ fault_limit) × (length h.list ≡ fault_limit) × (drop h.count h.list ≡ replicate (fault_limit - h.count) blank) };
 
     ghost inverse = { λ xs. record { count = length xs; list = filled xs } };
 
     ghost inverse_ok = { λ a h i. let held = length-take-le a.count a.list (omega (arith, h.0, h.1)) in record {
       count = held i;
-      list = (ap (λ n. take a.count a.list ++ replicate (16 - n) blank) held ∙ ap (λ rest. take a.count a.list ++ rest) (sym h.2) ∙ take-append-drop a.count a.list) i;
+      list = (ap (λ n. take a.count a.list ++ replicate (fault_limit - n) blank) held ∙ ap (λ rest. take a.count a.list ++ rest) (sym h.2) ∙ take-append-drop a.count a.list) i;
     } };
 }
 
@@ -52,7 +54,7 @@ impl History {
 
     /// Adds a later fault, for which there must be room.
     pub fn push(&mut self, pid: Pid, fault: Fault)
-        requires { length self.old < 16 }
+        requires { length self.old < fault_limit }
         ensures { self.new ≡ self.old ++ (pid, fault) ∷ [] }
     {
         self.list[usize::from(self.count)] = (pid, fault);
@@ -62,7 +64,7 @@ impl History {
     /// The faults, oldest first.
     pub fn as_slice(&self) -> &[(Pid, Fault)]
         ensures list { result.now ≡ self.now }
-        ensures few { length result.now ≤ 16 }
+        ensures few { length result.now ≤ fault_limit }
     {
         &self.list[..usize::from(self.count)]
     }

@@ -2,12 +2,11 @@ use Rattle.std.proofs.Common.{◌≡◌, ◌<◌, ◌≤◌, ◌^◌, ℕ, inl, 
 use Rattle.std.proofs.lemmas.Bool.{cases_lt, false≢true}
 use Rattle.paging.specs.Picture.{picture_of}
 use Rattle.paging.specs.Ages.{GivesForTables}
-use Rattle.paging.specs.Calls.{StallCause}
 use Rattle.paging.proofs.Aging.{gives_same, gives_then}
 use Rattle.paging.proofs.Shown.{keeps_then}
-use Rattle.mapping.proofs.Steps.{moves_none, moves_then, bare_then, stall_then, stalls_as}
+use Rattle.mapping.proofs.Steps.{moves_none, moves_then, bare_then, stall_then, cause_as}
 use Rattle.page_ranges.proofs.Emptied.{low_zero}
-use Rattle.copy_on_write.specs.Steps.{HasTables, HasTablesFrom, LacksTable}
+use Rattle.copy_on_write.specs.Steps.{HasTables, HasTablesFrom, LacksTableForCopy}
 use Rattle.copy_on_write.proofs.Linked.{on_err, below_then, lacks_before, all_below, none_wanted, links_then}
 use Rattle.copy_on_write.proofs.linking.link_copies.Goals as goal
 
@@ -55,8 +54,8 @@ loop-page-preserved g c =
       tables = links_then (picture_of first) (picture_of mid) (picture_of last) None c.args.parent c.args.child k.moves.fit.granting k.pages step.pages step.gives
           k.tables step.tables;
       no_copy = λ n is. k.no_copy n (step.no_copy n is);
-      not_refused = step.not_refused ∙ k.not_refused;
-      swap_calm = step.swap_calm ∙ k.swap_calm;
+      not_refused = step.cause.0 ∙ k.not_refused;
+      swap_calm = step.cause.1 ∙ k.swap_calm;
     }
 
 pub returns-in_err-number-clause-moves : goal.returns-in_err-number-clause-moves
@@ -70,7 +69,7 @@ returns-in_err-number-clause-pages g c =
 pub returns-in_err-number-clause-wanted : goal.returns-in_err-number-clause-wanted
 returns-in_err-number-clause-wanted g c =
     let k = c.loop-page.invariant in
-    on_err c.from_residual.result (LacksTable (picture_of c.args.core.now) c.args.parent c.args.child)
+    on_err c.from_residual.result (LacksTableForCopy (picture_of c.args.core.now) c.args.parent c.args.child)
     (lacks_before (picture_of c.args.core.now) (picture_of c.loop-page.core) c.args.parent c.args.child k.moves.fit.granting k.pages k.moves.tables c.in_err-number.ensures.wanted)
 
 pub returns-in_err-number-clause-idle : goal.returns-in_err-number-clause-idle
@@ -106,5 +105,5 @@ returns-clause-linked g c =
 pub returns-in_err-number-clause-cause : goal.returns-in_err-number-clause-cause
 returns-in_err-number-clause-cause g c =
     let k = c.loop-page.invariant in
-    stalls_as (StallCause g.E.SectorDisk c.args.core.now c.link_next.new.core) c.from_residual.result c.in_err-number.field-0.0 c.from_residual.ensures.1
+    cause_as g.E.SectorDisk c.args.core.now c.link_next.new.core c.from_residual.result c.in_err-number.field-0.0 c.from_residual.ensures.1
     (stall_then g.E.SectorDisk c.args.core.now c.loop-page.core c.link_next.new.core c.in_err-number.field-0.0 k.not_refused k.swap_calm c.in_err-number.ensures.cause)

@@ -3,7 +3,7 @@ use Rattle.std.specs.Prelude.{IsSome}
 use Rattle.vm_types.specs.declared.region.Attr.{Attr}
 use Rattle.paging.specs.Picture.{picture_of}
 use Rattle.page_ranges.proofs.Gaps.{in_row_of}
-use Rattle.copy_on_write.specs.Steps.{LacksTable}
+use Rattle.copy_on_write.specs.Steps.{LacksTableForCopy}
 use Rattle.copy_on_write.proofs.Copies.{copied_mapped}
 use Rattle.copy_on_write.proofs.Linked.{on_err, copy_stays, links_one, none_wanted, row_whole}
 use Rattle.copy_on_write.proofs.linking.link_next.Goals as goal
@@ -41,5 +41,5 @@ returns-in_err-link_tables-clause-lacks g c =
     let new = picture_of c.link_tables.new.core in
     let done = c.in_err-link_tables.ensures in
     let page = c.in-Some-first_copy.copied in
-    on_err c.from_residual.result (LacksTable new c.args.parent c.args.child)
+    on_err c.from_residual.result (LacksTableForCopy new c.args.parent c.args.child)
     (page, copy_stays old new c.args.parent page c.requires.fit.granting done.pages c.in-Some-first_copy.ensures.some, done.wanted)

@@ -1,7 +1,7 @@
 use Rattle.std.proofs.Common.{◌≡◌, ◌/◌}
 use Rattle.paging.specs.Parts.{IsFit}
 use Rattle.paging.specs.Picture.{picture_of}
-use Rattle.page_ranges.specs.Steps.{KeepsRest}
+use Rattle.page_ranges.specs.Steps.{KeepsBesideMemory}
 use Rattle.copy_on_write.specs.Shares.{IsTableFor, SharesRow}
 use Rattle.copy_on_write.proofs.sharing.share_table.Given as goal
 
@@ -11,6 +11,6 @@ invariant-loop-page g l = record {
   from : IsTableFor (picture_of l.core) l.parent (l.fn.start / 512) l.from.0;
   to : IsTableFor (picture_of l.core) l.child (l.fn.start / 512) l.to.0;
   shares : SharesRow (picture_of l.fn.core) (picture_of l.core) l.parent l.child l.fn.start l.page;
-  rest : KeepsRest l.fn.core l.core;
+  rest : KeepsBesideMemory l.fn.core l.core;
   refused : l.core.refused ≡ l.fn.core.refused;
 }

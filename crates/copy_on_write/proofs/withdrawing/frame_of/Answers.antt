@@ -2,7 +2,7 @@ use Rattle.std.proofs.Common.{sym, ap, ◌∙◌, subst}
 use Rattle.sv39_walk.specs.Entry.{frame_of}
 use Rattle.page_tables.specs.Entry.{number_of, IsEntry}
 use Rattle.page_tables.specs.declared.forms.Entry.{Entry}
-use Rattle.mapping.proofs.Bits.{parked_frame}
+use Rattle.page_tables.proofs.Bits.{parked_frame}
 use Rattle.copy_on_write.proofs.Copies.{own_framed}
 use Rattle.copy_on_write.proofs.withdrawing.frame_of.Goals as goal
 

@@ -6,14 +6,14 @@ use Rattle.vm_types.specs.declared.number.NoFree.{NoFree}
 use Rattle.frames.specs.declared.role.Role.TheVariants.{Table}
 use Rattle.page_tables.specs.Change.{AddsTable}
 use Rattle.walk_buffer.specs.declared.buffer.TranslationBuffer.{TranslationBuffer}
-use Rattle.mapped_memory.specs.Kept.{IsKept}
+use Rattle.mapped_memory.specs.Kept.{LinesAreLeaves}
 use Rattle.mapped_memory.proofs.Keeping.{kept_by, no_more, taken_leaf}
 use Rattle.mapped_memory.proofs.trees.take_table.Goals as goal
 
-either : (old new : FrameTable) (b : TranslationBuffer) (r : Result FrameNo NoFree) → IsKept old b
-    → IfOk r (λ n. AddsTable old new 2 n.0) → OnErr r (new ≡ old) → IsKept new b
+either : (old new : FrameTable) (b : TranslationBuffer) (r : Result FrameNo NoFree) → LinesAreLeaves old b
+    → IfOk r (λ n. AddsTable old new 2 n.0) → OnErr r (new ≡ old) → LinesAreLeaves new b
 either old new b (Ok n) kept taken err = kept_by old new b b (no_more b) (taken_leaf old new n.0 Table taken.takes) kept
-either old new b (Err e) kept taken err = subst (λ (t : FrameTable). IsKept t b) (sym err) kept
+either old new b (Err e) kept taken err = subst (λ (t : FrameTable). LinesAreLeaves t b) (sym err) kept
 
 pub invariant_of-memory : goal.invariant_of-memory
 invariant_of-memory c =

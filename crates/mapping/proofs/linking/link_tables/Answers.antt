@@ -3,11 +3,10 @@ use Rattle.std.specs.Prelude.{IsSome}
 use Rattle.vm_types.specs.declared.region.Attr.{Attr}
 use Rattle.regions.proofs.ResultLemmas.{on_err}
 use Rattle.paging.specs.Ages.{GivesForTables}
-use Rattle.paging.specs.Calls.{StallCause}
 use Rattle.paging.specs.Picture.{Picture, picture_of}
 use Rattle.paging.proofs.Shown.{keeps_then}
 use Rattle.mapping.proofs.Slotted.{slotted_then, slotted_same}
-use Rattle.mapping.proofs.Steps.{moves_none, moves_then, bare_then, stall_then, stalls_as}
+use Rattle.mapping.proofs.Steps.{moves_none, moves_then, bare_then, stall_then, cause_as}
 use Rattle.paging.proofs.Aging.{gives_same, gives_then}
 use Rattle.mapping.proofs.TablesGiven.{links_then}
 use Rattle.mapping.proofs.linking.link_tables.Goals as goal
@@ -43,7 +42,7 @@ loop-pid-preserved g c =
       moves_then g.E.SectorDisk first mid last k.0 step.moves,
       keeps_then (picture_of first) (picture_of mid) (picture_of last) k.1 step.pages,
       bare_then (picture_of first) (picture_of mid) (picture_of last) k.2 step.bare,
-      step.not_refused ∙ k.3,
+      step.cause.0 ∙ k.3,
       step.moves.spaces.root c.args.pid ∙ k.4,
       subst P (sym (step.moves.spaces.at c.args.pid c.args.page)) k.5,
       omega (arith, step.lowered, k.6),
@@ -52,7 +51,7 @@ loop-pid-preserved g c =
       gives_then (picture_of first) (picture_of mid) (picture_of last) None k.9 step.gives,
       links_then (picture_of first) (picture_of mid) (picture_of last) c.args.pid c.args.page None (step.moves.spaces.root c.args.pid) step.gives k.10 step.tables,
       slotted_then (λ p. ⊥) (λ q p. ⊥) (picture_of first) (picture_of mid) (picture_of last) k.11 step.slotted,
-      step.swap_calm ∙ k.12,
+      step.cause.1 ∙ k.12,
     )
 
 pub returns-in_err-link_one-clause-tried : goal.returns-in_err-link_one-clause-tried
@@ -78,5 +77,5 @@ returns-in_err-link_one-clause-slotted g c =
 pub returns-in_err-link_one-clause-cause : goal.returns-in_err-link_one-clause-cause
 returns-in_err-link_one-clause-cause g c =
     let k = c.loop-pid.invariant in
-    stalls_as (StallCause g.E.SectorDisk c.args.core.now c.link_one.new.core) c.from_residual.result c.in_err-link_one.field-0.0 c.from_residual.ensures.1
+    cause_as g.E.SectorDisk c.args.core.now c.link_one.new.core c.from_residual.result c.in_err-link_one.field-0.0 c.from_residual.ensures.1
     (stall_then g.E.SectorDisk c.args.core.now c.loop-pid.core c.link_one.new.core c.in_err-link_one.field-0.0 k.3 k.12 c.in_err-link_one.ensures.cause)

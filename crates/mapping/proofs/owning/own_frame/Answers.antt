@@ -7,7 +7,8 @@ use Rattle.sv39_walk.specs.Entry.{frame_of}
 use Rattle.paging.specs.Picture.{Picture, picture_of, entry, is_private, view}
 use Rattle.paging.specs.Parts.{IsBehind}
 use Rattle.paging.proofs.Entries.{entry-of}
-use Rattle.mapping.specs.Leaves.{IsEntryOver, IsFullEntry}
+use Rattle.page_tables.specs.Leaves.{IsEntryOver}
+use Rattle.mapping.specs.Leaves.{IsFullEntry}
 use Rattle.mapping.specs.Changes.{shown_frame, is_sole}
 use Rattle.mapping.proofs.Forms.{mapped_page, used_inside, own_role, seat_zero, none_common}
 use Rattle.mapping.proofs.OwnSteps.{shown_used, shown_own, shown_behind, common_when, several_when, full_own, own_view}

@@ -6,7 +6,7 @@ use Rattle.page_cache.specs.declared.place.Place.TheVariants.{Home, Frame, Slot}
 use Rattle.paging.specs.Picture.{Picture, picture_of}
 use Rattle.paging.specs.Parts.{IsFit}
 use Rattle.vm_types.specs.declared.file.FilePage.{FilePage}
-use Rattle.mapping.proofs.BroughtIn.{spaces_of, tables_of, room_of, seen_of, bare_of, slotted_of, placed_of, reads_none, brings_none, brings_home_of, brings_slot_of, causes_of, never_store, ok_always, err_always}
+use Rattle.mapping.proofs.BroughtIn.{spaces_of, tables_of, room_of, seen_of, bare_of, slotted_of, placed_of, reads_none, brings_none, brings_home_of, brings_slot_of, causes_of, never_store, err_always}
 use Rattle.mapping.proofs.Slotted.{slotted_same}
 use Rattle.mapping.proofs.Steps.{device_none}
 use Rattle.mapping.proofs.page_in.cached.Goals as goal
@@ -104,9 +104,6 @@ returns-in-Slot-clause-home g c = never_store g.D.SectorDisk g.E.SectorDisk _ c.
 
 pub returns-in-Slot-clause-cause : goal.returns-in-Slot-clause-cause
 returns-in-Slot-clause-cause g c = causes_of g.D.SectorDisk g.E.SectorDisk c.args.core.now c.bring_back.new.self c.bring_back.result c.bring_back.ensures.rest.store c.bring_back.ensures.cause
-
-pub returns-in-Slot-clause-store_calm : goal.returns-in-Slot-clause-store_calm
-returns-in-Slot-clause-store_calm g c = ok_always _ c.bring_back.result (ap (λ s. g.D.SectorDisk.failures s.disk) c.bring_back.ensures.rest.store)
 
 pub returns-in-Frame-clause-proceeds : goal.returns-in-Frame-clause-proceeds
 returns-in-Frame-clause-proceeds g c = record {

@@ -9,7 +9,8 @@ use Rattle.frames.specs.declared.role.Role.TheVariants.{Table, Cache}
 use Rattle.paging.specs.Picture.{Picture, picture_of, entry}
 use Rattle.paging.specs.Parts.{IsBehind, is_shared}
 use Rattle.paging.proofs.Places.{cases_page}
-use Rattle.mapping.specs.Leaves.{IsEntryOver, is_touched_behind}
+use Rattle.page_tables.specs.Leaves.{IsEntryOver}
+use Rattle.mapping.specs.Leaves.{is_touched_behind}
 use Rattle.mapping.proofs.Entering.{beside_around, full_entry_now, full_set, full_fit, full_views, full_tables, linked_marked, entry_marked, view_marked, tables_marked}
 use Rattle.mapping.proofs.Forms.{used_inside, behind_used, mapped_page, shared_none, seat_over_common}
 use Rattle.mapping.proofs.Steps.{tables_then}

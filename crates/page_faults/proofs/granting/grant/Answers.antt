@@ -6,7 +6,7 @@ use Rattle.mapping.proofs.Forms.{mapped_page}
 use Rattle.page_faults.specs.Wants.{ForTable, ShowsFile}
 use Rattle.page_faults.proofs.Linked.{open_still, calm_back, read_back, away_back, ready_back, brings_back, stalled_back, stalled_tables}
 use Rattle.page_faults.proofs.Slotted.{slotted_none, slotted_back}
-use Rattle.page_faults.proofs.Steps.{proceeds_moves, proceeds_after, brings_none, on_ok_then}
+use Rattle.page_faults.proofs.Steps.{proceeds_moves, proceeds_after, brings_none, on_ok_then, counts_then}
 use Rattle.page_faults.proofs.Wanted.{stalled_as, root_live, root_lives, whole_or}
 use Rattle.page_faults.proofs.granting.grant.Goals as goal
 
@@ -99,28 +99,25 @@ returns-clause-read g c =
     read_back c.args.core.now c.link_tables.new.core c.args.pid c.args.page (root_live old c.args.pid c.requires.lives) done.pages (λ whole. (done.idle whole).0)
     done.whole done.gives done.tables c.grant_linked.new.core.store done.moves.store c.grant_linked.ensures.read
 
-pub returns-clause-not_refused : goal.returns-clause-not_refused
-returns-clause-not_refused g c = on_ok_then _ _ c.grant_linked.result (λ same. same ∙ c.in_ok-link_tables.ensures.not_refused) c.grant_linked.ensures.not_refused
-
-pub returns-clause-device_calm : goal.returns-clause-device_calm
-returns-clause-device_calm g c =
-    on_ok_then _ _ c.grant_linked.result (λ same. same ∙ ap (λ s. g.D.SectorDisk.failures s.disk) c.in_ok-link_tables.ensures.moves.store) c.grant_linked.ensures.device_calm
+pub returns-clause-counts : goal.returns-clause-counts
+returns-clause-counts g c =
+    let done = c.in_ok-link_tables.ensures in
+    on_ok_then _ _ c.grant_linked.result
+    (counts_then g.D.SectorDisk g.E.SectorDisk c.args.core.now c.link_tables.new.core c.grant_linked.new.core (done.cause.0, ap (λ s. g.D.SectorDisk.failures s.disk) done.moves.store, done.cause.1))
+    c.grant_linked.ensures.counts
 
 pub returns-clause-stalled : goal.returns-clause-stalled
 returns-clause-stalled g c =
     let old : Picture = picture_of c.args.core.now in
     let done = c.in_ok-link_tables.ensures in
     stalled_back c.args.core.now c.link_tables.new.core c.args.pid c.args.page (root_live old c.args.pid c.requires.lives) done.pages (λ whole. (done.idle whole).0)
-    g.D.SectorDisk g.E.SectorDisk done.moves done.whole done.gives done.tables c.grant_linked.new.core c.args.access c.grant_linked.result done.not_refused done.swap_calm c.grant_linked.ensures.stalled
+    g.D.SectorDisk g.E.SectorDisk done.moves done.whole done.gives done.tables c.grant_linked.new.core c.args.access c.grant_linked.result done.cause.0 done.cause.1 c.grant_linked.ensures.stalled
 
 pub returns-in_err-link_tables-clause-others : goal.returns-in_err-link_tables-clause-others
 returns-in_err-link_tables-clause-others g c = λ q k other. c.in_err-link_tables.ensures.pages.views q k
 
 pub returns-clause-others : goal.returns-clause-others
 returns-clause-others g c = λ q k other. c.grant_linked.ensures.others q k other ∙ c.in_ok-link_tables.ensures.pages.views q k
-
-pub returns-clause-swap_calm : goal.returns-clause-swap_calm
-returns-clause-swap_calm g c = on_ok_then _ _ c.grant_linked.result (λ same. same ∙ c.in_ok-link_tables.ensures.swap_calm) c.grant_linked.ensures.swap_calm
 
 pub returns-in_err-link_tables-clause-slotted : goal.returns-in_err-link_tables-clause-slotted
 returns-in_err-link_tables-clause-slotted g c =

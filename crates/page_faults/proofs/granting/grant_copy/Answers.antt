@@ -10,7 +10,7 @@ use Rattle.page_faults.proofs.Owned.{owned_ready, owned_entered, owned_calm, own
 use Rattle.page_faults.proofs.Pages.{page_inside, frame_behind}
 use Rattle.page_faults.proofs.Settled.{none_same, ready_after}
 use Rattle.page_faults.proofs.Slotted.{slotted_brought, slotted_on}
-use Rattle.page_faults.proofs.Steps.{proceeds_then, files_read, calm_store, ok_then, on_ok, on_ok_then}
+use Rattle.page_faults.proofs.Steps.{proceeds_then, files_read, ok_then, on_ok_then, counts_then, counts_done}
 use Rattle.page_faults.proofs.Wanted.{stalled_as, shows_file, page_there}
 use Rattle.page_faults.proofs.granting.grant_copy.Goals as goal
 
@@ -128,12 +128,11 @@ returns-clause-read g c =
     let shows = shows_file old c.args.pid c.args.page c.args.attr c.args.file_page c.requires.allowed.mapped (inl c.requires.private) c.requires.none in
     read_then c.args.core.now c.cached.new.core c.args.pid c.args.page c.args.file_page shows c.own_frame.new.core.store c.requires.linked.fit c.own_frame.ensures.moves.store c.in_ok-cached.ensures.read
 
-pub returns-clause-not_refused : goal.returns-clause-not_refused
-returns-clause-not_refused g c = on_ok_then _ _ c.own_frame.result (λ same. same ∙ c.in_ok-cached.ensures.not_refused) c.own_frame.ensures.not_refused
-
-pub returns-clause-device_calm : goal.returns-clause-device_calm
-returns-clause-device_calm g c =
-    on_ok _ c.own_frame.result (calm_store g.D.SectorDisk c.args.core.now c.cached.new.core c.own_frame.new.core c.own_frame.ensures.moves.store c.in_ok-cached.ensures.store_calm)
+pub returns-clause-counts : goal.returns-clause-counts
+returns-clause-counts g c =
+    let done = c.own_frame.ensures in
+    on_ok_then _ _ c.own_frame.result (counts_then g.D.SectorDisk g.E.SectorDisk c.args.core.now c.cached.new.core c.own_frame.new.core c.in_ok-cached.ensures.cause)
+    (counts_done g.D.SectorDisk g.E.SectorDisk c.cached.new.core c.own_frame.new.core c.own_frame.result done.moves.store done.cause)
 
 pub returns-clause-stalled : goal.returns-clause-stalled
 returns-clause-stalled g c =
@@ -142,7 +141,7 @@ returns-clause-stalled g c =
     let first = c.in_ok-cached.ensures in
     let done = c.own_frame.ensures in
     stalled_on c.args.core.now c.cached.new.core c.args.pid c.args.page c.args.file_page shows g.D.SectorDisk g.E.SectorDisk c.own_frame.new.core Store c.own_frame.result
-    (λ n at. (first.idle n at).0) first.keeps first.swap_calm first.not_refused first.store_calm done.cause
+    (λ n at. (first.idle n at).0) first.keeps first.cause.2 first.cause.0 first.cause.1 done.cause
     (owned_stalled c.cached.new.core c.own_frame.new.core c.args.pid c.args.page c.args.attr (first.proceeds.spaces.at c.args.pid c.args.page ∙ c.requires.allowed.mapped)
     (ap is_shared c.requires.private) g.D.SectorDisk g.E.SectorDisk c.own_frame.result done.moves.store done.files done.same done.wanted done.cause done.short)
 
@@ -151,9 +150,6 @@ returns-in_err-cached-clause-others g c = λ q k other. c.in_err-cached.ensures.
 
 pub returns-clause-others : goal.returns-clause-others
 returns-clause-others g c = λ q k other. c.own_frame.ensures.others q k other ∙ c.in_ok-cached.ensures.keeps.views q k
-
-pub returns-clause-swap_calm : goal.returns-clause-swap_calm
-returns-clause-swap_calm g c = on_ok_then _ _ c.own_frame.result (λ same. same ∙ c.in_ok-cached.ensures.swap_calm) c.own_frame.ensures.swap_calm
 
 pub returns-in_err-cached-clause-slotted : goal.returns-in_err-cached-clause-slotted
 returns-in_err-cached-clause-slotted g c =

@@ -7,7 +7,7 @@ use Rattle.mapping.proofs.SwapSteps.{swapped_page}
 use Rattle.page_faults.specs.Wants.{Wants, ForSlot, ShowsFile}
 use Rattle.page_faults.proofs.Entered.{swapped_entered, swapped_ready, swapped_stalled}
 use Rattle.page_faults.proofs.Slotted.{slotted_own}
-use Rattle.page_faults.proofs.Steps.{proceeds_moves, brings_none, on_ok}
+use Rattle.page_faults.proofs.Steps.{proceeds_moves, brings_none, counts_done}
 use Rattle.page_faults.proofs.granting.grant_linked.Goals as goal
 
 pub returns-then-is_swapped-clause-proceeds : goal.returns-then-is_swapped-clause-proceeds
@@ -49,8 +49,9 @@ returns-then-is_swapped-clause-calm g c none =
 pub returns-then-is_swapped-clause-read : goal.returns-then-is_swapped-clause-read
 returns-then-is_swapped-clause-read g c = inl c.swap_in.ensures.moves.store
 
-pub returns-then-is_swapped-clause-device_calm : goal.returns-then-is_swapped-clause-device_calm
-returns-then-is_swapped-clause-device_calm g c = on_ok _ c.swap_in.result (ap (λ s. g.D.SectorDisk.failures s.disk) c.swap_in.ensures.moves.store)
+pub returns-then-is_swapped-clause-counts : goal.returns-then-is_swapped-clause-counts
+returns-then-is_swapped-clause-counts g c =
+    counts_done g.D.SectorDisk g.E.SectorDisk c.args.core.now c.swap_in.new.core c.swap_in.result c.swap_in.ensures.moves.store c.swap_in.ensures.cause
 
 pub returns-then-is_swapped-clause-stalled : goal.returns-then-is_swapped-clause-stalled
 returns-then-is_swapped-clause-stalled g c =

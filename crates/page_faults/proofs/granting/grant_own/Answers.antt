@@ -1,7 +1,7 @@
-use Rattle.std.proofs.Common.{inl, ap, ◌∙◌}
+use Rattle.std.proofs.Common.{inl, ◌∙◌}
 use Rattle.paging.specs.Picture.{Picture, picture_of}
 use Rattle.page_faults.specs.Wants.{ShowsFile}
-use Rattle.page_faults.proofs.Steps.{proceeds_moves, brings_none, on_ok}
+use Rattle.page_faults.proofs.Steps.{proceeds_moves, brings_none, counts_done}
 use Rattle.page_faults.proofs.Slotted.{slotted_own}
 use Rattle.page_faults.proofs.Owned.{owned_ready, owned_entered, owned_calm, owned_stalled}
 use Rattle.page_faults.proofs.granting.grant_own.Goals as goal
@@ -41,8 +41,9 @@ returns-clause-calm g c =
 pub returns-clause-read : goal.returns-clause-read
 returns-clause-read g c = inl c.own_frame.ensures.moves.store
 
-pub returns-clause-device_calm : goal.returns-clause-device_calm
-returns-clause-device_calm g c = on_ok _ c.own_frame.result (ap (λ s. g.D.SectorDisk.failures s.disk) c.own_frame.ensures.moves.store)
+pub returns-clause-counts : goal.returns-clause-counts
+returns-clause-counts g c =
+    counts_done g.D.SectorDisk g.E.SectorDisk c.args.core.now c.own_frame.new.core c.own_frame.result c.own_frame.ensures.moves.store c.own_frame.ensures.cause
 
 pub returns-clause-stalled : goal.returns-clause-stalled
 returns-clause-stalled g c =

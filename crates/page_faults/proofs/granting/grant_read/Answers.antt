@@ -11,7 +11,7 @@ use Rattle.page_faults.proofs.Linked.{open_still}
 use Rattle.page_faults.proofs.Pages.{page_inside, frame_behind}
 use Rattle.page_faults.proofs.Settled.{none_same}
 use Rattle.page_faults.proofs.Slotted.{slotted_calm, slotted_brought, slotted_on}
-use Rattle.page_faults.proofs.Steps.{proceeds_moves, proceeds_then, brings_none, files_read, calm_store}
+use Rattle.page_faults.proofs.Steps.{proceeds_moves, proceeds_then, brings_none, files_read, counts_then, counts_calm}
 use Rattle.page_faults.proofs.Wanted.{stalled_as, shows_file, page_there}
 use Rattle.page_faults.proofs.granting.grant_read.Goals as goal
 
@@ -66,11 +66,9 @@ returns-then-to_u64-ne0-clause-ready g c =
     (read_ready old new c.args.pid c.args.page c.args.attr c.args.access (frame_of (entry old c.args.pid c.args.page)) _ _ _ enters.fit c.regrant.new.core.sound c.requires.allowed.mapped
     (enters.spaces.at c.args.pid c.args.page ∙ c.requires.allowed.mapped) (record { views = enters.views; touched = c.regrant.ensures.files.touched }) c.regrant.ensures.entry c.requires.reads c.requires.allowed.lets)
 
-pub returns-then-to_u64-ne0-clause-not_refused : goal.returns-then-to_u64-ne0-clause-not_refused
-returns-then-to_u64-ne0-clause-not_refused g c = c.regrant.ensures.enters.calm.refused
-
-pub returns-then-to_u64-ne0-clause-device_calm : goal.returns-then-to_u64-ne0-clause-device_calm
-returns-then-to_u64-ne0-clause-device_calm g c = ap (λ s. g.D.SectorDisk.failures s.disk) c.regrant.ensures.enters.calm.store
+pub returns-then-to_u64-ne0-clause-counts : goal.returns-then-to_u64-ne0-clause-counts
+returns-then-to_u64-ne0-clause-counts g c =
+    counts_calm g.D.SectorDisk g.E.SectorDisk c.args.core.now c.regrant.new.core c.args.pid c.args.page c.regrant.ensures.enters.calm
 
 pub show_zero-requires-clause-none : goal.show_zero-requires-clause-none
 show_zero-requires-clause-none g c = sym c.entry_at-entry.ensures ∙ sym c.to_u64.ensures ∙ c.if-to_u64-ne0.false
@@ -108,11 +106,9 @@ returns-in-Anon-clause-calm g c none = c.show_zero.ensures.enters.calm
 pub returns-in-Anon-clause-read : goal.returns-in-Anon-clause-read
 returns-in-Anon-clause-read g c = inl c.show_zero.ensures.enters.calm.store
 
-pub returns-in-Anon-clause-not_refused : goal.returns-in-Anon-clause-not_refused
-returns-in-Anon-clause-not_refused g c = c.show_zero.ensures.enters.calm.refused
-
-pub returns-in-Anon-clause-device_calm : goal.returns-in-Anon-clause-device_calm
-returns-in-Anon-clause-device_calm g c = ap (λ s. g.D.SectorDisk.failures s.disk) c.show_zero.ensures.enters.calm.store
+pub returns-in-Anon-clause-counts : goal.returns-in-Anon-clause-counts
+returns-in-Anon-clause-counts g c =
+    counts_calm g.D.SectorDisk g.E.SectorDisk c.args.core.now c.show_zero.new.core c.args.pid c.args.page c.show_zero.ensures.enters.calm
 
 pub cached-requires-clause-inside : goal.cached-requires-clause-inside
 cached-requires-clause-inside g c =
@@ -227,12 +223,10 @@ returns-in_ok-frame-in-Private-clause-read g c =
     read_then c.args.core.now c.cached.new.core c.args.pid c.args.page c.in-Private.file_page shows c.show_cached.new.core.store c.requires.linked.fit c.show_cached.ensures.enters.calm.store
     c.in_ok-frame-in-Private.ensures.read
 
-pub returns-in_ok-frame-in-Private-clause-not_refused : goal.returns-in_ok-frame-in-Private-clause-not_refused
-returns-in_ok-frame-in-Private-clause-not_refused g c = c.show_cached.ensures.enters.calm.refused ∙ c.in_ok-frame-in-Private.ensures.not_refused
-
-pub returns-in_ok-frame-in-Private-clause-device_calm : goal.returns-in_ok-frame-in-Private-clause-device_calm
-returns-in_ok-frame-in-Private-clause-device_calm g c =
-    calm_store g.D.SectorDisk c.args.core.now c.cached.new.core c.show_cached.new.core c.show_cached.ensures.enters.calm.store c.in_ok-frame-in-Private.ensures.store_calm
+pub returns-in_ok-frame-in-Private-clause-counts : goal.returns-in_ok-frame-in-Private-clause-counts
+returns-in_ok-frame-in-Private-clause-counts g c =
+    counts_then g.D.SectorDisk g.E.SectorDisk c.args.core.now c.cached.new.core c.show_cached.new.core c.in_ok-frame-in-Private.ensures.cause
+    (counts_calm g.D.SectorDisk g.E.SectorDisk c.cached.new.core c.show_cached.new.core c.args.pid c.args.page c.show_cached.ensures.enters.calm)
 
 pub returns-then-to_u64-ne0-clause-others : goal.returns-then-to_u64-ne0-clause-others
 returns-then-to_u64-ne0-clause-others g c = λ q k other. c.regrant.ensures.enters.views q k
@@ -246,15 +240,9 @@ returns-in_err-frame-in-Private-clause-others g c = λ q k other. c.in_err-frame
 pub returns-in_ok-frame-in-Private-clause-others : goal.returns-in_ok-frame-in-Private-clause-others
 returns-in_ok-frame-in-Private-clause-others g c = λ q k other. c.show_cached.ensures.enters.views q k ∙ c.in_ok-frame-in-Private.ensures.keeps.views q k
 
-pub returns-then-to_u64-ne0-clause-swap_calm : goal.returns-then-to_u64-ne0-clause-swap_calm
-returns-then-to_u64-ne0-clause-swap_calm g c = ap (λ s. g.E.SectorDisk.failures s.pages.disk) c.regrant.ensures.enters.calm.swap
-
 pub returns-then-to_u64-ne0-clause-slotted : goal.returns-then-to_u64-ne0-clause-slotted
 returns-then-to_u64-ne0-clause-slotted g c =
     slotted_calm (ShowsFile (picture_of c.args.core.now) c.args.pid c.args.page) c.args.core.now c.regrant.new.core c.args.pid c.args.page c.regrant.ensures.enters.calm
-
-pub returns-in-Anon-clause-swap_calm : goal.returns-in-Anon-clause-swap_calm
-returns-in-Anon-clause-swap_calm g c = ap (λ s. g.E.SectorDisk.failures s.pages.disk) c.show_zero.ensures.enters.calm.swap
 
 pub returns-in-Anon-clause-slotted : goal.returns-in-Anon-clause-slotted
 returns-in-Anon-clause-slotted g c =
@@ -266,10 +254,6 @@ returns-in_err-frame-in-Private-clause-slotted g c =
     let none = seat_zero _ (sym c.entry_at-entry.ensures ∙ sym c.to_u64.ensures ∙ c.if-to_u64-ne0.false) in
     let shows = shows_file old c.args.pid c.args.page c.args.attr c.in-Private.file_page c.requires.allowed.mapped c.in-Private.is none in
     slotted_brought old (picture_of c.cached.new.core) c.args.pid c.args.page c.in-Private.file_page shows c.in_err-frame-in-Private.ensures.slotted
-
-pub returns-in_ok-frame-in-Private-clause-swap_calm : goal.returns-in_ok-frame-in-Private-clause-swap_calm
-returns-in_ok-frame-in-Private-clause-swap_calm g c =
-    ap (λ s. g.E.SectorDisk.failures s.pages.disk) c.show_cached.ensures.enters.calm.swap ∙ c.in_ok-frame-in-Private.ensures.swap_calm
 
 pub returns-in_ok-frame-in-Private-clause-slotted : goal.returns-in_ok-frame-in-Private-clause-slotted
 returns-in_ok-frame-in-Private-clause-slotted g c =

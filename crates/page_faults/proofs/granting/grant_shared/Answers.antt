@@ -11,7 +11,7 @@ use Rattle.page_faults.proofs.Opening.{reads_too}
 use Rattle.page_faults.proofs.Pages.{page_inside}
 use Rattle.page_faults.proofs.Settled.{entered_store, entered_ready, ready_shared, touched_entry, touches_after}
 use Rattle.page_faults.proofs.Slotted.{slotted_calm, slotted_brought, slotted_on}
-use Rattle.page_faults.proofs.Steps.{proceeds_then, files_read, calm_store, held_marked}
+use Rattle.page_faults.proofs.Steps.{proceeds_then, files_read, held_marked, counts_then, counts_calm}
 use Rattle.page_faults.proofs.Wanted.{stalled_as, shows_file, page_there}
 use Rattle.page_faults.proofs.granting.grant_shared.Goals as goal
 
@@ -129,21 +129,16 @@ returns-clause-read g c =
     let shows = shows_file old c.args.pid c.args.page c.args.attr c.args.file_page c.requires.allowed.mapped (inr c.requires.shared) none in
     read_then c.args.core.now c.cached.new.core c.args.pid c.args.page c.args.file_page shows c.touch.new.core.store c.requires.linked.fit c.touch.ensures.enters.calm.store c.in_ok-frame.ensures.read
 
-pub returns-clause-not_refused : goal.returns-clause-not_refused
-returns-clause-not_refused g c = c.touch.ensures.enters.calm.refused ∙ c.in_ok-frame.ensures.not_refused
-
-pub returns-clause-device_calm : goal.returns-clause-device_calm
-returns-clause-device_calm g c =
-    calm_store g.D.SectorDisk c.args.core.now c.cached.new.core c.touch.new.core c.touch.ensures.enters.calm.store c.in_ok-frame.ensures.store_calm
+pub returns-clause-counts : goal.returns-clause-counts
+returns-clause-counts g c =
+    counts_then g.D.SectorDisk g.E.SectorDisk c.args.core.now c.cached.new.core c.touch.new.core c.in_ok-frame.ensures.cause
+    (counts_calm g.D.SectorDisk g.E.SectorDisk c.cached.new.core c.touch.new.core c.args.pid c.args.page c.touch.ensures.enters.calm)
 
 pub returns-in_err-frame-clause-others : goal.returns-in_err-frame-clause-others
 returns-in_err-frame-clause-others g c = λ q k other. c.in_err-frame.ensures.keeps.views q k
 
 pub returns-clause-others : goal.returns-clause-others
 returns-clause-others g c = λ q k other. c.touch.ensures.enters.views q k ∙ c.in_ok-frame.ensures.keeps.views q k
-
-pub returns-clause-swap_calm : goal.returns-clause-swap_calm
-returns-clause-swap_calm g c = ap (λ s. g.E.SectorDisk.failures s.pages.disk) c.touch.ensures.enters.calm.swap ∙ c.in_ok-frame.ensures.swap_calm
 
 pub returns-in_err-frame-clause-slotted : goal.returns-in_err-frame-clause-slotted
 returns-in_err-frame-clause-slotted g c =

@@ -4,7 +4,7 @@ use Rattle.page_tables.proofs.Ends.{page_is_entry}
 use Rattle.paging.specs.Seats.{seat}
 use Rattle.paging.specs.Picture.{Picture, picture_of, entry}
 use Rattle.paging.proofs.Entries.{entry-of}
-use Rattle.page_ranges.specs.Steps.{LacksHolder, GivesBack}
+use Rattle.page_ranges.specs.Steps.{LacksHolder, ReturnsSeat}
 use Rattle.page_ranges.proofs.ClearedPages.{same_beside, tables-refl, clears_none, lacks_out, tables_page, places_page, clears_page}
 use Rattle.page_ranges.proofs.clearing.clear_page.Goals as goal
 
@@ -45,7 +45,7 @@ returns-clause-clears g c =
     let is : c.number_in-number.result.0 ≡ entry old c.args.pid c.args.page =
     c.number_in-number.ensures c.args.root.0 c.args.page c.requires.place at ∙ sym (entry-of old c.args.pid c.args.root.0 c.args.page c.requires.root) in
     let sets = c.set_in.ensures.sets c.args.root.0 c.args.page (c.requires.fit.rooted.roots c.args.pid c.args.root.0 c.requires.root) c.requires.inside c.requires.place at in
-    let P : ℕ → Type 0 = λ x. GivesBack mid new (seat x) in
+    let P : ℕ → Type 0 = λ x. ReturnsSeat mid new (seat x) in
     clears_page old mid c.args.pid c.args.root.0 c.args.page c.requires.fit c.requires.root c.requires.inside sets (same_beside old c.set_in.new.memory) new
     (subst P is c.give_back.ensures.gives)
 
@@ -58,7 +58,7 @@ returns-clause-tables g c =
     let is : c.number_in-number.result.0 ≡ entry old c.args.pid c.args.page =
     c.number_in-number.ensures c.args.root.0 c.args.page c.requires.place at ∙ sym (entry-of old c.args.pid c.args.root.0 c.args.page c.requires.root) in
     let sets = c.set_in.ensures.sets c.args.root.0 c.args.page (c.requires.fit.rooted.roots c.args.pid c.args.root.0 c.requires.root) c.requires.inside c.requires.place at in
-    let P : ℕ → Type 0 = λ x. GivesBack mid new (seat x) in
+    let P : ℕ → Type 0 = λ x. ReturnsSeat mid new (seat x) in
     tables_page old mid c.args.pid c.args.root.0 c.args.page c.requires.fit c.requires.root c.requires.inside sets (same_beside old c.set_in.new.memory) new
     (subst P is c.give_back.ensures.gives)
 
@@ -71,7 +71,7 @@ returns-clause-places g c =
     let is : c.number_in-number.result.0 ≡ entry old c.args.pid c.args.page =
     c.number_in-number.ensures c.args.root.0 c.args.page c.requires.place at ∙ sym (entry-of old c.args.pid c.args.root.0 c.args.page c.requires.root) in
     let sets = c.set_in.ensures.sets c.args.root.0 c.args.page (c.requires.fit.rooted.roots c.args.pid c.args.root.0 c.requires.root) c.requires.inside c.requires.place at in
-    let P : ℕ → Type 0 = λ x. GivesBack mid new (seat x) in
+    let P : ℕ → Type 0 = λ x. ReturnsSeat mid new (seat x) in
     places_page old mid c.args.pid c.args.root.0 c.args.page c.requires.fit c.requires.root c.requires.inside sets (same_beside old c.set_in.new.memory) new
     (subst P is c.give_back.ensures.gives)
 

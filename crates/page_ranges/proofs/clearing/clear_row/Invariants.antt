@@ -1,7 +1,7 @@
 use Rattle.std.proofs.Common.{◌≡◌, ◌-◌, ◌≤◌, ◌⊎◌}
 use Rattle.paging.specs.Parts.{IsFit}
 use Rattle.paging.specs.Picture.{picture_of}
-use Rattle.page_ranges.specs.Steps.{KeepsRest, Clears, IsCleared}
+use Rattle.page_ranges.specs.Steps.{KeepsBesideMemory, Clears, IsCleared}
 use Rattle.page_ranges.proofs.clearing.clear_row.Given as goal
 
 abbrev pub invariant-loop-page : goal.invariant-loop-page
@@ -11,7 +11,7 @@ invariant-loop-page g l = record {
   high : (l.page ≡ l.initial.page) ⊎ (l.page ≤ l.end);
   clears : Clears (picture_of l.initial.core) (picture_of l.core) l.pid l.initial.page l.page;
   cleared : IsCleared (picture_of l.core) l.pid l.initial.page l.page;
-  rest : KeepsRest l.initial.core l.core;
+  rest : KeepsBesideMemory l.initial.core l.core;
   refused : l.core.refused ≡ l.initial.core.refused;
 }
 

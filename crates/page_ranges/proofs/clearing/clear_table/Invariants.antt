@@ -2,7 +2,7 @@ use Rattle.std.proofs.Common.{◌≡◌, ◌/◌, Some}
 use Rattle.page_tables.specs.Places.{IsTableOf}
 use Rattle.paging.specs.Parts.{IsFit}
 use Rattle.paging.specs.Picture.{picture_of}
-use Rattle.page_ranges.specs.Steps.{KeepsRest, SameTables, Clears}
+use Rattle.page_ranges.specs.Steps.{KeepsBesideMemory, SameTables, Clears}
 use Rattle.page_ranges.proofs.clearing.clear_table.Given as goal
 
 abbrev pub invariant-loop-page : goal.invariant-loop-page
@@ -12,6 +12,6 @@ invariant-loop-page g l = record {
   root_is : (picture_of l.core).root l.pid ≡ Some l.root.0;
   clears : Clears (picture_of l.initial.core) (picture_of l.core) l.pid l.fn.start l.page;
   tables : SameTables l.initial.core.frames l.core.frames;
-  rest : KeepsRest l.initial.core l.core;
+  rest : KeepsBesideMemory l.initial.core l.core;
   refused : l.core.refused ≡ l.initial.core.refused;
 }

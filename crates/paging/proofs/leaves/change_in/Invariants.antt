@@ -1,14 +1,14 @@
 use Rattle.std.proofs.Common.{ℕ, ◌-◌, ◌^◌, ◌<◌, ◌≤◌}
 use Rattle.paging.specs.Picture.{picture_of}
 use Rattle.paging.specs.Parts.{IsFit}
-use Rattle.paging.specs.Leaves.{IsOver, Changes, KeepsAllButFrames}
+use Rattle.paging.specs.Leaves.{IsOver, ChangesLeaves, KeepsAllButFrames}
 use Rattle.paging.proofs.leaves.change_in.Given as goal
 
 abbrev pub invariant-loop-page : goal.invariant-loop-page
 invariant-loop-page g l = record {
   fit : IsFit (picture_of l.core);
   beside : KeepsAllButFrames l.fn.core l.core;
-  changes : Changes l.change l.frame.0 (picture_of l.fn.core) (picture_of l.core);
+  changes : ChangesLeaves l.change l.frame.0 (picture_of l.fn.core) (picture_of l.core);
   below : l.low ≤ 2 ^ 26;
   clear : (k : ℕ) → k < l.low → IsOver (picture_of l.core) l.change l.frame.0 l.pid k → ⊥;
 }

@@ -2,13 +2,13 @@ use Rattle.std.proofs.Common.{ℕ, ◌<◌}
 use Rattle.page_tables.specs.Tree.{IsPage}
 use Rattle.paging.specs.Picture.{picture_of}
 use Rattle.paging.specs.Parts.{IsFit}
-use Rattle.paging.specs.Leaves.{IsOver, Changes, KeepsAllButFrames}
+use Rattle.paging.specs.Leaves.{IsOver, ChangesLeaves, KeepsAllButFrames}
 use Rattle.paging.proofs.leaves.change_leaves.Given as goal
 
 abbrev pub invariant-loop-pid : goal.invariant-loop-pid
 invariant-loop-pid g l = record {
   fit : IsFit (picture_of l.core);
   beside : KeepsAllButFrames l.fn.core l.core;
-  changes : Changes l.change l.frame.0 (picture_of l.fn.core) (picture_of l.core);
+  changes : ChangesLeaves l.change l.frame.0 (picture_of l.fn.core) (picture_of l.core);
   clear : (q k : ℕ) → q < l.pid → IsPage 2 k → IsOver (picture_of l.core) l.change l.frame.0 q k → ⊥;
 }

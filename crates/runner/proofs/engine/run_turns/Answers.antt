@@ -1,7 +1,7 @@
 use Rattle.std.proofs.Common.{[], ◌++◌, None, arith}
 use Rattle.std.proofs.KnownBytes.{Consumes-trans, Consumes-nil}
 use Rattle.runner.specs.declared.engine.RunEnd.TheVariants.{ReadFault}
-use Rattle.runner.proofs.Progress.{IsKept-none, GoesOn-trans}
+use Rattle.runner.proofs.Progress.{HoldsOpenLine-none, GoesOn-trans}
 use Rattle.runner.proofs.Ends.{ends_after, ends_alike, stops_here}
 use Rattle.runner.proofs.engine.run_turns.Goals as goal
 
@@ -11,7 +11,7 @@ returns-in-Some-clause-reads g c =
     let now = c.in-Some.ensures.reads in (
       before.0 ++ now.0,
       Consumes-trans _ _ _ before.0 now.0 before.1 now.1,
-      ends_alike g.D.SectorDisk g.E.SectorDisk c.in-Some.end _ _ _ _ _ _ _ _ _ (ends_after g.D.SectorDisk g.E.SectorDisk c.in-Some.end _ _ _ _ before.0 now.0 before.2 now.2) [] IsKept-none,
+      ends_alike g.D.SectorDisk g.E.SectorDisk c.in-Some.end _ _ _ _ _ _ _ _ _ (ends_after g.D.SectorDisk g.E.SectorDisk c.in-Some.end _ _ _ _ before.0 now.0 before.2 now.2) [] HoldsOpenLine-none,
     )
 
 pub loop-i-preserved : goal.loop-i-preserved
@@ -31,5 +31,5 @@ returns-clause-reads g c =
       before.0 ++ [],
       Consumes-trans _ _ _ before.0 [] before.1 (Consumes-nil _),
       ends_alike g.D.SectorDisk g.E.SectorDisk ReadFault None _ _ _ _ _ _ _ _
-          (ends_after g.D.SectorDisk g.E.SectorDisk ReadFault None _ _ _ before.0 [] before.2 (stops_here g.D.SectorDisk g.E.SectorDisk None _ _ _ c.loop-i.output _ c.loop-i.invariant.empty)) [] IsKept-none,
+          (ends_after g.D.SectorDisk g.E.SectorDisk ReadFault None _ _ _ before.0 [] before.2 (stops_here g.D.SectorDisk g.E.SectorDisk None _ _ _ c.loop-i.output _ c.loop-i.invariant.empty)) [] HoldsOpenLine-none,
     )

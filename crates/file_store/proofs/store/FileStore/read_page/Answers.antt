@@ -24,5 +24,5 @@ returns-clause-page g c = λ k.
     let in_directory = sym c.entry.ensures ∙ c.in-Some.is in
     let home = c.home_of.ensures ∙ home_of-entry directory c.args.page c.in-Some.entry in_directory in
     page_read image c.args.page.file c.args.page.page c.in-Some.entry c.bytes_inside.result c.read.new.to c.trim.new.page
-    (sym (rest.directory c.args.page.file) ∙ in_directory) c.bytes_inside.ensures
+    (sym (rest.directory c.args.page.file) ∙ in_directory) c.bytes_inside.ensures.inside
     (c.in_ok-read.ensures.page k ∙ ap (λ h. joined (standing image h) 8) home) c.trim.ensures

@@ -1,7 +1,7 @@
 use Rattle.std.proofs.Common.{sym, subst}
 use Rattle.frames.specs.FrameTable.{FrameTable, bytes_of, with_bytes}
 use Rattle.frames.proofs.FrameLemmas.{with_bytes-others}
-use Rattle.mapped_memory.specs.Kept.{IsKept}
+use Rattle.mapped_memory.specs.Kept.{LinesAreLeaves}
 use Rattle.mapped_memory.proofs.Keeping.{data_leaf, kept_data}
 use Rattle.mapped_memory.proofs.memory.Memory.copy.Goals as goal
 
@@ -10,6 +10,6 @@ invariant_of-self c =
     let t = c.self.inside.frames in
     let n = c.args.to.0 in
     let w = bytes_of t c.args.from.0 in
-    subst (λ (x : FrameTable). IsKept x c.forget_table.new.buffer) (sym c.copy.ensures.copied)
+    subst (λ (x : FrameTable). LinesAreLeaves x c.forget_table.new.buffer) (sym c.copy.ensures.copied)
     (kept_data t (with_bytes t n w) n c.self.inside.buffer c.forget_table.new.buffer c.forget_table.ensures
     (λ other. data_leaf t (with_bytes t n w) n (with_bytes-others t n w) other other) c.self.invariant)

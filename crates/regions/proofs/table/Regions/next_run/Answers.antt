@@ -1,15 +1,15 @@
 use Rattle.std.proofs.Common.{Option, sym, subst}
 use Rattle.regions.specs.declared.run.Run.{Run}
 use Rattle.regions.specs.RunList.{attr_at}
-use Rattle.regions.proofs.WalkLemmas.{IsNext, first_part-is, next_none, next_some}
+use Rattle.regions.proofs.WalkLemmas.{IsNextOrNone, first_part-is, next_none, next_some}
 use Rattle.regions.proofs.table.Regions.next_run.Goals as goal
 
 pub returns-clause-none : goal.returns-clause-none
 returns-clause-none c =
     next_none (attr_at c.args.self.now) c.args.page c.first_part.result
-    (subst (λ (o : Option Run). IsNext (attr_at c.args.self.now) c.args.page o) (sym c.first_part.ensures.part) (first_part-is 16 c.args.page c.args.self.now c.first_part.ensures.maximal))
+    (subst (λ (o : Option Run). IsNextOrNone (attr_at c.args.self.now) c.args.page o) (sym c.first_part.ensures.part) (first_part-is 16 c.args.page c.args.self.now c.first_part.ensures.maximal))
 
 pub returns-clause-some : goal.returns-clause-some
 returns-clause-some c =
     next_some (attr_at c.args.self.now) c.args.page c.first_part.result
-    (subst (λ (o : Option Run). IsNext (attr_at c.args.self.now) c.args.page o) (sym c.first_part.ensures.part) (first_part-is 16 c.args.page c.args.self.now c.first_part.ensures.maximal))
+    (subst (λ (o : Option Run). IsNextOrNone (attr_at c.args.self.now) c.args.page o) (sym c.first_part.ensures.part) (first_part-is 16 c.args.page c.args.self.now c.first_part.ensures.maximal))

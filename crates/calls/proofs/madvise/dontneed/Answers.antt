@@ -1,0 +1,52 @@
+use Rattle.std.proofs.Common.{ℕ, Option, ◌/◌, ◌%◌, ◌≡◌, ◌≢◌, true, sym, subst, ◌∙◌, arith}
+use Rattle.regions.specs.RunList.{attr_at}
+use Rattle.page_ranges.specs.Rows.{RemapsRow}
+use Rattle.paging.specs.Picture.{picture_of}
+use Rattle.vm_types.specs.Checks.{page_count}
+use Rattle.vm_types.specs.Rows.{is_covered}
+use Rattle.vm_types.specs.declared.region.Attr.{Attr}
+use Rattle.calls.proofs.Uncopied.{covered_within, refused_hole, gives_up}
+use Rattle.calls.proofs.Calls.{found_lives}
+use Rattle.calls.proofs.Room.{room_same, sound_kept}
+use Rattle.calls.proofs.madvise.dontneed.Goals as goal
+
+pub clear_row-requires-clause-row : goal.clear_row-requires-clause-row
+clear_row-requires-clause-row g c =
+    let old = picture_of c.args.core.now in
+    let here : attr_at c.regions.result.now ≡ old.at c.in-Some.pid = λ t page. c.regions.ensures page t in
+    covered_within (old.at c.in-Some.pid) (c.args.addr / 4096) c.div_ceil-pages.result (c.requires.sound.fit.granting.user c.in-Some.pid)
+    (omega (arith, c.div_ceil-pages.ensures, c.if-len-eq0.false))
+    (subst (λ (m : ℕ → Option Attr). is_covered m (c.args.addr / 4096) c.div_ceil-pages.result ≡ true) here (sym c.covers.ensures ∙ c.if-not-covers.false))
+
+pub returns-then-not-covers-clause-comes : goal.returns-then-not-covers-clause-comes
+returns-then-not-covers-clause-comes g c = λ s shows reads swaps.
+    let a = c.args in
+    let old = picture_of a.core.now in
+    let runs = c.regions.result.now in
+    let pages = c.div_ceil-pages.result in
+    let count : pages ≡ page_count a.len = omega (arith, c.div_ceil-pages.ensures) in
+    let same : c.in-Some.pid ≡ a.pid = c.in-Some.ensures.found.0 in
+    refused_hole g.D.SectorDisk g.E.SectorDisk a.core.now s a.pid a.addr a.len shows.pages (found_lives (picture_of a.core.now) c.in-Some.pid a.pid c.in-Some.ensures.found)
+    (let aligned : a.addr % 4096 ≡ 0 = omega arith in aligned) (let some : a.len ≢ 0 = omega arith in some)
+    runs (subst (λ (p : ℕ). (page : ℕ) → attr_at runs page ≡ old.at p page) same c.regions.ensures) pages count (sym c.covers.ensures ∙ c.if-not-covers.true)
+
+pub returns-clause-comes : goal.returns-clause-comes
+returns-clause-comes g c = λ s shows reads swaps.
+    let a = c.args in
+    let old = picture_of a.core.now in
+    let runs = c.regions.result.now in
+    let pages = c.div_ceil-pages.result in
+    let count : pages ≡ page_count a.len = omega (arith, c.div_ceil-pages.ensures) in
+    let same : c.in-Some.pid ≡ a.pid = c.in-Some.ensures.found.0 in
+    gives_up g.D.SectorDisk g.E.SectorDisk a.core.now s a.pid a.addr a.len shows.pages (found_lives (picture_of a.core.now) c.in-Some.pid a.pid c.in-Some.ensures.found)
+    (let aligned : a.addr % 4096 ≡ 0 = omega arith in aligned) (let some : a.len ≢ 0 = omega arith in some)
+    runs (subst (λ (p : ℕ). (page : ℕ) → attr_at runs page ≡ old.at p page) same c.regions.ensures) pages count (sym c.covers.ensures ∙ c.if-not-covers.false)
+    c.clear_row.new.core (subst (λ (p : ℕ). RemapsRow old (picture_of c.clear_row.new.core) p (a.addr / 4096) pages (old.at p)) same c.clear_row.ensures.row)
+
+pub returns-clause-room : goal.returns-clause-room
+returns-clause-room g c = room_same c.args.core.now c.clear_row.new.core c.clear_row.ensures.rest.cache
+
+pub returns-clause-sound : goal.returns-clause-sound
+returns-clause-sound g c =
+    sound_kept c.args.core.now c.clear_row.new.core c.clear_row.ensures.rest.cache g.D.SectorDisk g.E.SectorDisk
+    c.clear_row.ensures.rest.store c.clear_row.ensures.rest.pages c.clear_row.ensures.fit c.requires.sound

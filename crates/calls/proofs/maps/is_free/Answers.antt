@@ -1,9 +1,0 @@
-use Rattle.regions.specs.RunList.{attr_at}
-use Rattle.calls.proofs.Placing.{free_before, free_to_the_end}
-use Rattle.calls.proofs.maps.is_free.Goals as goal
-
-pub returns-in-Some : goal.returns-in-Some
-returns-in-Some c = free_before (attr_at c.args.regions.now) c.args.first c.args.pages c.in-Some.run' c.in-Some.ensures.some
-
-pub returns-in-None : goal.returns-in-None
-returns-in-None c = free_to_the_end (attr_at c.args.regions.now) c.args.first c.args.pages c.in-None.ensures.none

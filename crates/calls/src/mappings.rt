@@ -1,0 +1,252 @@
+//! mmap.
+ghost use Rattle.std.specs.Prelude.{◌≡◌, ◌≤◌, ◌<◌, ◌+◌, ◌/◌, ◌^◌, Some, IfNone, IfSome, IfOk, IfErr, IsSome, true};
+ghost use Rattle.vm_types.specs.Limits.{user_start, user_end};
+ghost use Rattle.file_store.specs.Store.{files_of};
+ghost use Rattle.regions.specs.RunList.{attr_at};
+ghost use Rattle.vm_types.specs.Replies.{reply_of};
+ghost use Rattle.vm_types.specs.Attributes.{backing_fits};
+ghost use Rattle.vm_types.specs.Checks.{first_of, page_count};
+ghost use Rattle.vm_types.specs.Mapping.{first_attr, first_backing, is_exact, is_taken, place_for};
+ghost use Rattle.vm_types.specs.Placement.{fixed_place, is_free};
+ghost use Rattle.vm_types.specs.declared.command.Command.TheVariants.{Mmap};
+ghost use Rattle.mapping.specs.Changes.{KeepsRoom};
+ghost use Rattle.page_ranges.specs.Steps.{KeepsDevices, KeepsEntriesOfOthers};
+ghost use Rattle.msync.specs.Shows.{IsSoundCore};
+ghost use Rattle.paging.specs.Picture.{picture_of};
+ghost use Rattle.calls.specs.Calls.{Carries, IsCaused};
+ghost use Rattle.calls.specs.Idle.{is_denial};
+ghost use Rattle.calls.specs.Mappings.{mmap_asked_checks, file_checks, place_checks, IsAsked, MapsPages, IsNumbered};
+ghost use Rattle.calls.specs.Space.{space_of};
+
+use crate::space::PAGE;
+use disk_model::SectorDisk;
+use file_store::FileStore;
+use page_ranges::remap;
+use paging::Core;
+use regions::Regions;
+use vm_types::{
+    Answer, Attr, Backing, Errno, FilePage, MapSource, Placing, Prot, TooManyRuns, USER_END,
+    USER_START,
+};
+
+/// The most pages that a file can have, and one more than the largest number of a page.
+const FILE_PAGES: u64 = 1 << 32;
+
+/// A mapping that can be made: its first page, and the regions of the process with it.
+#[derive(Drop)]
+struct Plan {
+    first: u64,
+    regions: Regions,
+}
+
+/// Whether the address is one that the mapping must have.
+fn is_exact(placing: Placing) -> bool
+    ensures { result ≡ is_exact placing }
+{
+    match placing {
+        Placing::Hint => false,
+        Placing::Fixed | Placing::NoReplace => true,
+    }
+}
+
+/// Why a mapping is refused, whatever its place.
+fn refusal<D: SectorDisk>(
+    store: &FileStore<D>,
+    addr: u64,
+    len: u64,
+    prot: Prot,
+    source: MapSource,
+    placing: Placing,
+) -> Option<Errno>
+    ensures asked { result ≡ first_of (mmap_asked_checks (files_of store.now) addr len prot source placing) }
+    ensures fine { IfNone result (IsAsked len source) }
+{
+    if len == 0 {
+        return Some(Errno::EINVAL);
+    }
+    if is_exact(placing) && addr % PAGE != 0 {
+        return Some(Errno::EINVAL);
+    }
+    match source {
+        MapSource::Anon => None,
+        MapSource::Private { file, offset } => file_refusal(store, file, offset, len, false),
+        MapSource::Shared { file, offset } => {
+            file_refusal(store, file, offset, len, prot.is_writable())
+        }
+    }
+}
+
+/// Why pages of a file can't be mapped. `writes` says whether stores that reach the file are asked for.
+fn file_refusal<D: SectorDisk>(
+    store: &FileStore<D>,
+    file: u64,
+    offset: u64,
+    len: u64,
+    writes: bool,
+) -> Option<Errno>
+    ensures asked { result ≡ first_of (file_checks (files_of store.now) file offset len writes) }
+    ensures number { IfNone result (file < 2 ^ 8) }
+    ensures fits { IfNone result (offset / 4096 + page_count len ≤ 2 ^ 32) }
+{
+    if offset % PAGE != 0 {
+        return Some(Errno::EINVAL);
+    }
+    let Some(info) = store.info(file) else {
+        return Some(Errno::EBADF);
+    };
+    if writes && info.read_only {
+        return Some(Errno::EACCES);
+    }
+    if offset / PAGE + len.div_ceil(PAGE) > FILE_PAGES {
+        return Some(Errno::EOVERFLOW);
+    }
+    None
+}
+
+/// The page of a file that an offset is in.
+fn file_page(file: u64, offset: u64) -> FilePage
+    requires file { file < 2 ^ 8 }
+    requires page { offset / 4096 < 2 ^ 32 }
+    ensures { result ≡ record { file = file; page = offset / 4096 } }
+{
+    FilePage {
+        file: file as u8,
+        page: (offset / PAGE) as u32,
+    }
+}
+
+/// What the first page of a mapping is.
+fn first_attr(source: MapSource, prot: Prot) -> Attr
+    requires { IsNumbered source }
+    ensures { result ≡ first_attr source prot }
+{
+    let backing = match source {
+        MapSource::Anon => Backing::Anon,
+        MapSource::Private { file, offset } => Backing::Private(file_page(file, offset)),
+        MapSource::Shared { file, offset } => Backing::Shared(file_page(file, offset)),
+    };
+    Attr {
+        prot: prot.kept(),
+        backing,
+    }
+}
+
+/// The place of a mapping that must be at its address; `None` where it isn't wholly in the user pages.
+fn fixed_place(addr: u64, pages: u64) -> Option<u64>
+    requires { pages ≤ 2 ^ 52 }
+    ensures { result ≡ fixed_place addr pages }
+{
+    let first = addr / PAGE;
+    if first >= USER_START && first + pages <= USER_END {
+        Some(first)
+    } else {
+        None
+    }
+}
+
+/// The first page of a mapping of `pages` pages; `None` where there is no place for it.
+fn place_of(regions: &Regions, addr: u64, pages: u64, placing: Placing) -> Option<u64>
+    requires some { 0 < pages }
+    requires few { pages ≤ 2 ^ 52 }
+    ensures place { result ≡ place_for placing (space_of regions.now) addr pages }
+    ensures user { IfSome result (λ first. (user_start ≤ first) × (first + pages ≤ user_end)) }
+{
+    match placing {
+        Placing::Hint => match regions.place(addr, pages) {
+            Some(first) => Some(first.get()),
+            None => None,
+        },
+        Placing::Fixed | Placing::NoReplace => fixed_place(addr, pages),
+    }
+}
+
+/// Whether no page of the row is mapped.
+fn is_free(regions: &Regions, first: u64, pages: u64) -> bool
+    requires { first + pages < 2 ^ 64 }
+    ensures { result ≡ is_free (attr_at regions.now) first pages }
+{
+    match regions.next_run(first) {
+        Some(run) => run.first >= first + pages,
+        None => true,
+    }
+}
+
+/// Whether a page of the place is mapped, and may not be replaced.
+fn is_taken(regions: &Regions, first: u64, pages: u64, placing: Placing) -> bool
+    requires { first + pages < 2 ^ 64 }
+    ensures { result ≡ is_taken placing (space_of regions.now) pages (Some first) }
+{
+    match placing {
+        Placing::Hint | Placing::Fixed => false,
+        Placing::NoReplace => !is_free(regions, first, pages),
+    }
+}
+
+/// The mapping of `pages` pages, of which the first is as `attr`, or why its place is refused.
+fn planned(
+    regions: &Regions,
+    addr: u64,
+    pages: u64,
+    attr: Attr,
+    placing: Placing,
+) -> Result<Plan, Errno>
+    requires some { 0 < pages }
+    requires few { pages ≤ 2 ^ 52 }
+    requires fits { backing_fits attr.backing pages }
+    ensures ok { IfOk result (λ m. MapsPages regions.now addr pages attr placing m.first m.regions) }
+    ensures err { IfErr result (λ errno. first_of (place_checks placing (space_of regions.now) pages attr (place_for placing (space_of regions.now) addr pages)) ≡ Some errno) }
+{
+    let Some(first) = place_of(regions, addr, pages, placing) else {
+        return Err(Errno::ENOMEM);
+    };
+    if is_taken(regions, first, pages, placing) {
+        return Err(Errno::EEXIST);
+    }
+    match regions.replaced(first, pages, attr) {
+        Ok(regions) => Ok(Plan { first, regions }),
+        Err(TooManyRuns) => Err(Errno::ENOMEM),
+    }
+}
+
+/// Maps the pages that `len` bytes take, anonymous ones or those of a file from an offset on, and returns the mapping's
+/// address, in bytes. Who may write there may read there as well (our choice).
+///
+/// The errors of mmap(2), in our order: `ESRCH` where there is no such process; `EINVAL` where the length is 0, or the
+/// address, if the mapping must have it, or the offset is no multiple of the page size; `EBADF` where there is no such
+/// file; `EACCES` where stores to a file that may only be read are asked for; `EOVERFLOW` where the mapping would pass the
+/// last page that a file can have; `ENOMEM` where there is no place for it; `EEXIST` where a page of the place is mapped
+/// and may not be replaced; `ENOMEM` where more than 256 runs would result. A refused call changes nothing.
+pub fn mmap<D: SectorDisk, E: SectorDisk>(
+    core: &mut Core<D, E>,
+    pid: u64,
+    addr: u64,
+    len: u64,
+    prot: Prot,
+    source: MapSource,
+    placing: Placing,
+) -> Answer
+    requires sound { IsSoundCore D.SectorDisk E.SectorDisk core.old }
+    ensures sound { IsSoundCore D.SectorDisk E.SectorDisk core.new }
+    ensures comes { Carries D.SectorDisk E.SectorDisk core.old core.new (Mmap pid addr len prot source placing) (reply_of result) }
+    ensures devices { KeepsDevices core.old core.new }
+    ensures others { KeepsEntriesOfOthers (picture_of core.old) (picture_of core.new) pid }
+    ensures denied { is_denial (reply_of result) ≡ true → core.new ≡ core.old }
+    ensures room { KeepsRoom (picture_of core.old) (picture_of core.new) }
+    ensures caused { IsCaused D.SectorDisk E.SectorDisk core.old core.new (reply_of result) }
+{
+    let Some(pid) = core.live(pid) else {
+        return Answer::Refused(Errno::ESRCH);
+    };
+    if let Some(errno) = refusal(&core.store, addr, len, prot, source, placing) {
+        return Answer::Refused(errno);
+    }
+    let pages = len.div_ceil(PAGE);
+    let attr = first_attr(source, prot);
+    match planned(core.regions(pid), addr, pages, attr, placing) {
+        Ok(Plan { first, regions }) => {
+            remap(core, pid, first, pages, regions);
+            Answer::Address(first * PAGE)
+        }
+        Err(errno) => Answer::Refused(errno),
+    }
+}

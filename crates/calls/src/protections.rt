@@ -1,0 +1,143 @@
+//! mprotect.
+ghost use Rattle.std.specs.Prelude.{◌≡◌, ◌+◌, ◌<◌, ◌^◌, Some, IfOk, IfErr, true};
+ghost use Rattle.file_store.specs.Store.{files_of};
+ghost use Rattle.vm_types.specs.Replies.{reply_of};
+ghost use Rattle.vm_types.specs.Checks.{first_of};
+ghost use Rattle.vm_types.specs.Counting.{any_below};
+ghost use Rattle.vm_types.specs.Ranges.{denies_stores, is_guarded, is_guarded_page};
+ghost use Rattle.vm_types.specs.declared.command.Command.TheVariants.{Mprotect};
+ghost use Rattle.mapping.specs.Changes.{KeepsRoom};
+ghost use Rattle.page_ranges.specs.Steps.{KeepsDevices, KeepsEntriesOfOthers};
+ghost use Rattle.msync.specs.Shows.{IsSoundCore};
+ghost use Rattle.paging.specs.Picture.{picture_of};
+ghost use Rattle.calls.specs.Calls.{Carries, IsCaused};
+ghost use Rattle.calls.specs.Idle.{is_denial};
+ghost use Rattle.calls.specs.Protections.{permit_checks, IsPermitted};
+ghost use Rattle.calls.specs.Space.{space_of};
+
+use crate::space::PAGE;
+use disk_model::SectorDisk;
+use file_store::FileStore;
+use page_ranges::reprotect;
+use paging::Core;
+use regions::Regions;
+use vm_types::{Answer, Backing, Errno, Prot, TooManyRuns};
+
+/// Whether stores through a backing go to a file that may only be read.
+fn is_guarded<D: SectorDisk>(store: &FileStore<D>, backing: Backing) -> bool
+    ensures { result ≡ is_guarded (files_of store.now) backing }
+{
+    match backing {
+        Backing::Anon | Backing::Private(_) => false,
+        Backing::Shared(page) => match store.file(page.file) {
+            Some(info) => info.read_only,
+            None => false,
+        },
+    }
+}
+
+/// Whether some page of the row is a shared one of a file that may only be read.
+fn has_guarded<D: SectorDisk>(
+    store: &FileStore<D>,
+    regions: &Regions,
+    first: u64,
+    pages: u64,
+) -> bool
+    requires { first + pages < 2 ^ 64 }
+    ensures { result ≡ any_below (λ i. is_guarded_page (files_of store.now) (space_of regions.now (first + i))) pages }
+{
+    let end = first + pages;
+    let mut page = first;
+    while let Some(run) = regions.next_run(page) {
+        if run.first >= end {
+            return false;
+        }
+        if is_guarded(store, run.attr.backing) {
+            return true;
+        }
+        page = run.end;
+    }
+    false
+}
+
+/// Whether stores are asked for, and some page of the row is a shared one of a file that may only be read.
+fn denies_stores<D: SectorDisk>(
+    store: &FileStore<D>,
+    regions: &Regions,
+    first: u64,
+    pages: u64,
+    prot: Prot,
+) -> bool
+    requires { first + pages < 2 ^ 64 }
+    ensures { result ≡ denies_stores (files_of store.now) (space_of regions.now) first pages prot }
+{
+    prot.is_writable() && has_guarded(store, regions, first, pages)
+}
+
+/// The regions with the permission for the pages of the row, or why that is refused.
+fn permitted<D: SectorDisk>(
+    store: &FileStore<D>,
+    regions: &Regions,
+    first: u64,
+    pages: u64,
+    prot: Prot,
+) -> Result<Regions, Errno>
+    requires some { 0 < pages }
+    requires row { first + pages < 2 ^ 64 }
+    ensures ok { IfOk result (λ next. IsPermitted (files_of store.now) regions.now first pages prot next) }
+    ensures err { IfErr result (λ errno. first_of (permit_checks (files_of store.now) (space_of regions.now) first pages prot) ≡ Some errno) }
+{
+    if !regions.covers(first, pages) {
+        return Err(Errno::ENOMEM);
+    }
+    if denies_stores(store, regions, first, pages, prot) {
+        return Err(Errno::EACCES);
+    }
+    match regions.protected(first, pages, prot.kept()) {
+        Ok(next) => Ok(next),
+        Err(TooManyRuns) => Err(Errno::ENOMEM),
+    }
+}
+
+/// Gives the pages of the range of `len` bytes from `addr` on another permission (mprotect(2)). Who may write there may
+/// read there as well (our choice).
+///
+/// In this order: `ESRCH` where there is no such process, `EINVAL` where the address is no multiple of the page size; a
+/// length of 0 is done with; `ENOMEM` where a page isn't mapped, `EACCES` where stores to a file that may only be read
+/// are asked for, `ENOMEM` where more than 256 runs would result. A refused call changes nothing, also over a hole.
+pub fn mprotect<D: SectorDisk, E: SectorDisk>(
+    core: &mut Core<D, E>,
+    pid: u64,
+    addr: u64,
+    len: u64,
+    prot: Prot,
+) -> Answer
+    requires sound { IsSoundCore D.SectorDisk E.SectorDisk core.old }
+    ensures sound { IsSoundCore D.SectorDisk E.SectorDisk core.new }
+    ensures comes { Carries D.SectorDisk E.SectorDisk core.old core.new (Mprotect pid addr len prot) (reply_of result) }
+    ensures devices { KeepsDevices core.old core.new }
+    ensures others { KeepsEntriesOfOthers (picture_of core.old) (picture_of core.new) pid }
+    ensures swap { core.new.swap ≡ core.old.swap }
+    ensures denied { is_denial (reply_of result) ≡ true → core.new ≡ core.old }
+    ensures room { KeepsRoom (picture_of core.old) (picture_of core.new) }
+    ensures caused { IsCaused D.SectorDisk E.SectorDisk core.old core.new (reply_of result) }
+{
+    let Some(pid) = core.live(pid) else {
+        return Answer::Refused(Errno::ESRCH);
+    };
+    if addr % PAGE != 0 {
+        return Answer::Refused(Errno::EINVAL);
+    }
+    if len == 0 {
+        return Answer::Done;
+    }
+    let first = addr / PAGE;
+    let pages = len.div_ceil(PAGE);
+    match permitted(&core.store, core.regions(pid), first, pages, prot) {
+        Ok(regions) => {
+            reprotect(core, pid, first, pages, prot.kept(), regions);
+            Answer::Done
+        }
+        Err(errno) => Answer::Refused(errno),
+    }
+}

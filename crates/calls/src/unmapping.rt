@@ -1,0 +1,55 @@
+//! munmap.
+ghost use Rattle.std.specs.Prelude.{◌≡◌, true};
+ghost use Rattle.vm_types.specs.Replies.{reply_of};
+ghost use Rattle.vm_types.specs.declared.command.Command.TheVariants.{Munmap};
+ghost use Rattle.mapping.specs.Changes.{KeepsRoom};
+ghost use Rattle.page_ranges.specs.Steps.{KeepsDevices, KeepsEntriesOfOthers};
+ghost use Rattle.msync.specs.Shows.{IsSoundCore};
+ghost use Rattle.paging.specs.Picture.{picture_of};
+ghost use Rattle.calls.specs.Calls.{Carries, IsCaused};
+ghost use Rattle.calls.specs.Idle.{is_denial};
+
+use crate::space::PAGE;
+use disk_model::SectorDisk;
+use page_ranges::remap;
+use paging::Core;
+use vm_types::{Answer, Errno, TooManyRuns, USER_END};
+
+/// Removes the pages of the range of `len` bytes from `addr` on (munmap(2)), with their own copies; those that aren't
+/// mapped are no error. What was stored to a file through a shared page stays.
+///
+/// In this order: `ESRCH` where there is no such process, `EINVAL` where the length is 0 or the address is no multiple of
+/// the page size, `ENOMEM` where more than 256 runs would result. A refused call changes nothing.
+pub fn munmap<D: SectorDisk, E: SectorDisk>(
+    core: &mut Core<D, E>,
+    pid: u64,
+    addr: u64,
+    len: u64,
+) -> Answer
+    requires sound { IsSoundCore D.SectorDisk E.SectorDisk core.old }
+    ensures sound { IsSoundCore D.SectorDisk E.SectorDisk core.new }
+    ensures comes { Carries D.SectorDisk E.SectorDisk core.old core.new (Munmap pid addr len) (reply_of result) }
+    ensures devices { KeepsDevices core.old core.new }
+    ensures others { KeepsEntriesOfOthers (picture_of core.old) (picture_of core.new) pid }
+    ensures denied { is_denial (reply_of result) ≡ true → core.new ≡ core.old }
+    ensures room { KeepsRoom (picture_of core.old) (picture_of core.new) }
+    ensures caused { IsCaused D.SectorDisk E.SectorDisk core.old core.new (reply_of result) }
+{
+    let Some(pid) = core.live(pid) else {
+        return Answer::Refused(Errno::ESRCH);
+    };
+    if len == 0 || addr % PAGE != 0 {
+        return Answer::Refused(Errno::EINVAL);
+    }
+    let first = addr / PAGE;
+    let pages = len.div_ceil(PAGE);
+    match core.regions(pid).removed(first, pages) {
+        Ok(next) => {
+            let start = first.min(USER_END);
+            let end = (first + pages).min(USER_END);
+            remap(core, pid, start, end - start, next);
+            Answer::Done
+        }
+        Err(TooManyRuns) => Answer::Refused(Errno::ENOMEM),
+    }
+}
