@@ -3,10 +3,11 @@
 
 use crate::bench::Step::{Answers, FreeSlots, StoresToSix};
 use crate::bench::{
-    FILE, PLAIN, Sizes, Step, carry_out_in, disk_after, fetches_zeros, forks, load, loads, map,
-    maps, spawns, store, stores,
+    FILE, PLAIN, Step, carry_out_in, disk_after, fetches_zeros, forks, load, loads, map, maps,
+    spawns, store, stores,
 };
 use std::test::Fail;
+use test_fixtures::Sizes;
 use vm_types::{Answer, Command, Errno, MapSource, Prot, Stall};
 
 /// 8 frames and no slot, over a file of one page.

@@ -1,73 +1,26 @@
-//! What the tests share: memory over devices in memory, and tables of commands with the answers that are wanted.
+//! What the tests share: tables of commands with the answers that are wanted.
 //!
 //! A test is such a table alone, and holds no memory itself: each command and each look at memory there would have to be
 //! proved to end well, with that memory let go of.
-ghost use Rattle.std.specs.Prelude.{◌≤◌, IfOk};
+ghost use Rattle.std.specs.Prelude.{◌≤◌};
 ghost use Rattle.msync.specs.Shows.{IsSoundCore};
 
 use disk_model::{SectorDisk, SimDisk};
-use file_store::{FileSource, FileStore, format};
 use paging::Core;
-use std::alloc::Global;
 use std::fmt::Debug;
 use std::process::Abort;
 use std::test::Fail;
-use swap::Swap;
+use test_fixtures::{LEAST, Sizes, memory};
 use vm_types::{
     Answer, Code, Command, Errno, Fault, MapSource, MsyncMode, Pid, Placing, Prot, StoredValue,
     Width,
 };
 
-pub(crate) type Memory = Core<SimDisk, SimDisk>;
-
-/// How large memory and its one file of zeros are, and which call of each device fails, the first being 1; 0 is none.
-#[derive(Clone, Copy)]
-pub(crate) struct Sizes {
-    pub(crate) frames: u32,
-    pub(crate) slots: u32,
-    pub(crate) length: u32,
-    pub(crate) read_only: bool,
-    pub(crate) store_fails: u64,
-    pub(crate) swap_fails: u64,
-}
-
 /// 16 frames and no slot, over a file without a byte, on devices that work.
 pub(crate) const PLAIN: Sizes = Sizes {
     frames: 16,
-    slots: 0,
-    length: 0,
-    read_only: false,
-    store_fails: 0,
-    swap_fails: 0,
+    ..LEAST
 };
-
-/// Memory of these sizes, with no process yet.
-pub(crate) fn memory(alloc: Global, sizes: Sizes) -> Result<Memory, Fail>
-    requires least { 8 ≤ sizes.frames }
-    requires most { sizes.frames ≤ 64 }
-    requires most_slots { sizes.slots ≤ 64 }
-    ensures { IfOk result (λ core. IsSoundCore ⟦<SimDisk as SectorDisk>⟧ ⟦<SimDisk as SectorDisk>⟧ core) }
-{
-    let mut disk = SimDisk::new(alloc, 1020 + 8 * u64::from(sizes.length).div_ceil(4096))?;
-    let mut files: [FileSource<&[u8]>; 1] = [FileSource {
-        read_only: sizes.read_only,
-        length: sizes.length,
-        bytes: None,
-    }];
-    format(&mut disk, &mut files)?;
-    disk.fail_at(sizes.store_fails);
-    let store = match FileStore::open(disk) {
-        Ok(store) => store,
-        Err((fault, _)) => return Err(Fail::new(format_args!("open: {fault:?}"))),
-    };
-    let mut device = SimDisk::new(alloc, 8 * u64::from(sizes.slots))?;
-    device.fail_at(sizes.swap_fails);
-    let swap = Swap::new(alloc, device, sizes.slots)?;
-    match Core::new(alloc, store, swap, sizes.frames, sizes.slots) {
-        Ok(core) => Ok(core),
-        Err((refused, _)) => Err(refused.into()),
-    }
-}
 
 /// What a test does next.
 #[derive(Clone, Copy)]
@@ -206,8 +159,8 @@ pub(crate) fn carry_out_in<R: AllocGlobal + Abort>(
     Ok(())
 }
 
-/// Ends the test where the value isn't the one that is wanted. A test that said `assert_eq!` itself would be proved to
-/// end well at each place.
+/// Ends the test where the value isn't the one that is wanted. A test that said `assert_eq!` itself would be proved to end
+/// well at each place.
 pub(crate) fn equal<T: PartialEq + Debug + Drop>(rt: &impl Abort, got: T, want: T) {
     assert_eq!(rt; got, want);
 }

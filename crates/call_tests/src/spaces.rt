@@ -3,11 +3,12 @@
 
 use crate::bench::Step::{Answers, FreeSlots, StoresToSix};
 use crate::bench::{
-    FILE, PLAIN, Sizes, carry_out_in, disk_after, eight_bytes, equal, fault, fetches_zeros, forks,
-    load, loads, map, maps, protect, read_write, reads, spawns, store, stores,
+    FILE, PLAIN, carry_out_in, disk_after, eight_bytes, equal, fault, fetches_zeros, forks, load,
+    loads, map, maps, protect, read_write, reads, spawns, store, stores,
 };
 use disk_model::SectorDisk;
 use std::test::Fail;
+use test_fixtures::Sizes;
 use vm_types::{Answer, Code, Command, Errno, MapSource, MsyncMode, Prot, Stall, Width};
 
 #[test]

@@ -1,12 +1,12 @@
 //! mmap.
-ghost use Rattle.std.specs.Prelude.{◌≡◌, ◌≤◌, ◌<◌, ◌+◌, ◌/◌, ◌^◌, Some, IfNone, IfSome, IfOk, IfErr, IsSome, true};
+ghost use Rattle.std.specs.Prelude.{◌≡◌, ◌≤◌, ◌<◌, ◌+◌, ◌/◌, ◌^◌, Some, IfNone, IfSome, IfOk, IfErr, true};
 ghost use Rattle.vm_types.specs.Limits.{user_start, user_end};
 ghost use Rattle.file_store.specs.Store.{files_of};
 ghost use Rattle.regions.specs.RunList.{attr_at};
 ghost use Rattle.vm_types.specs.Replies.{reply_of};
 ghost use Rattle.vm_types.specs.Attributes.{backing_fits};
 ghost use Rattle.vm_types.specs.Checks.{first_of, page_count};
-ghost use Rattle.vm_types.specs.Mapping.{first_attr, first_backing, is_exact, is_taken, place_for};
+ghost use Rattle.vm_types.specs.Mapping.{first_attr, is_exact, is_taken, place_for};
 ghost use Rattle.vm_types.specs.Placement.{fixed_place, is_free};
 ghost use Rattle.vm_types.specs.declared.command.Command.TheVariants.{Mmap};
 ghost use Rattle.mapping.specs.Changes.{KeepsRoom};

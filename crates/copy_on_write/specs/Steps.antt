@@ -1,6 +1,6 @@
 -- What the steps of a fork need and leave.
 use Rattle.std.specs.Prelude.{◌≡◌, ◌≢◌, ℕ, ◌+◌, ◌*◌, ◌/◌, ◌<◌, ◌≤◌, ◌⊎◌, None}
-use Rattle.vm_types.specs.Limits.{top_level}
+use Rattle.vm_types.specs.Limits.{top_level, table_entries}
 use Rattle.page_tables.specs.Tree.{IsPage, IsTable}
 use Rattle.paging.specs.Seats.{seat}
 use Rattle.paging.specs.Picture.{Picture, entry}
@@ -34,4 +34,4 @@ LinksCopies old new parent child = (n : ℕ) → IsTable new.frames n
 
 -- where a step over the pages ends: past all pages of the lowest table of a process, or of one that is missing
 abbrev pub IsNextPage : Picture → ℕ → ℕ → ℕ → Type 0
-IsNextPage c pid page next = (IsWhole c pid page × (next ≡ (page / 512 + 1) * 512)) ⊎ IsGapEnd c pid page next
+IsNextPage c pid page next = (IsWhole c pid page × (next ≡ (page / table_entries + 1) * table_entries)) ⊎ IsGapEnd c pid page next

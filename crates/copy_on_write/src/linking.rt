@@ -1,6 +1,6 @@
 //! The child's tables.
 ghost use Rattle.std.specs.Prelude.{◌≡◌, ◌≢◌, ℕ, ◌+◌, ◌*◌, ◌/◌, ◌<◌, ◌≤◌, ◌^◌, true, false, Option, None, OnOk, OnErr, IfOk, IfErr, IfSome, IfNone};
-ghost use Rattle.vm_types.specs.Limits.{user_end};
+ghost use Rattle.vm_types.specs.Limits.{user_end, table_entries};
 ghost use Rattle.frames.specs.declared.role.Role.TheVariants.{Private};
 ghost use Rattle.frames.specs.FrameTable.{role_of, IsFull};
 ghost use Rattle.page_tables.specs.Entry.{number_of, IsEntry};
@@ -21,6 +21,7 @@ use mapping::{link_tables, root_of};
 use page_ranges::{gap_end, table_end, user_page};
 use page_tables::{Entry, decode};
 use paging::Core;
+use sv39_walk::TABLE_ENTRIES;
 use vm_types::{Pid, Stall, USER_START, Vpn};
 
 /// Makes for the child, whose pages are mapped as the parent's, every table that is missing on the way to a page of which the
@@ -108,8 +109,8 @@ fn first_copy<D, E>(core: &Core<D, E>, pid: Pid, start: Vpn, end: u64) -> Option
     requires fit { IsFit (picture_of core.now) }
     requires live { is_live (picture_of core.now) pid ≡ true }
     requires whole { IsWhole (picture_of core.now) pid start }
-    requires one_table { end ≡ (start / 512 + 1) * 512 }
-    ensures row { IfSome result (λ page. page / 512 ≡ start / 512) }
+    requires one_table { end ≡ (start / table_entries + 1) * table_entries }
+    ensures row { IfSome result (λ page. page / table_entries ≡ start / table_entries) }
     ensures some { IfSome result (HasCopy (picture_of core.now) pid) }
     ensures none { IfNone result ((page : ℕ) → start ≤ page → page < end → seat (entry (picture_of core.now) pid page) ≡ None) }
 {
@@ -118,7 +119,7 @@ fn first_copy<D, E>(core: &Core<D, E>, pid: Pid, start: Vpn, end: u64) -> Option
         unreachable!();
     };
     for page in start.get()..end {
-        let index = (page % 512) as usize;
+        let index = (page % TABLE_ENTRIES) as usize;
         if is_own(decode(number_in(&core.frames, table, index))) {
             return Some(user_page(page));
         }

@@ -1,6 +1,6 @@
 //! The parent's own pages, given to the child.
 ghost use Rattle.std.specs.Prelude.{◌≡◌, ◌≢◌, ℕ, ◌+◌, ◌*◌, ◌/◌, ◌<◌, ◌≤◌, true, IfSome, IfNone};
-ghost use Rattle.vm_types.specs.Limits.{top_level, user_start, user_end};
+ghost use Rattle.vm_types.specs.Limits.{top_level, user_start, user_end, table_entries};
 ghost use Rattle.page_tables.specs.Tree.{IsPage};
 ghost use Rattle.paging.specs.Picture.{picture_of, entry, is_live};
 ghost use Rattle.paging.specs.Parts.{IsFit};
@@ -16,6 +16,7 @@ use mapping::root_of;
 use page_ranges::{gap_end, table_end, user_page};
 use page_tables::decode;
 use paging::Core;
+use sv39_walk::TABLE_ENTRIES;
 use vm_types::{FrameNo, Pid, USER_START, Vpn};
 
 /// Gives the child, whose pages are mapped as the parent's and have no entry, a share of each page of which the parent has a
@@ -78,7 +79,7 @@ fn share_table<D, E>(core: &mut Core<D, E>, parent: Pid, child: Pid, start: Vpn,
     requires bare { (p : ℕ) → IsPage top_level p → start ≤ p → entry (picture_of core.old) child p ≡ 0 }
     requires linked { HasTables (picture_of core.old) parent child }
     requires whole { IsWhole (picture_of core.old) parent start }
-    requires one_table { end ≡ (start / 512 + 1) * 512 }
+    requires one_table { end ≡ (start / table_entries + 1) * table_entries }
     ensures fit { IsFit (picture_of core.new) }
     ensures shares { SharesRow (picture_of core.old) (picture_of core.new) parent child start end }
     ensures rest { KeepsBesideMemory core.old core.new }
@@ -99,7 +100,7 @@ fn share_table<D, E>(core: &mut Core<D, E>, parent: Pid, child: Pid, start: Vpn,
 fn table_for<D, E>(core: &Core<D, E>, pid: Pid, page: Vpn) -> Option<FrameNo>
     requires fit { IsFit (picture_of core.now) }
     requires live { is_live (picture_of core.now) pid ≡ true }
-    ensures found { IfSome result (λ n. IsTableFor (picture_of core.now) pid (page / 512) n.0) }
+    ensures found { IfSome result (λ n. IsTableFor (picture_of core.now) pid (page / table_entries) n.0) }
     ensures missing { IfNone result (IsWhole (picture_of core.now) pid page → ⊥) }
 {
     let root = root_of(core, pid);
@@ -125,15 +126,15 @@ fn share_page<D, E>(
     requires apart { parent ≢ child }
     requires same { (p : ℕ) → (picture_of core.old).at child p ≡ (picture_of core.old).at parent p }
     requires bare { entry (picture_of core.old) child page ≡ 0 }
-    requires from { IsTableFor (picture_of core.old) parent (page / 512) from.0 }
-    requires to { IsTableFor (picture_of core.old) child (page / 512) to.0 }
+    requires from { IsTableFor (picture_of core.old) parent (page / table_entries) from.0 }
+    requires to { IsTableFor (picture_of core.old) child (page / table_entries) to.0 }
     ensures fit { IsFit (picture_of core.new) }
     ensures shares { SharesRow (picture_of core.old) (picture_of core.new) parent child page (page + 1) }
     ensures places { (q row n : ℕ) → IsTableFor (picture_of core.old) q row n → IsTableFor (picture_of core.new) q row n }
     ensures rest { KeepsBesideMemory core.old core.new }
     ensures refused { core.new.refused ≡ core.old.refused }
 {
-    let index = (page.get() % 512) as usize;
+    let index = (page.get() % TABLE_ENTRIES) as usize;
     let before = decode(number_in(&core.frames, from, index));
     if !is_own(before) {
         return;

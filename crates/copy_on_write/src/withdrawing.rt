@@ -1,5 +1,6 @@
 //! A page of a process's own that is about to be shared.
 ghost use Rattle.std.specs.Prelude.{◌≡◌, ◌≢◌, ℕ, ◌/◌, ◌<◌, ◌^◌, true, Some, None, IfSome, IfNone};
+ghost use Rattle.vm_types.specs.Limits.{table_entries};
 ghost use Rattle.sv39_walk.specs.Entry.{is_valid, frame_of};
 ghost use Rattle.page_tables.specs.Entry.{number_of, IsEntry};
 ghost use Rattle.paging.specs.Seats.{Seat, seat, is_private};
@@ -11,6 +12,7 @@ ghost use Rattle.copy_on_write.specs.Shares.{IsTableFor, MayShare, RaisesSeat, W
 use mapped_memory::set_in;
 use page_tables::Entry;
 use paging::Core;
+use sv39_walk::TABLE_ENTRIES;
 use vm_types::{FrameNo, Pid, Vpn};
 
 /// Lets no store through to a page of which a live process has a copy of its own, and returns the page's entry. What holds the
@@ -25,7 +27,7 @@ pub(crate) fn withdraw_write<D, E>(
 ) -> Entry
     requires fit { IsFit (picture_of core.old) }
     requires live { is_live (picture_of core.old) pid ≡ true }
-    requires place { IsTableFor (picture_of core.old) pid (page / 512) table.0 }
+    requires place { IsTableFor (picture_of core.old) pid (page / table_entries) table.0 }
     requires form { IsEntry before }
     requires before { number_of before ≡ entry (picture_of core.old) pid page }
     requires own { seat (entry (picture_of core.old) pid page) ≢ None }
@@ -40,7 +42,7 @@ pub(crate) fn withdraw_write<D, E>(
     let Some(after) = without_write(before) else {
         return before;
     };
-    let index = (page.get() % 512) as usize;
+    let index = (page.get() % TABLE_ENTRIES) as usize;
     set_in(&mut core.frames, table, index, after);
     after
 }

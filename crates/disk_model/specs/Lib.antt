@@ -1,3 +1,4 @@
+pub mod Sectors
 pub mod Stop
 pub mod Moments
 pub mod Note

@@ -3,6 +3,7 @@ use Rattle.std.specs.Prelude.{◌≡◌, ◌⊎◌, ◌≤◌, ℕ, zero, suc, B
 use Rattle.std.proofs.Common.{⊎_elim, arith}
 use Rattle.disk_model.specs.Note.{Note}
 use Rattle.disk_model.specs.Plan.{is_at, one_more, failures_after, first_listed}
+use Rattle.disk_model.specs.Sectors.{sector_bytes}
 use Rattle.disk_model.specs.Stop.{Image, MayLeave}
 use Rattle.disk_model.specs.declared.sim_disk.SimDisk.{SimDisk}
 
@@ -102,7 +103,7 @@ after_writes (suc n) c = after_write (after_writes n c)
 
 -- what a write of these bytes leaves in its sector
 abbrev pub left_by_write : Counts → List ℕ → List ℕ
-left_by_write c bytes = if write_fails_next c then replicate 512 238 else bytes
+left_by_write c bytes = if write_fails_next c then replicate sector_bytes 238 else bytes
 
 -- no call was made yet, no fault is armed, and nothing is unsynced
 pub record IsFresh (d : SimDisk) : Type 0 where

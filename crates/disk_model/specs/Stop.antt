@@ -1,6 +1,6 @@
 -- What a device holds, and what a stop may leave in it.
 -- After POSIX write(2) and fsync(2): until a sync succeeds, nothing is known of what a stop leaves where a write was made.
-use Rattle.std.specs.Prelude.{ℕ, List, take, drop, ◌+◌, ◌*◌, ◌≡◌, ◌≢◌, ◌⊎◌, ◌≤◌, ◌<◌, Result, OnOk, IsErr}
+use Rattle.std.specs.Prelude.{ℕ, List, ◌+◌, ◌≡◌, ◌≢◌, ◌⊎◌, ◌≤◌, ◌<◌, Result, OnOk, IsErr}
 
 -- the bytes of each sector
 abbrev pub Image : Type 0
@@ -17,10 +17,6 @@ pub record ChangesOnly (n : ℕ) (old new : Image) : Type 0 where
 -- one of the eight sectors of the page that begins at sector n
 abbrev pub IsOfPage : ℕ → ℕ → Type 0
 IsOfPage n k = (n ≤ k) × (k < n + 8)
-
--- sector i of a page of 4,096 bytes
-abbrev pub part_of : List ℕ → ℕ → List ℕ
-part_of page i = take 512 (drop (512 * i) page)
 
 -- no sector but those of the page at n holds other bytes
 pub record ChangesPage (n : ℕ) (old new : Image) : Type 0 where

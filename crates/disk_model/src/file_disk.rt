@@ -1,5 +1,6 @@
 //! A device in a file of the operating system.
 ghost use Rattle.std.specs.Prelude.{◌≡◌, ◌<◌, ◌*◌, ◌^◌, ℕ, List, [], is_ok, IfOk};
+ghost use Rattle.disk_model.specs.Sectors.{sector_bytes};
 ghost use Rattle.disk_model.specs.Unknown.{unknown_bytes};
 ghost use Rattle.disk_model.specs.FileRecord.{is_lost};
 
@@ -56,7 +57,7 @@ pub struct FileDisk<C: FileContents = Unknown> {
     lost: bool,
     calls: Log,
     contents: PhantomData<C>,
-    ghost within: { count * 512 < 2 ^ 64 },
+    ghost within: { count * sector_bytes < 2 ^ 64 },
     ghost lost_by_calls: { lost ≡ is_lost calls.notes },
 }
 

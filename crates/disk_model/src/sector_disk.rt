@@ -1,6 +1,7 @@
 //! A row of sectors that can be read, written and synced.
 ghost use Rattle.std.specs.Prelude.{◌≡◌, ◌⊎◌, ◌<◌, ◌≤◌, ◌+◌, ◌^◌, ℕ, List, OnOk, OnErr};
-ghost use Rattle.disk_model.specs.Stop.{Image, MayLeave, ChangesOnly, ChangesPage, IsOfPage, part_of, Elapses, HasCause};
+ghost use Rattle.disk_model.specs.Stop.{Image, MayLeave, ChangesOnly, ChangesPage, IsOfPage, Elapses, HasCause};
+ghost use Rattle.disk_model.specs.Sectors.{part_of};
 
 use std::fmt;
 

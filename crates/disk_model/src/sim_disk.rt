@@ -1,7 +1,8 @@
 //! A device in memory whose failures and stops are chosen.
 ghost use Rattle.std.specs.Prelude.{◌≡◌, ◌⊎◌, ◌<◌, ◌≤◌, ◌+◌, ◌^◌, ℕ, [], slice_index_or, replicate, length, is_err, IfOk, OnOk, OnErr};
 ghost use Rattle.std.proofs.Common.{inl};
-ghost use Rattle.disk_model.specs.Stop.{MayLeave, ChangesOnly, ChangesPage, IsOfPage, Elapses, HasCause, part_of};
+ghost use Rattle.disk_model.specs.Stop.{MayLeave, ChangesOnly, ChangesPage, IsOfPage, Elapses, HasCause};
+ghost use Rattle.disk_model.specs.Sectors.{sector_bytes, part_of};
 ghost use Rattle.disk_model.specs.Plan.{is_at, failures_after, first_listed};
 
 use crate::ghost_data::{Count, Log};
@@ -104,7 +105,7 @@ impl SimDisk {
     /// `AllocError` where the host has no room for the sectors.
     pub fn new(alloc: Global, sectors: u64) -> Result<SimDisk, AllocError>
         ensures size { IfOk result (λ d. sectors_in d ≡ sectors) }
-        ensures zeros { IfOk result (λ d. (k : ℕ) → k < sectors → sector_of d k ≡ replicate 512 0) }
+        ensures zeros { IfOk result (λ d. (k : ℕ) → k < sectors → sector_of d k ≡ replicate sector_bytes 0) }
         ensures fresh { IfOk result IsFresh }
     {
         let zeros = [0; SECTOR_BYTES];

@@ -7,7 +7,8 @@ use Rattle.std.proofs.lemmas.Option.{same_Some, slice_get-get_or, slice_get_with
 use Rattle.disk_model.specs.Stop.{Image}
 use Rattle.sync_journal.specs.Layout.{home_count}
 use Rattle.sync_journal.specs.Map.{place_among, AreHomes}
-use Rattle.sync_journal.specs.Standing.{standing, sector_of}
+use Rattle.sync_journal.specs.Standing.{standing}
+use Rattle.disk_model.specs.Sectors.{part_of}
 use Rattle.sync_journal.specs.Standing.{StandsFor as HomesStandFor}
 use Rattle.sync_journal.specs.Commit.{changed, sector_or, IsKept}
 use Rattle.sync_journal.specs.Commit.{StandsForEither as HomesStandForEither}
@@ -20,8 +21,8 @@ use Rattle.file_store.specs.Directory.{IsSoundDirectory, IsHomeOf}
 use Rattle.file_store.specs.Standing.{IsPageOf, StandsFor, directory_entry, file_info, page_standing, standing_page}
 use Rattle.file_store.specs.Store.{entry_of, home_of, inside_of, inside_at, IsEntryPage, PutsHomes, PutsHomesOrNone}
 use Rattle.file_store.specs.Commit.{cut_page, ArePages, Changes, StandsForEither}
-use Rattle.sync_journal.proofs.Pieces.{joined-same}
-use Rattle.file_store.proofs.Pieces.{joined_sectors, trimmed-trimmed, length-trimmed}
+use Rattle.disk_model.proofs.Pieces.{joined-same, joined_parts}
+use Rattle.file_store.proofs.Pieces.{trimmed-trimmed, length-trimmed}
 use Rattle.file_store.proofs.Homes.{entry_behind, home_of-entry, is_home, one_file, one_page, home_inside, inside_of-entry}
 use Rattle.file_store.proofs.Images.{bad_layout_moves, stands_kept}
 
@@ -112,7 +113,7 @@ module _ (sectors : ℕ) (directory : Directory) (list : List FilePage) (homes :
       → place_among (λ j. slice_index homes j) (e.first + k) (length homes) ≡ Some j → standing_page new f k ≡ trimmed (bytes_inside e.info.length k) (given j)
   unfolding changed
   listed f k j e p is at file page some =
-      let sectors_are : (i : ℕ) → i < 8 → standing new (e.first + k) i ≡ sector_of (cut j) i
+      let sectors_are : (i : ℕ) → i < 8 → standing new (e.first + k) i ≡ part_of (cut j) i
       = λ i lt. kept.stands.each (e.first + k) i lt ∙ ap (sector_or cut (standing old (e.first + k) i) i) some in
       let entry_is : entry_of directory p.file ≡ Some e = ap (entry_of directory) file ∙ same_directory f ∙ is in
       let inside : inside_at directory list j ≡ bytes_inside e.info.length k
@@ -120,8 +121,8 @@ module _ (sectors : ℕ) (directory : Directory) (list : List FilePage) (homes :
       let cut_is : cut j ≡ trimmed (bytes_inside e.info.length k) (given j) = ap (λ n. trimmed n (given j)) inside in
       let small : bytes_inside e.info.length k ≤ 4096 = omega arith in
       ap (page_standing new k) (entry_same f ∙ is)
-      ∙ ap (trimmed (bytes_inside e.info.length k)) (joined-same 8 (standing new (e.first + k)) (sector_of (cut j)) sectors_are
-      ∙ joined_sectors (cut j) (ap length cut_is ∙ length-trimmed (bytes_inside e.info.length k) (given j) small) ∙ cut_is)
+      ∙ ap (trimmed (bytes_inside e.info.length k)) (joined-same 8 (standing new (e.first + k)) (part_of (cut j)) sectors_are
+      ∙ joined_parts (cut j) (ap length cut_is ∙ length-trimmed (bytes_inside e.info.length k) (given j) small) ∙ cut_is)
       ∙ trimmed-trimmed (bytes_inside e.info.length k) (given j) small
 
   -- what stands for the homes
@@ -140,7 +141,7 @@ module _ (sectors : ℕ) (directory : Directory) (list : List FilePage) (homes :
         (apart some.0 i ne))) (cases_eq some.0 i) in
         kept.stands.each (home_of directory p) j lt
         ∙ ap (sector_or cut (standing old (home_of directory p) j) j) some.1
-        ∙ ap (λ n. sector_of (cut n) j) same)
+        ∙ ap (λ n. part_of (cut n) j) same)
         (place_cases (λ n. slice_index homes n) (home_of directory p) (length homes));
     others = λ h j other lt. ⊎_elim
         (λ none. kept.stands.each h j lt ∙ ap (sector_or cut (standing old h j) j) none.0)

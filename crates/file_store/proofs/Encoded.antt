@@ -13,7 +13,7 @@ use Rattle.file_store.specs.Directory.{word_of, length_of, decoded, IsZero, byte
 use Rattle.file_store.specs.declared.sources.FileSource.{FileSource}
 use Rattle.file_store.specs.Format.{info_of, first_home, entry_given}
 use Rattle.file_store.proofs.Entries.{entry_in-inside, entry_in-outside}
-use Rattle.sync_journal.proofs.Pieces.{length_put}
+use Rattle.disk_model.proofs.Pages.{length_put}
 
 -- what two numbers say
 abbrev entry_from : ℕ → ℕ → Option Entry
@@ -130,7 +130,7 @@ module _ (f : ℕ) (sector bytes : List ℕ) (size : length sector ≡ 512) (ins
         arith,
         past,
         size,
-        length_put (8 * f) (512 - 8 * f) sector bytes (omega (arith, size, inside)) long,
+        length_put sector bytes (8 * f) (512 - 8 * f) (omega (arith, size, inside)) long,
       )))
       (cases_lt i 512)
 

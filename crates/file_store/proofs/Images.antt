@@ -7,12 +7,12 @@ use Rattle.sync_journal.specs.Standing.{standing, standing_under, IsBadJournal}
 use Rattle.sync_journal.specs.Standing.{StandsFor as HomesStandFor}
 use Rattle.sync_journal.specs.Commit.{IsKept}
 use Rattle.file_store.specs.declared.directory.Entry.{Entry}
-use Rattle.sync_journal.specs.Standing.{joined}
+use Rattle.disk_model.specs.Sectors.{joined}
 use Rattle.file_store.specs.Layout.{mark, trimmed, bytes_inside}
 use Rattle.file_store.specs.Directory.{entry_in, IsBadDirectory, AreGood}
 use Rattle.file_store.specs.Standing.{IsBadLayout, directory_entry, file_info, page_standing, standing_page, StandsFor, StandsAs}
 use Rattle.file_store.specs.Standing.IsBadLayout.{TooSmall, Unmarked, BadDirectory}
-use Rattle.sync_journal.proofs.Pieces.{joined-same}
+use Rattle.disk_model.proofs.Pieces.{joined-same}
 use Rattle.file_store.proofs.Entries.{good_directory}
 
 -- under a closed gate a home page stands in its home

@@ -7,7 +7,8 @@ use Rattle.vm_types.specs.declared.file.FileInfo.{FileInfo}
 use Rattle.disk_model.specs.Stop.{Image}
 use Rattle.sync_journal.specs.Layout.{home_count, home_sector}
 use Rattle.sync_journal.specs.Gate.{is_open}
-use Rattle.sync_journal.specs.Standing.{sector_of, standing}
+use Rattle.sync_journal.specs.Standing.{standing}
+use Rattle.disk_model.specs.Sectors.{part_of}
 use Rattle.sync_journal.proofs.Changes.{closed_not_bad}
 use Rattle.sync_journal.proofs.Gates.{closed}
 use Rattle.file_store.specs.declared.directory.Entry.{Entry}
@@ -17,8 +18,8 @@ use Rattle.file_store.specs.Directory.{AreGood}
 use Rattle.file_store.specs.Standing.{directory_entry, page_standing, standing_page}
 use Rattle.file_store.specs.Format.{page_told, page_given, info_of, files_given, total_pages, told_by, first_home, entry_given, HoldsPage, HoldsCut, IsTooLarge, IsDirectoryOf, IsUnmarkedStoreOf, IsStoreOf}
 use Rattle.file_store.specs.Format.IsTooLarge.{TooFewSectors, TooManyPages}
-use Rattle.sync_journal.proofs.Pieces.{joined-same}
-use Rattle.file_store.proofs.Pieces.{joined_sectors, trimmed-trimmed, length-trimmed}
+use Rattle.disk_model.proofs.Pieces.{joined-same, joined_parts}
+use Rattle.file_store.proofs.Pieces.{trimmed-trimmed, length-trimmed}
 use Rattle.file_store.proofs.Images.{standing_closed, layout_is_good}
 
 -- where a list goes on
@@ -168,7 +169,7 @@ cut_moves h inside given old new same cut = record { page = cut.page; zeros = cu
 
 -- a home that holds a given page
 cut_given : (h inside : ℕ) (given : Option (List ℕ)) (page : List ℕ) (image : Image) → HoldsCut h inside given image → given ≡ Some page → HoldsPage h page image
-cut_given h inside given page image cut is i lt = cut.holds i lt ∙ ap (λ (p : List ℕ). sector_of p i) (cut.is page is)
+cut_given h inside given page image cut is i lt = cut.holds i lt ∙ ap (λ (p : List ℕ). part_of p i) (cut.is page is)
 
 module _ {R : Type 0} (remaining : R → Option (List ℕ)) (sources : List (FileSource R)) where
   -- the mark is no part of it
@@ -187,8 +188,8 @@ module _ {R : Type 0} (remaining : R → Option (List ℕ)) (sources : List (Fil
   page_stands image f k source page is_closed entry holds told =
       let first = first_home sources f in
       ap (page_standing image k) entry
-      ∙ ap (trimmed (bytes_inside source.length k)) (joined-same 8 (standing image (first + k)) (sector_of page)
-      (λ i inside. standing_closed image (first + k) i is_closed ∙ holds i inside) ∙ joined_sectors page (told_size source.length k (told_by remaining source.bytes) page told))
+      ∙ ap (trimmed (bytes_inside source.length k)) (joined-same 8 (standing image (first + k)) (part_of page)
+      (λ i inside. standing_closed image (first + k) i is_closed ∙ holds i inside) ∙ joined_parts page (told_size source.length k (told_by remaining source.bytes) page told))
       ∙ told_trimmed source.length k (told_by remaining source.bytes) page told
 
   -- with the mark it is the store

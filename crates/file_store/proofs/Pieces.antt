@@ -1,12 +1,9 @@
 -- Pages in pieces.
-use Rattle.std.proofs.Common.{◌≡◌, ℕ, zero, suc, ◌+◌, ◌-◌, ◌*◌, ◌<◌, ◌≤◌, ⊎_elim, List, [], ◌++◌, length, get_or, take, drop, replicate, refl, sym, ap, ◌∙◌, arith, add-one, length-append, length-take, length-drop}
+use Rattle.std.proofs.Common.{◌≡◌, ℕ, ◌+◌, ◌-◌, ◌<◌, ◌≤◌, ⊎_elim, List, [], ◌++◌, length, get_or, take, drop, replicate, refl, sym, ap, ◌∙◌, arith, add-one, length-append, length-take, length-drop}
 use Rattle.std.proofs.lemmas.List.{take_all, take_at, drop_all, append-nil, length-take-le, length-replicate, ext_get_or, get_or-take, get_or_past, get_or-replicate, get_or_append_left, get_or-append_right}
 use Rattle.std.proofs.lemmas.Bool.{cases_lt}
-use Rattle.std.proofs.Math.Seq.{take-add}
-use Rattle.sync_journal.specs.Standing.{sector_of}
 use Rattle.std.proofs.lemmas.Slice.{put_mid-paste}
 use borrow.Rule.Slice.PartMut.{put_mid, mid_of}
-use Rattle.sync_journal.specs.Standing.{joined}
 use Rattle.file_store.specs.Layout.{trimmed}
 
 -- trimmed to as many bytes as the page has in the file
@@ -25,18 +22,6 @@ trimmed_put n page zeros size le is =
 
 pub length_mid : (a k : ℕ) (xs : List ℕ) → a + k ≤ length xs → length (mid_of a k xs) ≡ k
 length_mid a k xs room = simp (length-take, length-drop) (omega (arith, room))
-
--- the sectors of a page, one after another
-sectors_joined : (page : List ℕ) (n : ℕ) → joined (sector_of page) n ≡ take (512 * n) page
-unfolding joined
-sectors_joined page zero = refl
-sectors_joined page (suc n) =
-    ap (λ (s : List ℕ). s ++ sector_of page n) (sectors_joined page n)
-    ∙ sym (take-add (512 * n) 512 page)
-    ∙ (let e : 512 * n + 512 ≡ 512 * suc n = omega arith in ap (λ (m : ℕ). take m page) e)
-
-pub joined_sectors : (page : List ℕ) → length page ≡ 4096 → joined (sector_of page) 8 ≡ page
-joined_sectors page size = sectors_joined page 8 ∙ take_all 4096 page (omega (arith, size))
 
 pub length-trimmed : (n : ℕ) (page : List ℕ) → n ≤ 4096 → length (trimmed n page) ≡ 4096
 unfolding trimmed

@@ -1,11 +1,13 @@
 -- What a new store is made of.
-use Rattle.std.specs.Prelude.{ℕ, ◌+◌, ◌*◌, ◌%◌, ◌<◌, ◌≤◌, ◌≡◌, ◌⊎◌, List, [], ◌∷◌, take, drop, length, slice_get, replicate, Option, Some, None, IsSome}
+use Rattle.std.specs.Prelude.{ℕ, ◌+◌, ◌*◌, ◌%◌, ◌<◌, ◌≤◌, ◌≡◌, ◌⊎◌, List, [], ◌∷◌, take, drop, length, slice_get, Option, Some, None, IsSome}
 use Rattle.vm_types.specs.Limits.{file_limit}
 use Rattle.std.specs.Option.{option_map}
 use Rattle.vm_types.specs.declared.file.FileInfo.{FileInfo}
 use Rattle.disk_model.specs.Stop.{Image}
+use Rattle.sync_journal.specs.Gate.{closed_sector}
 use Rattle.sync_journal.specs.Layout.{home_count, home_sector, gate_sector, first_home_sector}
-use Rattle.sync_journal.specs.Standing.{IsBadJournal, sector_of}
+use Rattle.sync_journal.specs.Standing.{IsBadJournal}
+use Rattle.disk_model.specs.Sectors.{part_of}
 use Rattle.file_store.specs.declared.directory.Entry.{Entry}
 use Rattle.file_store.specs.declared.sources.FileSource.{FileSource}
 use Rattle.file_store.specs.Layout.{mark, page_count, bytes_inside, trimmed}
@@ -30,7 +32,7 @@ IsLayoutSector k = (k ≡ 1) ⊎ (k ≡ 2)
 
 -- home page h holds this page
 abbrev pub HoldsPage : ℕ → List ℕ → Image → Type 0
-HoldsPage h page image = (i : ℕ) → i < 8 → image (home_sector h + i) ≡ sector_of page i
+HoldsPage h page image = (i : ℕ) → i < 8 → image (home_sector h + i) ≡ part_of page i
 
 -- Home page h holds a page of which so many bytes lie inside its file, and zeros past them: the given page, if one is given.
 pub record HoldsCut (h inside : ℕ) (given : Option (List ℕ)) (image : Image) : Type 0 where
@@ -107,7 +109,7 @@ module _ {R : Type 0} where
   -- The image has all of the sources' store but the mark.
   pub record IsUnmarkedStoreOf (remaining : R → Option (List ℕ)) (sources : List (FileSource R)) (image : Image) : Type 0 where
     pub directory : IsDirectoryOf sources (image 1)
-    pub gate : image gate_sector ≡ replicate 512 0
+    pub gate : image gate_sector ≡ closed_sector
     pub files : HoldsFiles remaining sources (length sources) image
 
   -- The image is a store of the sources' files: with their facts and, where they tell them, their bytes.

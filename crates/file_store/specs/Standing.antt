@@ -1,11 +1,12 @@
 -- The files that an image of a store stands for. The format is our own.
-use Rattle.std.specs.Prelude.{ℕ, ◌+◌, ◌*◌, ◌^◌, ◌<◌, ◌≡◌, ◌≢◌, List, [], take, Option, Some, None}
+use Rattle.std.specs.Prelude.{ℕ, ◌+◌, ◌*◌, ◌<◌, ◌≡◌, ◌≢◌, List, [], take, Option, Some, None}
 use Rattle.vm_types.specs.Limits.{file_limit, file_page_limit}
 use Rattle.std.specs.Option.{option_map}
 use Rattle.vm_types.specs.declared.file.FileInfo.{FileInfo}
 use Rattle.disk_model.specs.Stop.{Image}
 use Rattle.sync_journal.specs.Layout.{home_count, first_home_sector}
-use Rattle.sync_journal.specs.Standing.{standing, joined, IsBadJournal}
+use Rattle.sync_journal.specs.Standing.{standing, IsBadJournal}
+use Rattle.disk_model.specs.Sectors.{joined}
 use Rattle.file_store.specs.declared.directory.Entry.{Entry}
 use Rattle.file_store.specs.Layout.{mark, page_count, bytes_inside, trimmed}
 use Rattle.file_store.specs.Directory.{entry_in, IsBadDirectory}

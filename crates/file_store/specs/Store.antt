@@ -16,7 +16,8 @@ use Rattle.file_store.specs.Directory.{IsSoundDirectory}
 use Rattle.file_store.specs.Standing.{directory_entry, IsBadLayout}
 use Rattle.disk_model.specs.Stop.{Image}
 use Rattle.disk_model.specs.Moments.{LeavesNow}
-use Rattle.sync_journal.specs.Standing.{IsBadJournal, standing, sector_of}
+use Rattle.sync_journal.specs.Standing.{IsBadJournal, standing}
+use Rattle.disk_model.specs.Sectors.{part_of}
 
 -- the entry of file f
 abbrev pub entry_of : Directory → ℕ → Option Entry
@@ -84,7 +85,7 @@ module _ {D : Type 0} (g : Ghosts D) where
 -- lies behind the last home are as they were.
 pub record PutsHomes (sectors : ℕ) (directory : Directory) (list : List FilePage) (given : ℕ → List ℕ) (old new : Image) : Type 0 where
   pub listed : (i j : ℕ) (p : FilePage) → slice_get list i ≡ Some p → j < 8
-      → standing new (home_of directory p) j ≡ sector_of (trimmed (inside_at directory list i) (given i)) j
+      → standing new (home_of directory p) j ≡ part_of (trimmed (inside_at directory list i) (given i)) j
   pub others : (h j : ℕ) → ((i : ℕ) (p : FilePage) → slice_get list i ≡ Some p → home_of directory p ≡ h → ⊥) → j < 8 → standing new h j ≡ standing old h j
   pub outside : (k : ℕ) → IsOutside sectors k → new k ≡ old k
 

@@ -1,6 +1,7 @@
 //! The directory in memory.
 ghost use Rattle.std.specs.Prelude.{◌≡◌, ◌<◌, ◌≤◌, ◌+◌, ◌^◌, ℕ, length, get_or, drop, Option, Some, None, IsSome, IfOk, IfSome, OnOk, OnErr, IsTrue, IsFalse, ◌↔◌};
 ghost use Rattle.vm_types.specs.Limits.{file_limit};
+ghost use Rattle.disk_model.specs.Sectors.{sector_bytes};
 ghost use Rattle.file_store.specs.declared.directory.Entry.{Entry};
 ghost use Rattle.file_store.specs.Directory.{decoded, entry_in, end_of, IsHomeOf, IsZero, IsBadDirectory, AreGood, AreEntries};
 
@@ -139,7 +140,7 @@ impl Directory {
         homes: u64,
         earlier: &[Option<Entry>],
     ) -> Result<Option<Entry>, BadDirectory>
-        requires size { length sector.now ≡ 512 }
+        requires size { length sector.now ≡ sector_bytes }
         requires room { length earlier.now < file_limit }
         requires read { AreEntries sector.now earlier.now (length earlier.now) }
         requires good { AreGood homes sector.now (length earlier.now) }

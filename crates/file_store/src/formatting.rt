@@ -1,7 +1,8 @@
 //! New stores.
-ghost use Rattle.std.specs.Prelude.{◌≡◌, ◌≢◌, ◌+◌, ◌<◌, ◌≤◌, ◌⊎◌, ◌↔◌, ℕ, List, Some, OnOk, OnErr, IsErr, IsErrOf, IsSome, length, replicate};
+ghost use Rattle.std.specs.Prelude.{◌≡◌, ◌≢◌, ◌+◌, ◌<◌, ◌≤◌, ◌⊎◌, ◌↔◌, ℕ, List, Some, OnOk, OnErr, IsErr, IsErrOf, IsSome, length};
 ghost use Rattle.vm_types.specs.Limits.{file_limit};
 ghost use Rattle.disk_model.specs.Moments.{Touches, Nothing, LeavesOnly};
+ghost use Rattle.sync_journal.specs.Gate.{closed_sector};
 ghost use Rattle.sync_journal.specs.Layout.{home_count, home_sector, first_home_sector, gate_sector};
 ghost use Rattle.sync_journal.specs.Runs.{Runs};
 ghost use Rattle.file_store.specs.Layout.{mark, page_count};
@@ -168,7 +169,7 @@ fn write_layout<D: SectorDisk>(
     ensures failed { IsErr result → D.failures disk.old < D.failures disk.new }
     ensures calm { OnOk result (D.failures disk.new ≡ D.failures disk.old) }
     ensures directory { D.keeps_model disk.new → OnOk result (D.content disk.new 1 ≡ directory.now) }
-    ensures gate { D.keeps_model disk.new → OnOk result (D.content disk.new gate_sector ≡ replicate 512 0) }
+    ensures gate { D.keeps_model disk.new → OnOk result (D.content disk.new gate_sector ≡ closed_sector) }
     ensures synced { D.keeps_model disk.new → OnOk result ((k : ℕ) → D.unsynced disk.new k → ⊥) }
 {
     disk.write(DIRECTORY_SECTOR, directory)?;

@@ -1,7 +1,8 @@
 //! What files are made of.
 ghost use Rattle.std.specs.Prelude.{◌≡◌, ◌+◌, ◌-◌, ◌*◌, ◌≤◌, ◌^◌, ◌↔◌, ℕ, min, List, Some, length, drop, replicate, OnOk, OnErr, IsErrOf, IsSome, IsTrue};
 ghost use Rattle.vm_types.specs.Limits.{file_limit};
-ghost use Rattle.sync_journal.specs.Layout.{first_home_sector};
+ghost use Rattle.disk_model.specs.Sectors.{sector_bytes};
+ghost use Rattle.sync_journal.specs.Layout.{home_sector};
 ghost use Rattle.file_store.specs.Layout.{page_count, bytes_inside, trimmed};
 ghost use Rattle.file_store.specs.Format.{info_of, told_by, reader_tells, total_pages, IsTooLarge, IsDirectoryOf};
 
@@ -82,7 +83,7 @@ pub(crate) fn is_too_large<R>(sources: &[FileSource<R>], sectors: u64) -> bool
 /// How many bytes an image of these files has, whose homes end where it ends: `512 * (1020 + 8 H)` for their `H` pages in
 /// all, or 2^64 - 1 where that is more.
 pub fn image_bytes<R>(sources: &[FileSource<R>]) -> u64
-    ensures { result ≡ min (512 * (first_home_sector + 8 * total_pages sources.now)) (2 ^ 64 - 1) }
+    ensures { result ≡ min (sector_bytes * home_sector (total_pages sources.now)) (2 ^ 64 - 1) }
 {
     let homes = PAGE_BYTES.saturating_mul(pages_of(sources));
     (SECTOR_BYTES as u64 * FIRST_HOME).saturating_add(homes)

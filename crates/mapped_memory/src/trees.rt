@@ -1,6 +1,6 @@
 //! The calls of `page_tables`, over memory with a buffer.
 ghost use Rattle.std.specs.Prelude.{ℕ, ◌≡◌, ◌≢◌, ◌/◌, ◌%◌, ◌≤◌, IfErr, ◌<◌, ◌↔◌, IsErr, IfOk, OnErr};
-ghost use Rattle.vm_types.specs.Limits.{top_level};
+ghost use Rattle.vm_types.specs.Limits.{top_level, table_entries};
 ghost use Rattle.frames.specs.FrameTable.{IsFull, IsSound};
 ghost use Rattle.page_tables.specs.Entry.{number_of, IsEntry};
 ghost use Rattle.page_tables.specs.Tree.{IsPage, IsTable, IsForest, IsRoot, IsSpare, missing_of, page_entry};
@@ -101,7 +101,7 @@ pub fn prune(memory: &mut Memory, root: FrameNo, page: Vpn)
 pub fn table_of(memory: &Memory, root: FrameNo, page: Vpn) -> Result<FrameNo, u8>
     requires forest { IsForest memory.now }
     requires root { IsRoot top_level memory.now root.0 }
-    ensures found { IfOk result (λ n. IsTableOf memory.now root.0 (page / 512) n.0) }
+    ensures found { IfOk result (λ n. IsTableOf memory.now root.0 (page / table_entries) n.0) }
     ensures missing { IfErr result (λ missing. (missing ≡ missing_of memory.now top_level root.0 page) × (1 ≤ missing) × (missing ≤ top_level)) }
 {
     page_tables::table_of(&memory.frames, root, page)
@@ -110,8 +110,8 @@ pub fn table_of(memory: &Memory, root: FrameNo, page: Vpn) -> Result<FrameNo, u8
 /// The number at place `index` of a lowest table: that of the page that stands there, in each tree.
 pub fn number_in(memory: &Memory, table: FrameNo, index: usize) -> Pte
     requires table { IsTable memory.now table.0 }
-    requires below { index < 512 }
-    ensures { (root page : ℕ) → IsTableOf memory.now root (page / 512) table.0 → page % 512 ≡ index
+    requires below { index < table_entries }
+    ensures { (root page : ℕ) → IsTableOf memory.now root (page / table_entries) table.0 → page % table_entries ≡ index
         → result.0 ≡ page_entry memory.now top_level root page }
 {
     page_tables::number_in(&memory.frames, table, index)
@@ -122,12 +122,12 @@ pub fn number_in(memory: &Memory, table: FrameNo, index: usize) -> Pte
 pub fn set_in(memory: &mut Memory, table: FrameNo, index: usize, entry: Entry)
     requires forest { IsForest memory.old }
     requires table { IsTable memory.old table.0 }
-    requires below { index < 512 }
+    requires below { index < table_entries }
     requires form { IsEntry entry }
-    requires placed { (root page : ℕ) × IsRoot top_level memory.old root × IsPage top_level page × IsTableOf memory.old root (page / 512) table.0
-        × (page % 512 ≡ index) }
-    ensures sets { (root page : ℕ) → IsRoot top_level memory.old root → IsPage top_level page → IsTableOf memory.old root (page / 512) table.0
-        → page % 512 ≡ index → SetsEntry memory.old memory.new top_level root page (number_of entry) }
+    requires placed { (root page : ℕ) × IsRoot top_level memory.old root × IsPage top_level page × IsTableOf memory.old root (page / table_entries) table.0
+        × (page % table_entries ≡ index) }
+    ensures sets { (root page : ℕ) → IsRoot top_level memory.old root → IsPage top_level page → IsTableOf memory.old root (page / table_entries) table.0
+        → page % table_entries ≡ index → SetsEntry memory.old memory.new top_level root page (number_of entry) }
     ensures kept { KeepsFrames memory.old memory.new }
     ensures sound { IsSound memory.new }
 {

@@ -1,5 +1,5 @@
 //! What memory is after a commit: its pages are as they stand in the store, and touched no more.
-ghost use Rattle.std.specs.Prelude.{◌≡◌, ◌⊎◌, ◌≤◌, ◌<◌, ◌-◌, ℕ, ◌++◌, Some, length, take, replicate};
+ghost use Rattle.std.specs.Prelude.{◌≡◌, ◌⊎◌, ◌≤◌, ◌<◌, ℕ, ◌++◌, Some, length, take, replicate};
 ghost use Rattle.vm_types.specs.Files.{inside_of, cut};
 ghost use Rattle.frames.specs.FrameTable.{IsFrame, bytes_of, with_bytes};
 ghost use Rattle.page_cache.specs.declared.place.Place.TheVariants.{Frame, Slot};

@@ -1,6 +1,6 @@
 -- What the steps of the calls change.
 use Rattle.std.specs.Prelude.{◌≡◌, ◌≢◌, ℕ, ◌+◌, ◌*◌, ◌/◌, ◌^◌, ◌<◌, ◌≤◌, ◌⊎◌, ◌↔◌, min, max, Option, Some, None}
-use Rattle.vm_types.specs.Limits.{top_level}
+use Rattle.vm_types.specs.Limits.{top_level, table_entries}
 use Rattle.vm_types.specs.declared.file.FilePage.{FilePage}
 use Rattle.frames.specs.declared.role.Role.TheVariants.{Free, Private}
 use Rattle.frames.specs.FrameTable.{FrameTable, role_of}
@@ -122,11 +122,11 @@ pub record ReturnsSeat (old new : Picture) (share : Option Seat) : Type 0 where
 abbrev pub IsGapEnd : Picture → ℕ → ℕ → ℕ → Type 0
 IsGapEnd c pid page end =
     (r : ℕ) → c.root pid ≡ Some r
-    → (missing_of c.frames top_level r page ≢ 0) × (end ≡ (page / 512 ^ missing_of c.frames top_level r page + 1) * 512 ^ missing_of c.frames top_level r page)
+    → (missing_of c.frames top_level r page ≢ 0) × (end ≡ (page / table_entries ^ missing_of c.frames top_level r page + 1) * table_entries ^ missing_of c.frames top_level r page)
 
 -- Where a step over a row of pages ends that began at one of them: with the pages of the highest table that is missing on the
 -- way, or of the lowest table where none is, or with the row. So a row costs the tables that it meets.
 abbrev pub IsStepEnd : Picture → ℕ → ℕ → ℕ → ℕ → Type 0
 IsStepEnd c pid page end next =
     (r : ℕ) → c.root pid ≡ Some r
-    → next ≡ min end ((page / 512 ^ max 1 (missing_of c.frames top_level r page) + 1) * 512 ^ max 1 (missing_of c.frames top_level r page))
+    → next ≡ min end ((page / table_entries ^ max 1 (missing_of c.frames top_level r page) + 1) * table_entries ^ max 1 (missing_of c.frames top_level r page))

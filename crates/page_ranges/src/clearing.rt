@@ -1,6 +1,6 @@
 //! Pages without entries.
 ghost use Rattle.std.specs.Prelude.{◌≡◌, ℕ, ◌+◌, ◌*◌, ◌/◌, ◌<◌, ◌≤◌, ◌^◌, true};
-ghost use Rattle.vm_types.specs.Limits.{top_level, user_end};
+ghost use Rattle.vm_types.specs.Limits.{top_level, user_end, table_entries};
 ghost use Rattle.page_tables.specs.Entry.{IsPageEntry};
 ghost use Rattle.page_tables.specs.Places.{IsTableOf};
 ghost use Rattle.page_tables.specs.Tree.{IsPage};
@@ -16,7 +16,7 @@ use mapped_memory::{missing_tables, number_in, prune, set_in, table_of};
 use mapping::root_of;
 use page_tables::{Entry, decode};
 use paging::Core;
-use sv39_walk::Pte;
+use sv39_walk::{Pte, TABLE_ENTRIES};
 use vm_types::{FrameNo, Pid, USER_START, Vpn};
 
 /// Takes the entries of the `pages` pages from `first` on out of the tables of a live process, with the own copies that
@@ -81,7 +81,7 @@ fn clear_table<D, E>(core: &mut Core<D, E>, pid: Pid, start: Vpn, stop: u64)
     requires live { is_live (picture_of core.old) pid ≡ true }
     requires whole { IsWhole (picture_of core.old) pid start }
     requires some { start < stop }
-    requires one_table { stop ≤ (start / 512 + 1) * 512 }
+    requires one_table { stop ≤ (start / table_entries + 1) * table_entries }
     requires high { stop ≤ user_end }
     ensures fit { IsFit (picture_of core.new) }
     ensures clears { Clears (picture_of core.old) (picture_of core.new) pid start stop }
@@ -105,7 +105,7 @@ fn clear_page<D, E>(core: &mut Core<D, E>, pid: Pid, root: FrameNo, table: Frame
     requires fit { IsFit (picture_of core.old) }
     requires root { (picture_of core.old).root pid ≡ Some root.0 }
     requires inside { IsPage top_level page }
-    requires place { IsTableOf core.old.frames root.0 (page / 512) table.0 }
+    requires place { IsTableOf core.old.frames root.0 (page / table_entries) table.0 }
     ensures fit { IsFit (picture_of core.new) }
     ensures clears { Clears (picture_of core.old) (picture_of core.new) pid page (page + 1) }
     ensures tables { SameTables core.old.frames core.new.frames }
@@ -113,7 +113,7 @@ fn clear_page<D, E>(core: &mut Core<D, E>, pid: Pid, root: FrameNo, table: Frame
     ensures rest { KeepsBesideMemory core.old core.new }
     ensures refused { core.new.refused ≡ core.old.refused }
 {
-    let index = (page.get() % 512) as usize;
+    let index = (page.get() % TABLE_ENTRIES) as usize;
     let number = number_in(&core.frames, table, index);
     if number.to_u64() == 0 {
         return;

@@ -1,6 +1,6 @@
 //! Another permission for the pages of a row.
 ghost use Rattle.std.specs.Prelude.{◌≡◌, ◌≢◌, ◌↔◌, ℕ, ◌+◌, ◌*◌, ◌/◌, ◌<◌, ◌≤◌, ◌^◌, true};
-ghost use Rattle.vm_types.specs.Limits.{top_level, user_end};
+ghost use Rattle.vm_types.specs.Limits.{top_level, user_end, table_entries};
 ghost use Rattle.vm_types.specs.Rows.{protected};
 ghost use Rattle.frames.specs.FrameTable.{IsFrame};
 ghost use Rattle.sv39_walk.specs.Entry.{frame_of};
@@ -21,7 +21,7 @@ use mapped_memory::{number_in, set_in, table_of};
 use mapping::root_of;
 use paging::Core;
 use regions::Regions;
-use sv39_walk::Pte;
+use sv39_walk::{Pte, TABLE_ENTRIES};
 use vm_types::{FrameNo, Pid, Prot, USER_START, Vpn};
 
 /// Gives the `pages` pages from `first` on of a live process the permission `prot`, which allows reading what it allows writing,
@@ -96,7 +96,7 @@ fn permit_table<D, E>(core: &mut Core<D, E>, pid: Pid, start: Vpn, stop: u64, pr
     requires live { is_live (picture_of core.old) pid ≡ true }
     requires whole { IsWhole (picture_of core.old) pid start }
     requires some { start < stop }
-    requires one_table { stop ≤ (start / 512 + 1) * 512 }
+    requires one_table { stop ≤ (start / table_entries + 1) * table_entries }
     requires high { stop ≤ user_end }
     requires reads { ReadsToo prot }
     ensures rooted { IsRootedBut (picture_of core.new) 0 }
@@ -128,7 +128,7 @@ fn permit_page<D, E>(
     requires live { is_live (picture_of core.old) pid ≡ true }
     requires root { (picture_of core.old).root pid ≡ Some root.0 }
     requires inside { IsPage top_level page }
-    requires place { IsTableOf core.old.frames root.0 (page / 512) table.0 }
+    requires place { IsTableOf core.old.frames root.0 (page / table_entries) table.0 }
     requires reads { ReadsToo prot }
     ensures rooted { IsRootedBut (picture_of core.new) 0 }
     ensures named { NamesFrames (picture_of core.new) pid }
@@ -137,7 +137,7 @@ fn permit_page<D, E>(
     ensures rest { KeepsAround core.old core.new }
     ensures refused { core.new.refused ≡ core.old.refused }
 {
-    let index = (page.get() % 512) as usize;
+    let index = (page.get() % TABLE_ENTRIES) as usize;
     let number = number_in(&core.frames, table, index);
     if number.to_u64() == 0 {
         return;

@@ -1,6 +1,6 @@
 //! Rows of pages, and the tables that their entries stand in.
 ghost use Rattle.std.specs.Prelude.{◌≡◌, ℕ, ◌<◌, ◌≤◌, ◌+◌, ◌*◌, ◌/◌, ◌^◌, true, IfNone, IfSome};
-ghost use Rattle.vm_types.specs.Limits.{user_start, user_end};
+ghost use Rattle.vm_types.specs.Limits.{user_start, user_end, table_entries};
 ghost use Rattle.paging.specs.Picture.{picture_of, is_live, entry};
 ghost use Rattle.paging.specs.Parts.{IsRootedBut};
 ghost use Rattle.mapping.specs.Changes.{IsWhole};
@@ -9,10 +9,8 @@ ghost use Rattle.page_ranges.specs.Steps.{IsGapEnd};
 use mapped_memory::missing_tables;
 use mapping::root_of;
 use paging::Core;
+use sv39_walk::TABLE_ENTRIES;
 use vm_types::{Pid, Vpn};
-
-/// The entries of a table.
-const TABLE_ENTRIES: u64 = 512;
 
 /// The user page of that number, from 16 up to, not including, 2 ^ 26.
 pub fn user_page(number: u64) -> Vpn
@@ -28,7 +26,7 @@ pub fn user_page(number: u64) -> Vpn
 
 /// The first page past those of the same lowest table; it can lie one past the user pages.
 pub fn table_end(page: Vpn) -> u64
-    ensures { result ≡ (page / 512 + 1) * 512 }
+    ensures { result ≡ (page / table_entries + 1) * table_entries }
 {
     (page.get() / TABLE_ENTRIES + 1) * TABLE_ENTRIES
 }

@@ -1,5 +1,6 @@
 -- What the calls change.
 use Rattle.std.specs.Prelude.{◌≡◌, ◌≢◌, ℕ, ◌+◌, ◌*◌, ◌<◌, ◌≤◌, ◌⊎◌, ◌↔◌, List, drop}
+use Rattle.vm_types.specs.Limits.{table_entries}
 use Rattle.byteorder.specs.Endian.{little_number}
 use Rattle.frames.specs.declared.role.Role.TheVariants.{Free, Table}
 use Rattle.frames.specs.FrameTable.{FrameTable, frame_count, bytes_of, role_of, count_of, SameButFor, Takes}
@@ -14,7 +15,7 @@ number_at bytes i = little_number 8 (drop (8 * i) bytes)
 -- number i of a frame's 512 is e now, and all others are as they were
 pub record PutsNumber (old new : List ℕ) (i e : ℕ) : Type 0 where
   pub changed : number_at new i ≡ e
-  pub others : (j : ℕ) → j < 512 → j ≢ i → number_at new j ≡ number_at old j
+  pub others : (j : ℕ) → j < table_entries → j ≢ i → number_at new j ≡ number_at old j
 
 -- entry i of table n is e now, and all else is as it was
 pub record ChangesEntry (old new : FrameTable) (n i e : ℕ) : Type 0 where
@@ -22,7 +23,7 @@ pub record ChangesEntry (old new : FrameTable) (n i e : ℕ) : Type 0 where
   pub roles : new.roles ≡ old.roles
   pub counts : new.counts ≡ old.counts
   pub changed : entry_at new n i ≡ e
-  pub entries : (j : ℕ) → j < 512 → j ≢ i → entry_at new n j ≡ entry_at old n j
+  pub entries : (j : ℕ) → j < table_entries → j ≢ i → entry_at new n j ≡ entry_at old n j
 
 -- the pointer to table m at entry i of table n is cleared, and table m is free
 pub record Unlinks (old new : FrameTable) (n i m : ℕ) : Type 0 where
@@ -55,7 +56,7 @@ pub record SetsEntry (old new : FrameTable) (top root page number : ℕ) : Type 
   pub were_roots : (r : ℕ) → IsRoot top new r → IsRoot top old r
   pub unlinked : (n : ℕ) → IsUnlinked old n ↔ IsUnlinked new n
   pub pointers : (n i m : ℕ) → Points old n i m ↔ Points new n i m
-  pub others : (n i : ℕ) → i < 512 → (n ≢ (last_table old page top root).1) ⊎ (i ≢ index_of page 0) → entry_at new n i ≡ entry_at old n i
+  pub others : (n i : ℕ) → i < table_entries → (n ≢ (last_table old page top root).1) ⊎ (i ≢ index_of page 0) → entry_at new n i ≡ entry_at old n i
   pub changed : page_entry new top root page ≡ number
   pub entries : (r p : ℕ) → IsRoot top old r → IsPage top p → (r ≢ root) ⊎ (p ≢ page) → page_entry new top r p ≡ page_entry old top r p
   pub missing : (r p : ℕ) → IsRoot top old r → missing_of new top r p ≡ missing_of old top r p
@@ -71,7 +72,7 @@ pub record LinksTable (old new : FrameTable) (top root page table : ℕ) : Type 
   pub linked : IsUnlinked new table → ⊥
   pub unlinked : (n : ℕ) → n ≢ table → IsUnlinked old n ↔ IsUnlinked new n
   pub pointers : (n i m : ℕ) → m ≢ table → Points old n i m ↔ Points new n i m
-  pub others : (n i : ℕ) → i < 512 → n ≢ (last_table old page top root).1 → entry_at new n i ≡ entry_at old n i
+  pub others : (n i : ℕ) → i < table_entries → n ≢ (last_table old page top root).1 → entry_at new n i ≡ entry_at old n i
   pub lowered : missing_of new top root page + 1 ≡ missing_of old top root page
   pub ends : (last_table new page top root).1 ≡ table
   pub no_more : (p : ℕ) → missing_of new top root p ≤ missing_of old top root p
@@ -84,7 +85,7 @@ pub record Prunes (old new : FrameTable) (top root page : ℕ) : Type 0 where
   pub kept : KeepsData old new
   pub forest : IsForest new
   pub gone : (n : ℕ) → IsTable old n → IsTable new n ⊎ ((role_of new n ≡ Free) × IsBelowRoot old top root page n)
-  pub others : (n : ℕ) → IsTable new n → IsOnWay old top root page n ⊎ ((i : ℕ) → i < 512 → entry_at new n i ≡ entry_at old n i)
+  pub others : (n : ℕ) → IsTable new n → IsOnWay old top root page n ⊎ ((i : ℕ) → i < table_entries → entry_at new n i ≡ entry_at old n i)
   pub pointers : (n i m : ℕ) → Points new n i m → Points old n i m
   pub roots : (r : ℕ) → IsRoot top old r → IsRoot top new r
   pub were_roots : (r : ℕ) → IsRoot top new r → IsRoot top old r

@@ -1,5 +1,6 @@
 -- Tables as trees. `top` is the level of a root: 2 for Sv39, and one less than the number of levels for any other.
 use Rattle.std.specs.Prelude.{◌≡◌, ◌≢◌, ℕ, zero, suc, ◌+◌, ◌-◌, ◌<◌, ◌≤◌, ◌^◌, true, false, ◌==◌, if◌then◌else◌}
+use Rattle.vm_types.specs.Limits.{table_entries}
 use Rattle.frames.specs.declared.role.Role.TheVariants.{Table}
 use Rattle.frames.specs.FrameTable.{FrameTable, IsFrame, role_of}
 use Rattle.sv39_walk.specs.Entry.{entry_at, frame_of, is_pointer}
@@ -8,7 +9,7 @@ use Rattle.page_tables.specs.Entry.{IsSoftware}
 
 -- a page that a tree of that top level has a place for
 abbrev pub IsPage : ℕ → ℕ → Type 0
-IsPage top page = page < 512 ^ (top + 1)
+IsPage top page = page < table_entries ^ (top + 1)
 
 pub record IsTable (t : FrameTable) (n : ℕ) : Type 0 where
   pub inside : IsFrame t n
@@ -17,7 +18,7 @@ pub record IsTable (t : FrameTable) (n : ℕ) : Type 0 where
 -- entry i of table n points to frame m
 pub record Points (t : FrameTable) (n i m : ℕ) : Type 0 where
   pub table : IsTable t n
-  pub index : i < 512
+  pub index : i < table_entries
   pub pointer : is_pointer (entry_at t n i) ≡ true
   pub target : frame_of (entry_at t n i) ≡ m
 
@@ -30,7 +31,7 @@ IsUnlinked t m = (n i : ℕ) → Points t n i m → ⊥
 pub record IsForest (t : FrameTable) : Type 0 where
   pub onto_tables : (n i m : ℕ) → Points t n i m → IsTable t m
   pub one_way : (a i b j m : ℕ) → Points t a i m → Points t b j m → (a ≡ b) × (i ≡ j)
-  pub normal : (n i : ℕ) → IsTable t n → i < 512 → IsSoftware (entry_at t n i)
+  pub normal : (n i : ℕ) → IsTable t n → i < table_entries → IsSoftware (entry_at t n i)
 
 -- table n lies that many pointers below the root on the way to the page
 abbrev pub Way : FrameTable → ℕ → ℕ → ℕ → ℕ → ℕ → Type 0
@@ -75,7 +76,7 @@ pub record IsRoot (top : ℕ) (t : FrameTable) (n : ℕ) : Type 0 where
 
 -- a table without entries
 abbrev pub IsEmptyTable : FrameTable → ℕ → Type 0
-IsEmptyTable t n = (i : ℕ) → i < 512 → entry_at t n i ≡ 0
+IsEmptyTable t n = (i : ℕ) → i < table_entries → entry_at t n i ≡ 0
 
 -- a table that is in no tree and has no entries
 pub record IsSpare (t : FrameTable) (n : ℕ) : Type 0 where

@@ -2,7 +2,7 @@
 ghost use Rattle.std.specs.Prelude.{◌≡◌, true, false};
 ghost use Rattle.vm_types.specs.Permission.{can_read, can_write};
 ghost use Rattle.page_tables.specs.Entry.{number_of, IsEntry};
-ghost use Rattle.page_tables.specs.Leaves.{IsLeaf, IsEntryOver, is_barred, leaf_number, weight};
+ghost use Rattle.page_tables.specs.Leaves.{IsEntryOver, is_barred, leaf_number, weight};
 
 use crate::forms::Entry;
 use sv39_walk::Pte;

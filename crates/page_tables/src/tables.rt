@@ -1,6 +1,6 @@
 //! The calls on trees of tables.
 ghost use Rattle.std.specs.Prelude.{ℕ, ◌≡◌, ◌≢◌, ◌+◌, ◌/◌, ◌%◌, ◌≤◌, IfErr, ◌<◌, ◌⊎◌, ◌↔◌, IsTrue, IsErr, IfOk, OnErr, true, false};
-ghost use Rattle.vm_types.specs.Limits.{top_level};
+ghost use Rattle.vm_types.specs.Limits.{top_level, table_entries};
 ghost use Rattle.frames.specs.FrameTable.{IsFull, IsSound};
 ghost use Rattle.sv39_walk.specs.Walk.{index_of};
 ghost use Rattle.page_tables.specs.Entry.{number_of, IsEntry};
@@ -11,7 +11,7 @@ ghost use Rattle.page_tables.specs.Change.{KeepsFrames, AddsTable, PutsNumber, C
 use crate::forms::{Entry, decode, encode};
 use byteorder::{ByteOrder, LittleEndian};
 use frames::{Frames, Role};
-use sv39_walk::{Pte, TOP_LEVEL, next_table, read_entry, table_index};
+use sv39_walk::{Pte, TABLE_ENTRIES, TOP_LEVEL, next_table, read_entry, table_index};
 use vm_types::{FrameNo, NoFree, Vpn};
 
 /// A table of zeros that is in no tree, to be linked or to begin a tree in which nothing stands. All trees stay as they are.
@@ -144,7 +144,7 @@ fn is_empty(frames: &Frames, table: FrameNo) -> bool
     requires { IsTable frames.now table.0 }
     ensures { IsTrue result ↔ IsEmptyTable frames.now table.0 }
 {
-    for index in 0..512 {
+    for index in 0..TABLE_ENTRIES as usize {
         if read_entry(frames, table, index).to_u64() != 0 {
             return false;
         }
@@ -159,7 +159,7 @@ fn is_empty(frames: &Frames, table: FrameNo) -> bool
 pub fn table_of(frames: &Frames, root: FrameNo, page: Vpn) -> Result<FrameNo, u8>
     requires forest { IsForest frames.now }
     requires root { IsRoot top_level frames.now root.0 }
-    ensures found { IfOk result (λ n. IsTableOf frames.now root.0 (page / 512) n.0) }
+    ensures found { IfOk result (λ n. IsTableOf frames.now root.0 (page / table_entries) n.0) }
     ensures missing { IfErr result (λ missing. (missing ≡ missing_of frames.now top_level root.0 page) × (1 ≤ missing) × (missing ≤ top_level)) }
 {
     let (level, table, _) = end_of_way(frames, root, page.get());
@@ -172,8 +172,8 @@ pub fn table_of(frames: &Frames, root: FrameNo, page: Vpn) -> Result<FrameNo, u8
 /// The number at place `index` of a lowest table: that of the page that stands there, in each tree.
 pub fn number_in(frames: &Frames, table: FrameNo, index: usize) -> Pte
     requires table { IsTable frames.now table.0 }
-    requires below { index < 512 }
-    ensures { (root page : ℕ) → IsTableOf frames.now root (page / 512) table.0 → page % 512 ≡ index
+    requires below { index < table_entries }
+    ensures { (root page : ℕ) → IsTableOf frames.now root (page / table_entries) table.0 → page % table_entries ≡ index
         → result.0 ≡ page_entry frames.now top_level root page }
 {
     read_entry(frames, table, index)
@@ -183,10 +183,10 @@ pub fn number_in(frames: &Frames, table: FrameNo, index: usize) -> Pte
 pub fn set_in(frames: &mut Frames, table: FrameNo, index: usize, entry: Entry)
     requires forest { IsForest frames.old }
     requires table { IsTable frames.old table.0 }
-    requires below { index < 512 }
+    requires below { index < table_entries }
     requires form { IsEntry entry }
-    ensures sets { (root page : ℕ) → IsRoot top_level frames.old root → IsPage top_level page → IsTableOf frames.old root (page / 512) table.0
-        → page % 512 ≡ index → SetsEntry frames.old frames.new top_level root page (number_of entry) }
+    ensures sets { (root page : ℕ) → IsRoot top_level frames.old root → IsPage top_level page → IsTableOf frames.old root (page / table_entries) table.0
+        → page % table_entries ≡ index → SetsEntry frames.old frames.new top_level root page (number_of entry) }
     ensures kept { KeepsFrames frames.old frames.new }
     ensures sound { IsSound frames.new }
 {
@@ -223,7 +223,7 @@ fn end_of_way(frames: &Frames, root: FrameNo, page: u64) -> (u32, FrameNo, Frame
 // Writes one entry of a table.
 fn write_entry(frames: &mut Frames, table: FrameNo, index: usize, number: Pte)
     requires table { IsTable frames.old table.0 }
-    requires below { index < 512 }
+    requires below { index < table_entries }
     ensures change { ChangesEntry frames.old frames.new table.0 index number.0 }
     ensures sound { IsSound frames.new }
 {
@@ -233,7 +233,7 @@ fn write_entry(frames: &mut Frames, table: FrameNo, index: usize, number: Pte)
 
 // Writes one number of a frame's 512.
 fn put_number(bytes: &mut [u8; 4096], index: usize, number: u64)
-    requires { index < 512 }
+    requires { index < table_entries }
     ensures { PutsNumber bytes.old bytes.new index number }
 {
     LittleEndian::write_u64(&mut bytes[8 * index..], number);

@@ -1,5 +1,5 @@
 -- How much memory and swap is in use, against what a state needs.
-use Rattle.std.specs.Prelude.{ℕ, ◌+◌, ◌^◌, ◌<◌, ◌≤◌, Bool, true, false, if◌then◌else◌, Option}
+use Rattle.std.specs.Prelude.{ℕ, ◌+◌, ◌<◌, ◌≤◌, Bool, true, false, if◌then◌else◌, Option}
 use Rattle.vm_types.specs.Limits.{user_end, file_limit, file_page_limit}
 use Rattle.vm_types.specs.Capacity.{tables_of, has_own}
 use Rattle.vm_types.specs.Counting.{count_below, sum_below}

@@ -5,7 +5,7 @@ ghost use Rattle.frames.specs.FrameTable.{frame_count, IsFrame, IsFull, role_of}
 ghost use Rattle.swap.specs.Slots.{slots_of};
 ghost use Rattle.paging.specs.Picture.{picture_of, is_data};
 ghost use Rattle.paging.specs.Parts.{IsFit};
-ghost use Rattle.paging.specs.Calls.{Frees, IsToKeep, IsSpareable, NeedsSlot};
+ghost use Rattle.paging.specs.Calls.{Frees, IsSpareable, NeedsSlot};
 ghost use Rattle.paging.specs.Evictions.{IsEvictable, IsAccessed, ClearsMarks, Looked};
 
 use crate::kernel::Core;

@@ -10,7 +10,7 @@ ghost use Rattle.swap.specs.Slots.{IsReady};
 ghost use Rattle.paging.specs.Parts.{IsFit};
 ghost use Rattle.paging.specs.Picture.{picture_of, is_live};
 
-use crate::bench::{equal, first_process, made};
+use crate::bench::{EIGHT_PAGES, equal};
 use disk_model::{SectorDisk, SimDisk};
 use page_cache::Place;
 use page_faults::{AccessRefusal, access};
@@ -19,6 +19,7 @@ use regions::Regions;
 use std::alloc::Global;
 use std::process::Abort;
 use std::test::Fail;
+use test_fixtures::{Sizes, first_process, memory};
 use vm_types::{
     Access, Attr, Backing, Code, Fault, FilePage, FrameNo, Phys, Pid, Prot, Stall, TooManyRuns,
     Width,
@@ -95,7 +96,12 @@ fn started(alloc: Global, slots: u32) -> Result<Core<SimDisk, SimDisk>, Fail>
     ensures lives { IfOk result (λ core. is_live (picture_of core) 1 ≡ true) }
 {
     let regions = mappings()?;
-    let mut core = made(alloc, 2, 5000, slots)?;
+    let sizes = Sizes {
+        slots,
+        length: 5000,
+        ..EIGHT_PAGES
+    };
+    let mut core = memory(alloc, sizes)?;
     spawn(&mut core, regions)?;
     Ok(core)
 }

@@ -13,7 +13,7 @@ ghost use Rattle.paging.specs.Parts.{IsFit};
 ghost use Rattle.paging.specs.Picture.{picture_of, entry};
 ghost use Rattle.mapping.specs.Files.{Proceeds};
 
-use crate::bench::{byte, equal, made, sharers};
+use crate::bench::{EIGHT_PAGES, byte, equal};
 use disk_model::{SectorDisk, SimDisk};
 use mapped_memory::{entry, entry_number};
 use mapping::{
@@ -26,6 +26,7 @@ use regions::Regions;
 use std::alloc::Global;
 use std::process::Abort;
 use std::test::Fail;
+use test_fixtures::{Sizes, memory, sharers};
 use vm_types::{Attr, Backing, FilePage, FrameNo, Pid, Prot, SlotNo, Stall, TooManyRuns, Vpn};
 
 // The one page of the one file.
@@ -81,7 +82,12 @@ fn with_pages(rt: &impl Abort, alloc: Global, attr: Attr) -> Result<Core<SimDisk
     ensures store { IfOk result (λ core. IsReadyStore ⟦<SimDisk as SectorDisk>⟧ core.store) }
     ensures swap { IfOk result (λ core. IsReady ⟦<SimDisk as SectorDisk>⟧ core.swap) }
 {
-    let mut core = made(alloc, 1, 4096, 4)?;
+    let sizes = Sizes {
+        slots: 4,
+        length: 4096,
+        ..EIGHT_PAGES
+    };
+    let mut core = memory(alloc, sizes)?;
     let pid = Pid::new(1).expect(rt, "a number of a process");
     spawn(&mut core, pid)?;
     map(&mut core, pid, six_pages(attr)?);

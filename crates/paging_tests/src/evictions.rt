@@ -6,7 +6,7 @@ ghost use Rattle.swap.specs.Slots.{IsReady};
 ghost use Rattle.paging.specs.Parts.{IsFit};
 ghost use Rattle.paging.specs.Picture.{picture_of};
 
-use crate::bench::{byte, equal, made, role, sharers};
+use crate::bench::{EIGHT_PAGES, byte, equal, role};
 use disk_model::{SectorDisk, SimDisk};
 use frames::Role;
 use page_cache::Place;
@@ -15,6 +15,7 @@ use regions::Regions;
 use std::alloc::Global;
 use std::process::Abort;
 use std::test::Fail;
+use test_fixtures::{Sizes, memory, sharers};
 use vm_types::{FilePage, FrameNo, Pid, SlotNo, Stall, Vpn};
 
 // Brings a page of the file into a frame.
@@ -62,7 +63,13 @@ fn filled(rt: &impl Abort, alloc: Global, slots: u32) -> Result<Core<SimDisk, Si
     ensures store { IfOk result (λ core. IsReadyStore ⟦<SimDisk as SectorDisk>⟧ core.store) }
     ensures swap { IfOk result (λ core. IsReady ⟦<SimDisk as SectorDisk>⟧ core.swap) }
 {
-    let mut core = made(alloc, 8, 32_768, slots)?;
+    let mut core = memory(
+        alloc,
+        Sizes {
+            slots,
+            ..EIGHT_PAGES
+        },
+    )?;
     fill(rt, &mut core)?;
     Ok(core)
 }
@@ -202,7 +209,7 @@ fn a_touched_page_comes_back_from_its_slot(rt: HostRuntime) -> Result<(), Fail> 
 
 #[test]
 fn a_frame_is_taken_for_a_page(rt: HostRuntime) -> Result<(), Fail> {
-    let mut core = made(rt.alloc(), 8, 32_768, 0)?;
+    let mut core = memory(rt.alloc(), EIGHT_PAGES)?;
     let page = Vpn::new(16).expect(&rt, "a user page");
     let own = core.take_own(page, None)?;
     equal(&rt, role(&core, own), Some(Role::Private));
@@ -212,7 +219,7 @@ fn a_frame_is_taken_for_a_page(rt: HostRuntime) -> Result<(), Fail> {
 
 #[test]
 fn a_process_is_made_and_mapped(rt: HostRuntime) -> Result<(), Fail> {
-    let mut core = made(rt.alloc(), 8, 32_768, 0)?;
+    let mut core = memory(rt.alloc(), EIGHT_PAGES)?;
     assert_eq!(rt; core.live(1), None);
     let pid = Pid::new(1).expect(&rt, "a number of a process");
     assert_eq!(rt; core.root(pid), None);
@@ -226,7 +233,7 @@ fn a_process_is_made_and_mapped(rt: HostRuntime) -> Result<(), Fail> {
 
 #[test]
 fn a_process_without_pages_ends(rt: HostRuntime) -> Result<(), Fail> {
-    let mut core = made(rt.alloc(), 8, 32_768, 0)?;
+    let mut core = memory(rt.alloc(), EIGHT_PAGES)?;
     let pid = Pid::new(1).expect(&rt, "a number of a process");
     let root = core.take_table()?;
     core.add_process(pid, root);

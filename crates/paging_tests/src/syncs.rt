@@ -7,16 +7,15 @@ ghost use Rattle.page_cache.specs.declared.place.Place.TheVariants.{Frame};
 ghost use Rattle.paging.specs.Picture.{picture_of, is_live};
 ghost use Rattle.msync.specs.Shows.{IsSoundCore};
 
-use crate::bench::{equal, first_process, opened, sharers};
+use crate::bench::equal;
 use disk_model::{SectorDisk, SimDisk};
-use file_store::{FileSource, format};
 use msync::msync;
 use page_cache::Place;
 use paging::{Core, obtain};
 use std::alloc::Global;
 use std::process::Abort;
 use std::test::Fail;
-use swap::Swap;
+use test_fixtures::{LEAST, Sizes, first_process, memory, sharers};
 use vm_types::{
     Answer, Attr, Backing, Errno, FilePage, FrameNo, MsyncMode, Pid, Prot, SlotNo, Stall,
     TooManyRuns,
@@ -30,21 +29,13 @@ fn core_failing_at(alloc: Global, call: u64) -> Result<Core<SimDisk, SimDisk>, F
     ensures sound { IfOk result (λ core. IsSoundCore ⟦<SimDisk as SectorDisk>⟧ ⟦<SimDisk as SectorDisk>⟧ core) }
     ensures none { IfOk result (λ core. (pid : ℕ) → (picture_of core).root pid ≡ None) }
 {
-    let mut disk = SimDisk::new(alloc, 1020 + 48)?;
-    let mut files: [FileSource<&[u8]>; 1] = [FileSource {
-        read_only: false,
+    let sizes = Sizes {
+        slots: 2,
         length: LENGTH,
-        bytes: None,
-    }];
-    format(&mut disk, &mut files)?;
-    let store = opened(disk)?;
-    let mut device = SimDisk::new(alloc, 16)?;
-    device.fail_at(call);
-    let swap = Swap::new(alloc, device, 2)?;
-    match Core::new(alloc, store, swap, 8, 2) {
-        Ok(core) => Ok(core),
-        Err((refused, _)) => Err(Fail::from(refused)),
-    }
+        swap_fails: call,
+        ..LEAST
+    };
+    memory(alloc, sizes)
 }
 
 // A process of that number, without a page.

@@ -1,9 +1,7 @@
-//! What the tests share: processes over devices in memory, and what is looked at there.
+//! What the tests share: processes, and what is looked at there.
 ghost use Rattle.std.specs.Prelude.{◌≡◌, ◌≢◌, ◌≤◌, ◌<◌, ℕ, true, None, IfOk, OnOk};
 ghost use Rattle.vm_types.specs.Limits.{user_start, user_end};
 ghost use Rattle.vm_types.specs.Rows.{IsUserMap};
-ghost use Rattle.file_store.specs.Standing.{AreBounded};
-ghost use Rattle.file_store.specs.Store.{files_of};
 ghost use Rattle.regions.specs.RunList.{attr_at};
 ghost use Rattle.swap.specs.Slots.{IsReady};
 ghost use Rattle.paging.specs.Parts.{IsFit};
@@ -12,7 +10,6 @@ ghost use Rattle.mapping.specs.Changes.{KeepsSpaces};
 ghost use Rattle.process_tests.specs.Tests.{zeros, five_pages, HasFivePages};
 
 use disk_model::{SectorDisk, SimDisk};
-use file_store::{FileStore, OpenFault};
 use frames::Role;
 use mapped_memory::entry_number;
 use mapping::{link_tables, own_frame, root_of};
@@ -23,60 +20,13 @@ use std::alloc::Global;
 use std::fmt::Debug;
 use std::process::Abort;
 use std::test::Fail;
-use swap::Swap;
-use vm_types::{Attr, Backing, FrameNo, Pid, Prot, SlotNo, Stall, TooManyRuns};
+use test_fixtures::{LEAST, Sizes, first_process, memory};
+use vm_types::{Attr, Backing, FrameNo, Pid, Prot, Stall, TooManyRuns};
 
-/// Ends the test where the value isn't the one that is wanted. A test that said `assert_eq!` itself would be proved to end well
-/// at each place.
+/// Ends the test where the value isn't the one that is wanted. A test that said `assert_eq!` itself would be proved to end
+/// well at each place.
 pub(crate) fn equal<T: PartialEq + Debug + Drop>(rt: &impl Abort, got: T, want: T) {
     assert_eq!(rt; got, want);
-}
-
-// A device with the mark of a store that has no file.
-fn image(alloc: Global) -> Result<SimDisk, Fail> {
-    let mut disk = SimDisk::new(alloc, 1020)?;
-    let mut mark = [0; 512];
-    for i in 0..512 {
-        mark[i] = b"FAMSYNC1"[i % 8];
-    }
-    disk.write(0, &mark)?;
-    disk.sync()?;
-    Ok(disk)
-}
-
-fn opened(disk: SimDisk) -> Result<FileStore<SimDisk>, OpenFault>
-    ensures bounded { IfOk result (λ store. AreBounded (files_of store)) }
-{
-    match FileStore::open(disk) {
-        Ok(store) => Ok(store),
-        Err((fault, _)) => Err(fault),
-    }
-}
-
-/// Memory of so many frames, with so many slots.
-pub(crate) fn made(alloc: Global, frames: u32, slots: u32) -> Result<Core<SimDisk, SimDisk>, Fail>
-    requires least { 8 ≤ frames }
-    requires most { frames ≤ 16 }
-    requires slots { slots ≤ 4 }
-    ensures fit { IfOk result (λ core. IsFit (picture_of core)) }
-    ensures swap { IfOk result (λ core. IsReady ⟦<SimDisk as SectorDisk>⟧ core.swap) }
-    ensures none { IfOk result (λ core. (pid : ℕ) → (picture_of core).root pid ≡ None) }
-{
-    let store = opened(image(alloc)?)?;
-    let swap = Swap::new(alloc, SimDisk::new(alloc, 8 * u64::from(slots))?, slots)?;
-    match Core::new(alloc, store, swap, frames, slots) {
-        Ok(core) => Ok(core),
-        Err((refused, _)) => Err(Fail::from(refused)),
-    }
-}
-
-pub(crate) fn first_process() -> Pid
-    ensures { result ≡ 1 }
-{
-    let Some(pid) = Pid::new(1) else {
-        unreachable!();
-    };
-    pid
 }
 
 /// Zeros of its own, to be read and written.
@@ -123,13 +73,18 @@ pub(crate) fn with_five_pages(
     slots: u32,
 ) -> Result<Core<SimDisk, SimDisk>, Fail>
     requires least { 8 ≤ frames }
-    requires most { frames ≤ 16 }
-    requires slots { slots ≤ 4 }
+    requires most { frames ≤ 64 }
+    requires slots { slots ≤ 64 }
     ensures pages { IfOk result (λ core. HasFivePages (picture_of core)) }
     ensures swap { IfOk result (λ core. IsReady ⟦<SimDisk as SectorDisk>⟧ core.swap) }
     ensures alone { IfOk result (λ core. (pid : ℕ) → pid ≢ 1 → (picture_of core).root pid ≡ None) }
 {
-    let mut core = made(alloc, frames, slots)?;
+    let sizes = Sizes {
+        frames,
+        slots,
+        ..LEAST
+    };
+    let mut core = memory(alloc, sizes)?;
     add_process(&mut core, first_process())?;
     Ok(core)
 }
@@ -144,15 +99,6 @@ pub(crate) fn number<D, E>(core: &Core<D, E>, pid: Pid, page: u64) -> u64
 {
     let root = root_of(core, pid);
     entry_number(&core.frames, root, user_page(page)).to_u64()
-}
-
-/// The share count of a slot; `None` where memory has no such slot.
-pub(crate) fn sharers<D, E>(core: &Core<D, E>, slot: u32) -> Option<u8> {
-    if slot < core.swap.len() {
-        Some(core.swap.count(SlotNo(slot)))
-    } else {
-        None
-    }
 }
 
 /// What a frame is used for, and by how many; `None` where memory has no such frame.

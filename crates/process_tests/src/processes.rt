@@ -5,13 +5,14 @@ ghost use Rattle.paging.specs.Parts.{IsFit};
 ghost use Rattle.paging.specs.Picture.{picture_of, is_live};
 ghost use Rattle.process_tests.specs.Tests.{HasFivePages};
 
-use crate::bench::{equal, first_process, made, number, own, sharers, use_of, with_five_pages};
+use crate::bench::{equal, number, own, use_of, with_five_pages};
 use disk_model::SectorDisk;
 use frames::Role;
 use lifecycle::{exit, fork, free_pid, spawn};
 use paging::Core;
 use std::process::Abort;
 use std::test::Fail;
+use test_fixtures::{LEAST, Sizes, first_process, memory, sharers};
 use vm_types::{Pid, Stall};
 
 // A process of the least free number.
@@ -74,7 +75,7 @@ fn copy_six<D, E: SectorDisk>(rt: &impl Abort, core: &mut Core<D, E>)
 // Frame 0 is the zero page, so 8 frames are enough for the roots of seven processes, none of which is given up.
 #[test]
 fn numbers_until_memory_is_full_of_roots(rt: HostRuntime) -> Result<(), Fail> {
-    let mut core = made(rt.alloc(), 8, 1)?;
+    let mut core = memory(rt.alloc(), Sizes { slots: 1, ..LEAST })?;
     start_seven(&rt, &mut core);
     equal(&rt, started(&mut core), Err(Stall::NoFrames));
     equal(&rt, free_pid(&core), Pid::new(8));
@@ -115,7 +116,7 @@ fn copy_until_full<D, E: SectorDisk>(rt: &impl Abort, core: &mut Core<D, E>) -> 
 // A process without a page has one table, its root.
 #[test]
 fn copies_until_memory_is_full_of_roots(rt: HostRuntime) -> Result<(), Fail> {
-    let mut core = made(rt.alloc(), 8, 1)?;
+    let mut core = memory(rt.alloc(), Sizes { slots: 1, ..LEAST })?;
     copy_until_full(&rt, &mut core)
 }
 

@@ -7,9 +7,7 @@ ghost use Rattle.paging.specs.Parts.{IsFit};
 ghost use Rattle.paging.specs.Picture.{picture_of, is_live};
 ghost use Rattle.process_tests.specs.Tests.{HasFivePages};
 
-use crate::bench::{
-    equal, first_process, five_pages, number, own, own_all, sharers, use_of, with_five_pages, zeros,
-};
+use crate::bench::{equal, five_pages, number, own, own_all, use_of, with_five_pages, zeros};
 use disk_model::SectorDisk;
 use frames::Role;
 use mapping::link_tables;
@@ -17,6 +15,7 @@ use page_ranges::{clear_row, gap_end, remap, reprotect, table_end, user_page};
 use paging::Core;
 use std::process::Abort;
 use std::test::Fail;
+use test_fixtures::{first_process, sharers};
 use vm_types::{Attr, Backing, Prot, Stall};
 
 // How a page of process 1 is mapped.

@@ -6,9 +6,7 @@ ghost use Rattle.swap.specs.Slots.{IsReady};
 ghost use Rattle.paging.specs.Picture.{picture_of, entry};
 ghost use Rattle.process_tests.specs.Tests.{AreAlike};
 
-use crate::bench::{
-    add_process, equal, first_process, number, own, own_all, sharers, use_of, with_five_pages,
-};
+use crate::bench::{add_process, equal, number, own, own_all, use_of, with_five_pages};
 use copy_on_write::{link_copies, share_pages};
 use disk_model::{SectorDisk, SimDisk};
 use frames::Role;
@@ -17,6 +15,7 @@ use paging::Core;
 use std::alloc::Global;
 use std::process::Abort;
 use std::test::Fail;
+use test_fixtures::{first_process, sharers};
 use vm_types::{Pid, Stall};
 
 fn second_process() -> Pid

@@ -12,7 +12,8 @@ use Rattle.disk_model.specs.Moments.{Touches, Nothing, LeavesNow, LeavesOnly}
 use Rattle.disk_model.proofs.Moments.{goes_on}
 use Rattle.disk_model.specs.declared.sector_disk.SectorDisk.{Ghosts}
 use Rattle.vm_types.specs.declared.file.FileInfo.{FileInfo}
-use Rattle.sync_journal.specs.Standing.{standing, joined}
+use Rattle.sync_journal.specs.Standing.{standing}
+use Rattle.disk_model.specs.Sectors.{joined}
 use Rattle.file_store.specs.declared.directory.Entry.{Entry}
 use Rattle.file_store.specs.declared.faults.OpenFault.{OpenFault}
 use Rattle.file_store.specs.declared.store.FileStore.{FileStore}
@@ -20,7 +21,7 @@ use Rattle.file_store.specs.Layout.{page_count, bytes_inside}
 use Rattle.file_store.specs.Standing.{StandsFor, StandsAs, bytes_of_pages, directory_entry, file_info, standing_page, page_standing, standing_file}
 use Rattle.file_store.specs.Store.{IsReadyStore, files_of, entry_of}
 use Rattle.runner.specs.Bytes.{WritesBeginning}
-use Rattle.sync_journal.proofs.Pieces.{joined-none, joined-same, joined-more}
+use Rattle.disk_model.proofs.Pieces.{joined-none, joined-same, joined-more}
 use Rattle.file_store.proofs.Pieces.{length-trimmed}
 use Rattle.programs.specs.declared.showing.ShowFault.{ShowFault}
 use Rattle.programs.specs.declared.showing.ShowFault.TheVariants.{Open as OpenFailed}

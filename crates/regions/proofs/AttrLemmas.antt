@@ -31,10 +31,10 @@ backing_fits-after Anon i j h = tt
 backing_fits-after (Private p) i j h = omega arith
 backing_fits-after (Shared p) i j h = omega arith
 
-pub backing_fits-joined : (b : Backing) (i j : ℕ) → backing_fits (backing_after b i) j → backing_fits b (i + j)
-backing_fits-joined Anon i j h = tt
-backing_fits-joined (Private p) i j h = omega arith
-backing_fits-joined (Shared p) i j h = omega arith
+pub backing_fits-merged : (b : Backing) (i j : ℕ) → backing_fits (backing_after b i) j → backing_fits b (i + j)
+backing_fits-merged Anon i j h = tt
+backing_fits-merged (Private p) i j h = omega arith
+backing_fits-merged (Shared p) i j h = omega arith
 
 pub backing_fits-less : (b : Backing) (i j : ℕ) → i ≤ j → backing_fits b j → backing_fits b i
 backing_fits-less Anon i j l h = tt

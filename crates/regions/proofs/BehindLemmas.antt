@@ -5,7 +5,7 @@ use Rattle.std.specs.List.{slice_get}
 use Rattle.std.specs.List.Sorted.{IsNonDecreasingBy, IsPartitionPoint}
 use Rattle.vm_types.specs.declared.region.Attr.{Attr}
 use Rattle.regions.specs.declared.run.Run.{Run}
-use Rattle.regions.specs.Run.{IsRun, attr_in, cut, part_of}
+use Rattle.regions.specs.Run.{IsRun, attr_in, cut, run_between}
 use Rattle.regions.specs.RunList.{or_else, attr_at, IsMaximal}
 use Rattle.regions.specs.Search.{first_part, gap_from, is_clear, run_or, runs_behind}
 use Rattle.regions.proofs.RunLemmas.{attr_in-above, leb-no, lt_or_le, ltb-no, or_else-none}
@@ -54,7 +54,7 @@ point_behind page (run ∷ runs) (suc i) h p =
 pub record Tells (page : ℕ) (runs : List Run) (run : Run) : Type 0 where
   pub is_run : IsRun run
   pub at : attr_at runs page ≡ attr_in run page
-  pub part : first_part page runs ≡ part_of page (2 ^ 26) None run
+  pub part : first_part page runs ≡ run_between page (2 ^ 26) None run
   pub clear : (end : ℕ) → is_clear page end runs ≡ leb end run.first
 
 -- where there is none, nothing is mapped from the page on
@@ -109,7 +109,7 @@ clear_later from page end (run ∷ runs) m h =
     ∙ clear_later run.end page end runs m.3 (omega arith)
 
 module _ (page : ℕ) (run : Run) (runs : List Run) (is_run : IsRun run) (rest : IsMaximal run.end runs) (h : page < run.end) where
-  part_here : first_part page (run ∷ runs) ≡ part_of page (2 ^ 26) None run
+  part_here : first_part page (run ∷ runs) ≡ run_between page (2 ^ 26) None run
   part_here =
       let high : run.end ≤ 2 ^ 26 = is_run.high in
       let some : run.first < run.end = is_run.nonempty in

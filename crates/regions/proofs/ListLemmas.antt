@@ -3,9 +3,9 @@ use Rattle.std.proofs.Common.{◌≡◌, ℕ, ◌^◌, ◌<◌, ◌≤◌, ◌�
 use Rattle.vm_types.specs.declared.permission.Prot.{Prot}
 use Rattle.vm_types.specs.declared.region.Attr.{Attr}
 use Rattle.regions.specs.declared.run.Run.{Run}
-use Rattle.regions.specs.Run.{IsRun, attr_in, joins, joined, cut, part_of}
+use Rattle.regions.specs.Run.{IsRun, attr_in, joins, merged, cut, run_between}
 use Rattle.regions.specs.RunList.{or_else, attr_at, joins_first, IsMaximal, end_of, pushed, pushed_part, pasted}
-use Rattle.regions.proofs.RunLemmas.{clipped-none, lt_or_le, apart, attr_in-below, attr_in-above, attr_in-joined, or_else-none, or_else-swap, joins-true, joined-run, clipped, clipped-or, clipped-empty, attr_in-cut, IsPart, cut-run}
+use Rattle.regions.proofs.RunLemmas.{clipped-none, lt_or_le, apart, attr_in-below, attr_in-above, attr_in-merged, or_else-none, or_else-swap, joins-true, merged-run, clipped, clipped-or, clipped-empty, attr_in-cut, IsPart, cut-run}
 
 pub end_of-from : (from : ℕ) (runs : List Run) → IsMaximal from runs → from ≤ end_of from runs
 end_of-from from [] m = omega arith
@@ -41,7 +41,7 @@ first_or_rest run runs page m =
 
 -- putting a run behind the others
 
-one_end : (from : ℕ) (run next : Run) (b : Bool) → end_of from (if b then joined run next ∷ [] else run ∷ next ∷ []) ≡ next.end
+one_end : (from : ℕ) (run next : Run) (b : Bool) → end_of from (if b then merged run next ∷ [] else run ∷ next ∷ []) ≡ next.end
 one_end from run next true = refl
 one_end from run next false = refl
 
@@ -50,7 +50,7 @@ end_of-pushed from [] next = refl
 end_of-pushed from (run ∷ []) next = one_end from run next (joins run next)
 end_of-pushed from (run ∷ (other ∷ runs)) next = end_of-pushed run.end (other ∷ runs) next
 
-one_longer : (run next : Run) (b : Bool) → 1 ≤ length (if b then joined run next ∷ [] else run ∷ next ∷ [])
+one_longer : (run next : Run) (b : Bool) → 1 ≤ length (if b then merged run next ∷ [] else run ∷ next ∷ [])
 one_longer run next true = omega arith
 one_longer run next false = omega arith
 
@@ -61,7 +61,7 @@ length-pushed (run ∷ (other ∷ runs)) next =
     let rest : length (other ∷ runs) ≤ length (pushed (other ∷ runs) next) = length-pushed (other ∷ runs) next in
     omega arith
 
-one_joins : (before run next : Run) (b : Bool) → joins_first before (if b then joined run next ∷ [] else run ∷ next ∷ []) ≡ joins before run
+one_joins : (before run next : Run) (b : Bool) → joins_first before (if b then merged run next ∷ [] else run ∷ next ∷ []) ≡ joins before run
 one_joins before run next true = refl
 one_joins before run next false = refl
 
@@ -69,8 +69,8 @@ joins_first-pushed : (before run : Run) (runs : List Run) (next : Run) → joins
 joins_first-pushed before run [] next = one_joins before run next (joins run next)
 joins_first-pushed before run (other ∷ runs) next = refl
 
-one_maximal : (from : ℕ) (run next : Run) (b : Bool) → joins run next ≡ b → from ≤ run.first → IsRun run → IsRun next → run.end ≤ next.first → IsMaximal from (if b then joined run next ∷ [] else run ∷ next ∷ [])
-one_maximal from run next true e l r n h = (l, joined-run run next r n (joins-true run next e), refl, tt)
+one_maximal : (from : ℕ) (run next : Run) (b : Bool) → joins run next ≡ b → from ≤ run.first → IsRun run → IsRun next → run.end ≤ next.first → IsMaximal from (if b then merged run next ∷ [] else run ∷ next ∷ [])
+one_maximal from run next true e l r n h = (l, merged-run run next r n (joins-true run next e), refl, tt)
 one_maximal from run next false e l r n h = (l, r, e, (h, n, refl, tt))
 
 pub maximal-pushed : (from : ℕ) (runs : List Run) (next : Run) → IsMaximal from runs → end_of from runs ≤ next.first → IsRun next → IsMaximal from (pushed runs next)
@@ -79,10 +79,10 @@ maximal-pushed from (run ∷ []) next m h n = one_maximal from run next (joins r
 maximal-pushed from (run ∷ (other ∷ runs)) next m h n =
     (m.0, m.1, joins_first-pushed run other runs next ∙ m.2, maximal-pushed run.end (other ∷ runs) next m.3 h n)
 
-one_at : (run next : Run) (page : ℕ) (b : Bool) → joins run next ≡ b → IsRun run → IsRun next → run.end ≤ next.first → attr_at (if b then joined run next ∷ [] else run ∷ next ∷ []) page ≡ or_else (attr_in next page) (attr_at (run ∷ []) page)
+one_at : (run next : Run) (page : ℕ) (b : Bool) → joins run next ≡ b → IsRun run → IsRun next → run.end ≤ next.first → attr_at (if b then merged run next ∷ [] else run ∷ next ∷ []) page ≡ or_else (attr_in next page) (attr_at (run ∷ []) page)
 one_at run next page true e r n h =
-    or_else-none (attr_in (joined run next) page)
-    ∙ attr_in-joined run next page r.nonempty n.nonempty (joins-true run next e)
+    or_else-none (attr_in (merged run next) page)
+    ∙ attr_in-merged run next page r.nonempty n.nonempty (joins-true run next e)
     ∙ ap (λ (o : Option Attr). or_else (attr_in next page) o) (sym (or_else-none (attr_in run page)))
 one_at run next page false e r n h = or_else-swap (attr_in run page) (attr_in next page) None (apart run next page h)
 
@@ -133,7 +133,7 @@ part_pushed low high from prot old run false e m h l r =
       at = λ page. sym (ap (λ (o : Option Attr). or_else o (attr_at old page)) (clipped-empty low high prot run page t));
     }
 
-pub run_pasted : (low high from : ℕ) (prot : Option Prot) (old : List Run) (run : Run) → IsMaximal 16 old → end_of 16 old ≤ max low from → from ≤ run.first → IsRun run → Pushed low high from prot old run (pushed_part old (part_of low high prot run))
+pub run_pasted : (low high from : ℕ) (prot : Option Prot) (old : List Run) (run : Run) → IsMaximal 16 old → end_of 16 old ≤ max low from → from ≤ run.first → IsRun run → Pushed low high from prot old run (pushed_part old (run_between low high prot run))
 run_pasted low high from prot old run m h l r =
     part_pushed low high from prot old run (ltb (max run.first low) (min run.end high)) refl m h l r
 
@@ -141,13 +141,13 @@ pub pasted-is : (low high from : ℕ) (prot : Option Prot) (old runs : List Run)
 pasted-is low high from prot old [] m h r =
     record { maximal = m; end = omega arith; longer = omega arith; at = λ page. sym (ap (λ (o : Option Attr). or_else o (attr_at old page)) (clipped-none low high prot page)) }
 pasted-is low high from prot old (run ∷ runs) m h r =
-    let one : Pushed low high from prot old run (pushed_part old (part_of low high prot run)) = run_pasted low high from prot old run m h r.0 r.1 in
-    let rest : Pasted low high prot (pushed_part old (part_of low high prot run)) runs (pasted low high prot (pushed_part old (part_of low high prot run)) runs) =
-    pasted-is low high run.end prot (pushed_part old (part_of low high prot run)) runs one.maximal one.behind r.3 in
-    let e1 : end_of 16 (pushed_part old (part_of low high prot run)) ≤ max (end_of 16 old) high = one.end in
-    let e2 : end_of 16 (pasted low high prot (pushed_part old (part_of low high prot run)) runs) ≤ max (end_of 16 (pushed_part old (part_of low high prot run))) high = rest.end in
-    let l1 : length old ≤ length (pushed_part old (part_of low high prot run)) = one.longer in
-    let l2 : length (pushed_part old (part_of low high prot run)) ≤ length (pasted low high prot (pushed_part old (part_of low high prot run)) runs) = rest.longer in
+    let one : Pushed low high from prot old run (pushed_part old (run_between low high prot run)) = run_pasted low high from prot old run m h r.0 r.1 in
+    let rest : Pasted low high prot (pushed_part old (run_between low high prot run)) runs (pasted low high prot (pushed_part old (run_between low high prot run)) runs) =
+    pasted-is low high run.end prot (pushed_part old (run_between low high prot run)) runs one.maximal one.behind r.3 in
+    let e1 : end_of 16 (pushed_part old (run_between low high prot run)) ≤ max (end_of 16 old) high = one.end in
+    let e2 : end_of 16 (pasted low high prot (pushed_part old (run_between low high prot run)) runs) ≤ max (end_of 16 (pushed_part old (run_between low high prot run))) high = rest.end in
+    let l1 : length old ≤ length (pushed_part old (run_between low high prot run)) = one.longer in
+    let l2 : length (pushed_part old (run_between low high prot run)) ≤ length (pasted low high prot (pushed_part old (run_between low high prot run)) runs) = rest.longer in
     record {
       maximal = rest.maximal;
       end = omega arith;

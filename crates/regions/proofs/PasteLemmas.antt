@@ -2,7 +2,7 @@
 use Rattle.std.proofs.Common.{◌≡◌, ℕ, ◌+◌, ◌<◌, ◌≤◌, Bool, true, false, if◌then◌else◌, max, min, ltb, sym, ◌∙◌, ap, subst, arith, List, [], ◌∷◌, length, drop, get_or, drop-cons, add-one, Option, Some, None}
 use Rattle.vm_types.specs.declared.permission.Prot.{Prot}
 use Rattle.regions.specs.declared.run.Run.{Run}
-use Rattle.regions.specs.Run.{cut, part_of}
+use Rattle.regions.specs.Run.{cut, run_between}
 use Rattle.regions.specs.RunList.{end_of, IsMaximal, pushed, pushed_part, pasted}
 use Rattle.regions.proofs.ListLemmas.{end_of-pushed, length-pushed}
 
@@ -23,7 +23,7 @@ part_end low high prot run part true e =
     omega arith
 part_end low high prot run part false e = cc
 
-pub after_part : (low high : ℕ) (prot : Option Prot) (done : List Run) (run : Run) (rest : List Run) (part : Run) → part_of low high prot run ≡ Some part → Pending low done (run ∷ rest) → Pending low (pushed done part) rest
+pub after_part : (low high : ℕ) (prot : Option Prot) (done : List Run) (run : Run) (rest : List Run) (part : Run) → run_between low high prot run ≡ Some part → Pending low done (run ∷ rest) → Pending low (pushed done part) rest
 after_part low high prot done run rest part e p =
     let ends : end_of 16 (pushed done part) ≡ part.end = end_of-pushed 16 done part in
     let within : part.end ≤ run.end = part_end low high prot run part (ltb (max run.first low) (min run.end high)) e in
@@ -43,15 +43,15 @@ longer_part done (Some part) = length-pushed done part
 pub longer_pasted : (low high : ℕ) (prot : Option Prot) (done rest : List Run) → length done ≤ length (pasted low high prot done rest)
 longer_pasted low high prot done [] = omega arith
 longer_pasted low high prot done (run ∷ rest) =
-    let a : length done ≤ length (pushed_part done (part_of low high prot run)) = longer_part done (part_of low high prot run) in
-    let b : length (pushed_part done (part_of low high prot run)) ≤ length (pasted low high prot (pushed_part done (part_of low high prot run)) rest) =
-    longer_pasted low high prot (pushed_part done (part_of low high prot run)) rest in
+    let a : length done ≤ length (pushed_part done (run_between low high prot run)) = longer_part done (run_between low high prot run) in
+    let b : length (pushed_part done (run_between low high prot run)) ≤ length (pasted low high prot (pushed_part done (run_between low high prot run)) rest) =
+    longer_pasted low high prot (pushed_part done (run_between low high prot run)) rest in
     omega arith
 
 next_of : (runs : List Run) (i : ℕ) (d : Run) → i < length runs → drop i runs ≡ get_or runs i d ∷ drop (i + 1) runs
 next_of runs i d h = drop-cons runs i d h ∙ ap (λ (k : ℕ). get_or runs i d ∷ drop k runs) (sym (add-one i))
 
-module _ (low high : ℕ) (prot : Option Prot) (done runs : List Run) (i : ℕ) (d : Run) (h : i < length runs) (o : Option Run) (is : o ≡ part_of low high prot (get_or runs i d)) where
+module _ (low high : ℕ) (prot : Option Prot) (done runs : List Run) (i : ℕ) (d : Run) (h : i < length runs) (o : Option Run) (is : o ≡ run_between low high prot (get_or runs i d)) where
   pub pending_some : (part : Run) → o ≡ Some part → Pending low done (drop i runs) → Pending low (pushed done part) (drop (i + 1) runs)
   pending_some part e p =
       after_part low high prot done (get_or runs i d) (drop (i + 1) runs) part (sym is ∙ e) (subst (λ (l : List Run). Pending low done l) (next_of runs i d h) p)

@@ -2,7 +2,7 @@
 use Rattle.std.proofs.Common.{◌≡◌, ℕ, zero, suc, ◌-◌, ◌<◌, ◌≤◌, Bool, true, false, if◌then◌else◌, refl, sym, ◌∙◌, ap, subst, arith, List, [], ◌∷◌, length, take, set, get_or, true≢false}
 use Rattle.vm_types.specs.declared.region.Backing.TheVariants.{Anon}
 use Rattle.regions.specs.declared.run.Run.{Run}
-use Rattle.regions.specs.Run.{IsRun, joins, joined}
+use Rattle.regions.specs.Run.{IsRun, joins, merged}
 use Rattle.regions.specs.RunList.{IsMaximal, joins_last, pushed}
 
 pub joins_last-take : (runs : List Run) (k : ℕ) (d next : Run) → k < length runs → joins_last (take (suc k) runs) next ≡ joins (get_or runs k d) next
@@ -16,26 +16,26 @@ run_at from [] k d h m = absurd (omega arith)
 run_at from (run ∷ runs) zero d h m = m.1
 run_at from (run ∷ runs) (suc k) d h m = run_at run.end runs k d (omega arith) m.3
 
-pub joined_at : (runs : List Run) (k : ℕ) (d next : Run) → k < length runs → joins (get_or runs k d) next ≡ true → take (suc k) (set runs k (joined (get_or runs k d) next)) ≡ pushed (take (suc k) runs) next
-joined_at [] k d next h e = absurd (omega arith)
-joined_at (run ∷ runs) zero d next h e =
-    sym (ap (λ (b : Bool). if b then joined run next ∷ [] else run ∷ next ∷ []) e)
-joined_at (run ∷ []) (suc k) d next h e = absurd (omega arith)
-joined_at (run ∷ (other ∷ runs)) (suc k) d next h e =
-    ap (λ (l : List Run). run ∷ l) (joined_at (other ∷ runs) k d next (omega arith) e)
+pub merged_at : (runs : List Run) (k : ℕ) (d next : Run) → k < length runs → joins (get_or runs k d) next ≡ true → take (suc k) (set runs k (merged (get_or runs k d) next)) ≡ pushed (take (suc k) runs) next
+merged_at [] k d next h e = absurd (omega arith)
+merged_at (run ∷ runs) zero d next h e =
+    sym (ap (λ (b : Bool). if b then merged run next ∷ [] else run ∷ next ∷ []) e)
+merged_at (run ∷ []) (suc k) d next h e = absurd (omega arith)
+merged_at (run ∷ (other ∷ runs)) (suc k) d next h e =
+    ap (λ (l : List Run). run ∷ l) (merged_at (other ∷ runs) k d next (omega arith) e)
 
 pub added_at : (runs : List Run) (n : ℕ) (next : Run) → n < length runs → joins_last (take n runs) next ≡ false → take (suc n) (set runs n next) ≡ pushed (take n runs) next
 added_at [] n next h e = absurd (omega arith)
 added_at (run ∷ runs) zero next h e = refl
 added_at (run ∷ []) (suc n) next h e = absurd (omega arith)
 added_at (run ∷ (other ∷ runs)) (suc zero) next h e =
-    sym (ap (λ (b : Bool). if b then joined run next ∷ [] else run ∷ next ∷ []) e)
+    sym (ap (λ (b : Bool). if b then merged run next ∷ [] else run ∷ next ∷ []) e)
 added_at (run ∷ (other ∷ runs)) (suc (suc n)) next h e =
     ap (λ (l : List Run). run ∷ l) (added_at (other ∷ runs) (suc n) next (omega arith) e)
 
 pub length_added : (runs : List Run) (next : Run) → joins_last runs next ≡ false → length (pushed runs next) ≡ suc (length runs)
 length_added [] next e = refl
-length_added (run ∷ []) next e = ap (λ (b : Bool). length (if b then joined run next ∷ [] else run ∷ next ∷ [])) e
+length_added (run ∷ []) next e = ap (λ (b : Bool). length (if b then merged run next ∷ [] else run ∷ next ∷ [])) e
 length_added (run ∷ (other ∷ runs)) next e = ap suc (length_added (other ∷ runs) next e)
 
 -- the same at a length that isn't 0
@@ -51,10 +51,10 @@ pub last_run : (runs : List Run) (n : ℕ) (d : Run) → 0 < n → n ≤ length 
 last_run runs n d a b m =
     run_at 16 runs (n - 1) d (omega arith) (subst (λ (k : ℕ). IsMaximal 16 (take k runs)) (sym (less_one n a)) m)
 
-pub joined_last : (runs : List Run) (n : ℕ) (d next : Run) → 0 < n → n ≤ length runs → joins_last (take n runs) next ≡ true → take n (set runs (n - 1) (joined (get_or runs (n - 1) d) next)) ≡ pushed (take n runs) next
-joined_last runs n d next a b e =
+pub merged_last : (runs : List Run) (n : ℕ) (d next : Run) → 0 < n → n ≤ length runs → joins_last (take n runs) next ≡ true → take n (set runs (n - 1) (merged (get_or runs (n - 1) d) next)) ≡ pushed (take n runs) next
+merged_last runs n d next a b e =
     let e2 : joins (get_or runs (n - 1) d) next ≡ true = sym (joins_last-is runs n d next a b) ∙ e in
-    subst (λ (k : ℕ). take k (set runs (n - 1) (joined (get_or runs (n - 1) d) next)) ≡ pushed (take k runs) next) (less_one n a) (joined_at runs (n - 1) d next (omega arith) e2)
+    subst (λ (k : ℕ). take k (set runs (n - 1) (merged (get_or runs (n - 1) d) next)) ≡ pushed (take k runs) next) (less_one n a) (merged_at runs (n - 1) d next (omega arith) e2)
 
 pub some_last : (runs : List Run) (n : ℕ) (next : Run) → joins_last (take n runs) next ≡ true → 0 < n
 some_last runs zero next e = absurd (true≢false (sym e))

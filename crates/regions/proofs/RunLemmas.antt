@@ -1,4 +1,4 @@
--- One run: the pages of it, of two joined, and of a part.
+-- One run: the pages of it, of two merged, and of a part.
 use Rattle.std.proofs.Common.{◌≡◌, ℕ, ◌+◌, ◌-◌, ◌^◌, ◌<◌, ◌≤◌, ◌⊎◌, inl, inr, ⊎_elim, max, min, Bool, true, false, if◌then◌else◌, ◌==◌, ◌&&◌, leb, ltb, refl, sym, ◌∙◌, ap, subst, arith, Option, Some, None, option_map, eqb-true, le-leb, lt-ltb}
 use Rattle.std.proofs.lemmas.Bool.{and_parts}
 use Rattle.std.proofs.lemmas.Bool.Decides.{leb_tells, nat_tests}
@@ -6,9 +6,9 @@ use Rattle.vm_types.specs.declared.permission.Prot.{Prot}
 use Rattle.vm_types.specs.declared.region.Attr.{Attr}
 use Rattle.vm_types.specs.Attributes.{attr_after, backing_after, attr_eq, backing_fits}
 use Rattle.regions.specs.declared.run.Run.{Run}
-use Rattle.regions.specs.Run.{IsRun, attr_in, joins, joined, changed, cut}
+use Rattle.regions.specs.Run.{IsRun, attr_in, joins, merged, changed, cut}
 use Rattle.regions.specs.RunList.{or_else}
-use Rattle.regions.proofs.AttrLemmas.{attr_after-add, backing_fits-after, backing_fits-joined, backing_fits-less, attr_eq-true}
+use Rattle.regions.proofs.AttrLemmas.{attr_after-add, backing_fits-after, backing_fits-merged, backing_fits-less, attr_eq-true}
 
 -- where a page lies
 pub data Side (run : Run) (page : ℕ) : Type 0 where
@@ -76,8 +76,8 @@ joins-true run next e =
       goes_on = attr_eq-true (attr_after run.attr (run.end - run.first)) next.attr parts.1;
     }
 
-pub joined-run : (run next : Run) → IsRun run → IsRun next → Joins run next → IsRun (joined run next)
-joined-run run next r n j =
+pub merged-run : (run next : Run) → IsRun run → IsRun next → Joins run next → IsRun (merged run next)
+merged-run run next r n j =
     let t : run.end ≡ next.first = j.touches in
     let a : run.first < run.end = r.nonempty in
     let b : next.first < next.end = n.nonempty in
@@ -88,24 +88,24 @@ joined-run run next r n j =
       low = r.low;
       nonempty = omega arith;
       high = n.high;
-      file_pages = subst (λ (m : ℕ). backing_fits run.attr.backing m) split (backing_fits-joined run.attr.backing (run.end - run.first) (next.end - next.first) fits);
+      file_pages = subst (λ (m : ℕ). backing_fits run.attr.backing m) split (backing_fits-merged run.attr.backing (run.end - run.first) (next.end - next.first) fits);
     }
 
-after_joined : (run next : Run) (page : ℕ) → run.first < run.end → Joins run next → run.end ≤ page → attr_after next.attr (page - next.first) ≡ attr_after run.attr (page - run.first)
-after_joined run next page r j h =
+after_merged : (run next : Run) (page : ℕ) → run.first < run.end → Joins run next → run.end ≤ page → attr_after next.attr (page - next.first) ≡ attr_after run.attr (page - run.first)
+after_merged run next page r j h =
     let t : run.end ≡ next.first = j.touches in
     let d : (run.end - run.first) + (page - next.first) ≡ page - run.first = omega arith in
     ap (λ (a : Attr). attr_after a (page - next.first)) (sym j.goes_on) ∙ attr_after-add run.attr (run.end - run.first) (page - next.first) ∙ ap (λ (m : ℕ). attr_after run.attr m) d
 
-pub attr_in-joined : (run next : Run) (page : ℕ) → run.first < run.end → next.first < next.end → Joins run next → attr_in (joined run next) page ≡ or_else (attr_in next page) (attr_in run page)
-attr_in-joined run next page r n j =
+pub attr_in-merged : (run next : Run) (page : ℕ) → run.first < run.end → next.first < next.end → Joins run next → attr_in (merged run next) page ≡ or_else (attr_in next page) (attr_in run page)
+attr_in-merged run next page r n j =
     let t : run.end ≡ next.first = j.touches in
     elim (side run page) [
-      | below h ↦ rw (attr_in-below (joined run next) page h, attr_in-below next page (omega arith), attr_in-below run page h)
-      | inside l h ↦ rw (attr_in-inside (joined run next) page l (omega arith), attr_in-below next page (omega arith), attr_in-inside run page l h)
+      | below h ↦ rw (attr_in-below (merged run next) page h, attr_in-below next page (omega arith), attr_in-below run page h)
+      | inside l h ↦ rw (attr_in-inside (merged run next) page l (omega arith), attr_in-below next page (omega arith), attr_in-inside run page l h)
       | above h ↦ ⊎_elim
-          (λ (k : page < next.end). rw (attr_in-inside (joined run next) page (omega arith) k, attr_in-inside next page (omega arith) k, after_joined run next page r j h))
-          (λ (k : next.end ≤ page). rw (attr_in-above (joined run next) page k, attr_in-above next page k, attr_in-above run page h))
+          (λ (k : page < next.end). rw (attr_in-inside (merged run next) page (omega arith) k, attr_in-inside next page (omega arith) k, after_merged run next page r j h))
+          (λ (k : next.end ≤ page). rw (attr_in-above (merged run next) page k, attr_in-above next page k, attr_in-above run page h))
           (lt_or_le page next.end)
     ]
 

@@ -65,10 +65,10 @@ none_attr : (a : Attr) → None ≡ Some a → ⊥
 none_attr a e = cc
 
 -- where a run of the list ends, the next doesn't go on with it
-not_joined : (run : Run) (runs : List Run) (attr : Attr) → IsMaximal run.end runs → joins_first run runs ≡ false → attr_at runs run.end ≡ Some attr
+not_merged : (run : Run) (runs : List Run) (attr : Attr) → IsMaximal run.end runs → joins_first run runs ≡ false → attr_at runs run.end ≡ Some attr
     → attr_eq (attr_after run.attr (run.end - run.first)) attr ≡ false
-not_joined run [] attr rest apart there = absurd (none_attr attr there)
-not_joined run (next ∷ runs) attr rest apart there =
+not_merged run [] attr rest apart there = absurd (none_attr attr there)
+not_merged run (next ∷ runs) attr rest apart there =
     ⊎_elim
     (λ (behind : run.end < next.first). absurd (none_attr attr (sym (attr_at-before next.first (next ∷ runs) run.end (omega arith, rest.1, rest.2, rest.3) behind) ∙ there)))
     (λ (here : next.first ≤ run.end).
@@ -113,7 +113,7 @@ next_here page run runs r apart rest h =
           let long : attr_after (attr_after run.attr (max run.first page - run.first)) (min run.end (2 ^ 26) - max run.first page) ≡ attr_after run.attr (run.end - run.first) =
           attr_after-add run.attr (max run.first page - run.first) (min run.end (2 ^ 26) - max run.first page) ∙ ap (attr_after run.attr) count in
           let P : Attr → Type 0 = λ a. attr_eq a attr ≡ false in
-          subst P (sym long) (not_joined run runs attr rest apart at_end);
+          subst P (sym long) (not_merged run runs attr rest apart at_end);
     }
 
 next_later : (page : ℕ) (run : Run) (runs : List Run) (next : Option Run) → run.end ≤ page → IsNextOrNone (attr_at runs) page next → IsNextOrNone (attr_at (run ∷ runs)) page next

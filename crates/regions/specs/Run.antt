@@ -23,8 +23,8 @@ abbrev pub joins : Run → Run → Bool
 joins run next = (run.end == next.first) && attr_eq (attr_after run.attr (run.end - run.first)) next.attr
 
 -- the two as one
-abbrev pub joined : Run → Run → Run
-joined run next = record { first = run.first; end = next.end; attr = run.attr }
+abbrev pub merged : Run → Run → Run
+merged run next = record { first = run.first; end = next.end; attr = run.attr }
 
 -- with the permission, where one is given
 abbrev pub changed : Option Prot → Attr → Attr
@@ -36,8 +36,8 @@ cut prot run first end =
     record { first = first; end = end; attr = changed prot (attr_after run.attr (first - run.first)) }
 
 -- the part of the run between two pages
-abbrev pub part_of : ℕ → ℕ → Option Prot → Run → Option Run
-part_of low high prot run =
+abbrev pub run_between : ℕ → ℕ → Option Prot → Run → Option Run
+run_between low high prot run =
     if ltb (max run.first low) (min run.end high) then
     Some (cut prot run (max run.first low) (min run.end high))
     else

@@ -5,7 +5,7 @@ use Rattle.vm_types.specs.declared.permission.Prot.{Prot}
 use Rattle.vm_types.specs.declared.region.Attr.{Attr}
 use Rattle.vm_types.specs.Attributes.{attr_after, attr_eq}
 use Rattle.regions.specs.declared.run.Run.{Run}
-use Rattle.regions.specs.Run.{IsRun, attr_in, joins, joined, part_of}
+use Rattle.regions.specs.Run.{IsRun, attr_in, joins, merged, run_between}
 
 -- the first where it is there, else the second
 abbrev pub or_else : Option Attr → Option Attr → Option Attr
@@ -53,7 +53,7 @@ joins_last (run ∷ (other ∷ runs)) next = joins_last (other ∷ runs) next
 -- a run put behind the others, one with the last where it goes on with that
 abbrev pub pushed : List Run → Run → List Run
 pushed [] next = next ∷ []
-pushed (run ∷ []) next = if joins run next then joined run next ∷ [] else run ∷ next ∷ []
+pushed (run ∷ []) next = if joins run next then merged run next ∷ [] else run ∷ next ∷ []
 pushed (run ∷ (other ∷ runs)) next = run ∷ pushed (other ∷ runs) next
 
 abbrev pub pushed_part : List Run → Option Run → List Run
@@ -63,7 +63,7 @@ pushed_part runs (Some next) = pushed runs next
 -- the parts of the second list between two pages put behind the first, with the permission where one is given
 abbrev pub pasted : ℕ → ℕ → Option Prot → List Run → List Run → List Run
 pasted low high prot runs [] = runs
-pasted low high prot runs (next ∷ others) = pasted low high prot (pushed_part runs (part_of low high prot next)) others
+pasted low high prot runs (next ∷ others) = pasted low high prot (pushed_part runs (run_between low high prot next)) others
 
 -- the list without the pages from first up to, not including, end
 abbrev pub list_removed : List Run → ℕ → ℕ → List Run

@@ -2,7 +2,7 @@
 use Rattle.std.specs.Prelude.{ℕ, ◌+◌, ◌^◌, Bool, true, leb, ltb, max, not, ◌&&◌, if◌then◌else◌, List, [], ◌∷◌, Option, Some, None}
 use Rattle.vm_types.specs.Limits.{user_end}
 use Rattle.regions.specs.declared.run.Run.{Run}
-use Rattle.regions.specs.Run.{part_of}
+use Rattle.regions.specs.Run.{run_between}
 
 -- the runs from the first one on that ends behind the page
 abbrev pub runs_behind : ℕ → List Run → List Run
@@ -31,4 +31,4 @@ run_or (Some run) other = Some run
 -- the part from the page on of the first run that has one
 abbrev pub first_part : ℕ → List Run → Option Run
 first_part page [] = None
-first_part page (run ∷ runs) = run_or (part_of page user_end None run) (first_part page runs)
+first_part page (run ∷ runs) = run_or (run_between page user_end None run) (first_part page runs)

@@ -14,7 +14,7 @@ pub struct Run {
 }
 
 impl Run {
-    ghost use Rattle.regions.specs.Run.{IsRun, part_of, joins, attr_in};
+    ghost use Rattle.regions.specs.Run.{IsRun, run_between, joins, attr_in};
 
     /// What the page is; `None` where it isn't of this run.
     pub(crate) fn at(&self, page: u64) -> Option<Attr>
@@ -39,7 +39,7 @@ impl Run {
     /// The part between `low` and `high`, with the permission `prot` where one is given; `None` where that is empty.
     pub(crate) fn part(&self, low: u64, high: u64, prot: Option<Prot>) -> Option<Run>
         requires { IsRun self.now }
-        ensures { result ≡ part_of low high prot self.now }
+        ensures { result ≡ run_between low high prot self.now }
     {
         let first = self.first.max(low);
         let end = self.end.min(high);

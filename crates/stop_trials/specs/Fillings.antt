@@ -1,9 +1,10 @@
 -- What a stop leaves in the sectors that were not synced.
 use Rattle.std.specs.Prelude.{ℕ, List, ◌++◌, take, replicate, false, if◌then◌else◌, slice_index_or}
+use Rattle.disk_model.specs.Sectors.{sector_bytes}
 use Rattle.disk_model.specs.Stop.{Image}
 use Rattle.disk_model.specs.SimDisk.{sector_of, last_synced}
 use Rattle.disk_model.specs.declared.sim_disk.SimDisk.{SimDisk}
-use Rattle.sync_journal.specs.Gate.{open_sector}
+use Rattle.sync_journal.specs.Gate.{open_sector, closed_sector}
 use Rattle.stop_trials.specs.declared.fillings.Filling.{Filling}
 use Rattle.stop_trials.specs.declared.fillings.Filling.TheVariants.{Old, Zeros, Ones, HalfOpen, Open}
 
@@ -14,8 +15,8 @@ half_open_sector = take 256 open_sector ++ replicate 256 0
 -- what a sector holds then that held these bytes when it was last synced
 abbrev pub filled : Filling → List ℕ → List ℕ
 filled Old old = old
-filled Zeros old = replicate 512 0
-filled Ones old = replicate 512 255
+filled Zeros old = closed_sector
+filled Ones old = replicate sector_bytes 255
 filled HalfOpen old = half_open_sector
 filled Open old = open_sector
 

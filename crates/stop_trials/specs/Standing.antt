@@ -5,7 +5,7 @@ use Rattle.std.specs.Option.{option_map, unwrap_or}
 use Rattle.std.specs.declared.alloc.Global.{Global}
 use Rattle.std.specs.declared.vec.Vec.{Vec}
 use Rattle.disk_model.specs.Stop.{Image}
-use Rattle.sync_journal.specs.Standing.{joined}
+use Rattle.disk_model.specs.Sectors.{joined}
 use Rattle.file_store.specs.Standing.{standing_file}
 
 -- the bytes of file f as they stand, none where there is no such file

@@ -4,6 +4,7 @@
 -- and D are kept by software, so a clear A, and a clear D at a store, is a page fault; A, D and U of a pointer aren't
 -- looked at. The specification doesn't part its page faults by reasons: names and order of the reasons are our own.
 use Rattle.std.specs.Prelude.{ℕ, zero, suc, ◌+◌, ◌-◌, ◌*◌, ◌/◌, ◌%◌, ◌^◌, Bool, true, false, ◌&&◌, ◌||◌, not, ◌==◌, nat_lt, nat_le, if◌then◌else◌, Result, Ok, Err}
+use Rattle.vm_types.specs.Limits.{table_entries}
 use Rattle.vm_types.specs.declared.access.Access.{Access}
 use Rattle.vm_types.specs.declared.access.Access.TheVariants.{Load, Store, Fetch}
 use Rattle.vm_types.specs.declared.number.Phys.{Phys}
@@ -18,7 +19,7 @@ page_of addr = addr / 4096
 
 -- the field VPN[level] of a page's number: its place in the table of that level
 unfoldable pub index_of : ℕ → ℕ → ℕ
-index_of page level = page / 512 ^ level % 512
+index_of page level = page / table_entries ^ level % table_entries
 
 -- the bits of an address above its highest field all equal that field's highest bit, so they are all 0 or all 1
 unfoldable pub is_canonical : ℕ → ℕ → Bool
@@ -38,7 +39,7 @@ last_of t page (suc level) table =
 
 -- the frame of a page in a leaf of that level: the physical page number with its low bits replaced by the page's own
 unfoldable pub frame_in : ℕ → ℕ → ℕ → ℕ
-frame_in level e page = frame_of e / 512 ^ level * 512 ^ level + page % 512 ^ level
+frame_in level e page = frame_of e / table_entries ^ level * table_entries ^ level + page % table_entries ^ level
 
 abbrev pub is_store : Access → Bool
 is_store Load = false
@@ -51,7 +52,7 @@ answer_of count addr access level e =
     if not (is_valid e) then Err Invalid
     else if is_reserved e then Err Reserved
     else if not (is_leaf e) then Err (if level == 0 then TooDeep else Outside)
-    else if not (frame_of e % 512 ^ level == 0) then Err Misaligned
+    else if not (frame_of e % table_entries ^ level == 0) then Err Misaligned
     else if not (is_user e) || not (grants access e) then Err Denied
     else if not (is_accessed e) then Err NotAccessed
     else if is_store access && not (is_dirty e) then Err NotDirty

@@ -9,7 +9,7 @@ pub use pte::{Pte, read_entry};
 pub use translation::{WalkFault, next_table, table_index, walk};
 
 /// Entries of a table.
-pub const ENTRIES: usize = 512;
+pub const TABLE_ENTRIES: u64 = 512;
 
 /// The level at which a walk of Sv39 starts. Levels count down to 0, that of pages of 4,096 bytes.
 pub const TOP_LEVEL: u32 = 2;

@@ -1,5 +1,6 @@
 //! An entry of a page table, by its named bits.
 ghost use Rattle.std.specs.Prelude.{◌≡◌, ◌<◌, ◌+◌, ◌^◌, ◌==◌, true};
+ghost use Rattle.vm_types.specs.Limits.{table_entries};
 ghost use Rattle.frames.specs.FrameTable.{IsFrame};
 ghost use Rattle.sv39_walk.specs.Entry.{entry_at, pointer_to, is_pointer, frame_of};
 
@@ -198,7 +199,7 @@ impl Pte {
 #[tactic(auto, unfolding(crate::specs::Entry::entry_at))]
 pub fn read_entry(frames: &Frames, table: FrameNo, index: usize) -> Pte
     requires inside { IsFrame frames.now table.0 }
-    requires below { index < 512 }
+    requires below { index < table_entries }
     ensures { result.0 ≡ entry_at frames.now table.0 index }
 {
     Pte::from_u64(LittleEndian::read_u64(&frames.bytes(table)[8 * index..]))

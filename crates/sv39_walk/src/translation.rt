@@ -1,12 +1,12 @@
 //! The walk from a root through tables to a physical address, or to the reason why there is none.
 ghost use Rattle.std.specs.Prelude.{◌≡◌, ◌<◌, ◌≤◌, ◌^◌, true, false, MatchOption};
-ghost use Rattle.vm_types.specs.Limits.{top_level};
+ghost use Rattle.vm_types.specs.Limits.{top_level, table_entries};
 ghost use Rattle.sv39_walk.specs.Entry.{frame_of};
 ghost use Rattle.frames.specs.FrameTable.{IsFrame, frame_count};
 ghost use Rattle.sv39_walk.specs.Walk.{translated, is_canonical, last_of, answer_of, index_of, leads_on};
 
-use crate::TOP_LEVEL;
 use crate::pte::{Pte, read_entry};
+use crate::{TABLE_ENTRIES, TOP_LEVEL};
 use frames::Frames;
 use thiserror::Error;
 use vm_types::{Access, FrameNo, Phys};
@@ -108,21 +108,21 @@ pub fn next_table(frames: &Frames, entry: Pte) -> Option<FrameNo>
 pub fn table_index(page: u64, level: u32) -> usize
     requires { level ≤ 2 }
     ensures index { result ≡ index_of page level }
-    ensures range { result < 512 }
+    ensures range { result < table_entries }
 {
-    (page / leaf_pages(level) % 512) as usize
+    (page / leaf_pages(level) % TABLE_ENTRIES) as usize
 }
 
 // How many pages a leaf of that level covers.
 fn leaf_pages(level: u32) -> u64
     requires { level ≤ 2 }
-    ensures pages { result ≡ 512 ^ level }
+    ensures pages { result ≡ table_entries ^ level }
     ensures positive { 0 < result }
 {
     match level {
         0 => 1,
-        1 => 512,
-        _ => 512 * 512,
+        1 => TABLE_ENTRIES,
+        _ => TABLE_ENTRIES * TABLE_ENTRIES,
     }
 }
 

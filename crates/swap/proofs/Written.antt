@@ -1,30 +1,12 @@
 -- What a device holds where pages were written.
-use Rattle.std.proofs.Common.{◌≡◌, ◌≢◌, ℕ, zero, suc, inl, inr, ◌+◌, ◌*◌, ◌<◌, ◌≤◌, List, [], ◌∷◌, ◌++◌, Option, Some, None, length, get_or, take, refl, sym, ap, subst, ◌∙◌, arith, eq-eqb, ne_eqb}
+use Rattle.std.proofs.Common.{◌≡◌, ◌≢◌, ℕ, inl, inr, ◌+◌, ◌*◌, ◌<◌, ◌≤◌, List, [], ◌∷◌, Option, Some, None, length, get_or, refl, sym, ap, subst, ◌∙◌, arith, eq-eqb, ne_eqb}
 use Rattle.std.proofs.lemmas.Bool.{cases_eq}
-use Rattle.std.proofs.lemmas.List.{take_all}
-use Rattle.std.proofs.Math.Seq.{take-add}
 use Rattle.disk_model.specs.Note.{Note}
-use Rattle.disk_model.specs.Stop.{Image, ChangesPage, part_of}
+use Rattle.disk_model.specs.Stop.{Image, ChangesPage}
+use Rattle.disk_model.specs.Sectors.{part_of}
+use Rattle.disk_model.proofs.Pieces.{joined-same, joined_parts}
 use Rattle.disk_model.specs.declared.sector_disk.SectorDisk.{Ghosts}
-use Rattle.swap.specs.Written.{joined, page_of_rows, written_in, page_at, IsAsWritten}
-
-pub joined-same : (n : ℕ) (xs ys : ℕ → List ℕ) → ((i : ℕ) → i < n → xs i ≡ ys i) → joined xs n ≡ joined ys n
-unfolding joined
-joined-same zero xs ys same = refl
-joined-same (suc n) xs ys same =
-    ap (λ (s : List ℕ). s ++ xs n) (joined-same n xs ys (λ i lt. same i (omega (arith, lt)))) ∙ ap (λ (s : List ℕ). joined ys n ++ s) (same n (omega arith))
-
-parts_joined : (page : List ℕ) (n : ℕ) → joined (part_of page) n ≡ take (512 * n) page
-unfolding joined
-parts_joined page zero = refl
-parts_joined page (suc n) =
-    ap (λ (s : List ℕ). s ++ part_of page n) (parts_joined page n)
-    ∙ sym (take-add (512 * n) 512 page)
-    ∙ (let e : 512 * n + 512 ≡ 512 * suc n = omega arith in ap (λ (m : ℕ). take m page) e)
-
--- a page is its eight sectors
-pub joined_parts : (page : List ℕ) → length page ≡ 4096 → joined (part_of page) 8 ≡ page
-joined_parts page size = parts_joined page 8 ∙ take_all 4096 page (omega (arith, size))
+use Rattle.swap.specs.Written.{page_of_rows, written_in, page_at, IsAsWritten}
 
 pub rows_make : (rows : List (List ℕ)) (page : List ℕ) → length rows ≡ 8 → length page ≡ 4096
     → ((i : ℕ) → i < 8 → get_or rows i [] ≡ part_of page i) → page_of_rows rows ≡ Some page

@@ -1,13 +1,9 @@
 -- What was written to the pages of a device, told from notes of it, the newest first.
-use Rattle.std.specs.Prelude.{◌≡◌, ℕ, zero, suc, ◌++◌, ◌+◌, ◌*◌, ◌==◌, if◌then◌else◌, List, [], ◌∷◌, Option, Some, None, slice_index, slice_index_or}
+use Rattle.std.specs.Prelude.{◌≡◌, ℕ, ◌+◌, ◌*◌, ◌==◌, if◌then◌else◌, List, [], ◌∷◌, Option, Some, None, slice_index, slice_index_or}
 use Rattle.disk_model.specs.Note.{Note}
+use Rattle.disk_model.specs.Sectors.{joined}
 use Rattle.disk_model.specs.Stop.{Image}
 use Rattle.disk_model.specs.declared.sector_disk.SectorDisk.{Ghosts}
-
--- the bytes of the first n sectors, one after another
-unfoldable pub joined : (ℕ → List ℕ) → ℕ → List ℕ
-joined sectors zero = []
-joined sectors (suc n) = joined sectors n ++ sectors n
 
 -- a page of these eight sectors, unknown where there are none
 abbrev pub page_of_rows : List (List ℕ) → Option (List ℕ)

@@ -4,7 +4,8 @@ use Rattle.std.proofs.lemmas.Bool.{cases_eq}
 use Rattle.disk_model.specs.Stop.{Image}
 use Rattle.sync_journal.specs.Gate.{is_open}
 use Rattle.sync_journal.specs.Map.{AreHomes, place_of}
-use Rattle.sync_journal.specs.Standing.{IsBadJournal, sector_of}
+use Rattle.sync_journal.specs.Standing.{IsBadJournal}
+use Rattle.disk_model.specs.Sectors.{part_of}
 use Rattle.sync_journal.specs.Commit.{sector_or, changed}
 use Rattle.sync_journal.proofs.Copies.{distinct_homes}
 use Rattle.sync_journal.proofs.Images.{Means, place_means}
@@ -21,13 +22,13 @@ changed_other before homes pages h i other = at (place_of homes h) (place_means 
 
 -- the home at place j holds page j
 pub changed_at : (count : ℕ) (before : ℕ → ℕ → List ℕ) (homes : List ℕ) (pages : ℕ → List ℕ) (j i : ℕ) → AreHomes count homes → j < length homes
-    → changed before homes pages (get_or homes j 0) i ≡ sector_of (pages j) i
+    → changed before homes pages (get_or homes j 0) i ≡ part_of (pages j) i
 unfolding changed
 changed_at count before homes pages j i are below = at (place_of homes (get_or homes j 0)) (place_means (λ k. get_or homes k 0) (get_or homes j 0) (length homes))
   where
-    at : (o : Option ℕ) → Means (λ k. get_or homes k 0) (get_or homes j 0) (length homes) o → sector_or pages (before (get_or homes j 0) i) i o ≡ sector_of (pages j) i
+    at : (o : Option ℕ) → Means (λ k. get_or homes k 0) (get_or homes j 0) (length homes) o → sector_or pages (before (get_or homes j 0) i) i o ≡ part_of (pages j) i
     at None none = absurd (none j below refl)
-    at (Some k) found = ⊎_elim (λ same. ap (λ n. sector_of (pages n) i) same)
+    at (Some k) found = ⊎_elim (λ same. ap (λ n. part_of (pages n) i) same)
         (λ other. absurd (distinct_homes count homes k j are found.0 below other found.1)) (cases_eq k j)
 
 -- the journal behind a closed gate isn't bad

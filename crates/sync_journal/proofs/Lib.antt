@@ -4,7 +4,6 @@ pub mod Gates
 pub mod Images
 pub mod Maps
 pub mod Phases
-pub mod Pieces
 pub mod Recoveries
 pub mod Stops
 pub mod Replays

@@ -2,8 +2,9 @@
 use Rattle.std.proofs.Common.{◌≡◌, ◌<◌, ◌+◌, ℕ, List, [], ◌∷◌, length, take, get_or, sym, ap, subst, ◌∙◌, arith}
 use Rattle.disk_model.specs.declared.sector_disk.SectorDisk.{Ghosts}
 use Rattle.sync_journal.specs.Map.{place_of}
-use Rattle.sync_journal.specs.Standing.{standing, place_or_home, joined}
-use Rattle.sync_journal.proofs.Pieces.{joined-same}
+use Rattle.sync_journal.specs.Standing.{standing, place_or_home}
+use Rattle.disk_model.specs.Sectors.{joined}
+use Rattle.disk_model.proofs.Pieces.{joined-same}
 use Rattle.sync_journal.proofs.Images.{no_place, standing_closed, standing_open}
 use Rattle.sync_journal.specs.Commit.{IsQuiet, IsLive, IsAtRest}
 use Rattle.sync_journal.specs.Journal.{live_homes}

@@ -7,12 +7,13 @@ use Rattle.disk_model.specs.declared.sector_disk.SectorDisk.{Ghosts}
 use Rattle.sync_journal.specs.Layout.{IsJournalSector, IsOutside}
 use Rattle.sync_journal.specs.Gate.{is_open}
 use Rattle.sync_journal.specs.Map.{place_of}
-use Rattle.sync_journal.specs.Standing.{standing, StandsFor, IsOpenFor, IsBadJournal, sector_of}
+use Rattle.sync_journal.specs.Standing.{standing, StandsFor, IsOpenFor, IsBadJournal}
+use Rattle.disk_model.specs.Sectors.{part_of}
 
 -- sector i of a page: of page j where there is a place j, otherwise the old one
 abbrev pub sector_or : (ℕ → List ℕ) → List ℕ → ℕ → Option ℕ → List ℕ
 sector_or pages old i None = old
-sector_or pages old i (Some j) = sector_of (pages j) i
+sector_or pages old i (Some j) = part_of (pages j) i
 
 -- the pages of before, but that the home at place j of the list holds page j
 unfoldable pub changed : (ℕ → ℕ → List ℕ) → List ℕ → (ℕ → List ℕ) → ℕ → ℕ → List ℕ

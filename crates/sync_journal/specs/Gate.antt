@@ -1,6 +1,7 @@
 -- The gate of the journal. The format is our own.
 use Rattle.std.specs.Prelude.{ℕ, zero, suc, Bool, List, [], ◌∷◌, ◌++◌, replicate, if◌then◌else◌}
 use Rattle.std.specs.Str.{bytes_eq}
+use Rattle.disk_model.specs.Sectors.{sector_bytes}
 use Rattle.disk_model.specs.Stop.{Image}
 use Rattle.sync_journal.specs.Layout.{gate_sector}
 
@@ -15,7 +16,7 @@ open_sector = repeated 64 (71 ∷ 65 ∷ 84 ∷ 69 ∷ 79 ∷ 80 ∷ 69 ∷ 78 �
 
 -- a closed gate as it is written: zeros
 abbrev pub closed_sector : List ℕ
-closed_sector = replicate 512 0
+closed_sector = replicate sector_bytes 0
 
 -- every content of the sector but that of an open gate is a closed one
 unfoldable pub is_open_sector : List ℕ → Bool

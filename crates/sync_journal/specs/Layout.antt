@@ -1,4 +1,4 @@
--- Where the parts of a store lie, in sectors of 512 bytes. The format is our own.
+-- Where the parts of a store lie, in sectors. The format is our own.
 -- What it has to keep is failure-atomic msync (Park, Kelly and Shen, "Failure-Atomic msync()", EuroSys 2013).
 use Rattle.std.specs.Prelude.{ℕ, ◌+◌, ◌-◌, ◌*◌, ◌/◌, ◌^◌, ◌<◌, ◌≤◌, ◌⊎◌, ◌≡◌, List, length, slice_index, min}
 

@@ -1,5 +1,6 @@
 -- What an image stands for: its home pages, but for those that an open journal holds. The format is our own.
-use Rattle.std.specs.Prelude.{ℕ, zero, suc, ◌+◌, ◌*◌, ◌<◌, ◌≡◌, Bool, true, List, [], ◌++◌, length, slice_index, Option, Some, None, if◌then◌else◌, take, drop}
+use Rattle.std.specs.Prelude.{ℕ, ◌+◌, ◌<◌, ◌≡◌, Bool, true, List, length, slice_index, Option, Some, None, if◌then◌else◌}
+use Rattle.disk_model.specs.Sectors.{part_of}
 use Rattle.disk_model.specs.Stop.{Image}
 use Rattle.sync_journal.specs.Layout.{map_sector, body_sector, home_sector, home_count}
 use Rattle.sync_journal.specs.Gate.{is_open}
@@ -26,11 +27,6 @@ standing_at image h = standing_under (is_open image) (map_of image) h
 abbrev pub standing : Image → ℕ → ℕ → List ℕ
 standing image h i = image (standing_at image h + i)
 
--- the first n pieces, one after another
-unfoldable pub joined : (ℕ → List ℕ) → ℕ → List ℕ
-joined pieces zero = []
-joined pieces (suc n) = joined pieces n ++ pieces n
-
 -- The image stands for these pages, of eight sectors each.
 pub record StandsFor (pages : ℕ → ℕ → List ℕ) (image : Image) : Type 0 where
   pub each : (h i : ℕ) → i < 8 → standing image h i ≡ pages h i
@@ -46,14 +42,10 @@ pub record IsOpenFor (homes : List ℕ) (image : Image) : Type 0 where
   pub count : count_in (map_of image) ≡ length homes
   pub each : (j : ℕ) → j < length homes → home_in (map_of image) j ≡ slice_index homes j
 
--- sector i of a page of 4,096 bytes
-abbrev pub sector_of : List ℕ → ℕ → List ℕ
-sector_of page i = take 512 (drop (512 * i) page)
-
 -- The first n homes hold what the body held.
 abbrev pub AreCopied : List ℕ → ℕ → Image → Image → Type 0
 AreCopied homes n old new = (j i : ℕ) → j < n → i < 8 → new (home_sector (slice_index homes j) + i) ≡ old (body_sector j + i)
 
 -- The body holds the first n of these pages.
 abbrev pub HoldsPages : ℕ → (ℕ → List ℕ) → Image → Type 0
-HoldsPages n pages image = (j i : ℕ) → j < n → i < 8 → image (body_sector j + i) ≡ sector_of (pages j) i
+HoldsPages n pages image = (j i : ℕ) → j < n → i < 8 → image (body_sector j + i) ≡ part_of (pages j) i

@@ -2,6 +2,7 @@
 ghost use Rattle.std.specs.Prelude.{◌≡◌, ◌<◌, ◌≤◌, ◌⊎◌, ◌+◌, ◌*◌, ◌++◌, ℕ, length, take, drop, slice_index, MatchOption};
 ghost use Rattle.std.specs.Bool.{OnTrue, OnFalse};
 ghost use Rattle.std.specs.List.{flat_map};
+ghost use Rattle.disk_model.specs.Sectors.{sector_bytes};
 ghost use Rattle.sync_journal.specs.Layout.{page_limit};
 ghost use Rattle.byteorder.specs.Endian.{little_bytes};
 ghost use Rattle.sync_journal.specs.Map.{AreHomes, HasNoHome, HasHomeTwice, IsBadMap, map_bytes, count_in, home_in};
@@ -22,7 +23,7 @@ pub(crate) fn map_sector(homes: &[u32]) -> [u8; 512]
 // Writes the count and the homes over the front of a map.
 fn write_map(map: &mut [u8], homes: &[u32])
     requires few { length homes.now ≤ page_limit }
-    requires room { length map.old ≡ 512 }
+    requires room { length map.old ≡ sector_bytes }
     ensures { map.new ≡ (little_bytes 4 (length homes.now) ++ flat_map (little_bytes 4) homes.now) ++ drop (4 + 4 * length homes.now) map.old }
 {
     LittleEndian::write_u32(map, homes.len() as u32);
@@ -54,7 +55,7 @@ pub(crate) fn read_homes(
 // Fills `homes` with the first numbers behind the count.
 fn read_numbers(map: &[u8], homes: &mut [u32])
     requires few { length homes.old ≤ page_limit }
-    requires room { length map.now ≡ 512 }
+    requires room { length map.now ≡ sector_bytes }
     ensures { (j : ℕ) → j < length homes.new → slice_index homes.new j ≡ home_in map.now j }
 {
     LittleEndian::read_u32_into(&map[4..4 + 4 * homes.len()], homes);

@@ -4,7 +4,7 @@ ghost use Rattle.disk_model.specs.Stop.{HasCause};
 ghost use Rattle.disk_model.specs.Moments.{Touches, Nothing};
 ghost use Rattle.sync_journal.specs.Layout.{IsPageSector};
 ghost use Rattle.sync_journal.specs.Runs.{Runs};
-ghost use Rattle.sync_journal.specs.Standing.{sector_of, joined};
+ghost use Rattle.disk_model.specs.Sectors.{part_of, joined};
 
 use disk_model::{DiskFault, SectorDisk};
 
@@ -23,7 +23,7 @@ pub fn write_page<D: SectorDisk>(
     ensures run { Runs D.SectorDisk (IsPageSector first) disk.old disk.new }
     ensures failed { IsErr result → D.failures disk.old < D.failures disk.new }
     ensures calm { OnOk result (D.failures disk.new ≡ D.failures disk.old) }
-    ensures written { D.keeps_model disk.new → OnOk result ((i : ℕ) → i < 8 → D.content disk.new (first + i) ≡ sector_of page.now i) }
+    ensures written { D.keeps_model disk.new → OnOk result ((i : ℕ) → i < 8 → D.content disk.new (first + i) ≡ part_of page.now i) }
 {
     disk.write_page(first, page)
 }

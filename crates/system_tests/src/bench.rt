@@ -39,13 +39,13 @@ pub(crate) fn image(alloc: Global, length: u32) -> Result<SimDisk, Fail> {
     Ok(disk)
 }
 
-/// An image of one file of one page.
-fn image_of(alloc: Global, read_only: bool, page: &[u8; 4096]) -> Result<SimDisk, Fail> {
+/// An image of one file of one page of the letter A, which may only be read.
+pub(crate) fn image_of_letters(alloc: Global) -> Result<SimDisk, Fail> {
     let mut disk = SimDisk::new(alloc, 1028)?;
     let mut files: [FileSource<&[u8]>; 1] = [FileSource {
-        read_only,
+        read_only: true,
         length: 4096,
-        bytes: Some(page),
+        bytes: Some(&[0x41; 4096]),
     }];
     format(&mut disk, &mut files)?;
     Ok(disk)
@@ -283,11 +283,6 @@ pub(crate) fn expect_over_zeros(
     exchange: (&[u8], &[u8]),
 ) -> Result<(), Fail> {
     expect_in(alloc, length, Armed::Nothing, CONFIG, exchange)
-}
-
-/// Sees the same over a file of one page of the letter A, which may only be read.
-pub(crate) fn expect_over_letters(alloc: Global, exchange: (&[u8], &[u8])) -> Result<(), Fail> {
-    expect(alloc, &image_of(alloc, true, &[0x41; 4096])?, exchange)
 }
 
 /// How a run of that reader and that writer ends on a machine of 64 frames over a file of one page of zeros.

@@ -8,23 +8,72 @@ use machine::Config;
 use std::alloc::Global;
 use std::test::Fail;
 
+/// How many frames and slots there are, a trace, and its replies, over a file of eight pages.
+const ROWS: [(Config, (&[u8], &[u8])); 4] = [
+    // Without a slot no page of a process's own can be given up: the fifth store stalls.
+    (
+        Config {
+            frames: 8,
+            slots: 0,
+        },
+        (
+            b"spawn\nmmap 1 0 0x10000 rw- anon\nstore 1 0x10000 1 0x1\nstore 1 0x11000 1 0x2\n\
+store 1 0x12000 1 0x3\nstore 1 0x13000 1 0x4\nstore 1 0x14000 1 0x5\nload 1 0x10000 1\nload 1 0x14000 1\n",
+            b"pid 1\naddr 0x10000\nok\nok\nok\nok\nstall 2 NOSWAP\nvalue 0x01\nvalue 0x00\n",
+        ),
+    ),
+    // Two processes share pages of their own that went to swap, until one stores to them.
+    (
+        Config {
+            frames: 10,
+            slots: 16,
+        },
+        (
+            b"spawn\nmmap 1 0 0x6000 rw- anon\nstore 1 0x10000 1 0x11\nfork 1\nstore 1 0x11000 1 0x21\n\
+store 1 0x12000 1 0x21\nstore 1 0x13000 1 0x21\nstore 1 0x14000 1 0x21\nstore 1 0x15000 1 0x21\n\
+store 2 0x10001 1 0x22\nload 1 0x10000 2\nload 2 0x10000 2\n",
+            b"pid 1\naddr 0x10000\nok\npid 2\nok\nok\nok\nok\nok\nok\nvalue 0x0011\nvalue 0x2211\n",
+        ),
+    ),
+    // The zero page, six tables and two pages: a fork and a store of the child, and there are two slots for two pages.
+    (
+        Config {
+            frames: 9,
+            slots: 2,
+        },
+        (
+            b"spawn\nmmap 1 0 4096 rw- anon\nstore 1 0x10000 1 1\nfork 1\nstore 2 0x10000 1 2\n\
+load 1 0x10000 1\nload 2 0x10000 1\n",
+            b"pid 1\naddr 0x10000\nok\npid 2\nok\nvalue 0x01\nvalue 0x02\n",
+        ),
+    ),
+    // Four frames and three slots have room for seven touched pages.
+    (
+        Config {
+            frames: 8,
+            slots: 3,
+        },
+        (
+            b"spawn\nmmap 1 0 0x8000 rw- shared 0 0\nstore 1 0x10000 1 1\nstore 1 0x11000 1 2\n\
+store 1 0x12000 1 3\nstore 1 0x13000 1 4\nstore 1 0x14000 1 5\nstore 1 0x15000 1 6\n\
+store 1 0x16000 1 7\nstore 1 0x17000 1 8\nmsync 1 0x10000 0x8000 sync\nstore 1 0x17000 1 8\n",
+            b"pid 1\naddr 0x10000\nok\nok\nok\nok\nok\nok\nok\nstall 2 NOSWAP\nok\nok\n",
+        ),
+    ),
+];
+
+#[test]
+fn pages_wait_for_frames_and_slots(rt: HostRuntime) -> Result<(), Fail> {
+    for (config, exchange) in ROWS {
+        expect_in(rt.alloc(), 0x8000, Armed::Nothing, config, exchange)?;
+    }
+    Ok(())
+}
+
 #[test]
 fn sixteen_pages_come_back_to_four_frames(rt: HostRuntime) -> Result<(), Fail> {
     let (writes, _) = asked_in(rt.alloc(), 4096, Armed::Nothing, SMALL, FORTY_LINES)?;
     same("writes", writes, 0)
-}
-
-/// Without a slot no page of a process's own can be given up: the fifth store stalls.
-#[test]
-fn four_pages_have_room_without_swap(rt: HostRuntime) -> Result<(), Fail> {
-    let config = Config {
-        frames: 8,
-        slots: 0,
-    };
-    let trace = b"spawn\nmmap 1 0 0x10000 rw- anon\nstore 1 0x10000 1 0x1\nstore 1 0x11000 1 0x2\n\
-store 1 0x12000 1 0x3\nstore 1 0x13000 1 0x4\nstore 1 0x14000 1 0x5\nload 1 0x10000 1\nload 1 0x14000 1\n";
-    let wanted = b"pid 1\naddr 0x10000\nok\nok\nok\nok\nstall 2 NOSWAP\nvalue 0x01\nvalue 0x00\n";
-    expect_in(rt.alloc(), 4096, Armed::Nothing, config, (trace, wanted))
 }
 
 /// The first write of the swap device fails: the store that it was for stalls, and its page shows zeros later on. No other
@@ -62,35 +111,6 @@ fn a_failed_write_of_swap_stalls_one_store(rt: HostRuntime) -> Result<(), Fail> 
     let exchange = one_write_lost(rt.alloc())?;
     let armed = Armed::SwapFailsAtCall(1);
     expect_in(rt.alloc(), 4096, armed, SMALL, exchange.parts())
-}
-
-/// Two processes share pages of their own that went to swap, until one stores to them.
-#[test]
-fn shared_copies_go_to_swap(rt: HostRuntime) -> Result<(), Fail> {
-    let config = Config {
-        frames: 10,
-        slots: 16,
-    };
-    let trace =
-        b"spawn\nmmap 1 0 0x6000 rw- anon\nstore 1 0x10000 1 0x11\nfork 1\nstore 1 0x11000 1 0x21\n\
-store 1 0x12000 1 0x21\nstore 1 0x13000 1 0x21\nstore 1 0x14000 1 0x21\nstore 1 0x15000 1 0x21\n\
-store 2 0x10001 1 0x22\nload 1 0x10000 2\nload 2 0x10000 2\n";
-    let wanted =
-        b"pid 1\naddr 0x10000\nok\npid 2\nok\nok\nok\nok\nok\nok\nvalue 0x0011\nvalue 0x2211\n";
-    expect_in(rt.alloc(), 4096, Armed::Nothing, config, (trace, wanted))
-}
-
-/// The zero page, six tables and two pages: a fork and a store of the child, and there are two slots for two pages.
-#[test]
-fn two_processes_fit_into_nine_frames(rt: HostRuntime) -> Result<(), Fail> {
-    let config = Config {
-        frames: 9,
-        slots: 2,
-    };
-    let trace = b"spawn\nmmap 1 0 4096 rw- anon\nstore 1 0x10000 1 1\nfork 1\nstore 2 0x10000 1 2\n\
-load 1 0x10000 1\nload 2 0x10000 1\n";
-    let wanted = b"pid 1\naddr 0x10000\nok\npid 2\nok\nvalue 0x01\nvalue 0x02\n";
-    expect_in(rt.alloc(), 4096, Armed::Nothing, config, (trace, wanted))
 }
 
 /// Stores a byte in each of the eight pages of a file: k + 1 in page k.
@@ -165,20 +185,6 @@ fn an_msync_takes_pages_from_swap(rt: HostRuntime) -> Result<(), Fail> {
     drop(exchange);
     let shown = eight_pages_shown(rt.alloc())?;
     expect(rt.alloc(), &left, shown.parts())
-}
-
-/// Four frames and three slots have room for seven touched pages.
-#[test]
-fn a_touched_page_needs_a_slot(rt: HostRuntime) -> Result<(), Fail> {
-    let config = Config {
-        frames: 8,
-        slots: 3,
-    };
-    let trace = b"spawn\nmmap 1 0 0x8000 rw- shared 0 0\nstore 1 0x10000 1 1\nstore 1 0x11000 1 2\n\
-store 1 0x12000 1 3\nstore 1 0x13000 1 4\nstore 1 0x14000 1 5\nstore 1 0x15000 1 6\n\
-store 1 0x16000 1 7\nstore 1 0x17000 1 8\nmsync 1 0x10000 0x8000 sync\nstore 1 0x17000 1 8\n";
-    let wanted = b"pid 1\naddr 0x10000\nok\nok\nok\nok\nok\nok\nok\nstall 2 NOSWAP\nok\nok\n";
-    expect_in(rt.alloc(), 0x8000, Armed::Nothing, config, (trace, wanted))
 }
 
 /// Stores in the eight pages, two msyncs of all, and loads: the first msync stalls.

@@ -2,7 +2,7 @@
 ghost use Rattle.std.specs.Prelude.{◌≤◌};
 
 use crate::bench::{
-    Armed, CONFIG, Exchange, asked_in, expect_file, expect_over_letters, expect_over_zeros,
+    Armed, CONFIG, Exchange, asked_in, expect, expect_file, expect_over_zeros, image_of_letters,
     left_in, same,
 };
 use machine::Config;
@@ -79,7 +79,7 @@ mprotect 1 0x10000 4096 rw-\nmunmap 1 0x50000 4096\nmprotect 1 0x10000 4096 r-x\
     let wanted =
         b"pid 1\nerror 22 EINVAL\nerror 13 EACCES\nerror 9 EBADF\nerror 22 EINVAL\nerror 12 ENOMEM\n\
 error 22 EINVAL\nerror 75 EOVERFLOW\naddr 0x10000\nvalue 0x41\nerror 13 EACCES\nok\nok\n";
-    expect_over_letters(rt.alloc(), (trace, wanted))
+    expect(rt.alloc(), &image_of_letters(rt.alloc())?, (trace, wanted))
 }
 
 /// Takes every other page its right to be stored to, up to the limit of 256 runs.

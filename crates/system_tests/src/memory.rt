@@ -1,5 +1,5 @@
 //! Anonymous and private memory, and who may do what with a page.
-use crate::bench::{expect_over_letters, expect_over_zeros};
+use crate::bench::{expect, expect_over_zeros, image_of_letters};
 use std::test::Fail;
 
 /// Traces on an image of a page of zeros, each from a new start, and their replies.
@@ -109,5 +109,5 @@ mmap 1 0 4096 rw- private 0 0\nstore 1 0x11000 1 0x42\nload 1 0x11000 2\nload 1 
         b"pid 1\nerror 22 EINVAL\nerror 13 EACCES\nerror 9 EBADF\nerror 22 EINVAL\nerror 12 ENOMEM\n\
 error 22 EINVAL\nerror 75 EOVERFLOW\naddr 0x10000\nvalue 0x41\nerror 13 EACCES\nok\nerror 3 ESRCH\n\
 error 3 ESRCH\nerror 3 ESRCH\naddr 0x11000\nok\nvalue 0x4142\nvalue 0x4141\n";
-    expect_over_letters(rt.alloc(), (trace, wanted))
+    expect(rt.alloc(), &image_of_letters(rt.alloc())?, (trace, wanted))
 }

@@ -43,31 +43,39 @@ fn processes_have_spaces_of_their_own(rt: HostRuntime) -> Result<(), Fail> {
     Ok(())
 }
 
-/// Each process takes a frame for its root table, and gives it back.
-#[test]
-fn a_process_needs_a_frame(rt: HostRuntime) -> Result<(), Fail> {
-    let trace = b"spawn\nspawn\nspawn\nspawn\nspawn\nspawn\nspawn\nspawn\nexit 7\nspawn\nfork 1\n";
-    let wanted =
-        b"pid 1\npid 2\npid 3\npid 4\npid 5\npid 6\npid 7\nstall 1 NOFRAMES\nok\npid 7\nstall 1 NOFRAMES\n";
-    expect_in(rt.alloc(), 4096, Armed::Nothing, SMALL, (trace, wanted))
-}
+/// How many frames and slots there are, a trace, and its replies, over a page of zeros.
+const IN_EIGHT_FRAMES: [(Config, (&[u8], &[u8])); 2] = [
+    // Each process takes a frame for its root table, and gives it back.
+    (
+        SMALL,
+        (
+            b"spawn\nspawn\nspawn\nspawn\nspawn\nspawn\nspawn\nspawn\nexit 7\nspawn\nfork 1\n",
+            b"pid 1\npid 2\npid 3\npid 4\npid 5\npid 6\npid 7\nstall 1 NOFRAMES\nok\npid 7\nstall 1 NOFRAMES\n",
+        ),
+    ),
+    // A fork for which there are too few frames leaves no table behind. The zero page, three tables and a page of process 1, and the
+    // root of process 2 leave two frames; a copy needs three, and the page can't be given up without a slot. The child's copy of it
+    // needs a frame beside it, when all others are tables.
+    (
+        Config {
+            frames: 8,
+            slots: 0,
+        },
+        (
+            b"spawn\nmmap 1 0 4096 rw- anon\nstore 1 0x10000 1 1\nspawn\nfork 1\nfork 1\nload 1 0x10000 1\nexit 2\n\
+fork 1\nload 2 0x10000 1\nstore 2 0x10000 1 2\nexit 1\nstore 2 0x10000 1 3\nload 2 0x10000 1\n",
+            b"pid 1\naddr 0x10000\nok\npid 2\nstall 2 NOSWAP\nstall 2 NOSWAP\nvalue 0x01\nok\npid 2\nvalue 0x01\n\
+stall 1 NOFRAMES\nok\nok\nvalue 0x03\n",
+        ),
+    ),
+];
 
-/// A fork for which there are too few frames leaves no table behind.
 #[test]
-fn a_fork_that_stalls_gives_its_tables_back(rt: HostRuntime) -> Result<(), Fail> {
-    let config = Config {
-        frames: 8,
-        slots: 0,
-    };
-    // The zero page, three tables and a page of process 1, and the root of process 2 leave two frames; a copy needs three, and
-    // the page can't be given up without a slot. The child's copy of it needs a frame beside it, when all others are tables.
-    let trace =
-        b"spawn\nmmap 1 0 4096 rw- anon\nstore 1 0x10000 1 1\nspawn\nfork 1\nfork 1\nload 1 0x10000 1\nexit 2\n\
-fork 1\nload 2 0x10000 1\nstore 2 0x10000 1 2\nexit 1\nstore 2 0x10000 1 3\nload 2 0x10000 1\n";
-    let wanted =
-        b"pid 1\naddr 0x10000\nok\npid 2\nstall 2 NOSWAP\nstall 2 NOSWAP\nvalue 0x01\nok\npid 2\nvalue 0x01\n\
-stall 1 NOFRAMES\nok\nok\nvalue 0x03\n";
-    expect_in(rt.alloc(), 4096, Armed::Nothing, config, (trace, wanted))
+fn processes_wait_for_frames(rt: HostRuntime) -> Result<(), Fail> {
+    for (config, exchange) in IN_EIGHT_FRAMES {
+        expect_in(rt.alloc(), 4096, Armed::Nothing, config, exchange)?;
+    }
+    Ok(())
 }
 
 /// All processes are made, then one more is refused, and one that has ended makes room for another.

@@ -6,6 +6,10 @@ use Rattle.std.specs.Prelude.{ℕ, ◌^◌}
 abbrev pub top_level : ℕ
 top_level = 2
 
+-- the entries of a table
+abbrev pub table_entries : ℕ
+table_entries = 512
+
 -- the first page that may be mapped
 abbrev pub user_start : ℕ
 user_start = 16

@@ -27,9 +27,6 @@ pub use width::Width;
 /// Bytes of a page, a frame and a slot.
 pub const PAGE_BYTES: usize = 4096;
 
-/// Bytes of a sector of a device.
-pub const SECTOR_BYTES: usize = 512;
-
 /// The first user page, at address `0x10000`.
 pub const USER_START: u64 = 16;
 

@@ -7,7 +7,7 @@ use Rattle.file_store.specs.Format.{first_home, entry_given}
 use Rattle.file_store.proofs.Encoded.{renewed, entry_before, entry_here, zeros_behind, zero_entry, no_file}
 use Rattle.file_store.proofs.Entries.{entry_in-inside}
 use Rattle.file_store.proofs.NewStores.{first_home-rest, entry_written}
-use Rattle.sync_journal.proofs.Pieces.{length_put}
+use Rattle.disk_model.proofs.Pages.{length_put}
 use Rattle.file_store.proofs.Pieces.{length_mid, get_or-zeros}
 use Rattle.file_store.proofs.Totals.{total_pages-rest}
 use Rattle.file_store.proofs.sources.directory_of.Goals as goal
@@ -35,7 +35,7 @@ loop-f-preserved g c =
     let at = slice_get_read sources (length sources) f c.index-sources-f.result refl c.loop-f-test.true c.index-sources-f.is in
     let first : c.loop-f.first ≡ first_home sources f = let split = first_home-rest sources f in omega (arith, split, inv.rest) in
     record {
-      size = length_put (8 * f) (512 - 8 * f) sector bytes (omega (arith, inv.size, few)) within ∙ inv.size;
+      size = length_put sector bytes (8 * f) (512 - 8 * f) (omega (arith, inv.size, few)) within ∙ inv.size;
       rest = omega (arith, e, inv.rest, c.pages-first.ensures.count);
       entries = λ n less. ⊎_elim
           (λ same.

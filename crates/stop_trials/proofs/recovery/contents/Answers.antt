@@ -1,7 +1,7 @@
 use Rattle.std.proofs.Common.{◌≡◌, ◌++◌, ℕ, List, refl, sym, ap, ◌∙◌, arith}
 use Rattle.disk_model.specs.Stop.{Image}
-use Rattle.sync_journal.specs.Standing.{joined}
-use Rattle.sync_journal.proofs.Pieces.{joined-none, joined-more}
+use Rattle.disk_model.specs.Sectors.{joined}
+use Rattle.disk_model.proofs.Pieces.{joined-none, joined-more}
 use Rattle.programs.proofs.Copies.{same_content}
 use Rattle.stop_trials.specs.Standing.{standing_bytes}
 use Rattle.stop_trials.proofs.recovery.contents.Goals as goal

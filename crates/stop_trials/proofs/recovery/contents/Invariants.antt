@@ -1,6 +1,6 @@
 use Rattle.std.proofs.Common.{◌≡◌}
 use Rattle.file_store.specs.Store.{IsReadyStore}
-use Rattle.sync_journal.specs.Standing.{joined}
+use Rattle.disk_model.specs.Sectors.{joined}
 use Rattle.stop_trials.specs.Standing.{standing_bytes}
 use Rattle.stop_trials.proofs.recovery.contents.Given as goal
 

@@ -2,7 +2,7 @@ use Rattle.std.proofs.Common.{rules, ◌≡◌, ◌+◌, ⊎_elim, sym, ap, subs
 use Rattle.std.proofs.lemmas.Bool.{cases_eq}
 use Rattle.sync_journal.specs.Layout.{body_sector, IsJournalSector, IsPageSector}
 use Rattle.sync_journal.specs.Source.{Asks}
-use Rattle.sync_journal.specs.Standing.{sector_of}
+use Rattle.disk_model.specs.Sectors.{part_of}
 use Rattle.sync_journal.specs.Runs.{Runs}
 use Rattle.sync_journal.proofs.Runs.{one_more, of_more}
 use Rattle.sync_journal.proofs.stage.write_body.Goals as goal
@@ -21,8 +21,8 @@ loop-j-preserved g c =
       runs,
       asks,
       λ keeps gives j i below_j below_i. ⊎_elim
-          (λ same. subst (λ m. d.content c.write_page.new.disk (body_sector m + i) ≡ sector_of (g.S.PageSource.pages c.args.source.now m) i) (sym same)
-          (c.in_ok-write_page.ensures.written keeps i below_i ∙ ap (λ page. sector_of page i) (c.in_ok-page.ensures.given gives ∙ inv.2.same (c.page.ensures.kept gives) n)))
+          (λ same. subst (λ m. d.content c.write_page.new.disk (body_sector m + i) ≡ part_of (g.S.PageSource.pages c.args.source.now m) i) (sym same)
+          (c.in_ok-write_page.ensures.written keeps i below_i ∙ ap (λ page. part_of page i) (c.in_ok-page.ensures.given gives ∙ inv.2.same (c.page.ensures.kept gives) n)))
           (λ other. ⊎_elim {C = d.content c.write_page.new.disk (body_sector j + i) ≡ d.content c.loop-j.disk (body_sector j + i)}
           (λ inside. absurd (other (omega (arith, inside.0, inside.1, below_i)))) (λ e. e) ((w.run.touches keeps).content (body_sector j + i))
           ∙ inv.3 (w.run.kept keeps) (c.page.ensures.kept gives) j i (omega (arith, below_j, other)) below_i)

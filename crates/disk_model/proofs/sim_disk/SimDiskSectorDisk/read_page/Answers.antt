@@ -1,7 +1,8 @@
 use Rattle.std.proofs.Common.{◌≡◌, ◌<◌, ◌+◌, ◌*◌, ◌-◌, length, ⊎_elim, sym, ap, subst, ◌∙◌, arith, rules}
 use Rattle.std.proofs.lemmas.Bool.{cases_eq}
 use borrow.Rule.Slice.PartMut.{put_mid}
-use Rattle.disk_model.specs.Stop.{Image, part_of}
+use Rattle.disk_model.specs.Stop.{Image}
+use Rattle.disk_model.specs.Sectors.{part_of}
 use Rattle.disk_model.specs.SimDisk.{sector_of, IsUnsynced, moment_of, LeftSince, counts_of, after_reads}
 use Rattle.disk_model.proofs.Pages.{more_time, carried_by_read, put_here, put_there, length_put}
 use Rattle.disk_model.proofs.Counts.{last_read, next_read}

@@ -1,5 +1,6 @@
 use Rattle.std.proofs.Common.{◌≡◌, ◌⊎◌, ◌≤◌, ◌<◌, ◌+◌, ℕ, true, false}
-use Rattle.disk_model.specs.Stop.{IsOfPage, part_of, ChangesPage, Elapses}
+use Rattle.disk_model.specs.Stop.{IsOfPage, ChangesPage, Elapses}
+use Rattle.disk_model.specs.Sectors.{part_of}
 use Rattle.disk_model.specs.SimDisk.{sectors_in, sector_of, IsUnsynced, moment_of, LeftSince, failures_of, last_synced, counts_of, after_writes, left_by_write}
 use Rattle.disk_model.proofs.sim_disk.SimDiskSectorDisk.write_page.Given as goal
 

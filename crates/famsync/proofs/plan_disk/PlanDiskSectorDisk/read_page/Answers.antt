@@ -1,7 +1,7 @@
 use Rattle.std.proofs.Common.{◌≡◌, ◌<◌, ◌+◌, ◌*◌, ◌-◌, length, ⊎_elim, sym, ap, subst, ◌∙◌, arith, rules}
 use Rattle.std.proofs.lemmas.Bool.{cases_eq}
 use borrow.Rule.Slice.PartMut.{put_mid}
-use Rattle.disk_model.specs.Stop.{part_of}
+use Rattle.disk_model.specs.Sectors.{part_of}
 use Rattle.disk_model.proofs.Pages.{put_here, put_there, length_put}
 use Rattle.famsync.specs.PlanDisk.{content_of}
 use Rattle.famsync.proofs.plan_disk.PlanDiskSectorDisk.read_page.Goals as goal

@@ -1,5 +1,5 @@
 use Rattle.std.proofs.Common.{◌≡◌, ◌<◌, ◌+◌, ℕ, length}
-use Rattle.disk_model.specs.Stop.{part_of}
+use Rattle.disk_model.specs.Sectors.{part_of}
 use Rattle.famsync.specs.PlanDisk.{content_of}
 use Rattle.famsync.proofs.plan_disk.PlanDiskSectorDisk.read_page.Given as goal
 

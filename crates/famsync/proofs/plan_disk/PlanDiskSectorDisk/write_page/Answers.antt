@@ -1,6 +1,6 @@
 use Rattle.std.proofs.Common.{◌≡◌, ◌<◌, ◌+◌, ⊎_elim, inr, sym, subst, ◌∙◌, arith}
 use Rattle.std.proofs.lemmas.Bool.{cases_eq}
-use Rattle.disk_model.specs.Stop.{part_of}
+use Rattle.disk_model.specs.Sectors.{part_of}
 use Rattle.disk_model.proofs.Pages.{more_time, carried}
 use Rattle.famsync.specs.PlanDisk.{content_of, unsynced_in, moment_of, left_in}
 use Rattle.famsync.proofs.plan_disk.PlanDiskSectorDisk.write_page.Goals as goal

@@ -1,5 +1,6 @@
 use Rattle.std.proofs.Common.{◌≡◌, ◌⊎◌, ◌≤◌, ◌<◌, ◌+◌, ℕ, false, length}
-use Rattle.disk_model.specs.Stop.{IsOfPage, part_of, ChangesPage, Elapses}
+use Rattle.disk_model.specs.Stop.{IsOfPage, ChangesPage, Elapses}
+use Rattle.disk_model.specs.Sectors.{part_of}
 use Rattle.famsync.specs.PlanDisk.{content_of, unsynced_in, moment_of, left_in}
 use Rattle.famsync.proofs.plan_disk.PlanDiskSectorDisk.write_page.Given as goal
 

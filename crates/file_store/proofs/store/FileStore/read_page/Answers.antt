@@ -1,6 +1,7 @@
 use Rattle.std.proofs.Common.{◌≡◌, ◌+◌, ◌<◌, ℕ, List, sym, ap, subst, ◌∙◌}
 use Rattle.sync_journal.specs.Layout.{home_count}
-use Rattle.sync_journal.specs.Standing.{joined, standing}
+use Rattle.sync_journal.specs.Standing.{standing}
+use Rattle.disk_model.specs.Sectors.{joined}
 use Rattle.file_store.proofs.Homes.{entry_page, home_inside, home_of-entry}
 use Rattle.file_store.proofs.Images.{page_read}
 use Rattle.file_store.proofs.store.FileStore.read_page.Goals as goal

@@ -2,10 +2,10 @@ use Rattle.std.proofs.Common.{◌≡◌, ℕ, suc, ◌+◌, ◌-◌, ◌<◌, �
 use Rattle.std.proofs.Common.{length-set}
 use Rattle.std.proofs.lemmas.List.{length-take-le}
 use Rattle.regions.specs.declared.run.Run.{Run}
-use Rattle.regions.specs.Run.{joined}
+use Rattle.regions.specs.Run.{merged}
 use Rattle.regions.specs.RunList.{end_of, IsMaximal, joins_last, pushed}
 use Rattle.regions.proofs.ListLemmas.{maximal-pushed}
-use Rattle.regions.proofs.PushLemmas.{added_at, joined_last, length_added, some_last, unused}
+use Rattle.regions.proofs.PushLemmas.{added_at, merged_last, length_added, some_last, unused}
 use Rattle.regions.proofs.table.Regions.push.Goals as goal
 
 -- the runs with the new one behind
@@ -21,9 +21,9 @@ invariant_of-self c =
     ap (λ (l : List Run). joins_last l c.args.next) c.self.view_is ∙ sym c.joins_last.ensures ∙ c.if-joins_last.true in
     let some : 0 < c.self.inside.len = some_last c.self.inside.runs c.self.inside.len c.args.next goes_on in (
       few,
-      length-set c.self.inside.runs (c.self.inside.len - 1) (joined (get_or c.self.inside.runs (c.self.inside.len - 1) unused) c.args.next) ∙ room,
+      length-set c.self.inside.runs (c.self.inside.len - 1) (merged (get_or c.self.inside.runs (c.self.inside.len - 1) unused) c.args.next) ∙ room,
       subst (λ (l : List Run). IsMaximal 16 l)
-          (sym (joined_last c.self.inside.runs c.self.inside.len unused c.args.next some (omega arith) goes_on))
+          (sym (merged_last c.self.inside.runs c.self.inside.len unused c.args.next some (omega arith) goes_on))
           (maximal-pushed 16 (take c.self.inside.len c.self.inside.runs) c.args.next c.self.invariant.2 (behind_them _ _ c.args.next c.self.view_is c.requires.behind) c.requires.run),
     )
 
@@ -34,7 +34,7 @@ returns-then-joins_last-clause-ok c =
     let goes_on : joins_last (take c.self.inside.len c.self.inside.runs) c.args.next ≡ true =
     ap (λ (l : List Run). joins_last l c.args.next) c.self.view_is ∙ sym c.joins_last.ensures ∙ c.if-joins_last.true in
     let some : 0 < c.self.inside.len = some_last c.self.inside.runs c.self.inside.len c.args.next goes_on in
-    joined_last c.self.inside.runs c.self.inside.len unused c.args.next some (omega arith) goes_on
+    merged_last c.self.inside.runs c.self.inside.len unused c.args.next some (omega arith) goes_on
     ∙ ap (λ (l : List Run). pushed l c.args.next) c.self.view_is
 
 pub returns-then-self-eq-RUNS-clause-err : goal.returns-then-self-eq-RUNS-clause-err

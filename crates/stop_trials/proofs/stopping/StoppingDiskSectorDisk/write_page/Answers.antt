@@ -1,6 +1,6 @@
 use Rattle.std.proofs.Common.{◌≡◌, ◌+◌, ◌≤◌, ◌<◌, ℕ, true, false, Bool, is_some, is_err, ⊎_elim, sym, ap, subst, ◌∙◌, arith, rules, refl}
 use Rattle.std.proofs.lemmas.Bool.{cases_eq, cases_lt}
-use Rattle.disk_model.specs.Stop.{part_of}
+use Rattle.disk_model.specs.Sectors.{part_of}
 use Rattle.disk_model.specs.SimDisk.{sector_of, failures_of}
 use Rattle.stop_trials.specs.declared.stopping.Event.TheVariants.{Write}
 use Rattle.stop_trials.specs.Stopping.{Plan, plan_of, after_event}

@@ -1,5 +1,6 @@
 use Rattle.std.proofs.Common.{◌≡◌, ◌⊎◌, ◌≤◌, ◌<◌, ◌+◌, ℕ, true, false, is_some}
-use Rattle.disk_model.specs.Stop.{IsOfPage, part_of, ChangesPage, Elapses}
+use Rattle.disk_model.specs.Stop.{IsOfPage, ChangesPage, Elapses}
+use Rattle.disk_model.specs.Sectors.{part_of}
 use Rattle.disk_model.specs.SimDisk.{sectors_in, sector_of, IsUnsynced, moment_of, LeftSince, failures_of}
 use Rattle.stop_trials.specs.Stopping.{plan_of, after_writes}
 use Rattle.stop_trials.proofs.stopping.StoppingDiskSectorDisk.write_page.Given as goal

@@ -1,6 +1,6 @@
 use Rattle.std.proofs.Common.{◌≡◌, ◌+◌, ◌*◌, ◌<◌, ℕ, List, Some, sym, subst, ◌∙◌}
 use Rattle.std.proofs.lemmas.Result.{on_ok_weaker}
-use Rattle.disk_model.specs.Stop.{part_of}
+use Rattle.disk_model.specs.Sectors.{part_of}
 use Rattle.swap.proofs.Written.{gives_written}
 use Rattle.swap.proofs.pages.Pages.get.Goals as goal
 
