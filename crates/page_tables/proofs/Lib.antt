@@ -1,5 +1,6 @@
 pub mod Ways
 pub mod EntryBytes
+pub mod EmptyBytes
 pub mod Bits
 pub mod Ends
 pub mod Pages

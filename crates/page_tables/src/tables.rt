@@ -1,7 +1,7 @@
 //! The calls on trees of tables.
-ghost use Rattle.std.specs.Prelude.{ℕ, ◌≡◌, ◌≢◌, ◌+◌, ◌/◌, ◌%◌, ◌≤◌, IfErr, ◌<◌, ◌⊎◌, ◌↔◌, IsTrue, IsErr, IfOk, OnErr, true, false};
+ghost use Rattle.std.specs.Prelude.{ℕ, ◌≡◌, ◌≢◌, ◌+◌, ◌/◌, ◌%◌, ◌≤◌, IfErr, ◌<◌, ◌⊎◌, ◌↔◌, IsTrue, IsErr, IfOk, OnErr, true, false, get_or};
 ghost use Rattle.vm_types.specs.Limits.{top_level, table_entries};
-ghost use Rattle.frames.specs.FrameTable.{IsFull, IsSound};
+ghost use Rattle.frames.specs.FrameTable.{IsFull, IsSound, zero_bytes};
 ghost use Rattle.sv39_walk.specs.Walk.{index_of};
 ghost use Rattle.page_tables.specs.Entry.{number_of, IsEntry};
 ghost use Rattle.page_tables.specs.Tree.{IsPage, IsTable, Points, IsForest, IsRoot, IsSpare, IsEmptyTable, last_table, missing_of, page_entry};
@@ -144,12 +144,17 @@ fn is_empty(frames: &Frames, table: FrameNo) -> bool
     requires { IsTable frames.now table.0 }
     ensures { IsTrue result ↔ IsEmptyTable frames.now table.0 }
 {
-    for index in 0..TABLE_ENTRIES as usize {
-        if read_entry(frames, table, index).to_u64() != 0 {
-            return false;
-        }
-    }
-    true
+    // (brings in that memory is sound, so that frame 0 is the zero page)
+    let _ = frames.len();
+    are_zeros(frames.bytes(table), frames.bytes(FrameNo(0)))
+}
+
+// Whether the bytes of a frame are those of the zero page, which are compared many at a time.
+fn are_zeros(bytes: &[u8; 4096], zeros: &[u8; 4096]) -> bool
+    requires { zeros.now ≡ zero_bytes }
+    ensures { IsTrue result ↔ ((k : ℕ) → k < 4096 → get_or bytes.now k 0 ≡ 0) }
+{
+    bytes == zeros
 }
 
 /// The lowest table on the way to a page, in which the entries of its row of 512 pages stand.
