@@ -1,25 +1,19 @@
 -- Beginnings and ends of lists of bytes.
-use Rattle.std.proofs.Common.{◌≡◌, ℕ, ◌+◌, ◌<◌, ◌≤◌, List, [], ◌∷◌, ◌++◌, length, take, drop, set, sym, ap, ◌∙◌, arith, length-append, get_or, Option, MatchResult, Result, Ok, Err}
-use Rattle.std.proofs.lemmas.List.{take_all, take_more, take_more_set, take-append-le, take-append-drop, length-take}
-use Rattle.std.proofs.Math.Seq.{take-add}
+use Rattle.std.proofs.Common.{◌≡◌, ℕ, ◌+◌, ◌<◌, ◌≤◌, ◌-◌, min, List, [], ◌∷◌, ◌++◌, length, take, drop, sym, ap, ◌∙◌, arith, append_assoc, get_or, Option, MatchResult, Result, Ok, Err}
+use Rattle.std.proofs.lemmas.List.{take_all, take_more, take_min, take_rest, take-append-drop}
+use Rattle.std.proofs.Math.Seq.{take-add, take-append-add}
 use Rattle.std.specs.Io.KnownBytes.{Appends, Keeps}
 use Rattle.std.proofs.KnownBytes.{Appends-trans, Appends-nil, Appends-kept}
 use Rattle.runner.specs.Bytes.{WritesBeginning}
 
--- a byte goes on after the first `len` of a buffer
-pub pushed_byte : (bytes : List ℕ) (len byte : ℕ) → len < 257 → length bytes ≡ 257
-    → take (len + 1) (set bytes len byte) ≡ take 257 (take len bytes ++ byte ∷ [])
-pushed_byte bytes len byte below size =
-    let inside : len < length bytes = omega arith in
-    let short : length (take len bytes ++ byte ∷ []) ≤ 257 = simp length-append (simp length-take (omega arith)) in
-    take_more_set bytes len byte inside ∙ sym (take_all 257 (take len bytes ++ byte ∷ []) short)
-
--- there is no room for one more
-pub dropped_byte : (kept : List ℕ) (byte : ℕ) → length kept ≡ 257 → kept ≡ take 257 (kept ++ byte ∷ [])
-dropped_byte kept byte size =
-    let room : 257 ≤ length kept = omega arith in
-    let all : length kept ≤ 257 = omega arith in
-    sym (take-append-le 257 kept (byte ∷ []) room ∙ take_all 257 kept all)
+-- a line of at most 257 bytes goes on by as many as there is room for
+pub extended : (kept more : List ℕ) (len count : ℕ) → length kept ≡ len → len ≤ 257 → count ≡ min (length more) (257 - len)
+    → kept ++ take count more ≡ take 257 (kept ++ more)
+extended kept more len count size short is =
+    let room : count ≡ min (257 - length kept) (length more) = omega arith in
+    let full : length kept + (257 - length kept) ≡ 257 = omega arith in
+    ap (λ l. kept ++ l) (ap (λ n. take n more) room ∙ take_min (257 - length kept) more)
+    ∙ sym (take-append-add kept more (257 - length kept)) ∙ ap (λ n. take n (kept ++ more)) full
 
 -- so far `at` bytes were taken, and now n more
 pub taken_more : (old mid new : Option (List ℕ)) (bytes : List ℕ) (at n : ℕ)
@@ -42,6 +36,11 @@ pub match_both : {X Y A B P Q : Type 0} (r : Result X Y) → (A → P) → (B �
 match_both (Ok x) f h p = f p
 match_both (Err e) f h p = h p
 
--- what is before an element, the element, and what is after it
-pub around : (xs : List ℕ) (i : ℕ) → i < length xs → (take i xs ++ get_or xs i 0 ∷ []) ++ drop (i + 1) xs ≡ xs
-around xs i inside = ap (λ l. l ++ drop (i + 1) xs) (sym (take_more xs i 0 inside)) ∙ take-append-drop (i + 1) xs
+-- What has been read of a piece goes on by the line that is next in it. The last part is how `&rest[at + 1..]` reads.
+pub read_line : (piece front rest : List ℕ) (at : ℕ) → piece ≡ front ++ rest → at < length rest → get_or rest at 0 ≡ 10
+    → piece ≡ (front ++ (take at rest ++ 10 ∷ [])) ++ take (length rest - (at + 1)) (drop (at + 1) rest)
+read_line piece front rest at split inside newline =
+    let line : take (at + 1) rest ≡ take at rest ++ 10 ∷ [] = take_more rest at 0 inside ∙ ap (λ b. take at rest ++ b ∷ []) newline in
+    split ∙ ap (λ l. front ++ l) (sym (take-append-drop (at + 1) rest) ∙ ap (λ l. l ++ drop (at + 1) rest) line)
+    ∙ sym (append_assoc front (take at rest ++ 10 ∷ []) (drop (at + 1) rest))
+    ∙ ap (λ l. (front ++ (take at rest ++ 10 ∷ [])) ++ l) (sym (take_rest rest (at + 1)))

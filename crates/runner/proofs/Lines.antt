@@ -1,7 +1,7 @@
 -- How bytes are cut into lines, piece after piece.
 use Rattle.std.proofs.Common.{◌≡◌, ◌≢◌, ℕ, ◌==◌, false, List, [], ◌∷◌, ◌++◌, refl, sym, ap, ◌∙◌, append_assoc, append-nil, if◌then◌else◌}
 use Rattle.std.specs.Prelude.{All, flat_map}
-use Rattle.std.proofs.lemmas.List.Elements.{All-nil, All-cons, All-head, All-tail, All-append, All-push}
+use Rattle.std.proofs.lemmas.List.Elements.{All-nil, All-cons, All-head, All-tail, All-append}
 use Rattle.std.proofs.lemmas.Grind.{flat_map-append}
 use Rattle.std.proofs.lemmas.Bool.{ne_eqb}
 use Rattle.trace_lang.specs.Lines.{lines_of, onto_line, ended, HasNoNewline, Cuts}
@@ -55,9 +55,9 @@ Cuts-trans first second lines others mid rest p q = record {
 pub Cuts-none : (open_line : List ℕ) → HasNoNewline open_line → Cuts (open_line ++ []) [] open_line
 Cuts-none open_line plain = record { whole = append-nil open_line; each = All-nil HasNoNewline; rest = plain }
 
--- a byte that goes on with the line
-pub Cuts-byte : (open_line : List ℕ) (byte : ℕ) → HasNoNewline open_line → byte ≢ 10 → Cuts (open_line ++ byte ∷ []) [] (open_line ++ byte ∷ [])
-Cuts-byte open_line byte plain other = record { whole = refl; each = All-nil HasNoNewline; rest = All-push NotNewline open_line byte plain other }
+-- bytes that go on with the line
+pub Cuts-bytes : (open_line bytes : List ℕ) → HasNoNewline open_line → HasNoNewline bytes → Cuts (open_line ++ bytes) [] (open_line ++ bytes)
+Cuts-bytes open_line bytes plain others = record { whole = refl; each = All-nil HasNoNewline; rest = All-append NotNewline open_line bytes plain others }
 
 -- the newline
 pub Cuts-newline : (open_line : List ℕ) → HasNoNewline open_line → Cuts (open_line ++ 10 ∷ []) (open_line ∷ []) []

@@ -1,4 +1,4 @@
--- How the engine goes on, byte after byte.
+-- How the engine goes on, line after line.
 use Rattle.std.proofs.Common.{◌≡◌, ◌≢◌, ℕ, ◌≤◌, List, [], ◌∷◌, ◌++◌, length, take, refl, sym, ap, subst, ◌∙◌, append_assoc, append-nil, inl, inr, arith, Option}
 use Rattle.std.proofs.lemmas.List.{take_all, length-take-le, take-append-le}
 use Rattle.std.proofs.lemmas.List.Elements.{All-nil}
@@ -7,22 +7,23 @@ use Rattle.std.specs.Io.KnownBytes.{Appends}
 use Rattle.std.proofs.KnownBytes.{Appends-trans, Appends-nil}
 use Rattle.disk_model.specs.declared.sector_disk.SectorDisk.{Ghosts}
 use Rattle.machine.specs.declared.machine.Machine.{Machine}
+use Rattle.trace_lang.specs.Lines.{HasNoNewline}
 use Rattle.runner.specs.Bytes.{WritesBeginning}
 use Rattle.runner.specs.Session.{Answers}
 use Rattle.runner.specs.Progress.{Stage, stage, HoldsOpenLine, Advances, Reads, Breaks, GoesOn, BreaksOff}
-use Rattle.runner.proofs.Lines.{Cuts-trans, Cuts-none, Cuts-byte, Cuts-newline}
+use Rattle.runner.proofs.Lines.{Cuts-trans, Cuts-none, Cuts-bytes, Cuts-newline}
 use Rattle.runner.proofs.Session.{answers_line, CarriesOut-one, CarriesOut-append}
 
 -- the buffer goes on as the line does
-pub kept_byte : (line : List ℕ) (byte : ℕ) → take 257 (take 257 line ++ byte ∷ []) ≡ take 257 (line ++ byte ∷ [])
-kept_byte line byte = elim (cases_lt (length line) 257) [
-  | inl short ↦ let room : length line ≤ 257 = omega arith in ap (λ l. take 257 (l ++ byte ∷ [])) (take_all 257 line room)
+pub kept_bytes : (line bytes : List ℕ) → take 257 (take 257 line ++ bytes) ≡ take 257 (line ++ bytes)
+kept_bytes line bytes = elim (cases_lt (length line) 257) [
+  | inl short ↦ let room : length line ≤ 257 = omega arith in ap (λ l. take 257 (l ++ bytes)) (take_all 257 line room)
   | inr long ↦
       let all = length-take-le 257 line long in
       let enough : 257 ≤ length (take 257 line) = omega arith in
       let nothing_more : length (take 257 line) ≤ 257 = omega arith in
-      take-append-le 257 (take 257 line) (byte ∷ []) enough ∙ take_all 257 (take 257 line) nothing_more
-      ∙ sym (take-append-le 257 line (byte ∷ []) long)
+      take-append-le 257 (take 257 line) bytes enough ∙ take_all 257 (take 257 line) nothing_more
+      ∙ sym (take-append-le 257 line bytes long)
 ]
 
 pub HoldsOpenLine-none : HoldsOpenLine [] []
@@ -64,21 +65,23 @@ module _ {D E : Type 0} (g : Ghosts D) (h : Ghosts E) where
     wrote = Appends-nil s.held;
   }
 
-  -- a byte that goes on with the line
-  pub goes_on_by_byte : (machine : Machine D E) (kept pending : List ℕ) (held : Option (List ℕ)) (byte : ℕ) (more : List ℕ)
-      → byte ≢ 10 → more ≡ take 257 (kept ++ byte ∷ []) → GoesOn g h (stage machine kept pending held) (stage machine more pending held) (byte ∷ [])
-  goes_on_by_byte machine kept pending held byte more other is open_line begun = record {
-    text = [];
-    rest = open_line ++ byte ∷ [];
-    written = [];
-    advances = record { lines = []; cuts = Cuts-byte open_line byte begun.unfinished other; runs = (refl, refl) };
-    kept = record {
-      front = is ∙ ap (λ k. take 257 (k ++ byte ∷ [])) begun.front ∙ kept_byte open_line byte;
-      unfinished = (Cuts-byte open_line byte begun.unfinished other).rest;
-    };
-    sent = append-nil pending;
-    wrote = Appends-nil held;
-  }
+  -- bytes that go on with the line
+  pub goes_on_by_bytes : (machine : Machine D E) (kept pending : List ℕ) (held : Option (List ℕ)) (bytes more : List ℕ)
+      → HasNoNewline bytes → more ≡ take 257 (kept ++ bytes) → GoesOn g h (stage machine kept pending held) (stage machine more pending held) bytes
+  goes_on_by_bytes machine kept pending held bytes more others is open_line begun =
+      let cuts = Cuts-bytes open_line bytes begun.unfinished others in
+      record {
+        text = [];
+        rest = open_line ++ bytes;
+        written = [];
+        advances = record { lines = []; cuts = cuts; runs = (refl, refl) };
+        kept = record {
+          front = is ∙ ap (λ k. take 257 (k ++ bytes)) begun.front ∙ kept_bytes open_line bytes;
+          unfinished = cuts.rest;
+        };
+        sent = append-nil pending;
+        wrote = Appends-nil held;
+      }
 
   -- what the newline does to the machine
   ends_line : (old new : Machine D E) (kept open_line text : List ℕ) → HoldsOpenLine kept open_line → Answers g h old kept text new

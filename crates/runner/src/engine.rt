@@ -1,10 +1,11 @@
 //! Runs the lines of a trace.
-ghost use Rattle.std.specs.Prelude.{◌≡◌, ℕ, List, Option, [], ◌∷◌, ◌++◌, ◌+◌, ◌<◌, ◌≤◌, length, take, IfNone, IfOk, IfSome, MatchOption, MatchResult, OnOk};
+ghost use Rattle.std.specs.Prelude.{◌≡◌, ℕ, List, Option, [], ◌∷◌, ◌++◌, ◌+◌, ◌<◌, ◌≤◌, length, take, IfNone, IfOk, IfSome, MatchOption, MatchResult, OnOk, slice_index};
 ghost use Rattle.std.specs.Io.KnownBytes.{Consumes, IsAtEnd};
 ghost use Rattle.machine.specs.Machine.{IsSoundMachine, Shows};
 ghost use Rattle.vm_types.specs.State.{State};
 ghost use Rattle.runner.specs.Progress.{stage, HoldsOpenLine, RunsLast, GoesOn, BreaksOff, Ends, EndsSo};
 ghost use Rattle.runner.specs.Session.{Answers};
+ghost use Rattle.trace_lang.specs.Lines.{HasNoNewline};
 ghost use Rattle.trace_lang.specs.Texts.{text_of};
 ghost use Rattle.vm_types.specs.declared.reply.Reply.TheVariants.{Past};
 ghost use Rattle.runner.specs.Trace.{streams, CausedTrace, RunsTrace};
@@ -13,6 +14,7 @@ use crate::line_buffer::LineBuffer;
 use crate::output_buffer::{OutputBuffer, WriteFault};
 use disk_model::SectorDisk;
 use machine::Machine;
+use memchr::memchr;
 use std::io::{ErrorKind, Read, Write};
 use trace_lang::{bad_line_text, parse_line};
 
@@ -92,9 +94,18 @@ fn end_line<W: Write, D: SectorDisk, E: SectorDisk>(
     Ok(())
 }
 
-// Goes on by a byte of the trace.
-fn run_byte<W: Write, D: SectorDisk, E: SectorDisk>(
-    byte: u8,
+// Where the first newline stands.
+fn newline_in(bytes: &[u8]) -> Option<usize>
+    ensures none { IfNone result (HasNoNewline bytes.now) }
+    ensures first { IfSome result (λ at. HasNoNewline (take at bytes.now)) }
+    ensures newline { IfSome result (λ at. (at < length bytes.now) × (slice_index bytes.now at ≡ 10)) }
+{
+    memchr(b'\n', bytes)
+}
+
+// Goes on by bytes that end the open line, and by the newline behind them.
+fn run_line<W: Write, D: SectorDisk, E: SectorDisk>(
+    bytes: &[u8],
     line: &mut LineBuffer,
     output: &mut OutputBuffer,
     writer: &mut W,
@@ -102,19 +113,17 @@ fn run_byte<W: Write, D: SectorDisk, E: SectorDisk>(
 ) -> Result<(), WriteFault>
     requires room { length output.old < 32768 }
     requires sound { IsSoundMachine D.SectorDisk E.SectorDisk machine.old }
+    requires unbroken { HasNoNewline bytes.now }
     ensures room { OnOk result (length output.new < 32768) }
     ensures sound { IsSoundMachine D.SectorDisk E.SectorDisk machine.new }
     ensures reads { MatchResult result
         (λ _. GoesOn D.SectorDisk E.SectorDisk (stage machine.old line.old output.old (W.contents writer.old))
-        (stage machine.new line.new output.new (W.contents writer.new)) (byte ∷ []))
+        (stage machine.new line.new output.new (W.contents writer.new)) (bytes.now ++ 10 ∷ []))
         (λ _. BreaksOff D.SectorDisk E.SectorDisk (stage machine.old line.old output.old (W.contents writer.old))
-        (stage machine.new line.new output.new (W.contents writer.new)) (byte ∷ [])) }
+        (stage machine.new line.new output.new (W.contents writer.new)) (bytes.now ++ 10 ∷ [])) }
 {
-    if byte == b'\n' {
-        return end_line(line, output, writer, machine);
-    }
-    line.push(byte);
-    Ok(())
+    line.extend(bytes);
+    end_line(line, output, writer, machine)
 }
 
 // Goes on by a piece of the trace.
@@ -135,12 +144,15 @@ fn run_piece<W: Write, D: SectorDisk, E: SectorDisk>(
         (λ _. BreaksOff D.SectorDisk E.SectorDisk (stage machine.old line.old output.old (W.contents writer.old))
         (stage machine.new line.new output.new (W.contents writer.new)) piece.now) }
 {
-    for byte in piece {
-        match run_byte(*byte, line, output, writer, machine) {
+    let mut rest = piece;
+    while let Some(at) = newline_in(rest) {
+        match run_line(&rest[..at], line, output, writer, machine) {
             Ok(()) => {}
             Err(fault) => return Err(fault),
         }
+        rest = &rest[at + 1..];
     }
+    line.extend(rest);
     Ok(())
 }
 

@@ -1,5 +1,5 @@
 //! The line that is being read.
-ghost use Rattle.std.specs.Prelude.{◌≡◌, [], ◌∷◌, ◌++◌, take, length, ◌==◌};
+ghost use Rattle.std.specs.Prelude.{◌≡◌, [], ◌++◌, take, length, ◌==◌};
 
 use std::marker::Model;
 
@@ -48,14 +48,14 @@ impl LineBuffer {
         self.len == 0
     }
 
-    /// Goes on by a byte, which is dropped where 257 are kept already.
-    pub(crate) fn push(&mut self, byte: u8)
-        ensures { self.new ≡ take 257 (self.old ++ byte ∷ []) }
+    /// Goes on by bytes. Those behind the line's first 257 are dropped.
+    pub(crate) fn extend(&mut self, bytes: &[u8])
+        ensures { self.new ≡ take 257 (self.old ++ bytes.now) }
     {
-        if self.len < KEPT_BYTES {
-            self.bytes[self.len] = byte;
-            self.len += 1;
-        }
+        let count = bytes.len().min(KEPT_BYTES - self.len);
+        let end = self.len + count;
+        self.bytes[self.len..end].copy_from_slice(&bytes[..count]);
+        self.len = end;
     }
 
     /// Begins a new line.

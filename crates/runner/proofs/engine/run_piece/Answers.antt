@@ -1,31 +1,40 @@
-use Rattle.std.proofs.Common.{◌<◌, ◌≤◌, length, drop, subst, ◌+◌, arith}
-use Rattle.std.proofs.lemmas.List.{take_more, take_all}
-use Rattle.runner.specs.Progress.{BreaksOff}
-use Rattle.runner.proofs.Bytes.{around}
-use Rattle.runner.proofs.Progress.{goes_nowhere, GoesOn-trans, breaks_after, breaks_before}
+use Rattle.std.proofs.Common.{[], ◌∷◌, ◌++◌, take, refl, sym, subst}
+use Rattle.runner.specs.Progress.{GoesOn, BreaksOff}
+use Rattle.runner.proofs.Bytes.{read_line}
+use Rattle.runner.proofs.Progress.{goes_nowhere, goes_on_by_bytes, GoesOn-trans, breaks_after, breaks_before}
 use Rattle.runner.proofs.engine.run_piece.Goals as goal
 
-pub loop-byte-init : goal.loop-byte-init
-loop-byte-init g c = record { room = c.requires.room; sound = c.requires.sound; reads = goes_nowhere g.D.SectorDisk g.E.SectorDisk _ }
+pub loop-at-init : goal.loop-at-init
+loop-at-init g c = record { room = c.requires.room; sound = c.requires.sound; reads = ([], refl, goes_nowhere g.D.SectorDisk g.E.SectorDisk _) }
 
-pub loop-byte-preserved : goal.loop-byte-preserved
-loop-byte-preserved g c =
-    let i = c.loop-byte.byte-index in
-    let inside : i < length c.args.piece.now = omega arith in
+pub loop-at-preserved : goal.loop-at-preserved
+loop-at-preserved g c =
+    let read = c.loop-at.invariant.reads in
+    let rest = c.loop-at.rest.now in
+    let line = take c.in-Some.at rest ++ 10 ∷ [] in
+    let newline = c.in-Some.ensures.newline in
     record {
       room = c.in-Ok.ensures.room;
-      sound = c.run_byte.ensures.sound;
-      reads = rw (take_more c.args.piece.now i 0 inside) (GoesOn-trans g.D.SectorDisk g.E.SectorDisk _ _ _ _ _ c.loop-byte.invariant.reads c.in-Ok.ensures.reads);
+      sound = c.run_line.ensures.sound;
+      reads = (
+        read.0 ++ line,
+        read_line c.args.piece.now read.0 rest c.in-Some.at read.1 newline.0 newline.1,
+        GoesOn-trans g.D.SectorDisk g.E.SectorDisk _ _ _ read.0 line read.2 c.in-Ok.ensures.reads,
+      );
     }
 
 pub returns-in-Err-clause-reads : goal.returns-in-Err-clause-reads
 returns-in-Err-clause-reads g c =
-    let i = c.loop-byte.byte-index in
-    let inside : i < length c.args.piece.now = omega arith in
-    subst (BreaksOff g.D.SectorDisk g.E.SectorDisk _ _) (around c.args.piece.now i inside)
-    (breaks_before g.D.SectorDisk g.E.SectorDisk _ _ _ (drop (i + 1) c.args.piece.now) (breaks_after g.D.SectorDisk g.E.SectorDisk _ _ _ _ _ c.loop-byte.invariant.reads c.in-Err.ensures.reads))
+    let read = c.loop-at.invariant.reads in
+    let rest = c.loop-at.rest.now in
+    let line = take c.in-Some.at rest ++ 10 ∷ [] in
+    let newline = c.in-Some.ensures.newline in
+    subst (BreaksOff g.D.SectorDisk g.E.SectorDisk _ _) (sym (read_line c.args.piece.now read.0 rest c.in-Some.at read.1 newline.0 newline.1))
+    (breaks_before g.D.SectorDisk g.E.SectorDisk _ _ _ _ (breaks_after g.D.SectorDisk g.E.SectorDisk _ _ _ read.0 line read.2 c.in-Err.ensures.reads))
 
 pub returns-clause-reads : goal.returns-clause-reads
 returns-clause-reads g c =
-    let all : length c.args.piece.now ≤ c.loop-byte.byte-index = omega arith in
-    rw (take_all c.loop-byte.byte-index c.args.piece.now all) at c.loop-byte.invariant.reads
+    let read = c.loop-at.invariant.reads in
+    let rest = c.loop-at.rest.now in
+    subst (GoesOn g.D.SectorDisk g.E.SectorDisk _ _) (sym read.1)
+    (GoesOn-trans g.D.SectorDisk g.E.SectorDisk _ _ _ read.0 rest read.2 (goes_on_by_bytes g.D.SectorDisk g.E.SectorDisk _ _ _ _ rest _ c.in_default.ensures.none c.extend.ensures))
