@@ -76,6 +76,15 @@ framed_own entry form other some = elim (cases_Bool (is_private (number_of entry
 pub nothing_common : (entry : Entry) → entry ≡ Entries.None → seat (number_of entry) ≡ None
 nothing_common entry is = ap (λ x. seat (number_of x)) is ∙ seat-none
 
+-- a page that isn't mapped has no copy
+unmapped_for : (c : Picture) (attr : Option Attr) (e : ℕ) → IsEntryFor c attr e → attr ≡ None → seat e ≡ None
+unmapped_for c attr e (Nothing none) gone = ap seat none ∙ seat-none
+unmapped_for c attr e (Resident a is resident) gone = let bad : None ≡ Some a = sym gone ∙ is in (cc)
+unmapped_for c attr e (Away a is away) gone = let bad : None ≡ Some a = sym gone ∙ is in (cc)
+
+pub unmapped_none : (c : Picture) (pid page : ℕ) → IsGranting c → IsPage 2 page → c.at pid page ≡ None → seat (entry c pid page) ≡ None
+unmapped_none c pid page granting h gone = unmapped_for c (c.at pid page) (entry c pid page) (granting.entries pid page h) gone
+
 -- a page with a copy of its own is mapped
 copied_for : (c : Picture) (attr : Option Attr) (e : ℕ) → IsEntryFor c attr e → seat e ≢ None → IsSome attr
 copied_for c attr e (Nothing none) some = absurd (some (ap seat none ∙ seat-none))

@@ -1,5 +1,5 @@
 -- How the steps of the first pass follow one another.
-use Rattle.std.proofs.Common.{◌≡◌, ℕ, suc, inl, inr, ◌<◌, ◌≤◌, ◌/◌, ◌^◌, List, Option, Some, None, Result, Ok, Err, OnErr, refl, sym, ap, ◌∙◌, arith}
+use Rattle.std.proofs.Common.{◌≡◌, ℕ, suc, inl, inr, ◌<◌, ◌≤◌, ◌/◌, List, Option, Some, None, Result, Ok, Err, OnErr, refl, sym, ap, ◌∙◌, arith}
 use Rattle.std.specs.Prelude.{IsSome, option_map}
 use Rattle.std.proofs.lemmas.Bool.{cases_lt}
 use Rattle.vm_types.specs.declared.region.Attr.{Attr}
@@ -13,8 +13,8 @@ use Rattle.paging.proofs.Start.{seat-none}
 use Rattle.page_tables.proofs.Ends.{way_forth}
 use Rattle.mapping.specs.Changes.{IsWhole, IsTableOnWay, KeepsTables, LinksTables}
 use Rattle.page_ranges.proofs.Gaps.{missing_same}
-use Rattle.copy_on_write.specs.Steps.{HasCopy, HasTables, HasTablesBelow, HasTablesFrom, LacksTableForCopy, LinksCopies}
-use Rattle.copy_on_write.proofs.Copies.{copied_mapped}
+use Rattle.copy_on_write.specs.Steps.{HasCopy, HasTables, HasTablesFrom, LacksTableForCopy, LinksCopies}
+use Rattle.copy_on_write.proofs.Copies.{copied_mapped, unmapped_none}
 
 pub on_err : {T E : Type 0} (result : Result T E) (X : Type 0) → X → OnErr result X
 on_err (Ok v) X x = tt
@@ -62,12 +62,21 @@ whole_kept old new pid page root tables whole r e =
     let less = tables pid r page was in
     omega (arith, none, less)
 
--- the tables below a page stay, and those up to the next one came
-pub below_then : (old new : Picture) (parent child page next : ℕ) → IsGranting new → KeepsPages old new → KeepsTables old new
-    → HasTablesBelow old parent child page → HasTablesFrom new parent child page next → HasTablesBelow new parent child next
-below_then old new parent child page next granting keeps tables below more p under copy = elim (cases_lt p page) [
-  | inl before ↦ whole_kept old new child p keeps.root tables (below p before (copy_kept old new parent p granting keeps copy))
-  | inr from ↦ more p from under copy
+-- a row without pages wants no tables
+pub no_row : (c : Picture) (parent child low high : ℕ) → high ≤ low → HasTablesFrom c parent child low high
+no_row c parent child low high over page from below copy = let none : ⊥ = omega arith in absurd none
+
+-- what the pages of a row want is there still
+pub still_there : (old new : Picture) (parent child low high : ℕ) → IsGranting new → KeepsPages old new → KeepsTables old new
+    → HasTablesFrom old parent child low high → HasTablesFrom new parent child low high
+still_there old new parent child low high granting keeps tables has page from below copy =
+    whole_kept old new child page keeps.root tables (has page from below (copy_kept old new parent page granting keeps copy))
+
+-- and what those of the next row want
+pub both_rows : (c : Picture) (parent child low mid high : ℕ) → HasTablesFrom c parent child low mid → HasTablesFrom c parent child mid high → HasTablesFrom c parent child low high
+both_rows c parent child low mid high one two page from below copy = elim (cases_lt page mid) [
+  | inl first ↦ one page from first copy
+  | inr second ↦ two page second below copy
 ]
 
 -- a table that is missing was missing
@@ -75,11 +84,16 @@ pub lacks_before : (old new : Picture) (parent child : ℕ) → IsGranting new �
 lacks_before old new parent child granting keeps tables lacks =
     (lacks.0, copy_kept old new parent lacks.0 granting keeps lacks.1, λ whole. lacks.2 (whole_kept old new child lacks.0 keeps.root tables whole))
 
--- past the user pages there are no copies
-pub all_below : (c : Picture) (parent child end : ℕ) → IsGranting c → 2 ^ 26 ≤ end → HasTablesBelow c parent child end → HasTables c parent child
-all_below c parent child end granting past below page copy =
-    let user = ((granting.user parent).user_pages page (copied_mapped c parent page granting copy.0 copy.1)).1 in
-    below page (omega (arith, user, past)) copy
+-- pages that aren't mapped want no tables
+pub unmapped_wants : (c : Picture) (parent child low high : ℕ) → IsGranting c → ((page : ℕ) → low ≤ page → page < high → c.at parent page ≡ None) → HasTablesFrom c parent child low high
+unmapped_wants c parent child low high granting none page from below copy = absurd (copy.1 (unmapped_none c parent page granting copy.0 (none page from below)))
+
+-- nor do those past the last mapped one
+pub all_rows : (c : Picture) (parent child end : ℕ) → IsGranting c → ((page : ℕ) → end ≤ page → c.at parent page ≡ None) → HasTablesFrom c parent child 0 end → HasTables c parent child
+all_rows c parent child end granting none has page copy = elim (cases_lt page end) [
+  | inl below ↦ has page (omega arith) below copy
+  | inr past ↦ absurd (copy.1 (unmapped_none c parent page granting copy.0 (none page past)))
+]
 
 -- pages without entries want no tables
 pub none_wanted : (c : Picture) (parent child low high : ℕ) → ((page : ℕ) → low ≤ page → page < high → entry c parent page ≡ 0) → HasTablesFrom c parent child low high

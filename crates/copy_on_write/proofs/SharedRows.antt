@@ -1,24 +1,23 @@
 -- Rows of pages given to the child, one after the other.
-use Rattle.std.proofs.Common.{◌≡◌, ◌≢◌, ℕ, inl, inr, ◌⊎◌, ◌+◌, ◌<◌, ◌*◌, ◌/◌, ◌≤◌, ◌^◌, true, Option, Some, None, refl, sym, ap, ◌∙◌, arith}
+use Rattle.std.proofs.Common.{◌≡◌, ◌≢◌, ℕ, inl, inr, ◌⊎◌, ◌<◌, ◌/◌, ◌≤◌, Option, Some, None, refl, sym, ap, ◌∙◌, arith}
 use Rattle.std.specs.Prelude.{option_map}
 use Rattle.std.proofs.lemmas.Bool.{cases_lt}
-use Rattle.page_tables.specs.Tree.{IsPage, missing_of}
+use Rattle.page_tables.specs.Tree.{IsPage}
 use Rattle.swap.specs.Slots.{IsInUse}
 use Rattle.paging.specs.Seats.{Seat, InSlot, seat}
-use Rattle.paging.specs.Picture.{Picture, entry, bytes_in, is_live}
-use Rattle.paging.specs.Parts.{IsFit}
+use Rattle.paging.specs.Picture.{Picture, entry, bytes_in}
+use Rattle.paging.specs.Parts.{IsFit, IsGranting}
 use Rattle.paging.proofs.Start.{seat-none}
 use Rattle.mapping.proofs.Forms.{none_common, none_here}
 use Rattle.mapping.proofs.Steps.{tables_same, tables_then, room_then}
 use Rattle.mapping.specs.Changes.{IsWhole}
 use Rattle.page_ranges.proofs.ClearedPages.{but_then}
-use Rattle.page_ranges.proofs.Gaps.{one_or_two, gap_at}
 use Rattle.page_ranges.proofs.Returning.{same_but-refl}
-use Rattle.copy_on_write.specs.Steps.{HasTables, IsNextPage}
+use Rattle.copy_on_write.specs.Steps.{HasTables}
 use Rattle.copy_on_write.specs.Shares.{lowered_entry, given_entry, SharesRow}
+use Rattle.copy_on_write.proofs.Copies.{unmapped_none}
 use Rattle.copy_on_write.proofs.Given.{view_alike}
 use Rattle.copy_on_write.proofs.Linked.{whole_kept, row_whole}
-use Rattle.copy_on_write.proofs.Live.{live_root}
 use Rattle.copy_on_write.proofs.Weaker.{seat_lowered}
 
 lowered_none : (e : ℕ) → seat e ≡ None → e ≡ lowered_entry e
@@ -48,6 +47,12 @@ shares_none c parent child low high same bare none = record {
   pointers = λ n i m p. p;
   bytes = λ k used. refl;
 }
+
+-- pages that aren't mapped
+pub shares_unmapped : (c : Picture) (parent child low high : ℕ) → IsGranting c → ((p : ℕ) → c.at child p ≡ c.at parent p) → ((p : ℕ) → IsPage 2 p → low ≤ p → entry c child p ≡ 0)
+    → ((p : ℕ) → low ≤ p → p < high → c.at parent p ≡ None) → SharesRow c c parent child low high
+shares_unmapped c parent child low high granting same bare none =
+    shares_none c parent child low high same (λ p h least under. bare p h least) (λ p h least under. unmapped_none c parent p granting h (none p least under))
 
 one_page : (c : Picture) (pid p q : ℕ) (y : Seat) → IsFit c → IsPage 2 p → IsPage 2 q → seat (entry c pid p) ≡ Some y → seat (entry c pid q) ≡ Some y → p ≡ q
 one_page c pid p q y fit hp hq here there = sym (fit.counted.1.noted pid p y hp here) ∙ fit.counted.1.noted pid q y hq there
@@ -139,16 +144,3 @@ none_of_row c parent child start p has missing same h = elim (none_or_some (seat
   | inl none ↦ none
   | inr some ↦ absurd (missing (row_whole c child p start same (has p (h, some))))
 ]
-
--- a step over the pages ends with the user pages at the latest
-gap_most : (page next m : ℕ) → page < 2 ^ 26 → (m ≡ 1) ⊎ (m ≡ 2) → next ≡ (page / 512 ^ m + 1) * 512 ^ m → next ≤ 2 ^ 26
-gap_most page next m user (inl one) is = let at = gap_at page next m 1 one is in omega (arith, at, user)
-gap_most page next m user (inr two) is = let at = gap_at page next m 2 two is in omega (arith, at, user)
-
-pub next_within : (c : Picture) (pid page next : ℕ) → IsFit c → is_live c pid ≡ true → page < 2 ^ 26 → IsNextPage c pid page next → next ≤ 2 ^ 26
-next_within c pid page next fit live user (inl whole) = let end = whole.1 in omega (arith, end, user)
-next_within c pid page next fit live user (inr gap) =
-    let r = live_root (c.root pid) live in
-    let end = gap r.0 r.1 in
-    gap_most page next (missing_of c.frames 2 r.0 page) user
-    (one_or_two c.frames r.0 page fit.rooted.forest (fit.rooted.roots pid r.0 r.1).table end.0) end.1

@@ -1,11 +1,11 @@
 -- What the steps of a fork need and leave.
-use Rattle.std.specs.Prelude.{◌≡◌, ◌≢◌, ℕ, ◌+◌, ◌*◌, ◌/◌, ◌<◌, ◌≤◌, ◌⊎◌, None}
-use Rattle.vm_types.specs.Limits.{top_level, table_entries}
+use Rattle.std.specs.Prelude.{◌≢◌, ℕ, ◌<◌, ◌≤◌, ◌⊎◌, None}
+use Rattle.vm_types.specs.Limits.{top_level}
 use Rattle.page_tables.specs.Tree.{IsPage, IsTable}
 use Rattle.paging.specs.Seats.{seat}
 use Rattle.paging.specs.Picture.{Picture, entry}
+use Rattle.paging.specs.Parts.{IsMapped}
 use Rattle.mapping.specs.Changes.{IsWhole, IsTableOnWay}
-use Rattle.page_ranges.specs.Steps.{IsGapEnd}
 
 -- the process has a copy of its own of a page, in a frame or in a slot
 abbrev pub HasCopy : Picture → ℕ → ℕ → Type 0
@@ -14,10 +14,6 @@ HasCopy c pid page = IsPage top_level page × (seat (entry c pid page) ≢ None)
 -- no table is missing for the child on the way to a page of which the parent has a copy of its own
 abbrev pub HasTables : Picture → ℕ → ℕ → Type 0
 HasTables c parent child = (page : ℕ) → HasCopy c parent page → IsWhole c child page
-
--- the same, of the pages below one
-abbrev pub HasTablesBelow : Picture → ℕ → ℕ → ℕ → Type 0
-HasTablesBelow c parent child end = (page : ℕ) → page < end → HasCopy c parent page → IsWhole c child page
 
 -- the same, of the pages from one up to, not including, another
 abbrev pub HasTablesFrom : Picture → ℕ → ℕ → ℕ → ℕ → Type 0
@@ -32,6 +28,6 @@ abbrev pub LinksCopies : Picture → Picture → ℕ → ℕ → Type 0
 LinksCopies old new parent child = (n : ℕ) → IsTable new.frames n
     → IsTable old.frames n ⊎ ((page : ℕ) × HasCopy old parent page × IsTableOnWay new child page n)
 
--- where a step over the pages ends: past all pages of the lowest table of a process, or of one that is missing
-abbrev pub IsNextPage : Picture → ℕ → ℕ → ℕ → Type 0
-IsNextPage c pid page next = (IsWhole c pid page × (next ≡ (page / table_entries + 1) * table_entries)) ⊎ IsGapEnd c pid page next
+-- every page from one up to, not including, another is mapped
+abbrev pub IsMappedRow : Picture → ℕ → ℕ → ℕ → Type 0
+IsMappedRow c pid low high = (page : ℕ) → low ≤ page → page < high → IsMapped c pid page

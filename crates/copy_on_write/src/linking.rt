@@ -13,7 +13,8 @@ ghost use Rattle.paging.specs.Stalls.{HasStallCause};
 ghost use Rattle.paging.specs.Capacity.{IsShort};
 ghost use Rattle.paging.specs.Ages.{GivesForTables};
 ghost use Rattle.mapping.specs.Changes.{IsWhole, KeepsBare, Moves};
-ghost use Rattle.copy_on_write.specs.Steps.{HasCopy, HasTables, HasTablesFrom, LacksTableForCopy, LinksCopies, IsNextPage};
+ghost use Rattle.page_ranges.specs.Steps.{IsStepEnd};
+ghost use Rattle.copy_on_write.specs.Steps.{HasCopy, HasTables, HasTablesFrom, LacksTableForCopy, LinksCopies, IsMappedRow};
 
 use disk_model::SectorDisk;
 use mapped_memory::{number_in, table_of};
@@ -26,8 +27,9 @@ use vm_types::{Pid, Stall, USER_START, Vpn};
 
 /// Makes for the child, whose pages are mapped as the parent's, every table that is missing on the way to a page of which the
 /// parent has a copy of its own, in a frame or in a slot. A frame is asked for only where such a table is missing; to have one,
-/// frames may be given up, and no process sees that. No entry is set. It costs the tables of the parent and their entries,
-/// whatever is mapped (fork(2); RISC-V Privileged Specification, "Virtual Address Translation Process").
+/// frames may be given up, and no process sees that. No entry is set. It costs the parent's runs and, of these, the tables
+/// that they meet and the entries of their pages, and nothing for what isn't mapped (fork(2); RISC-V Privileged
+/// Specification, "Virtual Address Translation Process").
 ///
 /// # Errors
 /// As `obtain`, where a table is missing and no frame is to be had for it. The tables that were made stay.
@@ -56,31 +58,73 @@ pub fn link_copies<D, E: SectorDisk>(
     ensures short { IfErr result (IsShort (picture_of core.new)) }
     ensures cause { HasStallCause E.SectorDisk core.old core.new result }
 {
-    let mut number = USER_START;
-    while let Some(page) = Vpn::new(number) {
-        number = link_next(core, parent, child, page)?;
+    let mut page = USER_START;
+    while let Some(run) = core.regions(parent).next_run(page) {
+        link_run(core, parent, child, user_page(run.first), run.end)?;
+        page = run.end;
     }
     Ok(())
 }
 
-/// Makes the child's tables for the pages of one table of the parent, from `page` on; the result is the first page past that
-/// table. Where a table of the parent is missing, the pages of the missing one are passed over.
+/// Makes the child's tables for the pages from `start` up to, not including, `end`, all of which the parent has mapped: no
+/// other page is looked at.
+fn link_run<D, E: SectorDisk>(
+    core: &mut Core<D, E>,
+    parent: Pid,
+    child: Pid,
+    start: Vpn,
+    end: u64,
+) -> Result<(), Stall>
+    requires fit { IsFit (picture_of core.old) }
+    requires swap { IsReady E.SectorDisk core.old.swap }
+    requires parent { is_live (picture_of core.old) parent ≡ true }
+    requires child { is_live (picture_of core.old) child ≡ true }
+    requires same { (p : ℕ) → (picture_of core.old).at child p ≡ (picture_of core.old).at parent p }
+    requires mapped { IsMappedRow (picture_of core.old) parent start end }
+    requires high { end ≤ user_end }
+    ensures moves { Moves E.SectorDisk core.old core.new }
+    ensures pages { KeepsPages (picture_of core.old) (picture_of core.new) }
+    ensures bare { KeepsBare (picture_of core.old) (picture_of core.new) }
+    ensures linked { OnOk result (HasTablesFrom (picture_of core.new) parent child start end) }
+    ensures idle { HasTables (picture_of core.old) parent child → core.new ≡ core.old }
+    ensures wanted { OnErr result (LacksTableForCopy (picture_of core.old) parent child) }
+    ensures lacks { OnErr result (LacksTableForCopy (picture_of core.new) parent child) }
+    ensures gives { OnOk result (GivesForTables (picture_of core.old) (picture_of core.new) None) }
+    ensures tried { OnErr result ((tried : Option ℕ) × GivesForTables (picture_of core.old) (picture_of core.new) tried) }
+    ensures tables { LinksCopies (picture_of core.old) (picture_of core.new) parent child }
+    ensures full { OnErr result (IsFull core.new.frames) }
+    ensures no_copy { (n : ℕ) → role_of core.new.frames n ≡ Private → role_of core.old.frames n ≡ Private }
+    ensures short { IfErr result (IsShort (picture_of core.new)) }
+    ensures cause { HasStallCause E.SectorDisk core.old core.new result }
+{
+    let mut page = start.get();
+    while page < end {
+        page = link_next(core, parent, child, user_page(page), end)?;
+    }
+    Ok(())
+}
+
+/// Makes the child's tables for the pages of one table of the parent, from `page` on, as far as `end`; the result is the first
+/// page past them. Where a table of the parent is missing, the pages of the missing one are passed over.
 fn link_next<D, E: SectorDisk>(
     core: &mut Core<D, E>,
     parent: Pid,
     child: Pid,
     page: Vpn,
+    end: u64,
 ) -> Result<u64, Stall>
     requires fit { IsFit (picture_of core.old) }
     requires swap { IsReady E.SectorDisk core.old.swap }
     requires parent { is_live (picture_of core.old) parent ≡ true }
     requires child { is_live (picture_of core.old) child ≡ true }
     requires same { (p : ℕ) → (picture_of core.old).at child p ≡ (picture_of core.old).at parent p }
+    requires some { page < end }
     ensures moves { Moves E.SectorDisk core.old core.new }
     ensures pages { KeepsPages (picture_of core.old) (picture_of core.new) }
     ensures bare { KeepsBare (picture_of core.old) (picture_of core.new) }
     ensures further { IfOk result (λ next. page < next) }
-    ensures next { IfOk result (IsNextPage (picture_of core.old) parent page) }
+    ensures within { IfOk result (λ next. next ≤ end) }
+    ensures next { IfOk result (IsStepEnd (picture_of core.old) parent page end) }
     ensures linked { IfOk result (HasTablesFrom (picture_of core.new) parent child page) }
     ensures idle { HasTables (picture_of core.old) parent child → core.new ≡ core.old }
     ensures wanted { OnErr result (LacksTableForCopy (picture_of core.old) parent child) }
@@ -93,32 +137,32 @@ fn link_next<D, E: SectorDisk>(
     ensures short { IfErr result (IsShort (picture_of core.new)) }
     ensures cause { HasStallCause E.SectorDisk core.old core.new result }
 {
-    if let Some(next) = gap_end(core, parent, page) {
-        return Ok(next);
+    if let Some(gap) = gap_end(core, parent, page) {
+        return Ok(end.min(gap));
     }
-    let end = table_end(page);
-    if let Some(copied) = first_copy(core, parent, page, end) {
+    let stop = end.min(table_end(page));
+    if let Some(copied) = first_copy(core, parent, page, stop) {
         link_tables(core, child, copied)?;
     }
-    Ok(end)
+    Ok(stop)
 }
 
-/// The first page from `start` up to, not including, `end` of which a live process has a copy of its own. The entries of
+/// The first page from `start` up to, not including, `stop` of which a live process has a copy of its own. The entries of
 /// those pages stand in one table.
-fn first_copy<D, E>(core: &Core<D, E>, pid: Pid, start: Vpn, end: u64) -> Option<Vpn>
+fn first_copy<D, E>(core: &Core<D, E>, pid: Pid, start: Vpn, stop: u64) -> Option<Vpn>
     requires fit { IsFit (picture_of core.now) }
     requires live { is_live (picture_of core.now) pid ≡ true }
     requires whole { IsWhole (picture_of core.now) pid start }
-    requires one_table { end ≡ (start / table_entries + 1) * table_entries }
+    requires one_table { stop ≤ (start / table_entries + 1) * table_entries }
     ensures row { IfSome result (λ page. page / table_entries ≡ start / table_entries) }
     ensures some { IfSome result (HasCopy (picture_of core.now) pid) }
-    ensures none { IfNone result ((page : ℕ) → start ≤ page → page < end → seat (entry (picture_of core.now) pid page) ≡ None) }
+    ensures none { IfNone result ((page : ℕ) → start ≤ page → page < stop → seat (entry (picture_of core.now) pid page) ≡ None) }
 {
     let root = root_of(core, pid);
     let Ok(table) = table_of(&core.frames, root, start) else {
         unreachable!();
     };
-    for page in start.get()..end {
+    for page in start.get()..stop {
         let index = (page % TABLE_ENTRIES) as usize;
         if is_own(decode(number_in(&core.frames, table, index))) {
             return Some(user_page(page));

@@ -5,8 +5,8 @@ ghost use Rattle.page_tables.specs.Tree.{IsPage};
 ghost use Rattle.paging.specs.Picture.{picture_of, entry, is_live};
 ghost use Rattle.paging.specs.Parts.{IsFit};
 ghost use Rattle.mapping.specs.Changes.{IsWhole};
-ghost use Rattle.page_ranges.specs.Steps.{KeepsBesideMemory};
-ghost use Rattle.copy_on_write.specs.Steps.{HasTables, IsNextPage};
+ghost use Rattle.page_ranges.specs.Steps.{KeepsBesideMemory, IsStepEnd};
+ghost use Rattle.copy_on_write.specs.Steps.{HasTables, IsMappedRow};
 ghost use Rattle.copy_on_write.specs.Shares.{SharesRow, IsTableFor};
 
 use crate::linking::is_own;
@@ -22,7 +22,8 @@ use vm_types::{FrameNo, Pid, USER_START, Vpn};
 /// Gives the child, whose pages are mapped as the parent's and have no entry, a share of each page of which the parent has a
 /// copy of its own, in a frame or in a slot. No store to such a frame is allowed any more, so that the next one is noticed
 /// and gets a copy (fork(2), copy-on-write). `link_copies` has made the tables that the child wants, so no frame is asked for
-/// and no device, and the call can't fail. It costs the tables of the parent and their entries, and no page.
+/// and no device, and the call can't fail. It costs the parent's runs and, of these, the tables that they meet and the entries
+/// of their pages, and nothing for what isn't mapped.
 pub fn share_pages<D, E>(core: &mut Core<D, E>, parent: Pid, child: Pid)
     requires fit { IsFit (picture_of core.old) }
     requires parent { is_live (picture_of core.old) parent ≡ true }
@@ -36,15 +37,40 @@ pub fn share_pages<D, E>(core: &mut Core<D, E>, parent: Pid, child: Pid)
     ensures rest { KeepsBesideMemory core.old core.new }
     ensures refused { core.new.refused ≡ core.old.refused }
 {
-    let mut number = USER_START;
-    while let Some(page) = Vpn::new(number) {
-        number = share_next(core, parent, child, page);
+    let mut page = USER_START;
+    while let Some(run) = core.regions(parent).next_run(page) {
+        share_run(core, parent, child, user_page(run.first), run.end);
+        page = run.end;
     }
 }
 
-/// Gives the child its shares of the pages of one table of the parent, from `page` on; the result is the first page past that
-/// table. Where a table of the parent is missing, the pages of the missing one are passed over.
-fn share_next<D, E>(core: &mut Core<D, E>, parent: Pid, child: Pid, page: Vpn) -> u64
+/// Gives the child its shares of the pages from `start` up to, not including, `end`, all of which the parent has mapped: no
+/// other page is looked at.
+fn share_run<D, E>(core: &mut Core<D, E>, parent: Pid, child: Pid, start: Vpn, end: u64)
+    requires fit { IsFit (picture_of core.old) }
+    requires parent { is_live (picture_of core.old) parent ≡ true }
+    requires child { is_live (picture_of core.old) child ≡ true }
+    requires apart { parent ≢ child }
+    requires same { (p : ℕ) → (picture_of core.old).at child p ≡ (picture_of core.old).at parent p }
+    requires bare { (p : ℕ) → IsPage top_level p → start ≤ p → entry (picture_of core.old) child p ≡ 0 }
+    requires linked { HasTables (picture_of core.old) parent child }
+    requires mapped { IsMappedRow (picture_of core.old) parent start end }
+    requires some { start < end }
+    requires high { end ≤ user_end }
+    ensures fit { IsFit (picture_of core.new) }
+    ensures shares { SharesRow (picture_of core.old) (picture_of core.new) parent child start end }
+    ensures rest { KeepsBesideMemory core.old core.new }
+    ensures refused { core.new.refused ≡ core.old.refused }
+{
+    let mut page = start.get();
+    while page < end {
+        page = share_next(core, parent, child, user_page(page), end);
+    }
+}
+
+/// Gives the child its shares of the pages of one table of the parent, from `page` on, as far as `end`; the result is the first
+/// page past them. Where a table of the parent is missing, the pages of the missing one are passed over.
+fn share_next<D, E>(core: &mut Core<D, E>, parent: Pid, child: Pid, page: Vpn, end: u64) -> u64
     requires fit { IsFit (picture_of core.old) }
     requires parent { is_live (picture_of core.old) parent ≡ true }
     requires child { is_live (picture_of core.old) child ≡ true }
@@ -52,25 +78,27 @@ fn share_next<D, E>(core: &mut Core<D, E>, parent: Pid, child: Pid, page: Vpn) -
     requires same { (p : ℕ) → (picture_of core.old).at child p ≡ (picture_of core.old).at parent p }
     requires bare { (p : ℕ) → IsPage top_level p → page ≤ p → entry (picture_of core.old) child p ≡ 0 }
     requires linked { HasTables (picture_of core.old) parent child }
+    requires some { page < end }
     ensures fit { IsFit (picture_of core.new) }
     ensures further { page < result }
-    ensures next { IsNextPage (picture_of core.old) parent page result }
+    ensures within { result ≤ end }
+    ensures next { IsStepEnd (picture_of core.old) parent page end result }
     ensures shares { SharesRow (picture_of core.old) (picture_of core.new) parent child page result }
     ensures rest { KeepsBesideMemory core.old core.new }
     ensures refused { core.new.refused ≡ core.old.refused }
 {
-    if let Some(next) = gap_end(core, parent, page) {
-        return next;
+    if let Some(gap) = gap_end(core, parent, page) {
+        return end.min(gap);
     }
-    let end = table_end(page);
-    share_table(core, parent, child, page, end);
-    end
+    let stop = end.min(table_end(page));
+    share_table(core, parent, child, page, stop);
+    stop
 }
 
-/// Gives the child its shares of the pages from `start` up to, not including, `end`. Their entries stand in one table of the
+/// Gives the child its shares of the pages from `start` up to, not including, `stop`. Their entries stand in one table of the
 /// parent and in one of the child, which are looked for once and not for each page. Where the child has no table for them, the
 /// parent has no copy of any of them.
-fn share_table<D, E>(core: &mut Core<D, E>, parent: Pid, child: Pid, start: Vpn, end: u64)
+fn share_table<D, E>(core: &mut Core<D, E>, parent: Pid, child: Pid, start: Vpn, stop: u64)
     requires fit { IsFit (picture_of core.old) }
     requires parent { is_live (picture_of core.old) parent ≡ true }
     requires child { is_live (picture_of core.old) child ≡ true }
@@ -79,9 +107,10 @@ fn share_table<D, E>(core: &mut Core<D, E>, parent: Pid, child: Pid, start: Vpn,
     requires bare { (p : ℕ) → IsPage top_level p → start ≤ p → entry (picture_of core.old) child p ≡ 0 }
     requires linked { HasTables (picture_of core.old) parent child }
     requires whole { IsWhole (picture_of core.old) parent start }
-    requires one_table { end ≡ (start / table_entries + 1) * table_entries }
+    requires some { start < stop }
+    requires one_table { stop ≤ (start / table_entries + 1) * table_entries }
     ensures fit { IsFit (picture_of core.new) }
-    ensures shares { SharesRow (picture_of core.old) (picture_of core.new) parent child start end }
+    ensures shares { SharesRow (picture_of core.old) (picture_of core.new) parent child start stop }
     ensures rest { KeepsBesideMemory core.old core.new }
     ensures refused { core.new.refused ≡ core.old.refused }
 {
@@ -91,7 +120,7 @@ fn share_table<D, E>(core: &mut Core<D, E>, parent: Pid, child: Pid, start: Vpn,
     let Some(to) = table_for(core, child, start) else {
         return;
     };
-    for page in start.get()..end {
+    for page in start.get()..stop {
         share_page(core, parent, child, from, to, user_page(page));
     }
 }

@@ -11,12 +11,12 @@ use Rattle.copy_on_write.proofs.linking.first_copy.Goals as goal
 pub table_of-requires-clause-root : goal.table_of-requires-clause-root
 table_of-requires-clause-root g c = c.requires.fit.rooted.roots c.args.pid c.root_of-root.result.0 c.root_of-root.ensures
 
-same_table : (start page end : ℕ) → start ≤ page → page < end → end ≡ (start / 512 + 1) * 512 → start / 512 ≡ page / 512
-same_table start page end from below is = omega arith
+same_table : (start page stop : ℕ) → start ≤ page → page < stop → stop ≤ (start / 512 + 1) * 512 → start / 512 ≡ page / 512
+same_table start page stop from below end = omega arith
 
 pub decode-requires : goal.decode-requires
 decode-requires g c =
-    let same = same_table c.args.start c.loop-page.page c.args.end (omega (arith, c.get-page.ensures.number, c.loop-page.auto.page)) c.loop-page-test.true c.requires.one_table in
+    let same = same_table c.args.start c.loop-page.page c.args.stop (omega (arith, c.get-page.ensures.number, c.loop-page.auto.page)) c.loop-page-test.true c.requires.one_table in
     let T : ℕ → Type 0 = λ x. IsTableOf c.args.core.now.frames c.root_of-root.result.0 x c.in-Ok.table.0 in
     let P : ℕ → Type 0 = λ x. IsPageEntry x in
     subst P (sym (c.number_in.ensures c.root_of-root.result.0 c.loop-page.page (subst T same c.in-Ok.ensures.found) refl))
@@ -26,7 +26,7 @@ decode-requires g c =
 pub returns-then-is_own-clause-some : goal.returns-then-is_own-clause-some
 returns-then-is_own-clause-some g c =
     let old : Picture = picture_of c.args.core.now in
-    let same = same_table c.args.start c.loop-page.page c.args.end (omega (arith, c.get-page.ensures.number, c.loop-page.auto.page)) c.loop-page-test.true c.requires.one_table in
+    let same = same_table c.args.start c.loop-page.page c.args.stop (omega (arith, c.get-page.ensures.number, c.loop-page.auto.page)) c.loop-page-test.true c.requires.one_table in
     let T : ℕ → Type 0 = λ x. IsTableOf c.args.core.now.frames c.root_of-root.result.0 x c.in-Ok.table.0 in
     let is : number_of c.decode.result ≡ entry old c.args.pid c.loop-page.page =
     c.decode.ensures.number ∙ c.number_in.ensures c.root_of-root.result.0 c.loop-page.page (subst T same c.in-Ok.ensures.found) refl
@@ -38,7 +38,7 @@ returns-then-is_own-clause-some g c =
 pub loop-page-preserved : goal.loop-page-preserved
 loop-page-preserved g c =
     let old : Picture = picture_of c.args.core.now in
-    let same = same_table c.args.start c.loop-page.page c.args.end (omega (arith, c.get-page.ensures.number, c.loop-page.auto.page)) c.loop-page-test.true c.requires.one_table in
+    let same = same_table c.args.start c.loop-page.page c.args.stop (omega (arith, c.get-page.ensures.number, c.loop-page.auto.page)) c.loop-page-test.true c.requires.one_table in
     let T : ℕ → Type 0 = λ x. IsTableOf c.args.core.now.frames c.root_of-root.result.0 x c.in-Ok.table.0 in
     let is : number_of c.decode.result ≡ entry old c.args.pid c.loop-page.page =
     c.decode.ensures.number ∙ c.number_in.ensures c.root_of-root.result.0 c.loop-page.page (subst T same c.in-Ok.ensures.found) refl

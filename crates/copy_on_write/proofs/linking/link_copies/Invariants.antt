@@ -1,20 +1,19 @@
-use Rattle.std.proofs.Common.{◌≡◌, ◌-◌, ◌≤◌, ◌^◌, ℕ, None}
+use Rattle.std.proofs.Common.{◌≡◌, ◌-◌, ◌^◌, ℕ, None}
 use Rattle.frames.specs.declared.role.Role.TheVariants.{Private}
 use Rattle.frames.specs.FrameTable.{role_of}
 use Rattle.paging.specs.Calls.{KeepsPages}
 use Rattle.paging.specs.Picture.{picture_of}
 use Rattle.paging.specs.Ages.{GivesForTables}
 use Rattle.mapping.specs.Changes.{KeepsBare, Moves}
-use Rattle.copy_on_write.specs.Steps.{HasTables, HasTablesBelow, LinksCopies}
+use Rattle.copy_on_write.specs.Steps.{HasTables, HasTablesFrom, LinksCopies}
 use Rattle.copy_on_write.proofs.linking.link_copies.Given as goal
 
-abbrev pub invariant-loop-page : goal.invariant-loop-page
-invariant-loop-page g l = record {
-  from : 16 ≤ l.number;
+abbrev pub invariant-loop-run : goal.invariant-loop-run
+invariant-loop-run g l = record {
   moves : Moves g.E.SectorDisk l.fn.core l.core;
   pages : KeepsPages (picture_of l.fn.core) (picture_of l.core);
   bare : KeepsBare (picture_of l.fn.core) (picture_of l.core);
-  linked : HasTablesBelow (picture_of l.core) l.parent l.child l.number;
+  linked : HasTablesFrom (picture_of l.core) l.parent l.child 0 l.page;
   idle : HasTables (picture_of l.fn.core) l.parent l.child → l.core ≡ l.fn.core;
   gives : GivesForTables (picture_of l.fn.core) (picture_of l.core) None;
   tables : LinksCopies (picture_of l.fn.core) (picture_of l.core) l.parent l.child;
@@ -23,5 +22,5 @@ invariant-loop-page g l = record {
   swap_calm : g.E.SectorDisk.failures l.core.swap.pages.disk ≡ g.E.SectorDisk.failures l.fn.core.swap.pages.disk;
 }
 
-abbrev pub decreases-loop-page : goal.decreases-loop-page
-decreases-loop-page g l = 2 ^ 26 - l.number
+abbrev pub decreases-loop-run : goal.decreases-loop-run
+decreases-loop-run g l = 2 ^ 26 - l.page

@@ -1,15 +1,23 @@
 use Rattle.std.proofs.Common.{Option, sym, ◌∙◌, subst, arith}
 use Rattle.std.specs.Prelude.{IsSome}
+use Rattle.page_tables.specs.Tree.{missing_of}
 use Rattle.vm_types.specs.declared.region.Attr.{Attr}
 use Rattle.paging.specs.Picture.{picture_of}
-use Rattle.page_ranges.proofs.Gaps.{in_row_of}
+use Rattle.page_ranges.proofs.Gaps.{in_row_of, step_gap}
 use Rattle.copy_on_write.specs.Steps.{LacksTableForCopy}
 use Rattle.copy_on_write.proofs.Copies.{copied_mapped}
 use Rattle.copy_on_write.proofs.Linked.{on_err, copy_stays, links_one, none_wanted, row_whole}
 use Rattle.copy_on_write.proofs.linking.link_next.Goals as goal
 
+pub returns-in-Some-clause-next : goal.returns-in-Some-clause-next
+returns-in-Some-clause-next g c r root =
+    let gap = c.in-Some.ensures.end r root in
+    step_gap c.args.page c.args.end c.min.result c.in-Some.gap (missing_of c.args.core.now.frames 2 r c.args.page) gap.0 gap.1 c.min.ensures
+
 pub returns-in-Some-clause-linked : goal.returns-in-Some-clause-linked
-returns-in-Some-clause-linked g c = none_wanted (picture_of c.args.core.now) c.args.parent c.args.child c.args.page c.in-Some.next c.in-Some.ensures.gap
+returns-in-Some-clause-linked g c =
+    none_wanted (picture_of c.args.core.now) c.args.parent c.args.child c.args.page c.min.result
+    (λ page from below. c.in-Some.ensures.gap page from (omega (arith, c.min.ensures, below)))
 
 pub link_tables-requires-clause-mapped : goal.link_tables-requires-clause-mapped
 link_tables-requires-clause-mapped g c =
@@ -21,7 +29,7 @@ link_tables-requires-clause-mapped g c =
 
 pub returns-in_ok-link_tables-clause-linked : goal.returns-in_ok-link_tables-clause-linked
 returns-in_ok-link_tables-clause-linked g c page from below copy =
-    let same = in_row_of c.args.page page c.table_end-end.result c.table_end-end.result from below (omega arith) c.table_end-end.ensures in
+    let same = in_row_of c.args.page page c.min-stop.result c.table_end.result from below (omega (arith, c.min-stop.ensures)) c.table_end.ensures in
     row_whole (picture_of c.link_tables.new.core) c.args.child c.in-Some-first_copy.copied page (c.in-Some-first_copy.ensures.row ∙ sym same)
     c.in_ok-link_tables.ensures.whole
 

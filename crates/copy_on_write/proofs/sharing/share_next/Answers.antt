@@ -1,17 +1,18 @@
-use Rattle.std.proofs.Common.{inl, inr, ap, ◌∙◌}
+use Rattle.std.proofs.Common.{◌∙◌, ap, arith}
+use Rattle.page_tables.specs.Tree.{missing_of}
 use Rattle.paging.specs.Seats.{seat}
 use Rattle.paging.specs.Picture.{picture_of}
 use Rattle.paging.proofs.Start.{seat-none}
+use Rattle.page_ranges.proofs.Gaps.{step_gap}
 use Rattle.copy_on_write.proofs.SharedRows.{shares_none}
 use Rattle.copy_on_write.proofs.sharing.share_next.Goals as goal
 
 pub returns-in-Some-clause-next : goal.returns-in-Some-clause-next
-returns-in-Some-clause-next g c = inr c.in-Some.ensures.end
+returns-in-Some-clause-next g c r root =
+    let gap = c.in-Some.ensures.end r root in
+    step_gap c.args.page c.args.end c.min.result c.in-Some.gap (missing_of c.args.core.now.frames 2 r c.args.page) gap.0 gap.1 c.min.ensures
 
 pub returns-in-Some-clause-shares : goal.returns-in-Some-clause-shares
 returns-in-Some-clause-shares g c =
-    shares_none (picture_of c.args.core.now) c.args.parent c.args.child c.args.page c.in-Some.next c.requires.same (λ p h least under. c.requires.bare p h least)
-    (λ p h least under. ap seat (c.in-Some.ensures.gap p least under) ∙ seat-none)
-
-pub returns-clause-next : goal.returns-clause-next
-returns-clause-next g c = inl (c.in_default.ensures.whole, c.table_end-end.ensures)
+    shares_none (picture_of c.args.core.now) c.args.parent c.args.child c.args.page c.min.result c.requires.same (λ p h least under. c.requires.bare p h least)
+    (λ p h least under. ap seat (c.in-Some.ensures.gap p least (omega (arith, c.min.ensures, under))) ∙ seat-none)

@@ -1,14 +1,18 @@
-use Rattle.std.proofs.Common.{◌≡◌, ℕ, inl, inr, ◌≤◌, ◌^◌, refl, sym, ap, ◌∙◌, subst, arith}
+use Rattle.std.proofs.Common.{◌≡◌, ℕ, inr, ◌<◌, ◌≤◌, ◌^◌, None, refl, sym, ap, ◌∙◌, subst, arith}
 use Rattle.std.specs.Prelude.{is_some}
-use Rattle.std.proofs.lemmas.Bool.{cases_lt, false≢true}
-use Rattle.paging.specs.Picture.{Picture, picture_of}
+use Rattle.page_tables.specs.Tree.{IsPage}
+use Rattle.regions.specs.RunList.{attr_at}
+use Rattle.paging.specs.Parts.{IsFit}
+use Rattle.paging.specs.Picture.{Picture, picture_of, entry}
 use Rattle.page_ranges.proofs.ClearedPages.{rest-refl, rest_then}
 use Rattle.copy_on_write.specs.Shares.{SharesRow}
-use Rattle.copy_on_write.proofs.SharedRows.{next_within, shares_none, shares_then, seats_kept, tables_shared}
+use Rattle.copy_on_write.specs.Steps.{IsMappedRow}
+use Rattle.copy_on_write.proofs.Runs.{unmapped_before, mapped_inside}
+use Rattle.copy_on_write.proofs.SharedRows.{shares_none, shares_unmapped, shares_then, seats_kept, tables_shared}
 use Rattle.copy_on_write.proofs.sharing.share_pages.Goals as goal
 
-pub loop-page-init : goal.loop-page-init
-loop-page-init g c =
+pub loop-run-init : goal.loop-run-init
+loop-run-init g c =
     let old : Picture = picture_of c.args.core.now in
     record {
       from = omega arith;
@@ -19,59 +23,76 @@ loop-page-init g c =
       refused = refl;
     }
 
-pub share_next-number-requires-clause-parent : goal.share_next-number-requires-clause-parent
-share_next-number-requires-clause-parent g c = ap is_some (c.loop-page.invariant.shares.beside.root c.args.parent) ∙ c.requires.parent
+pub share_run-requires-clause-parent : goal.share_run-requires-clause-parent
+share_run-requires-clause-parent g c = ap is_some (c.loop-run.invariant.shares.beside.root c.args.parent) ∙ c.requires.parent
 
-pub share_next-number-requires-clause-child : goal.share_next-number-requires-clause-child
-share_next-number-requires-clause-child g c = ap is_some (c.loop-page.invariant.shares.beside.root c.args.child) ∙ c.requires.child
+pub share_run-requires-clause-child : goal.share_run-requires-clause-child
+share_run-requires-clause-child g c = ap is_some (c.loop-run.invariant.shares.beside.root c.args.child) ∙ c.requires.child
 
-pub share_next-number-requires-clause-same : goal.share_next-number-requires-clause-same
-share_next-number-requires-clause-same g c p =
-    let at = c.loop-page.invariant.shares.beside.at in
+pub share_run-requires-clause-same : goal.share_run-requires-clause-same
+share_run-requires-clause-same g c p =
+    let at = c.loop-run.invariant.shares.beside.at in
     at c.args.child p ∙ c.requires.same p ∙ sym (at c.args.parent p)
 
-pub share_next-number-requires-clause-bare : goal.share_next-number-requires-clause-bare
-share_next-number-requires-clause-bare g c p h from =
-    let at : c.in-Some.page ≡ c.loop-page.number = c.in-Some.ensures.found in
-    c.loop-page.invariant.shares.others c.args.child p h (inr (inr (omega (arith, at, from)))) ∙ c.requires.bare p h
+pub share_run-requires-clause-bare : goal.share_run-requires-clause-bare
+share_run-requires-clause-bare g c p h from =
+    let least = c.in-Some.ensures.some.from in
+    c.loop-run.invariant.shares.others c.args.child p h (inr (inr (omega (arith, c.user_page.ensures, least, from)))) ∙ c.requires.bare p h
 
-pub share_next-number-requires-clause-linked : goal.share_next-number-requires-clause-linked
-share_next-number-requires-clause-linked g c =
+pub share_run-requires-clause-linked : goal.share_run-requires-clause-linked
+share_run-requires-clause-linked g c =
     let old : Picture = picture_of c.args.core.now in
-    let mid : Picture = picture_of c.loop-page.core in
-    let shares = c.loop-page.invariant.shares in
-    tables_shared old mid c.args.parent c.args.child 16 c.loop-page.number c.requires.apart shares
-    (seats_kept old mid c.args.parent c.args.child 16 c.loop-page.number shares) c.requires.linked
+    let mid : Picture = picture_of c.loop-run.core in
+    let shares = c.loop-run.invariant.shares in
+    tables_shared old mid c.args.parent c.args.child 16 c.loop-run.page c.requires.apart shares
+    (seats_kept old mid c.args.parent c.args.child 16 c.loop-run.page shares) c.requires.linked
 
-pub loop-page-preserved : goal.loop-page-preserved
-loop-page-preserved g c =
+pub share_run-requires-clause-mapped : goal.share_run-requires-clause-mapped
+share_run-requires-clause-mapped g c =
+    let mid : Picture = picture_of c.loop-run.core in
+    let run = c.in-Some.run' in
+    let P : ℕ → Type 0 = λ x. IsMappedRow mid c.args.parent x run.end in
+    subst P (sym c.user_page.ensures)
+    (mapped_inside mid c.args.parent c.loop-run.page (attr_at c.regions.result.now) run c.regions.ensures c.in-Some.ensures.some)
+
+-- a row of pages that aren't mapped, from the page that the loop has come to
+unmapped_row : (old mid : Picture) (parent child page high : ℕ) → IsFit mid → SharesRow old mid parent child 16 page → ((p : ℕ) → old.at child p ≡ old.at parent p)
+    → ((p : ℕ) → IsPage 2 p → entry old child p ≡ 0) → ((p : ℕ) → page ≤ p → p < high → mid.at parent p ≡ None) → SharesRow mid mid parent child page high
+unmapped_row old mid parent child page high fit shares same bare none =
+    shares_unmapped mid parent child page high fit.granting (λ p. shares.beside.at child p ∙ same p ∙ sym (shares.beside.at parent p))
+    (λ p h least. shares.others child p h (inr (inr least)) ∙ bare p h) none
+
+pub loop-run-preserved : goal.loop-run-preserved
+loop-run-preserved g c =
     let old : Picture = picture_of c.args.core.now in
-    let mid : Picture = picture_of c.loop-page.core in
-    let new : Picture = picture_of c.share_next-number.new.core in
-    let next = c.share_next-number.result in
-    let k = c.loop-page.invariant in
-    let step = c.share_next-number.ensures in
-    let at : c.in-Some.page ≡ c.loop-page.number = c.in-Some.ensures.found in
-    let P : ℕ → Type 0 = λ x. SharesRow mid new c.args.parent c.args.child x next in
-    let further = step.further in
+    let mid : Picture = picture_of c.loop-run.core in
+    let new : Picture = picture_of c.share_run.new.core in
+    let run = c.in-Some.run' in
+    let next = c.in-Some.ensures.some in
+    let k = c.loop-run.invariant in
+    let step = c.share_run.ensures in
+    let P : ℕ → Type 0 = λ x. SharesRow mid new c.args.parent c.args.child x run.end in
+    let gap = unmapped_row old mid c.args.parent c.args.child c.loop-run.page run.first k.fit k.shares c.requires.same c.requires.bare
+    (unmapped_before mid c.args.parent c.loop-run.page (attr_at c.regions.result.now) run c.regions.ensures next) in
     let from = k.from in
-    let le : c.loop-page.number ≤ next = omega (arith, at, further) in
+    let least = next.from in
+    let order = next.nonempty in
     record {
-      from = omega (arith, le, from);
-      most = next_within mid c.args.parent c.in-Some.page next k.fit (ap is_some (k.shares.beside.root c.args.parent) ∙ c.requires.parent) (let user = (c.in-Some.ensures.known.0 refl).1 in omega (arith, at, user)) step.next;
+      from = omega (arith, from, least, order);
+      most = next.high;
       fit = step.fit;
-      shares = shares_then old mid new c.args.parent c.args.child 16 c.loop-page.number next c.requires.fit c.requires.apart from le k.shares (subst P at step.shares);
-      rest = rest_then c.args.core.now c.loop-page.core c.share_next-number.new.core k.rest step.rest;
+      shares = shares_then old mid new c.args.parent c.args.child 16 run.first run.end c.requires.fit c.requires.apart (omega (arith, from, least)) (omega (arith, order))
+          (shares_then old mid mid c.args.parent c.args.child 16 c.loop-run.page run.first c.requires.fit c.requires.apart from least k.shares gap)
+          (subst P c.user_page.ensures step.shares);
+      rest = rest_then c.args.core.now c.loop-run.core c.share_run.new.core k.rest step.rest;
       refused = step.refused ∙ k.refused;
     }
 
 pub returns-clause-shares : goal.returns-clause-shares
 returns-clause-shares g c =
-    let k = c.loop-page.invariant in
-    let past : 2 ^ 26 ≤ c.loop-page.number = elim (cases_lt c.loop-page.number (2 ^ 26)) [
-      | inl below ↦ absurd (false≢true (c.in_default.ensures.known.1 (k.from, below)))
-      | inr past ↦ past
-    ] in
-    let end : c.loop-page.number ≡ 2 ^ 26 = (let most = k.most in omega (arith, past, most)) in
-    let P : ℕ → Type 0 = λ x. SharesRow (picture_of c.args.core.now) (picture_of c.loop-page.core) c.args.parent c.args.child 16 x in
-    subst P end k.shares
+    let old : Picture = picture_of c.args.core.now in
+    let mid : Picture = picture_of c.loop-run.core in
+    let k = c.loop-run.invariant in
+    shares_then old mid mid c.args.parent c.args.child 16 c.loop-run.page (2 ^ 26) c.requires.fit c.requires.apart k.from k.most k.shares
+    (unmapped_row old mid c.args.parent c.args.child c.loop-run.page (2 ^ 26) k.fit k.shares c.requires.same c.requires.bare
+    (λ p past under. sym (c.regions.ensures p) ∙ c.in_default.ensures.none p past))

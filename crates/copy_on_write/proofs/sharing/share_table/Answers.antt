@@ -7,15 +7,15 @@ use Rattle.copy_on_write.specs.Shares.{IsTableFor, SharesRow}
 use Rattle.copy_on_write.proofs.SharedRows.{none_of_row, shares_none, shares_then}
 use Rattle.copy_on_write.proofs.sharing.share_table.Goals as goal
 
-same_table : (start page end : ℕ) → start ≤ page → page < end → end ≡ (start / 512 + 1) * 512 → page / 512 ≡ start / 512
-same_table start page end from below is = omega arith
+same_table : (start page stop : ℕ) → start ≤ page → page < stop → stop ≤ (start / 512 + 1) * 512 → page / 512 ≡ start / 512
+same_table start page stop from below end = omega arith
 
 pub returns-in_default-table_for-clause-shares : goal.returns-in_default-table_for-clause-shares
 returns-in_default-table_for-clause-shares g c =
     let old : Picture = picture_of c.args.core.now in
-    shares_none old c.args.parent c.args.child c.args.start c.args.end c.requires.same (λ p h least under. c.requires.bare p h least)
+    shares_none old c.args.parent c.args.child c.args.start c.args.stop c.requires.same (λ p h least under. c.requires.bare p h least)
     (λ p h least under. none_of_row old c.args.parent c.args.child c.args.start p c.requires.linked c.in_default-table_for.ensures.missing
-    (same_table c.args.start p c.args.end least under c.requires.one_table) h)
+    (same_table c.args.start p c.args.stop least under c.requires.one_table) h)
 
 pub loop-page-init : goal.loop-page-init
 loop-page-init g c =
@@ -50,13 +50,13 @@ share_page-requires-clause-bare g c =
 
 pub share_page-requires-clause-from : goal.share_page-requires-clause-from
 share_page-requires-clause-from g c =
-    let row = same_table c.args.start c.loop-page.page c.args.end (omega (arith, c.get-page.ensures.number, c.loop-page.auto.page)) c.loop-page-test.true c.requires.one_table in
+    let row = same_table c.args.start c.loop-page.page c.args.stop (omega (arith, c.get-page.ensures.number, c.loop-page.auto.page)) c.loop-page-test.true c.requires.one_table in
     let P : ℕ → Type 0 = λ x. IsTableFor (picture_of c.loop-page.core) c.args.parent x c.in-Some.from.0 in
     subst P (sym (ap (λ x. x / 512) c.user_page.ensures ∙ row)) c.loop-page.invariant.from
 
 pub share_page-requires-clause-to : goal.share_page-requires-clause-to
 share_page-requires-clause-to g c =
-    let row = same_table c.args.start c.loop-page.page c.args.end (omega (arith, c.get-page.ensures.number, c.loop-page.auto.page)) c.loop-page-test.true c.requires.one_table in
+    let row = same_table c.args.start c.loop-page.page c.args.stop (omega (arith, c.get-page.ensures.number, c.loop-page.auto.page)) c.loop-page-test.true c.requires.one_table in
     let P : ℕ → Type 0 = λ x. IsTableFor (picture_of c.loop-page.core) c.args.child x c.in-Some-table_for.to.0 in
     subst P (sym (ap (λ x. x / 512) c.user_page.ensures ∙ row)) c.loop-page.invariant.to
 
@@ -81,6 +81,6 @@ loop-page-preserved g c =
 
 pub returns-clause-shares : goal.returns-clause-shares
 returns-clause-shares g c =
-    let end : c.loop-page.page ≡ c.args.end = omega (arith, c.get-page.ensures.number, c.requires.one_table, c.loop-page.auto.page-end, c.loop-page-test.false) in
+    let end : c.loop-page.page ≡ c.args.stop = omega (arith, c.get-page.ensures.number, c.requires.some, c.loop-page.auto.page-end, c.loop-page-test.false) in
     let P : ℕ → Type 0 = λ x. SharesRow (picture_of c.args.core.now) (picture_of c.loop-page.core) c.args.parent c.args.child c.args.start x in
     subst P end c.loop-page.invariant.shares
