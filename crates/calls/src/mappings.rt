@@ -32,13 +32,6 @@ use vm_types::{
 /// The most pages that a file can have, and one more than the largest number of a page.
 const FILE_PAGES: u64 = 1 << 32;
 
-/// A mapping that can be made: its first page, and the regions of the process with it.
-#[derive(Drop)]
-struct Plan {
-    first: u64,
-    regions: Regions,
-}
-
 /// Whether the address is one that the mapping must have.
 fn is_exact(placing: Placing) -> bool
     ensures { result ≡ is_exact placing }
@@ -182,18 +175,20 @@ fn is_taken(regions: &Regions, first: u64, pages: u64, placing: Placing) -> bool
     }
 }
 
-/// The mapping of `pages` pages, of which the first is as `attr`, or why its place is refused.
+/// Writes the regions with a mapping of `pages` pages, of which the first is as `attr`, into `next`, and returns its first
+/// page; or says why its place is refused.
 fn planned(
     regions: &Regions,
     addr: u64,
     pages: u64,
     attr: Attr,
     placing: Placing,
-) -> Result<Plan, Errno>
+    next: &mut Regions,
+) -> Result<u64, Errno>
     requires some { 0 < pages }
     requires few { pages ≤ 2 ^ 52 }
     requires fits { backing_fits attr.backing pages }
-    ensures ok { IfOk result (λ m. MapsPages regions.now addr pages attr placing m.first m.regions) }
+    ensures ok { IfOk result (λ first. MapsPages regions.now addr pages attr placing first next.new) }
     ensures err { IfErr result (λ errno. first_of (place_checks placing (space_of regions.now) pages attr (place_for placing (space_of regions.now) addr pages)) ≡ Some errno) }
 {
     let Some(first) = place_of(regions, addr, pages, placing) else {
@@ -202,8 +197,8 @@ fn planned(
     if is_taken(regions, first, pages, placing) {
         return Err(Errno::EEXIST);
     }
-    match regions.replaced(first, pages, attr) {
-        Ok(regions) => Ok(Plan { first, regions }),
+    match regions.replace_into(first, pages, attr, next) {
+        Ok(()) => Ok(first),
         Err(TooManyRuns) => Err(Errno::ENOMEM),
     }
 }
@@ -242,9 +237,11 @@ pub fn mmap<D: SectorDisk, E: SectorDisk>(
     }
     let pages = len.div_ceil(PAGE);
     let attr = first_attr(source, prot);
-    match planned(core.regions(pid), addr, pages, attr, placing) {
-        Ok(Plan { first, regions }) => {
-            remap(core, pid, first, pages, regions);
+    let regions = core.regions(pid);
+    let mut next = regions.copied();
+    match planned(regions, addr, pages, attr, placing, &mut next) {
+        Ok(first) => {
+            remap(core, pid, first, pages, &next);
             Answer::Address(first * PAGE)
         }
         Err(errno) => Answer::Refused(errno),

@@ -1,5 +1,5 @@
 //! mprotect.
-ghost use Rattle.std.specs.Prelude.{◌≡◌, ◌+◌, ◌<◌, ◌^◌, Some, IfOk, IfErr, true};
+ghost use Rattle.std.specs.Prelude.{◌≡◌, ◌+◌, ◌<◌, ◌^◌, Some, OnOk, IfErr, true};
 ghost use Rattle.file_store.specs.Store.{files_of};
 ghost use Rattle.vm_types.specs.Replies.{reply_of};
 ghost use Rattle.vm_types.specs.Checks.{first_of};
@@ -74,17 +74,18 @@ fn denies_stores<D: SectorDisk>(
     prot.is_writable() && has_guarded(store, regions, first, pages)
 }
 
-/// The regions with the permission for the pages of the row, or why that is refused.
+/// Writes the regions with the permission for the pages of the row into `next`, or says why that is refused.
 fn permitted<D: SectorDisk>(
     store: &FileStore<D>,
     regions: &Regions,
     first: u64,
     pages: u64,
     prot: Prot,
-) -> Result<Regions, Errno>
+    next: &mut Regions,
+) -> Result<(), Errno>
     requires some { 0 < pages }
     requires row { first + pages < 2 ^ 64 }
-    ensures ok { IfOk result (λ next. IsPermitted (files_of store.now) regions.now first pages prot next) }
+    ensures ok { OnOk result (IsPermitted (files_of store.now) regions.now first pages prot next.new) }
     ensures err { IfErr result (λ errno. first_of (permit_checks (files_of store.now) (space_of regions.now) first pages prot) ≡ Some errno) }
 {
     if !regions.covers(first, pages) {
@@ -93,8 +94,8 @@ fn permitted<D: SectorDisk>(
     if denies_stores(store, regions, first, pages, prot) {
         return Err(Errno::EACCES);
     }
-    match regions.protected(first, pages, prot.kept()) {
-        Ok(next) => Ok(next),
+    match regions.protect_into(first, pages, prot.kept(), next) {
+        Ok(()) => Ok(()),
         Err(TooManyRuns) => Err(Errno::ENOMEM),
     }
 }
@@ -133,9 +134,17 @@ pub fn mprotect<D: SectorDisk, E: SectorDisk>(
     }
     let first = addr / PAGE;
     let pages = len.div_ceil(PAGE);
-    match permitted(&core.store, core.regions(pid), first, pages, prot) {
-        Ok(regions) => {
-            reprotect(core, pid, first, pages, prot.kept(), regions);
+    let mut next = core.regions(pid).copied();
+    match permitted(
+        &core.store,
+        core.regions(pid),
+        first,
+        pages,
+        prot,
+        &mut next,
+    ) {
+        Ok(()) => {
+            reprotect(core, pid, first, pages, prot.kept(), &next);
             Answer::Done
         }
         Err(errno) => Answer::Refused(errno),

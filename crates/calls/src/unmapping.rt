@@ -43,11 +43,13 @@ pub fn munmap<D: SectorDisk, E: SectorDisk>(
     }
     let first = addr / PAGE;
     let pages = len.div_ceil(PAGE);
-    match core.regions(pid).removed(first, pages) {
-        Ok(next) => {
+    let regions = core.regions(pid);
+    let mut next = regions.copied();
+    match regions.remove_into(first, pages, &mut next) {
+        Ok(()) => {
             let start = first.min(USER_END);
             let end = (first + pages).min(USER_END);
-            remap(core, pid, start, end - start, next);
+            remap(core, pid, start, end - start, &next);
             Answer::Done
         }
         Err(TooManyRuns) => Answer::Refused(Errno::ENOMEM),

@@ -69,5 +69,5 @@ fn map_alike<D, E>(core: &mut Core<D, E>, parent: Pid, child: Pid)
     ensures rest { KeepsBesideProcesses core.old core.new }
 {
     let regions = core.regions(parent).copied();
-    core.remap(child, regions);
+    core.remap(child, &regions);
 }

@@ -36,9 +36,11 @@ fn replace(rt: &impl Abort, regions: &mut Regions, first: u64, pages: u64, attr:
     requires high { first + pages ≤ user_end }
     requires file_pages { backing_fits attr.backing pages }
 {
-    *regions = regions
-        .replaced(first, pages, attr)
+    let mut next = Regions::new();
+    regions
+        .replace_into(first, pages, attr, &mut next)
         .expect(rt, "at most 256 runs");
+    regions.assign(&next);
     equal(rt, regions.runs(), runs);
 }
 
@@ -47,16 +49,22 @@ fn remove(rt: &impl Abort, regions: &mut Regions, first: u64, pages: u64, runs: 
     requires some { 0 < pages }
     requires row { first + pages < 2 ^ 64 }
 {
-    *regions = regions.removed(first, pages).expect(rt, "at most 256 runs");
+    let mut next = Regions::new();
+    regions
+        .remove_into(first, pages, &mut next)
+        .expect(rt, "at most 256 runs");
+    regions.assign(&next);
     equal(rt, regions.runs(), runs);
 }
 
 fn protect(rt: &impl Abort, regions: &mut Regions, first: u64, prot: Prot)
     requires { first + 1 < 2 ^ 64 }
 {
-    *regions = regions
-        .protected(first, 1, prot)
+    let mut next = Regions::new();
+    regions
+        .protect_into(first, 1, prot, &mut next)
         .expect(rt, "at most 256 runs");
+    regions.assign(&next);
 }
 
 fn attributes(rt: &impl Abort, regions: &Regions, page: u64) -> Option<Attr> {
@@ -84,13 +92,18 @@ fn anonymous_pages_split_and_merge(rt: HostRuntime) {
 #[test]
 fn changed_maps_leave_the_old_one(rt: HostRuntime) {
     let nothing = Regions::new();
-    let mapped = nothing
-        .replaced(0x20, 5, anonymous(Prot::READ))
+    let mut mapped = Regions::new();
+    nothing
+        .replace_into(0x20, 5, anonymous(Prot::READ), &mut mapped)
         .expect(&rt, "one run");
-    let executable = mapped
-        .protected(0x22, 1, Prot::EXECUTE)
+    let mut executable = Regions::new();
+    mapped
+        .protect_into(0x22, 1, Prot::EXECUTE, &mut executable)
         .expect(&rt, "three runs");
-    let cut = executable.removed(0x21, 2).expect(&rt, "two runs");
+    let mut cut = Regions::new();
+    executable
+        .remove_into(0x21, 2, &mut cut)
+        .expect(&rt, "two runs");
     equal(
         &rt,
         [nothing.runs(), mapped.runs(), executable.runs(), cut.runs()],
@@ -132,7 +145,9 @@ fn more_than_256_runs_are_refused(rt: HostRuntime) {
         protect(&rt, &mut regions, 0x11 + 2 * k, Prot::READ);
     }
     equal(&rt, regions.runs(), 255);
-    assert!(rt; matches!(regions.protected(0x10f, 1, Prot::READ), Err(TooManyRuns)));
+    let mut next = Regions::new();
+    let refused = regions.protect_into(0x10f, 1, Prot::READ, &mut next);
+    equal(&rt, refused, Err(TooManyRuns));
     equal(&rt, regions.runs(), 255);
     protect(&rt, &mut regions, 0x20e, Prot::READ);
     equal(&rt, regions.runs(), 256);
@@ -146,6 +161,21 @@ fn a_copy_is_the_same_map(rt: HostRuntime) {
     equal(
         &rt,
         (copy.runs(), copy.covers(0x20, 5), copy.covers(0x20, 6)),
+        (1, true, false),
+    );
+}
+
+#[test]
+fn an_assigned_map_is_the_other_one(rt: HostRuntime) {
+    let mut regions = Regions::new();
+    replace(&rt, &mut regions, 0x20, 5, anonymous(Prot::READ), 1);
+    let mut other = Regions::new();
+    replace(&rt, &mut other, 0x22, 1, anonymous(Prot::WRITE), 1);
+    replace(&rt, &mut other, 0x40, 1, shared(Prot::READ, 0), 2);
+    other.assign(&regions);
+    equal(
+        &rt,
+        (other.runs(), other.covers(0x20, 5), other.covers(0x40, 1)),
         (1, true, false),
     );
 }

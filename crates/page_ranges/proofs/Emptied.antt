@@ -22,7 +22,7 @@ unfolding view
 view-bare c pid page none =
     view_plain (own_in c.frames c.slots (entry c pid page)) (c.at pid page) (ap (λ o. option_map (bytes_in c.frames c.slots) o) (ap seat none ∙ seat-none))
 
-unmapped_zero : (c : Picture) (o : Option Attr) (e : ℕ) → IsEntryFor c o e → o ≡ None → e ≡ 0
+pub unmapped_zero : (c : Picture) (o : Option Attr) (e : ℕ) → IsEntryFor c o e → o ≡ None → e ≡ 0
 unmapped_zero c o e (Nothing none) gone = none
 unmapped_zero c o e (Resident a is resident) gone = let bad : None ≡ Some a = sym gone ∙ is in (cc)
 unmapped_zero c o e (Away a is away) gone = let bad : None ≡ Some a = sym gone ∙ is in (cc)

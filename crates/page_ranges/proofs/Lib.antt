@@ -5,6 +5,7 @@ pub mod ClearedPages
 pub mod Needed
 pub mod Pruned
 pub mod Emptied
+pub mod Passed
 pub mod NewRegions
 pub mod LeafEntries
 pub mod PermittedRows

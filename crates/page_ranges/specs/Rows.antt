@@ -1,5 +1,5 @@
 -- What the calls on rows of pages leave.
-use Rattle.std.specs.Prelude.{◌≡◌, ◌≢◌, ℕ, true, false, if◌then◌else◌, Option, None, option_map}
+use Rattle.std.specs.Prelude.{◌≡◌, ◌≢◌, ℕ, ◌<◌, ◌≤◌, true, false, if◌then◌else◌, Option, None, option_map}
 use Rattle.vm_types.specs.Limits.{top_level}
 use Rattle.vm_types.specs.declared.permission.Prot.{Prot}
 use Rattle.vm_types.specs.declared.region.Attr.{Attr}
@@ -10,6 +10,19 @@ use Rattle.page_tables.specs.Tree.{IsPage}
 use Rattle.paging.specs.Picture.{Picture, entry, view}
 use Rattle.paging.specs.Shows.{KeepsFiles}
 use Rattle.page_ranges.specs.Leaves.{Permits}
+
+-- no page from low up to, not including, high is mapped
+abbrev pub IsUnmapped : (ℕ → Option Attr) → ℕ → ℕ → Type 0
+IsUnmapped map low high = (page : ℕ) → low ≤ page → page < high → map page ≡ None
+
+-- the pages from first up to, not including, stop are the next ones of a row that may have entries: from the first mapped page
+-- that isn't below `page`, and all of them below `end`
+pub record IsNextPart (map : ℕ → Option Attr) (page end first stop : ℕ) : Type 0 where
+  pub from : page ≤ first
+  pub passed : IsUnmapped map page first
+  pub mapped : map first ≢ None
+  pub further : first < stop
+  pub within : stop ≤ end
 
 -- a mapped page without a copy of its own
 abbrev pub plain : Attr → View

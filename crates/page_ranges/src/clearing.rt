@@ -11,7 +11,7 @@ ghost use Rattle.mapping.specs.Changes.{IsWhole};
 ghost use Rattle.page_ranges.specs.Rows.{RemapsRow};
 ghost use Rattle.page_ranges.specs.Steps.{KeepsBesideMemory, KeepsEntriesOfOthers, SameTables, ReturnsTables, ReturnsSlots, Clears, IsWithoutTables, IsCleared, LacksHolder, ReturnsSeat, IsStepEnd};
 
-use crate::rows::{middle_end, table_end, user_page};
+use crate::rows::{middle_end, next_part, table_end, user_page};
 use mapped_memory::{missing_tables, number_in, prune, set_in, table_of};
 use mapping::root_of;
 use page_tables::{Entry, decode};
@@ -37,6 +37,25 @@ pub fn clear_row<D, E>(core: &mut Core<D, E>, pid: Pid, first: u64, pages: u64)
 {
     let end = first + pages;
     let mut page = first.max(USER_START);
+    while let Some(part) = next_part(core.regions(pid), page, end) {
+        clear_part(core, pid, part.first, part.end);
+        page = part.end;
+    }
+}
+
+/// Clears the pages from `start` up to, not including, `end`, table by table.
+fn clear_part<D, E>(core: &mut Core<D, E>, pid: Pid, start: Vpn, end: u64)
+    requires fit { IsFit (picture_of core.old) }
+    requires live { is_live (picture_of core.old) pid ≡ true }
+    requires some { start < end }
+    requires high { end ≤ user_end }
+    ensures fit { IsFit (picture_of core.new) }
+    ensures clears { Clears (picture_of core.old) (picture_of core.new) pid start end }
+    ensures cleared { (low : ℕ) → low ≤ start → IsCleared (picture_of core.old) pid low start → IsCleared (picture_of core.new) pid low end }
+    ensures rest { KeepsBesideMemory core.old core.new }
+    ensures refused { core.new.refused ≡ core.old.refused }
+{
+    let mut page = start.get();
     while page < end {
         page = clear_next(core, pid, user_page(page), end);
     }

@@ -37,13 +37,13 @@ pub fn reprotect<D, E>(
     first: u64,
     pages: u64,
     prot: Prot,
-    regions: Regions,
+    regions: &Regions,
 )
     requires fit { IsFit (picture_of core.old) }
     requires live { is_live (picture_of core.old) pid ≡ true }
     requires row { first + pages ≤ user_end }
     requires reads { ReadsToo prot }
-    requires map { (page : ℕ) → attr_at regions page ≡ protected ((picture_of core.old).at pid) first pages prot page }
+    requires map { (page : ℕ) → attr_at regions.now page ≡ protected ((picture_of core.old).at pid) first pages prot page }
     ensures fit { IsFit (picture_of core.new) }
     ensures row { ReprotectsRow (picture_of core.old) (picture_of core.new) pid first pages prot }
     ensures others { KeepsEntriesOfOthers (picture_of core.old) (picture_of core.new) pid }

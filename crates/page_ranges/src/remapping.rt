@@ -17,15 +17,15 @@ use vm_types::Pid;
 /// Gives a live process these regions, which are the ones that it has but for the `pages` pages from `first` on. Those
 /// have no own copies afterwards, in frames or in slots, and no entries: the next access to one finds what it is now (mmap(2), MAP_FIXED, and
 /// munmap(2)).
-pub fn remap<D, E>(core: &mut Core<D, E>, pid: Pid, first: u64, pages: u64, regions: Regions)
+pub fn remap<D, E>(core: &mut Core<D, E>, pid: Pid, first: u64, pages: u64, regions: &Regions)
     requires fit { IsFit (picture_of core.old) }
     requires live { is_live (picture_of core.old) pid ≡ true }
     requires row { first + pages ≤ user_end }
-    requires others { (page : ℕ) → in_row first pages page ≡ false → attr_at regions page ≡ (picture_of core.old).at pid page }
-    requires user { IsUserMap (attr_at regions) }
-    requires readable { IsReadableMap (attr_at regions) }
+    requires others { (page : ℕ) → in_row first pages page ≡ false → attr_at regions.now page ≡ (picture_of core.old).at pid page }
+    requires user { IsUserMap (attr_at regions.now) }
+    requires readable { IsReadableMap (attr_at regions.now) }
     ensures fit { IsFit (picture_of core.new) }
-    ensures row { RemapsRow (picture_of core.old) (picture_of core.new) pid first pages (attr_at regions) }
+    ensures row { RemapsRow (picture_of core.old) (picture_of core.new) pid first pages (attr_at regions.now) }
     ensures others { KeepsEntriesOfOthers (picture_of core.old) (picture_of core.new) pid }
     ensures tables { ReturnsTables (picture_of core.old) (picture_of core.new) pid }
     ensures slots { ReturnsSlots (picture_of core.old) (picture_of core.new) pid first (first + pages) }

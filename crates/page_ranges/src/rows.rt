@@ -1,16 +1,26 @@
 //! Rows of pages, and the tables that their entries stand in.
 ghost use Rattle.std.specs.Prelude.{◌≡◌, ℕ, ◌<◌, ◌≤◌, ◌+◌, ◌*◌, ◌/◌, ◌^◌, true, IfNone, IfSome};
 ghost use Rattle.vm_types.specs.Limits.{user_start, user_end, table_entries};
+ghost use Rattle.regions.specs.RunList.{attr_at};
 ghost use Rattle.paging.specs.Picture.{picture_of, is_live, entry};
 ghost use Rattle.paging.specs.Parts.{IsRootedBut};
 ghost use Rattle.mapping.specs.Changes.{IsWhole};
+ghost use Rattle.page_ranges.specs.Rows.{IsUnmapped, IsNextPart};
 ghost use Rattle.page_ranges.specs.Steps.{IsGapEnd};
 
 use mapped_memory::missing_tables;
 use mapping::root_of;
 use paging::Core;
+use regions::Regions;
 use sv39_walk::TABLE_ENTRIES;
 use vm_types::{Pid, Vpn};
+
+/// Pages of a row, from a mapped one up to, not including, `end`.
+#[derive(Clone, Copy)]
+pub(crate) struct Part {
+    pub(crate) first: Vpn,
+    pub(crate) end: u64,
+}
 
 /// The user page of that number, from 16 up to, not including, 2 ^ 26.
 pub fn user_page(number: u64) -> Vpn
@@ -33,7 +43,7 @@ pub fn table_end(page: Vpn) -> u64
 
 /// The first page past those of the same table of the level above the lowest.
 pub(crate) fn middle_end(page: Vpn) -> u64
-    ensures { result ≡ (page / 262144 + 1) * 262144 }
+    ensures { result ≡ (page / table_entries ^ 2 + 1) * table_entries ^ 2 }
 {
     let span = TABLE_ENTRIES * TABLE_ENTRIES;
     (page.get() / span + 1) * span
@@ -55,5 +65,36 @@ pub fn gap_end<D, E>(core: &Core<D, E>, pid: Pid, page: Vpn) -> Option<u64>
         0 => None,
         2 => Some(middle_end(page)),
         _ => Some(table_end(page)),
+    }
+}
+
+/// The next part of a row of pages that may have entries, from `page` on and before `end`; `None` where no page of the row is
+/// mapped there. It begins with a mapped page and ends with that page's run, or with the last table of the run where another
+/// run begins in it, so that a table of many runs is gone through once. What is not mapped costs nothing.
+pub(crate) fn next_part(regions: &Regions, page: u64, end: u64) -> Option<Part>
+    requires high { end ≤ user_end }
+    ensures none { IfNone result (IsUnmapped (attr_at regions.now) page end) }
+    ensures some { IfSome result (λ part. IsNextPart (attr_at regions.now) page end part.first part.end) }
+{
+    let run = regions.next_run(page)?;
+    if run.first >= end {
+        return None;
+    }
+    Some(Part {
+        first: user_page(run.first),
+        end: end.min(part_end(regions, run.end)),
+    })
+}
+
+/// Where a part ends whose first run ends before the page `end`.
+fn part_end(regions: &Regions, end: u64) -> u64
+    requires low { user_start < end }
+    requires high { end ≤ user_end }
+    ensures { end ≤ result }
+{
+    let table = table_end(user_page(end - 1));
+    match regions.next_run(end) {
+        Some(next) if next.first < table => table,
+        _ => end,
     }
 }

@@ -51,15 +51,15 @@ impl<D, E> Core<D, E> {
         self.regions[place].clear();
     }
 
-    /// Gives a live process these regions, whatever entries its pages have.
-    pub fn remap(&mut self, pid: Pid, regions: Regions)
+    /// Gives a live process these regions, whatever entries its pages have. No more than their runs are copied.
+    pub fn remap(&mut self, pid: Pid, regions: &Regions)
         requires live { is_live (picture_of self.old) pid ≡ true }
         ensures remaps { Remaps (picture_of self.old) (picture_of self.new) pid }
-        ensures at { (page : ℕ) → (picture_of self.new).at pid page ≡ attr_at regions page }
+        ensures at { (page : ℕ) → (picture_of self.new).at pid page ≡ attr_at regions.now page }
         ensures roots { self.new.roots ≡ self.old.roots }
         ensures rest { KeepsBesideProcesses self.old self.new }
     {
-        self.regions[usize::from(pid.get())] = regions;
+        self.regions[usize::from(pid.get())].assign(regions);
     }
 
     /// Ends a live process whose root table has no entry: the table is free, and so is its number.

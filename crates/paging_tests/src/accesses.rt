@@ -44,14 +44,13 @@ fn map(
     ensures readable { IfOk result (λ next. IsReadableMap (attr_at next)) }
     ensures user { IfOk result (λ next. IsUserMap (attr_at next)) }
 {
-    regions.replaced(
-        first,
-        pages,
-        Attr {
-            prot: prot.kept(),
-            backing,
-        },
-    )
+    let attr = Attr {
+        prot: prot.kept(),
+        backing,
+    };
+    let mut next = Regions::new();
+    regions.replace_into(first, pages, attr, &mut next)?;
+    Ok(next)
 }
 
 // From page 16 on: one of anonymous memory, three of the file that are private, one that is shared; and from page 32 on
@@ -68,13 +67,13 @@ fn mappings() -> Result<Regions, TooManyRuns>
 }
 
 // Process 1 with these pages.
-fn spawn(core: &mut Core<SimDisk, SimDisk>, regions: Regions) -> Result<(), Stall>
+fn spawn(core: &mut Core<SimDisk, SimDisk>, regions: &Regions) -> Result<(), Stall>
     requires fit { IsFit (picture_of core.old) }
     requires store { IsReadyStore ⟦<SimDisk as SectorDisk>⟧ core.old.store }
     requires swap { IsReady ⟦<SimDisk as SectorDisk>⟧ core.old.swap }
     requires dead { (picture_of core.old).root 1 ≡ None }
-    requires readable { IsReadableMap (attr_at regions) }
-    requires user { IsUserMap (attr_at regions) }
+    requires readable { IsReadableMap (attr_at regions.now) }
+    requires user { IsUserMap (attr_at regions.now) }
     ensures fit { OnOk result (IsFit (picture_of core.new)) }
     ensures store { OnOk result (IsReadyStore ⟦<SimDisk as SectorDisk>⟧ core.new.store) }
     ensures swap { OnOk result (IsReady ⟦<SimDisk as SectorDisk>⟧ core.new.swap) }
@@ -102,7 +101,7 @@ fn started(alloc: Global, slots: u32) -> Result<Core<SimDisk, SimDisk>, Fail>
         ..EIGHT_PAGES
     };
     let mut core = memory(alloc, sizes)?;
-    spawn(&mut core, regions)?;
+    spawn(&mut core, &regions)?;
     Ok(core)
 }
 

@@ -49,12 +49,12 @@ fn spawn<D, E: SectorDisk>(core: &mut Core<D, E>, pid: Pid) -> Result<(), Stall>
 }
 
 // Gives a process without a page these regions.
-fn map<D, E>(core: &mut Core<D, E>, pid: Pid, regions: Regions)
+fn map<D, E>(core: &mut Core<D, E>, pid: Pid, regions: &Regions)
     requires fit { IsFit (picture_of core.old) }
     requires live { (picture_of core.old).root pid ≢ None }
     requires unmapped { (page : ℕ) → (picture_of core.old).at pid page ≡ None }
-    requires user { IsUserMap (attr_at regions) }
-    requires readable { IsReadableMap (attr_at regions) }
+    requires user { IsUserMap (attr_at regions.now) }
+    requires readable { IsReadableMap (attr_at regions.now) }
     ensures fit { IsFit (picture_of core.new) }
     ensures store { core.new.store ≡ core.old.store }
     ensures swap { core.new.swap ≡ core.old.swap }
@@ -70,8 +70,11 @@ fn six_pages(attr: Attr) -> Result<Regions, TooManyRuns>
     ensures readable { IfOk result (λ regions. IsReadableMap (attr_at regions)) }
 {
     let none = Regions::new();
-    let one = none.replaced(32, 1, attr)?;
-    one.replaced(33, 5, zeros())
+    let mut one = Regions::new();
+    none.replace_into(32, 1, attr, &mut one)?;
+    let mut six = Regions::new();
+    one.replace_into(33, 5, zeros(), &mut six)?;
+    Ok(six)
 }
 
 // Process 1 with those pages.
@@ -90,7 +93,7 @@ fn with_pages(rt: &impl Abort, alloc: Global, attr: Attr) -> Result<Core<SimDisk
     let mut core = memory(alloc, sizes)?;
     let pid = Pid::new(1).expect(rt, "a number of a process");
     spawn(&mut core, pid)?;
-    map(&mut core, pid, six_pages(attr)?);
+    map(&mut core, pid, &six_pages(attr)?);
     Ok(core)
 }
 

@@ -226,7 +226,7 @@ fn a_process_is_made_and_mapped(rt: HostRuntime) -> Result<(), Fail> {
     let root = core.take_table()?;
     core.add_process(pid, root);
     assert_eq!(rt; core.root(pid), Some(root));
-    core.remap(pid, Regions::new());
+    core.remap(pid, &Regions::new());
     equal(&rt, core.regions(pid).runs(), 0);
     Ok(())
 }

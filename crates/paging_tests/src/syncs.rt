@@ -12,6 +12,7 @@ use disk_model::{SectorDisk, SimDisk};
 use msync::msync;
 use page_cache::Place;
 use paging::{Core, obtain};
+use regions::Regions;
 use std::alloc::Global;
 use std::process::Abort;
 use std::test::Fail;
@@ -70,8 +71,10 @@ fn map<D: SectorDisk, E: SectorDisk>(
         prot: Prot::READ,
         backing: Backing::Shared(FilePage { file: 0, page: 0 }),
     };
-    let regions = core.regions(pid).replaced(first, pages, attr)?;
-    core.remap(pid, regions);
+    let mut regions = Regions::new();
+    core.regions(pid)
+        .replace_into(first, pages, attr, &mut regions)?;
+    core.remap(pid, &regions);
     Ok(())
 }
 

@@ -45,7 +45,9 @@ pub(crate) fn five_pages() -> Result<Regions, TooManyRuns>
     ensures user { IfOk result (λ r. IsUserMap (attr_at r)) }
 {
     let none = Regions::new();
-    none.replaced(32, 5, zeros())
+    let mut five = Regions::new();
+    none.replace_into(32, 5, zeros(), &mut five)?;
+    Ok(five)
 }
 
 /// A process of that number, with those pages. All other processes are as they were.
@@ -62,7 +64,7 @@ pub(crate) fn add_process<D, E: SectorDisk>(core: &mut Core<D, E>, pid: Pid) -> 
 {
     let root = core.take_table()?;
     core.add_process(pid, root);
-    remap(core, pid, 32, 5, five_pages()?);
+    remap(core, pid, 32, 5, &five_pages()?);
     Ok(())
 }
 

@@ -13,6 +13,7 @@ use frames::Role;
 use mapping::link_tables;
 use page_ranges::{clear_row, gap_end, remap, reprotect, table_end, user_page};
 use paging::Core;
+use regions::Regions;
 use std::process::Abort;
 use std::test::Fail;
 use test_fixtures::{first_process, sharers};
@@ -53,8 +54,10 @@ fn permit<D, E>(core: &mut Core<D, E>, pages: u64, prot: Prot) -> Result<(), Fai
     ensures live { OnOk result (is_live (picture_of core.new) 1 ≡ true) }
 {
     let pid = first_process();
-    let permitted = core.regions(pid).protected(32, pages, prot)?;
-    reprotect(core, pid, 32, pages, prot, permitted);
+    let mut permitted = Regions::new();
+    core.regions(pid)
+        .protect_into(32, pages, prot, &mut permitted)?;
+    reprotect(core, pid, 32, pages, prot, &permitted);
     Ok(())
 }
 
@@ -63,8 +66,9 @@ fn remove_three<D, E>(core: &mut Core<D, E>) -> Result<(), Fail>
     requires pages { HasFivePages (picture_of core.old) }
     ensures live { OnOk result (is_live (picture_of core.new) 1 ≡ true) }
 {
-    let fewer = five_pages()?.removed(33, 3)?;
-    remap(core, first_process(), 33, 3, fewer);
+    let mut fewer = Regions::new();
+    five_pages()?.remove_into(33, 3, &mut fewer)?;
+    remap(core, first_process(), 33, 3, &fewer);
     Ok(())
 }
 
@@ -206,8 +210,9 @@ fn map_far<D, E: SectorDisk>(core: &mut Core<D, E>) -> Result<(), Fail>
     ensures swap { OnOk result (IsReady E.SectorDisk core.new.swap) }
     ensures live { OnOk result (is_live (picture_of core.new) 1 ≡ true) }
 {
-    let regions = five_pages()?.replaced(262_144, 1, zeros())?;
-    remap(core, first_process(), 262_144, 1, regions);
+    let mut six = Regions::new();
+    five_pages()?.replace_into(262_144, 1, zeros(), &mut six)?;
+    remap(core, first_process(), 262_144, 1, &six);
     Ok(())
 }
 

@@ -51,6 +51,7 @@ impl Regions {
 
     /// Removes every page. Only the number of runs is written, whatever the table holds.
     pub fn clear(&mut self)
+        ensures none { self.new ≡ [] }
         ensures empty { (page : ℕ) → attr_at self.new page ≡ None }
         ensures user { IsUserMap (attr_at self.new) }
     {
@@ -110,6 +111,15 @@ impl Regions {
             runs: self.runs,
             len: self.len,
         }
+    }
+
+    /// Makes this the same map as another. Of the table no more than that one's runs are written.
+    pub fn assign(&mut self, other: &Regions)
+        ensures { self.new ≡ other.now }
+    {
+        let len = other.len;
+        self.runs[..len].copy_from_slice(&other.runs[..len]);
+        self.len = len;
     }
 
     /// What the page is; `None` where it isn't mapped.
@@ -218,65 +228,77 @@ impl Regions {
         }
     }
 
-    /// The map with the `pages` pages from `first` on mapped anew, the first one as `attr`, file pages following one another.
-    /// `TooManyRuns` exactly where it would have more than 256 runs.
-    pub fn replaced(&self, first: u64, pages: u64, attr: Attr) -> Result<Regions, TooManyRuns>
+    /// Makes `next` this map with the `pages` pages from `first` on mapped anew, the first one as `attr`, file pages following
+    /// one another. `TooManyRuns` exactly where that has more than 256 runs; then `next` is some map.
+    pub fn replace_into(
+        &self,
+        first: u64,
+        pages: u64,
+        attr: Attr,
+        next: &mut Regions,
+    ) -> Result<(), TooManyRuns>
         requires some { 0 < pages }
         requires low { user_start ≤ first }
         requires high { first + pages ≤ user_end }
         requires file_pages { backing_fits attr.backing pages }
-        ensures ok { IfOk result (λ next. (page : ℕ) → attr_at next page ≡ replaced (attr_at self.now) first pages attr page) }
+        ensures ok { OnOk result ((page : ℕ) → attr_at next.new page ≡ replaced (attr_at self.now) first pages attr page) }
         ensures few { OnOk result (run_count (replaced (attr_at self.now) first pages attr) ≤ 256) }
         ensures too_many { OnErr result (256 < run_count (replaced (attr_at self.now) first pages attr)) }
         ensures user_before { IsUserMap (attr_at self.now) }
-        ensures user_after { IfOk result (λ next. IsUserMap (attr_at next)) }
+        ensures user_after { OnOk result (IsUserMap (attr_at next.new)) }
     {
         let run = Run {
             first,
             end: first + pages,
             attr,
         };
-        let mut next = Regions::empty();
+        next.clear();
         next.paste(self.as_slice(), 0, first, None)?;
         next.push(run)?;
         next.paste(self.as_slice(), run.end, USER_END, None)?;
-        Ok(next)
+        Ok(())
     }
 
-    /// The map without the `pages` pages from `first` on; a page that isn't mapped is no error.
-    /// `TooManyRuns` exactly where it would have more than 256 runs.
-    pub fn removed(&self, first: u64, pages: u64) -> Result<Regions, TooManyRuns>
+    /// Makes `next` this map without the `pages` pages from `first` on; a page that isn't mapped is no error.
+    /// `TooManyRuns` exactly where that has more than 256 runs; then `next` is some map.
+    pub fn remove_into(&self, first: u64, pages: u64, next: &mut Regions) -> Result<(), TooManyRuns>
         requires some { 0 < pages }
         requires row { first + pages < 2 ^ 64 }
-        ensures ok { IfOk result (λ next. (page : ℕ) → attr_at next page ≡ removed (attr_at self.now) first pages page) }
+        ensures ok { OnOk result ((page : ℕ) → attr_at next.new page ≡ removed (attr_at self.now) first pages page) }
         ensures few { OnOk result (run_count (removed (attr_at self.now) first pages) ≤ 256) }
         ensures too_many { OnErr result (256 < run_count (removed (attr_at self.now) first pages)) }
         ensures user_before { IsUserMap (attr_at self.now) }
-        ensures user_after { IfOk result (λ next. IsUserMap (attr_at next)) }
+        ensures user_after { OnOk result (IsUserMap (attr_at next.new)) }
     {
-        let mut next = Regions::empty();
+        next.clear();
         next.paste(self.as_slice(), 0, first, None)?;
         next.paste(self.as_slice(), first + pages, USER_END, None)?;
-        Ok(next)
+        Ok(())
     }
 
-    /// The map with the permission for those of the `pages` pages from `first` on that are mapped.
-    /// `TooManyRuns` exactly where it would have more than 256 runs.
-    pub fn protected(&self, first: u64, pages: u64, prot: Prot) -> Result<Regions, TooManyRuns>
+    /// Makes `next` this map with the permission for those of the `pages` pages from `first` on that are mapped.
+    /// `TooManyRuns` exactly where that has more than 256 runs; then `next` is some map.
+    pub fn protect_into(
+        &self,
+        first: u64,
+        pages: u64,
+        prot: Prot,
+        next: &mut Regions,
+    ) -> Result<(), TooManyRuns>
         requires some { 0 < pages }
         requires row { first + pages < 2 ^ 64 }
-        ensures ok { IfOk result (λ next. (page : ℕ) → attr_at next page ≡ protected (attr_at self.now) first pages prot page) }
+        ensures ok { OnOk result ((page : ℕ) → attr_at next.new page ≡ protected (attr_at self.now) first pages prot page) }
         ensures few { OnOk result (run_count (protected (attr_at self.now) first pages prot) ≤ 256) }
         ensures too_many { OnErr result (256 < run_count (protected (attr_at self.now) first pages prot)) }
         ensures user_before { IsUserMap (attr_at self.now) }
-        ensures user_after { IfOk result (λ next. IsUserMap (attr_at next)) }
+        ensures user_after { OnOk result (IsUserMap (attr_at next.new)) }
     {
         let end = first + pages;
-        let mut next = Regions::empty();
+        next.clear();
         next.paste(self.as_slice(), 0, first, None)?;
         next.paste(self.as_slice(), first, end, Some(prot))?;
         next.paste(self.as_slice(), end, USER_END, None)?;
-        Ok(next)
+        Ok(())
     }
 
     /// Puts the parts of `runs` between the pages `low` and `high` behind the others, with the permission `prot` where

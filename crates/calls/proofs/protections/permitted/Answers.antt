@@ -28,14 +28,14 @@ returns-in-Ok-clause-ok g c =
     let covered : is_covered (attr_at runs) c.args.first c.args.pages ≡ true = sym c.covers.ensures ∙ c.if-not-covers.false in
     let few : run_count (protected (attr_at runs) c.args.first c.args.pages (kept c.args.prot)) ≤ 256 =
     subst (λ (prot : Prot). run_count (protected (attr_at runs) c.args.first c.args.pages prot) ≤ 256) c.kept.ensures c.in-Ok.ensures.few in
-    let map : (page : ℕ) → attr_at c.in-Ok.next page ≡ protected (attr_at runs) c.args.first c.args.pages (kept c.args.prot) page =
-    subst (λ (prot : Prot). (page : ℕ) → attr_at c.in-Ok.next page ≡ protected (attr_at runs) c.args.first c.args.pages prot page) c.kept.ensures c.in-Ok.ensures.ok in
+    let map : (page : ℕ) → attr_at c.protect_into.new.next page ≡ protected (attr_at runs) c.args.first c.args.pages (kept c.args.prot) page =
+    subst (λ (prot : Prot). (page : ℕ) → attr_at c.protect_into.new.next page ≡ protected (attr_at runs) c.args.first c.args.pages prot page) c.kept.ensures c.in-Ok.ensures.ok in
     let under : nat_lt 256 (run_count (protected (attr_at runs) c.args.first c.args.pages (kept c.args.prot))) ≡ false = grind (arith, nat_tests, few) in
     record {
       fine = tested_is (files_of c.args.store.now) runs c.args.first c.args.pages c.args.prot None
           (none_holds (is_covered (attr_at runs) c.args.first c.args.pages) (denies_stores (files_of c.args.store.now) (space_of runs) c.args.first c.args.pages c.args.prot) _
           covered (sym c.denies_stores.ensures ∙ c.if-denies_stores.false) under);
-      high = covered_inside (attr_at runs) (attr_at c.in-Ok.next) c.args.first c.args.pages (kept c.args.prot) c.in-Ok.ensures.user_after c.requires.some map covered;
+      high = covered_inside (attr_at runs) (attr_at c.protect_into.new.next) c.args.first c.args.pages (kept c.args.prot) c.in-Ok.ensures.user_after c.requires.some map covered;
       map = map;
     }
 

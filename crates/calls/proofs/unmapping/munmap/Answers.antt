@@ -14,25 +14,25 @@ use Rattle.calls.proofs.unmapping.munmap.Goals as goal
 pub remap-requires-clause-others : goal.remap-requires-clause-others
 remap-requires-clause-others g c =
     let old = picture_of c.args.core.now in
-    let runs = c.regions.result.now in
-    let map : (page : ℕ) → attr_at c.in-Ok.next page ≡ removed (attr_at runs) (c.args.addr / 4096) c.div_ceil-pages.result page = c.in-Ok.ensures.ok in
+    let runs = c.regions-regions.result.now in
+    let map : (page : ℕ) → attr_at c.remove_into.new.next page ≡ removed (attr_at runs) (c.args.addr / 4096) c.div_ceil-pages.result page = c.in-Ok.ensures.ok in
     others_stay (c.args.addr / 4096) c.div_ceil-pages.result c.min-start.result (c.min-end.result - c.min-start.result) (omega (arith, c.min-start.ensures)) (omega (arith, c.min-end.ensures))
-    old c.in-Some.pid runs c.in-Ok.next (c.requires.sound.fit.granting.user c.in-Some.pid) c.regions.ensures map
+    old c.in-Some.pid runs c.remove_into.new.next (c.requires.sound.fit.granting.user c.in-Some.pid) c.regions-regions.ensures map
 
 pub remap-requires-clause-readable : goal.remap-requires-clause-readable
 remap-requires-clause-readable g c =
     let old = picture_of c.args.core.now in
-    let runs = c.regions.result.now in
-    reads_same (removed (attr_at runs) (c.args.addr / 4096) c.div_ceil-pages.result) (attr_at c.in-Ok.next) c.in-Ok.ensures.ok
+    let runs = c.regions-regions.result.now in
+    reads_same (removed (attr_at runs) (c.args.addr / 4096) c.div_ceil-pages.result) (attr_at c.remove_into.new.next) c.in-Ok.ensures.ok
     (reads_removed (attr_at runs) (c.args.addr / 4096) c.div_ceil-pages.result
-    (reads_same (old.at c.in-Some.pid) (attr_at runs) c.regions.ensures
+    (reads_same (old.at c.in-Some.pid) (attr_at runs) c.regions-regions.ensures
     (c.requires.sound.fit.granting.readable c.in-Some.pid)))
 
 pub returns-in-Ok-clause-comes : goal.returns-in-Ok-clause-comes
 returns-in-Ok-clause-comes g c = λ s shows reads swaps.
     let a = c.args in
     let old = picture_of a.core.now in
-    let runs = c.regions.result.now in
+    let runs = c.regions-regions.result.now in
     let pages = c.div_ceil-pages.result in
     let first = a.addr / 4096 in
     let start = c.min-start.result in
@@ -40,26 +40,26 @@ returns-in-Ok-clause-comes g c = λ s shows reads swaps.
     let count : pages ≡ page_count a.len = omega (arith, c.div_ceil-pages.ensures) in
     let same : c.in-Some.pid ≡ a.pid = c.in-Some.ensures.found.0 in
     let few : run_count (removed (attr_at runs) first pages) ≤ 256 = c.in-Ok.ensures.few in
-    let map : (page : ℕ) → attr_at c.in-Ok.next page ≡ removed (attr_at runs) first pages page = c.in-Ok.ensures.ok in
+    let map : (page : ℕ) → attr_at c.remove_into.new.next page ≡ removed (attr_at runs) first pages page = c.in-Ok.ensures.ok in
     unmaps g.D.SectorDisk g.E.SectorDisk a.core.now s a.pid a.addr a.len shows.pages (found_lives (picture_of a.core.now) c.in-Some.pid a.pid c.in-Some.ensures.found)
     (let some : a.len ≢ 0 = omega arith in some) (let aligned : a.addr % 4096 ≡ 0 = omega arith in aligned)
-    runs (subst (λ (p : ℕ). (page : ℕ) → attr_at runs page ≡ old.at p page) same c.regions.ensures) pages count
-    few c.in-Ok.next map (c.requires.sound.fit.granting.user a.pid) start size
+    runs (subst (λ (p : ℕ). (page : ℕ) → attr_at runs page ≡ old.at p page) same c.regions-regions.ensures) pages count
+    few c.remove_into.new.next map (c.requires.sound.fit.granting.user a.pid) start size
     (let from : start ≡ min first (2 ^ 26) = c.min-start.ensures in from) (let to : size ≡ min (first + pages) (2 ^ 26) - start = omega (arith, c.min-end.ensures) in to)
-    c.remap.new.core (subst (λ (p : ℕ). RemapsRow old (picture_of c.remap.new.core) p start size (attr_at c.in-Ok.next)) same c.remap.ensures.row)
+    c.remap.new.core (subst (λ (p : ℕ). RemapsRow old (picture_of c.remap.new.core) p start size (attr_at c.remove_into.new.next)) same c.remap.ensures.row)
 
 pub returns-in-Err-clause-comes : goal.returns-in-Err-clause-comes
 returns-in-Err-clause-comes g c = λ s shows reads swaps.
     let a = c.args in
     let old = picture_of a.core.now in
-    let runs = c.regions.result.now in
+    let runs = c.regions-regions.result.now in
     let pages = c.div_ceil-pages.result in
     let first = a.addr / 4096 in
     let count : pages ≡ page_count a.len = omega (arith, c.div_ceil-pages.ensures) in
     let many : 256 < run_count (removed (attr_at runs) first pages) = c.in-Err.ensures.too_many in
     refused_many g.D.SectorDisk g.E.SectorDisk a.core.now s a.pid a.addr a.len shows.pages (found_lives (picture_of a.core.now) c.in-Some.pid a.pid c.in-Some.ensures.found)
     (let some : a.len ≢ 0 = omega arith in some) (let aligned : a.addr % 4096 ≡ 0 = omega arith in aligned)
-    runs (subst (λ (p : ℕ). (page : ℕ) → attr_at runs page ≡ old.at p page) c.in-Some.ensures.found.0 c.regions.ensures) pages count many
+    runs (subst (λ (p : ℕ). (page : ℕ) → attr_at runs page ≡ old.at p page) c.in-Some.ensures.found.0 c.regions-regions.ensures) pages count many
 
 pub returns-in-Ok-clause-room : goal.returns-in-Ok-clause-room
 returns-in-Ok-clause-room g c = room_same c.args.core.now c.remap.new.core c.remap.ensures.cache

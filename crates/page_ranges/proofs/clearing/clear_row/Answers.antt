@@ -1,15 +1,13 @@
-use Rattle.std.proofs.Common.{◌≡◌, ℕ, ◌+◌, ◌<◌, ◌≤◌, ◌⊎◌, inl, inr, refl, sym, ◌∙◌, subst, arith}
-use Rattle.std.specs.Prelude.{max}
-use Rattle.std.proofs.lemmas.Bool.{cases_lt}
+use Rattle.std.proofs.Common.{◌≤◌, inl, inr, refl, sym, ◌∙◌, arith}
 use Rattle.paging.specs.Picture.{Picture, picture_of}
-use Rattle.page_ranges.specs.Steps.{Clears, IsCleared}
+use Rattle.page_ranges.specs.Rows.{IsUnmapped}
 use Rattle.page_ranges.proofs.ClearedPages.{rest-refl, rest_then, clears_none, clears_then}
-use Rattle.page_ranges.proofs.Emptied.{remaps_cleared, slots_cleared, tables_cleared}
+use Rattle.page_ranges.proofs.Passed.{clears_on, cleared_on, row_passed, slots_passed, tables_passed}
 use Rattle.page_ranges.proofs.Pruned.{cleared_none}
 use Rattle.page_ranges.proofs.clearing.clear_row.Goals as goal
 
-pub loop-page-init : goal.loop-page-init
-loop-page-init g c =
+pub loop-part-init : goal.loop-part-init
+loop-part-init g c =
     let old : Picture = picture_of c.args.core.now in
     record {
       fit = c.requires.fit;
@@ -21,67 +19,52 @@ loop-page-init g c =
       refused = refl;
     }
 
-pub loop-page-preserved : goal.loop-page-preserved
-loop-page-preserved g c =
+pub loop-part-preserved : goal.loop-part-preserved
+loop-part-preserved g c =
     let old : Picture = picture_of c.args.core.now in
-    let mid : Picture = picture_of c.loop-page.core in
-    let new : Picture = picture_of c.clear_next-page.new.core in
-    let k = c.loop-page.invariant in
+    let mid : Picture = picture_of c.loop-part.core in
+    let new : Picture = picture_of c.clear_part.new.core in
+    let first = c.in-Some.part.first in
+    let end = c.in-Some.part.end in
+    let k = c.loop-part.invariant in
     let low = k.low in
-    let next = c.clear_next-page.ensures in
-    let further : c.loop-page.page ≤ c.clear_next-page.result = omega (arith, next.further, c.user_page.ensures) in
-    let P : ℕ → Type 0 = λ x. Clears mid new c.args.pid x c.clear_next-page.result in
-    let Q : ℕ → Type 0 = λ x. IsCleared mid c.args.pid c.max-page.result x in
+    let some = c.in-Some.ensures.some in
+    let from = some.from in
+    let further = some.further in
+    let next = c.clear_part.ensures in
+    let start : c.max-page.result ≤ first = omega (arith, low, from) in
+    let gap : IsUnmapped (mid.at c.args.pid) c.loop-part.page first = λ page least below. sym (c.regions.ensures page) ∙ some.passed page least below in
     record {
       fit = next.fit;
-      low = omega (arith, low, further);
-      high = inr next.within;
-      clears = clears_then old mid new c.args.pid c.max-page.result c.loop-page.page c.clear_next-page.result c.requires.fit low further k.clears
-          (subst P c.user_page.ensures next.clears);
-      cleared = next.cleared c.max-page.result (omega (arith, low, c.user_page.ensures)) (subst Q (sym c.user_page.ensures) k.cleared);
-      rest = rest_then c.args.core.now c.loop-page.core c.clear_next-page.new.core k.rest next.rest;
+      low = omega (arith, start, further);
+      high = inr some.within;
+      clears = clears_then old mid new c.args.pid c.max-page.result first end c.requires.fit start (omega (arith, further))
+          (clears_on mid c.args.pid c.max-page.result c.loop-part.page first k.fit.granting gap old c.requires.fit low from k.clears) next.clears;
+      cleared = next.cleared c.max-page.result start (cleared_on mid c.args.pid c.max-page.result c.loop-part.page first k.fit.granting gap k.cleared);
+      rest = rest_then c.args.core.now c.loop-part.core c.clear_part.new.core k.rest next.rest;
       refused = next.refused ∙ k.refused;
     }
 
-begins : (low first : ℕ) → low ≡ max first 16 → (low ≡ first) ⊎ ((low ≡ 16) × (first < 16))
-begins low first is = elim (cases_lt first 16) [
-  | inl less ↦ inr (omega arith, less)
-  | inr more ↦ inl (omega arith)
-]
-
-ends : (low high end : ℕ) → end ≤ high → (high ≡ low) ⊎ (high ≤ end) → (high ≡ low) ⊎ (high ≡ end)
-ends low high end reaches (inl is) = inl is
-ends low high end reaches (inr le) = inr (omega arith)
-
 pub returns-clause-row : goal.returns-clause-row
 returns-clause-row g c =
-    let old : Picture = picture_of c.args.core.now in
-    let new : Picture = picture_of c.loop-page.core in
-    let k = c.loop-page.invariant in
-    remaps_cleared old new c.args.pid c.args.first c.args.pages c.max-page.result c.loop-page.page c.requires.fit k.fit.granting k.clears c.requires.row k.low
-    (begins c.max-page.result c.args.first c.max-page.ensures) c.loop-page-test.false
-    (ends c.max-page.result c.loop-page.page (c.args.first + c.args.pages) c.loop-page-test.false k.high)
+    let k = c.loop-part.invariant in
+    row_passed (picture_of c.args.core.now) (picture_of c.loop-part.core) c.args.pid c.args.first c.args.pages c.max-page.result c.loop-part.page c.requires.fit k.fit.granting k.clears k.cleared
+    c.requires.row c.max-page.ensures k.low k.high (λ page least below. sym (c.regions.ensures page) ∙ c.in_default.ensures.none page least below)
 
 pub returns-clause-others : goal.returns-clause-others
-returns-clause-others g c q page h ne = c.loop-page.invariant.clears.kept q page h (inl ne)
+returns-clause-others g c q page h ne = c.loop-part.invariant.clears.kept q page h (inl ne)
 
 pub returns-clause-tables : goal.returns-clause-tables
-returns-clause-tables g c = c.loop-page.invariant.clears.returned
+returns-clause-tables g c = c.loop-part.invariant.clears.returned
 
 pub returns-clause-none_left : goal.returns-clause-none_left
 returns-clause-none_left g c =
-    let old : Picture = picture_of c.args.core.now in
-    let new : Picture = picture_of c.loop-page.core in
-    let k = c.loop-page.invariant in
-    tables_cleared old new c.args.pid c.args.first c.args.pages c.max-page.result c.loop-page.page c.requires.fit k.fit.granting k.clears c.requires.row k.low
-    (begins c.max-page.result c.args.first c.max-page.ensures) c.loop-page-test.false
-    (ends c.max-page.result c.loop-page.page (c.args.first + c.args.pages) c.loop-page-test.false k.high) k.cleared
+    let k = c.loop-part.invariant in
+    tables_passed (picture_of c.args.core.now) (picture_of c.loop-part.core) c.args.pid c.args.first c.args.pages c.max-page.result c.loop-part.page c.requires.fit k.fit.granting k.clears k.cleared
+    c.requires.row c.max-page.ensures k.low k.high (λ page least below. sym (c.regions.ensures page) ∙ c.in_default.ensures.none page least below)
 
 pub returns-clause-slots : goal.returns-clause-slots
 returns-clause-slots g c =
-    let old : Picture = picture_of c.args.core.now in
-    let new : Picture = picture_of c.loop-page.core in
-    let k = c.loop-page.invariant in
-    slots_cleared old new c.args.pid c.args.first c.args.pages c.max-page.result c.loop-page.page c.requires.fit k.fit.granting k.clears c.requires.row k.low
-    (begins c.max-page.result c.args.first c.max-page.ensures) c.loop-page-test.false
-    (ends c.max-page.result c.loop-page.page (c.args.first + c.args.pages) c.loop-page-test.false k.high)
+    let k = c.loop-part.invariant in
+    slots_passed (picture_of c.args.core.now) (picture_of c.loop-part.core) c.args.pid c.args.first c.args.pages c.max-page.result c.loop-part.page c.requires.fit k.fit.granting k.clears k.cleared
+    c.requires.row c.max-page.ensures k.low k.high (λ page least below. sym (c.regions.ensures page) ∙ c.in_default.ensures.none page least below)

@@ -4,8 +4,8 @@ use Rattle.paging.specs.Picture.{picture_of}
 use Rattle.page_ranges.specs.Steps.{KeepsBesideMemory, Clears, IsCleared}
 use Rattle.page_ranges.proofs.clearing.clear_row.Given as goal
 
-abbrev pub invariant-loop-page : goal.invariant-loop-page
-invariant-loop-page g l = record {
+abbrev pub invariant-loop-part : goal.invariant-loop-part
+invariant-loop-part g l = record {
   fit : IsFit (picture_of l.core);
   low : l.initial.page ≤ l.page;
   high : (l.page ≡ l.initial.page) ⊎ (l.page ≤ l.end);
@@ -15,5 +15,5 @@ invariant-loop-page g l = record {
   refused : l.core.refused ≡ l.initial.core.refused;
 }
 
-abbrev pub decreases-loop-page : goal.decreases-loop-page
-decreases-loop-page g l = l.end - l.page
+abbrev pub decreases-loop-part : goal.decreases-loop-part
+decreases-loop-part g l = l.end - l.page

@@ -22,7 +22,7 @@ returns-clause-fit c =
     let root = c.in_ok-root.root.0 in
     let took = c.in_ok-root.ensures.taken in
     let spawns = c.add_process.ensures.spawns in
-    fit_mapped (picture_of c.add_process.new.self) (picture_of c.remap.new.self) pid c.args.regions
+    fit_mapped (picture_of c.add_process.new.self) (picture_of c.remap.new.self) pid c.args.regions.now
     (fit_started old mid (picture_of c.add_process.new.self) pid root took spawns) c.remap.ensures.remaps c.remap.ensures.at
     c.requires.user c.requires.readable (λ page h. bare_started old mid (picture_of c.add_process.new.self) pid root took spawns page) spawns.unmapped
 

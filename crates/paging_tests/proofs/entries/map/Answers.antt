@@ -15,6 +15,6 @@ remap-requires g c = record { live = some_lives ((picture_of c.args.core.now).ro
 pub returns-clause-fit : goal.returns-clause-fit
 returns-clause-fit g c =
     let old : Picture = picture_of c.args.core.now in
-    fit_mapped old (picture_of c.remap.new.self) c.args.pid c.args.regions c.requires.fit c.remap.ensures.remaps c.remap.ensures.at c.requires.user c.requires.readable
+    fit_mapped old (picture_of c.remap.new.self) c.args.pid c.args.regions.now c.requires.fit c.remap.ensures.remaps c.remap.ensures.at c.requires.user c.requires.readable
     (λ page h. unmapped_nothing old (old.at c.args.pid page) (entry old c.args.pid page) (c.requires.unmapped page) (c.requires.fit.granting.entries c.args.pid page h))
     c.requires.unmapped

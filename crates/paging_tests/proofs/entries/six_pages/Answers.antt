@@ -1,11 +1,10 @@
-use Rattle.std.proofs.Common.{◌≡◌, ℕ, Bool, true, false, Option, Some, None, Ok, Err, refl, sym, subst}
-use Rattle.std.specs.Prelude.{IfSome, if◌then◌else◌, Result, IfOk}
+use Rattle.std.proofs.Common.{◌≡◌, ℕ, Bool, true, false, Option, Some, None, refl, sym, subst}
+use Rattle.std.specs.Prelude.{IfSome, if◌then◌else◌}
 use Rattle.vm_types.specs.declared.region.Attr.{Attr}
 use Rattle.vm_types.specs.declared.region.Backing.TheVariants.{Anon}
 use Rattle.vm_types.specs.Rows.{replaced}
 use Rattle.regions.specs.Permission.{ReadsToo, IsReadableMap}
 use Rattle.regions.specs.RunList.{attr_at}
-use Rattle.regions.specs.declared.table.Regions.{Regions}
 use Rattle.paging_tests.proofs.entries.six_pages.Goals as goal
 
 abbrev Reads : Option Attr → Type 0
@@ -21,11 +20,6 @@ replaced_readable map m first count a reads readable is page = subst Reads (sym 
 empty_readable : (m : ℕ → Option Attr) → ((page : ℕ) → m page ≡ None) → IsReadableMap m
 empty_readable m none page = subst Reads (sym (none page)) tt
 
-ok_readable : {E : Type 0} (r : Result Regions E) (m : ℕ → Option Attr) (first count : ℕ) (a : Attr) → ReadsToo a.prot → IsReadableMap m
-    → IfOk r (λ next. (page : ℕ) → attr_at next page ≡ replaced m first count a page) → IfOk r (λ next. IsReadableMap (attr_at next))
-ok_readable (Ok next) m first count a reads readable is = replaced_readable (attr_at next) m first count a reads readable is
-ok_readable (Err e) m first count a reads readable is = tt
-
 abbrev both : Attr
 both = record { prot = record { 0 = 3 }; backing = Anon }
 
@@ -35,6 +29,6 @@ both_read w = refl
 pub returns-clause-readable : goal.returns-clause-readable
 returns-clause-readable c =
     let P : Attr → Type 0 = λ a. ReadsToo a.prot in
-    ok_readable c.replaced-2.result (attr_at c.in_ok-one.one) 33 5 c.zeros.result (subst P (sym c.zeros.ensures) both_read)
-    (replaced_readable (attr_at c.in_ok-one.one) (attr_at c.new-none.result) 32 1 c.args.attr c.requires.readable
-    (empty_readable (attr_at c.new-none.result) c.new-none.ensures.empty) c.in_ok-one.ensures.ok) c.replaced-2.ensures.ok
+    replaced_readable (attr_at c.replace_into-2.new.next) (attr_at c.replace_into.new.next) 33 5 c.zeros.result (subst P (sym c.zeros.ensures) both_read)
+    (replaced_readable (attr_at c.replace_into.new.next) (attr_at c.new-none.result) 32 1 c.args.attr c.requires.readable
+    (empty_readable (attr_at c.new-none.result) c.new-none.ensures.empty) c.in_ok-replace_into.ensures.ok) c.in_ok-replace_into-2.ensures.ok

@@ -6,5 +6,5 @@ use Rattle.process_tests.proofs.rows.permit.Goals as goal
 
 pub reprotect-requires-clause-map : goal.reprotect-requires-clause-map
 reprotect-requires-clause-map g c page =
-    c.in_ok-permitted.ensures.ok page
+    c.in_ok-protect_into.ensures.ok page
     ∙ ap (λ a. if in_row 32 c.args.pages page then option_map (with_prot c.args.prot) a else a) (c.regions.ensures page)

@@ -6,41 +6,41 @@ use Rattle.regions.specs.RunList.{attr_at, IsMaximal, list_protected}
 use Rattle.regions.proofs.MapLemmas.{front_end_low, middle_end, protected_at, protected_is}
 use Rattle.regions.proofs.ResultLemmas.{count_protected, many_protected, many_protected_front, many_protected_middle, on_err}
 use Rattle.regions.proofs.WalkLemmas.{user_map}
-use Rattle.regions.proofs.table.Regions.protected.Goals as goal
+use Rattle.regions.proofs.table.Regions.protect_into.Goals as goal
 
 pub returns-in_err-paste-clause-too_many : goal.returns-in_err-paste-clause-too_many
 returns-in_err-paste-clause-too_many c =
     on_err c.from_residual.result (256 < run_count (protected (attr_at c.args.self.now) c.args.first c.args.pages c.args.prot))
     (many_protected_front c.args.self.now c.args.first c.args.pages c.args.prot c.as_slice.ensures.maximal
-    (rw (c.empty-next.ensures, c.as_slice.ensures.runs) at c.in_err-paste.ensures.err))
+    (rw (c.clear.ensures.none, c.as_slice.ensures.runs) at c.in_err-paste.ensures.err))
 
 pub returns-in_err-paste-clause-user_before : goal.returns-in_err-paste-clause-user_before
 returns-in_err-paste-clause-user_before c = user_map c.args.self.now c.as_slice.ensures.maximal
 
 pub paste-requires-2-clause-behind : goal.paste-requires-2-clause-behind
 paste-requires-2-clause-behind c =
-    rw (c.in_ok-paste.ensures.ok, c.empty-next.ensures, c.as_slice.ensures.runs)
+    rw (c.in_ok-paste.ensures.ok, c.clear.ensures.none, c.as_slice.ensures.runs)
     (front_end_low c.args.self.now c.as_slice.ensures.maximal c.args.first (c.args.first + c.args.pages) (omega arith))
 
 pub returns-in_err-paste-2-clause-too_many : goal.returns-in_err-paste-2-clause-too_many
 returns-in_err-paste-2-clause-too_many c =
     on_err c.from_residual-in_err-paste-2.result (256 < run_count (protected (attr_at c.args.self.now) c.args.first c.args.pages c.args.prot))
     (many_protected_middle c.args.self.now c.args.first c.args.pages c.args.prot c.as_slice.ensures.maximal
-    (rw (c.in_ok-paste.ensures.ok, c.empty-next.ensures, c.as_slice.ensures.runs, c.as_slice-2.ensures.runs) at c.in_err-paste-2.ensures.err))
+    (rw (c.in_ok-paste.ensures.ok, c.clear.ensures.none, c.as_slice.ensures.runs, c.as_slice-2.ensures.runs) at c.in_err-paste-2.ensures.err))
 
 pub returns-in_err-paste-2-clause-user_before : goal.returns-in_err-paste-2-clause-user_before
 returns-in_err-paste-2-clause-user_before c = user_map c.args.self.now c.as_slice.ensures.maximal
 
 pub paste-requires-3-clause-behind : goal.paste-requires-3-clause-behind
 paste-requires-3-clause-behind c =
-    rw (c.in_ok-paste-2.ensures.ok, c.in_ok-paste.ensures.ok, c.empty-next.ensures, c.as_slice.ensures.runs, c.as_slice-2.ensures.runs)
+    rw (c.in_ok-paste-2.ensures.ok, c.in_ok-paste.ensures.ok, c.clear.ensures.none, c.as_slice.ensures.runs, c.as_slice-2.ensures.runs)
     (middle_end c.args.self.now c.as_slice.ensures.maximal c.args.first (c.args.first + c.args.pages) (omega arith) c.args.prot)
 
 pub returns-in_err-paste-3-clause-too_many : goal.returns-in_err-paste-3-clause-too_many
 returns-in_err-paste-3-clause-too_many c =
     on_err c.from_residual-in_err-paste-3.result (256 < run_count (protected (attr_at c.args.self.now) c.args.first c.args.pages c.args.prot))
     (many_protected c.args.self.now c.args.first c.args.pages c.args.prot c.as_slice.ensures.maximal
-    (rw (c.in_ok-paste-2.ensures.ok, c.in_ok-paste.ensures.ok, c.empty-next.ensures, c.as_slice.ensures.runs, c.as_slice-2.ensures.runs, c.as_slice-3.ensures.runs) at c.in_err-paste-3.ensures.err))
+    (rw (c.in_ok-paste-2.ensures.ok, c.in_ok-paste.ensures.ok, c.clear.ensures.none, c.as_slice.ensures.runs, c.as_slice-2.ensures.runs, c.as_slice-3.ensures.runs) at c.in_err-paste-3.ensures.err))
 
 pub returns-in_err-paste-3-clause-user_before : goal.returns-in_err-paste-3-clause-user_before
 returns-in_err-paste-3-clause-user_before c = user_map c.args.self.now c.as_slice.ensures.maximal
@@ -48,14 +48,14 @@ returns-in_err-paste-3-clause-user_before c = user_map c.args.self.now c.as_slic
 pub returns-clause-ok : goal.returns-clause-ok
 returns-clause-ok c = λ page.
     let list : c.paste-3.new.self ≡ list_protected c.args.self.now c.args.first (c.args.first + c.args.pages) c.args.prot =
-    rw (c.in_ok-paste-2.ensures.ok, c.in_ok-paste.ensures.ok, c.empty-next.ensures, c.as_slice.ensures.runs, c.as_slice-2.ensures.runs, c.as_slice-3.ensures.runs) at c.in_ok-paste-3.ensures.ok in
+    rw (c.in_ok-paste-2.ensures.ok, c.in_ok-paste.ensures.ok, c.clear.ensures.none, c.as_slice.ensures.runs, c.as_slice-2.ensures.runs, c.as_slice-3.ensures.runs) at c.in_ok-paste-3.ensures.ok in
     ap (λ (l : List Run). attr_at l page) list
     ∙ protected_at c.args.self.now c.as_slice.ensures.maximal c.args.first (c.args.first + c.args.pages) (omega arith) c.args.prot page
 
 pub returns-clause-few : goal.returns-clause-few
 returns-clause-few c =
     let list : c.paste-3.new.self ≡ list_protected c.args.self.now c.args.first (c.args.first + c.args.pages) c.args.prot =
-    rw (c.in_ok-paste-2.ensures.ok, c.in_ok-paste.ensures.ok, c.empty-next.ensures, c.as_slice.ensures.runs, c.as_slice-2.ensures.runs, c.as_slice-3.ensures.runs) at c.in_ok-paste-3.ensures.ok in
+    rw (c.in_ok-paste-2.ensures.ok, c.in_ok-paste.ensures.ok, c.clear.ensures.none, c.as_slice.ensures.runs, c.as_slice-2.ensures.runs, c.as_slice-3.ensures.runs) at c.in_ok-paste-3.ensures.ok in
     let count : run_count (protected (attr_at c.args.self.now) c.args.first c.args.pages c.args.prot) ≡ length (list_protected c.args.self.now c.args.first (c.args.first + c.args.pages) c.args.prot) =
     count_protected c.args.self.now c.args.first c.args.pages c.args.prot c.as_slice.ensures.maximal in
     let same : length c.paste-3.new.self ≡ length (list_protected c.args.self.now c.args.first (c.args.first + c.args.pages) c.args.prot) = ap (λ (l : List Run). length l) list in
@@ -65,7 +65,7 @@ returns-clause-few c =
 pub returns-clause-user_after : goal.returns-clause-user_after
 returns-clause-user_after c =
     let list : c.paste-3.new.self ≡ list_protected c.args.self.now c.args.first (c.args.first + c.args.pages) c.args.prot =
-    rw (c.in_ok-paste-2.ensures.ok, c.in_ok-paste.ensures.ok, c.empty-next.ensures, c.as_slice.ensures.runs, c.as_slice-2.ensures.runs, c.as_slice-3.ensures.runs) at c.in_ok-paste-3.ensures.ok in
+    rw (c.in_ok-paste-2.ensures.ok, c.in_ok-paste.ensures.ok, c.clear.ensures.none, c.as_slice.ensures.runs, c.as_slice-2.ensures.runs, c.as_slice-3.ensures.runs) at c.in_ok-paste-3.ensures.ok in
     user_map c.paste-3.new.self
     (subst (λ (l : List Run). IsMaximal 16 l) (sym list) (protected_is c.args.self.now c.as_slice.ensures.maximal c.args.first (c.args.first + c.args.pages) (omega arith) c.args.prot).maximal)
 

@@ -7,14 +7,14 @@ use Rattle.regions.specs.RunList.{attr_at, IsMaximal, list_replaced}
 use Rattle.regions.proofs.MapLemmas.{replaced_at, replaced_behind, replaced_end, replaced_is}
 use Rattle.regions.proofs.ResultLemmas.{count_replaced, many_replaced, many_replaced_front, many_replaced_middle, on_err, row_run, run_of_row}
 use Rattle.regions.proofs.WalkLemmas.{user_map}
-use Rattle.regions.proofs.table.Regions.replaced.Goals as goal
+use Rattle.regions.proofs.table.Regions.replace_into.Goals as goal
 
 pub returns-in_err-paste-clause-too_many : goal.returns-in_err-paste-clause-too_many
 returns-in_err-paste-clause-too_many c =
     let run : IsRun (row_run c.args.first c.args.pages c.args.attr) = run_of_row c.args.first c.args.pages c.args.attr c.requires.some c.requires.low c.requires.high c.requires.file_pages in
     on_err c.from_residual.result (256 < run_count (replaced (attr_at c.args.self.now) c.args.first c.args.pages c.args.attr))
     (many_replaced_front c.args.self.now c.args.first c.args.pages c.args.attr c.as_slice.ensures.maximal run
-    (rw (c.empty-next.ensures, c.as_slice.ensures.runs) at c.in_err-paste.ensures.err))
+    (rw (c.clear.ensures.none, c.as_slice.ensures.runs) at c.in_err-paste.ensures.err))
 
 pub returns-in_err-paste-clause-user_before : goal.returns-in_err-paste-clause-user_before
 returns-in_err-paste-clause-user_before c = user_map c.args.self.now c.as_slice.ensures.maximal
@@ -26,7 +26,7 @@ push-requires-clause-run c =
 pub push-requires-clause-behind : goal.push-requires-clause-behind
 push-requires-clause-behind c =
     let run : IsRun (row_run c.args.first c.args.pages c.args.attr) = run_of_row c.args.first c.args.pages c.args.attr c.requires.some c.requires.low c.requires.high c.requires.file_pages in
-    rw (c.in_ok-paste.ensures.ok, c.empty-next.ensures, c.as_slice.ensures.runs)
+    rw (c.in_ok-paste.ensures.ok, c.clear.ensures.none, c.as_slice.ensures.runs)
     (replaced_behind c.args.self.now c.as_slice.ensures.maximal (row_run c.args.first c.args.pages c.args.attr) run)
 
 pub returns-in_err-push-clause-too_many : goal.returns-in_err-push-clause-too_many
@@ -34,7 +34,7 @@ returns-in_err-push-clause-too_many c =
     let run : IsRun (row_run c.args.first c.args.pages c.args.attr) = run_of_row c.args.first c.args.pages c.args.attr c.requires.some c.requires.low c.requires.high c.requires.file_pages in
     on_err c.from_residual-in_err-push.result (256 < run_count (replaced (attr_at c.args.self.now) c.args.first c.args.pages c.args.attr))
     (many_replaced_middle c.args.self.now c.args.first c.args.pages c.args.attr c.as_slice.ensures.maximal run
-    (rw (c.in_ok-paste.ensures.ok, c.empty-next.ensures, c.as_slice.ensures.runs) at c.in_err-push.ensures.err))
+    (rw (c.in_ok-paste.ensures.ok, c.clear.ensures.none, c.as_slice.ensures.runs) at c.in_err-push.ensures.err))
 
 pub returns-in_err-push-clause-user_before : goal.returns-in_err-push-clause-user_before
 returns-in_err-push-clause-user_before c = user_map c.args.self.now c.as_slice.ensures.maximal
@@ -42,7 +42,7 @@ returns-in_err-push-clause-user_before c = user_map c.args.self.now c.as_slice.e
 pub paste-requires-2-clause-behind : goal.paste-requires-2-clause-behind
 paste-requires-2-clause-behind c =
     let run : IsRun (row_run c.args.first c.args.pages c.args.attr) = run_of_row c.args.first c.args.pages c.args.attr c.requires.some c.requires.low c.requires.high c.requires.file_pages in
-    rw (c.in_ok-push.ensures.ok, c.in_ok-paste.ensures.ok, c.empty-next.ensures, c.as_slice.ensures.runs)
+    rw (c.in_ok-push.ensures.ok, c.in_ok-paste.ensures.ok, c.clear.ensures.none, c.as_slice.ensures.runs)
     (replaced_end c.args.self.now c.as_slice.ensures.maximal (row_run c.args.first c.args.pages c.args.attr) run)
 
 pub returns-in_err-paste-2-clause-too_many : goal.returns-in_err-paste-2-clause-too_many
@@ -50,7 +50,7 @@ returns-in_err-paste-2-clause-too_many c =
     let run : IsRun (row_run c.args.first c.args.pages c.args.attr) = run_of_row c.args.first c.args.pages c.args.attr c.requires.some c.requires.low c.requires.high c.requires.file_pages in
     on_err c.from_residual-in_err-paste-2.result (256 < run_count (replaced (attr_at c.args.self.now) c.args.first c.args.pages c.args.attr))
     (many_replaced c.args.self.now c.args.first c.args.pages c.args.attr c.as_slice.ensures.maximal run
-    (rw (c.in_ok-push.ensures.ok, c.in_ok-paste.ensures.ok, c.empty-next.ensures, c.as_slice.ensures.runs, c.as_slice-2.ensures.runs) at c.in_err-paste-2.ensures.err))
+    (rw (c.in_ok-push.ensures.ok, c.in_ok-paste.ensures.ok, c.clear.ensures.none, c.as_slice.ensures.runs, c.as_slice-2.ensures.runs) at c.in_err-paste-2.ensures.err))
 
 pub returns-in_err-paste-2-clause-user_before : goal.returns-in_err-paste-2-clause-user_before
 returns-in_err-paste-2-clause-user_before c = user_map c.args.self.now c.as_slice.ensures.maximal
@@ -59,7 +59,7 @@ pub returns-clause-ok : goal.returns-clause-ok
 returns-clause-ok c = λ page.
     let run : IsRun (row_run c.args.first c.args.pages c.args.attr) = run_of_row c.args.first c.args.pages c.args.attr c.requires.some c.requires.low c.requires.high c.requires.file_pages in
     let list : c.paste-2.new.self ≡ list_replaced c.args.self.now (row_run c.args.first c.args.pages c.args.attr) =
-    rw (c.in_ok-push.ensures.ok, c.in_ok-paste.ensures.ok, c.empty-next.ensures, c.as_slice.ensures.runs, c.as_slice-2.ensures.runs) at c.in_ok-paste-2.ensures.ok in
+    rw (c.in_ok-push.ensures.ok, c.in_ok-paste.ensures.ok, c.clear.ensures.none, c.as_slice.ensures.runs, c.as_slice-2.ensures.runs) at c.in_ok-paste-2.ensures.ok in
     ap (λ (l : List Run). attr_at l page) list
     ∙ replaced_at c.args.self.now c.as_slice.ensures.maximal (row_run c.args.first c.args.pages c.args.attr) run page
 
@@ -67,7 +67,7 @@ pub returns-clause-few : goal.returns-clause-few
 returns-clause-few c =
     let run : IsRun (row_run c.args.first c.args.pages c.args.attr) = run_of_row c.args.first c.args.pages c.args.attr c.requires.some c.requires.low c.requires.high c.requires.file_pages in
     let list : c.paste-2.new.self ≡ list_replaced c.args.self.now (row_run c.args.first c.args.pages c.args.attr) =
-    rw (c.in_ok-push.ensures.ok, c.in_ok-paste.ensures.ok, c.empty-next.ensures, c.as_slice.ensures.runs, c.as_slice-2.ensures.runs) at c.in_ok-paste-2.ensures.ok in
+    rw (c.in_ok-push.ensures.ok, c.in_ok-paste.ensures.ok, c.clear.ensures.none, c.as_slice.ensures.runs, c.as_slice-2.ensures.runs) at c.in_ok-paste-2.ensures.ok in
     let count : run_count (replaced (attr_at c.args.self.now) c.args.first c.args.pages c.args.attr) ≡ length (list_replaced c.args.self.now (row_run c.args.first c.args.pages c.args.attr)) =
     count_replaced c.args.self.now c.args.first c.args.pages c.args.attr c.as_slice.ensures.maximal run in
     let same : length c.paste-2.new.self ≡ length (list_replaced c.args.self.now (row_run c.args.first c.args.pages c.args.attr)) = ap (λ (l : List Run). length l) list in
@@ -78,7 +78,7 @@ pub returns-clause-user_after : goal.returns-clause-user_after
 returns-clause-user_after c =
     let run : IsRun (row_run c.args.first c.args.pages c.args.attr) = run_of_row c.args.first c.args.pages c.args.attr c.requires.some c.requires.low c.requires.high c.requires.file_pages in
     let list : c.paste-2.new.self ≡ list_replaced c.args.self.now (row_run c.args.first c.args.pages c.args.attr) =
-    rw (c.in_ok-push.ensures.ok, c.in_ok-paste.ensures.ok, c.empty-next.ensures, c.as_slice.ensures.runs, c.as_slice-2.ensures.runs) at c.in_ok-paste-2.ensures.ok in
+    rw (c.in_ok-push.ensures.ok, c.in_ok-paste.ensures.ok, c.clear.ensures.none, c.as_slice.ensures.runs, c.as_slice-2.ensures.runs) at c.in_ok-paste-2.ensures.ok in
     user_map c.paste-2.new.self
     (subst (λ (l : List Run). IsMaximal 16 l) (sym list) (replaced_is c.args.self.now c.as_slice.ensures.maximal (row_run c.args.first c.args.pages c.args.attr) run).maximal)
 
