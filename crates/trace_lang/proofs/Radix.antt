@@ -26,24 +26,20 @@ value_so_far radix ds i n low l e =
     at_least_one n l = omega arith
 
 -- what one more digit gives
-pub next_value : (radix : ℕ) (ds : List ℕ) (i n factor shifted byte digit added more : ℕ) → i < length ds → n ≡ digits_value radix (take i ds)
-    → factor ≡ radix → shifted ≡ n * factor → byte ≡ get_or ds i 0 → digit ≡ digit_value byte → added ≡ digit → more ≡ shifted + added
+pub next_value : (radix : ℕ) (ds : List ℕ) (i n factor byte digit added more : ℕ) → i < length ds → n ≡ digits_value radix (take i ds)
+    → factor ≡ radix → byte ≡ get_or ds i 0 → digit ≡ digit_value byte → added ≡ digit → more ≡ n * factor + added
     → more ≡ digits_value radix (take (i + 1) ds)
-next_value radix ds i n factor shifted byte digit added more l en ef es eb ed ea em =
-    em ∙ ap (λ x. x + added) es ∙ ap (λ x. n * x + added) ef
+next_value radix ds i n factor byte digit added more l en ef eb ed ea em =
+    em ∙ ap (λ x. n * x + added) ef
     ∙ ap (λ x. n * radix + x) (ea ∙ ed ∙ ap digit_value eb)
     ∙ ap (λ v. v * radix + digit_value (get_or ds i 0)) en ∙ sym (digits_value_more radix ds i l)
 
--- a product or a sum past the limit shows that the numeral is
-pub mul_past : (n radix factor d most limit : ℕ) → n * radix + d ≤ most → most < limit → factor ≡ radix → (n * factor < limit → ⊥) → ⊥
-mul_past n radix factor d most limit h small e past =
-    let P : ℕ → Type 0 = λ x. n * x < limit in past (subst P (sym e) (omega arith))
-
-pub add_past : (n radix factor shifted d digit added most limit : ℕ) → n * radix + d ≤ most → most < limit → factor ≡ radix → shifted ≡ n * factor
-    → added ≡ digit → digit ≡ d → (shifted + added < limit → ⊥) → ⊥
-add_past n radix factor shifted d digit added most limit h small ef es ea ed past =
+-- one more digit past the limit shows that the numeral is
+pub digit_past : (n radix factor d digit added most limit : ℕ) → n * radix + d ≤ most → most < limit → factor ≡ radix
+    → added ≡ digit → digit ≡ d → (n * factor + added < limit → ⊥) → ⊥
+digit_past n radix factor d digit added most limit h small ef ea ed past =
     let P : ℕ → Type 0 = λ x. x < limit in
-    past (subst P (sym (ap (λ x. x + added) (es ∙ ap (λ x. n * x) ef) ∙ ap (λ x. n * radix + x) (ea ∙ ed))) (omega arith))
+    past (subst P (sym (ap (λ x. n * x + added) ef ∙ ap (λ x. n * radix + x) (ea ∙ ed))) (omega arith))
 
 pub not_empty : (n : ℕ) (test : Bool) → test ≡ (n == 0) → test ≡ false → 0 < n
 not_empty zero test e f = cc

@@ -1,5 +1,5 @@
 //! Numbers and widths as lines write them.
-ghost use Rattle.std.specs.Prelude.{◌≡◌, ℕ, ◌<◌, ◌≤◌, ◌^◌, ◌*◌, SomeIff, IfSome, IfNone};
+ghost use Rattle.std.specs.Prelude.{◌≡◌, ℕ, ◌+◌, ◌<◌, ◌≤◌, ◌^◌, ◌*◌, SomeIff, IfSome, IfNone};
 ghost use Rattle.std.specs.Str.Parse.{IsNumeral, digits_value};
 ghost use Rattle.trace_lang.specs.Grammar.{IsNumber, IsWidth};
 ghost use Rattle.vm_types.specs.Width.{byte_count};
@@ -10,6 +10,8 @@ use vm_types::{StoredValue, Width};
 
 /// The number that digits write in a radix, 2 to 36; `None` exactly where there is no digit, a byte is no digit of the radix,
 /// or the number is 2^64 or more.
+// (inlined, so that each call has its radix as a constant)
+#[inline(always)]
 fn value_of(digits: &[u8], radix: u32) -> Option<u64>
     requires low { 2 ≤ radix }
     requires high { radix ≤ 36 }
@@ -23,10 +25,7 @@ fn value_of(digits: &[u8], radix: u32) -> Option<u64>
         let Some(digit) = char::from(*byte).to_digit(radix) else {
             return None;
         };
-        let Some(shifted) = value.checked_mul(u64::from(radix)) else {
-            return None;
-        };
-        let Some(more) = shifted.checked_add(u64::from(digit)) else {
+        let Some(more) = with_digit(value, u64::from(radix), u64::from(digit)) else {
             return None;
         };
         value = more;
@@ -34,8 +33,26 @@ fn value_of(digits: &[u8], radix: u32) -> Option<u64>
     Some(value)
 }
 
+/// The number with one more digit of a radix behind it; `None` exactly where that is 2^64 or more. Below the greatest number
+/// without its last digit there is room for any digit, and no test of each step.
+#[inline(always)]
+fn with_digit(value: u64, radix: u64, digit: u64) -> Option<u64>
+    requires low { 2 ≤ radix }
+    requires digit { digit < radix }
+    ensures { SomeIff result (value * radix + digit < 2 ^ 64) (value * radix + digit) }
+{
+    if value < u64::MAX / radix {
+        return Some(value * radix + digit);
+    }
+    let Some(shifted) = value.checked_mul(radix) else {
+        return None;
+    };
+    shifted.checked_add(digit)
+}
+
 /// The number that a word writes: one decimal digit or more, or `0x` and one hexadecimal digit of either case or more;
 /// leading zeros change nothing. `None` exactly where the word writes none, or one of 2^64 or more.
+#[inline(always)]
 pub fn parse_number(text: &[u8]) -> Option<u64>
     ensures found { IfSome result (λ n. IsNumber text.now n) }
     ensures none { IfNone result ((n : ℕ) → IsNumber text.now n → ⊥) }

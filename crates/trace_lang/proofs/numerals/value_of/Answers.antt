@@ -3,32 +3,27 @@ use Rattle.std.specs.Char.{digit_value}
 use Rattle.std.specs.Str.Parse.{AllDigits, digits_value}
 use Rattle.std.proofs.lemmas.Int.Digits.{digits_more}
 use Rattle.std.proofs.lemmas.List.{take_all}
-use Rattle.trace_lang.proofs.Radix.{not_empty, digit_below, value_so_far, next_value, mul_past, add_past}
+use Rattle.trace_lang.proofs.Radix.{not_empty, digit_below, value_so_far, next_value, digit_past}
 use Rattle.trace_lang.proofs.numerals.value_of.Goals as goal
 
 pub returns-in_default : goal.returns-in_default
 returns-in_default c = λ h.
     c.in_default.ensures.value (digit_below c.args.radix c.args.digits.now c.loop-byte.byte-index _ c.from.ensures h.0.1 c.loop-byte-test.true)
 
-pub returns-in_default-checked_mul : goal.returns-in_default-checked_mul
-returns-in_default-checked_mul c = λ h.
-    mul_past _ _ _ _ _ _ (value_so_far c.args.radix c.args.digits.now c.loop-byte.byte-index c.loop-byte.value c.requires.low c.loop-byte-test.true c.loop-byte.invariant.value)
-    h.1 c.from-in-loop-byte.ensures c.in_default-checked_mul.ensures
-
-pub returns-in_default-checked_add : goal.returns-in_default-checked_add
-returns-in_default-checked_add c = λ h.
-    add_past _ _ _ _ _ _ _ _ _ (value_so_far c.args.radix c.args.digits.now c.loop-byte.byte-index c.loop-byte.value c.requires.low c.loop-byte-test.true c.loop-byte.invariant.value)
-    h.1 c.from-in-loop-byte.ensures c.in-Some-checked_mul.ensures.1 c.from-in-loop-byte-2.ensures (c.in-Some.ensures.value.1 ∙ ap digit_value c.from.ensures) c.in_default-checked_add.ensures
+pub returns-in_default-with_digit : goal.returns-in_default-with_digit
+returns-in_default-with_digit c = λ h.
+    digit_past _ _ _ _ _ _ _ _ (value_so_far c.args.radix c.args.digits.now c.loop-byte.byte-index c.loop-byte.value c.requires.low c.loop-byte-test.true c.loop-byte.invariant.value)
+    h.1 c.from-in-loop-byte.ensures c.from-in-loop-byte-2.ensures (c.in-Some.ensures.value.1 ∙ ap digit_value c.from.ensures) c.in_default-with_digit.ensures
 
 pub loop-byte-preserved : goal.loop-byte-preserved
 loop-byte-preserved c =
     let i = c.loop-byte.byte-index in
     let P : ℕ → Type 0 = λ x. digit_value x < c.args.radix in
-    let a = c.in-Some-checked_add.ensures in
+    let a = c.in-Some-with_digit.ensures in
     record {
       digits = digits_more c.args.radix c.args.digits.now i c.loop-byte-test.true c.loop-byte.invariant.digits (subst P c.from.ensures c.in-Some.ensures.value.0);
-      value = next_value c.args.radix c.args.digits.now i c.loop-byte.value _ _ _ _ _ _ c.loop-byte-test.true c.loop-byte.invariant.value
-          c.from-in-loop-byte.ensures c.in-Some-checked_mul.ensures.1 c.from.ensures c.in-Some.ensures.value.1 c.from-in-loop-byte-2.ensures a.1;
+      value = next_value c.args.radix c.args.digits.now i c.loop-byte.value _ _ _ _ _ c.loop-byte-test.true c.loop-byte.invariant.value
+          c.from-in-loop-byte.ensures c.from.ensures c.in-Some.ensures.value.1 c.from-in-loop-byte-2.ensures a.1;
       fits = let P : ℕ → Type 0 = λ x. x < 2 ^ 64 in subst P (sym a.1) a.0;
     }
 
