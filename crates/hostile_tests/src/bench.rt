@@ -6,8 +6,8 @@ use runner::{RunEnd, run_on};
 use std::alloc::Global;
 use std::test::Fail;
 
-/// The first sector of the homes.
-const FIRST_HOME: u64 = 1020;
+/// The first sector of the homes, as the format has it.
+pub(crate) const FIRST_HOME: u64 = 1020;
 
 /// The fault that a device is to have: the store's, or that of swap, whose calls are counted from the start of the machine on.
 #[derive(Clone, Copy, Debug, PartialEq, Eq)]

@@ -1,15 +1,13 @@
 //! What a stop leaves in the sectors that were not synced.
-use crate::bench::{homes, opened};
+use crate::bench::{FIRST_HOME, homes, opened};
 use disk_model::{SectorDisk, SimDisk};
 use std::alloc::Global;
 use std::test::Fail;
 
-/// The sectors of the gate, of the journal's body and of the homes begin here.
+/// The sectors of the gate and of the journal's body begin here.
 const GATE: u64 = 2;
 
 const BODY: u64 = 4;
-
-const FIRST_HOME: u64 = 1020;
 
 /// What opens the gate, 64 times.
 const OPEN: &[u8; 8] = b"GATEOPEN";

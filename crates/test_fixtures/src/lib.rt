@@ -15,10 +15,8 @@ use paging::Core;
 use std::alloc::Global;
 use std::test::Fail;
 use swap::Swap;
+use sync_journal::FIRST_HOME;
 use vm_types::{Pid, SlotNo};
-
-/// The first sector of the file's first page.
-const FIRST_HOME: u64 = 1020;
 
 /// How large memory, its swap and its one file are, and which call of each device fails, the first being 1; 0 is none.
 #[derive(Clone, Copy)]
