@@ -1,18 +1,12 @@
-//! Tests of the programs over files: words, images, streams and exit statuses.
+//! Tests of the programs over files: images, streams and exit statuses.
 #![tactic(auto)]
 
-#[cfg(test)]
-mod edges;
 #[cfg(test)]
 mod pagecat;
 #[cfg(test)]
 mod pagefmt;
 #[cfg(test)]
 mod pagerun;
-#[cfg(test)]
-mod program_bench;
-#[cfg(test)]
-mod refusals;
 #[cfg(test)]
 mod rows;
 #[cfg(test)]

@@ -1,12 +1,12 @@
 //! Files of an image that are written out, and images of which a machine runs.
-use crate::program_bench::FileStep::{HasAt, IsLong, Write, WriteAt};
-use crate::program_bench::Program::{Cat, Format, Run};
-use crate::program_bench::Step::{Does, Fails, File, Files, Removes};
-use crate::program_bench::{NEW, TwoFiles, carry_out, ran_over, same, same_number, sector_of};
 use disk_model::SimDisk;
 use file_store::{FileSource, format};
 use programs::{ShowFault, show};
 use std::test::Fail;
+use test_steps::FileStep::{HasAt, IsLong, Write, WriteAt};
+use test_steps::Program::{Cat, Format, Run};
+use test_steps::Step::{Does, Fails, File, Files, Removes};
+use test_steps::{NEW, TwoFiles, carry_out, ran_over, same, same_number, sector_of};
 use test_streams::{Full, LimitedWriter};
 
 /// The byte of an image at which home page 0 begins.

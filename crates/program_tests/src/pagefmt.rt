@@ -1,12 +1,12 @@
 //! Images that are made.
-use crate::program_bench::FileStep::{HasAt, IsLong, IsMissing, SetLength, Write};
-use crate::program_bench::Program::Format;
-use crate::program_bench::Step::{Does, Fails, File, Files, Removes};
-use crate::program_bench::{TwoFiles, UNMADE, carry_out, carry_out_with, sector_of};
 use disk_model::SimDisk;
 use file_store::{FileSource, FormatFault, format};
 use std::fs;
 use std::test::Fail;
+use test_steps::FileStep::{HasAt, IsLong, IsMissing, SetLength, Write};
+use test_steps::Program::Format;
+use test_steps::Step::{Does, Fails, File, Files, Removes};
+use test_steps::{TwoFiles, UNMADE, carry_out, carry_out_with, sector_of};
 
 #[test]
 fn an_image_has_the_length_of_its_homes(rt: HostRuntime) -> Result<(), Fail> {

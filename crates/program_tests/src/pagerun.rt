@@ -1,9 +1,9 @@
 //! Machines over images in files.
-use crate::program_bench::FileStep::{IsLong, Write};
-use crate::program_bench::Program::{Cat, Format, Run};
-use crate::program_bench::Step::{Does, File, Files, Removes};
-use crate::program_bench::{NEW, TwoFiles, carry_out, ran_over, same, same_number};
 use std::test::Fail;
+use test_steps::FileStep::{IsLong, Write};
+use test_steps::Program::{Cat, Format, Run};
+use test_steps::Step::{Does, File, Files, Removes};
+use test_steps::{NEW, TwoFiles, carry_out, ran_over, same, same_number};
 use test_streams::{FailingReader, Full, LimitedWriter};
 
 #[test]

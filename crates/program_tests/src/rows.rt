@@ -1,9 +1,9 @@
 //! Worked rows, each a trace of a new image with its replies.
-use crate::program_bench::FileStep::Write;
-use crate::program_bench::Program::{Cat, Format, Run};
-use crate::program_bench::Step::{Does, File, Removes};
-use crate::program_bench::carry_out;
 use std::test::Fail;
+use test_steps::FileStep::Write;
+use test_steps::Program::{Cat, Format, Run};
+use test_steps::Step::{Does, File, Removes};
+use test_steps::carry_out;
 
 #[test]
 fn what_lies_past_the_end_is_not_kept(rt: HostRuntime) -> Result<(), Fail> {

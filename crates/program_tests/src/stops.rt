@@ -1,9 +1,9 @@
 //! Stops of a trace on a simulated store.
-use crate::program_bench::Program::Stops;
-use crate::program_bench::Step::{Does, Fails, Refuses};
-use crate::program_bench::{carry_out, ran_over, same, same_number};
 use std::test::Fail;
 use stop_trials::{Event, Trial};
+use test_steps::Program::Stops;
+use test_steps::Step::{Does, Fails, Refuses};
+use test_steps::{carry_out, ran_over, same, same_number};
 use test_streams::{FailingReader, Full, LimitedWriter};
 
 /// One msync of one page: its events are the sync of the boot, 8 writes of the body, one of the map, a sync, the write of the

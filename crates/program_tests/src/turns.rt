@@ -1,8 +1,8 @@
 //! Which calls a trace makes of the standard streams, and when.
-use crate::program_bench::Program::{Cat, Run};
-use crate::program_bench::Step::{self, Does, Removes};
-use crate::program_bench::{NEW, carry_out, ran_over, repeated, same, same_number};
 use std::test::Fail;
+use test_steps::Program::{Cat, Run};
+use test_steps::Step::{self, Does, Removes};
+use test_steps::{NEW, carry_out, ran_over, same, same_number};
 use test_streams::{Calls, CountedReader, CountedWriter};
 
 /// A machine on it.
@@ -78,6 +78,15 @@ fn a_trace_makes_few_calls(rt: HostRuntime) -> Result<(), Fail> {
     // 80,000 bytes of trace, and 360,000 bytes of replies.
     few_calls(&rt, repeated(&rt, b"x\n", 40_000)?.as_slice())?;
     carry_out(&rt, "calls", &[REMOVE])
+}
+
+/// The bytes, so many times.
+fn repeated(rt: &HostRuntime, bytes: &[u8], times: usize) -> Result<Vec<u8>, Fail> {
+    let mut all = Vec::new(rt.alloc());
+    for _ in 0..times {
+        all.extend_from_slice(bytes)?;
+    }
+    Ok(all)
 }
 
 fn few_calls(rt: &HostRuntime, trace: &[u8]) -> Result<(), Fail> {

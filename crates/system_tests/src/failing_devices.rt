@@ -1,6 +1,6 @@
 //! Store devices that fail where a file page is read, and a halted machine.
-use crate::bench::{CONFIG, asked_in, expect_in, failing_after_start, same};
 use std::test::Fail;
+use test_traces::{CONFIG, asked_in, expect_in, failing_after_start, same};
 
 /// A failed read stalls the access and changes nothing; the next access tries again, and a page that was read stays.
 #[test]

@@ -1,10 +1,10 @@
 //! Files of any length, several of them, and what an msync makes durable.
-use crate::bench::{expect, expect_file, expect_refusal, image, left, left_of_two};
 use disk_model::{SectorDisk, SimDisk};
 use machine::BootFault;
 use std::alloc::Global;
 use std::process::Abort;
 use std::test::Fail;
+use test_traces::{expect, expect_file, expect_refusal, image, left, left_of_two};
 
 /// The last page of a file of 5,000 bytes: what is stored past its end is gone with the next msync.
 #[test]

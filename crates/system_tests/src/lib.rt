@@ -2,13 +2,7 @@
 #![tactic(auto)]
 
 #[cfg(test)]
-mod bench;
-#[cfg(test)]
-mod evictions;
-#[cfg(test)]
 mod failing_devices;
-#[cfg(test)]
-mod failing_streams;
 #[cfg(test)]
 mod files;
 #[cfg(test)]

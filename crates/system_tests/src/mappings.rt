@@ -1,13 +1,13 @@
 //! Many mappings in one process: rows of calls on ranges, and their replies.
 ghost use Rattle.std.specs.Prelude.{◌≤◌};
 
-use crate::bench::{
-    Armed, CONFIG, Exchange, asked_in, expect, expect_file, expect_over_zeros, image_of_letters,
-    left_in, same,
-};
 use machine::Config;
 use std::alloc::Global;
 use std::test::Fail;
+use test_traces::{
+    Armed, CONFIG, Exchange, asked_in, expect, expect_file, expect_over_zeros, image_of_letters,
+    left_in, same,
+};
 
 /// Traces on an image of eight pages of zeros, each from a new start, and their replies.
 const ROWS: [(&[u8], &[u8]); 6] = [

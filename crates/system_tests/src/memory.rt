@@ -1,6 +1,6 @@
 //! Anonymous and private memory, and who may do what with a page.
-use crate::bench::{expect, expect_over_zeros, image_of_letters};
 use std::test::Fail;
+use test_traces::{expect, expect_over_zeros, image_of_letters};
 
 /// Traces on an image of a page of zeros, each from a new start, and their replies.
 const ROWS: [(&[u8], &[u8]); 10] = [

@@ -1,8 +1,8 @@
 //! Processes: made, copied and ended.
-use crate::bench::{Armed, Exchange, SMALL, expect_in, expect_over_zeros};
 use machine::Config;
 use std::alloc::Global;
 use std::test::Fail;
+use test_traces::{Armed, Exchange, SMALL, expect_in, expect_over_zeros};
 
 /// Traces on an image of a page of zeros, each from a new start, and their replies.
 const ROWS: [(&[u8], &[u8]); 4] = [

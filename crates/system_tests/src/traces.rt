@@ -1,13 +1,10 @@
 //! Traces and their replies.
-use crate::bench::{
-    Armed, CONFIG, SHOWN, STORED, STORED_AND_SYNCED, asked_in, expect, expect_over_zeros, image,
-    left, ran_on, same,
-};
 use disk_model::SimDisk;
 use machine::{BootFault, Config};
 use runner::RunEnd;
 use std::alloc::Global;
 use std::test::Fail;
+use test_traces::{Armed, CONFIG, asked_in, expect, expect_over_zeros, image, left, ran_on, same};
 
 /// Traces on an image of two pages, each from a new start, and their replies.
 const ROWS: [(&[u8], &[u8]); 8] = [
@@ -62,36 +59,21 @@ fn traces_are_answered(rt: HostRuntime) -> Result<(), Fail> {
     Ok(())
 }
 
-/// Lines of 256 bytes and more, and some that are no command.
-fn uneven_lines(alloc: Global) -> Result<Vec<u8>, Fail> {
-    let mut trace = Vec::new(alloc);
-    trace.extend_from_slice(b"spawn\nmmap 1 0 1 rw- anon\nload 1 0x10ff8 8\n")?;
-    // A line of 256 bytes, and one of 257.
-    for zeros in [240, 241] {
-        trace.extend_from_slice(b"load 1 0x")?;
-        for _ in 0..zeros {
-            trace.push(b'0')?;
-        }
-        trace.extend_from_slice(b"10000 1\n")?;
-    }
-    // A number that is too large for its width, an empty line, and one without a newline.
-    trace.extend_from_slice(b"store 1 0x10000 1 0x100\n\nexit 1")?;
-    Ok(trace)
-}
-
-#[test]
-fn lines_are_cut(rt: HostRuntime) -> Result<(), Fail> {
-    let trace = uneven_lines(rt.alloc())?;
-    let wanted =
-        b"pid 1\naddr 0x10000\nvalue 0x0000000000000000\nvalue 0x00\nbad line\nbad line\nbad line\nok\n";
-    expect_over_zeros(rt.alloc(), 4096, (trace.as_slice(), wanted))
-}
-
 #[test]
 fn an_empty_trace_writes_nothing(rt: HostRuntime) -> Result<(), Fail> {
     let (writes, _) = asked_in(rt.alloc(), 4096, Armed::Nothing, CONFIG, (b"", b""))?;
     same("writes", writes, 0)
 }
+
+/// Maps the first page of the file and stores a byte.
+const STORED: &[u8] = b"spawn\nmmap 1 0 4096 rw- shared 0 0\nstore 1 0x10000 1 0x5a\n";
+
+/// The same, and syncs that page.
+const STORED_AND_SYNCED: &[u8] =
+    b"spawn\nmmap 1 0 4096 rw- shared 0 0\nstore 1 0x10000 1 0x5a\nmsync 1 0x10000 4096 sync\n";
+
+/// Shows the first eight bytes of the file in a new process.
+const SHOWN: &[u8] = b"spawn\nmmap 1 0 4096 r-- shared 0 0\nload 1 0x10000 8\n";
 
 /// Sees the replies to a trace over a page of zeros, and those to the lines that show its file afterwards: how many writes and
 /// syncs the first machine's store had.

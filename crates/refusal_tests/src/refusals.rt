@@ -1,10 +1,10 @@
 //! Words that are refused, and files that do not serve.
-use crate::program_bench::FileStep::{IsMissing, SetLength, SetMode, Write};
-use crate::program_bench::Program::{Cat, Format, Run};
-use crate::program_bench::Step::{self, Fails, File, Refuses, Removes};
-use crate::program_bench::{NEW, UNMADE, carry_out, carry_out_with, path};
 use std::fs::OpenOptions;
 use std::test::Fail;
+use test_steps::FileStep::{IsMissing, SetLength, SetMode, Write};
+use test_steps::Program::{Cat, Format, Run};
+use test_steps::Step::{self, Fails, File, Refuses, Removes};
+use test_steps::{NEW, UNMADE, carry_out, carry_out_with, path};
 
 #[test]
 fn other_words_of_pagefmt_are_refused(rt: HostRuntime) -> Result<(), Fail> {

@@ -1,11 +1,11 @@
 //! Files that other programs use, that are no files, or that must stay as they are.
-use crate::program_bench::FileStep::{Has, IsLong, IsMissing, SetLength, SetMode, Write, WriteAt};
-use crate::program_bench::Program::{Cat, Format, Run};
-use crate::program_bench::Step::{self, Does, Fails, File, Files, Removes};
-use crate::program_bench::{NEW, TwoFiles, UNMADE, carry_out, carry_out_with, path, sector_of};
 use crate::refusals::may_write;
 use std::fs::{self, OpenOptions};
 use std::test::Fail;
+use test_steps::FileStep::{Has, IsLong, IsMissing, SetLength, SetMode, Write, WriteAt};
+use test_steps::Program::{Cat, Format, Run};
+use test_steps::Step::{self, Does, Fails, File, Files, Removes};
+use test_steps::{NEW, TwoFiles, UNMADE, carry_out, carry_out_with, path, sector_of};
 
 /// Carries out steps of that test while its file is locked, as by a program that runs.
 fn while_in_use(rt: &HostRuntime, test: &str, file: &str, steps: &[Step<'_>]) -> Result<(), Fail> {

@@ -1,12 +1,11 @@
 //! Traces that need more pages than memory has frames: frames are given up, and their pages come back from swap.
-use crate::bench::{
-    Armed, Exchange, SMALL, asked_after_start, asked_in, expect, expect_file, expect_in, left_in,
-    same,
-};
-use crate::histories::FORTY_LINES;
 use machine::Config;
 use std::alloc::Global;
 use std::test::Fail;
+use test_traces::{
+    Armed, Exchange, SMALL, asked_after_start, asked_in, expect, expect_file, expect_in, left_in,
+    same,
+};
 
 /// How many frames and slots there are, a trace, and its replies, over a file of eight pages.
 const ROWS: [(Config, (&[u8], &[u8])); 4] = [
@@ -66,6 +65,33 @@ store 1 0x16000 1 7\nstore 1 0x17000 1 8\nmsync 1 0x10000 0x8000 sync\nstore 1 0
 fn pages_wait_for_frames_and_slots(rt: HostRuntime) -> Result<(), Fail> {
     for (config, exchange) in ROWS {
         expect_in(rt.alloc(), 0x8000, Armed::Nothing, config, exchange)?;
+    }
+    Ok(())
+}
+
+/// Forty lines over sixteen pages of anonymous memory, and their replies.
+const FORTY_LINES: (&[u8], &[u8]) = (
+    b"spawn\nmmap 1 0 0x10000 rw- anon\nstore 1 0x10000 1 0x1\nstore 1 0x11000 1 0x2\n\
+store 1 0x12000 1 0x3\nstore 1 0x13000 1 0x4\nstore 1 0x14000 1 0x5\nstore 1 0x15000 1 0x6\n\
+store 1 0x16000 1 0x7\nstore 1 0x17000 1 0x8\nstore 1 0x18000 1 0x9\nstore 1 0x19000 1 0xa\n\
+store 1 0x1a000 1 0xb\nstore 1 0x1b000 1 0xc\nstore 1 0x1c000 1 0xd\nstore 1 0x1d000 1 0xe\n\
+store 1 0x1e000 1 0xf\nstore 1 0x1f000 1 0x10\nload 1 0x10000 1\nload 1 0x11000 1\n\
+load 1 0x12000 1\nload 1 0x13000 1\nload 1 0x14000 1\nload 1 0x15000 1\nload 1 0x16000 1\n\
+load 1 0x17000 1\nload 1 0x18000 1\nload 1 0x19000 1\nload 1 0x1a000 1\nload 1 0x1b000 1\n\
+load 1 0x1c000 1\nload 1 0x1d000 1\nload 1 0x1e000 1\nload 1 0x1f000 1\ndontneed 1 0x10000 0x1000\n\
+load 1 0x10000 1\nstore 1 0x1f000 1 0xff\nload 1 0x1f000 1\nexit 1\nload 1 0x10000 1\n",
+    b"pid 1\naddr 0x10000\nok\nok\nok\nok\nok\nok\nok\nok\nok\nok\nok\nok\nok\nok\nok\nok\nvalue 0x01\n\
+value 0x02\nvalue 0x03\nvalue 0x04\nvalue 0x05\nvalue 0x06\nvalue 0x07\nvalue 0x08\nvalue 0x09\n\
+value 0x0a\nvalue 0x0b\nvalue 0x0c\nvalue 0x0d\nvalue 0x0e\nvalue 0x0f\nvalue 0x10\nok\nvalue 0x00\n\
+ok\nvalue 0xff\nok\nerror 3 ESRCH\n",
+);
+
+#[test]
+fn sixteen_pages_keep_their_bytes(rt: HostRuntime) -> Result<(), Fail> {
+    for slots in [16, 0] {
+        let config = Config { frames: 64, slots };
+        let (writes, _) = asked_in(rt.alloc(), 4096, Armed::Nothing, config, FORTY_LINES)?;
+        same("writes", writes, 0)?;
     }
     Ok(())
 }

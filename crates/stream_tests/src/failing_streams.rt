@@ -1,5 +1,4 @@
 //! Runs over readers and writers that fail on the way, or count their calls.
-use crate::bench::{expect_end, same, streamed};
 use runner::{RunEnd, WriteFault, write_bytes};
 use std::alloc::Global;
 use std::io::Read;
@@ -7,6 +6,7 @@ use std::test::Fail;
 use test_streams::{
     Calls, CountedReader, CountedWriter, FailingReader, Full, InterruptedReader, LimitedWriter,
 };
+use test_traces::{expect_end, same, streamed};
 
 /// Sees how a run of that reader ends, and that two processes were made.
 fn expect_two_processes<R: Read>(
