@@ -36,7 +36,7 @@ last_same t p q r same =
 pub missing_same : (t : FrameTable) (p q r : ℕ) → p / 512 ≡ q / 512 → missing_of t 2 r q ≡ missing_of t 2 r p
 missing_same t p q r same = missing_of-is t 2 r q ∙ ap (λ x. x.0) (last_same t p q r same) ∙ sym (missing_of-is t 2 r p)
 
-low_end : (t : FrameTable) (p n : ℕ) → (last_table t p 1 n).0 ≤ 1
+pub low_end : (t : FrameTable) (p n : ℕ) → (last_table t p 1 n).0 ≤ 1
 low_end t p n = elim (cases_bool (is_pointer (entry_at t n (index_of p 1)))) [
   | inl pointer ↦ (
       let e : (last_table t p 1 n).0 ≡ 0 =

@@ -1,4 +1,5 @@
 pub mod Gaps
+pub mod Linked
 pub mod Sharing
 pub mod Returning
 pub mod ClearedPages
