@@ -1,4 +1,6 @@
 pub mod Gaps
+pub mod Joined
+pub mod BetweenEntries
 pub mod Sharing
 pub mod Returning
 pub mod ClearedPages
