@@ -60,30 +60,30 @@ fn none_from(memory: &Memory, table: FrameNo, index: usize, stop: usize) -> usiz
     ensures none { (i : ℕ) → index ≤ i → i < index + result → entry_at memory.now table.0 i ≡ 0 }
 {
     if index + 8 <= stop && are_none(memory, table, index) {
-        8
-    } else {
-        1
+        return 8;
     }
+    1
 }
 
-// Whether the eight places from `index` on have no entry.
+// Whether the eight places from `index` on have no entry, by one test.
 fn are_none(memory: &Memory, table: FrameNo, index: usize) -> bool
     requires inside { IsFrame memory.now table.0 }
     requires within { index + 8 ≤ table_entries }
     ensures { result ≡ true → (i : ℕ) → index ≤ i → i < index + 8 → entry_at memory.now table.0 i ≡ 0 }
 {
-    four_are_none(memory, table, index) && four_are_none(memory, table, index + 4)
+    four_at(memory, table, index) | four_at(memory, table, index + 4) == 0
 }
 
-fn four_are_none(memory: &Memory, table: FrameNo, index: usize) -> bool
+// The numbers at four places joined, which is 0 only where each of them is.
+fn four_at(memory: &Memory, table: FrameNo, index: usize) -> u64
     requires inside { IsFrame memory.now table.0 }
     requires within { index + 4 ≤ table_entries }
-    ensures { result ≡ true → (i : ℕ) → index ≤ i → i < index + 4 → entry_at memory.now table.0 i ≡ 0 }
+    ensures { result ≡ 0 → (i : ℕ) → index ≤ i → i < index + 4 → entry_at memory.now table.0 i ≡ 0 }
 {
-    number_at(memory, table, index) == 0
-        && number_at(memory, table, index + 1) == 0
-        && number_at(memory, table, index + 2) == 0
-        && number_at(memory, table, index + 3) == 0
+    number_at(memory, table, index)
+        | number_at(memory, table, index + 1)
+        | number_at(memory, table, index + 2)
+        | number_at(memory, table, index + 3)
 }
 
 /// The number at a place of a table.

@@ -15,6 +15,7 @@ ghost use Rattle.page_ranges.specs.Rows.{ReprotectsRow};
 ghost use Rattle.mapping.specs.Changes.{IsWhole, KeepsAround};
 ghost use Rattle.page_ranges.specs.Steps.{KeepsEntriesOfOthers, IsLinkedStepEnd};
 
+use crate::entries::next_entry;
 use crate::leaves::permitted;
 use crate::rows::{next_linked, table_end, user_page};
 use mapped_memory::{number_in, set_in, table_of};
@@ -89,7 +90,8 @@ fn permit_next<D, E>(core: &mut Core<D, E>, pid: Pid, start: Vpn, end: u64, prot
     stop
 }
 
-/// Gives the permission to the pages from `start` up to, not including, `stop`, whose entries stand in one table.
+/// Gives the permission to the pages from `start` up to, not including, `stop`, whose entries stand in one table. Places
+/// without an entry are passed over many at a time.
 fn permit_table<D, E>(core: &mut Core<D, E>, pid: Pid, start: Vpn, stop: u64, prot: Prot)
     requires rooted { IsRootedBut (picture_of core.old) 0 }
     requires named { NamesFrames (picture_of core.old) pid }
@@ -109,8 +111,10 @@ fn permit_table<D, E>(core: &mut Core<D, E>, pid: Pid, start: Vpn, stop: u64, pr
     let Ok(table) = table_of(&core.frames, root, start) else {
         unreachable!();
     };
-    for page in start.get()..stop {
+    let mut page = next_entry(&core.frames, table, start.get(), stop);
+    while page < stop {
         permit_page(core, pid, root, table, user_page(page), prot);
+        page = next_entry(&core.frames, table, page + 1, stop);
     }
 }
 
