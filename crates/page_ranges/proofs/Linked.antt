@@ -1,12 +1,12 @@
 -- The entries of upper tables, and what they say of the pages in their places.
-use Rattle.std.proofs.Common.{◌≡◌, ◌≢◌, ℕ, ◌+◌, ◌-◌, ◌*◌, ◌/◌, ◌%◌, ◌^◌, ◌≤◌, ◌<◌, ◌⊎◌, inl, inr, true, false, refl, sym, ap, ◌∙◌, subst, arith}
+use Rattle.std.proofs.Common.{◌≡◌, ◌≢◌, ℕ, ◌+◌, ◌-◌, ◌*◌, ◌/◌, ◌%◌, ◌≤◌, ◌<◌, ◌⊎◌, inl, inr, true, false, refl, sym, ap, ◌∙◌, arith}
 use Rattle.std.specs.Prelude.{Some, min}
 use Rattle.std.proofs.lemmas.Bool.{cases_eq}
 use Rattle.frames.specs.FrameTable.{FrameTable}
 use Rattle.sv39_walk.specs.Entry.{entry_at, frame_of, is_pointer}
 use Rattle.sv39_walk.specs.Walk.{index_of}
 use Rattle.sv39_walk.proofs.Entries.{is_pointer-zero}
-use Rattle.page_tables.specs.Tree.{IsTable, IsForest, IsRoot, Points, last_table, last_entry, missing_of}
+use Rattle.page_tables.specs.Tree.{IsTable, IsRoot, Points, last_table, missing_of}
 use Rattle.page_tables.proofs.Ways.{cases_bool, index_of-lt, last_table-next, last_table-stop, last_table-zero}
 use Rattle.page_tables.proofs.Ends.{missing_of-is, last_entry-is, page_entry-missing}
 use Rattle.paging.specs.Picture.{Picture, entry}
@@ -15,7 +15,7 @@ use Rattle.mapping.specs.Changes.{IsWhole}
 use Rattle.page_ranges.proofs.Gaps.{index_high, low_end, two_missing, missing_same, one_some}
 
 -- what an entry says that is none
-pub none_stops : (e : ℕ) → e ≡ 0 → is_pointer e ≡ false
+none_stops : (e : ℕ) → e ≡ 0 → is_pointer e ≡ false
 none_stops e none = ap is_pointer none ∙ is_pointer-zero
 
 pub index_high_is : (p : ℕ) → p < 134217728 → index_of p 2 ≡ p / 262144
@@ -27,13 +27,13 @@ unfolding index_of
 index_low_is p = refl
 
 -- the way ends at the root where its entry is no pointer
-pub stops_high : (t : FrameTable) (r p : ℕ) → is_pointer (entry_at t r (index_of p 2)) ≡ false → last_table t p 2 r ≡ (2, r)
+stops_high : (t : FrameTable) (r p : ℕ) → is_pointer (entry_at t r (index_of p 2)) ≡ false → last_table t p 2 r ≡ (2, r)
 stops_high t r p stop = last_table-stop t p 1 r stop
 
-pub two_where : (t : FrameTable) (r p : ℕ) → is_pointer (entry_at t r (index_of p 2)) ≡ false → missing_of t 2 r p ≡ 2
+two_where : (t : FrameTable) (r p : ℕ) → is_pointer (entry_at t r (index_of p 2)) ≡ false → missing_of t 2 r p ≡ 2
 two_where t r p stop = missing_of-is t 2 r p ∙ ap (λ x. x.0) (stops_high t r p stop)
 
-pub points_high : (t : FrameTable) (r p : ℕ) → missing_of t 2 r p ≢ 2 → is_pointer (entry_at t r (index_of p 2)) ≡ true
+points_high : (t : FrameTable) (r p : ℕ) → missing_of t 2 r p ≢ 2 → is_pointer (entry_at t r (index_of p 2)) ≡ true
 points_high t r p some = elim (cases_bool (is_pointer (entry_at t r (index_of p 2)))) [
   | inl pointer ↦ pointer
   | inr stop ↦ absurd (some (two_where t r p stop))
@@ -44,7 +44,7 @@ pub root_points : (t : FrameTable) (r p e : ℕ) → IsTable t r → missing_of 
 root_points t r p e table some is = record { table = table; index = index_of-lt p 2; pointer = points_high t r p some; target = ap frame_of (sym is) }
 
 -- no more than one is missing below a pointer
-pub below_two : (t : FrameTable) (r p : ℕ) → is_pointer (entry_at t r (index_of p 2)) ≡ true → missing_of t 2 r p < 2
+below_two : (t : FrameTable) (r p : ℕ) → is_pointer (entry_at t r (index_of p 2)) ≡ true → missing_of t 2 r p < 2
 below_two t r p pointer =
     let low = low_end t p (frame_of (entry_at t r (index_of p 2))) in
     let e : missing_of t 2 r p ≡ (last_table t p 1 (frame_of (entry_at t r (index_of p 2)))).0 =
@@ -52,7 +52,7 @@ below_two t r p pointer =
     omega (arith, low, e)
 
 -- an entry of a root that is set points to a table
-pub set_points : (t : FrameTable) (r p : ℕ) → IsRoot 2 t r → entry_at t r (index_of p 2) ≢ 0 → missing_of t 2 r p < 2
+set_points : (t : FrameTable) (r p : ℕ) → IsRoot 2 t r → entry_at t r (index_of p 2) ≢ 0 → missing_of t 2 r p < 2
 set_points t r p root some = elim (cases_bool (is_pointer (entry_at t r (index_of p 2)))) [
   | inl pointer ↦ below_two t r p pointer
   | inr stop ↦ (
@@ -104,23 +104,23 @@ middle_order page end stop last some is before =
 
 -- The table that a pointer of the root leads to, and the pages below it.
 module _ (t : FrameTable) (r page m : ℕ) (points : Points t r (index_of page 2) m) where
-  pub next_there : (p : ℕ) → p / 262144 ≡ page / 262144 → last_table t p 2 r ≡ last_table t p 1 m
+  next_there : (p : ℕ) → p / 262144 ≡ page / 262144 → last_table t p 2 r ≡ last_table t p 1 m
   next_there p same =
       let e : entry_at t r (index_of p 2) ≡ entry_at t r (index_of page 2) = ap (entry_at t r) (index_high p page same) in
       last_table-next t p 1 r (ap is_pointer e ∙ points.pointer) ∙ ap (last_table t p 1) (ap frame_of e ∙ points.target)
 
-  pub stops_low : (p : ℕ) → p / 262144 ≡ page / 262144 → is_pointer (entry_at t m (index_of p 1)) ≡ false → last_table t p 2 r ≡ (1, m)
+  stops_low : (p : ℕ) → p / 262144 ≡ page / 262144 → is_pointer (entry_at t m (index_of p 1)) ≡ false → last_table t p 2 r ≡ (1, m)
   stops_low p same stop = next_there p same ∙ last_table-stop t p 0 m stop
 
-  pub one_where : (p : ℕ) → p / 262144 ≡ page / 262144 → is_pointer (entry_at t m (index_of p 1)) ≡ false → missing_of t 2 r p ≡ 1
+  one_where : (p : ℕ) → p / 262144 ≡ page / 262144 → is_pointer (entry_at t m (index_of p 1)) ≡ false → missing_of t 2 r p ≡ 1
   one_where p same stop = missing_of-is t 2 r p ∙ ap (λ x. x.0) (stops_low p same stop)
 
-  pub whole_where : (p : ℕ) → p / 262144 ≡ page / 262144 → is_pointer (entry_at t m (index_of p 1)) ≡ true → missing_of t 2 r p ≡ 0
+  whole_where : (p : ℕ) → p / 262144 ≡ page / 262144 → is_pointer (entry_at t m (index_of p 1)) ≡ true → missing_of t 2 r p ≡ 0
   whole_where p same pointer =
       missing_of-is t 2 r p
       ∙ ap (λ x. x.0) (next_there p same ∙ last_table-next t p 0 m pointer ∙ last_table-zero t p (frame_of (entry_at t m (index_of p 1))))
 
-  pub set_whole : (p : ℕ) → p / 262144 ≡ page / 262144 → IsRoot 2 t r → entry_at t m (index_of p 1) ≢ 0 → missing_of t 2 r p ≡ 0
+  set_whole : (p : ℕ) → p / 262144 ≡ page / 262144 → IsRoot 2 t r → entry_at t m (index_of p 1) ≢ 0 → missing_of t 2 r p ≡ 0
   set_whole p same root some = elim (cases_bool (is_pointer (entry_at t m (index_of p 1)))) [
     | inl pointer ↦ whole_where p same pointer
     | inr stop ↦ (

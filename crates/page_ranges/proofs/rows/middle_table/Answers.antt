@@ -1,4 +1,4 @@
-use Rattle.std.proofs.Common.{◌<◌, ◌^◌, ap, ◌∙◌, arith}
+use Rattle.std.proofs.Common.{ap, ◌∙◌, arith}
 use Rattle.sv39_walk.specs.Entry.{entry_at}
 use Rattle.sv39_walk.specs.Walk.{index_of}
 use Rattle.page_ranges.proofs.Linked.{root_points}

@@ -1,4 +1,4 @@
-use Rattle.std.proofs.Common.{◌≡◌, ℕ, ◌+◌, ◌-◌, ◌≤◌, ◌<◌, ◌⊎◌, inl, inr, refl, ap, ◌∙◌, arith}
+use Rattle.std.proofs.Common.{◌-◌, inl, inr, refl, ap, ◌∙◌, arith}
 use Rattle.sv39_walk.specs.Walk.{index_of}
 use Rattle.page_ranges.proofs.Linked.{index_high_is, root_order, root_gap, root_stop}
 use Rattle.page_ranges.proofs.rows.past_root_gap.Goals as goal
