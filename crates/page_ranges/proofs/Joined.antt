@@ -1,6 +1,6 @@
 -- Numbers joined by a bitwise or: 0 only where each of them is.
 use Rattle.std.proofs.Common.{◌≡◌, ℕ, ◌+◌, ◌<◌, ◌≤◌, inl, inr, bit_or, ap, ◌∙◌, arith}
-use Rattle.std.proofs.lemmas.Bool.{cases_eq, cases_lt}
+use Rattle.std.proofs.lemmas.Bool.{cases_eq}
 use Rattle.std.proofs.lemmas.Nat.{le_or_l, le_or_r}
 
 pub left : (a b : ℕ) → bit_or a b ≡ 0 → a ≡ 0

@@ -1,4 +1,4 @@
-use Rattle.std.proofs.Common.{◌≡◌, ℕ, ◌+◌, ◌<◌, ◌≤◌, inl, inr, eqb-true, arith}
+use Rattle.std.proofs.Common.{◌+◌, inl, inr, eqb-true, arith}
 use Rattle.std.proofs.lemmas.Bool.{cases_lt}
 use Rattle.page_ranges.proofs.Joined.{left, right}
 use Rattle.page_ranges.proofs.entries.are_none.Goals as goal

@@ -1,4 +1,3 @@
-use Rattle.std.proofs.Common.{◌≡◌, bit_or}
 use Rattle.sv39_walk.specs.Entry.{entry_at}
 use Rattle.page_ranges.proofs.Joined.{four}
 use Rattle.page_ranges.proofs.entries.four_at.Goals as goal
