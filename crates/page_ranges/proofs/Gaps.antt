@@ -36,7 +36,7 @@ last_same t p q r same =
 pub missing_same : (t : FrameTable) (p q r : ℕ) → p / 512 ≡ q / 512 → missing_of t 2 r q ≡ missing_of t 2 r p
 missing_same t p q r same = missing_of-is t 2 r q ∙ ap (λ x. x.0) (last_same t p q r same) ∙ sym (missing_of-is t 2 r p)
 
-low_end : (t : FrameTable) (p n : ℕ) → (last_table t p 1 n).0 ≤ 1
+pub low_end : (t : FrameTable) (p n : ℕ) → (last_table t p 1 n).0 ≤ 1
 low_end t p n = elim (cases_bool (is_pointer (entry_at t n (index_of p 1)))) [
   | inl pointer ↦ (
       let e : (last_table t p 1 n).0 ≡ 0 =
@@ -68,13 +68,7 @@ gap_high c pid r p q root missing same =
     entry-of c pid r q root
     ∙ page_entry-missing c.frames 2 r q (λ e. let two = two_missing c.frames p q r same missing in omega (arith, two, e))
 
--- where a step over a row ends: past the pages of a lowest table
-pub step_whole : (page end next m : ℕ) → m ≡ 0 → next ≡ min end ((page / 512 + 1) * 512) → next ≡ min end ((page / 512 ^ max 1 m + 1) * 512 ^ max 1 m)
-step_whole page end next m none is =
-    let P : ℕ → Type 0 = λ x. next ≡ min end ((page / 512 ^ max 1 x + 1) * 512 ^ max 1 x) in
-    subst P (sym none) is
-
--- or past those of a missing one
+-- where a step over a row ends that begins with a page on whose way a table is missing
 pub step_gap : (page end next gap m : ℕ) → m ≢ 0 → gap ≡ (page / 512 ^ m + 1) * 512 ^ m → next ≡ min end gap
     → next ≡ min end ((page / 512 ^ max 1 m + 1) * 512 ^ max 1 m)
 step_gap page end next gap m some past is =

@@ -1,4 +1,7 @@
 pub mod Gaps
+pub mod Linked
+pub mod Joined
+pub mod BetweenEntries
 pub mod Sharing
 pub mod Returning
 pub mod ClearedPages

@@ -11,6 +11,7 @@ use Rattle.paging.specs.declared.kernel.Core.{Core}
 use Rattle.paging.specs.Seats.{Seat, InSlot, seat}
 use Rattle.paging.specs.Picture.{Picture, entry, view, held, IsOwned}
 use Rattle.paging.specs.Parts.{IsUsed, IsMapped, IsFitBut, IsFit}
+use Rattle.mapping.specs.Changes.{IsWhole}
 
 -- a page that isn't one of a process from low up to, not including, high
 abbrev pub IsBeside : ℕ → ℕ → ℕ → ℕ → ℕ → Type 0
@@ -124,9 +125,25 @@ IsGapEnd c pid page end =
     (r : ℕ) → c.root pid ≡ Some r
     → (missing_of c.frames top_level r page ≢ 0) × (end ≡ (page / table_entries ^ missing_of c.frames top_level r page + 1) * table_entries ^ missing_of c.frames top_level r page)
 
+-- Where a table is missing on the way to a page: the next page has fewer missing, or it isn't before the end, or not before that of
+-- the pages whose way goes through the table above the missing one.
+abbrev pub IsPastGap : FrameTable → ℕ → ℕ → ℕ → ℕ → Type 0
+IsPastGap t root page end next =
+    (missing_of t top_level root next < missing_of t top_level root page)
+    ⊎ (min end ((page / table_entries ^ (missing_of t top_level root page + 1) + 1) * table_entries ^ (missing_of t top_level root page + 1)) ≤ next)
+
 -- Where a step over a row of pages ends that began at one of them: with the pages of the highest table that is missing on the
 -- way, or of the lowest table where none is, or with the row. So a row costs the tables that it meets.
 abbrev pub IsStepEnd : Picture → ℕ → ℕ → ℕ → ℕ → Type 0
 IsStepEnd c pid page end next =
     (r : ℕ) → c.root pid ≡ Some r
     → next ≡ min end ((page / table_entries ^ max 1 (missing_of c.frames top_level r page) + 1) * table_entries ^ max 1 (missing_of c.frames top_level r page))
+
+-- Where a step over a row of pages ends that passes those on whose way a table is missing: it goes on to the first page from one
+-- on, and before the end, that lacks none, and ends with the pages of that page's lowest table, or with the row. So a row costs
+-- the tables that it meets, and not its pages.
+pub record IsLinkedStepEnd (c : Picture) (pid page end next : ℕ) : Type 0 where
+  pub linked : ℕ
+  pub from : page ≤ linked
+  pub passed : (p : ℕ) → page ≤ p → p < linked → IsWhole c pid p → ⊥
+  pub ends : ((linked ≡ end) × (next ≡ end)) ⊎ (IsWhole c pid linked × (next ≡ min end ((linked / table_entries + 1) * table_entries)))

@@ -11,6 +11,7 @@ ghost use Rattle.mapping.specs.Changes.{IsWhole};
 ghost use Rattle.page_ranges.specs.Rows.{RemapsRow};
 ghost use Rattle.page_ranges.specs.Steps.{KeepsBesideMemory, KeepsEntriesOfOthers, SameTables, ReturnsTables, ReturnsSlots, Clears, IsWithoutTables, IsCleared, LacksHolder, ReturnsSeat, IsStepEnd};
 
+use crate::entries::next_entry;
 use crate::rows::{middle_end, next_part, table_end, user_page};
 use mapped_memory::{missing_tables, number_in, prune, set_in, table_of};
 use mapping::root_of;
@@ -94,7 +95,7 @@ fn clear_next<D, E>(core: &mut Core<D, E>, pid: Pid, start: Vpn, end: u64) -> u6
 }
 
 /// Clears the pages from `start` up to, not including, `stop`, whose entries stand in one table, and releases the tables
-/// that are without entries then.
+/// that are without entries then. Places without an entry are passed over many at a time.
 fn clear_table<D, E>(core: &mut Core<D, E>, pid: Pid, start: Vpn, stop: u64)
     requires fit { IsFit (picture_of core.old) }
     requires live { is_live (picture_of core.old) pid ≡ true }
@@ -112,8 +113,10 @@ fn clear_table<D, E>(core: &mut Core<D, E>, pid: Pid, start: Vpn, stop: u64)
     let Ok(table) = table_of(&core.frames, root, start) else {
         unreachable!();
     };
-    for page in start.get()..stop {
+    let mut page = next_entry(&core.frames, table, start.get(), stop);
+    while page < stop {
         clear_page(core, pid, root, table, user_page(page));
+        page = next_entry(&core.frames, table, page + 1, stop);
     }
     prune(&mut core.frames, root, start);
 }

@@ -4,12 +4,14 @@
 #![tactic(auto)]
 
 mod clearing;
+mod entries;
 mod leaves;
 mod permitting;
 mod remapping;
 mod rows;
 
 pub use clearing::clear_row;
+pub use entries::next_entry;
 pub use permitting::reprotect;
 pub use remapping::remap;
 pub use rows::{gap_end, table_end, user_page};

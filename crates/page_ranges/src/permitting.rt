@@ -13,10 +13,11 @@ ghost use Rattle.paging.specs.Parts.{IsRootedBut, IsFit};
 ghost use Rattle.page_ranges.specs.Leaves.{TakesStores, PermitsRow, NamesFrames};
 ghost use Rattle.page_ranges.specs.Rows.{ReprotectsRow};
 ghost use Rattle.mapping.specs.Changes.{IsWhole, KeepsAround};
-ghost use Rattle.page_ranges.specs.Steps.{KeepsEntriesOfOthers, IsStepEnd};
+ghost use Rattle.page_ranges.specs.Steps.{KeepsEntriesOfOthers, IsLinkedStepEnd};
 
+use crate::entries::next_entry;
 use crate::leaves::permitted;
-use crate::rows::{gap_end, table_end, user_page};
+use crate::rows::{next_linked, table_end, user_page};
 use mapped_memory::{number_in, set_in, table_of};
 use mapping::root_of;
 use paging::Core;
@@ -61,8 +62,8 @@ pub fn reprotect<D, E>(
     core.remap(pid, regions);
 }
 
-/// Gives the permission to the pages from `start` on whose entries stand in one table, as far as `end`. The result is
-/// the first page past them. Where a table is missing on the way, there is nothing to do on all its pages.
+/// Passes the pages from `start` on, and before `end`, on whose way a table is missing, and gives the permission to the pages
+/// after them whose entries stand in one table. The result is the first page past those.
 fn permit_next<D, E>(core: &mut Core<D, E>, pid: Pid, start: Vpn, end: u64, prot: Prot) -> u64
     requires rooted { IsRootedBut (picture_of core.old) 0 }
     requires named { NamesFrames (picture_of core.old) pid }
@@ -74,22 +75,23 @@ fn permit_next<D, E>(core: &mut Core<D, E>, pid: Pid, start: Vpn, end: u64, prot
     ensures named { NamesFrames (picture_of core.new) pid }
     ensures further { start < result }
     ensures within { result ≤ end }
-    ensures ends { IsStepEnd (picture_of core.old) pid start end result }
+    ensures ends { IsLinkedStepEnd (picture_of core.old) pid start end result }
     ensures permits { PermitsRow (picture_of core.old) (picture_of core.new) pid start result prot }
     ensures rest { KeepsAround core.old core.new }
     ensures refused { core.new.refused ≡ core.old.refused }
 {
-    match gap_end(core, pid, start) {
-        Some(gap) => end.min(gap),
-        None => {
-            let stop = end.min(table_end(start));
-            permit_table(core, pid, start, stop, prot);
-            stop
-        }
+    let linked = next_linked(core, pid, start, end);
+    if linked >= end {
+        return end;
     }
+    let first = user_page(linked);
+    let stop = end.min(table_end(first));
+    permit_table(core, pid, first, stop, prot);
+    stop
 }
 
-/// Gives the permission to the pages from `start` up to, not including, `stop`, whose entries stand in one table.
+/// Gives the permission to the pages from `start` up to, not including, `stop`, whose entries stand in one table. Places
+/// without an entry are passed over many at a time.
 fn permit_table<D, E>(core: &mut Core<D, E>, pid: Pid, start: Vpn, stop: u64, prot: Prot)
     requires rooted { IsRootedBut (picture_of core.old) 0 }
     requires named { NamesFrames (picture_of core.old) pid }
@@ -109,8 +111,10 @@ fn permit_table<D, E>(core: &mut Core<D, E>, pid: Pid, start: Vpn, stop: u64, pr
     let Ok(table) = table_of(&core.frames, root, start) else {
         unreachable!();
     };
-    for page in start.get()..stop {
+    let mut page = next_entry(&core.frames, table, start.get(), stop);
+    while page < stop {
         permit_page(core, pid, root, table, user_page(page), prot);
+        page = next_entry(&core.frames, table, page + 1, stop);
     }
 }
 

@@ -1,19 +1,22 @@
 //! Rows of pages, and the tables that their entries stand in.
-ghost use Rattle.std.specs.Prelude.{◌≡◌, ℕ, ◌<◌, ◌≤◌, ◌+◌, ◌*◌, ◌/◌, ◌^◌, true, IfNone, IfSome};
-ghost use Rattle.vm_types.specs.Limits.{user_start, user_end, table_entries};
+ghost use Rattle.std.specs.Prelude.{◌≡◌, ◌≢◌, ℕ, ◌<◌, ◌≤◌, ◌+◌, ◌*◌, ◌/◌, ◌^◌, ◌⊎◌, true, min, IfNone, IfSome};
+ghost use Rattle.vm_types.specs.Limits.{top_level, user_start, user_end, table_entries};
+ghost use Rattle.page_tables.specs.Tree.{IsForest, IsRoot, Points, missing_of};
+ghost use Rattle.sv39_walk.specs.Walk.{index_of};
 ghost use Rattle.regions.specs.RunList.{attr_at};
 ghost use Rattle.paging.specs.Picture.{picture_of, is_live, entry};
 ghost use Rattle.paging.specs.Parts.{IsRootedBut};
 ghost use Rattle.mapping.specs.Changes.{IsWhole};
 ghost use Rattle.page_ranges.specs.Rows.{IsUnmapped, IsNextPart};
-ghost use Rattle.page_ranges.specs.Steps.{IsGapEnd};
+ghost use Rattle.page_ranges.specs.Steps.{IsGapEnd, IsPastGap};
 
-use mapped_memory::missing_tables;
+use crate::entries::{next_place, number_at};
+use mapped_memory::{Memory, missing_tables};
 use mapping::root_of;
 use paging::Core;
 use regions::Regions;
-use sv39_walk::TABLE_ENTRIES;
-use vm_types::{Pid, Vpn};
+use sv39_walk::{Pte, TABLE_ENTRIES, table_index};
+use vm_types::{FrameNo, Pid, Vpn};
 
 /// Pages of a row, from a mapped one up to, not including, `end`.
 #[derive(Clone, Copy)]
@@ -66,6 +69,103 @@ pub fn gap_end<D, E>(core: &Core<D, E>, pid: Pid, page: Vpn) -> Option<u64>
         2 => Some(middle_end(page)),
         _ => Some(table_end(page)),
     }
+}
+
+/// The first page from `page` on, and before `end`, of a live process on whose way no table is missing; `end` where there is
+/// none. What the missing tables would hold costs the entries of the tables above them, which are read many at a time (RISC-V
+/// Privileged Specification, "Virtual Address Translation Process").
+pub(crate) fn next_linked<D, E>(core: &Core<D, E>, pid: Pid, page: Vpn, end: u64) -> u64
+    requires rooted { IsRootedBut (picture_of core.now) 0 }
+    requires live { is_live (picture_of core.now) pid ≡ true }
+    requires some { page < end }
+    requires high { end ≤ user_end }
+    ensures from { page ≤ result }
+    ensures within { result ≤ end }
+    ensures passed { (p : ℕ) → page ≤ p → p < result → IsWhole (picture_of core.now) pid p → ⊥ }
+    ensures gap { (p : ℕ) → page ≤ p → p < result → entry (picture_of core.now) pid p ≡ 0 }
+    ensures found { result < end → IsWhole (picture_of core.now) pid result }
+{
+    let root = root_of(core, pid);
+    let mut at = page.get();
+    while at < end {
+        match past_gap(&core.frames, root, user_page(at), end) {
+            Some(next) => at = next,
+            None => return at,
+        }
+    }
+    end
+}
+
+/// Where a table is missing on the way to a page, the next page on whose way fewer are, or the first one past those whose way
+/// goes through the same table above the missing one, or one that isn't before `end`; `None` where none is missing.
+fn past_gap(memory: &Memory, root: FrameNo, page: Vpn, end: u64) -> Option<u64>
+    requires forest { IsForest memory.now }
+    requires root { IsRoot top_level memory.now root.0 }
+    requires some { page < end }
+    requires high { end ≤ user_end }
+    ensures whole { IfNone result (missing_of memory.now top_level root.0 page ≡ 0) }
+    ensures further { IfSome result (λ next. page < next) }
+    ensures passed { IfSome result (λ next. (p : ℕ) → page ≤ p → p < next → missing_of memory.now top_level root.0 p ≢ 0) }
+    ensures stops { IfSome result (IsPastGap memory.now root.0 page end) }
+{
+    match missing_tables(memory, root, page) {
+        0 => None,
+        2 => Some(past_root_gap(memory, root, page, end)),
+        _ => Some(past_middle_gap(memory, root, page, end)),
+    }
+}
+
+/// Where two tables are missing on the way to a page, the first page past it that stands in the place of another entry of the
+/// root, one that is set; where none is as far as `end`, a page that isn't before `end`.
+fn past_root_gap(memory: &Memory, root: FrameNo, page: Vpn, end: u64) -> u64
+    requires root { IsRoot top_level memory.now root.0 }
+    requires missing { missing_of memory.now top_level root.0 page ≡ 2 }
+    requires some { page < end }
+    requires high { end ≤ user_end }
+    ensures further { page < result }
+    ensures passed { (p : ℕ) → page ≤ p → p < result → missing_of memory.now top_level root.0 p ≡ 2 }
+    ensures stops { (missing_of memory.now top_level root.0 result < 2) ⊎ (end ≤ result) }
+{
+    let after = table_index(page.get(), 2) + 1;
+    let stop = table_index(end - 1, 2) + 1;
+    let place = next_place(memory, root, after, stop);
+    place as u64 * TABLE_ENTRIES * TABLE_ENTRIES
+}
+
+/// Where the lowest table alone is missing on the way to a page, the first page past it that stands in the place of another
+/// entry of the table above, one that is set; where none is as far as `end` or that table's own end, a page that isn't before
+/// the nearer of the two.
+fn past_middle_gap(memory: &Memory, root: FrameNo, page: Vpn, end: u64) -> u64
+    requires forest { IsForest memory.now }
+    requires root { IsRoot top_level memory.now root.0 }
+    requires missing { missing_of memory.now top_level root.0 page ≡ 1 }
+    requires some { page < end }
+    requires high { end ≤ user_end }
+    ensures further { page < result }
+    ensures passed { (p : ℕ) → page ≤ p → p < result → missing_of memory.now top_level root.0 p ≡ 1 }
+    ensures stops { (missing_of memory.now top_level root.0 result ≡ 0)
+        ⊎ (min end ((page / table_entries ^ 2 + 1) * table_entries ^ 2) ≤ result) }
+{
+    let table = middle_table(memory, root, page);
+    let number = page.get();
+    let last = end.min(middle_end(page)) - 1;
+    let after = table_index(number, 1) + 1;
+    let stop = table_index(last, 1) + 1;
+    let place = next_place(memory, table, after, stop);
+    let span = TABLE_ENTRIES * TABLE_ENTRIES;
+    number / span * span + place as u64 * TABLE_ENTRIES
+}
+
+/// The table that the root's entry on the way to a page points to.
+fn middle_table(memory: &Memory, root: FrameNo, page: Vpn) -> FrameNo
+    requires forest { IsForest memory.now }
+    requires root { IsRoot top_level memory.now root.0 }
+    requires some { missing_of memory.now top_level root.0 page ≢ 2 }
+    ensures { Points memory.now root.0 (index_of page top_level) result.0 }
+{
+    // (brings in that memory has no more than 65,536 frames)
+    let _ = memory.len();
+    Pte::from_u64(number_at(memory, root, table_index(page.get(), 2))).frame_number()
 }
 
 /// The next part of a row of pages that may have entries, from `page` on and before `end`; `None` where no page of the row is

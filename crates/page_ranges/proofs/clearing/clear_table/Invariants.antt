@@ -1,4 +1,4 @@
-use Rattle.std.proofs.Common.{◌≡◌, ◌/◌, Some}
+use Rattle.std.proofs.Common.{◌≡◌, ◌-◌, ◌/◌, ◌≤◌, Some}
 use Rattle.page_tables.specs.Places.{IsTableOf}
 use Rattle.paging.specs.Parts.{IsFit}
 use Rattle.paging.specs.Picture.{picture_of}
@@ -7,6 +7,8 @@ use Rattle.page_ranges.proofs.clearing.clear_table.Given as goal
 
 abbrev pub invariant-loop-page : goal.invariant-loop-page
 invariant-loop-page g l = record {
+  low : l.fn.start ≤ l.page;
+  high : l.page ≤ l.stop;
   fit : IsFit (picture_of l.core);
   place : IsTableOf l.core.frames l.root.0 (l.fn.start / 512) l.table.0;
   root_is : (picture_of l.core).root l.pid ≡ Some l.root.0;
@@ -15,3 +17,6 @@ invariant-loop-page g l = record {
   rest : KeepsBesideMemory l.initial.core l.core;
   refused : l.core.refused ≡ l.initial.core.refused;
 }
+
+abbrev pub decreases-loop-page : goal.decreases-loop-page
+decreases-loop-page g l = l.stop - l.page

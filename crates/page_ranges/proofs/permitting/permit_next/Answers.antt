@@ -1,22 +1,52 @@
-use Rattle.std.proofs.Common.{◌∙◌, ap, arith}
+use Rattle.std.proofs.Common.{ℕ, ◌+◌, ◌*◌, ◌/◌, inl, inr, sym, ap, ◌∙◌, subst, arith}
 use Rattle.std.specs.Prelude.{min}
 use Rattle.paging.specs.Picture.{Picture, picture_of}
-use Rattle.page_ranges.proofs.PermittedRows.{permits_none}
-use Rattle.page_tables.specs.Tree.{missing_of}
-use Rattle.page_ranges.proofs.Gaps.{step_whole, step_gap}
+use Rattle.mapping.specs.Changes.{IsWhole}
+use Rattle.page_ranges.specs.Leaves.{PermitsRow}
+use Rattle.page_ranges.proofs.PermittedRows.{permits_none, permits_then}
 use Rattle.page_ranges.proofs.permitting.permit_next.Goals as goal
 
-pub returns-in-Some-clause-permits : goal.returns-in-Some-clause-permits
-returns-in-Some-clause-permits g c =
+pub returns-then-linked-end-clause-permits : goal.returns-then-linked-end-clause-permits
+returns-then-linked-end-clause-permits g c =
+    let next = c.next_linked-linked.ensures in
+    permits_none (picture_of c.args.core.now) c.args.pid c.args.start _ c.args.prot
+    (λ page h from below. next.gap page from (omega (arith, c.requires.some, c.if-linked-end.true, below)))
+
+pub returns-then-linked-end-clause-ends : goal.returns-then-linked-end-clause-ends
+returns-then-linked-end-clause-ends g c =
+    let next = c.next_linked-linked.ensures in
+    record {
+      linked = c.next_linked-linked.result;
+      from = next.from;
+      passed = next.passed;
+      ends = inl (omega (arith, next.within, c.if-linked-end.true), omega arith);
+    }
+
+pub permit_table-requires-clause-whole : goal.permit_table-requires-clause-whole
+permit_table-requires-clause-whole g c =
+    let P : ℕ → Type 0 = λ x. IsWhole (picture_of c.args.core.now) c.args.pid x in
+    subst P (sym c.user_page-first.ensures) (c.next_linked-linked.ensures.found c.if-linked-end.false)
+
+pub returns-clause-permits : goal.returns-clause-permits
+returns-clause-permits g c =
     let old : Picture = picture_of c.args.core.now in
-    permits_none old c.args.pid c.args.start c.min.result c.args.prot (λ page h from below. c.in-Some.ensures.gap page from (omega (arith, c.min.ensures, below)))
+    let new : Picture = picture_of c.permit_table.new.core in
+    let next = c.next_linked-linked.ensures in
+    let P : ℕ → Type 0 = λ x. PermitsRow old new c.args.pid x c.min-stop.result c.args.prot in
+    permits_then old old new c.args.pid c.args.start c.next_linked-linked.result c.min-stop.result c.args.prot next.from
+    (omega (arith, c.min-stop.ensures, c.table_end.ensures, c.user_page-first.ensures, c.if-linked-end.false))
+    (permits_none old c.args.pid c.args.start c.next_linked-linked.result c.args.prot (λ page h from below. next.gap page from below))
+    (subst P c.user_page-first.ensures c.permit_table.ensures.permits)
 
-pub returns-in-Some-clause-ends : goal.returns-in-Some-clause-ends
-returns-in-Some-clause-ends g c r root =
-    let gap = c.in-Some.ensures.end r root in
-    step_gap c.args.start c.args.end c.min.result c.in-Some.gap (missing_of c.args.core.now.frames 2 r c.args.start) gap.0 gap.1 c.min.ensures
-
-pub returns-in-None-clause-ends : goal.returns-in-None-clause-ends
-returns-in-None-clause-ends g c r root =
-    step_whole c.args.start c.args.end c.min-stop.result (missing_of c.args.core.now.frames 2 r c.args.start) (c.in-None.ensures.whole r root)
-    (c.min-stop.ensures ∙ ap (min c.args.end) c.table_end.ensures)
+pub returns-clause-ends : goal.returns-clause-ends
+returns-clause-ends g c =
+    let next = c.next_linked-linked.ensures in
+    record {
+      linked = c.next_linked-linked.result;
+      from = next.from;
+      passed = next.passed;
+      ends = inr (
+        next.found c.if-linked-end.false,
+        c.min-stop.ensures ∙ ap (min c.args.end) (c.table_end.ensures ∙ ap (λ x. (x / 512 + 1) * 512) c.user_page-first.ensures),
+      );
+    }

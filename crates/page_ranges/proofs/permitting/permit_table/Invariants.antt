@@ -1,4 +1,4 @@
-use Rattle.std.proofs.Common.{◌≡◌, ◌/◌, Some}
+use Rattle.std.proofs.Common.{◌≡◌, ◌-◌, ◌/◌, ◌≤◌, Some}
 use Rattle.mapping.specs.Changes.{KeepsAround}
 use Rattle.paging.specs.Parts.{IsRootedBut}
 use Rattle.paging.specs.Picture.{picture_of}
@@ -8,6 +8,8 @@ use Rattle.page_ranges.proofs.permitting.permit_table.Given as goal
 
 abbrev pub invariant-loop-page : goal.invariant-loop-page
 invariant-loop-page g l = record {
+  low : l.fn.start ≤ l.page;
+  high : l.page ≤ l.stop;
   rooted : IsRootedBut (picture_of l.core) 0;
   named : NamesFrames (picture_of l.core) l.pid;
   place : IsTableOf l.core.frames l.root.0 (l.fn.start / 512) l.table.0;
@@ -16,3 +18,6 @@ invariant-loop-page g l = record {
   rest : KeepsAround l.initial.core l.core;
   refused : l.core.refused ≡ l.initial.core.refused;
 }
+
+abbrev pub decreases-loop-page : goal.decreases-loop-page
+decreases-loop-page g l = l.stop - l.page

@@ -1,0 +1,22 @@
+-- Pages of one table, and those without an entry among them that a search passed over.
+use Rattle.std.proofs.Common.{◌≡◌, ℕ, ◌+◌, ◌*◌, ◌/◌, ◌<◌, ◌≤◌, Some, ◌∙◌, subst, arith}
+use Rattle.page_tables.specs.Tree.{IsPage, page_entry}
+use Rattle.page_tables.specs.Places.{IsTableOf}
+use Rattle.paging.specs.Picture.{Picture, entry}
+use Rattle.paging.proofs.Entries.{entry-of}
+
+pub same_table : (start page stop : ℕ) → start ≤ page → page < stop → stop ≤ (start / 512 + 1) * 512 → start / 512 ≡ page / 512
+same_table start page stop from below end = omega arith
+
+-- the end of the table is the same from each of its pages
+pub end_from : (start page stop : ℕ) → start ≤ page → stop ≤ (start / 512 + 1) * 512 → stop ≤ (page / 512 + 1) * 512
+end_from start page stop from end = omega arith
+
+pub none_between : (c : Picture) (pid r n start low high stop : ℕ) → c.root pid ≡ Some r → IsTableOf c.frames r (start / 512) n
+    → start ≤ low → high ≤ stop → stop ≤ (start / 512 + 1) * 512
+    → ((root p : ℕ) → IsTableOf c.frames root (p / 512) n → low ≤ p → p < high → page_entry c.frames 2 root p ≡ 0)
+    → (page : ℕ) → IsPage 2 page → low ≤ page → page < high → entry c pid page ≡ 0
+none_between c pid r n start low high stop root row from within end passed page h least below =
+    let same = same_table start page stop (omega (arith, from, least)) (omega (arith, below, within)) end in
+    let P : ℕ → Type 0 = λ x. IsTableOf c.frames r x n in
+    entry-of c pid r page root ∙ passed r page (subst P same row) least below

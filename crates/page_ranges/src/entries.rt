@@ -1,0 +1,97 @@
+//! The entries that stand in a table, looked for many places at a time.
+ghost use Rattle.std.specs.Prelude.{◌≡◌, ◌≢◌, ℕ, ◌+◌, ◌*◌, ◌/◌, ◌<◌, ◌≤◌, true};
+ghost use Rattle.vm_types.specs.Limits.{top_level, table_entries};
+ghost use Rattle.frames.specs.FrameTable.{IsFrame};
+ghost use Rattle.sv39_walk.specs.Entry.{entry_at};
+ghost use Rattle.page_tables.specs.Tree.{IsTable, page_entry};
+ghost use Rattle.page_tables.specs.Places.{IsTableOf};
+
+use byteorder::{ByteOrder, LittleEndian};
+use mapped_memory::Memory;
+use sv39_walk::TABLE_ENTRIES;
+use vm_types::FrameNo;
+
+/// The first page from `page` on, and before `stop`, that has an entry; `stop` where none has. The entries of these pages
+/// stand in that lowest table, and are looked at many at a time.
+pub fn next_entry(memory: &Memory, table: FrameNo, page: u64, stop: u64) -> u64
+    requires table { IsTable memory.now table.0 }
+    requires order { page ≤ stop }
+    requires one_table { stop ≤ (page / table_entries + 1) * table_entries }
+    ensures from { page ≤ result }
+    ensures within { result ≤ stop }
+    ensures passed { (root p : ℕ) → IsTableOf memory.now root (p / table_entries) table.0 → page ≤ p → p < result → page_entry memory.now top_level root p ≡ 0 }
+    ensures found { (root : ℕ) → IsTableOf memory.now root (result / table_entries) table.0 → result < stop → page_entry memory.now top_level root result ≢ 0 }
+{
+    let first = page / TABLE_ENTRIES * TABLE_ENTRIES;
+    let place = next_place(
+        memory,
+        table,
+        (page - first) as usize,
+        (stop - first) as usize,
+    );
+    first + place as u64
+}
+
+/// The first place of a table from `index` on, and before `stop`, at which an entry stands; `stop` where none does.
+pub(crate) fn next_place(memory: &Memory, table: FrameNo, index: usize, stop: usize) -> usize
+    requires table { IsTable memory.now table.0 }
+    requires order { index ≤ stop }
+    requires within { stop ≤ table_entries }
+    ensures from { index ≤ result }
+    ensures within { result ≤ stop }
+    ensures passed { (i : ℕ) → index ≤ i → i < result → entry_at memory.now table.0 i ≡ 0 }
+    ensures found { result < stop → entry_at memory.now table.0 result ≢ 0 }
+{
+    let mut place = index;
+    while place < stop && number_at(memory, table, place) == 0 {
+        place += none_from(memory, table, place, stop);
+    }
+    place
+}
+
+// How many places from one without an entry on have none, as far as one look tells: eight or one.
+fn none_from(memory: &Memory, table: FrameNo, index: usize, stop: usize) -> usize
+    requires inside { IsFrame memory.now table.0 }
+    requires below { index < stop }
+    requires within { stop ≤ table_entries }
+    requires none { entry_at memory.now table.0 index ≡ 0 }
+    ensures some { 0 < result }
+    ensures within { index + result ≤ stop }
+    ensures none { (i : ℕ) → index ≤ i → i < index + result → entry_at memory.now table.0 i ≡ 0 }
+{
+    if index + 8 <= stop && are_none(memory, table, index) {
+        return 8;
+    }
+    1
+}
+
+// Whether the eight places from `index` on have no entry, by one test.
+fn are_none(memory: &Memory, table: FrameNo, index: usize) -> bool
+    requires inside { IsFrame memory.now table.0 }
+    requires within { index + 8 ≤ table_entries }
+    ensures { result ≡ true → (i : ℕ) → index ≤ i → i < index + 8 → entry_at memory.now table.0 i ≡ 0 }
+{
+    four_at(memory, table, index) | four_at(memory, table, index + 4) == 0
+}
+
+// The numbers at four places joined, which is 0 only where each of them is.
+fn four_at(memory: &Memory, table: FrameNo, index: usize) -> u64
+    requires inside { IsFrame memory.now table.0 }
+    requires within { index + 4 ≤ table_entries }
+    ensures { result ≡ 0 → (i : ℕ) → index ≤ i → i < index + 4 → entry_at memory.now table.0 i ≡ 0 }
+{
+    number_at(memory, table, index)
+        | number_at(memory, table, index + 1)
+        | number_at(memory, table, index + 2)
+        | number_at(memory, table, index + 3)
+}
+
+/// The number at a place of a table.
+#[tactic(auto, unfolding(sv39_walk::specs::Entry::entry_at))]
+pub(crate) fn number_at(memory: &Memory, table: FrameNo, index: usize) -> u64
+    requires inside { IsFrame memory.now table.0 }
+    requires below { index < table_entries }
+    ensures { result ≡ entry_at memory.now table.0 index }
+{
+    LittleEndian::read_u64(&memory.bytes(table)[8 * index..])
+}
