@@ -9,3 +9,4 @@ pub mod Live
 pub mod Sharers
 pub mod SharedRows
 pub mod SharedPage
+pub mod Passed

@@ -19,7 +19,7 @@ ghost use Rattle.copy_on_write.specs.Steps.{HasCopy, HasTables, HasTablesFrom, L
 use disk_model::SectorDisk;
 use mapped_memory::{number_in, table_of};
 use mapping::{link_tables, root_of};
-use page_ranges::{gap_end, table_end, user_page};
+use page_ranges::{gap_end, next_entry, table_end, user_page};
 use page_tables::{Entry, decode};
 use paging::Core;
 use sv39_walk::TABLE_ENTRIES;
@@ -28,8 +28,8 @@ use vm_types::{Pid, Stall, USER_START, Vpn};
 /// Makes for the child, whose pages are mapped as the parent's, every table that is missing on the way to a page of which the
 /// parent has a copy of its own, in a frame or in a slot. A frame is asked for only where such a table is missing; to have one,
 /// frames may be given up, and no process sees that. No entry is set. It costs the parent's runs and, of these, the tables
-/// that they meet and the entries of their pages, and nothing for what isn't mapped (fork(2); RISC-V Privileged
-/// Specification, "Virtual Address Translation Process").
+/// that they meet and the pages there that have an entry, as far as the first copy, and nothing for what isn't mapped
+/// (fork(2); RISC-V Privileged Specification, "Virtual Address Translation Process").
 ///
 /// # Errors
 /// As `obtain`, where a table is missing and no frame is to be had for it. The tables that were made stay.
@@ -148,7 +148,7 @@ fn link_next<D, E: SectorDisk>(
 }
 
 /// The first page from `start` up to, not including, `stop` of which a live process has a copy of its own. The entries of
-/// those pages stand in one table.
+/// those pages stand in one table, and places without an entry are passed over.
 fn first_copy<D, E>(core: &Core<D, E>, pid: Pid, start: Vpn, stop: u64) -> Option<Vpn>
     requires fit { IsFit (picture_of core.now) }
     requires live { is_live (picture_of core.now) pid ≡ true }
@@ -162,11 +162,13 @@ fn first_copy<D, E>(core: &Core<D, E>, pid: Pid, start: Vpn, stop: u64) -> Optio
     let Ok(table) = table_of(&core.frames, root, start) else {
         unreachable!();
     };
-    for page in start.get()..stop {
+    let mut page = start.get();
+    while page < stop {
         let index = (page % TABLE_ENTRIES) as usize;
         if is_own(decode(number_in(&core.frames, table, index))) {
             return Some(user_page(page));
         }
+        page = next_entry(&core.frames, table, page + 1, stop);
     }
     None
 }

@@ -13,7 +13,7 @@ use crate::linking::is_own;
 use crate::withdrawing::{add_share, withdraw_write};
 use mapped_memory::{number_in, set_in, table_of};
 use mapping::root_of;
-use page_ranges::{gap_end, table_end, user_page};
+use page_ranges::{gap_end, next_entry, table_end, user_page};
 use page_tables::decode;
 use paging::Core;
 use sv39_walk::TABLE_ENTRIES;
@@ -22,8 +22,8 @@ use vm_types::{FrameNo, Pid, USER_START, Vpn};
 /// Gives the child, whose pages are mapped as the parent's and have no entry, a share of each page of which the parent has a
 /// copy of its own, in a frame or in a slot. No store to such a frame is allowed any more, so that the next one is noticed
 /// and gets a copy (fork(2), copy-on-write). `link_copies` has made the tables that the child wants, so no frame is asked for
-/// and no device, and the call can't fail. It costs the parent's runs and, of these, the tables that they meet and the entries
-/// of their pages, and nothing for what isn't mapped.
+/// and no device, and the call can't fail. It costs the parent's runs and, of these, the tables that they meet and the pages
+/// there that have an entry, and nothing for what isn't mapped.
 pub fn share_pages<D, E>(core: &mut Core<D, E>, parent: Pid, child: Pid)
     requires fit { IsFit (picture_of core.old) }
     requires parent { is_live (picture_of core.old) parent ≡ true }
@@ -96,8 +96,8 @@ fn share_next<D, E>(core: &mut Core<D, E>, parent: Pid, child: Pid, page: Vpn, e
 }
 
 /// Gives the child its shares of the pages from `start` up to, not including, `stop`. Their entries stand in one table of the
-/// parent and in one of the child, which are looked for once and not for each page. Where the child has no table for them, the
-/// parent has no copy of any of them.
+/// parent and in one of the child, which are looked for once and not for each page; places of the parent's without an entry
+/// are passed over. Where the child has no table for them, the parent has no copy of any of them.
 fn share_table<D, E>(core: &mut Core<D, E>, parent: Pid, child: Pid, start: Vpn, stop: u64)
     requires fit { IsFit (picture_of core.old) }
     requires parent { is_live (picture_of core.old) parent ≡ true }
@@ -120,8 +120,10 @@ fn share_table<D, E>(core: &mut Core<D, E>, parent: Pid, child: Pid, start: Vpn,
     let Some(to) = table_for(core, child, start) else {
         return;
     };
-    for page in start.get()..stop {
+    let mut page = next_entry(&core.frames, from, start.get(), stop);
+    while page < stop {
         share_page(core, parent, child, from, to, user_page(page));
+        page = next_entry(&core.frames, from, page + 1, stop);
     }
 }
 

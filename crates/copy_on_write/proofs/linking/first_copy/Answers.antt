@@ -1,35 +1,34 @@
-use Rattle.std.proofs.Common.{◌≡◌, ℕ, inl, inr, ◌+◌, ◌*◌, ◌/◌, ◌<◌, ◌≤◌, refl, sym, ap, ◌∙◌, subst, arith}
-use Rattle.std.proofs.lemmas.Bool.{cases_eq}
+use Rattle.std.proofs.Common.{◌≡◌, ℕ, inl, inr, ◌+◌, refl, sym, ap, ◌∙◌, subst, arith}
+use Rattle.std.proofs.lemmas.Bool.{cases_eq, cases_lt}
 use Rattle.page_tables.specs.Entry.{IsPageEntry, number_of}
 use Rattle.page_tables.specs.Places.{IsTableOf}
 use Rattle.page_tables.proofs.Ends.{page_is_entry}
 use Rattle.paging.specs.Seats.{seat}
 use Rattle.paging.specs.Picture.{Picture, picture_of, entry}
 use Rattle.paging.proofs.Entries.{entry-of}
+use Rattle.paging.proofs.Start.{seat-none}
+use Rattle.copy_on_write.proofs.Passed.{same_table, none_passed}
 use Rattle.copy_on_write.proofs.linking.first_copy.Goals as goal
 
 pub table_of-requires-clause-root : goal.table_of-requires-clause-root
 table_of-requires-clause-root g c = c.requires.fit.rooted.roots c.args.pid c.root_of-root.result.0 c.root_of-root.ensures
 
-same_table : (start page stop : ℕ) → start ≤ page → page < stop → stop ≤ (start / 512 + 1) * 512 → start / 512 ≡ page / 512
-same_table start page stop from below end = omega arith
-
 pub decode-requires : goal.decode-requires
 decode-requires g c =
-    let same = same_table c.args.start c.loop-page.page c.args.stop (omega (arith, c.get-page.ensures.number, c.loop-page.auto.page)) c.loop-page-test.true c.requires.one_table in
+    let same = same_table c.args.start c.loop-page.page c.args.stop c.loop-page.invariant.from c.loop-page-test.true c.requires.one_table in
     let T : ℕ → Type 0 = λ x. IsTableOf c.args.core.now.frames c.root_of-root.result.0 x c.in-Ok.table.0 in
     let P : ℕ → Type 0 = λ x. IsPageEntry x in
-    subst P (sym (c.number_in.ensures c.root_of-root.result.0 c.loop-page.page (subst T same c.in-Ok.ensures.found) refl))
+    subst P (sym (c.number_in.ensures c.root_of-root.result.0 c.loop-page.page (subst T (sym same) c.in-Ok.ensures.found) refl))
     (page_is_entry c.args.core.now.frames 2 c.root_of-root.result.0 c.loop-page.page c.requires.fit.rooted.forest
     (c.requires.fit.rooted.roots c.args.pid c.root_of-root.result.0 c.root_of-root.ensures))
 
 pub returns-then-is_own-clause-some : goal.returns-then-is_own-clause-some
 returns-then-is_own-clause-some g c =
     let old : Picture = picture_of c.args.core.now in
-    let same = same_table c.args.start c.loop-page.page c.args.stop (omega (arith, c.get-page.ensures.number, c.loop-page.auto.page)) c.loop-page-test.true c.requires.one_table in
+    let same = same_table c.args.start c.loop-page.page c.args.stop c.loop-page.invariant.from c.loop-page-test.true c.requires.one_table in
     let T : ℕ → Type 0 = λ x. IsTableOf c.args.core.now.frames c.root_of-root.result.0 x c.in-Ok.table.0 in
     let is : number_of c.decode.result ≡ entry old c.args.pid c.loop-page.page =
-    c.decode.ensures.number ∙ c.number_in.ensures c.root_of-root.result.0 c.loop-page.page (subst T same c.in-Ok.ensures.found) refl
+    c.decode.ensures.number ∙ c.number_in.ensures c.root_of-root.result.0 c.loop-page.page (subst T (sym same) c.in-Ok.ensures.found) refl
     ∙ sym (entry-of old c.args.pid c.root_of-root.result.0 c.loop-page.page c.root_of-root.ensures) in (
       omega arith,
       λ none. c.is_own.ensures.own c.if-is_own.true (ap seat (is ∙ ap (entry old c.args.pid) (sym c.user_page.ensures)) ∙ none),
@@ -38,14 +37,24 @@ returns-then-is_own-clause-some g c =
 pub loop-page-preserved : goal.loop-page-preserved
 loop-page-preserved g c =
     let old : Picture = picture_of c.args.core.now in
-    let same = same_table c.args.start c.loop-page.page c.args.stop (omega (arith, c.get-page.ensures.number, c.loop-page.auto.page)) c.loop-page-test.true c.requires.one_table in
+    let k = c.loop-page.invariant in
+    let same = same_table c.args.start c.loop-page.page c.args.stop k.from c.loop-page-test.true c.requires.one_table in
     let T : ℕ → Type 0 = λ x. IsTableOf c.args.core.now.frames c.root_of-root.result.0 x c.in-Ok.table.0 in
     let is : number_of c.decode.result ≡ entry old c.args.pid c.loop-page.page =
-    c.decode.ensures.number ∙ c.number_in.ensures c.root_of-root.result.0 c.loop-page.page (subst T same c.in-Ok.ensures.found) refl
+    c.decode.ensures.number ∙ c.number_in.ensures c.root_of-root.result.0 c.loop-page.page (subst T (sym same) c.in-Ok.ensures.found) refl
     ∙ sym (entry-of old c.args.pid c.root_of-root.result.0 c.loop-page.page c.root_of-root.ensures) in
+    let from = k.from in
+    let step = c.next_entry-page.ensures in
+    let further = step.from in
+    let within = step.within in
     record {
-      none = λ page from below. elim (cases_eq page c.loop-page.page) [
-        | inl e ↦ ap (λ x. seat (entry old c.args.pid x)) e ∙ ap seat (sym is) ∙ c.is_own.ensures.other c.if-is_own.false
-        | inr ne ↦ c.loop-page.invariant.none page from (omega (arith, below, ne))
+      from = omega (arith, from, further);
+      none = λ page least below. elim (cases_lt page c.loop-page.page) [
+        | inl before ↦ k.none page least before
+        | inr over ↦ elim (cases_eq page c.loop-page.page) [
+          | inl e ↦ ap (λ x. seat (entry old c.args.pid x)) e ∙ ap seat (sym is) ∙ c.is_own.ensures.other c.if-is_own.false
+          | inr ne ↦ ap seat (none_passed old c.args.pid c.root_of-root.result.0 c.args.start c.args.stop c.in-Ok.table.0 (c.loop-page.page + 1) c.next_entry-page.result
+              c.root_of-root.ensures c.in-Ok.ensures.found c.requires.one_table (omega (arith, from)) within step.passed page (omega (arith, over, ne)) below) ∙ seat-none
+        ]
       ];
     }

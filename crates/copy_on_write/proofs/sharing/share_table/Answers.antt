@@ -1,14 +1,15 @@
-use Rattle.std.proofs.Common.{◌≡◌, ℕ, inr, ◌+◌, ◌*◌, ◌/◌, ◌<◌, ◌≤◌, refl, sym, ap, ◌∙◌, subst, arith}
+use Rattle.std.proofs.Common.{◌≡◌, ℕ, inr, ◌+◌, ◌/◌, ◌≤◌, refl, sym, ap, ◌∙◌, subst, arith}
 use Rattle.std.specs.Prelude.{is_some}
 use Rattle.page_tables.specs.Tree.{IsPage}
+use Rattle.paging.specs.Seats.{seat}
 use Rattle.paging.specs.Picture.{Picture, picture_of}
+use Rattle.paging.proofs.Start.{seat-none}
 use Rattle.page_ranges.proofs.ClearedPages.{rest-refl, rest_then}
 use Rattle.copy_on_write.specs.Shares.{IsTableFor, SharesRow}
+use Rattle.copy_on_write.proofs.Live.{live_root}
+use Rattle.copy_on_write.proofs.Passed.{same_table, none_passed, shares_passed}
 use Rattle.copy_on_write.proofs.SharedRows.{none_of_row, shares_none, shares_then}
 use Rattle.copy_on_write.proofs.sharing.share_table.Goals as goal
-
-same_table : (start page stop : ℕ) → start ≤ page → page < stop → stop ≤ (start / 512 + 1) * 512 → page / 512 ≡ start / 512
-same_table start page stop from below end = omega arith
 
 pub returns-in_default-table_for-clause-shares : goal.returns-in_default-table_for-clause-shares
 returns-in_default-table_for-clause-shares g c =
@@ -20,12 +21,18 @@ returns-in_default-table_for-clause-shares g c =
 pub loop-page-init : goal.loop-page-init
 loop-page-init g c =
     let old : Picture = picture_of c.args.core.now in
+    let r = live_root (old.root c.args.parent) c.requires.parent in
+    let step = c.next_entry-page.ensures in
+    let from = step.from in
     record {
+      least = omega (arith, c.get.ensures.number, from);
+      within = step.within;
       fit = c.requires.fit;
       from = c.in-Some.ensures.found;
       to = c.in-Some-table_for.ensures.found;
-      shares = shares_none old c.args.parent c.args.child c.args.start c.get-page.result c.requires.same (λ p h least under. c.requires.bare p h least)
-          (λ p h least under. absurd (omega (arith, c.get-page.ensures.number, least, under)));
+      shares = shares_none old c.args.parent c.args.child c.args.start c.next_entry-page.result c.requires.same (λ p h least under. c.requires.bare p h least)
+          (λ p h least under. ap seat (none_passed old c.args.parent r.0 c.args.start c.args.stop c.in-Some.from.0 c.get.result c.next_entry-page.result
+          r.1 (c.in-Some.ensures.found r.0 r.1) c.requires.one_table (omega (arith, c.get.ensures.number)) step.within step.passed p (omega (arith, c.get.ensures.number, least)) under) ∙ seat-none);
       rest = rest-refl c.args.core.now;
       refused = refl;
     }
@@ -44,19 +51,20 @@ share_page-requires-clause-same g c p =
 pub share_page-requires-clause-bare : goal.share_page-requires-clause-bare
 share_page-requires-clause-bare g c =
     let page = c.user_page.result in
-    let h : IsPage 2 page = omega (arith, c.user_page.ensures, c.get-page.ensures, c.loop-page-test.true, c.requires.one_table) in
+    let h : IsPage 2 page = omega (arith, c.user_page.ensures, c.loop-page-test.true, c.requires.one_table) in
     let over : c.loop-page.page ≤ page = omega (arith, c.user_page.ensures) in
-    c.loop-page.invariant.shares.others c.args.child page h (inr (inr over)) ∙ c.requires.bare page h (omega (arith, c.user_page.ensures, c.get-page.ensures.number, c.loop-page.auto.page))
+    let least = c.loop-page.invariant.least in
+    c.loop-page.invariant.shares.others c.args.child page h (inr (inr over)) ∙ c.requires.bare page h (omega (arith, over, least))
 
 pub share_page-requires-clause-from : goal.share_page-requires-clause-from
 share_page-requires-clause-from g c =
-    let row = same_table c.args.start c.loop-page.page c.args.stop (omega (arith, c.get-page.ensures.number, c.loop-page.auto.page)) c.loop-page-test.true c.requires.one_table in
+    let row = same_table c.args.start c.loop-page.page c.args.stop c.loop-page.invariant.least c.loop-page-test.true c.requires.one_table in
     let P : ℕ → Type 0 = λ x. IsTableFor (picture_of c.loop-page.core) c.args.parent x c.in-Some.from.0 in
     subst P (sym (ap (λ x. x / 512) c.user_page.ensures ∙ row)) c.loop-page.invariant.from
 
 pub share_page-requires-clause-to : goal.share_page-requires-clause-to
 share_page-requires-clause-to g c =
-    let row = same_table c.args.start c.loop-page.page c.args.stop (omega (arith, c.get-page.ensures.number, c.loop-page.auto.page)) c.loop-page-test.true c.requires.one_table in
+    let row = same_table c.args.start c.loop-page.page c.args.stop c.loop-page.invariant.least c.loop-page-test.true c.requires.one_table in
     let P : ℕ → Type 0 = λ x. IsTableFor (picture_of c.loop-page.core) c.args.child x c.in-Some-table_for.to.0 in
     subst P (sym (ap (λ x. x / 512) c.user_page.ensures ∙ row)) c.loop-page.invariant.to
 
@@ -66,21 +74,33 @@ loop-page-preserved g c =
     let mid : Picture = picture_of c.loop-page.core in
     let new : Picture = picture_of c.share_page.new.core in
     let page = c.loop-page.page in
+    let next = c.next_entry-page-in-loop-page.result in
     let k = c.loop-page.invariant in
     let step = c.share_page.ensures in
+    let further = c.next_entry-page-in-loop-page.ensures in
     let P : ℕ → Type 0 = λ x. SharesRow mid new c.args.parent c.args.child x (x + 1) in
+    let le : page + 1 ≤ next = further.from in
+    let least = k.least in
+    let from = step.places c.args.parent (c.args.start / 512) c.in-Some.from.0 k.from in
+    let shares = shares_then old mid new c.args.parent c.args.child c.args.start page (page + 1) c.requires.fit c.requires.apart
+    least (omega arith) k.shares (subst P c.user_page.ensures step.shares) in
+    let r = live_root (new.root c.args.parent) (ap is_some (shares.beside.root c.args.parent) ∙ c.requires.parent) in
     record {
+      least = omega (arith, least, le);
+      within = further.within;
       fit = step.fit;
-      from = step.places c.args.parent (c.args.start / 512) c.in-Some.from.0 k.from;
+      from = from;
       to = step.places c.args.child (c.args.start / 512) c.in-Some-table_for.to.0 k.to;
-      shares = shares_then old mid new c.args.parent c.args.child c.args.start page (page + 1) c.requires.fit c.requires.apart
-          (omega (arith, c.get-page.ensures.number, c.loop-page.auto.page)) (omega arith) k.shares (subst P c.user_page.ensures step.shares);
+      shares = shares_passed old new c.args.parent c.args.child c.args.start (page + 1) next c.requires.fit c.requires.apart (omega (arith, least)) le c.requires.same c.requires.bare
+          (none_passed new c.args.parent r.0 c.args.start c.args.stop c.in-Some.from.0 (page + 1) next r.1 (from r.0 r.1) c.requires.one_table (omega (arith, least))
+          further.within further.passed) shares;
       rest = rest_then c.args.core.now c.loop-page.core c.share_page.new.core k.rest step.rest;
       refused = step.refused ∙ k.refused;
     }
 
 pub returns-clause-shares : goal.returns-clause-shares
 returns-clause-shares g c =
-    let end : c.loop-page.page ≡ c.args.stop = omega (arith, c.get-page.ensures.number, c.requires.some, c.loop-page.auto.page-end, c.loop-page-test.false) in
+    let within = c.loop-page.invariant.within in
+    let end : c.loop-page.page ≡ c.args.stop = omega (arith, within, c.loop-page-test.false) in
     let P : ℕ → Type 0 = λ x. SharesRow (picture_of c.args.core.now) (picture_of c.loop-page.core) c.args.parent c.args.child c.args.start x in
     subst P end c.loop-page.invariant.shares
