@@ -1,6 +1,6 @@
 //! Rows of pages of a process, in 8 frames.
-ghost use Rattle.std.specs.Prelude.{◌≡◌, ◌≤◌, ◌<◌, ℕ, true, OnOk};
-ghost use Rattle.vm_types.specs.Limits.{user_start, user_end};
+ghost use Rattle.std.specs.Prelude.{◌≡◌, ◌+◌, ◌*◌, ◌/◌, ◌≤◌, ◌<◌, ℕ, true, OnOk};
+ghost use Rattle.vm_types.specs.Limits.{user_start, user_end, table_entries};
 ghost use Rattle.swap.specs.Slots.{IsReady};
 ghost use Rattle.regions.specs.Permission.{ReadsToo};
 ghost use Rattle.paging.specs.Parts.{IsFit};
@@ -10,8 +10,9 @@ ghost use Rattle.process_tests.specs.Tests.{HasFivePages};
 use crate::bench::{equal, five_pages, number, own, own_all, use_of, with_five_pages, zeros};
 use disk_model::SectorDisk;
 use frames::Role;
-use mapping::link_tables;
-use page_ranges::{clear_row, gap_end, remap, reprotect, table_end, user_page};
+use mapped_memory::table_of;
+use mapping::{link_tables, root_of};
+use page_ranges::{clear_row, gap_end, next_entry, remap, reprotect, table_end, user_page};
 use paging::Core;
 use regions::Regions;
 use std::process::Abort;
@@ -200,6 +201,50 @@ fn pages_of_a_table(rt: HostRuntime) {
         (table_end(user_page(32)), user_page(512).get()),
         (512, 512),
     );
+}
+
+// The next page of process 1 from `page` on, and before `stop`, that has an entry; `None` where a table is missing on the way.
+fn next<D, E>(core: &Core<D, E>, page: u64, stop: u64) -> Option<u64>
+    requires fit { IsFit (picture_of core.now) }
+    requires live { is_live (picture_of core.now) 1 ≡ true }
+    requires low { user_start ≤ page }
+    requires high { page < user_end }
+    requires order { page ≤ stop }
+    requires one_table { stop ≤ (page / table_entries + 1) * table_entries }
+{
+    let root = root_of(core, first_process());
+    match table_of(&core.frames, root, user_page(page)) {
+        Ok(table) => Some(next_entry(&core.frames, table, page, stop)),
+        Err(_) => None,
+    }
+}
+
+fn look_for_entries<D, E: SectorDisk>(rt: &impl Abort, core: &mut Core<D, E>) -> Result<(), Fail>
+    requires pages { HasFivePages (picture_of core.old) }
+    requires swap { IsReady E.SectorDisk core.old.swap }
+{
+    equal(rt, next(core, 16, 512), None);
+    own(rt, core, 33)?;
+    own(rt, core, 36)?;
+    let found = [
+        next(core, 16, 512),
+        next(core, 33, 512),
+        next(core, 34, 512),
+    ];
+    equal(rt, found, [Some(33), Some(33), Some(36)]);
+    equal(
+        rt,
+        [next(core, 34, 36), next(core, 37, 512)],
+        [Some(36), Some(512)],
+    );
+    Ok(())
+}
+
+// Places of a table without an entry are passed over, a few and many, and none that has one.
+#[test]
+fn entries_of_a_table_are_found_in_turn(rt: HostRuntime) -> Result<(), Fail> {
+    let mut core = with_five_pages(rt.alloc(), 8, 4)?;
+    look_for_entries(&rt, &mut core)
 }
 
 // Maps a page that stands in no table of the five.
