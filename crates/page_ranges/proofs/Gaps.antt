@@ -1,12 +1,12 @@
 -- The pages of one table: the ways to them are the same, and so is what is missing on them.
-use Rattle.std.proofs.Common.{◌≡◌, ◌≢◌, ℕ, ◌+◌, ◌*◌, ◌/◌, ◌%◌, ◌^◌, ◌≤◌, ◌<◌, ◌⊎◌, inl, inr, Some, refl, sym, ap, ◌∙◌, subst, arith}
+use Rattle.std.proofs.Common.{◌≡◌, ◌≢◌, ℕ, ◌+◌, ◌*◌, ◌/◌, ◌%◌, ◌^◌, ◌≤◌, ◌<◌, inl, inr, Some, refl, sym, ap, ◌∙◌, subst, arith}
 use Rattle.std.specs.Prelude.{min, max, Option, None, is_some, true}
-use Rattle.std.proofs.lemmas.Bool.{cases_eq, false≢true}
+use Rattle.std.proofs.lemmas.Bool.{false≢true}
 use Rattle.frames.specs.FrameTable.{FrameTable}
 use Rattle.sv39_walk.specs.Entry.{entry_at, frame_of, is_pointer}
 use Rattle.sv39_walk.specs.Walk.{index_of}
-use Rattle.page_tables.specs.Tree.{IsForest, IsTable, last_table, missing_of}
-use Rattle.page_tables.proofs.Ways.{ends, cases_bool, last_table-next, last_table-stop, last_table-zero}
+use Rattle.page_tables.specs.Tree.{last_table, missing_of}
+use Rattle.page_tables.proofs.Ways.{cases_bool, last_table-next, last_table-stop, last_table-zero}
 use Rattle.page_tables.proofs.Ends.{missing_of-is, page_entry-missing}
 use Rattle.paging.specs.Picture.{Picture, entry}
 use Rattle.paging.proofs.Entries.{entry-of}
@@ -82,19 +82,6 @@ in_row_of start page stop end from below le is = omega arith
 
 pub in_middle_of : (start page stop end : ℕ) → start ≤ page → page < stop → stop ≤ end → end ≡ (start / 262144 + 1) * 262144 → page / 262144 ≡ start / 262144
 in_middle_of start page stop end from below le is = omega arith
-
--- one table is missing, or two, where any is
-pub one_or_two : (t : FrameTable) (r p : ℕ) → IsForest t → IsTable t r → missing_of t 2 r p ≢ 0 → (missing_of t 2 r p ≡ 1) ⊎ (missing_of t 2 r p ≡ 2)
-one_or_two t r p forest table some =
-    let least = (ends t 2 r p forest table).least in
-    let is = missing_of-is t 2 r p in
-    elim (cases_eq (missing_of t 2 r p) 1) [
-      | inl e ↦ inl e
-      | inr ne ↦ inr (omega (arith, least, is, some, ne))
-    ]
-
-pub gap_at : (page end m k : ℕ) → m ≡ k → end ≡ (page / 512 ^ m + 1) * 512 ^ m → end ≡ (page / 512 ^ k + 1) * 512 ^ k
-gap_at page end m k is at = let P : ℕ → Type 0 = λ x. end ≡ (page / 512 ^ x + 1) * 512 ^ x in subst P is at
 
 -- a live process has a root table
 pub lives : (o : Option ℕ) → is_some o ≡ true → o ≢ None

@@ -18,13 +18,14 @@ use Rattle.page_ranges.proofs.Gaps.{index_high, low_end, two_missing, missing_sa
 none_stops : (e : ℕ) → e ≡ 0 → is_pointer e ≡ false
 none_stops e none = ap is_pointer none ∙ is_pointer-zero
 
-pub index_high_is : (p : ℕ) → p < 134217728 → index_of p 2 ≡ p / 262144
+-- the places of a page in a root and in a table of the level below
+pub place_high : (p : ℕ) → index_of p 2 ≡ p / 262144 % 512
 unfolding index_of
-index_high_is p h = omega arith
+place_high p = refl
 
-pub index_low_is : (p : ℕ) → index_of p 1 ≡ p / 512 % 512
+pub place_low : (p : ℕ) → index_of p 1 ≡ p / 512 % 512
 unfolding index_of
-index_low_is p = refl
+place_low p = refl
 
 -- the way ends at the root where its entry is no pointer
 stops_high : (t : FrameTable) (r p : ℕ) → is_pointer (entry_at t r (index_of p 2)) ≡ false → last_table t p 2 r ≡ (2, r)
@@ -61,46 +62,30 @@ set_points t r p root some = elim (cases_bool (is_pointer (entry_at t r (index_o
       absurd (some (sym (ap (λ x. entry_at t x.1 (index_of p x.0)) (stops_high t r p stop)) ∙ sym (last_entry-is t 2 r p) ∙ bare)))
 ]
 
--- Two tables are missing on the way to a page, and the entries of the root have nothing from the one after its own up to a place:
--- so two are missing on the way to all pages up to that place's.
-pub root_gap : (t : FrameTable) (r page place : ℕ) → missing_of t 2 r page ≡ 2 → place ≤ 512
-    → ((i : ℕ) → index_of page 2 + 1 ≤ i → i < place → entry_at t r i ≡ 0)
-    → (p : ℕ) → page ≤ p → p < place * 512 * 512 → missing_of t 2 r p ≡ 2
-root_gap t r page place two within none p from below = elim (cases_eq (p / 262144) (page / 262144)) [
+-- Two tables are missing on the way to a page, and the root has nothing from the entry after its own up to one: so two are missing
+-- on the way to all pages up to that one's.
+pub root_gap : (t : FrameTable) (r page next : ℕ) → missing_of t 2 r page ≡ 2
+    → ((n : ℕ) → page / 262144 + 1 ≤ n → n < next → entry_at t r (n % 512) ≡ 0)
+    → (p : ℕ) → page ≤ p → p < next * 262144 → missing_of t 2 r p ≡ 2
+root_gap t r page next two none p from below = elim (cases_eq (p / 262144) (page / 262144)) [
   | inl same ↦ two_missing t page p r (sym same) two
-  | inr other ↦ (
-      let here = index_high_is p (omega (arith, within, below)) in
-      let first = index_high_is page (omega (arith, within, below, from)) in
-      two_where t r p (none_stops _ (none (index_of p 2) (omega (arith, here, first, from, other)) (omega (arith, here, below)))))
+  | inr other ↦ two_where t r p (none_stops _ (ap (entry_at t r) (place_high p) ∙ none (p / 262144) (omega (arith, from, other)) (omega (arith, below))))
 ]
 
--- the places of a page and of a later one stand in that order
-pub root_order : (page last : ℕ) → page ≤ last → last < 67108864 → index_of page 2 ≤ index_of last 2
-root_order page last from below = omega (arith, from, index_high_is page (omega (arith, from, below)), index_high_is last (omega (arith, below)))
+-- past the first of those entries that is set, or past all as far as that of a page
+pub root_stop : (t : FrameTable) (r last next : ℕ) → IsRoot 2 t r → next ≤ last / 262144 + 1
+    → (next < last / 262144 + 1 → entry_at t r (next % 512) ≢ 0) → (missing_of t 2 r (next * 262144) < 2) ⊎ (last < next * 262144)
+root_stop t r last next root within some = elim (cases_eq next (last / 262144 + 1)) [
+  | inl all ↦ inr (omega (arith, all))
+  | inr other ↦ (
+      let quotient : next * 262144 / 262144 ≡ next = omega arith in
+      let here : index_of (next * 262144) 2 ≡ next % 512 = place_high (next * 262144) ∙ ap (λ x. x % 512) quotient in
+      inl (set_points t r (next * 262144) root (λ e. some (omega (arith, within, other)) (ap (entry_at t r) (sym here) ∙ e))))
+]
 
--- past the first of those places whose entry is set, or past all as far as the place of a page
-pub root_stop : (t : FrameTable) (r last place next : ℕ) → IsRoot 2 t r → last < 67108864 → place ≤ index_of last 2 + 1 → next ≡ place * 512 * 512
-    → (place < index_of last 2 + 1 → entry_at t r place ≢ 0) → (missing_of t 2 r next < 2) ⊎ (last < next)
-root_stop t r last place next root below within is some =
-    let high = index_high_is last (omega (arith, below)) in
-    elim (cases_eq place (index_of last 2 + 1)) [
-      | inl all ↦ inr (omega (arith, all, is, high))
-      | inr other ↦ (
-          let less : place < index_of last 2 + 1 = omega (arith, within, other) in
-          let small : place < 256 = omega (arith, less, high, below) in
-          let here : index_of next 2 ≡ place = omega (arith, index_high_is next (omega (arith, is, small)), is, small) in
-          inl (set_points t r next root (λ e. some less (ap (entry_at t r) (sym here) ∙ e))))
-    ]
-
--- the last page before an end that lies below the same middle table, and its place there
+-- the last page before an end that lies below the same middle table
 pub middle_last : (page end stop last : ℕ) → page < end → stop ≡ min end ((page / 262144 + 1) * 262144) → last ≡ stop - 1 → last / 262144 ≡ page / 262144
 middle_last page end stop last some is before = omega (arith, some, is, before)
-
-pub middle_order : (page end stop last : ℕ) → page < end → stop ≡ min end ((page / 262144 + 1) * 262144) → last ≡ stop - 1 → index_of page 1 ≤ index_of last 1
-middle_order page end stop last some is before =
-    let same = middle_last page end stop last some is before in
-    let from : page ≤ last = omega (arith, some, is, before) in
-    omega (arith, from, same, index_low_is page, index_low_is last)
 
 -- The table that a pointer of the root leads to, and the pages below it.
 module _ (t : FrameTable) (r page m : ℕ) (points : Points t r (index_of page 2) m) where
@@ -129,32 +114,27 @@ module _ (t : FrameTable) (r page m : ℕ) (points : Points t r (index_of page 2
         absurd (some (sym (ap (λ x. entry_at t x.1 (index_of p x.0)) (stops_low p same stop)) ∙ sym (last_entry-is t 2 r p) ∙ bare)))
   ]
 
-  -- as for the root: where the lowest table is missing, and the entries after its own have nothing up to a place
-  pub middle_gap : (place next : ℕ) → missing_of t 2 r page ≡ 1 → place ≤ 512 → next ≡ page / 262144 * 262144 + place * 512
-      → ((i : ℕ) → index_of page 1 + 1 ≤ i → i < place → entry_at t m i ≡ 0)
-      → (p : ℕ) → page ≤ p → p < next → missing_of t 2 r p ≡ 1
-  middle_gap place next one within is none p from below = elim (cases_eq (p / 512) (page / 512)) [
+  -- as for the root: where the lowest table is missing, and the entries after its own have nothing up to one
+  pub middle_gap : (next : ℕ) → missing_of t 2 r page ≡ 1 → next ≤ (page / 262144 + 1) * 512
+      → ((n : ℕ) → page / 512 + 1 ≤ n → n < next → entry_at t m (n % 512) ≡ 0)
+      → (p : ℕ) → page ≤ p → p < next * 512 → missing_of t 2 r p ≡ 1
+  middle_gap next one within none p from below = elim (cases_eq (p / 512) (page / 512)) [
     | inl same ↦ missing_same t page p r (sym same) ∙ one
     | inr other ↦ (
-        let here = index_low_is p in
-        let first = index_low_is page in
-        let above : p / 262144 ≡ page / 262144 = omega (arith, within, is, from, below) in
-        one_where p above (none_stops _ (none (index_of p 1) (omega (arith, here, first, above, from, other)) (omega (arith, here, above, is, below)))))
+        let above : p / 262144 ≡ page / 262144 = omega (arith, within, from, below) in
+        one_where p above (none_stops _ (ap (entry_at t m) (place_low p) ∙ none (p / 512) (omega (arith, from, other)) (omega (arith, below)))))
   ]
 
-  pub middle_stop : (last place next : ℕ) → IsRoot 2 t r → last / 262144 ≡ page / 262144 → place ≤ index_of last 1 + 1
-      → next ≡ page / 262144 * 262144 + place * 512 → (place < index_of last 1 + 1 → entry_at t m place ≢ 0) → (missing_of t 2 r next ≡ 0) ⊎ (last < next)
-  middle_stop last place next root same within is some =
-      let low = index_low_is last in
-      elim (cases_eq place (index_of last 1 + 1)) [
-        | inl all ↦ inr (omega (arith, all, is, low, same))
-        | inr other ↦ (
-            let less : place < index_of last 1 + 1 = omega (arith, within, other) in
-            let small : place < 512 = omega (arith, less, low) in
-            let above : next / 262144 ≡ page / 262144 = omega (arith, is, small) in
-            let here : index_of next 1 ≡ place = omega (arith, index_low_is next, is, small) in
-            inl (set_whole next above root (λ e. some less (ap (entry_at t m) (sym here) ∙ e))))
-      ]
+  pub middle_stop : (last next : ℕ) → IsRoot 2 t r → last / 262144 ≡ page / 262144 → page ≤ last → page / 512 + 1 ≤ next → next ≤ last / 512 + 1
+      → (next < last / 512 + 1 → entry_at t m (next % 512) ≢ 0) → (missing_of t 2 r (next * 512) ≡ 0) ⊎ (last < next * 512)
+  middle_stop last next root same from past within some = elim (cases_eq next (last / 512 + 1)) [
+    | inl all ↦ inr (omega (arith, all))
+    | inr other ↦ (
+        let quotient : next * 512 / 512 ≡ next = omega arith in
+        let here : index_of (next * 512) 1 ≡ next % 512 = place_low (next * 512) ∙ ap (λ x. x % 512) quotient in
+        let above : next * 512 / 262144 ≡ page / 262144 = omega (arith, same, past, within, other) in
+        inl (set_whole (next * 512) above root (λ e. some (omega (arith, within, other)) (ap (entry_at t m) (sym here) ∙ e))))
+  ]
 
 -- what is missing from its root is missing on the way to a process's page, which has no entry then
 module _ (c : Picture) (pid r : ℕ) (root : c.root pid ≡ Some r) where

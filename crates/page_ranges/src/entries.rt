@@ -1,5 +1,5 @@
 //! The entries that stand in a table, looked for many places at a time.
-ghost use Rattle.std.specs.Prelude.{◌≡◌, ◌≢◌, ℕ, ◌+◌, ◌*◌, ◌/◌, ◌<◌, ◌≤◌, true};
+ghost use Rattle.std.specs.Prelude.{◌≡◌, ◌≢◌, ℕ, ◌+◌, ◌*◌, ◌/◌, ◌%◌, ◌<◌, ◌≤◌, ◌↔◌, true};
 ghost use Rattle.vm_types.specs.Limits.{top_level, table_entries};
 ghost use Rattle.frames.specs.FrameTable.{IsFrame};
 ghost use Rattle.sv39_walk.specs.Entry.{entry_at};
@@ -10,6 +10,9 @@ use byteorder::{ByteOrder, LittleEndian};
 use mapped_memory::Memory;
 use sv39_walk::TABLE_ENTRIES;
 use vm_types::FrameNo;
+
+/// How many places one test looks at.
+const GROUP: u64 = 8;
 
 /// The first page from `page` on, and before `stop`, that has an entry; `stop` where none has. The entries of these pages
 /// stand in that lowest table, and are looked at many at a time.
@@ -22,47 +25,49 @@ pub fn next_entry(memory: &Memory, table: FrameNo, page: u64, stop: u64) -> u64
     ensures passed { (root p : ℕ) → IsTableOf memory.now root (p / table_entries) table.0 → page ≤ p → p < result → page_entry memory.now top_level root p ≡ 0 }
     ensures found { (root : ℕ) → IsTableOf memory.now root (result / table_entries) table.0 → result < stop → page_entry memory.now top_level root result ≢ 0 }
 {
-    let first = page / TABLE_ENTRIES * TABLE_ENTRIES;
-    let place = next_place(
-        memory,
-        table,
-        (page - first) as usize,
-        (stop - first) as usize,
-    );
-    first + place as u64
+    next_set(memory, table, page, stop)
 }
 
-/// The first place of a table from `index` on, and before `stop`, at which an entry stands; `stop` where none does.
-pub(crate) fn next_place(memory: &Memory, table: FrameNo, index: usize, stop: usize) -> usize
+/// The first number from `first` on, and before `stop`, at whose place of a table an entry stands; `stop` where none does. The
+/// place of a number is its remainder by 512: in a lowest table the numbers are pages, and in one above it those of the tables
+/// below.
+pub(crate) fn next_set(memory: &Memory, table: FrameNo, first: u64, stop: u64) -> u64
     requires table { IsTable memory.now table.0 }
-    requires order { index ≤ stop }
-    requires within { stop ≤ table_entries }
-    ensures from { index ≤ result }
+    requires order { first ≤ stop }
+    requires one_table { stop ≤ (first / table_entries + 1) * table_entries }
+    ensures from { first ≤ result }
     ensures within { result ≤ stop }
-    ensures passed { (i : ℕ) → index ≤ i → i < result → entry_at memory.now table.0 i ≡ 0 }
-    ensures found { result < stop → entry_at memory.now table.0 result ≢ 0 }
+    ensures passed { (n : ℕ) → first ≤ n → n < result → entry_at memory.now table.0 (n % table_entries) ≡ 0 }
+    ensures found { result < stop → entry_at memory.now table.0 (result % table_entries) ≢ 0 }
 {
-    let mut place = index;
-    while place < stop && number_at(memory, table, place) == 0 {
-        place += none_from(memory, table, place, stop);
+    let mut at = first;
+    while at < stop && is_none(memory, table, place_of(at)) {
+        at += none_from(memory, table, at, stop);
     }
-    place
+    at
 }
 
-// How many places from one without an entry on have none, as far as one look tells: eight or one.
-fn none_from(memory: &Memory, table: FrameNo, index: usize, stop: usize) -> usize
+// How many numbers from one without an entry on have none, as far as one look tells: eight or one.
+fn none_from(memory: &Memory, table: FrameNo, first: u64, stop: u64) -> u64
     requires inside { IsFrame memory.now table.0 }
-    requires below { index < stop }
-    requires within { stop ≤ table_entries }
-    requires none { entry_at memory.now table.0 index ≡ 0 }
+    requires below { first < stop }
+    requires one_table { stop ≤ (first / table_entries + 1) * table_entries }
+    requires none { entry_at memory.now table.0 (first % table_entries) ≡ 0 }
     ensures some { 0 < result }
-    ensures within { index + result ≤ stop }
-    ensures none { (i : ℕ) → index ≤ i → i < index + result → entry_at memory.now table.0 i ≡ 0 }
+    ensures within { first + result ≤ stop }
+    ensures none { (n : ℕ) → first ≤ n → n < first + result → entry_at memory.now table.0 (n % table_entries) ≡ 0 }
 {
-    if index + 8 <= stop && are_none(memory, table, index) {
-        return 8;
+    if stop - first >= GROUP && are_none(memory, table, place_of(first)) {
+        return GROUP;
     }
     1
+}
+
+// The place of a number in a table.
+fn place_of(number: u64) -> usize
+    ensures { result ≡ number % table_entries }
+{
+    (number % TABLE_ENTRIES) as usize
 }
 
 // Whether the eight places from `index` on have no entry, by one test.
@@ -84,6 +89,15 @@ fn four_at(memory: &Memory, table: FrameNo, index: usize) -> u64
         | number_at(memory, table, index + 1)
         | number_at(memory, table, index + 2)
         | number_at(memory, table, index + 3)
+}
+
+// Whether no entry stands at a place.
+fn is_none(memory: &Memory, table: FrameNo, index: usize) -> bool
+    requires inside { IsFrame memory.now table.0 }
+    requires below { index < table_entries }
+    ensures { (result ≡ true) ↔ (entry_at memory.now table.0 index ≡ 0) }
+{
+    number_at(memory, table, index) == 0
 }
 
 /// The number at a place of a table.

@@ -10,7 +10,7 @@ ghost use Rattle.mapping.specs.Changes.{IsWhole};
 ghost use Rattle.page_ranges.specs.Rows.{IsUnmapped, IsNextPart};
 ghost use Rattle.page_ranges.specs.Steps.{IsGapEnd, IsPastGap};
 
-use crate::entries::{next_place, number_at};
+use crate::entries::{next_set, number_at};
 use mapped_memory::{Memory, missing_tables};
 use mapping::root_of;
 use paging::Core;
@@ -119,17 +119,17 @@ fn past_gap(memory: &Memory, root: FrameNo, page: Vpn, end: u64) -> Option<u64>
 /// root, one that is set; where none is as far as `end`, a page that isn't before `end`.
 fn past_root_gap(memory: &Memory, root: FrameNo, page: Vpn, end: u64) -> u64
     requires root { IsRoot top_level memory.now root.0 }
-    requires missing { missing_of memory.now top_level root.0 page ≡ 2 }
+    requires missing { missing_of memory.now top_level root.0 page ≡ top_level }
     requires some { page < end }
     requires high { end ≤ user_end }
     ensures further { page < result }
-    ensures passed { (p : ℕ) → page ≤ p → p < result → missing_of memory.now top_level root.0 p ≡ 2 }
-    ensures stops { (missing_of memory.now top_level root.0 result < 2) ⊎ (end ≤ result) }
+    ensures passed { (p : ℕ) → page ≤ p → p < result → missing_of memory.now top_level root.0 p ≡ top_level }
+    ensures stops { (missing_of memory.now top_level root.0 result < top_level) ⊎ (end ≤ result) }
 {
-    let after = table_index(page.get(), 2) + 1;
-    let stop = table_index(end - 1, 2) + 1;
-    let place = next_place(memory, root, after, stop);
-    place as u64 * TABLE_ENTRIES * TABLE_ENTRIES
+    let span = TABLE_ENTRIES * TABLE_ENTRIES;
+    let after = page.get() / span + 1;
+    let stop = (end - 1) / span + 1;
+    next_set(memory, root, after, stop) * span
 }
 
 /// Where the lowest table alone is missing on the way to a page, the first page past it that stands in the place of another
@@ -147,20 +147,17 @@ fn past_middle_gap(memory: &Memory, root: FrameNo, page: Vpn, end: u64) -> u64
         ⊎ (min end ((page / table_entries ^ 2 + 1) * table_entries ^ 2) ≤ result) }
 {
     let table = middle_table(memory, root, page);
-    let number = page.get();
     let last = end.min(middle_end(page)) - 1;
-    let after = table_index(number, 1) + 1;
-    let stop = table_index(last, 1) + 1;
-    let place = next_place(memory, table, after, stop);
-    let span = TABLE_ENTRIES * TABLE_ENTRIES;
-    number / span * span + place as u64 * TABLE_ENTRIES
+    let after = page.get() / TABLE_ENTRIES + 1;
+    let stop = last / TABLE_ENTRIES + 1;
+    next_set(memory, table, after, stop) * TABLE_ENTRIES
 }
 
 /// The table that the root's entry on the way to a page points to.
 fn middle_table(memory: &Memory, root: FrameNo, page: Vpn) -> FrameNo
     requires forest { IsForest memory.now }
     requires root { IsRoot top_level memory.now root.0 }
-    requires some { missing_of memory.now top_level root.0 page ≢ 2 }
+    requires some { missing_of memory.now top_level root.0 page ≢ top_level }
     ensures { Points memory.now root.0 (index_of page top_level) result.0 }
 {
     // (brings in that memory has no more than 65,536 frames)

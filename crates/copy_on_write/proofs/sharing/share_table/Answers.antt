@@ -1,4 +1,4 @@
-use Rattle.std.proofs.Common.{◌≡◌, ℕ, inr, ◌+◌, ◌/◌, ◌≤◌, refl, sym, ap, ◌∙◌, subst, arith}
+use Rattle.std.proofs.Common.{◌≡◌, ℕ, inr, ◌+◌, ◌/◌, ◌<◌, ◌≤◌, refl, sym, ap, ◌∙◌, subst, arith}
 use Rattle.std.specs.Prelude.{is_some}
 use Rattle.page_tables.specs.Tree.{IsPage}
 use Rattle.paging.specs.Seats.{seat}
@@ -58,13 +58,15 @@ share_page-requires-clause-bare g c =
 
 pub share_page-requires-clause-from : goal.share_page-requires-clause-from
 share_page-requires-clause-from g c =
-    let row = same_table c.args.start c.loop-page.page c.args.stop c.loop-page.invariant.least c.loop-page-test.true c.requires.one_table in
+    let below : c.loop-page.page < c.args.stop = omega (arith, c.loop-page-test.true) in
+    let row = same_table c.args.start c.loop-page.page c.args.stop c.loop-page.invariant.least below c.requires.one_table in
     let P : ℕ → Type 0 = λ x. IsTableFor (picture_of c.loop-page.core) c.args.parent x c.in-Some.from.0 in
     subst P (sym (ap (λ x. x / 512) c.user_page.ensures ∙ row)) c.loop-page.invariant.from
 
 pub share_page-requires-clause-to : goal.share_page-requires-clause-to
 share_page-requires-clause-to g c =
-    let row = same_table c.args.start c.loop-page.page c.args.stop c.loop-page.invariant.least c.loop-page-test.true c.requires.one_table in
+    let below : c.loop-page.page < c.args.stop = omega (arith, c.loop-page-test.true) in
+    let row = same_table c.args.start c.loop-page.page c.args.stop c.loop-page.invariant.least below c.requires.one_table in
     let P : ℕ → Type 0 = λ x. IsTableFor (picture_of c.loop-page.core) c.args.child x c.in-Some-table_for.to.0 in
     subst P (sym (ap (λ x. x / 512) c.user_page.ensures ∙ row)) c.loop-page.invariant.to
 
