@@ -29,7 +29,7 @@ impl Batch {
         })
     }
 
-    /// Adds a page. Past 127 it is only noted that there are too many.
+    /// Adds a page. Past 1,023 it is only noted that there are too many.
     pub(crate) fn add(&mut self, page: FilePage, bytes: &[u8; 4096]) {
         if self.count >= PAGE_LIMIT {
             self.over = true;

@@ -21,7 +21,7 @@ pub enum BatchFault {
     /// The device failed: all of the batch is durable or none.
     #[error("device")]
     Device,
-    /// There is no page or there are over 127, one is named twice, or one does not begin inside its file.
+    /// There is no page or there are over 1,023, one is named twice, or one does not begin inside its file.
     #[error("{}", BadBatch::BadPages)]
     BadPages,
     /// The file of a page may only be read.

@@ -14,7 +14,7 @@ use vm_types::FilePage;
 /// Why a store takes no such batch. `Display` gives its name, as `pagesync` replies with it.
 #[derive(Clone, Copy, Debug, PartialEq, Eq, Error)]
 pub enum BadBatch {
-    /// There is no page or there are over 127, one is named twice, or one does not begin inside its file.
+    /// There is no page or there are over 1,023, one is named twice, or one does not begin inside its file.
     #[error("bad-pages")]
     BadPages,
     /// The file of a page may only be read.
@@ -52,7 +52,7 @@ pub fn check_pages<D: SectorDisk>(store: &FileStore<D>, pages: &[FilePage]) -> R
     Ok(())
 }
 
-/// Whether the pages are 1 to 127 that begin inside their files, none twice.
+/// Whether the pages are 1 to 1,023 that begin inside their files, none twice.
 fn are_pages<D: SectorDisk>(store: &FileStore<D>, pages: &[FilePage]) -> bool
     ensures good { IsTrue result → ArePages (files_of store.now) pages.now }
     ensures bad { IsFalse result → ArePages (files_of store.now) pages.now → ⊥ }

@@ -1,19 +1,24 @@
-//! What the tests share: tables of commands with the answers that are wanted.
+//! What the tests share: rows of steps with the answers that are wanted, and how they are carried out.
 //!
-//! A test is such a table alone, and holds no memory itself: each command and each look at memory there would have to be
-//! proved to end well, with that memory let go of.
-ghost use Rattle.std.specs.Prelude.{◌≤◌};
+//! A test is a table of such rows, which is data alone: each call, each look at memory and each comparison that a test made itself
+//! would have to be proved to end well, with all that stands before it in mind.
 ghost use Rattle.msync.specs.Shows.{IsSoundCore};
+ghost use Rattle.paging.specs.Parts.{IsFit};
+ghost use Rattle.paging.specs.Picture.{picture_of};
 
+use calls::{RegionRoom, SyncRoom};
 use disk_model::{SectorDisk, SimDisk};
+use frames::Role;
+use mapped_memory::entry_number;
+use mapping::root_of;
 use paging::Core;
 use std::fmt::Debug;
 use std::process::Abort;
 use std::test::Fail;
-use test_fixtures::{LEAST, Sizes, memory};
+use test_fixtures::{LEAST, Sizes, memory, sharers};
 use vm_types::{
-    Answer, Code, Command, Errno, Fault, MapSource, MsyncMode, Pid, Placing, Prot, StoredValue,
-    Width,
+    Answer, Backing, Code, Errno, Fault, FrameNo, MapSource, MsyncMode, Pid, Placing, Prot, Stall,
+    StoredValue, Vpn, Width,
 };
 
 /// 16 frames and no slot, over a file without a byte, on devices that work.
@@ -22,282 +27,294 @@ pub(crate) const PLAIN: Sizes = Sizes {
     ..LEAST
 };
 
-/// What a test does next.
-#[derive(Clone, Copy)]
+/// Shared pages of the file, from its first byte on.
+pub(crate) const FILE: MapSource = MapSource::Shared { file: 0, offset: 0 };
+
+/// What may be done with a page.
+#[derive(Clone, Copy, Debug)]
+pub(crate) enum May {
+    Read,
+    Write,
+    ReadWrite,
+    Run,
+}
+
+/// A call. Addresses and lengths are in bytes; the process is the first where no number tells of another.
+#[derive(Clone, Copy, Debug)]
+pub(crate) enum Call {
+    Spawn,
+    Fork(u64),
+    Exit(u64),
+    /// An mmap where the hint says: hint and length.
+    Map(u64, u64, May, MapSource),
+    Unmap(u64, u64),
+    Protect(u64, u64, May),
+    /// An msync that waits.
+    Sync(u64, u64),
+    Dontneed(u64, u64),
+    Load(u64, u64, Width),
+    Store(u64, u64, Width, u64),
+    Fetch(u64),
+}
+
+/// What a test does next, or looks at.
+#[derive(Clone, Copy, Debug)]
 pub(crate) enum Step {
-    /// The command returns this answer.
-    Answers(Command, Answer),
-    /// Process 1 stores the bytes 1 to 6 to the six pages from 0x20000 on, one to each.
-    StoresToSix,
+    /// The call is done.
+    Does(Call),
+    /// It is refused.
+    Refuses(Call, Errno),
+    /// It stalls.
+    Stalls(Call, Stall),
+    /// It faults: the cause, the code and the address.
+    Faults(Call, u8, Code, u64),
+    /// It makes a process of that number.
+    Makes(Call, u64),
+    /// It places a mapping at that address.
+    Places(Call, u64),
+    /// Process 1 gets pages to read and write, where the hint says.
+    Maps(u64, u64, MapSource),
+    /// A process stores a byte at that address.
+    Stores(u64, u64, u8),
+    /// A process loads this byte there.
+    Loads(u64, u64, u64),
+    /// Process 1 loads this value of that width.
+    Reads(u64, Width, u64),
+    /// Process 1 fetches these four bytes.
+    Fetches(u64, u64),
     /// So many slots are free.
     FreeSlots(u32),
+    /// So many frames are used, the zero page being one.
+    UsedFrames(u32),
+    /// What stands for a page of a process: the low ten bits of its entry, and how many share the frame or slot that it names.
+    Entry(u64, u64, u64, Option<u8>),
+    /// How many runs process 1 has, and what its page at that address stands on.
+    Runs(usize, u64, Backing),
+}
+
+/// A row: its name, the memory that it begins with, and its steps, in parts that other rows may have too.
+#[derive(Clone, Copy)]
+pub(crate) struct Row<'a> {
+    pub(crate) name: &'a str,
+    pub(crate) sizes: Sizes,
+    pub(crate) parts: &'a [&'a [Step]],
+}
+
+fn prot(may: May) -> Prot {
+    match may {
+        May::Read => Prot::READ,
+        May::Write => Prot::WRITE,
+        May::ReadWrite => Prot::READ | Prot::WRITE,
+        May::Run => Prot::EXECUTE,
+    }
 }
 
 /// An msync. Memory is known to be sound after one that the store didn't fail, so the test ends where it did.
 fn synced<D: SectorDisk, E: SectorDisk>(
     rt: &impl Abort,
     core: &mut Core<D, E>,
-    pid: u64,
     addr: u64,
     len: u64,
-    mode: MsyncMode,
 ) -> Answer
     requires { IsSoundCore D.SectorDisk E.SectorDisk core.old }
     ensures { IsSoundCore D.SectorDisk E.SectorDisk core.new }
 {
-    match calls::msync(core, pid, addr, len, mode) {
+    match calls::msync(core, &mut SyncRoom::new(), 1, addr, len, MsyncMode::Sync) {
         Answer::Refused(Errno::EIO) => panic!(rt; "the store failed in an msync"),
         answer => answer,
     }
 }
 
-/// Carries out a command by the call that it stands for.
-fn carried_out<D: SectorDisk, E: SectorDisk>(
+fn called<D: SectorDisk, E: SectorDisk>(
     rt: &impl Abort,
     core: &mut Core<D, E>,
-    command: Command,
+    call: Call,
 ) -> Answer
     requires { IsSoundCore D.SectorDisk E.SectorDisk core.old }
     ensures { IsSoundCore D.SectorDisk E.SectorDisk core.new }
 {
-    match command {
-        Command::Spawn => calls::spawn(core),
-        Command::Fork { pid } => calls::fork(core, pid),
-        Command::Exit { pid } => calls::exit(core, pid),
-        Command::Mmap {
-            pid,
-            addr,
-            len,
-            prot,
-            source,
-            placing,
-        } => calls::mmap(core, pid, addr, len, prot, source, placing),
-        Command::Munmap { pid, addr, len } => calls::munmap(core, pid, addr, len),
-        Command::Mprotect {
-            pid,
-            addr,
-            len,
-            prot,
-        } => calls::mprotect(core, pid, addr, len, prot),
-        Command::Msync {
-            pid,
-            addr,
-            len,
-            mode,
-        } => synced(rt, core, pid, addr, len, mode),
-        Command::Dontneed { pid, addr, len } => calls::dontneed(core, pid, addr, len),
-        Command::Load { pid, addr, width } => calls::load(core, pid, addr, width),
-        Command::Store { pid, addr, stored } => calls::store(core, pid, addr, stored),
-        Command::Fetch { pid, addr } => calls::fetch(core, pid, addr),
-        Command::PastFaults => panic!(rt; "no call asks for past faults"),
+    let room = &mut RegionRoom::new();
+    match call {
+        Call::Spawn => calls::spawn(core),
+        Call::Fork(pid) => calls::fork(core, pid),
+        Call::Exit(pid) => calls::exit(core, pid),
+        Call::Map(addr, len, may, source) => {
+            calls::mmap(core, room, 1, addr, len, prot(may), source, Placing::Hint)
+        }
+        Call::Unmap(addr, len) => calls::munmap(core, room, 1, addr, len),
+        Call::Protect(addr, len, may) => calls::mprotect(core, room, 1, addr, len, prot(may)),
+        Call::Sync(addr, len) => synced(rt, core, addr, len),
+        Call::Dontneed(addr, len) => calls::dontneed(core, 1, addr, len),
+        Call::Load(pid, addr, width) => calls::load(core, pid, addr, width),
+        Call::Store(pid, addr, width, value) => {
+            let stored = StoredValue::new(width, value).expect(rt, "a value of that width");
+            calls::store(core, pid, addr, stored)
+        }
+        Call::Fetch(addr) => calls::fetch(core, 1, addr),
     }
 }
 
-/// Stores to the six pages from 0x20000 on, where three frames are tables and four are left for pages.
-fn store_to_six<D: SectorDisk, E: SectorDisk>(rt: &impl Abort, core: &mut Core<D, E>)
-    requires { IsSoundCore D.SectorDisk E.SectorDisk core.old }
-    ensures { IsSoundCore D.SectorDisk E.SectorDisk core.new }
+/// The call of a step and the answer that is wanted; `None` for a look.
+fn asked(step: Step) -> Option<(Call, Answer)> {
+    match step {
+        Step::Does(call) => Some((call, Answer::Done)),
+        Step::Refuses(call, errno) => Some((call, Answer::Refused(errno))),
+        Step::Stalls(call, stall) => Some((call, Answer::Stalled(stall))),
+        Step::Places(call, addr) => Some((call, Answer::Address(addr))),
+        Step::Makes(call, number) => Some((call, Answer::Process(Pid::new(number)?))),
+        Step::Faults(call, cause, code, addr) => {
+            Some((call, Answer::Faulted(Fault { cause, code, addr })))
+        }
+        Step::Maps(addr, len, source) => Some((
+            Call::Map(addr, len, May::ReadWrite, source),
+            Answer::Address(addr),
+        )),
+        Step::Stores(pid, addr, byte) => Some((
+            Call::Store(pid, addr, Width::One, u64::from(byte)),
+            Answer::Done,
+        )),
+        Step::Loads(pid, addr, value) => Some((
+            Call::Load(pid, addr, Width::One),
+            Answer::Value {
+                width: Width::One,
+                value,
+            },
+        )),
+        Step::Reads(addr, width, value) => {
+            Some((Call::Load(1, addr, width), Answer::Value { width, value }))
+        }
+        Step::Fetches(addr, value) => Some((
+            Call::Fetch(addr),
+            Answer::Value {
+                width: Width::Four,
+                value,
+            },
+        )),
+        _ => None,
+    }
+}
+
+/// How many frames are used.
+fn used_frames<D, E>(core: &Core<D, E>) -> u32 {
+    let mut used: u32 = 0;
+    for frame in 0..core.frames.len() {
+        if core.frames.role(FrameNo(frame)) != Role::Free {
+            used = used.saturating_add(1);
+        }
+    }
+    used
+}
+
+/// The number that stands for a page of a process; `None` where there is no such process.
+fn number<D, E>(core: &Core<D, E>, pid: u64, addr: u64) -> Option<u64>
+    requires fit { IsFit (picture_of core.now) }
 {
-    for number in 0..6_u8 {
-        let command = store(1, 0x20000 + 0x1000 * u64::from(number), number + 1);
-        let answer = carried_out(rt, core, command);
-        assert_eq!(rt; answer, Answer::Done, "{command:?}");
+    let pid = core.live(pid)?;
+    let page = Vpn::new(addr / 4096)?;
+    let root = root_of(core, pid);
+    Some(entry_number(&core.frames, root, page).to_u64())
+}
+
+/// How many share the frame or the slot that an entry of this number names.
+fn shares<D, E>(core: &Core<D, E>, number: u64) -> Option<u8> {
+    if number % 2 == 0 {
+        return sharers(core, u32::try_from(number / 2).ok()?.checked_sub(1)?);
+    }
+    let frame = u32::try_from(number / 1024).ok()?;
+    if frame < core.frames.len() {
+        Some(core.frames.count(FrameNo(frame)))
+    } else {
+        None
+    }
+}
+
+/// How many runs process 1 has, and what its page at that address stands on.
+fn runs<D, E>(core: &Core<D, E>, addr: u64) -> Option<(usize, Backing)>
+    requires fit { IsFit (picture_of core.now) }
+{
+    let pid = core.live(1)?;
+    let page = Vpn::new(addr / 4096)?;
+    let regions = core.regions(pid);
+    let attr = regions.at(page)?;
+    Some((regions.runs(), attr.backing))
+}
+
+/// Looks at memory, and ends the test where it isn't as is wanted.
+fn look<D, E>(rt: &impl Abort, core: &Core<D, E>, name: &str, step: Step)
+    requires fit { IsFit (picture_of core.now) }
+{
+    match step {
+        Step::FreeSlots(wanted) => equal(rt, name, core.swap.free_slots(), wanted),
+        Step::UsedFrames(wanted) => equal(rt, name, used_frames(core), wanted),
+        Step::Entry(pid, addr, bits, sharers) => {
+            let number = number(core, pid, addr).expect(rt, name);
+            let found = (number % 1024, shares(core, number));
+            equal(rt, name, found, (bits, sharers));
+        }
+        Step::Runs(count, addr, backing) => {
+            equal(rt, name, runs(core, addr), Some((count, backing)));
+        }
+        _ => panic!(rt; "{name}: no look: {step:?}"),
     }
 }
 
 /// Does one step, and ends the test where it isn't as is wanted.
-fn carry_out_one<D: SectorDisk, E: SectorDisk>(rt: &impl Abort, core: &mut Core<D, E>, step: Step)
+fn carry_out_one<D: SectorDisk, E: SectorDisk>(
+    rt: &impl Abort,
+    core: &mut Core<D, E>,
+    name: &str,
+    step: Step,
+)
     requires { IsSoundCore D.SectorDisk E.SectorDisk core.old }
     ensures { IsSoundCore D.SectorDisk E.SectorDisk core.new }
 {
-    match step {
-        Step::Answers(command, wanted) => {
-            let answer = carried_out(rt, core, command);
-            assert_eq!(rt; answer, wanted, "{command:?}");
+    match asked(step) {
+        Some((call, wanted)) => {
+            let answer = called(rt, core, call);
+            assert_eq!(rt; answer, wanted, "{name}: {call:?}");
         }
-        Step::StoresToSix => store_to_six(rt, core),
-        Step::FreeSlots(wanted) => equal(rt, core.swap.free_slots(), wanted),
+        None => look(rt, core, name, step),
     }
 }
 
-/// Does steps one after another, and ends the test where one isn't as is wanted.
-fn carry_out<D: SectorDisk, E: SectorDisk>(rt: &impl Abort, core: &mut Core<D, E>, steps: &[Step])
+/// Does steps one after another.
+fn carry_out_part<D: SectorDisk, E: SectorDisk>(
+    rt: &impl Abort,
+    core: &mut Core<D, E>,
+    name: &str,
+    steps: &[Step],
+)
     requires { IsSoundCore D.SectorDisk E.SectorDisk core.old }
     ensures { IsSoundCore D.SectorDisk E.SectorDisk core.new }
 {
     for step in steps {
-        carry_out_one(rt, core, *step);
+        carry_out_one(rt, core, name, *step);
     }
 }
 
-/// The device of the store, after these steps in new memory of these sizes.
-pub(crate) fn disk_after<R: AllocGlobal + Abort>(
-    rt: &R,
-    sizes: Sizes,
-    steps: &[Step],
-) -> Result<SimDisk, Fail>
-    requires least { 8 ≤ sizes.frames }
-    requires most { sizes.frames ≤ 64 }
-    requires most_slots { sizes.slots ≤ 64 }
+/// Does the steps of a row.
+fn carry_out<D: SectorDisk, E: SectorDisk>(rt: &impl Abort, core: &mut Core<D, E>, row: Row<'_>)
+    requires { IsSoundCore D.SectorDisk E.SectorDisk core.old }
+    ensures { IsSoundCore D.SectorDisk E.SectorDisk core.new }
 {
-    let mut core = memory(rt.alloc(), sizes)?;
-    carry_out(rt, &mut core, steps);
+    for part in row.parts {
+        carry_out_part(rt, core, row.name, *part);
+    }
+}
+
+/// The device of the store, after the steps of a row in new memory.
+pub(crate) fn disk_after<R: AllocGlobal + Abort>(rt: &R, row: Row<'_>) -> Result<SimDisk, Fail> {
+    let Sizes { frames, slots, .. } = row.sizes;
+    assert!(rt;
+        8 <= frames && frames <= 64 && slots <= 64,
+        "memory of another size"
+    );
+    let mut core = memory(rt.alloc(), row.sizes)?;
+    carry_out(rt, &mut core, row);
     Ok(core.store.into_disk())
 }
 
-/// Does these steps in new memory of these sizes.
-pub(crate) fn carry_out_in<R: AllocGlobal + Abort>(
-    rt: &R,
-    sizes: Sizes,
-    steps: &[Step],
-) -> Result<(), Fail>
-    requires least { 8 ≤ sizes.frames }
-    requires most { sizes.frames ≤ 64 }
-    requires most_slots { sizes.slots ≤ 64 }
-{
-    let _ = disk_after(rt, sizes, steps)?;
-    Ok(())
-}
-
-/// Ends the test where the value isn't the one that is wanted. A test that said `assert_eq!` itself would be proved to end
-/// well at each place.
-pub(crate) fn equal<T: PartialEq + Debug + Drop>(rt: &impl Abort, got: T, want: T) {
-    assert_eq!(rt; got, want);
-}
-
-pub(crate) fn read_write() -> Prot {
-    Prot::READ | Prot::WRITE
-}
-
-/// Shared pages of the file, from its first byte on.
-pub(crate) const FILE: MapSource = MapSource::Shared { file: 0, offset: 0 };
-
-/// A byte to store.
-fn byte(byte: u8) -> StoredValue {
-    let Some(stored) = StoredValue::new(Width::One, u64::from(byte)) else {
-        unreachable!();
-    };
-    stored
-}
-
-/// Eight bytes to store.
-pub(crate) fn eight_bytes(value: u64) -> StoredValue {
-    let Some(stored) = StoredValue::new(Width::Eight, value) else {
-        unreachable!();
-    };
-    stored
-}
-
-/// Stores a byte.
-pub(crate) fn store(pid: u64, addr: u64, value: u8) -> Command {
-    Command::Store {
-        pid,
-        addr,
-        stored: byte(value),
-    }
-}
-
-/// Loads a byte.
-pub(crate) fn load(pid: u64, addr: u64) -> Command {
-    Command::Load {
-        pid,
-        addr,
-        width: Width::One,
-    }
-}
-
-/// Maps pages of process 1 where the hint says.
-pub(crate) fn map(addr: u64, len: u64, prot: Prot, source: MapSource) -> Command {
-    Command::Mmap {
-        pid: 1,
-        addr,
-        len,
-        prot,
-        source,
-        placing: Placing::Hint,
-    }
-}
-
-/// Gives pages of process 1 that permission.
-pub(crate) fn protect(addr: u64, len: u64, prot: Prot) -> Command {
-    Command::Mprotect {
-        pid: 1,
-        addr,
-        len,
-        prot,
-    }
-}
-
-pub(crate) fn fault(cause: u8, code: Code, addr: u64) -> Answer {
-    Answer::Faulted(Fault { cause, code, addr })
-}
-
-fn process(number: u64) -> Pid
-    requires some { 1 ≤ number }
-    requires few { number ≤ 64 }
-{
-    let Some(pid) = Pid::new(number) else {
-        unreachable!();
-    };
-    pid
-}
-
-/// Process 1 forks, and the child has that number.
-pub(crate) fn forks(child: u64) -> Step
-    requires some { 1 ≤ child }
-    requires few { child ≤ 64 }
-{
-    Step::Answers(Command::Fork { pid: 1 }, Answer::Process(process(child)))
-}
-
-/// A process of that number begins.
-pub(crate) fn spawns(number: u64) -> Step
-    requires some { 1 ≤ number }
-    requires few { number ≤ 64 }
-{
-    Step::Answers(Command::Spawn, Answer::Process(process(number)))
-}
-
-/// Process 1 gets pages of that source to read and write, where the hint says.
-pub(crate) fn maps(addr: u64, len: u64, source: MapSource) -> Step {
-    Step::Answers(map(addr, len, read_write(), source), Answer::Address(addr))
-}
-
-/// A byte is stored.
-pub(crate) fn stores(pid: u64, addr: u64, value: u8) -> Step {
-    Step::Answers(store(pid, addr, value), Answer::Done)
-}
-
-/// A load of that width returns this value, in process 1.
-pub(crate) fn reads(addr: u64, width: Width, value: u64) -> Step {
-    Step::Answers(
-        Command::Load {
-            pid: 1,
-            addr,
-            width,
-        },
-        Answer::Value { width, value },
-    )
-}
-
-/// A load of a byte returns this one.
-pub(crate) fn loads(pid: u64, addr: u64, value: u64) -> Step {
-    Step::Answers(
-        load(pid, addr),
-        Answer::Value {
-            width: Width::One,
-            value,
-        },
-    )
-}
-
-/// A fetch returns zeros, in process 1.
-pub(crate) fn fetches_zeros(addr: u64) -> Step {
-    Step::Answers(
-        Command::Fetch { pid: 1, addr },
-        Answer::Value {
-            width: Width::Four,
-            value: 0,
-        },
-    )
+/// Ends the test where the value isn't the one that is wanted.
+pub(crate) fn equal<T: PartialEq + Debug + Drop>(rt: &impl Abort, name: &str, got: T, want: T) {
+    assert_eq!(rt; got, want, "{name}");
 }

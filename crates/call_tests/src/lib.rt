@@ -2,8 +2,10 @@
 #![tactic(auto)]
 
 #[cfg(test)]
-mod accesses;
-#[cfg(test)]
 mod bench;
 #[cfg(test)]
+mod sharing;
+#[cfg(test)]
 mod spaces;
+#[cfg(test)]
+mod wants;

@@ -1,313 +1,227 @@
-//! Calls over a formatted store in memory. The expected replies are the manual pages' and our own choices, worked out by
-//! hand.
-
-use crate::bench::Step::{Answers, FreeSlots, StoresToSix};
-use crate::bench::{
-    FILE, PLAIN, carry_out_in, disk_after, eight_bytes, equal, fault, fetches_zeros, forks, load,
-    loads, map, maps, protect, read_write, reads, spawns, store, stores,
+//! The calls of one process on its pages. The answers are the manual pages' and our own choices, worked out by hand.
+use crate::bench::Call::{
+    Dontneed, Exit, Fetch, Fork, Load, Map, Protect, Spawn, Store, Sync, Unmap,
 };
+use crate::bench::May::{Read, ReadWrite, Run, Write};
+use crate::bench::Step::{
+    Does, Entry, Faults, Fetches, Loads, Makes, Maps, Places, Reads, Refuses, Runs, Stores,
+    UsedFrames,
+};
+use crate::bench::{FILE, PLAIN, Row, disk_after, equal};
 use disk_model::SectorDisk;
 use std::test::Fail;
 use test_fixtures::Sizes;
-use vm_types::{Answer, Code, Command, Errno, MapSource, MsyncMode, Prot, Stall, Width};
+use vm_types::MapSource::{Anon, Private, Shared};
+use vm_types::Width::{Eight, Four, One, Two};
+use vm_types::{Backing, Code, Errno};
 
-#[test]
-fn loads_what_was_stored(rt: HostRuntime) -> Result<(), Fail> {
-    let stored = eight_bytes(0x1122_3344_5566_7788);
-    let store = Command::Store {
-        pid: 1,
-        addr: 0x10000,
-        stored,
-    };
-    carry_out_in(
-        &rt,
-        PLAIN,
-        &[
-            spawns(1),
-            Answers(
-                map(0, 1, read_write(), MapSource::Anon),
-                Answer::Address(0x10000),
+/// 16 frames over a file of one page.
+const ONE_PAGE: Sizes = Sizes {
+    length: 4096,
+    ..PLAIN
+};
+
+const ROWS: [Row<'static>; 7] = [
+    Row {
+        name: "loads what was stored",
+        sizes: PLAIN,
+        parts: &[&[
+            Makes(Spawn, 1),
+            Places(Map(0, 1, ReadWrite, Anon), 0x10000),
+            Reads(0x10ff8, Eight, 0),
+            Does(Store(1, 0x10000, Eight, 0x1122_3344_5566_7788)),
+            Reads(0x10000, One, 0x88),
+            Reads(0x10002, Two, 0x5566),
+            Reads(0x10004, Four, 0x1122_3344),
+        ]],
+    },
+    Row {
+        name: "judges an access in order",
+        sizes: PLAIN,
+        parts: &[&[
+            Makes(Spawn, 1),
+            Faults(Load(1, 0, One), 13, Code::SegvMaperr, 0),
+            Faults(
+                Load(1, 0x40_0000_0000, Eight),
+                13,
+                Code::SegvMaperr,
+                0x40_0000_0000,
             ),
-            reads(0x10ff8, Width::Eight, 0),
-            Answers(store, Answer::Done),
-            reads(0x10000, Width::One, 0x88),
-            reads(0x10002, Width::Two, 0x5566),
-            reads(0x10004, Width::Four, 0x1122_3344),
-        ],
-    )
-}
-
-/// A load in process 1, of that width.
-fn wide(addr: u64, width: Width) -> Command {
-    Command::Load {
-        pid: 1,
-        addr,
-        width,
-    }
-}
-
-#[test]
-fn judges_an_access_in_order(rt: HostRuntime) -> Result<(), Fail> {
-    let (past, high) = (0x40_0000_0000, 0xffff_ffc0_0000_0000);
-    let odd = Command::Fetch {
-        pid: 1,
-        addr: 0x20002,
-    };
-    let unrun = Command::Fetch {
-        pid: 1,
-        addr: 0x10000,
-    };
-    let writable = map(0, 4096, Prot::WRITE, MapSource::Anon);
-    let runnable = map(0, 4096, Prot::EXECUTE, MapSource::Anon);
-    carry_out_in(
-        &rt,
-        PLAIN,
-        &[
-            spawns(1),
-            Answers(load(1, 0), fault(13, Code::SegvMaperr, 0)),
-            Answers(wide(past, Width::Eight), fault(13, Code::SegvMaperr, past)),
-            Answers(wide(high, Width::Eight), fault(13, Code::SegvMaperr, high)),
-            Answers(odd, fault(0, Code::BusAdraln, 0x20002)),
-            Answers(writable, Answer::Address(0x10000)),
-            loads(1, 0x10000, 0),
-            Answers(runnable, Answer::Address(0x11000)),
-            fetches_zeros(0x11000),
-            Answers(
-                wide(0x11000, Width::Four),
-                fault(13, Code::SegvAccerr, 0x11000),
+            Faults(
+                Load(1, 0xffff_ffc0_0000_0000, Eight),
+                13,
+                Code::SegvMaperr,
+                0xffff_ffc0_0000_0000,
             ),
-            Answers(unrun, fault(12, Code::SegvAccerr, 0x10000)),
-        ],
-    )
-}
-
-#[test]
-fn shares_a_file_and_syncs_it(rt: HostRuntime) -> Result<(), Fail> {
-    let sync = Command::Msync {
-        pid: 1,
-        addr: 0x10000,
-        len: 12288,
-        mode: MsyncMode::Sync,
-    };
-    let disk = disk_after(
-        &rt,
-        Sizes {
-            length: 5000,
-            ..PLAIN
+            Faults(Fetch(0x20002), 0, Code::BusAdraln, 0x20002),
+            Places(Map(0, 4096, Write, Anon), 0x10000),
+            Loads(1, 0x10000, 0),
+            Places(Map(0, 4096, Run, Anon), 0x11000),
+            Fetches(0x11000, 0),
+            Faults(Load(1, 0x11000, Four), 13, Code::SegvAccerr, 0x11000),
+            Faults(Fetch(0x10000), 12, Code::SegvAccerr, 0x10000),
+        ]],
+    },
+    Row {
+        name: "maps, protects and unmaps",
+        sizes: PLAIN,
+        parts: &[&[
+            Makes(Spawn, 1),
+            Maps(0x20000, 0x1000, Anon),
+            Maps(0x22000, 0x1000, Anon),
+            Refuses(Protect(0x20000, 0x3000, Read), Errno::ENOMEM),
+            Stores(1, 0x20000, 1),
+            Refuses(Protect(0x20001, 0x1000, Read), Errno::EINVAL),
+            Does(Protect(0x20000, 0, Read)),
+            Stores(1, 0x20000, 2),
+            Does(Protect(0x20000, 1, Read)),
+            Faults(Store(1, 0x20000, One, 2), 15, Code::SegvAccerr, 0x20000),
+            Does(Unmap(0x20000, 0x1000)),
+            Faults(Load(1, 0x20000, One), 13, Code::SegvMaperr, 0x20000),
+        ]],
+    },
+    Row {
+        name: "gives up own copies",
+        sizes: ONE_PAGE,
+        parts: &[&[
+            Makes(Spawn, 1),
+            Maps(0x20000, 0x2000, Anon),
+            Maps(0x22000, 0x1000, FILE),
+            Stores(1, 0x20000, 0x11),
+            Stores(1, 0x21000, 0x22),
+            Stores(1, 0x22000, 0x33),
+            Refuses(Dontneed(0x20001, 1), Errno::EINVAL),
+            Does(Dontneed(0x20000, 0)),
+            Refuses(Dontneed(0x20000, 0x4000), Errno::ENOMEM),
+            Loads(1, 0x20000, 0x11),
+            Does(Dontneed(0x21000, 0x2000)),
+            Loads(1, 0x20000, 0x11),
+            Loads(1, 0x21000, 0),
+            Loads(1, 0x22000, 0x33),
+        ]],
+    },
+    Row {
+        name: "refuses what a read-only file does not allow",
+        sizes: Sizes {
+            read_only: true,
+            ..ONE_PAGE
         },
-        &[
-            spawns(1),
-            Answers(map(0, 12288, read_write(), FILE), Answer::Address(0x10000)),
-            stores(1, 0x11387, 0xaa),
-            stores(1, 0x11388, 0xbb),
-            loads(1, 0x11388, 0xbb),
-            Answers(load(1, 0x12000), fault(13, Code::BusAdrerr, 0x12000)),
-            Answers(sync, Answer::Done),
-        ],
-    )?;
-    // Byte 4,999 is byte 391 of the second sector of page 1, which stands in the journal's body, from sector 4 on.
-    assert_eq!(rt; disk.sectors(), 1036);
-    equal(&rt, disk.sector(5)[391], 0xaa);
-    equal(&rt, disk.sector(5)[392], 0);
+        parts: &[&[
+            Makes(Spawn, 1),
+            Refuses(Map(0, 0, Read, Anon), Errno::EINVAL),
+            Refuses(Map(0, 4096, ReadWrite, FILE), Errno::EACCES),
+            Refuses(
+                Map(0, 4096, ReadWrite, Shared { file: 9, offset: 0 }),
+                Errno::EBADF,
+            ),
+            Refuses(
+                Map(0, 4096, Read, Private { file: 0, offset: 1 }),
+                Errno::EINVAL,
+            ),
+            Refuses(
+                Map(
+                    0,
+                    4096,
+                    Read,
+                    Shared {
+                        file: 0,
+                        offset: 0x1000_0000_0000,
+                    },
+                ),
+                Errno::EOVERFLOW,
+            ),
+            Places(Map(0, 4096, Read, FILE), 0x10000),
+            Refuses(Protect(0x10000, 4096, ReadWrite), Errno::EACCES),
+            Does(Unmap(0x50000, 4096)),
+            Refuses(Fork(9), Errno::ESRCH),
+        ]],
+    },
+    // Bit 0 of an entry says that it names a frame, bits 1 to 3 that the page may be read, written and run, bits 4, 6 and 7 that
+    // it is a user page that was accessed and stored to, bit 8 that the frame is its process's own. The zero page, the root table,
+    // two more tables and the page are used, and the tables are given back once no page needs them.
+    Row {
+        name: "a page keeps its frame until its row is cleared",
+        sizes: PLAIN,
+        parts: &[&[
+            Makes(Spawn, 1),
+            Maps(0x20000, 0x5000, Anon),
+            UsedFrames(2),
+            Stores(1, 0x20000, 9),
+            UsedFrames(5),
+            Entry(1, 0x20000, 0x1d7, Some(1)),
+            Does(Protect(0x20000, 0x2000, Read)),
+            Runs(2, 0x20000, Backing::Anon),
+            Entry(1, 0x20000, 0x1d3, Some(1)),
+            Does(Protect(0x20000, 0x2000, Run)),
+            Entry(1, 0x20000, 0x1d9, Some(1)),
+            Does(Protect(0x20000, 0x2000, ReadWrite)),
+            Runs(1, 0x20000, Backing::Anon),
+            Entry(1, 0x20000, 0x1d7, Some(1)),
+            Loads(1, 0x20000, 9),
+            Does(Dontneed(0x20000, 0x5000)),
+            Entry(1, 0x20000, 0, None),
+            UsedFrames(2),
+            Does(Unmap(0x21000, 0x3000)),
+            Runs(2, 0x24000, Backing::Anon),
+            Does(Unmap(0, 0x40_0000_0000)),
+            Faults(Load(1, 0x24000, One), 13, Code::SegvMaperr, 0x24000),
+        ]],
+    },
+    // A page that a table of another part of the range stands for, in more mappings than one.
+    Row {
+        name: "clears rows over several tables",
+        sizes: PLAIN,
+        parts: &[&[
+            Makes(Spawn, 1),
+            Maps(0x1f_f000, 0x2000, Anon),
+            Maps(0x4000_0000, 0x1000, Anon),
+            Stores(1, 0x1f_f000, 1),
+            Stores(1, 0x20_0000, 2),
+            Stores(1, 0x4000_0000, 3),
+            UsedFrames(10),
+            Does(Unmap(0x10000, 0x20_0000)),
+            Loads(1, 0x4000_0000, 3),
+            UsedFrames(5),
+            Does(Exit(1)),
+            UsedFrames(1),
+        ]],
+    },
+];
+
+#[test]
+fn one_process_has_its_pages(rt: HostRuntime) -> Result<(), Fail> {
+    for row in ROWS {
+        let _ = disk_after(&rt, row)?;
+    }
     Ok(())
 }
 
-#[test]
-fn forks_and_exits(rt: HostRuntime) -> Result<(), Fail> {
-    carry_out_in(
-        &rt,
-        Sizes {
-            frames: 32,
-            length: 4096,
-            ..PLAIN
-        },
-        &[
-            spawns(1),
-            Answers(
-                map(0, 4096, read_write(), MapSource::Anon),
-                Answer::Address(0x10000),
-            ),
-            Answers(map(0, 4096, read_write(), FILE), Answer::Address(0x11000)),
-            stores(1, 0x10000, 0x11),
-            forks(2),
-            stores(1, 0x10000, 0x22),
-            stores(2, 0x10000, 0x33),
-            loads(1, 0x10000, 0x22),
-            loads(2, 0x10000, 0x33),
-            stores(2, 0x11000, 0x44),
-            loads(1, 0x11000, 0x44),
-            Answers(Command::Exit { pid: 2 }, Answer::Done),
-            Answers(load(2, 0x10000), Answer::Refused(Errno::ESRCH)),
-            Answers(Command::Fork { pid: 9 }, Answer::Refused(Errno::ESRCH)),
-        ],
-    )
-}
+const SYNCED: Row<'static> = Row {
+    name: "shares a file and syncs it",
+    sizes: Sizes {
+        length: 5000,
+        ..PLAIN
+    },
+    parts: &[&[
+        Makes(Spawn, 1),
+        Places(Map(0, 12288, ReadWrite, FILE), 0x10000),
+        Stores(1, 0x11387, 0xaa),
+        Loads(1, 0x11388, 0),
+        Stores(1, 0x11388, 0xbb),
+        Loads(1, 0x11388, 0xbb),
+        Faults(Load(1, 0x12000, One), 13, Code::BusAdrerr, 0x12000),
+        Does(Sync(0x10000, 12288)),
+        Loads(1, 0x11388, 0),
+        Loads(1, 0x11387, 0xaa),
+    ]],
+};
 
+// Byte 4,999 is byte 391 of the second sector of page 1, which stands in the journal's body, from sector 11 on.
 #[test]
-fn maps_protects_and_unmaps(rt: HostRuntime) -> Result<(), Fail> {
-    let unmap = Command::Munmap {
-        pid: 1,
-        addr: 0x20000,
-        len: 0x1000,
-    };
-    carry_out_in(
-        &rt,
-        PLAIN,
-        &[
-            spawns(1),
-            maps(0x20000, 0x1000, MapSource::Anon),
-            maps(0x22000, 0x1000, MapSource::Anon),
-            Answers(
-                protect(0x20000, 0x3000, Prot::READ),
-                Answer::Refused(Errno::ENOMEM),
-            ),
-            stores(1, 0x20000, 1),
-            Answers(
-                protect(0x20001, 0x1000, Prot::READ),
-                Answer::Refused(Errno::EINVAL),
-            ),
-            Answers(protect(0x20000, 0, Prot::READ), Answer::Done),
-            Answers(protect(0x20000, 1, Prot::READ), Answer::Done),
-            Answers(store(1, 0x20000, 2), fault(15, Code::SegvAccerr, 0x20000)),
-            Answers(unmap, Answer::Done),
-            Answers(load(1, 0x20000), fault(13, Code::SegvMaperr, 0x20000)),
-        ],
-    )
-}
-
-/// Gives up the own copies of pages of process 1.
-fn dontneed(addr: u64, len: u64) -> Command {
-    Command::Dontneed { pid: 1, addr, len }
-}
-
-#[test]
-fn gives_up_own_copies(rt: HostRuntime) -> Result<(), Fail> {
-    carry_out_in(
-        &rt,
-        Sizes {
-            length: 4096,
-            ..PLAIN
-        },
-        &[
-            spawns(1),
-            maps(0x20000, 0x2000, MapSource::Anon),
-            maps(0x22000, 0x1000, FILE),
-            stores(1, 0x20000, 0x11),
-            stores(1, 0x21000, 0x22),
-            stores(1, 0x22000, 0x33),
-            Answers(dontneed(0x20001, 1), Answer::Refused(Errno::EINVAL)),
-            Answers(dontneed(0x20000, 0), Answer::Done),
-            Answers(dontneed(0x20000, 0x4000), Answer::Refused(Errno::ENOMEM)),
-            loads(1, 0x20000, 0x11),
-            Answers(dontneed(0x21000, 0x2000), Answer::Done),
-            loads(1, 0x20000, 0x11),
-            loads(1, 0x21000, 0),
-            loads(1, 0x22000, 0x33),
-        ],
-    )
-}
-
-// Two of six pages lie in the only two slots, which are free again as the pages go.
-#[test]
-fn gives_back_slots(rt: HostRuntime) -> Result<(), Fail> {
-    let unmap = Command::Munmap {
-        pid: 1,
-        addr: 0x20000,
-        len: 0x6000,
-    };
-    carry_out_in(
-        &rt,
-        Sizes {
-            frames: 8,
-            slots: 2,
-            ..PLAIN
-        },
-        &[
-            spawns(1),
-            maps(0x20000, 0x6000, MapSource::Anon),
-            StoresToSix,
-            FreeSlots(0),
-            Answers(protect(0x20000, 0x6000, Prot::READ), Answer::Done),
-            Answers(load(1, 0x20000), Answer::Stalled(Stall::NoSwap)),
-            Answers(store(1, 0x21000, 7), fault(15, Code::SegvAccerr, 0x21000)),
-            Answers(unmap, Answer::Done),
-            FreeSlots(2),
-            maps(0x20000, 0x6000, MapSource::Anon),
-            StoresToSix,
-            Answers(dontneed(0x20000, 0x6000), Answer::Done),
-            FreeSlots(2),
-            loads(1, 0x20000, 0),
-        ],
-    )
-}
-
-#[test]
-fn refuses_what_a_read_only_file_does_not_allow(rt: HostRuntime) -> Result<(), Fail> {
-    let missing = MapSource::Shared { file: 9, offset: 0 };
-    let odd = MapSource::Private { file: 0, offset: 1 };
-    let far = MapSource::Shared {
-        file: 0,
-        offset: 1 << 44,
-    };
-    let empty = map(0, 0, Prot::READ, MapSource::Anon);
-    let unmap = Command::Munmap {
-        pid: 1,
-        addr: 0x50000,
-        len: 4096,
-    };
-    carry_out_in(
-        &rt,
-        Sizes {
-            length: 4096,
-            read_only: true,
-            ..PLAIN
-        },
-        &[
-            spawns(1),
-            Answers(empty, Answer::Refused(Errno::EINVAL)),
-            Answers(
-                map(0, 4096, read_write(), FILE),
-                Answer::Refused(Errno::EACCES),
-            ),
-            Answers(
-                map(0, 4096, read_write(), missing),
-                Answer::Refused(Errno::EBADF),
-            ),
-            Answers(
-                map(0, 4096, Prot::READ, odd),
-                Answer::Refused(Errno::EINVAL),
-            ),
-            Answers(
-                map(0, 4096, Prot::READ, far),
-                Answer::Refused(Errno::EOVERFLOW),
-            ),
-            Answers(map(0, 4096, Prot::READ, FILE), Answer::Address(0x10000)),
-            Answers(
-                protect(0x10000, 4096, read_write()),
-                Answer::Refused(Errno::EACCES),
-            ),
-            Answers(unmap, Answer::Done),
-        ],
-    )
-}
-
-// Frame 0 is the zero page, so 8 frames are enough for the root tables of seven processes.
-#[test]
-fn stalls_for_want_of_a_frame(rt: HostRuntime) -> Result<(), Fail> {
-    carry_out_in(
-        &rt,
-        Sizes { frames: 8, ..PLAIN },
-        &[
-            spawns(1),
-            spawns(2),
-            spawns(3),
-            spawns(4),
-            spawns(5),
-            spawns(6),
-            spawns(7),
-            Answers(Command::Spawn, Answer::Stalled(Stall::NoFrames)),
-            Answers(Command::Exit { pid: 7 }, Answer::Done),
-            spawns(7),
-        ],
-    )
+fn a_file_is_shared_and_synced(rt: HostRuntime) -> Result<(), Fail> {
+    let disk = disk_after(&rt, SYNCED)?;
+    assert_eq!(rt; disk.sectors(), 8211);
+    let sector = disk.sector(12);
+    equal(&rt, "bytes", [sector[391], sector[392]], [0xaa, 0]);
+    Ok(())
 }

@@ -6,7 +6,7 @@ use Rattle.regions.specs.RunList.{attr_at, IsNextRun}
 use Rattle.regions.proofs.RunLemmas.{lt_or_le}
 use Rattle.vm_types.specs.declared.region.Attr.{Attr}
 use Rattle.vm_types.specs.declared.region.Backing.{Backing}
-use Rattle.vm_types.specs.declared.region.Backing.TheVariants.{Anon, Private, Shared}
+use Rattle.vm_types.specs.declared.region.Backing.TheVariants.{Anon, Private, Shared, Common}
 use Rattle.vm_types.specs.Attributes.{attr_after, backing_after}
 use Rattle.vm_types.specs.Counting.{any_below}
 use Rattle.vm_types.specs.Files.{Files}
@@ -44,6 +44,7 @@ guarded_after : (files : Files) (backing : Backing) (count : ℕ) → is_guarded
 guarded_after files Anon count = refl
 guarded_after files (Private page) count = refl
 guarded_after files (Shared page) count = refl
+guarded_after files (Common page) count = refl
 
 module _ (files : Files) (runs : List Run) where
   -- no page from the first up to, not including, the last is guarded

@@ -4,6 +4,8 @@ pub mod Checks
 pub mod Guards
 pub mod Living
 pub mod Mapped
+pub mod NewObject
+pub mod Numbers
 pub mod Pages
 pub mod Placing
 pub mod Planning

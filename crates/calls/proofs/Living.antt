@@ -1,5 +1,5 @@
 -- spawn, fork and exit of the flat model in a state that memory shows.
-use Rattle.std.proofs.Common.{ℕ, ◌≡◌, ◌≢◌, ◌+◌, ◌≤◌, ◌==◌, ◌&&◌, ◌||◌, not, Bool, true, false, if◌then◌else◌, Option, Some, None, refl, sym, ap, ◌∙◌, subst, arith}
+use Rattle.std.proofs.Common.{ℕ, ◌≡◌, ◌≢◌, ◌+◌, ◌≤◌, ◌^◌, ◌==◌, ◌&&◌, ◌||◌, not, Bool, true, false, if◌then◌else◌, Option, Some, None, refl, sym, ap, ◌∙◌, subst, arith}
 use Rattle.std.proofs.lemmas.Bool.Decides.{nat_tests}
 use Rattle.disk_model.specs.declared.sector_disk.SectorDisk.{Ghosts}
 use Rattle.file_store.specs.declared.store.FileStore.{FileStore}
@@ -7,7 +7,10 @@ use Rattle.frames.specs.FrameTable.{frame_count}
 use Rattle.lifecycle.specs.Changes.{AddsProcess, RemovesProcess, KeepsProcesses, IsShortToFork}
 use Rattle.mapping.specs.Changes.{KeepsRoom}
 use Rattle.paging.specs.Stalls.{StallCause, ReadCause}
+use Rattle.page_ranges.proofs.Outlived.{shows_named}
+use Rattle.page_ranges.specs.Rows.{KeepsNamed, without_maps}
 use Rattle.paging.specs.Capacity.{IsShort}
+use Rattle.paging.specs.Parts.{IsFit}
 use Rattle.paging.specs.declared.kernel.Core.{Core}
 use Rattle.paging.specs.Picture.{Picture, picture_of, is_live, view}
 use Rattle.paging.specs.Shows.{ShowsPages, KeepsFiles}
@@ -17,7 +20,8 @@ use Rattle.vm_types.specs.declared.refusal.Errno.TheVariants.{EAGAIN}
 use Rattle.vm_types.specs.declared.refusal.Stall.{Stall}
 use Rattle.vm_types.specs.declared.refusal.Stall.TheVariants.{NoFrames, NoSwap, SwapDevice, StoreDevice}
 use Rattle.vm_types.specs.declared.reply.Reply.TheVariants.{Process, Done, Refused, Stalled}
-use Rattle.vm_types.specs.Processes.{least_free_from, least_free_pid, with_process, without_process}
+use Rattle.vm_types.specs.Objects.{Maps, named_objects}
+use Rattle.vm_types.specs.Processes.{least_free_from, least_free_pid, with_process, without_process, without_space}
 use Rattle.vm_types.specs.Capacity.{table_count, tables_of}
 use Rattle.vm_types.specs.Stalls.{is_success, is_open_to, cause_of, needs_frames, reads_swap}
 use Rattle.vm_types.specs.State.{State}
@@ -26,7 +30,7 @@ use Rattle.vm_types.specs.View.{View}
 use Rattle.swap.specs.Slots.{slots_of}
 use Rattle.calls.specs.Calls.{Comes, Stalls, FallsShort, IsCaused, causes}
 use Rattle.calls.proofs.Calls.{does, does_answer, shows_with, pages_of}
-use Rattle.calls.proofs.Pages.{views_seen}
+use Rattle.calls.proofs.Pages.{views_seen, maps_gone}
 use Rattle.calls.proofs.Refusals.{stall_caused}
 use Rattle.calls.proofs.Short.{falls_short, falls_short_to_fork, least_below, tables_added}
 
@@ -58,13 +62,19 @@ module _ (old new : Picture) (s : State) (shows : ShowsPages old s) (files : Kee
       (λ e. sym (adds.pages page) ∙ ap (λ (p : ℕ). view new p page) (sym e))
       (λ ne. shows.views q page ∙ sym (adds.others q page ne)))
 
-  shows_removed : (pid : ℕ) → RemovesProcess old new pid → ShowsPages new (without_process s pid)
-  shows_removed pid removes =
-      shows_with old new s (λ p. not (p == pid) && s.live p) (λ p. if p == pid then (λ page. None) else s.views p) shows files
+module _ (old new : Picture) (s : State) (shows : ShowsPages old s) where
+  shows_removed : (pid : ℕ) → IsFit old → IsFit new → KeepsNamed (without_maps old.at pid 0 (2 ^ 26)) old new → RemovesProcess old new pid → ShowsPages new (without_process s pid)
+  shows_removed pid was fit files removes =
+      subst (λ (maps : Maps). ShowsPages new (record s {
+        live = λ p. not (p == pid) && s.live p;
+        views = without_space s.views pid;
+        objects = named_objects maps s.objects;
+      })) (sym (maps_gone old s shows was pid))
+      (shows_named old new s (without_maps old.at pid 0 (2 ^ 26)) (λ p. not (p == pid) && s.live p) (without_space s.views pid) fit shows files
       (λ q. lives_without pid q (s.live q) (is_live new) removes.gone (λ ne. shows.live q ∙ sym (removes.others_live q ne)))
       (λ q page. pages_of pid q (λ page. None) (s.views q) (view new) page
       (λ e. sym (removes.pages page) ∙ ap (λ (p : ℕ). view new p page) (sym e))
-      (λ ne. shows.views q page ∙ sym (removes.others q page ne)))
+      (λ ne. shows.views q page ∙ sym (removes.others q page ne))))
 
 -- why a process didn't come
 cause_is : {D E : Type 0} (g : Ghosts D) (h : Ghosts E) (old new : Core D E) (stall : Stall) → StallCause h old new stall → cause_of (causes g h old new) stall
@@ -123,14 +133,14 @@ module _ {D E : Type 0} (g : Ghosts D) (h : Ghosts E) (old : Core D E) (s : Stat
       does g h old new s Spawn (Process pid) (spawn_outcome s (Some pid)) (ap (spawn_outcome s) (free_is ∙ e)) refl
       (shows_added (picture_of old) (picture_of new) s shows files pid (λ page. None) adds)
 
-  pub spawn_stalls : (pid : ℕ) → number ≡ Some pid → (new : Core D E) (stall : Stall) → StallCause h old new stall → IsShort (picture_of new) stall
+  pub spawn_stalls : (pid : ℕ) → number ≡ Some pid → (new : Core D E) (stall : Stall) → IsFit (picture_of new) → StallCause h old new stall → IsShort (picture_of new) stall
       → KeepsFiles (picture_of old) (picture_of new) → KeepsProcesses (picture_of old) (picture_of new) → Comes g h old new s Spawn (Stalled stall)
-  spawn_stalls pid e new stall cause short files keeps =
+  spawn_stalls pid e new stall fit cause short files keeps =
       let is_one = ap (spawn_outcome s) (free_is ∙ e) in
       let still = still_shows (picture_of old) (picture_of new) s shows files keeps in
       let more = ap (λ (o : Outcome). table_count o.state) is_one ∙ one_more pid (λ page. None) e in
       stalled g h old new s Spawn stall (spawn_outcome s (Some pid)) cause is_one refl refl refl
-      (falls_short (picture_of new) s Spawn still stall short (omega (arith, more))) still
+      (falls_short (picture_of new) s Spawn fit still stall short (omega (arith, more))) still
 
   module _ (parent : ℕ) (live : is_live (picture_of old) parent ≡ true) where
     forks : (o : Option ℕ) → number ≡ o → outcome s (Fork parent) ≡ fork_outcome s parent o
@@ -146,21 +156,22 @@ module _ {D E : Type 0} (g : Ghosts D) (h : Ghosts E) (old : Core D E) (s : Stat
         (subst (λ (space : ℕ → Option View). ShowsPages (picture_of new) (with_process s pid space)) (sym (views_seen (picture_of old) s shows parent))
         (shows_added (picture_of old) (picture_of new) s shows files pid (view (picture_of old) parent) adds))
 
-    pub fork_stalls : (pid : ℕ) → number ≡ Some pid → (new : Core D E) (stall : Stall) → StallCause h old new stall → IsShortToFork (picture_of old) parent stall
+    pub fork_stalls : (pid : ℕ) → number ≡ Some pid → (new : Core D E) (stall : Stall) → IsFit (picture_of old) → StallCause h old new stall → IsShortToFork (picture_of old) parent stall
         → KeepsRoom (picture_of old) (picture_of new) → KeepsFiles (picture_of old) (picture_of new) → KeepsProcesses (picture_of old) (picture_of new)
         → Comes g h old new s (Fork parent) (Stalled stall)
-    fork_stalls pid e new stall cause short room files keeps =
+    fork_stalls pid e new stall fit cause short room files keeps =
         let is_one = forks (Some pid) e in
         let seen = ap tables_of (views_seen (picture_of old) s shows parent) in
         let more = ap (λ (o : Outcome). table_count o.state) is_one ∙ one_more pid (s.views parent) e in
         stalled g h old new s (Fork parent) stall (fork_outcome s parent (Some pid)) cause is_one refl refl refl
-        (falls_short_to_fork (picture_of old) s (Fork parent) shows (frame_count new.frames) (slots_of new.swap).total parent stall room.frames room.slots short
+        (falls_short_to_fork (picture_of old) s (Fork parent) fit shows (frame_count new.frames) (slots_of new.swap).total parent stall room.frames room.slots short
         (omega (arith, more, seen)))
         (still_shows (picture_of old) (picture_of new) s shows files keeps)
 
 pub exits : {D E : Type 0} (g : Ghosts D) (h : Ghosts E) (old new : Core D E) (s : State) (pid : ℕ) → ShowsPages (picture_of old) s → is_live (picture_of old) pid ≡ true
-    → KeepsFiles (picture_of old) (picture_of new) → RemovesProcess (picture_of old) (picture_of new) pid → Comes g h old new s (Exit pid) Done
-exits g h old new s pid shows live files removes =
+    → IsFit (picture_of old) → IsFit (picture_of new) → KeepsNamed (without_maps (picture_of old).at pid 0 (2 ^ 26)) (picture_of old) (picture_of new)
+    → RemovesProcess (picture_of old) (picture_of new) pid → Comes g h old new s (Exit pid) Done
+exits g h old new s pid shows live was fit files removes =
     let l : s.live pid ≡ true = shows.live pid ∙ live in
     does g h old new s (Exit pid) Done (exit_outcome s pid) (rw l refl) refl
-    (shows_removed (picture_of old) (picture_of new) s shows files pid removes)
+    (shows_removed (picture_of old) (picture_of new) s shows pid was fit files removes)

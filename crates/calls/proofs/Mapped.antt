@@ -1,13 +1,14 @@
 -- mmap of the flat model in a state that memory shows.
-use Rattle.std.proofs.Common.{ℕ, ◌-◌, ◌*◌, ◌≡◌, ◌++◌, not, Bool, true, false, if◌then◌else◌, List, [], ◌∷◌, Option, Some, None, is_none, option_map, refl, sym, ap, ◌∙◌, subst, mul_comm}
+use Rattle.std.proofs.Common.{ℕ, ◌-◌, ◌*◌, ◌≡◌, ◌==◌, ◌++◌, not, Bool, true, false, if◌then◌else◌, List, [], ◌∷◌, Option, Some, None, is_none, option_map, refl, sym, ap, ◌∙◌, subst, mul_comm}
 use Rattle.disk_model.specs.declared.sector_disk.SectorDisk.{Ghosts}
 use Rattle.regions.specs.declared.run.Run.{Run}
-use Rattle.regions.specs.Permission.{ReadsToo, IsReadableMap}
+use Rattle.regions.specs.Permission.{IsReadableMap}
 use Rattle.regions.specs.RunList.{attr_at}
 use Rattle.regions.proofs.PermissionLemmas.{reads_kept, reads_replaced, reads_same}
-use Rattle.page_ranges.specs.Rows.{plain, RemapsRow}
+use Rattle.page_ranges.specs.Rows.{plain, without_maps, KeepsNamed, RemapsRow}
 use Rattle.paging.specs.declared.kernel.Core.{Core}
 use Rattle.paging.specs.Picture.{Picture, picture_of, is_live, view}
+use Rattle.paging.specs.Parts.{IsFit}
 use Rattle.paging.specs.Shows.{ShowsPages}
 use Rattle.vm_types.specs.declared.command.Command.TheVariants.{Mmap}
 use Rattle.vm_types.specs.declared.command.MapSource.{MapSource}
@@ -21,19 +22,21 @@ use Rattle.vm_types.specs.declared.reply.Reply.TheVariants.{Address, Refused}
 use Rattle.vm_types.specs.Attributes.{attr_after}
 use Rattle.vm_types.specs.Checks.{first_of, page_count}
 use Rattle.vm_types.specs.Files.{Files}
-use Rattle.vm_types.specs.Mapping.{mmap_errno, mmap_place, place_for, is_taken, first_attr, has_too_many_runs, mapped}
+use Rattle.vm_types.specs.Mapping.{mmap_errno, mmap_place, place_for, is_taken, first_attr, attr_for, has_too_many_runs, mapped, with_mapping}
+use Rattle.vm_types.specs.Objects.{Maps, maps_of, free_object, named_objects}
 use Rattle.vm_types.specs.Placement.{placed, is_free}
+use Rattle.vm_types.specs.Ranges.{without_pages}
 use Rattle.vm_types.specs.Rows.{in_row, replaced}
 use Rattle.vm_types.specs.Runs.{run_count}
 use Rattle.vm_types.specs.State.{State}
 use Rattle.vm_types.specs.Step.{outcome, mmap_outcome}
 use Rattle.vm_types.specs.View.{View, attrs_of}
 use Rattle.calls.specs.Calls.{Comes}
-use Rattle.calls.specs.Mappings.{mmap_asked_checks, place_checks, MapsPages}
+use Rattle.calls.specs.Mappings.{mmap_asked_checks, attr_there, passes_runs, place_checks, MapsPages}
 use Rattle.calls.specs.Space.{space_of}
-use Rattle.calls.proofs.Calls.{does, does_answer, with_pages, shows_pages}
+use Rattle.calls.proofs.Calls.{does, does_answer, shows_row}
 use Rattle.calls.proofs.Checks.{first_of-append, first_of-some}
-use Rattle.calls.proofs.Pages.{attrs_as_runs}
+use Rattle.calls.proofs.Pages.{attrs_as_runs, maps_without}
 
 -- the place and its checks ask for attributes alone
 module _ (a b : ℕ → Option View) (same : attrs_of a ≡ attrs_of b) where
@@ -48,14 +51,14 @@ module _ (a b : ℕ → Option View) (same : attrs_of a ≡ attrs_of b) where
   taken_same NoReplace pages None = refl
   taken_same NoReplace pages (Some first) = ap (λ (m : ℕ → Option Attr). not (is_free m first pages)) same
 
-  many_same : (pages : ℕ) (attr : Attr) (place : Option ℕ) → has_too_many_runs a pages attr place ≡ has_too_many_runs b pages attr place
+  many_same : (pages : ℕ) (attr : ℕ → Attr) (place : Option ℕ) → passes_runs a pages attr place ≡ passes_runs b pages attr place
   many_same pages attr None = refl
-  many_same pages attr (Some first) = ap (λ (m : ℕ → Option Attr). Rattle.std.specs.Prelude.nat_lt 256 (run_count (replaced m first pages attr))) same
+  many_same pages attr (Some first) = ap (λ (m : ℕ → Option Attr). Rattle.std.specs.Prelude.nat_lt 256 (run_count (replaced m first pages (attr first)))) same
 
-  checks_same : (placing : Placing) (pages : ℕ) (attr : Attr) (place : Option ℕ)
+  checks_same : (placing : Placing) (pages : ℕ) (attr : ℕ → Attr) (place : Option ℕ)
       → first_of (place_checks placing a pages attr place) ≡ first_of (place_checks placing b pages attr place)
   checks_same placing pages attr place =
-      ap (λ (x : Bool). first_of ((is_none place, ENOMEM) ∷ (x, EEXIST) ∷ (has_too_many_runs a pages attr place, ENOMEM) ∷ [])) (taken_same placing pages place)
+      ap (λ (x : Bool). first_of ((is_none place, ENOMEM) ∷ (x, EEXIST) ∷ (passes_runs a pages attr place, ENOMEM) ∷ [])) (taken_same placing pages place)
       ∙ ap (λ (x : Bool). first_of ((is_none place, ENOMEM) ∷ (is_taken placing b pages place, EEXIST) ∷ (x, ENOMEM) ∷ [])) (many_same pages attr place)
 
 -- the row that is new
@@ -89,8 +92,29 @@ module _ {D E : Type 0} (g : Ghosts D) (h : Ghosts E) (old : Core D E) (s : Stat
   refused_dead dead = let e : s.live pid ≡ false = shows.live pid ∙ dead in refuses ESRCH (rw e refl)
 
   module _ (live : is_live (picture_of old) pid ≡ true) where
+    abbrev flat_checks : Option ℕ → List Rattle.vm_types.specs.Checks.Check
+    flat_checks place =
+        (is_none place, ENOMEM)
+        ∷ (is_taken placing (s.views pid) (page_count len) place, EEXIST)
+        ∷ (has_too_many_runs s pid (page_count len) source prot place, ENOMEM)
+        ∷ []
+
     abbrev late : List Rattle.vm_types.specs.Checks.Check
-    late = place_checks placing (s.views pid) (page_count len) (first_attr source prot) (mmap_place s pid addr len placing)
+    late = flat_checks (mmap_place s pid addr len placing)
+
+    -- the number of a new object by memory is that of the flat model
+    abbrev attrs : ℕ → ℕ → Attr
+    attrs n first = attr_there (picture_of old).at pid n source prot first
+
+    attr_same : (first n : ℕ) → attr_for s pid first n source prot ≡ attrs n first
+    attr_same first n = ap (λ (maps : Maps). first_attr source prot (free_object maps)) (maps_without (picture_of old) s shows pid first n)
+
+    late_same : (place : Option ℕ) → first_of (flat_checks place) ≡ first_of (place_checks placing (s.views pid) (page_count len) (attrs (page_count len)) place)
+    late_same None = refl
+    late_same (Some first) =
+        ap (λ (attr : Attr). first_of ((false, ENOMEM) ∷ (is_taken placing (s.views pid) (page_count len) (Some first), EEXIST)
+        ∷ (Rattle.std.specs.Prelude.nat_lt 256 (run_count (replaced (attrs_of (s.views pid)) first (page_count len) attr)), ENOMEM) ∷ []))
+        (attr_same first (page_count len))
 
     ruled : mmap_errno s pid addr len prot source placing ≡ first_of (mmap_asked_checks s.files addr len prot source placing ++ late)
     ruled = live_first (s.live pid) (mmap_asked_checks s.files addr len prot source placing ++ late) (shows.live pid ∙ live)
@@ -113,39 +137,46 @@ module _ {D E : Type 0} (g : Ghosts D) (h : Ghosts E) (old : Core D E) (s : Stat
           ∙ ap (λ (n : ℕ). place_for placing (space_of runs) addr n) (sym count)
 
       late_is : (place : Option ℕ) → place_for placing (space_of runs) addr pages ≡ place
-          → mmap_errno s pid addr len prot source placing ≡ first_of (place_checks placing (space_of runs) pages (first_attr source prot) place)
+          → mmap_errno s pid addr len prot source placing ≡ first_of (place_checks placing (space_of runs) pages (attrs pages) place)
       late_is place e =
           ruled ∙ first_of-append (mmap_asked_checks s.files addr len prot source placing) late (asked_same ∙ sym asked)
-          ∙ ap (λ (o : Option ℕ). first_of (place_checks placing (s.views pid) (page_count len) (first_attr source prot) o)) (place_is ∙ e)
-          ∙ checks_same (s.views pid) (space_of runs) (attrs_as_runs (picture_of old) s pid runs shows here) placing (page_count len) (first_attr source prot) place
-          ∙ ap (λ (n : ℕ). first_of (place_checks placing (space_of runs) n (first_attr source prot) place)) (sym count)
+          ∙ ap (λ (o : Option ℕ). first_of (flat_checks o)) (place_is ∙ e) ∙ late_same place
+          ∙ checks_same (s.views pid) (space_of runs) (attrs_as_runs (picture_of old) s pid runs shows here) placing (page_count len) (attrs (page_count len)) place
+          ∙ ap (λ (n : ℕ). first_of (place_checks placing (space_of runs) n (attrs n) place)) (sym count)
 
       pub refused_place : (errno : Errno)
-          → first_of (place_checks placing (space_of runs) pages (first_attr source prot) (place_for placing (space_of runs) addr pages)) ≡ Some errno
+          → first_of (place_checks placing (space_of runs) pages (attrs pages) (place_for placing (space_of runs) addr pages)) ≡ Some errno
           → Comes g h old old s (Mmap pid addr len prot source placing) (Refused errno)
       refused_place errno e = refuses errno (late_is (place_for placing (space_of runs) addr pages) refl ∙ e)
 
-      pub maps : (first : ℕ) (next : List Run) → MapsPages runs addr pages (first_attr source prot) placing first next
-          → (new : Core D E) → RemapsRow (picture_of old) (picture_of new) pid first pages (attr_at next)
+      pub maps : (first : ℕ) (next : List Run) → MapsPages runs addr pages (attrs pages) placing first next
+          → (new : Core D E) → IsFit (picture_of new) → RemapsRow (picture_of old) (picture_of new) pid first pages (attr_at next)
+          → KeepsNamed (without_maps (picture_of old).at pid first pages) (picture_of old) (picture_of new)
           → Comes g h old new s (Mmap pid addr len prot source placing) (Address (first * 4096))
-      maps first next fits new row =
-          let space : ℕ → Option View = mapped (s.views pid) first (page_count len) (first_attr source prot) in
+      maps first next fits new fit row keeps =
+          let attr : Attr = attr_for s pid first (page_count len) source prot in
+          let space : ℕ → Option View = mapped (s.views pid) first (page_count len) attr in
           let fine : mmap_errno s pid addr len prot source placing ≡ None = late_is (Some first) fits.place ∙ fits.fine in
-          let e : outcome s (Mmap pid addr len prot source placing) ≡ record { reply = Address (4096 * first); state = with_pages s pid space } =
+          let e : outcome s (Mmap pid addr len prot source placing) ≡ record { reply = Address (4096 * first); state = with_mapping s pid first (page_count len) attr } =
           ap (λ (r : Option Errno). mmap_outcome s pid len prot source r (mmap_place s pid addr len placing)) fine
           ∙ ap (mmap_outcome s pid len prot source None) (place_is ∙ fits.place) in
           let seen : (page : ℕ) → space page ≡ view (picture_of new) pid page = λ page.
-          ap (λ (n : ℕ). mapped (s.views pid) first n (first_attr source prot) page) (sym count)
-          ∙ mapped_page (picture_of old) (picture_of new) s pid first pages (first_attr source prot) runs next shows fits.map row page in
+          ap (λ (n : ℕ). mapped (s.views pid) first n attr page) (sym count)
+          ∙ ap (λ (a : Attr). mapped (s.views pid) first pages a page) (attr_same first (page_count len) ∙ ap (λ (n : ℕ). attrs n first) (sym count))
+          ∙ mapped_page (picture_of old) (picture_of new) s pid first pages (attrs pages first) runs next shows fits.map row page in
+          let maps_are : maps_of (without_pages s.views pid first (page_count len)) ≡ without_maps (picture_of old).at pid first pages =
+          maps_without (picture_of old) s shows pid first (page_count len) ∙ ap (λ (n : ℕ). without_maps (picture_of old).at pid first n) (sym count) in
           does g h old new s (Mmap pid addr len prot source placing) (Address (first * 4096))
-          (record { reply = Address (4096 * first); state = with_pages s pid space })
-          e (ap Address (mul_comm first 4096)) (shows_pages (picture_of old) (picture_of new) s pid space shows row.files row.root seen row.others)
+          (record { reply = Address (4096 * first); state = with_mapping s pid first (page_count len) attr })
+          e (ap Address (mul_comm first 4096))
+          (subst (λ (all : Maps). ShowsPages (picture_of new) (record s { views = λ p. if p == pid then space else s.views p; objects = named_objects all s.objects })) (sym maps_are)
+          (shows_row (picture_of old) (picture_of new) s pid space (without_maps (picture_of old).at pid first pages) fit shows keeps row.root seen row.others))
 
 -- who may write the new pages may read them
-pub reads_mapped : (map : ℕ → Option Attr) (runs next : List Run) (first pages : ℕ) (attr : Attr) (source : MapSource) (prot : Prot) → IsReadableMap map
-    → ((page : ℕ) → attr_at runs page ≡ map page) → attr ≡ first_attr source prot
-    → ((page : ℕ) → attr_at next page ≡ replaced (attr_at runs) first pages attr page) → IsReadableMap (attr_at next)
-reads_mapped map runs next first pages attr source prot readable here is new =
-    reads_same (replaced (attr_at runs) first pages attr) (attr_at next) new
-    (reads_replaced (attr_at runs) first pages attr (subst (λ (a : Attr). ReadsToo a.prot) (sym is) (reads_kept prot))
+pub reads_mapped : (map : ℕ → Option Attr) (runs next : List Run) (first pages object : ℕ) (source : MapSource) (prot : Prot) → IsReadableMap map
+    → ((page : ℕ) → attr_at runs page ≡ map page)
+    → ((page : ℕ) → attr_at next page ≡ replaced (attr_at runs) first pages (first_attr source prot object) page) → IsReadableMap (attr_at next)
+reads_mapped map runs next first pages object source prot readable here new =
+    reads_same (replaced (attr_at runs) first pages (first_attr source prot object)) (attr_at next) new
+    (reads_replaced (attr_at runs) first pages (first_attr source prot object) (reads_kept prot)
     (reads_same map (attr_at runs) here readable))

@@ -1,17 +1,20 @@
 -- The checks of a mapping's place, decided one after the other.
-use Rattle.std.proofs.Common.{ℕ, ◌≡◌, ◌<◌, ◌≤◌, Bool, true, false, nat_lt, List, [], ◌∷◌, Option, Some, None, refl, sym, ap, ◌∙◌, arith}
+use Rattle.std.proofs.Common.{ℕ, ◌≡◌, ◌<◌, ◌≤◌, ◌^◌, Bool, true, false, nat_lt, List, [], ◌∷◌, Option, Some, None, refl, sym, ap, ◌∙◌, arith}
 use Rattle.std.proofs.lemmas.Bool.Decides.{nat_tests}
 use Rattle.regions.specs.declared.run.Run.{Run}
 use Rattle.regions.specs.RunList.{attr_at}
+use Rattle.vm_types.specs.declared.command.MapSource.{MapSource}
+use Rattle.vm_types.specs.declared.command.MapSource.TheVariants.{Anon, Private, Shared, Common}
 use Rattle.vm_types.specs.declared.command.Placing.{Placing}
 use Rattle.vm_types.specs.declared.refusal.Errno.TheVariants.{ENOMEM, EEXIST}
 use Rattle.vm_types.specs.declared.region.Attr.{Attr}
+use Rattle.vm_types.specs.Attributes.{backing_fits}
 use Rattle.vm_types.specs.Checks.{first_of}
-use Rattle.vm_types.specs.Mapping.{place_for, is_taken, has_too_many_runs}
+use Rattle.vm_types.specs.Mapping.{place_for, is_taken, first_backing}
 use Rattle.vm_types.specs.Rows.{replaced}
 use Rattle.vm_types.specs.Runs.{run_count}
 use Rattle.vm_types.specs.View.{View}
-use Rattle.calls.specs.Mappings.{place_checks}
+use Rattle.calls.specs.Mappings.{place_checks, passes_runs, FitsFile}
 use Rattle.calls.specs.Space.{space_of}
 use Rattle.calls.proofs.Pages.{attrs_same}
 
@@ -24,33 +27,40 @@ many_last a b e f = rw (e, f) refl
 none_holds : (a b : Bool) → a ≡ false → b ≡ false → first_of ((a, EEXIST) ∷ (b, ENOMEM) ∷ []) ≡ None
 none_holds a b e f = rw (e, f) refl
 
-pub taken_place : (placing : Placing) (space : ℕ → Option View) (addr pages : ℕ) (attr : Attr) (first : ℕ)
+pub taken_place : (placing : Placing) (space : ℕ → Option View) (addr pages : ℕ) (attr : ℕ → Attr) (first : ℕ)
     → Some first ≡ place_for placing space addr pages → (taken : Bool) → taken ≡ is_taken placing space pages (Some first) → taken ≡ true
     → first_of (place_checks placing space pages attr (place_for placing space addr pages)) ≡ Some EEXIST
 taken_place placing space addr pages attr first place taken is e =
     ap (λ (o : Option ℕ). first_of (place_checks placing space pages attr o)) (sym place)
-    ∙ taken_first (is_taken placing space pages (Some first)) (has_too_many_runs space pages attr (Some first)) (sym is ∙ e)
+    ∙ taken_first (is_taken placing space pages (Some first)) (passes_runs space pages attr (Some first)) (sym is ∙ e)
 
-counted_runs : (runs : List Run) (first pages : ℕ) (attr : Attr) (b : Bool) → nat_lt 256 (run_count (replaced (attr_at runs) first pages attr)) ≡ b
-    → has_too_many_runs (space_of runs) pages attr (Some first) ≡ b
+counted_runs : (runs : List Run) (first pages : ℕ) (attr : ℕ → Attr) (b : Bool) → nat_lt 256 (run_count (replaced (attr_at runs) first pages (attr first))) ≡ b
+    → passes_runs (space_of runs) pages attr (Some first) ≡ b
 counted_runs runs first pages attr b e =
-    ap (λ (m : ℕ → Option Attr). nat_lt 256 (run_count (replaced m first pages attr))) (attrs_same runs) ∙ e
+    ap (λ (m : ℕ → Option Attr). nat_lt 256 (run_count (replaced m first pages (attr first)))) (attrs_same runs) ∙ e
 
-pub many_runs : (placing : Placing) (runs : List Run) (addr pages : ℕ) (attr : Attr) (first : ℕ)
+pub many_runs : (placing : Placing) (runs : List Run) (addr pages : ℕ) (attr : ℕ → Attr) (first : ℕ)
     → Some first ≡ place_for placing (space_of runs) addr pages → (taken : Bool) → taken ≡ is_taken placing (space_of runs) pages (Some first) → taken ≡ false
-    → 256 < run_count (replaced (attr_at runs) first pages attr)
+    → 256 < run_count (replaced (attr_at runs) first pages (attr first))
     → first_of (place_checks placing (space_of runs) pages attr (place_for placing (space_of runs) addr pages)) ≡ Some ENOMEM
 many_runs placing runs addr pages attr first place taken is e many =
-    let over : nat_lt 256 (run_count (replaced (attr_at runs) first pages attr)) ≡ true = grind (arith, nat_tests, many) in
+    let over : nat_lt 256 (run_count (replaced (attr_at runs) first pages (attr first))) ≡ true = grind (arith, nat_tests, many) in
     ap (λ (o : Option ℕ). first_of (place_checks placing (space_of runs) pages attr o)) (sym place)
-    ∙ many_last (is_taken placing (space_of runs) pages (Some first)) (has_too_many_runs (space_of runs) pages attr (Some first)) (sym is ∙ e)
+    ∙ many_last (is_taken placing (space_of runs) pages (Some first)) (passes_runs (space_of runs) pages attr (Some first)) (sym is ∙ e)
     (counted_runs runs first pages attr true over)
 
-pub fine_place : (placing : Placing) (runs : List Run) (addr pages : ℕ) (attr : Attr) (first : ℕ)
+pub fine_place : (placing : Placing) (runs : List Run) (addr pages : ℕ) (attr : ℕ → Attr) (first : ℕ)
     → (taken : Bool) → taken ≡ is_taken placing (space_of runs) pages (Some first) → taken ≡ false
-    → run_count (replaced (attr_at runs) first pages attr) ≤ 256
+    → run_count (replaced (attr_at runs) first pages (attr first)) ≤ 256
     → first_of (place_checks placing (space_of runs) pages attr (Some first)) ≡ None
 fine_place placing runs addr pages attr first taken is e few =
-    let under : nat_lt 256 (run_count (replaced (attr_at runs) first pages attr)) ≡ false = grind (arith, nat_tests, few) in
-    none_holds (is_taken placing (space_of runs) pages (Some first)) (has_too_many_runs (space_of runs) pages attr (Some first)) (sym is ∙ e)
+    let under : nat_lt 256 (run_count (replaced (attr_at runs) first pages (attr first))) ≡ false = grind (arith, nat_tests, few) in
+    none_holds (is_taken placing (space_of runs) pages (Some first)) (passes_runs (space_of runs) pages attr (Some first)) (sym is ∙ e)
     (counted_runs runs first pages attr false under)
+
+-- what stands behind the row is numbered
+pub fits_backing : (source : MapSource) (object pages : ℕ) → FitsFile source pages → pages ≤ 2 ^ 26 → backing_fits (first_backing source object) pages
+fits_backing Anon object pages fits few = tt
+fits_backing Common object pages fits few = omega (arith, few)
+fits_backing (Private file offset) object pages fits few = fits
+fits_backing (Shared file offset) object pages fits few = fits

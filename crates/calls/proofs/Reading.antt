@@ -12,6 +12,7 @@ use Rattle.paging.specs.Capacity.{IsShort}
 use Rattle.paging.specs.Stalls.{ReadCause}
 use Rattle.paging.specs.declared.kernel.Core.{Core}
 use Rattle.paging.specs.Picture.{Picture, picture_of, is_live}
+use Rattle.paging.specs.Parts.{IsFit}
 use Rattle.paging.specs.Shows.{ShowsPages}
 use Rattle.sv39_walk.specs.Walk.{is_store}
 use Rattle.msync.specs.Shows.{Shows}
@@ -19,7 +20,7 @@ use Rattle.vm_types.specs.declared.access.Access.{Access}
 use Rattle.vm_types.specs.declared.access.Access.TheVariants as Accesses
 use Rattle.vm_types.specs.declared.command.Command.{Command}
 use Rattle.vm_types.specs.declared.command.Command.TheVariants.{Load, Fetch}
-use Rattle.vm_types.specs.declared.file.FilePage.{FilePage}
+use Rattle.vm_types.specs.declared.object.PageKey.{PageKey}
 use Rattle.vm_types.specs.declared.refusal.Code.{Code}
 use Rattle.vm_types.specs.declared.refusal.Fault.{Fault}
 use Rattle.vm_types.specs.declared.refusal.Stall.{Stall}
@@ -58,7 +59,8 @@ module _ {D E : Type 0} (g : Ghosts D) (h : Ghosts E) (old new : Core D E) (s : 
     (fine : (v : View) → verdict_of (picture_of old) pid addr width kind ≡ Fine v → is_success (outcome s command).reply ≡ true)
     (tables : (v : View) → verdict_of (picture_of old) pid addr width kind ≡ Fine v → table_count (outcome s command).state ≡ table_count s)
     (faults : (code : Code) → verdict_of (picture_of old) pid addr width kind ≡ Faults code → outcome s command ≡ answers s (Faulted (fault_of kind code addr)))
-    (frames : needs_frames command ≡ true) (files : reads_files command ≡ true) (swaps : reads_swap s command ≡ true) where
+    (frames : needs_frames command ≡ true) (files : reads_files command ≡ true) (swaps : reads_swap s command ≡ true)
+    (fit : IsFit (picture_of new)) where
   open_to : (stall : Stall) → is_open_to s command stall ≡ true
   open_to NoFrames = frames
   open_to NoSwap = frames
@@ -75,7 +77,7 @@ module _ {D E : Type 0} (g : Ghosts D) (h : Ghosts E) (old new : Core D E) (s : 
       → ShowsPages (picture_of new) s → Comes g h old new s command (Stalled stall)
   stalls stall v is cause short shows =
       Stalls stall (record { otherwise = fine v is; open_to = open_to stall; cause = cause_is stall cause })
-      (falls_short (picture_of new) s command shows stall short (let same = tables v is in omega (arith, same))) refl shows
+      (falls_short (picture_of new) s command fit shows stall short (let same = tables v is in omega (arith, same))) refl shows
 
   pub refused : (refusal : AccessRefusal) → IsRefusal g h old new pid addr width kind refusal → ShowsPages (picture_of old) s
       → (KeepsSeen (picture_of old) (picture_of new) → ShowsPages (picture_of new) s) → Comes g h old new s command (reply_of (answer_of refusal))
@@ -84,7 +86,7 @@ module _ {D E : Type 0} (g : Ghosts D) (h : Ghosts E) (old new : Core D E) (s : 
       (does_answer g h old new s command (Faulted (fault_of kind is.0 addr)) (subst (λ (c : Core D E). ShowsPages (picture_of c) s) (sym is.3) shows) (faults is.0 is.1))
   refused (Refusal.Stall stall) is shows same = stalls stall is.seen is.fine is.stalled.cause is.stalled.short (same is.stalled.keeps)
 
-module _ {D E : Type 0} (g : Ghosts D) (h : Ghosts E) (old new : Core D E) (W : FilePage → Type 0) (s : State) (shows : Shows g old s)
+module _ {D E : Type 0} (g : Ghosts D) (h : Ghosts E) (old new : Core D E) (W : PageKey → Type 0) (s : State) (shows : Shows g old s)
     (keeps : g.keeps_model new.store.disk) (swaps : h.keeps_model new.swap.pages.disk) (goes : Proceeds g h old new) (brings : BringsFiles g h W old new)
     (pid addr : ℕ) (live : is_live (picture_of old) pid ≡ true) where
   load_is : (width : Width) (v : Verdict) → verdict_of (picture_of old) pid addr width Accesses.Load ≡ v → outcome s (Load pid addr width) ≡ load_outcome s addr width v
@@ -126,11 +128,11 @@ module _ {D E : Type 0} (g : Ghosts D) (h : Ghosts E) (old new : Core D E) (W : 
   load_refused width refusal is =
       refused g h old new s pid addr width Accesses.Load (Load pid addr width) (λ v e. ap (λ (o : Outcome). is_success o.reply) (load_is width (Fine v) e))
       (λ v e. ap (λ (o : Outcome). table_count o.state) (load_is width (Fine v) e))
-      (λ code e. load_is width (Faults code) e) refl refl refl refusal is shows.pages same
+      (λ code e. load_is width (Faults code) e) refl refl refl goes.fit refusal is shows.pages same
 
   pub fetch_refused : (refusal : AccessRefusal) → IsRefusal g h old new pid addr Four Accesses.Fetch refusal
       → Comes g h old new s (Fetch pid addr) (reply_of (answer_of refusal))
   fetch_refused refusal is =
       refused g h old new s pid addr Four Accesses.Fetch (Fetch pid addr) (λ v e. ap (λ (o : Outcome). is_success o.reply) (fetch_is (Fine v) e))
       (λ v e. ap (λ (o : Outcome). table_count o.state) (fetch_is (Fine v) e))
-      (λ code e. fetch_is (Faults code) e) refl refl refl refusal is shows.pages same
+      (λ code e. fetch_is (Faults code) e) refl refl refl goes.fit refusal is shows.pages same

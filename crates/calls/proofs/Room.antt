@@ -11,19 +11,19 @@ use Rattle.paging.specs.declared.kernel.Core.{Core}
 use Rattle.paging.specs.Parts.{IsFit}
 use Rattle.paging.specs.Picture.{picture_of}
 
-module _ {D E : Type 0} (old new : Core D E) (same : new.cache ≡ old.cache) where
+module _ {D E : Type 0} (old new : Core D E) where
   -- there is a node for each frame and for each slot, so the map of places tells how many there are
-  pub room_same : KeepsRoom (picture_of old) (picture_of new)
-  room_same = record {
+  pub room_same : new.cache ≡ old.cache → KeepsRoom (picture_of old) (picture_of new)
+  room_same same = record {
     frames = sym new.node_count ∙ ap CacheTable.frame_count same ∙ old.node_count;
     slots = sym new.slot_count ∙ ap CacheTable.slot_count same ∙ old.slot_count;
   }
 
   -- a call that asked neither device, and gave back slots at the most
-  pub sound_kept : (g : Ghosts D) (h : Ghosts E) → new.store ≡ old.store → new.swap.pages ≡ old.swap.pages → IsFit (picture_of new)
+  pub sound_kept : KeepsRoom (picture_of old) (picture_of new) → (g : Ghosts D) (h : Ghosts E) → new.store ≡ old.store → new.swap.pages ≡ old.swap.pages → IsFit (picture_of new)
       → IsSoundCore g h old → IsSoundCore g h new
-  sound_kept g h store pages fit sound = record {
+  sound_kept room g h store pages fit sound = record {
     ready = subst (λ (x : FileStore D). IsReadyStore g x) (sym store) sound.ready;
-    swap = ready_released h old.swap old.swap new.swap refl pages room_same.slots sound.swap;
+    swap = ready_released h old.swap old.swap new.swap refl pages room.slots sound.swap;
     fit = fit;
   }

@@ -3,11 +3,13 @@ use Rattle.std.proofs.Common.{ℕ, zero, suc, ◌≡◌, ◌≢◌, inl, inr, �
 use Rattle.std.proofs.lemmas.Bool.{cases_eq, cases_Bool}
 use Rattle.frames.specs.FrameTable.{frame_count}
 use Rattle.lifecycle.specs.Changes.{IsShortToFork}
-use Rattle.paging.specs.Capacity.{tables_over, copies_over, IsShort}
+use Rattle.page_ranges.proofs.Outlived.{held_shown}
+use Rattle.paging.specs.Capacity.{tables_over, IsShort}
+use Rattle.paging.specs.Parts.{IsFit}
 use Rattle.paging.specs.Picture.{Picture, is_live, view}
 use Rattle.paging.specs.Shows.{ShowsPages}
 use Rattle.paging.proofs.Tables.{sum-below}
-use Rattle.vm_types.specs.Capacity.{tables_of, table_count, held_count}
+use Rattle.vm_types.specs.Capacity.{tables_of, table_count}
 use Rattle.vm_types.specs.Counting.{any_below, count_below, sum_below}
 use Rattle.vm_types.specs.declared.command.Command.{Command}
 use Rattle.vm_types.specs.declared.refusal.Stall.{Stall}
@@ -18,7 +20,7 @@ use Rattle.vm_types.specs.Step.{outcome}
 use Rattle.vm_types.specs.View.{View}
 use Rattle.calls.specs.Calls.{FallsShort}
 
--- the tables of the processes of memory are those of the state that it shows, and so are the copies
+-- the tables of the processes of memory are those of the state that it shows
 pub tables_shown : (c : Picture) (s : State) → ShowsPages c s → table_count s ≡ tables_over (is_live c) (view c)
 unfolding table_count tables_over
 tables_shown c s shows =
@@ -26,14 +28,6 @@ tables_shown c s shows =
     let sees : s.views ≡ view c = λ t pid page. shows.views pid page t in
     ap (λ (l : ℕ → Bool). sum_below (λ pid. if l pid then tables_of (s.views pid) else 0) 65) lives
     ∙ ap (λ (v : ℕ → ℕ → Option View). sum_below (λ pid. if is_live c pid then tables_of (v pid) else 0) 65) sees
-
-pub held_shown : (c : Picture) (s : State) → ShowsPages c s → held_count s ≡ copies_over (view c) (λ file page. c.touched (record { file = file; page = page }))
-unfolding held_count copies_over
-held_shown c s shows =
-    let sees : s.views ≡ view c = λ t pid page. shows.views pid page t in
-    let marks : s.touched ≡ (λ file page. c.touched (record { file = file; page = page })) =
-    λ t file page. shows.touched (record { file = file; page = page }) t in
-    ap (λ (v : ℕ → ℕ → Option View). copies_over v s.touched) sees ∙ ap (copies_over (view c)) marks
 
 -- an access changes no process, and which pages are mapped
 pub tables_kept : (s t : State) → ((pid : ℕ) → t.live pid ≡ s.live pid) → ((pid page : ℕ) → is_some (t.views pid page) ≡ is_some (s.views pid page))
@@ -92,7 +86,7 @@ least_below live first (suc count) pid e = elim (cases_Bool (live first)) [
       (ap live (sym same) ∙ free, omega (arith, same)))
 ]
 
-module _ (c : Picture) (s : State) (command : Command) (shows : ShowsPages c s) where
+module _ (c : Picture) (s : State) (command : Command) (fit : IsFit c) (shows : ShowsPages c s) where
   pub falls_short : (stall : Stall) → IsShort c stall → table_count s ≤ table_count (outcome s command).state
       → FallsShort (frame_count c.frames) c.slots.total s command stall
   unfolding IsShort
@@ -100,7 +94,7 @@ module _ (c : Picture) (s : State) (command : Command) (shows : ShowsPages c s) 
       let same = tables_shown c s shows in
       omega (arith, short, more, same)
   falls_short NoSwap short more =
-      let same = held_shown c s shows in
+      let same = held_shown c s fit shows in
       omega (arith, short, same)
   falls_short SwapDevice short more = short
   falls_short StoreDevice short more = short
@@ -112,7 +106,7 @@ module _ (c : Picture) (s : State) (command : Command) (shows : ShowsPages c s) 
       let tables = tables_shown c s shows in
       omega (arith, same, short, more, tables)
   falls_short_to_fork frames slots parent NoSwap same room short more =
-      let copies = held_shown c s shows in
+      let copies = held_shown c s fit shows in
       omega (arith, room, short, copies)
   falls_short_to_fork frames slots parent SwapDevice same room short more = short
   falls_short_to_fork frames slots parent StoreDevice same room short more = short

@@ -7,7 +7,7 @@ use Rattle.regions.specs.RunList.{attr_at}
 use Rattle.page_ranges.specs.Rows.{plain, remapped, RemapsRow}
 use Rattle.paging.specs.declared.kernel.Core.{Core}
 use Rattle.paging.specs.Picture.{Picture, picture_of, is_live, entry, own_in, view, view_of}
-use Rattle.paging.specs.Shows.{ShowsPages}
+use Rattle.paging.specs.Shows.{ShowsPages, KeepsFiles}
 use Rattle.vm_types.specs.declared.command.Command.TheVariants.{Dontneed}
 use Rattle.vm_types.specs.declared.refusal.Errno.{Errno}
 use Rattle.vm_types.specs.declared.refusal.Errno.TheVariants.{ENOMEM}
@@ -78,8 +78,9 @@ module _ {D E : Type 0} (g : Ghosts D) (h : Ghosts E) (old : Core D E) (s : Stat
       ∙ uncopied_page (picture_of old) pid (addr / 4096) pages page
 
   pub gives_up : is_covered (attr_at runs) (addr / 4096) pages ≡ true → (new : Core D E)
-      → RemapsRow (picture_of old) (picture_of new) pid (addr / 4096) pages ((picture_of old).at pid) → Comes g h old new s (Dontneed pid addr len) Done
-  gives_up e new row =
+      → RemapsRow (picture_of old) (picture_of new) pid (addr / 4096) pages ((picture_of old).at pid) → KeepsFiles (picture_of old) (picture_of new)
+      → Comes g h old new s (Dontneed pid addr len) Done
+  gives_up e new row files =
       does g h old new s (Dontneed pid addr len) Done (record { reply = Done; state = with_pages s pid after })
       (asked ∙ ap (λ (o : Option Errno). rest o after) (ruled ∙ ap (λ (b : Bool). first_of ((not b, ENOMEM) ∷ [])) e)) refl
-      (shows_pages (picture_of old) (picture_of new) s pid after shows row.files row.root (λ page. after_is page ∙ sym (row.views page)) row.others)
+      (shows_pages (picture_of old) (picture_of new) s pid after shows files row.root (λ page. after_is page ∙ sym (row.views page)) row.others)

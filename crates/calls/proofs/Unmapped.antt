@@ -1,12 +1,15 @@
 -- munmap of the flat model in a state that memory shows.
-use Rattle.std.proofs.Common.{ℕ, ◌+◌, ◌-◌, ◌/◌, ◌%◌, ◌≡◌, ◌≢◌, ◌<◌, ◌≤◌, ◌^◌, ◌==◌, ◌||◌, not, Bool, true, false, min, if◌then◌else◌, nat_lt, List, [], ◌∷◌, Option, Some, None, IsSome, option_map, refl, sym, ap, ◌∙◌, arith}
+use Rattle.std.proofs.Common.{ℕ, ◌+◌, ◌-◌, ◌/◌, ◌%◌, ◌≡◌, ◌≢◌, ◌<◌, ◌≤◌, ◌^◌, ◌==◌, ◌||◌, not, Bool, true, false, min, if◌then◌else◌, nat_lt, List, [], ◌∷◌, Option, Some, None, IsSome, option_map, inl, inr, ◌⊎◌, refl, sym, ap, ◌∙◌, subst, arith, eq-eqb, ne_eqb}
+use Rattle.std.proofs.lemmas.Bool.{cases_eq}
 use Rattle.std.proofs.lemmas.Bool.Decides.{nat_tests}
 use Rattle.disk_model.specs.declared.sector_disk.SectorDisk.{Ghosts}
 use Rattle.regions.specs.declared.run.Run.{Run}
 use Rattle.regions.specs.RunList.{attr_at}
-use Rattle.page_ranges.specs.Rows.{plain, remapped, RemapsRow}
+use Rattle.page_ranges.specs.Rows.{plain, remapped, with_map, without_maps, KeepsNamed, RemapsRow}
 use Rattle.paging.specs.declared.kernel.Core.{Core}
 use Rattle.paging.specs.Picture.{Picture, picture_of, is_live, entry, own_in, view, view_of}
+use Rattle.paging.proofs.Places.{objects-fewer}
+use Rattle.paging.specs.Parts.{AreObjects, IsFit}
 use Rattle.paging.specs.Shows.{ShowsPages}
 use Rattle.vm_types.specs.declared.command.Command.TheVariants.{Munmap}
 use Rattle.vm_types.specs.declared.refusal.Errno.{Errno}
@@ -14,15 +17,16 @@ use Rattle.vm_types.specs.declared.refusal.Errno.TheVariants.{ESRCH, EINVAL, ENO
 use Rattle.vm_types.specs.declared.region.Attr.{Attr}
 use Rattle.vm_types.specs.declared.reply.Reply.TheVariants.{Done, Refused}
 use Rattle.vm_types.specs.Checks.{first_of, page_count, pages_from}
-use Rattle.vm_types.specs.Ranges.{munmap_checks, unmapped}
+use Rattle.vm_types.specs.Objects.{Maps, maps_of, named_objects}
+use Rattle.vm_types.specs.Ranges.{munmap_checks, unmapped, without_pages, without_row}
 use Rattle.vm_types.specs.Rows.{in_row, removed, IsUserMap}
 use Rattle.vm_types.specs.Runs.{run_count}
 use Rattle.vm_types.specs.State.{State}
 use Rattle.vm_types.specs.Step.{Outcome, refused_or}
 use Rattle.vm_types.specs.View.{View}
 use Rattle.calls.specs.Calls.{Comes}
-use Rattle.calls.proofs.Calls.{does, does_answer, with_pages, shows_pages}
-use Rattle.calls.proofs.Pages.{attrs_by_runs}
+use Rattle.calls.proofs.Calls.{does, does_answer, shows_row}
+use Rattle.calls.proofs.Pages.{attrs_by_runs, maps_without}
 use Rattle.calls.proofs.Protects.{count_from}
 
 none_if : (o : Option Attr) → (IsSome o → ⊥) → o ≡ None
@@ -39,6 +43,30 @@ unseen own o none = rw none refl
 unseen_past : (c : Picture) (pid page : ℕ) → IsUserMap (c.at pid) → 2 ^ 26 ≤ page → view c pid page ≡ None
 unfolding view
 unseen_past c pid page user high = unseen (own_in c.frames c.slots (entry c pid page)) (c.at pid page) (past_user (c.at pid) page user high)
+
+-- fewer pages name objects then
+pub objects_unmapped : (old : Picture) (pid first pages : ℕ) (runs next : List Run) → ((page : ℕ) → attr_at runs page ≡ old.at pid page)
+    → ((page : ℕ) → attr_at next page ≡ removed (attr_at runs) first pages page) → AreObjects old.at → AreObjects (with_map old.at pid (attr_at next))
+objects_unmapped old pid first pages runs next here map objects = objects-fewer old.at (with_map old.at pid (attr_at next)) fewer objects
+  where
+    gone : (b : Bool) (o : Option Attr) → ((if b then None else o) ≡ o) ⊎ ((if b then None else o) ≡ None)
+    gone true o = inr refl
+    gone false o = inl refl
+
+    mine : (page : ℕ) → (attr_at next page ≡ old.at pid page) ⊎ (attr_at next page ≡ None)
+    mine page = elim (gone (in_row first pages page) (attr_at runs page)) [
+      | inl same ↦ inl (map page ∙ same ∙ here page)
+      | inr none ↦ inr (map page ∙ none)
+    ]
+
+    fewer : (q page : ℕ) → (with_map old.at pid (attr_at next) q page ≡ old.at q page) ⊎ (with_map old.at pid (attr_at next) q page ≡ None)
+    fewer q page = elim (cases_eq q pid) [
+      | inl same ↦ elim (mine page) [
+        | inl e ↦ inl (rw (eq-eqb q pid same) (e ∙ ap (λ (p : ℕ). old.at p page) (sym same)))
+        | inr none ↦ inr (rw (eq-eqb q pid same) none)
+      ]
+      | inr other ↦ inl (rw (ne_eqb q pid other) refl)
+    ]
 
 -- a row, and its part in the user pages
 module _ (first pages start count : ℕ) (from : start ≡ min first (2 ^ 26)) (size : count ≡ min (first + pages) (2 ^ 26) - start) where
@@ -59,6 +87,21 @@ module _ (first pages start count : ℕ) (from : start ≡ min first (2 ^ 26)) (
             gone ∙ sym (past_user (old.at pid) page user (past_end page out e))
         | false ↦ λ e. map page ∙ ap (λ (b : Bool). if b then None else attr_at runs page) e ∙ here page
       ] refl
+
+  clipped_page : (old : Picture) (pid page : ℕ) → IsUserMap (old.at pid) → removed (old.at pid) first pages page ≡ removed (old.at pid) start count page
+  clipped_page old pid page user =
+      elim (in_row start count page) as (λ (b : Bool). in_row start count page ≡ b
+      → (if in_row first pages page then None else old.at pid page) ≡ (if b then None else old.at pid page)) [
+        | true ↦ λ e. ap (λ (b : Bool). if b then None else old.at pid page) (in_both page e)
+        | false ↦ λ out.
+            elim (in_row first pages page) as (λ (b : Bool). in_row first pages page ≡ b → (if b then None else old.at pid page) ≡ old.at pid page) [
+              | true ↦ λ e. sym (past_user (old.at pid) page user (past_end page out e))
+              | false ↦ λ e. refl
+            ] refl
+      ] refl
+
+  clipped : (old : Picture) (pid : ℕ) → IsUserMap (old.at pid) → without_maps old.at pid first pages ≡ without_maps old.at pid start count
+  clipped old pid user = λ t q page. (ap (λ (o : Option Attr). if q == pid then o else old.at q page) (clipped_page old pid page user)) t
 
   unmapped_page : (old : Picture) (pid : ℕ) (map : ℕ → Option Attr) (page : ℕ) → IsUserMap (old.at pid)
       → (in_row first pages page ≡ true → map page ≡ None)
@@ -82,8 +125,8 @@ last_check a b c e f = rw (e, f) refl
 module _ {D E : Type 0} (g : Ghosts D) (h : Ghosts E) (old : Core D E) (s : State) (pid addr len : ℕ) (shows : ShowsPages (picture_of old) s)
     (live : is_live (picture_of old) pid ≡ true) (some : len ≢ 0) (aligned : addr % 4096 ≡ 0)
     (runs : List Run) (here : (page : ℕ) → attr_at runs page ≡ (picture_of old).at pid page) (pages : ℕ) (count : pages ≡ page_count len) where
-  abbrev rest : Option Errno → (ℕ → Option View) → Outcome
-  rest errno space = refused_or s errno (record { reply = Done; state = with_pages s pid space })
+  abbrev rest : Option Errno → Outcome
+  rest errno = refused_or s errno (record { reply = Done; state = without_row s pid (addr / 4096) (pages_from addr len) })
 
   abbrev after : ℕ → Option View
   after = unmapped (s.views pid) (addr / 4096) (pages_from addr len)
@@ -101,7 +144,7 @@ module _ {D E : Type 0} (g : Ghosts D) (h : Ghosts E) (old : Core D E) (s : Stat
   refused_many many =
       let e : nat_lt 256 (run_count (removed (attr_at runs) (addr / 4096) pages)) ≡ true = grind (arith, nat_tests, many) in
       does_answer g h old old s (Munmap pid addr len) (Refused ENOMEM) shows
-      (ap (λ (o : Option Errno). rest o after) (ruled ∙ ap (λ (b : Bool). first_of ((b, ENOMEM) ∷ [])) e))
+      (ap (λ (o : Option Errno). rest o) (ruled ∙ ap (λ (b : Bool). first_of ((b, ENOMEM) ∷ [])) e))
 
   module _ (few : run_count (removed (attr_at runs) (addr / 4096) pages) ≤ 256) (next : List Run)
       (map : (page : ℕ) → attr_at next page ≡ removed (attr_at runs) (addr / 4096) pages page) (user : IsUserMap ((picture_of old).at pid))
@@ -114,9 +157,20 @@ module _ {D E : Type 0} (g : Ghosts D) (h : Ghosts E) (old : Core D E) (s : Stat
         (λ e. map page ∙ ap (λ (b : Bool). if b then None else attr_at runs page) e)
         ∙ sym (row.views page)
 
-    pub unmaps : (new : Core D E) → RemapsRow (picture_of old) (picture_of new) pid start size (attr_at next) → Comes g h old new s (Munmap pid addr len) Done
-    unmaps new row =
+    maps_are : maps_of (without_pages s.views pid (addr / 4096) (pages_from addr len)) ≡ without_maps (picture_of old).at pid start size
+    maps_are =
+        maps_without (picture_of old) s shows pid (addr / 4096) (pages_from addr len)
+        ∙ ap (λ (n : ℕ). without_maps (picture_of old).at pid (addr / 4096) n) (count_from addr len aligned ∙ sym count)
+        ∙ clipped (addr / 4096) pages start size from to (picture_of old) pid user
+
+    pub unmaps : (new : Core D E) → IsFit (picture_of new) → RemapsRow (picture_of old) (picture_of new) pid start size (attr_at next)
+        → KeepsNamed (without_maps (picture_of old).at pid start size) (picture_of old) (picture_of new) → Comes g h old new s (Munmap pid addr len) Done
+    unmaps new fit row keeps =
         let e : nat_lt 256 (run_count (removed (attr_at runs) (addr / 4096) pages)) ≡ false = grind (arith, nat_tests, few) in
-        does g h old new s (Munmap pid addr len) Done (record { reply = Done; state = with_pages s pid after })
-        (ap (λ (o : Option Errno). rest o after) (ruled ∙ ap (λ (b : Bool). first_of ((b, ENOMEM) ∷ [])) e)) refl
-        (shows_pages (picture_of old) (picture_of new) s pid after shows row.files row.root (after_is new row) row.others)
+        does g h old new s (Munmap pid addr len) Done (record { reply = Done; state = without_row s pid (addr / 4096) (pages_from addr len) })
+        (ap (λ (o : Option Errno). rest o) (ruled ∙ ap (λ (b : Bool). first_of ((b, ENOMEM) ∷ [])) e)) refl
+        (subst (λ (maps : Maps). ShowsPages (picture_of new) (record s {
+          views = without_pages s.views pid (addr / 4096) (pages_from addr len);
+          objects = named_objects maps s.objects;
+        })) (sym maps_are)
+        (shows_row (picture_of old) (picture_of new) s pid after (without_maps (picture_of old).at pid start size) fit shows keeps row.root (after_is new row) row.others))

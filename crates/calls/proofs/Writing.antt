@@ -1,5 +1,5 @@
 -- Stores of the flat model in a state that memory shows.
-use Rattle.std.proofs.Common.{ℕ, ◌/◌, ◌%◌, ◌≡◌, ◌&&◌, Bool, true, false, not, if◌then◌else◌, ◌⊎◌, inl, inr, List, Option, Some, None, is_some, refl, sym, ap, ◌∙◌, subst, arith}
+use Rattle.std.proofs.Common.{ℕ, ◌/◌, ◌%◌, ◌≡◌, ◌&&◌, Bool, true, false, not, if◌then◌else◌, inl, inr, List, Option, Some, None, is_some, refl, sym, ap, ◌∙◌, subst, arith}
 use Rattle.std.specs.Prelude.{◌==◌}
 use Rattle.std.proofs.lemmas.Bool.Decides.{nat_tests}
 use Rattle.disk_model.specs.declared.sector_disk.SectorDisk.{Ghosts}
@@ -9,7 +9,7 @@ use Rattle.mapping.specs.Files.{Proceeds, BringsFiles}
 use Rattle.page_faults.specs.Outcome.{IsReadyToStore, IsOpenToStore, IsRefusal, verdict_of}
 use Rattle.page_faults.proofs.Ready.{view-mapped, own_in-none}
 use Rattle.page_faults.proofs.Settled.{one_view}
-use Rattle.page_faults.proofs.Showing.{ShowsFiles, bytes_shown, shows_own, shows_shared}
+use Rattle.page_faults.proofs.Showing.{ShowsFiles, bytes_shown, shows_own, shows_shared, shows_common}
 use Rattle.page_faults.proofs.Storing.{view-attr, fit_own, fit_file, views_others, views_file, entries_own, entries_file}
 use Rattle.mapping.proofs.Forms.{mapped_page, shared_none}
 use Rattle.frames.proofs.FrameLemmas.{with_bytes-others}
@@ -29,9 +29,10 @@ use Rattle.vm_types.specs.declared.access.StoredValue.{StoredValue}
 use Rattle.vm_types.specs.declared.command.Command.TheVariants.{Store}
 use Rattle.vm_types.specs.declared.refusal.Code.TheVariants.{BusAdraln, SegvAccerr, BusAdrerr}
 use Rattle.vm_types.specs.declared.refusal.Errno.TheVariants.{ESRCH}
-use Rattle.vm_types.specs.declared.file.FilePage.{FilePage}
+use Rattle.vm_types.specs.declared.object.PageKey.{PageKey}
+use Rattle.vm_types.specs.declared.object.PageKey.TheVariants.{File, Object}
 use Rattle.vm_types.specs.declared.region.Backing.{Backing}
-use Rattle.vm_types.specs.declared.region.Backing.TheVariants.{Anon, Private, Shared}
+use Rattle.vm_types.specs.declared.region.Backing.TheVariants.{Anon, Private, Shared, Common}
 use Rattle.vm_types.specs.declared.reply.Reply.TheVariants.{Done, Refused}
 use Rattle.vm_types.specs.declared.width.Width.{Width}
 use Rattle.vm_types.specs.Access.{with_number, with_shown_bytes}
@@ -39,10 +40,10 @@ use Rattle.vm_types.specs.Files.{Files}
 use Rattle.vm_types.specs.Capacity.{table_count}
 use Rattle.vm_types.specs.Stalls.{is_success}
 use Rattle.vm_types.specs.Replies.{reply_of}
-use Rattle.vm_types.specs.State.{State, with_view}
+use Rattle.vm_types.specs.State.{State, shown, copy_or_behind, with_view}
 use Rattle.vm_types.specs.Step.{Outcome, outcome, answers, judged, store_outcome}
 use Rattle.vm_types.specs.Verdict.{Verdict, Fine, Faults, lets, is_past_end, page_verdict}
-use Rattle.vm_types.specs.View.{View, shown, copy_or_behind}
+use Rattle.vm_types.specs.View.{View}
 use Rattle.vm_types.specs.Width.{byte_count}
 use Rattle.calls.specs.Accesses.{answer_of}
 use Rattle.calls.specs.Calls.{Comes}
@@ -86,7 +87,8 @@ pub fit_stored : (mid new : Picture) (pid page : ℕ) (b : Backing) (n : ℕ) (w
     → new.frames ≡ Frames.with_bytes mid.frames n w → SameBeside mid new → IsFit new
 fit_stored mid new pid page Anon n w fit usable frames beside = fit_own mid new n w fit usable.0 frames beside pid page usable.1
 fit_stored mid new pid page (Private p) n w fit usable frames beside = fit_own mid new n w fit usable.0 frames beside pid page usable.1
-fit_stored mid new pid page (Shared p) n w fit usable frames beside = fit_file mid new n w fit usable.0 frames beside p usable.1
+fit_stored mid new pid page (Shared p) n w fit usable frames beside = fit_file mid new n w fit usable.0 frames beside (File p) usable.1
+fit_stored mid new pid page (Common p) n w fit usable frames beside = fit_file mid new n w fit usable.0 frames beside (Object p) usable.1
 
 -- and no other page is seen otherwise
 pub others_stored : (old mid new : Picture) (pid page : ℕ) (b : Backing) (n : ℕ) (w : List ℕ) → IsFit mid → IsOpenToStore mid pid page b n
@@ -96,16 +98,19 @@ others_stored old mid new pid page Anon n w fit usable frames beside others = λ
 others_stored old mid new pid page (Private p) n w fit usable frames beside others = λ q k other.
     views_others mid new n w fit usable.0 frames beside pid page usable.1 q k other ∙ others q k other
 others_stored old mid new pid page (Shared p) n w fit usable frames beside others = λ q k other.
-    views_file mid new n w fit usable.0 frames beside p usable.1 q k ∙ others q k other
+    views_file mid new n w fit usable.0 frames beside (File p) usable.1 q k ∙ others q k other
+others_stored old mid new pid page (Common p) n w fit usable frames beside others = λ q k other.
+    views_file mid new n w fit usable.0 frames beside (Object p) usable.1 q k ∙ others q k other
 
 -- nor has a page another entry
 entries_stored : (mid new : Picture) (pid page : ℕ) (b : Backing) (n : ℕ) (w : List ℕ) → IsFit mid → IsOpenToStore mid pid page b n
     → new.frames ≡ Frames.with_bytes mid.frames n w → SameBeside mid new → (q k : ℕ) → entry new q k ≡ entry mid q k
 entries_stored mid new pid page Anon n w fit usable frames beside = entries_own mid new n w fit usable.0 frames beside pid page usable.1
 entries_stored mid new pid page (Private p) n w fit usable frames beside = entries_own mid new n w fit usable.0 frames beside pid page usable.1
-entries_stored mid new pid page (Shared p) n w fit usable frames beside = entries_file mid new n w fit usable.0 frames beside p usable.1
+entries_stored mid new pid page (Shared p) n w fit usable frames beside = entries_file mid new n w fit usable.0 frames beside (File p) usable.1
+entries_stored mid new pid page (Common p) n w fit usable frames beside = entries_file mid new n w fit usable.0 frames beside (Object p) usable.1
 
-slotted_on : (files : FilePage → Type 0) (own : ℕ → ℕ → Type 0) (old mid new : Picture) → ((p : FilePage) → new.place p ≡ mid.place p)
+slotted_on : (files : PageKey → Type 0) (own : ℕ → ℕ → Type 0) (old mid new : Picture) → ((p : PageKey) → new.place p ≡ mid.place p)
     → ((q k : ℕ) → entry new q k ≡ entry mid q k) → KeepsSlotted files own old mid → KeepsSlotted files own old new
 slotted_on files own old mid new place entries slotted = record {
   file_pages = λ p k at. elim (slotted.file_pages p k at) [
@@ -119,7 +124,7 @@ slotted_on files own old mid new place entries slotted = record {
 }
 
 -- and what lay in a slot is still there
-pub slotted_stored : (old mid new : Picture) (pid page : ℕ) (b : Backing) (n : ℕ) (w : List ℕ) (files : FilePage → Type 0) (own : ℕ → ℕ → Type 0)
+pub slotted_stored : (old mid new : Picture) (pid page : ℕ) (b : Backing) (n : ℕ) (w : List ℕ) (files : PageKey → Type 0) (own : ℕ → ℕ → Type 0)
     → IsFit mid → IsOpenToStore mid pid page b n → new.frames ≡ Frames.with_bytes mid.frames n w → SameBeside mid new
     → KeepsSlotted files own old mid → KeepsSlotted files own old new
 slotted_stored old mid new pid page b n w files own fit usable frames beside slotted =
@@ -130,6 +135,7 @@ pub open_held : (c : Picture) (pid page : ℕ) (b : Backing) (n : ℕ) → IsOpe
 open_held c pid page Anon n usable = usable.0
 open_held c pid page (Private p) n usable = usable.0
 open_held c pid page (Shared p) n usable = usable.0
+open_held c pid page (Common p) n usable = usable.0
 
 -- and memory is as large as it was
 pub room_stored : (old mid new : Picture) (n : ℕ) (w : List ℕ) → KeepsRoom old mid → new.frames ≡ Frames.with_bytes mid.frames n w → new.slots ≡ mid.slots → KeepsRoom old new
@@ -158,13 +164,14 @@ stored_tables s pid page v Anon w seen =
 stored_tables s pid page v (Private p) w seen =
     tables_kept s (with_shown_bytes s pid page v (Private p) w) (λ q. refl) (mapped_still s pid page v (record v { own = Some w }) seen)
 stored_tables s pid page v (Shared p) w seen = tables_kept s (with_shown_bytes s pid page v (Shared p) w) (λ q. refl) (λ q k. refl)
+stored_tables s pid page v (Common p) w seen = tables_kept s (with_shown_bytes s pid page v (Common p) w) (λ q. refl) (λ q k. refl)
 
--- the bytes of the frame of a file page are those that it has
-held_there : (c : Picture) (p : FilePage) (n : ℕ) → c.place p ≡ Frame (record { 0 = n }) → held c p ≡ Some (bytes_of c.frames n)
+-- the bytes of the frame of a page of a file or an object are those that it has
+held_there : (c : Picture) (p : PageKey) (n : ℕ) → c.place p ≡ Frame (record { 0 = n }) → held c p ≡ Some (bytes_of c.frames n)
 unfolding held
 held_there c p n at = ap (bytes_at c.frames c.slots) at
 
-module _ {D E : Type 0} (g : Ghosts D) (h : Ghosts E) (old mid : Core D E) (W : FilePage → Type 0) (s : State) (shows : Shows g old s)
+module _ {D E : Type 0} (g : Ghosts D) (h : Ghosts E) (old mid : Core D E) (W : PageKey → Type 0) (s : State) (shows : Shows g old s)
     (keeps : g.keeps_model mid.store.disk) (swaps : h.keeps_model mid.swap.pages.disk) (before : IsFit (picture_of old)) (goes : Proceeds g h old mid)
     (brings : BringsFiles g h W old mid) (pid addr : ℕ) (live : is_live (picture_of old) pid ≡ true) (value : StoredValue) where
   store_is : (v : Verdict) → verdict_of (picture_of old) pid addr value.width Accesses.Store ≡ v → outcome s (Store pid addr value) ≡ store_outcome s pid addr value v
@@ -175,14 +182,14 @@ module _ {D E : Type 0} (g : Ghosts D) (h : Ghosts E) (old mid : Core D E) (W : 
   tables_still : (v : View) → verdict_of (picture_of old) pid addr value.width Accesses.Store ≡ Fine v → table_count (outcome s (Store pid addr value)).state ≡ table_count s
   tables_still v e =
       ap (λ (o : Outcome). table_count o.state) (store_is (Fine v) e)
-      ∙ stored_tables s pid (addr / 4096) v v.attr.backing (with_number (shown s.volatile v) (addr % 4096) (byte_count value.width) value.value)
+      ∙ stored_tables s pid (addr / 4096) v v.attr.backing (with_number (shown s v) (addr % 4096) (byte_count value.width) value.value)
       (shows.pages.views pid (addr / 4096) ∙ fine_seen (picture_of old) pid addr value.width Accesses.Store v e)
 
   pub store_refused : (refusal : AccessRefusal) → IsRefusal g h old mid pid addr value.width Accesses.Store refusal
       → Comes g h old mid s (Store pid addr value) (reply_of (answer_of refusal))
   store_refused refusal is =
       refused g h old mid s pid addr value.width Accesses.Store (Store pid addr value) (λ v e. ap (λ (o : Outcome). is_success o.reply) (store_is (Fine v) e))
-      tables_still (λ code e. store_is (Faults code) e) refl refl refl refusal is shows.pages
+      tables_still (λ code e. store_is (Faults code) e) refl refl refl goes.fit refusal is shows.pages
       (same g h old mid W s shows keeps swaps goes brings pid addr live)
 
   module _ (v : View) (fine : verdict_of (picture_of old) pid addr value.width Accesses.Store ≡ Fine v) (n : ℕ) where
@@ -191,30 +198,38 @@ module _ {D E : Type 0} (g : Ghosts D) (h : Ghosts E) (old mid : Core D E) (W : 
 
     -- the bytes that are written over are those that the page shows
     shown_there : (b : Backing) → v.attr.backing ≡ b → IsReadyToStore (picture_of old) (picture_of mid) pid (addr / 4096) v b n
-        → bytes_of mid.frames n ≡ shown s.volatile v
+        → bytes_of mid.frames n ≡ shown s v
     shown_there Anon is owns = bytes_shown (picture_of mid) s v (bytes_of mid.frames n) now owns.shown
     shown_there (Private p) is owns = bytes_shown (picture_of mid) s v (bytes_of mid.frames n) now owns.shown
     shown_there (Shared p) is touches =
         let plain : v.own ≡ None = shared_plain (picture_of old) pid (addr / 4096) v before (fine_seen (picture_of old) pid addr value.width Accesses.Store v fine) (ap is_shared is) in
-        sym (now.held p (bytes_of mid.frames n) (held_there (picture_of mid) p n touches.place))
-        ∙ sym (ap (λ (b : Backing). copy_or_behind s.volatile b None) is)
-        ∙ sym (ap (λ (o : Option (List ℕ)). copy_or_behind s.volatile v.attr.backing o) plain)
+        sym (now.held p (bytes_of mid.frames n) (held_there (picture_of mid) (File p) n touches.place))
+        ∙ sym (ap (λ (b : Backing). copy_or_behind s b None) is)
+        ∙ sym (ap (λ (o : Option (List ℕ)). copy_or_behind s v.attr.backing o) plain)
+    shown_there (Common p) is touches =
+        let plain : v.own ≡ None = shared_plain (picture_of old) pid (addr / 4096) v before (fine_seen (picture_of old) pid addr value.width Accesses.Store v fine) (ap is_shared is) in
+        sym (now.objects p (bytes_of mid.frames n) (held_there (picture_of mid) (Object p) n touches.place))
+        ∙ sym (ap (λ (b : Backing). copy_or_behind s b None) is)
+        ∙ sym (ap (λ (o : Option (List ℕ)). copy_or_behind s v.attr.backing o) plain)
 
     module _ (new : Core D E) (w : List ℕ) (frames : new.frames ≡ Frames.with_bytes mid.frames n w) (beside : SameBeside (picture_of mid) (picture_of new)) where
       shows_stored : (b : Backing) → v.attr.backing ≡ b → IsReadyToStore (picture_of old) (picture_of mid) pid (addr / 4096) v b n
           → ShowsPages (picture_of new) (with_shown_bytes s pid (addr / 4096) v v.attr.backing w)
       shows_stored Anon is owns =
-          shows_own (picture_of old) (picture_of mid) (picture_of new) s pid (addr / 4096) n v w goes.fit frames beside shows.pages now (ap is_shared is) owns
+          shows_own (picture_of old) (picture_of mid) (picture_of new) s pid (addr / 4096) n v w goes.fit frames beside before shows.pages now (ap is_shared is) owns
       shows_stored (Private p) is owns =
-          shows_own (picture_of old) (picture_of mid) (picture_of new) s pid (addr / 4096) n v w goes.fit frames beside shows.pages now (ap is_shared is) owns
+          shows_own (picture_of old) (picture_of mid) (picture_of new) s pid (addr / 4096) n v w goes.fit frames beside before shows.pages now (ap is_shared is) owns
       shows_stored (Shared p) is touches =
           subst (λ (b : Backing). ShowsPages (picture_of new) (with_shown_bytes s pid (addr / 4096) v b w)) (sym is)
-          (shows_shared (picture_of old) (picture_of mid) (picture_of new) s pid (addr / 4096) n v w goes.fit frames beside shows.pages now p touches)
+          (shows_shared (picture_of old) (picture_of mid) (picture_of new) s pid (addr / 4096) n v w goes.fit frames beside before shows.pages now p touches)
+      shows_stored (Common p) is touches =
+          subst (λ (b : Backing). ShowsPages (picture_of new) (with_shown_bytes s pid (addr / 4096) v b w)) (sym is)
+          (shows_common (picture_of old) (picture_of mid) (picture_of new) s pid (addr / 4096) n v w goes.fit frames beside before shows.pages now p touches)
 
       pub stores : IsReadyToStore (picture_of old) (picture_of mid) pid (addr / 4096) v v.attr.backing n
           → w ≡ with_number (bytes_of mid.frames n) (addr % 4096) (byte_count value.width) value.value → Comes g h old new s (Store pid addr value) Done
       stores ready is =
-          let bytes : w ≡ with_number (shown s.volatile v) (addr % 4096) (byte_count value.width) value.value =
+          let bytes : w ≡ with_number (shown s v) (addr % 4096) (byte_count value.width) value.value =
           is ∙ ap (λ (b : List ℕ). with_number b (addr % 4096) (byte_count value.width) value.value) (shown_there v.attr.backing refl ready) in
           does g h old new s (Store pid addr value) Done (store_outcome s pid addr value (Fine v)) (store_is (Fine v) fine) refl
           (subst (λ (b : List ℕ). ShowsPages (picture_of new) (with_shown_bytes s pid (addr / 4096) v v.attr.backing b)) bytes (shows_stored v.attr.backing refl ready))

@@ -21,7 +21,7 @@ use Rattle.vm_types.specs.Step.{outcome}
 use Rattle.calls.specs.Idle.{names_store, names_swap, refused_count}
 
 -- Memory of so many frames, or so many slots, are short of what a command needs: the tables of the state after it and three more
--- frames, or a slot for each page that processes have of their own and each touched file page.
+-- frames, or a slot for each page that processes have of their own, each touched file page and each page of an object that was stored to.
 abbrev pub FallsShort : ℕ → ℕ → State → Command → Stall → Type 0
 FallsShort frames slots s command NoFrames = frames < table_count (outcome s command).state + 3
 FallsShort frames slots s command NoSwap = slots < held_count s

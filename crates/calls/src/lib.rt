@@ -6,13 +6,15 @@ mod madvise;
 mod mappings;
 mod processes;
 mod protections;
+mod region_room;
 mod space;
 mod unmapping;
 
 pub use accesses::{fetch, load, store};
 pub use madvise::dontneed;
 pub use mappings::mmap;
-pub use msync::msync;
+pub use msync::{SyncRoom, msync};
 pub use processes::{exit, fork, spawn};
 pub use protections::mprotect;
+pub use region_room::RegionRoom;
 pub use unmapping::munmap;

@@ -1,32 +1,37 @@
 //! mmap.
-ghost use Rattle.std.specs.Prelude.{◌≡◌, ◌≤◌, ◌<◌, ◌+◌, ◌/◌, ◌^◌, Some, IfNone, IfSome, IfOk, IfErr, true};
+ghost use Rattle.std.specs.Prelude.{ℕ, ◌≡◌, ◌≤◌, ◌<◌, ◌+◌, ◌/◌, ◌^◌, Some, IfNone, IfSome, IfOk, OnOk, IfErr, true};
 ghost use Rattle.vm_types.specs.Limits.{user_start, user_end};
 ghost use Rattle.file_store.specs.Store.{files_of};
 ghost use Rattle.regions.specs.RunList.{attr_at};
 ghost use Rattle.vm_types.specs.Replies.{reply_of};
-ghost use Rattle.vm_types.specs.Attributes.{backing_fits};
 ghost use Rattle.vm_types.specs.Checks.{first_of, page_count};
-ghost use Rattle.vm_types.specs.Mapping.{first_attr, is_exact, is_taken, place_for};
+ghost use Rattle.vm_types.specs.Mapping.{is_exact, is_taken, place_for};
+ghost use Rattle.vm_types.specs.Objects.{free_object as new_number};
 ghost use Rattle.vm_types.specs.Placement.{fixed_place, is_free};
+ghost use Rattle.vm_types.specs.Runs.{run_count};
 ghost use Rattle.vm_types.specs.declared.command.Command.TheVariants.{Mmap};
+ghost use Rattle.vm_types.specs.declared.command.MapSource.TheVariants.{Common};
 ghost use Rattle.mapping.specs.Changes.{KeepsRoom};
+ghost use Rattle.page_ranges.specs.Rows.{without_maps};
 ghost use Rattle.page_ranges.specs.Steps.{KeepsDevices, KeepsEntriesOfOthers};
 ghost use Rattle.msync.specs.Shows.{IsSoundCore};
 ghost use Rattle.paging.specs.Picture.{picture_of};
+ghost use Rattle.paging.specs.Parts.{IsFit};
 ghost use Rattle.calls.specs.Calls.{Carries, IsCaused};
 ghost use Rattle.calls.specs.Idle.{is_denial};
-ghost use Rattle.calls.specs.Mappings.{mmap_asked_checks, file_checks, place_checks, IsAsked, MapsPages, IsNumbered};
+ghost use Rattle.calls.specs.Mappings.{mmap_asked_checks, file_checks, place_checks, IsAsked, MapsPages, IsNumbered, FitsFile, attr_there};
 ghost use Rattle.calls.specs.Space.{space_of};
 
+use crate::region_room::RegionRoom;
 use crate::space::PAGE;
 use disk_model::SectorDisk;
 use file_store::FileStore;
-use page_ranges::remap;
-use paging::Core;
+use page_ranges::{free_object, remap};
+use paging::{Core, PLACES};
 use regions::Regions;
 use vm_types::{
-    Answer, Attr, Backing, Errno, FilePage, MapSource, Placing, Prot, TooManyRuns, USER_END,
-    USER_START,
+    Answer, Attr, Backing, Errno, FilePage, MapSource, ObjectPage, Pid, Placing, Prot, TooManyRuns,
+    USER_END, USER_START,
 };
 
 /// The most pages that a file can have, and one more than the largest number of a page.
@@ -62,6 +67,7 @@ fn refusal<D: SectorDisk>(
     }
     match source {
         MapSource::Anon => None,
+        MapSource::Common => None,
         MapSource::Private { file, offset } => file_refusal(store, file, offset, len, false),
         MapSource::Shared { file, offset } => {
             file_refusal(store, file, offset, len, prot.is_writable())
@@ -108,13 +114,61 @@ fn file_page(file: u64, offset: u64) -> FilePage
     }
 }
 
-/// What the first page of a mapping is.
-fn first_attr(source: MapSource, prot: Prot) -> Attr
-    requires { IsNumbered source }
-    ensures { result ≡ first_attr source prot }
+/// Goes over the processes; each has at most 256 runs.
+fn count_runs<D, E>(core: &Core<D, E>)
+    requires fit { IsFit (picture_of core.now) }
+    ensures { (q : ℕ) → run_count ((picture_of core.now).at q) ≤ 256 }
+{
+    for number in 1..PLACES {
+        let _ = runs_of(core, number as u64);
+    }
+}
+
+/// How many runs the process of that number has.
+fn runs_of<D, E>(core: &Core<D, E>, number: u64) -> usize
+    requires fit { IsFit (picture_of core.now) }
+    ensures { run_count ((picture_of core.now).at number) ≤ 256 }
+{
+    match core.live(number) {
+        Some(pid) => core.regions(pid).runs(),
+        None => 0,
+    }
+}
+
+/// The first page of a new object, for a mapping of these pages.
+// (never inlined: the search has a table of its own, for which no other call should pay)
+#[inline(never)]
+fn object_page<D, E>(core: &Core<D, E>, pid: Pid, first: u64, pages: u64) -> ObjectPage
+    requires fit { IsFit (picture_of core.now) }
+    requires row { first + pages ≤ user_end }
+    ensures number { result ≡ record { object = new_number (without_maps (picture_of core.now).at pid first pages); page = 0 } }
+    ensures few { (q : ℕ) → run_count ((picture_of core.now).at q) ≤ 256 }
+{
+    count_runs(core);
+    ObjectPage {
+        object: free_object(core, pid, first, pages),
+        page: 0,
+    }
+}
+
+/// What the first page of a mapping of these pages is.
+fn first_attr<D, E>(
+    core: &Core<D, E>,
+    pid: Pid,
+    first: u64,
+    pages: u64,
+    source: MapSource,
+    prot: Prot,
+) -> Attr
+    requires fit { IsFit (picture_of core.now) }
+    requires row { first + pages ≤ user_end }
+    requires numbered { IsNumbered source }
+    ensures attr { result ≡ attr_there (picture_of core.now).at pid pages source prot first }
+    ensures few { source ≡ Common → (q : ℕ) → run_count ((picture_of core.now).at q) ≤ 256 }
 {
     let backing = match source {
         MapSource::Anon => Backing::Anon,
+        MapSource::Common => Backing::Common(object_page(core, pid, first, pages)),
         MapSource::Private { file, offset } => Backing::Private(file_page(file, offset)),
         MapSource::Shared { file, offset } => Backing::Shared(file_page(file, offset)),
     };
@@ -175,21 +229,26 @@ fn is_taken(regions: &Regions, first: u64, pages: u64, placing: Placing) -> bool
     }
 }
 
-/// Writes the regions with a mapping of `pages` pages, of which the first is as `attr`, into `next`, and returns its first
-/// page; or says why its place is refused.
-fn planned(
+/// Writes the regions with a mapping of `pages` pages into `next`, and returns its first page; or says why its place is refused.
+fn planned<D, E>(
+    core: &Core<D, E>,
+    pid: Pid,
     regions: &Regions,
     addr: u64,
     pages: u64,
-    attr: Attr,
+    prot: Prot,
+    source: MapSource,
     placing: Placing,
     next: &mut Regions,
 ) -> Result<u64, Errno>
+    requires fit { IsFit (picture_of core.now) }
     requires some { 0 < pages }
     requires few { pages ≤ 2 ^ 52 }
-    requires fits { backing_fits attr.backing pages }
-    ensures ok { IfOk result (λ first. MapsPages regions.now addr pages attr placing first next.new) }
-    ensures err { IfErr result (λ errno. first_of (place_checks placing (space_of regions.now) pages attr (place_for placing (space_of regions.now) addr pages)) ≡ Some errno) }
+    requires numbered { IsNumbered source }
+    requires fits { FitsFile source pages }
+    ensures ok { IfOk result (λ first. MapsPages regions.now addr pages (attr_there (picture_of core.now).at pid pages source prot) placing first next.new) }
+    ensures few { OnOk result (source ≡ Common → (q : ℕ) → run_count ((picture_of core.now).at q) ≤ 256) }
+    ensures err { IfErr result (λ errno. first_of (place_checks placing (space_of regions.now) pages (attr_there (picture_of core.now).at pid pages source prot) (place_for placing (space_of regions.now) addr pages)) ≡ Some errno) }
 {
     let Some(first) = place_of(regions, addr, pages, placing) else {
         return Err(Errno::ENOMEM);
@@ -197,6 +256,7 @@ fn planned(
     if is_taken(regions, first, pages, placing) {
         return Err(Errno::EEXIST);
     }
+    let attr = first_attr(core, pid, first, pages, source, prot);
     match regions.replace_into(first, pages, attr, next) {
         Ok(()) => Ok(first),
         Err(TooManyRuns) => Err(Errno::ENOMEM),
@@ -204,7 +264,8 @@ fn planned(
 }
 
 /// Maps the pages that `len` bytes take, anonymous ones or those of a file from an offset on, and returns the mapping's
-/// address, in bytes. Who may write there may read there as well (our choice).
+/// address, in bytes. Who may write there may read there as well (our choice). Anonymous pages that are shared are those of a new
+/// object, with the least number of which no process has a page (our choice).
 ///
 /// The errors of mmap(2), in our order: `ESRCH` where there is no such process; `EINVAL` where the length is 0, or the
 /// address, if the mapping must have it, or the offset is no multiple of the page size; `EBADF` where there is no such
@@ -213,6 +274,7 @@ fn planned(
 /// and may not be replaced; `ENOMEM` where more than 256 runs would result. A refused call changes nothing.
 pub fn mmap<D: SectorDisk, E: SectorDisk>(
     core: &mut Core<D, E>,
+    room: &mut RegionRoom,
     pid: u64,
     addr: u64,
     len: u64,
@@ -236,12 +298,11 @@ pub fn mmap<D: SectorDisk, E: SectorDisk>(
         return Answer::Refused(errno);
     }
     let pages = len.div_ceil(PAGE);
-    let attr = first_attr(source, prot);
     let regions = core.regions(pid);
-    let mut next = regions.copied();
-    match planned(regions, addr, pages, attr, placing, &mut next) {
+    let next = room.next();
+    match planned(core, pid, regions, addr, pages, prot, source, placing, next) {
         Ok(first) => {
-            remap(core, pid, first, pages, &next);
+            remap(core, pid, first, pages, next);
             Answer::Address(first * PAGE)
         }
         Err(errno) => Answer::Refused(errno),

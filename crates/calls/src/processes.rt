@@ -69,7 +69,8 @@ pub fn fork<D: SectorDisk, E: SectorDisk>(core: &mut Core<D, E>, pid: u64) -> An
     }
 }
 
-/// Ends a process (_exit(2)): its space is gone and its number free. What it stored to files through shared pages stays.
+/// Ends a process (_exit(2)): its space is gone and its number free. What it stored to files through shared pages stays, and of
+/// objects what another process has.
 ///
 /// `ESRCH` where there is no such process.
 pub fn exit<D: SectorDisk, E: SectorDisk>(core: &mut Core<D, E>, pid: u64) -> Answer

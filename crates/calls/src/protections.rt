@@ -15,6 +15,7 @@ ghost use Rattle.calls.specs.Idle.{is_denial};
 ghost use Rattle.calls.specs.Protections.{permit_checks, IsPermitted};
 ghost use Rattle.calls.specs.Space.{space_of};
 
+use crate::region_room::RegionRoom;
 use crate::space::PAGE;
 use disk_model::SectorDisk;
 use file_store::FileStore;
@@ -28,7 +29,7 @@ fn is_guarded<D: SectorDisk>(store: &FileStore<D>, backing: Backing) -> bool
     ensures { result ≡ is_guarded (files_of store.now) backing }
 {
     match backing {
-        Backing::Anon | Backing::Private(_) => false,
+        Backing::Anon | Backing::Private(_) | Backing::Common(_) => false,
         Backing::Shared(page) => match store.file(page.file) {
             Some(info) => info.read_only,
             None => false,
@@ -108,6 +109,7 @@ fn permitted<D: SectorDisk>(
 /// are asked for, `ENOMEM` where more than 256 runs would result. A refused call changes nothing, also over a hole.
 pub fn mprotect<D: SectorDisk, E: SectorDisk>(
     core: &mut Core<D, E>,
+    room: &mut RegionRoom,
     pid: u64,
     addr: u64,
     len: u64,
@@ -134,17 +136,10 @@ pub fn mprotect<D: SectorDisk, E: SectorDisk>(
     }
     let first = addr / PAGE;
     let pages = len.div_ceil(PAGE);
-    let mut next = core.regions(pid).copied();
-    match permitted(
-        &core.store,
-        core.regions(pid),
-        first,
-        pages,
-        prot,
-        &mut next,
-    ) {
+    let next = room.next();
+    match permitted(&core.store, core.regions(pid), first, pages, prot, next) {
         Ok(()) => {
-            reprotect(core, pid, first, pages, prot.kept(), &next);
+            reprotect(core, pid, first, pages, prot.kept(), next);
             Answer::Done
         }
         Err(errno) => Answer::Refused(errno),

@@ -9,6 +9,7 @@ ghost use Rattle.paging.specs.Picture.{picture_of};
 ghost use Rattle.calls.specs.Calls.{Carries, IsCaused};
 ghost use Rattle.calls.specs.Idle.{is_denial};
 
+use crate::region_room::RegionRoom;
 use crate::space::PAGE;
 use disk_model::SectorDisk;
 use page_ranges::remap;
@@ -16,12 +17,13 @@ use paging::Core;
 use vm_types::{Answer, Errno, TooManyRuns, USER_END};
 
 /// Removes the pages of the range of `len` bytes from `addr` on (munmap(2)), with their own copies; those that aren't
-/// mapped are no error. What was stored to a file through a shared page stays.
+/// mapped are no error. What was stored to a file through a shared page stays; of an object, what a page still shows.
 ///
 /// In this order: `ESRCH` where there is no such process, `EINVAL` where the length is 0 or the address is no multiple of
 /// the page size, `ENOMEM` where more than 256 runs would result. A refused call changes nothing.
 pub fn munmap<D: SectorDisk, E: SectorDisk>(
     core: &mut Core<D, E>,
+    room: &mut RegionRoom,
     pid: u64,
     addr: u64,
     len: u64,
@@ -44,12 +46,12 @@ pub fn munmap<D: SectorDisk, E: SectorDisk>(
     let first = addr / PAGE;
     let pages = len.div_ceil(PAGE);
     let regions = core.regions(pid);
-    let mut next = regions.copied();
-    match regions.remove_into(first, pages, &mut next) {
+    let next = room.next();
+    match regions.remove_into(first, pages, next) {
         Ok(()) => {
             let start = first.min(USER_END);
             let end = (first + pages).min(USER_END);
-            remap(core, pid, start, end - start, &next);
+            remap(core, pid, start, end - start, next);
             Answer::Done
         }
         Err(TooManyRuns) => Answer::Refused(Errno::ENOMEM),

@@ -1,7 +1,8 @@
 -- One more shares a frame or a slot, for which no entry names it yet: no process sees that.
 use Rattle.std.proofs.Common.{◌≡◌, ◌≢◌, ℕ, inl, inr, ◌<◌, ◌≤◌, true, [], Option, Some, get_or, refl, sym, ap, ◌∙◌, subst, arith}
 use Rattle.std.proofs.lemmas.Bool.{cases_eq, false≢true}
-use Rattle.vm_types.specs.declared.file.FilePage.{FilePage}
+use Rattle.vm_types.specs.declared.object.PageKey.TheVariants.{File, Object}
+use Rattle.vm_types.specs.declared.object.PageKey.{PageKey}
 use Rattle.vm_types.specs.declared.region.Attr.{Attr}
 use Rattle.vm_types.specs.declared.region.Backing.{Backing}
 use Rattle.vm_types.specs.declared.region.Backing.TheVariants as Backings
@@ -33,8 +34,9 @@ use Rattle.copy_on_write.specs.Shares.{IsUnwritten, RaisesSeat}
 
 behind-same : (old new : Picture) (b : Backing) (n : ℕ) → KeepsBehind old new → IsBehind old b n → IsBehind new b n
 behind-same old new Backings.Anon n kept behind = behind
-behind-same old new (Backings.Private p) n kept behind = kept.place p n behind
-behind-same old new (Backings.Shared p) n kept behind = kept.place p n behind
+behind-same old new (Backings.Private p) n kept behind = kept.place (File p) n behind
+behind-same old new (Backings.Shared p) n kept behind = kept.place (File p) n behind
+behind-same old new (Backings.Common p) n kept behind = kept.place (Object p) n behind
 
 -- an entry of a page stands for it, where a frame to which it lets stores through is still nobody else's
 entry_for-leaf : (old new : Picture) (attr : Option Attr) (e : ℕ) → KeepsBehind old new
@@ -107,6 +109,7 @@ module _ (old : Picture) (n : ℕ) (fit : IsFit old) (own : role_of old.frames n
         rw (entries q p) here);
     user = λ q. user_map-same (old.at q) (new.at q) (λ p. refl) (fit.granting.user q);
     readable = λ q. readable-same (old.at q) (new.at q) (λ p. refl) (fit.granting.readable q);
+    objects = fit.granting.objects;
   }
 
   pub fit_frame : IsFitBut new (InFrame n) 1 0
@@ -118,7 +121,7 @@ module _ (old : Picture) (n : ℕ) (fit : IsFit old) (own : role_of old.frames n
     );
     rooted = rooted_same old new 0 fit.rooted trees (λ q. refl) (λ q p. refl);
     granting = granting;
-    places = places_same old new fit.places (λ p. refl) (λ f. refl) refl (λ m e. roles m ∙ e) (λ m e. sym (roles m) ∙ e);
+    places = places_same old new fit.places (λ p. refl) (λ q k. refl) (λ f. refl) refl (λ m e. roles m ∙ e) (λ m e. sym (roles m) ∙ e);
     dirty = dirty_same old new fit.dirty (λ p. refl) (λ p. refl) (λ q p h. entries q p);
   }
 
@@ -216,12 +219,12 @@ module _ (old : Picture) (k : ℕ) (fit : IsFit old) (own : IsOwned old (InSlot 
   seen_bytes (InFrame m) is = refl
   seen_bytes (InSlot j) is = slot_bytes j is.0
 
-  place_bytes : (p : FilePage) (x : Place) → old.place p ≡ x → bytes_at now.frames now.slots x ≡ bytes_at old.frames old.slots x
+  place_bytes : (p : PageKey) (x : Place) → old.place p ≡ x → bytes_at now.frames now.slots x ≡ bytes_at old.frames old.slots x
   place_bytes p Home at = refl
   place_bytes p (Frame m) at = refl
   place_bytes p (Slot j) at = ap (λ (w : _). Some w) (slot_bytes j.0 (let one = fit.places.slotted p j.0 at in omega (arith, one)))
 
-  slot_held : (p : FilePage) → held now p ≡ held old p
+  slot_held : (p : PageKey) → held now p ≡ held old p
   unfolding held
   slot_held p = place_bytes p (old.place p) refl
 

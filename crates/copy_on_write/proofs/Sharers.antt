@@ -5,7 +5,7 @@ use Rattle.vm_types.specs.Counting.{count_below}
 use Rattle.vm_types.specs.declared.region.Attr.{Attr}
 use Rattle.sv39_walk.specs.Entry.{is_valid, can_write, frame_of}
 use Rattle.page_tables.specs.Tree.{IsPage}
-use Rattle.paging.specs.Seats.{Seat, InFrame, seat, is_seat, holders_at, is_private}
+use Rattle.paging.specs.Seats.{Seat, InFrame, seat, is_seat, holders_at}
 use Rattle.paging.specs.Picture.{Picture, entry, count_in, page_in}
 use Rattle.paging.specs.Parts.{IsEntryFor, Nothing, Resident, Away, IsFit, nowhere}
 use Rattle.paging.proofs.Counts.{count-sole}

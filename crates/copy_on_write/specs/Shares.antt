@@ -2,7 +2,7 @@
 use Rattle.std.specs.Prelude.{◌≡◌, ◌≢◌, ℕ, ◌+◌, ◌-◌, ◌<◌, ◌≤◌, ◌⊎◌, true, false, Some, ◌&&◌, if◌then◌else◌}
 use Rattle.vm_types.specs.Processes.{process_limit}
 use Rattle.vm_types.specs.Limits.{top_level}
-use Rattle.vm_types.specs.declared.file.FilePage.{FilePage}
+use Rattle.vm_types.specs.declared.object.PageKey.{PageKey}
 use Rattle.frames.specs.FrameTable.{role_of}
 use Rattle.sv39_walk.specs.Entry.{is_valid, can_read, can_write, can_execute, frame_of}
 use Rattle.page_tables.specs.Tree.{IsPage, Points}
@@ -44,7 +44,7 @@ pub record Withdraws (old new : Picture) (pid page number : ℕ) : Type 0 where
   pub seated : seat number ≡ seat (entry old pid page)
   pub unwritten : is_valid number ≡ true → can_write number ≡ false
   pub views : (q p : ℕ) → view new q p ≡ view old q p
-  pub held : (p : FilePage) → held new p ≡ held old p
+  pub held : (p : PageKey) → held new p ≡ held old p
   pub room : KeepsRoom old new
   pub tables : KeepsTables old new
   pub roles : (n : ℕ) → role_of new.frames n ≡ role_of old.frames n
@@ -68,7 +68,7 @@ pub record RaisesSeat (old new : Picture) (y : Seat) : Type 0 where
   pub roles : (n : ℕ) → role_of new.frames n ≡ role_of old.frames n
   pub entries : (q p : ℕ) → entry new q p ≡ entry old q p
   pub views : (q p : ℕ) → view new q p ≡ view old q p
-  pub held : (p : FilePage) → held new p ≡ held old p
+  pub held : (p : PageKey) → held new p ≡ held old p
   pub tables : KeepsTables old new
   pub rows : (q r row n : ℕ) → old.root q ≡ Some r → IsTableOf old.frames r row n → IsTableOf new.frames r row n
   pub raised : count_in new y ≡ count_in old y + 1
@@ -88,7 +88,7 @@ pub record SharesRow (old new : Picture) (parent child low high : ℕ) : Type 0 
   pub others : (q p : ℕ) → IsPage top_level p → ((q ≢ parent) × (q ≢ child)) ⊎ ((p < low) ⊎ (high ≤ p)) → entry new q p ≡ entry old q p
   pub shown : (p : ℕ) → IsPage top_level p → low ≤ p → p < high → view new child p ≡ view old parent p
   pub views : (q p : ℕ) → (q ≢ child) ⊎ ((p < low) ⊎ (high ≤ p)) → view new q p ≡ view old q p
-  pub held : (p : FilePage) → held new p ≡ held old p
+  pub held : (p : PageKey) → held new p ≡ held old p
   pub tables : KeepsTables old new
   pub raised : (y : Seat) (p : ℕ) → IsPage top_level p → low ≤ p → p < high → seat (entry old parent p) ≡ Some y → count_in new y ≡ count_in old y + 1
   pub kept : (y : Seat) → ((p : ℕ) → IsPage top_level p → low ≤ p → p < high → seat (entry old parent p) ≢ Some y) → count_in new y ≡ count_in old y

@@ -1,6 +1,1 @@
-pub mod Pages
-pub mod Plans
-pub mod Device
-pub mod Requests
 pub mod Codes
-pub mod PlanDisk

@@ -2,7 +2,7 @@
 ghost use Rattle.std.specs.Prelude.{◌≡◌, ◌≢◌, ◌≤◌};
 ghost use Rattle.famsync.specs.Codes.{done, out_of_turn, bad_layout, bad_journal, bad_pages, read_only, no_room};
 
-use crate::requests::Refusal;
+use sync_plans::Refusal;
 
 /// It was done as it was asked.
 pub(crate) const OK: u32 = 0;
@@ -16,14 +16,14 @@ pub(crate) const BAD_LAYOUT: u32 = 2;
 /// The journal of the image is open with a map that no commit writes.
 pub(crate) const BAD_JOURNAL: u32 = 3;
 
-/// There is no page or there are over 127, one is named twice, one does not begin inside its file, or there are not as
+/// There is no page or there are over 1,023, one is named twice, one does not begin inside its file, or there are not as
 /// many pages as bytes for them. Of `famsync_length`: the image has no such file.
 pub(crate) const BAD_PAGES: u32 = 4;
 
 /// The file of a page may only be read.
 pub(crate) const READ_ONLY: u32 = 5;
 
-/// The plan has over 2,048 calls, of which its list then holds the first.
+/// The plan has over 16,384 calls, of which its list then holds the first.
 pub(crate) const NO_ROOM: u32 = 6;
 
 /// The image has to be opened.

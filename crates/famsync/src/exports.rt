@@ -1,89 +1,93 @@
 //! What C programs call. `image` is what the file holds, a sector a row, and is never written here. After the result 0 of
-//! `famsync_open` or `famsync_commit` the first `used` calls of the plan have to be made of the file, in their order, and
+//! `famsync_open` or `famsync_commit` the first `used` of `calls`, the plan, have to be made of the file, in their order, and
 //! then `famsync_done` is called, or `famsync_failed` where one of them failed. After any other result there is nothing to
-//! do. `scratch` is room to work in: nothing is said of what it holds.
+//! do. `scratch_calls` and `scratch_rows` are room to work in: nothing is said of what they hold.
 //!
-//! `StopLeaves` in `specs/Plans.antt` says what a stop leaves of an image. The numbers that are returned stand in `codes`.
+//! `StopLeaves` in the `Plans` of `sync_plans` says what a stop leaves of an image. The numbers that are returned stand in `codes`.
 ghost use Rattle.std.specs.Prelude.{◌≡◌, ◌≢◌, ◌≤◌, ◌<◌, ◌↔◌, ℕ, List, Option, Some, None, length};
 ghost use Rattle.vm_types.specs.declared.file.FileInfo.{FileInfo};
 ghost use Rattle.disk_model.specs.Stop.{Image};
 ghost use Rattle.file_store.specs.Commit.{ArePages, Changes, StandsForEither};
 ghost use Rattle.file_store.specs.Standing.{IsPageOf, StandsFor, IsBadLayout, file_info};
 ghost use Rattle.famsync.specs.Codes.{done, out_of_turn, bad_layout, bad_journal, bad_pages, read_only, no_room, closed, ready, pending};
-ghost use Rattle.famsync.specs.Pages.{lent_page};
-ghost use Rattle.famsync.specs.Plans.{row, AreCalls, image_after, Unsynced, StopLeaves};
-ghost use Rattle.famsync.specs.Requests.{IsStore, HasBadJournal, AreWritable, AreReadOnly};
+ghost use Rattle.sync_plans.specs.Pages.{lent_page};
+ghost use Rattle.sync_plans.specs.Plans.{row, AreCalls, image_after, Unsynced, StopLeaves};
+ghost use Rattle.sync_plans.specs.Requests.{IsStore, HasBadJournal, AreWritable, AreReadOnly};
 
-use crate::call::Plan;
 use crate::codes::{BAD_PAGES, CLOSED, OK, PENDING, READY, TURN, number};
 use crate::handle::Handle;
-use crate::lent_pages::PageBytes;
-use crate::planning::{file_facts, plan_commit, plan_open, read_page};
+use sync_plans::{Call, PageBytes, ROOM, file_facts, plan_commit, plan_open, read_page};
 use vm_types::FilePage;
 
 /// Plans that the image is opened. It must hold what the file holds, all of it synced. Returns 0, and the handle is pending then; 2 or 3
-/// where the image is no store or its journal is bad, 6 where 2,048 calls do not suffice: then the plan is empty and the handle closed.
+/// where the image is no store or its journal is bad, 6 where 16,384 calls do not suffice: then the plan is empty and the handle closed.
 #[unsafe(no_mangle)]
 pub extern "C" fn famsync_open(
     handle: &mut Handle,
     image: &[[u8; 512]],
-    scratch: &mut Plan,
-    plan: &mut Plan,
+    scratch_calls: &mut [Call; ROOM],
+    scratch_rows: &mut [[u8; 512]; ROOM],
+    used: &mut usize,
+    calls: &mut [Call; ROOM],
+    rows: &mut [[u8; 512]; ROOM],
 ) -> u32
-    ensures few { plan.new.used ≤ 2048 }
-    ensures all { AreCalls (length image.now) plan.new.calls plan.new.used }
-    ensures synced { (n : ℕ) → Unsynced plan.new.calls plan.new.used n → ⊥ }
+    ensures few { used.new ≤ 16384 }
+    ensures all { AreCalls (length image.now) calls.new used.new }
+    ensures synced { (n : ℕ) → Unsynced calls.new used.new n → ⊥ }
     ensures any_moment { (files : ℕ → Option FileInfo) (pages : ℕ → ℕ → List ℕ) → StandsFor (length image.now) files pages (row image.now)
-        → (left : Image) → StopLeaves plan.new.calls plan.new.rows (row image.now) plan.new.used left → StandsFor (length image.now) files pages left }
+        → (left : Image) → StopLeaves calls.new rows.new (row image.now) used.new left → StandsFor (length image.now) files pages left }
     ensures state { result ≡ done → handle.new.state ≡ pending }
-    ensures nothing { result ≢ done → (plan.new.used ≡ 0) × (handle.new.state ≡ closed) }
+    ensures nothing { result ≢ done → (used.new ≡ 0) × (handle.new.state ≡ closed) }
     ensures store { result ≡ done → IsStore (length image.now) (row image.now) }
     ensures layout { result ≡ bad_layout → IsBadLayout (length image.now) (row image.now) }
     ensures journal { result ≡ bad_journal → HasBadJournal (length image.now) (row image.now) }
-    ensures room { result ≡ no_room → AreCalls (length image.now) plan.new.calls 2048 }
+    ensures room { result ≡ no_room → AreCalls (length image.now) calls.new 16384 }
     ensures turn { result ≢ out_of_turn }
     ensures pages { result ≢ bad_pages }
     ensures read_only { result ≢ read_only }
     ensures answers { result ≤ 6 }
 {
-    plan.used = 0;
+    *used = 0;
     handle.state = CLOSED;
-    match plan_open(image, scratch, plan) {
-        Ok(used) => {
-            plan.used = used;
+    match plan_open(image, scratch_calls, scratch_rows, calls, rows) {
+        Ok(count) => {
+            *used = count;
             handle.state = PENDING;
             OK
         }
         Err(refusal) => {
-            plan.used = 0;
+            *used = 0;
             number(refusal)
         }
     }
 }
 
 /// Plans that these pages become durable all at once: page `pages[i]` becomes the bytes at `bytes[i]`, with zeros past its
-/// file's end. There are 1 to 127 pages, none twice, each of which begins inside its file. Returns 0, and the handle is pending then; 1 exactly
+/// file's end. There are 1 to 1,023 pages, none twice, each of which begins inside its file. Returns 0, and the handle is pending then; 1 exactly
 /// where the handle is not ready; 2 to 6 as in `codes`. After another result than 0 the plan is empty and the handle as it was.
 #[unsafe(no_mangle)]
 pub extern "C" fn famsync_commit(
     handle: &mut Handle,
     image: &[[u8; 512]],
-    scratch: &mut Plan,
-    plan: &mut Plan,
+    scratch_calls: &mut [Call; ROOM],
+    scratch_rows: &mut [[u8; 512]; ROOM],
+    used: &mut usize,
+    calls: &mut [Call; ROOM],
+    rows: &mut [[u8; 512]; ROOM],
     pages: &[FilePage],
     bytes: &[PageBytes<'_>],
 ) -> u32
-    ensures few { plan.new.used ≤ 2048 }
-    ensures all { AreCalls (length image.now) plan.new.calls plan.new.used }
-    ensures synced { (n : ℕ) → Unsynced plan.new.calls plan.new.used n → ⊥ }
+    ensures few { used.new ≤ 16384 }
+    ensures all { AreCalls (length image.now) calls.new used.new }
+    ensures synced { (n : ℕ) → Unsynced calls.new used.new n → ⊥ }
     ensures any_moment { (files : ℕ → Option FileInfo) (before after : ℕ → ℕ → List ℕ)
         → StandsFor (length image.now) files before (row image.now) → Changes files pages.now (lent_page bytes.now) before after
-        → (left : Image) → StopLeaves plan.new.calls plan.new.rows (row image.now) plan.new.used left → StandsForEither (length image.now) files before after left }
+        → (left : Image) → StopLeaves calls.new rows.new (row image.now) used.new left → StandsForEither (length image.now) files before after left }
     ensures ok { result ≡ done → (files : ℕ → Option FileInfo) (before after : ℕ → ℕ → List ℕ)
         → StandsFor (length image.now) files before (row image.now) → Changes files pages.now (lent_page bytes.now) before after
-        → StandsFor (length image.now) files after (image_after plan.new.calls plan.new.rows (row image.now) plan.new.used) }
+        → StandsFor (length image.now) files after (image_after calls.new rows.new (row image.now) used.new) }
     ensures state { result ≡ done → (handle.old.state ≡ ready) × (handle.new.state ≡ pending) }
-    ensures nothing { result ≢ done → (plan.new.used ≡ 0) × (handle.new ≡ handle.old) }
+    ensures nothing { result ≢ done → (used.new ≡ 0) × (handle.new ≡ handle.old) }
     ensures store { result ≡ done → IsStore (length image.now) (row image.now) }
     ensures writable { result ≡ done → AreWritable (row image.now) pages.now × (length bytes.now ≡ length pages.now) }
     ensures turn { result ≡ out_of_turn ↔ handle.old.state ≢ ready }
@@ -91,24 +95,33 @@ pub extern "C" fn famsync_commit(
     ensures journal { result ≡ bad_journal → HasBadJournal (length image.now) (row image.now) }
     ensures pages { result ≡ bad_pages → length bytes.now ≡ length pages.now → ArePages (file_info (row image.now)) pages.now → ⊥ }
     ensures read_only { result ≡ read_only → AreReadOnly (row image.now) pages.now }
-    ensures room { result ≡ no_room → AreCalls (length image.now) plan.new.calls 2048 }
+    ensures room { result ≡ no_room → AreCalls (length image.now) calls.new 16384 }
     ensures answers { result ≤ 6 }
 {
-    plan.used = 0;
+    *used = 0;
     if handle.state != READY {
         return TURN;
     }
     if pages.len() != bytes.len() {
         return BAD_PAGES;
     }
-    match plan_commit(image, scratch, plan, pages, bytes) {
-        Ok(used) => {
-            plan.used = used;
+    let planned = plan_commit(
+        image,
+        scratch_calls,
+        scratch_rows,
+        calls,
+        rows,
+        pages,
+        bytes,
+    );
+    match planned {
+        Ok(count) => {
+            *used = count;
             handle.state = PENDING;
             OK
         }
         Err(refusal) => {
-            plan.used = 0;
+            *used = 0;
             number(refusal)
         }
     }
@@ -120,7 +133,8 @@ pub extern "C" fn famsync_commit(
 pub extern "C" fn famsync_read(
     handle: &Handle,
     image: &[[u8; 512]],
-    scratch: &mut Plan,
+    scratch_calls: &mut [Call; ROOM],
+    scratch_rows: &mut [[u8; 512]; ROOM],
     file: u8,
     page: u32,
     to: &mut [u8; 4096],
@@ -139,7 +153,13 @@ pub extern "C" fn famsync_read(
     if handle.state != READY {
         return TURN;
     }
-    match read_page(image, scratch, FilePage { file, page }, to) {
+    match read_page(
+        image,
+        scratch_calls,
+        scratch_rows,
+        FilePage { file, page },
+        to,
+    ) {
         Ok(()) => OK,
         Err(refusal) => number(refusal),
     }
@@ -150,7 +170,8 @@ pub extern "C" fn famsync_read(
 pub extern "C" fn famsync_length(
     handle: &Handle,
     image: &[[u8; 512]],
-    scratch: &mut Plan,
+    scratch_calls: &mut [Call; ROOM],
+    scratch_rows: &mut [[u8; 512]; ROOM],
     file: u8,
     to: &mut u32,
 ) -> u32
@@ -166,7 +187,7 @@ pub extern "C" fn famsync_length(
     if handle.state != READY {
         return TURN;
     }
-    match file_facts(image, scratch, file) {
+    match file_facts(image, scratch_calls, scratch_rows, file) {
         Ok(Some(info)) => {
             *to = info.length;
             OK

@@ -59,7 +59,7 @@ one_page homes directory sound p q a b same =
     left ∙ right
 
 -- the sectors of a home
-pub home_room : (sectors h : ℕ) → h < home_count sectors → 1020 + 8 * h + 8 ≤ sectors
+pub home_room : (sectors h : ℕ) → h < home_count sectors → 8195 + 8 * h + 8 ≤ sectors
 home_room sectors h lt = omega (arith, lt)
 
 inside_in-small : (entry : Option Entry) (k : ℕ) → inside_in entry k ≤ 4096

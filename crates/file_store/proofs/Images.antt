@@ -1,7 +1,7 @@
 -- What images stand for.
 use Rattle.std.proofs.Common.{◌≡◌, ℕ, ◌+◌, ◌<◌, ◌≤◌, ⊎_elim, inl, false, List, Option, Some, None, refl, sym, ap, subst, ◌∙◌, arith}
 use Rattle.disk_model.specs.Stop.{Image, MayLeave}
-use Rattle.sync_journal.specs.Layout.{home_count, home_sector}
+use Rattle.sync_journal.specs.Layout.{Layout, layout_2, home_count, home_count_in, home_sector}
 use Rattle.sync_journal.specs.Gate.{is_open}
 use Rattle.sync_journal.specs.Standing.{standing, standing_under, IsBadJournal}
 use Rattle.sync_journal.specs.Standing.{StandsFor as HomesStandFor}
@@ -10,8 +10,8 @@ use Rattle.file_store.specs.declared.directory.Entry.{Entry}
 use Rattle.disk_model.specs.Sectors.{joined}
 use Rattle.file_store.specs.Layout.{mark, trimmed, bytes_inside}
 use Rattle.file_store.specs.Directory.{entry_in, IsBadDirectory, AreGood}
-use Rattle.file_store.specs.Standing.{IsBadLayout, directory_entry, file_info, page_standing, standing_page, StandsFor, StandsAs}
-use Rattle.file_store.specs.Standing.IsBadLayout.{TooSmall, Unmarked, BadDirectory}
+use Rattle.file_store.specs.Standing.{IsBadLayoutIn, IsBadLayout, directory_entry, file_info, page_standing, standing_page, StandsFor, StandsAs}
+use Rattle.file_store.specs.Standing.IsBadLayoutIn.{TooSmall, Unmarked, BadDirectory}
 use Rattle.disk_model.proofs.Pieces.{joined-same}
 use Rattle.file_store.proofs.Entries.{good_directory}
 
@@ -47,10 +47,14 @@ pub stands_for_itself : (sectors : ℕ) (image : Image) → (IsBadLayout sectors
     → StandsFor sectors (file_info image) (standing_page image) image
 stands_for_itself sectors image layout journal = record { layout = layout; journal = journal; facts = λ f. refl; same = λ f k inside. refl }
 
-pub layout_is_good : (sectors : ℕ) (image : Image) → 1020 ≤ sectors → image 0 ≡ mark → AreGood (home_count sectors) (image 1) 64 → IsBadLayout sectors image → ⊥
-layout_is_good sectors image room is_mark good (TooSmall few) = omega (arith, room, few)
-layout_is_good sectors image room is_mark good (Unmarked other) = other is_mark
-layout_is_good sectors image room is_mark good (BadDirectory bad) = good_directory (home_count sectors) (image 1) good bad
+pub layout_is_good_in : (places : Layout) (mark : List ℕ) (sectors : ℕ) (image : Image) → places.homes ≤ sectors → image 0 ≡ mark
+    → AreGood (home_count_in places sectors) (image 1) 64 → IsBadLayoutIn places mark sectors image → ⊥
+layout_is_good_in places mark sectors image room is_mark good (TooSmall few) = omega (arith, room, few)
+layout_is_good_in places mark sectors image room is_mark good (Unmarked other) = other is_mark
+layout_is_good_in places mark sectors image room is_mark good (BadDirectory bad) = good_directory (home_count_in places sectors) (image 1) good bad
+
+pub layout_is_good : (sectors : ℕ) (image : Image) → 8195 ≤ sectors → image 0 ≡ mark → AreGood (home_count sectors) (image 1) 64 → IsBadLayout sectors image → ⊥
+layout_is_good sectors image room is_mark good bad = layout_is_good_in layout_2 mark sectors image room is_mark good bad
 
 -- a page as it stands for its home, trimmed
 pub page_read : (image : Image) (f k : ℕ) (e : Entry) (inside : ℕ) (bytes page : List ℕ) → directory_entry image f ≡ Some e

@@ -14,3 +14,4 @@ pub mod Formats
 pub mod Encoded
 pub mod Filled
 pub mod Stops
+pub mod Upgrades

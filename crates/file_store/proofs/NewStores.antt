@@ -135,9 +135,9 @@ module _ {R : Type 0} where
   }
 
   -- what is not too large fits
-  pub store_fits : (sectors : ℕ) (sources : List (FileSource R)) → (IsTooLarge sectors sources → ⊥) → (1020 ≤ sectors) × (total_pages sources ≤ home_count sectors)
+  pub store_fits : (sectors : ℕ) (sources : List (FileSource R)) → (IsTooLarge sectors sources → ⊥) → (8195 ≤ sectors) × (total_pages sources ≤ home_count sectors)
   store_fits sectors sources fit = (
-    ⊎_elim (λ few. absurd (fit (TooFewSectors few))) (λ room. room) (cases_lt sectors 1020),
+    ⊎_elim (λ few. absurd (fit (TooFewSectors few))) (λ room. room) (cases_lt sectors 8195),
     ⊎_elim (λ many. absurd (fit (TooManyPages many))) (λ homes. homes) (cases_lt (home_count sectors) (total_pages sources)),
   )
 
@@ -193,7 +193,7 @@ module _ {R : Type 0} (remaining : R → Option (List ℕ)) (sources : List (Fil
       ∙ told_trimmed source.length k (told_by remaining source.bytes) page told
 
   -- with the mark it is the store
-  pub store_if_marked : (sectors : ℕ) (image : Image) → 1020 ≤ sectors → total_pages sources ≤ home_count sectors
+  pub store_if_marked : (sectors : ℕ) (image : Image) → 8195 ≤ sectors → total_pages sources ≤ home_count sectors
       → IsUnmarkedStoreOf remaining sources image → image 0 ≡ mark → IsStoreOf remaining sectors sources image
   store_if_marked sectors image room fit all marked = record {
     layout = layout_is_good sectors image room marked (good_given (home_count sectors) sources (image 1) fit (omega arith) all.directory);

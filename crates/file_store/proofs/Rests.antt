@@ -17,10 +17,10 @@ module _ {D : Type 0} (g : Ghosts D) where
       → AreHomes (home_count (g.sector_count old.disk)) homes → OnOk result (live_homes journal ≡ homes)
       → (g.keeps_model disk → OnOk result (IsAtRest g homes disk))
       → (g.keeps_model disk → OnOk result ((k : ℕ) → IsOutside (g.sector_count old.disk) k → g.content disk k ≡ g.content old.disk k))
-      → OnOk result (IsReadyStore g (record { disk = disk; journal = journal; directory = old.directory }))
+      → OnOk result (IsReadyStore g (record { disk = disk; journal = journal; directory = old.directory; room = tt }))
   ready_again (Err e) old disk journal homes ready size kept are live rest outside = tt
   ready_again (Ok x) old disk journal homes ready size kept are live rest outside = record {
-    room = subst (λ n. 1020 ≤ n) (sym size) ready.room;
+    room = subst (λ n. 8195 ≤ n) (sym size) ready.room;
     sound = rw size ready.sound;
     live = subst (λ n. AreHomes (home_count n) (live_homes journal)) (sym size) (subst (λ list. AreHomes (home_count (g.sector_count old.disk)) list) (sym live) are);
     at_rest = λ keeps. record {

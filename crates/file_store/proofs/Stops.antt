@@ -1,5 +1,5 @@
 -- Stops in a row.
-use Rattle.std.proofs.Common.{ℕ, zero, suc, ◌≡◌, sym, subst}
+use Rattle.std.proofs.Common.{ℕ, zero, suc, sym, subst}
 use Rattle.disk_model.specs.Stop.{Image}
 use Rattle.disk_model.specs.declared.sector_disk.SectorDisk.{Ghosts}
 use Rattle.file_store.specs.Standing.{StandsAs}

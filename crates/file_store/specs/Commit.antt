@@ -12,7 +12,7 @@ abbrev pub cut_page : Option FileInfo → ℕ → List ℕ → List ℕ
 cut_page None k page = page
 cut_page (Some info) k page = trimmed (bytes_inside info.length k) page
 
--- 1 to 127 pages inside their files, none twice
+-- 1 to 1,023 pages inside their files, none twice
 pub record ArePages (files : ℕ → Option FileInfo) (list : List FilePage) : Type 0 where
   pub some : 0 < length list
   pub few : length list ≤ page_limit

@@ -1,11 +1,19 @@
 -- Pages of files, and the mark of a store. The format is our own.
-use Rattle.std.specs.Prelude.{ℕ, ◌+◌, ◌-◌, ◌*◌, ◌/◌, min, List, [], ◌∷◌, ◌++◌, take, length, replicate}
+use Rattle.std.specs.Prelude.{ℕ, ◌≡◌, ◌⊎◌, ◌+◌, ◌-◌, ◌/◌, List, [], ◌∷◌, ◌++◌, take, length, replicate}
 pub use Rattle.vm_types.specs.Files.{bytes_inside}
 use Rattle.sync_journal.specs.Gate.{repeated}
 
--- sector 0 of every store: the bytes `FAMSYNC1`, 64 times
+-- sector 0 of every store: the bytes `FAMSYNC2`, 64 times
 unfoldable pub mark : List ℕ
-mark = repeated 64 (70 ∷ 65 ∷ 77 ∷ 83 ∷ 89 ∷ 78 ∷ 67 ∷ 49 ∷ [])
+mark = repeated 64 (70 ∷ 65 ∷ 77 ∷ 83 ∷ 89 ∷ 78 ∷ 67 ∷ 50 ∷ [])
+
+-- sector 0 of every store of layout 1: the bytes `FAMSYNC1`, 64 times
+unfoldable pub old_mark : List ℕ
+old_mark = repeated 64 (70 ∷ 65 ∷ 77 ∷ 83 ∷ 89 ∷ 78 ∷ 67 ∷ 49 ∷ [])
+
+-- the mark of either layout
+abbrev pub IsMark : List ℕ → Type 0
+IsMark sector = (sector ≡ mark) ⊎ (sector ≡ old_mark)
 
 -- how many pages of 4,096 bytes a file of so many bytes has, the last one in part perhaps
 abbrev pub page_count : ℕ → ℕ

@@ -1,6 +1,8 @@
 pub mod Layout
 pub mod Asking
 pub mod Directory
+pub mod Versions
+pub mod Upgrade
 pub mod Faults
 pub mod Format
 pub mod Standing

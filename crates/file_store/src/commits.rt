@@ -20,8 +20,8 @@ use vm_types::FilePage;
 
 impl<D: SectorDisk> FileStore<D> {
     /// Makes pages of files durable all at once, in all files of the list: page `pages[i]` becomes page `i` of the
-    /// source, with zeros past its file's end. There are 1 to 127 pages, none twice, each of which begins inside its file; whether a file may
-    /// only be read is not looked at.
+    /// source, with zeros past its file's end. There are 1 to 1,023 pages, none twice, each of which begins inside its
+    /// file; whether a file may only be read is not looked at.
     ///
     /// `Source` comes only where the source failed: the store then stands for what it did, at every moment, and commit
     /// may be called again. `Device` comes only where the device failed: every image that a stop might have left stands
@@ -75,7 +75,8 @@ impl<D: SectorDisk> FileStore<D> {
             → (files : ℕ → Option FileInfo) (before : ℕ → ℕ → List ℕ) → LeavesNow D.SectorDisk self.old.disk (StandsFor (D.sector_count self.old.disk) files before)
             → LeavesNow D.SectorDisk self.new.disk (StandsFor (D.sector_count self.old.disk) files before) }
     {
-        let homes = homes_of(&self.directory, pages);
+        let homes = self.room.list();
+        fill_homes(&self.directory, pages, homes);
         let mut source = Trimmed {
             source,
             pages,
@@ -86,15 +87,14 @@ impl<D: SectorDisk> FileStore<D> {
     }
 }
 
-/// The home pages of these pages, which begin inside their files, one after the other.
-fn homes_of(directory: &Directory, pages: &[FilePage]) -> [u32; PAGE_LIMIT]
+/// Puts the home pages of these pages, which begin inside their files, to the front of a list, one after the other.
+fn fill_homes(directory: &Directory, pages: &[FilePage], homes: &mut [u32; PAGE_LIMIT])
     requires few { length pages.now ≤ page_limit }
     requires inside { (i : ℕ) (p : FilePage) → slice_get pages.now i ≡ Some p → IsEntryPage directory.now p }
-    ensures { (i : ℕ) (p : FilePage) → slice_get pages.now i ≡ Some p → slice_index result i ≡ home_of directory.now p }
+    ensures long { length homes.new ≡ page_limit }
+    ensures homes { (i : ℕ) (p : FilePage) → slice_get pages.now i ≡ Some p → slice_index homes.new i ≡ home_of directory.now p }
 {
-    let mut homes = [0; PAGE_LIMIT];
     for i in 0..pages.len() {
         homes[i] = directory.home_of(pages[i]);
     }
-    homes
 }

@@ -3,6 +3,7 @@ ghost use Rattle.std.specs.Prelude.{◌≡◌, ◌<◌, ◌≤◌, ◌+◌, ◌^
 ghost use Rattle.vm_types.specs.Limits.{file_limit};
 ghost use Rattle.disk_model.specs.Sectors.{sector_bytes};
 ghost use Rattle.file_store.specs.declared.directory.Entry.{Entry};
+ghost use Rattle.file_store.specs.Layout.{page_count};
 ghost use Rattle.file_store.specs.Directory.{decoded, entry_in, end_of, IsHomeOf, IsZero, IsBadDirectory, AreGood, AreEntries};
 
 use crate::layout::{FILES, PAGE_BYTES};
@@ -67,6 +68,13 @@ impl Entry {
         let read_only = if self.info.read_only { READ_ONLY } else { 0 };
         LittleEndian::write_u32(bytes, PRESENT + read_only + self.first);
         LittleEndian::write_u32(&mut bytes[4..], length);
+    }
+
+    /// How many pages the file has.
+    pub(crate) fn pages(&self) -> u32
+        ensures { result ≡ page_count self.now.info.length }
+    {
+        self.info.length.div_ceil(PAGE_BYTES as u32)
     }
 
     /// The home page behind the file's last.
@@ -161,6 +169,21 @@ impl Directory {
             return Err(BadDirectory);
         }
         Ok(Some(entry))
+    }
+
+    /// Whether the homes of all files end within so many.
+    pub(crate) fn ends_within(&self, homes: u64) -> bool
+        ensures all { IsTrue result → (f : ℕ) (e : Entry) → entry_of self.now f ≡ Some e → end_of e ≤ homes }
+        ensures one { IsFalse result → (f : ℕ) × (e : Entry) × (entry_of self.now f ≡ Some e) × (homes < end_of e) }
+    {
+        for entry in &self.entries {
+            if let Some(entry) = entry {
+                if entry.end() > homes {
+                    return false;
+                }
+            }
+        }
+        true
     }
 
     /// The entry of file `n`.

@@ -13,7 +13,7 @@ pub enum OpenFault {
     /// The device failed.
     #[error("{}", RecoverFault::Device)]
     Device = 1,
-    /// The device has fewer than 1,020 sectors, sector 0 is not the layout mark, or the directory is bad: an entry of
+    /// The device has fewer than 8,195 sectors, sector 0 is not the layout mark, or the directory is bad: an entry of
     /// no file is not zero, a file's homes do not end within the store, or two files share a home. Nothing was written.
     #[error("BADLAYOUT")]
     BadLayout = 2,
@@ -28,15 +28,39 @@ pub enum FormatFault {
     /// The device failed.
     #[error("{}", RecoverFault::Device)]
     Device = 1,
-    /// There are over 64 files, fewer than 1,020 sectors, or not enough home pages. Nothing was written.
+    /// There are over 64 files, fewer than 8,195 sectors, or not enough home pages. Nothing was written.
     #[error("TOOLARGE")]
     TooLarge = 2,
-    /// Sector 0 is the layout mark already. Nothing was written.
+    /// Sector 0 is the mark of either layout already. Nothing was written.
     #[error("FORMATTED")]
     Formatted = 3,
     /// A source failed or ended early.
     #[error("{}", CommitFault::Source)]
     Source = 4,
+}
+
+/// Why a store could not be upgraded. `Display` gives its name, as the programs print it.
+#[derive(Clone, Copy, Debug, PartialEq, Eq, Error)]
+pub enum UpgradeFault {
+    /// The device of the store of layout 1 failed.
+    #[error("OLDDEVICE")]
+    OldDevice = 1,
+    /// It has fewer than 1,020 sectors, sector 0 is not the mark of layout 1, or the directory is bad for that layout. Nothing
+    /// was written.
+    #[error("OLDLAYOUT")]
+    OldLayout = 2,
+    /// Its journal is open with a map that no commit of layout 1 writes. Nothing was written.
+    #[error("OLDJOURNAL")]
+    OldJournal = 3,
+    /// The device of the new store failed.
+    #[error("NEWDEVICE")]
+    NewDevice = 4,
+    /// It has fewer than 8,195 sectors, or the homes of a file do not end within it. Nothing was written.
+    #[error("NEWSMALL")]
+    NewSmall = 5,
+    /// Its sector 0 is the mark of either layout already. Nothing was written.
+    #[error("{}", FormatFault::Formatted)]
+    Formatted = 6,
 }
 
 impl From<DiskFault> for OpenFault {
@@ -75,5 +99,29 @@ impl From<DiskFault> for FormatFault {
 
     fn from(_: DiskFault) -> Self {
         FormatFault::Device
+    }
+}
+
+impl From<OpenFault> for UpgradeFault {
+    ghost use Rattle.file_store.specs.Faults.{old_fault};
+
+    ghost from_gives = { λ given fault. fault ≡ old_fault given };
+
+    fn from(fault: OpenFault) -> Self {
+        match fault {
+            OpenFault::Device => UpgradeFault::OldDevice,
+            OpenFault::BadLayout => UpgradeFault::OldLayout,
+            OpenFault::BadJournal => UpgradeFault::OldJournal,
+        }
+    }
+}
+
+impl From<DiskFault> for UpgradeFault {
+    ghost use Rattle.file_store.specs.declared.faults.UpgradeFault.TheVariants.{NewDevice};
+
+    ghost from_gives = { λ _ fault. fault ≡ NewDevice };
+
+    fn from(_: DiskFault) -> Self {
+        UpgradeFault::NewDevice
     }
 }

@@ -5,11 +5,11 @@ ghost use Rattle.disk_model.specs.Moments.{Touches, Nothing, LeavesOnly};
 ghost use Rattle.sync_journal.specs.Gate.{closed_sector};
 ghost use Rattle.sync_journal.specs.Layout.{home_count, home_sector, first_home_sector, gate_sector};
 ghost use Rattle.sync_journal.specs.Runs.{Runs};
-ghost use Rattle.file_store.specs.Layout.{mark, page_count};
+ghost use Rattle.file_store.specs.Layout.{mark, IsMark, page_count};
 ghost use Rattle.file_store.specs.Format.{info_of, total_pages, IsTooLarge, IsStoreOf, IsStoreIfMarked, IsUnmarkedStoreOf, HoldsFiles, HoldsPages, HasReader, AreWhole, reader_tells, IsFrom, IsMarkSector, IsLayoutSector};
 
 use crate::faults::FormatFault;
-use crate::layout::{DIRECTORY_SECTOR, GATE_SECTOR, MARK_SECTOR, is_mark, mark_bytes};
+use crate::layout::{DIRECTORY_SECTOR, GATE_SECTOR, MARK_SECTOR, is_any_mark, mark_bytes};
 use crate::sources::{FileSource, directory_of, is_too_large};
 use disk_model::{DiskFault, SECTOR_BYTES, SectorDisk};
 use std::io::Read;
@@ -20,9 +20,9 @@ use sync_journal::{FIRST_HOME, PAGE_SECTORS, write_page};
 /// whole store, whose files have the sources' bytes.
 ///
 /// The faults are looked for in this order: `TooLarge`, exactly where there are over 64 sources, the device has fewer
-/// than 1,020 sectors or not enough home pages; `Formatted`, exactly where sector 0 is the mark already, unless the
-/// device fails first; and as they occur `Device`, only where the device failed, and `Source`, where a reader failed
-/// or ended early. After `TooLarge` and `Formatted` nothing was written.
+/// than 8,195 sectors or not enough home pages; `Formatted`, exactly where sector 0 is the mark of either layout already,
+/// unless the device fails first; and as they occur `Device`, exactly where the device failed, and `Source`, where a reader
+/// failed or ended early. After `TooLarge` and `Formatted` nothing was written.
 pub fn format<D: SectorDisk, R: Read>(
     disk: &mut D,
     sources: &mut [FileSource<R>],
@@ -35,8 +35,8 @@ pub fn format<D: SectorDisk, R: Read>(
     ensures still { OnErr result (IsErrOf result FormatFault.Device ⊎ (D.failures disk.new ≡ D.failures disk.old)) }
 
     ensures too_large { IsErrOf result FormatFault.TooLarge ↔ IsTooLarge (D.sector_count disk.old) sources.old }
-    ensures formatted { D.keeps_model disk.new → IsErrOf result FormatFault.Formatted → D.content disk.old 0 ≡ mark }
-    ensures not_formatted { D.keeps_model disk.new → D.content disk.old 0 ≡ mark
+    ensures formatted { D.keeps_model disk.new → IsErrOf result FormatFault.Formatted → IsMark (D.content disk.old 0) }
+    ensures not_formatted { D.keeps_model disk.new → IsMark (D.content disk.old 0)
         → IsErrOf result FormatFault.TooLarge ⊎ (IsErrOf result FormatFault.Formatted ⊎ IsErrOf result FormatFault.Device) }
     ensures unwritten { D.keeps_model disk.new → IsErrOf result FormatFault.TooLarge ⊎ IsErrOf result FormatFault.Formatted
         → Touches D.SectorDisk Nothing disk.old disk.new }
@@ -71,8 +71,8 @@ fn check_unmarked<D: SectorDisk>(disk: &mut D) -> Result<(), FormatFault>
     ensures kept { D.keeps_model disk.new → D.keeps_model disk.old }
     ensures later { D.failures disk.old ≤ D.failures disk.new }
     ensures touches { D.keeps_model disk.new → Touches D.SectorDisk Nothing disk.old disk.new }
-    ensures unmarked { D.keeps_model disk.new → OnOk result (D.content disk.old 0 ≢ mark) }
-    ensures marked { D.keeps_model disk.new → IsErrOf result FormatFault.Formatted → D.content disk.old 0 ≡ mark }
+    ensures unmarked { D.keeps_model disk.new → OnOk result (IsMark (D.content disk.old 0) → ⊥) }
+    ensures marked { D.keeps_model disk.new → IsErrOf result FormatFault.Formatted → IsMark (D.content disk.old 0) }
     ensures device { IsErrOf result FormatFault.Device → D.failures disk.old < D.failures disk.new }
     ensures calm { OnOk result (D.failures disk.new ≡ D.failures disk.old) }
     ensures still { OnErr result (IsErrOf result FormatFault.Device ⊎ (D.failures disk.new ≡ D.failures disk.old)) }
@@ -80,7 +80,7 @@ fn check_unmarked<D: SectorDisk>(disk: &mut D) -> Result<(), FormatFault>
 {
     let mut sector = [0; SECTOR_BYTES];
     disk.read(MARK_SECTOR, &mut sector)?;
-    if is_mark(&sector) {
+    if is_any_mark(&sector) {
         return Err(FormatFault::Formatted);
     }
     Ok(())
@@ -160,7 +160,7 @@ fn write_file<D: SectorDisk, R: Read>(
 }
 
 /// Writes the directory and a closed gate, a sector of zeros, and syncs.
-fn write_layout<D: SectorDisk>(
+pub(crate) fn write_layout<D: SectorDisk>(
     disk: &mut D,
     directory: &[u8; SECTOR_BYTES],
 ) -> Result<(), DiskFault>
@@ -178,7 +178,7 @@ fn write_layout<D: SectorDisk>(
 }
 
 /// Writes the layout mark, and syncs.
-fn write_mark<D: SectorDisk>(disk: &mut D) -> Result<(), DiskFault>
+pub(crate) fn write_mark<D: SectorDisk>(disk: &mut D) -> Result<(), DiskFault>
     requires { 0 < D.sector_count disk.old }
     ensures run { Runs D.SectorDisk IsMarkSector disk.old disk.new }
     ensures failed { IsErr result → D.failures disk.old < D.failures disk.new }

@@ -5,10 +5,10 @@
 //!
 //! | Sectors | Content |
 //! |---|---|
-//! | 0 | layout mark: the bytes `FAMSYNC1` 64 times |
+//! | 0 | layout mark: the bytes `FAMSYNC2` 64 times |
 //! | 1 | directory: for each of 64 files two little-endian `u32`s: bit 31 present, bit 30 read-only, bits 0 to 29 the first home page; the length in bytes |
-//! | 2 to 1,019 | the journal (`sync_journal`) |
-//! | 1,020 on | home page `h` is sectors `1020 + 8 h` to `1027 + 8 h` |
+//! | 2 to 8,194 | the journal (`sync_journal`) |
+//! | 8,195 on | home page `h` is sectors `8195 + 8 h` to `8202 + 8 h` |
 //!
 //! A file of `n` bytes has `n / 4096` (rounded up) home pages, one after the other. Past its end it reads as zeros.
 //! After Park, Kelly and Shen, "Failure-Atomic msync(): A Simple and Efficient Mechanism for Preserving the
@@ -20,14 +20,19 @@ mod directory;
 mod faults;
 mod formatting;
 mod layout;
+mod old_store;
 mod opening;
 mod pages;
+mod room;
 mod sources;
 mod store;
 mod trimmed;
+mod upgrading;
+mod version;
 
-pub use faults::{FormatFault, OpenFault};
+pub use faults::{FormatFault, OpenFault, UpgradeFault};
 pub use formatting::format;
 pub use opening::stops_in_a_row;
 pub use sources::{FileSource, image_bytes};
 pub use store::FileStore;
+pub use upgrading::upgrade;

@@ -3,19 +3,22 @@ ghost use Rattle.std.specs.Prelude.{◌≡◌, ◌<◌, ◌≤◌, ℕ, IfOk, If
 ghost use Rattle.disk_model.specs.Stop.{Image};
 ghost use Rattle.disk_model.specs.Moments.{Touches, Nothing, LeavesOnly, LeavesNow};
 ghost use Rattle.sync_journal.specs.Standing.{IsBadJournal};
-ghost use Rattle.sync_journal.specs.Layout.{home_count as homes_of, first_home_sector};
+ghost use Rattle.sync_journal.specs.Layout.{home_count_in};
 ghost use Rattle.sync_journal.specs.Commit.{HomesStandAs, KeepsHomes};
 ghost use Rattle.file_store.specs.Directory.{IsSoundDirectory};
-ghost use Rattle.file_store.specs.Standing.{IsBadLayout, StandsAs, AreBounded, directory_entry};
+ghost use Rattle.file_store.specs.Standing.{IsBadLayoutIn, IsBadLayout, StandsAs, AreBounded, directory_entry};
 ghost use Rattle.file_store.specs.Stops.{LeftInARow};
+ghost use Rattle.file_store.specs.Versions.{layout_of, mark_of};
 ghost use Rattle.file_store.specs.Store.{IsReadyStore, IsMounted, entry_of, files_of};
 
 use crate::directory::Directory;
 use crate::faults::OpenFault;
-use crate::layout::{DIRECTORY_SECTOR, MARK_SECTOR, is_mark};
+use crate::layout::{DIRECTORY_SECTOR, MARK_SECTOR};
+use crate::room::HomeRoom;
 use crate::store::FileStore;
+use crate::version::Version;
 use disk_model::{SECTOR_BYTES, SectorDisk};
-use sync_journal::{FIRST_HOME, Journal, home_count, recover};
+use sync_journal::{Journal, recover};
 
 impl<D: SectorDisk> FileStore<D> {
     /// Opens the store on a device, as a stop left it or as whoever had it last in this program: what he wrote may be
@@ -72,6 +75,7 @@ impl<D: SectorDisk> FileStore<D> {
                 disk,
                 journal: Journal::closed(),
                 directory,
+                room: HomeRoom::new(),
             }),
             Err(fault) => Err((fault, disk)),
         }
@@ -99,37 +103,43 @@ fn mount<D: SectorDisk>(disk: &mut D) -> Result<Directory, OpenFault>
     ensures unwritten { D.keeps_model disk.new → OnErr result ((IsErrOf result OpenFault.Device → ⊥) → Touches D.SectorDisk Nothing disk.old disk.new) }
     ensures any_moment { D.keeps_model disk.new → ((k : ℕ) → D.unsynced disk.old k → ⊥) → KeepsHomes D.SectorDisk disk.old disk.new }
 {
-    let directory = read_layout(disk)?;
+    let mut sector = [0; SECTOR_BYTES];
+    let directory = read_layout(disk, Version::Two, &mut sector)?;
     recover(disk)?;
     Ok(directory)
 }
 
-/// Reads mark and directory.
-fn read_layout<D: SectorDisk>(disk: &mut D) -> Result<Directory, OpenFault>
+/// Reads mark and directory of a store of this layout. The directory's bytes are then in `sector`.
+pub(crate) fn read_layout<D: SectorDisk>(
+    disk: &mut D,
+    version: Version,
+    sector: &mut [u8; SECTOR_BYTES],
+) -> Result<Directory, OpenFault>
     ensures size { D.sector_count disk.new ≡ D.sector_count disk.old }
     ensures kept { D.keeps_model disk.new → D.keeps_model disk.old }
     ensures later { D.failures disk.old ≤ D.failures disk.new }
     ensures touches { D.keeps_model disk.new → Touches D.SectorDisk Nothing disk.old disk.new }
-    ensures room { OnOk result (first_home_sector ≤ D.sector_count disk.old) }
-    ensures sound { IfOk result (λ directory. IsSoundDirectory (homes_of (D.sector_count disk.old)) (entry_of directory)) }
+    ensures room { OnOk result ((layout_of version).homes ≤ D.sector_count disk.old) }
+    ensures sound { IfOk result (λ directory. IsSoundDirectory (home_count_in (layout_of version) (D.sector_count disk.old)) (entry_of directory)) }
     ensures entries { D.keeps_model disk.new → IfOk result (λ directory. (f : ℕ) → entry_of directory f ≡ directory_entry (D.content disk.old) f) }
-    ensures good { D.keeps_model disk.new → OnOk result (IsBadLayout (D.sector_count disk.old) (D.content disk.old) → ⊥) }
+    ensures sector { D.keeps_model disk.new → OnOk result (sector.new ≡ D.content disk.old 1) }
+    ensures good { D.keeps_model disk.new → OnOk result (IsBadLayoutIn (layout_of version) (mark_of version) (D.sector_count disk.old) (D.content disk.old) → ⊥) }
     ensures device { IsErrOf result OpenFault.Device → D.failures disk.old < D.failures disk.new }
     ensures calm { OnOk result (D.failures disk.new ≡ D.failures disk.old) }
     ensures still { OnErr result ((IsErrOf result OpenFault.Device → ⊥) → D.failures disk.new ≡ D.failures disk.old) }
-    ensures bad { D.keeps_model disk.new → IsErrOf result OpenFault.BadLayout → IsBadLayout (D.sector_count disk.old) (D.content disk.old) }
+    ensures bad { D.keeps_model disk.new → IsErrOf result OpenFault.BadLayout
+        → IsBadLayoutIn (layout_of version) (mark_of version) (D.sector_count disk.old) (D.content disk.old) }
     ensures no_journal { IsErrOf result OpenFault.BadJournal → ⊥ }
 {
     let sectors = disk.sectors();
-    if sectors < FIRST_HOME {
+    if sectors < version.first_home() {
         return Err(OpenFault::BadLayout);
     }
-    let mut sector = [0; SECTOR_BYTES];
-    disk.read(MARK_SECTOR, &mut sector)?;
-    if !is_mark(&sector) {
+    disk.read(MARK_SECTOR, sector)?;
+    if !version.marks(sector) {
         return Err(OpenFault::BadLayout);
     }
-    disk.read(DIRECTORY_SECTOR, &mut sector)?;
-    let directory = Directory::from_sector(&sector, home_count(sectors))?;
+    disk.read(DIRECTORY_SECTOR, sector)?;
+    let directory = Directory::from_sector(sector, version.home_count(sectors))?;
     Ok(directory)
 }

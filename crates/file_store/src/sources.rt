@@ -80,7 +80,7 @@ pub(crate) fn is_too_large<R>(sources: &[FileSource<R>], sectors: u64) -> bool
     sources.len() > FILES || sectors < FIRST_HOME || pages_of(sources) > home_count(sectors)
 }
 
-/// How many bytes an image of these files has, whose homes end where it ends: `512 * (1020 + 8 H)` for their `H` pages in
+/// How many bytes an image of these files has, whose homes end where it ends: `512 * (8195 + 8 H)` for their `H` pages in
 /// all, or 2^64 - 1 where that is more.
 pub fn image_bytes<R>(sources: &[FileSource<R>]) -> u64
     ensures { result ≡ min (sector_bytes * home_sector (total_pages sources.now)) (2 ^ 64 - 1) }

@@ -8,6 +8,7 @@ ghost use Rattle.file_store.specs.Store.{files_of, IsReadyStore};
 
 use crate::directory::Directory;
 use crate::pages::trim;
+use crate::room::HomeRoom;
 use disk_model::{DiskFault, SectorDisk};
 use sync_journal::Journal;
 use vm_types::{FileInfo, FilePage};
@@ -18,6 +19,7 @@ pub struct FileStore<D> {
     pub(crate) disk: D,
     pub(crate) journal: Journal,
     pub(crate) directory: Directory,
+    pub(crate) room: HomeRoom,
 }
 
 impl<D: SectorDisk> FileStore<D> {

@@ -16,178 +16,170 @@ const SMALL: Config = Config {
 };
 
 /// A file whose last page is a part of one: what is stored past its end is gone with the msync.
-pub(crate) fn partial_page(alloc: Global) -> Result<Case, Fail> {
-    let mut case = Case::new(alloc, CONFIG, &[5000], &[10])?;
-    case.push(
-        b"spawn\nmmap 1 0 12288 rw- shared 0 0\n",
-        b"pid 1\naddr 0x10000\n",
-    )?;
-    case.store(alloc, 1, 0x1387, 0xaa)?;
-    case.push(
-        b"load 1 0x11388 1\nstore 1 0x11388 1 0xbb\nload 1 0x11388 1\nload 1 0x12000 1\n",
-        b"value 0x00\nok\nvalue 0xbb\nfault 13 BUS_ADRERR 0x12000\n",
-    )?;
-    case.msync(alloc, 0, 12288)?;
-    case.load(alloc, 0x1388, 0)?;
-    case.load(alloc, 0x1387, 0xaa)?;
-    Ok(case)
-}
+pub(crate) const PARTIAL_PAGE: Case<'static> = Case {
+    config: CONFIG,
+    lengths: &[5000],
+    gates: &[17],
+    trace: b"spawn\nmmap 1 0 12288 rw- shared 0 0\nstore 1 0x11387 1 0xaa\nload 1 0x11388 1\n\
+store 1 0x11388 1 0xbb\nload 1 0x11388 1\nload 1 0x12000 1\nmsync 1 0x10000 12288 sync\nload 1 0x11388 1\n\
+load 1 0x11387 1\n",
+    replies: b"pid 1\naddr 0x10000\nok\nvalue 0x00\nok\nvalue 0xbb\nfault 13 BUS_ADRERR 0x12000\nok\nvalue 0x00\n\
+value 0xaa\n",
+};
 
-/// A file of one page, of which a byte is made durable.
-pub(crate) fn one_page(alloc: Global) -> Result<Case, Fail> {
-    let mut case = Case::new(alloc, CONFIG, &[4096], &[10, 29])?;
-    case.push(
-        b"spawn\nmmap 1 0 4096 rw- shared 0 0\n",
-        b"pid 1\naddr 0x10000\n",
-    )?;
-    case.store(alloc, 1, 0, 0x5a)?;
-    case.msync(alloc, 0, 4096)?;
-    case.load(alloc, 0, 0x5a)?;
-    Ok(case)
-}
-
-/// The same, and makes a second byte of the page durable.
-pub(crate) fn one_page_twice(alloc: Global) -> Result<Case, Fail> {
-    let mut case = one_page(alloc)?;
-    case.store(alloc, 1, 1, 0x6b)?;
-    case.msync(alloc, 0, 4096)?;
-    Ok(case)
-}
+/// A byte of a page is made durable, and then a second one.
+pub(crate) const ONE_PAGE: Case<'static> = Case {
+    config: CONFIG,
+    lengths: &[4096],
+    gates: &[17, 43],
+    trace: b"spawn\nmmap 1 0 4096 rw- shared 0 0\nstore 1 0x10000 1 0x5a\nmsync 1 0x10000 4096 sync\n\
+load 1 0x10000 1\nstore 1 0x10001 1 0x6b\nmsync 1 0x10000 4096 sync\n",
+    replies: b"pid 1\naddr 0x10000\nok\nok\nvalue 0x5a\nok\nok\n",
+};
 
 /// Maps two files of a page each, and makes a byte of both durable.
-pub(crate) fn two_files(alloc: Global) -> Result<Case, Fail> {
-    let mut case = Case::new(alloc, CONFIG, &[4096, 4096], &[18, 53])?;
-    case.push(
-        b"spawn\nmmap 1 0 0x1000 rw- shared 0 0\nmmap 1 0 0x1000 rw- shared 1 0\n",
-        b"pid 1\naddr 0x10000\naddr 0x11000\n",
-    )?;
-    case.store(alloc, 1, 0, 1)?;
-    case.store(alloc, 1, 0x1000, 2)?;
-    case.msync(alloc, 0, 0x2000)?;
-    Ok(case)
-}
+pub(crate) const TWO_FILES: Case<'static> = Case {
+    config: CONFIG,
+    lengths: &[4096, 4096],
+    gates: &[25],
+    trace: b"spawn\nmmap 1 0 0x1000 rw- shared 0 0\nmmap 1 0 0x1000 rw- shared 1 0\nstore 1 0x10000 1 1\n\
+store 1 0x11000 1 2\nmsync 1 0x10000 0x2000 sync\n",
+    replies: b"pid 1\naddr 0x10000\naddr 0x11000\nok\nok\nok\n",
+};
 
 /// The same, and makes other bytes durable there.
-pub(crate) fn two_files_twice(alloc: Global) -> Result<Case, Fail> {
-    let mut case = two_files(alloc)?;
-    case.store(alloc, 1, 0, 3)?;
-    case.store(alloc, 1, 0x1000, 4)?;
-    case.msync(alloc, 0, 0x2000)?;
-    Ok(case)
-}
+pub(crate) const TWO_FILES_TWICE: Case<'static> = Case {
+    config: CONFIG,
+    lengths: &[4096, 4096],
+    gates: &[25, 67],
+    trace: b"spawn\nmmap 1 0 0x1000 rw- shared 0 0\nmmap 1 0 0x1000 rw- shared 1 0\nstore 1 0x10000 1 1\n\
+store 1 0x11000 1 2\nmsync 1 0x10000 0x2000 sync\nstore 1 0x10000 1 3\nstore 1 0x11000 1 4\n\
+msync 1 0x10000 0x2000 sync\n",
+    replies: b"pid 1\naddr 0x10000\naddr 0x11000\nok\nok\nok\nok\nok\nok\n",
+};
 
 /// Two processes store to one page, and one of them makes it durable twice.
-pub(crate) fn two_processes(alloc: Global) -> Result<Case, Fail> {
-    let mut case = Case::new(alloc, CONFIG, &[4096], &[10, 29])?;
-    case.push(
-        b"spawn\nspawn\nmmap 1 0 4096 rw- shared 0 0\nmmap 2 0 4096 rw- shared 0 0\n",
-        b"pid 1\npid 2\naddr 0x10000\naddr 0x10000\n",
-    )?;
-    case.store(alloc, 1, 0, 0x0a)?;
-    case.store(alloc, 2, 1, 0x0b)?;
-    case.msync(alloc, 0, 4096)?;
-    case.store(alloc, 2, 1, 0x0c)?;
-    case.msync(alloc, 0, 4096)?;
-    Ok(case)
-}
+pub(crate) const TWO_PROCESSES: Case<'static> = Case {
+    config: CONFIG,
+    lengths: &[4096],
+    gates: &[17, 43],
+    trace: b"spawn\nspawn\nmmap 1 0 4096 rw- shared 0 0\nmmap 2 0 4096 rw- shared 0 0\nstore 1 0x10000 1 0x0a\n\
+store 2 0x10001 1 0x0b\nmsync 1 0x10000 4096 sync\nstore 2 0x10001 1 0x0c\nmsync 1 0x10000 4096 sync\n",
+    replies: b"pid 1\npid 2\naddr 0x10000\naddr 0x10000\nok\nok\nok\nok\nok\n",
+};
 
 /// Eight touched pages, of which memory has frames for four: the msync takes the others from their slots.
-pub(crate) fn pages_in_slots(alloc: Global) -> Result<Case, Fail> {
-    let mut case = Case::new(alloc, SMALL, &[32768], &[66])?;
-    case.push(
-        b"spawn\nmmap 1 0 0x8000 rw- shared 0 0\n",
-        b"pid 1\naddr 0x10000\n",
-    )?;
-    for page in 0..8_u8 {
-        case.store(alloc, 1, 4096 * u32::from(page), page + 1)?;
-    }
-    for page in 0..8_u8 {
-        case.load(alloc, 4096 * u32::from(page), page + 1)?;
-    }
-    case.msync(alloc, 0, 0x8000)?;
-    case.load(alloc, 0x7000, 8)?;
-    Ok(case)
-}
+pub(crate) const PAGES_IN_SLOTS: Case<'static> = Case {
+    config: SMALL,
+    lengths: &[32768],
+    gates: &[73],
+    trace: b"spawn\nmmap 1 0 0x8000 rw- shared 0 0\nstore 1 0x10000 1 1\nstore 1 0x11000 1 2\n\
+store 1 0x12000 1 3\nstore 1 0x13000 1 4\nstore 1 0x14000 1 5\nstore 1 0x15000 1 6\nstore 1 0x16000 1 7\n\
+store 1 0x17000 1 8\nload 1 0x10000 1\nload 1 0x11000 1\nload 1 0x12000 1\nload 1 0x13000 1\nload 1 0x14000 1\n\
+load 1 0x15000 1\nload 1 0x16000 1\nload 1 0x17000 1\nmsync 1 0x10000 0x8000 sync\nload 1 0x17000 1\n",
+    replies: b"pid 1\naddr 0x10000\nok\nok\nok\nok\nok\nok\nok\nok\nvalue 0x01\nvalue 0x02\nvalue 0x03\nvalue 0x04\n\
+value 0x05\nvalue 0x06\nvalue 0x07\nvalue 0x08\nok\nvalue 0x08\n",
+};
 
 /// A page that is given up after its msync comes back from the journal, and is made durable again.
-pub(crate) fn page_in_the_journal(alloc: Global) -> Result<Case, Fail> {
-    let config = Config {
+pub(crate) const PAGE_IN_THE_JOURNAL: Case<'static> = Case {
+    config: Config {
         frames: 8,
         slots: 0,
-    };
-    let mut case = Case::new(alloc, config, &[40960], &[10, 29])?;
-    case.push(
-        b"spawn\nmmap 1 0 0xa000 rw- shared 0 0\n",
-        b"pid 1\naddr 0x10000\n",
-    )?;
-    case.store(alloc, 1, 0, 7)?;
-    case.msync(alloc, 0, 0x1000)?;
-    for page in 1..10_u32 {
-        case.load(alloc, 4096 * page, 0)?;
-    }
-    case.load(alloc, 0, 7)?;
-    case.store(alloc, 1, 0, 8)?;
-    case.msync(alloc, 0, 0x1000)?;
-    Ok(case)
-}
+    },
+    lengths: &[40960],
+    gates: &[17, 43],
+    trace: b"spawn\nmmap 1 0 0xa000 rw- shared 0 0\nstore 1 0x10000 1 7\nmsync 1 0x10000 0x1000 sync\n\
+load 1 0x11000 1\nload 1 0x12000 1\nload 1 0x13000 1\nload 1 0x14000 1\nload 1 0x15000 1\nload 1 0x16000 1\n\
+load 1 0x17000 1\nload 1 0x18000 1\nload 1 0x19000 1\nload 1 0x10000 1\nstore 1 0x10000 1 8\n\
+msync 1 0x10000 0x1000 sync\n",
+    replies: b"pid 1\naddr 0x10000\nok\nok\nvalue 0x00\nvalue 0x00\nvalue 0x00\nvalue 0x00\nvalue 0x00\nvalue 0x00\n\
+value 0x00\nvalue 0x00\nvalue 0x00\nvalue 0x07\nok\nok\n",
+};
 
-/// As many pages as one msync may take, then one more, which are made durable by halves.
-pub(crate) fn most_pages(alloc: Global) -> Result<Case, Fail> {
-    let config = Config {
-        frames: 256,
-        slots: 0,
-    };
-    let mut case = Case::new(alloc, config, &[524288], &[1018, 2549, 3576])?;
-    case.push(
-        b"spawn\nmmap 1 0 0x80000 rw- shared 0 0\n",
-        b"pid 1\naddr 0x10000\n",
-    )?;
-    for page in 0..127_u32 {
-        case.store(alloc, 1, 4096 * page, 1)?;
-    }
-    case.msync(alloc, 0, 0x80000)?;
-    for page in 0..128_u32 {
-        case.store(alloc, 1, 4096 * page, 2)?;
-    }
-    case.push(b"msync 1 0x10000 0x80000 sync\n", b"error 28 ENOSPC\n")?;
-    case.msync(alloc, 0, 0x40000)?;
-    case.msync(alloc, 0x40000, 0x40000)?;
-    Ok(case)
-}
+/// A byte is stored, and the msync of its page fails. Two lines follow.
+pub(crate) const HALTING: Case<'static> = Case {
+    config: CONFIG,
+    lengths: &[4096],
+    gates: &[17],
+    trace: b"spawn\nmmap 1 0 4096 rw- shared 0 0\nstore 1 0x10000 1 9\nmsync 1 0x10000 4096 sync\n\
+load 1 0x10000 1\nfaults\n",
+    replies: b"pid 1\naddr 0x10000\nok\nerror 5 EIO\nhalted\nhalted\n",
+};
 
 /// Sixteen pages of a process's own, of which memory has frames for four.
-pub(crate) fn own_pages(alloc: Global) -> Result<Case, Fail> {
-    let mut case = Case::new(alloc, SMALL, &[4096], &[])?;
-    case.push(
-        b"spawn\nmmap 1 0 0x10000 rw- anon\n",
-        b"pid 1\naddr 0x10000\n",
-    )?;
-    for page in 0..16_u8 {
-        case.store(alloc, 1, 4096 * u32::from(page), page + 1)?;
-    }
-    for page in 0..16_u8 {
-        case.load(alloc, 4096 * u32::from(page), page + 1)?;
-    }
-    case.push(
-        b"dontneed 1 0x10000 0x1000\nload 1 0x10000 1\nstore 1 0x1f000 1 0xff\nload 1 0x1f000 1\nexit 1\n\
-load 1 0x10000 1\n",
-        b"ok\nvalue 0x00\nok\nvalue 0xff\nok\nerror 3 ESRCH\n",
-    )?;
-    Ok(case)
-}
+pub(crate) const OWN_PAGES: Case<'static> = Case {
+    config: SMALL,
+    lengths: &[],
+    gates: &[],
+    trace: b"spawn\nmmap 1 0 0x10000 rw- anon\nstore 1 0x10000 1 1\nstore 1 0x11000 1 2\nstore 1 0x12000 1 3\n\
+store 1 0x13000 1 4\nstore 1 0x14000 1 5\nstore 1 0x15000 1 6\nstore 1 0x16000 1 7\nstore 1 0x17000 1 8\n\
+store 1 0x18000 1 9\nstore 1 0x19000 1 10\nstore 1 0x1a000 1 11\nstore 1 0x1b000 1 12\nstore 1 0x1c000 1 13\n\
+store 1 0x1d000 1 14\nstore 1 0x1e000 1 15\nstore 1 0x1f000 1 16\nload 1 0x10000 1\nload 1 0x11000 1\n\
+load 1 0x12000 1\nload 1 0x13000 1\nload 1 0x14000 1\nload 1 0x15000 1\nload 1 0x16000 1\nload 1 0x17000 1\n\
+load 1 0x18000 1\nload 1 0x19000 1\nload 1 0x1a000 1\nload 1 0x1b000 1\nload 1 0x1c000 1\nload 1 0x1d000 1\n\
+load 1 0x1e000 1\nload 1 0x1f000 1\ndontneed 1 0x10000 0x1000\nload 1 0x10000 1\nstore 1 0x1f000 1 0xff\n\
+load 1 0x1f000 1\nexit 1\nload 1 0x10000 1\n",
+    replies: b"pid 1\naddr 0x10000\nok\nok\nok\nok\nok\nok\nok\nok\nok\nok\nok\nok\nok\nok\nok\nok\nvalue 0x01\n\
+value 0x02\nvalue 0x03\nvalue 0x04\nvalue 0x05\nvalue 0x06\nvalue 0x07\nvalue 0x08\nvalue 0x09\nvalue 0x0a\n\
+value 0x0b\nvalue 0x0c\nvalue 0x0d\nvalue 0x0e\nvalue 0x0f\nvalue 0x10\nok\nvalue 0x00\nok\nvalue 0xff\nok\n\
+error 3 ESRCH\n",
+};
 
 /// A page that two processes share goes to swap, until one of them stores to it.
-pub(crate) fn shared_copy(alloc: Global) -> Result<Case, Fail> {
-    let config = Config {
+pub(crate) const SHARED_COPY: Case<'static> = Case {
+    config: Config {
         frames: 10,
         slots: 16,
-    };
-    let mut case = Case::new(alloc, config, &[4096], &[])?;
-    case.push(
-        b"spawn\nmmap 1 0 0x6000 rw- anon\nstore 1 0x10000 1 0x11\nfork 1\nstore 1 0x11000 1 0x21\n\
+    },
+    lengths: &[],
+    gates: &[],
+    trace: b"spawn\nmmap 1 0 0x6000 rw- anon\nstore 1 0x10000 1 0x11\nfork 1\nstore 1 0x11000 1 0x21\n\
 store 1 0x12000 1 0x21\nstore 1 0x13000 1 0x21\nstore 1 0x14000 1 0x21\nstore 1 0x15000 1 0x21\n\
 store 2 0x10001 1 0x22\nload 1 0x10000 2\nload 2 0x10000 2\n",
-        b"pid 1\naddr 0x10000\nok\npid 2\nok\nok\nok\nok\nok\nok\nvalue 0x0011\nvalue 0x2211\n",
-    )?;
-    Ok(case)
+    replies: b"pid 1\naddr 0x10000\nok\npid 2\nok\nok\nok\nok\nok\nok\nvalue 0x0011\nvalue 0x2211\n",
+};
+
+/// Pages of an object that two processes see go to swap, and come back to either.
+pub(crate) const OBJECT_PAGES: Case<'static> = Case {
+    config: Config {
+        frames: 10,
+        slots: 16,
+    },
+    lengths: &[],
+    gates: &[],
+    trace: b"spawn\nmmap 1 0 0x6000 rw- common\nstore 1 0x10000 1 0x11\nfork 1\nstore 1 0x11000 1 0x21\n\
+store 1 0x12000 1 0x31\nstore 2 0x13000 1 0x41\nstore 2 0x14000 1 0x51\nstore 2 0x10001 1 0x22\n\
+load 1 0x10000 2\nload 2 0x11000 1\nload 1 0x13000 1\nload 2 0x12000 1\nload 1 0x14000 1\nload 2 0x15000 1\n\
+dontneed 1 0x10000 0x6000\nload 1 0x12000 1\nexit 1\nload 2 0x10000 2\n",
+    replies: b"pid 1\naddr 0x10000\nok\npid 2\nok\nok\nok\nok\nok\nvalue 0x2211\nvalue 0x21\nvalue 0x41\nvalue 0x31\n\
+value 0x51\nvalue 0x00\nok\nvalue 0x31\nok\nvalue 0x2211\n",
+};
+
+/// As many pages as one msync may take, then one more, which are made durable by halves; memory has frames for all of them.
+/// `most_pages` has the lines.
+pub(crate) const MOST_PAGES: Case<'static> = Case {
+    config: Config {
+        frames: 2048,
+        slots: 0,
+    },
+    lengths: &[4194304],
+    gates: &[8193, 20483, 28685],
+    trace: b"",
+    replies: b"",
+};
+
+/// A byte is stored at the start of each of 1,023 pages, and another one at that of 1,024.
+pub(crate) fn most_pages(alloc: Global) -> Result<Vec<u8>, Fail> {
+    let mut trace = Vec::new(alloc);
+    trace.extend_from_slice(b"spawn\nmmap 1 0 0x400000 rw- shared 0 0\n")?;
+    for (byte, end) in [(1_u8, 16 + 1023_u32), (2, 16 + 1024)] {
+        for page in 16..end {
+            let line = format!(in alloc; "store 1 0x{page:x}000 1 {byte}\n")?;
+            trace.extend_from_slice(line.as_bytes())?;
+        }
+        trace.extend_from_slice(b"msync 1 0x10000 0x400000 sync\n")?;
+    }
+    trace.extend_from_slice(b"msync 1 0x10000 0x200000 sync\nmsync 1 0x210000 0x200000 sync\n")?;
+    Ok(trace)
 }

@@ -10,8 +10,10 @@ mod faults;
 #[cfg(test)]
 mod fillings;
 #[cfg(test)]
-mod halts;
+mod judge;
 #[cfg(test)]
 mod recoveries;
+#[cfg(test)]
+mod short_disk;
 #[cfg(test)]
 mod stops;

@@ -146,6 +146,21 @@ fn mappings_are_read_with_each_source(rt: HostRuntime) {
             Placing::NoReplace,
         ),
         (
+            b"mmap 1 0x22000 0x1000 -w- common",
+            MapSource::Common,
+            Placing::Hint,
+        ),
+        (
+            b"mmap 1 0x22000 0x1000 -w- common fixed",
+            MapSource::Common,
+            Placing::Fixed,
+        ),
+        (
+            b"mmap 1 0x22000 4096 -w- common noreplace",
+            MapSource::Common,
+            Placing::NoReplace,
+        ),
+        (
             b"mmap 1 0x22000 0x1000 -w- private 63 0x100000000000",
             private,
             Placing::Hint,
@@ -251,6 +266,10 @@ fn other_lines_are_bad(rt: HostRuntime) {
         b"mmap 1 0 1 rw- private fixed 0 0",
         b"mmap 1 0 1 rw- private 0 18446744073709551616",
         b"mmap 1 0 1 rw- anon shared 0 0",
+        b"mmap 1 0 1 rw- common 0",
+        b"mmap 1 0 1 rw- common 0 0",
+        b"mmap 1 0 1 rw- common twice",
+        b"mmap 1 0 1 rw- commons",
         b"munmap 1 0x10000",
         b"munmap 1 0x10000 4096 4096",
         b"munmap 1 0x10000 4096 fixed",

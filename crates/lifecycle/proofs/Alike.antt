@@ -1,5 +1,7 @@
 -- A process without a page has those of another.
-use Rattle.std.proofs.Common.{◌≡◌, ◌≢◌, ℕ, inl, List, Option, Some, None, refl, sym, ap, ◌∙◌}
+use Rattle.std.proofs.Common.{◌≡◌, ◌≢◌, ◌==◌, if◌then◌else◌, eq-eqb, ne_eqb, ℕ, inl, inr, List, Option, Some, None, refl, sym, ap, ◌∙◌}
+use Rattle.std.proofs.lemmas.Bool.{cases_eq}
+use Rattle.vm_types.specs.Objects.{names, uses}
 use Rattle.vm_types.specs.declared.region.Attr.{Attr}
 use Rattle.frames.specs.FrameTable.{bytes_of}
 use Rattle.page_tables.specs.Tree.{IsPage}
@@ -7,7 +9,7 @@ use Rattle.regions.specs.declared.run.Run.{Run}
 use Rattle.regions.specs.RunList.{attr_at}
 use Rattle.paging.specs.Seats.{Seat, InFrame, InSlot, seat}
 use Rattle.paging.specs.Picture.{Picture, entry, view, view_of, own_in, bytes_in}
-use Rattle.paging.specs.Parts.{IsFit, IsEntryFor, Nothing, Resident, Away}
+use Rattle.paging.specs.Parts.{AreObjects, IsFit, IsEntryFor, Nothing, Resident, Away}
 use Rattle.paging.specs.Steps.{Remaps}
 use Rattle.paging.proofs.Granting.{user_map-same, readable-same}
 use Rattle.paging.proofs.Setting.{view_seated, held_same}
@@ -46,12 +48,31 @@ module _ (old new : Picture) (runs : List Run) (parent child : ℕ) (fit : IsFit
   bare : (page : ℕ) → IsPage 2 page → entry old child page ≡ 0
   bare page h = bare_page old child page fit (unmapped_view old child page (empty page)) h
 
+  -- whose pages those of a process are
+  source : ℕ → ℕ
+  source q = if q == child then parent else q
+
+  from_source : (q page : ℕ) → new.at q page ≡ old.at (source q) page
+  unfolding source
+  from_source q page = elim (cases_eq q child) [
+    | inl is ↦ rw (eq-eqb q child is) (ap (λ x. new.at x page) is ∙ here page ∙ there page)
+    | inr ne ↦ rw (ne_eqb q child ne) (remaps.others q page ne)
+  ]
+
+  -- the child has the pages of objects at the pages at which the parent has them
+  objects_alike : AreObjects new.at
+  objects_alike = record {
+    one_page = λ p q j k object page one two. fit.granting.objects.one_page (source p) (source q) j k object page
+        (ap (λ a. names a object page) (sym (from_source p j)) ∙ one) (ap (λ a. names a object page) (sym (from_source q k)) ∙ two);
+    below = λ p k object one. fit.granting.objects.below (source p) k object (ap (λ a. uses a object) (sym (from_source p k)) ∙ one);
+  }
+
   pub alike : IsAlike old new parent child
   alike =
       let entries = entries_remapped old new child fit remaps in
       record {
         fit = fit_mapped old new child runs fit remaps here (user_map-same (old.at parent) (attr_at runs) there (fit.granting.user parent))
-            (readable-same (old.at parent) (attr_at runs) there (fit.granting.readable parent)) bare (λ page. unmapped_view old child page (empty page));
+            (readable-same (old.at parent) (attr_at runs) there (fit.granting.readable parent)) objects_alike bare (λ page. unmapped_view old child page (empty page));
         maps = record {
           root = remaps.root;
           same = λ page. here page ∙ there page ∙ sym (remaps.others parent page apart);

@@ -1,7 +1,13 @@
 -- A process goes of which no page has an entry or a table.
-use Rattle.std.proofs.Common.{◌≡◌, ◌≢◌, ℕ, zero, suc, inl, inr, ◌⊎◌, ◌+◌, ◌≤◌, ◌<◌, ◌^◌, Some, refl, sym, ap, ◌∙◌, subst, arith}
-use Rattle.std.specs.Prelude.{is_some}
-use Rattle.std.proofs.lemmas.Bool.{cases_eq}
+use Rattle.std.proofs.Common.{◌≡◌, ◌≢◌, ℕ, zero, suc, inl, inr, ◌⊎◌, ◌≤◌, ◌<◌, ◌^◌, Option, Some, None, true, false, refl, sym, ap, ◌∙◌, subst, arith, eq-eqb, ne_eqb}
+use Rattle.std.specs.Prelude.{is_some, IsSome}
+use Rattle.std.proofs.lemmas.Bool.{cases_eq, cases_Bool, false≢true}
+use Rattle.vm_types.specs.declared.object.ObjectPage.{ObjectPage}
+use Rattle.vm_types.specs.declared.object.PageKey.TheVariants.{Object}
+use Rattle.vm_types.specs.declared.region.Attr.{Attr}
+use Rattle.vm_types.specs.Objects.{names, is_named}
+use Rattle.vm_types.specs.Rows.{in_row}
+use Rattle.page_cache.specs.declared.place.Place.TheVariants.{Home}
 use Rattle.disk_model.specs.declared.sector_disk.SectorDisk.{Ghosts}
 use Rattle.frames.specs.declared.role.Role.{Role}
 use Rattle.frames.specs.declared.role.Role.TheVariants.{Free, Table, Private, Cache}
@@ -25,10 +31,12 @@ use Rattle.paging.proofs.Setting.{view_seated, held_same}
 use Rattle.paging.proofs.LeafSteps.{cases_attr}
 use Rattle.mapping.proofs.SwapSteps.{ready_released}
 use Rattle.mapping.proofs.Spawning.{one_some}
-use Rattle.page_ranges.specs.Rows.{RemapsRow}
-use Rattle.page_ranges.specs.Steps.{KeepsDevices, KeepsEntriesOfOthers, ReturnsTables, ReturnsSlots, IsMappedBeside, IsWithoutTables}
+use Rattle.page_ranges.proofs.Emptied.{row_out}
+use Rattle.page_ranges.proofs.Named.{named-imp}
+use Rattle.page_ranges.specs.Rows.{KeepsNamed, RemapsRow, without_maps}
+use Rattle.page_ranges.specs.Steps.{KeepsDevices, KeepsEntriesOfOthers, ReturnsTables, LosesSlots, IsMappedBeside, IsWithoutTables}
 use Rattle.lifecycle.specs.Changes.{RemovesProcess, FreesTables, TakesNoCopy}
-use Rattle.lifecycle.proofs.Keeping.{live_same, files_then}
+use Rattle.lifecycle.proofs.Keeping.{live_same}
 
 -- a table of a process that no longer has tables for its pages is its root, or another process's
 module _ (c : Picture) (pid r : ℕ) (fit : IsFit c) (root : c.root pid ≡ Some r) (bare : IsWithoutTables c pid 0 (2 ^ 26)) where
@@ -130,14 +138,35 @@ pub record IsEnded (old new : Picture) (pid : ℕ) : Type 0 where
   pub removed : RemovesProcess old new pid
   pub others : KeepsEntriesOfOthers old new pid
   pub tables : FreesTables old new pid
-  pub slots : ReturnsSlots old new pid 0 (2 ^ 26)
+  pub slots : LosesSlots old new pid 0 (2 ^ 26)
   pub copies : TakesNoCopy old.frames new.frames
-  pub files : KeepsFiles old new
+  pub files : KeepsNamed (without_maps old.at pid 0 (2 ^ 26)) old new
 
 -- All pages of a process were cleared, and then it was removed.
 module _ (first old new : Picture) (pid r : ℕ) (begun : IsFit first) (fit : IsFit old) (row : RemapsRow first old pid 0 (2 ^ 26) (first.at pid))
     (beside : KeepsEntriesOfOthers first old pid) (returned : ReturnsTables first old pid) (bare : IsWithoutTables old pid 0 (2 ^ 26))
-    (slots : ReturnsSlots first old pid 0 (2 ^ 26)) (exits : Exits old new pid r) where
+    (slots : LosesSlots first old pid 0 (2 ^ 26)) (keeps : KeepsNamed (without_maps first.at pid 0 (2 ^ 26)) first old) (exits : Exits old new pid r) where
+  -- what others name is named still
+  named_left : (p : ObjectPage) → old.place (Object p) ≢ Home → is_named new.at p.object p.page ≡ true
+  named_left p away = elim (cases_Bool (is_named (without_maps first.at pid 0 (2 ^ 26)) p.object p.page)) [
+    | inr none ↦ absurd (away (keeps.gone p none))
+    | inl is ↦ named-imp (without_maps first.at pid 0 (2 ^ 26)) new.at p.object p.page (λ q k here. elim (cases_eq q pid) [
+      | inr ne ↦ ap (λ a. names a p.object p.page) (exits.at q k ne ∙ row.others_at q k ne) ∙ (let was : names (first.at q k) p.object p.page ≡ true = rw (ne_eqb q pid ne) at here in was)
+      | inl e ↦ absurd (none_beyond p q k e here)
+    ]) is
+  ] where
+    none_beyond : (p : ObjectPage) (q k : ℕ) → q ≡ pid → names (without_maps first.at pid 0 (2 ^ 26) q k) p.object p.page ≡ true → ⊥
+    none_beyond p q k e here = elim (cases_Bool (in_row 0 (2 ^ 26) k)) [
+      | inl inside ↦ (let bad : names None p.object p.page ≡ true = rw (eq-eqb q pid e, inside) at here in false≢true bad)
+      | inr out ↦ (
+          let was : names (first.at pid k) p.object p.page ≡ true = rw (eq-eqb q pid e, out) at here in
+          let high = row_out 0 (2 ^ 26) k out in
+          unmapped_named p (first.at pid k) was (λ some. (let low = ((begun.granting.user pid).user_pages k some).1 in elim high [ inl below ↦ omega (arith, below) | inr past ↦ omega (arith, past, low) ])))
+    ] where
+      unmapped_named : (p : ObjectPage) (a : Option Attr) → names a p.object p.page ≡ true → (IsSome a → ⊥) → ⊥
+      unmapped_named p None is none = false≢true is
+      unmapped_named p (Some a) is none = none refl
+
   was_root : first.root pid ≡ Some r
   was_root = sym (row.root pid) ∙ exits.lived
 
@@ -175,7 +204,7 @@ module _ (first old new : Picture) (pid r : ℕ) (begun : IsFit first) (fit : Is
   ended =
       let left = process_removed old new pid r fit exits in
       record {
-        fit = fit_left old new pid r fit exits;
+        fit = fit_left old new pid r fit exits named_left;
         removed = record {
           gone = left.gone;
           pages = left.pages;
@@ -199,18 +228,32 @@ module _ (first old new : Picture) (pid r : ℕ) (begun : IsFit first) (fit : Is
         slots = record {
           total = ap (λ t. t.total) exits.slots ∙ slots.total;
           fewer = (let P : SlotTable → Type 0 = λ t. (k : ℕ) → t.count k ≤ first.slots.count k in subst P (sym exits.slots) slots.fewer);
-          given = λ k page h low high is. (let P : SlotTable → Type 0 = λ t. t.count k + 1 ≡ first.slots.count k in subst P (sym exits.slots) (slots.given k page h low high is));
-          kept = λ k none. ap (λ t. t.count k) exits.slots ∙ slots.kept k none;
+          kept = λ k none no_object. ap (λ t. t.count k) exits.slots ∙ slots.kept k none no_object;
           bytes = (let P : SlotTable → Type 0 = λ t. (k : ℕ) → 0 < t.count k → t.bytes k ≡ first.slots.bytes k in subst P (sym exits.slots) slots.bytes);
         };
         copies = λ n e. elim (cases_eq n r) [
           | inl is ↦ absurd (let bad : Free ≡ Private = sym exits.free ∙ ap (role_of new.frames) (sym is) ∙ e in (cc))
           | inr ne ↦ returned.copies n (sym (role_same n ne) ∙ e)
         ];
-        files = files_then first old new row.files (files_ended old new pid r fit exits);
+        files = record {
+          touched = λ p lasting. exits.touched p ∙ keeps.touched p lasting;
+          place = λ p lasting. exits.place p ∙ keeps.place p lasting;
+          gone = λ p none. exits.place (Object p) ∙ keeps.gone p none;
+          files = λ f. exits.files f ∙ keeps.files f;
+          held = λ p lasting. elim (keeps.held p lasting) [
+            | inl same ↦ elim ((files_ended old new pid r fit exits).held p) [
+              | inl now ↦ inl (now ∙ same)
+              | inr home ↦ inr (home.0, sym (keeps.touched p lasting) ∙ home.1)
+            ]
+            | inr home ↦ elim ((files_ended old new pid r fit exits).held p) [
+              | inl now ↦ inr (now ∙ home.0, home.1)
+              | inr gone ↦ inr (gone.0, home.1)
+            ]
+          ];
+        };
       }
 
 module _ {D E : Type 0} (h : Ghosts E) where
   -- swap that was ready is, after a process went
-  pub ready_ended : (old new : Core D E) (pid low high : ℕ) → KeepsDevices old new → ReturnsSlots (picture_of old) (picture_of new) pid low high → IsReady h old.swap → IsReady h new.swap
+  pub ready_ended : (old new : Core D E) (pid low high : ℕ) → KeepsDevices old new → LosesSlots (picture_of old) (picture_of new) pid low high → IsReady h old.swap → IsReady h new.swap
   ready_ended old new pid low high devices slots ready = ready_released h old.swap old.swap new.swap refl devices.pages slots.total ready

@@ -1,6 +1,6 @@
 -- What steps keep of the processes and of the files.
 use Rattle.std.proofs.Common.{◌≡◌, ℕ, inl, inr, Option, Some, None, false, refl, sym, ap, ◌∙◌, subst}
-use Rattle.vm_types.specs.declared.file.FilePage.{FilePage}
+use Rattle.vm_types.specs.declared.object.PageKey.{PageKey}
 use Rattle.std.specs.Prelude.{is_some}
 use Rattle.std.proofs.lemmas.Bool.{false≢true}
 use Rattle.vm_types.specs.declared.number.FrameNo.{FrameNo}
@@ -46,7 +46,7 @@ no_copy_freed old new keep frees n is = elim (frees.roles n) [
 ]
 
 -- nothing is given up where frames, entries and places are the same
-pub gives_alike : (old new : Picture) → new.frames ≡ old.frames → ((q page : ℕ) → entry new q page ≡ entry old q page) → ((p : FilePage) → new.place p ≡ old.place p)
+pub gives_alike : (old new : Picture) → new.frames ≡ old.frames → ((q page : ℕ) → entry new q page ≡ entry old q page) → ((p : PageKey) → new.place p ≡ old.place p)
     → GivesForTables old new None
 gives_alike old new frames entries places = record {
   count = ap frame_count frames;

@@ -7,3 +7,4 @@ pub mod Shortage
 pub mod Copying
 pub mod Taking
 pub mod Stalling
+pub mod Unchanged

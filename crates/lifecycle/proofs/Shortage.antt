@@ -2,15 +2,17 @@
 use Rattle.std.proofs.Common.{◌≡◌, ◌≢◌, ℕ, zero, suc, inl, inr, ◌+◌, ◌*◌, ◌<◌, ◌^◌, Bool, true, false, if◌then◌else◌, Option, Some, None, is_some, List, refl, sym, ap, ◌∙◌, subst, arith}
 use Rattle.std.proofs.Math.Path.{fun_ext}
 use Rattle.std.proofs.lemmas.Bool.{cases_eq}
-use Rattle.vm_types.specs.Capacity.{tables_of, has_own}
+use Rattle.vm_types.specs.Capacity.{tables_of, has_own, object_page_limit}
+use Rattle.vm_types.specs.Limits.{object_limit}
+use Rattle.vm_types.specs.declared.object.PageKey.TheVariants.{File, Object}
 use Rattle.vm_types.specs.Counting.{any_below, count_below, sum_below}
 use Rattle.vm_types.specs.View.{View}
 use Rattle.vm_types.specs.declared.region.Attr.{Attr}
 use Rattle.vm_types.specs.declared.refusal.Stall.{Stall}
 use Rattle.vm_types.specs.declared.refusal.Stall.TheVariants.{NoFrames, NoSwap, SwapDevice, StoreDevice}
-use Rattle.vm_types.specs.declared.file.FilePage.{FilePage}
+use Rattle.vm_types.specs.declared.object.PageKey.{PageKey}
 use Rattle.paging.specs.Picture.{Picture, is_live, entry, view, view_of, own_in}
-use Rattle.paging.specs.Capacity.{IsShort, tables_over, copies_over}
+use Rattle.paging.specs.Capacity.{IsShort, tables_over, copies_over, touched_file, stored_object}
 use Rattle.paging.proofs.Counts.{count-same}
 use Rattle.paging.proofs.Tables.{sum-below}
 use Rattle.mapping.specs.Changes.{KeepsRoom}
@@ -49,21 +51,20 @@ tables_more live live' views views' pid d below dead lives here others same =
     (λ q ne. ap (λ b. if b then tables_of (views' q) else 0) (others q ne) ∙ ap (λ v. if live q then tables_of v else 0) (fun_ext (λ page. same q page ne)))
 
 -- own copies and touched pages are told by which pages have one
-copies_alike : (views views' : ℕ → ℕ → Option View) (touched touched' : ℕ → ℕ → Bool) → ((q page : ℕ) → has_own (views' q page) ≡ has_own (views q page))
-    → ((f k : ℕ) → touched' f k ≡ touched f k) → copies_over views' touched' ≡ copies_over views touched
+copies_alike : (views views' : ℕ → ℕ → Option View) (touched touched' stored stored' : ℕ → ℕ → Bool) → ((q page : ℕ) → has_own (views' q page) ≡ has_own (views q page))
+    → ((f k : ℕ) → touched' f k ≡ touched f k) → ((o k : ℕ) → stored' o k ≡ stored o k) → copies_over views' touched' stored' ≡ copies_over views touched stored
 unfolding copies_over
-copies_alike views views' touched touched' same same' =
+copies_alike views views' touched touched' stored stored' same same' same'' =
     let a = sum-below (λ q. count_below (λ page. has_own (views' q page)) (2 ^ 26)) (λ q. count_below (λ page. has_own (views q page)) (2 ^ 26)) 65 65 (omega arith)
     (λ q ne. count-same (λ page. has_own (views' q page)) (λ page. has_own (views q page)) (2 ^ 26) (same q)) in
     let b = sum-below (λ f. count_below (touched' f) (2 ^ 20)) (λ f. count_below (touched f) (2 ^ 20)) 64 64 (omega arith)
     (λ f ne. count-same (touched' f) (touched f) (2 ^ 20) (same' f)) in
-    omega (arith, a, b)
-
-abbrev touched_of : Picture → ℕ → ℕ → Bool
-touched_of c file page = c.touched (record { file = file; page = page })
+    let c = sum-below (λ o. count_below (stored' o) object_page_limit) (λ o. count_below (stored o) object_page_limit) object_limit object_limit (omega arith)
+    (λ o ne. count-same (stored' o) (stored o) object_page_limit (same'' o)) in
+    omega (arith, a, b, c)
 
 -- memory is short of less than a copy of a process wants
-pub short_before : (old new : Picture) (parent : ℕ) (stall : Stall) → KeepsProcesses old new → KeepsRoom old new → ((p : FilePage) → new.touched p ≡ old.touched p)
+pub short_before : (old new : Picture) (parent : ℕ) (stall : Stall) → KeepsProcesses old new → KeepsRoom old new → ((p : PageKey) → new.touched p ≡ old.touched p)
     → IsShort new stall → IsShortToFork old parent stall
 unfolding IsShort IsShortToFork
 short_before old new parent NoFrames keeps room touched short =
@@ -73,7 +74,7 @@ short_before old new parent NoFrames keeps room touched short =
     let frames = room.frames in
     omega (arith, frames, same, short)
 short_before old new parent NoSwap keeps room touched short =
-    let same = copies_alike (view old) (view new) (touched_of old) (touched_of new) (λ q page. ap has_own (keeps.views q page)) (λ f k. touched (record { file = f; page = k })) in
+    let same = copies_alike (view old) (view new) (touched_file old) (touched_file new) (stored_object old) (stored_object new) (λ q page. ap has_own (keeps.views q page)) (λ f k. touched (File (record { file = f; page = k }))) (λ o k. touched (Object (record { object = o; page = k }))) in
     let slots = room.slots in
     omega (arith, slots, same, short)
 short_before old new parent SwapDevice keeps room touched short = tt
@@ -91,7 +92,7 @@ some_mapped c pid page = some_view (own_in c.frames c.slots (entry c pid page)) 
 module _ (old new : Picture) (parent child : ℕ) (apart : parent ≢ child) (below : child < 65) (dead : is_live old child ≡ false) (lives : is_live new child ≡ true)
     (others_live : (q : ℕ) → q ≢ child → is_live new q ≡ is_live old q) (others : (q page : ℕ) → q ≢ child → view new q page ≡ view old q page)
     (same : (page : ℕ) → new.at child page ≡ new.at parent page) (none : (page : ℕ) → has_own (view new child page) ≡ false)
-    (was_none : (page : ℕ) → has_own (view old child page) ≡ false) (room : KeepsRoom old new) (touched : (p : FilePage) → new.touched p ≡ old.touched p) where
+    (was_none : (page : ℕ) → has_own (view old child page) ≡ false) (room : KeepsRoom old new) (touched : (p : PageKey) → new.touched p ≡ old.touched p) where
   tables_here : tables_of (view new child) ≡ tables_of (view old parent)
   tables_here = tables_alike (view new child) (view old parent) (λ page.
       some_mapped new child page ∙ ap (λ o. is_some o) (same page) ∙ sym (some_mapped new parent page) ∙ ap (λ o. is_some o) (others parent page apart))
@@ -109,7 +110,7 @@ module _ (old new : Picture) (parent child : ℕ) (apart : parent ≢ child) (be
       let frames = room.frames in
       omega (arith, frames, all, short)
   short_alike NoSwap short =
-      let all = copies_alike (view old) (view new) (touched_of old) (touched_of new) owned (λ f k. touched (record { file = f; page = k })) in
+      let all = copies_alike (view old) (view new) (touched_file old) (touched_file new) (stored_object old) (stored_object new) owned (λ f k. touched (File (record { file = f; page = k }))) (λ o k. touched (Object (record { object = o; page = k }))) in
       let slots = room.slots in
       omega (arith, slots, all, short)
   short_alike SwapDevice short = tt

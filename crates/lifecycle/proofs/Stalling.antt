@@ -1,7 +1,7 @@
 -- A fork that stalls: what it took of memory is given back.
 use Rattle.std.proofs.Common.{◌≡◌, ◌≢◌, ℕ, zero, suc, inl, inr, ◌⊎◌, ◌+◌, Option, Some, None, refl, sym, ap, ◌∙◌, subst, arith}
 use Rattle.std.proofs.lemmas.Bool.{cases_eq}
-use Rattle.vm_types.specs.declared.file.FilePage.{FilePage}
+use Rattle.vm_types.specs.declared.object.PageKey.{PageKey}
 use Rattle.frames.specs.declared.role.Role.{Role}
 use Rattle.frames.specs.declared.role.Role.TheVariants.{Free, Zero, Table, Private, Cache}
 use Rattle.frames.specs.FrameTable.{role_of, count_of, IsCountFor, IsFull, IsSound}
@@ -49,7 +49,7 @@ private_or Cache = inr (λ e. (cc))
 
 -- A process without entries went, and its tables with it.
 module _ (old new : Picture) (pid : ℕ) (fit : IsFit old) (fit' : IsFit new) (sound : IsSound old.frames) (sound' : IsSound new.frames) (tables : FreesTables old new pid)
-    (others : KeepsEntriesOfOthers old new pid) (bare : (page : ℕ) → IsPage 2 page → entry old pid page ≡ 0) (place : (p : FilePage) → new.place p ≡ old.place p)
+    (others : KeepsEntriesOfOthers old new pid) (bare : (page : ℕ) → IsPage 2 page → entry old pid page ≡ 0) (place : (p : PageKey) → new.place p ≡ old.place p)
     (room : KeepsRoom old new) where
   -- a frame of own copies has a sharer, which is another process
   private_left : (n : ℕ) → role_of old.frames n ≡ Private → role_of new.frames n ≡ Private

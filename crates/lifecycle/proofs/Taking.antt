@@ -1,7 +1,7 @@
 -- What a process that comes takes of memory: its tables, and what was given up for them.
 use Rattle.std.proofs.Common.{◌≡◌, ◌≢◌, ℕ, suc, inl, inr, ◌⊎◌, ◌^◌, true, false, ◌&&◌, Some, None, refl, sym, ap, ◌∙◌, subst, arith}
 use Rattle.std.proofs.lemmas.Bool.{cases_eq, cases_Bool, false≢true}
-use Rattle.vm_types.specs.declared.file.FilePage.{FilePage}
+use Rattle.vm_types.specs.declared.object.PageKey.{PageKey}
 use Rattle.frames.specs.FrameTable.{FrameTable, IsFull}
 use Rattle.sv39_walk.specs.Entry.{is_valid, is_accessed}
 use Rattle.page_tables.specs.Tree.{IsTable}
@@ -44,7 +44,7 @@ aged_none g e e' none (Left at gone leaves) = elim leaves [
 
 -- Before any page is shared. A process was made with table n for its root, mapped as its parent is, and then tables were linked.
 module _ (old spawned mapped mid : Picture) (parent child n : ℕ) (gives : GivesForTables old spawned None) (takes : TakesRoot old spawned child n)
-    (frames : mapped.frames ≡ spawned.frames) (places : (p : FilePage) → mapped.place p ≡ spawned.place p) (maps : MapsAlike spawned mapped parent child) (root : (q : ℕ) → mid.root q ≡ mapped.root q) (links : LinksCopies mapped mid parent child) where
+    (frames : mapped.frames ≡ spawned.frames) (places : (p : PageKey) → mapped.place p ≡ spawned.place p) (maps : MapsAlike spawned mapped parent child) (root : (q : ℕ) → mid.root q ≡ mapped.root q) (links : LinksCopies mapped mid parent child) where
   pub gives_mapped : GivesForTables old mapped None
   gives_mapped = gives_then old spawned mapped None gives (gives_alike spawned mapped frames maps.entries places)
 

@@ -11,7 +11,7 @@ use Rattle.sv39_walk.specs.Entry.{is_valid, can_write}
 use Rattle.page_tables.specs.Tree.{IsPage, IsTable, IsOnWay, missing_of}
 use Rattle.paging.specs.Seats.{seat, is_private}
 use Rattle.paging.specs.Picture.{Picture, is_live, is_data, entry, view}
-use Rattle.paging.specs.Capacity.{tables_over, copies_over}
+use Rattle.paging.specs.Capacity.{tables_over, copies_over, touched_file, stored_object}
 use Rattle.paging.specs.Shows.{KeepsFiles}
 use Rattle.paging.specs.Parts.{IsFit}
 use Rattle.paging.specs.Ages.{Ages, IsGiven, GivesForTables}
@@ -119,6 +119,6 @@ KeepsBareOfOthers old new pid = (q page : ℕ) → IsPage top_level page → q �
 -- copy, the zero page and one frame more fill memory; or the own copies and touched pages that there are don't go into swap.
 unfoldable pub IsShortToFork : Picture → ℕ → Stall → Type 0
 IsShortToFork c parent NoFrames = frame_count c.frames ≤ tables_over (is_live c) (view c) + tables_of (view c parent) + 2
-IsShortToFork c parent NoSwap = c.slots.total < copies_over (view c) (λ file page. c.touched (record { file = file; page = page }))
+IsShortToFork c parent NoSwap = c.slots.total < copies_over (view c) (touched_file c) (stored_object c)
 IsShortToFork c parent SwapDevice = Unit {0}
 IsShortToFork c parent StoreDevice = Unit {0}

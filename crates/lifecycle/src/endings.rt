@@ -3,17 +3,18 @@ ghost use Rattle.std.specs.Prelude.{◌≡◌, true};
 ghost use Rattle.vm_types.specs.Limits.{user_end};
 ghost use Rattle.paging.specs.Picture.{picture_of, is_live};
 ghost use Rattle.paging.specs.Parts.{IsFit};
-ghost use Rattle.paging.specs.Shows.{KeepsFiles};
+ghost use Rattle.page_ranges.specs.Rows.{KeepsNamed, without_maps};
 ghost use Rattle.mapping.specs.Changes.{KeepsRoom};
-ghost use Rattle.page_ranges.specs.Steps.{KeepsDevices, KeepsEntriesOfOthers, ReturnsSlots};
+ghost use Rattle.page_ranges.specs.Steps.{KeepsDevices, KeepsEntriesOfOthers, LosesSlots};
 ghost use Rattle.lifecycle.specs.Changes.{RemovesProcess, FreesTables, TakesNoCopy};
 
-use page_ranges::clear_row;
+use page_ranges::{clear_row, forget_row};
 use paging::Core;
 use vm_types::{Pid, USER_END};
 
 /// Ends a live process: its own copies are lost, in frames and in slots, its tables are free, and so is its number (exit(2)).
-/// File pages that it stored to stay touched, with their bytes (mmap(2), `MAP_SHARED`). No device is asked.
+/// File pages that it stored to stay touched, with their bytes (mmap(2), `MAP_SHARED`), and so do pages of objects that another
+/// process names. No device is asked.
 pub fn exit<D, E>(core: &mut Core<D, E>, pid: Pid)
     requires fit { IsFit (picture_of core.old) }
     requires live { is_live (picture_of core.old) pid ≡ true }
@@ -21,14 +22,14 @@ pub fn exit<D, E>(core: &mut Core<D, E>, pid: Pid)
     ensures removed { RemovesProcess (picture_of core.old) (picture_of core.new) pid }
     ensures others { KeepsEntriesOfOthers (picture_of core.old) (picture_of core.new) pid }
     ensures tables { FreesTables (picture_of core.old) (picture_of core.new) pid }
-    ensures slots { ReturnsSlots (picture_of core.old) (picture_of core.new) pid 0 user_end }
+    ensures slots { LosesSlots (picture_of core.old) (picture_of core.new) pid 0 user_end }
     ensures copies { TakesNoCopy core.old.frames core.new.frames }
-    ensures files { KeepsFiles (picture_of core.old) (picture_of core.new) }
+    ensures files { KeepsNamed (without_maps (picture_of core.old).at pid 0 user_end) (picture_of core.old) (picture_of core.new) }
     ensures room { KeepsRoom (picture_of core.old) (picture_of core.new) }
     ensures devices { KeepsDevices core.old core.new }
-    ensures cache { core.new.cache ≡ core.old.cache }
     ensures refused { core.new.refused ≡ core.old.refused }
 {
     clear_row(core, pid, 0, USER_END);
+    forget_row(core, pid, 0, USER_END);
     core.remove_process(pid);
 }

@@ -15,7 +15,7 @@ use Rattle.vm_types.specs.declared.refusal.Errno.{Errno}
 use Rattle.vm_types.specs.declared.refusal.Errno.TheVariants.{ESRCH}
 use Rattle.vm_types.specs.declared.refusal.Fault.{Fault}
 use Rattle.vm_types.specs.declared.region.Backing.{Backing}
-use Rattle.vm_types.specs.declared.region.Backing.TheVariants.{Anon, Private, Shared}
+use Rattle.vm_types.specs.declared.region.Backing.TheVariants.{Anon, Private, Shared, Common}
 use Rattle.vm_types.specs.declared.reply.Answer.{Answer}
 use Rattle.vm_types.specs.declared.reply.Answer.TheVariants as Answers
 use Rattle.vm_types.specs.declared.reply.Reply.{Reply}
@@ -56,6 +56,7 @@ bytes_live : (s : State) (pid page q : ℕ) (view : View) (backing : Backing) (b
 bytes_live s pid page q view Anon bytes = refl
 bytes_live s pid page q view (Private p) bytes = refl
 bytes_live s pid page q view (Shared p) bytes = refl
+bytes_live s pid page q view (Common p) bytes = refl
 
 pub store_live : (s : State) (pid addr q : ℕ) (value : StoredValue) (v : Verdict) → (store_outcome s pid addr value v).state.live q ≡ s.live q
 store_live s pid addr q value (Faults code) = refl
@@ -73,8 +74,8 @@ faults_live s pid x fault same =
 
 module _ {D E : Type 0} (g : Ghosts D) (h : Ghosts E) where
   machine_is : (m : Machine D E) (core : Core D E) (halted : Bool) (past : Past) → m.core ≡ core → m.halted ≡ halted → m.past ≡ past
-      → ◌≡◌ {A = Machine D E} (record { core = core; halted = halted; past = past }) m
-  machine_is m core halted past a b c = λ t. record { core = sym a t; halted = sym b t; past = sym c t }
+      → ◌≡◌ {A = Machine D E} (record { core = core; halted = halted; past = past; sync_room = tt; region_room = tt }) m
+  machine_is m core halted past a b c = λ t. record { core = sym a t; halted = sym b t; past = sym c t; sync_room = tt; region_room = tt }
 
   lives : (old core : Core D E) (s : State) (command : Command) (reply : Reply) (pid : ℕ) → Calls.Comes g h old core s command reply
       → ((fault : Fault) → (outcome s command).reply ≡ Faulted fault → (outcome s command).state.live pid ≡ true)
@@ -92,7 +93,7 @@ module _ {D E : Type 0} (g : Ghosts D) (h : Ghosts E) where
       → (((fault : Fault) → reply ≡ Faulted fault → is_live (picture_of core) pid ≡ true) → new.past ≡ past_after command reply old.past)
       → (t : State) × Meets g h old new s t command result
   accessed only_now old new core s command reply result pid shows run none reads device idle room asks carries honest living same core_is halted_is noted =
-      let readable : IsReadable g h (record { core = core; halted = old.halted; past = past_after command reply old.past }) s command = record {
+      let readable : IsReadable g h (record { core = core; halted = old.halted; past = past_after command reply old.past; sync_room = tt; region_room = tt }) s command = record {
         files = λ r. subst (λ (k : Core D E). g.keeps_model k.store.disk) core_is (honest.files r);
         slots = λ r. subst (λ (k : Core D E). h.keeps_model k.swap.pages.disk) core_is (honest.slots r);
       } in

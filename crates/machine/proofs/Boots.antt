@@ -12,7 +12,8 @@ use Rattle.file_store.specs.declared.faults.OpenFault.{OpenFault}
 use Rattle.file_store.specs.declared.faults.OpenFault.TheVariants.{Device as StoreDevice, BadLayout as StoreLayout, BadJournal as StoreJournal}
 use Rattle.file_store.specs.declared.store.FileStore.{FileStore}
 use Rattle.page_cache.specs.declared.place.Place.TheVariants.{Home}
-use Rattle.vm_types.specs.declared.file.FilePage.{FilePage}
+use Rattle.vm_types.specs.declared.object.PageKey.{PageKey}
+use Rattle.vm_types.specs.declared.object.PageKey.TheVariants.{File, Object}
 use Rattle.paging.specs.Calls.{IsStart}
 use Rattle.paging.specs.Picture.{Picture, picture_of, view, held}
 use Rattle.paging.specs.Shows.{ShowsPages}
@@ -96,7 +97,7 @@ unfolding view
 unmapped c pid page none = rw none refl
 
 -- what is at home is not in memory
-at_home : (c : Picture) (p : FilePage) (bytes : List ℕ) → c.place p ≡ Home → held c p ≡ Some bytes → ⊥
+at_home : (c : Picture) (p : PageKey) (bytes : List ℕ) → c.place p ≡ Home → held c p ≡ Some bytes → ⊥
 unfolding held
 at_home c p bytes home is = let never : None ≡ Some bytes = sym (rw home refl) ∙ is in cc
 
@@ -110,6 +111,7 @@ module _ {D E : Type 0} (g : Ghosts D) (h : Ghosts E) where
     volatile = standing_page image;
     durable = standing_page image;
     touched = λ file page. false;
+    objects = λ object page. None;
     past = [];
     ends = None;
   }
@@ -128,8 +130,10 @@ module _ {D E : Type 0} (g : Ghosts D) (h : Ghosts E) where
     live = λ pid. sym (ap is_some (fresh.none pid));
     views = λ pid page. sym (unmapped (picture_of m.core) pid page (rw (fresh.none pid) refl));
     files = λ f. refl;
-    touched = λ p. sym (fresh.untouched p);
-    held = λ p bytes e. absurd (at_home (picture_of m.core) p bytes (fresh.at_home p) e);
+    touched = λ p. sym (fresh.untouched (File p));
+    objects = λ p. sym (rw (fresh.untouched (Object p)) refl);
+    blank = λ p bytes untouched e. absurd (at_home (picture_of m.core) (Object p) bytes (fresh.at_home (Object p)) e);
+    held = λ p bytes e. absurd (at_home (picture_of m.core) (File p) bytes (fresh.at_home (File p)) e);
     clean = λ p e inside. refl;
   }
 
@@ -152,6 +156,7 @@ module _ {D E : Type 0} (g : Ghosts D) (h : Ghosts E) where
       views = λ pid page. refl;
       same = λ file page. refl;
       touched = λ file page. refl;
+      objects = λ object page. refl;
       past = refl;
       running = refl;
     };

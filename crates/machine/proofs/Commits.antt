@@ -69,7 +69,7 @@ row_refuses : (s : State) (pid first count : ℕ) (mode : MsyncMode) → Refuses
 row_refuses s pid first count Async = tt
 row_refuses s pid first count Sync =
     let n = touched_count s pid first count in
-    either_ruling (nat_lt 127 n) (Refuses ENOSPC) (if n == 0 then Passes else Takes pid first count) refl
+    either_ruling (nat_lt 1023 n) (Refuses ENOSPC) (if n == 0 then Passes else Takes pid first count) refl
     (either_ruling (n == 0) Passes (Takes pid first count) tt tt)
 
 msync_refuses : (s : State) (pid addr len : ℕ) (mode : MsyncMode) → RefusesOnly (msync_ruling s pid addr len mode)
@@ -153,10 +153,10 @@ module _ {D E : Type 0} (g : Ghosts D) (h : Ghosts E) where
       → Shows g h old s → IsRunning s → KeepsRoom (picture_of old.core) (picture_of core) → UsesDevice h old.core.swap.pages.disk core.swap.pages.disk → commits s (Msync pid addr len mode) ≡ Some after
       → LosesDirtyOnly (picture_of old.core) (picture_of core) → (back : GivesBack g h old.core core pid addr len) → Commits g h (GivesBack g h old.core core pid addr len) old.core core s after (Msync pid addr len mode) reply → reply ≡ Done
       → Syncing.Shows g core (outcome s (Msync pid addr len mode)).state
-      → (t : State) × Meets g h old (record { core = core; halted = false; past = old.past }) s t (Msync pid addr len mode) reply
+      → (t : State) × Meets g h old (record { core = core; halted = false; past = old.past; sync_room = tt; region_room = tt }) s t (Msync pid addr len mode) reply
   commit_done old core s pid addr len mode reply after shows run room device commit loses back made done now =
       let x = Msync pid addr len mode in
-      let new : Machine D E = record { core = core; halted = false; past = old.past } in
+      let new : Machine D E = record { core = core; halted = false; past = old.past; sync_room = tt; region_room = tt } in
       let n = g.sector_count old.core.store.disk in
       let t = noted x reply (outcome s x).state in
       let all = outcome_keeps s x in
@@ -188,10 +188,10 @@ module _ {D E : Type 0} (g : Ghosts D) (h : Ghosts E) where
       → Shows g h old s → IsRunning s → KeepsRoom (picture_of old.core) (picture_of core) → UsesDevice h old.core.swap.pages.disk core.swap.pages.disk → commits s (Msync pid addr len mode) ≡ Some after
       → LosesDirtyOnly (picture_of old.core) (picture_of core) → (back : GivesBack g h old.core core pid addr len) → Commits g h (GivesBack g h old.core core pid addr len) old.core core s after (Msync pid addr len mode) reply → reply ≡ Refused EIO
       → g.failures old.core.store.disk < g.failures core.store.disk → KeepsMemory old.core core
-      → (t : State) × Meets g h old (record { core = core; halted = true; past = old.past }) s t (Msync pid addr len mode) reply
+      → (t : State) × Meets g h old (record { core = core; halted = true; past = old.past; sync_room = tt; region_room = tt }) s t (Msync pid addr len mode) reply
   commit_failed counts_now old core s pid addr len mode reply after shows run room device commit loses back made failed grew memory =
       let x = Msync pid addr len mode in
-      let new : Machine D E = record { core = core; halted = true; past = old.past } in
+      let new : Machine D E = record { core = core; halted = true; past = old.past; sync_room = tt; region_room = tt } in
       let n = g.sector_count old.core.store.disk in
       let t = halted s after in
       let pages : ShowsPages (picture_of old.core) t = record {
@@ -199,6 +199,8 @@ module _ {D E : Type 0} (g : Ghosts D) (h : Ghosts E) where
         views = shows.pages.views;
         files = shows.pages.files;
         touched = shows.pages.touched;
+        objects = shows.pages.objects;
+        blank = shows.pages.blank;
         held = shows.pages.held;
         clean = shows.pages.clean;
       } in
@@ -235,10 +237,10 @@ module _ {D E : Type 0} (g : Ghosts D) (h : Ghosts E) where
       → Commits g h (GivesBack g h old.core core pid addr len) old.core core s after (Msync pid addr len mode) reply → reply ≡ Stalled SwapDevice
       → h.failures old.core.swap.pages.disk < h.failures core.swap.pages.disk → Syncing.Shows g core s
       → (g.keeps_model core.store.disk → LeavesOnly g old.core.store.disk core.store.disk (StandsFor (g.sector_count old.core.store.disk) s.files s.durable))
-      → (t : State) × Meets g h old (record { core = core; halted = false; past = old.past }) s t (Msync pid addr len mode) reply
+      → (t : State) × Meets g h old (record { core = core; halted = false; past = old.past; sync_room = tt; region_room = tt }) s t (Msync pid addr len mode) reply
   commit_unread old core s pid addr len mode reply after shows run room device commit loses made stalled grew now only =
       let x = Msync pid addr len mode in
-      let new : Machine D E = record { core = core; halted = false; past = old.past } in
+      let new : Machine D E = record { core = core; halted = false; past = old.past; sync_room = tt; region_room = tt } in
       let n = g.sector_count old.core.store.disk in
       let meets : Meets g h old new s s x reply = record {
         step = Stalls SwapDevice run
@@ -279,7 +281,7 @@ module _ {D E : Type 0} (g : Ghosts D) (h : Ghosts E) where
   pub msync_halts : (counts_now : CountsNow) (old : Machine D E) (core : Core D E) (s : State) (pid addr len : ℕ) (mode : MsyncMode) (reply : Reply)
       → Shows g h old s → old.halted ≡ false → KeepsRoom (picture_of old.core) (picture_of core) → UsesDevice h old.core.swap.pages.disk core.swap.pages.disk
       → (Syncing.Shows g old.core s → Msynced old.core core s pid addr len mode reply)
-      → reply ≡ Refused EIO → (t : State) × Meets g h old (record { core = core; halted = true; past = old.past }) s t (Msync pid addr len mode) reply
+      → reply ≡ Refused EIO → (t : State) × Meets g h old (record { core = core; halted = true; past = old.past; sync_room = tt; region_room = tt }) s t (Msync pid addr len mode) reply
   msync_halts counts_now old core s pid addr len mode reply shows live room device said e =
       let x = Msync pid addr len mode in
       let run = is_running g h old s shows live in
@@ -287,7 +289,7 @@ module _ {D E : Type 0} (g : Ghosts D) (h : Ghosts E) where
       ⊎_elim (λ none. absurd (never_fails s pid addr len mode (sym (told.passes none).0 ∙ e)))
       (λ (some : (after : Pages) × (commits s x ≡ Some after)).
       let made = told.commits_so some.0 some.1 in
-      elim made.end as (λ _. (t : State) × Meets g h old (record { core = core; halted = true; past = old.past }) s t x reply) [
+      elim made.end as (λ _. (t : State) × Meets g h old (record { core = core; halted = true; past = old.past; sync_room = tt; region_room = tt }) s t x reply) [
         | Acknowledged done pages now sound ↦ absurd (let never : Done ≡ Refused EIO = sym done ∙ e in cc)
         | Failed failed grew memory ↦ commit_failed counts_now old core s pid addr len mode reply some.0 shows run room device some.1 told.loses (told.back some.0 some.1) made e grew memory
         | Unread stalled grew memory now sound only ↦ absurd (let never : Stalled SwapDevice ≡ Refused EIO = sym stalled ∙ e in cc)
@@ -298,7 +300,7 @@ module _ {D E : Type 0} (g : Ghosts D) (h : Ghosts E) where
   pub msync_goes_on : (only_now : OnlyNow g h) (old : Machine D E) (core : Core D E) (s : State) (pid addr len : ℕ) (mode : MsyncMode) (reply : Reply)
       → Shows g h old s → old.halted ≡ false → KeepsRoom (picture_of old.core) (picture_of core) → UsesDevice h old.core.swap.pages.disk core.swap.pages.disk
       → (Syncing.Shows g old.core s → Msynced old.core core s pid addr len mode reply)
-      → (reply ≡ Refused EIO → ⊥) → (t : State) × Meets g h old (record { core = core; halted = false; past = old.past }) s t (Msync pid addr len mode) reply
+      → (reply ≡ Refused EIO → ⊥) → (t : State) × Meets g h old (record { core = core; halted = false; past = old.past; sync_room = tt; region_room = tt }) s t (Msync pid addr len mode) reply
   msync_goes_on only_now old core s pid addr len mode reply shows live room device said otherwise =
       let x = Msync pid addr len mode in
       let run = is_running g h old s shows live in
@@ -312,7 +314,7 @@ module _ {D E : Type 0} (g : Ghosts D) (h : Ghosts E) where
       answered g h only_now old core false old.past s x reply shows live refl stays.1 refl (unread g h old.core.store core.store keeps.store) device (λ _. keeps) room told.loses (Calls.Does (told.passes none).0 pages))
       (λ (some : (after : Pages) × (commits s x ≡ Some after)).
       let made = told.commits_so some.0 some.1 in
-      elim made.end as (λ _. (t : State) × Meets g h old (record { core = core; halted = false; past = old.past }) s t x reply) [
+      elim made.end as (λ _. (t : State) × Meets g h old (record { core = core; halted = false; past = old.past; sync_room = tt; region_room = tt }) s t x reply) [
         | Acknowledged done pages now sound ↦ commit_done old core s pid addr len mode reply some.0 shows run room device some.1 told.loses (told.back some.0 some.1) made done (now (told.back some.0 some.1))
         | Failed failed grew memory ↦ absurd (otherwise failed)
         | Unread stalled grew memory now sound only ↦ commit_unread old core s pid addr len mode reply some.0 shows run room device some.1 told.loses made stalled grew now only
@@ -324,7 +326,7 @@ module _ {D E : Type 0} (g : Ghosts D) (h : Ghosts E) where
       → Shows g h old s → old.halted ≡ false → KeepsRoom (picture_of old.core) (picture_of core) → UsesDevice h old.core.swap.pages.disk core.swap.pages.disk
       → (Syncing.Shows g old.core s → Msynced old.core core s pid addr len mode reply)
       → (stops ≡ true → reply ≡ Refused EIO) → (stops ≡ false → reply ≡ Refused EIO → ⊥)
-      → (t : State) × Meets g h old (record { core = core; halted = stops; past = old.past }) s t (Msync pid addr len mode) reply
+      → (t : State) × Meets g h old (record { core = core; halted = stops; past = old.past; sync_room = tt; region_room = tt }) s t (Msync pid addr len mode) reply
   msync_meets only_now counts_now old core true s pid addr len mode reply shows live room device said failed otherwise =
       msync_halts counts_now old core s pid addr len mode reply shows live room device said (failed refl)
   msync_meets only_now counts_now old core false s pid addr len mode reply shows live room device said failed otherwise =

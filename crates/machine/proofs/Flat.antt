@@ -133,14 +133,14 @@ module _ {D E : Type 0} (g : Ghosts D) (h : Ghosts E) where
 
   -- memory knows nothing of the history
   pub with_past : (c : Picture) (s : State) (past : Past) → ShowsPages c s → ShowsPages c (record s { past = past })
-  with_past c s past shows = record { live = shows.live; views = shows.views; files = shows.files; touched = shows.touched; held = shows.held; clean = shows.clean }
+  with_past c s past shows = record { live = shows.live; views = shows.views; files = shows.files; touched = shows.touched; objects = shows.objects; blank = shows.blank; held = shows.held; clean = shows.clean }
 
   -- the state after it, where the store was only read
   module _ (only_now : OnlyNow) (old : Machine D E) (core : Core D E) (past : Past) (s : State) (command : Command) (reply : Reply)
       (shows : Shows g h old s) (run : old.halted ≡ false) (reads : ReadsStore g old.core.store core.store) (device : UsesDevice h old.core.swap.pages.disk core.swap.pages.disk)
       (kept_past : past ≡ past_after command reply old.past) (idle : is_idle s command reply ≡ true → KeepsDevices old.core core) (room : KeepsRoom (picture_of old.core) (picture_of core)) (accesses : Accesses old.core core command reply) where
     abbrev new : Machine D E
-    new = record { core = core; halted = false; past = past }
+    new = record { core = core; halted = false; past = past; sync_room = tt; region_room = tt }
 
     abbrev n : ℕ
     n = g.sector_count old.core.store.disk
@@ -247,9 +247,9 @@ module _ {D E : Type 0} (g : Ghosts D) (h : Ghosts E) where
       → Shows g h old s → old.halted ≡ false → halted ≡ false → takes s (ruling s command) s.durable ≡ s.durable
       → past ≡ past_after command reply old.past → ReadsStore g old.core.store core.store → UsesDevice h old.core.swap.pages.disk core.swap.pages.disk
       → (is_idle s command reply ≡ true → KeepsDevices old.core core) → KeepsRoom (picture_of old.core) (picture_of core) → Accesses old.core core command reply → Calls.Comes g h old.core core s command reply
-      → (t : State) × Meets g h old (record { core = core; halted = halted; past = past }) s t command reply
+      → (t : State) × Meets g h old (record { core = core; halted = halted; past = past; sync_room = tt; region_room = tt }) s t command reply
   answered only_now old core halted past s command reply shows run goes_on none kept_past reads device idle room accesses comes =
-      subst (λ (b : Bool). (t : State) × Meets g h old (record { core = core; halted = b; past = past }) s t command reply) (sym goes_on)
+      subst (λ (b : Bool). (t : State) × Meets g h old (record { core = core; halted = b; past = past; sync_room = tt; region_room = tt }) s t command reply) (sym goes_on)
       (read_meets only_now old core past s command reply shows run reads device kept_past idle room accesses none comes)
 
   -- what a call says of a machine that runs
@@ -257,8 +257,8 @@ module _ {D E : Type 0} (g : Ghosts D) (h : Ghosts E) where
       → Shows g h old s → old.halted ≡ false → halted ≡ false → takes s (ruling s command) s.durable ≡ s.durable
       → past ≡ past_after command reply old.past → ReadsStore g old.core.store core.store → UsesDevice h old.core.swap.pages.disk core.swap.pages.disk
       → (is_idle s command reply ≡ true → KeepsDevices old.core core) → KeepsRoom (picture_of old.core) (picture_of core) → Accesses old.core core command reply → Calls.Carries g h old.core core command reply
-      → IsReadable g h (record { core = core; halted = halted; past = past }) s command
-      → (t : State) × Meets g h old (record { core = core; halted = halted; past = past }) s t command reply
+      → IsReadable g h (record { core = core; halted = halted; past = past; sync_room = tt; region_room = tt }) s command
+      → (t : State) × Meets g h old (record { core = core; halted = halted; past = past; sync_room = tt; region_room = tt }) s t command reply
   carried only_now old core halted past s command reply shows run goes_on none kept_past reads device idle room accesses carries readable =
       answered only_now old core halted past s command reply shows run goes_on none kept_past reads device idle room accesses
       (carries s (shows_core old s shows (is_running old s shows run)) readable.files readable.slots)

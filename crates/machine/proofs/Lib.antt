@@ -7,3 +7,4 @@ pub mod Flat
 pub mod Outcomes
 pub mod Runs
 pub mod Steps
+pub mod Tidied

@@ -8,7 +8,7 @@ use Rattle.vm_types.specs.declared.permission.Prot.{Prot}
 use Rattle.vm_types.specs.declared.refusal.Errno.{Errno}
 use Rattle.vm_types.specs.declared.refusal.Errno.TheVariants.{EIO}
 use Rattle.vm_types.specs.declared.region.Backing.{Backing}
-use Rattle.vm_types.specs.declared.region.Backing.TheVariants.{Anon, Private, Shared}
+use Rattle.vm_types.specs.declared.region.Backing.TheVariants.{Anon, Private, Shared, Common}
 use Rattle.vm_types.specs.declared.reply.Reply.{Reply}
 use Rattle.vm_types.specs.declared.refusal.Stall.{Stall}
 use Rattle.vm_types.specs.declared.reply.Reply.TheVariants.{Done, Refused, Stalled, Halted}
@@ -87,6 +87,7 @@ keeps_bytes : (s : State) (pid page : ℕ) (view : View) (backing : Backing) (by
 keeps_bytes s pid page view Anon bytes = record { files = refl; ends = refl; durable_is = refl; past = refl }
 keeps_bytes s pid page view (Private p) bytes = record { files = refl; ends = refl; durable_is = refl; past = refl }
 keeps_bytes s pid page view (Shared p) bytes = record { files = refl; ends = refl; durable_is = refl; past = refl }
+keeps_bytes s pid page view (Common p) bytes = record { files = refl; ends = refl; durable_is = refl; past = refl }
 
 keeps_store : (s : State) (pid addr : ℕ) (value : StoredValue) (v : Verdict) → Keeps s (store_outcome s pid addr value v).state s.durable
 keeps_store s pid addr value (Faults code) = same s

@@ -22,12 +22,13 @@ pub record HasRoom {D E : Type 0} (m : Machine D E) (config : Config) : Type 0 w
   pub frames : frame_count m.core.frames ≡ config.frames
   pub slots : (slots_of m.core.swap).total ≡ config.slots
 
--- The flat model as it starts: no process, and files of which nothing was stored to.
+-- The flat model as it starts: no process, files of which nothing was stored to, and no objects.
 pub record IsBootState (s : State) : Type 0 where
   pub live : (pid : ℕ) → s.live pid ≡ false
   pub views : (pid page : ℕ) → s.views pid page ≡ None
   pub same : (file page : ℕ) → s.volatile file page ≡ s.durable file page
   pub touched : (file page : ℕ) → s.touched file page ≡ false
+  pub objects : (object page : ℕ) → s.objects object page ≡ None
   pub past : s.past ≡ []
   pub running : IsRunning s
 

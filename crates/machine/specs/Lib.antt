@@ -4,3 +4,4 @@ pub mod Chain
 pub mod Counts
 pub mod Fault
 pub mod Machine
+pub mod Tidy

@@ -10,6 +10,7 @@ ghost use Rattle.machine.specs.Fault.{fault_number, boot_fault};
 
 use crate::fault_log::FaultLog;
 use crate::machine::Machine;
+use calls::{RegionRoom, SyncRoom};
 use disk_model::SectorDisk;
 use file_store::{FileStore, OpenFault};
 use paging::Core;
@@ -156,6 +157,8 @@ impl<D: SectorDisk, E: SectorDisk + Drop> Machine<D, E> {
                 core,
                 halted: false,
                 past,
+                sync_room: SyncRoom::new(),
+                region_room: RegionRoom::new(),
             }),
             Err((_, store)) => Err((BootFault::OutOfMemory, store.into_disk())),
         }

@@ -1,6 +1,6 @@
 //! The machine: commands in, replies out, over a store that survives stops.
 ghost use Rattle.std.specs.Prelude.{◌≡◌, ◌≤◌, ◌<◌, length, is_some, true};
-ghost use Rattle.vm_types.specs.State.{State};
+ghost use Rattle.vm_types.specs.State.{State, IsRunning};
 ghost use Rattle.machine.specs.Machine.{IsCaused, IsSoundMachine, IsReadable, Shows, Meets};
 ghost use Rattle.mapping.specs.Changes.{KeepsRoom};
 ghost use Rattle.paging.specs.Parts.{IsFit};
@@ -10,8 +10,10 @@ ghost use Rattle.vm_types.specs.Step.{noted_fault};
 ghost use Rattle.vm_types.specs.declared.refusal.Fault.{Fault};
 ghost use Rattle.machine.specs.Chain.{Caused, Runs};
 ghost use Rattle.machine.specs.Counts.{Counts};
+ghost use Rattle.machine.specs.Tidy.{IsTidy};
 
 use crate::fault_log::FaultLog;
+use calls::{RegionRoom, SyncRoom};
 use disk_model::SectorDisk;
 use paging::Core;
 use vm_types::{Answer, Command, History, Reply};
@@ -27,6 +29,10 @@ pub struct Machine<D, E> {
     pub(crate) halted: bool,
     /// The last faults of accesses.
     pub(crate) past: FaultLog,
+    /// Where msyncs keep their pages.
+    pub(crate) sync_room: SyncRoom,
+    /// Where calls put the regions that a process gets.
+    pub(crate) region_room: RegionRoom,
 }
 
 impl<D: SectorDisk, E: SectorDisk> Machine<D, E> {
@@ -70,6 +76,7 @@ impl<D: SectorDisk, E: SectorDisk> Machine<D, E> {
             return Some(Answer::Halted);
         }
         let core = &mut self.core;
+        let room = &mut self.region_room;
         match command {
             Command::Spawn => Some(calls::spawn(core)),
             Command::Fork { pid } => Some(calls::fork(core, pid)),
@@ -81,14 +88,14 @@ impl<D: SectorDisk, E: SectorDisk> Machine<D, E> {
                 prot,
                 source,
                 placing,
-            } => Some(calls::mmap(core, pid, addr, len, prot, source, placing)),
-            Command::Munmap { pid, addr, len } => Some(calls::munmap(core, pid, addr, len)),
+            } => Some(calls::mmap(core, room, pid, addr, len, prot, source, placing)),
+            Command::Munmap { pid, addr, len } => Some(calls::munmap(core, room, pid, addr, len)),
             Command::Mprotect {
                 pid,
                 addr,
                 len,
                 prot,
-            } => Some(calls::mprotect(core, pid, addr, len, prot)),
+            } => Some(calls::mprotect(core, room, pid, addr, len, prot)),
             Command::Msync {
                 pid,
                 addr,
@@ -127,10 +134,10 @@ impl<D: SectorDisk, E: SectorDisk> Machine<D, E> {
 
     /// Carries out one command. It takes no memory of the host. A command that would succeed may stall, and then has
     /// changed nothing that a process or a file shows: `NoFrames` only where memory has fewer frames than the tables of the
-    /// state after it and three more, `NoSwap` only where there are fewer slots than pages that processes have of their own and
-    /// touched file pages, `SwapDevice` and `StoreDevice` only where that device failed in this call. Where the store fails
-    /// in an msync it returns `EIO`, only where the device failed in this call, and the machine halts: from then on every
-    /// command returns `Halted`.
+    /// state after it and three more, `NoSwap` only where there are fewer slots than pages that processes have of their own,
+    /// touched file pages and stored pages of shared anonymous memory, `SwapDevice` and `StoreDevice` only where that device
+    /// failed in this call. Where the store fails in an msync it returns `EIO`, only where the device failed in this call, and
+    /// the machine halts: from then on every command returns `Halted`.
     pub fn step(&mut self, command: Command) -> Reply
         requires sound { IsSoundMachine D.SectorDisk E.SectorDisk self.old }
         ensures sound { IsSoundMachine D.SectorDisk E.SectorDisk self.new }
@@ -140,6 +147,8 @@ impl<D: SectorDisk, E: SectorDisk> Machine<D, E> {
         ensures caused { IsCaused D.SectorDisk E.SectorDisk self.old self.new result }
         ensures meets { (s : State) → Shows D.SectorDisk E.SectorDisk self.old s → IsReadable D.SectorDisk E.SectorDisk self.new s command
             → (t : State) × Meets D.SectorDisk E.SectorDisk self.old self.new s t command result }
+        // No bytes are kept of shared anonymous memory that no process has.
+        ensures tidy { (s : State) → Shows D.SectorDisk E.SectorDisk self.new s → IsRunning s → IsTidy s }
     {
         match self.carry_out(command) {
             Some(answer) => answer.reply(),

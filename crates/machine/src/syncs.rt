@@ -25,7 +25,7 @@ impl<D: SectorDisk, E: SectorDisk> Machine<D, E> {
         ensures meets { (s : State) → Shows D.SectorDisk E.SectorDisk self.old s → IsReadable D.SectorDisk E.SectorDisk self.new s (Msync pid addr len mode)
             → (t : State) × Meets D.SectorDisk E.SectorDisk self.old self.new s t (Msync pid addr len mode) (reply_of result) }
     {
-        let answer = calls::msync(&mut self.core, pid, addr, len, mode);
+        let answer = calls::msync(&mut self.core, &mut self.sync_room, pid, addr, len, mode);
         self.halted = answer == Answer::Refused(Errno::EIO);
         answer
     }

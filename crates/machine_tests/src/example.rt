@@ -16,7 +16,7 @@ use vm_types::{Command, MapSource, MsyncMode, Placing, Prot, Reply, StoredValue,
 
 /// A device with a store of one file, of one page of zeros.
 fn formatted(alloc: Global) -> Result<SimDisk, Fail> {
-    let mut disk = SimDisk::new(alloc, 1020 + 8)?;
+    let mut disk = SimDisk::new(alloc, 8195 + 8)?;
     let mut files: [FileSource<&[u8]>; 1] = [FileSource {
         read_only: false,
         length: 4096,

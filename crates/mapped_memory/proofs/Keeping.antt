@@ -1,13 +1,12 @@
 -- Which changes of memory leave a leaf where it was.
-use Rattle.std.proofs.Common.{◌≡◌, ◌≢◌, ℕ, suc, ◌-◌, ◌<◌, ◌⊎◌, inl, inr, List, Some, None, Result, Ok, Err, get_or, true, false, refl, sym, ap, ◌∙◌, subst, arith}
+use Rattle.std.proofs.Common.{◌≡◌, ◌≢◌, ℕ, suc, ◌-◌, ◌<◌, ◌⊎◌, inl, inr, Some, None, Result, Ok, Err, get_or, true, false, refl, sym, ap, ◌∙◌, subst, arith}
 use Rattle.std.specs.Prelude.{IfOk, OnErr}
 use Rattle.std.proofs.lemmas.Bool.{cases_eq, false≢true}
 use Rattle.vm_types.specs.declared.number.FrameNo.{FrameNo}
 use Rattle.vm_types.specs.declared.number.NoFree.{NoFree}
 use Rattle.frames.specs.declared.role.Role.{Role}
 use Rattle.frames.specs.declared.role.Role.TheVariants.{Free, Table}
-use Rattle.frames.specs.FrameTable.{FrameTable, frame_count, role_of, count_of, SameButFor, Takes, Shares, Releases, with_bytes}
-use Rattle.frames.proofs.FrameLemmas.{with_bytes-others}
+use Rattle.frames.specs.FrameTable.{FrameTable, frame_count, role_of, count_of, SameButFor, Takes, Releases}
 use Rattle.sv39_walk.specs.Entry.{is_pointer, entry_at, frame_of}
 use Rattle.sv39_walk.specs.Walk.{index_of}
 use Rattle.sv39_walk.proofs.Entries.{is_pointer-zero}

@@ -5,10 +5,10 @@ use Rattle.std.proofs.lemmas.Bool.{cases_eq, false≢true}
 use Rattle.std.proofs.lemmas.Bool.Decides.{nat_tests}
 use Rattle.vm_types.specs.Limits.{user_end}
 use Rattle.frames.specs.FrameTable.{FrameTable, frame_count}
-use Rattle.sv39_walk.specs.Entry.{has_bit, is_valid, is_pointer, entry_at, frame_of}
+use Rattle.sv39_walk.specs.Entry.{has_bit, is_valid, entry_at, frame_of}
 use Rattle.sv39_walk.specs.Walk.{index_of, leads_on, last_of}
 use Rattle.sv39_walk.proofs.Way.{last_of-zero, last_of-next}
-use Rattle.page_tables.specs.Tree.{IsTable, IsPage, Points, IsForest, IsRoot, IsUnlinked, Way, last_table, missing_of, page_entry}
+use Rattle.page_tables.specs.Tree.{IsPage, Points, IsForest, IsRoot, Way, last_table, missing_of, page_entry}
 use Rattle.page_tables.proofs.Ways.{ends, last_table-zero}
 use Rattle.page_tables.proofs.Ends.{last_from_way, missing_of-is, last_entry-is, page_entry-whole, page_entry-missing}
 use Rattle.vm_types.specs.declared.access.Access.{Access}

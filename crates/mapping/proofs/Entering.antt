@@ -1,6 +1,6 @@
 -- The fullest entry of a page set where no table is missing.
 use Rattle.std.proofs.Common.{◌≡◌, ◌≢◌, ℕ, inl, Bool, true, false, Some, [], get_or, sym, ap, ◌∙◌, subst}
-use Rattle.vm_types.specs.declared.file.FilePage.{FilePage}
+use Rattle.vm_types.specs.declared.object.PageKey.{PageKey}
 use Rattle.vm_types.specs.declared.region.Attr.{Attr}
 use Rattle.vm_types.specs.Verdict.{is_past_end}
 use Rattle.sv39_walk.specs.Entry.{frame_of}
@@ -101,9 +101,9 @@ module _ {D E : Type 0} where
       }
 
 -- A file page that lies in a frame was touched.
-module _ (old mid : Picture) (fp : FilePage) (frame : ℕ) (frames : mid.frames ≡ old.frames) (slots : mid.slots ≡ old.slots) (root : (q : ℕ) → mid.root q ≡ old.root q)
-    (at : (q k : ℕ) → mid.at q k ≡ old.at q k) (page_of : (x : ℕ) → mid.page_of x ≡ old.page_of x) (place : (p : FilePage) → mid.place p ≡ old.place p)
-    (touched : mid.touched fp ≡ true) (others : (p : FilePage) → p ≢ fp → mid.touched p ≡ old.touched p) (files : (f : ℕ) → mid.files f ≡ old.files f)
+module _ (old mid : Picture) (fp : PageKey) (frame : ℕ) (frames : mid.frames ≡ old.frames) (slots : mid.slots ≡ old.slots) (root : (q : ℕ) → mid.root q ≡ old.root q)
+    (at : (q k : ℕ) → mid.at q k ≡ old.at q k) (page_of : (x : ℕ) → mid.page_of x ≡ old.page_of x) (place : (p : PageKey) → mid.place p ≡ old.place p)
+    (touched : mid.touched fp ≡ true) (others : (p : PageKey) → p ≢ fp → mid.touched p ≡ old.touched p) (files : (f : ℕ) → mid.files f ≡ old.files f)
     (there : old.place fp ≡ Frame (record { 0 = frame })) where
   pub entry_marked : (q k : ℕ) → entry mid q k ≡ entry old q k
   entry_marked q k = entry-same old mid q k (root q) (λ x e. ap (λ t. page_entry t 2 x k) frames)

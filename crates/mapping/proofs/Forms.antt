@@ -1,12 +1,14 @@
 -- The fullest entry of a page fits it, and the frame of a page with an entry is in use.
 use Rattle.std.proofs.Common.{◌≡◌, ◌≢◌, ℕ, inl, inr, Bool, true, false, Option, Some, None, length, refl, sym, ap, ◌∙◌, subst, arith, eqb-true}
-use Rattle.std.specs.Prelude.{◌&&◌, ◌==◌, if◌then◌else◌}
+use Rattle.std.specs.Prelude.{◌&&◌}
 use Rattle.std.proofs.lemmas.Bool.{cases_Bool, cases_lt, false≢true}
 use Rattle.std.proofs.lemmas.List.{get_or_past}
-use Rattle.vm_types.specs.declared.file.FilePage.{FilePage}
+use Rattle.vm_types.specs.declared.object.PageKey.{PageKey}
+use Rattle.vm_types.specs.declared.object.PageKey.TheVariants.{File, Object}
 use Rattle.vm_types.specs.declared.region.Attr.{Attr}
+use Rattle.vm_types.specs.Attributes.{stands_on}
 use Rattle.vm_types.specs.declared.region.Backing.{Backing}
-use Rattle.vm_types.specs.declared.region.Backing.TheVariants.{Anon, Private, Shared}
+use Rattle.vm_types.specs.declared.region.Backing.TheVariants.{Anon, Private, Shared, Common}
 use Rattle.vm_types.specs.Permission as Permission
 use Rattle.vm_types.specs.Verdict.{is_past_end}
 use Rattle.frames.specs.declared.role.Role.TheVariants as Role
@@ -105,17 +107,22 @@ full_entry c attr a frame private e at full alone behind inside = Resident a at 
   ];
 })
 
-touched_there : (c : Picture) (b : Backing) (frame : ℕ) (p : FilePage) → HasPlaces c → IsBehind c b frame → is_touched_behind c b ≡ true
+same_key : (p q : PageKey) → Some p ≡ Some q → p ≡ q
+same_key p q e = cc
+
+touched_there : (c : Picture) (b : Backing) (frame : ℕ) (p : PageKey) → HasPlaces c → IsBehind c b frame → is_touched_behind c b ≡ true
     → c.place p ≡ Frame (record { 0 = frame }) → c.touched p ≡ true
 touched_there c Anon frame p places behind touched here = absurd (false≢true touched)
 touched_there c (Private q) frame p places behind touched here = absurd (false≢true touched)
 touched_there c (Shared q) frame p places behind touched here =
-    ap c.touched (places.apart p q (here ∙ sym behind) (λ home. (let bad : Home ≡ Frame (record { 0 = frame }) = sym home ∙ here in (cc)))) ∙ touched
+    ap c.touched (places.apart p (File q) (here ∙ sym behind) (λ home. (let bad : Home ≡ Frame (record { 0 = frame }) = sym home ∙ here in (cc)))) ∙ touched
+touched_there c (Common q) frame p places behind touched here =
+    ap c.touched (places.apart p (Object q) (here ∙ sym behind) (λ home. (let bad : Home ≡ Frame (record { 0 = frame }) = sym home ∙ here in (cc)))) ∙ touched
 
--- it has D only over the frame of a touched file page
+-- it has D only over the frame of a touched page of a file or an object
 pub full_dirty_sound : (c : Picture) (a : Attr) (frame : ℕ) (private : Bool) (e : ℕ) → HasPlaces c → IsFullEntry c a frame private e
     → (private ≡ false → IsBehind c a.backing frame)
-    → (p : FilePage) → is_valid e ≡ true → is_private e ≡ false → is_dirty e ≡ true → c.place p ≡ Frame (record { 0 = frame_of e }) → c.touched p ≡ true
+    → (p : PageKey) → is_valid e ≡ true → is_private e ≡ false → is_dirty e ≡ true → c.place p ≡ Frame (record { 0 = frame_of e }) → c.touched p ≡ true
 full_dirty_sound c a frame true e places full behind p valid common dirty here = absurd (false≢true (sym common ∙ full.owned))
 full_dirty_sound c a frame false e places full behind p valid common dirty here = elim (cases_Bool (is_barred a.prot)) [
   | inl barred ↦ absurd (false≢true (sym (parked_bits e a frame false _ _ full barred).0 ∙ valid))
@@ -144,17 +151,31 @@ pub resident_page : (c : Picture) (pid page : ℕ) (a : Attr) → IsGranting c �
     → IsResident c a (entry c pid page)
 resident_page c pid page a granting h at some here = is_resident c (c.at pid page) a (entry c pid page) at some here (granting.entries pid page h)
 
+pub behind_of : (c : Picture) (b : Backing) (p : PageKey) (n : ℕ) → stands_on b ≡ Some p → c.place p ≡ Frame (record { 0 = n }) → IsBehind c b n
+behind_of c Anon p n is at = (cc)
+behind_of c (Private q) p n is at = ap c.place (same_key (File q) p is) ∙ at
+behind_of c (Shared q) p n is at = ap c.place (same_key (File q) p is) ∙ at
+behind_of c (Common q) p n is at = ap c.place (same_key (Object q) p is) ∙ at
+
+pub touched_of : (c : Picture) (b : Backing) (p : PageKey) → is_shared b ≡ true → stands_on b ≡ Some p → is_touched_behind c b ≡ c.touched p
+touched_of c Anon p shared is = absurd (false≢true shared)
+touched_of c (Private q) p shared is = absurd (false≢true shared)
+touched_of c (Shared q) p shared is = ap c.touched (same_key (File q) p is)
+touched_of c (Common q) p shared is = ap c.touched (same_key (Object q) p is)
+
 pub behind_used : (c : Picture) (b : Backing) (n : ℕ) → IsSound c.frames → HasPlaces c → IsBehind c b n → role_of c.frames n ≢ Role.Free
 behind_used c Anon n sound places behind free =
     let bad : Role.Zero ≡ Role.Free = sym sound.zero_role ∙ ap (role_of c.frames) (sym behind) ∙ free in (cc)
-behind_used c (Private p) n sound places behind free = let bad : Role.Cache ≡ Role.Free = sym (places.cached p n behind) ∙ free in (cc)
-behind_used c (Shared p) n sound places behind free = let bad : Role.Cache ≡ Role.Free = sym (places.cached p n behind) ∙ free in (cc)
+behind_used c (Private p) n sound places behind free = let bad : Role.Cache ≡ Role.Free = sym (places.cached (File p) n behind) ∙ free in (cc)
+behind_used c (Shared p) n sound places behind free = let bad : Role.Cache ≡ Role.Free = sym (places.cached (File p) n behind) ∙ free in (cc)
+behind_used c (Common p) n sound places behind free = let bad : Role.Cache ≡ Role.Free = sym (places.cached (Object p) n behind) ∙ free in (cc)
 
 pub behind_datum : (c : Picture) (b : Backing) (n : ℕ) → IsSound c.frames → HasPlaces c → IsBehind c b n → role_of c.frames n ≢ Role.Table
 behind_datum c Anon n sound places behind table =
     let bad : Role.Zero ≡ Role.Table = sym sound.zero_role ∙ ap (role_of c.frames) (sym behind) ∙ table in (cc)
-behind_datum c (Private p) n sound places behind table = let bad : Role.Cache ≡ Role.Table = sym (places.cached p n behind) ∙ table in (cc)
-behind_datum c (Shared p) n sound places behind table = let bad : Role.Cache ≡ Role.Table = sym (places.cached p n behind) ∙ table in (cc)
+behind_datum c (Private p) n sound places behind table = let bad : Role.Cache ≡ Role.Table = sym (places.cached (File p) n behind) ∙ table in (cc)
+behind_datum c (Shared p) n sound places behind table = let bad : Role.Cache ≡ Role.Table = sym (places.cached (File p) n behind) ∙ table in (cc)
+behind_datum c (Common p) n sound places behind table = let bad : Role.Cache ≡ Role.Table = sym (places.cached (Object p) n behind) ∙ table in (cc)
 
 pub own_role : (c : Picture) (pid page : ℕ) → IsFit c → IsPage 2 page → is_private (entry c pid page) ≡ true → role_of c.frames (frame_of (entry c pid page)) ≡ Role.Private
 own_role c pid page fit h own = fit.counted.1.named pid page (InFrame (frame_of (entry c pid page))) h (seat_own (entry c pid page) own)

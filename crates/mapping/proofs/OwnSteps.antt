@@ -2,7 +2,8 @@
 use Rattle.std.proofs.Common.{◌≡◌, ◌≢◌, ℕ, inl, inr, Bool, true, false, Some, get_or, refl, sym, ap, ◌∙◌, subst, eq-eqb, ne_eqb}
 use Rattle.std.specs.Prelude.{◌&&◌, ◌==◌}
 use Rattle.std.proofs.lemmas.Bool.{cases_Bool}
-use Rattle.vm_types.specs.declared.file.FilePage.{FilePage}
+use Rattle.vm_types.specs.declared.object.PageKey.{PageKey}
+use Rattle.vm_types.specs.declared.object.PageKey.TheVariants.{File, Object}
 use Rattle.vm_types.specs.declared.region.Attr.{Attr}
 use Rattle.vm_types.specs.declared.region.Backing.{Backing}
 use Rattle.vm_types.specs.declared.region.Backing.TheVariants as Backings
@@ -16,6 +17,7 @@ use Rattle.page_tables.specs.Change.{SetsEntry}
 use Rattle.page_cache.specs.declared.place.Place.TheVariants.{Frame}
 use Rattle.paging.specs.Seats.{Seat, InFrame, InSlot, seat, is_private, is_swapped}
 use Rattle.std.specs.Prelude.{option_map}
+use Rattle.paging.specs.Calls.{Frees}
 use Rattle.paging.specs.Picture.{Picture, entry, view, view_of, bytes_in}
 use Rattle.paging.specs.Parts.{IsFit, IsFitBut, IsBehind, is_shared}
 use Rattle.paging.specs.Shows.{KeepsFiles}
@@ -60,11 +62,21 @@ behind_is : (c : Picture) (b : Backing) (n : ℕ) → IsBehind c b n → frame_b
 behind_is c Backings.Anon n behind = sym behind
 behind_is c (Backings.Private p) n behind = ap frame_of_place behind
 behind_is c (Backings.Shared p) n behind = ap frame_of_place behind
+behind_is c (Backings.Common p) n behind = ap frame_of_place behind
 
-behind_stays : (old new : Picture) (b : Backing) (x m : ℕ) → IsBehind old b x → x ≡ m → ((p : FilePage) → old.place p ≡ Frame (record { 0 = m }) → new.place p ≡ Frame (record { 0 = m })) → IsBehind new b x
+behind_stays : (old new : Picture) (b : Backing) (x m : ℕ) → IsBehind old b x → x ≡ m → ((p : PageKey) → old.place p ≡ Frame (record { 0 = m }) → new.place p ≡ Frame (record { 0 = m })) → IsBehind new b x
 behind_stays old new Backings.Anon x m behind is kept = behind
-behind_stays old new (Backings.Private p) x m behind is kept = kept p (behind ∙ ap (λ i. Frame (record { 0 = i })) is) ∙ ap (λ i. Frame (record { 0 = i })) (sym is)
-behind_stays old new (Backings.Shared p) x m behind is kept = kept p (behind ∙ ap (λ i. Frame (record { 0 = i })) is) ∙ ap (λ i. Frame (record { 0 = i })) (sym is)
+behind_stays old new (Backings.Private p) x m behind is kept = kept (File p) (behind ∙ ap (λ i. Frame (record { 0 = i })) is) ∙ ap (λ i. Frame (record { 0 = i })) (sym is)
+behind_stays old new (Backings.Shared p) x m behind is kept = kept (File p) (behind ∙ ap (λ i. Frame (record { 0 = i })) is) ∙ ap (λ i. Frame (record { 0 = i })) (sym is)
+behind_stays old new (Backings.Common p) x m behind is kept = kept (Object p) (behind ∙ ap (λ i. Frame (record { 0 = i })) is) ∙ ap (λ i. Frame (record { 0 = i })) (sym is)
+
+pub behind_freed : (old new : Picture) (b : Backing) (m : ℕ) → Frees old new (Some (record { 0 = m })) → role_of old.frames m ≢ Table → IsBehind old b m
+    → (x : ℕ) → IsBehind old b x → IsBehind new b x × (bytes_of new.frames x ≡ bytes_of old.frames x)
+behind_freed old new b m frees datum there x behind =
+    let is : x ≡ m = sym (behind_is old b x behind) ∙ behind_is old b m there in (
+      behind_stays old new b x m behind is (λ p at. frees.kept_place p m refl at),
+      (let P : ℕ → Type 0 = λ y. bytes_of new.frames y ≡ bytes_of old.frames y in subst P (sym is) (frees.kept_bytes m refl datum)),
+    )
 
 pub shown_own : (c : Picture) (e : ℕ) (b : Backing) → is_private e ≡ true → shown_frame c e b ≡ frame_of e
 shown_own c e b private = rw private refl

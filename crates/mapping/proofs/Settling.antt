@@ -2,7 +2,7 @@
 use Rattle.std.proofs.Common.{◌≡◌, ◌≢◌, ℕ, ◌⊎◌, ◌<◌, true, false, Some, None, get_or, sym, ap, ◌∙◌, subst, arith}
 use Rattle.std.specs.Prelude.{option_map}
 use Rattle.std.proofs.lemmas.Bool.{false≢true}
-use Rattle.vm_types.specs.declared.file.FilePage.{FilePage}
+use Rattle.vm_types.specs.declared.object.PageKey.{PageKey}
 use Rattle.vm_types.specs.declared.region.Attr.{Attr}
 use Rattle.vm_types.specs.Verdict.{is_past_end}
 use Rattle.frames.specs.declared.role.Role.TheVariants.{Table, Private}
@@ -113,7 +113,7 @@ module _ (found mid : Picture) (pid page r n : ℕ) (a : Attr) (fit : IsFit foun
     pub settled_views : (q p : ℕ) → (q ≢ pid) ⊎ (p ≢ page) → view new q p ≡ view found q p
     settled_views q p other = other_views mid new pid page sets.0 0 (InFrame n) 1 fit_mid set q p other ∙ views_changed found mid n fit changes datum q p
 
-    pub settled_held : (p : FilePage) → held new p ≡ held found p
+    pub settled_held : (p : PageKey) → held new p ≡ held found p
     settled_held p = set_held mid new pid page sets.0 0 (InFrame n) 1 fit_mid set p ∙ held_changed found mid n fit changes datum p
 
     pub settled_view : view new pid page ≡ Some (record { attr = a; own = Some (bytes_of mid.frames n) })

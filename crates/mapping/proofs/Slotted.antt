@@ -1,6 +1,6 @@
 -- What lies in a slot stays there over the steps of a call.
 use Rattle.std.proofs.Common.{◌≡◌, ◌≢◌, ◌⊎◌, ℕ, inl, inr, Option, ap, ◌∙◌}
-use Rattle.vm_types.specs.declared.file.FilePage.{FilePage}
+use Rattle.vm_types.specs.declared.object.PageKey.{PageKey}
 use Rattle.vm_types.specs.declared.number.FrameNo.{FrameNo}
 use Rattle.page_tables.specs.Tree.{IsPage}
 use Rattle.paging.specs.declared.kernel.Core.{Core}
@@ -9,7 +9,7 @@ use Rattle.paging.specs.Calls.{Frees}
 use Rattle.paging.proofs.Ways.{by_page}
 use Rattle.mapping.specs.Changes.{KeepsSlotted, IsCalm, IsThatPage}
 
-pub slotted_wider : (f g : FilePage → Type 0) (x y : ℕ → ℕ → Type 0) (old new : Picture) → ((p : FilePage) → f p → g p) → ((q p : ℕ) → x q p → y q p) → KeepsSlotted f x old new → KeepsSlotted g y old new
+pub slotted_wider : (f g : PageKey → Type 0) (x y : ℕ → ℕ → Type 0) (old new : Picture) → ((p : PageKey) → f p → g p) → ((q p : ℕ) → x q p → y q p) → KeepsSlotted f x old new → KeepsSlotted g y old new
 slotted_wider f g x y old new files own keeps = record {
   file_pages = λ p k at. elim (keeps.file_pages p k at) [
     | inl it ↦ inl (files p it)
@@ -21,7 +21,7 @@ slotted_wider f g x y old new files own keeps = record {
   ];
 }
 
-module _ (files : FilePage → Type 0) (own : ℕ → ℕ → Type 0) where
+module _ (files : PageKey → Type 0) (own : ℕ → ℕ → Type 0) where
   pub slotted_then : (a b c : Picture) → KeepsSlotted files own a b → KeepsSlotted files own b c → KeepsSlotted files own a c
   slotted_then a b c first second = record {
     file_pages = λ p k at. elim (first.file_pages p k at) [
@@ -38,7 +38,7 @@ module _ (files : FilePage → Type 0) (own : ℕ → ℕ → Type 0) where
   }
 
   -- every file page and every entry is as it was
-  pub slotted_same : (old new : Picture) → ((p : FilePage) → new.place p ≡ old.place p) → ((q p : ℕ) → IsPage 2 p → entry new q p ≡ entry old q p) → KeepsSlotted files own old new
+  pub slotted_same : (old new : Picture) → ((p : PageKey) → new.place p ≡ old.place p) → ((q p : ℕ) → IsPage 2 p → entry new q p ≡ entry old q p) → KeepsSlotted files own old new
   slotted_same old new places entries = record { file_pages = λ p k at. inr (places p ∙ at); copies = λ q p h away. inr (entries q p h) }
 
   -- frames were given up: nothing leaves a slot by that
@@ -46,7 +46,7 @@ module _ (files : FilePage → Type 0) (own : ℕ → ℕ → Type 0) where
   slotted_frees old new keep frees = record { file_pages = λ p k at. inr (frees.slotted p k.0 at); copies = λ q p h away. inr (frees.entries q p h (inr (inl away))) }
 
 -- every file page is as it was, and every entry but one
-pub slotted_but : (files : FilePage → Type 0) (old new : Picture) (pid page : ℕ) → ((p : FilePage) → new.place p ≡ old.place p)
+pub slotted_but : (files : PageKey → Type 0) (old new : Picture) (pid page : ℕ) → ((p : PageKey) → new.place p ≡ old.place p)
     → ((q p : ℕ) → IsPage 2 p → (q ≢ pid) ⊎ (p ≢ page) → entry new q p ≡ entry old q p) → KeepsSlotted files (IsThatPage pid page) old new
 slotted_but files old new pid page places entries = record {
   file_pages = λ p k at. inr (places p ∙ at);
@@ -56,5 +56,5 @@ slotted_but files old new pid page places entries = record {
   ];
 }
 
-pub slotted_calm : {D E : Type 0} (files : FilePage → Type 0) (old new : Core D E) (pid page : ℕ) → IsCalm old new pid page → KeepsSlotted files (IsThatPage pid page) (picture_of old) (picture_of new)
+pub slotted_calm : {D E : Type 0} (files : PageKey → Type 0) (old new : Core D E) (pid page : ℕ) → IsCalm old new pid page → KeepsSlotted files (IsThatPage pid page) (picture_of old) (picture_of new)
 slotted_calm files old new pid page calm = slotted_but files (picture_of old) (picture_of new) pid page calm.place calm.others

@@ -1,8 +1,11 @@
 -- A process starts, and pages are mapped for which nothing stands.
-use Rattle.std.proofs.Common.{◌≡◌, ◌≢◌, ℕ, inl, inr, ◌⊎◌, ◌<◌, ◌≤◌, List, Option, Some, None, refl, sym, ap, ◌∙◌, subst, arith}
+use Rattle.std.proofs.Common.{true, ◌≡◌, ◌≢◌, ℕ, inl, inr, ◌⊎◌, ◌<◌, ◌≤◌, List, Option, Some, None, refl, sym, ap, ◌∙◌, subst, arith}
 use Rattle.std.specs.Prelude.{IsSome}
 use Rattle.std.proofs.lemmas.Bool.{cases_eq, false≢true}
-use Rattle.vm_types.specs.declared.file.FilePage.{FilePage}
+use Rattle.vm_types.specs.declared.object.ObjectPage.{ObjectPage}
+use Rattle.vm_types.specs.declared.object.PageKey.{PageKey}
+use Rattle.vm_types.specs.declared.object.PageKey.TheVariants.{Object}
+use Rattle.vm_types.specs.Objects.{is_named}
 use Rattle.vm_types.specs.declared.region.Attr.{Attr}
 use Rattle.vm_types.specs.Rows.{IsUserMap}
 use Rattle.frames.specs.declared.role.Role.TheVariants.{Table}
@@ -16,15 +19,16 @@ use Rattle.page_tables.proofs.Linking.{empty_last}
 use Rattle.regions.specs.declared.run.Run.{Run}
 use Rattle.regions.specs.Permission.{IsReadableMap}
 use Rattle.regions.specs.RunList.{attr_at}
+use Rattle.page_cache.specs.declared.place.Place.TheVariants.{Home}
 use Rattle.paging.specs.Seats.{Seat, InFrame, InSlot, seat}
 use Rattle.paging.specs.Picture.{Picture, entry, IsOwned, count_in, page_in}
-use Rattle.paging.specs.Parts.{IsRootedBut, IsUsed, AsRoot, OnWay, IsMapped, IsEntryFor, Nothing, IsCountedBut, IsFitBut, IsFit, nowhere}
+use Rattle.paging.specs.Parts.{AreObjects, IsRootedBut, IsUsed, AsRoot, OnWay, IsMapped, IsEntryFor, Nothing, IsCountedBut, IsFitBut, IsFit, nowhere}
 use Rattle.paging.specs.Calls.{ObtainsTable}
 use Rattle.paging.specs.Steps.{SameBeside, KeepsShares, Spawns, Remaps}
 use Rattle.paging.proofs.Entries.{entry-of, entry-same, entries_kept}
 use Rattle.paging.proofs.Granting.{KeepsBehind, entry_for-same, user_map-same, readable-same}
 use Rattle.paging.proofs.Linked.{shares_taken, fit_same, loose_table, rooted_taken}
-use Rattle.paging.proofs.Places.{places_same, dirty_same}
+use Rattle.paging.proofs.Places.{objects-same, named-more, places_same, places_renamed, dirty_same}
 use Rattle.paging.proofs.Rooted.{used_kept}
 use Rattle.paging.proofs.Seats.{counted_same}
 use Rattle.paging.proofs.Start.{entry-dead}
@@ -55,7 +59,7 @@ shares_frames old new same = record {
 
 -- Only processes and tables changed, and every entry is the same: own copies lie where they lay.
 module _ (old new : Picture) (shares : KeepsShares old.frames new.frames) (slots : new.slots ≡ old.slots) (page_of : (m : ℕ) → new.page_of m ≡ old.page_of m)
-    (place : (p : FilePage) → new.place p ≡ old.place p) (same : (q p : ℕ) → entry new q p ≡ entry old q p) where
+    (place : (p : PageKey) → new.place p ≡ old.place p) (same : (q p : ℕ) → entry new q p ≡ entry old q p) where
   forth : (z : Seat) → IsOwned old z → IsOwned new z
   forth (InFrame n) is = shares.private n is
   forth (InSlot k) is = ((let P : SlotTable → Type 0 = λ t. 0 < t.count k in subst P (sym slots) is.0), λ p e. is.1 p (sym (place p) ∙ e))
@@ -138,6 +142,12 @@ module _ (old new : Picture) (pid n : ℕ) (fit : IsFitBut old nowhere 0 n) (is_
         ]);
   }
 
+  at_spawned : (q page : ℕ) → new.at q page ≡ old.at q page
+  at_spawned q page = elim (cases_eq q pid) [
+    | inl is ↦ ap (λ x. new.at x page) is ∙ spawns.unmapped page ∙ sym (ap (λ x. old.at x page) is ∙ spawns.was_unmapped page)
+    | inr ne ↦ spawns.at q page ne
+  ]
+
   fit_added : IsFit new
   fit_added =
       let shares = shares_frames old.frames new.frames spawns.frames in
@@ -163,8 +173,9 @@ module _ (old new : Picture) (pid n : ℕ) (fit : IsFitBut old nowhere 0 n) (is_
             | inl is ↦ (λ page. (let none : new.at q page ≡ None = ap (λ x. new.at x page) is ∙ spawns.unmapped page in rw none tt))
             | inr ne ↦ readable-same (old.at q) (new.at q) (λ page. spawns.at q page ne) (fit.granting.readable q)
           ];
+          objects = objects-same old.at new.at at_spawned fit.granting.objects;
         };
-        places = places_same old new fit.places spawns.place spawns.files spawns.slots shares.cache shares.was_cache;
+        places = places_same old new fit.places spawns.place at_spawned spawns.files spawns.slots shares.cache shares.was_cache;
         dirty = dirty_same old new fit.dirty spawns.place spawns.touched (λ q page h. entries_spawned q page);
       }
 
@@ -216,9 +227,9 @@ module _ (old new : Picture) (pid : ℕ) (fit : IsFit old) (remaps : Remaps old 
         ]);
   }
 
-  pub fit_remapped : IsUserMap (new.at pid) → IsReadableMap (new.at pid) → ((page : ℕ) → IsPage 2 page → IsEntryFor old (new.at pid page) (entry old pid page))
+  pub fit_remapped : IsUserMap (new.at pid) → IsReadableMap (new.at pid) → AreObjects new.at → ((p : ObjectPage) → old.place (Object p) ≢ Home → is_named new.at p.object p.page ≡ true) → ((page : ℕ) → IsPage 2 page → IsEntryFor old (new.at pid page) (entry old pid page))
       → ((m : ℕ) → IsUsed old (IsMapped old) m → IsUsed old (IsMapped new) m) → IsFit new
-  fit_remapped user readable fits used =
+  fit_remapped user readable objects named fits used =
       let shares = shares_frames old.frames new.frames remaps.frames in
       record {
         counted = counted_there old new shares remaps.slots remaps.page_of remaps.place entries_remapped nowhere 0 fit.counted;
@@ -243,8 +254,9 @@ module _ (old new : Picture) (pid : ℕ) (fit : IsFit old) (remaps : Remaps old 
             | inl is ↦ (let P : ℕ → Type 0 = λ x. IsReadableMap (new.at x) in subst P (sym is) readable)
             | inr ne ↦ readable-same (old.at q) (new.at q) (λ page. remaps.others q page ne) (fit.granting.readable q)
           ];
+          objects = objects;
         };
-        places = places_same old new fit.places remaps.place remaps.files remaps.slots shares.cache shares.was_cache;
+        places = places_renamed old new fit.places remaps.place remaps.files named remaps.slots shares.cache shares.was_cache;
         dirty = dirty_same old new fit.dirty remaps.place remaps.touched (λ q page h. entries_remapped q page);
       }
 
@@ -255,10 +267,14 @@ used_mapped c mapped mapped' m maps (OnWay q r page is here below) = OnWay q r p
 
 -- a process that had no page, and for whose pages nothing stands, has these regions
 pub fit_mapped : (old new : Picture) (pid : ℕ) (runs : List Run) → IsFit old → Remaps old new pid → ((page : ℕ) → new.at pid page ≡ attr_at runs page)
-    → IsUserMap (attr_at runs) → IsReadableMap (attr_at runs) → ((page : ℕ) → IsPage 2 page → entry old pid page ≡ 0) → ((page : ℕ) → old.at pid page ≡ None) → IsFit new
-fit_mapped old new pid runs fit remaps at user readable bare unmapped =
+    → IsUserMap (attr_at runs) → IsReadableMap (attr_at runs) → AreObjects new.at → ((page : ℕ) → IsPage 2 page → entry old pid page ≡ 0) → ((page : ℕ) → old.at pid page ≡ None) → IsFit new
+fit_mapped old new pid runs fit remaps at user readable objects bare unmapped =
     let P : Option Attr → Type 0 = λ x. IsSome x in
-    fit_remapped old new pid fit remaps (user_map-same (attr_at runs) (new.at pid) at user) (readable-same (attr_at runs) (new.at pid) at readable)
+    fit_remapped old new pid fit remaps (user_map-same (attr_at runs) (new.at pid) at user) (readable-same (attr_at runs) (new.at pid) at readable) objects
+    (λ p away. named-more old.at new.at p.object p.page (λ q page. elim (cases_eq q pid) [
+      | inl is ↦ inr (ap (λ x. old.at x page) is ∙ unmapped page)
+      | inr ne ↦ inl (remaps.others q page ne)
+    ]) (fit.places.inside (Object p) away))
     (λ page h. Nothing (bare page h))
     (λ m. used_mapped old (IsMapped old) (IsMapped new) m (λ q page some. elim (cases_eq q pid) [
       | inl is ↦ absurd (false≢true (subst P (ap (λ x. old.at x page) is ∙ unmapped page) some))

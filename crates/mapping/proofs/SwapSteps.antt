@@ -1,7 +1,7 @@
 -- A page's own copy read from its slot into a frame.
 use Rattle.std.proofs.Common.{◌≡◌, ◌≢◌, ℕ, inl, inr, ◌+◌, ◌*◌, ◌<◌, ◌^◌, true, false, List, Option, Some, None, refl, sym, ap, ◌∙◌, subst, arith}
 use Rattle.std.proofs.lemmas.Bool.{cases_eq, cases_Bool, false≢true}
-use Rattle.vm_types.specs.declared.file.FilePage.{FilePage}
+use Rattle.vm_types.specs.declared.object.PageKey.{PageKey}
 use Rattle.vm_types.specs.declared.number.SlotNo.{SlotNo}
 use Rattle.vm_types.specs.declared.region.Attr.{Attr}
 use Rattle.frames.specs.declared.role.Role.TheVariants.{Table, Private}
@@ -115,12 +115,12 @@ module _ (old new : Picture) (k x d : ℕ) (s : Seat) (fit : IsFitBut old s x d)
   views_given q p = each_view old new fit.granting same.at q p (λ h. view_seated old new q p (same.at q p) (ap seat (same.entries q p))
       (λ z is. seat_bytes z (fit.counted.1.named q p z h is)))
 
-  place_bytes : (p : FilePage) (y : Place) → old.place p ≡ y → bytes_at new.frames new.slots y ≡ bytes_at old.frames old.slots y
+  place_bytes : (p : PageKey) (y : Place) → old.place p ≡ y → bytes_at new.frames new.slots y ≡ bytes_at old.frames old.slots y
   place_bytes p Home at = refl
   place_bytes p (Frame m) at = ap (λ t. Some (bytes_of t m.0)) same.frames
   place_bytes p (Slot j) at = ap (λ (w : _). Some w) (slot_bytes j.0 (let one = fit.places.slotted p j.0 at in omega (arith, one)))
 
-  pub held_given : (p : FilePage) → held new p ≡ held old p
+  pub held_given : (p : PageKey) → held new p ≡ held old p
   unfolding held
   held_given p = ap (λ y. bytes_at new.frames new.slots y) (same.place p) ∙ place_bytes p (old.place p) refl
 

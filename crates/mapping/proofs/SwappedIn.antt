@@ -1,7 +1,7 @@
 -- What a page's own copy leaves that was read from its slot.
 use Rattle.std.proofs.Common.{◌≡◌, ◌≢◌, ℕ, inl, inr, ◌+◌, ◌*◌, ◌<◌, ◌^◌, true, false, Some, None, refl, sym, ap, ◌∙◌, subst}
 use Rattle.std.specs.Prelude.{option_map}
-use Rattle.vm_types.specs.declared.file.FilePage.{FilePage}
+use Rattle.vm_types.specs.declared.object.PageKey.{PageKey}
 use Rattle.vm_types.specs.declared.region.Attr.{Attr}
 use Rattle.vm_types.specs.Verdict.{is_past_end}
 use Rattle.frames.specs.declared.role.Role.TheVariants.{Private}
@@ -27,7 +27,7 @@ use Rattle.mapping.proofs.Steps.{spaces_then, spaces_freed, room_then, room_free
 use Rattle.mapping.proofs.SwapSteps.{swapped_page, away_seat, views_given, held_given}
 
 -- what was held went home or stayed
-pub files_then : (a b c : Picture) → KeepsFiles a b → ((p : FilePage) → held c p ≡ held b p) → ((p : FilePage) → c.touched p ≡ b.touched p) → ((f : ℕ) → c.files f ≡ b.files f) → KeepsFiles a c
+pub files_then : (a b c : Picture) → KeepsFiles a b → ((p : PageKey) → held c p ≡ held b p) → ((p : PageKey) → c.touched p ≡ b.touched p) → ((f : ℕ) → c.files f ≡ b.files f) → KeepsFiles a c
 files_then a b c first held_same touched files = record {
   held = λ p. elim (first.held p) [
     | inl same ↦ inl (held_same p ∙ same)

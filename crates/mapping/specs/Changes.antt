@@ -1,12 +1,13 @@
 -- What the calls on one page's entry need and leave.
 use Rattle.std.specs.Prelude.{Bool, ◌&&◌, ◌==◌, ◌≡◌, ◌≢◌, ℕ, ◌≤◌, ◌⊎◌, true, if◌then◌else◌, List, Some, None}
 use Rattle.vm_types.specs.Limits.{top_level}
-use Rattle.vm_types.specs.declared.file.FilePage.{FilePage}
+use Rattle.vm_types.specs.declared.object.PageKey.{PageKey}
+use Rattle.vm_types.specs.declared.object.PageKey.TheVariants.{File, Object}
 use Rattle.vm_types.specs.declared.number.FrameNo.{FrameNo}
 use Rattle.vm_types.specs.declared.number.SlotNo.{SlotNo}
 use Rattle.vm_types.specs.declared.region.Attr.{Attr}
 use Rattle.vm_types.specs.declared.region.Backing.{Backing}
-use Rattle.vm_types.specs.declared.region.Backing.TheVariants.{Anon, Private, Shared}
+use Rattle.vm_types.specs.declared.region.Backing.TheVariants.{Anon, Private, Shared, Common}
 use Rattle.disk_model.specs.declared.sector_disk.SectorDisk.{Ghosts}
 use Rattle.frames.specs.declared.role.Role.TheVariants as Role
 use Rattle.frames.specs.FrameTable.{frame_count, bytes_of, role_of, count_of, IsFrame}
@@ -56,9 +57,9 @@ KeepsOtherBare old new pid page = (q p : ℕ) → IsPage top_level p → (q ≢ 
 abbrev pub IsThatPage : ℕ → ℕ → ℕ → ℕ → Type 0
 IsThatPage pid page q p = (q ≡ pid) × (p ≡ page)
 
--- What lies in a slot stays there, but for these file pages, and for the own copies of these pages of processes.
-pub record KeepsSlotted (files : FilePage → Type 0) (own : ℕ → ℕ → Type 0) (old new : Picture) : Type 0 where
-  pub file_pages : (p : FilePage) (k : SlotNo) → old.place p ≡ Slot k → files p ⊎ (new.place p ≡ Slot k)
+-- What lies in a slot stays there, but for these pages of files and objects, and for the own copies of these pages of processes.
+pub record KeepsSlotted (files : PageKey → Type 0) (own : ℕ → ℕ → Type 0) (old new : Picture) : Type 0 where
+  pub file_pages : (p : PageKey) (k : SlotNo) → old.place p ≡ Slot k → files p ⊎ (new.place p ≡ Slot k)
   pub copies : (q p : ℕ) → IsPage top_level p → is_swapped (entry old q p) ≡ true → own q p ⊎ (entry new q p ≡ entry old q p)
 
 -- the same processes live, with the same regions
@@ -79,26 +80,27 @@ KeepsViews old new = (pid page : ℕ) → view new pid page ≡ view old pid pag
 abbrev pub KeepsOtherViews : Picture → Picture → ℕ → ℕ → Type 0
 KeepsOtherViews old new pid page = (q p : ℕ) → (q ≢ pid) ⊎ (p ≢ page) → view new q p ≡ view old q p
 
--- no process sees a change, and no file page became touched or clean
+-- no process sees a change, and no page of a file or an object became touched or clean
 pub record KeepsSeen (old new : Picture) : Type 0 where
   pub views : (q k : ℕ) → view new q k ≡ view old q k
-  pub touched : (p : FilePage) → new.touched p ≡ old.touched p
+  pub touched : (p : PageKey) → new.touched p ≡ old.touched p
 
 -- whether the process with that entry is the only one to have its private frame
 abbrev pub is_sole : Picture → ℕ → Bool
 is_sole c e = is_private e && (count_of c.frames (frame_of e) == 1)
 
--- the frame of a file page at that place
+-- the frame of a page of a file or an object at that place
 abbrev pub frame_of_place : Place → ℕ
 frame_of_place Home = 0
 frame_of_place (Frame n) = n.0
 frame_of_place (Slot n) = 0
 
--- the frame that holds what stands behind a page, where it is in memory: the zero page, or that of the file page
+-- the frame that holds what stands behind a page, where it is in memory: the zero page, or that of the page of a file or an object
 abbrev pub frame_behind : Picture → Backing → ℕ
 frame_behind c Anon = 0
-frame_behind c (Private p) = frame_of_place (c.place p)
-frame_behind c (Shared p) = frame_of_place (c.place p)
+frame_behind c (Private p) = frame_of_place (c.place (File p))
+frame_behind c (Shared p) = frame_of_place (c.place (File p))
+frame_behind c (Common p) = frame_of_place (c.place (Object p))
 
 -- the frame whose bytes a page shows
 abbrev pub shown_frame : Picture → ℕ → Backing → ℕ
@@ -108,12 +110,12 @@ shown_frame c e backing = if is_private e then frame_of e else frame_behind c ba
 abbrev pub shown_bytes : Picture → ℕ → ℕ → Attr → List ℕ
 shown_bytes c pid page attr = bytes_of c.frames (shown_frame c (entry c pid page) attr.backing)
 
--- the file page, which lies in a frame, is among the touched ones, and no other came, went or changed
-pub record MarksTouched (old new : Picture) (page : FilePage) : Type 0 where
-  pub place : (p : FilePage) → new.place p ≡ old.place p
-  pub bytes : (p : FilePage) (n : FrameNo) → old.place p ≡ Frame n → bytes_of new.frames n.0 ≡ bytes_of old.frames n.0
+-- the page of a file or an object, which lies in a frame, is among the touched ones, and no other came, went or changed
+pub record MarksTouched (old new : Picture) (page : PageKey) : Type 0 where
+  pub place : (p : PageKey) → new.place p ≡ old.place p
+  pub bytes : (p : PageKey) (n : FrameNo) → old.place p ≡ Frame n → bytes_of new.frames n.0 ≡ bytes_of old.frames n.0
   pub touched : new.touched page ≡ true
-  pub others : (p : FilePage) → p ≢ page → new.touched p ≡ old.touched p
+  pub others : (p : PageKey) → p ≢ page → new.touched p ≡ old.touched p
   pub files : (f : ℕ) → new.files f ≡ old.files f
 
 -- A frame was obtained, but not frame m, and taken for one page, at which its process will have it, with the bytes of frame m.
@@ -136,10 +138,10 @@ module _ {D E : Type 0} where
     pub swap : new.swap ≡ old.swap
     pub refused : new.refused.number ≡ old.refused.number
     pub frames : KeepsFrames old.frames new.frames
-    pub place : (p : FilePage) → (picture_of new).place p ≡ (picture_of old).place p
+    pub place : (p : PageKey) → (picture_of new).place p ≡ (picture_of old).place p
     pub others : (q p : ℕ) → IsPage top_level p → (q ≢ pid) ⊎ (p ≢ page) → entry (picture_of new) q p ≡ entry (picture_of old) q p
 
-  -- Only one page's entry changed, and perhaps which file pages are touched: every page is seen as it was.
+  -- Only one page's entry changed, and perhaps which pages of files and objects are touched: every page is seen as it was.
   pub record Enters (old new : Core D E) (pid page : ℕ) : Type 0 where
     pub fit : IsFit (picture_of new)
     pub spaces : KeepsSpaces (picture_of old) (picture_of new)

@@ -1,9 +1,14 @@
 -- What reading file pages into memory leaves of the store and of the files.
 use Rattle.std.specs.Prelude.{◌≡◌, ℕ, false, List, Some, None}
 use Rattle.vm_types.specs.declared.file.FilePage.{FilePage}
+use Rattle.vm_types.specs.declared.object.ObjectPage.{ObjectPage}
+use Rattle.vm_types.specs.declared.object.PageKey.{PageKey}
+use Rattle.vm_types.specs.declared.object.PageKey.TheVariants.{File, Object}
+use Rattle.vm_types.specs.View.{zero_page}
 use Rattle.disk_model.specs.declared.sector_disk.SectorDisk.{Ghosts}
 use Rattle.file_store.specs.Store.{IsReadyStore}
 use Rattle.swap.specs.Slots.{IsReady}
+use Rattle.page_cache.specs.declared.place.Place.TheVariants.{Home}
 use Rattle.paging.specs.declared.kernel.Core.{Core}
 use Rattle.paging.specs.Picture.{Picture, picture_of, held}
 use Rattle.paging.specs.Parts.{IsFit}
@@ -11,15 +16,21 @@ use Rattle.paging.specs.Calls.{UsesDevice}
 use Rattle.paging.specs.Reading.{ReadsStore, IsRead}
 use Rattle.mapping.specs.Changes.{KeepsSpaces, KeepsTables, KeepsRoom}
 
+-- a file page that is nowhere but in the store
+abbrev pub IsInStore : Picture → PageKey → Type 0
+IsInStore c p = (f : FilePage) × (p ≡ File f) × (c.place p ≡ Home)
+
 module _ {D : Type 0} (g : Ghosts D) where
-  -- A file page has the bytes that it had. Or it was untouched, and is at home, or was read from there, if it is one of these.
-  pub data IsBrought (before after : D) (W : FilePage → Type 0) (old new : Picture) (p : FilePage) : Type 0 where
+  -- A page of a file or an object has the bytes that it had. Or it was untouched, and is at home, or came from there, if it is one of
+  -- these: a file page was read, and a page of an object is zeros.
+  pub data IsBrought (before after : D) (W : PageKey → Type 0) (old new : Picture) (p : PageKey) : Type 0 where
     Stays : held new p ≡ held old p → IsBrought before after W old new p
     Leaves : held new p ≡ None → old.touched p ≡ false → IsBrought before after W old new p
-    Comes : (bytes : List ℕ) → W p → held new p ≡ Some bytes → old.touched p ≡ false → IsRead g before after p bytes → IsBrought before after W old new p
+    Comes : (f : FilePage) (bytes : List ℕ) → p ≡ File f → W p → held new p ≡ Some bytes → old.touched p ≡ false → IsRead g before after f bytes → IsBrought before after W old new p
+    Blank : (o : ObjectPage) → p ≡ Object o → W p → held new p ≡ Some zero_page → old.touched p ≡ false → IsBrought before after W old new p
 
-  pub record BringsPages (before after : D) (W : FilePage → Type 0) (old new : Picture) : Type 0 where
-    pub each : (p : FilePage) → IsBrought before after W old new p
+  pub record BringsPages (before after : D) (W : PageKey → Type 0) (old new : Picture) : Type 0 where
+    pub each : (p : PageKey) → IsBrought before after W old new p
     pub files : (f : ℕ) → new.files f ≡ old.files f
 
   module _ {E : Type 0} (h : Ghosts E) where
@@ -35,5 +46,5 @@ module _ {D : Type 0} (g : Ghosts D) where
       pub device : UsesDevice h old.swap.pages.disk new.swap.pages.disk
 
     -- as long as the swap device keeps its model
-    abbrev pub BringsFiles : (FilePage → Type 0) → Core D E → Core D E → Type 0
+    abbrev pub BringsFiles : (PageKey → Type 0) → Core D E → Core D E → Type 0
     BringsFiles W old new = h.keeps_model new.swap.pages.disk → BringsPages old.store.disk new.store.disk W (picture_of old) (picture_of new)

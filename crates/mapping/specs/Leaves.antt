@@ -1,19 +1,21 @@
 -- What the entry of a page in a frame allows.
 use Rattle.std.specs.Prelude.{ℕ, Bool, true, false, ◌&&◌, ◌==◌}
+use Rattle.vm_types.specs.declared.object.PageKey.TheVariants.{File, Object}
 use Rattle.vm_types.specs.declared.region.Attr.{Attr}
 use Rattle.vm_types.specs.declared.region.Backing.{Backing}
-use Rattle.vm_types.specs.declared.region.Backing.TheVariants.{Anon, Private, Shared}
+use Rattle.vm_types.specs.declared.region.Backing.TheVariants.{Anon, Private, Shared, Common}
 use Rattle.vm_types.specs.Permission as Permission
 use Rattle.frames.specs.FrameTable.{count_of}
 use Rattle.page_tables.specs.Leaves.{IsEntryOver}
 use Rattle.paging.specs.Picture.{Picture}
 use Rattle.paging.specs.Parts.{is_shared}
 
--- whether stores through a page reach a touched file page
+-- whether stores through a page reach a touched page of a file or an object
 abbrev pub is_touched_behind : Picture → Backing → Bool
 is_touched_behind c Anon = false
 is_touched_behind c (Private p) = false
-is_touched_behind c (Shared p) = c.touched p
+is_touched_behind c (Shared p) = c.touched (File p)
+is_touched_behind c (Common p) = c.touched (Object p)
 
 -- W in the fullest entry of a page over a frame: where the permission has it, over a frame that nobody else has, or that
 -- of a shared page
@@ -21,7 +23,7 @@ abbrev pub full_write : Picture → Attr → ℕ → Bool → Bool
 full_write c attr frame true = (count_of c.frames frame == 1) && Permission.can_write attr.prot
 full_write c attr frame false = is_shared attr.backing && Permission.can_write attr.prot
 
--- and D: of an own frame with W, and of a touched file page with W
+-- and D: of an own frame with W, and of a touched page of a file or an object with W
 abbrev pub full_dirty : Picture → Attr → ℕ → Bool → Bool
 full_dirty c attr frame true = full_write c attr frame true
 full_dirty c attr frame false = is_touched_behind c attr.backing && Permission.can_write attr.prot

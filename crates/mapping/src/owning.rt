@@ -13,7 +13,8 @@ ghost use Rattle.paging.specs.Stalls.{HasStallCause};
 ghost use Rattle.paging.specs.Capacity.{IsShort};
 ghost use Rattle.paging.specs.Shows.{KeepsFiles};
 ghost use Rattle.page_tables.specs.Leaves.{IsEntryOver};
-ghost use Rattle.mapping.specs.Changes.{IsLinked, KeepsViews, KeepsOtherViews, KeepsOtherBare, KeepsSlotted, IsCalm, IsThatPage, Moves, TakesCopy, is_sole, shown_frame, shown_bytes};
+ghost use Rattle.page_cache.specs.declared.place.Place.TheVariants.{Frame};
+ghost use Rattle.mapping.specs.Changes.{IsLinked, KeepsViews, KeepsOtherViews, KeepsOtherBare, KeepsSlotted, IsCalm, IsThatPage, Moves, TakesCopy, is_sole, frame_of_place, shown_frame, shown_bytes};
 
 use crate::linking::root_of;
 use crate::showing::{ZERO_PAGE, regrant, set_full};
@@ -22,7 +23,7 @@ use mapped_memory::{Memory, entry_number};
 use page_cache::Place;
 use paging::Core;
 use sv39_walk::Pte;
-use vm_types::{Attr, Backing, FrameNo, Pid, Stall, Vpn};
+use vm_types::{Attr, Backing, FrameNo, PageKey, Pid, Stall, Vpn};
 
 /// Gives a page that may be written, and that isn't shared, a frame of its own that shows the same bytes and allows
 /// stores, by W and D (RISC-V Privileged Specification, "Sv39 page table entry"). Where it is the only one to have its
@@ -130,10 +131,20 @@ fn shown_frame<D, E>(core: &Core<D, E>, entry: Pte, backing: Backing) -> FrameNo
     }
     match backing {
         Backing::Anon => ZERO_PAGE,
-        Backing::Private(page) | Backing::Shared(page) => match core.cache.place(page) {
-            Place::Frame(n) => n,
-            Place::Home | Place::Slot(_) => unreachable!(),
-        },
+        Backing::Private(page) => cached_frame(core, PageKey::File(page)),
+        Backing::Shared(page) => cached_frame(core, PageKey::File(page)),
+        Backing::Common(page) => cached_frame(core, PageKey::Object(page)),
+    }
+}
+
+// The frame in which a page of a file or an object lies.
+fn cached_frame<D, E>(core: &Core<D, E>, page: PageKey) -> FrameNo
+    requires { (n : ℕ) × ((picture_of core.now).place page ≡ Frame (record { 0 = n })) }
+    ensures { result.0 ≡ frame_of_place ((picture_of core.now).place page) }
+{
+    match core.cache.place(page) {
+        Place::Frame(n) => n,
+        Place::Home | Place::Slot(_) => unreachable!(),
     }
 }
 

@@ -2,7 +2,8 @@
 ghost use Rattle.std.specs.Prelude.{◌≡◌, ◌≢◌, ℕ, None, Some, true, false};
 ghost use Rattle.vm_types.specs.Limits.{top_level};
 ghost use Rattle.vm_types.specs.Permission.{can_read, can_write};
-ghost use Rattle.vm_types.specs.declared.region.Backing.TheVariants.{Anon, Shared};
+ghost use Rattle.vm_types.specs.Attributes.{stands_on};
+ghost use Rattle.vm_types.specs.declared.region.Backing.TheVariants.{Anon};
 ghost use Rattle.vm_types.specs.Verdict.{is_past_end};
 ghost use Rattle.frames.specs.FrameTable.{IsFrame};
 ghost use Rattle.sv39_walk.specs.Entry.{frame_of};
@@ -21,7 +22,7 @@ use crate::linking::root_of;
 use mapped_memory::{entry_number, set};
 use page_tables::{Grant, entry_over};
 use paging::Core;
-use vm_types::{Attr, Backing, FilePage, FrameNo, Pid, Vpn};
+use vm_types::{Attr, Backing, FrameNo, PageKey, Pid, Vpn};
 
 /// The zero page, the frame of zeros that nothing is written to.
 pub const ZERO_PAGE: FrameNo = FrameNo(0);
@@ -89,28 +90,29 @@ pub fn regrant<D, E>(core: &mut Core<D, E>, pid: Pid, page: Vpn, attr: Attr)
     );
 }
 
-/// Marks the file page of a shared page touched, and shows its frame there with stores allowed, by W and D: one follows
+/// Marks the page of a file or an object behind a shared page touched, and shows its frame there with stores allowed, by W and D: one follows
 /// at once (RISC-V Privileged Specification, "Sv39 page table entry").
 pub fn touch<D, E>(
     core: &mut Core<D, E>,
     pid: Pid,
     page: Vpn,
     attr: Attr,
-    file_page: FilePage,
+    stored: PageKey,
     frame: FrameNo,
 )
     requires linked { IsLinked (picture_of core.old) pid page }
     requires attr { (picture_of core.old).at pid page ≡ Some attr }
-    requires shared { attr.backing ≡ Shared file_page }
+    requires shared { is_shared attr.backing ≡ true }
+    requires stands { stands_on attr.backing ≡ Some stored }
     requires writable { can_write attr.prot ≡ true }
     requires inside { is_past_end (picture_of core.old).files attr.backing ≡ false }
-    requires cached { (picture_of core.old).place file_page ≡ Frame frame }
+    requires cached { (picture_of core.old).place stored ≡ Frame frame }
     ensures enters { Enters core.old core.new pid page }
     ensures entry { IsEntryOver (entry (picture_of core.new) pid page) attr.prot frame.0 false true true }
-    ensures touches { MarksTouched (picture_of core.old) (picture_of core.new) file_page }
+    ensures touches { MarksTouched (picture_of core.old) (picture_of core.new) stored }
 {
     let root = root_of(core, pid);
-    core.cache.mark_dirty(file_page);
+    core.cache.mark_dirty(stored);
     set_full(core, root, page, attr, frame, false);
 }
 
@@ -163,12 +165,13 @@ fn full_grant<D, E>(core: &Core<D, E>, attr: Attr, frame: FrameNo, private: bool
     }
 }
 
-// Whether stores through such a page reach a touched file page.
+// Whether stores through such a page reach a touched page of a file or an object.
 fn is_touched_behind<D, E>(core: &Core<D, E>, backing: Backing) -> bool
     ensures { result ≡ is_touched_behind (picture_of core.now) backing }
 {
     match backing {
-        Backing::Shared(page) => core.cache.is_touched(page),
+        Backing::Shared(page) => core.cache.is_touched(PageKey::File(page)),
+        Backing::Common(page) => core.cache.is_touched(PageKey::Object(page)),
         Backing::Anon | Backing::Private(_) => false,
     }
 }

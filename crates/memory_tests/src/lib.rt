@@ -4,11 +4,7 @@
 #[cfg(test)]
 mod bench;
 #[cfg(test)]
-mod frame_table;
-#[cfg(test)]
 mod hands;
-#[cfg(test)]
-mod mapped_frames;
 #[cfg(test)]
 mod places;
 #[cfg(test)]
@@ -17,6 +13,8 @@ mod runs;
 mod slots;
 #[cfg(test)]
 mod translations;
+#[cfg(test)]
+mod trees;
 #[cfg(test)]
 mod types;
 #[cfg(test)]

@@ -1,73 +1,63 @@
-//! Lines of a buffer, and what a leaf lets through.
+//! Lines of a buffer of translations.
 use crate::bench::equal;
+use std::process::Abort;
 use sv39_walk::Pte;
 use vm_types::{Access, FrameNo, Vpn};
-use walk_buffer::{TranslationBuffer, lets};
+use walk_buffer::{PLACES, TranslationBuffer};
 
-// Readable, writable, accessed and dirty, over frame 5.
-const LEAF: u64 = 0x14d7;
+/// A call that changes the lines.
+#[derive(Clone, Copy)]
+enum Step {
+    Keep(FrameNo, Vpn),
+    DropPage(FrameNo, Vpn),
+    DropPlace(usize),
+    DropRoot(FrameNo),
+}
 
+// Every leaf that is kept is readable, writable, accessed and dirty, over frame 5.
+fn take_step(rt: &impl Abort, buffer: &mut TranslationBuffer, step: Step) {
+    match step {
+        Step::Keep(root, page) => {
+            let leaf = Pte::from_u64(0x14d7);
+            assert!(rt; leaf.frame() == 5);
+            buffer.keep(root, page, leaf);
+        }
+        Step::DropPage(root, page) => buffer.drop_page(root, page),
+        Step::DropPlace(index) => buffer.drop_place(index % PLACES),
+        Step::DropRoot(root) => buffer.drop_root(root),
+    }
+}
+
+// Pages 17 and 81 have one place.
 #[test]
 fn a_kept_leaf_is_found_until_it_is_dropped(rt: HostRuntime) {
     let (root, other) = (FrameNo(1), FrameNo(2));
     let page = Vpn::new(17).expect(&rt, "a user page");
-    let same_place = Vpn::new(81).expect(&rt, "a user page");
-    let leaf = Pte::from_u64(LEAF);
-    assert!(rt; leaf.frame() == 5);
+    let twin = Vpn::new(81).expect(&rt, "a user page");
+    let frame = Some(FrameNo(5));
     let mut buffer = TranslationBuffer::new();
-    equal(&rt, buffer.look(root, page, Access::Load), None);
-
-    buffer.keep(root, page, leaf);
-    equal(
-        &rt,
-        [
+    for (step, found) in [
+        (Step::DropRoot(root), None),
+        (Step::Keep(root, page), frame),
+        (Step::DropRoot(other), frame),
+        (Step::DropPage(other, page), frame),
+        (Step::DropPage(root, twin), frame),
+        (Step::DropPlace(16), frame),
+        (Step::DropPage(root, page), None),
+        (Step::Keep(root, page), frame),
+        (Step::DropRoot(root), None),
+        (Step::Keep(root, page), frame),
+        (Step::DropPlace(17), None),
+        (Step::Keep(root, page), frame),
+        (Step::Keep(other, twin), None),
+    ] {
+        take_step(&rt, &mut buffer, step);
+        let answers = [
             buffer.look(root, page, Access::Load),
+            buffer.look(root, page, Access::Store),
             buffer.look(root, page, Access::Fetch),
             buffer.look(other, page, Access::Load),
-            buffer.look(root, same_place, Access::Load),
-        ],
-        [Some(FrameNo(5)), None, None, None],
-    );
-
-    buffer.drop_root(other);
-    buffer.drop_page(other, page);
-    buffer.drop_page(root, same_place);
-    buffer.drop_place(16);
-    equal(
-        &rt,
-        buffer.look(root, page, Access::Store),
-        Some(FrameNo(5)),
-    );
-    buffer.drop_page(root, page);
-    equal(&rt, buffer.look(root, page, Access::Load), None);
-
-    buffer.keep(root, page, leaf);
-    buffer.drop_root(root);
-    equal(&rt, buffer.look(root, page, Access::Load), None);
-    buffer.keep(root, page, leaf);
-    buffer.drop_place(17);
-    equal(&rt, buffer.look(root, page, Access::Load), None);
-    buffer.keep(root, page, leaf);
-    buffer.keep(other, same_place, leaf);
-    equal(&rt, buffer.look(root, page, Access::Load), None);
-}
-
-#[test]
-fn a_store_asks_for_more_than_a_load(rt: HostRuntime) {
-    for (number, load, store) in [
-        (LEAF, true, true),
-        (0x1457, true, false),
-        (0x14d3, true, false),
-        (0x1497, false, false),
-        (0x14c7, false, false),
-        (0x14d6, false, false),
-    ] {
-        let leaf = Pte::from_u64(number);
-        // The number is there to be told where a test fails.
-        equal(
-            &rt,
-            (number, lets(leaf, Access::Load), lets(leaf, Access::Store)),
-            (number, load, store),
-        );
+        ];
+        equal(&rt, answers, [found, found, None, None]);
     }
 }

@@ -1,7 +1,27 @@
-//! Numbers that look random.
+//! Numbers that look random, and commands that are made of them.
 ghost use Rattle.std.specs.Prelude.{◌<◌};
 
-/// A row of them, the same for a seed at each run (Marsaglia, "Xorshift RNGs").
+use vm_types::{Command, MapSource, MsyncMode, Placing, Prot, StoredValue, Width};
+
+/// The pages that commands name, in rows of four neighbours, each row under a table of its own.
+const PLACES: u64 = 12;
+
+/// Neighbours in a row.
+const ROW: u64 = 4;
+
+/// The most processes that are made.
+const PROCESSES: usize = 3;
+
+/// Pages of the file.
+pub(crate) const FILE_PAGES: u32 = 6;
+
+/// The address of a page, in bytes.
+fn address(place: u64) -> u64 {
+    let place = place % PLACES;
+    4096 * (16 + place / ROW * 512 + place % ROW)
+}
+
+/// A row of numbers, the same for a seed at each run (Marsaglia, "Xorshift RNGs").
 #[derive(Drop)]
 pub(crate) struct Draws {
     state: u64,
@@ -15,20 +35,81 @@ impl Draws {
         }
     }
 
-    fn next(&mut self) -> u64 {
+    /// The next number, below `end`.
+    fn below(&mut self, end: u64) -> u64
+        requires { 0 < end }
+        ensures { result < end }
+    {
         let mut bits = self.state;
         bits ^= bits << 13;
         bits ^= bits >> 7;
         bits ^= bits << 17;
         self.state = bits;
-        bits
+        bits % end
     }
 
-    /// The next number, below `end`.
-    pub(crate) fn below(&mut self, end: u64) -> u64
-        requires { 0 < end }
-        ensures { result < end }
-    {
-        self.next() % end
+    /// Neighbouring pages of one row: the address and the length.
+    fn range(&mut self) -> (u64, u64) {
+        let place = self.below(PLACES);
+        let count = 1 + self.below(ROW - place % ROW);
+        (address(place), 4096 * count)
+    }
+
+    /// What a mapping is to stand on.
+    fn source(&mut self) -> MapSource {
+        let file = 0;
+        let offset = 4096 * self.below(1 + u64::from(FILE_PAGES) - ROW);
+        match self.below(5) {
+            0 => MapSource::Anon,
+            1 => MapSource::Private { file, offset },
+            2 => MapSource::Common,
+            _ => MapSource::Shared { file, offset },
+        }
+    }
+
+    /// A call on a range.
+    fn call(&mut self, pid: u64) -> Command {
+        let (addr, len) = self.range();
+        match self.below(7) {
+            0 => Command::Munmap { pid, addr, len },
+            1 => Command::Dontneed { pid, addr, len },
+            2 | 3 => Command::Msync {
+                pid,
+                addr,
+                len,
+                mode: MsyncMode::Sync,
+            },
+            _ => Command::Mmap {
+                pid,
+                addr,
+                len,
+                prot: Prot::WRITE,
+                source: self.source(),
+                placing: Placing::Fixed,
+            },
+        }
+    }
+
+    /// A command, where so many processes live.
+    pub(crate) fn command(&mut self, processes: usize) -> Option<Command> {
+        let pid = 1 + self.below(PROCESSES as u64 + 1);
+        let addr = address(self.below(PLACES));
+        let may_come = processes < PROCESSES;
+        Some(match self.below(32) {
+            0 | 1 if may_come => Command::Spawn,
+            2 if may_come => Command::Fork { pid },
+            3 => Command::Exit { pid },
+            4..=10 => self.call(pid),
+            11..=20 => Command::Store {
+                pid,
+                addr,
+                stored: StoredValue::new(Width::One, self.below(256))?,
+            },
+            _ => Command::Load {
+                pid,
+                addr,
+                width: Width::One,
+            },
+        })
     }
 }

@@ -2,30 +2,28 @@
 ghost use Rattle.std.specs.Prelude.{ℕ, IfOk};
 ghost use Rattle.machine.specs.Machine.{IsSoundMachine};
 
-use crate::acts::Act;
-use crate::draws::Draws;
-use crate::flat::{FILE_PAGES, Flat};
+use crate::draws::{Draws, FILE_PAGES};
 use disk_model::{SectorDisk, SimDisk};
 use file_store::{FileSource, format};
+use flat_model::Flat;
 use machine::{Config, Machine};
 use std::alloc::Global;
 use std::test::Fail;
-use vm_types::{Reply, Stall};
+use vm_types::{Command, Reply, Stall};
 
 /// Commands of a run.
 const COMMANDS: usize = 400;
 
 /// An image of one file of zeros.
 fn image(alloc: Global) -> Result<SimDisk, Fail> {
-    let pages = FILE_PAGES as u64;
-    let mut disk = SimDisk::new(alloc, 1020 + 8 * pages)?;
+    let mut disk = SimDisk::new(alloc, 8195 + 8 * u64::from(FILE_PAGES))?;
     let mut files: [FileSource<&[u8]>; 1] = [FileSource {
         read_only: false,
-        length: 4096 * pages as u32,
+        length: 4096 * FILE_PAGES,
         bytes: None,
     }];
     format(&mut disk, &mut files)?;
-    Ok(disk.left(alloc, &[])?)
+    Ok(disk)
 }
 
 /// A machine over that image, of whose swap device call `failing` fails.
@@ -50,8 +48,8 @@ fn booted(
 /// frames more, or the slots of what the earlier one has that only memory or swap can hold, or the swap device may fail.
 fn may_stall(setting: Setting, before: &Flat, after: &Flat, stall: Stall) -> bool {
     match stall {
-        Stall::NoFrames => after.tables().saturating_add(3) > u64::from(setting.config.frames),
-        Stall::NoSwap => before.held() > u64::from(setting.config.slots),
+        Stall::NoFrames => after.tables().saturating_add(3) > setting.config.frames as usize,
+        Stall::NoSwap => before.held() > setting.config.slots as usize,
         Stall::SwapDevice => setting.failing.is_some(),
         Stall::StoreDevice => false,
     }
@@ -69,50 +67,44 @@ fn is_success(reply: Reply) -> bool {
 }
 
 /// What a run is made in.
-#[derive(Clone, Copy, Debug, PartialEq, Eq)]
+#[derive(Clone, Copy, Debug)]
 struct Setting {
     config: Config,
     /// The call of the swap device that fails, from 1 on.
     failing: Option<u64>,
 }
 
-/// How one command went.
-#[derive(Clone, Copy, Debug, PartialEq, Eq)]
-enum Step {
-    Done(Flat),
-    Stalled(Stall),
+/// Whether a command may stall so on a machine that shows what the model does: it would succeed.
+fn is_due(setting: Setting, flat: &Flat, command: Command, stall: Stall) -> Result<bool, Fail> {
+    let mut after = flat.clone()?;
+    let reply = after.step(command)?;
+    Ok(is_success(reply) && may_stall(setting, flat, &after, stall))
 }
 
-/// Carries out a command, and has its reply be the model's, or a stall that may be.
+/// Carries out a command, and has its reply be the model's, or a stall that may be, which is returned.
 fn go_on<D: SectorDisk, E: SectorDisk>(
     machine: &mut Machine<D, E>,
     setting: Setting,
-    flat: Flat,
-    act: Act,
-) -> Result<Step, Fail>
+    flat: &mut Flat,
+    command: Command,
+) -> Result<Option<Stall>, Fail>
     requires sound { IsSoundMachine D.SectorDisk E.SectorDisk machine.old }
     ensures sound { IsSoundMachine D.SectorDisk E.SectorDisk machine.new }
 {
-    let Some(command) = act.command() else {
-        return Ok(Step::Done(flat));
-    };
-    let (wanted, after) = act.answer(flat);
     let reply = machine.step(command);
-    if reply == wanted {
-        return Ok(Step::Done(after));
-    }
     match reply {
-        Reply::Stalled(stall) if is_success(wanted) && may_stall(setting, &flat, &after, stall) => {
-            Ok(Step::Stalled(stall))
-        }
-        _ => Err(Fail::new(format_args!(
-            "{act:?} in {setting:?}: {reply:?} where {wanted:?} is wanted"
-        ))),
+        Reply::Stalled(stall) if is_due(setting, flat, command, stall)? => return Ok(Some(stall)),
+        _ => {}
     }
+    let wanted = flat.step(command)?;
+    if reply == wanted {
+        return Ok(None);
+    }
+    Err(Fail::new(format_args!("{command:?} in {setting:?}: {reply:?} where {wanted:?} is wanted")))
 }
 
 /// How many commands of a run stalled, and how many of them for the swap device.
-#[derive(Clone, Copy, Debug, PartialEq, Eq)]
+#[derive(Clone, Copy, Debug)]
 struct Told {
     stalls: u64,
     swap_device: u64,
@@ -120,34 +112,34 @@ struct Told {
 
 /// A run of random commands.
 fn run(alloc: Global, setting: Setting, seed: u64) -> Result<Told, Fail> {
+    let mut flat = Flat::new(alloc, &[4096 * FILE_PAGES])?;
     let mut machine = booted(alloc, setting.config, setting.failing)?;
-    carry_out(&mut machine, setting, seed)
+    carry_out(&mut machine, setting, &mut flat, seed)
 }
 
 /// Carries out random commands one after another.
 fn carry_out<D: SectorDisk, E: SectorDisk>(
     machine: &mut Machine<D, E>,
     setting: Setting,
+    flat: &mut Flat,
     seed: u64,
 ) -> Result<Told, Fail>
     requires sound { IsSoundMachine D.SectorDisk E.SectorDisk machine.old }
     ensures sound { IsSoundMachine D.SectorDisk E.SectorDisk machine.new }
 {
     let mut draws = Draws::new(seed);
-    let mut flat = Flat::new();
     let mut told = Told {
         stalls: 0,
         swap_device: 0,
     };
     for _ in 0..COMMANDS {
-        let act = Act::drawn(&mut draws, &flat);
-        match go_on(machine, setting, flat, act)? {
-            Step::Done(after) => flat = after,
-            Step::Stalled(stall) => {
-                told.stalls = told.stalls.wrapping_add(1);
-                if stall == Stall::SwapDevice {
-                    told.swap_device = told.swap_device.wrapping_add(1);
-                }
+        let Some(command) = draws.command(flat.processes()) else {
+            continue;
+        };
+        if let Some(stall) = go_on(machine, setting, flat, command)? {
+            told.stalls = told.stalls.wrapping_add(1);
+            if stall == Stall::SwapDevice {
+                told.swap_device = told.swap_device.wrapping_add(1);
             }
         }
     }

@@ -8,7 +8,7 @@ use Rattle.vm_types.specs.Attributes.{file_page_eq}
 use Rattle.msync.specs.Choice.{page_at, Appends, Overflows, Lists}
 
 -- nothing passes
-pub nothing : (passes : FilePage → Bool) (list : List FilePage) (used : ℕ) → used ≤ 127 → ((page : FilePage) → passes page ≡ true → ⊥)
+pub nothing : (passes : FilePage → Bool) (list : List FilePage) (used : ℕ) → used ≤ 1023 → ((page : FilePage) → passes page ≡ true → ⊥)
     → Appends passes list list used used
 nothing passes list used few none = record {
   order = omega arith;

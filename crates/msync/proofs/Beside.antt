@@ -1,5 +1,5 @@
 -- What is kept where frames alone change.
-use Rattle.std.proofs.Common.{[], get_or, refl, ap, ◌∙◌}
+use Rattle.std.proofs.Common.{[], get_or, ap, ◌∙◌}
 use Rattle.file_store.specs.Store.{files_of}
 use Rattle.page_cache.specs.CacheTable.{place_of, is_touched}
 use Rattle.swap.specs.Slots.{slots_of}

@@ -1,5 +1,5 @@
 -- A commit of the touched pages of a row, as the flat model sees it.
-use Rattle.std.proofs.Common.{ℕ, zero, suc, inl, inr, ◌⊎◌, ◌-◌, ◌*◌, ◌≡◌, ◌≢◌, ◌<◌, ◌&&◌, ◌++◌, not, Bool, true, false, min, List, [], ◌∷◌, length, take, replicate, slice_get, Option, Some, None, Result, Err, refl, sym, ap, ◌∙◌, subst, arith, lt_irrefl, get_or-take}
+use Rattle.std.proofs.Common.{ℕ, zero, suc, inl, inr, ◌⊎◌, ◌-◌, ◌*◌, ◌≡◌, ◌≢◌, ◌<◌, ◌≤◌, ◌&&◌, ◌++◌, not, Bool, true, false, min, List, [], ◌∷◌, length, take, replicate, slice_get, Option, Some, None, Result, Err, refl, sym, ap, ◌∙◌, subst, arith, get_or-take}
 use Rattle.std.specs.Option.{option_map}
 use Rattle.std.specs.Prelude.{is_some, IsErrOf}
 use Rattle.std.proofs.lemmas.Bool.{cases_Bool}
@@ -17,13 +17,16 @@ use Rattle.sync_journal.specs.Source.{HasCauses}
 use Rattle.sync_journal.specs.declared.faults.CommitFault.{CommitFault}
 use Rattle.sync_journal.specs.declared.faults.CommitFault.TheVariants.{Source, Device}
 use Rattle.frames.specs.declared.role.Role.TheVariants.{Private, Cache}
-use Rattle.frames.specs.FrameTable.{FrameTable, bytes_of}
+use Rattle.frames.specs.FrameTable.{FrameTable}
 use Rattle.swap.specs.Slots.{SlotTable}
 use Rattle.page_cache.specs.declared.place.Place.TheVariants.{Home, Frame, Slot}
 use Rattle.vm_types.specs.declared.command.Command.TheVariants.{Msync}
 use Rattle.vm_types.specs.declared.command.MsyncMode.{MsyncMode}
 use Rattle.vm_types.specs.declared.file.FileInfo.{FileInfo}
 use Rattle.vm_types.specs.declared.file.FilePage.{FilePage}
+use Rattle.vm_types.specs.declared.object.ObjectPage.{ObjectPage}
+use Rattle.vm_types.specs.declared.object.PageKey.{PageKey}
+use Rattle.vm_types.specs.declared.object.PageKey.TheVariants.{File, Object}
 use Rattle.vm_types.specs.declared.number.SlotNo.{SlotNo}
 use Rattle.vm_types.specs.declared.refusal.Errno.TheVariants.{EIO}
 use Rattle.vm_types.specs.declared.refusal.Stall.TheVariants.{SwapDevice}
@@ -40,16 +43,16 @@ use Rattle.paging.specs.Seats.{InFrame}
 use Rattle.paging.specs.Picture.{Picture, picture_of, entry, held, is_private}
 use Rattle.paging.specs.Parts.{IsFit}
 use Rattle.paging.specs.Shows.{ShowsPages}
-use Rattle.msync.specs.declared.chosen.Chosen.{Chosen}
+use Rattle.msync.specs.Choice.{Chosen}
 use Rattle.msync.specs.declared.chosen.Residence.{Residence}
 use Rattle.msync.specs.declared.chosen.Residence.TheVariants.{Framed, Slotted}
 use Rattle.msync.specs.declared.chosen.Spot.{Spot}
 use Rattle.msync.specs.Choice.{page_at, Lists, TakesSame, IsListed, IsAway}
 use Rattle.msync.specs.Core.{KeepsMemory, IsEnd, Acknowledged, Failed, Unread, Commits}
 use Rattle.msync.specs.Spots.{spot_at, place_at, bytes_there, IsSlotted, HasSlot, AreSpots, HasSpots}
-use Rattle.msync.specs.Settling.{settled_place, settled_in, settled_bytes, Settles, LosesDirtyOnly, ComesHome, SettlesPlaces}
+use Rattle.msync.specs.Settling.{settled_place, settled_in, Settles, LosesDirtyOnly, ComesHome, SettlesPlaces}
 use Rattle.msync.specs.Shows.{IsSoundCore, Shows}
-use Rattle.msync.proofs.SettledPages.{held_spot, cases_listed}
+use Rattle.msync.proofs.SettledPages.{one_file, held_spot, cases_listed}
 
 -- what stands at a place of a list
 some_get : (xs : List FilePage) (i : ℕ) (p : FilePage) → slice_get xs i ≡ Some p → (i < length xs) × (p ≡ page_at xs i)
@@ -63,22 +66,25 @@ get_some (x ∷ xs) zero less = refl
 get_some (x ∷ xs) (suc i) less = get_some xs i (omega arith)
 
 -- the pages of a commit, as they stand at the front of the list
-pub front_length : (chosen : Chosen) → length (take chosen.count chosen.list) ≡ chosen.count
-front_length chosen = length-take-le chosen.count chosen.list (omega (arith, chosen.few, chosen.room))
+pub fits : (c : Picture) (chosen : Chosen) → IsListed c chosen → chosen.count ≤ length chosen.list
+fits c chosen listed = omega (arith, listed.few, listed.room)
+
+pub front_length : (chosen : Chosen) → chosen.count ≤ length chosen.list → length (take chosen.count chosen.list) ≡ chosen.count
+front_length chosen fit = length-take-le chosen.count chosen.list fit
 
 pub front_same : (chosen : Chosen) (i : ℕ) → i < chosen.count → page_at (take chosen.count chosen.list) i ≡ page_at chosen.list i
 front_same chosen i less = get_or-take chosen.count chosen.list i (record { file = 0; page = 0 }) less
 
 pub front_touched : (c : Picture) (chosen : Chosen) → IsListed c chosen → (i : ℕ) → i < length (take chosen.count chosen.list)
-    → c.touched (page_at (take chosen.count chosen.list) i) ≡ true
+    → c.touched (File (page_at (take chosen.count chosen.list) i)) ≡ true
 front_touched c chosen listed i less =
-    let below : i < chosen.count = omega (arith, front_length chosen) in
-    ap c.touched (front_same chosen i below) ∙ listed.touched i below
+    let below : i < chosen.count = omega (arith, front_length chosen (fits c chosen listed)) in
+    ap (λ q. c.touched (File q)) (front_same chosen i below) ∙ listed.touched i below
 
 front_once : (c : Picture) (chosen : Chosen) → IsListed c chosen → (i j : ℕ) → i < j → j < length (take chosen.count chosen.list)
     → page_at (take chosen.count chosen.list) i ≢ page_at (take chosen.count chosen.list) j
 front_once c chosen listed i j less high e =
-    let below : j < chosen.count = omega (arith, front_length chosen) in
+    let below : j < chosen.count = omega (arith, front_length chosen (fits c chosen listed)) in
     listed.once i j less below (sym (front_same chosen i (omega arith)) ∙ e ∙ front_same chosen j below)
 
 -- they may be committed
@@ -86,12 +92,12 @@ pub are_pages : (c : Picture) (chosen : Chosen) → IsFit c → IsListed c chose
 are_pages c chosen fit listed =
     let front = take chosen.count chosen.list in
     record {
-      some = omega (arith, front_length chosen, listed.some);
-      few = omega (arith, front_length chosen, chosen.few);
+      some = omega (arith, front_length chosen (fits c chosen listed), listed.some);
+      few = omega (arith, front_length chosen (fits c chosen listed), listed.few);
       inside = λ i p e.
           let r = some_get front i p e in
-          let touched = ap c.touched r.1 ∙ front_touched c chosen listed i r.0 in
-          fit.places.inside p (fit.dirty.held p touched);
+          let touched = ap (λ q. c.touched (File q)) r.1 ∙ front_touched c chosen listed i r.0 in
+          fit.places.inside (File p) (fit.dirty.held (File p) touched);
       distinct = λ i j p less at_i at_j.
           let a = some_get front i p at_i in
           let b = some_get front j p at_j in
@@ -110,17 +116,17 @@ are_spots c chosen list listed spots =
     }
 
 -- the list is of what the flat model takes
-pub front_lists : (s : State) (pid first count : ℕ) (chosen : Chosen)
+pub front_lists : (s : State) (pid first count : ℕ) (chosen : Chosen) → chosen.count ≤ length chosen.list
     → Lists (λ page. touched_in s pid first count page.file page.page) chosen.list chosen.count
     → Lists (λ page. touched_in s pid first count page.file page.page) (take chosen.count chosen.list) (length (take chosen.count chosen.list))
-front_lists s pid first count chosen l = record {
+front_lists s pid first count chosen fit l = record {
   each = λ i less.
-      let below : i < chosen.count = omega (arith, front_length chosen) in
+      let below : i < chosen.count = omega (arith, front_length chosen fit) in
       ap (λ (p : FilePage). touched_in s pid first count p.file p.page) (front_same chosen i below) ∙ l.each i below;
   once = λ i j less high e.
-      let below : j < chosen.count = omega (arith, front_length chosen) in
+      let below : j < chosen.count = omega (arith, front_length chosen fit) in
       l.once i j less below (sym (front_same chosen i (omega arith)) ∙ e ∙ front_same chosen j below);
-  all = λ p e. let r = l.all p e in (r.0, omega (arith, r.1, front_length chosen), front_same chosen r.0 r.1 ∙ r.2);
+  all = λ p e. let r = l.all p e in (r.0, omega (arith, r.1, front_length chosen fit), front_same chosen r.0 r.1 ∙ r.2);
 }
 
 -- the store cuts a page as the flat model does
@@ -163,13 +169,13 @@ module _ (c : Picture) (s : State) (pid first count : ℕ) (pages : List FilePag
   bytes_at i less =
       let x = spot_at list i in
       let P : FilePage → Type 0 = λ p. s.volatile p.file p.page ≡ bytes_there c.frames c.slots (spot_at list i).at in
-      subst P (spots.same i less) (shows.held x.page (bytes_there c.frames c.slots x.at) (held_spot c x.page x.at (spots.spots i less).placed))
+      subst P (spots.same i less) (shows.held x.page (bytes_there c.frames c.slots x.at) (held_spot c (File x.page) x.at (spots.spots i less).placed))
 
   file_at : (i : ℕ) → i < length pages → IsPageOf c.files (page_at pages i).file (page_at pages i).page
   file_at i less =
       let x = spot_at list i in
       let P : FilePage → Type 0 = λ p. IsPageOf c.files p.file p.page in
-      subst P (spots.same i less) (fit.places.inside x.page (λ home. no_home x.at (sym home ∙ (spots.spots i less).placed)))
+      subst P (spots.same i less) (fit.places.inside (File x.page) (λ home. no_home x.at (sym home ∙ (spots.spots i less).placed)))
 
   cut_at : (i : ℕ) → i < length pages
       → trimmed s.files (page_at pages i).file (page_at pages i).page (s.volatile (page_at pages i).file (page_at pages i).page)
@@ -199,11 +205,11 @@ module _ (c : Picture) (s : State) (pid first count : ℕ) (pages : List FilePag
   }
 
   -- a page that isn't taken is none of the list
-  not_listed : (p : FilePage) → touched_in s pid first count p.file p.page ≡ false → (i : ℕ) → i < length list → (spot_at list i).page ≢ p
+  not_listed : (p : FilePage) → touched_in s pid first count p.file p.page ≡ false → (i : ℕ) → i < length list → File (spot_at list i).page ≢ File p
   not_listed p left i less same =
       let below : i < length pages = omega (arith, spots.count) in
       let P : FilePage → Type 0 = λ q. touched_in s pid first count q.file q.page ≡ true in
-      let bad : true ≡ false = sym (subst P (sym (spots.same i below) ∙ same) (lists.each i below)) ∙ left in (cc)
+      let bad : true ≡ false = sym (subst P (sym (spots.same i below) ∙ one_file (spot_at list i).page p same) (lists.each i below)) ∙ left in (cc)
 
   -- one that is taken has its place in the list
   listed_place : (p : FilePage) → touched_in s pid first count p.file p.page ≡ true → (i : ℕ) × (i < length list) × ((spot_at list i).page ≡ p)
@@ -212,14 +218,14 @@ module _ (c : Picture) (s : State) (pid first count : ℕ) (pages : List FilePag
       (r.0, omega (arith, r.1, spots.count), spots.same r.0 r.1 ∙ r.2)
 
   module _ (new : Picture) (settles : Settles c new list (length list)) where
-    touched_now : (p : FilePage) → (s.touched p.file p.page && not (touched_in s pid first count p.file p.page)) ≡ new.touched p
+    touched_now : (p : FilePage) → (s.touched p.file p.page && not (touched_in s pid first count p.file p.page)) ≡ new.touched (File p)
     touched_now p = elim (cases_taken (touched_in s pid first count p.file p.page)) [
       | inl taken ↦ (
           let r = listed_place p taken in
-          let clean : new.touched p ≡ false = ap new.touched (sym r.2) ∙ settles.cleaned r.0 r.1 in
+          let clean : new.touched (File p) ≡ false = ap (λ q. new.touched (File q)) (sym r.2) ∙ settles.cleaned r.0 r.1 in
           rw taken (and_false (s.touched p.file p.page) ∙ sym clean))
       | inr left ↦ (
-          let same : new.touched p ≡ c.touched p = settles.untouched p (not_listed p left) in
+          let same : new.touched (File p) ≡ c.touched (File p) = settles.untouched (File p) (not_listed p left) in
           rw left (and_true (s.touched p.file p.page) ∙ shows.touched p ∙ sym same))
     ]
       where
@@ -231,13 +237,13 @@ module _ (c : Picture) (s : State) (pid first count : ℕ) (pages : List FilePag
         and_true true = refl
         and_true false = refl
 
-    held_now : (p : FilePage) (bytes : List ℕ) → held new p ≡ Some bytes → committed s pid first count s.volatile p.file p.page ≡ bytes
+    held_now : (p : FilePage) (bytes : List ℕ) → held new (File p) ≡ Some bytes → committed s pid first count s.volatile p.file p.page ≡ bytes
     held_now p bytes here = elim (cases_taken (touched_in s pid first count p.file p.page)) [
       | inl taken ↦ (
           let r = listed_place p taken in
           let x = spot_at list r.0 in
           let below : r.0 < length pages = (let less = r.1 in omega (arith, less, spots.count)) in
-          let is : settled_in c.files c.frames x.page x.at ≡ Some bytes = sym (settles.settled r.0 r.1) ∙ ap (λ q. held new q) r.2 ∙ here in
+          let is : settled_in c.files c.frames x.page x.at ≡ Some bytes = sym (settles.settled r.0 r.1) ∙ ap (λ q. held new (File q)) r.2 ∙ here in
           let cut_is = from_settled c.files c.frames c.slots x.page x.at bytes is in
           let P : FilePage → Type 0 = λ q. s.volatile q.file q.page ≡ bytes_there c.frames c.slots x.at in
           let Q : FilePage → Type 0 = λ q. trimmed c.files q.file q.page (bytes_there c.frames c.slots x.at) ≡ bytes in
@@ -246,8 +252,11 @@ module _ (c : Picture) (s : State) (pid first count : ℕ) (pages : List FilePag
           ∙ ap (trimmed s.files p.file p.page) volatile
           ∙ ap (λ (o : Option FileInfo). cut (inside_of o p.page) (bytes_there c.frames c.slots x.at)) (shows.files p.file)
           ∙ subst Q r.2 cut_is)
-      | inr left ↦ left_page s pid first count p.file p.page s.volatile left ∙ shows.held p bytes (sym (settles.kept p (not_listed p left)) ∙ here)
+      | inr left ↦ left_page s pid first count p.file p.page s.volatile left ∙ shows.held p bytes (sym (settles.kept (File p) (not_listed p left)) ∙ here)
     ]
+
+    none_object : (o : ObjectPage) (i : ℕ) → i < length list → File (spot_at list i).page ≢ Object o
+    none_object o i less e = (cc)
 
     -- memory afterwards shows the state afterwards
     pub synced_shows : ShowsPages new (synced s pid first count)
@@ -256,23 +265,25 @@ module _ (c : Picture) (s : State) (pid first count : ℕ) (pages : List FilePag
       views = λ q p. shows.views q p ∙ sym (settles.views q p);
       files = λ f. shows.files f ∙ sym (settles.files f);
       touched = touched_now;
+      objects = λ o. shows.objects o ∙ sym (rw (settles.untouched (Object o) (none_object o), settles.kept (Object o) (none_object o)) refl);
+      blank = λ o bytes untouched is. shows.blank o bytes (sym (settles.untouched (Object o) (none_object o)) ∙ untouched) (sym (settles.kept (Object o) (none_object o)) ∙ is);
       held = held_now;
       clean = λ p untouched inside. elim (cases_taken (touched_in s pid first count p.file p.page)) [
         | inl taken ↦ taken_page s pid first count p.file p.page s.volatile taken ∙ sym (taken_page s pid first count p.file p.page s.durable taken)
         | inr left ↦ left_page s pid first count p.file p.page s.volatile left
-            ∙ shows.clean p (sym (settles.untouched p (not_listed p left)) ∙ untouched) (inside.0, sym (settles.files p.file) ∙ inside.1, inside.2)
+            ∙ shows.clean p (sym (settles.untouched (File p) (not_listed p left)) ∙ untouched) (inside.0, sym (settles.files p.file) ∙ inside.1, inside.2)
             ∙ sym (left_page s pid first count p.file p.page s.durable left)
       ];
     }
 
 module _ (c new : Picture) (chosen : Chosen) (list : List Spot) (fit : IsFit c) (listed : IsListed c chosen) (spots : HasSpots c (take chosen.count chosen.list) list)
     (settles : Settles c new list (length list)) where
-  was_touched : (i : ℕ) → i < length list → c.touched (spot_at list i).page ≡ true
+  was_touched : (i : ℕ) → i < length list → c.touched (File (spot_at list i).page) ≡ true
   was_touched i less =
       let below : i < length (take chosen.count chosen.list) = omega (arith, less, spots.count) in
-      ap c.touched (spots.same i below) ∙ front_touched c chosen listed i below
+      ap (λ q. c.touched (File q)) (spots.same i below) ∙ front_touched c chosen listed i below
 
-  placed_at : (i : ℕ) → i < length list → c.place (spot_at list i).page ≡ place_at (spot_at list i).at
+  placed_at : (i : ℕ) → i < length list → c.place (File (spot_at list i).page) ≡ place_at (spot_at list i).at
   placed_at i less = (spots.spots i (omega (arith, less, spots.count))).placed
 
   -- of all entries only leaves over the pages that were taken lost D
@@ -282,13 +293,13 @@ module _ (c new : Picture) (chosen : Chosen) (list : List Spot) (fit : IsFit c) 
     | inr lost ↦ (
         let i = lost.frame.0 in
         let e = entry c pid page in
-        let over : c.place (spot_at list i).page ≡ Frame (record { 0 = frame_of e }) = placed_at i lost.frame.1 ∙ ap place_at lost.frame.2 in
+        let over : c.place (File (spot_at list i).page) ≡ Frame (record { 0 = frame_of e }) = placed_at i lost.frame.1 ∙ ap place_at lost.frame.2 in
         inr (record {
           leaf = lost.leaf;
           common = elim (cases_Bool (is_private e)) [
             | inl own ↦ absurd (
                 let named = fit.counted.1.named pid page (InFrame (frame_of e)) h (rw own refl) in
-                let bad : Private ≡ Cache = sym named ∙ fit.places.cached (spot_at list i).page (frame_of e) over in (cc))
+                let bad : Private ≡ Cache = sym named ∙ fit.places.cached (File (spot_at list i).page) (frame_of e) over in (cc))
             | inr common ↦ common
           ];
           loses = lost.loses;
@@ -299,8 +310,8 @@ module _ (c new : Picture) (chosen : Chosen) (list : List Spot) (fit : IsFit c) 
         }))
   ]
 
-  place_synced : (p : FilePage) (at : Residence) → c.place p ≡ place_at at → new.place p ≡ settled_place at → c.touched p ≡ true → new.touched p ≡ false
-      → (new.place p ≡ c.place p) ⊎ ComesHome c new p
+  place_synced : (p : FilePage) (at : Residence) → c.place (File p) ≡ place_at at → new.place (File p) ≡ settled_place at → c.touched (File p) ≡ true → new.touched (File p) ≡ false
+      → (new.place (File p) ≡ c.place (File p)) ⊎ ComesHome c new p
   place_synced p (Framed n) was now touched clean = inl (now ∙ sym was)
   place_synced p (Slotted k) was now touched clean = inr (record { slot = k; was = was; touched = touched; now = now; clean = clean })
 
@@ -311,26 +322,29 @@ module _ (c new : Picture) (chosen : Chosen) (list : List Spot) (fit : IsFit c) 
     | inl found ↦ (
         let i = found.0 in
         let x = spot_at list i in
-        let P : FilePage → Type 0 = λ q. (new.place q ≡ c.place q) ⊎ ComesHome c new q in
-        subst P found.2 (place_synced x.page x.at (placed_at i found.1) (settles.placed i found.1) (was_touched i found.1) (settles.cleaned i found.1)))
+        let P : PageKey → Type 0 = λ q. (new.place q ≡ c.place q) ⊎ ((f : FilePage) × (q ≡ File f) × ComesHome c new f) in
+        subst P found.2 (elim (place_synced x.page x.at (placed_at i found.1) (settles.placed i found.1) (was_touched i found.1) (settles.cleaned i found.1)) [
+          | inl same ↦ inl same
+          | inr home ↦ inr (x.page, refl, home)
+        ]))
   ]
 
-slot_of : (c : Picture) (p : FilePage) (at : Residence) → c.place p ≡ place_at at → IsSlotted at → (k : SlotNo) × (c.place p ≡ Slot k)
+slot_of : (c : Picture) (p : PageKey) (at : Residence) → c.place p ≡ place_at at → IsSlotted at → (k : SlotNo) × (c.place p ≡ Slot k)
 slot_of c p (Framed n) placed is = absurd is
 slot_of c p (Slotted k) placed is = (k, placed)
 
 -- where one of the spots is a slot, a page of the commit lies in one
-pub away_of : (c : Picture) (chosen : Chosen) (list : List Spot) → HasSpots c (take chosen.count chosen.list) list → HasSlot list → IsAway c chosen
-away_of c chosen list spots has =
+pub away_of : (c : Picture) (chosen : Chosen) (list : List Spot) → chosen.count ≤ length chosen.list → HasSpots c (take chosen.count chosen.list) list → HasSlot list → IsAway c chosen
+away_of c chosen list fit spots has =
     let i = has.0 in
     let below : i < length (take chosen.count chosen.list) = (let less = has.1 in omega (arith, less, spots.count)) in
-    let front : i < chosen.count = omega (arith, below, front_length chosen) in
-    let slot = slot_of c (spot_at list i).page (spot_at list i).at (spots.spots i below).placed has.2 in
+    let front : i < chosen.count = omega (arith, below, front_length chosen fit) in
+    let slot = slot_of c (File (spot_at list i).page) (spot_at list i).at (spots.spots i below).placed has.2 in
     record {
       number = i;
       below = front;
       slot = slot.0;
-      placed = ap c.place (sym (front_same chosen i front) ∙ sym (spots.same i below)) ∙ slot.1;
+      placed = ap (λ q. c.place (File q)) (sym (front_same chosen i front) ∙ sym (spots.same i below)) ∙ slot.1;
     }
 
 -- what a fault comes from

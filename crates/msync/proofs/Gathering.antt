@@ -3,26 +3,27 @@ use Rattle.std.proofs.Common.{ℕ, ◌+◌, ◌≡◌, ◌<◌, ◌≤◌, ◌==
 use Rattle.std.proofs.lemmas.Bool.{cases_lt}
 use Rattle.std.proofs.lemmas.Bool.Decides.{nat_tests}
 use Rattle.vm_types.specs.declared.file.FilePage.{FilePage}
+use Rattle.vm_types.specs.declared.object.PageKey.TheVariants.{File}
 use Rattle.vm_types.specs.declared.region.Backing.TheVariants.{Shared}
 use Rattle.page_cache.specs.CacheTable.{CacheTable, is_touched}
 use Rattle.page_cache.specs.Gathering.{IsTouchedIn, Gathers, HasAll}
 use Rattle.page_cache.specs.Gathering as Cache
-use Rattle.msync.specs.Choice.{page_at, in_file_row, is_taken_behind, Appends, Overflows}
+use Rattle.msync.specs.Choice.{of_files, page_at, in_file_row, is_taken_behind, Appends, Overflows}
 use Rattle.msync.proofs.Walking.{both_true, and_true}
 
 -- a touched page of a row, by tests
-behind : (t : CacheTable) (first : FilePage) (count : ℕ) (p : FilePage) → IsTouchedIn t first.file first.page count p → is_taken_behind (is_touched t) (Shared first) count p ≡ true
+behind : (t : CacheTable) (first : FilePage) (count : ℕ) (p : FilePage) → IsTouchedIn t first.file first.page count p → is_taken_behind (of_files (is_touched t)) (Shared first) count p ≡ true
 behind t first count p in_row =
     let same = in_row.row.0 in
     let low = in_row.row.1 in
     let high = in_row.row.2 in
     let file : (p.file == first.file) ≡ true = grind (arith, nat_tests) in
     let row : (leb first.page p.page && ltb p.page (first.page + count)) ≡ true = grind (arith, nat_tests) in
-    and_true (is_touched t p) (in_file_row first count p) in_row.touched (and_true (p.file == first.file) (leb first.page p.page && ltb p.page (first.page + count)) file row)
+    and_true (is_touched t (File p)) (in_file_row first count p) in_row.touched (and_true (p.file == first.file) (leb first.page p.page && ltb p.page (first.page + count)) file row)
 
-in_row_of : (t : CacheTable) (first : FilePage) (count : ℕ) (p : FilePage) → is_taken_behind (is_touched t) (Shared first) count p ≡ true → IsTouchedIn t first.file first.page count p
+in_row_of : (t : CacheTable) (first : FilePage) (count : ℕ) (p : FilePage) → is_taken_behind (of_files (is_touched t)) (Shared first) count p ≡ true → IsTouchedIn t first.file first.page count p
 in_row_of t first count p e =
-    let a = both_true (is_touched t p) (in_file_row first count p) e in
+    let a = both_true (is_touched t (File p)) (in_file_row first count p) e in
     let d = both_true (p.file == first.file) (leb first.page p.page && ltb p.page (first.page + count)) a.1 in
     let file = d.0 in
     let row = d.1 in
@@ -32,7 +33,7 @@ in_row_of t first count p e =
     record { row = (same, low, high); touched = a.0 }
 
 pub gathered : (t : CacheTable) (first : FilePage) (count used n : ℕ) (x y : List FilePage) → Gathers t first.file first.page count used x y n
-    → HasAll t first.file first.page count y n → Appends (is_taken_behind (is_touched t) (Shared first) count) x y used n
+    → HasAll t first.file first.page count y n → Appends (is_taken_behind (of_files (is_touched t)) (Shared first) count) x y used n
 gathered t first count used n x y gathers all = record {
   order = gathers.longer;
   few = gathers.most;
@@ -42,24 +43,24 @@ gathered t first count used n x y gathers all = record {
   all = λ p e. all p (in_row_of t first count p e);
 }
 
-pub overflown : (t : CacheTable) (first : FilePage) (count used : ℕ) (x y : List FilePage) → used ≤ 127 → Cache.Overflows t first.file first.page count used x y
-    → Overflows (is_taken_behind (is_touched t) (Shared first) count) x used
+pub overflown : (t : CacheTable) (first : FilePage) (count used : ℕ) (x y : List FilePage) → used ≤ 1023 → Cache.Overflows t first.file first.page count used x y
+    → Overflows (is_taken_behind (of_files (is_touched t)) (Shared first) count) x used
 overflown t first count used x y few over =
-    let at : ℕ → FilePage = λ i. if ltb i 127 then page_at y i else over.missing in
-    let old : (i : ℕ) → i < 127 → at i ≡ page_at y i = λ i less. let t : ltb i 127 ≡ true = grind (arith, nat_tests) in rw t refl in
-    let new : (i : ℕ) → 127 ≤ i → at i ≡ over.missing = λ i more. let t : ltb i 127 ≡ false = grind (arith, nat_tests) in rw t refl in
-    let passes = is_taken_behind (is_touched t) (Shared first) count in
+    let at : ℕ → FilePage = λ i. if ltb i 1023 then page_at y i else over.missing in
+    let old : (i : ℕ) → i < 1023 → at i ≡ page_at y i = λ i less. let t : ltb i 1023 ≡ true = grind (arith, nat_tests) in rw t refl in
+    let new : (i : ℕ) → 1023 ≤ i → at i ≡ over.missing = λ i more. let t : ltb i 1023 ≡ false = grind (arith, nat_tests) in rw t refl in
+    let passes = is_taken_behind (of_files (is_touched t)) (Shared first) count in
     record {
       at = at;
       kept = λ i less. old i (omega (arith, less, few)) ∙ over.full.kept i less;
       each = λ i low high.
           ⊎_elim
-          (λ (less : i < 127). ap passes (old i less) ∙ behind t first count (page_at y i) (over.full.touched i low less))
-          (λ (more : 127 ≤ i). ap passes (new i more) ∙ behind t first count over.missing over.touched)
-          (cases_lt i 127);
+          (λ (less : i < 1023). ap passes (old i less) ∙ behind t first count (page_at y i) (over.full.touched i low less))
+          (λ (more : 1023 ≤ i). ap passes (new i more) ∙ behind t first count over.missing over.touched)
+          (cases_lt i 1023);
       once = λ i j less low high e.
           ⊎_elim
-          (λ (below : j < 127). over.full.once i j less low below (sym (old i (omega arith)) ∙ e ∙ old j below))
-          (λ (more : 127 ≤ j). over.absent (i, omega arith, sym (old i (omega arith)) ∙ e ∙ new j more))
-          (cases_lt j 127);
+          (λ (below : j < 1023). over.full.once i j less low below (sym (old i (omega arith)) ∙ e ∙ old j below))
+          (λ (more : 1023 ≤ j). over.absent (i, omega arith, sym (old i (omega arith)) ∙ e ∙ new j more))
+          (cases_lt j 1023);
     }

@@ -5,7 +5,6 @@ pub mod Gathering
 pub mod Rulings
 pub mod Spotting
 pub mod Beside
-pub mod Cleaning
 pub mod Homing
 pub mod Settled
 pub mod SettledPages

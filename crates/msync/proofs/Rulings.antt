@@ -1,5 +1,5 @@
 -- How an msync is judged, as the flat model sees it.
-use Rattle.std.proofs.Common.{ℕ, zero, suc, ◌+◌, ◌/◌, ◌%◌, ◌≡◌, ◌≢◌, ◌<◌, ◌^◌, ◌==◌, ◌&&◌, not, Bool, true, false, nat_lt, List, [], ◌∷◌, get_or, Option, Some, None, refl, sym, ap, ◌∙◌, arith}
+use Rattle.std.proofs.Common.{ℕ, zero, suc, ◌+◌, ◌/◌, ◌%◌, ◌≡◌, ◌≢◌, ◌<◌, ◌^◌, ◌==◌, ◌&&◌, not, Bool, true, false, nat_lt, List, [], ◌∷◌, length, Option, Some, None, refl, sym, ap, ◌∙◌, arith}
 use Rattle.std.specs.Option.{option_map}
 use Rattle.std.specs.Prelude.{is_some}
 use Rattle.std.proofs.lemmas.Bool.Decides.{nat_tests}
@@ -7,6 +7,7 @@ use Rattle.vm_types.specs.declared.command.MsyncMode.{MsyncMode}
 use Rattle.vm_types.specs.declared.command.MsyncMode.TheVariants.{Sync}
 use Rattle.vm_types.specs.declared.file.FileInfo.{FileInfo}
 use Rattle.vm_types.specs.declared.file.FilePage.{FilePage}
+use Rattle.vm_types.specs.declared.object.PageKey.TheVariants.{File}
 use Rattle.vm_types.specs.declared.refusal.Errno.TheVariants.{ENOMEM}
 use Rattle.vm_types.specs.declared.region.Attr.{Attr}
 use Rattle.vm_types.specs.Checks.{first_of, page_count, pages_from}
@@ -21,13 +22,12 @@ use Rattle.file_store.specs.declared.directory.Entry.{Entry}
 use Rattle.file_store.specs.Store.{entry_of}
 use Rattle.regions.specs.declared.run.Run.{Run}
 use Rattle.regions.specs.RunList.{attr_at}
-use Rattle.paging.specs.declared.kernel.Core.{Core}
-use Rattle.paging.specs.Picture.{Picture, picture_of, entry, is_live, attr_where, root_in, own_in, view_of, view}
+use Rattle.paging.specs.Picture.{Picture, entry, is_live, attr_where, own_in, view_of, view}
 use Rattle.paging.specs.Parts.{IsFit}
 use Rattle.paging.specs.Shows.{ShowsPages}
 use Rattle.msync.specs.declared.chosen.Ruling.{Ruling}
 use Rattle.msync.specs.declared.chosen.Ruling.TheVariants.{Refuses, Passes, Takes}
-use Rattle.msync.specs.Choice.{page_at, shares_page, is_shared_in, is_chosen, Overflows, Lists, IsChoice, RulesSame, AreListed, AreTaken}
+use Rattle.msync.specs.Choice.{of_files, page_at, shares_page, is_shared_in, is_chosen, Overflows, Lists, IsChoice, RulesSame, AreListed, AreTaken}
 use Rattle.msync.proofs.Appending.{lists_same}
 use Rattle.msync.proofs.Totals.{total, IsWithin, at_least, exactly}
 use Rattle.msync.proofs.Walking.{both_true}
@@ -56,7 +56,7 @@ unfolding view
 view-shares c pid page p = shares_in_view (own_in c.frames c.slots (entry c pid page)) (c.at pid page) p
 
 pub the_process : (c : Picture) (map : ℕ → Option Attr) (s : State) (pid : ℕ) (r : Bool) → ShowsPages c s → r ≡ is_live c pid → r ≡ true
-    → ((page : ℕ) → c.at pid page ≡ map page) → IsProcess c.touched map s pid
+    → ((page : ℕ) → c.at pid page ≡ map page) → IsProcess (of_files c.touched) map s pid
 the_process c map s pid r shows is live at = record {
   live = shows.live pid ∙ sym is ∙ live;
   attrs = λ page. ap (λ (o : Option View). option_map (λ (v : View). v.attr) o) (shows.views pid page) ∙ view-attr c pid page ∙ at page;
@@ -97,9 +97,9 @@ module _ (touched : FilePage → Bool) (map : ℕ → Option Attr) (s : State) (
   unfolding touched_count total
   total_of first count = refl
 
-  too_many : (first count : ℕ) → IsWithin touched 64 (2 ^ 20) → Overflows (is_chosen touched map first count) [] 0 → 127 < touched_count s pid first count
+  too_many : (first count : ℕ) → IsWithin touched 64 (2 ^ 20) → Overflows (is_chosen touched map first count) [] 0 → 1023 < touched_count s pid first count
   too_many first count within over =
-      let n = at_least (λ page. touched_in s pid first count page.file page.page) 64 (2 ^ 20) over.at 128 (taken_within first count within)
+      let n = at_least (λ page. touched_in s pid first count page.file page.page) 64 (2 ^ 20) over.at 1024 (taken_within first count within)
       (λ i less. sym (taken_is_chosen first count (over.at i)) ∙ over.each i (omega arith) less)
       (λ i j less high. over.once i j less (omega arith) high) in
       omega (arith, n, total_of first count)
@@ -150,34 +150,37 @@ module _ (touched : FilePage → Bool) (map : ℕ → Option Attr) (s : State) (
       let e = covered_of (addr / 4096) (page_count len) ∙ covered in
       ruling_after addr len mode aligned some ∙ rw e refl
 
-  pub ruled_sync : (addr len : ℕ) (r : Ruling) → IsWithin touched 64 (2 ^ 20) → addr % 4096 ≡ 0 → len ≢ 0
+  pub ruled_sync : (addr len : ℕ) (list : List FilePage) (r : Ruling) → IsWithin touched 64 (2 ^ 20) → addr % 4096 ≡ 0 → len ≢ 0
       → is_covered map (addr / 4096) (page_count len) ≡ true
-      → IsChoice (is_chosen touched map (addr / 4096) (page_count len)) r → RulesSame s pid addr len Sync r
-  ruled_sync addr len (Refuses errno) within aligned some covered choice =
+      → IsChoice (is_chosen touched map (addr / 4096) (page_count len)) list r → RulesSame s pid addr len Sync list r
+  ruled_sync addr len list (Refuses errno) within aligned some covered choice =
       let n = too_many (addr / 4096) (page_count len) within choice.1 in
-      let many : nat_lt 127 (touched_count s pid (addr / 4096) (page_count len)) ≡ true = grind (arith, nat_tests, n) in
+      let many : nat_lt 1023 (touched_count s pid (addr / 4096) (page_count len)) ≡ true = grind (arith, nat_tests, n) in
       ruled_row addr len Sync aligned some covered ∙ rw many (ap Flat.Refuses (sym choice.0))
-  ruled_sync addr len Passes within aligned some covered choice =
+  ruled_sync addr len list Passes within aligned some covered choice =
       let n = count_of (addr / 4096) (page_count len) [] 0 within choice in
       ruled_row addr len Sync aligned some covered ∙ rw n refl
-  ruled_sync addr len (Takes chosen) within aligned some covered choice =
-      let n = count_of (addr / 4096) (page_count len) chosen.list chosen.count within choice.1 in
-      let few : nat_lt 127 chosen.count ≡ false = (let small = chosen.few in grind (arith, nat_tests)) in
-      let any : (chosen.count == 0) ≡ false = (let some_chosen = choice.0 in grind (arith, nat_tests)) in
+  ruled_sync addr len list (Takes taken) within aligned some covered choice =
+      let n = count_of (addr / 4096) (page_count len) list taken within choice.2 in
+      let few : nat_lt 1023 taken ≡ false = (let small = choice.1 in grind (arith, nat_tests)) in
+      let any : (taken == 0) ≡ false = (let some_chosen = choice.0 in grind (arith, nat_tests)) in
       record {
         first = addr / 4096;
         count = page_count len;
         ruling = ruled_row addr len Sync aligned some covered ∙ rw n (rw few (rw any refl));
-        lists = same_lists (addr / 4096) (page_count len) chosen.list chosen.count choice.1;
+        lists = same_lists (addr / 4096) (page_count len) list taken choice.2;
       }
 
-pub listed_of : (c : Picture) (map : ℕ → Option Attr) (first count : ℕ) (r : Ruling) → IsChoice (is_chosen c.touched map first count) r → AreListed c r
-listed_of c map first count (Refuses errno) choice = tt
-listed_of c map first count Passes choice = tt
-listed_of c map first count (Takes chosen) choice = record {
+pub listed_of : (c : Picture) (map : ℕ → Option Attr) (first count : ℕ) (list : List FilePage) (r : Ruling) → length list ≡ 1023
+    → IsChoice (is_chosen (of_files c.touched) map first count) list r → AreListed c list r
+listed_of c map first count list (Refuses errno) room choice = tt
+listed_of c map first count list Passes room choice = tt
+listed_of c map first count list (Takes taken) room choice = record {
   some = choice.0;
-  touched = λ i less. (both_true (c.touched (page_at chosen.list i)) (is_shared_in map first count (page_at chosen.list i)) (choice.1.each i less)).0;
-  once = choice.1.once;
+  few = choice.1;
+  room = room;
+  touched = λ i less. (both_true (c.touched (File (page_at list i))) (is_shared_in map first count (page_at list i)) (choice.2.each i less)).0;
+  once = choice.2.once;
 }
 
 -- and that they are taken is told by the process's own pages
@@ -186,12 +189,12 @@ chosen_same touched a b first count page same =
     ap (λ (t : Bool). touched page && t)
     (any_same (λ i. shares_page (a (first + i)) page) (λ i. shares_page (b (first + i)) page) count (λ k. ap (λ (o : Option Attr). shares_page o page) (same (first + k))))
 
-pub taken_of : (c : Picture) (map : ℕ → Option Attr) (pid addr len : ℕ) (r : Ruling) → ((page : ℕ) → c.at pid page ≡ map page)
-    → IsChoice (is_chosen c.touched map (addr / 4096) (page_count len)) r → AreTaken c pid addr len r
-taken_of c map pid addr len (Refuses errno) same choice = tt
-taken_of c map pid addr len Passes same choice = tt
-taken_of c map pid addr len (Takes chosen) same choice = λ i less.
-    chosen_same c.touched (c.at pid) map (addr / 4096) (page_count len) (page_at chosen.list i) same ∙ choice.1.each i less
+pub taken_of : (c : Picture) (map : ℕ → Option Attr) (pid addr len : ℕ) (list : List FilePage) (r : Ruling) → ((page : ℕ) → c.at pid page ≡ map page)
+    → IsChoice (is_chosen (of_files c.touched) map (addr / 4096) (page_count len)) list r → AreTaken c pid addr len list r
+taken_of c map pid addr len list (Refuses errno) same choice = tt
+taken_of c map pid addr len list Passes same choice = tt
+taken_of c map pid addr len list (Takes taken) same choice = λ i less.
+    chosen_same (of_files c.touched) (c.at pid) map (addr / 4096) (page_count len) (page_at list i) same ∙ choice.2.each i less
 
 -- touched pages are pages of files, of which there are 64, of fewer than 2 ^ 32 bytes
 in_file : (d : Directory) (f : ℕ) (o : Option Entry) (info : FileInfo) → entry_of d f ≡ o → option_map (λ e. e.info) o ≡ Some info → (f < 64) × (info.length < 2 ^ 32)
@@ -200,11 +203,11 @@ in_file d f (Some x) info is e =
     let same : x.info ≡ info = cc in
     (d.numbers f x is, (let small = d.lengths f x is in omega (arith, small, ap (λ (i : FileInfo). i.length) same)))
 
-pub touched_within : (c : Picture) (d : Directory) → IsFit c → ((f : ℕ) → c.files f ≡ option_map (λ e. e.info) (entry_of d f)) → IsWithin c.touched 64 (2 ^ 20)
+pub touched_within : (c : Picture) (d : Directory) → IsFit c → ((f : ℕ) → c.files f ≡ option_map (λ e. e.info) (entry_of d f)) → IsWithin (of_files c.touched) 64 (2 ^ 20)
 touched_within c d fit files = record {
-  file = λ p e. (let at = fit.places.inside p (fit.dirty.held p e) in (in_file d p.file (entry_of d p.file) at.0 refl (sym (files p.file) ∙ at.1)).0);
+  file = λ p e. (let at = fit.places.inside (File p) (fit.dirty.held (File p) e) in (in_file d p.file (entry_of d p.file) at.0 refl (sym (files p.file) ∙ at.1)).0);
   page = λ p e. (
-      let at = fit.places.inside p (fit.dirty.held p e) in
+      let at = fit.places.inside (File p) (fit.dirty.held (File p) e) in
       let small = (in_file d p.file (entry_of d p.file) at.0 refl (sym (files p.file) ∙ at.1)).1 in
       let inside = at.2 in
       omega (arith, small, inside));

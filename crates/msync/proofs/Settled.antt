@@ -1,28 +1,28 @@
 -- A file page in a frame is settled: its tail is cut, no leaf over it has D, and it is touched no more.
-use Rattle.std.proofs.Common.{◌≡◌, ◌≢◌, ℕ, inl, inr, ◌+◌, ◌<◌, ◌&&◌, Bool, true, false, List, Some, refl, sym, ap, ◌∙◌, subst, arith}
-use Rattle.std.proofs.lemmas.Bool.{false≢true}
+use Rattle.std.proofs.Common.{◌≡◌, ◌≢◌, ℕ, inl, inr, ◌&&◌, true, List, Some, sym, ap, ◌∙◌, subst}
 use Rattle.vm_types.specs.declared.file.FilePage.{FilePage}
+use Rattle.vm_types.specs.declared.object.PageKey.{PageKey}
+use Rattle.vm_types.specs.declared.object.PageKey.TheVariants.{File}
 use Rattle.vm_types.specs.Files.{trimmed}
 use Rattle.frames.specs.declared.role.Role.{Role}
 use Rattle.frames.specs.declared.role.Role.TheVariants.{Table, Private, Cache}
 use Rattle.frames.specs.FrameTable.{frame_count, role_of, bytes_of, IsFrame, with_bytes}
 use Rattle.frames.proofs.FrameLemmas.{with_bytes-others, with_bytes-same}
 use Rattle.sv39_walk.specs.Entry.{is_valid, is_dirty, frame_of}
-use Rattle.page_tables.specs.Tree.{IsPage}
 use Rattle.page_cache.specs.declared.place.Place.TheVariants.{Home, Frame}
 use Rattle.paging.specs.declared.leaves.Change.TheVariants.{ClearDirty}
 use Rattle.paging.specs.Seats.{Seat, InFrame, InSlot, seat}
 use Rattle.paging.specs.Picture.{Picture, entry, view, held, bytes_at, bytes_in, IsOwned}
 use Rattle.paging.specs.Parts.{IsFit, nowhere}
-use Rattle.paging.specs.Leaves.{IsOver, IsChanged, ChangesLeaves}
+use Rattle.paging.specs.Leaves.{IsChanged, ChangesLeaves}
 use Rattle.paging.specs.Steps.{SameBeside}
 use Rattle.paging.proofs.Bits.{leaf_dirty}
 use Rattle.paging.proofs.Setting.{fit_written, entries_written, bytes_else, view_seated, each_view, held_same}
 use Rattle.msync.specs.Spots.{framed_at}
-use Rattle.msync.specs.Settling.{LosesDirty, ClearsLeaf, SettlesOne}
-use Rattle.msync.proofs.Cleaning.{Untouches, entries_untouched, views_untouched, held_untouched}
+use Rattle.msync.specs.Settling.{ClearsLeaf, SettlesOne}
+use Rattle.paging.proofs.Cleaning.{Untouches, entries_untouched, views_untouched, held_untouched}
 
-pub held_framed : (c : Picture) (p : FilePage) (n : ℕ) → c.place p ≡ Frame (record { 0 = n }) → held c p ≡ Some (bytes_of c.frames n)
+pub held_framed : (c : Picture) (p : PageKey) (n : ℕ) → c.place p ≡ Frame (record { 0 = n }) → held c p ≡ Some (bytes_of c.frames n)
 unfolding held
 held_framed c p n at = ap (λ x. bytes_at c.frames c.slots x) at
 
@@ -33,10 +33,10 @@ private_datum : (r : Role) → r ≡ Private → r ≢ Cache
 private_datum r p c = let bad : Private ≡ Cache = sym p ∙ c in (cc)
 
 -- bytes of the page's frame were written
-module _ (a b : Picture) (page : FilePage) (n : ℕ) (w : List ℕ) (fit : IsFit a) (placed : a.place page ≡ Frame (record { 0 = n }))
+module _ (a b : Picture) (page : FilePage) (n : ℕ) (w : List ℕ) (fit : IsFit a) (placed : a.place (File page) ≡ Frame (record { 0 = n }))
     (is : b.frames ≡ with_bytes a.frames n w) (beside : SameBeside a b) where
   cache : role_of a.frames n ≡ Cache
-  cache = fit.places.cached page n placed
+  cache = fit.places.cached (File page) n placed
 
   datum : role_of a.frames n ≢ Table
   datum = cache_datum (role_of a.frames n) cache
@@ -64,10 +64,10 @@ module _ (a b : Picture) (page : FilePage) (n : ℕ) (w : List ℕ) (fit : IsFit
   pub bytes_cut : IsFrame a.frames n → bytes_of b.frames n ≡ w
   bytes_cut inside = ap (λ t. bytes_of t n) is ∙ with_bytes-same a.frames n w inside
 
-  -- no other file page lies there
-  pub kept_cut : (p : FilePage) → p ≢ page → held b p ≡ held a p
+  -- no other page of a file or an object lies there
+  pub kept_cut : (p : PageKey) → p ≢ File page → held b p ≡ held a p
   kept_cut p ne = held_same a b p (beside.place p) beside.slots
-      (λ m at. else_same m (λ e. ne (fit.places.apart p page (at ∙ ap (λ i. Frame (record { 0 = i })) e ∙ sym placed) (λ home. (let bad : Home ≡ Frame (record { 0 = m }) = sym home ∙ at in (cc))))))
+      (λ m at. else_same m (λ e. ne (fit.places.apart p (File page) (at ∙ ap (λ i. Frame (record { 0 = i })) e ∙ sym placed) (λ home. (let bad : Home ≡ Frame (record { 0 = m }) = sym home ∙ at in (cc))))))
 
 -- D was cleared over the frame
 leaf_cleared : (n e e' : ℕ) (page : FilePage) → (is_valid e && is_dirty e) ≡ true → frame_of e ≡ n → IsChanged ClearDirty e e'
@@ -80,13 +80,13 @@ leaf_cleared n e e' page concerned frame changed =
       loses = record { had = bits.1; number = changed.3 };
     }
 
-module _ (a b x y : Picture) (page : FilePage) (n : ℕ) (w : List ℕ) (fit_a : IsFit a) (fit_b : IsFit b) (fit_x : IsFit x) (placed : a.place page ≡ Frame (record { 0 = n }))
-    (inside : IsFrame a.frames n) (is : b.frames ≡ with_bytes a.frames n w) (beside : SameBeside a b) (changes : ChangesLeaves ClearDirty n b x) (u : Untouches x y page)
+module _ (a b x y : Picture) (page : FilePage) (n : ℕ) (w : List ℕ) (fit_a : IsFit a) (fit_b : IsFit b) (fit_x : IsFit x) (placed : a.place (File page) ≡ Frame (record { 0 = n }))
+    (inside : IsFrame a.frames n) (is : b.frames ≡ with_bytes a.frames n w) (beside : SameBeside a b) (changes : ChangesLeaves ClearDirty n b x) (u : Untouches x y (File page))
     (bytes : w ≡ trimmed a.files page.file page.page (bytes_of a.frames n)) where
-  place : (p : FilePage) → y.place p ≡ a.place p
+  place : (p : PageKey) → y.place p ≡ a.place p
   place p = u.place p ∙ changes.beside.place p ∙ beside.place p
 
-  held_cleared : (p : FilePage) → held x p ≡ held b p
+  held_cleared : (p : PageKey) → held x p ≡ held b p
   held_cleared p = held_same b x p (changes.beside.place p) changes.beside.slots (λ m at. changes.bytes m (cache_datum (role_of b.frames m) (fit_b.places.cached p m at)))
 
   pub settles_framed : SettlesOne a y (framed_at page (record { 0 = n }))
@@ -94,9 +94,9 @@ module _ (a b x y : Picture) (page : FilePage) (n : ℕ) (w : List ℕ) (fit_a :
     frames = ap frame_count u.frames ∙ changes.frames ∙ frames_cut a b page n w fit_a placed is beside;
     slots = ap (λ t. t.total) u.slots ∙ ap (λ t. t.total) changes.beside.slots ∙ ap (λ t. t.total) beside.slots;
     root = λ q. u.root q ∙ changes.beside.root q ∙ beside.root q;
-    views = λ q p. views_untouched x y page n fit_x u q p ∙ changes.views q p ∙ views_cut a b page n w fit_a placed is beside q p;
+    views = λ q p. views_untouched x y (File page) n fit_x u q p ∙ changes.views q p ∙ views_cut a b page n w fit_a placed is beside q p;
     entries = λ q p h. (
-        let last = entries_untouched x y page n fit_x u q p in
+        let last = entries_untouched x y (File page) n fit_x u q p in
         let first = entries_cut a b page n w fit_a placed is beside q p in
         elim (changes.entries q p h) [
           | inl same ↦ inl (last ∙ same ∙ first)
@@ -106,14 +106,14 @@ module _ (a b x y : Picture) (page : FilePage) (n : ℕ) (w : List ℕ) (fit_a :
               subst Q (sym last) (subst P first (leaf_cleared n (entry b q p) (entry x q p) page lost.0.concerned lost.0.frame lost.1)))
         ]);
     files = λ f. u.files f ∙ changes.beside.files f ∙ beside.files f;
-    placed = place page ∙ placed;
+    placed = place (File page) ∙ placed;
     elsewhere = λ p ne. place p;
     cleaned = u.now;
     untouched = λ p ne. u.others p ne ∙ changes.beside.touched p ∙ beside.touched p;
     settled =
-        held_framed y page n (place page ∙ placed)
+        held_framed y (File page) n (place (File page) ∙ placed)
         ∙ ap (λ (v : List ℕ). Some v)
-        (ap (λ t. bytes_of t n) u.frames ∙ changes.bytes n (cache_datum (role_of b.frames n) (fit_b.places.cached page n (beside.place page ∙ placed)))
+        (ap (λ t. bytes_of t n) u.frames ∙ changes.bytes n (cache_datum (role_of b.frames n) (fit_b.places.cached (File page) n (beside.place (File page) ∙ placed)))
         ∙ bytes_cut a b page n w fit_a placed is beside inside ∙ bytes);
-    kept = λ p ne. held_untouched x y page n fit_x u p ∙ held_cleared p ∙ kept_cut a b page n w fit_a placed is beside p ne;
+    kept = λ p ne. held_untouched x y (File page) n fit_x u p ∙ held_cleared p ∙ kept_cut a b page n w fit_a placed is beside p ne;
   }

@@ -1,10 +1,12 @@
 -- Pages are settled one after the other.
-use Rattle.std.proofs.Common.{◌≡◌, ◌≢◌, ℕ, zero, suc, inl, inr, ◌⊎◌, ◌+◌, ◌-◌, ◌/◌, ◌%◌, ◌^◌, ◌<◌, ◌==◌, true, false, List, length, Some, refl, sym, ap, ◌∙◌, subst, arith}
+use Rattle.std.proofs.Common.{◌≡◌, ◌≢◌, ℕ, zero, suc, inl, inr, ◌⊎◌, ◌+◌, ◌-◌, ◌<◌, true, false, List, length, Some, refl, sym, ap, ◌∙◌, subst, arith}
 use Rattle.std.proofs.lemmas.Bool.{cases_eq, false≢true}
 use Rattle.std.proofs.lemmas.Option.{same_Some}
 use Rattle.vm_types.specs.declared.file.FilePage.{FilePage}
+use Rattle.vm_types.specs.declared.object.PageKey.{PageKey}
+use Rattle.vm_types.specs.declared.object.PageKey.TheVariants.{File}
 use Rattle.vm_types.specs.Files.{inside_of, cut, trimmed}
-use Rattle.frames.specs.FrameTable.{FrameTable, frame_count, bytes_of, IsFrame}
+use Rattle.frames.specs.FrameTable.{frame_count, bytes_of, IsFrame}
 use Rattle.swap.specs.declared.slots.Swap.{Swap}
 use Rattle.swap.specs.Slots.{slots_of, IsReady}
 use Rattle.swap.specs.Written.{IsAsWritten}
@@ -28,6 +30,9 @@ lost_clean e e' lost =
     let number : e' ≡ e - 128 = (let n = lost.number in omega (arith, n)) in
     ap is_dirty number ∙ seven_clear e (bit_seven e lost.had)
 
+pub one_file : (p q : FilePage) → File p ≡ File q → p ≡ q
+one_file p q e = (cc)
+
 -- no page at all
 pub settles_none : (c : Picture) (list : List Spot) → Settles c c list 0
 settles_none c list = record {
@@ -46,42 +51,42 @@ settles_none c list = record {
 }
 
 -- the bytes of a page at its spot
-pub held_spot : (c : Picture) (p : FilePage) (at : Residence) → c.place p ≡ place_at at → held c p ≡ Some (bytes_there c.frames c.slots at)
+pub held_spot : (c : Picture) (p : PageKey) (at : Residence) → c.place p ≡ place_at at → held c p ≡ Some (bytes_there c.frames c.slots at)
 unfolding held
 held_spot c p (Framed n) placed = ap (λ x. bytes_at c.frames c.slots x) placed
 held_spot c p (Slotted k) placed = ap (λ x. bytes_at c.frames c.slots x) placed
 
 -- what a page comes to is what it would have come to before
-settled_same : (a b : Picture) (p : FilePage) (at : Residence) → ((f : ℕ) → b.files f ≡ a.files f) → a.place p ≡ place_at at → b.place p ≡ place_at at → held b p ≡ held a p
+settled_same : (a b : Picture) (p : FilePage) (at : Residence) → ((f : ℕ) → b.files f ≡ a.files f) → a.place (File p) ≡ place_at at → b.place (File p) ≡ place_at at → held b (File p) ≡ held a (File p)
     → settled_in b.files b.frames p at ≡ settled_in a.files a.frames p at
 settled_same a b p (Slotted k) files was now same = refl
 settled_same a b p (Framed n) files was now same =
-    let bytes : bytes_of b.frames n.0 ≡ bytes_of a.frames n.0 = same_Some _ _ (sym (held_spot b p (Framed n) now) ∙ same ∙ held_spot a p (Framed n) was) in
+    let bytes : bytes_of b.frames n.0 ≡ bytes_of a.frames n.0 = same_Some _ _ (sym (held_spot b (File p) (Framed n) now) ∙ same ∙ held_spot a (File p) (Framed n) was) in
     ap (λ info. Some (cut (inside_of info p.page) (bytes_of b.frames n.0))) (files p.file)
     ∙ ap (λ (w : List ℕ). Some (trimmed a.files p.file p.page w)) bytes
 
-still_there : (a b : Picture) (p : FilePage) (at : Residence) → HasPlaces b → frame_count b.frames ≡ frame_count a.frames → b.place p ≡ place_at at → IsThere a.frames a.slots at → IsThere b.frames b.slots at
+still_there : (a b : Picture) (p : PageKey) (at : Residence) → HasPlaces b → frame_count b.frames ≡ frame_count a.frames → b.place p ≡ place_at at → IsThere a.frames a.slots at → IsThere b.frames b.slots at
 still_there a b p (Framed n) places frames now there = omega (arith, frames, there)
 still_there a b p (Slotted k) places frames now there = (let one = places.slotted p k.0 now in omega (arith, one))
 
 module _ (a b : Picture) (list : List Spot) (i : ℕ) (spots : AreSpots a list) (less : i < length list) (settles : Settles a b list i) where
   -- the pages that are left lie where they lay
-  apart : (j : ℕ) → j < i → (spot_at list j).page ≢ (spot_at list i).page
-  apart j below = spots.once j i below less
+  apart : (j : ℕ) → j < i → File (spot_at list j).page ≢ File (spot_at list i).page
+  apart j below e = spots.once j i below less (one_file (spot_at list j).page (spot_at list i).page e)
 
   pub spot_left : IsFit b → IsSpot b (spot_at list i)
   spot_left fit =
       let x = spot_at list i in
       let was = spots.each i less in
-      let now : b.place x.page ≡ place_at x.at = settles.elsewhere x.page apart ∙ was.placed in
-      record { placed = now; there = still_there a b x.page x.at fit.places settles.frames now was.there }
+      let now : b.place (File x.page) ≡ place_at x.at = settles.elsewhere (File x.page) apart ∙ was.placed in
+      record { placed = now; there = still_there a b (File x.page) x.at fit.places settles.frames now was.there }
 
   -- one page more
   module _ (c : Picture) (fit : IsFit b) (one : SettlesOne b c (spot_at list i)) where
-    other : (p : FilePage) → ((j : ℕ) → j < i + 1 → (spot_at list j).page ≢ p) → p ≢ (spot_at list i).page
+    other : (p : PageKey) → ((j : ℕ) → j < i + 1 → File (spot_at list j).page ≢ p) → p ≢ File (spot_at list i).page
     other p none e = none i (omega arith) (sym e)
 
-    earlier : (p : FilePage) → ((j : ℕ) → j < i + 1 → (spot_at list j).page ≢ p) → (j : ℕ) → j < i → (spot_at list j).page ≢ p
+    earlier : (p : PageKey) → ((j : ℕ) → j < i + 1 → File (spot_at list j).page ≢ p) → (j : ℕ) → j < i → File (spot_at list j).page ≢ p
     earlier p none j below = none j (omega arith)
 
     cases_last : (j : ℕ) → j < i + 1 → (j < i) ⊎ (j ≡ i)
@@ -90,26 +95,26 @@ module _ (a b : Picture) (list : List Spot) (i : ℕ) (spots : AreSpots a list) 
       | inr ne ↦ inl (omega arith)
     ]
 
-    placed : (j : ℕ) → j < i + 1 → c.place (spot_at list j).page ≡ settled_place (spot_at list j).at
+    placed : (j : ℕ) → j < i + 1 → c.place (File (spot_at list j).page) ≡ settled_place (spot_at list j).at
     placed j below = elim (cases_last j below) [
-      | inl low ↦ one.elsewhere (spot_at list j).page (apart j low) ∙ settles.placed j low
-      | inr e ↦ (let P : ℕ → Type 0 = λ k. c.place (spot_at list k).page ≡ settled_place (spot_at list k).at in subst P (sym e) one.placed)
+      | inl low ↦ one.elsewhere (File (spot_at list j).page) (apart j low) ∙ settles.placed j low
+      | inr e ↦ (let P : ℕ → Type 0 = λ k. c.place (File (spot_at list k).page) ≡ settled_place (spot_at list k).at in subst P (sym e) one.placed)
     ]
 
-    cleaned : (j : ℕ) → j < i + 1 → c.touched (spot_at list j).page ≡ false
+    cleaned : (j : ℕ) → j < i + 1 → c.touched (File (spot_at list j).page) ≡ false
     cleaned j below = elim (cases_last j below) [
-      | inl low ↦ one.untouched (spot_at list j).page (apart j low) ∙ settles.cleaned j low
-      | inr e ↦ (let P : ℕ → Type 0 = λ k. c.touched (spot_at list k).page ≡ false in subst P (sym e) one.cleaned)
+      | inl low ↦ one.untouched (File (spot_at list j).page) (apart j low) ∙ settles.cleaned j low
+      | inr e ↦ (let P : ℕ → Type 0 = λ k. c.touched (File (spot_at list k).page) ≡ false in subst P (sym e) one.cleaned)
     ]
 
-    settled : (j : ℕ) → j < i + 1 → held c (spot_at list j).page ≡ settled_bytes a (spot_at list j)
+    settled : (j : ℕ) → j < i + 1 → held c (File (spot_at list j).page) ≡ settled_bytes a (spot_at list j)
     settled j below = elim (cases_last j below) [
-      | inl low ↦ one.kept (spot_at list j).page (apart j low) ∙ settles.settled j low
+      | inl low ↦ one.kept (File (spot_at list j).page) (apart j low) ∙ settles.settled j low
       | inr e ↦ (
           let x = spot_at list i in
-          let P : ℕ → Type 0 = λ k. held c (spot_at list k).page ≡ settled_bytes a (spot_at list k) in
+          let P : ℕ → Type 0 = λ k. held c (File (spot_at list k).page) ≡ settled_bytes a (spot_at list k) in
           subst P (sym e)
-          (one.settled ∙ settled_same a b x.page x.at settles.files (spots.each i less).placed (spot_left fit).placed (settles.kept x.page apart)))
+          (one.settled ∙ settled_same a b x.page x.at settles.files (spots.each i less).placed (spot_left fit).placed (settles.kept (File x.page) apart)))
     ]
 
     pub settles_more : Settles a c list (i + 1)
@@ -140,14 +145,14 @@ module _ (a b : Picture) (list : List Spot) (i : ℕ) (spots : AreSpots a list) 
     }
 
 -- a page is in a list, or it isn't
-pub cases_listed : (list : List Spot) (n : ℕ) (p : FilePage) → ((i : ℕ) × (i < n) × ((spot_at list i).page ≡ p)) ⊎ ((i : ℕ) → i < n → (spot_at list i).page ≢ p)
+pub cases_listed : (list : List Spot) (n : ℕ) (p : PageKey) → ((i : ℕ) × (i < n) × (File (spot_at list i).page ≡ p)) ⊎ ((i : ℕ) → i < n → File (spot_at list i).page ≢ p)
 cases_listed list zero p = inr (λ i less. absurd (omega arith))
-cases_listed list (suc n) p = elim (cases_page (spot_at list n).page p) [
+cases_listed list (suc n) p = elim (cases_page (File (spot_at list n).page) p) [
   | inl e ↦ inl (n, omega arith, e)
   | inr ne ↦ elim (cases_listed list n p) [
     | inl found ↦ inl (found.0, (let less = found.1 in omega (arith, less)), found.2)
     | inr none ↦ inr (λ i less. elim (cases_eq i n) [
-      | inl is ↦ λ e. ne (ap (λ k. (spot_at list k).page) (sym is) ∙ e)
+      | inl is ↦ λ e. ne (ap (λ k. File (spot_at list k).page) (sym is) ∙ e)
       | inr other ↦ none i (omega arith)
     ])
   ]

@@ -7,7 +7,7 @@ use Rattle.regions.specs.RunList.{IsNextRun}
 use Rattle.vm_types.specs.declared.file.FilePage.{FilePage}
 use Rattle.vm_types.specs.declared.region.Attr.{Attr}
 use Rattle.vm_types.specs.declared.region.Backing.{Backing}
-use Rattle.vm_types.specs.declared.region.Backing.TheVariants.{Anon, Private, Shared}
+use Rattle.vm_types.specs.declared.region.Backing.TheVariants.{Anon, Private, Shared, Common}
 use Rattle.vm_types.specs.Attributes.{backing_after}
 use Rattle.vm_types.specs.Counting.{any_below}
 use Rattle.vm_types.specs.Msync.{is_shared_page}
@@ -60,6 +60,7 @@ chosen_longer touched map first a b p order e =
 stands_at : (b : Backing) (n : ℕ) (p : FilePage) → stands_behind b n p ≡ true → (i : ℕ) × (i < n) × (is_shared_page (backing_after b i) p.file p.page ≡ true)
 stands_at Anon n p e = cc
 stands_at (Private q) n p e = cc
+stands_at (Common q) n p e = cc
 stands_at (Shared q) n p e =
     let parts = both_true (p.file == q.file) (leb q.page p.page && ltb p.page (q.page + n)) e in
     let file = parts.0 in
@@ -74,6 +75,7 @@ stands_at (Shared q) n p e =
 at_stands : (b : Backing) (n i : ℕ) (p : FilePage) → i < n → is_shared_page (backing_after b i) p.file p.page ≡ true → stands_behind b n p ≡ true
 at_stands Anon n i p less e = cc
 at_stands (Private q) n i p less e = cc
+at_stands (Common q) n i p less e = cc
 at_stands (Shared q) n i p less e =
     let parts = both_true (q.file == p.file) (q.page + i == p.page) e in
     let file = parts.0 in

@@ -1,13 +1,15 @@
 -- What an msync takes of memory.
-use Rattle.std.specs.Prelude.{ℕ, ◌+◌, ◌/◌, ◌<◌, ◌≤◌, ◌≡◌, ◌≢◌, ◌==◌, ◌&&◌, Bool, true, false, List, [], get_or, Option, Some, None}
+use Rattle.std.specs.Prelude.{ℕ, ◌+◌, ◌/◌, ◌<◌, ◌≤◌, ◌≡◌, ◌≢◌, ◌==◌, ◌&&◌, Bool, true, false, List, [], length, get_or, Option, Some, None}
 use Rattle.vm_types.specs.Limits.{msync_pages}
 use Rattle.vm_types.specs.declared.command.MsyncMode.{MsyncMode}
 use Rattle.vm_types.specs.declared.file.FilePage.{FilePage}
+use Rattle.vm_types.specs.declared.object.PageKey.{PageKey}
+use Rattle.vm_types.specs.declared.object.PageKey.TheVariants.{File}
 use Rattle.vm_types.specs.declared.number.SlotNo.{SlotNo}
 use Rattle.vm_types.specs.declared.refusal.Errno.TheVariants.{ENOSPC, EIO}
 use Rattle.vm_types.specs.declared.region.Attr.{Attr}
 use Rattle.vm_types.specs.declared.region.Backing.{Backing}
-use Rattle.vm_types.specs.declared.region.Backing.TheVariants.{Anon, Private, Shared}
+use Rattle.vm_types.specs.declared.region.Backing.TheVariants.{Anon, Private, Shared, Common}
 use Rattle.vm_types.specs.Checks.{page_count}
 use Rattle.vm_types.specs.Counting.{any_below}
 use Rattle.vm_types.specs.Msync.{msync_ruling, touched_in, is_shared_page}
@@ -16,9 +18,16 @@ use Rattle.vm_types.specs.Rows.{in_row}
 use Rattle.vm_types.specs.State.{State}
 use Rattle.page_cache.specs.declared.place.Place.TheVariants.{Slot}
 use Rattle.paging.specs.Picture.{Picture}
-use Rattle.msync.specs.declared.chosen.Chosen.{Chosen}
 use Rattle.msync.specs.declared.chosen.Ruling.{Ruling}
 use Rattle.msync.specs.declared.chosen.Ruling.TheVariants.{Refuses, Passes, Takes}
+
+-- The first pages of a list.
+pub record Chosen : Type 0 where
+  pub list : List FilePage
+  pub count : ℕ
+
+abbrev pub chosen_of : List FilePage → ℕ → Chosen
+chosen_of list count = record { list = list; count = count }
 
 -- page 0 of file 0
 abbrev pub first_page : FilePage
@@ -37,6 +46,11 @@ abbrev pub stands_behind : Backing → ℕ → FilePage → Bool
 stands_behind Anon count page = false
 stands_behind (Private first) count page = false
 stands_behind (Shared first) count page = in_file_row first count page
+stands_behind (Common first) count page = false
+
+-- of pages of files and objects those of files
+abbrev pub of_files : (PageKey → Bool) → FilePage → Bool
+of_files touched page = touched (File page)
 
 -- the same of touched file pages alone
 abbrev pub is_taken_behind : (FilePage → Bool) → Backing → ℕ → FilePage → Bool
@@ -64,12 +78,12 @@ pub record Appends (passes : FilePage → Bool) (old new : List FilePage) (used 
   pub once : (i j : ℕ) → i < j → used ≤ j → j < now → page_at new i ≢ page_at new j
   pub all : (page : FilePage) → passes page ≡ true → (i : ℕ) × (i < now) × (page_at new i ≡ page)
 
--- That would be over 127: here are 128 such pages, those of the first used places included.
+-- That would be over 1,023: here are 1,024 such pages, those of the first used places included.
 pub record Overflows (passes : FilePage → Bool) (old : List FilePage) (used : ℕ) : Type 0 where
   pub at : ℕ → FilePage
   pub kept : (i : ℕ) → i < used → at i ≡ page_at old i
-  pub each : (i : ℕ) → used ≤ i → i < 128 → passes (at i) ≡ true
-  pub once : (i j : ℕ) → i < j → used ≤ j → j < 128 → at i ≢ at j
+  pub each : (i : ℕ) → used ≤ i → i < 1024 → passes (at i) ≡ true
+  pub once : (i j : ℕ) → i < j → used ≤ j → j < 1024 → at i ≢ at j
 
 -- The file pages in the list are those that pass, each once.
 pub record Lists (passes : FilePage → Bool) (list : List FilePage) (count : ℕ) : Type 0 where
@@ -77,11 +91,11 @@ pub record Lists (passes : FilePage → Bool) (list : List FilePage) (count : �
   pub once : (i j : ℕ) → i < j → j < count → page_at list i ≢ page_at list j
   pub all : (page : FilePage) → passes page ≡ true → (i : ℕ) × (i < count) × (page_at list i ≡ page)
 
--- the touched pages of a row: over 127, none, or all of them
-abbrev pub IsChoice : (FilePage → Bool) → Ruling → Type 0
-IsChoice passes (Refuses errno) = (errno ≡ ENOSPC) × Overflows passes [] 0
-IsChoice passes Passes = Lists passes [] 0
-IsChoice passes (Takes chosen) = (0 < chosen.count) × Lists passes chosen.list chosen.count
+-- the touched pages of a row: over 1,023, none, or all of them
+abbrev pub IsChoice : (FilePage → Bool) → List FilePage → Ruling → Type 0
+IsChoice passes list (Refuses errno) = (errno ≡ ENOSPC) × Overflows passes [] 0
+IsChoice passes list Passes = Lists passes [] 0
+IsChoice passes list (Takes count) = (0 < count) × (count ≤ msync_pages) × Lists passes list count
 
 -- what is taken is what the flat model takes
 pub record TakesSame (s : State) (pid addr len : ℕ) (mode : MsyncMode) (chosen : Chosen) : Type 0 where
@@ -91,47 +105,49 @@ pub record TakesSame (s : State) (pid addr len : ℕ) (mode : MsyncMode) (chosen
   pub lists : Lists (λ page. touched_in s pid first count page.file page.page) chosen.list chosen.count
 
 -- the ruling of the flat model
-abbrev pub RulesSame : State → ℕ → ℕ → ℕ → MsyncMode → Ruling → Type 0
-RulesSame s pid addr len mode (Refuses errno) = msync_ruling s pid addr len mode ≡ Flat.Refuses errno
-RulesSame s pid addr len mode Passes = msync_ruling s pid addr len mode ≡ Flat.Passes
-RulesSame s pid addr len mode (Takes chosen) = TakesSame s pid addr len mode chosen
+abbrev pub RulesSame : State → ℕ → ℕ → ℕ → MsyncMode → List FilePage → Ruling → Type 0
+RulesSame s pid addr len mode list (Refuses errno) = msync_ruling s pid addr len mode ≡ Flat.Refuses errno
+RulesSame s pid addr len mode list Passes = msync_ruling s pid addr len mode ≡ Flat.Passes
+RulesSame s pid addr len mode list (Takes count) = TakesSame s pid addr len mode (chosen_of list count)
 
 -- the pages of a commit: some, each once, all touched
 pub record IsListed (c : Picture) (chosen : Chosen) : Type 0 where
   pub some : 0 < chosen.count
-  pub touched : (i : ℕ) → i < chosen.count → c.touched (page_at chosen.list i) ≡ true
+  pub few : chosen.count ≤ msync_pages
+  pub room : length chosen.list ≡ msync_pages
+  pub touched : (i : ℕ) → i < chosen.count → c.touched (File (page_at chosen.list i)) ≡ true
   pub once : (i j : ℕ) → i < j → j < chosen.count → page_at chosen.list i ≢ page_at chosen.list j
 
-abbrev pub AreListed : Picture → Ruling → Type 0
-AreListed c (Refuses errno) = Unit {0}
-AreListed c Passes = Unit {0}
-AreListed c (Takes chosen) = IsListed c chosen
+abbrev pub AreListed : Picture → List FilePage → Ruling → Type 0
+AreListed c list (Refuses errno) = Unit {0}
+AreListed c list Passes = Unit {0}
+AreListed c list (Takes count) = IsListed c (chosen_of list count)
 
 -- a refusal that doesn't come from the store's device
 abbrev pub IsNoDeviceFault : Ruling → Type 0
 IsNoDeviceFault (Refuses errno) = errno ≢ EIO
 IsNoDeviceFault Passes = Unit {0}
-IsNoDeviceFault (Takes chosen) = Unit {0}
+IsNoDeviceFault (Takes count) = Unit {0}
 
 -- whether an msync of these bytes takes the file page: it is touched, and stands behind a shared page of them
 abbrev pub is_taken : Picture → ℕ → ℕ → ℕ → FilePage → Bool
-is_taken c pid addr len page = is_chosen c.touched (c.at pid) (addr / 4096) (page_count len) page
+is_taken c pid addr len page = is_chosen (of_files c.touched) (c.at pid) (addr / 4096) (page_count len) page
 
-abbrev pub AreTaken : Picture → ℕ → ℕ → ℕ → Ruling → Type 0
-AreTaken c pid addr len (Refuses errno) = Unit {0}
-AreTaken c pid addr len Passes = Unit {0}
-AreTaken c pid addr len (Takes chosen) = (i : ℕ) → i < chosen.count → is_taken c pid addr len (page_at chosen.list i) ≡ true
+abbrev pub AreTaken : Picture → ℕ → ℕ → ℕ → List FilePage → Ruling → Type 0
+AreTaken c pid addr len list (Refuses errno) = Unit {0}
+AreTaken c pid addr len list Passes = Unit {0}
+AreTaken c pid addr len list (Takes count) = (i : ℕ) → i < count → is_taken c pid addr len (page_at list i) ≡ true
 
 -- a page that it takes lies in a slot
 pub record TakesAway (c : Picture) (pid addr len : ℕ) : Type 0 where
   pub page : FilePage
   pub slot : SlotNo
   pub taken : is_taken c pid addr len page ≡ true
-  pub placed : c.place page ≡ Slot slot
+  pub placed : c.place (File page) ≡ Slot slot
 
 -- a page of the commit lies in a slot
 pub record IsAway (c : Picture) (chosen : Chosen) : Type 0 where
   pub number : ℕ
   pub below : number < chosen.count
   pub slot : SlotNo
-  pub placed : c.place (page_at chosen.list number) ≡ Slot slot
+  pub placed : c.place (File (page_at chosen.list number)) ≡ Slot slot

@@ -2,6 +2,8 @@
 use Rattle.std.specs.Prelude.{◌≡◌, ◌≢◌, ℕ, ◌+◌, ◌<◌, ◌⊎◌, true, false, List, length, Option, Some, None}
 use Rattle.vm_types.specs.Limits.{top_level}
 use Rattle.vm_types.specs.declared.file.FilePage.{FilePage}
+use Rattle.vm_types.specs.declared.object.PageKey.{PageKey}
+use Rattle.vm_types.specs.declared.object.PageKey.TheVariants.{File}
 use Rattle.vm_types.specs.declared.number.SlotNo.{SlotNo}
 use Rattle.vm_types.specs.Files.{Files, trimmed}
 use Rattle.frames.specs.FrameTable.{FrameTable, frame_count, bytes_of}
@@ -51,7 +53,7 @@ settled_in files t p (Slotted k) = None
 abbrev pub settled_bytes : Picture → Spot → Option (List ℕ)
 settled_bytes c spot = settled_in c.files c.frames spot.page spot.at
 
--- One page that was committed is touched no more. Every page keeps its own copy, and every other file page its place and bytes.
+-- One page that was committed is touched no more. Every page keeps its own copy, and every other page of a file or an object its place and bytes.
 pub record SettlesOne (old new : Picture) (spot : Spot) : Type 0 where
   pub frames : frame_count new.frames ≡ frame_count old.frames
   pub slots : new.slots.total ≡ old.slots.total
@@ -60,12 +62,12 @@ pub record SettlesOne (old new : Picture) (spot : Spot) : Type 0 where
   pub entries : (pid page : ℕ) → IsPage top_level page
       → (entry new pid page ≡ entry old pid page) ⊎ ClearsLeaf (λ n. spot.at ≡ Framed (record { 0 = n })) (entry old pid page) (entry new pid page)
   pub files : (f : ℕ) → new.files f ≡ old.files f
-  pub placed : new.place spot.page ≡ settled_place spot.at
-  pub elsewhere : (p : FilePage) → p ≢ spot.page → new.place p ≡ old.place p
-  pub cleaned : new.touched spot.page ≡ false
-  pub untouched : (p : FilePage) → p ≢ spot.page → new.touched p ≡ old.touched p
-  pub settled : held new spot.page ≡ settled_bytes old spot
-  pub kept : (p : FilePage) → p ≢ spot.page → held new p ≡ held old p
+  pub placed : new.place (File spot.page) ≡ settled_place spot.at
+  pub elsewhere : (p : PageKey) → p ≢ File spot.page → new.place p ≡ old.place p
+  pub cleaned : new.touched (File spot.page) ≡ false
+  pub untouched : (p : PageKey) → p ≢ File spot.page → new.touched p ≡ old.touched p
+  pub settled : held new (File spot.page) ≡ settled_bytes old spot
+  pub kept : (p : PageKey) → p ≢ File spot.page → held new p ≡ held old p
 
 -- the frame is that of one of these pages
 abbrev pub IsFrameIn : List Spot → ℕ → Type 0
@@ -79,12 +81,12 @@ pub record Settles (old new : Picture) (list : List Spot) (n : ℕ) : Type 0 whe
   pub views : (pid page : ℕ) → view new pid page ≡ view old pid page
   pub entries : (pid page : ℕ) → IsPage top_level page → (entry new pid page ≡ entry old pid page) ⊎ ClearsLeaf (IsFrameIn list) (entry old pid page) (entry new pid page)
   pub files : (f : ℕ) → new.files f ≡ old.files f
-  pub placed : (i : ℕ) → i < n → new.place (spot_at list i).page ≡ settled_place (spot_at list i).at
-  pub elsewhere : (p : FilePage) → ((i : ℕ) → i < n → (spot_at list i).page ≢ p) → new.place p ≡ old.place p
-  pub cleaned : (i : ℕ) → i < n → new.touched (spot_at list i).page ≡ false
-  pub untouched : (p : FilePage) → ((i : ℕ) → i < n → (spot_at list i).page ≢ p) → new.touched p ≡ old.touched p
-  pub settled : (i : ℕ) → i < n → held new (spot_at list i).page ≡ settled_bytes old (spot_at list i)
-  pub kept : (p : FilePage) → ((i : ℕ) → i < n → (spot_at list i).page ≢ p) → held new p ≡ held old p
+  pub placed : (i : ℕ) → i < n → new.place (File (spot_at list i).page) ≡ settled_place (spot_at list i).at
+  pub elsewhere : (p : PageKey) → ((i : ℕ) → i < n → File (spot_at list i).page ≢ p) → new.place p ≡ old.place p
+  pub cleaned : (i : ℕ) → i < n → new.touched (File (spot_at list i).page) ≡ false
+  pub untouched : (p : PageKey) → ((i : ℕ) → i < n → File (spot_at list i).page ≢ p) → new.touched p ≡ old.touched p
+  pub settled : (i : ℕ) → i < n → held new (File (spot_at list i).page) ≡ settled_bytes old (spot_at list i)
+  pub kept : (p : PageKey) → ((i : ℕ) → i < n → File (spot_at list i).page ≢ p) → held new p ≡ held old p
 
 -- A leaf over the frame of a file page that was touched, and is no more, lost D. It is no process's own copy.
 pub record LosesTouched (old new : Picture) (e e' : ℕ) : Type 0 where
@@ -92,9 +94,9 @@ pub record LosesTouched (old new : Picture) (e e' : ℕ) : Type 0 where
   pub common : is_private e ≡ false
   pub loses : LosesDirty e e'
   pub page : FilePage
-  pub over : old.place page ≡ Frame (record { 0 = frame_of e })
-  pub was : old.touched page ≡ true
-  pub now : new.touched page ≡ false
+  pub over : old.place (File page) ≡ Frame (record { 0 = frame_of e })
+  pub was : old.touched (File page) ≡ true
+  pub now : new.touched (File page) ≡ false
 
 -- Every entry of every process is the number that it was, but for D of leaves over file pages that were made durable.
 abbrev pub LosesDirtyOnly : Picture → Picture → Type 0
@@ -103,11 +105,11 @@ LosesDirtyOnly old new = (pid page : ℕ) → IsPage top_level page → (entry n
 -- a touched file page left its slot: it is at home, and touched no more
 pub record ComesHome (old new : Picture) (page : FilePage) : Type 0 where
   pub slot : SlotNo
-  pub was : old.place page ≡ Slot slot
-  pub touched : old.touched page ≡ true
-  pub now : new.place page ≡ Home
-  pub clean : new.touched page ≡ false
+  pub was : old.place (File page) ≡ Slot slot
+  pub touched : old.touched (File page) ≡ true
+  pub now : new.place (File page) ≡ Home
+  pub clean : new.touched (File page) ≡ false
 
--- every file page lies where it lay, or came home from its slot
+-- every page of a file or an object lies where it lay, or is a file page that came home from its slot
 abbrev pub SettlesPlaces : Picture → Picture → Type 0
-SettlesPlaces old new = (p : FilePage) → (new.place p ≡ old.place p) ⊎ ComesHome old new p
+SettlesPlaces old new = (p : PageKey) → (new.place p ≡ old.place p) ⊎ ((f : FilePage) × (p ≡ File f) × ComesHome old new f)

@@ -1,6 +1,7 @@
 -- Where touched pages lie, and what is read there.
 use Rattle.std.specs.Prelude.{◌≡◌, ◌≢◌, ◌⊎◌, ℕ, ◌<◌, ◌≤◌, List, length, get_or}
 use Rattle.vm_types.specs.declared.file.FilePage.{FilePage}
+use Rattle.vm_types.specs.declared.object.PageKey.TheVariants.{File}
 use Rattle.vm_types.specs.declared.number.FrameNo.{FrameNo}
 use Rattle.vm_types.specs.declared.number.SlotNo.{SlotNo}
 use Rattle.disk_model.specs.declared.sector_disk.SectorDisk.{Ghosts}
@@ -49,7 +50,7 @@ HasSlot list = (i : ℕ) × (i < length list) × IsSlotted (spot_at list i).at
 
 -- the file page lies there
 pub record IsSpot (c : Picture) (spot : Spot) : Type 0 where
-  pub placed : c.place spot.page ≡ place_at spot.at
+  pub placed : c.place (File spot.page) ≡ place_at spot.at
   pub there : IsThere c.frames c.slots spot.at
 
 -- file pages that lie there, each once

@@ -9,9 +9,9 @@ ghost use Rattle.page_cache.specs.CacheTable.{is_touched};
 ghost use Rattle.paging.specs.Picture.{picture_of};
 ghost use Rattle.paging.specs.Parts.{IsFit};
 ghost use Rattle.paging.specs.Shows.{ShowsPages};
-ghost use Rattle.msync.specs.Choice.{is_taken_behind, is_chosen, Appends, Overflows, IsChoice, RulesSame, AreListed, AreTaken, IsNoDeviceFault};
+ghost use Rattle.msync.specs.Choice.{of_files, is_taken_behind, is_chosen, Appends, Overflows, IsChoice, RulesSame, AreListed, AreTaken, IsNoDeviceFault};
 
-use crate::chosen::{Chosen, Ruling};
+use crate::chosen::Ruling;
 use page_cache::{PageCache, TooMany};
 use paging::Core;
 use regions::Regions;
@@ -20,18 +20,19 @@ use vm_types::{Backing, Errno, FilePage, MSYNC_PAGES, MsyncMode, PAGE_BYTES};
 /// Bytes of a page, as a number of addresses.
 const PAGE: u64 = PAGE_BYTES as u64;
 
-/// Judges an msync: the checks of msync(2) in our order.
+/// Judges an msync: the checks of msync(2) in our order. The pages that it takes are at the front of the list.
 pub(crate) fn rule<D, E>(
     core: &Core<D, E>,
     pid: u64,
     addr: u64,
     len: u64,
     mode: MsyncMode,
+    list: &mut [FilePage; MSYNC_PAGES],
 ) -> Ruling
     requires fit { IsFit (picture_of core.now) }
-    ensures same { (s : State) → ShowsPages (picture_of core.now) s → RulesSame s pid addr len mode result }
-    ensures listed { AreListed (picture_of core.now) result }
-    ensures taken { AreTaken (picture_of core.now) pid addr len result }
+    ensures same { (s : State) → ShowsPages (picture_of core.now) s → RulesSame s pid addr len mode list.new result }
+    ensures listed { AreListed (picture_of core.now) list.new result }
+    ensures taken { AreTaken (picture_of core.now) pid addr len list.new result }
     ensures no_fault { IsNoDeviceFault result }
 {
     let Some(process) = core.live(pid) else {
@@ -51,26 +52,31 @@ pub(crate) fn rule<D, E>(
     }
     match mode {
         MsyncMode::Async => Ruling::Passes,
-        MsyncMode::Sync => choose(regions, &core.cache, first, count),
+        MsyncMode::Sync => choose(regions, &core.cache, first, count, list),
     }
 }
 
 /// The touched pages of the row of `count` pages from `first` on: `ENOSPC` where there are more than one msync takes.
-fn choose(regions: &Regions, cache: &PageCache, first: u64, count: u64) -> Ruling
+fn choose(
+    regions: &Regions,
+    cache: &PageCache,
+    first: u64,
+    count: u64,
+    list: &mut [FilePage; MSYNC_PAGES],
+) -> Ruling
     requires room { first + count < 2 ^ 64 }
     requires user { IsUserMap (attr_at regions.now) }
-    ensures { IsChoice (is_chosen (is_touched cache.now) (attr_at regions.now) first count) result }
+    ensures { IsChoice (is_chosen (of_files (is_touched cache.now)) (attr_at regions.now) first count) list.new result }
 {
-    let mut list = [FilePage { file: 0, page: 0 }; MSYNC_PAGES];
-    match choose_between(regions, cache, first, first + count, &mut list) {
+    match choose_between(regions, cache, first, first + count, list) {
         Err(TooMany) => Ruling::Refuses(Errno::ENOSPC),
         Ok(0) => Ruling::Passes,
-        Ok(count) => Ruling::Takes(Chosen { list, count }),
+        Ok(count) => Ruling::Takes(count),
     }
 }
 
 /// Lists the touched pages behind the pages from `first` up to, not including, `end`, run by run, and returns how many there
-/// are; `TooMany` exactly where that would be over 127.
+/// are; `TooMany` exactly where that would be over 1,023.
 fn choose_between(
     regions: &Regions,
     cache: &PageCache,
@@ -80,8 +86,8 @@ fn choose_between(
 ) -> Result<usize, TooMany>
     requires order { first ≤ end }
     requires user { IsUserMap (attr_at regions.now) }
-    ensures ok { IfOk result (Appends (is_chosen (is_touched cache.now) (attr_at regions.now) first (end - first)) list.old list.new 0) }
-    ensures too_many { OnErr result (Overflows (is_chosen (is_touched cache.now) (attr_at regions.now) first (end - first)) list.old 0) }
+    ensures ok { IfOk result (Appends (is_chosen (of_files (is_touched cache.now)) (attr_at regions.now) first (end - first)) list.old list.new 0) }
+    ensures too_many { OnErr result (Overflows (is_chosen (of_files (is_touched cache.now)) (attr_at regions.now) first (end - first)) list.old 0) }
 {
     let mut count = 0;
     let mut page = first;
@@ -97,7 +103,7 @@ fn choose_between(
     Ok(count)
 }
 
-/// Appends the touched pages behind `count` pages, the first of which has this backing. Shared pages alone count.
+/// Appends the touched pages behind `count` pages, the first of which has this backing. Shared pages of files alone count.
 fn choose_behind(
     cache: &PageCache,
     backing: Backing,
@@ -108,11 +114,11 @@ fn choose_behind(
     requires count { count < 2 ^ 32 }
     requires row { backing_fits backing count }
     requires few { used ≤ msync_pages }
-    ensures ok { IfOk result (Appends (is_taken_behind (is_touched cache.now) backing count) list.old list.new used) }
-    ensures too_many { OnErr result (Overflows (is_taken_behind (is_touched cache.now) backing count) list.old used) }
+    ensures ok { IfOk result (Appends (is_taken_behind (of_files (is_touched cache.now)) backing count) list.old list.new used) }
+    ensures too_many { OnErr result (Overflows (is_taken_behind (of_files (is_touched cache.now)) backing count) list.old used) }
 {
     match backing {
-        Backing::Anon | Backing::Private(_) => Ok(used),
+        Backing::Anon | Backing::Private(_) | Backing::Common(_) => Ok(used),
         Backing::Shared(first) => cache.dirty_in(first.file, first.page, count as u32, list, used),
     }
 }

@@ -1,28 +1,15 @@
 //! The file pages that an msync makes durable.
-ghost use Rattle.std.specs.Prelude.{◌≡◌, ◌≤◌, length};
-ghost use Rattle.vm_types.specs.Limits.{msync_pages};
-
-use vm_types::{Errno, FilePage, FrameNo, MSYNC_PAGES, SlotNo};
-
-/// Touched file pages, each once.
-#[derive(Debug, Drop)]
-pub(crate) struct Chosen {
-    pub list: [FilePage; MSYNC_PAGES],
-    /// How many pages of the list there are.
-    pub count: usize,
-    pub ghost few: { count ≤ msync_pages },
-    pub ghost room: { length list ≡ msync_pages },
-}
+use vm_types::{Errno, FilePage, FrameNo, SlotNo};
 
 /// How an msync is judged.
-#[derive(Debug, Drop)]
+#[derive(Clone, Copy, Debug, PartialEq, Eq)]
 pub(crate) enum Ruling {
     /// It is refused.
     Refuses(Errno),
     /// It is done, with nothing to make durable.
     Passes,
-    /// These pages are made durable.
-    Takes(Chosen),
+    /// So many pages, at the front of the list, are made durable.
+    Takes(usize),
 }
 
 /// Where a touched page lies, which isn't at home.

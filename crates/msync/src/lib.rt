@@ -6,6 +6,8 @@ mod choosing;
 mod chosen;
 mod msyncs;
 mod page_source;
+mod room;
 mod settling;
 
 pub use msyncs::msync;
+pub use room::SyncRoom;

@@ -11,6 +11,7 @@ ghost use Rattle.vm_types.specs.declared.refusal.Errno.TheVariants.{EIO};
 ghost use Rattle.vm_types.specs.declared.refusal.Stall.{Stall};
 ghost use Rattle.vm_types.specs.declared.refusal.Stall.TheVariants.{SwapDevice};
 ghost use Rattle.vm_types.specs.declared.command.MsyncMode.{MsyncMode as Mode};
+ghost use Rattle.vm_types.specs.declared.object.PageKey.TheVariants.{File};
 ghost use Rattle.frames.specs.FrameTable.{frame_count};
 ghost use Rattle.swap.specs.Slots.{slots_of, IsReady};
 ghost use Rattle.paging.specs.Picture.{picture_of};
@@ -18,19 +19,20 @@ ghost use Rattle.paging.specs.Parts.{IsFit};
 ghost use Rattle.paging.specs.Calls.{UsesDevice};
 ghost use Rattle.msync.specs.Core.{Commits, GivesBack};
 ghost use Rattle.msync.specs.Shows.{IsSoundCore, Shows};
-ghost use Rattle.msync.specs.Choice.{IsListed, TakesSame, TakesAway, IsAway, page_at};
+ghost use Rattle.msync.specs.Choice.{chosen_of, IsListed, TakesSame, TakesAway, IsAway, page_at};
 ghost use Rattle.msync.specs.Spots.{HasSpots, IsSpot, bytes_there};
 ghost use Rattle.msync.specs.Settling.{LosesDirtyOnly, SettlesPlaces};
 
 use crate::choosing::rule;
-use crate::chosen::{Chosen, Residence, Ruling, Spot};
+use crate::chosen::{Residence, Ruling, Spot};
 use crate::page_source::TouchedPages;
+use crate::room::SyncRoom;
 use crate::settling::settle;
 use disk_model::SectorDisk;
 use page_cache::Place;
 use paging::Core;
 use sync_journal::CommitFault;
-use vm_types::{Answer, Errno, FilePage, FrameNo, MSYNC_PAGES, MsyncMode, Stall};
+use vm_types::{Answer, Errno, FilePage, MSYNC_PAGES, MsyncMode, PageKey, Stall};
 
 /// Makes the touched pages of a range durable, all at once and over all files (msync(2); Park, Kelly and Shen, Failure-Atomic
 /// msync, EuroSys 2013): the file pages, stored to and not made durable since, that stand behind the shared pages which hold
@@ -39,7 +41,7 @@ use vm_types::{Answer, Errno, FilePage, FrameNo, MSYNC_PAGES, MsyncMode, Stall};
 /// asked.
 ///
 /// `ESRCH` where no such process lives, `EINVAL` where `addr` is no multiple of 4,096, `ENOMEM` where a page of the range
-/// isn't mapped, `ENOSPC` where there are more than 127 such pages; nothing is changed then. `EIO` comes exactly where the
+/// isn't mapped, `ENOSPC` where there are more than 1,023 such pages; nothing is changed then. `EIO` comes exactly where the
 /// store failed in this call, which then isn't to be called again; memory is as it was. `SwapDevice` comes exactly where a slot
 /// that one of those pages lies in could not be read: nothing has become durable then, memory is as it was, and the call may be
 /// made again.
@@ -48,6 +50,7 @@ use vm_types::{Answer, Errno, FilePage, FrameNo, MSYNC_PAGES, MsyncMode, Stall};
 /// the touched pages times the runs of all processes, however long they are.
 pub fn msync<D: SectorDisk, E: SectorDisk>(
     core: &mut Core<D, E>,
+    room: &mut SyncRoom,
     pid: u64,
     addr: u64,
     len: u64,
@@ -77,21 +80,27 @@ pub fn msync<D: SectorDisk, E: SectorDisk>(
     ensures places { SettlesPlaces (picture_of core.old) (picture_of core.new) }
     ensures unasked { (errno : Errno) → result ≡ Answer.Refused errno → errno ≢ EIO → core.new ≡ core.old }
 {
-    match rule(core, pid, addr, len, mode) {
+    let list = room.pages.list();
+    match rule(core, pid, addr, len, mode, list) {
         Ruling::Refuses(errno) => Answer::Refused(errno),
         Ruling::Passes => Answer::Done,
-        Ruling::Takes(chosen) => commit(core, &chosen),
+        Ruling::Takes(count) => commit(core, list, count, room.spots.list()),
     }
 }
 
-/// Commits pages to the store, which are touched no more then. Where the store fails, or a slot can't be read, memory is left as
+/// Commits the first pages of a list to the store, which are touched no more then. Where the store fails, or a slot can't be read, memory is left as
 /// it was.
-fn commit<D: SectorDisk, E: SectorDisk>(core: &mut Core<D, E>, chosen: &Chosen) -> Answer
+fn commit<D: SectorDisk, E: SectorDisk>(
+    core: &mut Core<D, E>,
+    list: &[FilePage; MSYNC_PAGES],
+    count: usize,
+    spots: &mut [Spot; MSYNC_PAGES],
+) -> Answer
     requires sound { IsSoundCore D.SectorDisk E.SectorDisk core.old }
-    requires listed { IsListed (picture_of core.old) chosen.now }
+    requires listed { IsListed (picture_of core.old) (chosen_of list.now count) }
     ensures commits { (s : State) (after : Pages) (pid addr len : ℕ) (mode : Mode) → Shows D.SectorDisk core.old s
-        → commits s (Msync pid addr len mode) ≡ Some after → TakesSame s pid addr len mode chosen.now
-        → Commits D.SectorDisk E.SectorDisk (IsAway (picture_of core.old) chosen.now → E.keeps_model core.new.swap.pages.disk) core.old core.new s after (Msync pid addr len mode) (reply_of result) }
+        → commits s (Msync pid addr len mode) ≡ Some after → TakesSame s pid addr len mode (chosen_of list.now count)
+        → Commits D.SectorDisk E.SectorDisk (IsAway (picture_of core.old) (chosen_of list.now count) → E.keeps_model core.new.swap.pages.disk) core.old core.new s after (Msync pid addr len mode) (reply_of result) }
     ensures ready { result ≢ Answer.Refused EIO → IsSoundCore D.SectorDisk E.SectorDisk core.new }
     ensures fit { IsFit (picture_of core.new) }
     ensures kept { D.keeps_model core.new.store.disk → D.keeps_model core.old.store.disk }
@@ -105,14 +114,14 @@ fn commit<D: SectorDisk, E: SectorDisk>(core: &mut Core<D, E>, chosen: &Chosen) 
     ensures calm { result ≢ Answer.Refused EIO → D.failures core.new.store.disk ≡ D.failures core.old.store.disk }
     ensures stalled { (stall : Stall) → result ≡ Answer.Stalled stall → (stall ≡ SwapDevice) × (E.failures core.old.swap.pages.disk < E.failures core.new.swap.pages.disk) }
     ensures still { ((stall : Stall) → result ≢ Answer.Stalled stall) → E.failures core.new.swap.pages.disk ≡ E.failures core.old.swap.pages.disk }
-    ensures away { (core.new.swap ≡ core.old.swap) ⊎ IsAway (picture_of core.old) chosen.now }
+    ensures away { (core.new.swap ≡ core.old.swap) ⊎ IsAway (picture_of core.old) (chosen_of list.now count) }
     ensures refused { core.new.refused ≡ core.old.refused }
     ensures entries { LosesDirtyOnly (picture_of core.old) (picture_of core.new) }
     ensures places { SettlesPlaces (picture_of core.old) (picture_of core.new) }
     ensures answers { (errno : Errno) → result ≡ Answer.Refused errno → errno ≡ EIO }
 {
-    let list = &chosen.list[..chosen.count];
-    let spots = spots_of(core, list);
+    let list = &list[..count];
+    fill_spots(core, list, spots);
     let spots = &spots[..list.len()];
     let mut source = TouchedPages {
         frames: &core.frames,
@@ -129,33 +138,27 @@ fn commit<D: SectorDisk, E: SectorDisk>(core: &mut Core<D, E>, chosen: &Chosen) 
     }
 }
 
-/// The places that touched pages lie in.
-fn spots_of<D, E>(core: &Core<D, E>, pages: &[FilePage]) -> [Spot; MSYNC_PAGES]
+/// Puts the places that touched pages lie in to the front of a list.
+fn fill_spots<D, E>(core: &Core<D, E>, pages: &[FilePage], spots: &mut [Spot; MSYNC_PAGES])
     requires fit { IsFit (picture_of core.now) }
     requires few { length pages.now ≤ msync_pages }
-    requires touched { (i : ℕ) → i < length pages.now → (picture_of core.now).touched (page_at pages.now i) ≡ true }
-    ensures { HasSpots (picture_of core.now) pages.now (take (length pages.now) result) }
+    requires touched { (i : ℕ) → i < length pages.now → (picture_of core.now).touched (File (page_at pages.now i)) ≡ true }
+    ensures { HasSpots (picture_of core.now) pages.now (take (length pages.now) spots.new) }
 {
-    let none = Spot {
-        page: FilePage { file: 0, page: 0 },
-        at: Residence::Framed(FrameNo(0)),
-    };
-    let mut spots = [none; MSYNC_PAGES];
     for i in 0..pages.len() {
         spots[i] = spot_of(core, pages[i]);
     }
-    spots
 }
 
 /// The place that a touched page lies in.
 fn spot_of<D, E>(core: &Core<D, E>, page: FilePage) -> Spot
     requires fit { IsFit (picture_of core.now) }
-    requires touched { (picture_of core.now).touched page ≡ true }
+    requires touched { (picture_of core.now).touched (File page) ≡ true }
     ensures spot { IsSpot (picture_of core.now) result }
     ensures whole { length (bytes_there core.now.frames (slots_of core.now.swap) result.at) ≡ 4096 }
     ensures page { result.page ≡ page }
 {
-    match core.cache.place(page) {
+    match core.cache.place(PageKey::File(page)) {
         Place::Frame(frame) => {
             let _ = whole(core.frames.bytes(frame));
             Spot {

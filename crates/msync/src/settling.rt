@@ -1,5 +1,6 @@
 //! What memory is after a commit: its pages are as they stand in the store, and touched no more.
 ghost use Rattle.std.specs.Prelude.{◌≡◌, ◌⊎◌, ◌≤◌, ◌<◌, ℕ, ◌++◌, Some, length, take, replicate};
+ghost use Rattle.vm_types.specs.declared.object.PageKey.TheVariants.{File};
 ghost use Rattle.vm_types.specs.Files.{inside_of, cut};
 ghost use Rattle.frames.specs.FrameTable.{IsFrame, bytes_of, with_bytes};
 ghost use Rattle.page_cache.specs.declared.place.Place.TheVariants.{Frame, Slot};
@@ -13,7 +14,7 @@ use crate::chosen::{Residence, Spot};
 use disk_model::SectorDisk;
 use page_cache::Place;
 use paging::{Change, Core, change_leaves};
-use vm_types::{FilePage, FrameNo, SlotNo};
+use vm_types::{FilePage, FrameNo, PageKey, SlotNo};
 
 /// Pages that were committed: bytes past the end of their files become zero, no entry says D of them, and they are touched
 /// no more. One that lay in a slot is at home then, and its slot is free. Every page keeps its own copy.
@@ -48,7 +49,7 @@ fn settle_one<D: SectorDisk, E>(core: &mut Core<D, E>, spot: Spot)
 /// The same of a page in a frame.
 fn settle_in_frame<D: SectorDisk, E>(core: &mut Core<D, E>, page: FilePage, frame: FrameNo)
     requires fit { IsFit (picture_of core.old) }
-    requires placed { (picture_of core.old).place page ≡ Frame frame }
+    requires placed { (picture_of core.old).place (File page) ≡ Frame frame }
     requires inside { IsFrame core.old.frames frame.0 }
     ensures fit { IsFit (picture_of core.new) }
     ensures beside { KeepsBesidePages core.old core.new }
@@ -57,26 +58,26 @@ fn settle_in_frame<D: SectorDisk, E>(core: &mut Core<D, E>, page: FilePage, fram
 {
     cut_tail(core, page, frame);
     change_leaves(core, frame, Change::ClearDirty);
-    core.cache.clean(page);
+    core.cache.clean(PageKey::File(page));
 }
 
 /// The same of a page in a slot, which is given back.
 fn settle_in_slot<D, E>(core: &mut Core<D, E>, page: FilePage, slot: SlotNo)
     requires fit { IsFit (picture_of core.old) }
-    requires placed { (picture_of core.old).place page ≡ Slot slot }
+    requires placed { (picture_of core.old).place (File page) ≡ Slot slot }
     ensures fit { IsFit (picture_of core.new) }
     ensures beside { KeepsBesidePages core.old core.new }
     ensures settles { SettlesOne (picture_of core.old) (picture_of core.new) (slotted_at page slot) }
 {
-    core.cache.clean(page);
-    core.cache.set_place(page, Place::Home);
+    core.cache.clean(PageKey::File(page));
+    core.cache.set_place(PageKey::File(page), Place::Home);
     core.swap.release(slot);
 }
 
 /// Bytes past the end of a page's file become zero in its frame.
 fn cut_tail<D: SectorDisk, E>(core: &mut Core<D, E>, page: FilePage, frame: FrameNo)
     requires fit { IsFit (picture_of core.old) }
-    requires placed { (picture_of core.old).place page ≡ Frame frame }
+    requires placed { (picture_of core.old).place (File page) ≡ Frame frame }
     requires inside { IsFrame core.old.frames frame.0 }
     ensures fit { IsFit (picture_of core.new) }
     ensures beside { KeepsAllButFrames core.old core.new }

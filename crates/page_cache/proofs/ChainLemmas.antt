@@ -2,42 +2,42 @@
 use Rattle.std.proofs.Common.{◌≡◌, ◌≢◌, ℕ, zero, suc, ◌+◌, ◌<◌, ◌≤◌, Bool, true, false, eqb, List, length, replicate, get_or, Option, Some, None, refl, sym, ap, ◌∙◌, subst, inl, inr, arith, set, length-set, get_or-set_same, get_or-set_other}
 use Rattle.std.proofs.lemmas.Bool.{cases_eq, cases_lt, cases_order, both_ways, true≢false, eqb-true, eq-eqb, false_from_ne_true}
 use Rattle.std.proofs.lemmas.List.{length-replicate, get_or-replicate}
-use Rattle.vm_types.specs.declared.file.FilePage.{FilePage}
+use Rattle.vm_types.specs.declared.object.PageKey.{PageKey}
 use Rattle.page_cache.specs.Nodes.{page_at, holds}
 use Rattle.page_cache.specs.Chains.{bucket_of, is_in_bucket, IsNext, IsLinkOf, IsChained, IsSeat, IsEmptyIndex}
 use Rattle.page_cache.proofs.NodeLemmas.{page_at-emptied, page_at-within, holds-false}
 
 -- a node holds a page of one bucket
-pub bucket-one : (mask b d : ℕ) (held : Option FilePage) → is_in_bucket mask b held ≡ true → is_in_bucket mask d held ≡ true → b ≡ d
+pub bucket-one : (mask b d : ℕ) (held : Option PageKey) → is_in_bucket mask b held ≡ true → is_in_bucket mask d held ≡ true → b ≡ d
 bucket-one mask b d None here there = absurd (true≢false (sym here))
 bucket-one mask b d (Some page) here there = sym (eqb-true (bucket_of mask page) b here) ∙ eqb-true (bucket_of mask page) d there
 
-pub bucket-some : (mask b : ℕ) (held : Option FilePage) → is_in_bucket mask b held ≡ true → (page : FilePage) × (held ≡ Some page)
+pub bucket-some : (mask b : ℕ) (held : Option PageKey) → is_in_bucket mask b held ≡ true → (page : PageKey) × (held ≡ Some page)
 bucket-some mask b None here = absurd (true≢false (sym here))
 bucket-some mask b (Some page) here = (page, refl)
 
-pub bucket-own : (mask : ℕ) (page : FilePage) → is_in_bucket mask (bucket_of mask page) (Some page) ≡ true
+pub bucket-own : (mask : ℕ) (page : PageKey) → is_in_bucket mask (bucket_of mask page) (Some page) ≡ true
 bucket-own mask page = eq-eqb (bucket_of mask page) (bucket_of mask page) refl
 
-pub bucket-inside : (pages : List (Option FilePage)) (mask b n : ℕ) → is_in_bucket mask b (page_at pages n) ≡ true → n < length pages
+pub bucket-inside : (pages : List (Option PageKey)) (mask b n : ℕ) → is_in_bucket mask b (page_at pages n) ≡ true → n < length pages
 bucket-inside pages mask b n here =
     let some = bucket-some mask b (page_at pages n) here in
     page_at-within pages n some.0 some.1
 
 -- an index of a link is one of the list
-pub link-inside : (pages : List (Option FilePage)) (links : List ℕ) (mask b low at : ℕ) → IsChained pages links mask → b ≤ mask → IsLinkOf pages mask b low at → at < length links
+pub link-inside : (pages : List (Option PageKey)) (links : List ℕ) (mask b low at : ℕ) → IsChained pages links mask → b ≤ mask → IsLinkOf pages mask b low at → at < length links
 link-inside pages links mask b low at chained within (inl own) = omega (arith, chained.count, own.0)
 link-inside pages links mask b low at chained within (inr next) =
     let inside = bucket-inside pages mask b next.0 next.3 in
     omega (arith, chained.count, next.1)
 
 -- one link cannot pass what another one of its bucket stands at
-behind : (pages : List (Option FilePage)) (mask b r m k : ℕ) → is_in_bucket mask b (page_at pages m) ≡ true → m < r → k ≤ m
+behind : (pages : List (Option PageKey)) (mask b r m k : ℕ) → is_in_bucket mask b (page_at pages m) ≡ true → m < r → k ≤ m
     → ((j : ℕ) → k ≤ j → j < r → is_in_bucket mask b (page_at pages j) ≡ false) → ⊥
 behind pages mask b r m k there below above passed = both_ways (is_in_bucket mask b (page_at pages m)) (passed m above below) there
 
 -- two links of a bucket that pass the same nodes up to r are one
-pub links-one : (pages : List (Option FilePage)) (mask b r low at low2 at2 : ℕ) → IsLinkOf pages mask b low at → IsLinkOf pages mask b low2 at2
+pub links-one : (pages : List (Option PageKey)) (mask b r low at low2 at2 : ℕ) → IsLinkOf pages mask b low at → IsLinkOf pages mask b low2 at2
     → low ≤ r → low2 ≤ r
     → ((j : ℕ) → low ≤ j → j < r → is_in_bucket mask b (page_at pages j) ≡ false)
     → ((j : ℕ) → low2 ≤ j → j < r → is_in_bucket mask b (page_at pages j) ≡ false)
@@ -56,7 +56,7 @@ links-one pages mask b r low at low2 at2 (inr next) (inr next2) before before2 p
 ]
 
 -- an index of a link is of one bucket, and begins at one number
-pub link-one : (pages : List (Option FilePage)) (mask b d low at low2 : ℕ) → b ≤ mask → d ≤ mask → IsLinkOf pages mask b low at → IsLinkOf pages mask d low2 at
+pub link-one : (pages : List (Option PageKey)) (mask b d low at low2 : ℕ) → b ≤ mask → d ≤ mask → IsLinkOf pages mask b low at → IsLinkOf pages mask d low2 at
     → (b ≡ d) × (low ≡ low2)
 link-one pages mask b d low at low2 within within2 (inl own) (inl own2) = (sym own.0 ∙ own2.0, own.1 ∙ sym own2.1)
 link-one pages mask b d low at low2 within within2 (inl own) (inr next2) = absurd (omega (arith, own.0, next2.1))
@@ -67,22 +67,22 @@ link-one pages mask b d low at low2 within within2 (inr next) (inr next2) =
     (bucket-one mask b d (page_at pages next2.0) here next2.3, omega (arith, next.2, next2.2))
 
 -- nodes but r hold what they held
-abbrev pub SameButAt : ℕ → List (Option FilePage) → List (Option FilePage) → Type 0
+abbrev pub SameButAt : ℕ → List (Option PageKey) → List (Option PageKey) → Type 0
 SameButAt r old new = (m : ℕ) → m ≢ r → page_at new m ≡ page_at old m
 
 -- a link of a node other than r was one before
-link-before : (old new : List (Option FilePage)) (r mask b low at : ℕ) → SameButAt r old new → at ≢ mask + 1 + r → IsLinkOf new mask b low at → IsLinkOf old mask b low at
+link-before : (old new : List (Option PageKey)) (r mask b low at : ℕ) → SameButAt r old new → at ≢ mask + 1 + r → IsLinkOf new mask b low at → IsLinkOf old mask b low at
 link-before old new r mask b low at same other (inl own) = inl own
 link-before old new r mask b low at same other (inr next) =
     let apart : next.0 ≢ r = λ e. other (omega (arith, next.1, e)) in
     inr (next.0, next.1, next.2, sym (ap (is_in_bucket mask b) (same next.0 apart)) ∙ next.3)
 
 -- in a bucket before and after
-still : (old new : List (Option FilePage)) (r mask b m : ℕ) → SameButAt r old new → m ≢ r → (t : Bool) → is_in_bucket mask b (page_at old m) ≡ t → is_in_bucket mask b (page_at new m) ≡ t
+still : (old new : List (Option PageKey)) (r mask b m : ℕ) → SameButAt r old new → m ≢ r → (t : Bool) → is_in_bucket mask b (page_at old m) ≡ t → is_in_bucket mask b (page_at new m) ≡ t
 still old new r mask b m same other t e = ap (is_in_bucket mask b) (same m other) ∙ e
 
 -- the node r gives up its page: the link that led to it leads to the next of its bucket
-module _ (old : List (Option FilePage)) (links : List ℕ) (mask b r at : ℕ) (chained : IsChained old links mask) (within : b ≤ mask)
+module _ (old : List (Option PageKey)) (links : List ℕ) (mask b r at : ℕ) (chained : IsChained old links mask) (within : b ≤ mask)
     (held : is_in_bucket mask b (page_at old r) ≡ true) (seat : IsSeat old links mask b r at) (from : r ≤ get_or links at 0) where
   seat-next : IsNext old mask b seat.low (get_or links at 0)
   seat-next = chained.link b seat.low at within seat.link
@@ -171,7 +171,7 @@ module _ (old : List (Option FilePage)) (links : List ℕ) (mask b r at : ℕ) (
   }
 
 -- the node r, which holds nothing, is given a page of the bucket: it stands between the link and what that led to
-module _ (old : List (Option FilePage)) (links : List ℕ) (mask b r at : ℕ) (page : FilePage) (chained : IsChained old links mask) (within : b ≤ mask)
+module _ (old : List (Option PageKey)) (links : List ℕ) (mask b r at : ℕ) (page : PageKey) (chained : IsChained old links mask) (within : b ≤ mask)
     (free : page_at old r ≡ None) (inside : r < length old) (bucket : bucket_of mask page ≡ b)
     (seat : IsSeat old links mask b r at) (from : r ≤ get_or links at 0) where
   seat-next2 : IsNext old mask b seat.low (get_or links at 0)
@@ -290,7 +290,7 @@ module _ (old : List (Option FilePage)) (links : List ℕ) (mask b r at : ℕ) (
         rw (start, ← filled-one d here) inserted-own)
 
 -- what a link passes does not hold a page of its bucket
-pub passed-none : (pages : List (Option FilePage)) (mask low n : ℕ) (page : FilePage) → IsNext pages mask (bucket_of mask page) low n
+pub passed-none : (pages : List (Option PageKey)) (mask low n : ℕ) (page : PageKey) → IsNext pages mask (bucket_of mask page) low n
     → ((m : ℕ) → m < low → holds page (page_at pages m) ≡ false) → (m : ℕ) → m < n → holds page (page_at pages m) ≡ false
 passed-none pages mask low n page next before m below = elim (cases_lt m low) [
   | inl less ↦ before m less
@@ -305,12 +305,12 @@ none_at zero k = refl
 none_at (suc n) zero = refl
 none_at (suc n) (suc k) = none_at n k
 
-pub IsEmptyIndex-made : (pages : List (Option FilePage)) (links : List ℕ) (mask nodes : ℕ) → nodes ≤ 131072 → pages ≡ replicate nodes None
+pub IsEmptyIndex-made : (pages : List (Option PageKey)) (links : List ℕ) (mask nodes : ℕ) → nodes ≤ 131072 → pages ≡ replicate nodes None
     → links ≡ replicate (mask + 1 + nodes) nodes → IsEmptyIndex pages links mask nodes
 IsEmptyIndex-made pages links mask nodes few empty ends =
     let count : length pages ≡ nodes = ap length empty ∙ length-replicate nodes None in
     let nothing : (b m : ℕ) → is_in_bucket mask b (page_at pages m) ≡ false =
-    λ b m. ap (λ (xs : List (Option FilePage)). is_in_bucket mask b (page_at xs m)) empty ∙ ap (is_in_bucket mask b) (none_at nodes m) in
+    λ b m. ap (λ (xs : List (Option PageKey)). is_in_bucket mask b (page_at xs m)) empty ∙ ap (is_in_bucket mask b) (none_at nodes m) in
     record {
       chained = record {
         few = rw count few;

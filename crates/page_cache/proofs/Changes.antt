@@ -1,7 +1,7 @@
--- What a call leaves of the cache: whole again, and the same but for one file page.
+-- What a call leaves of the cache: whole again, and the same but for one page.
 use Rattle.std.proofs.Common.{◌≡◌, ◌≢◌, ℕ, ◌<◌, false, List, length, get_or, Option, Some, None, refl, sym, ap, ◌∙◌, inl, inr, set, length-set, get_or-set_same, get_or-set_other}
 use Rattle.std.proofs.lemmas.Bool.{cases_eq, both_ways, false_from_ne_true}
-use Rattle.vm_types.specs.declared.file.FilePage.{FilePage}
+use Rattle.vm_types.specs.declared.object.PageKey.{PageKey}
 use Rattle.page_cache.specs.declared.place.Place.TheVariants.{Home}
 use Rattle.page_cache.specs.declared.index.Index.{Index}
 use Rattle.page_cache.specs.declared.node_set.NodeSet.{NodeSet}
@@ -22,18 +22,18 @@ marks_same old old_count new new_count node same m other =
     members-at new new_count m ∙ same.others m other ∙ sym (members-at old old_count m)
 
 -- a page at home is held by no node
-pub nowhere : (t : CacheTable) (page : FilePage) → IsOneToOne t.pages → place_of t page ≡ Home → (m : ℕ) → page_at t.pages m ≢ Some page
+pub nowhere : (t : CacheTable) (page : PageKey) → IsOneToOne t.pages → place_of t page ≡ Home → (m : ℕ) → page_at t.pages m ≢ Some page
 nowhere t page one home m held = place_in-held t.frames m (sym (place_of-held t page m one held) ∙ home)
 
 -- a node whose place nobody has holds nothing
-pub nothing_held : (t : CacheTable) (n : ℕ) → IsOneToOne t.pages → ((p : FilePage) → place_of t p ≢ place_in t.frames (Some n)) → page_at t.pages n ≡ None
+pub nothing_held : (t : CacheTable) (n : ℕ) → IsOneToOne t.pages → ((p : PageKey) → place_of t p ≢ place_in t.frames (Some n)) → page_at t.pages n ≡ None
 nothing_held t n one free = by_held (page_at t.pages n) refl where
-  by_held : (held : Option FilePage) → page_at t.pages n ≡ held → held ≡ None
+  by_held : (held : Option PageKey) → page_at t.pages n ≡ held → held ≡ None
   by_held None e = refl
   by_held (Some p) e = absurd (free p (place_of-held t p n one e))
 
 -- the node gave up its page and its mark
-pub IsWhole-taken : (c : Inside) (index : Index) (touched : NodeSet) (node : ℕ) (page : FilePage) → IsWholeCache c → page_at c.index.pages.items node ≡ Some page
+pub IsWhole-taken : (c : Inside) (index : Index) (touched : NodeSet) (node : ℕ) (page : PageKey) → IsWholeCache c → page_at c.index.pages.items node ≡ Some page
     → index.pages.items ≡ set c.index.pages.items node None → IsChained index.pages.items index.links.items index.mask
     → IsOrdered touched.order.items touched.ranks.items touched.count → is_member touched.ranks.items touched.count node ≡ false
     → SameMembersBut node c.touched.ranks.items c.touched.count touched.ranks.items touched.count
@@ -52,12 +52,12 @@ IsWhole-taken c index touched node page whole held pages chained ordered unmarke
       touched_held = λ m member none. elim (cases_eq m node) [
         | inl e ↦ both_ways (is_member touched.ranks.items touched.count m) (ap (is_member touched.ranks.items touched.count) e ∙ unmarked) member
         | inr other ↦ whole.touched_held m (sym (same.others m other) ∙ member)
-            (sym (get_or-set_other c.index.pages.items node m None None other) ∙ ap (λ (xs : List (Option FilePage)). page_at xs m) (sym pages) ∙ none)
+            (sym (get_or-set_other c.index.pages.items node m None None other) ∙ ap (λ (xs : List (Option PageKey)). page_at xs m) (sym pages) ∙ none)
       ];
     }
 
 -- the node was given a page that was nowhere
-pub IsWhole-given : (c : Inside) (index : Index) (touched : NodeSet) (node : ℕ) (page : FilePage) → IsWholeCache c → node < length c.index.pages.items
+pub IsWhole-given : (c : Inside) (index : Index) (touched : NodeSet) (node : ℕ) (page : PageKey) → IsWholeCache c → node < length c.index.pages.items
     → place_of (table_of c) page ≡ Home
     → index.pages.items ≡ set c.index.pages.items node (Some page) → IsChained index.pages.items index.links.items index.mask
     → IsOrdered touched.order.items touched.ranks.items touched.count
@@ -75,15 +75,15 @@ IsWhole-given c index touched node page whole inside home pages chained ordered 
       ordered = ordered;
       nodes = same.nodes ∙ whole.nodes ∙ sym nodes;
       touched_held = λ m member none. elim (cases_eq m node) [
-        | inl e ↦ none≢some page (sym none ∙ ap (λ (xs : List (Option FilePage)). page_at xs m) pages ∙ ap (page_at (set c.index.pages.items node (Some page))) e
+        | inl e ↦ none≢some page (sym none ∙ ap (λ (xs : List (Option PageKey)). page_at xs m) pages ∙ ap (page_at (set c.index.pages.items node (Some page))) e
             ∙ get_or-set_same c.index.pages.items node (Some page) None inside)
         | inr other ↦ whole.touched_held m (sym (same.others m other) ∙ member)
-            (sym (get_or-set_other c.index.pages.items node m (Some page) None other) ∙ ap (λ (xs : List (Option FilePage)). page_at xs m) (sym pages) ∙ none)
+            (sym (get_or-set_other c.index.pages.items node m (Some page) None other) ∙ ap (λ (xs : List (Option PageKey)). page_at xs m) (sym pages) ∙ none)
       ];
     }
 
 -- the clauses of `hold` on the page itself
-pub given-placed : (c : Inside) (index : Index) (touched : NodeSet) (node : ℕ) (page : FilePage) → IsWholeCache c → node < length c.index.pages.items
+pub given-placed : (c : Inside) (index : Index) (touched : NodeSet) (node : ℕ) (page : PageKey) → IsWholeCache c → node < length c.index.pages.items
     → place_of (table_of c) page ≡ Home → index.pages.items ≡ set c.index.pages.items node (Some page)
     → first_node index.pages.items page ≡ Some node
 given-placed c index touched node page whole inside home pages =
@@ -95,7 +95,7 @@ given-placed c index touched node page whole inside home pages =
 pub unmarked : (c : Inside) (node : ℕ) → IsWholeCache c → page_at c.index.pages.items node ≡ None → is_member c.touched.ranks.items c.touched.count node ≡ false
 unmarked c node whole none = false_from_ne_true (is_member c.touched.ranks.items c.touched.count node) (λ member. whole.touched_held node member none)
 
-pub SameButFor-given : (c : Inside) (index : Index) (touched : NodeSet) (node : ℕ) (page : FilePage) → page_at c.index.pages.items node ≡ None
+pub SameButFor-given : (c : Inside) (index : Index) (touched : NodeSet) (node : ℕ) (page : PageKey) → page_at c.index.pages.items node ≡ None
     → index.pages.items ≡ set c.index.pages.items node (Some page)
     → SameMembersBut node c.touched.ranks.items c.touched.count touched.ranks.items touched.count
     → SameButFor page (table_of c) (table_of (record { frames = c.frames; index = index; touched = touched }))
@@ -104,7 +104,7 @@ SameButFor-given c index touched node page free pages same =
     (λ p ne held. none≢some p (sym free ∙ held)) (λ p ne held. ne (sym (some-same page p held)))
     (marks_same c.touched.ranks.items c.touched.count touched.ranks.items touched.count node same))
 
-pub SameButFor-taken : (c : Inside) (index : Index) (touched : NodeSet) (node : ℕ) (page : FilePage) → page_at c.index.pages.items node ≡ Some page
+pub SameButFor-taken : (c : Inside) (index : Index) (touched : NodeSet) (node : ℕ) (page : PageKey) → page_at c.index.pages.items node ≡ Some page
     → index.pages.items ≡ set c.index.pages.items node None
     → SameMembersBut node c.touched.ranks.items c.touched.count touched.ranks.items touched.count
     → SameButFor page (table_of c) (table_of (record { frames = c.frames; index = index; touched = touched }))
@@ -113,7 +113,7 @@ SameButFor-taken c index touched node page held pages same =
     (λ p ne e. ne (sym (some-same page p (sym held ∙ e)))) (λ p ne e. none≢some p e)
     (marks_same c.touched.ranks.items c.touched.count touched.ranks.items touched.count node same))
 
-pub SameButFor-marked : (c : Inside) (touched : NodeSet) (node : ℕ) (page : FilePage) → page_at c.index.pages.items node ≡ Some page
+pub SameButFor-marked : (c : Inside) (touched : NodeSet) (node : ℕ) (page : PageKey) → page_at c.index.pages.items node ≡ Some page
     → SameMembersBut node c.touched.ranks.items c.touched.count touched.ranks.items touched.count
     → SameButFor page (table_of c) (table_of (record { frames = c.frames; index = c.index; touched = touched }))
 SameButFor-marked c touched node page held same =
@@ -121,7 +121,7 @@ SameButFor-marked c touched node page held same =
     (marks_same c.touched.ranks.items c.touched.count touched.ranks.items touched.count node same)
 
 -- the place of a page whose nodes are as they were
-pub place_of-marked : (c : Inside) (touched : NodeSet) (page : FilePage)
+pub place_of-marked : (c : Inside) (touched : NodeSet) (page : PageKey)
     → place_of (table_of (record { frames = c.frames; index = c.index; touched = touched })) page ≡ place_of (table_of c) page
 place_of-marked c touched page =
     place_of-first (table_of (record { frames = c.frames; index = c.index; touched = touched })) page (first_node c.index.pages.items page) refl

@@ -2,23 +2,24 @@
 use Rattle.std.proofs.Common.{◌≡◌, ◌≢◌, ℕ, ◌+◌, ◌-◌, ◌<◌, ◌≤◌, ◌↔◌, Bool, true, false, not, cond, ltb, List, refl, sym, ap, ◌∙◌, inl, inr, arith, Result, Ok, Err, IsErr, IfOk, OnErr}
 use Rattle.std.proofs.lemmas.Bool.{cases_lt, cases_Bool, both_ways, and_parts, and_from, not-true, not_from_false, false≢true, lt-ltb, le-ltb}
 use Rattle.vm_types.specs.declared.file.FilePage.{FilePage}
+use Rattle.vm_types.specs.declared.object.PageKey.TheVariants.{File}
 use Rattle.vm_types.specs.Attributes.{file_page_eq}
 use Rattle.page_cache.specs.declared.place.TooMany.{TooMany}
 use Rattle.page_cache.specs.CacheTable.{CacheTable, is_touched}
 use Rattle.page_cache.specs.Gathering.{IsTouchedIn, entry, IsListed, is_listed, is_fresh, fresh_count, Gathers, HasAll, Overflows}
-use Rattle.page_cache.proofs.NodeLemmas.{same_page, same_page_true}
+use Rattle.page_cache.proofs.NodeLemmas.{same_file_page, same_file_page_true}
 use Rattle.page_cache.proofs.CountLemmas.{count-at_least, count-at_most, any_below-none, any_below-at}
 
 pub is_listed-false : (list : List FilePage) (n : ℕ) (page : FilePage) → (IsListed list n page → ⊥) → is_listed list n page ≡ false
 is_listed-false list n page absent =
     any_below-none (λ i. file_page_eq (entry list i) page) n (λ i below. elim (cases_Bool (file_page_eq (entry list i) page)) [
-      | inl e ↦ absurd (absent (i, below, same_page (entry list i) page e))
+      | inl e ↦ absurd (absent (i, below, same_file_page (entry list i) page e))
       | inr ne ↦ ne
     ])
 
 pub listed-is : (list : List FilePage) (n : ℕ) (page : FilePage) → IsListed list n page → is_listed list n page ≡ true
 listed-is list n page listed =
-    any_below-at (λ i. file_page_eq (entry list i) page) n listed.0 listed.1 (ap (λ (p : FilePage). file_page_eq p page) listed.2 ∙ same_page_true page)
+    any_below-at (λ i. file_page_eq (entry list i) page) n listed.0 listed.1 (ap (λ (p : FilePage). file_page_eq p page) listed.2 ∙ same_file_page_true page)
 
 module _ (t : CacheTable) (file first count used : ℕ) (old : List FilePage) where
   -- the page of the row at that offset
@@ -37,7 +38,7 @@ module _ (t : CacheTable) (file first count used : ℕ) (old : List FilePage) wh
   fresh_at p there absent = (
     omega (arith, there.row.1, there.row.2),
     ap (is_fresh t old used) (sym (row_page p there))
-        ∙ and_from (is_touched t p) (not (is_listed old used p)) there.touched (not_from_false (is_listed old used p) (is_listed-false old used p absent)),
+        ∙ and_from (is_touched t (File p)) (not (is_listed old used p)) there.touched (not_from_false (is_listed old used p) (is_listed-false old used p absent)),
   )
 
   -- so many different fresh pages
@@ -57,7 +58,7 @@ module _ (t : CacheTable) (file first count used : ℕ) (old : List FilePage) wh
   unfolding fresh_count
   at_most new n g all =
       count-at_most (n - used) (λ i. (entry new (used + i)).page - first) passes count (λ k below here. (
-      let parts = and_parts (is_touched t (in_row k)) (not (is_listed old used (in_row k))) here in
+      let parts = and_parts (is_touched t (File (in_row k))) (not (is_listed old used (in_row k))) here in
       let unlisted = not-true (is_listed old used (in_row k)) parts.1 in
       let listed = all (in_row k) (record { row = (refl, omega arith, omega arith); touched = parts.0 }) in
       elim (cases_lt listed.0 used) [
@@ -75,38 +76,38 @@ module _ (t : CacheTable) (file first count used : ℕ) (old : List FilePage) wh
 
   -- the new entries of a full list, and then the page that is missing
   picked : List FilePage → FilePage → ℕ → FilePage
-  picked new missing i = cond (ltb i (127 - used)) (entry new (used + i)) missing
+  picked new missing i = cond (ltb i (1023 - used)) (entry new (used + i)) missing
 
-  picked-entry : (new : List FilePage) (missing : FilePage) (i : ℕ) → i < 127 - used → picked new missing i ≡ entry new (used + i)
+  picked-entry : (new : List FilePage) (missing : FilePage) (i : ℕ) → i < 1023 - used → picked new missing i ≡ entry new (used + i)
   unfolding picked
-  picked-entry new missing i below = rw (lt-ltb i (127 - used) below) refl
+  picked-entry new missing i below = rw (lt-ltb i (1023 - used) below) refl
 
-  picked-missing : (new : List FilePage) (missing : FilePage) (i : ℕ) → 127 - used ≤ i → picked new missing i ≡ missing
+  picked-missing : (new : List FilePage) (missing : FilePage) (i : ℕ) → 1023 - used ≤ i → picked new missing i ≡ missing
   unfolding picked
-  picked-missing new missing i above = rw (le-ltb i (127 - used) above) refl
+  picked-missing new missing i above = rw (le-ltb i (1023 - used) above) refl
 
-  pub overflow_exact : (new : List FilePage) → Overflows t file first count used old new → 127 < used + fresh_count t file first count old used
+  pub overflow_exact : (new : List FilePage) → Overflows t file first count used old new → 1023 < used + fresh_count t file first count old used
   overflow_exact new o =
       let g = o.full in
       let pick = picked new o.missing in
       let unlisted : IsListed old used o.missing → ⊥ = λ listed. o.absent (listed.0, omega (arith, listed.1, g.longer), g.kept listed.0 listed.1 ∙ listed.2) in
-      let least = at_least (127 - used + 1) pick
-      (λ i below. elim (cases_lt i (127 - used)) [
+      let least = at_least (1023 - used + 1) pick
+      (λ i below. elim (cases_lt i (1023 - used)) [
         | inl early ↦ rw (picked-entry new o.missing i early) (g.touched (used + i) (omega arith) (omega arith))
         | inr late ↦ rw (picked-missing new o.missing i late) o.touched
       ])
-      (λ i below. elim (cases_lt i (127 - used)) [
-        | inl early ↦ rw (picked-entry new o.missing i early) (not_before new 127 i g (omega arith))
+      (λ i below. elim (cases_lt i (1023 - used)) [
+        | inl early ↦ rw (picked-entry new o.missing i early) (not_before new 1023 i g (omega arith))
         | inr late ↦ rw (picked-missing new o.missing i late) unlisted
       ])
-      (λ i j less below. rw (picked-entry new o.missing i (omega arith)) (elim (cases_lt j (127 - used)) [
+      (λ i j less below. rw (picked-entry new o.missing i (omega arith)) (elim (cases_lt j (1023 - used)) [
         | inl early ↦ rw (picked-entry new o.missing j early) (g.once (used + i) (used + j) (omega arith) (omega arith) (omega arith))
         | inr late ↦ rw (picked-missing new o.missing j late) (λ e. o.absent (used + i, omega arith, e))
       ])) in
       omega (arith, g.longer, least)
 
   pub exact : (new : List FilePage) (r : Result ℕ TooMany) → IfOk r (λ n. Gathers t file first count used old new n) → IfOk r (λ n. HasAll t file first count new n)
-      → OnErr r (Overflows t file first count used old new) → IsErr r ↔ (127 < used + fresh_count t file first count old used)
+      → OnErr r (Overflows t file first count used old new) → IsErr r ↔ (1023 < used + fresh_count t file first count old used)
   exact new (Ok n) g all over = (λ e. absurd (false≢true e), λ many. absurd (omega (arith, many, g.most, length_exact new n g all)))
   exact new (Err e) g all over = (λ _. overflow_exact new over, λ _. refl)
 

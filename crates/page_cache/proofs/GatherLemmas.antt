@@ -2,17 +2,19 @@
 use Rattle.std.proofs.Common.{◌≡◌, ◌≢◌, ℕ, ◌+◌, ◌<◌, ◌≤◌, ◌⊎◌, Bool, true, false, List, length, get_or, Option, Some, None, refl, sym, ap, ◌∙◌, subst, inl, inr, arith, set, length-set, get_or-set_same, get_or-set_other}
 use Rattle.std.proofs.lemmas.Bool.{cases_eq, cases_lt, both_ways, lt-ltb, ltb-true}
 use Rattle.vm_types.specs.declared.file.FilePage.{FilePage}
+use Rattle.vm_types.specs.declared.object.PageKey.{PageKey}
+use Rattle.vm_types.specs.declared.object.PageKey.TheVariants.{File, Object}
 use Rattle.page_cache.specs.Nodes.{page_at, IsOneToOne}
 use Rattle.page_cache.specs.Sets.{members, IsOrdered}
 use Rattle.page_cache.specs.CacheTable.{CacheTable, is_touched}
-use Rattle.page_cache.specs.Gathering.{IsTouchedIn, entry, IsListed, Gathers, Overflows, Pushes}
-use Rattle.page_cache.proofs.NodeLemmas.{first_node-of}
+use Rattle.page_cache.specs.Gathering.{filed, IsTouchedIn, entry, IsListed, Gathers, Overflows, Pushes}
+use Rattle.page_cache.proofs.NodeLemmas.{first_node-of, none≢some}
 use Rattle.page_cache.proofs.SetLemmas.{members-at, is_member-inside, is_member-rank}
-use Rattle.page_cache.proofs.TableLemmas.{cases_node, is_touched-first}
+use Rattle.page_cache.proofs.TableLemmas.{cases_node, is_touched-first, some-same}
 
 -- the touched pages of the row that were looked at are listed
 pub record IsPart (t : CacheTable) (file first count used : ℕ) (Seen : FilePage → Type 0) (old new : List FilePage) (n : ℕ) : Type 0 where
-  pub room : length new ≡ 127
+  pub room : length new ≡ 1023
   pub gathers : Gathers t file first count used old new n
   pub seen : (i : ℕ) → used ≤ i → i < n → Seen (entry new i)
   pub all : (p : FilePage) → IsTouchedIn t file first count p → Seen p → IsListed new n p
@@ -47,7 +49,7 @@ module _ (t : CacheTable) (file first count used : ℕ) where
   -- a page was looked at and listed
   pub IsPart-push : (Seen Now : FilePage → Type 0) (old new : List FilePage) (n : ℕ) (page : FilePage) → IsPart t file first count used Seen old new n
       → ((p : FilePage) → Seen p → Now p) → Now page → ((p : FilePage) → IsTouchedIn t file first count p → Now p → Seen p ⊎ (p ≡ page))
-      → IsTouchedIn t file first count page → (Seen page → ⊥) → (IsListed new used page → ⊥) → n < 127
+      → IsTouchedIn t file first count page → (Seen page → ⊥) → (IsListed new used page → ⊥) → n < 1023
       → IsPart t file first count used Now old (set new n page) (n + 1)
   IsPart-push Seen Now old new n page part wider now more touched unseen unlisted space =
       let inside : n < length new = rw part.room space in
@@ -82,12 +84,12 @@ module _ (t : CacheTable) (file first count used : ℕ) where
           | inr e ↦ (n, omega arith, here ∙ sym e)
         ];
       } where
-        length-room : length (set new n page) ≡ 127
+        length-room : length (set new n page) ≡ 1023
         length-room = length-set new n page ∙ part.room
 
   -- a page was looked at, and there was no room for it
   pub Overflows-full : (Seen : FilePage → Type 0) (old new : List FilePage) (n : ℕ) (page : FilePage) → IsPart t file first count used Seen old new n
-      → IsTouchedIn t file first count page → (Seen page → ⊥) → (IsListed new used page → ⊥) → n ≡ 127 → Overflows t file first count used old new
+      → IsTouchedIn t file first count page → (Seen page → ⊥) → (IsListed new used page → ⊥) → n ≡ 1023 → Overflows t file first count used old new
   Overflows-full Seen old new n page part touched unseen unlisted full = record {
     full = subst (λ (k : ℕ). Gathers t file first count used old new k) full part.gathers;
     missing = page;
@@ -117,36 +119,41 @@ row_more t file first count k p in_row below = elim (cases_eq p.page (first + k)
   | inr other ↦ inl (omega arith)
 ]
 
-pub row_touched : (t : CacheTable) (file first count k : ℕ) (touched : Bool) → touched ≡ is_touched t (record { file = file; page = first + k }) → touched ≡ true → k < count
+pub row_touched : (t : CacheTable) (file first count k : ℕ) (touched : Bool) → touched ≡ is_touched t (File (record { file = file; page = first + k })) → touched ≡ true → k < count
     → IsTouchedIn t file first count (record { file = file; page = first + k })
 row_touched t file first count k touched is e below = record { row = (refl, omega arith, omega arith); touched = sym is ∙ e }
 
-pub row_untouched : (t : CacheTable) (file first count k : ℕ) (touched : Bool) → touched ≡ is_touched t (record { file = file; page = first + k }) → touched ≡ false
+pub row_untouched : (t : CacheTable) (file first count k : ℕ) (touched : Bool) → touched ≡ is_touched t (File (record { file = file; page = first + k })) → touched ≡ false
     → (p : FilePage) → IsTouchedIn t file first count p → p ≡ record { file = file; page = first + k } → ⊥
 row_untouched t file first count k touched is no_touch p in_row e =
-    both_ways (is_touched t p) (ap (is_touched t) e ∙ sym is ∙ no_touch) in_row.touched
+    both_ways (is_touched t (File p)) (ap (λ (q : FilePage). is_touched t (File q)) e ∙ sym is ∙ no_touch) in_row.touched
+
+pub filed-some : (held : Option PageKey) (page : FilePage) → filed held ≡ Some page → held ≡ Some (File page)
+filed-some None page e = absurd (none≢some page e)
+filed-some (Some (File p)) page e = ap (λ (q : FilePage). Some (File q)) (some-same p page e)
+filed-some (Some (Object p)) page e = absurd (none≢some page e)
 
 -- by a look at each touched page: the page of a node at one of the first places
-abbrev pub IsAtPlace : List (Option FilePage) → List ℕ → ℕ → FilePage → Type 0
-IsAtPlace pages order count p = (j : ℕ) × (j < count) × (page_at pages (get_or order j 0) ≡ Some p)
+abbrev pub IsAtPlace : List (Option PageKey) → List ℕ → ℕ → FilePage → Type 0
+IsAtPlace pages order count p = (j : ℕ) × (j < count) × (page_at pages (get_or order j 0) ≡ Some (File p))
 
-module _ (frames : ℕ) (pages : List (Option FilePage)) (order ranks : List ℕ) (members_count : ℕ) (one : IsOneToOne pages) (ordered : IsOrdered order ranks members_count) where
+module _ (frames : ℕ) (pages : List (Option PageKey)) (order ranks : List ℕ) (members_count : ℕ) (one : IsOneToOne pages) (ordered : IsOrdered order ranks members_count) where
   abbrev table : CacheTable
   table = record { frames = frames; pages = pages; touched = members ranks members_count }
 
   -- the node at a place of the set is a member
-  pub place_touched : (place : ℕ) (page : FilePage) → place < members_count → page_at pages (get_or order place 0) ≡ Some page → is_touched table page ≡ true
+  pub place_touched : (place : ℕ) (page : FilePage) → place < members_count → page_at pages (get_or order place 0) ≡ Some (File page) → is_touched table (File page) ≡ true
   place_touched place page below held =
       let node : ℕ = get_or order place 0 in
       let in_ranks : place < length ranks = omega (arith, ordered.most) in
       let rank : get_or ranks node 0 ≡ place = ordered.rank_there place in_ranks in
-      is_touched-first table page (Some node) (first_node-of pages page node one held) ∙ members-at ranks members_count node
+      is_touched-first table (File page) (Some node) (first_node-of pages (File page) node one held) ∙ members-at ranks members_count node
       ∙ is_member-rank ranks members_count node (ordered.node_below place in_ranks) ∙ lt-ltb (get_or ranks node 0) members_count (rw rank below)
 
   -- no page is at two places
-  pub place_unseen : (place : ℕ) (page : FilePage) → place < members_count → page_at pages (get_or order place 0) ≡ Some page → IsAtPlace pages order place page → ⊥
+  pub place_unseen : (place : ℕ) (page : FilePage) → place < members_count → page_at pages (get_or order place 0) ≡ Some (File page) → IsAtPlace pages order place page → ⊥
   place_unseen place page below held seen =
-      let same : get_or order seen.0 0 ≡ get_or order place 0 = one.apart (get_or order seen.0 0) (get_or order place 0) page seen.2 held in
+      let same : get_or order seen.0 0 ≡ get_or order place 0 = one.apart (get_or order seen.0 0) (get_or order place 0) (File page) seen.2 held in
       let early : seen.0 < length ranks = omega (arith, ordered.most, seen.1) in
       let late : place < length ranks = omega (arith, ordered.most) in
       let equal : seen.0 ≡ place = sym (ordered.rank_there seen.0 early) ∙ ap (λ (n : ℕ). get_or ranks n 0) same ∙ ordered.rank_there place late in
@@ -155,19 +162,19 @@ module _ (frames : ℕ) (pages : List (Option FilePage)) (order ranks : List ℕ
   pub place_wider : (place : ℕ) (p : FilePage) → IsAtPlace pages order place p → IsAtPlace pages order (place + 1) p
   place_wider place p seen = (seen.0, omega (arith, seen.1), seen.2)
 
-  pub place_more : (place : ℕ) (held : Option FilePage) (p : FilePage) → held ≡ page_at pages (get_or order place 0) → IsAtPlace pages order (place + 1) p
-      → IsAtPlace pages order place p ⊎ (held ≡ Some p)
+  pub place_more : (place : ℕ) (held : Option PageKey) (p : FilePage) → held ≡ page_at pages (get_or order place 0) → IsAtPlace pages order (place + 1) p
+      → IsAtPlace pages order place p ⊎ (held ≡ Some (File p))
   place_more place held p is seen = elim (cases_eq seen.0 place) [
     | inl e ↦ inr (is ∙ ap (λ (j : ℕ). page_at pages (get_or order j 0)) (sym e) ∙ seen.2)
     | inr other ↦ inl (seen.0, omega (arith, seen.1), seen.2)
   ]
 
   -- each touched page is at one of all places
-  pub place_all : (p : FilePage) → is_touched table p ≡ true → IsAtPlace pages order members_count p
-  place_all p touched = elim (cases_node pages p) [
-    | inl found ↦ (let member = sym (members-at ranks members_count found.0) ∙ sym (is_touched-first table p (Some found.0) found.1) ∙ touched in
+  pub place_all : (p : FilePage) → is_touched table (File p) ≡ true → IsAtPlace pages order members_count p
+  place_all p touched = elim (cases_node pages (File p)) [
+    | inl found ↦ (let member = sym (members-at ranks members_count found.0) ∙ sym (is_touched-first table (File p) (Some found.0) found.1) ∙ touched in
         let inside = is_member-inside ranks members_count found.0 member in
         let below = ltb-true (get_or ranks found.0 0) members_count (sym (is_member-rank ranks members_count found.0 inside) ∙ member) in
         (get_or ranks found.0 0, below, ap (page_at pages) (ordered.node_there found.0 inside) ∙ found.2))
-    | inr none ↦ absurd (both_ways (is_touched table p) (is_touched-first table p None none.0) touched)
+    | inr none ↦ absurd (both_ways (is_touched table (File p)) (is_touched-first table (File p) None none.0) touched)
   ]

@@ -3,37 +3,57 @@ use Rattle.std.proofs.Common.{◌≡◌, ◌≢◌, ℕ, zero, suc, ◌+◌, ◌
 use Rattle.std.proofs.lemmas.Bool.{cases_eq, cases_Bool, cases_lt, both_ways, true≢false, and_parts, and_from, eqb-true, eq-eqb, false_from_ne_true}
 use Rattle.std.proofs.lemmas.List.{get_or_past}
 use Rattle.vm_types.specs.declared.file.FilePage.{FilePage}
-use Rattle.vm_types.specs.Attributes.{file_page_eq}
+use Rattle.vm_types.specs.declared.object.ObjectPage.{ObjectPage}
+use Rattle.vm_types.specs.declared.object.PageKey.{PageKey}
+use Rattle.vm_types.specs.declared.object.PageKey.TheVariants.{File, Object}
+use Rattle.vm_types.specs.Attributes.{file_page_eq, object_page_eq, page_key_eq}
 use Rattle.page_cache.specs.Nodes.{page_at, holds, next_number, first_node, IsOneToOne}
 
-pub same_page : (a b : FilePage) → file_page_eq a b ≡ true → a ≡ b
-same_page a b e =
+pub same_file_page : (a b : FilePage) → file_page_eq a b ≡ true → a ≡ b
+same_file_page a b e =
     let parts = and_parts (eqb a.file b.file) (eqb a.page b.page) e in
     let files = eqb-true a.file b.file parts.0 in
     let pages = eqb-true a.page b.page parts.1 in
     ap (λ (f : ℕ). let r : FilePage = record { file = f; page = a.page } in r) files ∙ ap (λ (k : ℕ). let r : FilePage = record { file = b.file; page = k } in r) pages
 
-pub same_page_true : (a : FilePage) → file_page_eq a a ≡ true
-same_page_true a = and_from (eqb a.file a.file) (eqb a.page a.page) (eq-eqb a.file a.file refl) (eq-eqb a.page a.page refl)
+same_object_page : (a b : ObjectPage) → object_page_eq a b ≡ true → a ≡ b
+same_object_page a b e =
+    let parts = and_parts (eqb a.object b.object) (eqb a.page b.page) e in
+    let objects = eqb-true a.object b.object parts.0 in
+    let pages = eqb-true a.page b.page parts.1 in
+    ap (λ (o : ℕ). let r : ObjectPage = record { object = o; page = a.page } in r) objects ∙ ap (λ (k : ℕ). let r : ObjectPage = record { object = b.object; page = k } in r) pages
 
-pub holds-true : (page : FilePage) (held : Option FilePage) → holds page held ≡ true → held ≡ Some page
+pub same_page : (a b : PageKey) → page_key_eq a b ≡ true → a ≡ b
+same_page (File a) (File b) e = ap (λ (p : FilePage). File p) (same_file_page a b e)
+same_page (File a) (Object b) e = absurd (true≢false (sym e))
+same_page (Object a) (File b) e = absurd (true≢false (sym e))
+same_page (Object a) (Object b) e = ap (λ (p : ObjectPage). Object p) (same_object_page a b e)
+
+pub same_file_page_true : (a : FilePage) → file_page_eq a a ≡ true
+same_file_page_true a = and_from (eqb a.file a.file) (eqb a.page a.page) (eq-eqb a.file a.file refl) (eq-eqb a.page a.page refl)
+
+pub same_page_true : (a : PageKey) → page_key_eq a a ≡ true
+same_page_true (File a) = same_file_page_true a
+same_page_true (Object a) = and_from (eqb a.object a.object) (eqb a.page a.page) (eq-eqb a.object a.object refl) (eq-eqb a.page a.page refl)
+
+pub holds-true : (page : PageKey) (held : Option PageKey) → holds page held ≡ true → held ≡ Some page
 holds-true page None e = absurd (true≢false (sym e))
 holds-true page (Some held) e = ap Some (same_page held page e)
 
-pub true-holds : (page : FilePage) (held : Option FilePage) → held ≡ Some page → holds page held ≡ true
+pub true-holds : (page : PageKey) (held : Option PageKey) → held ≡ Some page → holds page held ≡ true
 true-holds page held e = ap (holds page) e ∙ same_page_true page
 
-pub holds-false : (page : FilePage) (held : Option FilePage) → held ≢ Some page → holds page held ≡ false
+pub holds-false : (page : PageKey) (held : Option PageKey) → held ≢ Some page → holds page held ≡ false
 holds-false page held ne = false_from_ne_true (holds page held) (λ e. ne (holds-true page held e))
 
-pub false-holds : (page : FilePage) (held : Option FilePage) → holds page held ≡ false → held ≢ Some page
+pub false-holds : (page : PageKey) (held : Option PageKey) → holds page held ≡ false → held ≢ Some page
 false-holds page held no_page e = both_ways (holds page held) no_page (true-holds page held e)
 
 pub none≢some : {A : Type 0} (x : A) → None ≢ Some x
 none≢some x e = cc
 
 -- a node that holds a page is one of them
-pub page_at-within : (pages : List (Option FilePage)) (n : ℕ) (page : FilePage) → page_at pages n ≡ Some page → n < length pages
+pub page_at-within : (pages : List (Option PageKey)) (n : ℕ) (page : PageKey) → page_at pages n ≡ Some page → n < length pages
 page_at-within pages n page e = elim (cases_lt n (length pages)) [
   | inl below ↦ below
   | inr past ↦ absurd (none≢some page (sym (get_or_past pages n None past) ∙ e))
@@ -48,7 +68,7 @@ next_number-none None e = refl
 next_number-none (Some k) e = absurd (none≢some (k + 1) (sym e))
 
 -- the first node is found where the ones before it hold other pages
-pub first_node-found : (pages : List (Option FilePage)) (page : FilePage) (n : ℕ) → holds page (page_at pages n) ≡ true
+pub first_node-found : (pages : List (Option PageKey)) (page : PageKey) (n : ℕ) → holds page (page_at pages n) ≡ true
     → ((m : ℕ) → m < n → holds page (page_at pages m) ≡ false) → first_node pages page ≡ Some n
 unfolding first_node
 first_node-found [] page n here before = absurd (true≢false (sym here))
@@ -56,13 +76,13 @@ first_node-found (held ∷ rest) page zero here before = rw here refl
 first_node-found (held ∷ rest) page (suc n) here before =
     rw (before 0 (omega arith), first_node-found rest page n here (λ m below. before (suc m) (omega arith))) (ap Some (omega arith))
 
-pub first_node-none : (pages : List (Option FilePage)) (page : FilePage) → ((m : ℕ) → m < length pages → holds page (page_at pages m) ≡ false)
+pub first_node-none : (pages : List (Option PageKey)) (page : PageKey) → ((m : ℕ) → m < length pages → holds page (page_at pages m) ≡ false)
     → first_node pages page ≡ None
 unfolding first_node
 first_node-none [] page all = refl
 first_node-none (held ∷ rest) page all = rw (all 0 (omega arith), first_node-none rest page (λ m below. all (suc m) (omega arith))) refl
 
-pub first_node-holds : (pages : List (Option FilePage)) (page : FilePage) (n : ℕ) → first_node pages page ≡ Some n → holds page (page_at pages n) ≡ true
+pub first_node-holds : (pages : List (Option PageKey)) (page : PageKey) (n : ℕ) → first_node pages page ≡ Some n → holds page (page_at pages n) ≡ true
 unfolding first_node
 first_node-holds [] page n e = absurd (none≢some n e)
 first_node-holds (held ∷ rest) page n e = elim (cases_Bool (holds page held)) [
@@ -75,12 +95,12 @@ first_node-holds (held ∷ rest) page n e = elim (cases_Bool (holds page held)) 
       subst (λ (k : ℕ). holds page (page_at (held ∷ rest) k) ≡ true) sum_is (first_node-holds rest page found.0 found.1))
 ]
 
-at_each : (rest : List (Option FilePage)) (page : FilePage) (held : Option FilePage) → holds page held ≡ false
+at_each : (rest : List (Option PageKey)) (page : PageKey) (held : Option PageKey) → holds page held ≡ false
     → ((m : ℕ) → holds page (page_at rest m) ≡ false) → (m : ℕ) → holds page (page_at (held ∷ rest) m) ≡ false
 at_each rest page held other later zero = other
 at_each rest page held other later (suc m) = later m
 
-pub first_node-no_node : (pages : List (Option FilePage)) (page : FilePage) → first_node pages page ≡ None → (m : ℕ) → holds page (page_at pages m) ≡ false
+pub first_node-no_node : (pages : List (Option PageKey)) (page : PageKey) → first_node pages page ≡ None → (m : ℕ) → holds page (page_at pages m) ≡ false
 unfolding first_node
 first_node-no_node [] page e m = refl
 first_node-no_node (held ∷ rest) page e m = elim (cases_Bool (holds page held)) [
@@ -89,13 +109,13 @@ first_node-no_node (held ∷ rest) page e m = elim (cases_Bool (holds page held)
 ]
 
 -- the one node that holds a page is the first
-pub first_node-of : (pages : List (Option FilePage)) (page : FilePage) (n : ℕ) → IsOneToOne pages → page_at pages n ≡ Some page → first_node pages page ≡ Some n
+pub first_node-of : (pages : List (Option PageKey)) (page : PageKey) (n : ℕ) → IsOneToOne pages → page_at pages n ≡ Some page → first_node pages page ≡ Some n
 first_node-of pages page n one e =
     first_node-found pages page n (true-holds page (page_at pages n) e)
     (λ m below. holds-false page (page_at pages m) (λ also. let same = one.apart m n page also e in omega arith))
 
 -- another page than what a node held and holds now
-pub first_node-kept : (pages : List (Option FilePage)) (n : ℕ) (now : Option FilePage) (page : FilePage)
+pub first_node-kept : (pages : List (Option PageKey)) (n : ℕ) (now : Option PageKey) (page : PageKey)
     → page_at pages n ≢ Some page → now ≢ Some page → first_node (set pages n now) page ≡ first_node pages page
 unfolding first_node
 first_node-kept [] n now page before after = refl
@@ -103,14 +123,14 @@ first_node-kept (held ∷ rest) zero now page before after = rw (holds-false pag
 first_node-kept (held ∷ rest) (suc n) now page before after = rw (first_node-kept rest n now page before after) refl
 
 -- a node that holds nothing now
-pub page_at-emptied : (pages : List (Option FilePage)) (n : ℕ) → page_at (set pages n None) n ≡ None
+pub page_at-emptied : (pages : List (Option PageKey)) (n : ℕ) → page_at (set pages n None) n ≡ None
 page_at-emptied [] n = refl
 page_at-emptied (held ∷ rest) zero = refl
 page_at-emptied (held ∷ rest) (suc n) = page_at-emptied rest n
 
-pub IsOneToOne-removed : (pages : List (Option FilePage)) (n : ℕ) → IsOneToOne pages → IsOneToOne (set pages n None)
+pub IsOneToOne-removed : (pages : List (Option PageKey)) (n : ℕ) → IsOneToOne pages → IsOneToOne (set pages n None)
 IsOneToOne-removed pages n one =
-    let before : (m : ℕ) (page : FilePage) → page_at (set pages n None) m ≡ Some page → page_at pages m ≡ Some page =
+    let before : (m : ℕ) (page : PageKey) → page_at (set pages n None) m ≡ Some page → page_at pages m ≡ Some page =
     λ m page e. elim (cases_eq m n) [
       | inl same ↦ absurd (none≢some page (sym (page_at-emptied pages n) ∙ ap (page_at (set pages n None)) (sym same) ∙ e))
       | inr other ↦ sym (get_or-set_other pages n m None None other) ∙ e
@@ -118,12 +138,12 @@ IsOneToOne-removed pages n one =
     in
     record { apart = λ m k page here there. one.apart m k page (before m page here) (before k page there) }
 
-pub IsOneToOne-inserted : (pages : List (Option FilePage)) (n : ℕ) (page : FilePage) → IsOneToOne pages
+pub IsOneToOne-inserted : (pages : List (Option PageKey)) (n : ℕ) (page : PageKey) → IsOneToOne pages
     → ((m : ℕ) → page_at pages m ≢ Some page) → n < length pages → IsOneToOne (set pages n (Some page))
 IsOneToOne-inserted pages n page one nowhere inside =
     let at_n : page_at (set pages n (Some page)) n ≡ Some page = get_or-set_same pages n (Some page) None inside in
     let at_other : (m : ℕ) → m ≢ n → page_at (set pages n (Some page)) m ≡ page_at pages m = λ m other. get_or-set_other pages n m (Some page) None other in
-    let only : (m : ℕ) (held : FilePage) → page_at (set pages n (Some page)) m ≡ Some held → page_at (set pages n (Some page)) n ≡ Some held → m ≡ n =
+    let only : (m : ℕ) (held : PageKey) → page_at (set pages n (Some page)) m ≡ Some held → page_at (set pages n (Some page)) n ≡ Some held → m ≡ n =
     λ m held here there. elim (cases_eq m n) [
       | inl same ↦ same
       | inr other ↦ absurd (nowhere m (sym (at_other m other) ∙ here ∙ sym there ∙ at_n))
@@ -140,7 +160,7 @@ IsOneToOne-inserted pages n page one nowhere inside =
     }
 
 -- a page that its node gave up is nowhere
-pub first_node-removed : (pages : List (Option FilePage)) (n : ℕ) (page : FilePage) → IsOneToOne pages → page_at pages n ≡ Some page → first_node (set pages n None) page ≡ None
+pub first_node-removed : (pages : List (Option PageKey)) (n : ℕ) (page : PageKey) → IsOneToOne pages → page_at pages n ≡ Some page → first_node (set pages n None) page ≡ None
 first_node-removed pages n page one held =
     first_node-none (set pages n None) page (λ m below. holds-false page (page_at (set pages n None) m) (λ e. elim (cases_eq m n) [
       | inl same ↦ none≢some page (sym (page_at-emptied pages n) ∙ ap (page_at (set pages n None)) (sym same) ∙ e)

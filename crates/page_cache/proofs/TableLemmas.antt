@@ -2,10 +2,10 @@
 use Rattle.std.proofs.Common.{◌≡◌, ◌≢◌, ℕ, zero, suc, ◌+◌, ◌-◌, ◌<◌, ◌≤◌, ◌⊎◌, Bool, false, List, length, get_or, Option, Some, None, IfSome, IfNone, refl, sym, ap, ◌∙◌, subst, inl, inr, arith, set, length-set, replicate}
 use Rattle.std.proofs.lemmas.Bool.{false≢true, cases_Bool, cases_lt, both_ways, lt-ltb, le-ltb}
 use Rattle.std.proofs.lemmas.List.{length-replicate}
-use Rattle.vm_types.specs.declared.file.FilePage.{FilePage}
+use Rattle.vm_types.specs.declared.object.PageKey.{PageKey}
 use Rattle.vm_types.specs.declared.number.FrameNo.{FrameNo}
 use Rattle.vm_types.specs.declared.number.SlotNo.{SlotNo}
-use Rattle.vm_types.specs.Attributes.{file_page_eq}
+use Rattle.vm_types.specs.Attributes.{page_key_eq}
 use Rattle.page_cache.specs.declared.place.Place.{Place}
 use Rattle.page_cache.specs.declared.place.Place.TheVariants.{Home, Frame, Slot}
 use Rattle.page_cache.specs.declared.cache.PageCache.TheInside.{Inside}
@@ -15,17 +15,17 @@ use Rattle.page_cache.specs.Inside.{table_of, IsWholeCache}
 use Rattle.page_cache.proofs.NodeLemmas.{same_page, same_page_true, holds-true, false-holds, none≢some, page_at-within, first_node-holds, first_node-no_node, first_node-none, first_node-of, first_node-kept}
 
 -- two file pages are one or not
-pub cases_page : (p q : FilePage) → (p ≡ q) ⊎ (p ≢ q)
-cases_page p q = elim (cases_Bool (file_page_eq p q)) [
+pub cases_page : (p q : PageKey) → (p ≡ q) ⊎ (p ≢ q)
+cases_page p q = elim (cases_Bool (page_key_eq p q)) [
   | inl e ↦ inl (same_page p q e)
-  | inr ne ↦ inr (λ e. both_ways (file_page_eq p q) ne (ap (file_page_eq p) (sym e) ∙ same_page_true p))
+  | inr ne ↦ inr (λ e. both_ways (page_key_eq p q) ne (ap (page_key_eq p) (sym e) ∙ same_page_true p))
 ]
 
 pub some-same : {A : Type 0} (x y : A) → Some x ≡ Some y → x ≡ y
 some-same x y e = cc
 
 -- a page is found at a node or nowhere
-pub cases_node : (pages : List (Option FilePage)) (page : FilePage) → ((n : ℕ) × (first_node pages page ≡ Some n) × (page_at pages n ≡ Some page))
+pub cases_node : (pages : List (Option PageKey)) (page : PageKey) → ((n : ℕ) × (first_node pages page ≡ Some n) × (page_at pages n ≡ Some page))
     ⊎ ((first_node pages page ≡ None) × ((n : ℕ) → page_at pages n ≢ Some page))
 cases_node pages page = by_found (first_node pages page) refl where
   by_found : (o : Option ℕ) → first_node pages page ≡ o → ((n : ℕ) × (first_node pages page ≡ Some n) × (page_at pages n ≡ Some page))
@@ -85,39 +85,39 @@ place_in-one frames m n e = elim (cases_lt m frames) [
 ]
 
 -- the place and the mark of a page whose node is known
-pub place_of-first : (t : CacheTable) (page : FilePage) (o : Option ℕ) → first_node t.pages page ≡ o → place_of t page ≡ place_in t.frames o
+pub place_of-first : (t : CacheTable) (page : PageKey) (o : Option ℕ) → first_node t.pages page ≡ o → place_of t page ≡ place_in t.frames o
 unfolding place_of
 place_of-first t page o e = ap (place_in t.frames) e
 
-pub is_touched-first : (t : CacheTable) (page : FilePage) (o : Option ℕ) → first_node t.pages page ≡ o → is_touched t page ≡ is_marked t.touched o
+pub is_touched-first : (t : CacheTable) (page : PageKey) (o : Option ℕ) → first_node t.pages page ≡ o → is_touched t page ≡ is_marked t.touched o
 unfolding is_touched
 is_touched-first t page o e = ap (is_marked t.touched) e
 
 -- who has a place is held by its node
-pub page_at-place : (t : CacheTable) (page : FilePage) (n : ℕ) → place_of t page ≡ place_in t.frames (Some n) → page_at t.pages n ≡ Some page
+pub page_at-place : (t : CacheTable) (page : PageKey) (n : ℕ) → place_of t page ≡ place_in t.frames (Some n) → page_at t.pages n ≡ Some page
 page_at-place t page n e = elim (cases_node t.pages page) [
   | inl found ↦ (let same = place_in-one t.frames found.0 n (sym (place_of-first t page (Some found.0) found.1) ∙ e) in
       subst (λ (k : ℕ). page_at t.pages k ≡ Some page) same found.2)
   | inr none ↦ absurd (place_in-held t.frames n (sym e ∙ place_of-first t page None none.0))
 ]
 
-pub place_of-held : (t : CacheTable) (page : FilePage) (n : ℕ) → IsOneToOne t.pages → page_at t.pages n ≡ Some page → place_of t page ≡ place_in t.frames (Some n)
+pub place_of-held : (t : CacheTable) (page : PageKey) (n : ℕ) → IsOneToOne t.pages → page_at t.pages n ≡ Some page → place_of t page ≡ place_in t.frames (Some n)
 place_of-held t page n one e = place_of-first t page (Some n) (first_node-of t.pages page n one e)
 
 -- what a node holds, as `page_in_frame` and `page_in_slot` say it
-pub held_at : (t : CacheTable) (n : ℕ) (place : Place) (held : Option FilePage) → IsOneToOne t.pages → place_in t.frames (Some n) ≡ place → held ≡ page_at t.pages n
+pub held_at : (t : CacheTable) (n : ℕ) (place : Place) (held : Option PageKey) → IsOneToOne t.pages → place_in t.frames (Some n) ≡ place → held ≡ page_at t.pages n
     → IfSome held (λ page. place_of t page ≡ place)
 held_at t n place None one is e = tt
 held_at t n place (Some page) one is e = place_of-held t page n one (sym e) ∙ is
 
-pub none_at : (t : CacheTable) (n : ℕ) (place : Place) (held : Option FilePage) → place_in t.frames (Some n) ≡ place → held ≡ page_at t.pages n
-    → IfNone held ((page : FilePage) → place_of t page ≢ place)
+pub none_at : (t : CacheTable) (n : ℕ) (place : Place) (held : Option PageKey) → place_in t.frames (Some n) ≡ place → held ≡ page_at t.pages n
+    → IfNone held ((page : PageKey) → place_of t page ≢ place)
 none_at t n place None is e = λ page there. none≢some page (e ∙ page_at-place t page n (there ∙ sym is))
 none_at t n place (Some page) is e = tt
 
 -- one page was changed at one node: other pages are found where they were, and other nodes are marked as they were
-pub SameButFor-node : (old new : CacheTable) (page : FilePage) (n : ℕ) → new.frames ≡ old.frames → length new.pages ≡ length old.pages
-    → ((p : FilePage) → p ≢ page → first_node new.pages p ≡ first_node old.pages p) → ((p : FilePage) → p ≢ page → page_at old.pages n ≢ Some p)
+pub SameButFor-node : (old new : CacheTable) (page : PageKey) (n : ℕ) → new.frames ≡ old.frames → length new.pages ≡ length old.pages
+    → ((p : PageKey) → p ≢ page → first_node new.pages p ≡ first_node old.pages p) → ((p : PageKey) → p ≢ page → page_at old.pages n ≢ Some p)
     → ((m : ℕ) → m ≢ n → get_or new.touched m false ≡ get_or old.touched m false) → SameButFor page old new
 SameButFor-node old new page n frames nodes found other marks = record {
   frames = frames;
@@ -131,7 +131,7 @@ SameButFor-node old new page n frames nodes found other marks = record {
 }
 
 -- one call after another on the same page
-pub SameButFor-then : (page : FilePage) (a b c : CacheTable) → SameButFor page a b → SameButFor page b c → SameButFor page a c
+pub SameButFor-then : (page : PageKey) (a b c : CacheTable) → SameButFor page a b → SameButFor page b c → SameButFor page a c
 SameButFor-then page a b c first second = record {
   frames = second.frames ∙ first.frames;
   slots = second.slots ∙ first.slots;
@@ -140,7 +140,7 @@ SameButFor-then page a b c first second = record {
 }
 
 -- a change of the marks alone, at the node of the page
-pub SameButFor-marks : (frames : ℕ) (pages : List (Option FilePage)) (before after : List Bool) (page : FilePage) (n : ℕ) → page_at pages n ≡ Some page
+pub SameButFor-marks : (frames : ℕ) (pages : List (Option PageKey)) (before after : List Bool) (page : PageKey) (n : ℕ) → page_at pages n ≡ Some page
     → ((m : ℕ) → m ≢ n → get_or after m false ≡ get_or before m false)
     → SameButFor page (record { frames = frames; pages = pages; touched = before }) (record { frames = frames; pages = pages; touched = after })
 SameButFor-marks frames pages before after page n held marks =
@@ -148,8 +148,8 @@ SameButFor-marks frames pages before after page n held marks =
     (λ p ne. refl) (λ p ne e. ne (sym (some-same page p (sym held ∙ e)))) marks
 
 -- the node holds the page or nothing, before and after
-pub SameButFor-set : (frames : ℕ) (pages : List (Option FilePage)) (before after : List Bool) (page : FilePage) (n : ℕ) (now : Option FilePage)
-    → ((p : FilePage) → p ≢ page → page_at pages n ≢ Some p) → ((p : FilePage) → p ≢ page → now ≢ Some p)
+pub SameButFor-set : (frames : ℕ) (pages : List (Option PageKey)) (before after : List Bool) (page : PageKey) (n : ℕ) (now : Option PageKey)
+    → ((p : PageKey) → p ≢ page → page_at pages n ≢ Some p) → ((p : PageKey) → p ≢ page → now ≢ Some p)
     → ((m : ℕ) → m ≢ n → get_or after m false ≡ get_or before m false)
     → SameButFor page (record { frames = frames; pages = pages; touched = before }) (record { frames = frames; pages = set pages n now; touched = after })
 SameButFor-set frames pages before after page n now was is marks =
@@ -191,7 +191,7 @@ IsSound-whole c whole = record {
 pub IsFresh-empty : (t : CacheTable) (slots : ℕ) → t.pages ≡ replicate (t.frames + slots) None → IsFresh t t.frames slots
 IsFresh-empty t slots empty =
     let nodes : length t.pages ≡ t.frames + slots = ap length empty ∙ length-replicate (t.frames + slots) None in
-    let nowhere : (page : FilePage) → first_node t.pages page ≡ None =
+    let nowhere : (page : PageKey) → first_node t.pages page ≡ None =
     λ page. rw empty (first_node-none (replicate (t.frames + slots) None) page (λ m below. rw (empty_at (t.frames + slots) m) refl)) in
     record {
       frames_are = refl;

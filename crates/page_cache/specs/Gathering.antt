@@ -1,10 +1,18 @@
 -- Lists of the touched pages of rows: a row is so many pages of one file, from some page on.
-use Rattle.std.specs.Prelude.{◌≡◌, ◌≢◌, ℕ, ◌+◌, ◌<◌, ◌≤◌, ◌⊎◌, Bool, true, not, ◌&&◌, List, slice_index_or, slice_set}
+use Rattle.std.specs.Prelude.{◌≡◌, ◌≢◌, ℕ, ◌+◌, ◌<◌, ◌≤◌, ◌⊎◌, Bool, true, not, ◌&&◌, List, Option, Some, None, slice_index_or, slice_set}
 use Rattle.vm_types.specs.Limits.{msync_pages}
 use Rattle.vm_types.specs.declared.file.FilePage.{FilePage}
+use Rattle.vm_types.specs.declared.object.PageKey.{PageKey}
+use Rattle.vm_types.specs.declared.object.PageKey.TheVariants.{File, Object}
 use Rattle.vm_types.specs.Attributes.{file_page_eq}
 use Rattle.vm_types.specs.Counting.{any_below, count_below}
 use Rattle.page_cache.specs.CacheTable.{CacheTable, is_touched}
+
+-- the file page that a node holds, where it holds one
+abbrev pub filed : Option PageKey → Option FilePage
+filed None = None
+filed (Some (File page)) = Some page
+filed (Some (Object page)) = None
 
 abbrev pub IsInRow : ℕ → ℕ → ℕ → FilePage → Type 0
 IsInRow file first count page = (page.file ≡ file) × (first ≤ page.page) × (page.page < first + count)
@@ -12,7 +20,7 @@ IsInRow file first count page = (page.file ≡ file) × (first ≤ page.page) ×
 -- a touched page of the row
 pub record IsTouchedIn (t : CacheTable) (file first count : ℕ) (page : FilePage) : Type 0 where
   pub row : IsInRow file first count page
-  pub touched : is_touched t page ≡ true
+  pub touched : is_touched t (File page) ≡ true
 
 -- the page at that place of a list
 abbrev pub entry : List FilePage → ℕ → FilePage
@@ -27,13 +35,13 @@ is_listed list n page = any_below (λ i. file_page_eq (entry list i) page) n
 
 -- whether the page is touched and isn't among the first `used`
 abbrev pub is_fresh : CacheTable → List FilePage → ℕ → FilePage → Bool
-is_fresh t list used page = is_touched t page && not (is_listed list used page)
+is_fresh t list used page = is_touched t (File page) && not (is_listed list used page)
 
 -- how many such pages the row has
 unfoldable pub fresh_count : CacheTable → ℕ → ℕ → ℕ → List FilePage → ℕ → ℕ
 fresh_count t file first count list used = count_below (λ k. is_fresh t list used (record { file = file; page = first + k })) count
 
--- The list was lengthened from `used` to n entries, at most 127, by touched pages of the row: each once, and none that
+-- The list was lengthened from `used` to n entries, at most 1,023, by touched pages of the row: each once, and none that
 -- was among the first `used`. All other entries are as they were.
 pub record Gathers (t : CacheTable) (file first count used : ℕ) (old new : List FilePage) (n : ℕ) : Type 0 where
   pub longer : used ≤ n
@@ -47,7 +55,7 @@ pub record Gathers (t : CacheTable) (file first count used : ℕ) (old new : Lis
 abbrev pub HasAll : CacheTable → ℕ → ℕ → ℕ → List FilePage → ℕ → Type 0
 HasAll t file first count list n = (page : FilePage) → IsTouchedIn t file first count page → IsListed list n page
 
--- all 127 entries are used, and a touched page of the row isn't among them
+-- all 1,023 entries are used, and a touched page of the row isn't among them
 pub record Overflows (t : CacheTable) (file first count used : ℕ) (old new : List FilePage) : Type 0 where
   pub full : Gathers t file first count used old new msync_pages
   pub missing : FilePage

@@ -1,17 +1,18 @@
-//! The map from file page to place, and the set of touched pages.
+//! The map from page to place, and the set of touched pages.
 ghost use Rattle.std.specs.Prelude.{◌≡◌, ◌≢◌, ◌+◌, ◌<◌, ◌≤◌, ◌^◌, ◌↔◌, true, false, Some, None, IfOk, IfSome, IfNone, OnErr, IsErr};
 
-use crate::gathering::{is_in_row, push_fresh};
+use crate::gathering::{filed, is_in_row, push_fresh};
 use crate::index::Index;
 use crate::node_set::NodeSet;
 use crate::place::{Place, TooMany};
 use std::alloc::{AllocError, Global};
 use std::marker::Model;
-use vm_types::{FilePage, FrameNo, MSYNC_PAGES, SlotNo};
+use vm_types::{FilePage, FrameNo, MSYNC_PAGES, PageKey, SlotNo};
 
-/// Where each file page is, and which file pages are touched: stored to through a shared mapping and not made durable
-/// since. A frame and a slot hold at most one file page each; every other file page is at home. In contracts it is that
-/// map and that set.
+/// Where each page of a file or an object is, and which are touched: a file page stored to through a shared mapping and not
+/// made durable since, and a page of an object stored to at all. A frame and a slot hold at most one such page each; every
+/// other page is at home, in the store, or as the zeros that a page of an object has at first. In contracts it is that map
+/// and that set.
 #[derive(Drop)]
 pub struct PageCache {
     /// The number of frames. The nodes of the index are the frames, and then the slots.
@@ -39,7 +40,7 @@ impl PageCache {
     ghost use Rattle.page_cache.specs.CacheTable.{frame_count, slot_count, place_in, place_of, is_touched, IsInside, IsFreeFor, IsSoundCache, IsFresh, SameButFor};
     ghost use Rattle.vm_types.specs.Limits.{msync_pages};
 
-    /// The cache of a memory of `frames` frames, 8 to 65,536, and of `slots` slots of swap, at most 65,536, with every file
+    /// The cache of a memory of `frames` frames, 8 to 65,536, and of `slots` slots of swap, at most 65,536, with every
     /// page at home and untouched. No later call takes memory of the host.
     ///
     /// # Errors
@@ -75,8 +76,8 @@ impl PageCache {
         self.index.len() as u32 - self.frames
     }
 
-    /// Where the file page is.
-    pub fn place(&self, page: FilePage) -> Place
+    /// Where the page is.
+    pub fn place(&self, page: PageKey) -> Place
         ensures { result ≡ place_of self.now page }
     {
         match self.index.find(page) {
@@ -86,8 +87,8 @@ impl PageCache {
         }
     }
 
-    /// Whether the file page is touched.
-    pub fn is_touched(&self, page: FilePage) -> bool
+    /// Whether the page is touched.
+    pub fn is_touched(&self, page: PageKey) -> bool
         ensures { result ≡ is_touched self.now page }
     {
         match self.index.find(page) {
@@ -96,27 +97,27 @@ impl PageCache {
         }
     }
 
-    /// The file page that frame `n` holds; `None` exactly where it holds none.
-    pub fn page_in_frame(&self, n: FrameNo) -> Option<FilePage>
+    /// The page that frame `n` holds; `None` exactly where it holds none.
+    pub fn page_in_frame(&self, n: FrameNo) -> Option<PageKey>
         requires { n.0 < frame_count self.now }
         ensures held { IfSome result (λ page. place_of self.now page ≡ Frame n) }
-        ensures none { IfNone result ((page : FilePage) → place_of self.now page ≢ Frame n) }
+        ensures none { IfNone result ((page : PageKey) → place_of self.now page ≢ Frame n) }
     {
         self.index.page(n.0 as usize)
     }
 
-    /// The file page that slot `n` holds; `None` exactly where it holds none.
-    pub fn page_in_slot(&self, n: SlotNo) -> Option<FilePage>
+    /// The page that slot `n` holds; `None` exactly where it holds none.
+    pub fn page_in_slot(&self, n: SlotNo) -> Option<PageKey>
         requires { n.0 < slot_count self.now }
         ensures held { IfSome result (λ page. place_of self.now page ≡ Slot n) }
-        ensures none { IfNone result ((page : FilePage) → place_of self.now page ≢ Slot n) }
+        ensures none { IfNone result ((page : PageKey) → place_of self.now page ≢ Slot n) }
     {
         self.index.page(self.frames as usize + n.0 as usize)
     }
 
-    /// Moves the file page to that place, which no other file page has. It is touched afterwards where it was before; a
+    /// Moves the page to that place, which no other page has. It is touched afterwards where it was before; a
     /// touched page isn't given `Home`.
-    pub fn set_place(&mut self, page: FilePage, place: Place)
+    pub fn set_place(&mut self, page: PageKey, place: Place)
         requires inside { IsInside self.old place }
         requires free { IsFreeFor self.old page place }
         requires kept { is_touched self.old page ≡ true → place ≢ Home }
@@ -132,8 +133,8 @@ impl PageCache {
         }
     }
 
-    /// Puts the file page, which isn't at home, among the touched ones.
-    pub fn mark_dirty(&mut self, page: FilePage)
+    /// Puts the page, which isn't at home, among the touched ones.
+    pub fn mark_dirty(&mut self, page: PageKey)
         requires { place_of self.old page ≢ Home }
         ensures touched { is_touched self.new page ≡ true }
         ensures placed { place_of self.new page ≡ place_of self.old page }
@@ -144,8 +145,8 @@ impl PageCache {
         }
     }
 
-    /// Takes the file page from among the touched ones; it stays where it is.
-    pub fn clean(&mut self, page: FilePage)
+    /// Takes the page from among the touched ones; it stays where it is.
+    pub fn clean(&mut self, page: PageKey)
         ensures untouched { is_touched self.new page ≡ false }
         ensures placed { place_of self.new page ≡ place_of self.old page }
         ensures others { SameButFor page self.old self.new }
@@ -155,12 +156,12 @@ impl PageCache {
         }
     }
 
-    /// Appends the touched pages among `count` pages of the file from page `first` on, whose numbers are under 2 ^ 32, to the
+    /// Appends the touched ones among `count` pages of the file from page `first` on, whose numbers are under 2 ^ 32, to the
     /// first `used` entries of the list, but those that are among these already. Returns how many entries there are then.
     /// Its time is that of the shorter of two: a look at each page of the row, or at each touched page.
     ///
     /// # Errors
-    /// `TooMany` exactly where there would be more than 127. Then the list holds 127, the first `used` of them as before and
+    /// `TooMany` exactly where there would be more than 1,023. Then the list holds 1,023, the first `used` of them as before and
     /// the others touched pages of the row.
     pub fn dirty_in(
         &self,
@@ -206,7 +207,7 @@ impl PageCache {
                 file,
                 page: first + offset,
             };
-            if self.is_touched(page) {
+            if self.is_touched(PageKey::File(page)) {
                 n = push_fresh(list, used, n, page)?;
             }
         }
@@ -229,7 +230,7 @@ impl PageCache {
     {
         let mut n = used;
         for place in 0..self.touched.len() {
-            if let Some(page) = self.index.page(self.touched.node(place)) {
+            if let Some(page) = filed(self.index.page(self.touched.node(place))) {
                 if is_in_row(page, file, first, count) {
                     n = push_fresh(list, used, n, page)?;
                 }
@@ -238,8 +239,8 @@ impl PageCache {
         Ok(n)
     }
 
-    /// Sends the file page home and untouched. Returns whether it was touched.
-    fn take_out(&mut self, page: FilePage) -> bool
+    /// Sends the page home and untouched. Returns whether it was touched.
+    fn take_out(&mut self, page: PageKey) -> bool
         ensures was { result ≡ is_touched self.old page }
         ensures placed { place_of self.new page ≡ Home }
         ensures untouched { is_touched self.new page ≡ false }
@@ -254,12 +255,12 @@ impl PageCache {
         touched
     }
 
-    /// Gives the file page, which is at home, the node, which holds none.
-    fn hold(&mut self, node: usize, page: FilePage, touched: bool)
+    /// Gives the page, which is at home, the node, which holds none.
+    fn hold(&mut self, node: usize, page: PageKey, touched: bool)
         requires inside { node < frame_count self.old + slot_count self.old }
         requires home { place_of self.old page ≡ Home }
         requires untouched { is_touched self.old page ≡ false }
-        requires free { (p : FilePage) → place_of self.old p ≢ place_in (frame_count self.old) (Some node) }
+        requires free { (p : PageKey) → place_of self.old p ≢ place_in (frame_count self.old) (Some node) }
         ensures placed { place_of self.new page ≡ place_in (frame_count self.old) (Some node) }
         ensures touched { is_touched self.new page ≡ touched }
         ensures others { SameButFor page self.old self.new }

@@ -1,11 +1,21 @@
 //! Lists of file pages that an msync gathers row by row.
 ghost use Rattle.std.specs.Prelude.{◌≡◌, ◌+◌, ◌≤◌, ◌^◌, ◌↔◌, IfOk, OnErr, IsTrue};
 ghost use Rattle.vm_types.specs.Limits.{msync_pages};
-ghost use Rattle.page_cache.specs.Gathering.{IsInRow, IsListed, Pushes};
+ghost use Rattle.page_cache.specs.Gathering.{filed, IsInRow, IsListed, Pushes};
 
-use crate::index::is_same;
+use crate::index::is_same_file_page;
 use crate::place::TooMany;
-use vm_types::{FilePage, MSYNC_PAGES};
+use vm_types::{FilePage, MSYNC_PAGES, PageKey};
+
+/// The file page that a node holds, where it holds one.
+pub(crate) fn filed(held: Option<PageKey>) -> Option<FilePage>
+    ensures { result ≡ filed held }
+{
+    match held {
+        Some(PageKey::File(page)) => Some(page),
+        _ => None,
+    }
+}
 
 /// Whether the page is one of `count` pages of the file from page `first` on.
 pub(crate) fn is_in_row(page: FilePage, file: u8, first: u32, count: u32) -> bool
@@ -20,7 +30,7 @@ fn is_listed(list: &[FilePage; MSYNC_PAGES], used: usize, page: FilePage) -> boo
     ensures { IsTrue result ↔ IsListed list.now used page }
 {
     for at in 0..used {
-        if is_same(list[at], page) {
+        if is_same_file_page(list[at], page) {
             return true;
         }
     }
@@ -30,7 +40,7 @@ fn is_listed(list: &[FilePage; MSYNC_PAGES], used: usize, page: FilePage) -> boo
 /// Puts the page behind the first `n` entries, unless it is among the first `used`. Returns how many entries there are.
 ///
 /// # Errors
-/// `TooMany` exactly where it would be entry 128; then nothing changes.
+/// `TooMany` exactly where it would be entry 1,024; then nothing changes.
 pub(crate) fn push_fresh(
     list: &mut [FilePage; MSYNC_PAGES],
     used: usize,

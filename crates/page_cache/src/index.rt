@@ -1,34 +1,63 @@
-//! Which node holds which file page, and a hash table that finds the node of a page.
+//! Which node holds which page of a file or an object, and a hash table that finds the node of a page.
 ghost use Rattle.std.specs.Prelude.{◌≡◌, ◌+◌, ◌<◌, ◌≤◌, ◌≢◌, Some, None, IfOk, IfSome, replicate, slice_set, slice_index, length};
-ghost use Rattle.vm_types.specs.Attributes.{file_page_eq};
+ghost use Rattle.vm_types.specs.Attributes.{file_page_eq, object_page_eq, page_key_eq};
 ghost use Rattle.page_cache.specs.Nodes.{first_node, holds, page_at};
-ghost use Rattle.page_cache.specs.Chains.{IsChained, IsSeat, bucket_of};
+ghost use Rattle.page_cache.specs.Chains.{IsChained, IsSeat, bucket_of, number_of};
 
 use std::alloc::{AllocError, Global};
-use vm_types::FilePage;
+use vm_types::{FilePage, ObjectPage, PageKey};
 
 /// 2 ^ 64 over the golden ratio, made odd: a product with it spreads neighbouring pages over the buckets.
 const SPREAD: u64 = 0x9e37_79b9_7f4a_7c15;
 
+/// A number for a page of a file or an object.
+fn number_of(page: PageKey) -> u64
+    ensures { result ≡ number_of page }
+{
+    match page {
+        PageKey::File(page) => u64::from(page.file) * (1 << 32) + u64::from(page.page),
+        PageKey::Object(page) => {
+            ((u64::from(page.object) + 256) * (1 << 32)).wrapping_add(page.page)
+        }
+    }
+}
+
 /// The bucket of a page, at most `mask`.
 #[tactic(auto, unfolding(crate::specs::Chains::bucket_of))]
-fn bucket_of(mask: u32, page: FilePage) -> usize
+fn bucket_of(mask: u32, page: PageKey) -> usize
     ensures bucket { result ≡ bucket_of mask page }
     ensures within { result ≤ mask }
 {
-    let number = u64::from(page.file) * (1 << 32) + u64::from(page.page);
-    ((number.wrapping_mul(SPREAD) >> 32) as u32 & mask) as usize
+    ((number_of(page).wrapping_mul(SPREAD) >> 32) as u32 & mask) as usize
 }
 
 /// Whether these are one file page.
-pub(crate) fn is_same(a: FilePage, b: FilePage) -> bool
+pub(crate) fn is_same_file_page(a: FilePage, b: FilePage) -> bool
     ensures { result ≡ file_page_eq a b }
 {
     a.file == b.file && a.page == b.page
 }
 
+/// Whether these are one page of an object.
+fn is_same_object_page(a: ObjectPage, b: ObjectPage) -> bool
+    ensures { result ≡ object_page_eq a b }
+{
+    a.object == b.object && a.page == b.page
+}
+
+/// Whether these are one page.
+fn is_same(a: PageKey, b: PageKey) -> bool
+    ensures { result ≡ page_key_eq a b }
+{
+    match (a, b) {
+        (PageKey::File(a), PageKey::File(b)) => is_same_file_page(a, b),
+        (PageKey::Object(a), PageKey::Object(b)) => is_same_object_page(a, b),
+        _ => false,
+    }
+}
+
 /// Whether this is the page that a node holds.
-fn holds(page: FilePage, held: Option<FilePage>) -> bool
+fn holds(page: PageKey, held: Option<PageKey>) -> bool
     ensures { result ≡ holds page held }
 {
     match held {
@@ -41,7 +70,7 @@ fn holds(page: FilePage, held: Option<FilePage>) -> bool
 #[derive(Drop)]
 pub(crate) struct Index {
     /// The page of each node.
-    pages: Vec<Option<FilePage>>,
+    pages: Vec<Option<PageKey>>,
     /// The first node of each bucket, and then for each node the next one of its bucket; the number of nodes at the end.
     links: Vec<u32>,
     /// The number of buckets, a power of two, less one.
@@ -74,7 +103,7 @@ impl Index {
     }
 
     /// What the node holds.
-    pub(crate) fn page(&self, node: usize) -> Option<FilePage>
+    pub(crate) fn page(&self, node: usize) -> Option<PageKey>
         requires { node < length self.now.pages.items }
         ensures { result ≡ page_at self.now.pages.items node }
     {
@@ -82,7 +111,7 @@ impl Index {
     }
 
     /// The node that holds the page.
-    pub(crate) fn find(&self, page: FilePage) -> Option<usize>
+    pub(crate) fn find(&self, page: PageKey) -> Option<usize>
         requires { IsChained self.now.pages.items self.now.links.items self.now.mask }
         ensures first { result ≡ first_node self.now.pages.items page }
         ensures held { IfSome result (λ node. page_at self.now.pages.items node ≡ Some page) }
@@ -113,7 +142,7 @@ impl Index {
     }
 
     /// Gives the node, which holds nothing, a page.
-    pub(crate) fn insert(&mut self, node: usize, page: FilePage)
+    pub(crate) fn insert(&mut self, node: usize, page: PageKey)
         requires chained { IsChained self.old.pages.items self.old.links.items self.old.mask }
         requires inside { node < length self.old.pages.items }
         requires free { page_at self.old.pages.items node ≡ None }
@@ -128,7 +157,7 @@ impl Index {
     }
 
     /// Takes its page from the node.
-    pub(crate) fn remove(&mut self, node: usize, page: FilePage)
+    pub(crate) fn remove(&mut self, node: usize, page: PageKey)
         requires chained { IsChained self.old.pages.items self.old.links.items self.old.mask }
         requires held { page_at self.old.pages.items node ≡ Some page }
         ensures pages { self.new.pages.items ≡ slice_set self.old.pages.items node None }

@@ -2,14 +2,14 @@
 use Rattle.std.proofs.Common.{◌≡◌, ◌≤◌, ℕ, false, inl, inr, ◌⊎◌, None, Result, Ok, Err, refl, sym, ◌∙◌, subst, arith}
 use Rattle.std.specs.Prelude.{IfErr}
 use Rattle.vm_types.specs.declared.access.Access.{Access}
-use Rattle.vm_types.specs.declared.file.FilePage.{FilePage}
+use Rattle.vm_types.specs.declared.object.PageKey.{PageKey}
 use Rattle.vm_types.specs.declared.number.FrameNo.{FrameNo}
 use Rattle.vm_types.specs.declared.refusal.Stall.{Stall}
 use Rattle.vm_types.specs.declared.refusal.Stall.TheVariants.{StoreDevice}
 use Rattle.disk_model.specs.declared.sector_disk.SectorDisk.{Ghosts}
 use Rattle.file_store.specs.declared.store.FileStore.{FileStore}
 use Rattle.page_tables.specs.Tree.{missing_of}
-use Rattle.page_cache.specs.declared.place.Place.TheVariants.{Home, Frame}
+use Rattle.page_cache.specs.declared.place.Place.TheVariants.{Frame}
 use Rattle.paging.specs.declared.kernel.Core.{Core}
 use Rattle.paging.specs.Picture.{Picture, picture_of, held}
 use Rattle.paging.specs.Parts.{IsFit}
@@ -18,7 +18,7 @@ use Rattle.paging.specs.Stalls.{HasStallCause, ReadCause}
 use Rattle.paging.specs.Capacity.{IsShort}
 use Rattle.paging.specs.Shows.{KeepsFiles}
 use Rattle.mapping.specs.Changes.{IsLinked, IsCalm, KeepsSeen, KeepsSpaces, KeepsTables}
-use Rattle.mapping.specs.Files.{BringsPages, BringsFiles}
+use Rattle.mapping.specs.Files.{BringsPages, BringsFiles, IsInStore}
 use Rattle.mapping.proofs.Steps.{seen_then}
 use Rattle.page_faults.specs.Outcome.{IsStalled}
 use Rattle.page_faults.specs.Wants.{ShowsFile, Wants, ReadsHome}
@@ -41,11 +41,11 @@ linked_then old new pid page fit spaces tables linked = record {
 files_same : (c : Picture) → KeepsFiles c c
 files_same c = record { held = λ p. inl refl; touched = λ p. refl; files = λ f. refl }
 
-module _ {D E : Type 0} (old mid : Core D E) (pid page : ℕ) (p : FilePage) (shows : ShowsFile (picture_of old) pid page p) where
-  only : (q : FilePage) → q ≡ p → ShowsFile (picture_of old) pid page q
-  only q is = let P : FilePage → Type 0 = λ x. ShowsFile (picture_of old) pid page x in subst P (sym is) shows
+module _ {D E : Type 0} (old mid : Core D E) (pid page : ℕ) (p : PageKey) (shows : ShowsFile (picture_of old) pid page p) where
+  only : (q : PageKey) → q ≡ p → ShowsFile (picture_of old) pid page q
+  only q is = let P : PageKey → Type 0 = λ x. ShowsFile (picture_of old) pid page x in subst P (sym is) shows
 
-  pub read_then : (new : FileStore D) → IsFit (picture_of old) → new ≡ mid.store → (mid.store ≡ old.store) ⊎ ((picture_of old).place p ≡ Home)
+  pub read_then : (new : FileStore D) → IsFit (picture_of old) → new ≡ mid.store → (mid.store ≡ old.store) ⊎ IsInStore (picture_of old) p
       → (new ≡ old.store) ⊎ ReadsHome (picture_of old) pid page
   read_then new fit same (inl e) = inl (same ∙ e)
   read_then new fit same (inr home) = inr (reads_home (picture_of old) pid page p fit shows home)
@@ -67,15 +67,15 @@ module _ {D E : Type 0} (old mid : Core D E) (pid page : ℕ) (p : FilePage) (sh
   module _ (g : Ghosts D) (h : Ghosts E) where
     pub brings_wider : BringsFiles g h (λ q. q ≡ p) old mid → BringsFiles g h (ShowsFile (picture_of old) pid page) old mid
     brings_wider brings kept =
-        let W : FilePage → Type 0 = λ q. q ≡ p in
+        let W : PageKey → Type 0 = λ q. q ≡ p in
         brings_after g old.store.disk mid.store.disk W (ShowsFile (picture_of old) pid page) (picture_of old) (picture_of old) (picture_of mid) only (files_same (picture_of old)) (brings kept)
 
     -- no other came after it
     pub brings_on : (new : Core D E) → BringsFiles g h (λ q. q ≡ p) old mid → KeepsSeen (picture_of old) (picture_of mid) → new.store ≡ mid.store → UsesDevice h mid.swap.pages.disk new.swap.pages.disk
-        → ((q : FilePage) → (held (picture_of new) q ≡ held (picture_of mid) q) ⊎ ((held (picture_of new) q ≡ None) × ((picture_of mid).touched q ≡ false)))
+        → ((q : PageKey) → (held (picture_of new) q ≡ held (picture_of mid) q) ⊎ ((held (picture_of new) q ≡ None) × ((picture_of mid).touched q ≡ false)))
         → ((f : ℕ) → (picture_of new).files f ≡ (picture_of mid).files f) → BringsFiles g h (ShowsFile (picture_of old) pid page) old new
     brings_on new brings keeps same device each files kept =
-        let W : FilePage → Type 0 = λ q. q ≡ p in
+        let W : PageKey → Type 0 = λ q. q ≡ p in
         let V = ShowsFile (picture_of old) pid page in
         let P : FileStore D → Type 0 = λ s. BringsPages g old.store.disk s.disk V (picture_of old) (picture_of new) in
         subst P (sym same)
@@ -83,7 +83,7 @@ module _ {D E : Type 0} (old mid : Core D E) (pid page : ℕ) (p : FilePage) (sh
 
     -- it wasn't brought
     pub stalled_away : (access : Access) (stall : Stall) → IsFit (picture_of old) → KeepsSeen (picture_of old) (picture_of mid) → ((n : FrameNo) → (picture_of old).place p ≡ Frame n → ⊥)
-        → ReadCause g h old mid stall → IsShort (picture_of mid) stall → (stall ≡ StoreDevice → (picture_of old).place p ≡ Home) → IsStalled g h old mid pid page access stall
+        → ReadCause g h old mid stall → IsShort (picture_of mid) stall → (stall ≡ StoreDevice → IsInStore (picture_of old) p) → IsStalled g h old mid pid page access stall
     stalled_away access stall fit keeps never cause short home = record {
       keeps = keeps;
       cause = cause;

@@ -3,12 +3,13 @@ use Rattle.std.proofs.Common.{◌≡◌, ℕ, inl, inr, ◌⊎◌, true, false, 
 use Rattle.std.specs.Prelude.{IfOk, IfErr}
 use Rattle.std.proofs.lemmas.Bool.{false≢true}
 use Rattle.vm_types.specs.declared.access.Access.{Access}
-use Rattle.vm_types.specs.declared.file.FilePage.{FilePage}
+use Rattle.vm_types.specs.declared.object.PageKey.{PageKey}
+use Rattle.vm_types.specs.declared.object.PageKey.TheVariants.{File}
 use Rattle.vm_types.specs.declared.number.FrameNo.{FrameNo}
 use Rattle.vm_types.specs.declared.refusal.Stall.{Stall}
 use Rattle.vm_types.specs.declared.region.Attr.{Attr}
 use Rattle.vm_types.specs.declared.region.Backing.{Backing}
-use Rattle.vm_types.specs.declared.region.Backing.TheVariants.{Anon, Private, Shared}
+use Rattle.vm_types.specs.declared.region.Backing.TheVariants.{Anon, Private, Shared, Common}
 use Rattle.vm_types.specs.Files.{is_past_end_of}
 use Rattle.vm_types.specs.Verdict.{is_past_end}
 use Rattle.disk_model.specs.declared.sector_disk.SectorDisk.{Ghosts}
@@ -40,6 +41,7 @@ past_still : (old new : Picture) (b : Backing) → ((f : ℕ) → new.files f �
 past_still old new Anon files e = e
 past_still old new (Private p) files e = ap (λ o. is_past_end_of o p.page) (files p.file) ∙ e
 past_still old new (Shared p) files e = ap (λ o. is_past_end_of o p.page) (files p.file) ∙ e
+past_still old new (Common p) files e = e
 
 -- what lets the access still lets it
 pub open_still : (old new : Picture) (pid page : ℕ) (access : Access) (a : Attr) → ((q k : ℕ) → new.at q k ≡ old.at q k) → ((f : ℕ) → new.files f ≡ old.files f) → IsOpenTo old pid page access a
@@ -73,7 +75,7 @@ module _ {D E : Type 0} (old mid : Core D E) (pid page : ℕ) (lives : (r : ℕ)
     | inr lacks ↦ absurd (none (ForTable lacks))
   ]
 
-  shows_before : (p : FilePage) → ShowsFile (picture_of mid) pid page p → ShowsFile (picture_of old) pid page p
+  shows_before : (p : PageKey) → ShowsFile (picture_of mid) pid page p → ShowsFile (picture_of old) pid page p
   shows_before p = shows_back (picture_of old) (picture_of mid) pid page p pages.at (keeps_seen (picture_of old) (picture_of mid) pages)
 
   -- the page's file page is to be read once the tables are made: it was at home, or they fill memory
@@ -83,12 +85,12 @@ module _ {D E : Type 0} (old mid : Core D E) (pid page : ℕ) (lives : (r : ℕ)
     | inl whole ↦ (let P : Core D E → Type 0 = λ k. ReadsHome (picture_of k) pid page in subst P (idle whole) home)
     | inr lacks ↦ record {
       file = home.file;
-      shows = shows_before home.file home.shows;
-      untouched = sym (pages.files.touched home.file) ∙ home.untouched;
+      shows = shows_before (File home.file) home.shows;
+      untouched = sym (pages.files.touched (File home.file)) ∙ home.untouched;
       home = elim home.home [
         | inl here ↦ elim gives.needed [
           | inl full ↦ inr (record { lacks = lacks; linked = picture_of mid; gives = gives; tables = tables; full = full })
-          | inr none ↦ inl (sym (none.places home.file) ∙ here)
+          | inr none ↦ inl (sym (none.places (File home.file)) ∙ here)
         ]
         | inr again ↦ absurd (again.lacks.missing (linked again.lacks.root again.lacks.lives))
       ];

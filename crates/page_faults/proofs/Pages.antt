@@ -1,18 +1,27 @@
--- File pages behind mapped pages.
-use Rattle.std.proofs.Common.{◌≡◌, ℕ, inl, inr, ◌⊎◌, ◌*◌, ◌<◌, false, Option, Some, None, refl, sym, ap, ◌∙◌, subst, arith}
+-- Pages of files and objects behind mapped pages.
+use Rattle.std.proofs.Common.{◌≡◌, ◌≢◌, ℕ, ◌*◌, ◌^◌, ◌<◌, ◌≤◌, true, false, Option, Some, None, refl, sym, ap, ◌∙◌, subst, arith, eq-eqb}
 use Rattle.std.specs.Prelude.{nat_le}
 use Rattle.std.proofs.lemmas.Bool.{false≢true}
 use Rattle.std.proofs.lemmas.Bool.Decides.{nat_tests}
 use Rattle.vm_types.specs.declared.file.FileInfo.{FileInfo}
 use Rattle.vm_types.specs.declared.file.FilePage.{FilePage}
+use Rattle.vm_types.specs.declared.object.ObjectPage.{ObjectPage}
+use Rattle.vm_types.specs.declared.object.PageKey.{PageKey}
+use Rattle.vm_types.specs.declared.object.PageKey.TheVariants.{File, Object}
+use Rattle.vm_types.specs.declared.region.Attr.{Attr}
 use Rattle.vm_types.specs.declared.region.Backing.{Backing}
-use Rattle.vm_types.specs.declared.region.Backing.TheVariants.{Private, Shared}
+use Rattle.vm_types.specs.declared.region.Backing.TheVariants.{Anon, Private, Shared, Common}
+use Rattle.vm_types.specs.Attributes.{stands_on}
+use Rattle.vm_types.specs.Objects.{is_object_page, names}
 use Rattle.vm_types.specs.Files.{Files, is_past_end_of}
 use Rattle.vm_types.specs.Verdict.{is_past_end}
+use Rattle.vm_types.proofs.Naming.{named-at}
 use Rattle.file_store.specs.Standing.{IsPageOf}
-use Rattle.page_cache.specs.declared.place.Place.TheVariants.{Frame}
 use Rattle.paging.specs.Picture.{Picture}
-use Rattle.paging.specs.Parts.{IsBehind}
+use Rattle.paging.specs.Parts.{IsPageFor}
+use Rattle.mapping.specs.Changes.{IsLinked}
+use Rattle.page_faults.proofs.Ready.{same_key}
+use Rattle.page_faults.proofs.Verdicts.{page_user}
 
 begins_below : (m n : ℕ) → nat_le n m ≡ false → m < n
 begins_below m n h = grind (arith, nat_tests)
@@ -22,14 +31,33 @@ begins_inside None k inside = absurd (false≢true (sym inside))
 begins_inside (Some info) k inside = (info, refl, begins_below (4096 * k) info.length inside)
 
 -- a file page that isn't past the end is one of its file's
-pub page_inside : (files : Files) (b : Backing) (p : FilePage) → (b ≡ Private p) ⊎ (b ≡ Shared p) → is_past_end files b ≡ false → IsPageOf files p.file p.page
-page_inside files b p is inside = begins_inside (files p.file) p.page (elim is [
-  | inl e ↦ sym (ap (is_past_end files) e) ∙ inside
-  | inr e ↦ sym (ap (is_past_end files) e) ∙ inside
-])
+inside_file : (files : Files) (p : FilePage) → is_past_end_of (files p.file) p.page ≡ false → IsPageOf files p.file p.page
+inside_file files p inside = begins_inside (files p.file) p.page inside
 
--- its frame stands behind the page
-pub frame_behind : (c : Picture) (b : Backing) (p : FilePage) (n : ℕ) → (b ≡ Private p) ⊎ (b ≡ Shared p) → c.place p ≡ Frame (record { 0 = n }) → IsBehind c b n
-frame_behind c b p n is at =
-    let P : Backing → Type 0 = λ x. IsBehind c x n in
-    elim is [ inl e ↦ subst P (sym e) at | inr e ↦ subst P (sym e) at ]
+names_itself : (p : ObjectPage) (b : Backing) → b ≡ Common p → is_object_page b p.object p.page ≡ true
+names_itself p b is = ap (λ x. is_object_page x p.object p.page) is ∙ rw (eq-eqb p.object p.object refl, eq-eqb p.page p.page refl) refl
+
+-- what stands behind a mapped page that isn't past the end of its file can be brought in
+page_for : (c : Picture) (pid page : ℕ) (a : Attr) (b : Backing) (p : PageKey) → pid < 65 → page < 2 ^ 26 → c.at pid page ≡ Some a → a.backing ≡ b → stands_on b ≡ Some p
+    → is_past_end c.files b ≡ false → IsPageFor c p
+page_for c pid page a Anon p low high mapped backed is inside = let bad : None ≡ Some p = is in (cc)
+page_for c pid page a (Private q) p low high mapped backed is inside =
+    let P : PageKey → Type 0 = λ x. IsPageFor c x in subst P (same_key (File q) p is) (inside_file c.files q inside)
+page_for c pid page a (Shared q) p low high mapped backed is inside =
+    let P : PageKey → Type 0 = λ x. IsPageFor c x in subst P (same_key (File q) p is) (inside_file c.files q inside)
+page_for c pid page a (Common q) p low high mapped backed is inside =
+    let P : PageKey → Type 0 = λ x. IsPageFor c x in
+    subst P (same_key (Object q) p is)
+    (named-at c.at q.object q.page pid page low high (ap (λ x. names x q.object q.page) mapped ∙ names_itself q a.backing backed))
+
+low_number : (pid : ℕ) → pid ≤ 64 → pid < 65
+low_number pid low = omega (arith, low)
+
+pub page_inside : (c : Picture) (pid page : ℕ) (a : Attr) (p : PageKey) → IsLinked c pid page → c.at pid page ≡ Some a → stands_on a.backing ≡ Some p → is_past_end c.files a.backing ≡ false → IsPageFor c p
+page_inside c pid page a p linked mapped is inside =
+    let root = some_root (c.root pid) linked.lives in
+    page_for c pid page a a.backing p (low_number pid (linked.fit.rooted.numbers pid root.0 root.1).1) (page_user c pid page a linked.fit mapped).1 mapped refl is inside
+  where
+    some_root : (o : Option ℕ) → o ≢ None → (r : ℕ) × (o ≡ Some r)
+    some_root None lives = absurd (lives refl)
+    some_root (Some r) lives = (r, refl)

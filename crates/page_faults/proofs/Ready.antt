@@ -2,10 +2,12 @@
 use Rattle.std.proofs.Common.{◌≡◌, ◌≢◌, ℕ, inl, inr, ◌⊎◌, true, false, Option, Some, None, List, refl, sym, ap, ◌∙◌, subst}
 use Rattle.std.proofs.lemmas.Bool.{cases_Bool, false≢true}
 use Rattle.std.specs.Prelude.{option_map}
-use Rattle.vm_types.specs.declared.file.FilePage.{FilePage}
+use Rattle.vm_types.specs.declared.object.PageKey.{PageKey}
+use Rattle.vm_types.specs.declared.object.PageKey.TheVariants.{File, Object}
 use Rattle.vm_types.specs.declared.region.Attr.{Attr}
 use Rattle.vm_types.specs.declared.region.Backing.{Backing}
-use Rattle.vm_types.specs.declared.region.Backing.TheVariants.{Anon, Private, Shared}
+use Rattle.vm_types.specs.declared.region.Backing.TheVariants.{Anon, Private, Shared, Common}
+use Rattle.vm_types.specs.Attributes.{stands_on}
 use Rattle.vm_types.specs.View.{zero_page}
 use Rattle.frames.specs.FrameTable.{FrameTable, bytes_of, IsFrame, IsHeld, IsSound, is_handed_out, zero_bytes}
 use Rattle.swap.specs.Slots.{SlotTable}
@@ -51,6 +53,17 @@ behind_shown : (c : Picture) (b : Backing) (n : ℕ) → IsSound c.frames → Is
 behind_shown c Anon n sound behind = ap (bytes_of c.frames) behind ∙ sound.zero_page ∙ zero_same
 behind_shown c (Private p) n sound behind = (record { 0 = n }, behind, refl)
 behind_shown c (Shared p) n sound behind = (record { 0 = n }, behind, refl)
+behind_shown c (Common p) n sound behind = (record { 0 = n }, behind, refl)
+
+pub same_key : (p q : PageKey) → Some p ≡ Some q → p ≡ q
+same_key p q e = cc
+
+-- what stands behind a page lies in the frame that is behind it
+behind_place : (c : Picture) (b : Backing) (p : PageKey) (n : ℕ) → stands_on b ≡ Some p → IsBehind c b n → c.place p ≡ Frame (record { 0 = n })
+behind_place c Anon p n is at = (let bad : None ≡ Some p = is in (cc))
+behind_place c (Private q) p n is at = ap c.place (sym (same_key (File q) p is)) ∙ at
+behind_place c (Shared q) p n is at = ap c.place (sym (same_key (File q) p is)) ∙ at
+behind_place c (Common q) p n is at = ap c.place (sym (same_key (Object q) p is)) ∙ at
 
 module _ (c : Picture) (pid page : ℕ) (a : Attr) (fit : IsFit c) (sound : IsSound c.frames) (h : IsPage 2 page) (mapped : c.at pid page ≡ Some a)
     (some : entry c pid page ≢ 0) (here : is_swapped (entry c pid page) ≡ false) where
@@ -92,13 +105,10 @@ module _ (c : Picture) (pid page : ℕ) (a : Attr) (fit : IsFit c) (sound : IsSo
     | inr common ↦ common
   ]
 
-  pub shared_place : (p : FilePage) → a.backing ≡ Shared p → c.place p ≡ Frame (record { 0 = frame_of (entry c pid page) })
-  shared_place p shared =
-      let common = shared_common (ap is_shared shared) in
-      let P : Backing → Type 0 = λ b. IsBehind c b (frame_of (entry c pid page)) in
-      subst P shared (resident.behind common)
+  pub shared_place : (p : PageKey) → is_shared a.backing ≡ true → stands_on a.backing ≡ Some p → c.place p ≡ Frame (record { 0 = frame_of (entry c pid page) })
+  shared_place p shared is = behind_place c a.backing p (frame_of (entry c pid page)) is (resident.behind (shared_common shared))
 
-  pub file_held : (p : FilePage) → c.place p ≡ Frame (record { 0 = frame_of (entry c pid page) }) → IsHeld c.frames (frame_of (entry c pid page))
+  pub file_held : (p : PageKey) → c.place p ≡ Frame (record { 0 = frame_of (entry c pid page) }) → IsHeld c.frames (frame_of (entry c pid page))
   file_held p at = record { inside = inside_there; handed_out = ap is_handed_out (fit.places.cached p (frame_of (entry c pid page)) at) }
 
   -- the page's own copy, as its process sees it
@@ -116,15 +126,15 @@ reads old new pid page a fit sound h mapped some here keeps = record {
 }
 
 -- a shared page that may be written
-pub touches : (old new : Picture) (pid page : ℕ) (a : Attr) (p : FilePage) (fit : IsFit new) (sound : IsSound new.frames) (h : IsPage 2 page) (mapped : new.at pid page ≡ Some a)
-    (valid : is_valid (entry new pid page) ≡ true) → is_dirty (entry new pid page) ≡ true → a.backing ≡ Shared p
-    → ((q k : ℕ) → view new q k ≡ view old q k) → ((q : FilePage) → q ≢ p → new.touched q ≡ old.touched q)
+pub touches : (old new : Picture) (pid page : ℕ) (a : Attr) (p : PageKey) (fit : IsFit new) (sound : IsSound new.frames) (h : IsPage 2 page) (mapped : new.at pid page ≡ Some a)
+    (valid : is_valid (entry new pid page) ≡ true) → is_dirty (entry new pid page) ≡ true → is_shared a.backing ≡ true → stands_on a.backing ≡ Some p
+    → ((q k : ℕ) → view new q k ≡ view old q k) → ((q : PageKey) → q ≢ p → new.touched q ≡ old.touched q)
     → MarksTouchedIn old new p (frame_of (entry new pid page))
-touches old new pid page a p fit sound h mapped valid dirty shared views others =
+touches old new pid page a p fit sound h mapped valid dirty shared is views others =
     let some = valid_some (entry new pid page) valid in
     let here = valid_here (entry new pid page) valid in
-    let place = shared_place new pid page a fit sound h mapped some here p shared in
-    let common = shared_common new pid page a fit sound h mapped some here (ap is_shared shared) in
+    let place = shared_place new pid page a fit sound h mapped some here p shared is in
+    let common = shared_common new pid page a fit sound h mapped some here shared in
     record {
       views = views;
       held = file_held new pid page a fit sound h mapped some here p place;
@@ -137,7 +147,7 @@ touches old new pid page a p fit sound h mapped valid dirty shared views others 
 pub owns : (old new : Picture) (pid page : ℕ) (a : Attr) (own : Option (List ℕ)) (fit : IsFit new) (sound : IsSound new.frames) (h : IsPage 2 page) (mapped : new.at pid page ≡ Some a)
     (valid : is_valid (entry new pid page) ≡ true) → can_write (entry new pid page) ≡ true → is_shared a.backing ≡ false
     → AreShown new (record { attr = a; own = own }) (bytes_of new.frames (frame_of (entry new pid page)))
-    → ((q k : ℕ) → (q ≢ pid) ⊎ (k ≢ page) → view new q k ≡ view old q k) → ((q : FilePage) → new.touched q ≡ old.touched q)
+    → ((q k : ℕ) → (q ≢ pid) ⊎ (k ≢ page) → view new q k ≡ view old q k) → ((q : PageKey) → new.touched q ≡ old.touched q)
     → Owns old new pid page (record { attr = a; own = own }) (frame_of (entry new pid page))
 owns old new pid page a own fit sound h mapped valid write private shown others touched =
     let some = valid_some (entry new pid page) valid in

@@ -4,10 +4,12 @@ use Rattle.std.specs.Prelude.{option_map}
 use Rattle.std.proofs.lemmas.Bool.{cases_Bool, false≢true}
 use Rattle.vm_types.specs.declared.access.Access.{Access}
 use Rattle.vm_types.specs.declared.access.Access.TheVariants.{Load, Store, Fetch}
-use Rattle.vm_types.specs.declared.file.FilePage.{FilePage}
+use Rattle.vm_types.specs.declared.object.PageKey.{PageKey}
+use Rattle.vm_types.specs.declared.object.PageKey.TheVariants.{File, Object}
 use Rattle.vm_types.specs.declared.region.Attr.{Attr}
 use Rattle.vm_types.specs.declared.region.Backing.{Backing}
-use Rattle.vm_types.specs.declared.region.Backing.TheVariants.{Anon, Private, Shared}
+use Rattle.vm_types.specs.declared.region.Backing.TheVariants.{Anon, Private, Shared, Common}
+use Rattle.vm_types.specs.Attributes.{stands_on}
 use Rattle.vm_types.specs.Permission as Permission
 use Rattle.vm_types.specs.View.{View}
 use Rattle.vm_types.specs.Verdict.{lets}
@@ -27,7 +29,7 @@ use Rattle.page_faults.specs.Granted.{IsEntered, IsReadyAt}
 use Rattle.page_faults.specs.Outcome.{Reads, MarksTouchedIn, Owns, IsReadyToStore, IsOpenFor, seen_at}
 use Rattle.page_faults.proofs.Opening.{opens_load, opens_fetch, opens_store}
 use Rattle.page_faults.proofs.Verdicts.{ready_open}
-use Rattle.page_faults.proofs.Ready.{zero_same, view-mapped, own_in-private, own_in-none, reads, touches, owns}
+use Rattle.page_faults.proofs.Ready.{same_key, zero_same, view-mapped, own_in-private, own_in-none, reads, touches, owns}
 
 pub one_view : (v w : View) → Some v ≡ Some w → v ≡ w
 one_view v w same = (cc)
@@ -84,14 +86,22 @@ entered_store c pid page a n private readable over usable =
 pub entered_ready : (access : Access) (old new : Picture) (pid page : ℕ) (a : Attr) (n : ℕ) → IsReadyAt old new pid page a access n → IsOpenFor access new pid page a.backing n
 entered_ready access old new pid page a n ready = ready_open access old new pid page (seen_at old pid page a) n ready
 
-pub ready_shared : (old new : Picture) (pid page : ℕ) (a : Attr) (p : FilePage) (n : ℕ) → a.backing ≡ Shared p → MarksTouchedIn old new p n → IsReadyAt old new pid page a Store n
-ready_shared old new pid page a p n is touched =
-    let P : Backing → Type 0 = λ x. IsReadyToStore old new pid page (seen_at old pid page a) x n in subst P (sym is) touched
+to_shared : (old new : Picture) (pid page : ℕ) (v : View) (b : Backing) (p : PageKey) (n : ℕ) → is_shared b ≡ true → stands_on b ≡ Some p → MarksTouchedIn old new p n
+    → IsReadyToStore old new pid page v b n
+to_shared old new pid page v Anon p n shared is touched = absurd (false≢true shared)
+to_shared old new pid page v (Private q) p n shared is touched = absurd (false≢true shared)
+to_shared old new pid page v (Shared q) p n shared is touched = let P : PageKey → Type 0 = λ x. MarksTouchedIn old new x n in subst P (sym (same_key (File q) p is)) touched
+to_shared old new pid page v (Common q) p n shared is touched = let P : PageKey → Type 0 = λ x. MarksTouchedIn old new x n in subst P (sym (same_key (Object q) p is)) touched
+
+pub ready_shared : (old new : Picture) (pid page : ℕ) (a : Attr) (p : PageKey) (n : ℕ) → is_shared a.backing ≡ true → stands_on a.backing ≡ Some p → MarksTouchedIn old new p n
+    → IsReadyAt old new pid page a Store n
+ready_shared old new pid page a p n shared is touched = to_shared old new pid page (seen_at old pid page a) a.backing p n shared is touched
 
 to_own : (old new : Picture) (pid page : ℕ) (v : View) (b : Backing) (n : ℕ) → is_shared b ≡ false → Owns old new pid page v n → IsReadyToStore old new pid page v b n
 to_own old new pid page v Anon n is own = own
 to_own old new pid page v (Private p) n is own = own
 to_own old new pid page v (Shared p) n is own = absurd (false≢true (sym is))
+to_own old new pid page v (Common p) n is own = absurd (false≢true (sym is))
 
 pub ready_own : (old new : Picture) (pid page : ℕ) (a : Attr) (n : ℕ) → is_shared a.backing ≡ false → Owns old new pid page (seen_at old pid page a) n → IsReadyAt old new pid page a Store n
 ready_own old new pid page a n is own = to_own old new pid page (seen_at old pid page a) a.backing n is own
@@ -116,7 +126,7 @@ owns_after old mid new pid page v w n keeps e own =
       sole = own.sole;
     }
 
-pub touches_after : (old mid new : Picture) (p : FilePage) (n : ℕ) → KeepsSeen old mid → MarksTouchedIn mid new p n → MarksTouchedIn old new p n
+pub touches_after : (old mid new : Picture) (p : PageKey) (n : ℕ) → KeepsSeen old mid → MarksTouchedIn mid new p n → MarksTouchedIn old new p n
 touches_after old mid new p n keeps touched = record {
   views = λ q k. touched.views q k ∙ keeps.views q k;
   held = touched.held;
@@ -128,7 +138,8 @@ touches_after old mid new p n keeps touched = record {
 to_store : (old mid new : Picture) (pid page : ℕ) (v w : View) (b : Backing) (n : ℕ) → KeepsSeen old mid → v ≡ w → IsReadyToStore mid new pid page v b n → IsReadyToStore old new pid page w b n
 to_store old mid new pid page v w Anon n keeps e own = owns_after old mid new pid page v w n keeps e own
 to_store old mid new pid page v w (Private p) n keeps e own = owns_after old mid new pid page v w n keeps e own
-to_store old mid new pid page v w (Shared p) n keeps e touched = touches_after old mid new p n keeps touched
+to_store old mid new pid page v w (Shared p) n keeps e touched = touches_after old mid new (File p) n keeps touched
+to_store old mid new pid page v w (Common p) n keeps e touched = touches_after old mid new (Object p) n keeps touched
 
 -- what is ready for the page as it was seen between is ready for it as it was seen before
 pub ready_after : (old mid new : Picture) (pid page : ℕ) (a : Attr) (access : Access) (n : ℕ) → old.at pid page ≡ Some a → mid.at pid page ≡ Some a → KeepsSeen old mid
@@ -143,6 +154,7 @@ behind_bytes : (old new : Picture) (b : Backing) (m : ℕ) (bytes : List ℕ) �
 behind_bytes old new Anon m bytes sound was now is = is ∙ sound.zero_page ∙ zero_same
 behind_bytes old new (Private p) m bytes sound was now is = (record { 0 = m }, now.0, is ∙ ap (bytes_of old.frames) (ap frame_of_place was) ∙ sym now.1)
 behind_bytes old new (Shared p) m bytes sound was now is = (record { 0 = m }, now.0, is ∙ ap (bytes_of old.frames) (ap frame_of_place was) ∙ sym now.1)
+behind_bytes old new (Common p) m bytes sound was now is = (record { 0 = m }, now.0, is ∙ ap (bytes_of old.frames) (ap frame_of_place was) ∙ sym now.1)
 
 -- a copy of the bytes that a page showed shows the same
 pub copy_shown : (old new : Picture) (pid page : ℕ) (a : Attr) (bytes : List ℕ) → IsSound old.frames → is_swapped (entry old pid page) ≡ false
@@ -161,19 +173,19 @@ copy_shown old new pid page a bytes sound here memory stays is =
     ]
 
 -- a shared page of which the entry lets stores through
-pub touched_entry : (old new : Picture) (pid page : ℕ) (a : Attr) (p : FilePage) (n : ℕ) → IsFit new → IsSound new.frames → new.at pid page ≡ Some a
-    → a.backing ≡ Shared p → Permission.can_read a.prot ≡ true → IsEntryOver (entry new pid page) a.prot n false true true
-    → ((q k : ℕ) → view new q k ≡ view old q k) → ((q : FilePage) → q ≢ p → new.touched q ≡ old.touched q) → MarksTouchedIn old new p n
-touched_entry old new pid page a p n fit sound now shared readable over views others =
+pub touched_entry : (old new : Picture) (pid page : ℕ) (a : Attr) (p : PageKey) (n : ℕ) → IsFit new → IsSound new.frames → new.at pid page ≡ Some a
+    → is_shared a.backing ≡ true → stands_on a.backing ≡ Some p → Permission.can_read a.prot ≡ true → IsEntryOver (entry new pid page) a.prot n false true true
+    → ((q k : ℕ) → view new q k ≡ view old q k) → ((q : PageKey) → q ≢ p → new.touched q ≡ old.touched q) → MarksTouchedIn old new p n
+touched_entry old new pid page a p n fit sound now shared is readable over views others =
     let opens = opens_store (entry new pid page) a.prot n false over readable in
     let h = mapped_page new pid page a fit.granting now in
     let P : ℕ → Type 0 = λ x. MarksTouchedIn old new p x in
-    subst P over.names (touches old new pid page a p fit sound h now opens.valid (opens.dirty refl) shared views others)
+    subst P over.names (touches old new pid page a p fit sound h now opens.valid (opens.dirty refl) shared is views others)
 
 -- any other page of which it does
 pub owned_entry : (old new : Picture) (pid page : ℕ) (a : Attr) (n : ℕ) → IsFit new → IsSound new.frames → new.at pid page ≡ Some a
     → is_shared a.backing ≡ false → Permission.can_read a.prot ≡ true → IsEntryOver (entry new pid page) a.prot n true true true
-    → AreShown new (seen_at old pid page a) (bytes_of new.frames n) → KeepsOtherViews old new pid page → ((q : FilePage) → new.touched q ≡ old.touched q)
+    → AreShown new (seen_at old pid page a) (bytes_of new.frames n) → KeepsOtherViews old new pid page → ((q : PageKey) → new.touched q ≡ old.touched q)
     → Owns old new pid page (seen_at old pid page a) n
 owned_entry old new pid page a n fit sound now private readable over shown others touched =
     let opens = opens_store (entry new pid page) a.prot n true over readable in

@@ -1,7 +1,7 @@
 -- What lies in a slot stays there, from step to step of an access, but for what the page shows.
 use Rattle.std.proofs.Common.{◌≡◌, ◌≢◌, ℕ, inl, inr, ◌⊎◌, refl, sym, ap, ◌∙◌, subst}
 use Rattle.std.proofs.lemmas.Bool.{cases_eq}
-use Rattle.vm_types.specs.declared.file.FilePage.{FilePage}
+use Rattle.vm_types.specs.declared.object.PageKey.{PageKey}
 use Rattle.paging.specs.declared.kernel.Core.{Core}
 use Rattle.paging.specs.Picture.{Picture, picture_of, is_swapped}
 use Rattle.paging.specs.Calls.{KeepsPages}
@@ -11,11 +11,11 @@ use Rattle.page_faults.proofs.Steps.{keeps_seen}
 use Rattle.page_faults.proofs.Wanted.{shows_back}
 
 -- nothing changed
-pub slotted_same : (files : FilePage → Type 0) (own : ℕ → ℕ → Type 0) (c : Picture) → KeepsSlotted files own c c
+pub slotted_same : (files : PageKey → Type 0) (own : ℕ → ℕ → Type 0) (c : Picture) → KeepsSlotted files own c c
 slotted_same files own c = record { file_pages = λ p k at. inr at; copies = λ q p h away. inr refl }
 
 -- more may come back
-slotted_wider : (few more : FilePage → Type 0) (own others : ℕ → ℕ → Type 0) (old new : Picture) → ((p : FilePage) → few p → more p) → ((q p : ℕ) → own q p → others q p)
+slotted_wider : (few more : PageKey → Type 0) (own others : ℕ → ℕ → Type 0) (old new : Picture) → ((p : PageKey) → few p → more p) → ((q p : ℕ) → own q p → others q p)
     → KeepsSlotted few own old new → KeepsSlotted more others old new
 slotted_wider few more own others old new files copies slotted = record {
   file_pages = λ p k at. elim (slotted.file_pages p k at) [
@@ -29,7 +29,7 @@ slotted_wider few more own others old new files copies slotted = record {
 }
 
 -- two steps
-slotted_then : (files : FilePage → Type 0) (own : ℕ → ℕ → Type 0) (a b c : Picture) → KeepsSlotted files own a b → KeepsSlotted files own b c → KeepsSlotted files own a c
+slotted_then : (files : PageKey → Type 0) (own : ℕ → ℕ → Type 0) (a b c : Picture) → KeepsSlotted files own a b → KeepsSlotted files own b c → KeepsSlotted files own a c
 slotted_then files own a b c first second = record {
   file_pages = λ p k at. elim (first.file_pages p k at) [
     | inl came ↦ inl came
@@ -54,7 +54,7 @@ that_or_other pid page q p = elim (cases_eq q pid) [
 ]
 
 -- one page's entry changed
-pub slotted_calm : {D E : Type 0} (files : FilePage → Type 0) (old new : Core D E) (pid page : ℕ) → IsCalm old new pid page → KeepsSlotted files (IsThatPage pid page) (picture_of old) (picture_of new)
+pub slotted_calm : {D E : Type 0} (files : PageKey → Type 0) (old new : Core D E) (pid page : ℕ) → IsCalm old new pid page → KeepsSlotted files (IsThatPage pid page) (picture_of old) (picture_of new)
 slotted_calm files old new pid page calm = record {
   file_pages = λ p k at. inr (calm.place p ∙ at);
   copies = λ q p h away. elim (that_or_other pid page q p) [
@@ -75,15 +75,15 @@ module _ (old mid : Picture) (pid page : ℕ) where
       slotted_wider (λ p. ⊥) (ShowsFile old pid page) (λ q p. ⊥) (IsThatPage pid page) old mid (λ p none. absurd none) (λ q p none. absurd none) slotted
 
   -- the page's file page alone
-  pub slotted_brought : (shown : FilePage) → ShowsFile old pid page shown → KeepsSlotted (λ p. p ≡ shown) (λ q p. ⊥) old mid
+  pub slotted_brought : (shown : PageKey) → ShowsFile old pid page shown → KeepsSlotted (λ p. p ≡ shown) (λ q p. ⊥) old mid
       → KeepsSlotted (ShowsFile old pid page) (IsThatPage pid page) old mid
   slotted_brought shown shows slotted =
       slotted_wider (λ p. p ≡ shown) (ShowsFile old pid page) (λ q p. ⊥) (IsThatPage pid page) old mid
-      (λ p is. (let P : FilePage → Type 0 = λ x. ShowsFile old pid page x in subst P (sym is) shows)) (λ q p none. absurd none) slotted
+      (λ p is. (let P : PageKey → Type 0 = λ x. ShowsFile old pid page x in subst P (sym is) shows)) (λ q p none. absurd none) slotted
 
   module _ (new : Picture) where
     -- and then the page's entry was made, or its own copy
-    pub slotted_on : (shown : FilePage) → ShowsFile old pid page shown → KeepsSlotted (λ p. p ≡ shown) (λ q p. ⊥) old mid → KeepsSlotted (λ p. ⊥) (IsThatPage pid page) mid new
+    pub slotted_on : (shown : PageKey) → ShowsFile old pid page shown → KeepsSlotted (λ p. p ≡ shown) (λ q p. ⊥) old mid → KeepsSlotted (λ p. ⊥) (IsThatPage pid page) mid new
         → KeepsSlotted (ShowsFile old pid page) (IsThatPage pid page) old new
     slotted_on shown shows first second =
         slotted_then (ShowsFile old pid page) (IsThatPage pid page) old mid new (slotted_brought shown shows first)

@@ -3,7 +3,7 @@ use Rattle.std.proofs.Common.{◌≡◌, ◌+◌, ℕ, false, inl, inr, ◌⊎�
 use Rattle.std.specs.Option.{option_map}
 use Rattle.std.specs.Prelude.{IfOk, IfErr, OnOk}
 use Rattle.vm_types.specs.declared.file.FileInfo.{FileInfo}
-use Rattle.vm_types.specs.declared.file.FilePage.{FilePage}
+use Rattle.vm_types.specs.declared.object.PageKey.{PageKey}
 use Rattle.vm_types.specs.declared.number.FrameNo.{FrameNo}
 use Rattle.vm_types.specs.declared.refusal.Stall.{Stall}
 use Rattle.vm_types.specs.declared.refusal.Stall.TheVariants.{NoFrames, NoSwap, SwapDevice, StoreDevice}
@@ -22,21 +22,21 @@ use Rattle.paging.specs.Stalls.{StallCause, HasStallCause, CountsNothing, ReadCa
 use Rattle.paging.specs.Reading.{ReadsStore}
 use Rattle.paging.specs.Shows.{KeepsFiles}
 use Rattle.mapping.specs.Changes.{KeepsSeen, Moves, MarksTouched, IsCalm}
-use Rattle.mapping.specs.Files.{IsBrought, Stays, Leaves, Comes, BringsPages, Proceeds}
+use Rattle.mapping.specs.Files.{IsBrought, Stays, Leaves, Comes, Blank, BringsPages, Proceeds}
 use Rattle.mapping.proofs.Steps.{spaces_then, room_then, tables_then, device_then}
 use Rattle.mapping.proofs.BroughtIn.{reads_none}
 
 pub keeps_seen : (old new : Picture) → KeepsPages old new → KeepsSeen old new
 keeps_seen old new pages = record { views = pages.views; touched = pages.files.touched }
 
-held_at : (old new : Picture) (p : FilePage) (place : Place) → old.place p ≡ place → new.place p ≡ old.place p → ((n : FrameNo) → old.place p ≡ Frame n → bytes_of new.frames n.0 ≡ bytes_of old.frames n.0)
+held_at : (old new : Picture) (p : PageKey) (place : Place) → old.place p ≡ place → new.place p ≡ old.place p → ((n : FrameNo) → old.place p ≡ Frame n → bytes_of new.frames n.0 ≡ bytes_of old.frames n.0)
     → new.slots ≡ old.slots → bytes_at new.frames new.slots place ≡ bytes_at old.frames old.slots place
 held_at old new p Home at place bytes slots = refl
 held_at old new p (Frame n) at place bytes slots = ap (λ b. Some b) (bytes n at)
 held_at old new p (Slot k) at place bytes slots = ap (λ s. Some (s.bytes k.0)) slots
 
 -- a file page that was marked touched has the bytes that it had
-pub held_marked : (old new : Picture) (touched : FilePage) → MarksTouched old new touched → new.slots ≡ old.slots → (p : FilePage) → held new p ≡ held old p
+pub held_marked : (old new : Picture) (touched : PageKey) → MarksTouched old new touched → new.slots ≡ old.slots → (p : PageKey) → held new p ≡ held old p
 unfolding held
 held_marked old new touched marks slots p =
     ap (bytes_at new.frames new.slots) (marks.place p) ∙ held_at old new p (old.place p) refl (marks.place p) (marks.bytes p) slots
@@ -55,7 +55,7 @@ module _ {D : Type 0} (g : Ghosts D) where
   files_read old new reads f = ap (λ d. info_in d f) reads.directory
 
   -- no file page changed but those that went home
-  pub brings_none : (before after : D) (W : FilePage → Type 0) (a b : Picture) → ((p : FilePage) → (held b p ≡ held a p) ⊎ ((held b p ≡ None) × (a.touched p ≡ false)))
+  pub brings_none : (before after : D) (W : PageKey → Type 0) (a b : Picture) → ((p : PageKey) → (held b p ≡ held a p) ⊎ ((held b p ≡ None) × (a.touched p ≡ false)))
       → ((f : ℕ) → b.files f ≡ a.files f) → BringsPages g before after W a b
   brings_none before after W a b each files = record {
     each = λ p. elim (each p) [
@@ -65,30 +65,32 @@ module _ {D : Type 0} (g : Ghosts D) where
     files = files;
   }
 
-  joined : (before after : D) (W V : FilePage → Type 0) (a b c : Picture) (wider : (p : FilePage) → W p → V p) (touched : (p : FilePage) → b.touched p ≡ a.touched p) (p : FilePage)
+  joined : (before after : D) (W V : PageKey → Type 0) (a b c : Picture) (wider : (p : PageKey) → W p → V p) (touched : (p : PageKey) → b.touched p ≡ a.touched p) (p : PageKey)
       → (held b p ≡ held a p) ⊎ ((held b p ≡ None) × (a.touched p ≡ false)) → IsBrought g before after W b c p → IsBrought g before after V a c p
   joined before after W V a b c wider touched p first (Leaves none untouched) = Leaves none (sym (touched p) ∙ untouched)
-  joined before after W V a b c wider touched p first (Comes bytes is here untouched read) = Comes bytes (wider p is) here (sym (touched p) ∙ untouched) read
+  joined before after W V a b c wider touched p first (Comes f bytes e is here untouched read) = Comes f bytes e (wider p is) here (sym (touched p) ∙ untouched) read
+  joined before after W V a b c wider touched p first (Blank o e is here untouched) = Blank o e (wider p is) here (sym (touched p) ∙ untouched)
   joined before after W V a b c wider touched p (inl e) (Stays same) = Stays (same ∙ e)
   joined before after W V a b c wider touched p (inr home) (Stays same) = Leaves (same ∙ home.0) home.1
 
   -- some went home before others were read
-  pub brings_after : (before after : D) (W V : FilePage → Type 0) (a b c : Picture) → ((p : FilePage) → W p → V p) → KeepsFiles a b → BringsPages g before after W b c → BringsPages g before after V a c
+  pub brings_after : (before after : D) (W V : PageKey → Type 0) (a b c : Picture) → ((p : PageKey) → W p → V p) → KeepsFiles a b → BringsPages g before after W b c → BringsPages g before after V a c
   brings_after before after W V a b c wider files brings = record {
     each = λ p. joined before after W V a b c wider files.touched p (files.held p) (brings.each p);
     files = λ f. brings.files f ∙ files.files f;
   }
 
-  later : (before after : D) (W V : FilePage → Type 0) (a b c : Picture) (wider : (p : FilePage) → W p → V p) (touched : (p : FilePage) → b.touched p ≡ a.touched p) (p : FilePage)
+  later : (before after : D) (W V : PageKey → Type 0) (a b c : Picture) (wider : (p : PageKey) → W p → V p) (touched : (p : PageKey) → b.touched p ≡ a.touched p) (p : PageKey)
       → (held c p ≡ held b p) ⊎ ((held c p ≡ None) × (b.touched p ≡ false)) → IsBrought g before after W a b p → IsBrought g before after V a c p
   later before after W V a b c wider touched p (inr home) brought = Leaves home.0 (sym (touched p) ∙ home.1)
   later before after W V a b c wider touched p (inl e) (Stays same) = Stays (e ∙ same)
   later before after W V a b c wider touched p (inl e) (Leaves none untouched) = Leaves (e ∙ none) untouched
-  later before after W V a b c wider touched p (inl e) (Comes bytes is here untouched read) = Comes bytes (wider p is) (e ∙ here) untouched read
+  later before after W V a b c wider touched p (inl e) (Comes f bytes k is here untouched read) = Comes f bytes k (wider p is) (e ∙ here) untouched read
+  later before after W V a b c wider touched p (inl e) (Blank o k is here untouched) = Blank o k (wider p is) (e ∙ here) untouched
 
   -- or after it
-  pub brings_then : (before after : D) (W V : FilePage → Type 0) (a b c : Picture) → ((p : FilePage) → W p → V p) → ((p : FilePage) → b.touched p ≡ a.touched p) → BringsPages g before after W a b
-      → ((p : FilePage) → (held c p ≡ held b p) ⊎ ((held c p ≡ None) × (b.touched p ≡ false))) → ((f : ℕ) → c.files f ≡ b.files f) → BringsPages g before after V a c
+  pub brings_then : (before after : D) (W V : PageKey → Type 0) (a b c : Picture) → ((p : PageKey) → W p → V p) → ((p : PageKey) → b.touched p ≡ a.touched p) → BringsPages g before after W a b
+      → ((p : PageKey) → (held c p ≡ held b p) ⊎ ((held c p ≡ None) × (b.touched p ≡ false))) → ((f : ℕ) → c.files f ≡ b.files f) → BringsPages g before after V a c
   brings_then before after W V a b c wider touched brings each files = record {
     each = λ p. later before after W V a b c wider touched p (each p) (brings.each p);
     files = λ f. files f ∙ brings.files f;

@@ -1,6 +1,6 @@
 -- Bytes written to the frame that the access of a store was given.
 use Rattle.std.proofs.Common.{◌≡◌, ◌≢◌, ℕ, inl, inr, ◌⊎◌, true, List, Option, Some, None, sym, ap, ◌∙◌, subst, arith}
-use Rattle.vm_types.specs.declared.file.FilePage.{FilePage}
+use Rattle.vm_types.specs.declared.object.PageKey.{PageKey}
 use Rattle.vm_types.specs.declared.region.Attr.{Attr}
 use Rattle.vm_types.specs.View.{View}
 use Rattle.frames.specs.declared.role.Role.TheVariants.{Table, Private, Cache}
@@ -87,7 +87,7 @@ module _ (old new : Picture) (n : ℕ) (w : List ℕ) (fit : IsFit old) (held_th
     same_view q k ne = each_view old new fit.granting beside.at q k
         (λ h. view_seated old new q k (beside.at q k) (ap seat (same_entries q k)) (λ z is. seat_bytes z (ne h z is)))
 
-    same_held : (p : FilePage) → ((m : ℕ) → old.place p ≡ Frame (record { 0 = m }) → m ≢ n) → held new p ≡ held old p
+    same_held : (p : PageKey) → ((m : ℕ) → old.place p ≡ Frame (record { 0 = m }) → m ≢ n) → held new p ≡ held old p
     same_held p ne = held_same old new p (beside.place p) beside.slots (λ m at. other_bytes m (ne m at))
 
   -- a frame that one page alone has
@@ -119,16 +119,19 @@ module _ (old new : Picture) (n : ℕ) (w : List ℕ) (fit : IsFit old) (held_th
           | inr ne ↦ ne both.1
         ]))
 
+    pub held_own : (p : PageKey) → held new p ≡ held old p
+    held_own p = same_held own_data p (λ m at is. (
+        let bad : Private ≡ Cache = sym (own_role pid page sole) ∙ ap (role_of old.frames) (sym is) ∙ fit.places.cached p m at in (cc)))
+
     pub files_own : KeepsFiles old new
     files_own = record {
-      held = λ p. inl (same_held own_data p (λ m at is. (
-          let bad : Private ≡ Cache = sym (own_role pid page sole) ∙ ap (role_of old.frames) (sym is) ∙ fit.places.cached p m at in (cc))));
+      held = λ p. inl (held_own p);
       touched = beside.touched;
       files = beside.files;
     }
 
   -- the frame of a file page
-  module _ (p : FilePage) (at : old.place p ≡ Frame (record { 0 = n })) where
+  module _ (p : PageKey) (at : old.place p ≡ Frame (record { 0 = n })) where
     file_data : role_of old.frames n ≢ Table
     file_data = cache_is_data old.frames n (fit.places.cached p n at)
 
@@ -147,7 +150,7 @@ module _ (old new : Picture) (n : ℕ) (w : List ℕ) (fit : IsFit old) (held_th
     views_file q k = same_view file_data q k (λ h z is. owned_else z (fit.counted.1.named q k z h is))
 
     -- every other file page keeps its bytes
-    pub held_else : (q : FilePage) → q ≢ p → held new q ≡ held old q
+    pub held_else : (q : PageKey) → q ≢ p → held new q ≡ held old q
     held_else q ne = same_held file_data q (λ m there is. ne (fit.places.apart q p
         (there ∙ ap (λ x. Frame (record { 0 = x })) is ∙ sym at) (λ home. (let bad : Home ≡ Frame (record { 0 = m }) = sym home ∙ there in (cc)))))
 

@@ -5,11 +5,13 @@ use Rattle.std.proofs.lemmas.Bool.{false≢true}
 use Rattle.vm_types.specs.declared.access.Access.{Access}
 use Rattle.vm_types.specs.declared.access.Access.TheVariants.{Load, Store, Fetch}
 use Rattle.vm_types.specs.declared.number.Phys.{Phys}
+use Rattle.vm_types.specs.declared.object.PageKey.TheVariants.{File, Object}
 use Rattle.vm_types.specs.declared.region.Attr.{Attr}
 use Rattle.vm_types.specs.declared.region.Backing.{Backing}
-use Rattle.vm_types.specs.declared.region.Backing.TheVariants.{Anon, Private, Shared}
+use Rattle.vm_types.specs.declared.region.Backing.TheVariants.{Anon, Private, Shared, Common}
 use Rattle.vm_types.specs.declared.width.Width.{Width}
 use Rattle.vm_types.specs.declared.refusal.Code.TheVariants.{SegvMaperr, SegvAccerr, BusAdrerr}
+use Rattle.vm_types.specs.Attributes.{stands_on}
 use Rattle.vm_types.specs.Files.{Files}
 use Rattle.vm_types.specs.Verdict.{Fine, Faults, lets, is_past_end, page_verdict}
 use Rattle.vm_types.specs.View.{View}
@@ -60,6 +62,7 @@ open_inside_store : (c : Picture) (pid page : ℕ) (b : Backing) (n : ℕ) → I
 open_inside_store c pid page Anon n is = is.0.inside
 open_inside_store c pid page (Private p) n is = is.0.inside
 open_inside_store c pid page (Shared p) n is = is.0.inside
+open_inside_store c pid page (Common p) n is = is.0.inside
 
 open_inside : (access : Access) (c : Picture) (pid page : ℕ) (b : Backing) (n : ℕ) → IsOpenFor access c pid page b n → n < frame_count c.frames
 open_inside Load c pid page b n is = is
@@ -70,6 +73,7 @@ ready_open_store : (old new : Picture) (pid page : ℕ) (v : View) (b : Backing)
 ready_open_store old new pid page v Anon n ready = (ready.held, ready.sole)
 ready_open_store old new pid page v (Private p) n ready = (ready.held, ready.sole)
 ready_open_store old new pid page v (Shared p) n ready = (ready.held, ready.place, ready.touched)
+ready_open_store old new pid page v (Common p) n ready = (ready.held, ready.place, ready.touched)
 
 -- a frame that is ready may be used
 pub ready_open : (access : Access) (old new : Picture) (pid page : ℕ) (v : View) (n : ℕ) → IsReadyFor access old new pid page v n → IsOpenFor access new pid page v.attr.backing n
@@ -185,7 +189,9 @@ module _ (c : Picture) (pid page : ℕ) (a : Attr) (fit : IsFit c) (sound : IsSo
   ready_to_store Anon is opens = own_there (ap is_shared is) opens
   ready_to_store (Private p) is opens = own_there (ap is_shared is) opens
   ready_to_store (Shared p) is opens =
-      touches c c pid page a p fit sound h mapped opens.valid (opens.dirty refl) is (λ q k. refl) (λ q ne. refl)
+      touches c c pid page a (File p) fit sound h mapped opens.valid (opens.dirty refl) (ap is_shared is) (ap stands_on is) (λ q k. refl) (λ q ne. refl)
+  ready_to_store (Common p) is opens =
+      touches c c pid page a (Object p) fit sound h mapped opens.valid (opens.dirty refl) (ap is_shared is) (ap stands_on is) (λ q k. refl) (λ q ne. refl)
 
   -- an access that is granted already
   pub ready_there : (access : Access) → Opens access (entry c pid page) → IsReadyFor access c c pid page (seen_at c pid page a) (frame_of (entry c pid page))

@@ -4,15 +4,15 @@ use Rattle.std.proofs.Common.{◌≡◌, ◌≢◌, ℕ, Result, Ok, Err, inl, i
 use Rattle.std.proofs.lemmas.Bool.{cases_eq, cases_Bool, false≢true}
 use Rattle.vm_types.specs.declared.access.Access.{Access}
 use Rattle.vm_types.specs.declared.access.Access.TheVariants.{Store}
-use Rattle.vm_types.specs.declared.file.FilePage.{FilePage}
+use Rattle.vm_types.specs.declared.object.PageKey.{PageKey}
+use Rattle.vm_types.specs.declared.object.PageKey.TheVariants.{File}
 use Rattle.vm_types.specs.declared.number.FrameNo.{FrameNo}
 use Rattle.vm_types.specs.declared.number.Phys.{Phys}
 use Rattle.vm_types.specs.declared.refusal.Code.{Code}
 use Rattle.vm_types.specs.declared.refusal.Stall.{Stall}
 use Rattle.vm_types.specs.declared.region.Attr.{Attr}
-use Rattle.vm_types.specs.declared.region.Backing.{Backing}
-use Rattle.vm_types.specs.declared.region.Backing.TheVariants.{Private, Shared}
 use Rattle.vm_types.specs.declared.width.Width.{Width}
+use Rattle.vm_types.specs.Attributes.{stands_on}
 use Rattle.vm_types.specs.Verdict.{Verdict, Fine, Faults}
 use Rattle.vm_types.specs.View.{View}
 use Rattle.disk_model.specs.declared.sector_disk.SectorDisk.{Ghosts}
@@ -26,9 +26,10 @@ use Rattle.paging.specs.Seats.{seat}
 use Rattle.paging.specs.Picture.{Picture, entry}
 use Rattle.paging.specs.Parts.{IsFit, is_shared}
 use Rattle.mapping.specs.Changes.{IsWhole, IsCalm, KeepsSeen, is_sole}
+use Rattle.mapping.specs.Files.{IsInStore}
 use Rattle.page_faults.specs.declared.refusal.AccessRefusal.{AccessRefusal}
 use Rattle.page_faults.specs.declared.refusal.AccessRefusal.TheVariants as Refusal
-use Rattle.page_faults.specs.Wants.{LacksTable, IsOfFile, ShowsFile, Wants, ForFile, ForStore, ReadsHome}
+use Rattle.page_faults.specs.Wants.{LacksTable, ShowsFile, Wants, ForFile, ForStore, ReadsHome}
 use Rattle.page_faults.specs.Outcome.{verdict_of, IsPlaced, IsWalked, IsStalled, Stalls, IsRefusal}
 use Rattle.page_faults.proofs.Settled.{none_same}
 
@@ -37,17 +38,12 @@ cases_frame (Frame m) = inl (m, refl)
 cases_frame Home = inr (λ n e. (cc))
 cases_frame (Slot m) = inr (λ n e. (cc))
 
-pub of_file : (b : Backing) (p : FilePage) → (b ≡ Private p) ⊎ (b ≡ Shared p) → IsOfFile b p
-of_file b p is =
-    let P : Backing → Type 0 = λ x. IsOfFile x p in
-    elim is [ inl e ↦ subst P (sym e) refl | inr e ↦ subst P (sym e) refl ]
-
-pub shows_file : (c : Picture) (pid page : ℕ) (a : Attr) (p : FilePage) → c.at pid page ≡ Some a → (a.backing ≡ Private p) ⊎ (a.backing ≡ Shared p) → seat (entry c pid page) ≡ None
+pub shows_file : (c : Picture) (pid page : ℕ) (a : Attr) (p : PageKey) → c.at pid page ≡ Some a → stands_on a.backing ≡ Some p → seat (entry c pid page) ≡ None
     → ShowsFile c pid page p
-shows_file c pid page a p mapped is none = record { attr = a; mapped = mapped; behind = of_file a.backing p is; none = none }
+shows_file c pid page a p mapped is none = record { attr = a; mapped = mapped; behind = is; none = none }
 
 -- and so did a page that is seen as it was
-pub shows_back : (old mid : Picture) (pid page : ℕ) (p : FilePage) → ((q k : ℕ) → mid.at q k ≡ old.at q k) → KeepsSeen old mid → ShowsFile mid pid page p → ShowsFile old pid page p
+pub shows_back : (old mid : Picture) (pid page : ℕ) (p : PageKey) → ((q k : ℕ) → mid.at q k ≡ old.at q k) → KeepsSeen old mid → ShowsFile mid pid page p → ShowsFile old pid page p
 shows_back old mid pid page p at keeps shows =
     let was = sym (at pid page) ∙ shows.mapped in
     record {
@@ -84,14 +80,14 @@ whole_or c pid page root = elim (cases_eq (missing_of c.frames 2 root.0 page) 0)
 ]
 
 -- where no frame is wanted the file page that the page shows is in a frame
-pub page_there : (c : Picture) (pid page : ℕ) (access : Access) (p : FilePage) → ShowsFile c pid page p → (Wants c pid page access → ⊥) → (n : FrameNo) × (c.place p ≡ Frame n)
+pub page_there : (c : Picture) (pid page : ℕ) (access : Access) (p : PageKey) → ShowsFile c pid page p → (Wants c pid page access → ⊥) → (n : FrameNo) × (c.place p ≡ Frame n)
 page_there c pid page access p shows none = elim (cases_frame (c.place p)) [
   | inl there ↦ there
   | inr away ↦ absurd (none (ForFile p shows away))
 ]
 
 -- where it isn't, one is wanted
-pub there_or : (c : Picture) (pid page : ℕ) (access : Access) (p : FilePage) → ShowsFile c pid page p → ((n : FrameNo) × (c.place p ≡ Frame n)) ⊎ Wants c pid page access
+pub there_or : (c : Picture) (pid page : ℕ) (access : Access) (p : PageKey) → ShowsFile c pid page p → ((n : FrameNo) × (c.place p ≡ Frame n)) ⊎ Wants c pid page access
 there_or c pid page access p shows = elim (cases_frame (c.place p)) [
   | inl there ↦ inl there
   | inr away ↦ inr (ForFile p shows away)
@@ -106,14 +102,17 @@ sole_there c pid page a mapped private none = elim (cases_Bool (is_sole c (entry
 ]
 
 -- a page at home isn't touched
-untouched_home : (c : Picture) (p : FilePage) → IsFit c → c.place p ≡ Home → c.touched p ≡ false
+untouched_home : (c : Picture) (p : PageKey) → IsFit c → c.place p ≡ Home → c.touched p ≡ false
 untouched_home c p fit home = elim (cases_Bool (c.touched p)) [
   | inl touched ↦ absurd (fit.dirty.held p touched home)
   | inr clean ↦ clean
 ]
 
-pub reads_home : (c : Picture) (pid page : ℕ) (p : FilePage) → IsFit c → ShowsFile c pid page p → c.place p ≡ Home → ReadsHome c pid page
-reads_home c pid page p fit shows home = record { file = p; shows = shows; untouched = untouched_home c p fit home; home = inl home }
+pub reads_home : (c : Picture) (pid page : ℕ) (p : PageKey) → IsFit c → ShowsFile c pid page p → IsInStore c p → ReadsHome c pid page
+reads_home c pid page p fit shows (f, is, home) =
+    let P : PageKey → Type 0 = λ x. ShowsFile c pid page x in
+    let at_home = ap c.place (sym is) ∙ home in
+    record { file = f; shows = subst P is shows; untouched = untouched_home c (File f) fit at_home; home = inl at_home }
 
 -- nothing changed
 pub calm_same : {D E : Type 0} (c : Core D E) (pid page : ℕ) → IsCalm c c pid page

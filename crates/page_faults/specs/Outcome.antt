@@ -3,14 +3,15 @@ use Rattle.std.specs.Prelude.{◌≡◌, ◌≢◌, ◌⊎◌, ◌/◌, ◌%◌,
 use Rattle.vm_types.specs.Limits.{top_level}
 use Rattle.vm_types.specs.declared.access.Access.{Access}
 use Rattle.vm_types.specs.declared.access.Access.TheVariants.{Load, Store, Fetch}
-use Rattle.vm_types.specs.declared.file.FilePage.{FilePage}
+use Rattle.vm_types.specs.declared.object.PageKey.{PageKey}
+use Rattle.vm_types.specs.declared.object.PageKey.TheVariants.{File, Object}
 use Rattle.vm_types.specs.declared.number.Phys.{Phys}
 use Rattle.vm_types.specs.declared.refusal.Code.{Code}
 use Rattle.vm_types.specs.declared.refusal.Stall.{Stall}
 use Rattle.vm_types.specs.declared.refusal.Stall.TheVariants.{StoreDevice}
 use Rattle.vm_types.specs.declared.region.Attr.{Attr}
 use Rattle.vm_types.specs.declared.region.Backing.{Backing}
-use Rattle.vm_types.specs.declared.region.Backing.TheVariants.{Anon, Private, Shared}
+use Rattle.vm_types.specs.declared.region.Backing.TheVariants.{Anon, Private, Shared, Common}
 use Rattle.vm_types.specs.declared.width.Width.{Width}
 use Rattle.vm_types.specs.Verdict.{Verdict, Fine, Faults, verdict, fault_of}
 use Rattle.vm_types.specs.View.{View}
@@ -43,27 +44,28 @@ pub record Reads (old new : Picture) (v : View) (n : ℕ) : Type 0 where
   pub inside : IsFrame new.frames n
   pub shown : AreShown new v (bytes_of new.frames n)
 
--- A store to a shared page: frame n is that of the file page, which is touched now, and else all is as it was.
-pub record MarksTouchedIn (old new : Picture) (p : FilePage) (n : ℕ) : Type 0 where
+-- A store to a shared page: frame n is that of the page of the file or the object, which is touched now, and else all is as it was.
+pub record MarksTouchedIn (old new : Picture) (p : PageKey) (n : ℕ) : Type 0 where
   pub views : (q k : ℕ) → view new q k ≡ view old q k
   pub held : IsHeld new.frames n
   pub place : new.place p ≡ Frame (record { 0 = n })
   pub touched : new.touched p ≡ true
-  pub others : (q : FilePage) → q ≢ p → new.touched q ≡ old.touched q
+  pub others : (q : PageKey) → q ≢ p → new.touched q ≡ old.touched q
 
 -- Any other store: frame n is the page's own copy now, which no other page has, with the bytes that the page showed.
 pub record Owns (old new : Picture) (pid page : ℕ) (v : View) (n : ℕ) : Type 0 where
   pub own : view new pid page ≡ Some (record v { own = Some (bytes_of new.frames n) })
   pub shown : AreShown new v (bytes_of new.frames n)
   pub others : (q k : ℕ) → (q ≢ pid) ⊎ (k ≢ page) → view new q k ≡ view old q k
-  pub touched : (p : FilePage) → new.touched p ≡ old.touched p
+  pub touched : (p : PageKey) → new.touched p ≡ old.touched p
   pub held : IsHeld new.frames n
   pub sole : IsSoleOwner new pid page n
 
 abbrev pub IsReadyToStore : Picture → Picture → ℕ → ℕ → View → Backing → ℕ → Type 0
 IsReadyToStore old new pid page v Anon n = Owns old new pid page v n
 IsReadyToStore old new pid page v (Private p) n = Owns old new pid page v n
-IsReadyToStore old new pid page v (Shared p) n = MarksTouchedIn old new p n
+IsReadyToStore old new pid page v (Shared p) n = MarksTouchedIn old new (File p) n
+IsReadyToStore old new pid page v (Common p) n = MarksTouchedIn old new (Object p) n
 
 -- frame n is ready for the access to the page, of which this was the view
 abbrev pub IsReadyFor : Access → Picture → Picture → ℕ → ℕ → View → ℕ → Type 0
@@ -72,11 +74,12 @@ IsReadyFor Store old new pid page v n = IsReadyToStore old new pid page v v.attr
 IsReadyFor Fetch old new pid page v n = Reads old new v n
 
 -- Frame n may be used for the access, whatever it holds: it is one of memory's. A store's frame isn't free and not the zero page, and
--- is the process's own at that page and nobody else's, or that of the shared file page, which is touched.
+-- is the process's own at that page and nobody else's, or that of the shared page of a file or an object, which is touched.
 abbrev pub IsOpenToStore : Picture → ℕ → ℕ → Backing → ℕ → Type 0
 IsOpenToStore c pid page Anon n = IsHeld c.frames n × IsSoleOwner c pid page n
 IsOpenToStore c pid page (Private p) n = IsHeld c.frames n × IsSoleOwner c pid page n
-IsOpenToStore c pid page (Shared p) n = IsHeld c.frames n × (c.place p ≡ Frame (record { 0 = n })) × (c.touched p ≡ true)
+IsOpenToStore c pid page (Shared p) n = IsHeld c.frames n × (c.place (File p) ≡ Frame (record { 0 = n })) × (c.touched (File p) ≡ true)
+IsOpenToStore c pid page (Common p) n = IsHeld c.frames n × (c.place (Object p) ≡ Frame (record { 0 = n })) × (c.touched (Object p) ≡ true)
 
 abbrev pub IsOpenFor : Access → Picture → ℕ → ℕ → Backing → ℕ → Type 0
 IsOpenFor Load c pid page b n = IsFrame c.frames n

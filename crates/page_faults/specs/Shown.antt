@@ -2,8 +2,9 @@
 use Rattle.std.specs.Prelude.{◌≡◌, ℕ, true, List, Option, Some, None}
 use Rattle.vm_types.specs.Limits.{top_level}
 use Rattle.vm_types.specs.declared.number.FrameNo.{FrameNo}
+use Rattle.vm_types.specs.declared.object.PageKey.TheVariants.{File, Object}
 use Rattle.vm_types.specs.declared.region.Backing.{Backing}
-use Rattle.vm_types.specs.declared.region.Backing.TheVariants.{Anon, Private, Shared}
+use Rattle.vm_types.specs.declared.region.Backing.TheVariants.{Anon, Private, Shared, Common}
 use Rattle.vm_types.specs.View.{View, zero_page}
 use Rattle.frames.specs.FrameTable.{bytes_of, count_of}
 use Rattle.sv39_walk.specs.Entry.{frame_of}
@@ -11,11 +12,12 @@ use Rattle.page_cache.specs.declared.place.Place.TheVariants.{Frame}
 use Rattle.page_tables.specs.Tree.{IsPage}
 use Rattle.paging.specs.Picture.{Picture, entry, is_private}
 
--- the bytes behind a page: zeros, or those of its file page, which lies in a frame
+-- the bytes behind a page: zeros, or those of its page of a file or an object, which lies in a frame
 abbrev pub AreBehind : Picture → Backing → List ℕ → Type 0
 AreBehind c Anon bytes = bytes ≡ zero_page
-AreBehind c (Private p) bytes = (n : FrameNo) × (c.place p ≡ Frame n) × (bytes ≡ bytes_of c.frames n.0)
-AreBehind c (Shared p) bytes = (n : FrameNo) × (c.place p ≡ Frame n) × (bytes ≡ bytes_of c.frames n.0)
+AreBehind c (Private p) bytes = (n : FrameNo) × (c.place (File p) ≡ Frame n) × (bytes ≡ bytes_of c.frames n.0)
+AreBehind c (Shared p) bytes = (n : FrameNo) × (c.place (File p) ≡ Frame n) × (bytes ≡ bytes_of c.frames n.0)
+AreBehind c (Common p) bytes = (n : FrameNo) × (c.place (Object p) ≡ Frame n) × (bytes ≡ bytes_of c.frames n.0)
 
 abbrev pub AreOwnOrBehind : Picture → Backing → Option (List ℕ) → List ℕ → Type 0
 AreOwnOrBehind c backing (Some own) bytes = bytes ≡ own

@@ -4,10 +4,12 @@ use Rattle.vm_types.specs.Limits.{top_level}
 use Rattle.vm_types.specs.declared.access.Access.{Access}
 use Rattle.vm_types.specs.declared.access.Access.TheVariants.{Store}
 use Rattle.vm_types.specs.declared.file.FilePage.{FilePage}
+use Rattle.vm_types.specs.declared.object.PageKey.{PageKey}
+use Rattle.vm_types.specs.declared.object.PageKey.TheVariants.{File}
 use Rattle.vm_types.specs.declared.number.FrameNo.{FrameNo}
 use Rattle.vm_types.specs.declared.region.Attr.{Attr}
 use Rattle.vm_types.specs.declared.region.Backing.{Backing}
-use Rattle.vm_types.specs.declared.region.Backing.TheVariants.{Anon, Private, Shared}
+use Rattle.vm_types.specs.Attributes.{stands_on}
 use Rattle.frames.specs.FrameTable.{IsFull}
 use Rattle.page_tables.specs.Tree.{missing_of}
 use Rattle.page_cache.specs.declared.place.Place.TheVariants.{Home, Frame}
@@ -23,25 +25,23 @@ pub record LacksTable (c : Picture) (pid page : ℕ) : Type 0 where
   pub lives : c.root pid ≡ Some root
   pub missing : missing_of c.frames top_level root page ≢ 0
 
--- a page on that backing is of that file page
-abbrev pub IsOfFile : Backing → FilePage → Type 0
-IsOfFile Anon p = ⊥
-IsOfFile (Private q) p = p ≡ q
-IsOfFile (Shared q) p = p ≡ q
+-- a page on that backing is of that page of a file or an object
+abbrev pub IsOfFile : Backing → PageKey → Type 0
+IsOfFile b p = stands_on b ≡ Some p
 
--- a page of a process shows that file page: it is mapped on it, and has no copy of its own, in a frame or in a slot
-pub record ShowsFile (c : Picture) (pid page : ℕ) (p : FilePage) : Type 0 where
+-- a page of a process shows that page of a file or an object: it is mapped on it, and has no copy of its own, in a frame or in a slot
+pub record ShowsFile (c : Picture) (pid page : ℕ) (p : PageKey) : Type 0 where
   pub attr : Attr
   pub mapped : c.at pid page ≡ Some attr
   pub behind : IsOfFile attr.backing p
   pub none : seat (entry c pid page) ≡ None
 
--- An access to a page wants a frame: for a table on its way, for its own copy that lies in a slot, for the file page that it shows
--- and that lies in no frame, or for a store to a page that isn't shared and of which the process hasn't its frame alone.
+-- An access to a page wants a frame: for a table on its way, for its own copy that lies in a slot, for the page of a file or an object that it
+-- shows and that lies in no frame, or for a store to a page that isn't shared and of which the process hasn't its frame alone.
 pub data Wants (c : Picture) (pid page : ℕ) (access : Access) : Type 0 where
   ForTable : LacksTable c pid page → Wants c pid page access
   ForSlot : is_swapped (entry c pid page) ≡ true → Wants c pid page access
-  ForFile : (p : FilePage) → ShowsFile c pid page p → ((n : FrameNo) → c.place p ≢ Frame n) → Wants c pid page access
+  ForFile : (p : PageKey) → ShowsFile c pid page p → ((n : FrameNo) → c.place p ≢ Frame n) → Wants c pid page access
   ForStore : (attr : Attr) → access ≡ Store → c.at pid page ≡ Some attr → is_shared attr.backing ≡ false
       → is_sole c (entry c pid page) ≡ false → Wants c pid page access
 
@@ -58,6 +58,6 @@ pub record FillsMemory (c : Picture) (pid page : ℕ) : Type 0 where
 -- lies in may be given up for the tables that are missing on the page's way.
 pub record ReadsHome (c : Picture) (pid page : ℕ) : Type 0 where
   pub file : FilePage
-  pub shows : ShowsFile c pid page file
-  pub untouched : c.touched file ≡ false
-  pub home : (c.place file ≡ Home) ⊎ FillsMemory c pid page
+  pub shows : ShowsFile c pid page (File file)
+  pub untouched : c.touched (File file) ≡ false
+  pub home : (c.place (File file) ≡ Home) ⊎ FillsMemory c pid page

@@ -23,7 +23,7 @@ use vm_types::{Access, Phys, Pid, Width};
 /// in the same frame. A fetch is of width `Four`. The place is what the walk gives from the process's root (RISC-V Privileged
 /// Specification, "Virtual Address Translation Process"), and the frame there holds the bytes that the page shows, where the page
 /// lay in a slot as long as the swap device keeps its model. After a store's access it holds a copy that no other page has, or is that
-/// of the shared file page, which is touched now: the caller writes the bytes. Where the walk returns a place already nothing changes;
+/// of the shared page of a file or an object, which is touched now: the caller writes the bytes. Where the walk returns a place already nothing changes;
 /// where no frame is wanted none is asked for, and nothing but the page's own entry changes. A frame that is wanted may be had by
 /// giving up another, which nobody sees. The store is read only for the page's own file page, where that is at home.
 ///

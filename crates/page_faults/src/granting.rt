@@ -1,7 +1,8 @@
 //! A page brought in, so that its entry grants an access.
-ghost use Rattle.std.specs.Prelude.{◌≡◌, ◌≢◌, ◌⊎◌, ℕ, true, false, None, IfOk, IfErr, OnOk, OnErr};
+ghost use Rattle.std.specs.Prelude.{◌≡◌, ◌≢◌, ◌⊎◌, ℕ, true, false, None, Some, IfOk, IfErr, OnOk, OnErr};
 ghost use Rattle.vm_types.specs.declared.access.Access.TheVariants as Access;
-ghost use Rattle.vm_types.specs.declared.region.Backing.TheVariants.{Private, Shared};
+ghost use Rattle.vm_types.specs.declared.region.Backing.TheVariants.{Private};
+ghost use Rattle.vm_types.specs.Attributes.{stands_on};
 ghost use Rattle.file_store.specs.Store.{IsReadyStore};
 ghost use Rattle.swap.specs.Slots.{IsReady};
 ghost use Rattle.paging.specs.Seats.{seat};
@@ -22,7 +23,7 @@ use mapping::{
 };
 use paging::Core;
 use sv39_walk::Pte;
-use vm_types::{Access, Attr, Backing, FilePage, FrameNo, Pid, Stall, Vpn};
+use vm_types::{Access, Attr, Backing, FilePage, FrameNo, PageKey, Pid, Stall, Vpn};
 
 /// Makes the entry of a mapped page, which allows the access, grant it: first the tables on its way are made, then the page is
 /// brought in from where it lies by then. Returns the frame that the page lies in.
@@ -120,13 +121,13 @@ fn grant_read<D: SectorDisk, E: SectorDisk>(
         regrant(core, pid, page, attr);
         return Ok(entry.frame_number());
     }
-    match attr.backing {
-        Backing::Anon => {
+    match attr.backing.stands_on() {
+        None => {
             show_zero(core, pid, page, attr);
             Ok(ZERO_PAGE)
         }
-        Backing::Private(file_page) | Backing::Shared(file_page) => {
-            let frame = cached(core, file_page)?;
+        Some(stored) => {
+            let frame = cached(core, stored)?;
             show_cached(core, pid, page, attr, frame);
             Ok(frame)
         }
@@ -165,7 +166,12 @@ fn grant_store<D: SectorDisk, E: SectorDisk>(
                 grant_copy(core, pid, page, attr, file_page)
             }
         }
-        Backing::Shared(file_page) => grant_shared(core, pid, page, attr, file_page),
+        Backing::Shared(file_page) => {
+            grant_shared(core, pid, page, attr, PageKey::File(file_page))
+        }
+        Backing::Common(object_page) => {
+            grant_shared(core, pid, page, attr, PageKey::Object(object_page))
+        }
     }
 }
 
@@ -222,23 +228,24 @@ fn grant_copy<D: SectorDisk, E: SectorDisk>(
     ensures counts { OnOk result (CountsNothing D.SectorDisk E.SectorDisk core.old core.new) }
     ensures stalled { IfErr result (IsStalled D.SectorDisk E.SectorDisk core.old core.new pid page Access.Store) }
 {
-    cached(core, file_page)?;
+    cached(core, PageKey::File(file_page))?;
     own_frame(core, pid, page, attr)
 }
 
-/// Of a shared page of a file.
+/// Of a shared page of a file or an object.
 fn grant_shared<D: SectorDisk, E: SectorDisk>(
     core: &mut Core<D, E>,
     pid: Pid,
     page: Vpn,
     attr: Attr,
-    file_page: FilePage,
+    stored: PageKey,
 ) -> Result<FrameNo, Stall>
     requires linked { IsLinked (picture_of core.old) pid page }
     requires store { IsReadyStore D.SectorDisk core.old.store }
     requires swap { IsReady E.SectorDisk core.old.swap }
     requires allowed { IsOpenTo (picture_of core.old) pid page Access.Store attr }
-    requires shared { attr.backing ≡ Shared file_page }
+    requires shared { is_shared attr.backing ≡ true }
+    requires stands { stands_on attr.backing ≡ Some stored }
     ensures proceeds { Proceeds D.SectorDisk E.SectorDisk core.old core.new }
     ensures brings { BringsFiles D.SectorDisk E.SectorDisk (ShowsFile (picture_of core.old) pid page) core.old core.new }
     ensures entered { IfOk result (λ frame. IsEntered (picture_of core.new) pid page attr Access.Store frame.0) }
@@ -250,7 +257,7 @@ fn grant_shared<D: SectorDisk, E: SectorDisk>(
     ensures counts { OnOk result (CountsNothing D.SectorDisk E.SectorDisk core.old core.new) }
     ensures stalled { IfErr result (IsStalled D.SectorDisk E.SectorDisk core.old core.new pid page Access.Store) }
 {
-    let frame = cached(core, file_page)?;
-    touch(core, pid, page, attr, file_page, frame);
+    let frame = cached(core, stored)?;
+    touch(core, pid, page, attr, stored, frame);
     Ok(frame)
 }

@@ -9,6 +9,7 @@ use Rattle.paging.specs.Seats.{InSlot, seat}
 use Rattle.paging.specs.Picture.{Picture, entry, own_in, view_of, view, bytes_in}
 use Rattle.paging.specs.Parts.{IsEntryFor, Nothing, Resident, Away, IsUsed, AsRoot, OnWay, IsGranting, IsFit}
 use Rattle.paging.proofs.Start.{seat-none}
+use Rattle.paging.specs.Shows.{KeepsFiles}
 use Rattle.page_ranges.specs.Rows.{plain, RemapsRow}
 use Rattle.page_ranges.specs.Steps.{IsBeside, ReturnsSlots, Clears, IsMappedBeside, IsWithoutTables, IsCleared}
 
@@ -93,8 +94,10 @@ module _ (old new : Picture) (pid first pages low high : ℕ) (fit : IsFit old) 
       | inr e ↦ rw e (clears.views pid page (beside_row page e))
     ];
     others = λ q page ne. clears.views q page (inl ne);
-    files = record { held = λ p. inl (clears.held p); touched = clears.beside.touched; files = clears.beside.files };
   }
+
+  pub files_cleared : KeepsFiles old new
+  files_cleared = record { held = λ p. inl (clears.held p); touched = clears.beside.touched; files = clears.beside.files }
 
   seated_inside : (k page : ℕ) → first ≤ page → page < first + pages → seat (entry old pid page) ≡ Some (InSlot k) → low ≤ page
   seated_inside k page from below is = elim (cases_lt page low) [

@@ -13,3 +13,9 @@ pub mod NewRegions
 pub mod LeafEntries
 pub mod PermittedRows
 pub mod Reprotected
+pub mod Forgotten
+pub mod Named
+pub mod Naming
+pub mod LastName
+pub mod Marking
+pub mod Outlived

@@ -1,8 +1,12 @@
 -- A process gets other regions.
-use Rattle.std.proofs.Common.{◌≡◌, ℕ, inl, inr, ◌+◌, ◌<◌, true, false, Option, Some, refl, sym, ap, ◌∙◌, subst, arith}
+use Rattle.std.proofs.Common.{◌≡◌, ℕ, inl, inr, ◌+◌, ◌<◌, true, false, Option, Some, refl, sym, ap, ◌∙◌, subst, arith, ◌⊎◌, ◌≢◌, None, eq-eqb, ne_eqb}
 use Rattle.std.specs.Prelude.{IsSome, option_map}
 use Rattle.std.proofs.lemmas.Bool.{cases_eq, cases_Bool}
-use Rattle.vm_types.specs.declared.file.FilePage.{FilePage}
+use Rattle.vm_types.specs.declared.object.ObjectPage.{ObjectPage}
+use Rattle.vm_types.specs.declared.object.PageKey.{PageKey}
+use Rattle.vm_types.specs.declared.object.PageKey.TheVariants.{Object}
+use Rattle.vm_types.specs.Objects.{is_named}
+use Rattle.page_cache.specs.declared.place.Place.TheVariants.{Home}
 use Rattle.vm_types.specs.declared.region.Attr.{Attr}
 use Rattle.vm_types.specs.Rows.{in_row, IsUserMap}
 use Rattle.frames.specs.FrameTable.{FrameTable, role_of, count_of, bytes_of}
@@ -12,16 +16,16 @@ use Rattle.page_tables.specs.Tree.{IsPage, IsTable, IsForest, IsRoot, Points, pa
 use Rattle.regions.specs.Permission.{IsReadableMap}
 use Rattle.paging.specs.Seats.{Seat, InFrame, InSlot, seat}
 use Rattle.paging.specs.Picture.{Picture, entry, view, held, bytes_in, IsOwned, count_in, page_in}
-use Rattle.paging.specs.Parts.{IsEntryFor, Nothing, IsUsed, IsMapped, IsRootedBut, IsFit, nowhere}
+use Rattle.paging.specs.Parts.{AreObjects, IsEntryFor, Nothing, IsUsed, IsMapped, IsRootedBut, IsFit, nowhere}
 use Rattle.paging.specs.Steps.{Remaps}
 use Rattle.paging.proofs.Entries.{entries_kept}
 use Rattle.paging.proofs.Granting.{KeepsBehind, entry_for-same, user_map-same, readable-same}
-use Rattle.paging.proofs.Places.{places_same, dirty_same}
+use Rattle.paging.proofs.Places.{objects-same, named-more, places_renamed, dirty_same}
 use Rattle.paging.proofs.Rooted.{used_kept}
 use Rattle.paging.proofs.Seats.{counted_same}
 use Rattle.paging.proofs.Setting.{view_seated, held_same}
-use Rattle.page_ranges.specs.Rows.{plain, RemapsRow}
-use Rattle.page_ranges.specs.Steps.{IsBeside, KeepsEntriesOfOthers, ReturnsTables, ReturnsSlots, IsMappedBeside, IsWithoutTables}
+use Rattle.page_ranges.specs.Rows.{plain, KeepsNamed, RemapsRow, with_map, without_maps}
+use Rattle.page_ranges.specs.Steps.{IsBeside, KeepsEntriesOfOthers, ReturnsTables, LosesSlots, IsMappedBeside, IsWithoutTables}
 use Rattle.page_ranges.proofs.Emptied.{row_parts, view-bare}
 
 -- Frames and slots are for what they were, and are shared as they were.
@@ -30,7 +34,7 @@ pub record SameSeats (old new : Picture) : Type 0 where
   pub counts : (n : ℕ) → count_of new.frames n ≡ count_of old.frames n
   pub slots : new.slots ≡ old.slots
   pub page_of : (n : ℕ) → new.page_of n ≡ old.page_of n
-  pub place : (p : FilePage) → new.place p ≡ old.place p
+  pub place : (p : PageKey) → new.place p ≡ old.place p
 
 module _ (old new : Picture) (same : SameSeats old new) where
   pub owned_on : (z : Seat) → IsOwned old z → IsOwned new z
@@ -81,9 +85,9 @@ module _ (old new : Picture) (pid : ℕ) (fit : IsFit old) (remaps : Remaps old 
             (λ a i b p. (let P : FrameTable → Type 0 = λ t. Points t a i b in subst P (sym remaps.frames) p)) remaps.root (λ q p some. some) (used m (table_back m table)));
       }
 
-  pub fit_remapped : IsUserMap (new.at pid) → IsReadableMap (new.at pid) → ((page : ℕ) → IsPage 2 page → IsEntryFor old (new.at pid page) (entry old pid page))
+  pub fit_remapped : IsUserMap (new.at pid) → IsReadableMap (new.at pid) → AreObjects new.at → ((p : ObjectPage) → old.place (Object p) ≢ Home → is_named new.at p.object p.page ≡ true) → ((page : ℕ) → IsPage 2 page → IsEntryFor old (new.at pid page) (entry old pid page))
       → ((m : ℕ) → IsTable old.frames m → IsUsed old (IsMapped new) m) → IsFit new
-  fit_remapped user readable fits used = record {
+  fit_remapped user readable objects named fits used = record {
     counted = (
       fit.counted.0,
       counted_same (entry old) (entry new) (IsOwned old) (IsOwned new) (count_in old) (count_in new) (page_in old fit.counted.0) (page_in new fit.counted.0)
@@ -110,8 +114,9 @@ module _ (old new : Picture) (pid : ℕ) (fit : IsFit old) (remaps : Remaps old 
         | inl is ↦ (let P : ℕ → Type 0 = λ x. IsReadableMap (new.at x) in subst P (sym is) readable)
         | inr ne ↦ readable-same (old.at q) (new.at q) (λ page. remaps.others q page ne) (fit.granting.readable q)
       ];
+      objects = objects;
     };
-    places = places_same old new fit.places remaps.place remaps.files remaps.slots (λ x e. seats.roles x ∙ e) (λ x e. sym (seats.roles x) ∙ e);
+    places = places_renamed old new fit.places remaps.place remaps.files named remaps.slots (λ x e. seats.roles x ∙ e) (λ x e. sym (seats.roles x) ∙ e);
     dirty = dirty_same old new fit.dirty remaps.place remaps.touched (λ q page h. entries_remapped q page);
   }
 
@@ -123,7 +128,7 @@ module _ (old new : Picture) (pid : ℕ) (fit : IsFit old) (remaps : Remaps old 
   pub view_remapped : (q page : ℕ) → new.at q page ≡ old.at q page → view new q page ≡ view old q page
   view_remapped q page at = view_seated old new q page at (ap seat (entries_remapped q page)) (λ z is. bytes_remapped z)
 
-  pub held_remapped : (p : FilePage) → held new p ≡ held old p
+  pub held_remapped : (p : PageKey) → held new p ≡ held old p
   held_remapped p = held_same old new p (remaps.place p) remaps.slots (λ n here. ap (λ t. bytes_of t n) remaps.frames)
 
 -- a row was cleared, and then the process got regions that are new there alone
@@ -159,9 +164,32 @@ module _ (old mid new : Picture) (pid first pages : ℕ) (map : ℕ → Option A
         subst R (sym is) (subst S (sym (at_mid page (out_of_row page (subst P is here.1)))) (subst Q is here.0)))
   ]
 
-  pub fit_row : IsWithoutTables mid pid first (first + pages) → IsUserMap map → IsReadableMap map → IsFit new
-  fit_row none_left user readable =
+  -- the pages of all processes are those that are mapped now
+  with_new : (q page : ℕ) → new.at q page ≡ with_map old.at pid map q page
+  with_new q page = elim (cases_eq q pid) [
+    | inl is ↦ rw (eq-eqb q pid is) (ap (λ x. new.at x page) is ∙ at page)
+    | inr ne ↦ rw (ne_eqb q pid ne) (remaps.others q page ne ∙ row.others_at q page ne)
+  ]
+
+  -- and beside the row they are as they were
+  without_more : (q page : ℕ) → (new.at q page ≡ without_maps old.at pid first pages q page) ⊎ (without_maps old.at pid first pages q page ≡ None)
+  without_more q page = elim (cases_eq q pid) [
+    | inr ne ↦ inl (rw (ne_eqb q pid ne) (remaps.others q page ne ∙ row.others_at q page ne))
+    | inl is ↦ elim (cases_Bool (in_row first pages page)) [
+      | inl e ↦ inr (rw (eq-eqb q pid is, e) refl)
+      | inr e ↦ inl (rw (eq-eqb q pid is, e) (ap (λ x. new.at x page) is ∙ at page ∙ others page e))
+    ]
+  ]
+
+  pub fit_row : IsWithoutTables mid pid first (first + pages) → IsUserMap map → IsReadableMap map → AreObjects (with_map old.at pid map)
+      → ((p : ObjectPage) → is_named (without_maps old.at pid first pages) p.object p.page ≡ false → mid.place (Object p) ≡ Home) → IsFit new
+  fit_row none_left user readable objects gone =
       fit_remapped mid new pid fit remaps (user_map-same map (new.at pid) at user) (readable-same map (new.at pid) at readable)
+      (objects-same (with_map old.at pid map) new.at with_new objects)
+      (λ p away. elim (cases_Bool (is_named (without_maps old.at pid first pages) p.object p.page)) [
+        | inl is ↦ named-more (without_maps old.at pid first pages) new.at p.object p.page without_more is
+        | inr is ↦ absurd (away (gone p is))
+      ])
       (λ page h. elim (cases_Bool (in_row first pages page)) [
         | inl e ↦ Nothing (row.entries page e)
         | inr e ↦ (let Q : Option Attr → Type 0 = λ a. IsEntryFor mid a (entry mid pid page) in subst Q (sym (at_mid page e)) (fit.granting.entries pid page h))
@@ -182,12 +210,11 @@ module _ (old mid new : Picture) (pid first pages : ℕ) (map : ℕ → Option A
     pointers = λ n i m p. returned.pointers n i m (let P : FrameTable → Type 0 = λ t. Points t n i m in subst P remaps.frames p);
   }
 
-  pub slots_row : ReturnsSlots old mid pid first (first + pages) → ReturnsSlots old new pid first (first + pages)
+  pub slots_row : LosesSlots old mid pid first (first + pages) → LosesSlots old new pid first (first + pages)
   slots_row returned = record {
     total = ap (λ t. t.total) remaps.slots ∙ returned.total;
     fewer = λ k. (let e = ap (λ t. t.count k) remaps.slots in let f = returned.fewer k in omega (arith, e, f));
-    given = λ k page h from below is. (let e = ap (λ t. t.count k) remaps.slots in let f = returned.given k page h from below is in omega (arith, e, f));
-    kept = λ k other. ap (λ t. t.count k) remaps.slots ∙ returned.kept k other;
+    kept = λ k other none. ap (λ t. t.count k) remaps.slots ∙ returned.kept k other none;
     bytes = λ k used. ap (λ t. t.bytes k) remaps.slots ∙ returned.bytes k (let e = ap (λ t. t.count k) remaps.slots in omega (arith, e, used));
   }
 
@@ -205,12 +232,16 @@ module _ (old mid new : Picture) (pid first pages : ℕ) (map : ℕ → Option A
           rw e (view_remapped mid new pid fit remaps pid page (at_mid page e) ∙ before))
     ];
     others = λ q page ne. view_remapped mid new pid fit remaps q page (remaps.others q page ne) ∙ row.others q page ne;
-    files = record {
-      held = λ p. elim (row.files.held p) [
-        | inl same ↦ inl (held_remapped mid new pid fit remaps p ∙ same)
-        | inr home ↦ inr (held_remapped mid new pid fit remaps p ∙ home.0, home.1)
-      ];
-      touched = λ p. remaps.touched p ∙ row.files.touched p;
-      files = λ f. remaps.files f ∙ row.files.files f;
-    };
+  }
+
+  pub files_row : KeepsNamed (without_maps old.at pid first pages) old mid → KeepsNamed (without_maps old.at pid first pages) old new
+  files_row keeps = record {
+    touched = λ p lasting. remaps.touched p ∙ keeps.touched p lasting;
+    place = λ p lasting. remaps.place p ∙ keeps.place p lasting;
+    gone = λ p is. remaps.place (Object p) ∙ keeps.gone p is;
+    files = λ f. remaps.files f ∙ keeps.files f;
+    held = λ p lasting. elim (keeps.held p lasting) [
+      | inl same ↦ inl (held_remapped mid new pid fit remaps p ∙ same)
+      | inr home ↦ inr (held_remapped mid new pid fit remaps p ∙ home.0, home.1)
+    ];
   }

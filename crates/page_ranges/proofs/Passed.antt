@@ -6,10 +6,11 @@ use Rattle.vm_types.specs.declared.region.Attr.{Attr}
 use Rattle.page_tables.specs.Tree.{IsPage}
 use Rattle.paging.specs.Picture.{Picture, entry}
 use Rattle.paging.specs.Parts.{IsUsed, AsRoot, OnWay, IsGranting, IsFit}
+use Rattle.paging.specs.Shows.{KeepsFiles}
 use Rattle.page_ranges.specs.Rows.{IsUnmapped, RemapsRow}
 use Rattle.page_ranges.specs.Steps.{IsBeside, ReturnsSlots, Clears, IsMappedBeside, IsWithoutTables, IsCleared}
 use Rattle.page_ranges.proofs.ClearedPages.{clears_none, clears_then}
-use Rattle.page_ranges.proofs.Emptied.{unmapped_zero, remaps_cleared, slots_cleared, tables_cleared}
+use Rattle.page_ranges.proofs.Emptied.{files_cleared, unmapped_zero, remaps_cleared, slots_cleared, tables_cleared}
 
 -- a page that isn't mapped has no entry
 bare : (c : Picture) (pid page : ℕ) → IsGranting c → IsPage 2 page → c.at pid page ≡ None → entry c pid page ≡ 0
@@ -88,6 +89,9 @@ module _ (old new : Picture) (pid first pages low page : ℕ) (fit : IsFit old) 
 
   pub row_passed : RemapsRow old new pid first pages (old.at pid)
   row_passed = remaps_cleared old new pid first pages low (max page (first + pages)) fit granting all row start (begins low first is) passes (ends low page (first + pages) within)
+
+  pub files_passed : KeepsFiles old new
+  files_passed = files_cleared old new pid first pages low (max page (first + pages)) fit granting all row start (begins low first is) passes (ends low page (first + pages) within)
 
   pub slots_passed : ReturnsSlots old new pid first (first + pages)
   slots_passed = slots_cleared old new pid first pages low (max page (first + pages)) fit granting all row start (begins low first is) passes (ends low page (first + pages) within)

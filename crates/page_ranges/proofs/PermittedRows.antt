@@ -3,6 +3,7 @@ use Rattle.std.proofs.Common.{◌≡◌, ◌≢◌, ℕ, inl, inr, ◌⊎◌, �
 use Rattle.std.proofs.lemmas.Bool.{cases_eq, cases_lt, cases_Bool, false≢true}
 use Rattle.vm_types.specs.declared.permission.Prot.{Prot}
 use Rattle.vm_types.specs.declared.region.Attr.{Attr}
+use Rattle.vm_types.specs.declared.object.PageKey.TheVariants.{File, Object}
 use Rattle.vm_types.specs.declared.region.Backing.{Backing}
 use Rattle.frames.specs.declared.role.Role.TheVariants.{Free, Private}
 use Rattle.frames.specs.FrameTable.{FrameTable, frame_count, role_of, IsFrame, IsSound}
@@ -153,8 +154,9 @@ module _ (old new : Picture) (pid r page number : ℕ) (prot : Prot) (rooted : I
 
 behind_inside : (c : Picture) (b : Backing) (n : ℕ) → IsSound c.frames → HasPlaces c → IsBehind c b n → IsFrame c.frames n
 behind_inside c Backing.Anon n sound places behind = let least = sound.least in omega (arith, least, behind)
-behind_inside c (Backing.Private p) n sound places behind = inside_memory c.frames n sound (cache_used (role_of c.frames n) (places.cached p n behind))
-behind_inside c (Backing.Shared p) n sound places behind = inside_memory c.frames n sound (cache_used (role_of c.frames n) (places.cached p n behind))
+behind_inside c (Backing.Private p) n sound places behind = inside_memory c.frames n sound (cache_used (role_of c.frames n) (places.cached (File p) n behind))
+behind_inside c (Backing.Shared p) n sound places behind = inside_memory c.frames n sound (cache_used (role_of c.frames n) (places.cached (File p) n behind))
+behind_inside c (Backing.Common p) n sound places behind = inside_memory c.frames n sound (cache_used (role_of c.frames n) (places.cached (Object p) n behind))
 
 named_for : (c : Picture) (o : Option Attr) (e : ℕ) → IsSound c.frames → HasPlaces c → IsEntryFor c o e → (is_private e ≡ true → role_of c.frames (frame_of e) ≡ Private)
     → e ≢ 0 → is_swapped e ≡ false → IsFrame c.frames (frame_of e)

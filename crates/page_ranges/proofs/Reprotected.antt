@@ -2,7 +2,10 @@
 use Rattle.std.proofs.Common.{◌≡◌, ℕ, inl, inr, ◌⊎◌, ◌+◌, ◌<◌, ◌≤◌, ◌^◌, ◌↔◌, Bool, true, false, List, Option, Some, None, get_or, refl, sym, ap, ◌∙◌, subst, arith}
 use Rattle.std.specs.Prelude.{IsSome, IfSome, leb, ltb, option_map, if◌then◌else◌}
 use Rattle.std.proofs.lemmas.Bool.{cases_eq, cases_lt, cases_Bool, and_from, le-leb, lt-ltb, false≢true}
-use Rattle.vm_types.specs.declared.file.FilePage.{FilePage}
+use Rattle.vm_types.specs.Objects.{names, uses}
+use Rattle.vm_types.specs.declared.object.PageKey.{PageKey}
+use Rattle.vm_types.specs.declared.object.PageKey.TheVariants.{Object}
+use Rattle.page_ranges.proofs.Named.{named-alike, objects-alike, names-protected, uses-protected}
 use Rattle.vm_types.specs.declared.permission.Prot.{Prot}
 use Rattle.vm_types.specs.declared.region.Attr.{Attr}
 use Rattle.vm_types.specs.Attributes.{backing_fits, with_prot}
@@ -17,12 +20,12 @@ use Rattle.regions.specs.Permission.{ReadsToo, IsReadableMap}
 use Rattle.regions.proofs.PermissionLemmas.{reads_protected}
 use Rattle.paging.specs.Seats.{Seat, InFrame, InSlot, seat}
 use Rattle.paging.specs.Picture.{Picture, entry, is_private, is_swapped, own_in, bytes_in, view_of, view, IsOwned, count_in, page_in}
-use Rattle.paging.specs.Parts.{is_shared, IsBehind, IsRootedBut, IsEntryFor, IsResident, IsSwapped, IsMapped, IsFit, nowhere}
+use Rattle.paging.specs.Parts.{is_shared, IsBehind, IsRootedBut, IsEntryFor, IsResident, IsMapped, IsFit, nowhere}
 use Rattle.paging.specs.Parts as Parts
 use Rattle.paging.specs.Steps.{Remaps}
 use Rattle.paging.proofs.Entries.{entries_kept}
 use Rattle.paging.proofs.Granting.{KeepsBehind, entry_for-same, user_map-same, readable-same}
-use Rattle.paging.proofs.Places.{places_same}
+use Rattle.paging.proofs.Places.{places_renamed}
 use Rattle.paging.proofs.Rooted.{used_kept}
 use Rattle.paging.proofs.Seats.{counted_same}
 use Rattle.paging.proofs.Moves.{view-none}
@@ -183,10 +186,10 @@ module _ (old mid new : Picture) (pid first pages low high : ℕ) (prot : Prot) 
   page_of : (m : ℕ) → new.page_of m ≡ old.page_of m
   page_of m = remaps.page_of m ∙ permits.beside.page_of m
 
-  place : (p : FilePage) → new.place p ≡ old.place p
+  place : (p : PageKey) → new.place p ≡ old.place p
   place p = remaps.place p ∙ permits.beside.place p
 
-  touched : (p : FilePage) → new.touched p ≡ old.touched p
+  touched : (p : PageKey) → new.touched p ≡ old.touched p
   touched p = remaps.touched p ∙ permits.beside.touched p
 
   files : (f : ℕ) → new.files f ≡ old.files f
@@ -298,7 +301,19 @@ module _ (old mid new : Picture) (pid first pages low high : ℕ) (prot : Prot) 
         (entry_permitted new old.frames (old.at pid page) prot (entry old pid page) (entry new pid page) counts (changed page h here.1 here.2) (fits_still_here pid page h))))
   ]
 
-  dirty_still : (q page : ℕ) (p : FilePage) → IsPage 2 page → is_valid (entry new q page) ≡ true → is_private (entry new q page) ≡ false → is_dirty (entry new q page) ≡ true
+  names_still : (q k object page : ℕ) → names (new.at q k) object page ≡ names (old.at q k) object page
+  names_still q k object page = elim (cases_eq q pid) [
+    | inl is ↦ ap (λ x. names (new.at x k) object page) is ∙ ap (λ a. names a object page) (at k) ∙ names-protected (old.at pid) first pages prot k object page ∙ sym (ap (λ x. names (old.at x k) object page) is)
+    | inr ne ↦ ap (λ a. names a object page) (remaps.others q k ne ∙ permits.beside.at q k)
+  ]
+
+  uses_still : (q k object : ℕ) → uses (new.at q k) object ≡ uses (old.at q k) object
+  uses_still q k object = elim (cases_eq q pid) [
+    | inl is ↦ ap (λ x. uses (new.at x k) object) is ∙ ap (λ a. uses a object) (at k) ∙ uses-protected (old.at pid) first pages prot k object ∙ sym (ap (λ x. uses (old.at x k) object) is)
+    | inr ne ↦ ap (λ a. uses a object) (remaps.others q k ne ∙ permits.beside.at q k)
+  ]
+
+  dirty_still : (q page : ℕ) (p : PageKey) → IsPage 2 page → is_valid (entry new q page) ≡ true → is_private (entry new q page) ≡ false → is_dirty (entry new q page) ≡ true
       → new.place p ≡ Frame (record { 0 = frame_of (entry new q page) }) → new.touched p ≡ true
   dirty_still q page p h valid common dirty there = elim (by_row q page) [
     | inl out ↦ (
@@ -365,8 +380,9 @@ module _ (old mid new : Picture) (pid first pages low high : ℕ) (prot : Prot) 
             subst P (sym is) (readable-same (protected (old.at pid) first pages prot) (new.at pid) at (reads_protected (old.at pid) first pages prot reads (fit.granting.readable pid))))
         | inr ne ↦ readable-same (old.at q) (new.at q) (λ page. remaps.others q page ne ∙ permits.beside.at q page) (fit.granting.readable q)
       ];
+      objects = objects-alike old.at new.at names_still uses_still fit.granting.objects;
     };
-    places = places_same old new fit.places place files slots (λ n e. role n ∙ e) (λ n e. sym (role n) ∙ e);
+    places = places_renamed old new fit.places place files (λ p away. named-alike old.at new.at p.object p.page (λ q k. names_still q k p.object p.page) ∙ fit.places.inside (Object p) away) slots (λ n e. role n ∙ e) (λ n e. sym (role n) ∙ e);
     dirty = record {
       dirty = dirty_still;
       held = λ p now home. fit.dirty.held p (sym (touched p) ∙ now) (sym (place p) ∙ home);

@@ -1,11 +1,11 @@
 -- The share of a frame or of a slot given back, which an entry named before: nobody who keeps it sees a change.
 use Rattle.std.proofs.Common.{◌≡◌, ◌≢◌, ℕ, inl, inr, ◌+◌, ◌<◌, ◌≤◌, ◌^◌, true, false, Option, Some, None, refl, sym, ap, ◌∙◌, subst, arith}
 use Rattle.std.proofs.lemmas.Bool.{cases_eq, cases_Bool}
-use Rattle.vm_types.specs.declared.file.FilePage.{FilePage}
+use Rattle.vm_types.specs.declared.object.PageKey.{PageKey}
 use Rattle.vm_types.specs.declared.number.SlotNo.{SlotNo}
 use Rattle.frames.specs.declared.role.Role.TheVariants.{Free, Private, Cache}
 use Rattle.frames.specs.FrameTable.{FrameTable, role_of, Releases}
-use Rattle.swap.specs.Slots.{SlotTable, IsInUse}
+use Rattle.swap.specs.Slots.{SlotTable}
 use Rattle.swap.specs.Slots as Slots
 use Rattle.sv39_walk.specs.Entry.{frame_of}
 use Rattle.page_tables.proofs.Data.{KeepsTrees, data_released}
@@ -128,7 +128,7 @@ module _ (old : Picture) (n : ℕ) (fit : IsFitBut old (InFrame n) 1 0) (own : r
   pub fit_frame : IsFit new
   fit_frame = fit_released old new n 0 fit own releases beside
 
-  cache_ne : (p : FilePage) (m : ℕ) → old.place p ≡ Frame (record { 0 = m }) → m ≢ n
+  cache_ne : (p : PageKey) (m : ℕ) → old.place p ≡ Frame (record { 0 = m }) → m ≢ n
   cache_ne p m at e = let bad : Private ≡ Cache = sym own ∙ ap (role_of old.frames) (sym e) ∙ fit.places.cached p m at in (cc)
 
   was_private : (m : ℕ) → role_of t m ≡ Private → role_of old.frames m ≡ Private

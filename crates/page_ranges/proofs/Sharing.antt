@@ -137,7 +137,7 @@ module _ (old new : Picture) (x : Seat) (m pid page : ℕ) (fit : IsFitBut old n
     granting = granting_changed old new pid page fit.granting (behind_kept old new sets.beside)
         (λ q p h' private one. sets.shares.counts (frame_of (entry old q p)) (fit.counted.1.named q p (InFrame (frame_of (entry old q p))) h' (rw private refl)) ∙ one)
         sets.beside.at sets.others (Nothing sets.changed);
-    places = places_same old new fit.places sets.beside.place sets.beside.files sets.beside.slots sets.shares.cache sets.shares.was_cache;
+    places = places_same old new fit.places sets.beside.place sets.beside.at sets.beside.files sets.beside.slots sets.shares.cache sets.shares.was_cache;
     dirty = dirty_changed old new pid page fit.dirty sets.beside.place sets.beside.touched sets.others
         (λ p valid common bit here. absurd (false≢true (sym (ap is_valid sets.changed ∙ valid_zero) ∙ valid)));
   }

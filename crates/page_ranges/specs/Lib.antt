@@ -1,3 +1,5 @@
 pub mod Steps
 pub mod Leaves
 pub mod Rows
+pub mod Numbers
+pub mod ObjectSteps

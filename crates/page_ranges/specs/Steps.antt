@@ -1,7 +1,10 @@
 -- What the steps of the calls change.
 use Rattle.std.specs.Prelude.{◌≡◌, ◌≢◌, ℕ, ◌+◌, ◌*◌, ◌/◌, ◌^◌, ◌<◌, ◌≤◌, ◌⊎◌, ◌↔◌, min, max, Option, Some, None}
 use Rattle.vm_types.specs.Limits.{top_level, table_entries}
-use Rattle.vm_types.specs.declared.file.FilePage.{FilePage}
+use Rattle.vm_types.specs.declared.object.ObjectPage.{ObjectPage}
+use Rattle.vm_types.specs.declared.object.PageKey.{PageKey}
+use Rattle.vm_types.specs.declared.object.PageKey.TheVariants.{Object}
+use Rattle.page_cache.specs.declared.place.Place.TheVariants.{Slot}
 use Rattle.frames.specs.declared.role.Role.TheVariants.{Free, Private}
 use Rattle.frames.specs.FrameTable.{FrameTable, role_of}
 use Rattle.swap.specs.Slots.{SlotTable, IsInUse}
@@ -22,8 +25,8 @@ pub record SameButMemory (old new : Picture) : Type 0 where
   pub root : (q : ℕ) → new.root q ≡ old.root q
   pub at : (q page : ℕ) → new.at q page ≡ old.at q page
   pub page_of : (n : ℕ) → new.page_of n ≡ old.page_of n
-  pub place : (p : FilePage) → new.place p ≡ old.place p
-  pub touched : (p : FilePage) → new.touched p ≡ old.touched p
+  pub place : (p : PageKey) → new.place p ≡ old.place p
+  pub touched : (p : PageKey) → new.touched p ≡ old.touched p
   pub files : (f : ℕ) → new.files f ≡ old.files f
 
 module _ {D E : Type 0} where
@@ -70,6 +73,14 @@ pub record ReturnsSlots (old new : Picture) (pid low high : ℕ) : Type 0 where
       → new.slots.count k ≡ old.slots.count k
   pub bytes : (k : ℕ) → IsInUse new.slots k → new.slots.bytes k ≡ old.slots.bytes k
 
+-- The same, and slots that held pages of objects may have been given back too.
+pub record LosesSlots (old new : Picture) (pid low high : ℕ) : Type 0 where
+  pub total : new.slots.total ≡ old.slots.total
+  pub fewer : (k : ℕ) → new.slots.count k ≤ old.slots.count k
+  pub kept : (k : ℕ) → ((page : ℕ) → IsPage top_level page → low ≤ page → page < high → seat (entry old pid page) ≢ Some (InSlot k))
+      → ((p : ObjectPage) → old.place (Object p) ≢ Slot (record { 0 = k })) → new.slots.count k ≡ old.slots.count k
+  pub bytes : (k : ℕ) → IsInUse new.slots k → new.slots.bytes k ≡ old.slots.bytes k
+
 -- those pages have no entries now, and every other page is as it was
 pub record Clears (old new : Picture) (pid low high : ℕ) : Type 0 where
   pub beside : SameButMemory old new
@@ -78,7 +89,7 @@ pub record Clears (old new : Picture) (pid low high : ℕ) : Type 0 where
   pub gone : (page : ℕ) → IsPage top_level page → low ≤ page → page < high → entry new pid page ≡ 0
   pub kept : (q page : ℕ) → IsPage top_level page → IsBeside pid low high q page → entry new q page ≡ entry old q page
   pub views : (q page : ℕ) → IsBeside pid low high q page → view new q page ≡ view old q page
-  pub held : (p : FilePage) → held new p ≡ held old p
+  pub held : (p : PageKey) → held new p ≡ held old p
 
 -- a page that its process has mapped, and that isn't one of a process from low up to, not including, high
 abbrev pub IsMappedBeside : Picture → ℕ → ℕ → ℕ → ℕ → ℕ → Type 0
@@ -112,7 +123,7 @@ pub record ReturnsSeat (old new : Picture) (share : Option Seat) : Type 0 where
   pub beside : SameButMemory old new
   pub entries : (q page : ℕ) → entry new q page ≡ entry old q page
   pub views : (q page : ℕ) → view new q page ≡ view old q page
-  pub held : (p : FilePage) → held new p ≡ held old p
+  pub held : (p : PageKey) → held new p ≡ held old p
   pub tables : SameTables old.frames new.frames
   pub rows : (q r row n : ℕ) → old.root q ≡ Some r → IsTableOf old.frames r row n → IsTableOf new.frames r row n
   pub free : (n : ℕ) → role_of old.frames n ≡ Free → role_of new.frames n ≡ Free

@@ -7,6 +7,7 @@ ghost use Rattle.page_tables.specs.Tree.{IsPage};
 ghost use Rattle.paging.specs.Seats.{seat};
 ghost use Rattle.paging.specs.Picture.{picture_of, is_live};
 ghost use Rattle.paging.specs.Parts.{IsFit};
+ghost use Rattle.paging.specs.Shows.{KeepsFiles};
 ghost use Rattle.mapping.specs.Changes.{IsWhole};
 ghost use Rattle.page_ranges.specs.Rows.{RemapsRow};
 ghost use Rattle.page_ranges.specs.Steps.{KeepsBesideMemory, KeepsEntriesOfOthers, SameTables, ReturnsTables, ReturnsSlots, Clears, IsWithoutTables, IsCleared, LacksHolder, ReturnsSeat, IsStepEnd};
@@ -29,6 +30,7 @@ pub fn clear_row<D, E>(core: &mut Core<D, E>, pid: Pid, first: u64, pages: u64)
     requires row { first + pages ≤ user_end }
     ensures fit { IsFit (picture_of core.new) }
     ensures row { RemapsRow (picture_of core.old) (picture_of core.new) pid first pages ((picture_of core.old).at pid) }
+    ensures files { KeepsFiles (picture_of core.old) (picture_of core.new) }
     ensures others { KeepsEntriesOfOthers (picture_of core.old) (picture_of core.new) pid }
     ensures tables { ReturnsTables (picture_of core.old) (picture_of core.new) pid }
     ensures none_left { IsWithoutTables (picture_of core.new) pid first (first + pages) }

@@ -5,13 +5,17 @@
 
 mod clearing;
 mod entries;
+mod forgetting;
 mod leaves;
+mod numbering;
 mod permitting;
 mod remapping;
 mod rows;
 
 pub use clearing::clear_row;
 pub use entries::next_entry;
+pub use forgetting::forget_row;
+pub use numbering::free_object;
 pub use permitting::reprotect;
 pub use remapping::remap;
 pub use rows::{gap_end, table_end, user_page};

@@ -5,8 +5,6 @@
 mod forms;
 mod leaves;
 mod tables;
-#[cfg(test)]
-mod tests;
 
 pub use forms::{Entry, decode};
 pub use leaves::{Grant, entry_over};

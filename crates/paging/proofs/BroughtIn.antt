@@ -1,27 +1,27 @@
 -- A file page comes into a free frame, and is touched there.
 use Rattle.std.proofs.Common.{◌≡◌, ◌≢◌, ℕ, inl, inr, ◌<◌, List, true, false, Option, Some, refl, sym, ap, ◌∙◌, subst, arith}
 use Rattle.std.proofs.lemmas.Bool.{cases_eq, false≢true}
-use Rattle.vm_types.specs.declared.file.FilePage.{FilePage}
+use Rattle.vm_types.specs.declared.object.PageKey.{PageKey}
+use Rattle.vm_types.specs.declared.object.PageKey.TheVariants.{File, Object}
 use Rattle.vm_types.specs.declared.region.Attr.{Attr}
 use Rattle.vm_types.specs.declared.region.Backing.{Backing}
-use Rattle.vm_types.specs.declared.region.Backing.TheVariants.{Anon, Private as PrivateOf, Shared as SharedOf}
+use Rattle.vm_types.specs.declared.region.Backing.TheVariants.{Anon, Private as PrivateOf, Shared as SharedOf, Common as CommonOf}
 use Rattle.frames.specs.declared.role.Role.TheVariants.{Free, Table, Private, Cache}
 use Rattle.frames.specs.FrameTable.{FrameTable, bytes_of, role_of, count_of, SameButFor, Takes, with_bytes}
 use Rattle.frames.proofs.FrameLemmas.{with_bytes-others}
 use Rattle.swap.specs.Slots.{SlotTable}
 use Rattle.sv39_walk.specs.Entry.{is_valid, is_dirty, frame_of, has_bit}
-use Rattle.file_store.specs.Standing.{IsPageOf}
 use Rattle.page_tables.specs.Tree.{IsPage}
 use Rattle.page_tables.proofs.Data.{KeepsTrees, data_changed}
 use Rattle.page_cache.specs.declared.place.Place.{Place}
 use Rattle.page_cache.specs.declared.place.Place.TheVariants.{Home, Frame, Slot}
 use Rattle.paging.specs.Seats.{Seat, InFrame, InSlot, seat, is_private, is_swapped}
 use Rattle.paging.specs.Picture.{Picture, entry, view, held, bytes_at, bytes_in, IsOwned, count_in, page_in}
-use Rattle.paging.specs.Parts.{IsFit, IsEntryFor, Nothing, Resident, Away, IsBehind, HasPlaces, IsDirtySound, nowhere}
+use Rattle.paging.specs.Parts.{IsFit, IsEntryFor, Nothing, Resident, Away, IsBehind, IsPageFor, HasPlaces, IsDirtySound, nowhere}
 use Rattle.paging.specs.Steps.{BringsIn}
 use Rattle.paging.proofs.Entries.{entries_kept}
 use Rattle.paging.proofs.Granting.{granting_same}
-use Rattle.paging.proofs.Places.{cases_page, one_frame, places_same}
+use Rattle.paging.proofs.Places.{cases_page, one_frame, page_for-same, places_same}
 use Rattle.paging.proofs.Rooted.{rooted_same, rooted_frames}
 use Rattle.paging.proofs.Seats.{counted_same}
 use Rattle.paging.proofs.Setting.{view_seated, each_view}
@@ -44,7 +44,7 @@ frames_written old mid n w takes =
       counts = λ m ne. takes.others.counts m ne;
     }
 
-module _ (old new : Picture) (page : FilePage) (n : ℕ) (fit : IsFit old) (brings : BringsIn old new page n) where
+module _ (old new : Picture) (page : PageKey) (n : ℕ) (fit : IsFit old) (brings : BringsIn old new page n) where
   free_cache : Free ≢ Cache
   free_cache e = (cc)
 
@@ -64,14 +64,14 @@ module _ (old new : Picture) (page : FilePage) (n : ℕ) (fit : IsFit old) (brin
   same = entries_kept old new 0 fit.rooted trees.entries brings.root
 
   -- another file page is where it was
-  framed : (p : FilePage) (m : ℕ) → old.place p ≡ Frame (record { 0 = m }) → p ≢ page
+  framed : (p : PageKey) (m : ℕ) → old.place p ≡ Frame (record { 0 = m }) → p ≢ page
   framed p m at is = brings.was_away m (ap old.place (sym is) ∙ at)
 
-  no_slot : (p : FilePage) (k : ℕ) → p ≡ page → new.place p ≢ Slot (record { 0 = k })
+  no_slot : (p : PageKey) (k : ℕ) → p ≡ page → new.place p ≢ Slot (record { 0 = k })
   no_slot p k is at = let bad : Slot (record { 0 = k }) ≡ Frame (record { 0 = n }) = sym at ∙ ap new.place is ∙ brings.placed in (cc)
 
   -- the slot of another file page, or of own copies, isn't that of this one
-  slot_ne : (p : FilePage) (k : ℕ) → p ≢ page → old.place p ≡ Slot (record { 0 = k }) → old.place page ≢ Slot (record { 0 = k })
+  slot_ne : (p : PageKey) (k : ℕ) → p ≢ page → old.place p ≡ Slot (record { 0 = k }) → old.place page ≢ Slot (record { 0 = k })
   slot_ne p k ne at here = ne (fit.places.apart p page (at ∙ sym here) (λ home. (let bad : Home ≡ Slot (record { 0 = k }) = sym home ∙ at in (cc))))
 
   in_use : (k : ℕ) → old.place page ≢ Slot (record { 0 = k }) → 0 < old.slots.count k → 0 < new.slots.count k
@@ -145,15 +145,16 @@ module _ (old new : Picture) (page : FilePage) (n : ℕ) (fit : IsFit old) (brin
       | inr file ↦ inr (file.0, brings.others file.0 (λ e. (was_used k some).0 (ap old.place (sym e) ∙ file.1)) ∙ file.1)
     ];
     inside = λ p away. elim (cases_page p page) [
-      | inl e ↦ (let P : FilePage → Type 0 = λ x. IsPageOf new.files x.file x.page in subst P (sym e) (brings.inside.0, brings.files page.file ∙ brings.inside.1, brings.inside.2))
-      | inr ne ↦ (let i = fit.places.inside p (λ home. away (brings.others p ne ∙ home)) in (i.0, brings.files p.file ∙ i.1, i.2))
+      | inl e ↦ (let P : PageKey → Type 0 = λ x. IsPageFor new x in subst P (sym e) (page_for-same old new page brings.at brings.files brings.inside))
+      | inr ne ↦ page_for-same old new p brings.at brings.files (fit.places.inside p (λ home. away (brings.others p ne ∙ home)))
     ];
   }
 
   behind_ne : (b : Backing) (m : ℕ) → IsBehind old b m → m ≢ n
   behind_ne Anon m is = λ e. (let a = brings.above in omega (arith, is, e, a))
-  behind_ne (PrivateOf p) m is = cache_ne m (fit.places.cached p m is)
-  behind_ne (SharedOf p) m is = cache_ne m (fit.places.cached p m is)
+  behind_ne (PrivateOf p) m is = cache_ne m (fit.places.cached (File p) m is)
+  behind_ne (SharedOf p) m is = cache_ne m (fit.places.cached (File p) m is)
+  behind_ne (CommonOf p) m is = cache_ne m (fit.places.cached (Object p) m is)
 
   resident_ne : (pid k : ℕ) (a : Option Attr) → IsEntryFor old a (entry old pid k) → is_valid (entry old pid k) ≡ true → is_private (entry old pid k) ≡ false → frame_of (entry old pid k) ≢ n
   resident_ne pid k a (Nothing none) valid common = absurd (false≢true (sym (ap is_valid none ∙ zero_invalid) ∙ valid))
@@ -212,13 +213,13 @@ module _ (old new : Picture) (page : FilePage) (n : ℕ) (fit : IsFit old) (brin
   views_brought q p = each_view old new fit.granting brings.at q p (λ h. view_seated old new q p (brings.at q p) (ap seat (same q p))
       (λ z is. seat_bytes z (fit.counted.1.named q p z h is)))
 
-  bytes_else : (p : FilePage) (x : Place) → old.place p ≡ x → p ≢ page → bytes_at new.frames new.slots x ≡ bytes_at old.frames old.slots x
+  bytes_else : (p : PageKey) (x : Place) → old.place p ≡ x → p ≢ page → bytes_at new.frames new.slots x ≡ bytes_at old.frames old.slots x
   bytes_else p Home at ne = refl
   bytes_else p (Frame m) at ne = ap (λ (w : _). Some w) (brings.frames.bytes m.0 (cache_ne m.0 (fit.places.cached p m.0 at)))
   bytes_else p (Slot k) at ne = ap (λ (w : _). Some w) (brings.slots.bytes k.0 (slot_ne p k.0 ne at) (let one = fit.places.slotted p k.0 at in omega (arith, one)))
 
   -- another file page has the bytes that it had, and this one those of the frame
-  pub held_else : (p : FilePage) → p ≢ page → held new p ≡ held old p
+  pub held_else : (p : PageKey) → p ≢ page → held new p ≡ held old p
   unfolding held
   held_else p ne = ap (λ x. bytes_at new.frames new.slots x) (brings.others p ne) ∙ bytes_else p (old.place p) refl ne
 
@@ -227,8 +228,8 @@ module _ (old new : Picture) (page : FilePage) (n : ℕ) (fit : IsFit old) (brin
   held_here = ap (λ x. bytes_at new.frames new.slots x) brings.placed
 
 -- a file page that isn't at home was touched
-module _ (old new : Picture) (page : FilePage) (fit : IsFit old) (frames : new.frames ≡ old.frames) (slots : new.slots ≡ old.slots) (away : old.place page ≢ Home) (now : new.touched page ≡ true)
-    (others : (p : FilePage) → p ≢ page → new.touched p ≡ old.touched p) (place : (p : FilePage) → new.place p ≡ old.place p) (root : (pid : ℕ) → new.root pid ≡ old.root pid)
+module _ (old new : Picture) (page : PageKey) (fit : IsFit old) (frames : new.frames ≡ old.frames) (slots : new.slots ≡ old.slots) (away : old.place page ≢ Home) (now : new.touched page ≡ true)
+    (others : (p : PageKey) → p ≢ page → new.touched p ≡ old.touched p) (place : (p : PageKey) → new.place p ≡ old.place p) (root : (pid : ℕ) → new.root pid ≡ old.root pid)
     (at : (pid k : ℕ) → new.at pid k ≡ old.at pid k) (page_of : (m : ℕ) → new.page_of m ≡ old.page_of m) (files : (f : ℕ) → new.files f ≡ old.files f)
     (same : (pid k : ℕ) → entry new pid k ≡ entry old pid k) where
   role : (m : ℕ) → role_of new.frames m ≡ role_of old.frames m
@@ -250,7 +251,7 @@ module _ (old new : Picture) (page : FilePage) (fit : IsFit old) (frames : new.f
   pages' (InFrame m) is = page_of m
   pages' (InSlot k) is = refl
 
-  touched_where : (p : FilePage) → (p ≢ page → old.touched p ≡ true) → new.touched p ≡ true
+  touched_where : (p : PageKey) → (p ≢ page → old.touched p ≡ true) → new.touched p ≡ true
   touched_where p was = elim (cases_page p page) [
     | inl e ↦ ap new.touched e ∙ now
     | inr ne ↦ others p ne ∙ was ne
@@ -266,7 +267,7 @@ module _ (old new : Picture) (page : FilePage) (fit : IsFit old) (frames : new.f
     rooted = rooted_frames old new 0 fit.rooted frames root at;
     granting = granting_same old new fit.granting (record { place = λ p m e. place p ∙ e; files = files })
         (λ pid k h own one. ap (λ t. count_of t (frame_of (entry old pid k))) frames ∙ one) at (λ pid k h. same pid k);
-    places = places_same old new fit.places place files slots (λ m e. role m ∙ e) (λ m e. sym (role m) ∙ e);
+    places = places_same old new fit.places place at files slots (λ m e. role m ∙ e) (λ m e. sym (role m) ∙ e);
     dirty = record {
       dirty = λ pid k p h valid common dirty there. (
           let e = same pid k in

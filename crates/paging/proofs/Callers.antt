@@ -4,7 +4,7 @@ use Rattle.std.proofs.lemmas.Bool.{cases_Bool}
 use Rattle.vm_types.specs.declared.number.FrameNo.{FrameNo}
 use Rattle.vm_types.specs.declared.region.Attr.{Attr}
 use Rattle.vm_types.specs.declared.region.Backing.{Backing}
-use Rattle.vm_types.specs.declared.region.Backing.TheVariants.{Anon, Private, Shared}
+use Rattle.vm_types.specs.declared.region.Backing.TheVariants.{Anon, Private, Shared, Common}
 use Rattle.sv39_walk.specs.Entry.{frame_of}
 use Rattle.page_tables.specs.Tree.{IsPage, missing_of}
 use Rattle.paging.specs.Seats.{is_private, is_swapped}
@@ -18,6 +18,7 @@ one_behind : (c : Picture) (b : Backing) (n m : ℕ) → IsBehind c b n → IsBe
 one_behind c Anon n m e f = inl e
 one_behind c (Private p) n m e f = inr (one_frame m n (sym f ∙ e))
 one_behind c (Shared p) n m e f = inr (one_frame m n (sym f ∙ e))
+one_behind c (Common p) n m e f = inr (one_frame m n (sym f ∙ e))
 
 -- a page whose shown bytes lie in the frame to keep keeps its entry
 pub shown_stays : (c : Picture) (attr : Option Attr) (b : Backing) (e n : ℕ) → IsEntryFor c attr e → ((a : Attr) → attr ≡ Some a → a.backing ≡ b)

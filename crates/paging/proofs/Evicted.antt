@@ -92,7 +92,7 @@ module _ (old new : Picture) (n m : ℕ) (fit : IsFitBut old (InFrame n) 1 m) (h
               | inr ne ↦ releases.others.counts (frame_of (entry old pid k)) ne ∙ one
             ])
             beside.at same;
-        places = places_same old new fit.places beside.place beside.files beside.slots
+        places = places_same old new fit.places beside.place beside.at beside.files beside.slots
             (λ x e. elim (cases_eq x n) [
               | inl is ↦ (let bad : Private ≡ Cache = sym held ∙ ap (role_of old.frames) (sym is) ∙ e in (cc))
               | inr ne ↦ releases.others.roles x ne ∙ e

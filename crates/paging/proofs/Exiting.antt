@@ -1,7 +1,10 @@
 -- A process goes.
-use Rattle.std.proofs.Common.{◌≡◌, ◌≢◌, ℕ, zero, suc, inl, inr, Option, Some, None, refl, sym, ap, ◌∙◌, subst}
+use Rattle.std.proofs.Common.{true, ◌≡◌, ◌≢◌, ℕ, zero, suc, inl, inr, Option, Some, None, refl, sym, ap, ◌∙◌, subst}
 use Rattle.std.specs.Prelude.{IsSome}
 use Rattle.std.proofs.lemmas.Bool.{cases_eq, false≢true}
+use Rattle.vm_types.specs.declared.object.ObjectPage.{ObjectPage}
+use Rattle.vm_types.specs.declared.object.PageKey.TheVariants.{Object}
+use Rattle.vm_types.specs.Objects.{is_named}
 use Rattle.vm_types.specs.declared.region.Attr.{Attr}
 use Rattle.frames.specs.declared.role.Role.{Role}
 use Rattle.frames.specs.declared.role.Role.TheVariants.{Free, Table, Private, Cache}
@@ -11,6 +14,7 @@ use Rattle.page_tables.specs.Tree.{Points, Way, IsEmptyTable}
 use Rattle.page_tables.proofs.Data.{DropsTree, root_released}
 use Rattle.page_tables.proofs.Ends.{way_forth}
 use Rattle.page_tables.proofs.Keeping.{empty_not_linking}
+use Rattle.page_cache.specs.declared.place.Place.TheVariants.{Home}
 use Rattle.paging.specs.Seats.{InFrame}
 use Rattle.paging.specs.Picture.{Picture, entry}
 use Rattle.paging.specs.Parts.{IsRootedBut, IsUsed, AsRoot, OnWay, IsMapped, Nothing, IsFit, nowhere}
@@ -18,7 +22,7 @@ use Rattle.paging.specs.Steps.{KeepsShares, Exits}
 use Rattle.paging.proofs.Entries.{entry-of, entry-same}
 use Rattle.paging.proofs.Granting.{entry_for-same, user_map-same, readable-same}
 use Rattle.paging.proofs.Mapping.{one_some, spare_entry, counted_there}
-use Rattle.paging.proofs.Places.{places_same, dirty_same}
+use Rattle.paging.proofs.Places.{objects-fewer, places_renamed, dirty_same}
 use Rattle.paging.proofs.Start.{entry-dead}
 
 data_kept : (old new : FrameTable) (n m : ℕ) (r : Role) → role_of old n ≡ Table → r ≢ Table → role_of old m ≡ r → m ≢ n
@@ -91,8 +95,8 @@ module _ (old new : Picture) (pid r : ℕ) (fit : IsFit old) (exits : Exits old 
         ]);
   }
 
-  pub fit_left : IsFit new
-  fit_left = record {
+  pub fit_left : ((p : ObjectPage) → old.place (Object p) ≢ Home → is_named new.at p.object p.page ≡ true) → IsFit new
+  fit_left named = record {
     counted = counted_there old new shares_dropped exits.slots exits.page_of exits.place entries_left nowhere 0 fit.counted;
     rooted = rooted_left;
     granting = record {
@@ -116,7 +120,11 @@ module _ (old new : Picture) (pid r : ℕ) (fit : IsFit old) (exits : Exits old 
         | inl is ↦ (λ page. (let none : new.at q page ≡ None = ap (λ x. new.at x page) is ∙ exits.unmapped page in rw none tt))
         | inr ne ↦ readable-same (old.at q) (new.at q) (λ page. exits.at q page ne) (fit.granting.readable q)
       ];
+      objects = objects-fewer old.at new.at (λ q page. elim (cases_eq q pid) [
+        | inl is ↦ inr (ap (λ x. new.at x page) is ∙ exits.unmapped page)
+        | inr ne ↦ inl (exits.at q page ne)
+      ]) fit.granting.objects;
     };
-    places = places_same old new fit.places exits.place exits.files exits.slots shares_dropped.cache shares_dropped.was_cache;
+    places = places_renamed old new fit.places exits.place exits.files named exits.slots shares_dropped.cache shares_dropped.was_cache;
     dirty = dirty_same old new fit.dirty exits.place exits.touched (λ q page h. entries_left q page);
   }

@@ -1,10 +1,11 @@
 -- Grants: what each step does to what entries let be done.
 use Rattle.std.proofs.Common.{◌≡◌, ◌≢◌, ℕ, inl, inr, true, Option, refl, sym, ap, ◌∙◌, subst}
 use Rattle.std.specs.Prelude.{IsSome, ◌⊎◌}
-use Rattle.vm_types.specs.declared.file.FilePage.{FilePage}
+use Rattle.vm_types.specs.declared.object.PageKey.{PageKey}
+use Rattle.vm_types.specs.declared.object.PageKey.TheVariants.{File, Object}
 use Rattle.vm_types.specs.declared.region.Attr.{Attr}
 use Rattle.vm_types.specs.declared.region.Backing.{Backing}
-use Rattle.vm_types.specs.declared.region.Backing.TheVariants.{Anon, Private, Shared}
+use Rattle.vm_types.specs.declared.region.Backing.TheVariants.{Anon, Private, Shared, Common}
 use Rattle.vm_types.specs.Files.{is_past_end_of}
 use Rattle.vm_types.specs.Rows.{IsUserMap}
 use Rattle.vm_types.specs.Verdict.{is_past_end}
@@ -13,24 +14,27 @@ use Rattle.sv39_walk.specs.Entry.{can_write, frame_of}
 use Rattle.page_tables.specs.Tree.{IsPage}
 use Rattle.page_cache.specs.declared.place.Place.TheVariants.{Frame}
 use Rattle.regions.specs.Permission.{IsReadableMap}
+use Rattle.paging.proofs.Places.{objects-same}
 use Rattle.paging.proofs.Ways.{by_page}
 use Rattle.paging.specs.Picture.{Picture, entry, is_private}
 use Rattle.paging.specs.Parts.{IsGranting, IsEntryFor, Nothing, Resident, Away, IsResident, IsBehind}
 
 -- no page leaves the frame that it lies in, and the files are the same
 pub record KeepsBehind (old new : Picture) : Type 0 where
-  pub place : (p : FilePage) (n : ℕ) → old.place p ≡ Frame (record { 0 = n }) → new.place p ≡ Frame (record { 0 = n })
+  pub place : (p : PageKey) (n : ℕ) → old.place p ≡ Frame (record { 0 = n }) → new.place p ≡ Frame (record { 0 = n })
   pub files : (f : ℕ) → new.files f ≡ old.files f
 
 pub past_end-same : (old new : Picture) (b : Backing) → ((f : ℕ) → new.files f ≡ old.files f) → is_past_end new.files b ≡ is_past_end old.files b
 past_end-same old new Anon same = refl
 past_end-same old new (Private p) same = ap (λ i. is_past_end_of i p.page) (same p.file)
 past_end-same old new (Shared p) same = ap (λ i. is_past_end_of i p.page) (same p.file)
+past_end-same old new (Common p) same = refl
 
 behind-same : (old new : Picture) (b : Backing) (n : ℕ) → KeepsBehind old new → IsBehind old b n → IsBehind new b n
 behind-same old new Anon n kept behind = behind
-behind-same old new (Private p) n kept behind = kept.place p n behind
-behind-same old new (Shared p) n kept behind = kept.place p n behind
+behind-same old new (Private p) n kept behind = kept.place (File p) n behind
+behind-same old new (Shared p) n kept behind = kept.place (File p) n behind
+behind-same old new (Common p) n kept behind = kept.place (Object p) n behind
 
 resident-same : (old new : Picture) (a : Attr) (e : ℕ) → KeepsBehind old new
     → (is_private e ≡ true → can_write e ≡ true → count_of old.frames (frame_of e) ≡ 1 → count_of new.frames (frame_of e) ≡ 1) → IsResident old a e → IsResident new a e
@@ -77,6 +81,7 @@ granting_kept old new granting kept count at same = record {
       rw (at pid page, same pid page h) here);
   user = λ pid. user_map-same (old.at pid) (new.at pid) (at pid) (granting.user pid);
   readable = λ pid. readable-same (old.at pid) (new.at pid) (at pid) (granting.readable pid);
+  objects = objects-same old.at new.at at granting.objects;
 }
 
 -- all entries and regions are as they were
@@ -90,6 +95,7 @@ granting_same old new granting kept count at same = record {
       rw (at pid page, same pid page h) here);
   user = λ pid. user_map-same (old.at pid) (new.at pid) (at pid) (granting.user pid);
   readable = λ pid. readable-same (old.at pid) (new.at pid) (at pid) (granting.readable pid);
+  objects = objects-same old.at new.at at granting.objects;
 }
 
 -- the entry of one page changed
@@ -110,4 +116,5 @@ granting_changed old new pid page granting kept count at same here = record {
   ];
   user = λ q. user_map-same (old.at q) (new.at q) (at q) (granting.user q);
   readable = λ q. readable-same (old.at q) (new.at q) (at q) (granting.readable q);
+  objects = objects-same old.at new.at at granting.objects;
 }

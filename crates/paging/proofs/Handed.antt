@@ -2,7 +2,7 @@
 use Rattle.std.proofs.Common.{◌≡◌, ◌≢◌, ℕ, inl, inr, ◌⊎◌, ◌<◌, true, [], Option, Some, None, get_or, refl, sym, ap, ◌∙◌, arith}
 use Rattle.std.specs.Prelude.{option_map}
 use Rattle.std.proofs.lemmas.Bool.{cases_eq}
-use Rattle.vm_types.specs.declared.file.FilePage.{FilePage}
+use Rattle.vm_types.specs.declared.object.PageKey.{PageKey}
 use Rattle.frames.specs.declared.role.Role.TheVariants.{Free, Table, Private, Cache}
 use Rattle.frames.specs.FrameTable.{role_of, count_of, Releases}
 use Rattle.page_tables.specs.Tree.{IsPage}
@@ -50,7 +50,7 @@ module _ (old new : Picture) (n k : ℕ) (fit : IsFitBut old (InFrame n) 1 0) (o
   bytes_there (Frame m) ne = ap (λ (w : _). Some w) (releases.others.bytes m.0 (ne m.0 refl))
   bytes_there (Slot j) ne = ap (λ t. Some (t.bytes j.0)) beside.slots
 
-  held_same : (p : FilePage) → held new p ≡ held old p
+  held_same : (p : PageKey) → held new p ≡ held old p
   unfolding held
   held_same p = ap (λ x. bytes_at new.frames new.slots x) (beside.place p)
       ∙ bytes_there (old.place p) (λ m is e. (let bad : Private ≡ Cache = sym own ∙ sym (ap (role_of old.frames) e) ∙ fit.places.cached p m is in (cc)))

@@ -1,7 +1,7 @@
 -- An own copy handed over to a slot.
 use Rattle.std.proofs.Common.{◌≡◌, ◌≢◌, ℕ, inl, inr, ◌⊎◌, ◌+◌, ◌*◌, ◌/◌, ◌%◌, ◌^◌, ◌<◌, true, false, [], Option, Some, None, get_or, refl, sym, ap, ◌∙◌, subst, arith, ne_eqb}
 use Rattle.std.proofs.lemmas.Bool.{cases_eq, cases_Bool, false≢true}
-use Rattle.vm_types.specs.declared.file.FilePage.{FilePage}
+use Rattle.vm_types.specs.declared.object.PageKey.{PageKey}
 use Rattle.page_cache.specs.declared.place.Place.{Place}
 use Rattle.page_cache.specs.declared.place.Place.TheVariants.{Home, Frame, Slot}
 use Rattle.vm_types.specs.declared.region.Attr.{Attr}
@@ -144,7 +144,7 @@ module _ (old mid new : Picture) (k pid r page n number : ℕ) (share : HasShare
   bytes_there (Frame m) used = ap (λ (w : _). Some w) (sets.kept.bytes m.0 (used m.0 refl))
   bytes_there (Slot j) used = ap (λ t. Some (t.bytes j.0)) beside.slots
 
-  held_mid : (p : FilePage) → held mid p ≡ held old p
+  held_mid : (p : PageKey) → held mid p ≡ held old p
   unfolding held
   held_mid p = ap (λ x. bytes_at mid.frames mid.slots x) (beside.place p)
       ∙ bytes_there (old.place p) (λ m is table. (let bad : Cache ≡ Table = sym (share.fit.places.cached p m is) ∙ table in (cc)))

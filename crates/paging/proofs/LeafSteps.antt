@@ -3,12 +3,13 @@ use Rattle.std.proofs.Common.{◌≡◌, ◌≢◌, ℕ, inl, inr, ◌⊎◌, �
 use Rattle.std.specs.Prelude.{IsSome, IfNone, is_some}
 use Rattle.std.proofs.lemmas.Bool.{cases_eq, cases_Bool, false≢true}
 use Rattle.std.proofs.lemmas.Option.{same_Some}
-use Rattle.vm_types.specs.declared.file.FilePage.{FilePage}
+use Rattle.vm_types.specs.declared.object.PageKey.{PageKey}
 use Rattle.vm_types.specs.declared.number.FrameNo.{FrameNo}
 use Rattle.vm_types.specs.declared.region.Attr.{Attr}
 use Rattle.vm_types.specs.declared.region.Backing.{Backing}
 use Rattle.vm_types.specs.declared.region.Backing.TheVariants as Backings
-use Rattle.vm_types.specs.Attributes.{file_page_after, backing_after, attr_after, backed_by}
+use Rattle.vm_types.specs.declared.object.PageKey.TheVariants.{File, Object}
+use Rattle.vm_types.specs.Attributes.{backing_after, attr_after, stands_on}
 use Rattle.frames.specs.declared.role.Role.TheVariants.{Free, Table, Private, Cache}
 use Rattle.frames.specs.FrameTable.{FrameTable, role_of}
 use Rattle.sv39_walk.specs.Entry.{is_valid, is_dirty, is_pointer, frame_of, entry_at}
@@ -29,7 +30,7 @@ use Rattle.paging.specs.Parts.{IsEntryFor, IsResident, IsBehind, IsFit, nowhere}
 use Rattle.paging.specs.Steps.{SameBeside, SetsPage}
 use Rattle.paging.specs.declared.leaves.Held.{Held}
 use Rattle.paging.specs.declared.leaves.Held.TheVariants.{Own, Filed}
-use Rattle.paging.specs.Leaves.{concerns, IsOver, IsChanged, ChangesLeaves, Holds, KeepsAllButFrames, IsPageOver, IsRunOf}
+use Rattle.paging.specs.Leaves.{concerns, IsOver, IsChanged, ChangesLeaves, Holds, KeepsAllButFrames, IsPageOver, IsRunOf, key_after}
 use Rattle.paging.proofs.Bits.{some_framed, resident_of, changed_once, seat_changed, for_changed, valid_zero, leaf_accessed}
 use Rattle.paging.proofs.Entries.{entry-of}
 use Rattle.paging.proofs.Granting.{entry_for-same, granting_changed}
@@ -73,23 +74,25 @@ module _ (c : Picture) (change : Change) (n pid k : ℕ) (fit : IsFit c) (h : Is
     | inr common ↦ common
   ]
 
-  behind_one : (b : Backing) (p : FilePage) → 0 < n → c.place p ≡ Frame (record { 0 = n }) → IsBehind c b n → backed_by b ≡ Some p
+  behind_one : (b : Backing) (p : PageKey) → 0 < n → c.place p ≡ Frame (record { 0 = n }) → IsBehind c b n → stands_on b ≡ Some p
   behind_one Backings.Anon p above at zero = absurd (omega (arith, above, zero))
-  behind_one (Backings.Private q) p above at is = ap (λ (x : FilePage). Some x) (fit.places.apart q p (is ∙ sym at) (λ home. (let bad : Home ≡ Frame (record { 0 = n }) = sym home ∙ is in (cc))))
-  behind_one (Backings.Shared q) p above at is = ap (λ (x : FilePage). Some x) (fit.places.apart q p (is ∙ sym at) (λ home. (let bad : Home ≡ Frame (record { 0 = n }) = sym home ∙ is in (cc))))
+  behind_one (Backings.Private q) p above at is = ap (λ (x : PageKey). Some x) (fit.places.apart (File q) p (is ∙ sym at) (λ home. (let bad : Home ≡ Frame (record { 0 = n }) = sym home ∙ is in (cc))))
+  behind_one (Backings.Shared q) p above at is = ap (λ (x : PageKey). Some x) (fit.places.apart (File q) p (is ∙ sym at) (λ home. (let bad : Home ≡ Frame (record { 0 = n }) = sym home ∙ is in (cc))))
+  behind_one (Backings.Common q) p above at is = ap (λ (x : PageKey). Some x) (fit.places.apart (Object q) p (is ∙ sym at) (λ home. (let bad : Home ≡ Frame (record { 0 = n }) = sym home ∙ is in (cc))))
 
-  pub over_backed : (p : FilePage) (a : Attr) → 0 < n → c.place p ≡ Frame (record { 0 = n }) → c.at pid k ≡ Some a → backed_by a.backing ≡ Some p
+  pub over_backed : (p : PageKey) (a : Attr) → 0 < n → c.place p ≡ Frame (record { 0 = n }) → c.at pid k ≡ Some a → stands_on a.backing ≡ Some p
   over_backed p a above at is =
       let res = over_resident in
       let behind = res.2.behind (over_common (fit.places.cached p n at)) in
       let P : ℕ → Type 0 = λ x. IsBehind c res.0.backing x in
       let there = behind_one res.0.backing p above at (subst P over.frame behind) in
-      ap (λ (x : Attr). backed_by x.backing) (same_Some a res.0 (sym is ∙ res.1)) ∙ there
+      ap (λ (x : Attr). stands_on x.backing) (same_Some a res.0 (sym is ∙ res.1)) ∙ there
 
   no_private : (b : Backing) → 0 < n → role_of c.frames n ≡ Private → IsBehind c b n → ⊥
   no_private Backings.Anon above role zero = omega (arith, above, zero)
-  no_private (Backings.Private q) above role is = let bad : Private ≡ Cache = sym role ∙ fit.places.cached q n is in (cc)
-  no_private (Backings.Shared q) above role is = let bad : Private ≡ Cache = sym role ∙ fit.places.cached q n is in (cc)
+  no_private (Backings.Private q) above role is = let bad : Private ≡ Cache = sym role ∙ fit.places.cached (File q) n is in (cc)
+  no_private (Backings.Shared q) above role is = let bad : Private ≡ Cache = sym role ∙ fit.places.cached (File q) n is in (cc)
+  no_private (Backings.Common q) above role is = let bad : Private ≡ Cache = sym role ∙ fit.places.cached (Object q) n is in (cc)
 
   pub over_own : 0 < n → role_of c.frames n ≡ Private → c.page_of n ≡ k
   over_own above role = elim (cases_Bool (is_private (entry c pid k))) [
@@ -134,27 +137,52 @@ if_none None P is none = is
 if_none (Some x) P is none = absurd (false≢true (sym none))
 
 -- runs
-number_after : (b : Backing) (n : ℕ) (p : FilePage) → backed_by (backing_after b n) ≡ Some p → (q : FilePage) × (backed_by b ≡ Some q) × (q.page + n ≡ p.page)
-number_after Backings.Anon n p is = cc
-number_after (Backings.Private q) n p is = (q, refl, ap (λ (x : FilePage). x.page) (same_Some (file_page_after q n) p is))
-number_after (Backings.Shared q) n p is = (q, refl, ap (λ (x : FilePage). x.page) (same_Some (file_page_after q n) p is))
+pub stands_after : (b : Backing) (n : ℕ) (p : PageKey) → stands_on b ≡ Some p → stands_on (backing_after b n) ≡ Some (key_after p n)
+stands_after Backings.Anon n p is = (cc)
+stands_after (Backings.Private q) n p is = ap (λ (x : PageKey). Some (key_after x n)) (same_Some (File q) p is)
+stands_after (Backings.Shared q) n p is = ap (λ (x : PageKey). Some (key_after x n)) (same_Some (File q) p is)
+stands_after (Backings.Common q) n p is = ap (λ (x : PageKey). Some (key_after x n)) (same_Some (Object q) p is)
 
-pub one_over : (run : Run) (p : FilePage) (j k : ℕ) → IsPageOver run p j → IsPageOver run p k → j ≡ k
+number_after : (b : Backing) (n : ℕ) (p : PageKey) → stands_on (backing_after b n) ≡ Some p → (q : PageKey) × (stands_on b ≡ Some q) × (key_after q n ≡ p)
+number_after Backings.Anon n p is = cc
+number_after (Backings.Private q) n p is = (File q, refl, same_Some (key_after (File q) n) p is)
+number_after (Backings.Shared q) n p is = (File q, refl, same_Some (key_after (File q) n) p is)
+number_after (Backings.Common q) n p is = (Object q, refl, same_Some (key_after (Object q) n) p is)
+
+offset_of : PageKey → ℕ
+offset_of (File p) = p.page
+offset_of (Object p) = p.page
+
+offset_after : (p : PageKey) (n : ℕ) → offset_of (key_after p n) ≡ offset_of p + n
+unfolding offset_of
+offset_after (File p) n = refl
+offset_after (Object p) n = refl
+
+pub one_over : (run : Run) (p : PageKey) (j k : ℕ) → IsPageOver run p j → IsPageOver run p k → j ≡ k
 one_over run p j k a b =
     let x = number_after run.attr.backing (j - run.first) p a.is in
     let y = number_after run.attr.backing (k - run.first) p b.is in
     let same : x.0 ≡ y.0 = same_Some x.0 y.0 (sym x.1 ∙ y.1) in
-    let first : x.0.page ≡ y.0.page = ap (λ (q : FilePage). q.page) same in
-    omega (arith, first, x.2, y.2, a.from, b.from)
+    let first : offset_of x.0 ≡ offset_of y.0 = ap offset_of same in
+    let one : offset_of x.0 + (j - run.first) ≡ offset_of p = sym (offset_after x.0 (j - run.first)) ∙ ap offset_of x.2 in
+    let other : offset_of y.0 + (k - run.first) ≡ offset_of p = sym (offset_after y.0 (k - run.first)) ∙ ap offset_of y.2 in
+    omega (arith, first, one, other, a.from, b.from)
 
--- of anonymous memory no page stands on a file page
-pub not_backed : (run : Run) (p : FilePage) (k : ℕ) → backed_by run.attr.backing ≡ None → IsPageOver run p k → ⊥
+-- of anonymous memory that isn't shared no page stands on a page of a file or an object
+pub not_backed : (run : Run) (p : PageKey) (k : ℕ) → stands_on run.attr.backing ≡ None → IsPageOver run p k → ⊥
 not_backed run p k none over =
     let x = number_after run.attr.backing (k - run.first) p over.is in
     let bad : None ≡ Some x.0 = sym none ∙ x.1 in (cc)
 
--- an entry over the frame of a file page, within a run, is over the run's page for it
-pub over_in_run : (c : Picture) (change : Change) (n pid k : ℕ) (run : Run) (p : FilePage) → IsFit c → 0 < n → c.place p ≡ Frame (record { 0 = n }) → IsRunOf c pid run → run.first ≤ k → k < run.end
+-- how much further on the run's page over that page stands than the first
+pub over_after : (run : Run) (first p : PageKey) (k : ℕ) → stands_on run.attr.backing ≡ Some first → IsPageOver run p k → key_after first (k - run.first) ≡ p
+over_after run first p k is over = let x = number_after run.attr.backing (k - run.first) p over.is in ap (λ (q : PageKey). key_after q (k - run.first)) (same_Some first x.0 (sym is ∙ x.1)) ∙ x.2
+
+pub one_after : (p : PageKey) (n m : ℕ) → key_after p n ≡ key_after p m → n ≡ m
+one_after p n m e = let same : offset_of p + n ≡ offset_of p + m = sym (offset_after p n) ∙ ap offset_of e ∙ offset_after p m in omega (arith, same)
+
+-- an entry over the frame of a page of a file or an object, within a run, is over the run's page for it
+pub over_in_run : (c : Picture) (change : Change) (n pid k : ℕ) (run : Run) (p : PageKey) → IsFit c → 0 < n → c.place p ≡ Frame (record { 0 = n }) → IsRunOf c pid run → run.first ≤ k → k < run.end
     → IsOver c change n pid k → IsPageOver run p k
 over_in_run c change n pid k run p fit above at of low high over = record {
   from = low;
@@ -202,7 +230,7 @@ module _ (old new : Picture) (change : Change) (n pid r page number : ℕ) (fit 
     | inr other ↦ ap seat (one_page.others q p h' other)
   ]
 
-  dirty_here : (ch : Change) → ch ≡ change → (p : FilePage) → IsChanged ch (entry old pid page) number → concerns ch (entry old pid page) ≡ true
+  dirty_here : (ch : Change) → ch ≡ change → (p : PageKey) → IsChanged ch (entry old pid page) number → concerns ch (entry old pid page) ≡ true
       → is_valid number ≡ true → is_private number ≡ false → is_dirty number ≡ true → old.place p ≡ Frame (record { 0 = frame_of number }) → old.touched p ≡ true
   dirty_here Forget is p none con valid common dirty at = absurd (false≢true (sym valid_zero ∙ sym (ap is_valid none) ∙ valid))
   dirty_here ClearAccessed is p ch con valid common dirty at =
@@ -225,7 +253,7 @@ module _ (old new : Picture) (change : Change) (n pid r page number : ℕ) (fit 
         subst P (sym one_page.changed) (entry_for-same old new (old.at pid page) number (behind_kept old new beside)
         (λ private write one. ap (λ cs. get_or cs (frame_of number) 0) sets.kept.counts ∙ one)
         (for_changed old change (old.at pid page) (entry old pid page) number over.concerned changed (fit.granting.entries pid page h))));
-    places = places_same old new fit.places beside.place beside.files beside.slots one_page.shares.cache one_page.shares.was_cache;
+    places = places_same old new fit.places beside.place beside.at beside.files beside.slots one_page.shares.cache one_page.shares.was_cache;
     dirty = dirty_changed old new pid page fit.dirty beside.place beside.touched one_page.others
         (λ p valid common dirty at. dirty_here change refl p changed over.concerned (sym (ap is_valid one_page.changed) ∙ valid) (sym (ap is_private one_page.changed) ∙ common)
         (sym (ap is_dirty one_page.changed) ∙ dirty) (at ∙ ap (λ x. Frame (record { 0 = frame_of x })) one_page.changed));

@@ -1,10 +1,11 @@
 -- A page of a file leaves its frame, for home or for a slot.
 use Rattle.std.proofs.Common.{◌≡◌, ◌≢◌, ℕ, inl, inr, ◌⊎◌, ◌<◌, true, false, Option, Some, None, refl, sym, ap, ◌∙◌, subst, arith, ne_eqb}
 use Rattle.std.proofs.lemmas.Bool.{cases_eq, cases_Bool, false≢true}
-use Rattle.vm_types.specs.declared.file.FilePage.{FilePage}
+use Rattle.vm_types.specs.declared.object.PageKey.{PageKey}
+use Rattle.vm_types.specs.declared.object.PageKey.TheVariants.{File, Object}
 use Rattle.vm_types.specs.declared.region.Attr.{Attr}
 use Rattle.vm_types.specs.declared.region.Backing.{Backing}
-use Rattle.vm_types.specs.declared.region.Backing.TheVariants.{Anon, Private as PrivateOf, Shared as SharedOf}
+use Rattle.vm_types.specs.declared.region.Backing.TheVariants.{Anon, Private as PrivateOf, Shared as SharedOf, Common as CommonOf}
 use Rattle.frames.specs.declared.role.Role.TheVariants.{Free, Table, Private, Cache}
 use Rattle.frames.specs.FrameTable.{role_of, SameButFor}
 use Rattle.swap.specs.Slots.{SlotTable}
@@ -23,28 +24,27 @@ use Rattle.paging.specs.Evictions.{Spares}
 use Rattle.paging.proofs.LeafSteps.{cases_attr}
 use Rattle.paging.proofs.Moves.{view_kept, view-none}
 use Rattle.paging.specs.Picture.{Picture, entry, held, bytes_at, is_data, own_in, bytes_in, IsOwned, count_in, page_in}
-use Rattle.paging.specs.Parts.{IsRootedBut, IsGranting, IsEntryFor, Nothing, Resident, Away, IsResident, IsBehind, IsFitBut, IsFit, nowhere, HasPlaces, IsDirtySound}
+use Rattle.paging.specs.Parts.{IsRootedBut, IsGranting, IsEntryFor, Nothing, Resident, Away, IsResident, IsBehind, IsPageFor, IsFitBut, IsFit, nowhere, HasPlaces, IsDirtySound}
 use Rattle.paging.proofs.Entries.{entries_kept}
 use Rattle.paging.proofs.Seats.{counted_left, counted_same}
 use Rattle.paging.proofs.Granting.{past_end-same, user_map-same, readable-same}
-use Rattle.paging.proofs.Places.{cases_page, one_frame}
+use Rattle.paging.proofs.Places.{cases_page, one_frame, objects-same, page_for-same}
 use Rattle.paging.proofs.Rooted.{rooted_same}
 use Rattle.paging.proofs.Evicted.{seat_number as seat_below}
-use Rattle.file_store.specs.Standing.{IsPageOf}
 
 -- the file page left frame v, which is free now; every other file page is where it was
-pub record Leaves (old new : Picture) (page : FilePage) (v : ℕ) (at : Place) : Type 0 where
+pub record Leaves (old new : Picture) (page : PageKey) (v : ℕ) (at : Place) : Type 0 where
   pub was : old.place page ≡ Frame (record { 0 = v })
   pub above : v ≢ 0
   pub placed : new.place page ≡ at
-  pub others : (p : FilePage) → p ≢ page → new.place p ≡ old.place p
+  pub others : (p : PageKey) → p ≢ page → new.place p ≡ old.place p
   pub frames : SameButFor v old.frames new.frames
   pub free : role_of new.frames v ≡ Free
   pub slots : new.slots ≡ old.slots
   pub root : (pid : ℕ) → new.root pid ≡ old.root pid
   pub at_same : (pid k : ℕ) → new.at pid k ≡ old.at pid k
   pub page_of : (m : ℕ) → new.page_of m ≡ old.page_of m
-  pub touched : (p : FilePage) → new.touched p ≡ old.touched p
+  pub touched : (p : PageKey) → new.touched p ≡ old.touched p
   pub files : (f : ℕ) → new.files f ≡ old.files f
 
 -- no entry is over a frame that was forgotten
@@ -53,11 +53,11 @@ unnamed_of c v clear pid k h some common resident frame =
     clear pid k h (record { concerned = rw (ne_eqb (entry c pid k) 0 some, resident) refl; frame = frame })
 
 -- where it may go: home untouched, or touched into a slot that has one share and no holder
-pub data GoesTo (c : Picture) (page : FilePage) : Place → Seat → ℕ → Type 0 where
+pub data GoesTo (c : Picture) (page : PageKey) : Place → Seat → ℕ → Type 0 where
   ToHome : c.touched page ≡ false → GoesTo c page Home nowhere 0
   ToSlot : (k : ℕ) → c.touched page ≡ true → IsOwned c (InSlot k) → c.slots.count k ≡ 1 → GoesTo c page (Slot (record { 0 = k })) (InSlot k) 1
 
-module _ (old new : Picture) (page : FilePage) (v : ℕ) (at : Place) (x : Seat) (d : ℕ) (fit : IsFitBut old x d 0) (leaves : Leaves old new page v at)
+module _ (old new : Picture) (page : PageKey) (v : ℕ) (at : Place) (x : Seat) (d : ℕ) (fit : IsFitBut old x d 0) (leaves : Leaves old new page v at)
     (unnamed : (pid k : ℕ) → IsPage 2 k → entry old pid k ≢ 0 → is_private (entry old pid k) ≡ false → is_swapped (entry old pid k) ≡ false → frame_of (entry old pid k) ≢ v) where
   cache : role_of old.frames v ≡ Cache
   cache = fit.places.cached page v leaves.was
@@ -80,8 +80,9 @@ module _ (old new : Picture) (page : FilePage) (v : ℕ) (at : Place) (x : Seat)
 
   behind_left : (b : Backing) (n : ℕ) → n ≢ v → IsBehind old b n → IsBehind new b n
   behind_left Anon n ne is = is
-  behind_left (PrivateOf p) n ne is = leaves.others p (λ e. ne (one_frame v n (sym leaves.was ∙ ap old.place (sym e) ∙ is))) ∙ is
-  behind_left (SharedOf p) n ne is = leaves.others p (λ e. ne (one_frame v n (sym leaves.was ∙ ap old.place (sym e) ∙ is))) ∙ is
+  behind_left (PrivateOf p) n ne is = leaves.others (File p) (λ e. ne (one_frame v n (sym leaves.was ∙ ap old.place (sym e) ∙ is))) ∙ is
+  behind_left (SharedOf p) n ne is = leaves.others (File p) (λ e. ne (one_frame v n (sym leaves.was ∙ ap old.place (sym e) ∙ is))) ∙ is
+  behind_left (CommonOf p) n ne is = leaves.others (Object p) (λ e. ne (one_frame v n (sym leaves.was ∙ ap old.place (sym e) ∙ is))) ∙ is
 
   not_swapped : (e : ℕ) → (is_valid e ≡ false → has_bit e 1 ≡ false) → is_swapped e ≡ false
   not_swapped e framed = elim (cases_Bool (is_valid e)) [
@@ -124,6 +125,7 @@ module _ (old new : Picture) (page : FilePage) (v : ℕ) (at : Place) (x : Seat)
     entries = λ pid k h. (let e = entry_left pid k (old.at pid k) h (fit.granting.entries pid k h) in rw (leaves.at_same pid k, same pid k h) e);
     user = λ pid. user_map-same (old.at pid) (new.at pid) (leaves.at_same pid) (fit.granting.user pid);
     readable = λ pid. readable-same (old.at pid) (new.at pid) (leaves.at_same pid) (fit.granting.readable pid);
+    objects = objects-same old.at new.at leaves.at_same fit.granting.objects;
   }
 
   roles : (n : ℕ) → n ≢ v → role_of new.frames n ≡ role_of old.frames n
@@ -132,7 +134,7 @@ module _ (old new : Picture) (page : FilePage) (v : ℕ) (at : Place) (x : Seat)
   cache_ne : (n : ℕ) → role_of new.frames n ≡ Cache → n ≢ v
   cache_ne n is e = let bad : Cache ≡ Free = sym is ∙ ap (role_of new.frames) e ∙ leaves.free in (cc)
 
-  frame_other : (p : FilePage) (n : ℕ) → p ≢ page → old.place p ≡ Frame (record { 0 = n }) → n ≢ v
+  frame_other : (p : PageKey) (n : ℕ) → p ≢ page → old.place p ≡ Frame (record { 0 = n }) → n ≢ v
   frame_other p n ne is e = ne (fit.places.apart p page (is ∙ ap (λ i. Frame (record { 0 = i })) e ∙ sym leaves.was) (λ home. (let bad : Home ≡ Frame (record { 0 = n }) = sym home ∙ is in (cc))))
 
   rooted_left : IsRootedBut new 0
@@ -159,7 +161,7 @@ module _ (old new : Picture) (page : FilePage) (v : ℕ) (at : Place) (x : Seat)
   owned_frame : (n : ℕ) → role_of new.frames n ≡ Private → role_of old.frames n ≡ Private
   owned_frame n is = sym (roles n (λ e. free_private (ap (role_of new.frames) (sym e) ∙ is))) ∙ is
 
-  no_slot : (p : FilePage) (j : ℕ) → p ≢ page → new.place p ≡ Slot (record { 0 = j }) → old.place p ≡ Slot (record { 0 = j })
+  no_slot : (p : PageKey) (j : ℕ) → p ≢ page → new.place p ≡ Slot (record { 0 = j }) → old.place p ≡ Slot (record { 0 = j })
   no_slot p j ne is = sym (leaves.others p ne) ∙ is
 
   some_old : (j : ℕ) → 0 < new.slots.count j → 0 < old.slots.count j
@@ -168,13 +170,10 @@ module _ (old new : Picture) (page : FilePage) (v : ℕ) (at : Place) (x : Seat)
   some_new : (j : ℕ) → 0 < old.slots.count j → 0 < new.slots.count j
   some_new j some = let P : SlotTable → Type 0 = λ t. 0 < t.count j in subst P (sym leaves.slots) some
 
-  page_in_file : (p : FilePage) → p ≡ page → IsPageOf old.files page.file page.page → IsPageOf new.files p.file p.page
-  page_in_file p e i = let P : FilePage → Type 0 = λ q. IsPageOf new.files q.file q.page in subst P (sym e) (i.0, leaves.files page.file ∙ i.1, i.2)
-
   -- places, by what is known of the new one
   places_left : (at ≢ Frame (record { 0 = v })) → ((j : ℕ) → at ≡ Slot (record { 0 = j }) → (old.slots.count j ≡ 1) × IsOwned old (InSlot j))
       → ((j : ℕ) → 0 < old.slots.count j → IsOwned old (InSlot j) → (at ≡ Slot (record { 0 = j })) ⊎ (at ≢ Slot (record { 0 = j })))
-      → ((n : ℕ) → at ≢ Frame (record { 0 = n })) → ((q : FilePage) → q ≢ page → at ≡ old.place q → at ≢ Home → ⊥) → HasPlaces new
+      → ((n : ℕ) → at ≢ Frame (record { 0 = n })) → ((q : PageKey) → q ≢ page → at ≡ old.place q → at ≢ Home → ⊥) → HasPlaces new
   places_left away slot decide no_frame clash = record {
     cached = λ p n is. elim (cases_page p page) [
       | inl e ↦ absurd (no_frame n (sym leaves.placed ∙ ap new.place (sym e) ∙ is))
@@ -212,8 +211,9 @@ module _ (old new : Picture) (page : FilePage) (v : ℕ) (at : Place) (x : Seat)
       | inr file ↦ inr (file.0, leaves.others file.0 (λ e. (let bad : Frame (record { 0 = v }) ≡ Slot (record { 0 = j }) = sym leaves.was ∙ ap old.place (sym e) ∙ file.1 in (cc))) ∙ file.1)
     ];
     inside = λ p nh. elim (cases_page p page) [
-      | inl e ↦ (let i = fit.places.inside page (λ home. (let bad : Home ≡ Frame (record { 0 = v }) = sym home ∙ leaves.was in (cc))) in page_in_file p e i)
-      | inr ne ↦ (let i = fit.places.inside p (λ home. nh (leaves.others p ne ∙ home)) in (i.0, leaves.files p.file ∙ i.1, i.2))
+      | inl e ↦ (let i = fit.places.inside page (λ home. (let bad : Home ≡ Frame (record { 0 = v }) = sym home ∙ leaves.was in (cc))) in
+          let P : PageKey → Type 0 = λ q. IsPageFor new q in subst P (sym e) (page_for-same old new page leaves.at_same leaves.files i))
+      | inr ne ↦ page_for-same old new p leaves.at_same leaves.files (fit.places.inside p (λ home. nh (leaves.others p ne ∙ home)))
     ];
   }
 
@@ -236,7 +236,7 @@ module _ (old new : Picture) (page : FilePage) (v : ℕ) (at : Place) (x : Seat)
     ];
   }
 
-  back_left : (j : ℕ) → ((p : FilePage) → new.place p ≢ Slot (record { 0 = j })) → 0 < new.slots.count j → IsOwned old (InSlot j)
+  back_left : (j : ℕ) → ((p : PageKey) → new.place p ≢ Slot (record { 0 = j })) → 0 < new.slots.count j → IsOwned old (InSlot j)
   back_left j none some = (
     some_old j some,
     λ p e. elim (cases_page p page) [
@@ -270,11 +270,20 @@ module _ (old new : Picture) (page : FilePage) (v : ℕ) (at : Place) (x : Seat)
   bytes_left (Frame n) ne = ap (λ (w : _). Some w) (leaves.frames.bytes n.0 (λ e. ne (ap (λ i. Frame (record { 0 = i })) e)))
   bytes_left (Slot j) ne = ap (λ t. Some (t.bytes j.0)) leaves.slots
 
-  held_other : (p : FilePage) → p ≢ page → held new p ≡ held old p
+  held_other : (p : PageKey) → p ≢ page → held new p ≡ held old p
   unfolding held
   held_other p ne =
       ap (λ x. bytes_at new.frames new.slots x) (leaves.others p ne)
       ∙ bytes_left (old.place p) (λ there. ne (fit.places.apart p page (there ∙ sym leaves.was) (λ home. (let bad : Home ≡ Frame (record { 0 = v }) = sym home ∙ there in (cc)))))
+
+  pub same_left : (pid k : ℕ) → IsPage 2 k → entry new pid k ≡ entry old pid k
+  same_left = same
+
+  pub trees_left : KeepsTrees old.frames new.frames 2
+  trees_left = trees
+
+  pub held_left : (p : PageKey) → p ≢ page → held new p ≡ held old p
+  held_left = held_other
 
   -- nobody sees it, where its bytes are kept or it was untouched
   pub left_spares : (k : ℕ) → (held new page ≡ held old page) ⊎ ((held new page ≡ None) × (old.touched page ≡ false)) → Spares v k old new
@@ -291,7 +300,7 @@ module _ (old new : Picture) (page : FilePage) (v : ℕ) (at : Place) (x : Seat)
       ];
       files = record {
         held = λ p. elim (cases_page p page) [
-          | inl e ↦ (let P : FilePage → Type 0 = λ q. (held new q ≡ held old q) ⊎ ((held new q ≡ None) × (old.touched q ≡ false)) in subst P (sym e) bytes)
+          | inl e ↦ (let P : PageKey → Type 0 = λ q. (held new q ≡ held old q) ⊎ ((held new q ≡ None) × (old.touched q ≡ false)) in subst P (sym e) bytes)
           | inr ne ↦ inl (held_other p ne)
         ];
         touched = leaves.touched;
@@ -321,7 +330,7 @@ one_slot : (j k : ℕ) → Slot (record { 0 = j }) ≡ Slot (record { 0 = k }) �
 unfolding slot_number
 one_slot j k e = ap slot_number e
 
-module _ (old new : Picture) (page : FilePage) (v : ℕ) where
+module _ (old new : Picture) (page : PageKey) (v : ℕ) where
   abbrev Unnamed : Type 0
   Unnamed = (pid k : ℕ) → IsPage 2 k → entry old pid k ≢ 0 → is_private (entry old pid k) ≡ false → is_swapped (entry old pid k) ≡ false → frame_of (entry old pid k) ≢ v
 

@@ -38,3 +38,6 @@ pub mod Mapping
 pub mod Exiting
 pub mod Aging
 pub mod Giving
+pub mod Homing
+pub mod Cleaning
+pub mod Forgotten

@@ -63,7 +63,7 @@ fit_same old new x d m m' fit beside shares same rooted = record {
   rooted = rooted;
   granting = granting_same old new fit.granting (behind_kept old new beside)
       (λ pid page h private one. shares.counts (frame_of (entry old pid page)) (fit.counted.1.named pid page (InFrame (frame_of (entry old pid page))) h (rw private refl)) ∙ one) beside.at same;
-  places = places_same old new fit.places beside.place beside.files beside.slots shares.cache shares.was_cache;
+  places = places_same old new fit.places beside.place beside.at beside.files beside.slots shares.cache shares.was_cache;
   dirty = dirty_same old new fit.dirty beside.place beside.touched same;
 }
 

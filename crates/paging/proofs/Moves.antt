@@ -83,7 +83,7 @@ module _ (old new : Picture) (x y : Seat) (m pid page number : ℕ) (fit : IsFit
     granting = granting_changed old new pid page fit.granting (behind_kept old new sets.beside)
         (λ q p h' private one. sets.shares.counts (frame_of (entry old q p)) (fit.counted.1.named q p (InFrame (frame_of (entry old q p))) h' (rw private refl)) ∙ one)
         sets.beside.at sets.others (let P : ℕ → Type 0 = λ e. IsEntryFor new (old.at pid page) e in subst P (sym sets.changed) for);
-    places = places_same old new fit.places sets.beside.place sets.beside.files sets.beside.slots sets.shares.cache sets.shares.was_cache;
+    places = places_same old new fit.places sets.beside.place sets.beside.at sets.beside.files sets.beside.slots sets.shares.cache sets.shares.was_cache;
     dirty = dirty_changed old new pid page fit.dirty sets.beside.place sets.beside.touched sets.others
         (λ p valid common bit here. absurd (parked (sym (ap is_valid sets.changed) ∙ valid) (sym (ap is_private sets.changed) ∙ common)));
   }

@@ -1,7 +1,7 @@
 -- A slot was taken: nothing names it yet.
 use Rattle.std.proofs.Common.{◌≡◌, ◌≢◌, ℕ, inl, inr, ◌==◌, if◌then◌else◌, List, refl, sym, ap, ◌∙◌, arith, eq-eqb, ne_eqb}
 use Rattle.std.proofs.lemmas.Bool.{cases_eq}
-use Rattle.vm_types.specs.declared.file.FilePage.{FilePage}
+use Rattle.vm_types.specs.declared.object.PageKey.{PageKey}
 use Rattle.frames.specs.FrameTable.{role_of, count_of}
 use Rattle.swap.specs.Slots.{Puts}
 use Rattle.sv39_walk.specs.Entry.{frame_of}
@@ -12,7 +12,7 @@ use Rattle.paging.specs.Picture.{Picture, entry, IsOwned, count_in, page_in}
 use Rattle.paging.specs.Parts.{IsFitBut, nowhere}
 use Rattle.paging.proofs.Seats.{counted_fresh}
 use Rattle.paging.proofs.Granting.{granting_same}
-use Rattle.paging.proofs.Places.{dirty_same}
+use Rattle.paging.proofs.Places.{page_for-same, dirty_same}
 use Rattle.paging.proofs.Rooted.{rooted_frames}
 
 -- nothing but slots changed
@@ -21,8 +21,8 @@ pub record SameButSlots (old new : Picture) : Type 0 where
   pub root : (pid : ℕ) → new.root pid ≡ old.root pid
   pub at : (pid page : ℕ) → new.at pid page ≡ old.at pid page
   pub page_of : (n : ℕ) → new.page_of n ≡ old.page_of n
-  pub place : (p : FilePage) → new.place p ≡ old.place p
-  pub touched : (p : FilePage) → new.touched p ≡ old.touched p
+  pub place : (p : PageKey) → new.place p ≡ old.place p
+  pub touched : (p : PageKey) → new.touched p ≡ old.touched p
   pub files : (f : ℕ) → new.files f ≡ old.files f
   pub entries : (pid page : ℕ) → entry new pid page ≡ entry old pid page
 
@@ -30,7 +30,7 @@ slot_pages : (ℕ → ℕ) → ℕ → ℕ → ℕ → ℕ
 slot_pages sp k page j = if j == k then page else sp j
 
 module _ (old new : Picture) (k page m : ℕ) (bytes : List ℕ) (fit : IsFitBut old nowhere 0 m) (same : SameButSlots old new) (puts : Puts old.slots new.slots k bytes) (h : IsPage 2 page) where
-  no_file : (p : FilePage) → old.place p ≡ Slot (record { 0 = k }) → ⊥
+  no_file : (p : PageKey) → old.place p ≡ Slot (record { 0 = k }) → ⊥
   no_file p e = let one = fit.places.slotted p k e in let none = puts.was_free in omega (arith, one, none)
 
   slot_ne : (z : Seat) (j : ℕ) → z ≡ InSlot j → z ≢ InSlot k → j ≢ k
@@ -82,7 +82,7 @@ module _ (old new : Picture) (k page m : ℕ) (bytes : List ℕ) (fit : IsFitBut
           | inr file ↦ inr (file.0, same.place file.0 ∙ file.1)
         ])
       ];
-      inside = λ p away. (let i = fit.places.inside p (λ home. away (same.place p ∙ home)) in (i.0, same.files p.file ∙ i.1, i.2));
+      inside = λ p away. page_for-same old new p same.at same.files (fit.places.inside p (λ home. away (same.place p ∙ home)));
     };
     dirty = dirty_same old new fit.dirty same.place same.touched (λ pid q h'. same.entries pid q);
   }

@@ -2,7 +2,7 @@
 use Rattle.std.proofs.Common.{◌≡◌, ◌≢◌, ℕ, inl, inr, ◌<◌, List, Option, Some, None, refl, sym, ap, ◌∙◌, subst, arith}
 use Rattle.std.specs.Prelude.{option_map}
 use Rattle.std.proofs.lemmas.Bool.{cases_eq}
-use Rattle.vm_types.specs.declared.file.FilePage.{FilePage}
+use Rattle.vm_types.specs.declared.object.PageKey.{PageKey}
 use Rattle.frames.specs.FrameTable.{FrameTable, frame_count, role_of, count_of, bytes_of}
 use Rattle.sv39_walk.specs.Entry.{frame_of}
 use Rattle.swap.specs.Slots.{SlotTable, IsInUse, Same, Puts, Shares}
@@ -17,7 +17,7 @@ use Rattle.paging.specs.Evictions.{HasShare, Spares}
 use Rattle.paging.proofs.Granting.{granting_same}
 use Rattle.paging.proofs.LeafSteps.{cases_attr}
 use Rattle.paging.proofs.Moves.{view_kept, view-none}
-use Rattle.paging.proofs.Places.{dirty_same}
+use Rattle.paging.proofs.Places.{page_for-same, dirty_same}
 use Rattle.paging.proofs.Puts.{SameButSlots}
 use Rattle.paging.proofs.Rooted.{rooted_frames}
 use Rattle.paging.proofs.Seats.{counted_same, counted_shared}
@@ -50,7 +50,7 @@ module _ (old new : Picture) (fit : IsFit old) (same : SameButSlots old new)
   bytes_put (Frame m) used = ap (λ t. Some (bytes_of t m.0)) same.frames
   bytes_put (Slot j) used = ap (λ b. Some b) (kept j.0 (used j.0 refl))
 
-  held_put : (p : FilePage) → held new p ≡ held old p
+  held_put : (p : PageKey) → held new p ≡ held old p
   unfolding held
   held_put p = ap (λ x. bytes_at new.frames new.slots x) (same.place p) ∙ bytes_put (old.place p) (λ j is. (let one = fit.places.slotted p j is in omega (arith, one)))
 
@@ -125,7 +125,7 @@ module _ (old new : Picture) (fit : IsFit old) (same : SameButSlots old new) (sl
         | inl own ↦ inl (some, λ p e. own.1 p (sym (same.place p) ∙ e))
         | inr file ↦ inr (file.0, same.place file.0 ∙ file.1)
       ];
-      inside = λ p away. (let i = fit.places.inside p (λ home. away (same.place p ∙ home)) in (i.0, same.files p.file ∙ i.1, i.2));
+      inside = λ p away. page_for-same old new p same.at same.files (fit.places.inside p (λ home. away (same.place p ∙ home)));
     };
     dirty = dirty_same old new fit.dirty same.place same.touched (λ pid q h'. same.entries pid q);
   }
@@ -182,7 +182,7 @@ module _ (old new : Picture) (k page : ℕ) (fit : IsFit old) (same : SameButSlo
           | inl owned ↦ inl (some, λ p e. owned.1 p (sym (same.place p) ∙ e))
           | inr file ↦ inr (file.0, same.place file.0 ∙ file.1)
         ];
-        inside = λ p away. (let i = fit.places.inside p (λ home. away (same.place p ∙ home)) in (i.0, same.files p.file ∙ i.1, i.2));
+        inside = λ p away. page_for-same old new p same.at same.files (fit.places.inside p (λ home. away (same.place p ∙ home)));
       };
       dirty = dirty_same old new fit.dirty same.place same.touched (λ pid q h'. same.entries pid q);
     };

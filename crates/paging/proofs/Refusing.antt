@@ -2,7 +2,7 @@
 use Rattle.std.proofs.Common.{◌≡◌, ◌≢◌, ℕ, zero, suc, ◌<◌, inl, inr, ◌⊎◌, true, Option, refl, sym, ap, ◌∙◌, subst, arith}
 use Rattle.std.proofs.lemmas.Bool.{cases_eq, cases_lt, cases_Bool, false≢true}
 use Rattle.std.proofs.lemmas.List.{get_or_past}
-use Rattle.vm_types.specs.declared.file.FilePage.{FilePage}
+use Rattle.vm_types.specs.declared.object.PageKey.{PageKey}
 use Rattle.vm_types.specs.declared.number.FrameNo.{FrameNo}
 use Rattle.frames.specs.declared.role.Role.{Role}
 use Rattle.frames.specs.declared.role.Role.TheVariants.{Free, Zero, Table, Private, Cache}
@@ -57,7 +57,7 @@ needs_role c n Cache fit is used =
       ])
     ]
   where
-    one_page : (c : Picture) (n : ℕ) → IsFit c → role_of c.frames n ≡ Cache → (p q : FilePage) → c.place p ≡ Frame (record { 0 = n }) → c.place q ≡ Frame (record { 0 = n }) → p ≡ q
+    one_page : (c : Picture) (n : ℕ) → IsFit c → role_of c.frames n ≡ Cache → (p q : PageKey) → c.place p ≡ Frame (record { 0 = n }) → c.place q ≡ Frame (record { 0 = n }) → p ≡ q
     one_page c n fit is p q at there = fit.places.apart p q (at ∙ sym there) (λ home. (let bad : Home ≡ Frame (record { 0 = n }) = sym home ∙ at in (cc)))
 needs_role c n Free fit is used = absurd (false≢true used)
 needs_role c n Zero fit is used = absurd (false≢true used)

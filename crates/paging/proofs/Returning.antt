@@ -1,10 +1,10 @@
 -- A frame asked for in vain, and a slot left.
 use Rattle.std.proofs.Common.{◌≡◌, ◌≢◌, ℕ, inl, inr, List, None, sym, ap, ◌∙◌, subst, arith}
 use Rattle.std.proofs.lemmas.Bool.{cases_eq}
-use Rattle.vm_types.specs.declared.file.FilePage.{FilePage}
+use Rattle.vm_types.specs.declared.object.PageKey.{PageKey}
 use Rattle.frames.specs.declared.role.Role.TheVariants.{Free, Zero, Table, Cache}
 use Rattle.frames.specs.FrameTable.{FrameTable, IsSound, role_of, SameButFor, Takes, Releases, with_bytes}
-use Rattle.swap.specs.Slots.{SlotTable, IsInUse}
+use Rattle.swap.specs.Slots.{SlotTable}
 use Rattle.swap.specs.Slots as Slots
 use Rattle.page_tables.proofs.Ends.{same_last}
 use Rattle.page_cache.specs.declared.place.Place.{Place}
@@ -26,7 +26,7 @@ unfolding slot_number
 one_slot j k e = ap slot_number e
 
 -- the slot of a file page lost its only share
-pub leaves_slot : (old new : Picture) (page : FilePage) (k : ℕ) (t : SlotTable) → old.place page ≡ Slot (record { 0 = k }) → t ≡ old.slots → Slots.Releases t new.slots k → old.slots.count k ≡ 1
+pub leaves_slot : (old new : Picture) (page : PageKey) (k : ℕ) (t : SlotTable) → old.place page ≡ Slot (record { 0 = k }) → t ≡ old.slots → Slots.Releases t new.slots k → old.slots.count k ≡ 1
     → LeavesSlot old new page
 leaves_slot old new page k t at same releases one =
     let other : (j : ℕ) → old.place page ≢ Slot (record { 0 = j }) → j ≢ k = λ j ne e. ne (at ∙ ap (λ i. Slot (record { 0 = i })) (sym e)) in
@@ -43,7 +43,7 @@ leaves_slot old new page k t at same releases one =
     }
 
 -- a page that lies at home leaves no slot
-pub leaves_none : (old new : Picture) (page : FilePage) → old.place page ≡ Home → new.slots ≡ old.slots → LeavesSlot old new page
+pub leaves_none : (old new : Picture) (page : PageKey) → old.place page ≡ Home → new.slots ≡ old.slots → LeavesSlot old new page
 leaves_none old new page home same = record {
   total = ap (λ s. s.total) same;
   left = λ k here. (let bad : Home ≡ Slot (record { 0 = k }) = sym home ∙ here in (cc));

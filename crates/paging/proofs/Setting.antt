@@ -1,7 +1,7 @@
 -- One page's entry set, and what is seen then.
 use Rattle.std.proofs.Common.{◌≡◌, ◌≢◌, ℕ, inl, inr, ◌⊎◌, ◌<◌, true, false, List, Option, Some, None, refl, sym, ap, ◌∙◌, subst, arith}
 use Rattle.std.specs.Prelude.{option_map}
-use Rattle.vm_types.specs.declared.file.FilePage.{FilePage}
+use Rattle.vm_types.specs.declared.object.PageKey.{PageKey}
 use Rattle.frames.specs.declared.role.Role.{Role}
 use Rattle.frames.specs.declared.role.Role.TheVariants.{Table, Private, Cache}
 use Rattle.frames.specs.FrameTable.{FrameTable, bytes_of, role_of, with_bytes}
@@ -49,7 +49,7 @@ bytes_there old new Home slots same = refl
 bytes_there old new (Frame m) slots same = ap (λ (w : _). Some w) (same m.0 refl)
 bytes_there old new (Slot j) slots same = ap (λ t. Some (t.bytes j.0)) slots
 
-pub held_same : (old new : Picture) (p : FilePage) → new.place p ≡ old.place p → new.slots ≡ old.slots
+pub held_same : (old new : Picture) (p : PageKey) → new.place p ≡ old.place p → new.slots ≡ old.slots
     → ((m : ℕ) → old.place p ≡ Frame (record { 0 = m }) → bytes_of new.frames m ≡ bytes_of old.frames m) → held new p ≡ held old p
 unfolding held
 held_same old new p place slots same = ap (λ x. bytes_at new.frames new.slots x) place ∙ bytes_there old new (old.place p) slots same
@@ -60,13 +60,13 @@ no_table r s e ne f = ne (sym e ∙ f)
 -- The entry of a page was set.
 module _ (old new : Picture) (pid page number m : ℕ) (sets : SetsPage old new pid page number) (h : IsPage 2 page)
     (for : IsEntryFor new (old.at pid page) number) (rooted : IsRootedBut new m)
-    (dirty : (p : FilePage) → is_valid number ≡ true → is_private number ≡ false → is_dirty number ≡ true → old.place p ≡ Frame (record { 0 = frame_of number }) → old.touched p ≡ true) where
+    (dirty : (p : PageKey) → is_valid number ≡ true → is_private number ≡ false → is_dirty number ≡ true → old.place p ≡ Frame (record { 0 = frame_of number }) → old.touched p ≡ true) where
   granted : (x : Seat) (d : ℕ) → IsFitBut old x d m → IsGranting new
   granted x d fit = granting_changed old new pid page fit.granting (behind_kept old new sets.beside)
       (λ q p h' private one. sets.shares.counts (frame_of (entry old q p)) (fit.counted.1.named q p (InFrame (frame_of (entry old q p))) h' (rw private refl)) ∙ one)
       sets.beside.at sets.others (let P : ℕ → Type 0 = λ e. IsEntryFor new (old.at pid page) e in subst P (sym sets.changed) for)
 
-  here : (p : FilePage) → is_valid (entry new pid page) ≡ true → is_private (entry new pid page) ≡ false → is_dirty (entry new pid page) ≡ true
+  here : (p : PageKey) → is_valid (entry new pid page) ≡ true → is_private (entry new pid page) ≡ false → is_dirty (entry new pid page) ≡ true
       → old.place p ≡ Frame (record { 0 = frame_of (entry new pid page) }) → old.touched p ≡ true
   here p valid common bit at = dirty p (sym (ap is_valid sets.changed) ∙ valid) (sym (ap is_private sets.changed) ∙ common) (sym (ap is_dirty sets.changed) ∙ bit)
       (at ∙ ap (λ x. Frame (record { 0 = frame_of x })) sets.changed)
@@ -92,7 +92,7 @@ module _ (old new : Picture) (pid page number m : ℕ) (sets : SetsPage old new 
       );
       rooted = rooted;
       granting = granted x d fit;
-      places = places_same old new fit.places sets.beside.place sets.beside.files sets.beside.slots sets.shares.cache sets.shares.was_cache;
+      places = places_same old new fit.places sets.beside.place sets.beside.at sets.beside.files sets.beside.slots sets.shares.cache sets.shares.was_cache;
       dirty = dirty_changed old new pid page fit.dirty sets.beside.place sets.beside.touched sets.others here;
     }
 
@@ -108,7 +108,7 @@ module _ (old new : Picture) (pid page number m : ℕ) (sets : SetsPage old new 
     );
     rooted = rooted;
     granting = granted y 1 fit;
-    places = places_same old new fit.places sets.beside.place sets.beside.files sets.beside.slots sets.shares.cache sets.shares.was_cache;
+    places = places_same old new fit.places sets.beside.place sets.beside.at sets.beside.files sets.beside.slots sets.shares.cache sets.shares.was_cache;
     dirty = dirty_changed old new pid page fit.dirty sets.beside.place sets.beside.touched sets.others here;
   }
 
@@ -132,7 +132,7 @@ module _ (old new : Picture) (pid page number m : ℕ) (x : Seat) (d : ℕ) (fit
     | inr other ↦ other_views q p other
   ]
 
-  pub set_held : (p : FilePage) → held new p ≡ held old p
+  pub set_held : (p : PageKey) → held new p ≡ held old p
   set_held p = held_same old new p (sets.beside.place p) sets.beside.slots
       (λ n at. sets.bytes n (no_table (role_of old.frames n) Cache (fit.places.cached p n at) (λ e. (cc))))
 

@@ -1,21 +1,38 @@
 -- A state that memory shows is shown after frames were given up.
-use Rattle.std.proofs.Common.{◌≡◌, inl, inr, Some, None, is_some, sym, ap, ◌∙◌}
+use Rattle.std.proofs.Common.{◌≡◌, inl, inr, true, false, Some, None, is_some, refl, sym, ap, ◌∙◌}
+use Rattle.std.proofs.lemmas.Bool.{cases_Bool, false≢true}
+use Rattle.vm_types.specs.declared.object.ObjectPage.{ObjectPage}
+use Rattle.vm_types.specs.declared.object.PageKey.TheVariants.{File, Object}
 use Rattle.vm_types.specs.State.{State}
 use Rattle.paging.specs.Picture.{Picture}
 use Rattle.paging.specs.Calls.{KeepsPages}
-use Rattle.paging.specs.Shows.{ShowsPages}
+use Rattle.paging.specs.Shows.{ShowsPages, KeepsFiles, object_bytes}
+
+pub object-kept : (old new : Picture) (p : ObjectPage) → KeepsFiles old new → object_bytes new p ≡ object_bytes old p
+object-kept old new p keeps = elim (cases_Bool (old.touched (Object p))) [
+  | inl t ↦ rw (keeps.touched (Object p), t) (elim (keeps.held (Object p)) [
+    | inl same ↦ same
+    | inr home ↦ absurd (false≢true (sym home.1 ∙ t))
+  ])
+  | inr f ↦ rw (keeps.touched (Object p), f) refl
+]
 
 pub shows_kept : (old new : Picture) (s : State) → KeepsPages old new → ShowsPages old s → ShowsPages new s
 shows_kept old new s keeps shows = record {
   live = λ pid. shows.live pid ∙ ap (λ r. is_some r) (sym (keeps.root pid));
   views = λ pid page. shows.views pid page ∙ sym (keeps.views pid page);
   files = λ f. shows.files f ∙ sym (keeps.files.files f);
-  touched = λ p. shows.touched p ∙ sym (keeps.files.touched p);
-  held = λ p bytes here. elim (keeps.files.held p) [
+  touched = λ p. shows.touched p ∙ sym (keeps.files.touched (File p));
+  held = λ p bytes here. elim (keeps.files.held (File p)) [
     | inl same ↦ shows.held p bytes (sym same ∙ here)
     | inr home ↦ (let bad : None ≡ Some bytes = sym home.0 ∙ here in (cc))
   ];
-  clean = λ p untouched inside. shows.clean p (sym (keeps.files.touched p) ∙ untouched) (inside.0, sym (keeps.files.files p.file) ∙ inside.1, inside.2);
+  clean = λ p untouched inside. shows.clean p (sym (keeps.files.touched (File p)) ∙ untouched) (inside.0, sym (keeps.files.files p.file) ∙ inside.1, inside.2);
+  objects = λ p. shows.objects p ∙ sym (object-kept old new p keeps.files);
+  blank = λ p bytes untouched here. elim (keeps.files.held (Object p)) [
+    | inl same ↦ shows.blank p bytes (sym (keeps.files.touched (Object p)) ∙ untouched) (sym same ∙ here)
+    | inr home ↦ (let bad : None ≡ Some bytes = sym home.0 ∙ here in (cc))
+  ];
 }
 
 pub keeps_then : (a b c : Picture) → KeepsPages a b → KeepsPages b c → KeepsPages a c

@@ -1,7 +1,7 @@
 -- A slot loses a share, after an entry was moved away from it.
 use Rattle.std.proofs.Common.{◌≡◌, ◌≢◌, ℕ, inl, inr, ◌⊎◌, ◌+◌, ◌<◌, refl, sym, ap, ◌∙◌, subst, arith}
 use Rattle.std.proofs.lemmas.Bool.{cases_eq}
-use Rattle.vm_types.specs.declared.file.FilePage.{FilePage}
+use Rattle.vm_types.specs.declared.object.PageKey.{PageKey}
 use Rattle.frames.specs.FrameTable.{role_of, count_of}
 use Rattle.swap.specs.Slots.{Releases}
 use Rattle.sv39_walk.specs.Entry.{frame_of}
@@ -11,13 +11,13 @@ use Rattle.paging.specs.Picture.{Picture, entry, IsOwned, count_in, page_in}
 use Rattle.paging.specs.Parts.{IsFitBut, nowhere}
 use Rattle.paging.proofs.Seats.{counted_released}
 use Rattle.paging.proofs.Granting.{granting_same}
-use Rattle.paging.proofs.Places.{dirty_same}
+use Rattle.paging.proofs.Places.{page_for-same, dirty_same}
 use Rattle.paging.proofs.Rooted.{rooted_frames}
 use Rattle.paging.proofs.Puts.{SameButSlots}
 use Rattle.paging.proofs.Evicted.{seat_number}
 
 module _ (old new : Picture) (k m : ℕ) (fit : IsFitBut old (InSlot k) 1 m) (has : IsOwned old (InSlot k)) (same : SameButSlots old new) (releases : Releases old.slots new.slots k) where
-  no_file : (p : FilePage) (j : ℕ) → j ≡ k → old.place p ≡ Slot (record { 0 = j }) → ⊥
+  no_file : (p : PageKey) (j : ℕ) → j ≡ k → old.place p ≡ Slot (record { 0 = j }) → ⊥
   no_file p j is e = has.1 p (e ∙ ap (λ i. Slot (record { 0 = i })) is)
 
   slot_ne : (j : ℕ) → InSlot j ≢ InSlot k → j ≢ k
@@ -83,7 +83,7 @@ module _ (old new : Picture) (k m : ℕ) (fit : IsFitBut old (InSlot k) 1 m) (ha
           | inr file ↦ inr (file.0, same.place file.0 ∙ file.1)
         ])
       ];
-      inside = λ p away. (let i = fit.places.inside p (λ home. away (same.place p ∙ home)) in (i.0, same.files p.file ∙ i.1, i.2));
+      inside = λ p away. page_for-same old new p same.at same.files (fit.places.inside p (λ home. away (same.place p ∙ home)));
     };
     dirty = dirty_same old new fit.dirty same.place same.touched (λ pid q h'. same.entries pid q);
   }

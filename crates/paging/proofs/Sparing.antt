@@ -1,7 +1,7 @@
 -- Steps of an eviction, one after another.
 use Rattle.std.proofs.Common.{◌≡◌, ◌≢◌, ℕ, ◌<◌, inl, inr, ◌⊎◌, true, Option, Some, get_or, length, refl, sym, ap, ◌∙◌, subst, arith}
 use Rattle.std.proofs.lemmas.Bool.{cases_eq, false≢true}
-use Rattle.vm_types.specs.declared.file.FilePage.{FilePage}
+use Rattle.vm_types.specs.declared.object.PageKey.{PageKey}
 use Rattle.vm_types.specs.declared.number.FrameNo.{FrameNo}
 use Rattle.frames.specs.declared.role.Role.{Role}
 use Rattle.frames.specs.declared.role.Role.TheVariants.{Free, Table, Cache}
@@ -99,7 +99,7 @@ module _ (change : Change) (n : ℕ) (old new : Picture) (fit : IsFit old) (ch :
   bytes_there (Frame m) datum = ap (λ (w : _). Some w) (ch.bytes m.0 (datum m.0 refl))
   bytes_there (Slot j) datum = ap (λ t. Some (t.bytes j.0)) ch.beside.slots
 
-  held_same : (p : FilePage) → held new p ≡ held old p
+  held_same : (p : PageKey) → held new p ≡ held old p
   unfolding held
   held_same p = ap (λ x. bytes_at new.frames new.slots x) (ch.beside.place p) ∙ bytes_there (old.place p) (λ m is table. (let bad : Cache ≡ Table = sym (fit.places.cached p m is) ∙ table in (cc)))
 

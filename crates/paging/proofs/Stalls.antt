@@ -1,13 +1,21 @@
 -- Why no frame was to be had, told by what processes see and files are touched.
 use Rattle.std.proofs.Common.{◌≡◌, ◌≢◌, ℕ, inl, inr, ◌*◌, ◌^◌, ◌<◌, ◌≤◌, true, Option, Some, None, is_some, length, List, refl, sym, ap, ◌∙◌, subst, arith}
-use Rattle.std.specs.Prelude.{option_map}
-use Rattle.std.proofs.lemmas.Bool.{cases_lt}
+use Rattle.std.specs.Prelude.{option_map, IfSome, ◌==◌}
+use Rattle.std.proofs.lemmas.Bool.{cases_lt, and_parts, eqb-true, false≢true}
 use Rattle.std.proofs.lemmas.List.{get_or_past}
 use Rattle.vm_types.specs.declared.number.FrameNo.{FrameNo}
+use Rattle.vm_types.specs.Limits.{object_limit}
+use Rattle.vm_types.specs.Attributes.{backing_fits}
+use Rattle.vm_types.specs.Objects.{names, uses, is_object_page, is_of_object}
+use Rattle.vm_types.specs.declared.object.ObjectPage.{ObjectPage}
+use Rattle.vm_types.specs.declared.object.PageKey.TheVariants.{File, Object}
 use Rattle.vm_types.specs.declared.region.Attr.{Attr}
+use Rattle.vm_types.specs.declared.region.Backing.{Backing}
+use Rattle.vm_types.specs.declared.region.Backing.TheVariants.{Anon, Private as PrivateOf, Shared as SharedOf, Common as CommonOf}
+use Rattle.page_cache.specs.declared.place.Place.TheVariants.{Home}
 use Rattle.vm_types.specs.declared.refusal.Stall.{Stall}
 use Rattle.vm_types.specs.declared.refusal.Stall.TheVariants.{NoFrames, NoSwap, SwapDevice, StoreDevice}
-use Rattle.vm_types.specs.Capacity.{has_own}
+use Rattle.vm_types.specs.Capacity.{has_own, object_page_limit}
 use Rattle.file_store.specs.Standing.{IsPageOf}
 use Rattle.frames.specs.declared.role.Role.{Role}
 use Rattle.frames.specs.declared.role.Role.TheVariants.{Free, Zero, Table, Private}
@@ -21,6 +29,7 @@ use Rattle.paging.proofs.Start.{seat-none}
 use Rattle.paging.proofs.Short.{few_frames}
 use Rattle.paging.proofs.Tables.{tables_counted}
 use Rattle.paging.proofs.Held.{more_held}
+use Rattle.paging.proofs.Places.{named_by}
 
 some_at : (own : Option (List ℕ)) (o : Option Attr) → is_some (view_of own o) ≡ true → is_some o ≡ true
 some_at own None e = e
@@ -45,6 +54,24 @@ used_inside t n sound used = elim (cases_lt n (length t.roles)) [
 
 below : (k length : ℕ) → 4096 * k < length → length < 2 ^ 32 → k < 2 ^ 20
 below k length inside most = omega (arith, inside, most)
+
+used_where : (a : Option Attr) (object page : ℕ) → names a object page ≡ true → uses a object ≡ true
+used_where None object page is = is
+used_where (Some a) object page is = used_backing a.backing is where
+  used_backing : (b : Backing) → is_object_page b object page ≡ true → is_of_object b object ≡ true
+  used_backing Anon is = is
+  used_backing (PrivateOf p) is = is
+  used_backing (SharedOf p) is = is
+  used_backing (CommonOf p) is = (and_parts (p.object == object) (p.page == page) is).0
+
+page_where : (a : Option Attr) (object page : ℕ) → names a object page ≡ true → IfSome a (λ x. backing_fits x.backing 1) → page < object_page_limit
+page_where None object page is fits = absurd (false≢true is)
+page_where (Some a) object page is fits = page_backing a.backing is fits where
+  page_backing : (b : Backing) → is_object_page b object page ≡ true → backing_fits b 1 → page < object_page_limit
+  page_backing Anon is fits = absurd (false≢true is)
+  page_backing (PrivateOf p) is fits = absurd (false≢true is)
+  page_backing (SharedOf p) is fits = absurd (false≢true is)
+  page_backing (CommonOf p) is fits = let same : p.page ≡ page = eqb-true p.page page (and_parts (p.object == object) (p.page == page) is).1 in omega (arith, same, fits)
 
 module _ (c : Picture) (fit : IsFit c) (sound : IsSound c.frames) (few : (f k : ℕ) → IsPageOf c.files f k → (f < 64) × (k < 2 ^ 20)) where
   mapped : (pid page : ℕ) → is_some (view c pid page) ≡ true → is_some (c.at pid page) ≡ true
@@ -91,12 +118,20 @@ module _ (c : Picture) (fit : IsFit c) (sound : IsSound c.frames) (few : (f k : 
       let P : Role → Type 0 = λ r. IsCountFor r (count_of c.frames n) in
       (subst P is (sound.counted n (used_inside c.frames n sound (λ free. (let bad : Private ≡ Free = sym is ∙ free in (cc)))))).0
 
+  -- a page of an object that lies somewhere is one that a process names
+  bounded : (p : ObjectPage) → c.place (Object p) ≢ Home → (p.object < object_limit) × (p.page < object_page_limit)
+  bounded p away =
+      let who = named_by c.at p.object p.page (fit.places.inside (Object p) away) in (
+        fit.granting.objects.below who.0 who.1 p.object (used_where (c.at who.0 who.1) p.object p.page who.2),
+        page_where (c.at who.0 who.1) p.object p.page who.2 ((fit.granting.user who.0).file_pages who.1),
+      )
+
   pub short_of : (keep : Option FrameNo) (stall : Stall) → Refuses c keep stall → IsShort c stall
   unfolding IsShort
   short_of keep NoFrames refuses = let a = few_frames c keep sound refuses in let b = counted in omega (arith, a, b)
   short_of keep NoSwap refuses =
       let n = refuses.1.0 in
-      more_held c 0 fit refuses.3 n (refuses.2 n refuses.1.1) own_user (λ p away. (let i = fit.places.inside p away in few p.file p.page i)) (shared n)
+      more_held c 0 fit refuses.3 n (refuses.2 n refuses.1.1) own_user (λ p away. (let i = fit.places.inside (File p) away in few p.file p.page i)) bounded (shared n)
       (λ pid page z h is. seated pid page z (entry c pid page) is refl (fit.granting.entries pid page h))
   short_of keep SwapDevice refuses = tt
   short_of keep StoreDevice refuses = absurd refuses

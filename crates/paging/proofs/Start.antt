@@ -3,7 +3,8 @@ use Rattle.std.proofs.Common.{◌≡◌, ◌≢◌, ℕ, inl, inr, ◌⊎◌, fa
 use Rattle.std.specs.Prelude.{IsSome}
 use Rattle.std.proofs.lemmas.Bool.{cases_eq, cases_lt, false≢true}
 use Rattle.std.proofs.lemmas.List.{get_or_past}
-use Rattle.vm_types.specs.declared.file.FilePage.{FilePage}
+use Rattle.vm_types.specs.Objects.{names, uses}
+use Rattle.vm_types.specs.declared.object.PageKey.{PageKey}
 use Rattle.vm_types.specs.declared.region.Attr.{Attr}
 use Rattle.frames.specs.declared.role.Role.TheVariants.{Free, Zero, Table, Private, Cache}
 use Rattle.frames.specs.FrameTable.{FrameTable, frame_count, role_of, IsSound, IsFresh}
@@ -37,7 +38,7 @@ fresh_role t count n sound fresh = elim (cases_eq n 0) [
 ]
 
 module _ (c : Picture) (count : ℕ) (sound : IsSound c.frames) (fresh : IsFresh c.frames count) (dead : (pid : ℕ) → c.root pid ≡ None)
-    (unmapped : (pid page : ℕ) → c.at pid page ≡ None) (home : (p : FilePage) → c.place p ≡ Home) (untouched : (p : FilePage) → c.touched p ≡ false)
+    (unmapped : (pid page : ℕ) → c.at pid page ≡ None) (home : (p : PageKey) → c.place p ≡ Home) (untouched : (p : PageKey) → c.touched p ≡ false)
     (free : (k : ℕ) → c.slots.count k ≡ 0) where
   no_private : (n : ℕ) → role_of c.frames n ≢ Private
   no_private n e = elim (fresh_role c.frames count n sound fresh) [
@@ -67,7 +68,7 @@ module _ (c : Picture) (count : ℕ) (sound : IsSound c.frames) (fresh : IsFresh
   not_owned (InFrame n) e = no_private n e
   not_owned (InSlot k) e = let none = free k in let some = e.0 in omega (arith, none, some)
 
-  no_frame : (p : FilePage) (n : ℕ) → c.place p ≡ Frame (record { 0 = n }) → ⊥
+  no_frame : (p : PageKey) (n : ℕ) → c.place p ≡ Frame (record { 0 = n }) → ⊥
   no_frame p n e = let bad : Home ≡ Frame (record { 0 = n }) = sym (home p) ∙ e in (cc)
 
   pub start_fit : IsFit c
@@ -95,6 +96,10 @@ module _ (c : Picture) (count : ℕ) (sound : IsSound c.frames) (fresh : IsFresh
         file_pages = λ page. rw (unmapped pid page) tt;
       };
       readable = λ pid page. rw (unmapped pid page) tt;
+      objects = record {
+        one_page = λ p q j k object page here there. absurd (false≢true (sym (ap (λ a. names a object page) (unmapped p j)) ∙ here));
+        below = λ pid page object here. absurd (false≢true (sym (ap (λ a. uses a object) (unmapped pid page)) ∙ here));
+      };
     };
     places = record {
       cached = λ p n e. absurd (no_frame p n e);

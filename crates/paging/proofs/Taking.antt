@@ -1,7 +1,7 @@
 -- A frame taken for a process's own, and a frame given back that no entry names.
 use Rattle.std.proofs.Common.{◌≡◌, ◌≢◌, ℕ, inl, inr, ◌<◌, refl, sym, ap, ◌∙◌, subst}
 use Rattle.std.proofs.lemmas.Bool.{cases_eq}
-use Rattle.vm_types.specs.declared.file.FilePage.{FilePage}
+use Rattle.vm_types.specs.declared.object.PageKey.{PageKey}
 use Rattle.frames.specs.declared.role.Role.TheVariants.{Free, Table, Private, Cache}
 use Rattle.frames.specs.FrameTable.{role_of, count_of}
 use Rattle.swap.specs.Slots.{SlotTable}
@@ -60,7 +60,7 @@ module _ (old new : Picture) (n : ℕ) (fit : IsFit old) (changes : ChangesFrame
   views_changed q p = each_view old new fit.granting changes.at q p (λ h. view_seated old new q p (changes.at q p) (ap seat (entries_changed q p))
       (λ z is. seat_bytes z (fit.counted.1.named q p z h is)))
 
-  pub held_changed : (p : FilePage) → held new p ≡ held old p
+  pub held_changed : (p : PageKey) → held new p ≡ held old p
   held_changed p = held_same old new p (changes.place p) changes.slots (λ m at. changes.frames.bytes m (cache_ne m (fit.places.cached p m at)))
 
   frame_ne : (m : ℕ) → InFrame m ≢ InFrame n → m ≢ n
@@ -105,7 +105,7 @@ module _ (old new : Picture) (n : ℕ) (fit : IsFit old) (changes : ChangesFrame
     rooted = rooted_same old new 0 fit.rooted trees_changed changes.root changes.at;
     granting = granting_same old new fit.granting (record { place = λ p m e. changes.place p ∙ e; files = changes.files })
         (λ pid k h' own one'. changes.frames.counts (frame_of (entry old pid k)) (private_ne _ (fit.counted.1.named pid k (InFrame (frame_of (entry old pid k))) h' (rw own refl))) ∙ one') changes.at (λ pid k h'. entries_changed pid k);
-    places = places_same old new fit.places changes.place changes.files changes.slots (λ m e. changes.frames.roles m (cache_ne m e) ∙ e)
+    places = places_same old new fit.places changes.place changes.at changes.files changes.slots (λ m e. changes.frames.roles m (cache_ne m e) ∙ e)
         (λ m e. cache_back m (λ c. (let bad : Private ≡ Cache = sym role ∙ c in (cc))) e);
     dirty = dirty_same old new fit.dirty changes.place changes.touched (λ pid k h'. entries_changed pid k);
   }
@@ -124,7 +124,7 @@ module _ (old new : Picture) (n : ℕ) (fit : IsFit old) (changes : ChangesFrame
         rooted = rooted_same old new 0 fit.rooted trees_changed changes.root changes.at;
         granting = granting_same old new fit.granting (record { place = λ p m e. changes.place p ∙ e; files = changes.files })
             (λ pid k h' own one'. changes.frames.counts (frame_of (entry old pid k)) (private_ne _ (fit.counted.1.named pid k (InFrame (frame_of (entry old pid k))) h' (rw own refl))) ∙ one') changes.at (λ pid k h'. entries_changed pid k);
-        places = places_same old new fit.places changes.place changes.files changes.slots (λ m e. changes.frames.roles m (cache_ne m e) ∙ e)
+        places = places_same old new fit.places changes.place changes.at changes.files changes.slots (λ m e. changes.frames.roles m (cache_ne m e) ∙ e)
             (λ m e. cache_back m (λ c. (let bad : Free ≡ Cache = sym free ∙ c in (cc))) e);
         dirty = dirty_same old new fit.dirty changes.place changes.touched (λ pid k h'. entries_changed pid k);
       }

@@ -1,7 +1,7 @@
 -- What giving frames up does to entries, and which frames are given up.
 use Rattle.std.specs.Prelude.{◌≡◌, ◌≢◌, ℕ, ◌⊎◌, true, false, Option, Some}
 use Rattle.vm_types.specs.Limits.{top_level}
-use Rattle.vm_types.specs.declared.file.FilePage.{FilePage}
+use Rattle.vm_types.specs.declared.object.PageKey.{PageKey}
 use Rattle.frames.specs.declared.role.Role.TheVariants.{Free, Table}
 use Rattle.frames.specs.FrameTable.{frame_count, role_of, IsFull}
 use Rattle.sv39_walk.specs.Entry.{frame_of}
@@ -37,7 +37,7 @@ IsGiven old new tried n = (is_data (role_of old.frames n) ≡ true) × ((is_data
 pub record GivesNone (old new : Picture) : Type 0 where
   pub roles : (n : ℕ) → is_data (role_of old.frames n) ≡ true → role_of new.frames n ≡ role_of old.frames n
   pub entries : (pid page : ℕ) → IsPage top_level page → entry new pid page ≡ entry old pid page
-  pub places : (p : FilePage) → new.place p ≡ old.place p
+  pub places : (p : PageKey) → new.place p ≡ old.place p
 
 -- Frames became tables, and some of them were given up for that; of the others none has another use. Only entries over those
 -- that were given up lost their frames, every pointer to a table stands, and none was given up unless no frame is free now.

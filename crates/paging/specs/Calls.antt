@@ -1,7 +1,7 @@
 -- What the calls of this layer leave.
 use Rattle.std.specs.Prelude.{◌≡◌, ◌≢◌, ℕ, ◌≤◌, ◌⊎◌, true, false, Option, None, Some}
 use Rattle.vm_types.specs.Limits.{top_level}
-use Rattle.vm_types.specs.declared.file.FilePage.{FilePage}
+use Rattle.vm_types.specs.declared.object.PageKey.{PageKey}
 use Rattle.vm_types.specs.declared.number.FrameNo.{FrameNo}
 use Rattle.vm_types.specs.declared.refusal.Stall.{Stall}
 use Rattle.vm_types.specs.declared.refusal.Stall.TheVariants.{NoFrames, NoSwap, SwapDevice, StoreDevice}
@@ -21,21 +21,21 @@ use Rattle.paging.specs.Shows.{KeepsFiles}
 use Rattle.paging.specs.Steps.{SameBeside, TakesOwn, BringsIn}
 use Rattle.page_tables.specs.Change.{AddsTable}
 
--- so many frames, all free but the zero page, so many free slots, no process, and every file page at home and untouched
+-- so many frames, all free but the zero page, so many free slots, no process, and every page of a file or an object at home and untouched
 pub record IsStart {D E : Type 0} (c : Core D E) (frames slots : ℕ) : Type 0 where
   pub fresh : IsFresh c.frames frames
   pub slots_are : slot_count c.cache ≡ slots
   pub slots_free : Slots.IsFresh (slots_of c.swap) slots
   pub none : (pid : ℕ) → (picture_of c).root pid ≡ None
-  pub at_home : (p : FilePage) → (picture_of c).place p ≡ Home
-  pub untouched : (p : FilePage) → (picture_of c).touched p ≡ false
+  pub at_home : (p : PageKey) → (picture_of c).place p ≡ Home
+  pub untouched : (p : PageKey) → (picture_of c).touched p ≡ false
   pub refused : c.refused.number ≡ 0
 
 pub record IsFreeFrame (t : FrameTable) (n : ℕ) : Type 0 where
   pub inside : IsFrame t n
   pub free : role_of t n ≡ Free
 
--- every process has its pages, with the bytes that they show, and every file page its bytes
+-- every process has its pages, with the bytes that they show, and every page of a file or an object its bytes
 pub record KeepsPages (old new : Picture) : Type 0 where
   pub root : (pid : ℕ) → new.root pid ≡ old.root pid
   pub at : (pid page : ℕ) → new.at pid page ≡ old.at pid page
@@ -51,9 +51,9 @@ IsToKeep (Some k) n = n ≡ k.0
 abbrev pub IsStaying : Option FrameNo → ℕ → Type 0
 IsStaying keep e = (e ≡ 0) ⊎ ((is_swapped e ≡ true) ⊎ ((frame_of e ≡ 0) ⊎ IsToKeep keep (frame_of e)))
 
--- a frame needs a slot to be given up: it is private, or holds a touched file page
+-- a frame needs a slot to be given up: it is private, or holds a touched page of a file or an object
 abbrev pub NeedsSlot : Picture → ℕ → Type 0
-NeedsSlot c n = (role_of c.frames n ≡ Private) ⊎ ((p : FilePage) × (c.place p ≡ Frame (record { 0 = n })) × (c.touched p ≡ true))
+NeedsSlot c n = (role_of c.frames n ≡ Private) ⊎ ((p : PageKey) × (c.place p ≡ Frame (record { 0 = n })) × (c.touched p ≡ true))
 
 -- a page of a process or of a file lies in the frame, and it isn't to be kept
 abbrev pub IsSpareable : Picture → Option FrameNo → ℕ → Type 0
@@ -70,9 +70,9 @@ pub record Frees (old new : Picture) (keep : Option FrameNo) : Type 0 where
   pub entries : (pid page : ℕ) → IsPage top_level page → IsStaying keep (entry old pid page) → entry new pid page ≡ entry old pid page
   pub slots : (k : ℕ) → IsInUse old.slots k → (new.slots.bytes k ≡ old.slots.bytes k) × (new.slots.count k ≡ old.slots.count k)
   pub total : new.slots.total ≡ old.slots.total
-  pub home : (p : FilePage) → old.place p ≡ Home → new.place p ≡ Home
-  pub slotted : (p : FilePage) (k : ℕ) → old.place p ≡ Slot (record { 0 = k }) → new.place p ≡ Slot (record { 0 = k })
-  pub kept_place : (p : FilePage) (n : ℕ) → IsToKeep keep n → old.place p ≡ Frame (record { 0 = n }) → new.place p ≡ Frame (record { 0 = n })
+  pub home : (p : PageKey) → old.place p ≡ Home → new.place p ≡ Home
+  pub slotted : (p : PageKey) (k : ℕ) → old.place p ≡ Slot (record { 0 = k }) → new.place p ≡ Slot (record { 0 = k })
+  pub kept_place : (p : PageKey) (n : ℕ) → IsToKeep keep n → old.place p ≡ Frame (record { 0 = n }) → new.place p ≡ Frame (record { 0 = n })
   pub kept_role : (n : ℕ) → IsToKeep keep n → role_of new.frames n ≡ role_of old.frames n
   pub kept_count : (n : ℕ) → IsToKeep keep n → count_of new.frames n ≡ count_of old.frames n
   pub kept_bytes : (n : ℕ) → IsToKeep keep n → role_of old.frames n ≢ Table → bytes_of new.frames n ≡ bytes_of old.frames n
@@ -93,8 +93,8 @@ pub record ObtainsTable (old new : Picture) (n : ℕ) : Type 0 where
   pub beside : SameBeside found new
   pub zero_page : role_of found.frames 0 ≢ Table
 
--- a frame was obtained, and a file page brought into it
-pub record ObtainsCached (old new : Picture) (page : FilePage) (n : ℕ) : Type 0 where
+-- a frame was obtained, and a page of a file or an object brought into it
+pub record ObtainsCached (old new : Picture) (page : PageKey) (n : ℕ) : Type 0 where
   pub found : Picture
   pub fit : IsFit found
   pub frees : Frees old found None
@@ -119,6 +119,15 @@ module _ {D E : Type 0} where
   pub record KeepsBesideFiles (old new : Core D E) : Type 0 where
     pub roots : new.roots ≡ old.roots
     pub regions : new.regions ≡ old.regions
+
+  -- all but where pages of files and objects lie is as it was, the count of refused requests too
+  pub record KeepsBesidePlaces (old new : Core D E) : Type 0 where
+    pub store : new.store ≡ old.store
+    pub pages : new.swap.pages ≡ old.swap.pages
+    pub roots : new.roots ≡ old.roots
+    pub regions : new.regions ≡ old.regions
+    pub page_of : new.page_of ≡ old.page_of
+    pub refused : new.refused ≡ old.refused
 
   -- all but the processes is as it was, the count of refused requests too
   pub record KeepsBesideProcesses (old new : Core D E) : Type 0 where

@@ -1,7 +1,7 @@
 -- What the steps of an eviction leave.
 use Rattle.std.specs.Prelude.{◌≡◌, ◌≢◌, ℕ, ◌+◌, ◌<◌, ◌≤◌, ◌⊎◌, true, Some, Option}
 use Rattle.vm_types.specs.Limits.{top_level}
-use Rattle.vm_types.specs.declared.file.FilePage.{FilePage}
+use Rattle.vm_types.specs.declared.object.PageKey.{PageKey}
 use Rattle.vm_types.specs.declared.number.FrameNo.{FrameNo}
 use Rattle.frames.specs.declared.role.Role.TheVariants.{Free, Table, Private}
 use Rattle.frames.specs.FrameTable.{frame_count, bytes_of, role_of, count_of}
@@ -49,7 +49,7 @@ pub record Spares (v k : ℕ) (old new : Picture) : Type 0 where
   pub pointers : (n i m : ℕ) → Points old.frames n i m → Points new.frames n i m
   pub slots : (j : ℕ) → j ≢ k → IsInUse old.slots j → (new.slots.bytes j ≡ old.slots.bytes j) × (new.slots.count j ≡ old.slots.count j)
   pub total : new.slots.total ≡ old.slots.total
-  pub place : (p : FilePage) → old.place p ≢ Frame (record { 0 = v }) → new.place p ≡ old.place p
+  pub place : (p : PageKey) → old.place p ≢ Frame (record { 0 = v }) → new.place p ≡ old.place p
 
 -- the frame may be given up now: where that needs a slot, one is free
 abbrev pub IsEvictable : Picture → Option FrameNo → ℕ → Type 0

@@ -1,10 +1,10 @@
 -- The entries over one frame, and what becomes of them.
-use Rattle.std.specs.Prelude.{◌≡◌, ◌≢◌, ◌⊎◌, ℕ, ◌==◌, ◌+◌, ◌-◌, ◌<◌, ◌≤◌, ◌^◌, Bool, true, false, not, ◌&&◌, Option, Some, None}
+use Rattle.std.specs.Prelude.{◌≡◌, ◌≢◌, ◌⊎◌, ℕ, ◌==◌, ◌+◌, ◌-◌, ◌<◌, ◌≤◌, Bool, true, false, not, ◌&&◌, Some}
 use Rattle.vm_types.specs.Limits.{top_level, user_start, user_end}
-use Rattle.vm_types.specs.declared.file.FilePage.{FilePage}
-use Rattle.vm_types.specs.declared.region.Backing.{Backing}
-use Rattle.vm_types.specs.declared.region.Backing.TheVariants.{Anon, Private, Shared}
-use Rattle.vm_types.specs.Attributes.{attr_after, backed_by}
+use Rattle.vm_types.specs.declared.object.PageKey.{PageKey}
+use Rattle.vm_types.specs.declared.object.PageKey.TheVariants.{File, Object}
+use Rattle.vm_types.specs.declared.region.Backing.TheVariants.{Private}
+use Rattle.vm_types.specs.Attributes.{attr_after, file_page_after, object_page_after, stands_on}
 use Rattle.frames.specs.declared.role.Role.TheVariants as Role
 use Rattle.frames.specs.FrameTable.{frame_count, bytes_of, role_of, count_of}
 use Rattle.sv39_walk.specs.Entry.{is_valid, can_read, can_write, can_execute, is_accessed, is_dirty, frame_of}
@@ -91,11 +91,16 @@ module _ {D E : Type 0} where
     pub clock : new.clock ≡ old.clock
     pub refused : new.refused ≡ old.refused
 
--- page k of the run stands on that file page
-pub record IsPageOver (run : Run) (p : FilePage) (k : ℕ) : Type 0 where
+-- the page of a file or an object so many pages further on
+abbrev pub key_after : PageKey → ℕ → PageKey
+key_after (File page) count = File (file_page_after page count)
+key_after (Object page) count = Object (object_page_after page count)
+
+-- page k of the run stands on that page of a file or an object
+pub record IsPageOver (run : Run) (p : PageKey) (k : ℕ) : Type 0 where
   pub from : run.first ≤ k
   pub below : k < run.end
-  pub is : backed_by (attr_after run.attr (k - run.first)).backing ≡ Some p
+  pub is : stands_on (attr_after run.attr (k - run.first)).backing ≡ Some p
 
 -- a run of user pages of a process
 pub record IsRunOf (c : Picture) (pid : ℕ) (run : Run) : Type 0 where

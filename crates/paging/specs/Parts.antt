@@ -1,12 +1,14 @@
 -- What holds of memory between two calls, in five parts.
-use Rattle.std.specs.Prelude.{◌≡◌, ◌≢◌, ℕ, ◌<◌, ◌≤◌, ◌⊎◌, Bool, true, false, Option, Some, IsSome}
+use Rattle.std.specs.Prelude.{◌≡◌, ◌≢◌, ℕ, ◌<◌, ◌≤◌, ◌⊎◌, true, false, Option, Some, IsSome}
 use Rattle.vm_types.specs.Processes.{process_limit}
-use Rattle.vm_types.specs.Limits.{top_level}
+use Rattle.vm_types.specs.Limits.{top_level, object_limit}
+use Rattle.vm_types.specs.Objects.{Maps, names, uses, is_named}
 pub use Rattle.vm_types.specs.Attributes.{is_shared}
-use Rattle.vm_types.specs.declared.file.FilePage.{FilePage}
+use Rattle.vm_types.specs.declared.object.PageKey.{PageKey}
+use Rattle.vm_types.specs.declared.object.PageKey.TheVariants.{File, Object}
 use Rattle.vm_types.specs.declared.region.Attr.{Attr}
 use Rattle.vm_types.specs.declared.region.Backing.{Backing}
-use Rattle.vm_types.specs.declared.region.Backing.TheVariants.{Anon, Private, Shared}
+use Rattle.vm_types.specs.declared.region.Backing.TheVariants.{Anon, Private, Shared, Common}
 use Rattle.vm_types.specs.Permission as Permission
 use Rattle.vm_types.specs.Rows.{IsUserMap}
 use Rattle.vm_types.specs.Verdict.{is_past_end}
@@ -54,11 +56,12 @@ pub record IsRootedBut (c : Picture) (n : ℕ) : Type 0 where
   pub numbers : (pid r : ℕ) → c.root pid ≡ Some r → (1 ≤ pid) × (pid ≤ process_limit)
   pub used : (m : ℕ) → IsTable c.frames m → (m ≡ n) ⊎ IsUsed c (IsMapped c) m
 
--- frame n holds what stands behind a page: it is the zero page, or that of the file page
+-- frame n holds what stands behind a page: it is the zero page, or that of the page of a file or an object
 abbrev pub IsBehind : Picture → Backing → ℕ → Type 0
 IsBehind c Anon n = n ≡ 0
-IsBehind c (Private p) n = c.place p ≡ Frame (record { 0 = n })
-IsBehind c (Shared p) n = c.place p ≡ Frame (record { 0 = n })
+IsBehind c (Private p) n = c.place (File p) ≡ Frame (record { 0 = n })
+IsBehind c (Shared p) n = c.place (File p) ≡ Frame (record { 0 = n })
+IsBehind c (Common p) n = c.place (Object p) ≡ Frame (record { 0 = n })
 
 -- a permission's bit is set in an entry only where the region has it
 pub record IsWithin (attr : Attr) (e : ℕ) : Type 0 where
@@ -93,28 +96,41 @@ pub data IsEntryFor (c : Picture) (attr : Option Attr) (e : ℕ) : Type 0 where
   Resident : (a : Attr) → attr ≡ Some a → IsResident c a e → IsEntryFor c attr e
   Away : (a : Attr) → attr ≡ Some a → IsSwapped c a e → IsEntryFor c attr e
 
+-- Objects, by what the pages of processes are: those that name one page of an object are at one page number, since a fork keeps
+-- the page numbers, and the numbers of objects are bounded.
+pub record AreObjects (at : Maps) : Type 0 where
+  pub one_page : (p q j k object page : ℕ) → names (at p j) object page ≡ true → names (at q k) object page ≡ true → j ≡ k
+  pub below : (pid page object : ℕ) → uses (at pid page) object ≡ true → object < object_limit
+
 -- grants: an entry lets nothing be done that the region of its page doesn't
 pub record IsGranting (c : Picture) : Type 0 where
   pub entries : (pid page : ℕ) → IsPage top_level page → IsEntryFor c (c.at pid page) (entry c pid page)
   pub user : (pid : ℕ) → IsUserMap (c.at pid)
   pub readable : (pid : ℕ) → IsReadableMap (c.at pid)
+  pub objects : AreObjects c.at
 
--- places: each file page lies in a cache frame or a slot of its own or at home; each cache frame holds one, and each slot in
--- use holds one or own copies
+-- a file page inside its file, or a page of an object that a process names
+abbrev pub IsPageFor : Picture → PageKey → Type 0
+IsPageFor c (File p) = IsPageOf c.files p.file p.page
+IsPageFor c (Object p) = is_named c.at p.object p.page ≡ true
+
+-- places: each page of a file or an object lies in a cache frame or a slot of its own or at home; each cache frame holds one, and
+-- each slot in use holds one or own copies
 pub record HasPlaces (c : Picture) : Type 0 where
-  pub cached : (p : FilePage) (n : ℕ) → c.place p ≡ Frame (record { 0 = n }) → role_of c.frames n ≡ Role.Cache
-  pub held : (n : ℕ) → role_of c.frames n ≡ Role.Cache → (p : FilePage) × (c.place p ≡ Frame (record { 0 = n }))
-  pub apart : (p q : FilePage) → c.place p ≡ c.place q → c.place p ≢ Home → p ≡ q
-  pub slotted : (p : FilePage) (k : ℕ) → c.place p ≡ Slot (record { 0 = k }) → c.slots.count k ≡ 1
-  pub used : (k : ℕ) → 0 < c.slots.count k → IsOwned c (InSlot k) ⊎ ((p : FilePage) × (c.place p ≡ Slot (record { 0 = k })))
-  pub inside : (p : FilePage) → c.place p ≢ Home → IsPageOf c.files p.file p.page
+  pub cached : (p : PageKey) (n : ℕ) → c.place p ≡ Frame (record { 0 = n }) → role_of c.frames n ≡ Role.Cache
+  pub held : (n : ℕ) → role_of c.frames n ≡ Role.Cache → (p : PageKey) × (c.place p ≡ Frame (record { 0 = n }))
+  pub apart : (p q : PageKey) → c.place p ≡ c.place q → c.place p ≢ Home → p ≡ q
+  pub slotted : (p : PageKey) (k : ℕ) → c.place p ≡ Slot (record { 0 = k }) → c.slots.count k ≡ 1
+  pub used : (k : ℕ) → 0 < c.slots.count k → IsOwned c (InSlot k) ⊎ ((p : PageKey) × (c.place p ≡ Slot (record { 0 = k })))
+  pub inside : (p : PageKey) → c.place p ≢ Home → IsPageFor c p
 
--- dirty: a leaf over a cache frame has D only where its page is touched; a touched page isn't at home, and one in a slot is touched
+-- dirty: a leaf over a cache frame has D only where its page is touched; a touched page isn't at home, and one in a slot is touched.
+-- A page of an object is touched where it was stored to at all.
 pub record IsDirtySound (c : Picture) : Type 0 where
-  pub dirty : (pid page : ℕ) (p : FilePage) → IsPage top_level page → is_valid (entry c pid page) ≡ true → is_private (entry c pid page) ≡ false
+  pub dirty : (pid page : ℕ) (p : PageKey) → IsPage top_level page → is_valid (entry c pid page) ≡ true → is_private (entry c pid page) ≡ false
       → is_dirty (entry c pid page) ≡ true → c.place p ≡ Frame (record { 0 = frame_of (entry c pid page) }) → c.touched p ≡ true
-  pub held : (p : FilePage) → c.touched p ≡ true → c.place p ≢ Home
-  pub slotted : (p : FilePage) (k : ℕ) → c.place p ≡ Slot (record { 0 = k }) → c.touched p ≡ true
+  pub held : (p : PageKey) → c.touched p ≡ true → c.place p ≢ Home
+  pub slotted : (p : PageKey) (k : ℕ) → c.place p ≡ Slot (record { 0 = k }) → c.touched p ≡ true
 
 -- Within a call: the share count of seat x may be off by d, and table m in no tree.
 pub record IsFitBut (c : Picture) (x : Seat) (d m : ℕ) : Type 0 where

@@ -1,8 +1,8 @@
--- What memory holds, by functions: the frames, the processes by their numbers, and the file pages.
+-- What memory holds, by functions: the frames, the processes by their numbers, and the pages of files and objects.
 use Rattle.std.specs.Prelude.{◌≡◌, ◌<◌, ◌≢◌, ℕ, Bool, true, false, List, [], Option, Some, None, is_some, slice_index_or}
 use Rattle.std.specs.Option.{option_map}
 use Rattle.vm_types.specs.Limits.{top_level}
-use Rattle.vm_types.specs.declared.file.FilePage.{FilePage}
+use Rattle.vm_types.specs.declared.object.PageKey.{PageKey}
 use Rattle.vm_types.specs.declared.number.FrameNo.{FrameNo}
 use Rattle.vm_types.specs.declared.region.Attr.{Attr}
 use Rattle.vm_types.specs.Files.{Files}
@@ -31,9 +31,9 @@ pub record Picture : Type 0 where
   pub at : ℕ → ℕ → Option Attr
   -- the page at which its processes have a private frame
   pub page_of : ℕ → ℕ
-  -- where each file page is, and which are touched
-  pub place : FilePage → Place
-  pub touched : FilePage → Bool
+  -- where each page of a file or an object is, and which are touched
+  pub place : PageKey → Place
+  pub touched : PageKey → Bool
   pub files : Files
 
 abbrev pub number_of_frame : FrameNo → ℕ
@@ -97,19 +97,19 @@ abbrev pub page_in : Picture → (ℕ → ℕ) → Seat → ℕ
 page_in c slot_page (InFrame n) = c.page_of n
 page_in c slot_page (InSlot k) = slot_page k
 
--- the seat of an own copy: a private frame, or a slot in use that holds no file page
+-- the seat of an own copy: a private frame, or a slot in use that holds no page of a file or an object
 abbrev pub IsOwned : Picture → Seat → Type 0
 IsOwned c (InFrame n) = role_of c.frames n ≡ Private
-IsOwned c (InSlot k) = (0 < c.slots.count k) × ((p : FilePage) → c.place p ≢ Slot (record { 0 = k }))
+IsOwned c (InSlot k) = (0 < c.slots.count k) × ((p : PageKey) → c.place p ≢ Slot (record { 0 = k }))
 
--- the bytes of a file page that isn't at home
+-- the bytes of a page of a file or an object that isn't at home
 abbrev pub bytes_at : FrameTable → SlotTable → Place → Option (List ℕ)
 bytes_at t s Home = None
 bytes_at t s (Frame n) = Some (bytes_of t n.0)
 bytes_at t s (Slot k) = Some (s.bytes k.0)
 
--- the bytes of a file page in memory or swap; none where it is at home
-unfoldable pub held : Picture → FilePage → Option (List ℕ)
+-- the bytes of a page of a file or an object in memory or swap; none where it is at home
+unfoldable pub held : Picture → PageKey → Option (List ℕ)
 held c p = bytes_at c.frames c.slots (c.place p)
 
 -- whether a frame holds a page of a process or of a file

@@ -1,15 +1,18 @@
 -- What one step of a call changes.
-use Rattle.std.specs.Prelude.{◌≡◌, ◌≢◌, ℕ, ◌<◌, ◌≤◌, ◌⊎◌, Some, None}
+use Rattle.std.specs.Prelude.{◌≡◌, ◌≢◌, ℕ, ◌<◌, ◌≤◌, ◌⊎◌, ◌↔◌, true, false, Some, None}
 use Rattle.vm_types.specs.Processes.{process_limit}
 use Rattle.vm_types.specs.Limits.{top_level}
-use Rattle.vm_types.specs.declared.file.FilePage.{FilePage}
+use Rattle.vm_types.specs.declared.object.ObjectPage.{ObjectPage}
+use Rattle.vm_types.specs.declared.object.PageKey.{PageKey}
+use Rattle.vm_types.specs.declared.object.PageKey.TheVariants.{Object}
+use Rattle.vm_types.specs.Objects.{names}
 use Rattle.frames.specs.declared.role.Role.TheVariants.{Free, Table, Private, Cache}
-use Rattle.frames.specs.FrameTable.{FrameTable, bytes_of, role_of, count_of, SameButFor, Takes}
-use Rattle.page_cache.specs.declared.place.Place.TheVariants.{Frame, Slot}
+use Rattle.frames.specs.FrameTable.{FrameTable, frame_count, bytes_of, role_of, count_of, SameButFor, Takes}
+use Rattle.page_cache.specs.declared.place.Place.TheVariants.{Home, Frame, Slot}
 use Rattle.swap.specs.Slots.{IsInUse}
-use Rattle.file_store.specs.Standing.{IsPageOf}
-use Rattle.page_tables.specs.Tree.{IsPage, IsSpare}
-use Rattle.paging.specs.Picture.{Picture, entry}
+use Rattle.page_tables.specs.Tree.{IsPage, IsSpare, Points}
+use Rattle.paging.specs.Picture.{Picture, entry, view, held}
+use Rattle.paging.specs.Parts.{IsPageFor}
 
 -- nothing but the frames changed
 pub record SameBeside (old new : Picture) : Type 0 where
@@ -17,8 +20,8 @@ pub record SameBeside (old new : Picture) : Type 0 where
   pub root : (pid : ℕ) → new.root pid ≡ old.root pid
   pub at : (pid page : ℕ) → new.at pid page ≡ old.at pid page
   pub page_of : (n : ℕ) → new.page_of n ≡ old.page_of n
-  pub place : (p : FilePage) → new.place p ≡ old.place p
-  pub touched : (p : FilePage) → new.touched p ≡ old.touched p
+  pub place : (p : PageKey) → new.place p ≡ old.place p
+  pub touched : (p : PageKey) → new.touched p ≡ old.touched p
   pub files : (f : ℕ) → new.files f ≡ old.files f
 
 -- no private frame and no cache frame came or went, and none has another share count
@@ -45,8 +48,8 @@ pub record TakesOwn (old new : Picture) (n page : ℕ) : Type 0 where
   pub others : (m : ℕ) → m ≢ n → new.page_of m ≡ old.page_of m
   pub root : (pid : ℕ) → new.root pid ≡ old.root pid
   pub at : (pid k : ℕ) → new.at pid k ≡ old.at pid k
-  pub place : (p : FilePage) → new.place p ≡ old.place p
-  pub touched : (p : FilePage) → new.touched p ≡ old.touched p
+  pub place : (p : PageKey) → new.place p ≡ old.place p
+  pub touched : (p : PageKey) → new.touched p ≡ old.touched p
   pub files : (f : ℕ) → new.files f ≡ old.files f
 
 -- one frame changed that was free, and nothing else but the page that is noted for it
@@ -57,32 +60,32 @@ pub record ChangesFrame (old new : Picture) (n : ℕ) : Type 0 where
   pub others : (m : ℕ) → m ≢ n → new.page_of m ≡ old.page_of m
   pub root : (pid : ℕ) → new.root pid ≡ old.root pid
   pub at : (pid k : ℕ) → new.at pid k ≡ old.at pid k
-  pub place : (p : FilePage) → new.place p ≡ old.place p
-  pub touched : (p : FilePage) → new.touched p ≡ old.touched p
+  pub place : (p : PageKey) → new.place p ≡ old.place p
+  pub touched : (p : PageKey) → new.touched p ≡ old.touched p
   pub files : (f : ℕ) → new.files f ≡ old.files f
 
--- all slots are as they were, but for that of the file page, where it lies in one: that one is free
-pub record LeavesSlot (old new : Picture) (page : FilePage) : Type 0 where
+-- all slots are as they were, but for that of the page, where it lies in one: that one is free
+pub record LeavesSlot (old new : Picture) (page : PageKey) : Type 0 where
   pub total : new.slots.total ≡ old.slots.total
   pub left : (k : ℕ) → old.place page ≡ Slot (record { 0 = k }) → new.slots.count k ≡ 0
   pub counts : (k : ℕ) → old.place page ≢ Slot (record { 0 = k }) → new.slots.count k ≡ old.slots.count k
   pub bytes : (k : ℕ) → old.place page ≢ Slot (record { 0 = k }) → IsInUse old.slots k → new.slots.bytes k ≡ old.slots.bytes k
 
--- a file page that lay in no frame was brought into the frame n, which was free
-pub record BringsIn (old new : Picture) (page : FilePage) (n : ℕ) : Type 0 where
+-- a page of a file or an object that lay in no frame was brought into the frame n, which was free
+pub record BringsIn (old new : Picture) (page : PageKey) (n : ℕ) : Type 0 where
   pub slots : LeavesSlot old new page
   pub frames : SameButFor n old.frames new.frames
   pub above : 0 < n
   pub was_free : role_of old.frames n ≡ Free
   pub kind : role_of new.frames n ≡ Cache
   pub was_away : (m : ℕ) → old.place page ≢ Frame (record { 0 = m })
-  pub inside : IsPageOf old.files page.file page.page
+  pub inside : IsPageFor old page
   pub placed : new.place page ≡ Frame (record { 0 = n })
-  pub others : (p : FilePage) → p ≢ page → new.place p ≡ old.place p
+  pub others : (p : PageKey) → p ≢ page → new.place p ≡ old.place p
   pub root : (pid : ℕ) → new.root pid ≡ old.root pid
   pub at : (pid k : ℕ) → new.at pid k ≡ old.at pid k
   pub page_of : (m : ℕ) → new.page_of m ≡ old.page_of m
-  pub touched : (p : FilePage) → new.touched p ≡ old.touched p
+  pub touched : (p : PageKey) → new.touched p ≡ old.touched p
   pub files : (f : ℕ) → new.files f ≡ old.files f
 
 -- a process was made, of that number and that root table, without a page
@@ -93,11 +96,12 @@ pub record Spawns (old new : Picture) (pid root : ℕ) : Type 0 where
   pub number : (1 ≤ pid) × (pid ≤ process_limit)
   pub lives : new.root pid ≡ Some root
   pub others : (q : ℕ) → q ≢ pid → new.root q ≡ old.root q
+  pub was_unmapped : (page : ℕ) → old.at pid page ≡ None
   pub unmapped : (page : ℕ) → new.at pid page ≡ None
   pub at : (q page : ℕ) → q ≢ pid → new.at q page ≡ old.at q page
   pub page_of : (m : ℕ) → new.page_of m ≡ old.page_of m
-  pub place : (p : FilePage) → new.place p ≡ old.place p
-  pub touched : (p : FilePage) → new.touched p ≡ old.touched p
+  pub place : (p : PageKey) → new.place p ≡ old.place p
+  pub touched : (p : PageKey) → new.touched p ≡ old.touched p
   pub files : (f : ℕ) → new.files f ≡ old.files f
 
 -- the regions of one process changed
@@ -107,8 +111,8 @@ pub record Remaps (old new : Picture) (pid : ℕ) : Type 0 where
   pub root : (q : ℕ) → new.root q ≡ old.root q
   pub others : (q page : ℕ) → q ≢ pid → new.at q page ≡ old.at q page
   pub page_of : (m : ℕ) → new.page_of m ≡ old.page_of m
-  pub place : (p : FilePage) → new.place p ≡ old.place p
-  pub touched : (p : FilePage) → new.touched p ≡ old.touched p
+  pub place : (p : PageKey) → new.place p ≡ old.place p
+  pub touched : (p : PageKey) → new.touched p ≡ old.touched p
   pub files : (f : ℕ) → new.files f ≡ old.files f
 
 -- a process went, and its root table, which had no entry, is free
@@ -123,6 +127,31 @@ pub record Exits (old new : Picture) (pid root : ℕ) : Type 0 where
   pub unmapped : (page : ℕ) → new.at pid page ≡ None
   pub at : (q page : ℕ) → q ≢ pid → new.at q page ≡ old.at q page
   pub page_of : (m : ℕ) → new.page_of m ≡ old.page_of m
-  pub place : (p : FilePage) → new.place p ≡ old.place p
-  pub touched : (p : FilePage) → new.touched p ≡ old.touched p
+  pub place : (p : PageKey) → new.place p ≡ old.place p
+  pub touched : (p : PageKey) → new.touched p ≡ old.touched p
   pub files : (f : ℕ) → new.files f ≡ old.files f
+
+-- no page that names that page of an object has an entry
+abbrev pub HasNoEntry : Picture → ObjectPage → Type 0
+HasNoEntry c p = (pid k : ℕ) → IsPage top_level k → names (c.at pid k) p.object p.page ≡ true → entry c pid k ≡ 0
+
+-- A page of an object is at home, which is zeros, and nothing else is seen otherwise. The frame or the slot that it had is free.
+pub record Forgets (old new : Picture) (p : ObjectPage) : Type 0 where
+  pub root : (pid : ℕ) → new.root pid ≡ old.root pid
+  pub at : (pid k : ℕ) → new.at pid k ≡ old.at pid k
+  pub page_of : (n : ℕ) → new.page_of n ≡ old.page_of n
+  pub files : (f : ℕ) → new.files f ≡ old.files f
+  pub placed : new.place (Object p) ≡ Home
+  pub others : (q : PageKey) → q ≢ Object p → new.place q ≡ old.place q
+  pub now : new.touched (Object p) ≡ false
+  pub rest : (q : PageKey) → q ≢ Object p → new.touched q ≡ old.touched q
+  pub entries : (pid k : ℕ) → IsPage top_level k → entry new pid k ≡ entry old pid k
+  pub views : (pid k : ℕ) → view new pid k ≡ view old pid k
+  pub held : (q : PageKey) → q ≢ Object p → held new q ≡ held old q
+  pub frames : frame_count new.frames ≡ frame_count old.frames
+  pub roles : (n : ℕ) → (role_of new.frames n ≡ role_of old.frames n) ⊎ ((role_of new.frames n ≡ Free) × (old.place (Object p) ≡ Frame (record { 0 = n })))
+  pub pointers : (n i m : ℕ) → Points old.frames n i m ↔ Points new.frames n i m
+  pub total : new.slots.total ≡ old.slots.total
+  pub counts : (k : ℕ) → old.place (Object p) ≢ Slot (record { 0 = k }) → new.slots.count k ≡ old.slots.count k
+  pub left : (k : ℕ) → old.place (Object p) ≡ Slot (record { 0 = k }) → new.slots.count k ≡ 0
+  pub bytes : (k : ℕ) → IsInUse new.slots k → new.slots.bytes k ≡ old.slots.bytes k

@@ -1,4 +1,4 @@
-//! A frame given up: its own copies go to a slot, its file page to a slot or home.
+//! A frame given up: its own copies go to a slot, its page of a file or an object to a slot or home.
 ghost use Rattle.std.specs.Prelude.{◌≡◌, ℕ, true, false, IfErr, OnOk, OnErr};
 ghost use Rattle.frames.specs.declared.role.Role.TheVariants as Roles;
 ghost use Rattle.frames.specs.FrameTable.{IsFrame, role_of};
@@ -18,10 +18,10 @@ use crate::shares::hand_over;
 use disk_model::SectorDisk;
 use page_cache::Place;
 use swap::PutFault;
-use vm_types::{FilePage, FrameNo, Stall};
+use vm_types::{FrameNo, PageKey, Stall};
 
-/// Gives up the frame of an untouched file page, which is at home then.
-pub(crate) fn send_home<D, E>(core: &mut Core<D, E>, victim: FrameNo, page: FilePage)
+/// Gives up the frame of an untouched page of a file or an object, which is at home then.
+pub(crate) fn send_home<D, E>(core: &mut Core<D, E>, victim: FrameNo, page: PageKey)
     requires fit { IsFit (picture_of core.old) }
     requires inside { IsFrame core.old.frames victim.0 }
     requires placed { (picture_of core.old).place page ≡ Frame victim }
@@ -37,14 +37,14 @@ pub(crate) fn send_home<D, E>(core: &mut Core<D, E>, victim: FrameNo, page: File
     core.frames.release(victim);
 }
 
-/// Gives up the frame of a touched file page, which is in a slot then. A slot is free.
+/// Gives up the frame of a touched page of a file or an object, which is in a slot then. A slot is free.
 ///
 /// # Errors
 /// `SwapDevice` only where the swap device failed.
 fn send_away<D, E: SectorDisk>(
     core: &mut Core<D, E>,
     victim: FrameNo,
-    page: FilePage,
+    page: PageKey,
 ) -> Result<(), Stall>
     requires fit { IsFit (picture_of core.old) }
     requires swap { IsReady E.SectorDisk core.old.swap }
@@ -104,7 +104,7 @@ fn send_copies<D, E: SectorDisk>(core: &mut Core<D, E>, victim: FrameNo) -> Resu
     }
 }
 
-/// Gives up a frame that holds a page of a process or of a file. Where it needs a slot, one is free.
+/// Gives up a frame that holds a page of a process, a file or an object. Where it needs a slot, one is free.
 ///
 /// # Errors
 /// `SwapDevice` only where the swap device failed.

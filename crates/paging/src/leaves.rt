@@ -1,7 +1,7 @@
 //! The entries over one frame, in the tables of all processes: found, and changed.
 ghost use Rattle.std.specs.Prelude.{◌≡◌, ◌≢◌, ◌≤◌, ◌<◌, ◌+◌, ◌-◌, ◌^◌, ◌↔◌, ℕ, true, false, Some, IfSome, IfNone, IsSome};
 ghost use Rattle.vm_types.specs.Limits.{top_level, user_start, user_end};
-ghost use Rattle.vm_types.specs.Attributes.{backed_by};
+ghost use Rattle.vm_types.specs.Attributes.{stands_on};
 ghost use Rattle.frames.specs.declared.role.Role.TheVariants as Roles;
 ghost use Rattle.frames.specs.FrameTable.{IsFrame, role_of};
 ghost use Rattle.sv39_walk.specs.Entry.{is_valid, is_accessed, is_dirty, frame_of};
@@ -11,7 +11,7 @@ ghost use Rattle.paging.specs.Picture.{picture_of, is_data};
 ghost use Rattle.paging.specs.Parts.{IsFit};
 ghost use Rattle.paging.specs.declared.leaves.Change.TheVariants as Kinds;
 ghost use Rattle.page_cache.specs.declared.place.Place.TheVariants.{Frame};
-ghost use Rattle.paging.specs.Leaves.{concerns, IsOver, IsFirstOver, IsChanged, Drops, Holds, ChangesLeaves, KeepsAllButFrames, IsClear, HasEntryOver, IsPageOver, IsRunOf};
+ghost use Rattle.paging.specs.Leaves.{concerns, IsOver, IsFirstOver, IsChanged, Drops, Holds, ChangesLeaves, KeepsAllButFrames, IsClear, HasEntryOver, IsPageOver, IsRunOf, key_after};
 
 use crate::kernel::{Core, PLACES};
 use frames::Role;
@@ -19,7 +19,7 @@ use mapped_memory::{entry, entry_number, set};
 use page_tables::Entry;
 use regions::Run;
 use sv39_walk::Pte;
-use vm_types::{FilePage, FrameNo, Vpn};
+use vm_types::{FrameNo, PageKey, Vpn};
 
 /// What becomes of an entry.
 #[derive(Clone, Copy, Debug, PartialEq, Eq)]
@@ -37,8 +37,8 @@ pub enum Change {
 pub(crate) enum Held {
     /// The own copy of that page.
     Own(u32),
-    /// That file page.
-    Filed(FilePage),
+    /// That page of a file or an object.
+    Filed(PageKey),
 }
 
 /// What the frame holds.
@@ -144,13 +144,13 @@ fn find_own<D, E>(
     }
 }
 
-/// The same where the frame holds a file page: run by run, the file page has at most one page of a run.
+/// The same where the frame holds a page of a file or an object: run by run, it has at most one page of a run.
 fn find_filed<D, E>(
     core: &Core<D, E>,
     pid: usize,
     root: FrameNo,
     low: u64,
-    page: FilePage,
+    page: PageKey,
     frame: FrameNo,
     change: Change,
 ) -> Option<Vpn>
@@ -178,7 +178,7 @@ fn find_over<D, E>(
     pid: usize,
     root: FrameNo,
     run: Run,
-    page: FilePage,
+    page: PageKey,
     frame: FrameNo,
     change: Change,
 ) -> Option<Vpn>
@@ -202,37 +202,58 @@ fn find_over<D, E>(
     }
 }
 
-/// The page of a run that stands on this file page.
-fn page_over(run: Run, page: FilePage) -> Option<Vpn>
+/// The page of a run that stands on this page of a file or an object.
+pub fn page_over(run: Run, page: PageKey) -> Option<Vpn>
     requires low { user_start ≤ run.first }
     requires order { run.first ≤ run.end }
     requires high { run.end ≤ user_end }
     ensures some { IfSome result (λ k. IsPageOver run page k) }
     ensures none { IfNone result ((k : ℕ) → IsPageOver run page k → ⊥) }
 {
-    match run.attr.backing.file_page() {
+    match run.attr.backing.stands_on() {
         Some(first) => page_after(run, first, page),
         None => None,
     }
 }
 
 /// The same in a run the first page of which stands on `first`.
-fn page_after(run: Run, first: FilePage, page: FilePage) -> Option<Vpn>
+fn page_after(run: Run, first: PageKey, page: PageKey) -> Option<Vpn>
     requires low { user_start ≤ run.first }
     requires order { run.first ≤ run.end }
     requires high { run.end ≤ user_end }
-    requires first { backed_by run.attr.backing ≡ Some first }
+    requires first { stands_on run.attr.backing ≡ Some first }
     ensures some { IfSome result (λ k. IsPageOver run page k) }
     ensures none { IfNone result ((k : ℕ) → IsPageOver run page k → ⊥) }
 {
-    if page.file != first.file || page.page < first.page {
-        return None;
-    }
-    let offset = u64::from(page.page - first.page);
+    let offset = offset_from(first, page)?;
     if offset < run.end - run.first {
         Vpn::new(run.first + offset)
     } else {
         None
+    }
+}
+
+/// How many pages further on than the first the second is; `None` where it isn't, or is of another file or object.
+fn offset_from(first: PageKey, page: PageKey) -> Option<u64>
+    ensures some { IfSome result (λ n. key_after first n ≡ page) }
+    ensures none { IfNone result ((n : ℕ) → key_after first n ≡ page → ⊥) }
+{
+    match (first, page) {
+        (PageKey::File(first), PageKey::File(page)) => {
+            if first.file == page.file && first.page <= page.page {
+                Some(u64::from(page.page - first.page))
+            } else {
+                None
+            }
+        }
+        (PageKey::Object(first), PageKey::Object(page)) => {
+            if first.object == page.object && first.page <= page.page {
+                Some(page.page - first.page)
+            } else {
+                None
+            }
+        }
+        _ => None,
     }
 }
 
@@ -305,7 +326,7 @@ fn change_of<D, E>(core: &mut Core<D, E>, pid: usize, held: Held, frame: FrameNo
 }
 
 /// Changes so each entry over a frame that holds a page, in the tables of all processes: no process sees it. Entries are forgotten
-/// only over a frame that holds a file page.
+/// only over a frame that holds a page of a file or an object.
 pub fn change_leaves<D, E>(core: &mut Core<D, E>, frame: FrameNo, change: Change)
     requires fit { IsFit (picture_of core.old) }
     requires inside { IsFrame core.old.frames frame.0 }

@@ -3,6 +3,7 @@
 #![tactic(auto)]
 
 mod evicting;
+mod forgetting;
 mod kernel;
 mod leaves;
 mod looking;
@@ -12,5 +13,5 @@ mod shares;
 mod steps;
 
 pub use kernel::{Core, PLACES};
-pub use leaves::{Change, change_leaves};
+pub use leaves::{Change, change_leaves, page_over};
 pub use obtaining::obtain;

@@ -1,5 +1,8 @@
 //! What the calls above do to memory, a step at a time.
-ghost use Rattle.std.specs.Prelude.{◌≡◌, ◌≢◌, ℕ, Option, None, IfOk, IfErr, OnOk, OnErr};
+ghost use Rattle.std.specs.Prelude.{◌≡◌, ◌≢◌, ℕ, true, Option, None, IfOk, IfErr, OnOk, OnErr};
+ghost use Rattle.vm_types.specs.declared.object.PageKey.TheVariants.{File, Object};
+ghost use Rattle.vm_types.specs.Objects.{is_named};
+ghost use Rattle.vm_types.specs.View.{zero_page};
 ghost use Rattle.file_store.specs.Standing.{IsPageOf};
 ghost use Rattle.file_store.specs.Store.{IsReadyStore};
 ghost use Rattle.frames.specs.FrameTable.{bytes_of, IsFull};
@@ -20,7 +23,7 @@ use disk_model::{DiskFault, SectorDisk};
 use frames::Role;
 use mapped_memory::take_table;
 use page_cache::Place;
-use vm_types::{FilePage, FrameNo, NoFree, SlotNo, Stall, Vpn};
+use vm_types::{FilePage, FrameNo, NoFree, ObjectPage, PageKey, SlotNo, Stall, Vpn};
 
 impl<D, E: SectorDisk> Core<D, E> {
     /// A free frame of zeros, taken for that page as a process's own. No entry names it yet. Where none is free another is given
@@ -80,12 +83,12 @@ impl<D, E: SectorDisk> Core<D, E> {
         }
     }
 
-    /// Reads a file page, which lies in that slot, into a free frame, where it lies afterwards. Its slot is given back.
+    /// Reads a page of a file or an object, which lies in that slot, into a free frame, where it lies afterwards. Its slot is given back.
     ///
     /// # Errors
     /// As `obtain`; and `SwapDevice` where the swap device failed as the slot was read. The page stays in its slot then, and no
     /// frame is taken.
-    pub fn bring_back(&mut self, page: FilePage, slot: SlotNo) -> Result<FrameNo, Stall>
+    pub fn bring_back(&mut self, page: PageKey, slot: SlotNo) -> Result<FrameNo, Stall>
         requires fit { IsFit (picture_of self.old) }
         requires swap { IsReady E.SectorDisk self.old.swap }
         requires there { (picture_of self.old).place page ≡ Slot slot }
@@ -116,6 +119,36 @@ impl<D, E: SectorDisk> Core<D, E> {
             }
         }
     }
+
+    /// Takes a free frame of zeros for a page of an object that a process names and that lies at home, which is zeros: it lies there
+    /// afterwards.
+    ///
+    /// # Errors
+    /// As `obtain`. The page stays at home then.
+    pub fn bring_blank(&mut self, page: ObjectPage) -> Result<FrameNo, Stall>
+        requires fit { IsFit (picture_of self.old) }
+        requires swap { IsReady E.SectorDisk self.old.swap }
+        requires named { is_named (picture_of self.old).at page.object page.page ≡ true }
+        requires home { (picture_of self.old).place (Object page) ≡ Home }
+        ensures brought { IfOk result (λ n. ObtainsCached (picture_of self.old) (picture_of self.new) (Object page) n.0) }
+        ensures blank { IfOk result (λ n. bytes_of self.new.frames n.0 ≡ zero_page) }
+        ensures fit { IsFit (picture_of self.new) }
+        ensures frees { OnErr result (Frees (picture_of self.old) (picture_of self.new) None) }
+        ensures swap { IsReady E.SectorDisk self.new.swap }
+        ensures rest { KeepsRest self.old self.new }
+        ensures device { UsesDevice E.SectorDisk self.old.swap.pages.disk self.new.swap.pages.disk }
+        ensures refuses { IfErr result (Refuses (picture_of self.new) None) }
+        ensures short { IfErr result (IsShort (picture_of self.new)) }
+        ensures cause { HasStallCause E.SectorDisk self.old self.new result }
+    {
+        obtain(self, None)?;
+        let Ok(frame) = self.frames.take(Role::Cache) else {
+            unreachable!();
+        };
+        self.cache
+            .set_place(PageKey::Object(page), Place::Frame(frame));
+        Ok(frame)
+    }
 }
 
 impl<D: SectorDisk, E: SectorDisk> Core<D, E> {
@@ -129,8 +162,8 @@ impl<D: SectorDisk, E: SectorDisk> Core<D, E> {
         requires store { IsReadyStore D.SectorDisk self.old.store }
         requires swap { IsReady E.SectorDisk self.old.swap }
         requires inside { IsPageOf (picture_of self.old).files page.file page.page }
-        requires home { (picture_of self.old).place page ≡ Home }
-        ensures brought { IfOk result (λ n. ObtainsCached (picture_of self.old) (picture_of self.new) page n.0) }
+        requires home { (picture_of self.old).place (File page) ≡ Home }
+        ensures brought { IfOk result (λ n. ObtainsCached (picture_of self.old) (picture_of self.new) (File page) n.0) }
         ensures read { IfOk result (λ n. IsRead D.SectorDisk self.old.store.disk self.new.store.disk page (bytes_of self.new.frames n.0)) }
         ensures fit { IsFit (picture_of self.new) }
         ensures frees { OnErr result (Frees (picture_of self.old) (picture_of self.new) None) }
@@ -150,7 +183,8 @@ impl<D: SectorDisk, E: SectorDisk> Core<D, E> {
         };
         match self.store.read_page(page, self.frames.bytes_mut(frame)) {
             Ok(()) => {
-                self.cache.set_place(page, Place::Frame(frame));
+                self.cache
+                    .set_place(PageKey::File(page), Place::Frame(frame));
                 Ok(frame)
             }
             Err(DiskFault) => {

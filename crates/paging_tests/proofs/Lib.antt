@@ -1,1 +1,2 @@
-pub mod Unmapped
+pub mod Mapped
+pub mod Reached

@@ -1,244 +1,68 @@
-//! Memory of 8 frames over devices in memory, filled with pages of a file.
-ghost use Rattle.std.specs.Prelude.{◌≢◌, ◌≤◌, IfOk, OnOk};
-ghost use Rattle.page_cache.specs.declared.place.Place.TheVariants.{Home};
-ghost use Rattle.file_store.specs.Store.{IsReadyStore};
-ghost use Rattle.swap.specs.Slots.{IsReady};
-ghost use Rattle.paging.specs.Parts.{IsFit};
-ghost use Rattle.paging.specs.Picture.{picture_of};
-
-use crate::bench::{EIGHT_PAGES, byte, equal, role};
-use disk_model::{SectorDisk, SimDisk};
-use frames::Role;
-use page_cache::Place;
-use paging::{Change, Core, change_leaves, obtain};
-use regions::Regions;
-use std::alloc::Global;
-use std::process::Abort;
+//! Pages that go from memory and come back. Of the 8 frames one is the zero page and three are tables, so four pages find room.
+use crate::bench::Act::{Load, Store};
+use crate::bench::Seen::{Byte, Stalled};
+use crate::bench::Step::{Free, Go, Page};
+use crate::bench::{FIRST, Step, Visit, follow};
+use page_cache::Place::{Frame, Home, Slot};
 use std::test::Fail;
-use test_fixtures::{Sizes, memory, sharers};
-use vm_types::{FilePage, FrameNo, Pid, SlotNo, Stall, Vpn};
+use vm_types::PageKey::File;
+use vm_types::Stall::NoSwap;
+use vm_types::Width::One;
+use vm_types::{FilePage, FrameNo, SlotNo};
 
-// Brings a page of the file into a frame.
-fn bring<D: SectorDisk, E: SectorDisk>(
-    rt: &impl Abort,
-    core: &mut Core<D, E>,
-    number: u32,
-) -> Result<FrameNo, Fail>
-    requires fit { IsFit (picture_of core.old) }
-    requires store { IsReadyStore D.SectorDisk core.old.store }
-    requires swap { IsReady E.SectorDisk core.old.swap }
-    ensures fit { OnOk result (IsFit (picture_of core.new)) }
-    ensures store { OnOk result (IsReadyStore D.SectorDisk core.new.store) }
-    ensures swap { OnOk result (IsReady E.SectorDisk core.new.swap) }
-{
-    let page = FilePage {
-        file: 0,
-        page: number,
-    };
-    let info = core.store.file(page.file).expect(rt, "a file");
-    assert!(rt; u64::from(info.length) > 4096 * u64::from(number));
-    assert_eq!(rt; core.cache.place(page), Place::Home);
-    Ok(core.bring_in(page)?)
-}
-
-// Brings the first seven pages in, which fill memory.
-fn fill<D: SectorDisk, E: SectorDisk>(rt: &impl Abort, core: &mut Core<D, E>) -> Result<(), Fail>
-    requires fit { IsFit (picture_of core.old) }
-    requires store { IsReadyStore D.SectorDisk core.old.store }
-    requires swap { IsReady E.SectorDisk core.old.swap }
-    ensures fit { OnOk result (IsFit (picture_of core.new)) }
-    ensures store { OnOk result (IsReadyStore D.SectorDisk core.new.store) }
-    ensures swap { OnOk result (IsReady E.SectorDisk core.new.swap) }
-{
-    for k in 0..7 {
-        bring(rt, core, k)?;
-    }
-    Ok(())
-}
-
-// Full memory with so many slots.
-fn filled(rt: &impl Abort, alloc: Global, slots: u32) -> Result<Core<SimDisk, SimDisk>, Fail>
-    requires { slots ≤ 4 }
-    ensures fit { IfOk result (λ core. IsFit (picture_of core)) }
-    ensures store { IfOk result (λ core. IsReadyStore ⟦<SimDisk as SectorDisk>⟧ core.store) }
-    ensures swap { IfOk result (λ core. IsReady ⟦<SimDisk as SectorDisk>⟧ core.swap) }
-{
-    let mut core = memory(
-        alloc,
-        Sizes {
-            slots,
-            ..EIGHT_PAGES
-        },
-    )?;
-    fill(rt, &mut core)?;
-    Ok(core)
-}
-
-// Notes that a page of a file, which lies in memory, was written.
-fn mark<D: SectorDisk, E: SectorDisk>(core: &mut Core<D, E>, page: FilePage)
-    requires fit { IsFit (picture_of core.old) }
-    requires store { IsReadyStore D.SectorDisk core.old.store }
-    requires swap { IsReady E.SectorDisk core.old.swap }
-    requires away { (picture_of core.old).place page ≢ Home }
-    ensures fit { IsFit (picture_of core.new) }
-    ensures store { IsReadyStore D.SectorDisk core.new.store }
-    ensures swap { IsReady E.SectorDisk core.new.swap }
-{
-    core.cache.mark_dirty(page);
-}
-
-// The same for that page of the file.
-fn touch<D: SectorDisk, E: SectorDisk>(rt: &impl Abort, core: &mut Core<D, E>, number: u32)
-    requires fit { IsFit (picture_of core.old) }
-    requires store { IsReadyStore D.SectorDisk core.old.store }
-    requires swap { IsReady E.SectorDisk core.old.swap }
-    ensures fit { IsFit (picture_of core.new) }
-    ensures store { IsReadyStore D.SectorDisk core.new.store }
-    ensures swap { IsReady E.SectorDisk core.new.swap }
-{
-    let page = FilePage {
-        file: 0,
-        page: number,
-    };
-    assert!(rt; core.cache.place(page) != Place::Home);
-    mark(core, page);
-}
-
-// The same for the first seven pages.
-fn touch_all<D: SectorDisk, E: SectorDisk>(rt: &impl Abort, core: &mut Core<D, E>)
-    requires fit { IsFit (picture_of core.old) }
-    requires store { IsReadyStore D.SectorDisk core.old.store }
-    requires swap { IsReady E.SectorDisk core.old.swap }
-    ensures fit { IsFit (picture_of core.new) }
-    ensures store { IsReadyStore D.SectorDisk core.new.store }
-    ensures swap { IsReady E.SectorDisk core.new.swap }
-{
-    for k in 0..7 {
-        touch(rt, core, k);
-    }
-}
-
-// Brings a page of the file, which lies in a slot, back into a frame.
-fn back<D: SectorDisk, E: SectorDisk>(core: &mut Core<D, E>, number: u32) -> Result<FrameNo, Fail>
-    requires fit { IsFit (picture_of core.old) }
-    requires swap { IsReady E.SectorDisk core.old.swap }
-{
-    let page = FilePage {
-        file: 0,
-        page: number,
-    };
-    match core.cache.place(page) {
-        Place::Slot(slot) => Ok(core.bring_back(page, slot)?),
-        _ => Err(Fail::new(format_args!("in no slot"))),
-    }
-}
-
-fn place<D, E>(core: &Core<D, E>, number: u32) -> Place {
-    core.cache.place(FilePage {
-        file: 0,
-        page: number,
-    })
-}
-
-// It borrows memory, so that its ways out let go of nothing: each of them would have to be proved to.
-fn give_up_two(rt: &impl Abort, core: &mut Core<SimDisk, SimDisk>) -> Result<(), Fail>
-    requires fit { IsFit (picture_of core.old) }
-    requires store { IsReadyStore ⟦<SimDisk as SectorDisk>⟧ core.old.store }
-    requires swap { IsReady ⟦<SimDisk as SectorDisk>⟧ core.old.swap }
-{
-    equal(rt, core.frames.next_free(), None);
-    equal(rt, place(core, 0), Place::Frame(FrameNo(1)));
-    touch(rt, core, 0);
-    equal(rt, obtain(core, None)?, FrameNo(1));
-    equal(rt, place(core, 0), Place::Slot(SlotNo(0)));
-    equal(rt, bring(rt, core, 7)?, FrameNo(1));
-    equal(rt, obtain(core, None)?, FrameNo(2));
-    equal(rt, place(core, 1), Place::Home);
-    assert!(rt; core.swap.len() > 0);
-    assert_eq!(rt; core.swap.count(SlotNo(0)), 1);
-    let mut page = [0; 4096];
-    core.swap.get(SlotNo(0), &mut page)?;
-    equal(rt, page[0], 7);
-    Ok(())
-}
+/// Without a slot an own page stays, and a page of the file that is touched; one that is not goes home.
+const WITHOUT_SLOTS: [Step; 8] = [
+    Go(Visit(0x10000, Store(1), Byte(7), 0xd7)),
+    Go(Visit(0x20000, Store(2), Byte(0), 0x1d7)),
+    Go(Visit(0x21000, Store(3), Byte(0), 0x1d7)),
+    Go(Visit(0x11000, Load(One), Byte(0), 0x57)),
+    Go(Visit(0x22000, Store(4), Byte(0), 0x1d7)),
+    Page(File(FilePage { file: 0, page: 1 }), Home, false),
+    Go(Visit(0x23000, Store(5), Stalled(NoSwap), 0)),
+    Go(Visit(0x10000, Load(One), Byte(1), 0xd7)),
+];
 
 #[test]
-fn a_touched_page_goes_to_a_slot_and_another_home(rt: HostRuntime) -> Result<(), Fail> {
-    let mut core = filled(&rt, rt.alloc(), 2)?;
-    give_up_two(&rt, &mut core)
+fn what_stays_without_a_slot(rt: HostRuntime) -> Result<(), Fail> {
+    follow(&rt, rt.alloc(), (0, 0), &WITHOUT_SLOTS)
 }
 
-#[test]
-fn the_kept_frame_stays(rt: HostRuntime) -> Result<(), Fail> {
-    let mut core = filled(&rt, rt.alloc(), 2)?;
-    equal(&rt, obtain(&mut core, Some(FrameNo(1))), Ok(FrameNo(2)));
-    equal(&rt, place(&core, 0), Place::Frame(FrameNo(1)));
-    Ok(())
-}
+/// Seven own pages, the first of them a copy of the file's page, in four frames and three slots.
+const OWN: [Step; 13] = [
+    Go(Visit(0x30000, Store(1), Byte(7), 0x1d7)),
+    Go(Visit(0x20000, Store(2), Byte(0), 0x1d7)),
+    Go(Visit(0x21000, Store(3), Byte(0), 0x1d7)),
+    Go(Visit(0x22000, Store(4), Byte(0), 0x1d7)),
+    Go(Visit(0x23000, Store(5), Byte(0), 0x1d7)),
+    Go(Visit(0x24000, Store(6), Byte(0), 0x1d7)),
+    Go(Visit(0x25000, Store(7), Byte(0), 0x1d7)),
+    Page(File(FIRST), Home, false),
+    Free(1),
+    Go(Visit(0x30000, Load(One), Byte(1), 0x1d7)),
+    Go(Visit(0x20000, Load(One), Byte(2), 0x1d7)),
+    Go(Visit(0x25000, Load(One), Byte(7), 0x1d7)),
+    Free(1),
+];
 
 #[test]
-fn without_a_slot_touched_pages_stay(rt: HostRuntime) -> Result<(), Fail> {
-    let mut core = filled(&rt, rt.alloc(), 0)?;
-    touch_all(&rt, &mut core);
-    equal(&rt, obtain(&mut core, None), Err(Stall::NoSwap));
-    Ok(())
+fn own_pages_come_back_from_their_slots(rt: HostRuntime) -> Result<(), Fail> {
+    follow(&rt, rt.alloc(), (4, 0), &OWN)
 }
 
-#[test]
-fn no_leaf_over_a_page_that_nobody_has(rt: HostRuntime) -> Result<(), Fail> {
-    let mut core = filled(&rt, rt.alloc(), 0)?;
-    assert!(rt; core.frames.len() > 1);
-    assert_eq!(rt; core.frames.role(FrameNo(1)), Role::Cache);
-    change_leaves(&mut core, FrameNo(1), Change::ClearDirty);
-    assert_eq!(rt; core.frames.role(FrameNo(1)), Role::Cache);
-    Ok(())
-}
+/// A page of the file that is touched goes to a slot, and is touched when it comes back.
+const TOUCHED: [Step; 9] = [
+    Go(Visit(0x10000, Store(1), Byte(7), 0xd7)),
+    Go(Visit(0x20000, Store(2), Byte(0), 0x1d7)),
+    Go(Visit(0x21000, Store(3), Byte(0), 0x1d7)),
+    Go(Visit(0x22000, Store(4), Byte(0), 0x1d7)),
+    Go(Visit(0x23000, Store(5), Byte(0), 0x1d7)),
+    Page(File(FIRST), Slot(SlotNo(0)), true),
+    Go(Visit(0x10000, Load(One), Byte(1), 0xd7)),
+    Page(File(FIRST), Frame(FrameNo(5)), true),
+    Free(3),
+];
 
 #[test]
 fn a_touched_page_comes_back_from_its_slot(rt: HostRuntime) -> Result<(), Fail> {
-    let mut core = filled(&rt, rt.alloc(), 2)?;
-    touch(&rt, &mut core, 0);
-    assert_eq!(rt; obtain(&mut core, None), Ok(FrameNo(1)));
-    equal(&rt, place(&core, 0), Place::Slot(SlotNo(0)));
-    equal(&rt, back(&mut core, 0)?, FrameNo(1));
-    equal(&rt, place(&core, 0), Place::Frame(FrameNo(1)));
-    equal(&rt, sharers(&core, 0), Some(0));
-    equal(&rt, byte(&core, FrameNo(1), 0), Some(7));
-    Ok(())
-}
-
-#[test]
-fn a_frame_is_taken_for_a_page(rt: HostRuntime) -> Result<(), Fail> {
-    let mut core = memory(rt.alloc(), EIGHT_PAGES)?;
-    let page = Vpn::new(16).expect(&rt, "a user page");
-    let own = core.take_own(page, None)?;
-    equal(&rt, role(&core, own), Some(Role::Private));
-    equal(&rt, byte(&core, own, 4095), Some(0));
-    Ok(())
-}
-
-#[test]
-fn a_process_is_made_and_mapped(rt: HostRuntime) -> Result<(), Fail> {
-    let mut core = memory(rt.alloc(), EIGHT_PAGES)?;
-    assert_eq!(rt; core.live(1), None);
-    let pid = Pid::new(1).expect(&rt, "a number of a process");
-    assert_eq!(rt; core.root(pid), None);
-    let root = core.take_table()?;
-    core.add_process(pid, root);
-    assert_eq!(rt; core.root(pid), Some(root));
-    core.remap(pid, &Regions::new());
-    equal(&rt, core.regions(pid).runs(), 0);
-    Ok(())
-}
-
-#[test]
-fn a_process_without_pages_ends(rt: HostRuntime) -> Result<(), Fail> {
-    let mut core = memory(rt.alloc(), EIGHT_PAGES)?;
-    let pid = Pid::new(1).expect(&rt, "a number of a process");
-    let root = core.take_table()?;
-    core.add_process(pid, root);
-    core.remove_process(pid);
-    equal(&rt, core.root(pid), None);
-    equal(&rt, role(&core, root), Some(Role::Free));
-    Ok(())
+    follow(&rt, rt.alloc(), (4, 0), &TOUCHED)
 }

@@ -1,4 +1,4 @@
-//! Tests of memory that evicts: its pages and entries, accesses and msyncs.
+//! Tests of memory that evicts: accesses and msyncs of a process, in 8 frames that are soon full.
 #![tactic(auto)]
 
 #[cfg(test)]
@@ -6,8 +6,8 @@ mod accesses;
 #[cfg(test)]
 mod bench;
 #[cfg(test)]
-mod entries;
-#[cfg(test)]
 mod evictions;
+#[cfg(test)]
+mod objects;
 #[cfg(test)]
 mod syncs;

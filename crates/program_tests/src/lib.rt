@@ -1,15 +1,17 @@
-//! Tests of the programs over files: images, streams and exit statuses.
+//! Tests of the programs over files: images, streams and exit statuses, and what is refused.
 #![tactic(auto)]
 
 #[cfg(test)]
-mod pagecat;
+mod devices;
 #[cfg(test)]
-mod pagefmt;
+mod images;
 #[cfg(test)]
-mod pagerun;
+mod refusals;
 #[cfg(test)]
-mod rows;
+mod runs;
 #[cfg(test)]
 mod stops;
 #[cfg(test)]
-mod turns;
+mod streams;
+#[cfg(test)]
+mod upgrades;

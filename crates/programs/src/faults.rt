@@ -5,7 +5,7 @@ ghost use Rattle.programs.specs.Faults.{fault_status, words_fault};
 
 use crate::showing::ShowFault;
 use clap::error::ErrorKind;
-use file_store::{FormatFault, OpenFault};
+use file_store::{FormatFault, OpenFault, UpgradeFault};
 use machine::BootFault;
 use std::alloc::AllocError;
 use std::fmt::{self, Display, Formatter, Write as _};
@@ -30,6 +30,9 @@ pub enum ProgramFault<'a> {
     /// No store was made.
     #[error("format {} {}", *.0 as u8, *.0)]
     Format(FormatFault),
+    /// No store was made of one of layout 1.
+    #[error("upgrade {} {}", *.0 as u8, *.0)]
+    Upgrade(UpgradeFault),
     /// A store was not opened.
     #[error("{}", ShowFault::Open(*.0))]
     Open(OpenFault),

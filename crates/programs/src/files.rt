@@ -120,14 +120,22 @@ pub(crate) fn disk_in<C: FileContents>(file: File, length: u64) -> io::Result<Fi
 }
 
 /// What the first 512 bytes of an image are, 64 times over.
-const MARK: &[u8] = b"FAMSYNC1";
+const MARK: &[u8] = b"FAMSYNC2";
 
-/// Whether a file begins as an image does.
+/// The same of an image of layout 1.
+const OLD_MARK: &[u8] = b"FAMSYNC1";
+
+/// Whether a file begins as an image of either layout does.
 pub(crate) fn has_mark(file: &File) -> io::Result<bool> {
     let mut sector = [0; 512];
     if file.metadata()?.len() < sector.len() as u64 {
         return Ok(false);
     }
     file.read_exact_at(&mut sector, 0)?;
-    Ok(sector.chunks(MARK.len()).all(|part| part == MARK))
+    Ok(repeats(&sector, MARK) || repeats(&sector, OLD_MARK))
+}
+
+/// Whether a sector is this word all over.
+fn repeats(sector: &[u8; 512], word: &[u8]) -> bool {
+    sector.chunks(8).all(|part| part == word)
 }

@@ -5,7 +5,8 @@ use crate::faults::{ProgramFault, report};
 use crate::files::{Access, disk_in, has_mark, open_alone};
 use crate::places::held_places;
 use crate::sources::open_sources;
-use crate::words::format_words;
+use crate::upgrading::upgrade_image;
+use crate::words::{FormatWords, NewWords, format_words};
 use disk_model::{FileContents, FileDisk, SectorDisk, Unknown};
 use file_store::{FileSource, FormatFault, format, image_bytes};
 use std::fs::{self, File, Files, TryLockError};
@@ -14,12 +15,16 @@ use std::io::{self, ErrorKind, Read, Write};
 /// The most files of an image.
 const MAX_FILES: usize = 64;
 
-/// `pagefmt new IMAGE SPEC...`: makes IMAGE where it is missing, lengthens it to `512 * (1020 + 8 H)` bytes for the `H`
+/// `pagefmt new IMAGE SPEC...`: makes IMAGE where it is missing, lengthens it to `512 * (8195 + 8 H)` bytes for the `H`
 /// home pages of the specs, and formats it. The files get numbers and homes in the order of the specs. SPEC is `zero:LEN`,
 /// a writable file of LEN zero bytes, or `rw:PATH` or `ro:PATH`, a writable or a read-only file of the bytes of a host
 /// file, which is read a page at a time. All specs are looked at, and their host files opened, before IMAGE is made; over
 /// 64 specs, and an IMAGE that is an image already, are reported before it is lengthened. What can't be locked, lengthened
 /// or synced keeps its bytes and its length, or is unmade again; only a file that another program locks first is left to it.
+///
+/// `pagefmt upgrade OLD NEW`: makes NEW where it is missing, lengthens it so that it has as many home pages as OLD, an image of
+/// layout 1, and makes a store on it that stands for what OLD stands for. OLD is only read. Where the upgrade is refused
+/// NEW is as it was, or unmade again.
 ///
 /// Returns the exit status: 0 done; 1 a fault; 2 other words. For 1 and 2 one line on `errors` says why.
 pub fn pagefmt<R: Files<File = File> + AllocGlobal, I: Read, O: Write, X: Write>(
@@ -31,16 +36,31 @@ pub fn pagefmt<R: Files<File = File> + AllocGlobal, I: Read, O: Write, X: Write>
 ) -> u8
     ensures statuses { result ≤ 2 }
 {
-    report("pagefmt", format_image::<Unknown, R>(rt, words), errors)
+    report(
+        "pagefmt",
+        format_or_upgrade::<Unknown, Unknown, R>(rt, words),
+        errors,
+    )
 }
 
-fn format_image<'a, C: FileContents, R: Files<File = File> + AllocGlobal>(
+fn format_or_upgrade<'a, C: FileContents, K: FileContents, R: Files<File = File> + AllocGlobal>(
     rt: &R,
     words: &'a [String],
 ) -> Result<u8, ProgramFault<'a>>
     ensures { IfOk result (λ status. status ≡ 0) }
 {
-    let words = format_words(rt.alloc(), words)?;
+    match format_words(rt.alloc(), words)? {
+        FormatWords::New(words) => format_image::<C, R>(rt, words),
+        FormatWords::Upgrade(words) => upgrade_image::<C, K, R>(rt, words),
+    }
+}
+
+fn format_image<'a, C: FileContents, R: Files<File = File> + AllocGlobal>(
+    rt: &R,
+    words: NewWords<'a>,
+) -> Result<u8, ProgramFault<'a>>
+    ensures { IfOk result (λ status. status ≡ 0) }
+{
     let _places = held_places(rt)?;
     let mut sources = open_sources(rt.alloc(), rt, words.specs.as_slice())?;
     let mut disk = new_image::<C, R>(rt, words.image, sources.as_slice())?;
@@ -52,7 +72,7 @@ fn format_image<'a, C: FileContents, R: Files<File = File> + AllocGlobal>(
 
 /// What stood at the path of IMAGE before this run.
 #[derive(Clone, Copy, Debug, PartialEq, Eq)]
-enum Former {
+pub(crate) enum Former {
     /// Nothing: what is there now was made by this run.
     Missing,
     /// A file of so many bytes.
@@ -86,7 +106,7 @@ fn new_image<'a, C: FileContents, R: Files<File = File>>(
 
 /// The file of that path under a lock that no other program of ours has, and what stood there before. One that is missing is
 /// made; a link to one that is missing is not opened.
-fn image_file<R: Files<File = File>>(rt: &R, path: &str) -> io::Result<(File, Former)> {
+pub(crate) fn image_file<R: Files<File = File>>(rt: &R, path: &str) -> io::Result<(File, Former)> {
     match File::create_new(rt, path) {
         Ok(file) => lock_made(rt, path, file),
         Err(error) if error.kind() == ErrorKind::AlreadyExists => found_file(rt, path),
@@ -139,6 +159,19 @@ fn unmarked_disk<'a, C: FileContents>(
         Ok(true) => return Err(ProgramFault::Format(FormatFault::Formatted)),
         Err(_) => return Err(ProgramFault::Format(FormatFault::Device)),
     }
+    lengthened_disk::<C>(path, file, length)
+}
+
+/// The device in a file, which is lengthened with zeros to so many bytes where it is shorter. The device has a handle of its
+/// own.
+pub(crate) fn lengthened_disk<'a, C: FileContents>(
+    path: &'a str,
+    file: &File,
+    length: u64,
+) -> Result<FileDisk<C>, ProgramFault<'a>>
+    ensures kept { IfOk result (λ disk. ⟦<FileDisk<C> as SectorDisk>⟧.keeps_model disk) }
+    ensures synced { IfOk result (λ disk. (k : ℕ) → ⟦<FileDisk<C> as SectorDisk>⟧.unsynced disk k → ⊥) }
+{
     let Ok(own) = file.try_clone() else {
         return Err(ProgramFault::CannotOpen(path));
     };
@@ -150,7 +183,7 @@ fn unmarked_disk<'a, C: FileContents>(
 
 /// Takes back what this run did to the file of that path, which was not formatted. Where the system fails in that too, an
 /// empty file stays, or zeros at a file's end.
-fn set_back<R: Files<File = File>>(rt: &R, path: &str, file: &File, former: Former) {
+pub(crate) fn set_back<R: Files<File = File>>(rt: &R, path: &str, file: &File, former: Former) {
     match former {
         Former::Missing => {
             let _ = fs::remove_file(rt, path);

@@ -10,6 +10,7 @@ mod running;
 mod showing;
 mod sources;
 mod start;
+mod upgrading;
 mod words;
 
 pub use faults::{ProgramFault, report};

@@ -11,11 +11,27 @@ pub const DEFAULT_CONFIG: Config = Config {
     slots: 16,
 };
 
+/// The words of `pagefmt`.
+#[derive(Debug, Drop)]
+pub(crate) enum FormatWords<'a> {
+    /// `new IMAGE SPEC...`
+    New(NewWords<'a>),
+    /// `upgrade OLD NEW`
+    Upgrade(UpgradeWords<'a>),
+}
+
 /// The words of `pagefmt new IMAGE SPEC...`.
 #[derive(Debug, Drop)]
-pub(crate) struct FormatWords<'a> {
+pub(crate) struct NewWords<'a> {
     pub image: &'a str,
     pub specs: Vec<&'a str>,
+}
+
+/// The words of `pagefmt upgrade OLD NEW`.
+#[derive(Clone, Copy, Debug, PartialEq, Eq)]
+pub(crate) struct UpgradeWords<'a> {
+    pub old: &'a str,
+    pub new: &'a str,
 }
 
 /// The words of `pagecat IMAGE N`.
@@ -41,20 +57,27 @@ pub(crate) fn format_words<'a>(
     let image = Arg::new(alloc, "IMAGE").required(true);
     let specs = Arg::new(alloc, "SPEC").required(true).num_args(1..);
     let new = Command::new(alloc, "new").arg(image)?.arg(specs)?;
+    let upgrade = Command::new(alloc, "upgrade")
+        .arg(Arg::new(alloc, "OLD").required(true))?
+        .arg(Arg::new(alloc, "NEW").required(true))?;
     let command = Command::new(alloc, "pagefmt")
         .no_binary_name(true)
         .subcommand_required(true)
-        .subcommand(new)?;
+        .subcommand(new)?
+        .subcommand(upgrade)?;
     let matches = command.try_get_matches_from(words)?;
+    if let Some(upgrade) = matches.subcommand_matches("upgrade") {
+        let old = upgrade.get_str("OLD").ok_or(ProgramFault::Usage)?;
+        let new = upgrade.get_str("NEW").ok_or(ProgramFault::Usage)?;
+        return Ok(FormatWords::Upgrade(UpgradeWords { old, new }));
+    }
     let new = matches
         .subcommand_matches("new")
         .ok_or(ProgramFault::Usage)?;
     let image = new.get_str("IMAGE").ok_or(ProgramFault::Usage)?;
     let specs = new.get_strs("SPEC").ok_or(ProgramFault::Usage)?;
-    Ok(FormatWords {
-        image,
-        specs: Vec::from_slice(alloc, specs)?,
-    })
+    let specs = Vec::from_slice(alloc, specs)?;
+    Ok(FormatWords::New(NewWords { image, specs }))
 }
 
 /// Reads the words of `pagerun`.

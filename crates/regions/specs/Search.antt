@@ -1,5 +1,5 @@
 -- What a walk along a list of runs finds.
-use Rattle.std.specs.Prelude.{ℕ, ◌+◌, ◌^◌, Bool, true, leb, ltb, max, not, ◌&&◌, if◌then◌else◌, List, [], ◌∷◌, Option, Some, None}
+use Rattle.std.specs.Prelude.{ℕ, ◌+◌, Bool, true, leb, ltb, max, not, ◌&&◌, if◌then◌else◌, List, [], ◌∷◌, Option, Some, None}
 use Rattle.vm_types.specs.Limits.{user_end}
 use Rattle.regions.specs.declared.run.Run.{Run}
 use Rattle.regions.specs.Run.{run_between}

@@ -1,8 +1,8 @@
 //! Attributes of pages that follow one another.
 ghost use Rattle.std.specs.Prelude.{◌≡◌, ◌+◌, ◌<◌, ◌^◌};
-ghost use Rattle.vm_types.specs.Attributes.{attr_after, attr_eq, backing_after, backing_eq, backing_fits, file_page_after, file_page_eq};
+ghost use Rattle.vm_types.specs.Attributes.{attr_after, attr_eq, backing_after, backing_eq, backing_fits, file_page_after, file_page_eq, object_page_after, object_page_eq};
 
-use vm_types::{Attr, Backing, FilePage};
+use vm_types::{Attr, Backing, FilePage, ObjectPage};
 
 /// The file page `count` pages further on.
 fn file_page_after(page: FilePage, count: u64) -> FilePage
@@ -15,6 +15,17 @@ fn file_page_after(page: FilePage, count: u64) -> FilePage
     }
 }
 
+/// The page of an object `count` pages further on.
+fn object_page_after(page: ObjectPage, count: u64) -> ObjectPage
+    requires { page.page + count < 2 ^ 32 }
+    ensures { result ≡ object_page_after page count }
+{
+    ObjectPage {
+        object: page.object,
+        page: page.page + count,
+    }
+}
+
 /// What the page `count` pages further on is.
 pub(crate) fn attr_after(attr: Attr, count: u64) -> Attr
     requires { backing_fits attr.backing (count + 1) }
@@ -24,6 +35,7 @@ pub(crate) fn attr_after(attr: Attr, count: u64) -> Attr
         Backing::Anon => Backing::Anon,
         Backing::Private(page) => Backing::Private(file_page_after(page, count)),
         Backing::Shared(page) => Backing::Shared(file_page_after(page, count)),
+        Backing::Common(page) => Backing::Common(object_page_after(page, count)),
     };
     Attr {
         prot: attr.prot,
@@ -39,6 +51,14 @@ fn file_page_follows(page: FilePage, count: u64, next: FilePage) -> bool
     page.file == next.file && page.page as u64 + count == next.page as u64
 }
 
+/// Whether `next` is the page of an object `count` pages further on than `page`.
+fn object_page_follows(page: ObjectPage, count: u64, next: ObjectPage) -> bool
+    requires { count < 2 ^ 32 }
+    ensures { result ≡ object_page_eq (object_page_after page count) next }
+{
+    page.object == next.object && page.page <= next.page && next.page - page.page == count
+}
+
 /// Whether `next` stands behind the page `count` pages further on than `backing`'s.
 fn backing_follows(backing: Backing, count: u64, next: Backing) -> bool
     requires { count < 2 ^ 32 }
@@ -48,6 +68,7 @@ fn backing_follows(backing: Backing, count: u64, next: Backing) -> bool
         (Backing::Anon, Backing::Anon) => true,
         (Backing::Private(page), Backing::Private(next)) => file_page_follows(page, count, next),
         (Backing::Shared(page), Backing::Shared(next)) => file_page_follows(page, count, next),
+        (Backing::Common(page), Backing::Common(next)) => object_page_follows(page, count, next),
         _ => false,
     }
 }

@@ -1,5 +1,5 @@
 -- The bytes of all files, as an image stands for them and as an open store gives them.
-use Rattle.std.proofs.Common.{◌≡◌, ◌≤◌, ◌<◌, ◌+◌, ◌*◌, ◌/◌, ℕ, List, [], take, Option, Some, None, refl, sym, ap, ◌∙◌, arith}
+use Rattle.std.proofs.Common.{◌≡◌, ◌<◌, ◌*◌, ℕ, List, [], take, Option, Some, None, refl, sym, ap, ◌∙◌, arith}
 use Rattle.std.specs.Option.{option_map, unwrap_or}
 use Rattle.vm_types.specs.declared.file.FileInfo.{FileInfo}
 use Rattle.disk_model.specs.Stop.{Image}
@@ -9,8 +9,8 @@ use Rattle.disk_model.specs.Sectors.{joined}
 use Rattle.disk_model.proofs.Pieces.{joined-same}
 use Rattle.file_store.specs.declared.store.FileStore.{FileStore}
 use Rattle.file_store.specs.Layout.{page_count}
-use Rattle.file_store.specs.Standing.{IsBadLayout, IsPageOf, StandsAs, bytes_of_pages, directory_entry, file_info, standing_file, standing_page}
-use Rattle.file_store.specs.Store.{IsReadyStore, entry_of, files_of}
+use Rattle.file_store.specs.Standing.{IsBadLayout, IsPageOf, StandsAs, bytes_of_pages, file_info, standing_file, standing_page}
+use Rattle.file_store.specs.Store.{IsReadyStore, files_of}
 use Rattle.stop_trials.specs.Standing.{standing_bytes, standing_contents}
 
 -- the bytes of a file of these pages, none where there is none

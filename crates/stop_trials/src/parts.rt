@@ -6,14 +6,15 @@ use crate::stopping::Event;
 use std::fmt::{self, Display, Formatter};
 use sync_journal::FIRST_HOME;
 
-/// The sectors of the mark, the directory, the gate of the journal and its map.
+/// The sectors of the mark, the directory and the gate of the journal.
 const MARK: u64 = 0;
 
 const DIRECTORY: u64 = 1;
 
 const GATE: u64 = 2;
 
-const MAP: u64 = 3;
+/// The first sector of its body.
+const BODY: u64 = 11;
 
 /// A part of a store's image. `Display` gives its name.
 #[derive(Clone, Copy, Debug, PartialEq, Eq)]
@@ -24,11 +25,11 @@ pub(crate) enum Part {
     Directory,
     /// Sector 2, the gate of the journal.
     Gate,
-    /// Sector 3, the map of the journal.
+    /// Sectors 3 to 10, the map of the journal.
     Map,
-    /// Sectors 4 to 1,019, the body of the journal.
+    /// Sectors 11 to 8,194, the body of the journal.
     Body,
-    /// Sectors 1,020 on, the home pages.
+    /// Sectors 8,195 on, the home pages.
     Home,
 }
 
@@ -41,7 +42,7 @@ impl Part {
             MARK => Part::Mark,
             DIRECTORY => Part::Directory,
             GATE => Part::Gate,
-            MAP => Part::Map,
+            _ if sector < BODY => Part::Map,
             _ if sector < FIRST_HOME => Part::Body,
             _ => Part::Home,
         }

@@ -2,8 +2,14 @@
 #![tactic(auto)]
 
 #[cfg(test)]
+mod bench;
+#[cfg(test)]
 mod disks;
+#[cfg(test)]
+mod formats;
 #[cfg(test)]
 mod requests;
 #[cfg(test)]
 mod stores;
+#[cfg(test)]
+mod upgrades;

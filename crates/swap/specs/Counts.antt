@@ -1,5 +1,5 @@
 -- Share counts, and a stack of the slots that have none.
-use Rattle.std.specs.Prelude.{◌≡◌, ◌≢◌, ℕ, ◌<◌, ◌≤◌, Bool, ◌==◌, List, length, slice_index_or}
+use Rattle.std.specs.Prelude.{◌≡◌, ◌≢◌, ℕ, ◌<◌, ◌≤◌, ◌==◌, List, length, slice_index_or}
 use Rattle.vm_types.specs.Counting.{count_below}
 
 -- the share count of slot n, 0 past the end

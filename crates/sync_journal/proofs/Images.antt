@@ -4,10 +4,11 @@ use Rattle.std.specs.Prelude.{IfSome}
 use Rattle.std.proofs.lemmas.Bool.{cases_eq, eqb-true, eqb-false, eq-eqb}
 use Rattle.std.proofs.lemmas.Bool.Decides.{nat_tests}
 use Rattle.disk_model.specs.Stop.{Image}
-use Rattle.sync_journal.specs.Layout.{gate_sector, map_sector, body_sector, home_sector, home_count, IsHomeSector, IsOutside}
+use Rattle.sync_journal.specs.Layout.{Layout, layout_2, gate_sector, body_sector, home_at, home_sector, home_count, IsHomeSector, IsOutside}
 use Rattle.sync_journal.specs.Gate.{is_open}
 use Rattle.sync_journal.specs.Map.{place_among, place_of, count_in, home_in, AreHomes, IsBadMap}
-use Rattle.sync_journal.specs.Standing.{place_or_home, standing_under, standing, StandsFor, IsOpenFor, AreCopied}
+use Rattle.sync_journal.proofs.Maps.{same_map}
+use Rattle.sync_journal.specs.Standing.{place_or_home_in, place_or_home, map_in, map_of, standing_under, standing_in, standing, StandsFor, IsOpenIn, IsOpenFor, AreCopied}
 use Rattle.sync_journal.specs.Commit.{IsKept}
 
 -- maps that name the same homes have them at the same places
@@ -60,22 +61,31 @@ place_means names h zero = λ j below. absurd (omega arith)
 place_means names h (suc n) = stepped names h n (place_among names h n) (names n == h) refl (place_means names h n)
 
 -- under a closed gate the homes stand
-pub standing_closed : (image : Image) (h i : ℕ) → is_open image ≡ false → standing image h i ≡ image (home_sector h + i)
+pub closed_stands : (layout : Layout) (image : Image) (h i : ℕ) → is_open image ≡ false → standing_in layout image h i ≡ image (home_at layout h + i)
 unfolding standing_under
-standing_closed image h i closed =
-    ap (λ gate. image ((if gate then place_or_home h (place_among (home_in (image map_sector)) h (count_in (image map_sector))) else home_sector h) + i)) closed
+closed_stands layout image h i closed =
+    let map = map_in layout image in
+    ap (λ gate. image ((if gate then place_or_home_in layout h (place_among (home_in map) h (count_in map)) else home_at layout h) + i)) closed
+
+pub standing_closed : (image : Image) (h i : ℕ) → is_open image ≡ false → standing image h i ≡ image (home_sector h + i)
+standing_closed image h i closed = closed_stands layout_2 image h i closed
 
 -- under a gate that is open for homes, what the body holds for them, and the other homes
-pub standing_open : (homes : List ℕ) (image : Image) (h i : ℕ) → IsOpenFor homes image → standing image h i ≡ image (place_or_home h (place_of homes h) + i)
+pub open_stands : (layout : Layout) (homes : List ℕ) (image : Image) (h i : ℕ) → IsOpenIn layout homes image
+    → standing_in layout image h i ≡ image (place_or_home_in layout h (place_of homes h) + i)
 unfolding standing_under
-standing_open homes image h i opens =
-    let names = home_in (image map_sector) in
-    ap (λ gate. image ((if gate then place_or_home h (place_among names h (count_in (image map_sector))) else home_sector h) + i)) opens.gate
-    ∙ ap (λ n. image (place_or_home h (place_among names h n) + i)) opens.count
-    ∙ ap (λ place. image (place_or_home h place + i)) (place_same names (λ j. get_or homes j 0) h (length homes) opens.each)
+open_stands layout homes image h i opens =
+    let map = map_in layout image in
+    let names = home_in map in
+    ap (λ gate. image ((if gate then place_or_home_in layout h (place_among names h (count_in map)) else home_at layout h) + i)) opens.gate
+    ∙ ap (λ n. image (place_or_home_in layout h (place_among names h n) + i)) opens.count
+    ∙ ap (λ place. image (place_or_home_in layout h place + i)) (place_same names (λ j. get_or homes j 0) h (length homes) opens.each)
+
+pub standing_open : (homes : List ℕ) (image : Image) (h i : ℕ) → IsOpenFor homes image → standing image h i ≡ image (place_or_home h (place_of homes h) + i)
+standing_open homes image h i opens = open_stands layout_2 homes image h i opens
 
 -- an image with the same map is open for the same homes
-pub open_as : (homes : List ℕ) (content image : Image) → IsOpenFor homes content → is_open image ≡ true → image map_sector ≡ content map_sector → IsOpenFor homes image
+pub open_as : (homes : List ℕ) (content image : Image) → IsOpenFor homes content → is_open image ≡ true → map_of image ≡ map_of content → IsOpenFor homes image
 open_as homes content image opens gate same = record {
   gate = gate;
   count = ap count_in same ∙ opens.count;
@@ -98,15 +108,15 @@ module _ (sectors : ℕ) (homes : List ℕ) (are : AreHomes (home_count sectors)
       → IsKept sectors content (StandsFor (standing content)) image
   open_kept image gate same = record {
     stands = record { each = each };
-    journal = λ bad. record { gate = opens.gate; map = subst (IsBadMap (home_count sectors)) same_map bad.map };
+    journal = λ bad. record { gate = opens.gate; map = subst (IsBadMap 1023 (home_count sectors)) maps bad.map };
     outside = λ k outside. ⊎_elim (λ at_home. absurd (outside_homes sectors homes k are outside at_home)) (λ e. e) (same k (outside_gate k outside));
   }
     where
       outside_gate : (k : ℕ) → IsOutside sectors k → k ≢ gate_sector
       outside_gate k outside e = ⊎_elim (λ front. omega (arith, front, e)) (λ behind. omega (arith, behind, e)) outside
 
-      same_map : image map_sector ≡ content map_sector
-      same_map = ⊎_elim (λ at_home. absurd (omega (arith, at_home.2.0))) (λ e. e) (same map_sector (omega arith))
+      maps : map_of image ≡ map_of content
+      maps = same_map image content (λ k from below. ⊎_elim (λ at_home. absurd (omega (arith, below, at_home.2.0))) (λ e. e) (same k (omega (arith, from))))
 
       here : (h i : ℕ) → i < 8 → (o : Option ℕ) → Means (λ j. get_or homes j 0) h (length homes) o → image (place_or_home h o + i) ≡ content (place_or_home h o + i)
       here h i below None none = ⊎_elim (λ at_home. absurd (not_at_home homes h i below none at_home)) (λ e. e) (same (home_sector h + i) (omega arith))
@@ -114,7 +124,7 @@ module _ (sectors : ℕ) (homes : List ℕ) (are : AreHomes (home_count sectors)
           ⊎_elim (λ at_home. absurd (omega (arith, few, found.0, at_home.2.0))) (λ e. e) (same (body_sector j + i) (omega arith))
 
       each : (h i : ℕ) → i < 8 → standing image h i ≡ standing content h i
-      each h i below = standing_open homes image h i (open_as homes content image opens gate same_map)
+      each h i below = standing_open homes image h i (open_as homes content image opens gate maps)
           ∙ here h i below (place_of homes h) (place_means (λ j. get_or homes j 0) h (length homes))
           ∙ sym (standing_open homes content h i opens)
 

@@ -3,6 +3,7 @@ pub mod Copies
 pub mod Gates
 pub mod Images
 pub mod Maps
+pub mod OldJournals
 pub mod Phases
 pub mod Recoveries
 pub mod Stops

@@ -1,11 +1,29 @@
 -- The journal map as bytes.
-use Rattle.std.proofs.Common.{◌≡◌, ◌⊎◌, ◌≤◌, ◌<◌, ◌+◌, ◌-◌, ◌*◌, ◌^◌, ℕ, zero, suc, List, [], ◌∷◌, ◌++◌, length, take, drop, get_or, replicate, sym, ap, ◌∙◌, ⊎_elim, inl, inr, arith, drop-drop, lit<}
+use Rattle.std.proofs.Common.{◌≡◌, ◌⊎◌, ◌≤◌, ◌<◌, ◌+◌, ◌-◌, ◌*◌, ◌^◌, ℕ, zero, suc, List, [], ◌∷◌, ◌++◌, length, take, drop, get_or, replicate, refl, sym, ap, ◌∙◌, ⊎_elim, inl, inr, arith, drop-drop, lit<}
 use Rattle.std.proofs.lemmas.List.{get_or-take, get_or-drop, drop-replicate}
 use Rattle.std.specs.List.{flat_map}
 use Rattle.byteorder.specs.Endian.{little_number, little_bytes}
 use Rattle.byteorder.specs.Numbers.{little_number-reads_back}
 use borrow.Rule.Slice.PartMut.{put_mid}
+use Rattle.disk_model.specs.Stop.{Image}
+use Rattle.disk_model.specs.Sectors.{joined, part_of}
+use Rattle.disk_model.proofs.Pieces.{joined-same, joined_parts}
+use Rattle.sync_journal.specs.Layout.{layout_1, map_sector, first_body_sector}
+use Rattle.sync_journal.specs.Standing.{map_in, map_of}
 use Rattle.sync_journal.specs.Map.{count_in, home_in, map_bytes, HasNoHome, HasHomeTwice, IsBadMap}
+
+-- the map of layout 1 is one sector
+pub one_sector : (image : Image) → map_in layout_1 image ≡ image map_sector
+unfolding joined
+one_sector image = refl
+
+-- images with the same map sectors have the same map
+pub same_map : (new old : Image) → ((k : ℕ) → map_sector ≤ k → k < first_body_sector → new k ≡ old k) → map_of new ≡ map_of old
+same_map new old same = joined-same 8 (λ i. new (map_sector + i)) (λ i. old (map_sector + i)) (λ i below. same (map_sector + i) (omega arith) (omega (arith, below)))
+
+-- the map is a page
+pub map_page : (image : Image) (page : List ℕ) → length page ≡ 4096 → ((i : ℕ) → i < 8 → image (map_sector + i) ≡ part_of page i) → map_of image ≡ page
+map_page image page long holds = joined-same 8 (λ i. image (map_sector + i)) (part_of page) holds ∙ joined_parts page long
 
 -- a part written behind the first four bytes
 pub overwritten : (a b c d k e : ℕ) (part old buf dst : List ℕ) → buf ≡ a ∷ b ∷ c ∷ d ∷ drop 4 old → dst ≡ part → 4 + k ≡ e
@@ -16,9 +34,9 @@ overwritten a b c d k e part old buf dst front behind ends =
     ∙ ap (λ bytes. a ∷ b ∷ c ∷ d ∷ (part ++ bytes)) (drop-drop k 4 old ∙ ap (λ j. drop j old) ends)
 
 -- behind the homes a map is zero
-pub zeros_behind : (n : ℕ) → drop {A = ℕ} (4 + 4 * n) (replicate 512 0) ≡ replicate (508 - 4 * n) 0
-zeros_behind n = let rest : 512 - (4 + 4 * n) ≡ 508 - 4 * n = omega arith in
-    drop-replicate (4 + 4 * n) 512 0 ∙ ap (λ j. replicate j 0) rest
+pub zeros_behind : (n : ℕ) → drop {A = ℕ} (4 + 4 * n) (replicate 4096 0) ≡ replicate (4092 - 4 * n) 0
+zeros_behind n = let rest : 4096 - (4 + 4 * n) ≡ 4092 - 4 * n = omega arith in
+    drop-replicate (4 + 4 * n) 4096 0 ∙ ap (λ j. replicate j 0) rest
 
 -- four bytes are one number
 pub same_number : (xs ys : List ℕ) → ((i : ℕ) → i < 4 → get_or xs i 0 ≡ get_or ys i 0) → little_number 4 xs ≡ little_number 4 ys
@@ -43,11 +61,11 @@ number_at e k map inside = same_number (drop (4 * k) (take e (drop 4 map))) (dro
         ∙ sym (get_or-drop (4 + 4 * k) map i 0)
 
 -- what is wrong with the numbers that were read is wrong with the map
-pub bad_numbers : (limit count : ℕ) (map homes : List ℕ) → count ≡ count_in map → length homes ≡ count
+pub bad_numbers : (most limit count : ℕ) (map homes : List ℕ) → count ≡ count_in map → length homes ≡ count
     → ((j : ℕ) → j < count → get_or homes j 0 ≡ home_in map j)
     → HasNoHome limit (λ j. get_or homes j 0) (length homes) ⊎ HasHomeTwice (λ j. get_or homes j 0) (length homes)
-    → IsBadMap limit map
-bad_numbers limit count map homes counted long read bad = ⊎_elim
+    → IsBadMap most limit map
+bad_numbers most limit count map homes counted long read bad = ⊎_elim
     (λ none. inr (inl (none.0, omega (arith, none.1, counted, long), omega (arith, none.2, read none.0 (omega (arith, none.1, long))))))
     (λ twice. inr (inr (
       twice.0,
@@ -70,11 +88,11 @@ home_of (home ∷ homes) (suc j) rest below small =
     ∙ ap (little_number 4) (sym (drop-drop (4 * j) 4 bytes))
     ∙ home_of homes j rest (omega arith) small
 
--- what the map sector of these homes says
-pub counted : (homes : List ℕ) → length homes ≤ 127 → count_in (map_bytes homes) ≡ length homes
-counted homes few = little_number-reads_back 4 (length homes) (flat_map (little_bytes 4) homes ++ replicate (508 - 4 * length homes) 0) (omega arith)
+-- what the map of these homes says
+pub counted : (homes : List ℕ) → length homes ≤ 1023 → count_in (map_bytes homes) ≡ length homes
+counted homes few = little_number-reads_back 4 (length homes) (flat_map (little_bytes 4) homes ++ replicate (4092 - 4 * length homes) 0) (omega arith)
 
 pub named : (homes : List ℕ) (j : ℕ) → j < length homes → get_or homes j 0 < 2 ^ 32 → home_in (map_bytes homes) j ≡ get_or homes j 0
 named homes j below small =
     ap (little_number 4) (sym (drop-drop (4 * j) 4 (map_bytes homes)))
-    ∙ home_of homes j (replicate (508 - 4 * length homes) 0) below small
+    ∙ home_of homes j (replicate (4092 - 4 * length homes) 0) below small

@@ -4,12 +4,12 @@ use Rattle.disk_model.specs.Stop.{Image, MayLeave}
 use Rattle.disk_model.specs.Moments.{Touches, LeavesOnly}
 use Rattle.disk_model.proofs.Moments.{started, goes_on, weaker}
 use Rattle.disk_model.specs.declared.sector_disk.SectorDisk.{Ghosts}
-use Rattle.sync_journal.specs.Layout.{gate_sector, map_sector, home_sector, body_sector, home_count, IsGate, IsJournalSector, IsOutside}
+use Rattle.sync_journal.specs.Layout.{gate_sector, home_sector, body_sector, home_count, IsGate, IsJournalSector, IsOutside}
 use Rattle.sync_journal.specs.Gate.{is_open, is_open_sector}
-use Rattle.sync_journal.specs.Map.{map_bytes, place_of, count_in, home_in, AreHomes, IsBadMap}
-use Rattle.sync_journal.specs.Standing.{place_or_home, standing, StandsFor, IsOpenFor, HoldsPages}
+use Rattle.sync_journal.specs.Map.{map_bytes, place_of, count_in, home_in, AreFewHomes, AreHomes, IsBadMap}
+use Rattle.sync_journal.specs.Standing.{place_or_home, map_of, standing, StandsFor, IsOpenFor, HoldsPages}
 use Rattle.sync_journal.specs.Commit.{sector_or, changed, StandsForEither, IsKept, IsQuiet, IsLive, IsSettled}
-use Rattle.sync_journal.proofs.Maps.{counted, named}
+use Rattle.sync_journal.proofs.Maps.{counted, named, same_map}
 use Rattle.sync_journal.proofs.Images.{Means, place_means, standing_closed, standing_open}
 use Rattle.sync_journal.proofs.Replays.{open_or_closed}
 use Rattle.sync_journal.proofs.Rests.{live_at_rest}
@@ -29,9 +29,9 @@ opened_outside g sectors old staged opened stages opens k outside =
     ∙ ⊎_elim {C = g.content staged k ≡ g.content old k} (λ inside. absurd (not_journal sectors k outside inside)) (λ e. e) (stages.content k)
 
 -- a map of good homes isn't bad
-pub not_bad : (count : ℕ) (homes map : List ℕ) → AreHomes count homes → count_in map ≡ length homes
-    → ((j : ℕ) → j < length homes → home_in map j ≡ get_or homes j 0) → IsBadMap count map → ⊥
-not_bad count homes map are counts names bad = ⊎_elim
+pub not_bad : (most count : ℕ) (homes map : List ℕ) → AreFewHomes most count homes → count_in map ≡ length homes
+    → ((j : ℕ) → j < length homes → home_in map j ≡ get_or homes j 0) → IsBadMap most count map → ⊥
+not_bad most count homes map are counts names bad = ⊎_elim
     (λ many. let few = are.few in omega (arith, many, counts, few))
     (λ rest. ⊎_elim
     (λ none. let below : none.0 < length homes = omega (arith, none.1, counts) in omega (arith, none.2, names none.0 below, are.inside none.0 below))
@@ -56,9 +56,9 @@ before_kept sectors content image was gate same = record {
     never : is_open image ≡ true → ⊥
     never opened = let e : true ≡ false = sym opened ∙ gate in cc
 
--- an open gate before the map sector of these homes
+-- an open gate before the map of these homes
 pub opens_for : (count : ℕ) (homes : List ℕ) (image : Image) → AreHomes count homes → count ≤ 2 ^ 30 → is_open image ≡ true
-    → image map_sector ≡ map_bytes homes → IsOpenFor homes image
+    → map_of image ≡ map_bytes homes → IsOpenFor homes image
 opens_for count homes image are small gate map = record {
   gate = gate;
   count = ap count_in map ∙ counted homes are.few;
@@ -68,7 +68,7 @@ opens_for count homes image are small gate map = record {
 -- The content before, with its gate closed, and what stands when pages and map are staged.
 module _ (sectors : ℕ) (homes : List ℕ) (are : AreHomes (home_count sectors) homes) (pages : ℕ → List ℕ) (content staged : Image)
     (was : is_open content ≡ false) (others : (k : ℕ) → IsJournalSector k ⊎ (staged k ≡ content k))
-    (counts : count_in (staged map_sector) ≡ length homes) (names : (j : ℕ) → j < length homes → home_in (staged map_sector) j ≡ get_or homes j 0)
+    (counts : count_in (map_of staged) ≡ length homes) (names : (j : ℕ) → j < length homes → home_in (map_of staged) j ≡ get_or homes j 0)
     (body : HoldsPages (length homes) pages staged) where
   abbrev pub After : ℕ → ℕ → List ℕ
   After = changed (standing content) homes pages
@@ -76,7 +76,7 @@ module _ (sectors : ℕ) (homes : List ℕ) (are : AreHomes (home_count sectors)
   -- an image as staged, with the gate open
   pub names_homes : (image : Image) → is_open image ≡ true → ((k : ℕ) → k ≢ gate_sector → image k ≡ staged k) → IsOpenFor homes image
   names_homes image gate same =
-      let map = same map_sector (omega arith) in
+      let map = same_map image staged (λ k from below. same k (omega (arith, from))) in
       record { gate = gate; count = ap count_in map ∙ counts; each = λ j below. ap (λ m. home_in m j) map ∙ names j below }
 
   pub after_kept : (image : Image) → is_open image ≡ true → ((k : ℕ) → k ≢ gate_sector → image k ≡ staged k) → IsKept sectors content (StandsFor After) image
@@ -86,7 +86,7 @@ module _ (sectors : ℕ) (homes : List ℕ) (are : AreHomes (home_count sectors)
       each = λ h i below. standing_open homes image h i (names_homes image gate same)
           ∙ here h i below (place_of homes h) (place_means (λ j. get_or homes j 0) h (length homes));
     };
-    journal = λ bad. absurd (let named = names_homes image gate same in not_bad (home_count sectors) homes (image map_sector) are named.count named.each bad.map);
+    journal = λ bad. absurd (let named = names_homes image gate same in not_bad 1023 (home_count sectors) homes (map_of image) are named.count named.each bad.map);
     outside = λ k outside. same k (not_gate sectors k outside) ∙ ⊎_elim (λ inside. absurd (not_journal sectors k outside inside)) (λ e. e) (others k);
   }
     where
@@ -150,12 +150,12 @@ module _ {D : Type 0} (g : Ghosts D) (homes : List ℕ) (pages : ℕ → List �
   while_staging_either = weaker g old staged Before Either
       (λ image kept. record { stands = inl kept.stands; journal = kept.journal; outside = kept.outside }) while_staging
 
-  module _ (opened : D) (body : HoldsPages (length homes) pages (g.content staged)) (map : g.content staged map_sector ≡ map_bytes homes)
+  module _ (opened : D) (body : HoldsPages (length homes) pages (g.content staged)) (map : map_of (g.content staged) ≡ map_bytes homes)
       (staged_synced : (k : ℕ) → g.unsynced staged k → ⊥) (opens : Touches g IsGate staged opened) where
-    counts : count_in (g.content staged map_sector) ≡ length homes
+    counts : count_in (map_of (g.content staged)) ≡ length homes
     counts = ap count_in map ∙ counted homes are.few
 
-    names : (j : ℕ) → j < length homes → home_in (g.content staged map_sector) j ≡ get_or homes j 0
+    names : (j : ℕ) → j < length homes → home_in (map_of (g.content staged)) j ≡ get_or homes j 0
     names j below = ap (λ m. home_in m j) map ∙ named homes j below (let inside = are.inside j below in omega (arith, inside))
 
     around_opening : (image : Image) → MayLeave (g.content staged) (λ k. g.unsynced staged k ⊎ IsGate k) image → Either image
@@ -180,12 +180,17 @@ module _ {D : Type 0} (g : Ghosts D) (homes : List ℕ) (pages : ℕ → List �
         left = λ image may. after image (λ k. ⊎_elim (λ u. absurd (opened_synced k u)) (λ e. e) (may.kept k));
       }
 
+-- Opening the gate leaves the map.
+pub gate_leaves_map : {D : Type 0} (g : Ghosts D) (staged opened : D) → Touches g IsGate staged opened → map_of (g.content opened) ≡ map_of (g.content staged)
+gate_leaves_map g staged opened opens = same_map (g.content opened) (g.content staged)
+    (λ k from below. ⊎_elim (λ at. absurd (omega (arith, from, at))) (λ e. e) (opens.content k))
+
 -- With the gate open the journal is live, whatever the source gave.
 pub opened_live : {D : Type 0} (g : Ghosts D) (homes : List ℕ) (old staged opened : D) → AreHomes (home_count (g.sector_count old)) homes
-    → g.content staged map_sector ≡ map_bytes homes → Touches g IsGate staged opened → is_open (g.content opened) ≡ true
+    → map_of (g.content staged) ≡ map_bytes homes → Touches g IsGate staged opened → is_open (g.content opened) ≡ true
     → ((k : ℕ) → g.unsynced opened k → ⊥) → IsLive g homes opened
 opened_live g homes old staged opened are map opens gate synced = record {
   opened = opens_for (home_count (g.sector_count old)) homes (g.content opened) are (omega arith) gate
-      (⊎_elim {C = g.content opened map_sector ≡ g.content staged map_sector} (λ at. absurd (omega (arith, at))) (λ e. e) (opens.content map_sector) ∙ map);
+      (gate_leaves_map g staged opened opens ∙ map);
   synced = synced;
 }

@@ -1,8 +1,12 @@
 -- What a device holds between two commits.
-use Rattle.std.proofs.Common.{◌≡◌, ◌<◌, ◌+◌, ℕ, List, [], ◌∷◌, length, take, get_or, sym, ap, subst, ◌∙◌, arith}
+use Rattle.std.proofs.Common.{◌≡◌, ◌<◌, ◌+◌, ℕ, List, [], ◌∷◌, length, take, get_or, sym, ap, subst, ◌∙◌, ⊎_elim, arith}
 use Rattle.disk_model.specs.declared.sector_disk.SectorDisk.{Ghosts}
 use Rattle.sync_journal.specs.Map.{place_of}
-use Rattle.sync_journal.specs.Standing.{standing, place_or_home}
+use Rattle.sync_journal.specs.Standing.{standing, place_or_home, IsOpenFor}
+use Rattle.disk_model.specs.Stop.{Image}
+use Rattle.disk_model.specs.Moments.{Touches, Nothing}
+use Rattle.sync_journal.specs.Gate.{is_open}
+use Rattle.sync_journal.proofs.Sectors.{same_content}
 use Rattle.disk_model.specs.Sectors.{joined}
 use Rattle.disk_model.proofs.Pieces.{joined-same}
 use Rattle.sync_journal.proofs.Images.{no_place, standing_closed, standing_open}
@@ -25,6 +29,20 @@ module _ {D : Type 0} (g : Ghosts D) where
 
   pub rest_quiet : (homes : List ℕ) (d : D) → homes ≡ [] → IsAtRest g homes d → IsQuiet g d
   rest_quiet homes d none rest = subst (λ live. IsAtRest g live d) none rest
+
+  -- reading leaves what is at rest
+  pub rest_read : (homes : List ℕ) (old new : D) → Touches g Nothing old new → IsAtRest g homes old → IsAtRest g homes new
+  rest_read homes old new run rest = cases homes rest
+    where
+      same : g.content new ≡ g.content old
+      same = λ t k. same_content g old new run k t
+
+      unsynced : (k : ℕ) → g.unsynced new k → g.unsynced old k
+      unsynced k u = ⊎_elim (λ before. before) (λ none. absurd none) (run.unsynced k u)
+
+      cases : (live : List ℕ) → IsAtRest g live old → IsAtRest g live new
+      cases [] quiet = record { closed = ap (λ (image : Image). is_open image) same ∙ quiet.closed; synced = λ k u. quiet.synced k (unsynced k u) }
+      cases (home ∷ more) live = record { opened = subst (IsOpenFor (home ∷ more)) (sym same) live.opened; synced = λ k u. live.synced k (unsynced k u) }
 
   -- where a home page stands: in the body where the journal is live with it
   pub standing_rest : (homes : List ℕ) (d : D) (h i : ℕ) → IsAtRest g homes d → standing (g.content d) h i ≡ g.content d (place_or_home h (place_of homes h) + i)

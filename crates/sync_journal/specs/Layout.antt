@@ -1,10 +1,26 @@
--- Where the parts of a store lie, in sectors. The format is our own.
+-- Where the parts of a store lie, in sectors. The format is our own, in two layouts: stores are made and opened in layout 2, and
+-- an upgrade reads those of layout 1.
 -- What it has to keep is failure-atomic msync (Park, Kelly and Shen, "Failure-Atomic msync()", EuroSys 2013).
 use Rattle.std.specs.Prelude.{ℕ, ◌+◌, ◌-◌, ◌*◌, ◌/◌, ◌^◌, ◌<◌, ◌≤◌, ◌⊎◌, ◌≡◌, List, length, slice_index, min}
 
--- the most pages of one commit: what the map has room for
+-- What the layouts have in different sizes and places.
+pub record Layout : Type 0 where
+  -- how many sectors the journal map has
+  pub map_sectors : ℕ
+  -- the most pages of one commit: what the map has room for
+  pub most : ℕ
+  -- the first sector of the journal body
+  pub body : ℕ
+  -- the first sector of the first home page
+  pub homes : ℕ
+
+-- the layout of stores before
+abbrev pub layout_1 : Layout
+layout_1 = record { map_sectors = 1; most = 127; body = 4; homes = 1020 }
+
+-- the most pages of one commit
 abbrev pub page_limit : ℕ
-page_limit = 127
+page_limit = 1023
 
 -- the most home pages of a store, however large its device is
 abbrev pub home_limit : ℕ
@@ -14,27 +30,44 @@ home_limit = 2 ^ 30
 abbrev pub gate_sector : ℕ
 gate_sector = 2
 
--- the journal map: which homes the body's pages belong to
+-- the first sector of the journal map: which homes the body's pages belong to
 abbrev pub map_sector : ℕ
 map_sector = 3
 
+-- how many sectors the map has
+abbrev pub map_sectors : ℕ
+map_sectors = 8
+
 -- the first sector of the journal body
 abbrev pub first_body_sector : ℕ
-first_body_sector = 4
+first_body_sector = 11
 
 -- the first sector of the first home page
 abbrev pub first_home_sector : ℕ
-first_home_sector = 1020
+first_home_sector = 8195
+
+-- the layout of stores
+abbrev pub layout_2 : Layout
+layout_2 = record { map_sectors = map_sectors; most = page_limit; body = first_body_sector; homes = first_home_sector }
 
 -- the first sector of page j of the journal body
+abbrev pub body_at : Layout → ℕ → ℕ
+body_at layout j = layout.body + 8 * j
+
 abbrev pub body_sector : ℕ → ℕ
 body_sector j = first_body_sector + 8 * j
 
 -- the first sector of home page h
+abbrev pub home_at : Layout → ℕ → ℕ
+home_at layout h = layout.homes + 8 * h
+
 abbrev pub home_sector : ℕ → ℕ
 home_sector h = first_home_sector + 8 * h
 
 -- how many home pages a device of so many sectors has
+abbrev pub home_count_in : Layout → ℕ → ℕ
+home_count_in layout sectors = min ((sectors - layout.homes) / 8) home_limit
+
 abbrev pub home_count : ℕ → ℕ
 home_count sectors = min ((sectors - first_home_sector) / 8) home_limit
 

@@ -4,6 +4,7 @@ pub mod Map
 pub mod Standing
 pub mod Commit
 pub mod Journal
+pub mod OldJournal
 pub mod Source
 pub mod Runs
 pub mod Recovery

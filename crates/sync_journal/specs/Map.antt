@@ -5,7 +5,7 @@ use Rattle.std.specs.List.{flat_map}
 use Rattle.sync_journal.specs.Layout.{page_limit}
 use Rattle.byteorder.specs.Endian.{little_number, little_bytes}
 
--- how many pages a map sector names
+-- how many pages a map names
 abbrev pub count_in : List ℕ → ℕ
 count_in map = little_number 4 map
 
@@ -13,9 +13,9 @@ count_in map = little_number 4 map
 abbrev pub home_in : List ℕ → ℕ → ℕ
 home_in map j = little_number 4 (drop (4 + 4 * j) map)
 
--- the map sector of these homes
+-- the map of these homes
 abbrev pub map_bytes : List ℕ → List ℕ
-map_bytes homes = (little_bytes 4 (length homes) ++ flat_map (little_bytes 4) homes) ++ replicate (508 - 4 * length homes) 0
+map_bytes homes = (little_bytes 4 (length homes) ++ flat_map (little_bytes 4) homes) ++ replicate (4092 - 4 * length homes) 0
 
 -- the last of the first n places that names home h
 unfoldable pub place_among : (ℕ → ℕ) → ℕ → ℕ → Option ℕ
@@ -26,11 +26,15 @@ place_among homes h (suc n) = if homes n == h then Some n else place_among homes
 abbrev pub place_of : List ℕ → ℕ → Option ℕ
 place_of homes h = place_among (λ j. slice_index homes j) h (length homes)
 
--- at most 127 homes, each under the number of homes, none twice
-pub record AreHomes (count : ℕ) (homes : List ℕ) : Type 0 where
-  pub few : length homes ≤ page_limit
+-- at most so many homes, each under the number of homes, none twice
+pub record AreFewHomes (most count : ℕ) (homes : List ℕ) : Type 0 where
+  pub few : length homes ≤ most
   pub inside : (j : ℕ) → j < length homes → slice_index homes j < count
   pub distinct : (i j : ℕ) → i < j → j < length homes → slice_index homes i ≡ slice_index homes j → ⊥
+
+-- homes that one commit takes
+abbrev pub AreHomes : ℕ → List ℕ → Type 0
+AreHomes count homes = AreFewHomes page_limit count homes
 
 -- the number at some place isn't under the number of homes
 abbrev pub HasNoHome : ℕ → (ℕ → ℕ) → ℕ → Type 0
@@ -40,6 +44,6 @@ HasNoHome count names n = (j : ℕ) × (j < n) × (count ≤ names j)
 abbrev pub HasHomeTwice : (ℕ → ℕ) → ℕ → Type 0
 HasHomeTwice names n = (i : ℕ) × (j : ℕ) × (i < j) × (j < n) × (names i ≡ names j)
 
--- a map that no commit writes: over 127 pages, a home that the device hasn't, or a home twice
-abbrev pub IsBadMap : ℕ → List ℕ → Type 0
-IsBadMap count map = (page_limit < count_in map) ⊎ (HasNoHome count (home_in map) (count_in map) ⊎ HasHomeTwice (home_in map) (count_in map))
+-- a map that no commit writes: more pages than it has room for, a home that the device hasn't, or a home twice
+abbrev pub IsBadMap : ℕ → ℕ → List ℕ → Type 0
+IsBadMap most count map = (most < count_in map) ⊎ (HasNoHome count (home_in map) (count_in map) ⊎ HasHomeTwice (home_in map) (count_in map))

@@ -2,10 +2,10 @@
 ghost use Rattle.std.specs.Prelude.{◌≡◌, ◌<◌, ◌≤◌, ◌⊎◌, ◌+◌, ℕ, [], length, IfSome, OnOk, IsErr, IsErrOf};
 ghost use Rattle.disk_model.specs.Stop.{Image, HasCause};
 ghost use Rattle.disk_model.specs.Moments.{LeavesOnly, Touches, Nothing};
-ghost use Rattle.sync_journal.specs.Layout.{gate_sector, map_sector, home_count, home_sector, IsCommitted, IsOutside, IsReplayed, first_home_sector, page_limit};
+ghost use Rattle.sync_journal.specs.Layout.{gate_sector, home_count, home_sector, IsCommitted, IsOutside, IsReplayed, first_home_sector, page_limit};
 ghost use Rattle.sync_journal.specs.Gate.{closed_gate};
 ghost use Rattle.sync_journal.specs.Map.{AreHomes, map_bytes, place_of};
-ghost use Rattle.sync_journal.specs.Standing.{standing, place_or_home};
+ghost use Rattle.sync_journal.specs.Standing.{standing, place_or_home, map_of};
 ghost use Rattle.disk_model.specs.Sectors.{joined};
 ghost use Rattle.sync_journal.specs.Commit.{changed, StandsForEither, KeepsHomes, IsKept, IsAtRest, IsSettled};
 ghost use Rattle.sync_journal.specs.Journal.{live_homes};
@@ -40,7 +40,7 @@ impl Journal {
 
     /// Makes the pages that the source gives durable, all at once: page `i` stands for home `homes[i]`. The pages of the
     /// commit before are written home first. It takes `8 c + 1` sector writes and 2 syncs for those `c` pages, where there
-    /// are any, and `8 n + 2` writes and 2 syncs for the `n` new ones.
+    /// are any, and `8 n + 9` writes and 2 syncs for the `n` new ones.
     ///
     /// `Source` comes only where the source failed: the store then stands for what it did at every moment, no journal is
     /// live, and commit may be called again. `Device` comes only where the device failed: every image that a stop might
@@ -74,7 +74,7 @@ impl Journal {
         ensures live { OnOk result (live_homes self.new ≡ homes.now) }
         ensures rest { D.keeps_model disk.new → OnOk result (IsAtRest D.SectorDisk homes.now disk.new) }
         ensures synced { D.keeps_model disk.new → OnOk result ((k : ℕ) → D.unsynced disk.new k → ⊥) }
-        ensures map { D.keeps_model disk.new → OnOk result (D.content disk.new map_sector ≡ map_bytes homes.now) }
+        ensures map { D.keeps_model disk.new → OnOk result (map_of (D.content disk.new) ≡ map_bytes homes.now) }
         ensures outside { D.keeps_model disk.new → OnOk result ((k : ℕ) → IsOutside (D.sector_count disk.old) k → D.content disk.new k ≡ D.content disk.old k) }
 
         // Of the homes only those of the commit before are written: the new pages stand in the body.
@@ -150,15 +150,15 @@ impl Journal {
         requires { length homes.now ≤ page_limit }
         ensures { live_homes self.new ≡ homes.now }
     {
-        let mut list = self.homes;
-        list[..homes.len()].copy_from_slice(homes);
-        self.homes = list;
+        for j in 0..homes.len() {
+            self.homes[j] = homes[j];
+        }
         self.count = homes.len();
     }
 }
 
 // The place of a home in a list of homes.
-fn place(homes: &[u32], home: u32) -> Option<usize>
+pub(crate) fn place(homes: &[u32], home: u32) -> Option<usize>
     ensures at { result ≡ place_of homes.now home }
     ensures below { IfSome result (λ j. j < length homes.now) }
 {

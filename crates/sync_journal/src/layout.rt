@@ -5,20 +5,20 @@ ghost use Rattle.sync_journal.specs.Layout.{home_count as homes_of};
 /// The gate.
 pub(crate) const GATE: u64 = 2;
 
-/// The journal map.
+/// The first sector of the journal map.
 pub(crate) const MAP: u64 = 3;
 
 /// The first sector of the journal body.
-pub(crate) const BODY: u64 = 4;
+pub(crate) const BODY: u64 = 11;
 
 /// The first sector of the first home page.
-pub const FIRST_HOME: u64 = 1020;
+pub const FIRST_HOME: u64 = 8195;
 
 /// The sectors of a page of 4,096 bytes.
 pub const PAGE_SECTORS: u64 = 8;
 
 /// The most pages of one commit.
-pub const PAGE_LIMIT: usize = 127;
+pub const PAGE_LIMIT: usize = 1023;
 
 /// The most home pages of a store, however large the device is.
 pub const MAX_HOMES: u64 = 1 << 30;

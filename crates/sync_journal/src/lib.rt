@@ -1,15 +1,15 @@
 //! A redo journal over a row of sectors: the pages of one commit become durable all at once or not at all,
 //! whatever moment the device stops at.
 //!
-//! The store's format is our own; sectors are of 512 bytes.
+//! The store's format is our own; sectors are of 512 bytes. This is layout 2; of stores of layout 1 `OldJournal` reads what stands.
 //!
 //! | Sectors | Content |
 //! |---|---|
 //! | 0, 1 | not the journal's: nothing here writes them |
 //! | 2 | gate: open exactly where it is the bytes `GATEOPEN` 64 times |
-//! | 3 | map: the number of pages, then the number of each one's home, as little-endian `u32`s |
-//! | 4 to 1,019 | body: page `j` of the commit is sectors `4 + 8 j` to `11 + 8 j` |
-//! | 1,020 on | home page `h` is sectors `1020 + 8 h` to `1027 + 8 h` |
+//! | 3 to 10 | map: the number of pages, then the number of each one's home, as little-endian `u32`s |
+//! | 11 to 8,194 | body: page `j` of the commit is sectors `11 + 8 j` to `18 + 8 j` |
+//! | 8,195 on | home page `h` is sectors `8195 + 8 h` to `8202 + 8 h` |
 //!
 //! An image stands for its home pages, but where the gate is open, a page that the map names stands in the body.
 //! After Park, Kelly and Shen, "Failure-Atomic msync(): A Simple and Efficient Mechanism for Preserving the
@@ -23,6 +23,7 @@ mod homes;
 mod journal;
 mod layout;
 mod map;
+mod old_journal;
 mod pages;
 mod publish;
 mod recovery;
@@ -32,9 +33,7 @@ mod stage;
 pub use faults::{CommitFault, RecoverFault};
 pub use journal::Journal;
 pub use layout::{FIRST_HOME, MAX_HOMES, PAGE_LIMIT, PAGE_SECTORS, home_count};
+pub use old_journal::{OLD_FIRST_HOME, OldJournal, old_home_count};
 pub use pages::{read_page, write_page};
 pub use recovery::{recover, stops_in_a_row};
 pub use source::{PageSource, SourceFault};
-
-#[cfg(test)]
-mod tests;

@@ -2,20 +2,18 @@
 ghost use Rattle.std.specs.Prelude.{◌≡◌, ◌<◌, ◌≤◌, ◌⊎◌, ◌+◌, ◌*◌, ◌++◌, ℕ, length, take, drop, slice_index, MatchOption};
 ghost use Rattle.std.specs.Bool.{OnTrue, OnFalse};
 ghost use Rattle.std.specs.List.{flat_map};
-ghost use Rattle.disk_model.specs.Sectors.{sector_bytes};
 ghost use Rattle.sync_journal.specs.Layout.{page_limit};
 ghost use Rattle.byteorder.specs.Endian.{little_bytes};
-ghost use Rattle.sync_journal.specs.Map.{AreHomes, HasNoHome, HasHomeTwice, IsBadMap, map_bytes, count_in, home_in};
+ghost use Rattle.sync_journal.specs.Map.{AreFewHomes, HasNoHome, HasHomeTwice, IsBadMap, map_bytes, count_in, home_in};
 
-use crate::layout::PAGE_LIMIT;
 use byteorder::{ByteOrder, LittleEndian};
 
-/// The map sector of these homes; the rest of it is zero.
-pub(crate) fn map_sector(homes: &[u32]) -> [u8; 512]
+/// The map of these homes; the rest of it is zero.
+pub(crate) fn map_page(homes: &[u32]) -> [u8; 4096]
     requires { length homes.now ≤ page_limit }
     ensures { result ≡ map_bytes homes.now }
 {
-    let mut map = [0; 512];
+    let mut map = [0; 4096];
     write_map(&mut map, homes);
     map
 }
@@ -23,25 +21,22 @@ pub(crate) fn map_sector(homes: &[u32]) -> [u8; 512]
 // Writes the count and the homes over the front of a map.
 fn write_map(map: &mut [u8], homes: &[u32])
     requires few { length homes.now ≤ page_limit }
-    requires room { length map.old ≡ sector_bytes }
+    requires room { length map.old ≡ 4096 }
     ensures { map.new ≡ (little_bytes 4 (length homes.now) ++ flat_map (little_bytes 4) homes.now) ++ drop (4 + 4 * length homes.now) map.old }
 {
     LittleEndian::write_u32(map, homes.len() as u32);
     LittleEndian::write_u32_into(homes, &mut map[4..4 + 4 * homes.len()]);
 }
 
-/// Reads the homes that a map names into the front of `homes`, and returns how many they are. `None` exactly where
-/// the map names over 127 pages, a home that isn't under `limit` or a home twice.
-pub(crate) fn read_homes(
-    map: &[u8; 512],
-    limit: u64,
-    homes: &mut [u32; PAGE_LIMIT],
-) -> Option<usize>
-    ensures { MatchOption result (IsBadMap limit map.now) (λ count. (count ≡ count_in map.now) × (count ≤ page_limit)
-        × ((j : ℕ) → j < count → slice_index homes.new j ≡ home_in map.now j) × AreHomes limit (take count homes.new)) }
+/// Reads the homes that a map names into the front of `homes`, for which the map has room, and returns how many they are.
+/// `None` exactly where the map names more pages than that, a home that isn't under `limit` or a home twice.
+pub(crate) fn read_homes(map: &[u8], limit: u64, homes: &mut [u32]) -> Option<usize>
+    requires { length map.now ≡ 4 + 4 * length homes.old }
+    ensures { MatchOption result (IsBadMap (length homes.old) limit map.now) (λ count. (count ≡ count_in map.now) × (count ≤ length homes.old)
+        × ((j : ℕ) → j < count → slice_index homes.new j ≡ home_in map.now j) × AreFewHomes (length homes.old) limit (take count homes.new)) }
 {
     let count = LittleEndian::read_u32(map) as usize;
-    if count > PAGE_LIMIT {
+    if count > homes.len() {
         return None;
     }
     read_numbers(map, &mut homes[..count]);
@@ -54,8 +49,7 @@ pub(crate) fn read_homes(
 
 // Fills `homes` with the first numbers behind the count.
 fn read_numbers(map: &[u8], homes: &mut [u32])
-    requires few { length homes.old ≤ page_limit }
-    requires room { length map.now ≡ sector_bytes }
+    requires { 4 + 4 * length homes.old ≤ length map.now }
     ensures { (j : ℕ) → j < length homes.new → slice_index homes.new j ≡ home_in map.now j }
 {
     LittleEndian::read_u32_into(&map[4..4 + 4 * homes.len()], homes);
@@ -63,8 +57,7 @@ fn read_numbers(map: &[u8], homes: &mut [u32])
 
 // Whether each home is under the limit, and none stands twice.
 pub(crate) fn are_homes(homes: &[u32], limit: u64) -> bool
-    requires { length homes.now ≤ page_limit }
-    ensures good { OnTrue result (AreHomes limit homes.now) }
+    ensures good { OnTrue result ((most : ℕ) → length homes.now ≤ most → AreFewHomes most limit homes.now) }
     ensures bad { OnFalse result (HasNoHome limit (λ j. slice_index homes.now j) (length homes.now)
         ⊎ HasHomeTwice (λ j. slice_index homes.now j) (length homes.now)) }
 {

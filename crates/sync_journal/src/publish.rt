@@ -1,9 +1,9 @@
 //! Pages that stand in the journal once the gate is open.
 ghost use Rattle.std.specs.Prelude.{◌≡◌, ◌<◌, ◌⊎◌, ℕ, [], length, OnOk, IsErrOf};
 ghost use Rattle.disk_model.specs.Moments.{LeavesOnly, Touches};
-ghost use Rattle.sync_journal.specs.Layout.{gate_sector, map_sector, home_count, IsPublished, IsOutside};
+ghost use Rattle.sync_journal.specs.Layout.{gate_sector, home_count, IsPublished, IsOutside};
 ghost use Rattle.sync_journal.specs.Map.{AreHomes, map_bytes};
-ghost use Rattle.sync_journal.specs.Standing.{standing};
+ghost use Rattle.sync_journal.specs.Standing.{standing, map_of};
 ghost use Rattle.sync_journal.specs.Commit.{changed, StandsForEither, KeepsHomes, IsKept, IsQuiet, IsLive, IsSettled};
 ghost use Rattle.sync_journal.specs.Source.{Asks, HasCauses};
 
@@ -14,7 +14,7 @@ use crate::stage::stage;
 use disk_model::SectorDisk;
 
 /// Writes the pages that the source gives into the body and the homes into the map, and then opens the gate: from then
-/// on the pages stand. It takes `8 n + 2` sector writes and 2 syncs for `n` pages.
+/// on the pages stand. It takes `8 n + 9` sector writes and 2 syncs for `n` pages.
 pub(crate) fn publish<D: SectorDisk, S: PageSource>(
     disk: &mut D,
     homes: &[u32],
@@ -40,7 +40,7 @@ pub(crate) fn publish<D: SectorDisk, S: PageSource>(
 
     // Whatever the source gives, the journal is live after Ok, and outside as it was.
     ensures live { D.keeps_model disk.new → OnOk result (IsLive D.SectorDisk homes.now disk.new) }
-    ensures map { D.keeps_model disk.new → OnOk result (D.content disk.new map_sector ≡ map_bytes homes.now) }
+    ensures map { D.keeps_model disk.new → OnOk result (map_of (D.content disk.new) ≡ map_bytes homes.now) }
     ensures touches { D.keeps_model disk.new → Touches D.SectorDisk IsPublished disk.old disk.new }
     ensures outside { D.keeps_model disk.new → OnOk result ((k : ℕ) → IsOutside (D.sector_count disk.old) k → D.content disk.new k ≡ D.content disk.old k) }
 

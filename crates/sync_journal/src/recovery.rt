@@ -15,6 +15,7 @@ use crate::gate::is_open_gate;
 use crate::homes::replay;
 use crate::layout::{GATE, MAP, PAGE_LIMIT, home_count};
 use crate::map::read_homes;
+use crate::pages::read_page;
 use disk_model::SectorDisk;
 
 /// Syncs, and then copies the pages of an open journal to their homes and closes the gate. Where the gate is closed
@@ -22,8 +23,8 @@ use disk_model::SectorDisk;
 ///
 /// # Errors
 ///
-/// `BadJournal` comes exactly where the gate is open and the map names over 127 pages, a home that the device
-/// hasn't or a home twice, unless the device fails first. `Device` comes only where the device failed.
+/// `BadJournal` comes exactly where the gate is open and the map names over 1,023 pages, a home that the device
+/// hasn't or a home twice, unless the device fails first. `Device` comes exactly where the device failed.
 pub fn recover<D: SectorDisk>(disk: &mut D) -> Result<(), RecoverFault>
     requires { first_home_sector ≤ D.sector_count disk.old }
 
@@ -118,8 +119,9 @@ fn find_open<D: SectorDisk>(
     if !is_open_gate(&sector) {
         return Ok(None);
     }
-    disk.read(MAP, &mut sector)?;
-    match read_homes(&sector, home_count(disk.sectors()), homes) {
+    let mut map = [0; 4096];
+    read_page(disk, MAP, &mut map)?;
+    match read_homes(&map, home_count(disk.sectors()), homes) {
         Some(count) => Ok(Some(count)),
         None => Err(RecoverFault::BadJournal),
     }

@@ -1,14 +1,14 @@
 //! Pages and map of a commit, written to the journal before the gate is opened.
 ghost use Rattle.std.specs.Prelude.{◌≡◌, ◌<◌, ◌≤◌, ℕ, length, OnOk};
-ghost use Rattle.sync_journal.specs.Layout.{map_sector, IsJournalSector, first_home_sector, page_limit};
+ghost use Rattle.sync_journal.specs.Layout.{IsJournalSector, first_home_sector, page_limit};
 ghost use Rattle.sync_journal.specs.Map.{map_bytes};
-ghost use Rattle.sync_journal.specs.Standing.{HoldsPages};
+ghost use Rattle.sync_journal.specs.Standing.{map_of, HoldsPages};
 ghost use Rattle.sync_journal.specs.Runs.{Runs};
 ghost use Rattle.sync_journal.specs.Source.{Asks, HasCauses};
 
 use crate::faults::CommitFault;
 use crate::layout::{BODY, MAP, PAGE_SECTORS};
-use crate::map::map_sector as map_sector_of;
+use crate::map::map_page;
 use crate::pages::write_page;
 use crate::source::PageSource;
 use disk_model::SectorDisk;
@@ -26,11 +26,11 @@ pub(crate) fn stage<D: SectorDisk, S: PageSource>(
     ensures asks { Asks S.PageSource source.old source.new }
     ensures causes { HasCauses (D.failures disk.old) (D.failures disk.new) (S.failures source.old) (S.failures source.new) result }
     ensures body { D.keeps_model disk.new → S.keeps_model source.new → OnOk result (HoldsPages (length homes.now) (S.pages source.old) (D.content disk.new)) }
-    ensures map { D.keeps_model disk.new → OnOk result (D.content disk.new map_sector ≡ map_bytes homes.now) }
+    ensures map { D.keeps_model disk.new → OnOk result (map_of (D.content disk.new) ≡ map_bytes homes.now) }
     ensures synced { D.keeps_model disk.new → OnOk result ((k : ℕ) → D.unsynced disk.new k → ⊥) }
 {
     write_body(disk, homes.len(), source)?;
-    disk.write(MAP, &map_sector_of(homes))?;
+    write_page(disk, MAP, &map_page(homes))?;
     disk.sync()?;
     Ok(())
 }

@@ -1,9 +1,7 @@
-//! Own copies that are given up, and faults that are kept.
-use std::test::Fail;
-use test_traces::{expect, expect_over_zeros, left};
+//! Own copies that are given up, and faults that are kept: rows of traces and their replies.
 
 /// Traces on an image of a page of zeros, each from a new start, and their replies.
-const ROWS: [(&[u8], &[u8]); 7] = [
+pub(crate) const ROWS: [(&[u8], &[u8]); 7] = [
     // A private page shows its file again once its own copy is given up.
     (
         b"spawn\nspawn\nmmap 1 0 4096 rw- private 0 0\nmmap 2 0 4096 rw- shared 0 0\nload 1 0x10000 1\n\
@@ -65,24 +63,3 @@ past 1 13 SEGV_MAPERR 0xd\npast 1 13 SEGV_MAPERR 0xe\npast 1 13 SEGV_MAPERR 0xf\
 past 1 13 SEGV_MAPERR 0x10\n",
     ),
 ];
-
-#[test]
-fn copies_are_given_up_and_faults_kept(rt: HostRuntime) -> Result<(), Fail> {
-    for exchange in ROWS {
-        expect_over_zeros(rt.alloc(), 4096, exchange)?;
-    }
-    Ok(())
-}
-
-/// What dontneed leaves of a touched page is made durable by the next msync.
-#[test]
-fn a_shared_page_stays_touched(rt: HostRuntime) -> Result<(), Fail> {
-    let trace =
-        b"spawn\nmmap 1 0 4096 rw- shared 0 0\nstore 1 0x10000 1 0x5a\ndontneed 1 0x10000 4096\n\
-msync 1 0x10000 4096 sync\n";
-    let wanted = b"pid 1\naddr 0x10000\nok\nok\nok\n";
-    let shown = b"faults\nspawn\nmmap 1 0 4096 r-- shared 0 0\nload 1 0x10000 1\n";
-    let kept = b"faults 0\npid 1\naddr 0x10000\nvalue 0x5a\n";
-    let disk = left(rt.alloc(), 4096, (trace, wanted))?;
-    expect(rt.alloc(), &disk, (shown, kept))
-}

@@ -1,6 +1,10 @@
-//! Tests that cross crates: whole traces over simulated devices, with stops and faults.
+//! Tests that cross crates: whole traces over simulated devices, with stops and faults, and over streams that fail.
 #![tactic(auto)]
 
+#[cfg(test)]
+mod answers;
+#[cfg(test)]
+mod evictions;
 #[cfg(test)]
 mod failing_devices;
 #[cfg(test)]
@@ -8,10 +12,14 @@ mod files;
 #[cfg(test)]
 mod histories;
 #[cfg(test)]
+mod limits;
+#[cfg(test)]
 mod mappings;
 #[cfg(test)]
 mod memory;
 #[cfg(test)]
-mod process_traces;
+mod processes;
 #[cfg(test)]
-mod traces;
+mod shared_pages;
+#[cfg(test)]
+mod streams;

@@ -1,9 +1,7 @@
-//! Anonymous and private memory, and who may do what with a page.
-use std::test::Fail;
-use test_traces::{expect, expect_over_zeros, image_of_letters};
+//! Anonymous and private memory, who may do what with a page, and lines that are no command: rows of traces and their replies.
 
 /// Traces on an image of a page of zeros, each from a new start, and their replies.
-const ROWS: [(&[u8], &[u8]); 10] = [
+pub(crate) const ROWS: [(&[u8], &[u8]); 12] = [
     // Anonymous memory begins with zeros.
     (
         b"spawn\nmmap 1 0 1 rw- anon\nload 1 0x10ff8 8\n",
@@ -72,42 +70,50 @@ munmap 1 0xfffffffffffff000 0xffffffffffffffff\nmmap 1 0xfffffffffffff000 4096 r
         b"pid 1\nbad line\nbad line\nbad line\nbad line\nbad line\nbad line\n\
 fault 13 SEGV_MAPERR 0xffffffffffffffff\nerror 3 ESRCH\nerror 12 ENOMEM\nerror 75 EOVERFLOW\nok\naddr 0x10000\n",
     ),
-];
-
-#[test]
-fn memory_is_mapped_and_accessed(rt: HostRuntime) -> Result<(), Fail> {
-    for exchange in ROWS {
-        expect_over_zeros(rt.alloc(), 4096, exchange)?;
-    }
-    Ok(())
-}
-
-/// What is taken from a page by mprotect and given back: its bytes stay, those of its own and those of the file.
-#[test]
-fn a_permission_comes_and_goes(rt: HostRuntime) -> Result<(), Fail> {
-    let trace =
+    // What is taken from a page by mprotect and given back: its bytes stay, those of its own and those of the file.
+    (
         b"spawn\nmmap 1 0 4096 rw- anon\nmmap 1 0 4096 rw- shared 0 0\nstore 1 0x10000 1 1\n\
 store 1 0x11000 1 2\nmprotect 1 0x10000 0x2000 ---\nload 1 0x10000 1\nstore 1 0x11000 1 3\n\
 mprotect 1 0x10000 0x2000 r--\nload 1 0x10000 1\nload 1 0x11000 1\nstore 1 0x10000 1 4\n\
-mprotect 1 0x10000 0x2000 rwx\nstore 1 0x10001 1 5\nfetch 1 0x10000\nload 1 0x11000 1\n";
-    let wanted = b"pid 1\naddr 0x10000\naddr 0x11000\nok\nok\nok\nfault 13 SEGV_ACCERR 0x10000\n\
+mprotect 1 0x10000 0x2000 rwx\nstore 1 0x10001 1 5\nfetch 1 0x10000\nload 1 0x11000 1\n",
+        b"pid 1\naddr 0x10000\naddr 0x11000\nok\nok\nok\nfault 13 SEGV_ACCERR 0x10000\n\
 fault 15 SEGV_ACCERR 0x11000\nok\nvalue 0x01\nvalue 0x02\nfault 15 SEGV_ACCERR 0x10000\nok\nok\n\
-value 0x00000501\nvalue 0x02\n";
-    expect_over_zeros(rt.alloc(), 4096, (trace, wanted))
-}
+value 0x00000501\nvalue 0x02\n",
+    ),
+    // Lines of 256 bytes and of 257, a number that is too large for its width, an empty line, and one without a newline.
+    (
+        b"spawn\nmmap 1 0 1 rw- anon\nload 1 0x10ff8 8\n\
+load 1 0x00000000000000000000000000000000000000000000000000000000000000000000000000000000000000000000000000000\
+00000000000000000000000000000000000000000000000000000000000000000000000000000000000000000000000000000000000000\
+0000000000000000000000000000010000 1\n\
+load 1 0x00000000000000000000000000000000000000000000000000000000000000000000000000000000000000000000000000000\
+00000000000000000000000000000000000000000000000000000000000000000000000000000000000000000000000000000000000000\
+00000000000000000000000000000010000 1\n\
+store 1 0x10000 1 0x100\n\nexit 1",
+        b"pid 1\naddr 0x10000\nvalue 0x0000000000000000\nvalue 0x00\nbad line\nbad line\nbad line\nok\n",
+    ),
+];
 
-/// Refused calls, over a file that may only be read.
-#[test]
-fn calls_are_refused_in_order(rt: HostRuntime) -> Result<(), Fail> {
-    let trace =
+/// Traces on an image of one page of the letter A, which may only be read, and their replies.
+pub(crate) const LETTERS: [(&[u8], &[u8]); 2] = [
+    // Refused calls, in the order of their checks.
+    (
         b"spawn\nmmap 1 0 0 rw- anon\nmmap 1 0 4096 rw- shared 0 0\nmmap 1 0 4096 rw- shared 9 0\n\
 mmap 1 0 4096 r-- shared 0 1\nmmap 1 0x1000 4096 rw- anon fixed\nmmap 1 0x20001 4096 rw- anon fixed\n\
 mmap 1 0 4096 r-- shared 0 0x100000000000\nmmap 1 0 4096 r-- shared 0 0\nload 1 0x10000 1\n\
 mprotect 1 0x10000 4096 rw-\nmunmap 1 0x50000 4096\nfork 9\nexit 9\nfetch 9 0x10000\n\
-mmap 1 0 4096 rw- private 0 0\nstore 1 0x11000 1 0x42\nload 1 0x11000 2\nload 1 0x10000 2\n";
-    let wanted =
+mmap 1 0 4096 rw- private 0 0\nstore 1 0x11000 1 0x42\nload 1 0x11000 2\nload 1 0x10000 2\n",
         b"pid 1\nerror 22 EINVAL\nerror 13 EACCES\nerror 9 EBADF\nerror 22 EINVAL\nerror 12 ENOMEM\n\
 error 22 EINVAL\nerror 75 EOVERFLOW\naddr 0x10000\nvalue 0x41\nerror 13 EACCES\nok\nerror 3 ESRCH\n\
-error 3 ESRCH\nerror 3 ESRCH\naddr 0x11000\nok\nvalue 0x4142\nvalue 0x4141\n";
-    expect(rt.alloc(), &image_of_letters(rt.alloc())?, (trace, wanted))
-}
+error 3 ESRCH\nerror 3 ESRCH\naddr 0x11000\nok\nvalue 0x4142\nvalue 0x4141\n",
+    ),
+    // The file is not mapped for stores, nor given them later.
+    (
+        b"spawn\nmmap 1 0 0 rw- shared 0 0\nmmap 1 0 4096 rw- shared 0 0\nmmap 1 0 4096 rw- shared 9 0\n\
+mmap 1 0 4096 r-- shared 0 1\nmmap 1 0x1000 4096 r-- shared 0 0 fixed\nmmap 1 0x20001 4096 r-- shared 0 0 fixed\n\
+mmap 1 0 4096 r-- shared 0 0x100000000000\nmmap 1 0 4096 r-- shared 0 0\nload 1 0x10000 1\n\
+mprotect 1 0x10000 4096 rw-\nmunmap 1 0x50000 4096\nmprotect 1 0x10000 4096 r-x\n",
+        b"pid 1\nerror 22 EINVAL\nerror 13 EACCES\nerror 9 EBADF\nerror 22 EINVAL\nerror 12 ENOMEM\n\
+error 22 EINVAL\nerror 75 EOVERFLOW\naddr 0x10000\nvalue 0x41\nerror 13 EACCES\nok\nok\n",
+    ),
+];

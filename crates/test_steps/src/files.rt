@@ -1,5 +1,5 @@
 //! What is done to files, and seen of them.
-use crate::looks::{same, same_number};
+use crate::looks::{repeated, same, same_number};
 use crate::names::named;
 use crate::steps::{FileStep, TwoFiles};
 use std::fs::{self, OpenOptions};
@@ -20,10 +20,17 @@ fn at_path(rt: &HostRuntime, path: &str, step: FileStep<'_>) -> Result<(), Fail>
     match step {
         FileStep::Has(wanted) => same(path, fs::read(rt, path)?.as_slice(), wanted),
         FileStep::HasAt(at, wanted) => same_part(fs::read(rt, path)?.as_slice(), at, wanted),
+        FileStep::IsFilledAt(at, bytes, times) => {
+            let wanted = repeated(rt, &[(bytes, times)])?;
+            same_part(fs::read(rt, path)?.as_slice(), at, wanted.as_slice())
+        }
         FileStep::IsLong(wanted) => same_number(path, fs::metadata(rt, path)?.len(), wanted),
         FileStep::IsMissing => missing(rt, path),
         FileStep::Write(bytes) => Ok(fs::write(rt, path, bytes)?),
         FileStep::WriteAt(at, bytes) => put(rt, path, at, bytes),
+        FileStep::FillAt(at, bytes, times) => {
+            put(rt, path, at, repeated(rt, &[(bytes, times)])?.as_slice())
+        }
         FileStep::SetLength(length) => resize(rt, path, length),
         FileStep::SetMode(mode) => {
             Ok(fs::set_permissions(rt, path, fs::Permissions::from_mode(mode))?)

@@ -13,7 +13,7 @@ mod steps;
 mod tables;
 
 pub use endings::ran_over;
-pub use looks::{same, same_number, sector_of};
+pub use looks::{repeated, same, same_number};
 pub use names::path;
 pub use steps::{FileStep, NEW, Program, Step, TwoFiles, UNMADE};
-pub use tables::{carry_out, carry_out_with};
+pub use tables::{carry_out, carry_out_all, carry_out_for_each};

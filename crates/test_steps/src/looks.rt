@@ -19,11 +19,18 @@ pub fn same_number(what: &str, found: u64, wanted: u64) -> Result<(), Fail> {
     }
 }
 
-/// A sector that holds these eight bytes all over, as those of a mark and of an open gate do.
-pub fn sector_of(word: &[u8; 8]) -> [u8; 512] {
-    let mut sector = [0; 512];
-    for i in 0..512 {
-        sector[i] = word[i % 8];
+/// These bytes, each so many times over, one after the other.
+pub fn repeated(rt: &HostRuntime, parts: &[(&[u8], usize)]) -> Result<Vec<u8>, Fail> {
+    let mut all = Vec::new(rt.alloc());
+    for (bytes, times) in parts {
+        add(&mut all, bytes, *times)?;
     }
-    sector
+    Ok(all)
+}
+
+fn add(all: &mut Vec<u8>, bytes: &[u8], times: usize) -> Result<(), Fail> {
+    for _ in 0..times {
+        all.extend_from_slice(bytes)?;
+    }
+    Ok(())
 }

@@ -14,6 +14,8 @@ pub enum Program {
 pub enum Step<'a> {
     /// The program, on these words and this standard input, is done, and writes these bytes.
     Does(Program, &'a [&'a str], &'a [u8], &'a [u8]),
+    /// `pagecat` is done on these words, and writes these bytes, each so many times over, one after the other.
+    Shows(&'a [&'a str], &'a [(&'a [u8], usize)]),
     /// The program, on these words and a trace of one line, fails, and writes that to standard error and nothing else.
     Fails(Program, &'a [&'a str], &'a str),
     /// The program does not take these words, and says how it is called.
@@ -33,6 +35,8 @@ pub enum FileStep<'a> {
     Has(&'a [u8]),
     /// It has these bytes from that byte on.
     HasAt(usize, &'a [u8]),
+    /// It has these bytes, so many times over, from that byte on.
+    IsFilledAt(usize, &'a [u8], usize),
     /// It has this length, in bytes.
     IsLong(u64),
     /// There is no such file.
@@ -41,6 +45,8 @@ pub enum FileStep<'a> {
     Write(&'a [u8]),
     /// These bytes are written over those from that byte on.
     WriteAt(u64, &'a [u8]),
+    /// The same, with these bytes so many times over.
+    FillAt(u64, &'a [u8], usize),
     /// It is made so long, or cut.
     SetLength(u64),
     /// It gets these permissions.

@@ -6,7 +6,7 @@ use std::test::Fail;
 
 /// An image of one file of so many zeros.
 pub fn image(alloc: Global, length: u32) -> Result<SimDisk, Fail> {
-    let mut disk = SimDisk::new(alloc, 1020 + 8 * u64::from(length).div_ceil(4096))?;
+    let mut disk = SimDisk::new(alloc, 8195 + 8 * u64::from(length).div_ceil(4096))?;
     let mut files: [FileSource<&[u8]>; 1] = [FileSource {
         read_only: false,
         length,
@@ -18,7 +18,7 @@ pub fn image(alloc: Global, length: u32) -> Result<SimDisk, Fail> {
 
 /// An image of one file of one page of the letter A, which may only be read.
 pub fn image_of_letters(alloc: Global) -> Result<SimDisk, Fail> {
-    let mut disk = SimDisk::new(alloc, 1028)?;
+    let mut disk = SimDisk::new(alloc, 8203)?;
     let mut files: [FileSource<&[u8]>; 1] = [FileSource {
         read_only: true,
         length: 4096,
@@ -30,7 +30,7 @@ pub fn image_of_letters(alloc: Global) -> Result<SimDisk, Fail> {
 
 /// An image of two files of a page of zeros each.
 pub(crate) fn image_of_two(alloc: Global) -> Result<SimDisk, Fail> {
-    let mut disk = SimDisk::new(alloc, 1036)?;
+    let mut disk = SimDisk::new(alloc, 8211)?;
     let mut files: [FileSource<&[u8]>; 2] = [
         FileSource {
             read_only: false,

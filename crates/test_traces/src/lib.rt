@@ -13,6 +13,6 @@ pub use exchanges::{Exchange, expect_end, same};
 pub use files::expect_file;
 pub use images::{image, image_of_letters};
 pub use runs::{
-    Armed, CONFIG, SMALL, asked_after_start, asked_in, expect, expect_in, expect_over_zeros,
-    expect_refusal, failing_after_start, left, left_in, left_of_two, ran_on, streamed,
+    Armed, CONFIG, PLAIN, SMALL, Setting, asked_after_start, expect, expect_all, expect_ending,
+    expect_in, expect_refusal, left_in, left_of_two, ran_on, streamed,
 };

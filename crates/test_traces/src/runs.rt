@@ -17,6 +17,8 @@ pub enum Armed {
     Nothing,
     StopAtWrite(u64),
     FailAtCall(u64),
+    /// The store's call that comes so many calls after the start.
+    FailAfterStart(u64),
     SwapFailsAtCall(u64),
 }
 
@@ -32,12 +34,46 @@ pub const SMALL: Config = Config {
     slots: 16,
 };
 
+/// What a trace is run on: a machine of that size over a file of so many zeros, and the fault of its devices.
+#[derive(Clone, Copy, Debug, PartialEq, Eq)]
+pub struct Setting {
+    pub length: u32,
+    pub config: Config,
+    pub armed: Armed,
+}
+
+/// A machine of 64 frames over a page of zeros, whose devices have no fault.
+pub const PLAIN: Setting = Setting {
+    length: 4096,
+    config: CONFIG,
+    armed: Armed::Nothing,
+};
+
 /// A machine's replies, how its run ended, and the device of its store as it was left.
 #[derive(Drop)]
 struct Told {
     end: RunEnd,
     output: Vec<u8>,
     store: SimDisk,
+}
+
+/// How many calls of the store's device a machine makes to start.
+fn calls_of_a_start(alloc: Global, image: &SimDisk, config: Config) -> Result<u64, Fail> {
+    let machine = booted(alloc, image, Armed::Nothing, config)?;
+    Ok(machine.store().calls())
+}
+
+/// The devices of the store and of swap, with that fault: the image as it was last synced, and sixteen slots.
+fn devices(alloc: Global, image: &SimDisk, armed: Armed) -> Result<(SimDisk, SimDisk), Fail> {
+    let mut store = image.left(alloc, &[])?;
+    let mut swap = SimDisk::new(alloc, 128)?;
+    match armed {
+        Armed::Nothing | Armed::FailAfterStart(_) => {}
+        Armed::StopAtWrite(write) => store.stop_at(write),
+        Armed::FailAtCall(call) => store.fail_at(call),
+        Armed::SwapFailsAtCall(call) => swap.fail_at(call),
+    }
+    Ok((store, swap))
 }
 
 /// A machine of that size on the image as it was last synced.
@@ -49,17 +85,21 @@ fn booted(
 ) -> Result<Machine<SimDisk, SimDisk>, Fail>
     ensures { IfOk result (λ machine. IsSoundMachine ⟦<SimDisk as SectorDisk>⟧ ⟦<SimDisk as SectorDisk>⟧ machine) }
 {
-    let mut store = image.left(alloc, &[])?;
-    let mut swap = SimDisk::new(alloc, 128)?;
-    match armed {
-        Armed::Nothing => {}
-        Armed::StopAtWrite(write) => store.stop_at(write),
-        Armed::FailAtCall(call) => store.fail_at(call),
-        Armed::SwapFailsAtCall(call) => swap.fail_at(call),
-    }
+    let (store, swap) = devices(alloc, image, armed)?;
     match Machine::boot(alloc, config, store, swap) {
         Ok(machine) => Ok(machine),
         Err((fault, _)) => Err(Fail::new(format_args!("boot: {fault:?}"))),
+    }
+}
+
+/// The fault as one of a call that is counted from the first.
+fn counted(alloc: Global, image: &SimDisk, setting: Setting) -> Result<Armed, Fail> {
+    match setting.armed {
+        Armed::FailAfterStart(calls) => {
+            let start = calls_of_a_start(alloc, image, setting.config)?;
+            Ok(Armed::FailAtCall(start.saturating_add(calls)))
+        }
+        armed => Ok(armed),
     }
 }
 
@@ -94,20 +134,11 @@ fn left_over(
     Ok(told.store)
 }
 
-/// The device of the store, as a machine of that size leaves it that gives these replies to a trace over a file of so many zeros.
-pub fn left_in(
-    alloc: Global,
-    length: u32,
-    armed: Armed,
-    config: Config,
-    exchange: (&[u8], &[u8]),
-) -> Result<SimDisk, Fail> {
-    left_over(alloc, &image(alloc, length)?, armed, config, exchange)
-}
-
-/// The same of a machine of 64 frames, whose devices have no fault.
-pub fn left(alloc: Global, length: u32, exchange: (&[u8], &[u8])) -> Result<SimDisk, Fail> {
-    left_in(alloc, length, Armed::Nothing, CONFIG, exchange)
+/// The device of the store, as a machine leaves it that gives these replies to a trace.
+pub fn left_in(alloc: Global, setting: Setting, exchange: (&[u8], &[u8])) -> Result<SimDisk, Fail> {
+    let image = image(alloc, setting.length)?;
+    let armed = counted(alloc, &image, setting)?;
+    left_over(alloc, &image, armed, setting.config, exchange)
 }
 
 /// The same of a machine of 64 frames over two files of a page of zeros, whose device stops at that write.
@@ -116,43 +147,29 @@ pub fn left_of_two(alloc: Global, write: u64, exchange: (&[u8], &[u8])) -> Resul
     left_over(alloc, &disk, Armed::StopAtWrite(write), CONFIG, exchange)
 }
 
-/// Sees that a machine of that size gives these replies to a trace over a file of so many zeros: how many writes and syncs its
-/// store's device had.
-pub fn asked_in(
-    alloc: Global,
-    length: u32,
-    armed: Armed,
-    config: Config,
-    exchange: (&[u8], &[u8]),
-) -> Result<(u64, u64), Fail> {
-    let store = left_in(alloc, length, armed, config, exchange)?;
+/// Sees that a machine gives these replies to a trace: how many writes and syncs its store's device had.
+fn asked_in(alloc: Global, setting: Setting, exchange: (&[u8], &[u8])) -> Result<(u64, u64), Fail> {
+    let store = left_in(alloc, setting, exchange)?;
     Ok((store.writes(), store.syncs()))
 }
 
 /// The same, but for the writes and syncs that the machine made to start.
 pub fn asked_after_start(
     alloc: Global,
-    length: u32,
-    config: Config,
+    setting: Setting,
     exchange: (&[u8], &[u8]),
 ) -> Result<(u64, u64), Fail> {
-    let at_start = asked_in(alloc, length, Armed::Nothing, config, (b"", b""))?;
-    let asked = asked_in(alloc, length, Armed::Nothing, config, exchange)?;
+    let at_start = asked_in(alloc, setting, (b"", b""))?;
+    let asked = asked_in(alloc, setting, exchange)?;
     Ok((
         asked.0.saturating_sub(at_start.0),
         asked.1.saturating_sub(at_start.1),
     ))
 }
 
-/// Sees that a machine of that size gives these replies to a trace over a file of so many zeros.
-pub fn expect_in(
-    alloc: Global,
-    length: u32,
-    armed: Armed,
-    config: Config,
-    exchange: (&[u8], &[u8]),
-) -> Result<(), Fail> {
-    let _ = asked_in(alloc, length, armed, config, exchange)?;
+/// Sees that a machine gives these replies to a trace.
+pub fn expect_in(alloc: Global, setting: Setting, exchange: (&[u8], &[u8])) -> Result<(), Fail> {
+    let _ = left_in(alloc, setting, exchange)?;
     Ok(())
 }
 
@@ -162,9 +179,13 @@ pub fn expect(alloc: Global, image: &SimDisk, exchange: (&[u8], &[u8])) -> Resul
     Ok(())
 }
 
-/// Sees that a machine of 64 frames gives these replies to a trace over a file of so many zeros.
-pub fn expect_over_zeros(alloc: Global, length: u32, exchange: (&[u8], &[u8])) -> Result<(), Fail> {
-    expect_in(alloc, length, Armed::Nothing, CONFIG, exchange)
+/// Sees that machines of 64 frames give these replies to traces, each over a file of so many zeros.
+pub fn expect_all(alloc: Global, length: u32, exchanges: &[(&[u8], &[u8])]) -> Result<(), Fail> {
+    let image = image(alloc, length)?;
+    for exchange in exchanges {
+        expect(alloc, &image, *exchange)?;
+    }
+    Ok(())
 }
 
 /// How a run of that reader and that writer ends on a machine of 64 frames over a file of one page of zeros.
@@ -192,6 +213,37 @@ pub fn ran_on(
     }
 }
 
+/// How `run_on` ends over these devices, and whether it hands back a halted machine; or why none starts.
+fn ending_in(
+    alloc: Global,
+    setting: Setting,
+    trace: &[u8],
+    output: &mut Vec<u8>,
+) -> Result<Result<(RunEnd, bool), BootFault>, Fail> {
+    let image = image(alloc, setting.length)?;
+    let armed = counted(alloc, &image, setting)?;
+    let devices = devices(alloc, &image, armed)?;
+    let mut reader = trace;
+    match ran_on(alloc, setting.config, devices, &mut reader, output) {
+        Ok(told) => Ok(Ok(told)),
+        Err((fault, _)) => Ok(Err(fault)),
+    }
+}
+
+/// Sees the replies of `run_on` to a trace, and how it ends: whether the machine is halted then, or why none starts.
+pub fn expect_ending(
+    alloc: Global,
+    setting: Setting,
+    exchange: (&[u8], &[u8]),
+    ending: Result<(RunEnd, bool), BootFault>,
+) -> Result<(), Fail> {
+    let (trace, wanted) = exchange;
+    let mut output = Vec::new(alloc);
+    let told = ending_in(alloc, setting, trace, &mut output)?;
+    same("replies", output.as_slice(), wanted)?;
+    same("end", told, ending)
+}
+
 /// Why no machine starts on this image, and how many writes were made to it.
 fn refused(alloc: Global, image: &SimDisk) -> Result<(BootFault, u64), Fail> {
     let store = image.left(alloc, &[])?;
@@ -206,10 +258,4 @@ pub fn expect_refusal(alloc: Global, image: &SimDisk, wanted: BootFault) -> Resu
     let (fault, writes) = refused(alloc, image)?;
     same("fault", fault, wanted)?;
     same("writes", writes, 0)
-}
-
-/// The fault of the call of the store's device that comes so many calls after a start over a file of so many zeros.
-pub fn failing_after_start(alloc: Global, length: u32, calls: u64) -> Result<Armed, Fail> {
-    let machine = booted(alloc, &image(alloc, length)?, Armed::Nothing, CONFIG)?;
-    Ok(Armed::FailAtCall(machine.store().calls().saturating_add(calls)))
 }

@@ -1,8 +1,10 @@
--- Words of a known form stand for no command of another form.
-use Rattle.std.proofs.Common.{◌≡◌, ℕ, ◌+◌, ◌<◌, ◌^◌, ◌*◌, List, [], ◌∷◌, codes, Bool, false, refl, Option, Some, get_or, drop, subst, sym, ◌∙◌, ap, eq-eqb}
-use Rattle.std.proofs.lemmas.Bool.{false≢true}
-use Rattle.std.specs.Prelude.{◌==◌}
+-- The words of a line stand for one command at most, whose name the first word is.
+use Rattle.std.proofs.Common.{◌≡◌, ℕ, ◌<◌, ◌^◌, ◌*◌, List, [], ◌∷◌, codes, refl, Option, Some, None, IfSome, get_or, drop, subst, sym, ◌∙◌, ap}
 use Rattle.trace_lang.specs.Grammar.{IsBack, IsForm, IsMode, IsNumber, IsPermission, IsWidth}
+use Rattle.trace_lang.specs.Names.{name_text, StandsFor}
+use Rattle.trace_lang.specs.declared.names.Name.{Name}
+use Rattle.trace_lang.specs.declared.names.Name.TheVariants as name
+use Rattle.trace_lang.proofs.OneName.{same_name, OnlyOf}
 use Rattle.vm_types.specs.Width.{byte_count}
 use Rattle.vm_types.specs.declared.access.StoredValue.{StoredValue}
 use Rattle.vm_types.specs.declared.command.Command.{Command}
@@ -13,212 +15,131 @@ use Rattle.vm_types.specs.declared.command.Placing.{Placing}
 use Rattle.vm_types.specs.declared.permission.Prot.{Prot}
 use Rattle.vm_types.specs.declared.width.Width.{Width}
 
--- P of the words that follow from two accounts of them
-along : {A : Type 0} (P : A → Type 0) (x y : A) → x ≡ y → P x → P y
-along P x y e h = subst P e h
+abbrev form_name : Command → Name
+form_name Spawn = name.Spawn
+form_name (Fork pid) = name.Fork
+form_name (Exit pid) = name.Exit
+form_name (Mmap pid addr len prot source placing) = name.Mmap
+form_name (Munmap pid addr len) = name.Munmap
+form_name (Mprotect pid addr len prot) = name.Mprotect
+form_name (Dontneed pid addr len) = name.Dontneed
+form_name (Msync pid addr len mode) = name.Msync
+form_name (Load pid addr width) = name.Load
+form_name (Store pid addr stored) = name.Store
+form_name (Fetch pid addr) = name.Fetch
+form_name PastFaults = name.Faults
 
--- a number of the first word, by which all names of commands differ
-abbrev key : List (List ℕ) → ℕ
-key words = get_or (get_or words 0 []) 0 0 * 256 + get_or (get_or words 0 []) 1 0
+abbrev first : List (List ℕ) → List ℕ
+first words = get_or words 0 []
 
--- words with different first words are not the same ones
-apart : {xs ys : List (List ℕ)} → xs ≡ ys → (key xs == key ys) ≡ false → ⊥
-apart {xs} {ys} e other = false≢true (sym other ∙ eq-eqb (key xs) (key ys) (ap key e))
+-- a form begins with its command's name
+begins : (ws : List (List ℕ)) (command : Command) → IsForm ws command → first ws ≡ name_text (form_name command)
+begins ws Spawn h = ap first h
+begins ws (Fork pid) h = ap first h.1
+begins ws (Exit pid) h = ap first h.1
+begins ws (Mmap pid addr len prot source placing) h = ap first h.5
+begins ws (Munmap pid addr len) h = ap first h.3
+begins ws (Mprotect pid addr len prot) h = ap first h.4
+begins ws (Dontneed pid addr len) h = ap first h.3
+begins ws (Msync pid addr len mode) h = ap first h.4
+begins ws (Load pid addr width) h = ap first h.3
+begins ws (Store pid addr stored) h = ap first h.4
+begins ws (Fetch pid addr) h = ap first h.2
+begins ws PastFaults h = ap first h
 
-pub only_fork : (ws : List (List ℕ)) (p : List ℕ) (r : Option Command) → ws ≡ codes "fork" ∷ p ∷ []
-    → ((pid : ℕ) → IsNumber p pid → r ≡ Some (Fork pid)) → (command : Command) → IsForm ws command → r ≡ Some command
-only_fork ws p r e only Spawn h = absurd (apart (sym h ∙ e) refl)
-only_fork ws p r e only (Fork pid) h = let ep : h.0 ≡ p = ap (λ ws. get_or ws 1 []) (sym h.1 ∙ e) in only pid (along (λ t. IsNumber t pid) _ _ ep h.2)
-only_fork ws p r e only (Exit pid) h = absurd (apart (sym h.1 ∙ e) refl)
-only_fork ws p r e only (Mmap pid addr len prot source placing) h = absurd (apart (sym h.5 ∙ e) refl)
-only_fork ws p r e only (Munmap pid addr len) h = absurd (apart (sym h.3 ∙ e) refl)
-only_fork ws p r e only (Dontneed pid addr len) h = absurd (apart (sym h.3 ∙ e) refl)
-only_fork ws p r e only PastFaults h = absurd (apart (sym h ∙ e) refl)
-only_fork ws p r e only (Mprotect pid addr len prot) h = absurd (apart (sym h.4 ∙ e) refl)
-only_fork ws p r e only (Msync pid addr len mode) h = absurd (apart (sym h.4 ∙ e) refl)
-only_fork ws p r e only (Load pid addr width) h = absurd (apart (sym h.3 ∙ e) refl)
-only_fork ws p r e only (Store pid addr stored) h = absurd (apart (sym h.4 ∙ e) refl)
-only_fork ws p r e only (Fetch pid addr) h = absurd (apart (sym h.2 ∙ e) refl)
+at_name : (ws : List (List ℕ)) (r : Option Command) (command : Command) → IsForm ws command → OnlyOf (form_name command) ws r → r ≡ Some command
+at_name ws r Spawn h only = only h
+at_name ws r (Fork pid) h only = only pid h
+at_name ws r (Exit pid) h only = only pid h
+at_name ws r (Mmap pid addr len prot source placing) h only = only pid addr len prot source placing h
+at_name ws r (Munmap pid addr len) h only = only pid addr len h
+at_name ws r (Mprotect pid addr len prot) h only = only pid addr len prot h
+at_name ws r (Dontneed pid addr len) h only = only pid addr len h
+at_name ws r (Msync pid addr len mode) h only = only pid addr len mode h
+at_name ws r (Load pid addr width) h only = only pid addr width h
+at_name ws r (Store pid addr stored) h only = only pid addr stored h
+at_name ws r (Fetch pid addr) h only = only pid addr h
+at_name ws r PastFaults h only = only h
 
-pub only_exit : (ws : List (List ℕ)) (p : List ℕ) (r : Option Command) → ws ≡ codes "exit" ∷ p ∷ []
-    → ((pid : ℕ) → IsNumber p pid → r ≡ Some (Exit pid)) → (command : Command) → IsForm ws command → r ≡ Some command
-only_exit ws p r e only Spawn h = absurd (apart (sym h ∙ e) refl)
-only_exit ws p r e only (Fork pid) h = absurd (apart (sym h.1 ∙ e) refl)
-only_exit ws p r e only (Exit pid) h = let ep : h.0 ≡ p = ap (λ ws. get_or ws 1 []) (sym h.1 ∙ e) in only pid (along (λ t. IsNumber t pid) _ _ ep h.2)
-only_exit ws p r e only (Mmap pid addr len prot source placing) h = absurd (apart (sym h.5 ∙ e) refl)
-only_exit ws p r e only (Munmap pid addr len) h = absurd (apart (sym h.3 ∙ e) refl)
-only_exit ws p r e only (Dontneed pid addr len) h = absurd (apart (sym h.3 ∙ e) refl)
-only_exit ws p r e only PastFaults h = absurd (apart (sym h ∙ e) refl)
-only_exit ws p r e only (Mprotect pid addr len prot) h = absurd (apart (sym h.4 ∙ e) refl)
-only_exit ws p r e only (Msync pid addr len mode) h = absurd (apart (sym h.4 ∙ e) refl)
-only_exit ws p r e only (Load pid addr width) h = absurd (apart (sym h.3 ∙ e) refl)
-only_exit ws p r e only (Store pid addr stored) h = absurd (apart (sym h.4 ∙ e) refl)
-only_exit ws p r e only (Fetch pid addr) h = absurd (apart (sym h.2 ∙ e) refl)
+-- what was read of a form of the name, where it is the one command of that form
+stands : (n : Name) (ws : List (List ℕ)) (r : Option Command) → first ws ≡ name_text n → IfSome r (λ command. IsForm ws command) → OnlyOf n ws r → StandsFor ws r
+stands n ws r e found only = record {
+  found = found;
+  only = λ command h.
+      let P : Name → Type 0 = λ m. OnlyOf m ws r in
+      at_name ws r command h (subst P (same_name n (form_name command) (sym e ∙ begins ws command h)) only);
+}
 
-pub only_fetch : (ws : List (List ℕ)) (p a : List ℕ) (r : Option Command) → ws ≡ codes "fetch" ∷ p ∷ a ∷ []
-    → ((pid addr : ℕ) → IsNumber p pid → IsNumber a addr → r ≡ Some (Fetch pid addr)) → (command : Command) → IsForm ws command → r ≡ Some command
-only_fetch ws p a r e only Spawn h = absurd (apart (sym h ∙ e) refl)
-only_fetch ws p a r e only (Fork pid) h = absurd (apart (sym h.1 ∙ e) refl)
-only_fetch ws p a r e only (Exit pid) h = absurd (apart (sym h.1 ∙ e) refl)
-only_fetch ws p a r e only (Mmap pid addr len prot source placing) h = absurd (apart (sym h.5 ∙ e) refl)
-only_fetch ws p a r e only (Munmap pid addr len) h = absurd (apart (sym h.3 ∙ e) refl)
-only_fetch ws p a r e only (Dontneed pid addr len) h = absurd (apart (sym h.3 ∙ e) refl)
-only_fetch ws p a r e only PastFaults h = absurd (apart (sym h ∙ e) refl)
-only_fetch ws p a r e only (Mprotect pid addr len prot) h = absurd (apart (sym h.4 ∙ e) refl)
-only_fetch ws p a r e only (Msync pid addr len mode) h = absurd (apart (sym h.4 ∙ e) refl)
-only_fetch ws p a r e only (Load pid addr width) h = absurd (apart (sym h.3 ∙ e) refl)
-only_fetch ws p a r e only (Store pid addr stored) h = absurd (apart (sym h.4 ∙ e) refl)
-only_fetch ws p a r e only (Fetch pid addr) h =
-    let ep : h.0 ≡ p = ap (λ ws. get_or ws 1 []) (sym h.2 ∙ e) in let ea : h.1 ≡ a = ap (λ ws. get_or ws 2 []) (sym h.2 ∙ e) in
-    only pid addr (along (λ t. IsNumber t pid) _ _ ep h.3) (along (λ t. IsNumber t addr) _ _ ea h.4)
+-- words whose first is no name stand for no command
+pub no_command : (ws : List (List ℕ)) (r : Option Command) → r ≡ None → ((n : Name) → first ws ≡ name_text n → ⊥) → StandsFor ws r
+no_command ws r e unnamed =
+    let P : Option Command → Type 0 = λ t. StandsFor ws t in
+    subst P (sym e) record { found = tt; only = λ command h. absurd (unnamed (form_name command) (begins ws command h)) }
 
-pub only_load : (ws : List (List ℕ)) (p a w : List ℕ) (r : Option Command) → ws ≡ codes "load" ∷ p ∷ a ∷ w ∷ []
-    → ((pid addr : ℕ) (width : Width) → IsNumber p pid → IsNumber a addr → IsWidth w width → r ≡ Some (Load pid addr width))
-    → (command : Command) → IsForm ws command → r ≡ Some command
-only_load ws p a w r e only Spawn h = absurd (apart (sym h ∙ e) refl)
-only_load ws p a w r e only (Fork pid) h = absurd (apart (sym h.1 ∙ e) refl)
-only_load ws p a w r e only (Exit pid) h = absurd (apart (sym h.1 ∙ e) refl)
-only_load ws p a w r e only (Mmap pid addr len prot source placing) h = absurd (apart (sym h.5 ∙ e) refl)
-only_load ws p a w r e only (Munmap pid addr len) h = absurd (apart (sym h.3 ∙ e) refl)
-only_load ws p a w r e only (Dontneed pid addr len) h = absurd (apart (sym h.3 ∙ e) refl)
-only_load ws p a w r e only PastFaults h = absurd (apart (sym h ∙ e) refl)
-only_load ws p a w r e only (Mprotect pid addr len prot) h = absurd (apart (sym h.4 ∙ e) refl)
-only_load ws p a w r e only (Msync pid addr len mode) h = absurd (apart (sym h.4 ∙ e) refl)
-only_load ws p a w r e only (Load pid addr width) h =
-    let ep : h.0 ≡ p = ap (λ ws. get_or ws 1 []) (sym h.3 ∙ e) in
-    let ea : h.1 ≡ a = ap (λ ws. get_or ws 2 []) (sym h.3 ∙ e) in
-    let ew : h.2 ≡ w = ap (λ ws. get_or ws 3 []) (sym h.3 ∙ e) in
-    only pid addr width (along (λ t. IsNumber t pid) _ _ ep h.4) (along (λ t. IsNumber t addr) _ _ ea h.5) (along (λ t. IsWidth t width) _ _ ew h.6)
-only_load ws p a w r e only (Store pid addr stored) h = absurd (apart (sym h.4 ∙ e) refl)
-only_load ws p a w r e only (Fetch pid addr) h = absurd (apart (sym h.2 ∙ e) refl)
+moved : (ws xs : List (List ℕ)) (r : Option Command) → ws ≡ xs → StandsFor xs r → StandsFor ws r
+moved ws xs r e h = let P : List (List ℕ) → Type 0 = λ t. StandsFor t r in subst P (sym e) h
 
-pub only_store : (ws : List (List ℕ)) (p a w v : List ℕ) (r : Option Command) → ws ≡ codes "store" ∷ p ∷ a ∷ w ∷ v ∷ []
+-- P of a word of one account from that of the other
+at_word : (P : List ℕ → Type 0) (k : ℕ) {xs ys : List (List ℕ)} → xs ≡ ys → P (get_or ys k []) → P (get_or xs k [])
+at_word P k e h = subst P (sym (ap (λ ws. get_or ws k []) e)) h
+
+pub fork_stands : (ws : List (List ℕ)) (p : List ℕ) (r : Option Command) → ws ≡ codes "fork" ∷ p ∷ [] → IfSome r (λ command. IsForm (codes "fork" ∷ p ∷ []) command)
+    → ((pid : ℕ) → IsNumber p pid → r ≡ Some (Fork pid)) → StandsFor ws r
+fork_stands ws p r e found only = moved _ _ _ e (stands name.Fork _ r refl found (λ pid h. only pid (at_word (λ t. IsNumber t pid) 1 h.1 h.2)))
+
+pub exit_stands : (ws : List (List ℕ)) (p : List ℕ) (r : Option Command) → ws ≡ codes "exit" ∷ p ∷ [] → IfSome r (λ command. IsForm (codes "exit" ∷ p ∷ []) command)
+    → ((pid : ℕ) → IsNumber p pid → r ≡ Some (Exit pid)) → StandsFor ws r
+exit_stands ws p r e found only = moved _ _ _ e (stands name.Exit _ r refl found (λ pid h. only pid (at_word (λ t. IsNumber t pid) 1 h.1 h.2)))
+
+pub fetch_stands : (ws : List (List ℕ)) (p a : List ℕ) (r : Option Command) → ws ≡ codes "fetch" ∷ p ∷ a ∷ [] → IfSome r (λ command. IsForm (codes "fetch" ∷ p ∷ a ∷ []) command)
+    → ((pid addr : ℕ) → IsNumber p pid → IsNumber a addr → r ≡ Some (Fetch pid addr)) → StandsFor ws r
+fetch_stands ws p a r e found only = moved _ _ _ e (stands name.Fetch _ r refl found (λ pid addr h.
+    only pid addr (at_word (λ t. IsNumber t pid) 1 h.2 h.3) (at_word (λ t. IsNumber t addr) 2 h.2 h.4)))
+
+pub load_stands : (ws : List (List ℕ)) (p a w : List ℕ) (r : Option Command) → ws ≡ codes "load" ∷ p ∷ a ∷ w ∷ [] → IfSome r (λ command. IsForm (codes "load" ∷ p ∷ a ∷ w ∷ []) command)
+    → ((pid addr : ℕ) (width : Width) → IsNumber p pid → IsNumber a addr → IsWidth w width → r ≡ Some (Load pid addr width)) → StandsFor ws r
+load_stands ws p a w r e found only = moved _ _ _ e (stands name.Load _ r refl found (λ pid addr width h.
+    only pid addr width (at_word (λ t. IsNumber t pid) 1 h.3 h.4) (at_word (λ t. IsNumber t addr) 2 h.3 h.5) (at_word (λ t. IsWidth t width) 3 h.3 h.6)))
+
+pub store_stands : (ws : List (List ℕ)) (p a w v : List ℕ) (r : Option Command) → ws ≡ codes "store" ∷ p ∷ a ∷ w ∷ v ∷ []
+    → IfSome r (λ command. IsForm (codes "store" ∷ p ∷ a ∷ w ∷ v ∷ []) command)
     → ((pid addr : ℕ) (stored : StoredValue) → IsNumber p pid → IsNumber a addr → IsWidth w stored.width → IsNumber v stored.value
-    → stored.value < 2 ^ (8 * byte_count stored.width) → r ≡ Some (Store pid addr stored))
-    → (command : Command) → IsForm ws command → r ≡ Some command
-only_store ws p a w v r e only Spawn h = absurd (apart (sym h ∙ e) refl)
-only_store ws p a w v r e only (Fork pid) h = absurd (apart (sym h.1 ∙ e) refl)
-only_store ws p a w v r e only (Exit pid) h = absurd (apart (sym h.1 ∙ e) refl)
-only_store ws p a w v r e only (Mmap pid addr len prot source placing) h = absurd (apart (sym h.5 ∙ e) refl)
-only_store ws p a w v r e only (Munmap pid addr len) h = absurd (apart (sym h.3 ∙ e) refl)
-only_store ws p a w v r e only (Dontneed pid addr len) h = absurd (apart (sym h.3 ∙ e) refl)
-only_store ws p a w v r e only PastFaults h = absurd (apart (sym h ∙ e) refl)
-only_store ws p a w v r e only (Mprotect pid addr len prot) h = absurd (apart (sym h.4 ∙ e) refl)
-only_store ws p a w v r e only (Msync pid addr len mode) h = absurd (apart (sym h.4 ∙ e) refl)
-only_store ws p a w v r e only (Load pid addr width) h = absurd (apart (sym h.3 ∙ e) refl)
-only_store ws p a w v r e only (Store pid addr stored) h =
-    let ep : h.0 ≡ p = ap (λ ws. get_or ws 1 []) (sym h.4 ∙ e) in
-    let ea : h.1 ≡ a = ap (λ ws. get_or ws 2 []) (sym h.4 ∙ e) in
-    let ew : h.2 ≡ w = ap (λ ws. get_or ws 3 []) (sym h.4 ∙ e) in
-    let ev : h.3 ≡ v = ap (λ ws. get_or ws 4 []) (sym h.4 ∙ e) in
-    only pid addr stored (along (λ t. IsNumber t pid) _ _ ep h.5) (along (λ t. IsNumber t addr) _ _ ea h.6) (along (λ t. IsWidth t stored.width) _ _ ew h.7)
-    (along (λ t. IsNumber t stored.value) _ _ ev h.8) h.9
-only_store ws p a w v r e only (Fetch pid addr) h = absurd (apart (sym h.2 ∙ e) refl)
+    → stored.value < 2 ^ (8 * byte_count stored.width) → r ≡ Some (Store pid addr stored)) → StandsFor ws r
+store_stands ws p a w v r e found only = moved _ _ _ e (stands name.Store _ r refl found (λ pid addr stored h.
+    only pid addr stored (at_word (λ t. IsNumber t pid) 1 h.4 h.5) (at_word (λ t. IsNumber t addr) 2 h.4 h.6) (at_word (λ t. IsWidth t stored.width) 3 h.4 h.7)
+    (at_word (λ t. IsNumber t stored.value) 4 h.4 h.8) h.9))
 
-pub only_msync : (ws : List (List ℕ)) (p a l m : List ℕ) (r : Option Command) → ws ≡ codes "msync" ∷ p ∷ a ∷ l ∷ m ∷ []
-    → ((pid addr len : ℕ) (mode : MsyncMode) → IsNumber p pid → IsNumber a addr → IsNumber l len → IsMode m mode → r ≡ Some (Msync pid addr len mode))
-    → (command : Command) → IsForm ws command → r ≡ Some command
-only_msync ws p a l m r e only Spawn h = absurd (apart (sym h ∙ e) refl)
-only_msync ws p a l m r e only (Fork pid) h = absurd (apart (sym h.1 ∙ e) refl)
-only_msync ws p a l m r e only (Exit pid) h = absurd (apart (sym h.1 ∙ e) refl)
-only_msync ws p a l m r e only (Mmap pid addr len prot source placing) h = absurd (apart (sym h.5 ∙ e) refl)
-only_msync ws p a l m r e only (Munmap pid addr len) h = absurd (apart (sym h.3 ∙ e) refl)
-only_msync ws p a l m r e only (Dontneed pid addr len) h = absurd (apart (sym h.3 ∙ e) refl)
-only_msync ws p a l m r e only PastFaults h = absurd (apart (sym h ∙ e) refl)
-only_msync ws p a l m r e only (Mprotect pid addr len prot) h = absurd (apart (sym h.4 ∙ e) refl)
-only_msync ws p a l m r e only (Msync pid addr len mode) h =
-    let ep : h.0 ≡ p = ap (λ ws. get_or ws 1 []) (sym h.4 ∙ e) in
-    let ea : h.1 ≡ a = ap (λ ws. get_or ws 2 []) (sym h.4 ∙ e) in
-    let el : h.2 ≡ l = ap (λ ws. get_or ws 3 []) (sym h.4 ∙ e) in
-    let em : h.3 ≡ m = ap (λ ws. get_or ws 4 []) (sym h.4 ∙ e) in
-    only pid addr len mode (along (λ t. IsNumber t pid) _ _ ep h.5) (along (λ t. IsNumber t addr) _ _ ea h.6) (along (λ t. IsNumber t len) _ _ el h.7)
-    (along (λ t. IsMode t mode) _ _ em h.8)
-only_msync ws p a l m r e only (Load pid addr width) h = absurd (apart (sym h.3 ∙ e) refl)
-only_msync ws p a l m r e only (Store pid addr stored) h = absurd (apart (sym h.4 ∙ e) refl)
-only_msync ws p a l m r e only (Fetch pid addr) h = absurd (apart (sym h.2 ∙ e) refl)
+pub munmap_stands : (ws : List (List ℕ)) (p a l : List ℕ) (r : Option Command) → ws ≡ codes "munmap" ∷ p ∷ a ∷ l ∷ []
+    → IfSome r (λ command. IsForm (codes "munmap" ∷ p ∷ a ∷ l ∷ []) command)
+    → ((pid addr len : ℕ) → IsNumber p pid → IsNumber a addr → IsNumber l len → r ≡ Some (Munmap pid addr len)) → StandsFor ws r
+munmap_stands ws p a l r e found only = moved _ _ _ e (stands name.Munmap _ r refl found (λ pid addr len h.
+    only pid addr len (at_word (λ t. IsNumber t pid) 1 h.3 h.4) (at_word (λ t. IsNumber t addr) 2 h.3 h.5) (at_word (λ t. IsNumber t len) 3 h.3 h.6)))
 
-pub only_mmap : (ws : List (List ℕ)) (p a l t : List ℕ) (b : List (List ℕ)) (r : Option Command) → ws ≡ codes "mmap" ∷ p ∷ a ∷ l ∷ t ∷ b
+pub dontneed_stands : (ws : List (List ℕ)) (p a l : List ℕ) (r : Option Command) → ws ≡ codes "dontneed" ∷ p ∷ a ∷ l ∷ []
+    → IfSome r (λ command. IsForm (codes "dontneed" ∷ p ∷ a ∷ l ∷ []) command)
+    → ((pid addr len : ℕ) → IsNumber p pid → IsNumber a addr → IsNumber l len → r ≡ Some (Dontneed pid addr len)) → StandsFor ws r
+dontneed_stands ws p a l r e found only = moved _ _ _ e (stands name.Dontneed _ r refl found (λ pid addr len h.
+    only pid addr len (at_word (λ t. IsNumber t pid) 1 h.3 h.4) (at_word (λ t. IsNumber t addr) 2 h.3 h.5) (at_word (λ t. IsNumber t len) 3 h.3 h.6)))
+
+pub mprotect_stands : (ws : List (List ℕ)) (p a l t : List ℕ) (r : Option Command) → ws ≡ codes "mprotect" ∷ p ∷ a ∷ l ∷ t ∷ []
+    → IfSome r (λ command. IsForm (codes "mprotect" ∷ p ∷ a ∷ l ∷ t ∷ []) command)
+    → ((pid addr len : ℕ) (prot : Prot) → IsNumber p pid → IsNumber a addr → IsNumber l len → IsPermission t prot → r ≡ Some (Mprotect pid addr len prot)) → StandsFor ws r
+mprotect_stands ws p a l t r e found only = moved _ _ _ e (stands name.Mprotect _ r refl found (λ pid addr len prot h.
+    only pid addr len prot (at_word (λ x. IsNumber x pid) 1 h.4 h.5) (at_word (λ x. IsNumber x addr) 2 h.4 h.6) (at_word (λ x. IsNumber x len) 3 h.4 h.7)
+    (at_word (λ x. IsPermission x prot) 4 h.4 h.8)))
+
+pub msync_stands : (ws : List (List ℕ)) (p a l m : List ℕ) (r : Option Command) → ws ≡ codes "msync" ∷ p ∷ a ∷ l ∷ m ∷ []
+    → IfSome r (λ command. IsForm (codes "msync" ∷ p ∷ a ∷ l ∷ m ∷ []) command)
+    → ((pid addr len : ℕ) (mode : MsyncMode) → IsNumber p pid → IsNumber a addr → IsNumber l len → IsMode m mode → r ≡ Some (Msync pid addr len mode)) → StandsFor ws r
+msync_stands ws p a l m r e found only = moved _ _ _ e (stands name.Msync _ r refl found (λ pid addr len mode h.
+    only pid addr len mode (at_word (λ t. IsNumber t pid) 1 h.4 h.5) (at_word (λ t. IsNumber t addr) 2 h.4 h.6) (at_word (λ t. IsNumber t len) 3 h.4 h.7)
+    (at_word (λ t. IsMode t mode) 4 h.4 h.8)))
+
+pub mmap_stands : (ws : List (List ℕ)) (p a l t : List ℕ) (b : List (List ℕ)) (r : Option Command) → ws ≡ codes "mmap" ∷ p ∷ a ∷ l ∷ t ∷ b
+    → IfSome r (λ command. IsForm (codes "mmap" ∷ p ∷ a ∷ l ∷ t ∷ b) command)
     → ((pid addr len : ℕ) (prot : Prot) (source : MapSource) (placing : Placing) → IsNumber p pid → IsNumber a addr → IsNumber l len → IsPermission t prot → IsBack b source placing
-    → r ≡ Some (Mmap pid addr len prot source placing))
-    → (command : Command) → IsForm ws command → r ≡ Some command
-only_mmap ws p a l t b r e only Spawn h = absurd (apart (sym h ∙ e) refl)
-only_mmap ws p a l t b r e only (Fork pid) h = absurd (apart (sym h.1 ∙ e) refl)
-only_mmap ws p a l t b r e only (Exit pid) h = absurd (apart (sym h.1 ∙ e) refl)
-only_mmap ws p a l t b r e only (Mmap pid addr len prot source placing) h =
-    let ep : h.0 ≡ p = ap (λ ws. get_or ws 1 []) (sym h.5 ∙ e) in
-    let ea : h.1 ≡ a = ap (λ ws. get_or ws 2 []) (sym h.5 ∙ e) in
-    let el : h.2 ≡ l = ap (λ ws. get_or ws 3 []) (sym h.5 ∙ e) in
-    let et : h.3 ≡ t = ap (λ ws. get_or ws 4 []) (sym h.5 ∙ e) in
-    let eb : h.4 ≡ b = ap (λ ws. drop 5 ws) (sym h.5 ∙ e) in
-    only pid addr len prot source placing (along (λ x. IsNumber x pid) _ _ ep h.6) (along (λ x. IsNumber x addr) _ _ ea h.7) (along (λ x. IsNumber x len) _ _ el h.8)
-    (along (λ x. IsPermission x prot) _ _ et h.9) (along (λ x. IsBack x source placing) _ _ eb h.10)
-only_mmap ws p a l t b r e only (Munmap pid addr len) h = absurd (apart (sym h.3 ∙ e) refl)
-only_mmap ws p a l t b r e only (Dontneed pid addr len) h = absurd (apart (sym h.3 ∙ e) refl)
-only_mmap ws p a l t b r e only PastFaults h = absurd (apart (sym h ∙ e) refl)
-only_mmap ws p a l t b r e only (Mprotect pid addr len prot) h = absurd (apart (sym h.4 ∙ e) refl)
-only_mmap ws p a l t b r e only (Msync pid addr len mode) h = absurd (apart (sym h.4 ∙ e) refl)
-only_mmap ws p a l t b r e only (Load pid addr width) h = absurd (apart (sym h.3 ∙ e) refl)
-only_mmap ws p a l t b r e only (Store pid addr stored) h = absurd (apart (sym h.4 ∙ e) refl)
-only_mmap ws p a l t b r e only (Fetch pid addr) h = absurd (apart (sym h.2 ∙ e) refl)
-
-pub only_munmap : (ws : List (List ℕ)) (p a l : List ℕ) (r : Option Command) → ws ≡ codes "munmap" ∷ p ∷ a ∷ l ∷ []
-    → ((pid addr len : ℕ) → IsNumber p pid → IsNumber a addr → IsNumber l len → r ≡ Some (Munmap pid addr len))
-    → (command : Command) → IsForm ws command → r ≡ Some command
-only_munmap ws p a l r e only Spawn h = absurd (apart (sym h ∙ e) refl)
-only_munmap ws p a l r e only (Dontneed pid addr len) h = absurd (apart (sym h.3 ∙ e) refl)
-only_munmap ws p a l r e only PastFaults h = absurd (apart (sym h ∙ e) refl)
-only_munmap ws p a l r e only (Fork pid) h = absurd (apart (sym h.1 ∙ e) refl)
-only_munmap ws p a l r e only (Exit pid) h = absurd (apart (sym h.1 ∙ e) refl)
-only_munmap ws p a l r e only (Mmap pid addr len prot source placing) h = absurd (apart (sym h.5 ∙ e) refl)
-only_munmap ws p a l r e only (Munmap pid addr len) h =
-    let ep : h.0 ≡ p = ap (λ ws. get_or ws 1 []) (sym h.3 ∙ e) in
-    let ea : h.1 ≡ a = ap (λ ws. get_or ws 2 []) (sym h.3 ∙ e) in
-    let el : h.2 ≡ l = ap (λ ws. get_or ws 3 []) (sym h.3 ∙ e) in
-    only pid addr len (along (λ t. IsNumber t pid) _ _ ep h.4) (along (λ t. IsNumber t addr) _ _ ea h.5) (along (λ t. IsNumber t len) _ _ el h.6)
-only_munmap ws p a l r e only (Mprotect pid addr len prot) h = absurd (apart (sym h.4 ∙ e) refl)
-only_munmap ws p a l r e only (Msync pid addr len mode) h = absurd (apart (sym h.4 ∙ e) refl)
-only_munmap ws p a l r e only (Load pid addr width) h = absurd (apart (sym h.3 ∙ e) refl)
-only_munmap ws p a l r e only (Store pid addr stored) h = absurd (apart (sym h.4 ∙ e) refl)
-only_munmap ws p a l r e only (Fetch pid addr) h = absurd (apart (sym h.2 ∙ e) refl)
-
-pub only_dontneed : (ws : List (List ℕ)) (p a l : List ℕ) (r : Option Command) → ws ≡ codes "dontneed" ∷ p ∷ a ∷ l ∷ []
-    → ((pid addr len : ℕ) → IsNumber p pid → IsNumber a addr → IsNumber l len → r ≡ Some (Dontneed pid addr len))
-    → (command : Command) → IsForm ws command → r ≡ Some command
-only_dontneed ws p a l r e only Spawn h = absurd (apart (sym h ∙ e) refl)
-only_dontneed ws p a l r e only (Munmap pid addr len) h = absurd (apart (sym h.3 ∙ e) refl)
-only_dontneed ws p a l r e only PastFaults h = absurd (apart (sym h ∙ e) refl)
-only_dontneed ws p a l r e only (Fork pid) h = absurd (apart (sym h.1 ∙ e) refl)
-only_dontneed ws p a l r e only (Exit pid) h = absurd (apart (sym h.1 ∙ e) refl)
-only_dontneed ws p a l r e only (Mmap pid addr len prot source placing) h = absurd (apart (sym h.5 ∙ e) refl)
-only_dontneed ws p a l r e only (Dontneed pid addr len) h =
-    let ep : h.0 ≡ p = ap (λ ws. get_or ws 1 []) (sym h.3 ∙ e) in
-    let ea : h.1 ≡ a = ap (λ ws. get_or ws 2 []) (sym h.3 ∙ e) in
-    let el : h.2 ≡ l = ap (λ ws. get_or ws 3 []) (sym h.3 ∙ e) in
-    only pid addr len (along (λ t. IsNumber t pid) _ _ ep h.4) (along (λ t. IsNumber t addr) _ _ ea h.5) (along (λ t. IsNumber t len) _ _ el h.6)
-only_dontneed ws p a l r e only (Mprotect pid addr len prot) h = absurd (apart (sym h.4 ∙ e) refl)
-only_dontneed ws p a l r e only (Msync pid addr len mode) h = absurd (apart (sym h.4 ∙ e) refl)
-only_dontneed ws p a l r e only (Load pid addr width) h = absurd (apart (sym h.3 ∙ e) refl)
-only_dontneed ws p a l r e only (Store pid addr stored) h = absurd (apart (sym h.4 ∙ e) refl)
-only_dontneed ws p a l r e only (Fetch pid addr) h = absurd (apart (sym h.2 ∙ e) refl)
-
-pub only_mprotect : (ws : List (List ℕ)) (p a l t : List ℕ) (r : Option Command) → ws ≡ codes "mprotect" ∷ p ∷ a ∷ l ∷ t ∷ []
-    → ((pid addr len : ℕ) (prot : Prot) → IsNumber p pid → IsNumber a addr → IsNumber l len → IsPermission t prot → r ≡ Some (Mprotect pid addr len prot))
-    → (command : Command) → IsForm ws command → r ≡ Some command
-only_mprotect ws p a l t r e only Spawn h = absurd (apart (sym h ∙ e) refl)
-only_mprotect ws p a l t r e only (Fork pid) h = absurd (apart (sym h.1 ∙ e) refl)
-only_mprotect ws p a l t r e only (Exit pid) h = absurd (apart (sym h.1 ∙ e) refl)
-only_mprotect ws p a l t r e only (Mmap pid addr len prot source placing) h = absurd (apart (sym h.5 ∙ e) refl)
-only_mprotect ws p a l t r e only (Munmap pid addr len) h = absurd (apart (sym h.3 ∙ e) refl)
-only_mprotect ws p a l t r e only (Dontneed pid addr len) h = absurd (apart (sym h.3 ∙ e) refl)
-only_mprotect ws p a l t r e only PastFaults h = absurd (apart (sym h ∙ e) refl)
-only_mprotect ws p a l t r e only (Mprotect pid addr len prot) h =
-    let ep : h.0 ≡ p = ap (λ ws. get_or ws 1 []) (sym h.4 ∙ e) in
-    let ea : h.1 ≡ a = ap (λ ws. get_or ws 2 []) (sym h.4 ∙ e) in
-    let el : h.2 ≡ l = ap (λ ws. get_or ws 3 []) (sym h.4 ∙ e) in
-    let et : h.3 ≡ t = ap (λ ws. get_or ws 4 []) (sym h.4 ∙ e) in
-    only pid addr len prot (along (λ x. IsNumber x pid) _ _ ep h.5) (along (λ x. IsNumber x addr) _ _ ea h.6) (along (λ x. IsNumber x len) _ _ el h.7)
-    (along (λ x. IsPermission x prot) _ _ et h.8)
-only_mprotect ws p a l t r e only (Msync pid addr len mode) h = absurd (apart (sym h.4 ∙ e) refl)
-only_mprotect ws p a l t r e only (Load pid addr width) h = absurd (apart (sym h.3 ∙ e) refl)
-only_mprotect ws p a l t r e only (Store pid addr stored) h = absurd (apart (sym h.4 ∙ e) refl)
-only_mprotect ws p a l t r e only (Fetch pid addr) h = absurd (apart (sym h.2 ∙ e) refl)
+    → r ≡ Some (Mmap pid addr len prot source placing)) → StandsFor ws r
+mmap_stands ws p a l t b r e found only = moved _ _ _ e (stands name.Mmap _ r refl found (λ pid addr len prot source placing h.
+    let B : List (List ℕ) → Type 0 = λ x. IsBack x source placing in
+    only pid addr len prot source placing (at_word (λ x. IsNumber x pid) 1 h.5 h.6) (at_word (λ x. IsNumber x addr) 2 h.5 h.7) (at_word (λ x. IsNumber x len) 3 h.5 h.8)
+    (at_word (λ x. IsPermission x prot) 4 h.5 h.9) (subst B (sym (ap (λ ws. drop 5 ws) h.5)) h.10)))

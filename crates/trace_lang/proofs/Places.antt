@@ -1,11 +1,15 @@
 -- Lists of borrowed words, place by place.
-use Rattle.std.proofs.Common.{◌≡◌, ℕ, ◌≤◌, List, [], ◌∷◌, map, ◌-◌, get_or, take, drop, length, length-drop, sym, ◌∙◌, ap, arith}
+use Rattle.std.proofs.Common.{◌≡◌, ℕ, ◌≤◌, List, [], ◌∷◌, map, ◌-◌, get_or, take, drop, length, length-drop, refl, sym, ◌∙◌, ap, arith}
 use Rattle.std.proofs.lemmas.List.{take_all}
 use denote.Ref.{Bor}
 
 -- what the words point to
 abbrev pub texts : List (Bor (List ℕ)) → List (List ℕ)
 texts words = map (λ w. w.now) words
+
+pub head_text : (ws : List (Bor (List ℕ))) (d : Bor (List ℕ)) → 1 ≤ length ws → get_or (texts ws) 0 [] ≡ (get_or ws 0 d).now
+head_text [] d n = absurd (omega arith)
+head_text (a ∷ more) d n = refl
 
 pub one_word : (ws : List (Bor (List ℕ))) (d : Bor (List ℕ)) (name : List ℕ) → length ws ≡ 1 → (get_or ws 0 d).now ≡ name → texts ws ≡ name ∷ []
 one_word [] d name n e = absurd (omega arith)

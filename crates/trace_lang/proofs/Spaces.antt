@@ -8,7 +8,7 @@ use Rattle.trace_lang.specs.Words.{words_of}
 use Rattle.vm_types.specs.declared.command.Command.{Command}
 use Rattle.vm_types.specs.declared.command.Command.TheVariants.{Spawn, Fork, Exit, Mmap, Munmap, Mprotect, Dontneed, Msync, Load, Store, Fetch, PastFaults}
 use Rattle.vm_types.specs.declared.command.MapSource.{MapSource}
-use Rattle.vm_types.specs.declared.command.MapSource.TheVariants.{Anon, Private, Shared}
+use Rattle.vm_types.specs.declared.command.MapSource.TheVariants.{Anon, Private, Shared, Common}
 use Rattle.vm_types.specs.declared.command.Placing.{Placing}
 use Rattle.vm_types.specs.declared.command.Placing.TheVariants.{Hint, Fixed, NoReplace}
 
@@ -61,6 +61,7 @@ few_of n words others e l low high = let m = ap length e ∙ l in (omega (arith,
 
 source_words : (words : List (List ℕ)) (source : MapSource) → IsSource words source → length words ≤ 3
 source_words words Anon h = let m = ap length h in omega (arith, m)
+source_words words Common h = let m = ap length h in omega (arith, m)
 source_words words (Private file offset) h = let m = ap length h.2 in omega (arith, m)
 source_words words (Shared file offset) h = let m = ap length h.2 in omega (arith, m)
 

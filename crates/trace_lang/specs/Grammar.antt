@@ -7,7 +7,7 @@ use Rattle.vm_types.specs.Width.{byte_count}
 use Rattle.vm_types.specs.declared.command.Command.{Command}
 use Rattle.vm_types.specs.declared.command.Command.TheVariants.{Spawn, Fork, Exit, Mmap, Munmap, Mprotect, Dontneed, Msync, Load, Store, Fetch, PastFaults}
 use Rattle.vm_types.specs.declared.command.MapSource.{MapSource}
-use Rattle.vm_types.specs.declared.command.MapSource.TheVariants.{Anon, Private, Shared}
+use Rattle.vm_types.specs.declared.command.MapSource.TheVariants.{Anon, Private, Shared, Common}
 use Rattle.vm_types.specs.declared.command.MsyncMode.{MsyncMode}
 use Rattle.vm_types.specs.declared.command.MsyncMode.TheVariants.{Sync, Async}
 use Rattle.vm_types.specs.declared.command.Placing.{Placing}
@@ -49,6 +49,7 @@ IsMode text Async = text ≡ codes "async"
 -- the words that say what a mapping is to stand on
 abbrev pub IsSource : List (List ℕ) → MapSource → Type 0
 IsSource words Anon = words ≡ codes "anon" ∷ []
+IsSource words Common = words ≡ codes "common" ∷ []
 IsSource words (Private file offset) =
     (f o : List ℕ) × (words ≡ codes "private" ∷ f ∷ o ∷ []) × IsNumber f file × IsNumber o offset
 IsSource words (Shared file offset) =

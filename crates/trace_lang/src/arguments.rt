@@ -33,15 +33,9 @@ pub(crate) fn permission_of(text: &[u8]) -> Option<Prot>
     let [read, write, execute] = text else {
         return None;
     };
-    let Some(read) = given(*read, b'r') else {
-        return None;
-    };
-    let Some(write) = given(*write, b'w') else {
-        return None;
-    };
-    let Some(execute) = given(*execute, b'x') else {
-        return None;
-    };
+    let read = given(*read, b'r')?;
+    let write = given(*write, b'w')?;
+    let execute = given(*execute, b'x')?;
     Some(Prot::from_bits_retain(u8::from(read) + 2 * u8::from(write) + 4 * u8::from(execute)))
 }
 
@@ -64,10 +58,17 @@ fn anon_of(end: &[&[u8]]) -> Option<(MapSource, Placing)>
     ensures found { IfSome result (λ back. IsBack (codes "anon" ∷ map (λ w. w.now) end.now) back.0 back.1) }
     ensures only { (placing : Placing) → IsPlacing (map (λ w. w.now) end.now) placing → result ≡ Some (MapSource.Anon, placing) }
 {
-    let Some(placing) = placing_of(end) else {
-        return None;
-    };
+    let placing = placing_of(end)?;
     Some((MapSource::Anon, placing))
+}
+
+/// Shared anonymous pages, by the words behind `common`.
+fn common_of(end: &[&[u8]]) -> Option<(MapSource, Placing)>
+    ensures found { IfSome result (λ back. IsBack (codes "common" ∷ map (λ w. w.now) end.now) back.0 back.1) }
+    ensures only { (placing : Placing) → IsPlacing (map (λ w. w.now) end.now) placing → result ≡ Some (MapSource.Common, placing) }
+{
+    let placing = placing_of(end)?;
+    Some((MapSource::Common, placing))
 }
 
 /// Private pages of a file, by the words behind `private`.
@@ -76,15 +77,9 @@ fn private_of(file: &[u8], offset: &[u8], end: &[&[u8]]) -> Option<(MapSource, P
     ensures only { (number at : ℕ) (placing : Placing) → IsNumber file.now number → IsNumber offset.now at → IsPlacing (map (λ w. w.now) end.now) placing
         → result ≡ Some (MapSource.Private number at, placing) }
 {
-    let Some(file) = parse_number(file) else {
-        return None;
-    };
-    let Some(offset) = parse_number(offset) else {
-        return None;
-    };
-    let Some(placing) = placing_of(end) else {
-        return None;
-    };
+    let file = parse_number(file)?;
+    let offset = parse_number(offset)?;
+    let placing = placing_of(end)?;
     Some((MapSource::Private { file, offset }, placing))
 }
 
@@ -94,15 +89,9 @@ fn shared_of(file: &[u8], offset: &[u8], end: &[&[u8]]) -> Option<(MapSource, Pl
     ensures only { (number at : ℕ) (placing : Placing) → IsNumber file.now number → IsNumber offset.now at → IsPlacing (map (λ w. w.now) end.now) placing
         → result ≡ Some (MapSource.Shared number at, placing) }
 {
-    let Some(file) = parse_number(file) else {
-        return None;
-    };
-    let Some(offset) = parse_number(offset) else {
-        return None;
-    };
-    let Some(placing) = placing_of(end) else {
-        return None;
-    };
+    let file = parse_number(file)?;
+    let offset = parse_number(offset)?;
+    let placing = placing_of(end)?;
     Some((MapSource::Shared { file, offset }, placing))
 }
 
@@ -114,6 +103,7 @@ pub(crate) fn back_of(words: &[&[u8]]) -> Option<(MapSource, Placing)>
 {
     match words {
         [b"anon", end @ ..] => anon_of(end),
+        [b"common", end @ ..] => common_of(end),
         [b"private", file, offset, end @ ..] => private_of(file, offset, end),
         [b"shared", file, offset, end @ ..] => shared_of(file, offset, end),
         _ => None,

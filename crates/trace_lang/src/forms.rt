@@ -1,6 +1,7 @@
 //! The forms of a line, one function each, over the words of the line.
 ghost use Rattle.std.specs.Prelude.{◌≡◌, ◌∷◌, [], ℕ, ◌<◌, ◌^◌, ◌*◌, List, map, codes, IfSome};
 ghost use Rattle.trace_lang.specs.Grammar.{IsBack, IsForm, IsMode, IsNumber, IsPermission, IsWidth};
+ghost use Rattle.trace_lang.specs.Names.{StandsFor};
 ghost use Rattle.vm_types.specs.Width.{byte_count};
 ghost use Rattle.vm_types.specs.declared.access.StoredValue.{StoredValue};
 ghost use Rattle.vm_types.specs.declared.command.Command.{Command};
@@ -11,6 +12,7 @@ ghost use Rattle.vm_types.specs.declared.permission.Prot.{Prot};
 ghost use Rattle.vm_types.specs.declared.width.Width.{Width};
 
 use crate::arguments::{back_of, mode_of, permission_of};
+use crate::names::{Name, name_of};
 use crate::numerals::{parse_number, stored_of, width_of};
 use vm_types::Command;
 
@@ -19,9 +21,7 @@ fn fork_of(process: &[u8]) -> Option<Command>
     ensures found { IfSome result (λ command. IsForm (codes "fork" ∷ process.now ∷ []) command) }
     ensures only { (pid : ℕ) → IsNumber process.now pid → result ≡ Some (Command.Fork pid) }
 {
-    let Some(pid) = parse_number(process) else {
-        return None;
-    };
+    let pid = parse_number(process)?;
     Some(Command::Fork { pid })
 }
 
@@ -30,9 +30,7 @@ fn exit_of(process: &[u8]) -> Option<Command>
     ensures found { IfSome result (λ command. IsForm (codes "exit" ∷ process.now ∷ []) command) }
     ensures only { (pid : ℕ) → IsNumber process.now pid → result ≡ Some (Command.Exit pid) }
 {
-    let Some(pid) = parse_number(process) else {
-        return None;
-    };
+    let pid = parse_number(process)?;
     Some(Command::Exit { pid })
 }
 
@@ -41,15 +39,9 @@ fn load_of(process: &[u8], address: &[u8], bytes: &[u8]) -> Option<Command>
     ensures found { IfSome result (λ command. IsForm (codes "load" ∷ process.now ∷ address.now ∷ bytes.now ∷ []) command) }
     ensures only { (pid addr : ℕ) (width : Width) → IsNumber process.now pid → IsNumber address.now addr → IsWidth bytes.now width → result ≡ Some (Command.Load pid addr width) }
 {
-    let Some(pid) = parse_number(process) else {
-        return None;
-    };
-    let Some(addr) = parse_number(address) else {
-        return None;
-    };
-    let Some(width) = width_of(bytes) else {
-        return None;
-    };
+    let pid = parse_number(process)?;
+    let addr = parse_number(address)?;
+    let width = width_of(bytes)?;
     Some(Command::Load { pid, addr, width })
 }
 
@@ -59,18 +51,10 @@ fn store_of(process: &[u8], address: &[u8], bytes: &[u8], value: &[u8]) -> Optio
     ensures only { (pid addr : ℕ) (stored : StoredValue) → IsNumber process.now pid → IsNumber address.now addr → IsWidth bytes.now stored.width
         → IsNumber value.now stored.value → stored.value < 2 ^ (8 * byte_count stored.width) → result ≡ Some (Command.Store pid addr stored) }
 {
-    let Some(pid) = parse_number(process) else {
-        return None;
-    };
-    let Some(addr) = parse_number(address) else {
-        return None;
-    };
-    let Some(width) = width_of(bytes) else {
-        return None;
-    };
-    let Some(stored) = stored_of(width, value) else {
-        return None;
-    };
+    let pid = parse_number(process)?;
+    let addr = parse_number(address)?;
+    let width = width_of(bytes)?;
+    let stored = stored_of(width, value)?;
     Some(Command::Store { pid, addr, stored })
 }
 
@@ -79,12 +63,8 @@ fn fetch_of(process: &[u8], address: &[u8]) -> Option<Command>
     ensures found { IfSome result (λ command. IsForm (codes "fetch" ∷ process.now ∷ address.now ∷ []) command) }
     ensures only { (pid addr : ℕ) → IsNumber process.now pid → IsNumber address.now addr → result ≡ Some (Command.Fetch pid addr) }
 {
-    let Some(pid) = parse_number(process) else {
-        return None;
-    };
-    let Some(addr) = parse_number(address) else {
-        return None;
-    };
+    let pid = parse_number(process)?;
+    let addr = parse_number(address)?;
     Some(Command::Fetch { pid, addr })
 }
 
@@ -94,18 +74,10 @@ fn msync_of(process: &[u8], address: &[u8], length: &[u8], waits: &[u8]) -> Opti
     ensures only { (pid addr len : ℕ) (mode : MsyncMode) → IsNumber process.now pid → IsNumber address.now addr → IsNumber length.now len
         → IsMode waits.now mode → result ≡ Some (Command.Msync pid addr len mode) }
 {
-    let Some(pid) = parse_number(process) else {
-        return None;
-    };
-    let Some(addr) = parse_number(address) else {
-        return None;
-    };
-    let Some(len) = parse_number(length) else {
-        return None;
-    };
-    let Some(mode) = mode_of(waits) else {
-        return None;
-    };
+    let pid = parse_number(process)?;
+    let addr = parse_number(address)?;
+    let len = parse_number(length)?;
+    let mode = mode_of(waits)?;
     Some(Command::Msync {
         pid,
         addr,
@@ -126,21 +98,11 @@ fn mmap_of(
     ensures only { (pid addr len : ℕ) (prot : Prot) (source : MapSource) (placing : Placing) → IsNumber process.now pid → IsNumber address.now addr → IsNumber length.now len
         → IsPermission permission.now prot → IsBack (map (λ w. w.now) back.now) source placing → result ≡ Some (Command.Mmap pid addr len prot source placing) }
 {
-    let Some(pid) = parse_number(process) else {
-        return None;
-    };
-    let Some(addr) = parse_number(address) else {
-        return None;
-    };
-    let Some(len) = parse_number(length) else {
-        return None;
-    };
-    let Some(prot) = permission_of(permission) else {
-        return None;
-    };
-    let Some((source, placing)) = back_of(back) else {
-        return None;
-    };
+    let pid = parse_number(process)?;
+    let addr = parse_number(address)?;
+    let len = parse_number(length)?;
+    let prot = permission_of(permission)?;
+    let (source, placing) = back_of(back)?;
     Some(Command::Mmap {
         pid,
         addr,
@@ -156,15 +118,9 @@ fn munmap_of(process: &[u8], address: &[u8], length: &[u8]) -> Option<Command>
     ensures found { IfSome result (λ command. IsForm (codes "munmap" ∷ process.now ∷ address.now ∷ length.now ∷ []) command) }
     ensures only { (pid addr len : ℕ) → IsNumber process.now pid → IsNumber address.now addr → IsNumber length.now len → result ≡ Some (Command.Munmap pid addr len) }
 {
-    let Some(pid) = parse_number(process) else {
-        return None;
-    };
-    let Some(addr) = parse_number(address) else {
-        return None;
-    };
-    let Some(len) = parse_number(length) else {
-        return None;
-    };
+    let pid = parse_number(process)?;
+    let addr = parse_number(address)?;
+    let len = parse_number(length)?;
     Some(Command::Munmap { pid, addr, len })
 }
 
@@ -173,15 +129,9 @@ fn dontneed_of(process: &[u8], address: &[u8], length: &[u8]) -> Option<Command>
     ensures found { IfSome result (λ command. IsForm (codes "dontneed" ∷ process.now ∷ address.now ∷ length.now ∷ []) command) }
     ensures only { (pid addr len : ℕ) → IsNumber process.now pid → IsNumber address.now addr → IsNumber length.now len → result ≡ Some (Command.Dontneed pid addr len) }
 {
-    let Some(pid) = parse_number(process) else {
-        return None;
-    };
-    let Some(addr) = parse_number(address) else {
-        return None;
-    };
-    let Some(len) = parse_number(length) else {
-        return None;
-    };
+    let pid = parse_number(process)?;
+    let addr = parse_number(address)?;
+    let len = parse_number(length)?;
     Some(Command::Dontneed { pid, addr, len })
 }
 
@@ -191,18 +141,10 @@ fn mprotect_of(process: &[u8], address: &[u8], length: &[u8], permission: &[u8])
     ensures only { (pid addr len : ℕ) (prot : Prot) → IsNumber process.now pid → IsNumber address.now addr → IsNumber length.now len
         → IsPermission permission.now prot → result ≡ Some (Command.Mprotect pid addr len prot) }
 {
-    let Some(pid) = parse_number(process) else {
-        return None;
-    };
-    let Some(addr) = parse_number(address) else {
-        return None;
-    };
-    let Some(len) = parse_number(length) else {
-        return None;
-    };
-    let Some(prot) = permission_of(permission) else {
-        return None;
-    };
+    let pid = parse_number(process)?;
+    let addr = parse_number(address)?;
+    let len = parse_number(length)?;
+    let prot = permission_of(permission)?;
     Some(Command::Mprotect {
         pid,
         addr,
@@ -213,26 +155,33 @@ fn mprotect_of(process: &[u8], address: &[u8], length: &[u8], permission: &[u8])
 
 /// The command that the words of a line stand for; `None` exactly where they are in no form.
 pub(crate) fn command_of(words: &[&[u8]]) -> Option<Command>
-    ensures found { IfSome result (λ command. IsForm (map (λ w. w.now) words.now) command) }
-    ensures only { (command : Command) → IsForm (map (λ w. w.now) words.now) command → result ≡ Some command }
+    ensures { StandsFor (map (λ w. w.now) words.now) result }
 {
-    match words {
-        [b"spawn"] => Some(Command::Spawn),
-        [b"faults"] => Some(Command::PastFaults),
-        [b"fork", process] => fork_of(process),
-        [b"exit", process] => exit_of(process),
-        [b"fetch", process, address] => fetch_of(process, address),
-        [b"load", process, address, bytes] => load_of(process, address, bytes),
-        [b"store", process, address, bytes, value] => store_of(process, address, bytes, value),
-        [b"msync", process, address, length, waits] => msync_of(process, address, length, waits),
-        [b"mmap", process, address, length, permission, back @ ..] => mmap_of(
+    let [first, ..] = words else {
+        return None;
+    };
+    let name = name_of(first)?;
+    match (name, words) {
+        (Name::Spawn, [_]) => Some(Command::Spawn),
+        (Name::Fork, [_, process]) => fork_of(process),
+        (Name::Exit, [_, process]) => exit_of(process),
+        (Name::Mmap, [_, process, address, length, permission, back @ ..]) => mmap_of(
             process, address, length, permission, back,
         ),
-        [b"dontneed", process, address, length] => dontneed_of(process, address, length),
-        [b"munmap", process, address, length] => munmap_of(process, address, length),
-        [b"mprotect", process, address, length, permission] => mprotect_of(
+        (Name::Munmap, [_, process, address, length]) => munmap_of(process, address, length),
+        (Name::Mprotect, [_, process, address, length, permission]) => mprotect_of(
             process, address, length, permission,
         ),
+        (Name::Dontneed, [_, process, address, length]) => dontneed_of(process, address, length),
+        (Name::Msync, [_, process, address, length, waits]) => msync_of(
+            process, address, length, waits,
+        ),
+        (Name::Load, [_, process, address, bytes]) => load_of(process, address, bytes),
+        (Name::Store, [_, process, address, bytes, value]) => store_of(
+            process, address, bytes, value,
+        ),
+        (Name::Fetch, [_, process, address]) => fetch_of(process, address),
+        (Name::Faults, [_]) => Some(Command::PastFaults),
         _ => None,
     }
 }

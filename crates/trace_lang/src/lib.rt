@@ -3,6 +3,7 @@
 
 mod arguments;
 mod forms;
+mod names;
 mod numerals;
 mod output;
 mod parsing;

@@ -22,13 +22,8 @@ fn value_of(digits: &[u8], radix: u32) -> Option<u64>
     }
     let mut value: u64 = 0;
     for byte in digits {
-        let Some(digit) = char::from(*byte).to_digit(radix) else {
-            return None;
-        };
-        let Some(more) = with_digit(value, u64::from(radix), u64::from(digit)) else {
-            return None;
-        };
-        value = more;
+        let digit = char::from(*byte).to_digit(radix)?;
+        value = with_digit(value, u64::from(radix), u64::from(digit))?;
     }
     Some(value)
 }
@@ -44,9 +39,7 @@ fn with_digit(value: u64, radix: u64, digit: u64) -> Option<u64>
     if value < u64::MAX / radix {
         return Some(value * radix + digit);
     }
-    let Some(shifted) = value.checked_mul(radix) else {
-        return None;
-    };
+    let shifted = value.checked_mul(radix)?;
     shifted.checked_add(digit)
 }
 
@@ -70,9 +63,7 @@ pub(crate) fn width_of(text: &[u8]) -> Option<Width>
     ensures found { IfSome result (λ width. IsWidth text.now width) }
     ensures only { (width : Width) → IsWidth text.now width → result ≡ Some width }
 {
-    let Some(bytes) = parse_number(text) else {
-        return None;
-    };
+    let bytes = parse_number(text)?;
     Width::from_bytes(bytes)
 }
 
@@ -81,8 +72,6 @@ pub(crate) fn stored_of(width: Width, text: &[u8]) -> Option<StoredValue>
     ensures found { IfSome result (λ stored. (stored.width ≡ width) × IsNumber text.now stored.value × (stored.value < 2 ^ (8 * byte_count width))) }
     ensures only { (stored : StoredValue) → stored.width ≡ width → IsNumber text.now stored.value → stored.value < 2 ^ (8 * byte_count width) → result ≡ Some stored }
 {
-    let Some(value) = parse_number(text) else {
-        return None;
-    };
+    let value = parse_number(text)?;
     StoredValue::new(width, value)
 }

@@ -1,6 +1,6 @@
 -- How much memory and swap a state needs. Sv39: a table for each 512 entries, in three levels.
 use Rattle.std.specs.Prelude.{ℕ, ◌+◌, ◌*◌, ◌^◌, Bool, false, if◌then◌else◌, Option, Some, None, is_some}
-use Rattle.vm_types.specs.Limits.{user_end, file_limit, file_page_limit}
+use Rattle.vm_types.specs.Limits.{user_end, file_limit, file_page_limit, object_limit}
 use Rattle.vm_types.specs.Counting.{any_below, count_below, sum_below}
 use Rattle.vm_types.specs.State.{State}
 use Rattle.vm_types.specs.View.{View}
@@ -22,8 +22,13 @@ abbrev pub has_own : Option View → Bool
 has_own None = false
 has_own (Some view) = is_some view.own
 
--- the own copies of all processes, and the touched file pages
+-- more pages than an object has: what stands behind a row of pages fits 2 ^ 32 of them
+abbrev pub object_page_limit : ℕ
+object_page_limit = 2 ^ 32
+
+-- the own copies of all processes, the touched file pages, and the pages of objects
 unfoldable pub held_count : State → ℕ
 held_count s =
     sum_below (λ pid. count_below (λ page. has_own (s.views pid page)) user_end) 65
     + sum_below (λ file. count_below (s.touched file) file_page_limit) file_limit
+    + sum_below (λ object. count_below (λ page. is_some (s.objects object page)) object_page_limit) object_limit

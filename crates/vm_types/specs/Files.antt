@@ -12,6 +12,11 @@ abbrev pub is_past_end_of : Option FileInfo → ℕ → Bool
 is_past_end_of None page = true
 is_past_end_of (Some info) page = nat_le info.length (4096 * page)
 
+-- whether a file may only be read
+abbrev pub is_unwritable : Option FileInfo → Bool
+is_unwritable None = false
+is_unwritable (Some info) = info.read_only
+
 -- how many bytes of a page lie inside a file of so many bytes
 abbrev pub bytes_inside : ℕ → ℕ → ℕ
 bytes_inside length page = min 4096 (length - 4096 * page)

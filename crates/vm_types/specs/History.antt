@@ -1,7 +1,6 @@
 -- The faults of accesses that are kept, oldest first, each with its process. Our own; siginfo of sigaction(2).
-use Rattle.std.specs.Prelude.{ℕ, ◌≡◌, refl, ◌-◌, List, [], ◌∷◌, ◌++◌, length, drop}
+use Rattle.std.specs.Prelude.{ℕ, ◌-◌, List, [], ◌∷◌, ◌++◌, length, drop}
 use Rattle.vm_types.specs.Limits.{fault_limit}
-use Rattle.vm_types.specs.declared.refusal.Code.TheVariants.{SegvMaperr}
 use Rattle.vm_types.specs.declared.refusal.Fault.{Fault}
 
 abbrev pub Past : Type 0

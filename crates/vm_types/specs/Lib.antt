@@ -9,6 +9,7 @@ pub mod History
 pub mod Limits
 pub mod Mapping
 pub mod Msync
+pub mod Objects
 pub mod Permission
 pub mod Placement
 pub mod Prefix

@@ -1,6 +1,6 @@
 -- Sizes. The user half of an Sv39 address space: RISC-V Privileged Specification, "Sv39: Page-Based 39-bit Virtual-Memory System": three levels of
 -- tables, and the addresses below 2 ^ 38 by their sign. The lowest pages stay free, as on Linux (vm.mmap_min_addr in proc_sys_vm(5)).
-use Rattle.std.specs.Prelude.{ℕ, ◌^◌}
+use Rattle.std.specs.Prelude.{ℕ, ◌+◌, ◌*◌, ◌^◌}
 
 -- the level of a root table
 abbrev pub top_level : ℕ
@@ -20,7 +20,7 @@ user_end = 2 ^ 26
 
 -- the most pages that one msync makes durable
 abbrev pub msync_pages : ℕ
-msync_pages = 127
+msync_pages = 1023
 
 -- the most files of an image
 abbrev pub file_limit : ℕ
@@ -29,6 +29,14 @@ file_limit = 64
 -- more pages than any file has, whose length is below 2 ^ 32
 abbrev pub file_page_limit : ℕ
 file_page_limit = 2 ^ 20
+
+-- the most objects that processes name at once: each of 64 has at most 256 runs, and a run names one
+abbrev pub named_limit : ℕ
+named_limit = 64 * 256
+
+-- objects have numbers below this one, of which one is always free
+abbrev pub object_limit : ℕ
+object_limit = named_limit + 1
 
 -- the most faults that are remembered
 abbrev pub fault_limit : ℕ

@@ -1,13 +1,13 @@
 -- msync: what it is asked for, when it is refused, and what it makes durable, all at once.
 -- msync(2); Park, Kelly and Shen, Failure-Atomic msync, EuroSys 2013.
-use Rattle.std.specs.Prelude.{ℕ, ◌+◌, ◌/◌, ◌%◌, ◌^◌, Bool, false, not, ◌==◌, ◌&&◌, nat_lt, if◌then◌else◌, [], ◌∷◌, Option, Some, None}
+use Rattle.std.specs.Prelude.{ℕ, ◌+◌, ◌/◌, ◌%◌, Bool, false, not, ◌==◌, ◌&&◌, nat_lt, if◌then◌else◌, [], ◌∷◌, Option, Some, None}
 use Rattle.vm_types.specs.Limits.{msync_pages, file_limit, file_page_limit}
 use Rattle.vm_types.specs.declared.command.MsyncMode.{MsyncMode}
 use Rattle.vm_types.specs.declared.command.MsyncMode.TheVariants.{Sync, Async}
 use Rattle.vm_types.specs.declared.refusal.Errno.{Errno}
 use Rattle.vm_types.specs.declared.refusal.Errno.TheVariants.{ESRCH, ENOMEM, EINVAL, ENOSPC}
 use Rattle.vm_types.specs.declared.region.Backing.{Backing}
-use Rattle.vm_types.specs.declared.region.Backing.TheVariants.{Anon, Private, Shared}
+use Rattle.vm_types.specs.declared.region.Backing.TheVariants.{Anon, Private, Shared, Common}
 use Rattle.vm_types.specs.Checks.{first_of, pages_from}
 use Rattle.vm_types.specs.Counting.{any_below, count_below, sum_below}
 use Rattle.vm_types.specs.Files.{trimmed}
@@ -20,6 +20,7 @@ abbrev pub is_shared_page : Backing → ℕ → ℕ → Bool
 is_shared_page (Shared p) file page = p.file == file && p.page == page
 is_shared_page (Private p) file page = false
 is_shared_page Anon file page = false
+is_shared_page (Common p) file page = false
 
 -- whether a page of a process is a shared page of that file page
 abbrev pub shares : Option View → ℕ → ℕ → Bool

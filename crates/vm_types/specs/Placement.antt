@@ -1,6 +1,6 @@
 -- Where a mapping goes. mmap(2): an address that isn't fixed is a hint about where to place the mapping; which
 -- place is taken is our choice.
-use Rattle.std.specs.Prelude.{ℕ, ◌≡◌, refl, suc, zero, ◌+◌, ◌/◌, ◌^◌, Bool, true, false, not, ◌==◌, ◌&&◌, leb, if◌then◌else◌, Option, Some, None, is_none}
+use Rattle.std.specs.Prelude.{ℕ, ◌≡◌, refl, suc, zero, ◌+◌, ◌/◌, Bool, true, false, not, ◌==◌, ◌&&◌, leb, if◌then◌else◌, Option, Some, None, is_none}
 use Rattle.vm_types.specs.Limits.{user_start, user_end}
 use Rattle.vm_types.specs.declared.region.Attr.{Attr}
 

@@ -1,5 +1,6 @@
 -- Processes and their numbers. fork(2): EAGAIN where there is no free number; _exit(2).
 use Rattle.std.specs.Prelude.{ℕ, ◌≡◌, refl, zero, suc, ◌+◌, ◌==◌, ◌&&◌, ◌||◌, not, nat_lt, Bool, if◌then◌else◌, Option, Some, None}
+use Rattle.vm_types.specs.Objects.{maps_of, named_objects}
 use Rattle.vm_types.specs.State.{State}
 use Rattle.vm_types.specs.View.{View}
 
@@ -28,11 +29,17 @@ with_process s pid space = record s {
 abbrev pub forked : State → ℕ → ℕ → State
 forked s parent child = with_process s child (s.views parent)
 
--- one process less: its number is free and its pages are gone; what its shared mappings stored stays
+-- the pages of all processes but one
+abbrev pub without_space : (ℕ → ℕ → Option View) → ℕ → ℕ → ℕ → Option View
+without_space views pid = λ p. if p == pid then (λ page. None) else views p
+
+-- one process less: its number is free and its pages are gone; what its shared mappings of files stored stays, and of objects
+-- what another process names
 abbrev pub without_process : State → ℕ → State
 without_process s pid = record s {
   live = λ p. not (p == pid) && s.live p;
-  views = λ p. if p == pid then (λ page. None) else s.views p;
+  views = without_space s.views pid;
+  objects = named_objects (maps_of (without_space s.views pid)) s.objects;
 }
 
 -- of 1, 2 and 4, the number 3 is next

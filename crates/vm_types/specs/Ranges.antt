@@ -3,12 +3,12 @@ use Rattle.std.specs.Prelude.{ℕ, ◌+◌, ◌/◌, ◌%◌, Bool, false, not, 
 use Rattle.vm_types.specs.declared.permission.Prot.{Prot}
 use Rattle.vm_types.specs.declared.refusal.Errno.TheVariants.{ESRCH, ENOMEM, EACCES, EINVAL}
 use Rattle.vm_types.specs.declared.region.Backing.{Backing}
-use Rattle.vm_types.specs.declared.region.Backing.TheVariants.{Anon, Private, Shared}
+use Rattle.vm_types.specs.declared.region.Backing.TheVariants.{Anon, Private, Shared, Common}
 use Rattle.vm_types.specs.Attributes.{with_prot}
 use Rattle.vm_types.specs.Checks.{Check, pages_from}
 use Rattle.vm_types.specs.Counting.{any_below}
-use Rattle.vm_types.specs.Files.{Files}
-use Rattle.vm_types.specs.Mapping.{is_unwritable}
+use Rattle.vm_types.specs.Files.{Files, is_unwritable}
+use Rattle.vm_types.specs.Objects.{maps_of, named_objects}
 use Rattle.vm_types.specs.Permission.{can_write, kept}
 use Rattle.vm_types.specs.Rows.{in_row, is_covered, protected, removed}
 use Rattle.vm_types.specs.Runs.{run_count}
@@ -19,9 +19,16 @@ use Rattle.vm_types.specs.View.{View, attrs_of}
 abbrev pub unmapped : (ℕ → Option View) → ℕ → ℕ → ℕ → Option View
 unmapped space first pages page = if in_row first pages page then None else space page
 
--- the state with such a row in one process
+-- the pages of all processes, with such a row in one
+abbrev pub without_pages : (ℕ → ℕ → Option View) → ℕ → ℕ → ℕ → ℕ → ℕ → Option View
+without_pages views pid first pages = λ p. if p == pid then unmapped (views pid) first pages else views p
+
+-- the state with such a row in one process; pages of objects that no page names any more are gone
 abbrev pub without_row : State → ℕ → ℕ → ℕ → State
-without_row s pid first pages = record s { views = λ p. if p == pid then unmapped (s.views pid) first pages else s.views p }
+without_row s pid first pages = record s {
+  views = without_pages s.views pid first pages;
+  objects = named_objects (maps_of (without_pages s.views pid first pages)) s.objects;
+}
 
 -- the checks of munmap in their order; pages that aren't mapped are no error
 abbrev pub munmap_checks : State → ℕ → ℕ → ℕ → List Check
@@ -50,6 +57,7 @@ abbrev pub is_guarded : Files → Backing → Bool
 is_guarded files Anon = false
 is_guarded files (Private p) = false
 is_guarded files (Shared p) = is_unwritable (files p.file)
+is_guarded files (Common p) = false
 
 -- whether a page is a shared one of a file that may only be read
 abbrev pub is_guarded_page : Files → Option View → Bool
@@ -77,7 +85,7 @@ row_checks s pid first pages prot =
 abbrev pub uncopied : View → View
 uncopied view = record view { own = None }
 
--- the pages of the row lose their own copies: each shows what stands behind it
+-- the pages of the row lose their own copies: each shows what stands behind it, so that a page of an object is as it was
 abbrev pub without_own : (ℕ → Option View) → ℕ → ℕ → ℕ → Option View
 without_own space first pages page = if in_row first pages page then option_map uncopied (space page) else space page
 

@@ -1,6 +1,6 @@
 -- Rows of neighbouring pages, and what the calls on ranges do to a map from page to attributes. mmap(2) with
 -- MAP_FIXED, munmap(2), mprotect(2).
-use Rattle.std.specs.Prelude.{ℕ, suc, zero, ◌+◌, ◌-◌, Bool, true, ◌&&◌, leb, ltb, if◌then◌else◌, ◌≤◌, ◌<◌, ◌^◌, Option, Some, None, is_some, option_map, IsSome, IfSome}
+use Rattle.std.specs.Prelude.{ℕ, suc, zero, ◌+◌, ◌-◌, Bool, true, ◌&&◌, leb, ltb, if◌then◌else◌, ◌≤◌, ◌<◌, Option, Some, None, is_some, option_map, IsSome, IfSome}
 use Rattle.vm_types.specs.Limits.{user_start, user_end}
 use Rattle.vm_types.specs.declared.permission.Prot.{Prot}
 use Rattle.vm_types.specs.declared.region.Attr.{Attr}

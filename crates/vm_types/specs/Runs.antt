@@ -1,6 +1,6 @@
 -- Runs: the longest rows of neighbouring mapped pages with equal permission and equal backing, where file pages
 -- follow one another. proc_pid_maps(5) shows such rows, and mmap(2) limits their number (ENOMEM).
-use Rattle.std.specs.Prelude.{ℕ, suc, zero, ◌+◌, ◌^◌, Bool, false, not, if◌then◌else◌, Option, Some, None}
+use Rattle.std.specs.Prelude.{ℕ, suc, zero, ◌+◌, Bool, false, not, if◌then◌else◌, Option, Some, None}
 use Rattle.vm_types.specs.Limits.{user_end}
 use Rattle.vm_types.specs.declared.region.Attr.{Attr}
 use Rattle.vm_types.specs.Attributes.{attr_after, attr_eq}

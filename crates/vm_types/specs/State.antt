@@ -1,8 +1,10 @@
--- The flat model: processes as maps of pages, and files as rows of pages. No frames, tables, slots or journal.
+-- The flat model: processes as maps of pages, files as rows of pages, and objects. No frames, tables, slots or journal.
 use Rattle.std.specs.Prelude.{ℕ, ◌==◌, ◌&&◌, if◌then◌else◌, Bool, List, [], ◌∷◌, Option, Some, None, ◌≡◌}
 use Rattle.vm_types.specs.Files.{Files}
 use Rattle.vm_types.specs.History.{Past}
-use Rattle.vm_types.specs.View.{Pages, View}
+use Rattle.vm_types.specs.declared.region.Backing.{Backing}
+use Rattle.vm_types.specs.declared.region.Backing.TheVariants.{Anon, Private, Shared, Common}
+use Rattle.vm_types.specs.View.{Pages, Objects, View, zero_page}
 
 -- Between two commands.
 pub record State : Type 0 where
@@ -18,6 +20,8 @@ pub record State : Type 0 where
   pub durable : Pages
   -- the file pages stored to through a shared mapping and not made durable since: file, page
   pub touched : ℕ → ℕ → Bool
+  -- the pages of shared anonymous memory that were stored to and that a process still has: object, page
+  pub objects : Objects
   -- the last faults of accesses, oldest first, each with its process
   pub past : Past
   -- none while the machine runs; once it has halted, the contents that a stop may leave
@@ -29,6 +33,27 @@ IsRunning s = s.ends ≡ None
 -- the machine halts, with the files as they were or as a commit would leave them
 abbrev pub halted : State → Pages → State
 halted s after = record s { ends = Some (s.durable ∷ after ∷ []) }
+
+-- a page's bytes, or zeros where it has none
+abbrev pub or_zeros : Option (List ℕ) → List ℕ
+or_zeros None = zero_page
+or_zeros (Some bytes) = bytes
+
+-- what stands behind a page
+abbrev pub behind : State → Backing → List ℕ
+behind s Anon = zero_page
+behind s (Private p) = s.volatile p.file p.page
+behind s (Shared p) = s.volatile p.file p.page
+behind s (Common p) = or_zeros (s.objects p.object p.page)
+
+-- a page's own copy, where there is one, or else what stands behind it
+abbrev pub copy_or_behind : State → Backing → Option (List ℕ) → List ℕ
+copy_or_behind s backing (Some bytes) = bytes
+copy_or_behind s backing None = behind s backing
+
+-- the 4,096 bytes that a page shows its process
+abbrev pub shown : State → View → List ℕ
+shown s view = copy_or_behind s view.attr.backing view.own
 
 -- one page of one process is replaced
 abbrev pub with_view : (ℕ → ℕ → Option View) → ℕ → ℕ → View → ℕ → ℕ → Option View

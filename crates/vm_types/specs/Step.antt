@@ -1,6 +1,6 @@
 -- What each command returns and what it leaves.
 -- mmap(2), munmap(2), mprotect(2), fork(2), _exit(2), msync(2), sigaction(2); the order of the checks is our choice.
-use Rattle.std.specs.Prelude.{ℕ, zero, suc, List, length, slice_get, ◌≡◌, refl, ◌+◌, ◌%◌, ◌*◌, ◌/◌, ◌==◌, ◌&&◌, not, false, nat_lt, if◌then◌else◌, [], ◌∷◌, Option, Some, None}
+use Rattle.std.specs.Prelude.{ℕ, zero, suc, length, slice_get, ◌≡◌, refl, ◌+◌, ◌%◌, ◌*◌, ◌/◌, ◌==◌, ◌&&◌, not, false, nat_lt, if◌then◌else◌, [], ◌∷◌, Option, Some, None}
 use Rattle.vm_types.specs.declared.access.Access.{Access}
 use Rattle.vm_types.specs.declared.access.Access.TheVariants as Accesses
 use Rattle.vm_types.specs.declared.access.StoredValue.{StoredValue}
@@ -18,16 +18,16 @@ use Rattle.vm_types.specs.declared.width.Width.{Width}
 use Rattle.vm_types.specs.declared.width.Width.TheVariants.{One, Four}
 use Rattle.vm_types.specs.Access.{loaded, stored}
 use Rattle.vm_types.specs.Checks.{first_of, page_count, pages_from}
-use Rattle.vm_types.specs.Mapping.{mmap_errno, mmap_place, first_attr, with_mapping}
+use Rattle.vm_types.specs.Mapping.{mmap_errno, mmap_place, attr_for, with_mapping}
 use Rattle.vm_types.specs.Msync.{Ruling, Refuses, Passes, Takes, msync_ruling, committed, synced}
 use Rattle.vm_types.specs.Permission.{kept, with_bits}
 use Rattle.vm_types.specs.Processes.{least_free_from, least_free_pid, with_process, forked, without_process}
 use Rattle.vm_types.specs.History as History
 use Rattle.vm_types.specs.Ranges.{munmap_checks, without_row, asked_checks, row_checks, with_protection, covered_checks, without_copies}
 use Rattle.vm_types.specs.Rows.{is_covered}
-use Rattle.vm_types.specs.State.{State}
+use Rattle.vm_types.specs.State.{State, shown}
 use Rattle.vm_types.specs.Verdict.{Verdict, Fine, Faults, verdict, fault_of}
-use Rattle.vm_types.specs.View.{Pages, View, shown, zero_page}
+use Rattle.vm_types.specs.View.{Pages, View, zero_page}
 use Rattle.vm_types.specs.Width.{byte_count}
 
 -- a reply, and the state after it
@@ -58,7 +58,7 @@ abbrev pub mmap_outcome : State → ℕ → ℕ → Prot → MapSource → Optio
 mmap_outcome s pid len prot source (Some errno) place = answers s (Refused errno)
 mmap_outcome s pid len prot source None None = answers s (Refused ENOMEM)
 mmap_outcome s pid len prot source None (Some first) =
-    record { reply = Address (4096 * first); state = with_mapping s pid first (page_count len) (first_attr source prot) }
+    record { reply = Address (4096 * first); state = with_mapping s pid first (page_count len) (attr_for s pid first (page_count len) source prot) }
 
 -- refused by this check, or else this
 abbrev pub refused_or : State → Option Errno → Outcome → Outcome
@@ -104,7 +104,7 @@ msync_outcome s (Takes pid first count) = record { reply = Done; state = synced 
 -- load: the number that the page shows
 abbrev pub load_outcome : State → ℕ → Width → Verdict → Outcome
 load_outcome s addr width (Faults code) = answers s (Faulted (fault_of Accesses.Load code addr))
-load_outcome s addr width (Fine view) = answers s (Value width (loaded (shown s.volatile view) (addr % 4096) (byte_count width)))
+load_outcome s addr width (Fine view) = answers s (Value width (loaded (shown s view) (addr % 4096) (byte_count width)))
 
 -- store: the page with the number written
 abbrev pub store_outcome : State → ℕ → ℕ → StoredValue → Verdict → Outcome
@@ -115,7 +115,7 @@ store_outcome s pid addr value (Fine view) =
 -- fetch: the number of four bytes that the page shows
 abbrev pub fetch_outcome : State → ℕ → Verdict → Outcome
 fetch_outcome s addr (Faults code) = answers s (Faulted (fault_of Accesses.Fetch code addr))
-fetch_outcome s addr (Fine view) = answers s (Value Four (loaded (shown s.volatile view) (addr % 4096) (byte_count Four)))
+fetch_outcome s addr (Fine view) = answers s (Value Four (loaded (shown s view) (addr % 4096) (byte_count Four)))
 
 -- what a process's access comes to
 abbrev pub judged : State → ℕ → ℕ → Width → Access → Verdict
@@ -218,6 +218,7 @@ sample_state count = record {
   volatile = λ file page. zero_page;
   durable = λ file page. zero_page;
   touched = λ file page. false;
+  objects = λ object page. None;
   past = [];
   ends = None;
 }

@@ -8,7 +8,7 @@ use Rattle.vm_types.specs.declared.refusal.Code.{Code}
 use Rattle.vm_types.specs.declared.refusal.Code.TheVariants.{BusAdraln, SegvMaperr, SegvAccerr, BusAdrerr}
 use Rattle.vm_types.specs.declared.refusal.Fault.{Fault}
 use Rattle.vm_types.specs.declared.region.Backing.{Backing}
-use Rattle.vm_types.specs.declared.region.Backing.TheVariants.{Anon, Private, Shared}
+use Rattle.vm_types.specs.declared.region.Backing.TheVariants.{Anon, Private, Shared, Common}
 use Rattle.vm_types.specs.Files.{Files, is_past_end_of}
 use Rattle.vm_types.specs.Permission.{can_read, can_write, can_execute}
 use Rattle.vm_types.specs.View.{View}
@@ -27,6 +27,7 @@ lets Fetch prot = can_execute prot
 -- whether a page is a file page wholly past the file's end
 abbrev pub is_past_end : Files → Backing → Bool
 is_past_end files Anon = false
+is_past_end files (Common p) = false
 is_past_end files (Private p) = is_past_end_of (files p.file) p.page
 is_past_end files (Shared p) = is_past_end_of (files p.file) p.page
 

@@ -13,6 +13,8 @@ pub enum MapSource {
     Private { file: u64, offset: u64 },
     /// Pages of a file, from a byte offset on. Stores are seen by all mappings of the file (MAP_SHARED).
     Shared { file: u64, offset: u64 },
+    /// Pages of zeros. Stores are seen by the process and those that are forked from it (MAP_ANONYMOUS with MAP_SHARED).
+    Common,
 }
 
 /// How firmly a mapping's address is asked for (mmap(2), MAP_FIXED and MAP_FIXED_NOREPLACE).

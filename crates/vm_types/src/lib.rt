@@ -7,6 +7,7 @@ mod command;
 mod file;
 mod history;
 mod number;
+mod object;
 mod permission;
 mod refusal;
 mod region;
@@ -18,6 +19,7 @@ pub use command::{Command, MapSource, MsyncMode, Placing};
 pub use file::{FileInfo, FilePage};
 pub use history::History;
 pub use number::{FrameNo, NoFree, Phys, Pid, SlotNo, TooManyRuns, Vpn};
+pub use object::{ObjectPage, PageKey};
 pub use permission::Prot;
 pub use refusal::{Code, Errno, Fault, Stall};
 pub use region::{Attr, Backing};
@@ -39,8 +41,12 @@ pub const PROCESSES: usize = 64;
 /// The most files of an image; their numbers are 0 to one less.
 pub const FILES: usize = 64;
 
+/// The most objects that processes name at once: each has at most 256 runs, and a run names one. The number of a new
+/// object is at most this.
+pub const NAMED_OBJECTS: usize = 64 * 256;
+
 /// The most faults that are kept.
 pub const FAULTS: usize = 16;
 
 /// The most touched pages that one msync makes durable.
-pub const MSYNC_PAGES: usize = 127;
+pub const MSYNC_PAGES: usize = 1023;

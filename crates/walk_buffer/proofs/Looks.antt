@@ -1,11 +1,10 @@
 -- What a line says of a walk.
-use Rattle.std.proofs.Common.{ℕ, zero, suc, ◌+◌, ◌*◌, ◌/◌, ◌%◌, ◌^◌, ◌≡◌, ◌<◌, ◌≤◌, Bool, true, false, ◌&&◌, ◌||◌, not, ◌==◌, nat_lt, nat_le, if◌then◌else◌, Result, Ok, Err, Some, None, Option, refl, sym, ap, ◌∙◌, subst, arith}
+use Rattle.std.proofs.Common.{ℕ, ◌/◌, ◌%◌, ◌^◌, ◌≡◌, ◌<◌, Bool, true, false, ◌&&◌, ◌||◌, not, ◌==◌, nat_le, if◌then◌else◌, Ok, Some, Option, refl, sym, ap, ◌∙◌, subst, arith}
 use Rattle.std.proofs.lemmas.Bool.Decides.{nat_tests}
 use Rattle.vm_types.specs.declared.access.Access.{Access}
-use Rattle.vm_types.specs.declared.access.Access.TheVariants.{Load, Store, Fetch}
 use Rattle.frames.specs.FrameTable.{FrameTable, frame_count}
 use Rattle.sv39_walk.specs.Entry.{is_valid, is_user, is_accessed, is_dirty, is_reserved, is_leaf, frame_of, grants}
-use Rattle.sv39_walk.specs.Walk.{is_canonical, is_store, last_of, translated, answer_of, frame_in, page_of}
+use Rattle.sv39_walk.specs.Walk.{is_canonical, is_store, last_of, translated, answer_of, frame_in}
 use Rattle.walk_buffer.specs.Lines.{Agrees, Gives, IsLine, lets, place_in, leaf_for}
 use Rattle.walk_buffer.specs.declared.line.Line.{Line}
 use Rattle.walk_buffer.specs.declared.buffer.TranslationBuffer.{TranslationBuffer}

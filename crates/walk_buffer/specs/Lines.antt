@@ -1,6 +1,6 @@
 -- A buffer of translations: for the root of a tree and a page the leaf that a walk found there. Number and places of its
 -- lines are our own.
-use Rattle.std.specs.Prelude.{ℕ, ◌+◌, ◌*◌, ◌%◌, ◌/◌, ◌≡◌, ◌<◌, Bool, true, ◌&&◌, ◌||◌, not, ◌==◌, if◌then◌else◌, Option, Some, None, Ok, slice_index_or}
+use Rattle.std.specs.Prelude.{ℕ, ◌+◌, ◌*◌, ◌%◌, ◌≡◌, ◌<◌, Bool, true, ◌&&◌, ◌||◌, not, ◌==◌, if◌then◌else◌, Option, Some, None, Ok, slice_index_or}
 use Rattle.vm_types.specs.Limits.{top_level, user_end}
 use Rattle.vm_types.specs.declared.access.Access.{Access}
 use Rattle.vm_types.specs.declared.number.Phys.{Phys}

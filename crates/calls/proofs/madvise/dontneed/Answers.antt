@@ -42,11 +42,12 @@ returns-clause-comes g c = λ s shows reads swaps.
     (let aligned : a.addr % 4096 ≡ 0 = omega arith in aligned) (let some : a.len ≢ 0 = omega arith in some)
     runs (subst (λ (p : ℕ). (page : ℕ) → attr_at runs page ≡ old.at p page) same c.regions.ensures) pages count (sym c.covers.ensures ∙ c.if-not-covers.false)
     c.clear_row.new.core (subst (λ (p : ℕ). RemapsRow old (picture_of c.clear_row.new.core) p (a.addr / 4096) pages (old.at p)) same c.clear_row.ensures.row)
+    c.clear_row.ensures.files
 
 pub returns-clause-room : goal.returns-clause-room
 returns-clause-room g c = room_same c.args.core.now c.clear_row.new.core c.clear_row.ensures.rest.cache
 
 pub returns-clause-sound : goal.returns-clause-sound
 returns-clause-sound g c =
-    sound_kept c.args.core.now c.clear_row.new.core c.clear_row.ensures.rest.cache g.D.SectorDisk g.E.SectorDisk
+    sound_kept c.args.core.now c.clear_row.new.core (room_same c.args.core.now c.clear_row.new.core c.clear_row.ensures.rest.cache) g.D.SectorDisk g.E.SectorDisk
     c.clear_row.ensures.rest.store c.clear_row.ensures.rest.pages c.clear_row.ensures.fit c.requires.sound

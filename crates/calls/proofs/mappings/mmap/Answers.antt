@@ -1,15 +1,18 @@
-use Rattle.std.proofs.Common.{ℕ, ◌≡◌, Some, subst, arith}
+use Rattle.std.proofs.Common.{ℕ, ◌≡◌, Option, Some, subst, arith}
 use Rattle.regions.specs.RunList.{attr_at}
-use Rattle.page_ranges.specs.Rows.{RemapsRow}
+use Rattle.page_ranges.specs.Rows.{without_maps, KeepsNamed, RemapsRow}
 use Rattle.paging.specs.Picture.{picture_of}
 use Rattle.vm_types.specs.declared.region.Attr.{Attr}
+use Rattle.vm_types.specs.Rows.{replaced}
 use Rattle.vm_types.specs.Checks.{first_of, page_count}
 use Rattle.vm_types.specs.Mapping.{place_for}
-use Rattle.calls.specs.Mappings.{place_checks, MapsPages}
+use Rattle.calls.specs.Mappings.{attr_there, place_checks, MapsPages}
 use Rattle.calls.specs.Space.{space_of}
 use Rattle.calls.proofs.Mapped.{refused_as_asked, refused_place, maps, reads_mapped}
 use Rattle.calls.proofs.Calls.{found_lives}
-use Rattle.calls.proofs.Room.{room_same, sound_kept}
+use Rattle.calls.proofs.Numbers.{nobody_has, lives_below}
+use Rattle.calls.proofs.NewObject.{new_unused, objects_mapped}
+use Rattle.calls.proofs.Room.{sound_kept}
 use Rattle.calls.proofs.mappings.mmap.Goals as goal
 
 pub returns-in-Some-refusal-clause-comes : goal.returns-in-Some-refusal-clause-comes
@@ -20,8 +23,22 @@ returns-in-Some-refusal-clause-comes g c = λ s shows reads swaps.
 
 pub remap-requires-clause-readable : goal.remap-requires-clause-readable
 remap-requires-clause-readable g c =
-    reads_mapped ((picture_of c.args.core.now).at c.in-Some.pid) c.regions-regions.result.now c.planned.new.next c.in-Ok.first c.div_ceil-pages.result c.first_attr-attr.result
-    c.args.source c.args.prot (c.requires.sound.fit.granting.readable c.in-Some.pid) c.regions-regions.ensures c.first_attr-attr.ensures c.in-Ok.ensures.ok.map
+    reads_mapped ((picture_of c.args.core.now).at c.in-Some.pid) c.regions-regions.result.now c.planned.new.next c.in-Ok.first c.div_ceil-pages.result _
+    c.args.source c.args.prot (c.requires.sound.fit.granting.readable c.in-Some.pid) c.regions-regions.ensures c.in-Ok.ensures.ok.map
+
+pub remap-requires-clause-objects : goal.remap-requires-clause-objects
+remap-requires-clause-objects g c =
+    let at = (picture_of c.args.core.now).at in
+    let fit = c.requires.sound.fit in
+    let pid = c.in-Some.pid in
+    let first = c.in-Ok.first in
+    let pages = c.div_ceil-pages.result in
+    let runs = c.regions-regions.result.now in
+    let here : attr_at runs ≡ at pid = λ t page. c.regions-regions.ensures page t in
+    objects_mapped at pid first pages (attr_at c.planned.new.next) c.args.source c.args.prot fit.granting.objects fit.granting.user (lives_below c.args.core.now fit)
+    (λ is. new_unused at pid first pages (nobody_has c.args.core.now fit) (c.in-Ok.ensures.few is))
+    (subst (λ (m : ℕ → Option Attr). (page : ℕ) → attr_at c.planned.new.next page ≡ replaced m first pages (attr_there at pid pages c.args.source c.args.prot first) page) here
+    c.in-Ok.ensures.ok.map)
 
 pub returns-in-Ok-clause-comes : goal.returns-in-Ok-clause-comes
 returns-in-Ok-clause-comes g c = λ s shows reads swaps.
@@ -34,8 +51,9 @@ returns-in-Ok-clause-comes g c = λ s shows reads swaps.
     maps g.D.SectorDisk g.E.SectorDisk a.core.now s a.pid a.addr a.len a.prot a.source a.placing shows.pages (found_lives (picture_of a.core.now) c.in-Some.pid a.pid c.in-Some.ensures.found)
     c.in_default-refusal.ensures.asked runs (subst (λ (p : ℕ). (page : ℕ) → attr_at runs page ≡ old.at p page) same c.regions-regions.ensures) pages count
     c.in-Ok.first c.planned.new.next
-    (subst (λ (attr : Attr). MapsPages runs a.addr pages attr a.placing c.in-Ok.first c.planned.new.next) c.first_attr-attr.ensures c.in-Ok.ensures.ok)
-    c.remap.new.core (subst (λ (p : ℕ). RemapsRow old (picture_of c.remap.new.core) p c.in-Ok.first pages (attr_at c.planned.new.next)) same c.remap.ensures.row)
+    (subst (λ (p : ℕ). MapsPages runs a.addr pages (attr_there old.at p pages a.source a.prot) a.placing c.in-Ok.first c.planned.new.next) same c.in-Ok.ensures.ok)
+    c.remap.new.core c.remap.ensures.fit (subst (λ (p : ℕ). RemapsRow old (picture_of c.remap.new.core) p c.in-Ok.first pages (attr_at c.planned.new.next)) same c.remap.ensures.row)
+    (subst (λ (p : ℕ). KeepsNamed (without_maps old.at p c.in-Ok.first pages) old (picture_of c.remap.new.core)) same c.remap.ensures.files)
 
 pub returns-in-Err-clause-comes : goal.returns-in-Err-clause-comes
 returns-in-Err-clause-comes g c = λ s shows reads swaps.
@@ -47,13 +65,13 @@ returns-in-Err-clause-comes g c = λ s shows reads swaps.
     refused_place g.D.SectorDisk g.E.SectorDisk a.core.now s a.pid a.addr a.len a.prot a.source a.placing shows.pages (found_lives (picture_of a.core.now) c.in-Some.pid a.pid c.in-Some.ensures.found)
     c.in_default-refusal.ensures.asked runs
     (subst (λ (p : ℕ). (page : ℕ) → attr_at runs page ≡ old.at p page) c.in-Some.ensures.found.0 c.regions-regions.ensures) pages count c.in-Err.errno
-    (subst (λ (attr : Attr). first_of (place_checks a.placing (space_of runs) pages attr (place_for a.placing (space_of runs) a.addr pages)) ≡ Some c.in-Err.errno)
-    c.first_attr-attr.ensures c.in-Err.ensures.err)
+    (subst (λ (p : ℕ). first_of (place_checks a.placing (space_of runs) pages (attr_there old.at p pages a.source a.prot) (place_for a.placing (space_of runs) a.addr pages)) ≡ Some c.in-Err.errno)
+    c.in-Some.ensures.found.0 c.in-Err.ensures.err)
 
 pub returns-in-Ok-clause-room : goal.returns-in-Ok-clause-room
-returns-in-Ok-clause-room g c = room_same c.args.core.now c.remap.new.core c.remap.ensures.cache
+returns-in-Ok-clause-room g c = record { frames = c.remap.ensures.frames; slots = c.remap.ensures.slots.total }
 
 pub returns-in-Ok-clause-sound : goal.returns-in-Ok-clause-sound
 returns-in-Ok-clause-sound g c =
-    sound_kept c.args.core.now c.remap.new.core c.remap.ensures.cache g.D.SectorDisk g.E.SectorDisk
+    sound_kept c.args.core.now c.remap.new.core (record { frames = c.remap.ensures.frames; slots = c.remap.ensures.slots.total }) g.D.SectorDisk g.E.SectorDisk
     c.remap.ensures.devices.store c.remap.ensures.devices.pages c.remap.ensures.fit c.requires.sound

@@ -1,12 +1,21 @@
-use Rattle.std.proofs.Common.{ℕ, subst}
+use Rattle.std.proofs.Common.{ℕ, ◌^◌, subst}
 use Rattle.lifecycle.specs.Changes.{RemovesProcess}
+use Rattle.page_ranges.specs.Rows.{KeepsNamed, without_maps}
 use Rattle.paging.specs.Picture.{picture_of}
 use Rattle.calls.proofs.Calls.{found_lives}
 use Rattle.calls.proofs.Living.{exits}
+use Rattle.calls.proofs.Room.{sound_kept}
 use Rattle.calls.proofs.processes.exit.Goals as goal
 
 pub returns-clause-comes : goal.returns-clause-comes
 returns-clause-comes g c = λ s shows reads swaps.
     exits g.D.SectorDisk g.E.SectorDisk c.args.core.now c.exit.new.core s c.args.pid shows.pages
-    (found_lives (picture_of c.args.core.now) c.in-Some.pid c.args.pid c.in-Some.ensures.found) c.exit.ensures.files
+    (found_lives (picture_of c.args.core.now) c.in-Some.pid c.args.pid c.in-Some.ensures.found)
+    c.requires.sound.fit c.exit.ensures.fit
+    (subst (λ (p : ℕ). KeepsNamed (without_maps (picture_of c.args.core.now).at p 0 (2 ^ 26)) (picture_of c.args.core.now) (picture_of c.exit.new.core)) c.in-Some.ensures.found.0 c.exit.ensures.files)
     (subst (λ (p : ℕ). RemovesProcess (picture_of c.args.core.now) (picture_of c.exit.new.core) p) c.in-Some.ensures.found.0 c.exit.ensures.removed)
+
+pub returns-clause-sound : goal.returns-clause-sound
+returns-clause-sound g c =
+    sound_kept c.args.core.now c.exit.new.core c.exit.ensures.room g.D.SectorDisk g.E.SectorDisk
+    c.exit.ensures.devices.store c.exit.ensures.devices.pages c.exit.ensures.fit c.requires.sound

@@ -25,7 +25,7 @@ returns-in-Err-clause-comes g c = λ s shows reads swaps.
     let old = picture_of c.args.core.now in
     fork_stalls g.D.SectorDisk g.E.SectorDisk c.args.core.now s shows.pages c.free_pid.result c.free_pid.ensures.least c.args.pid
     (found_lives old c.in-Some.parent c.args.pid c.in-Some.ensures.found)
-    c.in-Some-free_pid.child c.in-Some-free_pid.is c.fork.new.core c.in-Err.stall c.in-Err.ensures.cause
+    c.in-Some-free_pid.child c.in-Some-free_pid.is c.fork.new.core c.in-Err.stall c.requires.sound.fit c.in-Err.ensures.cause
     (subst (λ (p : ℕ). IsShortToFork old p c.in-Err.stall) c.in-Some.ensures.found.0 c.in-Err.ensures.short) c.fork.ensures.room
     c.fork.ensures.files c.in-Err.ensures.err
 

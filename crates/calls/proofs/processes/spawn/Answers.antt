@@ -16,7 +16,7 @@ returns-in-Ok-clause-comes g c = λ s shows reads swaps.
 pub returns-in-Err-clause-comes : goal.returns-in-Err-clause-comes
 returns-in-Err-clause-comes g c = λ s shows reads swaps.
     spawn_stalls g.D.SectorDisk g.E.SectorDisk c.args.core.now s shows.pages c.free_pid.result c.free_pid.ensures.least c.in-Some.pid c.in-Some.is
-    c.spawn.new.core c.in-Err.stall c.in-Err.ensures.cause c.in-Err.ensures.short c.spawn.ensures.files c.in-Err.ensures.err
+    c.spawn.new.core c.in-Err.stall c.spawn.ensures.fit c.in-Err.ensures.cause c.in-Err.ensures.short c.spawn.ensures.files c.in-Err.ensures.err
 
 pub returns-in-Err-clause-caused : goal.returns-in-Err-clause-caused
 returns-in-Err-clause-caused g c =

@@ -20,20 +20,20 @@ pub reprotect-requires-clause-map : goal.reprotect-requires-clause-map
 reprotect-requires-clause-map g c =
     subst (λ (p : Prot). (page : ℕ) → attr_at c.permitted.new.next page ≡ protected ((picture_of c.args.core.now).at c.in-Some.pid) (c.args.addr / 4096) c.div_ceil-pages.result p page)
     (sym c.kept.ensures)
-    (protected_map c.regions-2.result.now c.permitted.new.next ((picture_of c.args.core.now).at c.in-Some.pid) (c.args.addr / 4096) c.div_ceil-pages.result _
-    c.regions-2.ensures c.in-Ok.ensures.ok.map)
+    (protected_map c.regions.result.now c.permitted.new.next ((picture_of c.args.core.now).at c.in-Some.pid) (c.args.addr / 4096) c.div_ceil-pages.result _
+    c.regions.ensures c.in-Ok.ensures.ok.map)
 
 pub returns-in-Ok-clause-comes : goal.returns-in-Ok-clause-comes
 returns-in-Ok-clause-comes g c = λ s shows reads swaps.
     let a = c.args in
     let old = picture_of a.core.now in
-    let runs = c.regions-2.result.now in
+    let runs = c.regions.result.now in
     let pages = c.div_ceil-pages.result in
     let count : pages ≡ page_count a.len = omega (arith, c.div_ceil-pages.ensures) in
     let same : c.in-Some.pid ≡ a.pid = c.in-Some.ensures.found.0 in
     protects g.D.SectorDisk g.E.SectorDisk a.core.now s a.pid a.addr a.len a.prot shows.pages (found_lives (picture_of a.core.now) c.in-Some.pid a.pid c.in-Some.ensures.found)
     (let aligned : a.addr % 4096 ≡ 0 = omega arith in aligned) (let some : a.len ≢ 0 = omega arith in some)
-    runs (subst (λ (p : ℕ). (page : ℕ) → attr_at runs page ≡ old.at p page) same c.regions-2.ensures) pages count
+    runs (subst (λ (p : ℕ). (page : ℕ) → attr_at runs page ≡ old.at p page) same c.regions.ensures) pages count
     c.permitted.new.next c.in-Ok.ensures.ok c.reprotect.new.core
     (subst (λ (p : Prot). ReprotectsRow old (picture_of c.reprotect.new.core) a.pid (a.addr / 4096) pages p) c.kept.ensures
     (subst (λ (p : ℕ). ReprotectsRow old (picture_of c.reprotect.new.core) p (a.addr / 4096) pages c.kept.result) same c.reprotect.ensures.row))
@@ -42,12 +42,12 @@ pub returns-in-Err-clause-comes : goal.returns-in-Err-clause-comes
 returns-in-Err-clause-comes g c = λ s shows reads swaps.
     let a = c.args in
     let old = picture_of a.core.now in
-    let runs = c.regions-2.result.now in
+    let runs = c.regions.result.now in
     let pages = c.div_ceil-pages.result in
     let count : pages ≡ page_count a.len = omega (arith, c.div_ceil-pages.ensures) in
     refuses g.D.SectorDisk g.E.SectorDisk a.core.now s a.pid a.addr a.len a.prot shows.pages (found_lives (picture_of a.core.now) c.in-Some.pid a.pid c.in-Some.ensures.found)
     (let aligned : a.addr % 4096 ≡ 0 = omega arith in aligned) (let some : a.len ≢ 0 = omega arith in some)
-    runs (subst (λ (p : ℕ). (page : ℕ) → attr_at runs page ≡ old.at p page) c.in-Some.ensures.found.0 c.regions-2.ensures) pages count
+    runs (subst (λ (p : ℕ). (page : ℕ) → attr_at runs page ≡ old.at p page) c.in-Some.ensures.found.0 c.regions.ensures) pages count
     c.in-Err.errno c.in-Err.ensures.err
 
 pub returns-in-Ok-clause-room : goal.returns-in-Ok-clause-room
@@ -55,5 +55,5 @@ returns-in-Ok-clause-room g c = room_same c.args.core.now c.reprotect.new.core c
 
 pub returns-in-Ok-clause-sound : goal.returns-in-Ok-clause-sound
 returns-in-Ok-clause-sound g c =
-    sound_kept c.args.core.now c.reprotect.new.core c.reprotect.ensures.cache g.D.SectorDisk g.E.SectorDisk
+    sound_kept c.args.core.now c.reprotect.new.core (room_same c.args.core.now c.reprotect.new.core c.reprotect.ensures.cache) g.D.SectorDisk g.E.SectorDisk
     c.reprotect.ensures.store (ap (λ (s : Swap _). s.pages) c.reprotect.ensures.swap) c.reprotect.ensures.fit c.requires.sound

@@ -1,14 +1,14 @@
 use Rattle.std.proofs.Common.{ℕ, ◌+◌, ◌-◌, ◌/◌, ◌%◌, ◌≡◌, ◌≢◌, ◌<◌, ◌≤◌, ◌^◌, min, subst, arith}
 use Rattle.regions.specs.RunList.{attr_at}
 use Rattle.regions.proofs.PermissionLemmas.{reads_removed, reads_same}
-use Rattle.page_ranges.specs.Rows.{RemapsRow}
+use Rattle.page_ranges.specs.Rows.{without_maps, KeepsNamed, RemapsRow}
 use Rattle.paging.specs.Picture.{picture_of}
 use Rattle.vm_types.specs.Checks.{page_count}
 use Rattle.vm_types.specs.Rows.{removed}
 use Rattle.vm_types.specs.Runs.{run_count}
-use Rattle.calls.proofs.Unmapped.{others_stay, refused_many, unmaps}
+use Rattle.calls.proofs.Unmapped.{objects_unmapped, others_stay, refused_many, unmaps}
 use Rattle.calls.proofs.Calls.{found_lives}
-use Rattle.calls.proofs.Room.{room_same, sound_kept}
+use Rattle.calls.proofs.Room.{sound_kept}
 use Rattle.calls.proofs.unmapping.munmap.Goals as goal
 
 pub remap-requires-clause-others : goal.remap-requires-clause-others
@@ -28,6 +28,11 @@ remap-requires-clause-readable g c =
     (reads_same (old.at c.in-Some.pid) (attr_at runs) c.regions-regions.ensures
     (c.requires.sound.fit.granting.readable c.in-Some.pid)))
 
+pub remap-requires-clause-objects : goal.remap-requires-clause-objects
+remap-requires-clause-objects g c =
+    objects_unmapped (picture_of c.args.core.now) c.in-Some.pid (c.args.addr / 4096) c.div_ceil-pages.result c.regions-regions.result.now c.remove_into.new.next
+    c.regions-regions.ensures c.in-Ok.ensures.ok c.requires.sound.fit.granting.objects
+
 pub returns-in-Ok-clause-comes : goal.returns-in-Ok-clause-comes
 returns-in-Ok-clause-comes g c = λ s shows reads swaps.
     let a = c.args in
@@ -46,7 +51,8 @@ returns-in-Ok-clause-comes g c = λ s shows reads swaps.
     runs (subst (λ (p : ℕ). (page : ℕ) → attr_at runs page ≡ old.at p page) same c.regions-regions.ensures) pages count
     few c.remove_into.new.next map (c.requires.sound.fit.granting.user a.pid) start size
     (let from : start ≡ min first (2 ^ 26) = c.min-start.ensures in from) (let to : size ≡ min (first + pages) (2 ^ 26) - start = omega (arith, c.min-end.ensures) in to)
-    c.remap.new.core (subst (λ (p : ℕ). RemapsRow old (picture_of c.remap.new.core) p start size (attr_at c.remove_into.new.next)) same c.remap.ensures.row)
+    c.remap.new.core c.remap.ensures.fit (subst (λ (p : ℕ). RemapsRow old (picture_of c.remap.new.core) p start size (attr_at c.remove_into.new.next)) same c.remap.ensures.row)
+    (subst (λ (p : ℕ). KeepsNamed (without_maps old.at p start size) old (picture_of c.remap.new.core)) same c.remap.ensures.files)
 
 pub returns-in-Err-clause-comes : goal.returns-in-Err-clause-comes
 returns-in-Err-clause-comes g c = λ s shows reads swaps.
@@ -62,9 +68,9 @@ returns-in-Err-clause-comes g c = λ s shows reads swaps.
     runs (subst (λ (p : ℕ). (page : ℕ) → attr_at runs page ≡ old.at p page) c.in-Some.ensures.found.0 c.regions-regions.ensures) pages count many
 
 pub returns-in-Ok-clause-room : goal.returns-in-Ok-clause-room
-returns-in-Ok-clause-room g c = room_same c.args.core.now c.remap.new.core c.remap.ensures.cache
+returns-in-Ok-clause-room g c = record { frames = c.remap.ensures.frames; slots = c.remap.ensures.slots.total }
 
 pub returns-in-Ok-clause-sound : goal.returns-in-Ok-clause-sound
 returns-in-Ok-clause-sound g c =
-    sound_kept c.args.core.now c.remap.new.core c.remap.ensures.cache g.D.SectorDisk g.E.SectorDisk
+    sound_kept c.args.core.now c.remap.new.core (record { frames = c.remap.ensures.frames; slots = c.remap.ensures.slots.total }) g.D.SectorDisk g.E.SectorDisk
     c.remap.ensures.devices.store c.remap.ensures.devices.pages c.remap.ensures.fit c.requires.sound

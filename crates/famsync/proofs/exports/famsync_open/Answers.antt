@@ -1,14 +1,14 @@
 use Rattle.std.proofs.Common.{length, sym, subst}
 use Rattle.disk_model.specs.Stop.{Image}
 use Rattle.file_store.specs.Standing.{StandsFor}
-use Rattle.famsync.specs.Plans.{row}
-use Rattle.famsync.proofs.Theorem.{nothing_listed}
+use Rattle.sync_plans.specs.Plans.{row}
+use Rattle.sync_plans.proofs.Theorem.{nothing_listed}
 use Rattle.famsync.proofs.exports.famsync_open.Goals as goal
 
 pub returns-in-Err-clause-any_moment : goal.returns-in-Err-clause-any_moment
 returns-in-Err-clause-any_moment c = λ files pages stands left stop.
     subst (λ (i : Image). StandsFor (length c.args.image.now) files pages i)
-    (sym (nothing_listed c.plan_open.new.plan.calls c.plan_open.new.plan.rows (row c.args.image.now) left stop)) stands
+    (sym (nothing_listed c.plan_open.new.calls c.plan_open.new.rows (row c.args.image.now) left stop)) stands
 
 pub returns-in-Err-clause-layout : goal.returns-in-Err-clause-layout
 returns-in-Err-clause-layout c = λ is. c.in-Err.ensures.layout (c.number.ensures.layout is)

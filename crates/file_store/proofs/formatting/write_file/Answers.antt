@@ -1,4 +1,4 @@
-use Rattle.std.proofs.Common.{◌≡◌, ℕ, ◌+◌, ◌*◌, ◌<◌, min, List, Some, drop, drop-drop, length-drop, sym, ap, subst, ◌∙◌, ⊎_elim, arith}
+use Rattle.std.proofs.Common.{◌≡◌, ◌+◌, ◌*◌, ◌<◌, min, Some, drop, drop-drop, length-drop, sym, ap, subst, ◌∙◌, ⊎_elim, arith}
 use Rattle.std.proofs.lemmas.Bool.{cases_eq}
 use Rattle.sync_journal.specs.Layout.{home_sector, IsPageSector}
 use Rattle.sync_journal.proofs.Runs.{one_more, of_more}
@@ -18,7 +18,7 @@ loop-k-preserved g c =
     let more : 4096 * c.loop-k.k < c.args.source.now.length = omega (arith, c.loop-k-test.true, c.pages-k-end.ensures.count) in
     record {
       run = one_more g.D.SectorDisk (IsFrom (home_sector c.args.first)) c.args.disk.now c.loop-k.disk c.write_page.new.disk inv.run
-          (of_more g.D.SectorDisk (IsPageSector (1020 + 8 * (c.args.first + c.loop-k.k))) (IsFrom (home_sector c.args.first)) c.loop-k.disk c.write_page.new.disk
+          (of_more g.D.SectorDisk (IsPageSector (8195 + 8 * (c.args.first + c.loop-k.k))) (IsFrom (home_sector c.args.first)) c.loop-k.disk c.write_page.new.disk
           (λ k inside. omega (arith, inside.0)) w.run);
       calm = c.in_ok-write_page.ensures.calm ∙ inv.calm;
       info = c.read_page.ensures.info ∙ inv.info;
@@ -58,5 +58,5 @@ loop-k-preserved g c =
 pub returns-in_err-write_page-clause-run : goal.returns-in_err-write_page-clause-run
 returns-in_err-write_page-clause-run g c =
     one_more g.D.SectorDisk (IsFrom (home_sector c.args.first)) c.args.disk.now c.loop-k.disk c.write_page.new.disk c.loop-k.invariant.run
-    (of_more g.D.SectorDisk (IsPageSector (1020 + 8 * (c.args.first + c.loop-k.k))) (IsFrom (home_sector c.args.first)) c.loop-k.disk c.write_page.new.disk
+    (of_more g.D.SectorDisk (IsPageSector (8195 + 8 * (c.args.first + c.loop-k.k))) (IsFrom (home_sector c.args.first)) c.loop-k.disk c.write_page.new.disk
     (λ k inside. omega (arith, inside.0)) c.write_page.ensures.run)

@@ -26,8 +26,8 @@ pub overflow_add-first : goal.overflow_add-first
 overflow_add-first g c = omega (arith, c.loop-f.invariant.rest, c.requires, c.pages-first.ensures.bound)
 
 pub returns-in_err-write_file-clause-run : goal.returns-in_err-write_file-clause-run
-returns-in_err-write_file-clause-run g c = one_more g.D.SectorDisk (IsFrom 1020) c.args.disk.now c.loop-f.disk c.write_file.new.disk c.loop-f.invariant.run
-    (of_more g.D.SectorDisk (IsFrom (home_sector c.loop-f.first)) (IsFrom 1020) c.loop-f.disk c.write_file.new.disk (λ k behind. omega (arith, behind)) c.write_file.ensures.run)
+returns-in_err-write_file-clause-run g c = one_more g.D.SectorDisk (IsFrom 8195) c.args.disk.now c.loop-f.disk c.write_file.new.disk c.loop-f.invariant.run
+    (of_more g.D.SectorDisk (IsFrom (home_sector c.loop-f.first)) (IsFrom 8195) c.loop-f.disk c.write_file.new.disk (λ k behind. omega (arith, behind)) c.write_file.ensures.run)
 
 pub loop-f-preserved : goal.loop-f-preserved
 loop-f-preserved g c =
@@ -44,8 +44,8 @@ loop-f-preserved g c =
     ∙ slice_get_read c.loop-f.sources (length c.loop-f.sources) f c.index-sources-f.result refl below c.index-sources-f.is in
     let first : c.loop-f.first ≡ first_home sources f = let split = first_home-rest sources f in let behind = ap total_pages inv.behind in omega (arith, split, behind, inv.rest) in
     record {
-      run = one_more g.D.SectorDisk (IsFrom 1020) c.args.disk.now c.loop-f.disk c.write_file.new.disk inv.run
-          (of_more g.D.SectorDisk (IsFrom (home_sector c.loop-f.first)) (IsFrom 1020) c.loop-f.disk c.write_file.new.disk (λ k behind. omega (arith, behind)) w.run);
+      run = one_more g.D.SectorDisk (IsFrom 8195) c.args.disk.now c.loop-f.disk c.write_file.new.disk inv.run
+          (of_more g.D.SectorDisk (IsFrom (home_sector c.loop-f.first)) (IsFrom 8195) c.loop-f.disk c.write_file.new.disk (λ k behind. omega (arith, behind)) w.run);
       calm = c.in_ok-write_file.ensures.calm ∙ inv.calm;
       length = length-set c.loop-f.sources f c.write_file.new.source ∙ inv.length;
       rest = omega (arith, e, after, same, is, inv.rest, c.pages-first.ensures.count);

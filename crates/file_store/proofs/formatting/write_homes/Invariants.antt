@@ -5,7 +5,7 @@ use Rattle.file_store.proofs.formatting.write_homes.Given as goal
 
 abbrev pub invariant-loop-f : goal.invariant-loop-f
 invariant-loop-f g l = record {
-  run : Runs g.D.SectorDisk (IsFrom 1020) l.initial.disk l.disk;
+  run : Runs g.D.SectorDisk (IsFrom 8195) l.initial.disk l.disk;
   calm : g.D.SectorDisk.failures l.disk ≡ g.D.SectorDisk.failures l.initial.disk;
   length : length l.sources ≡ length l.initial.sources;
   rest : l.first + total_pages (drop l.f l.sources) ≡ total_pages l.initial.sources;

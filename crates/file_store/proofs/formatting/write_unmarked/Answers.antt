@@ -1,4 +1,4 @@
-use Rattle.std.proofs.Common.{ℕ, ◌+◌, ◌∙◌, ⊎_elim, List, sym, subst, arith}
+use Rattle.std.proofs.Common.{ℕ, ◌+◌, ⊎_elim, List, sym, subst, arith}
 use Rattle.sync_journal.specs.Layout.{home_sector}
 use Rattle.sync_journal.proofs.Runs.{one_more, of_more}
 use Rattle.file_store.specs.Layout.{bytes_inside}
@@ -8,17 +8,17 @@ use Rattle.file_store.proofs.formatting.write_unmarked.Goals as goal
 
 pub returns-in_err-write_homes-clause-run : goal.returns-in_err-write_homes-clause-run
 returns-in_err-write_homes-clause-run g c =
-    of_more g.D.SectorDisk (IsFrom 1020) (IsFrom 1) c.args.disk.now c.write_homes.new.disk (λ k behind. omega (arith, behind)) c.write_homes.ensures.run
+    of_more g.D.SectorDisk (IsFrom 8195) (IsFrom 1) c.args.disk.now c.write_homes.new.disk (λ k behind. omega (arith, behind)) c.write_homes.ensures.run
 
 pub returns-in_err-write_layout-clause-run : goal.returns-in_err-write_layout-clause-run
 returns-in_err-write_layout-clause-run g c = one_more g.D.SectorDisk (IsFrom 1) c.args.disk.now c.write_homes.new.disk c.write_layout.new.disk
-    (of_more g.D.SectorDisk (IsFrom 1020) (IsFrom 1) c.args.disk.now c.write_homes.new.disk (λ k behind. omega (arith, behind)) c.write_homes.ensures.run)
+    (of_more g.D.SectorDisk (IsFrom 8195) (IsFrom 1) c.args.disk.now c.write_homes.new.disk (λ k behind. omega (arith, behind)) c.write_homes.ensures.run)
     (of_more g.D.SectorDisk IsLayoutSector (IsFrom 1) c.write_homes.new.disk c.write_layout.new.disk
     (λ k at. ⊎_elim (λ e. omega (arith, e)) (λ e. omega (arith, e)) at) c.write_layout.ensures.run)
 
 pub returns-clause-run : goal.returns-clause-run
 returns-clause-run g c = one_more g.D.SectorDisk (IsFrom 1) c.args.disk.now c.write_homes.new.disk c.write_layout.new.disk
-    (of_more g.D.SectorDisk (IsFrom 1020) (IsFrom 1) c.args.disk.now c.write_homes.new.disk (λ k behind. omega (arith, behind)) c.write_homes.ensures.run)
+    (of_more g.D.SectorDisk (IsFrom 8195) (IsFrom 1) c.args.disk.now c.write_homes.new.disk (λ k behind. omega (arith, behind)) c.write_homes.ensures.run)
     (of_more g.D.SectorDisk IsLayoutSector (IsFrom 1) c.write_homes.new.disk c.write_layout.new.disk
     (λ k at. ⊎_elim (λ e. omega (arith, e)) (λ e. omega (arith, e)) at) c.write_layout.ensures.run)
 

@@ -1,54 +1,121 @@
-use Rattle.std.proofs.Common.{ap, ◌∙◌}
+use Rattle.std.proofs.Common.{◌≡◌, ◌+◌, ◌≤◌, ◌^◌, ℕ, true, ap, ◌∙◌, arith}
 use Rattle.std.specs.Prelude.{is_some}
+use Rattle.vm_types.specs.declared.object.PageKey.{PageKey}
+use Rattle.vm_types.specs.Rows.{in_row}
+use Rattle.page_tables.specs.Tree.{IsPage}
+use Rattle.page_cache.specs.CacheTable.{place_of}
+use Rattle.paging.specs.declared.kernel.Core.{Core}
 use Rattle.paging.specs.Picture.{picture_of}
+use Rattle.page_ranges.proofs.Emptied.{row_parts}
+use Rattle.page_ranges.proofs.Forgotten.{row_forgot, others_forgot, tables_forgot, slots_forgot, none_left_forgot, files_forgot}
+use Rattle.page_ranges.specs.Steps.{KeepsBesideMemory}
 use Rattle.lifecycle.proofs.Ending.{spare_root, ended}
 use Rattle.lifecycle.proofs.endings.exit.Goals as goal
 
+pages_inside : (first pages page : ℕ) → first + pages ≤ 2 ^ 26 → in_row first pages page ≡ true → IsPage 2 page
+pages_inside first pages page row e = let parts = row_parts first pages page e in omega (arith, parts, row)
+
+same_places : {D E : Type 0} (a b : Core D E) → KeepsBesideMemory a b → (p : PageKey) → (picture_of b).place p ≡ (picture_of a).place p
+same_places a b rest p = ap (λ t. place_of t p) rest.cache
+
+pub forget_row-requires-clause-live : goal.forget_row-requires-clause-live
+forget_row-requires-clause-live g c = ap is_some (c.clear_row.ensures.row.root c.args.pid) ∙ c.requires.live
+
+pub forget_row-requires-clause-bare : goal.forget_row-requires-clause-bare
+forget_row-requires-clause-bare g c = c.clear_row.ensures.row.entries
+
 pub remove_process-requires-clause-live : goal.remove_process-requires-clause-live
-remove_process-requires-clause-live g c = ap is_some (c.clear_row.ensures.row.root c.args.pid) ∙ c.requires.live
+remove_process-requires-clause-live g c = ap is_some (c.forget_row.ensures.forgets.root c.args.pid ∙ c.clear_row.ensures.row.root c.args.pid) ∙ c.requires.live
 
 pub remove_process-requires-clause-spare : goal.remove_process-requires-clause-spare
 remove_process-requires-clause-spare g c r root =
-    spare_root (picture_of c.clear_row.new.core) c.args.pid r c.clear_row.ensures.fit root c.clear_row.ensures.none_left
+    let first = picture_of c.args.core.now in
+    let cleared = picture_of c.clear_row.new.core in
+    let old = picture_of c.forget_row.new.core in
+    let forgets = c.forget_row.ensures.forgets in
+    let place = same_places c.args.core.now c.clear_row.new.core c.clear_row.ensures.rest in
+    spare_root old c.args.pid r c.forget_row.ensures.fit root (none_left_forgot first cleared old c.args.pid 0 (2 ^ 26) c.clear_row.ensures.row forgets place c.clear_row.ensures.none_left)
 
 pub returns-clause-fit : goal.returns-clause-fit
 returns-clause-fit g c =
-    (ended (picture_of c.args.core.now) (picture_of c.clear_row.new.core) (picture_of c.remove_process.new.self) c.args.pid c.remove_process.ensures.exits.0
-    c.requires.fit c.clear_row.ensures.fit c.clear_row.ensures.row c.clear_row.ensures.others c.clear_row.ensures.tables c.clear_row.ensures.none_left
-    c.clear_row.ensures.slots c.remove_process.ensures.exits.1).fit
+    let first = picture_of c.args.core.now in
+    let cleared = picture_of c.clear_row.new.core in
+    let old = picture_of c.forget_row.new.core in
+    let forgets = c.forget_row.ensures.forgets in
+    let place = same_places c.args.core.now c.clear_row.new.core c.clear_row.ensures.rest in
+    (ended first old (picture_of c.remove_process.new.self) c.args.pid c.remove_process.ensures.exits.0
+    c.requires.fit c.forget_row.ensures.fit (row_forgot first cleared old c.args.pid 0 (2 ^ 26) c.clear_row.ensures.row forgets place (λ page e. pages_inside 0 (2 ^ 26) page (omega arith) e)) (others_forgot first cleared old c.args.pid 0 (2 ^ 26) c.clear_row.ensures.row forgets place c.clear_row.ensures.others)
+    (tables_forgot first cleared old c.args.pid 0 (2 ^ 26) c.clear_row.ensures.row forgets place c.clear_row.ensures.tables) (none_left_forgot first cleared old c.args.pid 0 (2 ^ 26) c.clear_row.ensures.row forgets place c.clear_row.ensures.none_left)
+    (slots_forgot first cleared old c.args.pid 0 (2 ^ 26) c.clear_row.ensures.row forgets place c.clear_row.ensures.slots) (files_forgot first cleared old c.args.pid 0 (2 ^ 26) c.clear_row.ensures.row forgets place c.clear_row.ensures.files) c.remove_process.ensures.exits.1).fit
 
 pub returns-clause-removed : goal.returns-clause-removed
 returns-clause-removed g c =
-    (ended (picture_of c.args.core.now) (picture_of c.clear_row.new.core) (picture_of c.remove_process.new.self) c.args.pid c.remove_process.ensures.exits.0
-    c.requires.fit c.clear_row.ensures.fit c.clear_row.ensures.row c.clear_row.ensures.others c.clear_row.ensures.tables c.clear_row.ensures.none_left
-    c.clear_row.ensures.slots c.remove_process.ensures.exits.1).removed
+    let first = picture_of c.args.core.now in
+    let cleared = picture_of c.clear_row.new.core in
+    let old = picture_of c.forget_row.new.core in
+    let forgets = c.forget_row.ensures.forgets in
+    let place = same_places c.args.core.now c.clear_row.new.core c.clear_row.ensures.rest in
+    (ended first old (picture_of c.remove_process.new.self) c.args.pid c.remove_process.ensures.exits.0
+    c.requires.fit c.forget_row.ensures.fit (row_forgot first cleared old c.args.pid 0 (2 ^ 26) c.clear_row.ensures.row forgets place (λ page e. pages_inside 0 (2 ^ 26) page (omega arith) e)) (others_forgot first cleared old c.args.pid 0 (2 ^ 26) c.clear_row.ensures.row forgets place c.clear_row.ensures.others)
+    (tables_forgot first cleared old c.args.pid 0 (2 ^ 26) c.clear_row.ensures.row forgets place c.clear_row.ensures.tables) (none_left_forgot first cleared old c.args.pid 0 (2 ^ 26) c.clear_row.ensures.row forgets place c.clear_row.ensures.none_left)
+    (slots_forgot first cleared old c.args.pid 0 (2 ^ 26) c.clear_row.ensures.row forgets place c.clear_row.ensures.slots) (files_forgot first cleared old c.args.pid 0 (2 ^ 26) c.clear_row.ensures.row forgets place c.clear_row.ensures.files) c.remove_process.ensures.exits.1).removed
 
 pub returns-clause-others : goal.returns-clause-others
 returns-clause-others g c =
-    (ended (picture_of c.args.core.now) (picture_of c.clear_row.new.core) (picture_of c.remove_process.new.self) c.args.pid c.remove_process.ensures.exits.0
-    c.requires.fit c.clear_row.ensures.fit c.clear_row.ensures.row c.clear_row.ensures.others c.clear_row.ensures.tables c.clear_row.ensures.none_left
-    c.clear_row.ensures.slots c.remove_process.ensures.exits.1).others
+    let first = picture_of c.args.core.now in
+    let cleared = picture_of c.clear_row.new.core in
+    let old = picture_of c.forget_row.new.core in
+    let forgets = c.forget_row.ensures.forgets in
+    let place = same_places c.args.core.now c.clear_row.new.core c.clear_row.ensures.rest in
+    (ended first old (picture_of c.remove_process.new.self) c.args.pid c.remove_process.ensures.exits.0
+    c.requires.fit c.forget_row.ensures.fit (row_forgot first cleared old c.args.pid 0 (2 ^ 26) c.clear_row.ensures.row forgets place (λ page e. pages_inside 0 (2 ^ 26) page (omega arith) e)) (others_forgot first cleared old c.args.pid 0 (2 ^ 26) c.clear_row.ensures.row forgets place c.clear_row.ensures.others)
+    (tables_forgot first cleared old c.args.pid 0 (2 ^ 26) c.clear_row.ensures.row forgets place c.clear_row.ensures.tables) (none_left_forgot first cleared old c.args.pid 0 (2 ^ 26) c.clear_row.ensures.row forgets place c.clear_row.ensures.none_left)
+    (slots_forgot first cleared old c.args.pid 0 (2 ^ 26) c.clear_row.ensures.row forgets place c.clear_row.ensures.slots) (files_forgot first cleared old c.args.pid 0 (2 ^ 26) c.clear_row.ensures.row forgets place c.clear_row.ensures.files) c.remove_process.ensures.exits.1).others
 
 pub returns-clause-tables : goal.returns-clause-tables
 returns-clause-tables g c =
-    (ended (picture_of c.args.core.now) (picture_of c.clear_row.new.core) (picture_of c.remove_process.new.self) c.args.pid c.remove_process.ensures.exits.0
-    c.requires.fit c.clear_row.ensures.fit c.clear_row.ensures.row c.clear_row.ensures.others c.clear_row.ensures.tables c.clear_row.ensures.none_left
-    c.clear_row.ensures.slots c.remove_process.ensures.exits.1).tables
+    let first = picture_of c.args.core.now in
+    let cleared = picture_of c.clear_row.new.core in
+    let old = picture_of c.forget_row.new.core in
+    let forgets = c.forget_row.ensures.forgets in
+    let place = same_places c.args.core.now c.clear_row.new.core c.clear_row.ensures.rest in
+    (ended first old (picture_of c.remove_process.new.self) c.args.pid c.remove_process.ensures.exits.0
+    c.requires.fit c.forget_row.ensures.fit (row_forgot first cleared old c.args.pid 0 (2 ^ 26) c.clear_row.ensures.row forgets place (λ page e. pages_inside 0 (2 ^ 26) page (omega arith) e)) (others_forgot first cleared old c.args.pid 0 (2 ^ 26) c.clear_row.ensures.row forgets place c.clear_row.ensures.others)
+    (tables_forgot first cleared old c.args.pid 0 (2 ^ 26) c.clear_row.ensures.row forgets place c.clear_row.ensures.tables) (none_left_forgot first cleared old c.args.pid 0 (2 ^ 26) c.clear_row.ensures.row forgets place c.clear_row.ensures.none_left)
+    (slots_forgot first cleared old c.args.pid 0 (2 ^ 26) c.clear_row.ensures.row forgets place c.clear_row.ensures.slots) (files_forgot first cleared old c.args.pid 0 (2 ^ 26) c.clear_row.ensures.row forgets place c.clear_row.ensures.files) c.remove_process.ensures.exits.1).tables
 
 pub returns-clause-slots : goal.returns-clause-slots
 returns-clause-slots g c =
-    (ended (picture_of c.args.core.now) (picture_of c.clear_row.new.core) (picture_of c.remove_process.new.self) c.args.pid c.remove_process.ensures.exits.0
-    c.requires.fit c.clear_row.ensures.fit c.clear_row.ensures.row c.clear_row.ensures.others c.clear_row.ensures.tables c.clear_row.ensures.none_left
-    c.clear_row.ensures.slots c.remove_process.ensures.exits.1).slots
+    let first = picture_of c.args.core.now in
+    let cleared = picture_of c.clear_row.new.core in
+    let old = picture_of c.forget_row.new.core in
+    let forgets = c.forget_row.ensures.forgets in
+    let place = same_places c.args.core.now c.clear_row.new.core c.clear_row.ensures.rest in
+    (ended first old (picture_of c.remove_process.new.self) c.args.pid c.remove_process.ensures.exits.0
+    c.requires.fit c.forget_row.ensures.fit (row_forgot first cleared old c.args.pid 0 (2 ^ 26) c.clear_row.ensures.row forgets place (λ page e. pages_inside 0 (2 ^ 26) page (omega arith) e)) (others_forgot first cleared old c.args.pid 0 (2 ^ 26) c.clear_row.ensures.row forgets place c.clear_row.ensures.others)
+    (tables_forgot first cleared old c.args.pid 0 (2 ^ 26) c.clear_row.ensures.row forgets place c.clear_row.ensures.tables) (none_left_forgot first cleared old c.args.pid 0 (2 ^ 26) c.clear_row.ensures.row forgets place c.clear_row.ensures.none_left)
+    (slots_forgot first cleared old c.args.pid 0 (2 ^ 26) c.clear_row.ensures.row forgets place c.clear_row.ensures.slots) (files_forgot first cleared old c.args.pid 0 (2 ^ 26) c.clear_row.ensures.row forgets place c.clear_row.ensures.files) c.remove_process.ensures.exits.1).slots
 
 pub returns-clause-copies : goal.returns-clause-copies
 returns-clause-copies g c =
-    (ended (picture_of c.args.core.now) (picture_of c.clear_row.new.core) (picture_of c.remove_process.new.self) c.args.pid c.remove_process.ensures.exits.0
-    c.requires.fit c.clear_row.ensures.fit c.clear_row.ensures.row c.clear_row.ensures.others c.clear_row.ensures.tables c.clear_row.ensures.none_left
-    c.clear_row.ensures.slots c.remove_process.ensures.exits.1).copies
+    let first = picture_of c.args.core.now in
+    let cleared = picture_of c.clear_row.new.core in
+    let old = picture_of c.forget_row.new.core in
+    let forgets = c.forget_row.ensures.forgets in
+    let place = same_places c.args.core.now c.clear_row.new.core c.clear_row.ensures.rest in
+    (ended first old (picture_of c.remove_process.new.self) c.args.pid c.remove_process.ensures.exits.0
+    c.requires.fit c.forget_row.ensures.fit (row_forgot first cleared old c.args.pid 0 (2 ^ 26) c.clear_row.ensures.row forgets place (λ page e. pages_inside 0 (2 ^ 26) page (omega arith) e)) (others_forgot first cleared old c.args.pid 0 (2 ^ 26) c.clear_row.ensures.row forgets place c.clear_row.ensures.others)
+    (tables_forgot first cleared old c.args.pid 0 (2 ^ 26) c.clear_row.ensures.row forgets place c.clear_row.ensures.tables) (none_left_forgot first cleared old c.args.pid 0 (2 ^ 26) c.clear_row.ensures.row forgets place c.clear_row.ensures.none_left)
+    (slots_forgot first cleared old c.args.pid 0 (2 ^ 26) c.clear_row.ensures.row forgets place c.clear_row.ensures.slots) (files_forgot first cleared old c.args.pid 0 (2 ^ 26) c.clear_row.ensures.row forgets place c.clear_row.ensures.files) c.remove_process.ensures.exits.1).copies
 
 pub returns-clause-files : goal.returns-clause-files
 returns-clause-files g c =
-    (ended (picture_of c.args.core.now) (picture_of c.clear_row.new.core) (picture_of c.remove_process.new.self) c.args.pid c.remove_process.ensures.exits.0
-    c.requires.fit c.clear_row.ensures.fit c.clear_row.ensures.row c.clear_row.ensures.others c.clear_row.ensures.tables c.clear_row.ensures.none_left
-    c.clear_row.ensures.slots c.remove_process.ensures.exits.1).files
+    let first = picture_of c.args.core.now in
+    let cleared = picture_of c.clear_row.new.core in
+    let old = picture_of c.forget_row.new.core in
+    let forgets = c.forget_row.ensures.forgets in
+    let place = same_places c.args.core.now c.clear_row.new.core c.clear_row.ensures.rest in
+    (ended first old (picture_of c.remove_process.new.self) c.args.pid c.remove_process.ensures.exits.0
+    c.requires.fit c.forget_row.ensures.fit (row_forgot first cleared old c.args.pid 0 (2 ^ 26) c.clear_row.ensures.row forgets place (λ page e. pages_inside 0 (2 ^ 26) page (omega arith) e)) (others_forgot first cleared old c.args.pid 0 (2 ^ 26) c.clear_row.ensures.row forgets place c.clear_row.ensures.others)
+    (tables_forgot first cleared old c.args.pid 0 (2 ^ 26) c.clear_row.ensures.row forgets place c.clear_row.ensures.tables) (none_left_forgot first cleared old c.args.pid 0 (2 ^ 26) c.clear_row.ensures.row forgets place c.clear_row.ensures.none_left)
+    (slots_forgot first cleared old c.args.pid 0 (2 ^ 26) c.clear_row.ensures.row forgets place c.clear_row.ensures.slots) (files_forgot first cleared old c.args.pid 0 (2 ^ 26) c.clear_row.ensures.row forgets place c.clear_row.ensures.files) c.remove_process.ensures.exits.1).files

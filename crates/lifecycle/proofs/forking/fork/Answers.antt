@@ -1,7 +1,7 @@
-use Rattle.std.proofs.Common.{◌≡◌, ◌≢◌, ℕ, [], None, refl, sym, ap, ◌∙◌, subst}
-use Rattle.std.specs.Prelude.{slice_index_or}
+use Rattle.std.proofs.Common.{◌≡◌, true, ◌≢◌, ℕ, [], None, refl, sym, ap, ◌∙◌, subst}
+use Rattle.std.specs.Prelude.{is_some, slice_index_or}
 use Rattle.std.proofs.lemmas.Bool.{false≢true}
-use Rattle.vm_types.specs.declared.file.FilePage.{FilePage}
+use Rattle.vm_types.specs.declared.object.PageKey.{PageKey}
 use Rattle.frames.specs.FrameTable.{frame_count, role_of}
 use Rattle.page_cache.specs.CacheTable.{place_of}
 use Rattle.regions.proofs.ResultLemmas.{on_err}
@@ -14,6 +14,7 @@ use Rattle.paging.proofs.Aging.{gives_then}
 use Rattle.mapping.proofs.Steps.{device_then}
 use Rattle.mapping.proofs.SwapSteps.{ready_released}
 use Rattle.lifecycle.specs.Changes.{IsShortToFork, StallsToFork}
+use Rattle.lifecycle.proofs.Unchanged.{parent_root, files_unchanged, places_unchanged}
 use Rattle.lifecycle.proofs.Keeping.{dead_root, live_same, files_then}
 use Rattle.lifecycle.proofs.Ending.{ready_ended}
 use Rattle.lifecycle.proofs.Shortage.{short_before}
@@ -65,7 +66,10 @@ returns-in-Err-clause-files g c =
     let ready =
     readied old spawned mapped mid c.args.parent c.args.child apart c.requires.dead unmapped first.ok first.bare first.files first.room c.map_alike.ensures.mapped
     (record { frames = ap frame_count rest.frames; slots = ap (λ s. (slots_of s).total) rest.swap }) done.moves.fit done.pages done.bare done.moves.room in
-    files_then old mid (picture_of c.exit.new.core) ready.files c.exit.ensures.files
+    let parent_lives : is_live mid c.args.parent ≡ true = ready.others_live c.args.parent apart ∙ c.requires.live in
+    files_then old mid (picture_of c.exit.new.core) ready.files
+    (files_unchanged mid (picture_of c.exit.new.core) c.args.parent c.args.child (parent_root mid c.args.parent parent_lives).0 apart (parent_root mid c.args.parent parent_lives).1 done.moves.fit c.exit.ensures.fit
+    (λ page. done.moves.spaces.at c.args.child page ∙ c.map_alike.ensures.mapped.same page ∙ sym (done.moves.spaces.at c.args.parent page)) c.exit.ensures.files)
 
 pub returns-in-Err-clause-short : goal.returns-in-Err-clause-short
 returns-in-Err-clause-short g c =
@@ -174,12 +178,16 @@ returns-in-Err-clause-stalls g c =
     let first = c.in_ok-spawn.ensures in
     let maps = c.map_alike.ensures.mapped in
     let frames = c.map_alike.ensures.rest.frames in
-    let places : (p : FilePage) → mapped.place p ≡ spawned.place p = λ p. ap (λ x. place_of x p) c.map_alike.ensures.rest.cache in
+    let places : (p : PageKey) → mapped.place p ≡ spawned.place p = λ p. ap (λ x. place_of x p) c.map_alike.ensures.rest.cache in
     let done = c.in-Err.ensures in
     let roots = done.moves.spaces.root in
     let gives = gives_mapped old spawned mapped mid c.args.parent c.args.child first.taken.0 first.gives first.taken.1 frames places maps roots done.tables in
+    let apart : c.args.parent ≢ c.args.child = λ is. false≢true (sym c.requires.dead ∙ ap (is_live old) (sym is) ∙ c.requires.live) in
+    let parent_lives : is_live mid c.args.parent ≡ true =
+    ap (λ o. is_some o) (roots c.args.parent) ∙ ap (λ o. is_some o) (maps.root c.args.parent) ∙ first.ok.others_live c.args.parent apart ∙ c.requires.live in
     stalls_later mid new c.args.child done.moves.fit c.exit.ensures.fit c.link_copies.new.core.sound c.exit.new.core.sound c.exit.ensures.tables c.exit.ensures.others
-    (λ page h. done.bare c.args.child page h (maps.bare page h)) (λ p. ap (λ x. place_of x p) c.exit.ensures.cache) c.exit.ensures.room old c.args.parent
+    (λ page h. done.bare c.args.child page h (maps.bare page h)) (places_unchanged mid (picture_of c.exit.new.core) c.args.parent c.args.child (parent_root mid c.args.parent parent_lives).0 apart (parent_root mid c.args.parent parent_lives).1 done.moves.fit c.exit.ensures.fit
+    (λ page. done.moves.spaces.at c.args.child page ∙ c.map_alike.ensures.mapped.same page ∙ sym (done.moves.spaces.at c.args.parent page)) c.exit.ensures.files) c.exit.ensures.room old c.args.parent
     (tables_mid old spawned mapped mid c.args.parent c.args.child first.taken.0 first.gives first.taken.1 frames places maps roots done.tables)
     done.tried.0 (gives_then old mapped mid done.tried.0 gives done.tried.1) done.full done.lacks
 
@@ -212,7 +220,7 @@ returns-clause-takes g c =
     let first = c.in_ok-spawn.ensures in
     let maps = c.map_alike.ensures.mapped in
     let frames = c.map_alike.ensures.rest.frames in
-    let places : (p : FilePage) → mapped.place p ≡ spawned.place p = λ p. ap (λ x. place_of x p) c.map_alike.ensures.rest.cache in
+    let places : (p : PageKey) → mapped.place p ≡ spawned.place p = λ p. ap (λ x. place_of x p) c.map_alike.ensures.rest.cache in
     let done = c.in_default.ensures in
     let roots = done.moves.spaces.root in
     let gives = gives_mapped old spawned mapped mid c.args.parent c.args.child first.taken.0 first.gives first.taken.1 frames places maps roots done.tables in

@@ -1,4 +1,4 @@
-use Rattle.std.proofs.Common.{◌≡◌, ℕ, ◌<◌, ◌%◌, ◌/◌, sym, ap, ◌∙◌, subst, arith}
+use Rattle.std.proofs.Common.{◌≡◌, ℕ, ◌%◌, ◌/◌, sym, subst, arith}
 use Rattle.frames.specs.FrameTable.{FrameTable}
 use Rattle.page_tables.specs.Tree.{IsForest, IsPage, IsRoot}
 use Rattle.page_tables.specs.Places.{IsTableOf}

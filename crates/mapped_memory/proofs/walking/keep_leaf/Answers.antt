@@ -1,5 +1,4 @@
-use Rattle.std.proofs.Common.{◌≡◌, ℕ, Ok, sym, ap, ◌∙◌}
-use Rattle.vm_types.specs.declared.number.Phys.{Phys}
+use Rattle.std.proofs.Common.{ℕ, Ok, sym, ap, ◌∙◌}
 use Rattle.walk_buffer.specs.Lines.{place_in}
 use Rattle.walk_buffer.proofs.Looks.{walks}
 use Rattle.mapped_memory.proofs.Leaves.{is_line, of_entry, valid_of}

@@ -13,7 +13,7 @@ use Rattle.paging.specs.Steps.{SameBeside}
 use Rattle.paging.proofs.Granting.{past_end-same}
 use Rattle.mapping.specs.Changes.{IsThatPage}
 use Rattle.mapping.proofs.Entering.{beside_around}
-use Rattle.mapping.proofs.OwnSteps.{shown_used, shown_datum, lives_found, whole_found, at_found, spaces_set, tables_set, room_set, others_set, bare_set, slotted_set, files_set, bytes_set, own_set, entry_set, count_set, fit_first, behind_first, role_shared, fit_shared, spaces_shared, tables_shared, room_shared, others_shared, bare_shared, slotted_shared, files_shared, bytes_shared, own_shared, entry_shared, count_shared}
+use Rattle.mapping.proofs.OwnSteps.{behind_freed, shown_used, shown_datum, lives_found, whole_found, at_found, spaces_set, tables_set, room_set, others_set, bare_set, slotted_set, files_set, bytes_set, own_set, entry_set, count_set, fit_first, behind_first, role_shared, fit_shared, spaces_shared, tables_shared, room_shared, others_shared, bare_shared, slotted_shared, files_shared, bytes_shared, own_shared, entry_shared, count_shared}
 use Rattle.mapping.proofs.Forms.{used_inside}
 use Rattle.mapping.proofs.Settling.{forest_mid, root_mid, whole_mid}
 use Rattle.mapping.proofs.Slotted.{slotted_frees}
@@ -427,3 +427,10 @@ returns-in_err-own-clause-bare g c = λ q p h other none. c.in_err-own.ensures.f
 pub returns-in_err-own-clause-slotted : goal.returns-in_err-own-clause-slotted
 returns-in_err-own-clause-slotted g c =
     slotted_frees (λ p. ⊥) (IsThatPage c.args.pid c.args.page) (picture_of c.args.core.now) (picture_of c.take_copy.new.core) _ c.in_err-own.ensures.frees
+
+pub returns-in_err-own-clause-behind : goal.returns-in_err-own-clause-behind
+returns-in_err-own-clause-behind g c = λ x not_own behind.
+    let old : Picture = picture_of c.args.core.now in
+    behind_freed old (picture_of c.take_copy.new.core) c.args.attr.backing c.args.shown.0 c.in_err-own.ensures.frees
+    (shown_datum old c.args.pid c.args.page c.args.shown.0 c.args.attr c.args.core.now.sound c.requires.linked c.requires.attr c.requires.resident c.requires.own c.requires.common)
+    (c.requires.common not_own) x behind

@@ -1,66 +1,15 @@
-use Rattle.std.proofs.Common.{◌≡◌, false, inl, inr, refl, sym, ◌∙◌, subst, arith}
+use Rattle.std.proofs.Common.{◌≡◌, refl, sym, ◌∙◌, subst, arith}
 use Rattle.file_store.specs.declared.store.FileStore.{FileStore}
 use Rattle.file_store.specs.Store.{IsReadyStore}
-use Rattle.std.proofs.lemmas.Bool.{cases_Bool}
 use Rattle.page_cache.specs.declared.place.Place.TheVariants.{Home, Frame, Slot}
-use Rattle.paging.specs.Picture.{Picture, picture_of}
-use Rattle.paging.specs.Parts.{IsFit}
-use Rattle.vm_types.specs.declared.file.FilePage.{FilePage}
-use Rattle.mapping.proofs.BroughtIn.{spaces_of, tables_of, room_of, seen_of, bare_of, slotted_of, placed_of, reads_none, brings_none, brings_home_of, brings_slot_of, causes_of, never_store, err_always}
+use Rattle.paging.specs.Picture.{picture_of}
+use Rattle.mapping.proofs.BroughtIn.{spaces_of, tables_of, room_of, seen_of, bare_of, slotted_of, placed_of, reads_none, brings_none, brings_slot_of, causes_of, never_store}
 use Rattle.mapping.proofs.Slotted.{slotted_same}
 use Rattle.mapping.proofs.Steps.{device_none}
 use Rattle.mapping.proofs.page_in.cached.Goals as goal
 
--- a page at home isn't touched
-untouched_home : (c : Picture) (p : FilePage) → IsFit c → c.place p ≡ Home → c.touched p ≡ false
-untouched_home c p fit home = elim (cases_Bool (c.touched p)) [
-  | inl touched ↦ absurd (fit.dirty.held p touched home)
-  | inr clean ↦ clean
-]
-
-pub returns-in-Home-clause-proceeds : goal.returns-in-Home-clause-proceeds
-returns-in-Home-clause-proceeds g c =
-    let old = picture_of c.args.core.now in
-    let new = picture_of c.bring_in.new.self in
-    let done = c.bring_in.ensures in
-    record {
-      fit = done.fit;
-      ready = done.store;
-      swap = done.swap;
-      spaces = spaces_of old new c.args.page c.bring_in.result done.brought done.frees;
-      tables = tables_of old new c.args.page c.bring_in.result done.brought done.frees;
-      room = room_of old new c.args.page c.bring_in.result done.brought done.frees;
-      reads = done.reads;
-      device = done.device;
-    }
-
-pub returns-in-Home-clause-brings : goal.returns-in-Home-clause-brings
-returns-in-Home-clause-brings g c = λ kept.
-    let old = picture_of c.args.core.now in
-    let done = c.bring_in.ensures in
-    brings_home_of g.D.SectorDisk c.args.core.now.store.disk c.bring_in.new.self.store.disk old (picture_of c.bring_in.new.self) c.args.page c.bring_in.result done.brought done.frees
-    (untouched_home old c.args.page c.requires.fit (sym c.place.ensures ∙ c.in-Home.is)) done.read
-
-pub returns-in-Home-clause-keeps : goal.returns-in-Home-clause-keeps
-returns-in-Home-clause-keeps g c = seen_of (picture_of c.args.core.now) (picture_of c.bring_in.new.self) c.args.page c.bring_in.result c.bring_in.ensures.brought c.bring_in.ensures.frees
-
-pub returns-in-Home-clause-bare : goal.returns-in-Home-clause-bare
-returns-in-Home-clause-bare g c = bare_of (picture_of c.args.core.now) (picture_of c.bring_in.new.self) c.args.page c.bring_in.result c.bring_in.ensures.brought c.bring_in.ensures.frees
-
-pub returns-in-Home-clause-slotted : goal.returns-in-Home-clause-slotted
-returns-in-Home-clause-slotted g c = slotted_of (picture_of c.args.core.now) (picture_of c.bring_in.new.self) c.args.page c.bring_in.result c.bring_in.ensures.brought c.bring_in.ensures.frees
-
-pub returns-in-Home-clause-placed : goal.returns-in-Home-clause-placed
-returns-in-Home-clause-placed g c = placed_of (picture_of c.args.core.now) (picture_of c.bring_in.new.self) c.args.page c.bring_in.result c.bring_in.ensures.brought
-
 pub returns-in-Home-clause-idle : goal.returns-in-Home-clause-idle
 returns-in-Home-clause-idle g c = λ n at. (let bad : Home ≡ Frame n = sym (sym c.place.ensures ∙ c.in-Home.is) ∙ at in (cc))
-
-pub returns-in-Home-clause-home : goal.returns-in-Home-clause-home
-returns-in-Home-clause-home g c = err_always _ c.bring_in.result (λ s is. sym c.place.ensures ∙ c.in-Home.is)
-
-pub returns-in-Home-clause-read : goal.returns-in-Home-clause-read
-returns-in-Home-clause-read g c = inr (sym c.place.ensures ∙ c.in-Home.is)
 
 pub returns-in-Slot-clause-proceeds : goal.returns-in-Slot-clause-proceeds
 returns-in-Slot-clause-proceeds g c =

@@ -1,24 +1,25 @@
 use Rattle.std.proofs.Common.{ℕ, ◌≡◌, ◌+◌, ◌-◌, refl, subst, arith}
 use Rattle.regions.specs.RunList.{attr_at}
 use Rattle.page_cache.specs.CacheTable.{is_touched}
-use Rattle.msync.specs.Choice.{is_chosen, Overflows, Lists}
+use Rattle.msync.specs.Choice.{of_files, is_chosen, Overflows, Lists}
 use Rattle.msync.proofs.Appending.{listed, lists_none, over_none}
 use Rattle.msync.proofs.choosing.choose.Goals as goal
 
 pub returns-in-Ok : goal.returns-in-Ok
 returns-in-Ok c =
-    let touched = is_touched c.args.cache.now in
+    let touched = of_files (is_touched c.args.cache.now) in
     let map = attr_at c.args.regions.now in
     let first = c.args.first in
     let count : (first + c.args.count) - first ≡ c.args.count = omega arith in (
       omega (arith, c.in-Ok.count-test.1),
+      c.in-Ok.ensures.ok.few,
       subst (λ (n : ℕ). Lists (is_chosen touched map first n) c.choose_between.new.list c.in-Ok.count) count
           (listed (is_chosen touched map first ((first + c.args.count) - first)) _ c.choose_between.new.list c.in-Ok.count c.in-Ok.ensures.ok),
     )
 
 pub returns-in-Err : goal.returns-in-Err
 returns-in-Err c =
-    let touched = is_touched c.args.cache.now in
+    let touched = of_files (is_touched c.args.cache.now) in
     let map = attr_at c.args.regions.now in
     let first = c.args.first in
     let count : (first + c.args.count) - first ≡ c.args.count = omega arith in (
@@ -29,7 +30,7 @@ returns-in-Err c =
 
 pub returns-in-Ok-eq0 : goal.returns-in-Ok-eq0
 returns-in-Ok-eq0 c =
-    let touched = is_touched c.args.cache.now in
+    let touched = of_files (is_touched c.args.cache.now) in
     let map = attr_at c.args.regions.now in
     let first = c.args.first in
     let count : (first + c.args.count) - first ≡ c.args.count = omega arith in

@@ -1,7 +1,7 @@
 use Rattle.std.proofs.Common.{ℕ, ◌≡◌, ◌-◌, arith, subst}
 use Rattle.regions.specs.RunList.{attr_at}
 use Rattle.page_cache.specs.CacheTable.{is_touched}
-use Rattle.msync.specs.Choice.{is_chosen, is_taken_behind, Appends, Overflows}
+use Rattle.msync.specs.Choice.{of_files, is_chosen, is_taken_behind, Appends, Overflows}
 use Rattle.msync.proofs.Appending.{on_err}
 use Rattle.msync.proofs.Walking.{walk_start, walk_on, walk_over, walk_end}
 use Rattle.msync.proofs.choosing.choose_between.Goals as goal
@@ -10,12 +10,12 @@ pub loop-page-init : goal.loop-page-init
 loop-page-init c = record {
   from = omega arith;
   to = c.requires.order;
-  chosen = walk_start (is_touched c.args.cache.now) (attr_at c.args.regions.now) c.args.first c.args.list.now;
+  chosen = walk_start (of_files (is_touched c.args.cache.now)) (attr_at c.args.regions.now) c.args.first c.args.list.now;
 }
 
 pub loop-page-preserved : goal.loop-page-preserved
 loop-page-preserved c =
-    let touched = is_touched c.args.cache.now in
+    let touched = of_files (is_touched c.args.cache.now) in
     let map = attr_at c.args.regions.now in
     let run = c.in-Some.run' in
     let next = c.in-Some.ensures.some in
@@ -31,14 +31,14 @@ loop-page-preserved c =
 
 pub returns-in_default-clause-ok : goal.returns-in_default-clause-ok
 returns-in_default-clause-ok c =
-    let touched = is_touched c.args.cache.now in
+    let touched = of_files (is_touched c.args.cache.now) in
     let map = attr_at c.args.regions.now in
     walk_end touched map c.args.first c.loop-page.page c.args.end c.args.list.now c.loop-page.list c.loop-page.count
     c.in_default.ensures.none c.loop-page.invariant.to c.loop-page.invariant.chosen
 
 pub returns-in_err-count-clause-too_many : goal.returns-in_err-count-clause-too_many
 returns-in_err-count-clause-too_many c =
-    let touched = is_touched c.args.cache.now in
+    let touched = of_files (is_touched c.args.cache.now) in
     let map = attr_at c.args.regions.now in
     let run = c.in-Some.run' in
     let next = c.in-Some.ensures.some in
@@ -51,7 +51,7 @@ returns-in_err-count-clause-too_many c =
 
 pub returns-clause-ok : goal.returns-clause-ok
 returns-clause-ok c =
-    let touched = is_touched c.args.cache.now in
+    let touched = of_files (is_touched c.args.cache.now) in
     let map = attr_at c.args.regions.now in
     let e : c.loop-page.page ≡ c.args.end = omega (arith, c.loop-page.invariant.to) in
     subst (λ (n : ℕ). Appends (is_chosen touched map c.args.first (n - c.args.first)) c.args.list.now c.loop-page.list 0 c.loop-page.count) e c.loop-page.invariant.chosen

@@ -1,4 +1,4 @@
-use Rattle.std.proofs.Common.{◌≡◌, ℕ, ◌<◌, ◌/◌, ◌∙◌, true, false, [], length, ap, sym, subst, refl, arith}
+use Rattle.std.proofs.Common.{◌≡◌, ℕ, ◌/◌, ◌∙◌, true, false, ap, sym, subst, refl, arith}
 use Rattle.vm_types.specs.declared.command.MsyncMode.{MsyncMode}
 use Rattle.vm_types.specs.declared.command.MsyncMode.TheVariants.{Async}
 use Rattle.vm_types.specs.Checks.{page_count}
@@ -6,7 +6,7 @@ use Rattle.vm_types.specs.Rows.{is_covered}
 use Rattle.regions.specs.RunList.{attr_at}
 use Rattle.paging.specs.Picture.{picture_of, is_live}
 use Rattle.paging.proofs.Granting.{user_map-same}
-use Rattle.msync.specs.Choice.{is_chosen, IsChoice, RulesSame}
+use Rattle.msync.specs.Choice.{of_files, is_chosen, IsChoice, RulesSame}
 use Rattle.msync.proofs.Rulings.{the_process, ruled_missing, ruled_row, ruled_sync, listed_of, taken_of, touched_within}
 use Rattle.msync.proofs.choosing.rule.Goals as goal
 
@@ -22,7 +22,7 @@ returns-then-not-covers-clause-same g c = λ s shows.
     let count : c.div_ceil-count.result ≡ page_count a.len = omega (arith, c.div_ceil-count.ensures) in
     let hole : is_covered map (a.addr / 4096) (page_count a.len) ≡ false =
     ap (is_covered map (a.addr / 4096)) (sym count) ∙ sym c.covers.ensures ∙ c.if-not-covers.true in
-    ruled_missing (picture_of core).touched map s a.pid p a.addr a.len a.mode (omega arith) c.if-len-eq0.false hole
+    ruled_missing (of_files (picture_of core).touched) map s a.pid p a.addr a.len a.mode (omega arith) c.if-len-eq0.false hole
 
 pub choose-requires-clause-user : goal.choose-requires-clause-user
 choose-requires-clause-user g c =
@@ -45,7 +45,7 @@ returns-in-Async-clause-same g c = λ s shows.
     let count : c.div_ceil-count.result ≡ page_count a.len = omega (arith, c.div_ceil-count.ensures) in
     let covered : is_covered map (a.addr / 4096) (page_count a.len) ≡ true =
     ap (is_covered map (a.addr / 4096)) (sym count) ∙ sym c.covers.ensures ∙ c.if-not-covers.false in
-    rw c.in-Async.is (ruled_row (picture_of core).touched map s a.pid p a.addr a.len Async (omega arith) c.if-len-eq0.false covered)
+    rw c.in-Async.is (ruled_row (of_files (picture_of core).touched) map s a.pid p a.addr a.len Async (omega arith) c.if-len-eq0.false covered)
 
 pub returns-in-Sync-clause-same : goal.returns-in-Sync-clause-same
 returns-in-Sync-clause-same g c = λ s shows.
@@ -59,14 +59,14 @@ returns-in-Sync-clause-same g c = λ s shows.
     let count : c.div_ceil-count.result ≡ page_count a.len = omega (arith, c.div_ceil-count.ensures) in
     let covered : is_covered map (a.addr / 4096) (page_count a.len) ≡ true =
     ap (is_covered map (a.addr / 4096)) (sym count) ∙ sym c.covers.ensures ∙ c.if-not-covers.false in
-    let choice = subst (λ (n : ℕ). IsChoice (is_chosen (picture_of core).touched map (a.addr / 4096) n) c.choose.result) count c.choose.ensures in
-    subst (λ (x : MsyncMode). RulesSame s a.pid a.addr a.len x c.choose.result) (sym c.in-Sync.is)
-    (ruled_sync (picture_of core).touched map s a.pid p a.addr a.len c.choose.result (touched_within (picture_of core) core.store.directory c.requires.fit (λ f. refl))
+    let choice = subst (λ (n : ℕ). IsChoice (is_chosen (of_files (picture_of core).touched) map (a.addr / 4096) n) c.choose.new.list c.choose.result) count c.choose.ensures in
+    subst (λ (x : MsyncMode). RulesSame s a.pid a.addr a.len x c.choose.new.list c.choose.result) (sym c.in-Sync.is)
+    (ruled_sync (of_files (picture_of core).touched) map s a.pid p a.addr a.len c.choose.new.list c.choose.result (touched_within (picture_of core) core.store.directory c.requires.fit (λ f. refl))
     (omega arith) c.if-len-eq0.false covered choice)
 
 pub returns-in-Sync-clause-listed : goal.returns-in-Sync-clause-listed
 returns-in-Sync-clause-listed g c =
-    listed_of (picture_of c.args.core.now) (attr_at c.regions-regions.result.now) (c.args.addr / 4096) c.div_ceil-count.result c.choose.result c.choose.ensures
+    listed_of (picture_of c.args.core.now) (attr_at c.regions-regions.result.now) (c.args.addr / 4096) c.div_ceil-count.result c.choose.new.list c.choose.result c.choose.array_long c.choose.ensures
 
 pub returns-in-Sync-clause-taken : goal.returns-in-Sync-clause-taken
 returns-in-Sync-clause-taken g c =
@@ -76,5 +76,5 @@ returns-in-Sync-clause-taken g c =
     let found = c.in-Some.ensures.found in
     let at : (page : ℕ) → (picture_of core).at a.pid page ≡ map page = λ page. ap (λ pid. (picture_of core).at pid page) (sym found.0) ∙ sym (c.regions-regions.ensures page) in
     let count : c.div_ceil-count.result ≡ page_count a.len = omega (arith, c.div_ceil-count.ensures) in
-    taken_of (picture_of core) map a.pid a.addr a.len c.choose.result at
-    (subst (λ (n : ℕ). IsChoice (is_chosen (picture_of core).touched map (a.addr / 4096) n) c.choose.result) count c.choose.ensures)
+    taken_of (picture_of core) map a.pid a.addr a.len c.choose.new.list c.choose.result at
+    (subst (λ (n : ℕ). IsChoice (is_chosen (of_files (picture_of core).touched) map (a.addr / 4096) n) c.choose.new.list c.choose.result) count c.choose.ensures)

@@ -1,4 +1,4 @@
-use Rattle.std.proofs.Common.{◌≡◌, ◌⊎◌, inl, inr, ℕ, length, take, refl, sym, ◌∙◌, subst}
+use Rattle.std.proofs.Common.{inl, inr, length, take, refl, sym, ◌∙◌, subst}
 use Rattle.disk_model.specs.Moments.{LeavesNow}
 use Rattle.file_store.specs.declared.store.FileStore.{FileStore}
 use Rattle.file_store.specs.Standing.{StandsFor}
@@ -9,14 +9,14 @@ use Rattle.sync_journal.specs.declared.faults.CommitFault.TheVariants.{Source}
 use Rattle.vm_types.specs.Msync.{committed}
 use Rattle.vm_types.specs.declared.refusal.Stall.TheVariants.{SwapDevice}
 use Rattle.paging.specs.Picture.{picture_of, entry}
-use Rattle.msync.specs.Choice.{IsAway}
+use Rattle.msync.specs.Choice.{chosen_of, IsAway}
 use Rattle.msync.specs.Spots.{HasSlot}
-use Rattle.msync.proofs.Committing.{are_pages, are_spots, front_lists, changes, synced_shows, entries_synced, places_synced, away_of, err_is, device_failed, source_failed, fit_store, spots_store, shows_store, settles_store, commit_done, commit_failed, commit_unread, StoreCommits}
+use Rattle.msync.proofs.Committing.{fits, are_pages, are_spots, front_lists, changes, synced_shows, entries_synced, places_synced, away_of, err_is, device_failed, source_failed, fit_store, spots_store, shows_store, settles_store, commit_done, commit_failed, commit_unread, StoreCommits}
 use Rattle.msync.proofs.SettledPages.{ready_shared}
 use Rattle.msync.proofs.msyncs.commit.Goals as goal
 
 pub commit-requires-clause-pages : goal.commit-requires-clause-pages
-commit-requires-clause-pages g c = are_pages (picture_of c.args.core.now) c.args.chosen.now c.requires.sound.fit c.requires.listed
+commit-requires-clause-pages g c = are_pages (picture_of c.args.core.now) (chosen_of c.args.list.now c.args.count) c.requires.sound.fit c.requires.listed
 
 pub settle-requires-clause-fit : goal.settle-requires-clause-fit
 settle-requires-clause-fit g c =
@@ -28,10 +28,10 @@ settle-requires-clause-fit g c =
 pub settle-requires-clause-spots : goal.settle-requires-clause-spots
 settle-requires-clause-spots g c =
     let old = c.args.core.now in
-    let ch = c.args.chosen.now in
+    let ch = chosen_of c.args.list.now c.args.count in
     let front = take ch.count ch.list in
-    let list = take (length front) c.spots_of-spots.result in
-    let spots = c.spots_of-spots.ensures in
+    let list = take (length front) c.fill_spots.new.spots in
+    let spots = c.fill_spots.ensures in
     let reads = c.in-Ok.ensures.asks.follows.2 in
     let source = c.commit.new.source.swap.now in
     spots_store (picture_of old) (slots_of old.swap) (slots_of source) old.store.directory c.commit.new.self.directory list reads.slots c.in-Ok.ensures.files
@@ -40,14 +40,14 @@ settle-requires-clause-spots g c =
 pub returns-in-Ok-clause-commits : goal.returns-in-Ok-clause-commits
 returns-in-Ok-clause-commits g c = λ s after pid addr len mode shows takes same.
     let old = c.args.core.now in
-    let ch = c.args.chosen.now in
+    let ch = chosen_of c.args.list.now c.args.count in
     let front = take ch.count ch.list in
-    let list = take (length front) c.spots_of-spots.result in
-    let spots = c.spots_of-spots.ensures in
+    let list = take (length front) c.fill_spots.new.spots in
+    let spots = c.fill_spots.ensures in
     let reads = c.in-Ok.ensures.asks.follows.2 in
     let source = c.commit.new.source.swap.now in
     let taken = committed s pid same.first same.count s.durable in
-    let lists = front_lists s pid same.first same.count ch same.lists in
+    let lists = front_lists s pid same.first same.count ch (fits (picture_of old) ch c.requires.listed) same.lists in
     let change = changes (picture_of old) s pid same.first same.count front list c.requires.sound.fit shows.pages spots lists s.durable in
     let new = c.settle.new.core in
     let beside = c.settle.ensures.beside in
@@ -57,7 +57,7 @@ returns-in-Ok-clause-commits g c = λ s after pid addr len mode shows takes same
     let M : Type 0 = IsAway (picture_of old) ch → g.E.SectorDisk.keeps_model new.swap.pages.disk in
     let H : Swap_pages g.row.E.Denot → Type 0 = λ p. g.E.SectorDisk.keeps_model p.disk in
     let model : M → HasSlot c.commit.new.source.spots.now → g.E.SectorDisk.keeps_model source.pages.disk =
-    λ m has. subst H beside.pages (m (away_of (picture_of old) ch list spots (subst (λ l. HasSlot l) c.in-Ok.ensures.asks.follows.1 has))) in
+    λ m has. subst H beside.pages (m (away_of (picture_of old) ch list (fits (picture_of old) ch c.requires.listed) spots (subst (λ l. HasSlot l) c.in-Ok.ensures.asks.follows.1 has))) in
     let commits_to : StoreCommits g.D.SectorDisk M n s.files s.durable taken old.store c.commit.new.self = record {
       directory = c.in-Ok.ensures.files;
       size = c.in-Ok.ensures.size;
@@ -81,27 +81,27 @@ returns-in-Ok-clause-commits g c = λ s after pid addr len mode shows takes same
 pub returns-in-Ok-clause-away : goal.returns-in-Ok-clause-away
 returns-in-Ok-clause-away g c =
     let old = c.args.core.now in
-    let ch = c.args.chosen.now in
+    let ch = chosen_of c.args.list.now c.args.count in
     let front = take ch.count ch.list in
-    let list = take (length front) c.spots_of-spots.result in
-    let spots = c.spots_of-spots.ensures in
+    let list = take (length front) c.fill_spots.new.spots in
+    let spots = c.fill_spots.ensures in
     let reads = c.in-Ok.ensures.asks.follows.2 in
     let source = c.commit.new.source.swap.now in
     elim c.settle.ensures.swap [
       | inl same ↦ elim reads.only [
         | inl was ↦ inl (same ∙ was)
-        | inr has ↦ inr (away_of (picture_of old) ch list spots has)
+        | inr has ↦ inr (away_of (picture_of old) ch list (fits (picture_of old) ch c.requires.listed) spots has)
       ]
-      | inr has ↦ inr (away_of (picture_of old) ch list spots has)
+      | inr has ↦ inr (away_of (picture_of old) ch list (fits (picture_of old) ch c.requires.listed) spots has)
     ]
 
 pub returns-in-Ok-clause-entries : goal.returns-in-Ok-clause-entries
 returns-in-Ok-clause-entries g c =
     let old = c.args.core.now in
-    let ch = c.args.chosen.now in
+    let ch = chosen_of c.args.list.now c.args.count in
     let front = take ch.count ch.list in
-    let list = take (length front) c.spots_of-spots.result in
-    let spots = c.spots_of-spots.ensures in
+    let list = take (length front) c.fill_spots.new.spots in
+    let spots = c.fill_spots.ensures in
     let reads = c.in-Ok.ensures.asks.follows.2 in
     let source = c.commit.new.source.swap.now in
     entries_synced (picture_of old) (picture_of c.settle.new.core) ch list c.requires.sound.fit c.requires.listed spots
@@ -111,10 +111,10 @@ returns-in-Ok-clause-entries g c =
 pub returns-in-Ok-clause-places : goal.returns-in-Ok-clause-places
 returns-in-Ok-clause-places g c =
     let old = c.args.core.now in
-    let ch = c.args.chosen.now in
+    let ch = chosen_of c.args.list.now c.args.count in
     let front = take ch.count ch.list in
-    let list = take (length front) c.spots_of-spots.result in
-    let spots = c.spots_of-spots.ensures in
+    let list = take (length front) c.fill_spots.new.spots in
+    let spots = c.fill_spots.ensures in
     let reads = c.in-Ok.ensures.asks.follows.2 in
     let source = c.commit.new.source.swap.now in
     places_synced (picture_of old) (picture_of c.settle.new.core) ch list c.requires.sound.fit c.requires.listed spots
@@ -131,15 +131,15 @@ returns-in-Err-Device-clause-fit g c =
 pub returns-in-Err-Device-clause-away : goal.returns-in-Err-Device-clause-away
 returns-in-Err-Device-clause-away g c =
     let old = c.args.core.now in
-    let ch = c.args.chosen.now in
+    let ch = chosen_of c.args.list.now c.args.count in
     let front = take ch.count ch.list in
-    let list = take (length front) c.spots_of-spots.result in
-    let spots = c.spots_of-spots.ensures in
+    let list = take (length front) c.fill_spots.new.spots in
+    let spots = c.fill_spots.ensures in
     let reads = c.in-Err-Device.ensures.asks.follows.2 in
     let source = c.commit.new.source.swap.now in
     elim reads.only [
       | inl same ↦ inl same
-      | inr has ↦ inr (away_of (picture_of old) ch list spots has)
+      | inr has ↦ inr (away_of (picture_of old) ch list (fits (picture_of old) ch c.requires.listed) spots has)
     ]
 
 pub returns-in-Err-Device-clause-entries : goal.returns-in-Err-Device-clause-entries
@@ -149,18 +149,18 @@ returns-in-Err-Device-clause-entries g c = λ pid page h. inl refl
 pub returns-in-Err-Device-clause-commits : goal.returns-in-Err-Device-clause-commits
 returns-in-Err-Device-clause-commits g c = λ s after pid addr len mode shows takes same.
     let old = c.args.core.now in
-    let ch = c.args.chosen.now in
+    let ch = chosen_of c.args.list.now c.args.count in
     let front = take ch.count ch.list in
-    let list = take (length front) c.spots_of-spots.result in
-    let spots = c.spots_of-spots.ensures in
+    let list = take (length front) c.fill_spots.new.spots in
+    let spots = c.fill_spots.ensures in
     let reads = c.in-Err-Device.ensures.asks.follows.2 in
     let source = c.commit.new.source.swap.now in
     let taken = committed s pid same.first same.count s.durable in
-    let lists = front_lists s pid same.first same.count ch same.lists in
+    let lists = front_lists s pid same.first same.count ch (fits (picture_of old) ch c.requires.listed) same.lists in
     let change = changes (picture_of old) s pid same.first same.count front list c.requires.sound.fit shows.pages spots lists s.durable in
     let M : Type 0 = IsAway (picture_of old) ch → g.E.SectorDisk.keeps_model source.pages.disk in
     let model : M → HasSlot c.commit.new.source.spots.now → g.E.SectorDisk.keeps_model source.pages.disk =
-    λ m has. m (away_of (picture_of old) ch list spots (subst (λ l. HasSlot l) c.in-Err-Device.ensures.asks.follows.1 has)) in
+    λ m has. m (away_of (picture_of old) ch list (fits (picture_of old) ch c.requires.listed) spots (subst (λ l. HasSlot l) c.in-Err-Device.ensures.asks.follows.1 has)) in
     commit_failed g.D.SectorDisk g.E.SectorDisk M old _ s after pid addr len mode ch shows same takes
     (record { directory = c.in-Err-Device.ensures.files; slots = reads.slots; frames = refl; cache = refl; roots = refl; regions = refl; page_of = refl; clock = refl; refused = refl })
     (record {
@@ -181,15 +181,15 @@ returns-in-Err-Source-clause-fit g c =
 pub returns-in-Err-Source-clause-away : goal.returns-in-Err-Source-clause-away
 returns-in-Err-Source-clause-away g c =
     let old = c.args.core.now in
-    let ch = c.args.chosen.now in
+    let ch = chosen_of c.args.list.now c.args.count in
     let front = take ch.count ch.list in
-    let list = take (length front) c.spots_of-spots.result in
-    let spots = c.spots_of-spots.ensures in
+    let list = take (length front) c.fill_spots.new.spots in
+    let spots = c.fill_spots.ensures in
     let reads = c.in-Err-Source.ensures.asks.follows.2 in
     let source = c.commit.new.source.swap.now in
     elim reads.only [
       | inl same ↦ inl same
-      | inr has ↦ inr (away_of (picture_of old) ch list spots has)
+      | inr has ↦ inr (away_of (picture_of old) ch list (fits (picture_of old) ch c.requires.listed) spots has)
     ]
 
 pub returns-in-Err-Source-clause-entries : goal.returns-in-Err-Source-clause-entries
@@ -199,18 +199,18 @@ returns-in-Err-Source-clause-entries g c = λ pid page h. inl refl
 pub returns-in-Err-Source-clause-commits : goal.returns-in-Err-Source-clause-commits
 returns-in-Err-Source-clause-commits g c = λ s after pid addr len mode shows takes same.
     let old = c.args.core.now in
-    let ch = c.args.chosen.now in
+    let ch = chosen_of c.args.list.now c.args.count in
     let front = take ch.count ch.list in
-    let list = take (length front) c.spots_of-spots.result in
-    let spots = c.spots_of-spots.ensures in
+    let list = take (length front) c.fill_spots.new.spots in
+    let spots = c.fill_spots.ensures in
     let reads = c.in-Err-Source.ensures.asks.follows.2 in
     let source = c.commit.new.source.swap.now in
     let taken = committed s pid same.first same.count s.durable in
-    let lists = front_lists s pid same.first same.count ch same.lists in
+    let lists = front_lists s pid same.first same.count ch (fits (picture_of old) ch c.requires.listed) same.lists in
     let change = changes (picture_of old) s pid same.first same.count front list c.requires.sound.fit shows.pages spots lists s.durable in
     let M : Type 0 = IsAway (picture_of old) ch → g.E.SectorDisk.keeps_model source.pages.disk in
     let model : M → HasSlot c.commit.new.source.spots.now → g.E.SectorDisk.keeps_model source.pages.disk =
-    λ m has. m (away_of (picture_of old) ch list spots (subst (λ l. HasSlot l) c.in-Err-Source.ensures.asks.follows.1 has)) in
+    λ m has. m (away_of (picture_of old) ch list (fits (picture_of old) ch c.requires.listed) spots (subst (λ l. HasSlot l) c.in-Err-Source.ensures.asks.follows.1 has)) in
     commit_unread g.D.SectorDisk g.E.SectorDisk M old _ s after pid addr len mode ch shows same takes
     (record { directory = c.in-Err-Source.ensures.files; slots = reads.slots; frames = refl; cache = refl; roots = refl; regions = refl; page_of = refl; clock = refl; refused = refl })
     (record {

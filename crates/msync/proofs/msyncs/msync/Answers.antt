@@ -1,5 +1,5 @@
-use Rattle.std.proofs.Common.{◌≡◌, inl, inr, sym, ap, ◌∙◌}
-use Rattle.msync.specs.Choice.{page_at, IsAway, TakesAway}
+use Rattle.std.proofs.Common.{inl, inr}
+use Rattle.msync.specs.Choice.{chosen_of, page_at, IsAway, TakesAway}
 use Rattle.msync.proofs.Committing.{commits_under}
 use Rattle.paging.specs.Picture.{picture_of}
 use Rattle.msync.proofs.msyncs.msync.Goals as goal
@@ -7,7 +7,7 @@ use Rattle.msync.proofs.msyncs.msync.Goals as goal
 pub returns-in-Takes-clause-commits : goal.returns-in-Takes-clause-commits
 returns-in-Takes-clause-commits g c = λ s after shows takes.
     let old = c.args.core.now in
-    let ch = c.in-Takes.chosen in
+    let ch = chosen_of c.rule.new.list c.in-Takes.count in
     let away : IsAway (picture_of old) ch → TakesAway (picture_of old) c.args.pid c.args.addr c.args.len =
     λ a. record { page = page_at ch.list a.number; slot = a.slot; taken = c.in-Takes.ensures.taken a.number a.below; placed = a.placed } in
     commits_under g.D.SectorDisk g.E.SectorDisk _ _ old c.commit.new.core s after c.args.pid c.args.addr c.args.len c.args.mode _ (λ m a. m (away a))
@@ -16,7 +16,7 @@ returns-in-Takes-clause-commits g c = λ s after shows takes.
 pub returns-in-Takes-clause-away : goal.returns-in-Takes-clause-away
 returns-in-Takes-clause-away g c = elim c.commit.ensures.away [
   | inl same ↦ inl same
-  | inr a ↦ inr (record { page = page_at c.in-Takes.chosen.list a.number; slot = a.slot; taken = c.in-Takes.ensures.taken a.number a.below; placed = a.placed })
+  | inr a ↦ inr (record { page = page_at c.rule.new.list a.number; slot = a.slot; taken = c.in-Takes.ensures.taken a.number a.below; placed = a.placed })
 ]
 
 pub returns-in-Takes-clause-unasked : goal.returns-in-Takes-clause-unasked

@@ -1,8 +1,9 @@
-use Rattle.std.proofs.Common.{◌≡◌, refl, ap, ◌∙◌, arith}
+use Rattle.std.proofs.Common.{refl, ap, ◌∙◌, arith}
+use Rattle.vm_types.specs.declared.object.PageKey.TheVariants.{File}
 use Rattle.page_cache.specs.CacheTable.{place_of, is_touched}
 use Rattle.paging.specs.Picture.{Picture, picture_of, is_data}
 use Rattle.msync.proofs.Beside.{same_beside}
-use Rattle.msync.proofs.Cleaning.{Untouches, fit_untouched, all_placed}
+use Rattle.paging.proofs.Cleaning.{Untouches, fit_untouched, all_placed}
 use Rattle.msync.proofs.Settled.{frames_cut, settles_framed}
 use Rattle.msync.proofs.settling.settle_in_frame.Goals as goal
 
@@ -17,26 +18,26 @@ change_leaves-requires-clause-inside g c =
 pub change_leaves-requires-clause-data : goal.change_leaves-requires-clause-data
 change_leaves-requires-clause-data g c =
     let beside = same_beside c.args.core.now c.cut_tail.new.core c.cut_tail.ensures.beside in
-    ap is_data (c.cut_tail.ensures.fit.places.cached c.args.page c.args.frame.0 (beside.place c.args.page ∙ c.requires.placed))
+    ap is_data (c.cut_tail.ensures.fit.places.cached (File c.args.page) c.args.frame.0 (beside.place (File c.args.page) ∙ c.requires.placed))
 
 pub returns-clause-fit : goal.returns-clause-fit
 returns-clause-fit g c =
     let x : Picture = picture_of c.change_leaves.new.core in
     let y : Picture = record x { place = place_of c.clean.new.self; touched = is_touched c.clean.new.self } in
     let beside = same_beside c.args.core.now c.cut_tail.new.core c.cut_tail.ensures.beside in
-    let u : Untouches x y c.args.page = record {
+    let u : Untouches x y (File c.args.page) = record {
       frames = refl;
       slots = refl;
       root = λ p. refl;
       at = λ p k. refl;
       page_of = λ m. refl;
       files = λ f. refl;
-      place = all_placed c.change_leaves.new.core.cache c.clean.new.self c.args.page c.clean.ensures.others c.clean.ensures.placed;
+      place = all_placed c.change_leaves.new.core.cache c.clean.new.self (File c.args.page) c.clean.ensures.others c.clean.ensures.placed;
       now = c.clean.ensures.untouched;
       others = c.clean.ensures.others.touched;
     } in
-    fit_untouched x y c.args.page c.args.frame.0 c.change_leaves.ensures.fit u
-    (c.change_leaves.ensures.changes.beside.place c.args.page ∙ beside.place c.args.page ∙ c.requires.placed) c.change_leaves.ensures.clear
+    fit_untouched x y (File c.args.page) c.args.frame.0 c.change_leaves.ensures.fit u
+    (c.change_leaves.ensures.changes.beside.place (File c.args.page) ∙ beside.place (File c.args.page) ∙ c.requires.placed) c.change_leaves.ensures.clear
 
 pub returns-clause-settles : goal.returns-clause-settles
 returns-clause-settles g c =
@@ -45,14 +46,14 @@ returns-clause-settles g c =
     let x : Picture = picture_of c.change_leaves.new.core in
     let y : Picture = record x { place = place_of c.clean.new.self; touched = is_touched c.clean.new.self } in
     let beside = same_beside c.args.core.now c.cut_tail.new.core c.cut_tail.ensures.beside in
-    let u : Untouches x y c.args.page = record {
+    let u : Untouches x y (File c.args.page) = record {
       frames = refl;
       slots = refl;
       root = λ p. refl;
       at = λ p k. refl;
       page_of = λ m. refl;
       files = λ f. refl;
-      place = all_placed c.change_leaves.new.core.cache c.clean.new.self c.args.page c.clean.ensures.others c.clean.ensures.placed;
+      place = all_placed c.change_leaves.new.core.cache c.clean.new.self (File c.args.page) c.clean.ensures.others c.clean.ensures.placed;
       now = c.clean.ensures.untouched;
       others = c.clean.ensures.others.touched;
     } in

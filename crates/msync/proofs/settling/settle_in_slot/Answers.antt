@@ -1,22 +1,24 @@
-use Rattle.std.proofs.Common.{◌≡◌, refl, sym, ◌∙◌, arith}
+use Rattle.std.proofs.Common.{refl, sym, ◌∙◌, arith}
 use Rattle.std.proofs.lemmas.Bool.{false≢true}
+use Rattle.vm_types.specs.declared.object.PageKey.TheVariants.{File}
 use Rattle.swap.specs.Slots.{slots_of}
 use Rattle.page_cache.specs.CacheTable.{place_of, is_touched}
 use Rattle.paging.specs.Picture.{Picture, picture_of}
-use Rattle.msync.proofs.Homing.{Homes, fit_homed, settles_homed}
+use Rattle.paging.proofs.Homing.{Homes, fit_homed}
+use Rattle.msync.proofs.Homing.{settles_homed}
 use Rattle.msync.proofs.settling.settle_in_slot.Goals as goal
 
 pub set_place-requires-clause-kept : goal.set_place-requires-clause-kept
 set_place-requires-clause-kept g c = λ touched. absurd (false≢true (sym c.clean.ensures.untouched ∙ touched))
 
 pub release-requires : goal.release-requires
-release-requires g c = (let one = c.requires.fit.places.slotted c.args.page c.args.slot.0 c.requires.placed in omega (arith, one))
+release-requires g c = (let one = c.requires.fit.places.slotted (File c.args.page) c.args.slot.0 c.requires.placed in omega (arith, one))
 
 pub returns-clause-fit : goal.returns-clause-fit
 returns-clause-fit g c =
     let old : Picture = picture_of c.args.core.now in
     let new : Picture = record old { slots = slots_of c.release.new.self; place = place_of c.set_place.new.self; touched = is_touched c.set_place.new.self } in
-    let homes : Homes old new c.args.page c.args.slot.0 = record {
+    let homes : Homes old new (File c.args.page) c.args.slot.0 = record {
       was = c.requires.placed;
       frames = refl;
       slots = c.release.ensures.releases;
@@ -29,13 +31,13 @@ returns-clause-fit g c =
       now = c.set_place.ensures.touched ∙ c.clean.ensures.untouched;
       rest = λ p ne. c.set_place.ensures.others.touched p ne ∙ c.clean.ensures.others.touched p ne;
     } in
-    fit_homed old new c.args.page c.args.slot.0 c.requires.fit homes
+    fit_homed old new (File c.args.page) c.args.slot.0 c.requires.fit homes
 
 pub returns-clause-settles : goal.returns-clause-settles
 returns-clause-settles g c =
     let old : Picture = picture_of c.args.core.now in
     let new : Picture = record old { slots = slots_of c.release.new.self; place = place_of c.set_place.new.self; touched = is_touched c.set_place.new.self } in
-    let homes : Homes old new c.args.page c.args.slot.0 = record {
+    let homes : Homes old new (File c.args.page) c.args.slot.0 = record {
       was = c.requires.placed;
       frames = refl;
       slots = c.release.ensures.releases;

@@ -1,13 +1,15 @@
-use Rattle.std.proofs.Common.{inl, refl, ap, ◌∙◌}
+use Rattle.std.proofs.Common.{refl, ap, ◌∙◌}
 use Rattle.vm_types.specs.declared.access.Access.TheVariants.{Store}
+use Rattle.vm_types.specs.declared.object.PageKey.TheVariants.{File}
+use Rattle.vm_types.specs.Attributes.{stands_on}
 use Rattle.paging.specs.Picture.{Picture, picture_of}
 use Rattle.paging.specs.Parts.{is_shared}
-use Rattle.mapping.proofs.Forms.{none_here}
+use Rattle.mapping.proofs.Forms.{none_here, behind_of}
 use Rattle.page_faults.specs.Granted.{IsReadyAt}
 use Rattle.page_faults.proofs.Brought.{linked_then, read_then, calm_then, brings_wider, brings_on, stalled_away, stalled_on}
 use Rattle.page_faults.proofs.Linked.{open_still}
 use Rattle.page_faults.proofs.Owned.{owned_ready, owned_entered, owned_calm, owned_stalled}
-use Rattle.page_faults.proofs.Pages.{page_inside, frame_behind}
+use Rattle.page_faults.proofs.Pages.{page_inside}
 use Rattle.page_faults.proofs.Settled.{none_same, ready_after}
 use Rattle.page_faults.proofs.Slotted.{slotted_brought, slotted_on}
 use Rattle.page_faults.proofs.Steps.{proceeds_then, files_read, ok_then, on_ok_then, counts_then, counts_done}
@@ -16,34 +18,34 @@ use Rattle.page_faults.proofs.granting.grant_copy.Goals as goal
 
 pub cached-requires-clause-inside : goal.cached-requires-clause-inside
 cached-requires-clause-inside g c =
-    page_inside (picture_of c.args.core.now).files c.args.attr.backing c.args.file_page (inl c.requires.private) c.requires.allowed.inside
+    page_inside (picture_of c.args.core.now) c.args.pid c.args.page c.args.attr (File c.args.file_page) c.requires.linked c.requires.allowed.mapped (ap stands_on c.requires.private) c.requires.allowed.inside
 
 pub returns-in_err-cached-clause-brings : goal.returns-in_err-cached-clause-brings
 returns-in_err-cached-clause-brings g c =
     let old : Picture = picture_of c.args.core.now in
-    let shows = shows_file old c.args.pid c.args.page c.args.attr c.args.file_page c.requires.allowed.mapped (inl c.requires.private) c.requires.none in
-    brings_wider c.args.core.now c.cached.new.core c.args.pid c.args.page c.args.file_page shows g.D.SectorDisk g.E.SectorDisk c.in_err-cached.ensures.brings
+    let shows = shows_file old c.args.pid c.args.page c.args.attr (File c.args.file_page) c.requires.allowed.mapped (ap stands_on c.requires.private) c.requires.none in
+    brings_wider c.args.core.now c.cached.new.core c.args.pid c.args.page (File c.args.file_page) shows g.D.SectorDisk g.E.SectorDisk c.in_err-cached.ensures.brings
 
 pub returns-in_err-cached-clause-calm : goal.returns-in_err-cached-clause-calm
 returns-in_err-cached-clause-calm g c unwanted =
     let old : Picture = picture_of c.args.core.now in
-    let shows = shows_file old c.args.pid c.args.page c.args.attr c.args.file_page c.requires.allowed.mapped (inl c.requires.private) c.requires.none in
-    let there = page_there old c.args.pid c.args.page Store c.args.file_page shows unwanted in
+    let shows = shows_file old c.args.pid c.args.page c.args.attr (File c.args.file_page) c.requires.allowed.mapped (ap stands_on c.requires.private) c.requires.none in
+    let there = page_there old c.args.pid c.args.page Store (File c.args.file_page) shows unwanted in
     absurd (c.in_err-cached.ensures.idle there.0 there.1).1
 
 pub returns-in_err-cached-clause-read : goal.returns-in_err-cached-clause-read
 returns-in_err-cached-clause-read g c =
     let old : Picture = picture_of c.args.core.now in
-    let shows = shows_file old c.args.pid c.args.page c.args.attr c.args.file_page c.requires.allowed.mapped (inl c.requires.private) c.requires.none in
-    read_then c.args.core.now c.cached.new.core c.args.pid c.args.page c.args.file_page shows c.cached.new.core.store c.requires.linked.fit refl c.in_err-cached.ensures.read
+    let shows = shows_file old c.args.pid c.args.page c.args.attr (File c.args.file_page) c.requires.allowed.mapped (ap stands_on c.requires.private) c.requires.none in
+    read_then c.args.core.now c.cached.new.core c.args.pid c.args.page (File c.args.file_page) shows c.cached.new.core.store c.requires.linked.fit refl c.in_err-cached.ensures.read
 
 pub returns-in_err-cached-clause-stalled : goal.returns-in_err-cached-clause-stalled
 returns-in_err-cached-clause-stalled g c =
     let old : Picture = picture_of c.args.core.now in
-    let shows = shows_file old c.args.pid c.args.page c.args.attr c.args.file_page c.requires.allowed.mapped (inl c.requires.private) c.requires.none in
+    let shows = shows_file old c.args.pid c.args.page c.args.attr (File c.args.file_page) c.requires.allowed.mapped (ap stands_on c.requires.private) c.requires.none in
     let done = c.in_err-cached.ensures in
     stalled_as g.D.SectorDisk g.E.SectorDisk c.args.core.now c.cached.new.core c.args.pid c.args.page Store c.from_residual.result c.in_err-cached.field-0.0 c.from_residual.ensures.1
-    (stalled_away c.args.core.now c.cached.new.core c.args.pid c.args.page c.args.file_page shows g.D.SectorDisk g.E.SectorDisk Store c.in_err-cached.field-0.0 c.requires.linked.fit done.keeps
+    (stalled_away c.args.core.now c.cached.new.core c.args.pid c.args.page (File c.args.file_page) shows g.D.SectorDisk g.E.SectorDisk Store c.in_err-cached.field-0.0 c.requires.linked.fit done.keeps
     (λ n at. (done.idle n at).1) done.cause done.short done.home)
 
 pub own_frame-requires-clause-linked : goal.own_frame-requires-clause-linked
@@ -70,7 +72,7 @@ own_frame-requires-clause-resident g c =
 
 pub own_frame-requires-clause-in_memory : goal.own_frame-requires-clause-in_memory
 own_frame-requires-clause-in_memory g c common =
-    (c.in_ok-cached.field-0.0, frame_behind (picture_of c.cached.new.core) c.args.attr.backing c.args.file_page c.in_ok-cached.field-0.0 (inl c.requires.private) c.in_ok-cached.ensures.placed)
+    (c.in_ok-cached.field-0.0, behind_of (picture_of c.cached.new.core) c.args.attr.backing (File c.args.file_page) c.in_ok-cached.field-0.0 (ap stands_on c.requires.private) c.in_ok-cached.ensures.placed)
 
 pub returns-clause-proceeds : goal.returns-clause-proceeds
 returns-clause-proceeds g c =
@@ -79,10 +81,10 @@ returns-clause-proceeds g c =
 pub returns-clause-brings : goal.returns-clause-brings
 returns-clause-brings g c =
     let old : Picture = picture_of c.args.core.now in
-    let shows = shows_file old c.args.pid c.args.page c.args.attr c.args.file_page c.requires.allowed.mapped (inl c.requires.private) c.requires.none in
+    let shows = shows_file old c.args.pid c.args.page c.args.attr (File c.args.file_page) c.requires.allowed.mapped (ap stands_on c.requires.private) c.requires.none in
     let done = c.in_ok-cached.ensures in
     let files = c.own_frame.ensures.files in
-    brings_on c.args.core.now c.cached.new.core c.args.pid c.args.page c.args.file_page shows g.D.SectorDisk g.E.SectorDisk c.own_frame.new.core done.brings done.keeps c.own_frame.ensures.moves.store
+    brings_on c.args.core.now c.cached.new.core c.args.pid c.args.page (File c.args.file_page) shows g.D.SectorDisk g.E.SectorDisk c.own_frame.new.core done.brings done.keeps c.own_frame.ensures.moves.store
     c.own_frame.ensures.moves.device files.held files.files
 
 pub returns-clause-entered : goal.returns-clause-entered
@@ -95,7 +97,7 @@ returns-clause-entered g c =
     owned_entered mid new c.args.pid c.args.page c.args.attr c.cached.new.core.sound done.moves.fit c.own_frame.new.core.sound
     (done.moves.spaces.at c.args.pid c.args.page ∙ at) (ap is_shared c.requires.private) c.requires.allowed.lets
     (none_here _ (none_same (picture_of c.args.core.now) mid c.args.pid c.args.page c.args.attr c.requires.allowed.mapped at (first.keeps.views c.args.pid c.args.page) c.requires.none))
-    (λ common. (c.in_ok-cached.field-0.0, frame_behind mid c.args.attr.backing c.args.file_page c.in_ok-cached.field-0.0 (inl c.requires.private) first.placed))
+    (λ common. (c.in_ok-cached.field-0.0, behind_of mid c.args.attr.backing (File c.args.file_page) c.in_ok-cached.field-0.0 (ap stands_on c.requires.private) first.placed))
     done.behind done.others done.files c.own_frame.result done.bytes done.entry
 
 pub returns-clause-ready : goal.returns-clause-ready
@@ -110,23 +112,23 @@ returns-clause-ready g c =
     (owned_ready mid new c.args.pid c.args.page c.args.attr c.cached.new.core.sound done.moves.fit c.own_frame.new.core.sound
     (done.moves.spaces.at c.args.pid c.args.page ∙ at) (ap is_shared c.requires.private) c.requires.allowed.lets
     (none_here _ (none_same old mid c.args.pid c.args.page c.args.attr c.requires.allowed.mapped at (first.keeps.views c.args.pid c.args.page) c.requires.none))
-    (λ common. (c.in_ok-cached.field-0.0, frame_behind mid c.args.attr.backing c.args.file_page c.in_ok-cached.field-0.0 (inl c.requires.private) first.placed))
+    (λ common. (c.in_ok-cached.field-0.0, behind_of mid c.args.attr.backing (File c.args.file_page) c.in_ok-cached.field-0.0 (ap stands_on c.requires.private) first.placed))
     done.behind done.others done.files c.own_frame.result done.bytes done.entry)
 
 pub returns-clause-calm : goal.returns-clause-calm
 returns-clause-calm g c =
     let old : Picture = picture_of c.args.core.now in
-    let shows = shows_file old c.args.pid c.args.page c.args.attr c.args.file_page c.requires.allowed.mapped (inl c.requires.private) c.requires.none in
+    let shows = shows_file old c.args.pid c.args.page c.args.attr (File c.args.file_page) c.requires.allowed.mapped (ap stands_on c.requires.private) c.requires.none in
     let first = c.in_ok-cached.ensures in
-    calm_then c.args.core.now c.cached.new.core c.args.pid c.args.page c.args.file_page shows (λ n at. (first.idle n at).0) c.own_frame.new.core Store
+    calm_then c.args.core.now c.cached.new.core c.args.pid c.args.page (File c.args.file_page) shows (λ n at. (first.idle n at).0) c.own_frame.new.core Store
     (owned_calm c.cached.new.core c.own_frame.new.core c.args.pid c.args.page c.args.attr (first.proceeds.spaces.at c.args.pid c.args.page ∙ c.requires.allowed.mapped)
     (ap is_shared c.requires.private) c.own_frame.ensures.calm)
 
 pub returns-clause-read : goal.returns-clause-read
 returns-clause-read g c =
     let old : Picture = picture_of c.args.core.now in
-    let shows = shows_file old c.args.pid c.args.page c.args.attr c.args.file_page c.requires.allowed.mapped (inl c.requires.private) c.requires.none in
-    read_then c.args.core.now c.cached.new.core c.args.pid c.args.page c.args.file_page shows c.own_frame.new.core.store c.requires.linked.fit c.own_frame.ensures.moves.store c.in_ok-cached.ensures.read
+    let shows = shows_file old c.args.pid c.args.page c.args.attr (File c.args.file_page) c.requires.allowed.mapped (ap stands_on c.requires.private) c.requires.none in
+    read_then c.args.core.now c.cached.new.core c.args.pid c.args.page (File c.args.file_page) shows c.own_frame.new.core.store c.requires.linked.fit c.own_frame.ensures.moves.store c.in_ok-cached.ensures.read
 
 pub returns-clause-counts : goal.returns-clause-counts
 returns-clause-counts g c =
@@ -137,10 +139,10 @@ returns-clause-counts g c =
 pub returns-clause-stalled : goal.returns-clause-stalled
 returns-clause-stalled g c =
     let old : Picture = picture_of c.args.core.now in
-    let shows = shows_file old c.args.pid c.args.page c.args.attr c.args.file_page c.requires.allowed.mapped (inl c.requires.private) c.requires.none in
+    let shows = shows_file old c.args.pid c.args.page c.args.attr (File c.args.file_page) c.requires.allowed.mapped (ap stands_on c.requires.private) c.requires.none in
     let first = c.in_ok-cached.ensures in
     let done = c.own_frame.ensures in
-    stalled_on c.args.core.now c.cached.new.core c.args.pid c.args.page c.args.file_page shows g.D.SectorDisk g.E.SectorDisk c.own_frame.new.core Store c.own_frame.result
+    stalled_on c.args.core.now c.cached.new.core c.args.pid c.args.page (File c.args.file_page) shows g.D.SectorDisk g.E.SectorDisk c.own_frame.new.core Store c.own_frame.result
     (λ n at. (first.idle n at).0) first.keeps first.cause.2 first.cause.0 first.cause.1 done.cause
     (owned_stalled c.cached.new.core c.own_frame.new.core c.args.pid c.args.page c.args.attr (first.proceeds.spaces.at c.args.pid c.args.page ∙ c.requires.allowed.mapped)
     (ap is_shared c.requires.private) g.D.SectorDisk g.E.SectorDisk c.own_frame.result done.moves.store done.files done.same done.wanted done.cause done.short)
@@ -154,11 +156,11 @@ returns-clause-others g c = λ q k other. c.own_frame.ensures.others q k other �
 pub returns-in_err-cached-clause-slotted : goal.returns-in_err-cached-clause-slotted
 returns-in_err-cached-clause-slotted g c =
     let old : Picture = picture_of c.args.core.now in
-    let shows = shows_file old c.args.pid c.args.page c.args.attr c.args.file_page c.requires.allowed.mapped (inl c.requires.private) c.requires.none in
-    slotted_brought old (picture_of c.cached.new.core) c.args.pid c.args.page c.args.file_page shows c.in_err-cached.ensures.slotted
+    let shows = shows_file old c.args.pid c.args.page c.args.attr (File c.args.file_page) c.requires.allowed.mapped (ap stands_on c.requires.private) c.requires.none in
+    slotted_brought old (picture_of c.cached.new.core) c.args.pid c.args.page (File c.args.file_page) shows c.in_err-cached.ensures.slotted
 
 pub returns-clause-slotted : goal.returns-clause-slotted
 returns-clause-slotted g c =
     let old : Picture = picture_of c.args.core.now in
-    let shows = shows_file old c.args.pid c.args.page c.args.attr c.args.file_page c.requires.allowed.mapped (inl c.requires.private) c.requires.none in
-    slotted_on old (picture_of c.cached.new.core) c.args.pid c.args.page (picture_of c.own_frame.new.core) c.args.file_page shows c.in_ok-cached.ensures.slotted c.own_frame.ensures.slotted
+    let shows = shows_file old c.args.pid c.args.page c.args.attr (File c.args.file_page) c.requires.allowed.mapped (ap stands_on c.requires.private) c.requires.none in
+    slotted_on old (picture_of c.cached.new.core) c.args.pid c.args.page (picture_of c.own_frame.new.core) (File c.args.file_page) shows c.in_ok-cached.ensures.slotted c.own_frame.ensures.slotted

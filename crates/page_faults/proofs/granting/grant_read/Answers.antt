@@ -1,14 +1,14 @@
 use Rattle.std.proofs.Common.{◌≢◌, ℕ, inl, refl, sym, ap, ◌∙◌, subst, arith}
 use Rattle.sv39_walk.specs.Entry.{frame_of}
 use Rattle.paging.specs.Picture.{Picture, picture_of, entry}
-use Rattle.mapping.proofs.Forms.{mapped_page, used_inside, resident_used, seat_zero}
+use Rattle.mapping.proofs.Forms.{mapped_page, used_inside, resident_used, seat_zero, behind_of}
 use Rattle.mapping.proofs.Steps.{moves_entered, seen_then}
 use Rattle.page_faults.specs.Granted.{IsEntered, IsReadyAt}
 use Rattle.page_faults.specs.Wants.{ShowsFile}
 use Rattle.page_faults.proofs.Brought.{linked_then, read_then, calm_then, brings_wider, brings_on, stalled_away}
 use Rattle.page_faults.proofs.Entered.{read_ready, read_entered}
 use Rattle.page_faults.proofs.Linked.{open_still}
-use Rattle.page_faults.proofs.Pages.{page_inside, frame_behind}
+use Rattle.page_faults.proofs.Pages.{page_inside}
 use Rattle.page_faults.proofs.Settled.{none_same}
 use Rattle.page_faults.proofs.Slotted.{slotted_calm, slotted_brought, slotted_on}
 use Rattle.page_faults.proofs.Steps.{proceeds_moves, proceeds_then, brings_none, files_read, counts_then, counts_calm}
@@ -73,192 +73,192 @@ returns-then-to_u64-ne0-clause-counts g c =
 pub show_zero-requires-clause-none : goal.show_zero-requires-clause-none
 show_zero-requires-clause-none g c = sym c.entry_at-entry.ensures ∙ sym c.to_u64.ensures ∙ c.if-to_u64-ne0.false
 
-pub returns-in-Anon-clause-proceeds : goal.returns-in-Anon-clause-proceeds
-returns-in-Anon-clause-proceeds g c =
+pub returns-in-None-clause-proceeds : goal.returns-in-None-clause-proceeds
+returns-in-None-clause-proceeds g c =
     proceeds_moves g.D.SectorDisk g.E.SectorDisk c.args.core.now c.show_zero.new.core c.requires.store
     (moves_entered g.E.SectorDisk c.args.core.now c.show_zero.new.core c.args.pid c.args.page c.requires.swap c.show_zero.ensures.enters)
 
-pub returns-in-Anon-clause-brings : goal.returns-in-Anon-clause-brings
-returns-in-Anon-clause-brings g c kept =
+pub returns-in-None-clause-brings : goal.returns-in-None-clause-brings
+returns-in-None-clause-brings g c kept =
     let old : Picture = picture_of c.args.core.now in
     let files = c.show_zero.ensures.files in
     brings_none g.D.SectorDisk c.args.core.now.store.disk c.show_zero.new.core.store.disk (ShowsFile old c.args.pid c.args.page) old (picture_of c.show_zero.new.core) files.held files.files
 
-pub returns-in-Anon-clause-entered : goal.returns-in-Anon-clause-entered
-returns-in-Anon-clause-entered g c =
+pub returns-in-None-clause-entered : goal.returns-in-None-clause-entered
+returns-in-None-clause-entered g c =
     let old : Picture = picture_of c.args.core.now in
     let new : Picture = picture_of c.show_zero.new.core in
     let enters = c.show_zero.ensures.enters in
     (read_entered old new c.args.pid c.args.page c.args.attr c.args.access 0 _ _ _ enters.fit c.show_zero.new.core.sound c.requires.allowed.mapped
     (enters.spaces.at c.args.pid c.args.page ∙ c.requires.allowed.mapped) (record { views = enters.views; touched = c.show_zero.ensures.files.touched }) c.show_zero.ensures.entry c.requires.reads c.requires.allowed.lets)
 
-pub returns-in-Anon-clause-ready : goal.returns-in-Anon-clause-ready
-returns-in-Anon-clause-ready g c =
+pub returns-in-None-clause-ready : goal.returns-in-None-clause-ready
+returns-in-None-clause-ready g c =
     let old : Picture = picture_of c.args.core.now in
     let new : Picture = picture_of c.show_zero.new.core in
     let enters = c.show_zero.ensures.enters in
     (read_ready old new c.args.pid c.args.page c.args.attr c.args.access 0 _ _ _ enters.fit c.show_zero.new.core.sound c.requires.allowed.mapped
     (enters.spaces.at c.args.pid c.args.page ∙ c.requires.allowed.mapped) (record { views = enters.views; touched = c.show_zero.ensures.files.touched }) c.show_zero.ensures.entry c.requires.reads c.requires.allowed.lets)
 
-pub returns-in-Anon-clause-calm : goal.returns-in-Anon-clause-calm
-returns-in-Anon-clause-calm g c none = c.show_zero.ensures.enters.calm
+pub returns-in-None-clause-calm : goal.returns-in-None-clause-calm
+returns-in-None-clause-calm g c none = c.show_zero.ensures.enters.calm
 
-pub returns-in-Anon-clause-read : goal.returns-in-Anon-clause-read
-returns-in-Anon-clause-read g c = inl c.show_zero.ensures.enters.calm.store
+pub returns-in-None-clause-read : goal.returns-in-None-clause-read
+returns-in-None-clause-read g c = inl c.show_zero.ensures.enters.calm.store
 
-pub returns-in-Anon-clause-counts : goal.returns-in-Anon-clause-counts
-returns-in-Anon-clause-counts g c =
+pub returns-in-None-clause-counts : goal.returns-in-None-clause-counts
+returns-in-None-clause-counts g c =
     counts_calm g.D.SectorDisk g.E.SectorDisk c.args.core.now c.show_zero.new.core c.args.pid c.args.page c.show_zero.ensures.enters.calm
 
 pub cached-requires-clause-inside : goal.cached-requires-clause-inside
 cached-requires-clause-inside g c =
-    page_inside (picture_of c.args.core.now).files c.args.attr.backing c.in-Private.file_page c.in-Private.is c.requires.allowed.inside
+    page_inside (picture_of c.args.core.now) c.args.pid c.args.page c.args.attr c.in-Some.stored c.requires.linked c.requires.allowed.mapped (sym c.stands_on.ensures ∙ c.in-Some.is) c.requires.allowed.inside
 
-pub returns-in_err-frame-in-Private-clause-brings : goal.returns-in_err-frame-in-Private-clause-brings
-returns-in_err-frame-in-Private-clause-brings g c =
+pub returns-in_err-frame-in-Some-clause-brings : goal.returns-in_err-frame-in-Some-clause-brings
+returns-in_err-frame-in-Some-clause-brings g c =
     let old : Picture = picture_of c.args.core.now in
     let none = seat_zero _ (sym c.entry_at-entry.ensures ∙ sym c.to_u64.ensures ∙ c.if-to_u64-ne0.false) in
-    let shows = shows_file old c.args.pid c.args.page c.args.attr c.in-Private.file_page c.requires.allowed.mapped c.in-Private.is none in
-    brings_wider c.args.core.now c.cached.new.core c.args.pid c.args.page c.in-Private.file_page shows g.D.SectorDisk g.E.SectorDisk c.in_err-frame-in-Private.ensures.brings
+    let shows = shows_file old c.args.pid c.args.page c.args.attr c.in-Some.stored c.requires.allowed.mapped (sym c.stands_on.ensures ∙ c.in-Some.is) none in
+    brings_wider c.args.core.now c.cached.new.core c.args.pid c.args.page c.in-Some.stored shows g.D.SectorDisk g.E.SectorDisk c.in_err-frame-in-Some.ensures.brings
 
-pub returns-in_err-frame-in-Private-clause-calm : goal.returns-in_err-frame-in-Private-clause-calm
-returns-in_err-frame-in-Private-clause-calm g c unwanted =
+pub returns-in_err-frame-in-Some-clause-calm : goal.returns-in_err-frame-in-Some-clause-calm
+returns-in_err-frame-in-Some-clause-calm g c unwanted =
     let old : Picture = picture_of c.args.core.now in
     let none = seat_zero _ (sym c.entry_at-entry.ensures ∙ sym c.to_u64.ensures ∙ c.if-to_u64-ne0.false) in
-    let shows = shows_file old c.args.pid c.args.page c.args.attr c.in-Private.file_page c.requires.allowed.mapped c.in-Private.is none in
-    let there = page_there old c.args.pid c.args.page c.args.access c.in-Private.file_page shows unwanted in
-    absurd (c.in_err-frame-in-Private.ensures.idle there.0 there.1).1
+    let shows = shows_file old c.args.pid c.args.page c.args.attr c.in-Some.stored c.requires.allowed.mapped (sym c.stands_on.ensures ∙ c.in-Some.is) none in
+    let there = page_there old c.args.pid c.args.page c.args.access c.in-Some.stored shows unwanted in
+    absurd (c.in_err-frame-in-Some.ensures.idle there.0 there.1).1
 
-pub returns-in_err-frame-in-Private-clause-read : goal.returns-in_err-frame-in-Private-clause-read
-returns-in_err-frame-in-Private-clause-read g c =
+pub returns-in_err-frame-in-Some-clause-read : goal.returns-in_err-frame-in-Some-clause-read
+returns-in_err-frame-in-Some-clause-read g c =
     let old : Picture = picture_of c.args.core.now in
     let none = seat_zero _ (sym c.entry_at-entry.ensures ∙ sym c.to_u64.ensures ∙ c.if-to_u64-ne0.false) in
-    let shows = shows_file old c.args.pid c.args.page c.args.attr c.in-Private.file_page c.requires.allowed.mapped c.in-Private.is none in
-    read_then c.args.core.now c.cached.new.core c.args.pid c.args.page c.in-Private.file_page shows c.cached.new.core.store c.requires.linked.fit refl c.in_err-frame-in-Private.ensures.read
+    let shows = shows_file old c.args.pid c.args.page c.args.attr c.in-Some.stored c.requires.allowed.mapped (sym c.stands_on.ensures ∙ c.in-Some.is) none in
+    read_then c.args.core.now c.cached.new.core c.args.pid c.args.page c.in-Some.stored shows c.cached.new.core.store c.requires.linked.fit refl c.in_err-frame-in-Some.ensures.read
 
-pub returns-in_err-frame-in-Private-clause-stalled : goal.returns-in_err-frame-in-Private-clause-stalled
-returns-in_err-frame-in-Private-clause-stalled g c =
+pub returns-in_err-frame-in-Some-clause-stalled : goal.returns-in_err-frame-in-Some-clause-stalled
+returns-in_err-frame-in-Some-clause-stalled g c =
     let old : Picture = picture_of c.args.core.now in
     let none = seat_zero _ (sym c.entry_at-entry.ensures ∙ sym c.to_u64.ensures ∙ c.if-to_u64-ne0.false) in
-    let shows = shows_file old c.args.pid c.args.page c.args.attr c.in-Private.file_page c.requires.allowed.mapped c.in-Private.is none in
-    let done = c.in_err-frame-in-Private.ensures in
-    stalled_as g.D.SectorDisk g.E.SectorDisk c.args.core.now c.cached.new.core c.args.pid c.args.page c.args.access c.from_residual.result c.in_err-frame-in-Private.field-0.0 c.from_residual.ensures.1
-    (stalled_away c.args.core.now c.cached.new.core c.args.pid c.args.page c.in-Private.file_page shows g.D.SectorDisk g.E.SectorDisk c.args.access c.in_err-frame-in-Private.field-0.0 c.requires.linked.fit done.keeps
+    let shows = shows_file old c.args.pid c.args.page c.args.attr c.in-Some.stored c.requires.allowed.mapped (sym c.stands_on.ensures ∙ c.in-Some.is) none in
+    let done = c.in_err-frame-in-Some.ensures in
+    stalled_as g.D.SectorDisk g.E.SectorDisk c.args.core.now c.cached.new.core c.args.pid c.args.page c.args.access c.from_residual.result c.in_err-frame-in-Some.field-0.0 c.from_residual.ensures.1
+    (stalled_away c.args.core.now c.cached.new.core c.args.pid c.args.page c.in-Some.stored shows g.D.SectorDisk g.E.SectorDisk c.args.access c.in_err-frame-in-Some.field-0.0 c.requires.linked.fit done.keeps
     (λ n at. (done.idle n at).1) done.cause done.short done.home)
 
 pub show_cached-requires-clause-linked : goal.show_cached-requires-clause-linked
 show_cached-requires-clause-linked g c =
-    let done = c.in_ok-frame-in-Private.ensures in
+    let done = c.in_ok-frame-in-Some.ensures in
     linked_then (picture_of c.args.core.now) (picture_of c.cached.new.core) c.args.pid c.args.page done.proceeds.fit done.proceeds.spaces done.proceeds.tables c.requires.linked
 
 pub show_cached-requires-clause-behind : goal.show_cached-requires-clause-behind
 show_cached-requires-clause-behind g c =
-    frame_behind (picture_of c.cached.new.core) c.args.attr.backing c.in-Private.file_page c.in_ok-frame-in-Private.frame.0 c.in-Private.is c.in_ok-frame-in-Private.ensures.placed
+    behind_of (picture_of c.cached.new.core) c.args.attr.backing c.in-Some.stored c.in_ok-frame-in-Some.frame.0 (sym c.stands_on.ensures ∙ c.in-Some.is) c.in_ok-frame-in-Some.ensures.placed
 
 pub show_cached-requires-clause-inside : goal.show_cached-requires-clause-inside
 show_cached-requires-clause-inside g c =
-    let done = c.in_ok-frame-in-Private.ensures in
+    let done = c.in_ok-frame-in-Some.ensures in
     (open_still (picture_of c.args.core.now) (picture_of c.cached.new.core) c.args.pid c.args.page c.args.access c.args.attr done.proceeds.spaces.at
     (files_read g.D.SectorDisk c.args.core.now.store c.cached.new.core.store done.proceeds.reads) c.requires.allowed).inside
 
 pub show_cached-requires-clause-none : goal.show_cached-requires-clause-none
 show_cached-requires-clause-none g c =
-    let done = c.in_ok-frame-in-Private.ensures in
+    let done = c.in_ok-frame-in-Some.ensures in
     none_same (picture_of c.args.core.now) (picture_of c.cached.new.core) c.args.pid c.args.page c.args.attr c.requires.allowed.mapped
     (done.proceeds.spaces.at c.args.pid c.args.page ∙ c.requires.allowed.mapped) (done.keeps.views c.args.pid c.args.page)
     (seat_zero _ (sym c.entry_at-entry.ensures ∙ sym c.to_u64.ensures ∙ c.if-to_u64-ne0.false))
 
-pub returns-in_ok-frame-in-Private-clause-proceeds : goal.returns-in_ok-frame-in-Private-clause-proceeds
-returns-in_ok-frame-in-Private-clause-proceeds g c =
-    let first = c.in_ok-frame-in-Private.ensures in
+pub returns-in_ok-frame-in-Some-clause-proceeds : goal.returns-in_ok-frame-in-Some-clause-proceeds
+returns-in_ok-frame-in-Some-clause-proceeds g c =
+    let first = c.in_ok-frame-in-Some.ensures in
     proceeds_then g.D.SectorDisk g.E.SectorDisk c.args.core.now c.cached.new.core c.show_cached.new.core first.proceeds
     (moves_entered g.E.SectorDisk c.cached.new.core c.show_cached.new.core c.args.pid c.args.page first.proceeds.swap c.show_cached.ensures.enters)
 
-pub returns-in_ok-frame-in-Private-clause-brings : goal.returns-in_ok-frame-in-Private-clause-brings
-returns-in_ok-frame-in-Private-clause-brings g c =
+pub returns-in_ok-frame-in-Some-clause-brings : goal.returns-in_ok-frame-in-Some-clause-brings
+returns-in_ok-frame-in-Some-clause-brings g c =
     let old : Picture = picture_of c.args.core.now in
     let none = seat_zero _ (sym c.entry_at-entry.ensures ∙ sym c.to_u64.ensures ∙ c.if-to_u64-ne0.false) in
-    let shows = shows_file old c.args.pid c.args.page c.args.attr c.in-Private.file_page c.requires.allowed.mapped c.in-Private.is none in
-    let first = c.in_ok-frame-in-Private.ensures in
+    let shows = shows_file old c.args.pid c.args.page c.args.attr c.in-Some.stored c.requires.allowed.mapped (sym c.stands_on.ensures ∙ c.in-Some.is) none in
+    let first = c.in_ok-frame-in-Some.ensures in
     let files = c.show_cached.ensures.files in
     let device = (moves_entered g.E.SectorDisk c.cached.new.core c.show_cached.new.core c.args.pid c.args.page first.proceeds.swap c.show_cached.ensures.enters).device in
-    brings_on c.args.core.now c.cached.new.core c.args.pid c.args.page c.in-Private.file_page shows g.D.SectorDisk g.E.SectorDisk c.show_cached.new.core first.brings first.keeps
+    brings_on c.args.core.now c.cached.new.core c.args.pid c.args.page c.in-Some.stored shows g.D.SectorDisk g.E.SectorDisk c.show_cached.new.core first.brings first.keeps
     c.show_cached.ensures.enters.calm.store device files.held files.files
 
-pub returns-in_ok-frame-in-Private-clause-entered : goal.returns-in_ok-frame-in-Private-clause-entered
-returns-in_ok-frame-in-Private-clause-entered g c =
+pub returns-in_ok-frame-in-Some-clause-entered : goal.returns-in_ok-frame-in-Some-clause-entered
+returns-in_ok-frame-in-Some-clause-entered g c =
     let old : Picture = picture_of c.args.core.now in
     let mid : Picture = picture_of c.cached.new.core in
     let new : Picture = picture_of c.show_cached.new.core in
-    let first = c.in_ok-frame-in-Private.ensures in
+    let first = c.in_ok-frame-in-Some.ensures in
     let enters = c.show_cached.ensures.enters in
-    read_entered old new c.args.pid c.args.page c.args.attr c.args.access c.in_ok-frame-in-Private.frame.0 _ _ _ enters.fit c.show_cached.new.core.sound c.requires.allowed.mapped
+    read_entered old new c.args.pid c.args.page c.args.attr c.args.access c.in_ok-frame-in-Some.frame.0 _ _ _ enters.fit c.show_cached.new.core.sound c.requires.allowed.mapped
     (enters.spaces.at c.args.pid c.args.page ∙ first.proceeds.spaces.at c.args.pid c.args.page ∙ c.requires.allowed.mapped)
     (seen_then old mid new first.keeps (record { views = enters.views; touched = c.show_cached.ensures.files.touched })) c.show_cached.ensures.entry c.requires.reads c.requires.allowed.lets
 
-pub returns-in_ok-frame-in-Private-clause-ready : goal.returns-in_ok-frame-in-Private-clause-ready
-returns-in_ok-frame-in-Private-clause-ready g c =
+pub returns-in_ok-frame-in-Some-clause-ready : goal.returns-in_ok-frame-in-Some-clause-ready
+returns-in_ok-frame-in-Some-clause-ready g c =
     let old : Picture = picture_of c.args.core.now in
     let mid : Picture = picture_of c.cached.new.core in
     let new : Picture = picture_of c.show_cached.new.core in
-    let first = c.in_ok-frame-in-Private.ensures in
+    let first = c.in_ok-frame-in-Some.ensures in
     let enters = c.show_cached.ensures.enters in
-    read_ready old new c.args.pid c.args.page c.args.attr c.args.access c.in_ok-frame-in-Private.frame.0 _ _ _ enters.fit c.show_cached.new.core.sound c.requires.allowed.mapped
+    read_ready old new c.args.pid c.args.page c.args.attr c.args.access c.in_ok-frame-in-Some.frame.0 _ _ _ enters.fit c.show_cached.new.core.sound c.requires.allowed.mapped
     (enters.spaces.at c.args.pid c.args.page ∙ first.proceeds.spaces.at c.args.pid c.args.page ∙ c.requires.allowed.mapped)
     (seen_then old mid new first.keeps (record { views = enters.views; touched = c.show_cached.ensures.files.touched })) c.show_cached.ensures.entry c.requires.reads c.requires.allowed.lets
 
-pub returns-in_ok-frame-in-Private-clause-calm : goal.returns-in_ok-frame-in-Private-clause-calm
-returns-in_ok-frame-in-Private-clause-calm g c =
+pub returns-in_ok-frame-in-Some-clause-calm : goal.returns-in_ok-frame-in-Some-clause-calm
+returns-in_ok-frame-in-Some-clause-calm g c =
     let old : Picture = picture_of c.args.core.now in
     let none = seat_zero _ (sym c.entry_at-entry.ensures ∙ sym c.to_u64.ensures ∙ c.if-to_u64-ne0.false) in
-    let shows = shows_file old c.args.pid c.args.page c.args.attr c.in-Private.file_page c.requires.allowed.mapped c.in-Private.is none in
-    calm_then c.args.core.now c.cached.new.core c.args.pid c.args.page c.in-Private.file_page shows (λ n at. (c.in_ok-frame-in-Private.ensures.idle n at).0) c.show_cached.new.core c.args.access
+    let shows = shows_file old c.args.pid c.args.page c.args.attr c.in-Some.stored c.requires.allowed.mapped (sym c.stands_on.ensures ∙ c.in-Some.is) none in
+    calm_then c.args.core.now c.cached.new.core c.args.pid c.args.page c.in-Some.stored shows (λ n at. (c.in_ok-frame-in-Some.ensures.idle n at).0) c.show_cached.new.core c.args.access
     (λ none. c.show_cached.ensures.enters.calm)
 
-pub returns-in_ok-frame-in-Private-clause-read : goal.returns-in_ok-frame-in-Private-clause-read
-returns-in_ok-frame-in-Private-clause-read g c =
+pub returns-in_ok-frame-in-Some-clause-read : goal.returns-in_ok-frame-in-Some-clause-read
+returns-in_ok-frame-in-Some-clause-read g c =
     let old : Picture = picture_of c.args.core.now in
     let none = seat_zero _ (sym c.entry_at-entry.ensures ∙ sym c.to_u64.ensures ∙ c.if-to_u64-ne0.false) in
-    let shows = shows_file old c.args.pid c.args.page c.args.attr c.in-Private.file_page c.requires.allowed.mapped c.in-Private.is none in
-    read_then c.args.core.now c.cached.new.core c.args.pid c.args.page c.in-Private.file_page shows c.show_cached.new.core.store c.requires.linked.fit c.show_cached.ensures.enters.calm.store
-    c.in_ok-frame-in-Private.ensures.read
+    let shows = shows_file old c.args.pid c.args.page c.args.attr c.in-Some.stored c.requires.allowed.mapped (sym c.stands_on.ensures ∙ c.in-Some.is) none in
+    read_then c.args.core.now c.cached.new.core c.args.pid c.args.page c.in-Some.stored shows c.show_cached.new.core.store c.requires.linked.fit c.show_cached.ensures.enters.calm.store
+    c.in_ok-frame-in-Some.ensures.read
 
-pub returns-in_ok-frame-in-Private-clause-counts : goal.returns-in_ok-frame-in-Private-clause-counts
-returns-in_ok-frame-in-Private-clause-counts g c =
-    counts_then g.D.SectorDisk g.E.SectorDisk c.args.core.now c.cached.new.core c.show_cached.new.core c.in_ok-frame-in-Private.ensures.cause
+pub returns-in_ok-frame-in-Some-clause-counts : goal.returns-in_ok-frame-in-Some-clause-counts
+returns-in_ok-frame-in-Some-clause-counts g c =
+    counts_then g.D.SectorDisk g.E.SectorDisk c.args.core.now c.cached.new.core c.show_cached.new.core c.in_ok-frame-in-Some.ensures.cause
     (counts_calm g.D.SectorDisk g.E.SectorDisk c.cached.new.core c.show_cached.new.core c.args.pid c.args.page c.show_cached.ensures.enters.calm)
 
 pub returns-then-to_u64-ne0-clause-others : goal.returns-then-to_u64-ne0-clause-others
 returns-then-to_u64-ne0-clause-others g c = λ q k other. c.regrant.ensures.enters.views q k
 
-pub returns-in-Anon-clause-others : goal.returns-in-Anon-clause-others
-returns-in-Anon-clause-others g c = λ q k other. c.show_zero.ensures.enters.views q k
+pub returns-in-None-clause-others : goal.returns-in-None-clause-others
+returns-in-None-clause-others g c = λ q k other. c.show_zero.ensures.enters.views q k
 
-pub returns-in_err-frame-in-Private-clause-others : goal.returns-in_err-frame-in-Private-clause-others
-returns-in_err-frame-in-Private-clause-others g c = λ q k other. c.in_err-frame-in-Private.ensures.keeps.views q k
+pub returns-in_err-frame-in-Some-clause-others : goal.returns-in_err-frame-in-Some-clause-others
+returns-in_err-frame-in-Some-clause-others g c = λ q k other. c.in_err-frame-in-Some.ensures.keeps.views q k
 
-pub returns-in_ok-frame-in-Private-clause-others : goal.returns-in_ok-frame-in-Private-clause-others
-returns-in_ok-frame-in-Private-clause-others g c = λ q k other. c.show_cached.ensures.enters.views q k ∙ c.in_ok-frame-in-Private.ensures.keeps.views q k
+pub returns-in_ok-frame-in-Some-clause-others : goal.returns-in_ok-frame-in-Some-clause-others
+returns-in_ok-frame-in-Some-clause-others g c = λ q k other. c.show_cached.ensures.enters.views q k ∙ c.in_ok-frame-in-Some.ensures.keeps.views q k
 
 pub returns-then-to_u64-ne0-clause-slotted : goal.returns-then-to_u64-ne0-clause-slotted
 returns-then-to_u64-ne0-clause-slotted g c =
     slotted_calm (ShowsFile (picture_of c.args.core.now) c.args.pid c.args.page) c.args.core.now c.regrant.new.core c.args.pid c.args.page c.regrant.ensures.enters.calm
 
-pub returns-in-Anon-clause-slotted : goal.returns-in-Anon-clause-slotted
-returns-in-Anon-clause-slotted g c =
+pub returns-in-None-clause-slotted : goal.returns-in-None-clause-slotted
+returns-in-None-clause-slotted g c =
     slotted_calm (ShowsFile (picture_of c.args.core.now) c.args.pid c.args.page) c.args.core.now c.show_zero.new.core c.args.pid c.args.page c.show_zero.ensures.enters.calm
 
-pub returns-in_err-frame-in-Private-clause-slotted : goal.returns-in_err-frame-in-Private-clause-slotted
-returns-in_err-frame-in-Private-clause-slotted g c =
+pub returns-in_err-frame-in-Some-clause-slotted : goal.returns-in_err-frame-in-Some-clause-slotted
+returns-in_err-frame-in-Some-clause-slotted g c =
     let old : Picture = picture_of c.args.core.now in
     let none = seat_zero _ (sym c.entry_at-entry.ensures ∙ sym c.to_u64.ensures ∙ c.if-to_u64-ne0.false) in
-    let shows = shows_file old c.args.pid c.args.page c.args.attr c.in-Private.file_page c.requires.allowed.mapped c.in-Private.is none in
-    slotted_brought old (picture_of c.cached.new.core) c.args.pid c.args.page c.in-Private.file_page shows c.in_err-frame-in-Private.ensures.slotted
+    let shows = shows_file old c.args.pid c.args.page c.args.attr c.in-Some.stored c.requires.allowed.mapped (sym c.stands_on.ensures ∙ c.in-Some.is) none in
+    slotted_brought old (picture_of c.cached.new.core) c.args.pid c.args.page c.in-Some.stored shows c.in_err-frame-in-Some.ensures.slotted
 
-pub returns-in_ok-frame-in-Private-clause-slotted : goal.returns-in_ok-frame-in-Private-clause-slotted
-returns-in_ok-frame-in-Private-clause-slotted g c =
+pub returns-in_ok-frame-in-Some-clause-slotted : goal.returns-in_ok-frame-in-Some-clause-slotted
+returns-in_ok-frame-in-Some-clause-slotted g c =
     let old : Picture = picture_of c.args.core.now in
     let none = seat_zero _ (sym c.entry_at-entry.ensures ∙ sym c.to_u64.ensures ∙ c.if-to_u64-ne0.false) in
-    let shows = shows_file old c.args.pid c.args.page c.args.attr c.in-Private.file_page c.requires.allowed.mapped c.in-Private.is none in
-    slotted_on old (picture_of c.cached.new.core) c.args.pid c.args.page (picture_of c.show_cached.new.core) c.in-Private.file_page shows c.in_ok-frame-in-Private.ensures.slotted
+    let shows = shows_file old c.args.pid c.args.page c.args.attr c.in-Some.stored c.requires.allowed.mapped (sym c.stands_on.ensures ∙ c.in-Some.is) none in
+    slotted_on old (picture_of c.cached.new.core) c.args.pid c.args.page (picture_of c.show_cached.new.core) c.in-Some.stored shows c.in_ok-frame-in-Some.ensures.slotted
     (slotted_calm (λ p. ⊥) c.cached.new.core c.show_cached.new.core c.args.pid c.args.page c.show_cached.ensures.enters.calm)

@@ -1,8 +1,7 @@
-use Rattle.std.proofs.Common.{false, inl, inr, refl, ap, ◌∙◌}
+use Rattle.std.proofs.Common.{false, inl, refl, ap, ◌∙◌}
 use Rattle.vm_types.specs.declared.access.Access.TheVariants.{Store}
 use Rattle.swap.specs.Slots.{slots_of}
 use Rattle.paging.specs.Picture.{Picture, picture_of}
-use Rattle.paging.specs.Parts.{is_shared}
 use Rattle.mapping.proofs.Forms.{mapped_page, shared_none}
 use Rattle.mapping.proofs.Steps.{moves_entered}
 use Rattle.page_faults.proofs.Brought.{linked_then, read_then, calm_then, brings_wider, brings_on, stalled_away}
@@ -19,49 +18,49 @@ pub returns-clause-calm : goal.returns-clause-calm
 returns-clause-calm g c =
     let old : Picture = picture_of c.args.core.now in
     let none = shared_none old c.args.pid c.args.page c.args.attr c.requires.linked.fit.granting c.requires.allowed.mapped
-    (mapped_page old c.args.pid c.args.page c.args.attr c.requires.linked.fit.granting c.requires.allowed.mapped) (ap is_shared c.requires.shared) in
-    let shows = shows_file old c.args.pid c.args.page c.args.attr c.args.file_page c.requires.allowed.mapped (inr c.requires.shared) none in
-    calm_then c.args.core.now c.cached.new.core c.args.pid c.args.page c.args.file_page shows (λ n at. (c.in_ok-frame.ensures.idle n at).0) c.touch.new.core Store
+    (mapped_page old c.args.pid c.args.page c.args.attr c.requires.linked.fit.granting c.requires.allowed.mapped) c.requires.shared in
+    let shows = shows_file old c.args.pid c.args.page c.args.attr c.args.stored c.requires.allowed.mapped c.requires.stands none in
+    calm_then c.args.core.now c.cached.new.core c.args.pid c.args.page c.args.stored shows (λ n at. (c.in_ok-frame.ensures.idle n at).0) c.touch.new.core Store
     (λ none. c.touch.ensures.enters.calm)
 
 pub cached-requires-clause-inside : goal.cached-requires-clause-inside
 cached-requires-clause-inside g c =
-    page_inside (picture_of c.args.core.now).files c.args.attr.backing c.args.file_page (inr c.requires.shared) c.requires.allowed.inside
+    page_inside (picture_of c.args.core.now) c.args.pid c.args.page c.args.attr c.args.stored c.requires.linked c.requires.allowed.mapped c.requires.stands c.requires.allowed.inside
 
 pub returns-in_err-frame-clause-brings : goal.returns-in_err-frame-clause-brings
 returns-in_err-frame-clause-brings g c =
     let old : Picture = picture_of c.args.core.now in
     let none = shared_none old c.args.pid c.args.page c.args.attr c.requires.linked.fit.granting c.requires.allowed.mapped
-    (mapped_page old c.args.pid c.args.page c.args.attr c.requires.linked.fit.granting c.requires.allowed.mapped) (ap is_shared c.requires.shared) in
-    let shows = shows_file old c.args.pid c.args.page c.args.attr c.args.file_page c.requires.allowed.mapped (inr c.requires.shared) none in
-    brings_wider c.args.core.now c.cached.new.core c.args.pid c.args.page c.args.file_page shows g.D.SectorDisk g.E.SectorDisk c.in_err-frame.ensures.brings
+    (mapped_page old c.args.pid c.args.page c.args.attr c.requires.linked.fit.granting c.requires.allowed.mapped) c.requires.shared in
+    let shows = shows_file old c.args.pid c.args.page c.args.attr c.args.stored c.requires.allowed.mapped c.requires.stands none in
+    brings_wider c.args.core.now c.cached.new.core c.args.pid c.args.page c.args.stored shows g.D.SectorDisk g.E.SectorDisk c.in_err-frame.ensures.brings
 
 pub returns-in_err-frame-clause-calm : goal.returns-in_err-frame-clause-calm
 returns-in_err-frame-clause-calm g c unwanted =
     let old : Picture = picture_of c.args.core.now in
     let none = shared_none old c.args.pid c.args.page c.args.attr c.requires.linked.fit.granting c.requires.allowed.mapped
-    (mapped_page old c.args.pid c.args.page c.args.attr c.requires.linked.fit.granting c.requires.allowed.mapped) (ap is_shared c.requires.shared) in
-    let shows = shows_file old c.args.pid c.args.page c.args.attr c.args.file_page c.requires.allowed.mapped (inr c.requires.shared) none in
-    let there = page_there old c.args.pid c.args.page Store c.args.file_page shows unwanted in
+    (mapped_page old c.args.pid c.args.page c.args.attr c.requires.linked.fit.granting c.requires.allowed.mapped) c.requires.shared in
+    let shows = shows_file old c.args.pid c.args.page c.args.attr c.args.stored c.requires.allowed.mapped c.requires.stands none in
+    let there = page_there old c.args.pid c.args.page Store c.args.stored shows unwanted in
     absurd (c.in_err-frame.ensures.idle there.0 there.1).1
 
 pub returns-in_err-frame-clause-read : goal.returns-in_err-frame-clause-read
 returns-in_err-frame-clause-read g c =
     let old : Picture = picture_of c.args.core.now in
     let none = shared_none old c.args.pid c.args.page c.args.attr c.requires.linked.fit.granting c.requires.allowed.mapped
-    (mapped_page old c.args.pid c.args.page c.args.attr c.requires.linked.fit.granting c.requires.allowed.mapped) (ap is_shared c.requires.shared) in
-    let shows = shows_file old c.args.pid c.args.page c.args.attr c.args.file_page c.requires.allowed.mapped (inr c.requires.shared) none in
-    read_then c.args.core.now c.cached.new.core c.args.pid c.args.page c.args.file_page shows c.cached.new.core.store c.requires.linked.fit refl c.in_err-frame.ensures.read
+    (mapped_page old c.args.pid c.args.page c.args.attr c.requires.linked.fit.granting c.requires.allowed.mapped) c.requires.shared in
+    let shows = shows_file old c.args.pid c.args.page c.args.attr c.args.stored c.requires.allowed.mapped c.requires.stands none in
+    read_then c.args.core.now c.cached.new.core c.args.pid c.args.page c.args.stored shows c.cached.new.core.store c.requires.linked.fit refl c.in_err-frame.ensures.read
 
 pub returns-in_err-frame-clause-stalled : goal.returns-in_err-frame-clause-stalled
 returns-in_err-frame-clause-stalled g c =
     let old : Picture = picture_of c.args.core.now in
     let none = shared_none old c.args.pid c.args.page c.args.attr c.requires.linked.fit.granting c.requires.allowed.mapped
-    (mapped_page old c.args.pid c.args.page c.args.attr c.requires.linked.fit.granting c.requires.allowed.mapped) (ap is_shared c.requires.shared) in
-    let shows = shows_file old c.args.pid c.args.page c.args.attr c.args.file_page c.requires.allowed.mapped (inr c.requires.shared) none in
+    (mapped_page old c.args.pid c.args.page c.args.attr c.requires.linked.fit.granting c.requires.allowed.mapped) c.requires.shared in
+    let shows = shows_file old c.args.pid c.args.page c.args.attr c.args.stored c.requires.allowed.mapped c.requires.stands none in
     let done = c.in_err-frame.ensures in
     stalled_as g.D.SectorDisk g.E.SectorDisk c.args.core.now c.cached.new.core c.args.pid c.args.page Store c.from_residual.result c.in_err-frame.field-0.0 c.from_residual.ensures.1
-    (stalled_away c.args.core.now c.cached.new.core c.args.pid c.args.page c.args.file_page shows g.D.SectorDisk g.E.SectorDisk Store c.in_err-frame.field-0.0 c.requires.linked.fit done.keeps
+    (stalled_away c.args.core.now c.cached.new.core c.args.pid c.args.page c.args.stored shows g.D.SectorDisk g.E.SectorDisk Store c.in_err-frame.field-0.0 c.requires.linked.fit done.keeps
     (λ n at. (done.idle n at).1) done.cause done.short done.home)
 
 pub touch-requires-clause-linked : goal.touch-requires-clause-linked
@@ -85,13 +84,13 @@ pub returns-clause-brings : goal.returns-clause-brings
 returns-clause-brings g c =
     let old : Picture = picture_of c.args.core.now in
     let none = shared_none old c.args.pid c.args.page c.args.attr c.requires.linked.fit.granting c.requires.allowed.mapped
-    (mapped_page old c.args.pid c.args.page c.args.attr c.requires.linked.fit.granting c.requires.allowed.mapped) (ap is_shared c.requires.shared) in
-    let shows = shows_file old c.args.pid c.args.page c.args.attr c.args.file_page c.requires.allowed.mapped (inr c.requires.shared) none in
+    (mapped_page old c.args.pid c.args.page c.args.attr c.requires.linked.fit.granting c.requires.allowed.mapped) c.requires.shared in
+    let shows = shows_file old c.args.pid c.args.page c.args.attr c.args.stored c.requires.allowed.mapped c.requires.stands none in
     let first = c.in_ok-frame.ensures in
     let calm = c.touch.ensures.enters.calm in
     let device = (moves_entered g.E.SectorDisk c.cached.new.core c.touch.new.core c.args.pid c.args.page first.proceeds.swap c.touch.ensures.enters).device in
-    brings_on c.args.core.now c.cached.new.core c.args.pid c.args.page c.args.file_page shows g.D.SectorDisk g.E.SectorDisk c.touch.new.core first.brings first.keeps calm.store device
-    (λ q. inl (held_marked (picture_of c.cached.new.core) (picture_of c.touch.new.core) c.args.file_page c.touch.ensures.touches (ap slots_of calm.swap) q)) c.touch.ensures.touches.files
+    brings_on c.args.core.now c.cached.new.core c.args.pid c.args.page c.args.stored shows g.D.SectorDisk g.E.SectorDisk c.touch.new.core first.brings first.keeps calm.store device
+    (λ q. inl (held_marked (picture_of c.cached.new.core) (picture_of c.touch.new.core) c.args.stored c.touch.ensures.touches (ap slots_of calm.swap) q)) c.touch.ensures.touches.files
 
 pub returns-clause-ready : goal.returns-clause-ready
 returns-clause-ready g c =
@@ -101,9 +100,9 @@ returns-clause-ready g c =
     let first = c.in_ok-frame.ensures in
     let enters = c.touch.ensures.enters in
     let now = enters.spaces.at c.args.pid c.args.page ∙ first.proceeds.spaces.at c.args.pid c.args.page ∙ c.requires.allowed.mapped in
-    ready_shared old new c.args.pid c.args.page c.args.attr c.args.file_page c.in_ok-frame.frame.0 c.requires.shared
-    (touches_after old mid new c.args.file_page c.in_ok-frame.frame.0 first.keeps
-    (touched_entry mid new c.args.pid c.args.page c.args.attr c.args.file_page c.in_ok-frame.frame.0 enters.fit c.touch.new.core.sound now c.requires.shared
+    ready_shared old new c.args.pid c.args.page c.args.attr c.args.stored c.in_ok-frame.frame.0 c.requires.shared c.requires.stands
+    (touches_after old mid new c.args.stored c.in_ok-frame.frame.0 first.keeps
+    (touched_entry mid new c.args.pid c.args.page c.args.attr c.args.stored c.in_ok-frame.frame.0 enters.fit c.touch.new.core.sound now c.requires.shared c.requires.stands
     (reads_too new c.args.pid c.args.page c.args.attr enters.fit now c.requires.allowed.lets) c.touch.ensures.entry enters.views c.touch.ensures.touches.others))
 
 pub returns-clause-entered : goal.returns-clause-entered
@@ -117,17 +116,17 @@ returns-clause-entered g c =
     let readable = reads_too new c.args.pid c.args.page c.args.attr enters.fit now c.requires.allowed.lets in
     entered_store new c.args.pid c.args.page c.args.attr c.in_ok-frame.frame.0 false readable c.touch.ensures.entry
     (entered_ready Store mid new c.args.pid c.args.page c.args.attr c.in_ok-frame.frame.0
-    (ready_shared mid new c.args.pid c.args.page c.args.attr c.args.file_page c.in_ok-frame.frame.0 c.requires.shared
-    (touched_entry mid new c.args.pid c.args.page c.args.attr c.args.file_page c.in_ok-frame.frame.0 enters.fit c.touch.new.core.sound now c.requires.shared
+    (ready_shared mid new c.args.pid c.args.page c.args.attr c.args.stored c.in_ok-frame.frame.0 c.requires.shared c.requires.stands
+    (touched_entry mid new c.args.pid c.args.page c.args.attr c.args.stored c.in_ok-frame.frame.0 enters.fit c.touch.new.core.sound now c.requires.shared c.requires.stands
     readable c.touch.ensures.entry enters.views c.touch.ensures.touches.others)))
 
 pub returns-clause-read : goal.returns-clause-read
 returns-clause-read g c =
     let old : Picture = picture_of c.args.core.now in
     let none = shared_none old c.args.pid c.args.page c.args.attr c.requires.linked.fit.granting c.requires.allowed.mapped
-    (mapped_page old c.args.pid c.args.page c.args.attr c.requires.linked.fit.granting c.requires.allowed.mapped) (ap is_shared c.requires.shared) in
-    let shows = shows_file old c.args.pid c.args.page c.args.attr c.args.file_page c.requires.allowed.mapped (inr c.requires.shared) none in
-    read_then c.args.core.now c.cached.new.core c.args.pid c.args.page c.args.file_page shows c.touch.new.core.store c.requires.linked.fit c.touch.ensures.enters.calm.store c.in_ok-frame.ensures.read
+    (mapped_page old c.args.pid c.args.page c.args.attr c.requires.linked.fit.granting c.requires.allowed.mapped) c.requires.shared in
+    let shows = shows_file old c.args.pid c.args.page c.args.attr c.args.stored c.requires.allowed.mapped c.requires.stands none in
+    read_then c.args.core.now c.cached.new.core c.args.pid c.args.page c.args.stored shows c.touch.new.core.store c.requires.linked.fit c.touch.ensures.enters.calm.store c.in_ok-frame.ensures.read
 
 pub returns-clause-counts : goal.returns-clause-counts
 returns-clause-counts g c =
@@ -144,15 +143,15 @@ pub returns-in_err-frame-clause-slotted : goal.returns-in_err-frame-clause-slott
 returns-in_err-frame-clause-slotted g c =
     let old : Picture = picture_of c.args.core.now in
     let none = shared_none old c.args.pid c.args.page c.args.attr c.requires.linked.fit.granting c.requires.allowed.mapped
-    (mapped_page old c.args.pid c.args.page c.args.attr c.requires.linked.fit.granting c.requires.allowed.mapped) (ap is_shared c.requires.shared) in
-    let shows = shows_file old c.args.pid c.args.page c.args.attr c.args.file_page c.requires.allowed.mapped (inr c.requires.shared) none in
-    slotted_brought old (picture_of c.cached.new.core) c.args.pid c.args.page c.args.file_page shows c.in_err-frame.ensures.slotted
+    (mapped_page old c.args.pid c.args.page c.args.attr c.requires.linked.fit.granting c.requires.allowed.mapped) c.requires.shared in
+    let shows = shows_file old c.args.pid c.args.page c.args.attr c.args.stored c.requires.allowed.mapped c.requires.stands none in
+    slotted_brought old (picture_of c.cached.new.core) c.args.pid c.args.page c.args.stored shows c.in_err-frame.ensures.slotted
 
 pub returns-clause-slotted : goal.returns-clause-slotted
 returns-clause-slotted g c =
     let old : Picture = picture_of c.args.core.now in
     let none = shared_none old c.args.pid c.args.page c.args.attr c.requires.linked.fit.granting c.requires.allowed.mapped
-    (mapped_page old c.args.pid c.args.page c.args.attr c.requires.linked.fit.granting c.requires.allowed.mapped) (ap is_shared c.requires.shared) in
-    let shows = shows_file old c.args.pid c.args.page c.args.attr c.args.file_page c.requires.allowed.mapped (inr c.requires.shared) none in
-    slotted_on old (picture_of c.cached.new.core) c.args.pid c.args.page (picture_of c.touch.new.core) c.args.file_page shows c.in_ok-frame.ensures.slotted
+    (mapped_page old c.args.pid c.args.page c.args.attr c.requires.linked.fit.granting c.requires.allowed.mapped) c.requires.shared in
+    let shows = shows_file old c.args.pid c.args.page c.args.attr c.args.stored c.requires.allowed.mapped c.requires.stands none in
+    slotted_on old (picture_of c.cached.new.core) c.args.pid c.args.page (picture_of c.touch.new.core) c.args.stored shows c.in_ok-frame.ensures.slotted
     (slotted_calm (λ p. ⊥) c.cached.new.core c.touch.new.core c.args.pid c.args.page c.touch.ensures.enters.calm)

@@ -2,7 +2,7 @@ use Rattle.std.proofs.Common.{◌≤◌, inl, inr, refl, sym, ◌∙◌, arith}
 use Rattle.paging.specs.Picture.{Picture, picture_of}
 use Rattle.page_ranges.specs.Rows.{IsUnmapped}
 use Rattle.page_ranges.proofs.ClearedPages.{rest-refl, rest_then, clears_none, clears_then}
-use Rattle.page_ranges.proofs.Passed.{clears_on, cleared_on, row_passed, slots_passed, tables_passed}
+use Rattle.page_ranges.proofs.Passed.{clears_on, cleared_on, row_passed, files_passed, slots_passed, tables_passed}
 use Rattle.page_ranges.proofs.Pruned.{cleared_none}
 use Rattle.page_ranges.proofs.clearing.clear_row.Goals as goal
 
@@ -67,4 +67,10 @@ pub returns-clause-slots : goal.returns-clause-slots
 returns-clause-slots g c =
     let k = c.loop-part.invariant in
     slots_passed (picture_of c.args.core.now) (picture_of c.loop-part.core) c.args.pid c.args.first c.args.pages c.max-page.result c.loop-part.page c.requires.fit k.fit.granting k.clears k.cleared
+    c.requires.row c.max-page.ensures k.low k.high (λ page least below. sym (c.regions.ensures page) ∙ c.in_default.ensures.none page least below)
+
+pub returns-clause-files : goal.returns-clause-files
+returns-clause-files g c =
+    let k = c.loop-part.invariant in
+    files_passed (picture_of c.args.core.now) (picture_of c.loop-part.core) c.args.pid c.args.first c.args.pages c.max-page.result c.loop-part.page c.requires.fit k.fit.granting k.clears k.cleared
     c.requires.row c.max-page.ensures k.low k.high (λ page least below. sym (c.regions.ensures page) ∙ c.in_default.ensures.none page least below)

@@ -1,12 +1,12 @@
 use Rattle.std.proofs.Common.{◌≡◌, ◌≢◌, ℕ, inl, inr, Some, refl, sym, ap, ◌∙◌, subst, arith}
 use Rattle.frames.specs.declared.role.Role.TheVariants.{Private, Cache}
-use Rattle.vm_types.specs.declared.file.FilePage.{FilePage}
+use Rattle.vm_types.specs.declared.object.PageKey.{PageKey}
 use Rattle.frames.specs.FrameTable.{bytes_of}
 use Rattle.swap.specs.Slots.{SlotTable, slots_of, IsInUse}
 use Rattle.page_cache.specs.declared.place.Place.TheVariants.{Frame, Slot}
 use Rattle.page_cache.specs.CacheTable.{place_of, is_touched}
 use Rattle.paging.specs.Seats.{InSlot}
-use Rattle.paging.specs.Picture.{Picture, picture_of, entry, held, bytes_at}
+use Rattle.paging.specs.Picture.{Picture, picture_of, entry, held, bytes_at, is_data}
 use Rattle.paging.proofs.Leaving.{Leaves, fit_slot, left_spares, unnamed_of}
 use Rattle.paging.proofs.Places.{cases_page}
 use Rattle.paging.proofs.Puts.{fit_put}
@@ -14,7 +14,7 @@ use Rattle.paging.proofs.Putting.{put_spares, fit_unput, with_slots, kept_by, ow
 use Rattle.paging.proofs.Sparing.{forgotten_spares, spares_then, past_unused}
 use Rattle.paging.proofs.evicting.send_away.Goals as goal
 
-held_there : (old new : Picture) (p : FilePage) (v k : ℕ) → old.place p ≡ Frame (record { 0 = v }) → new.place p ≡ Slot (record { 0 = k }) → new.slots.bytes k ≡ bytes_of old.frames v → held new p ≡ held old p
+held_there : (old new : Picture) (p : PageKey) (v k : ℕ) → old.place p ≡ Frame (record { 0 = v }) → new.place p ≡ Slot (record { 0 = k }) → new.slots.bytes k ≡ bytes_of old.frames v → held new p ≡ held old p
 unfolding held
 held_there old new p v k at now same = ap (λ x. bytes_at new.frames new.slots x) now ∙ ap (λ b. Some b) same ∙ sym (ap (λ x. bytes_at old.frames old.slots x) at)
 
@@ -116,3 +116,26 @@ returns-in-Err-Device-clause-gives g c =
 
 pub returns-in-Err-Device-clause-still : goal.returns-in-Err-Device-clause-still
 returns-in-Err-Device-clause-still g c = λ n. c.change_leaves.ensures.changes.roles n
+
+pub change_leaves-requires-clause-data : goal.change_leaves-requires-clause-data
+change_leaves-requires-clause-data g c = ap is_data (c.requires.fit.places.cached c.args.page c.args.victim.0 c.requires.placed)
+
+pub change_leaves-requires-clause-filed : goal.change_leaves-requires-clause-filed
+change_leaves-requires-clause-filed g c = λ e. c.requires.fit.places.cached c.args.page c.args.victim.0 c.requires.placed
+
+pub set_place-requires-clause-free : goal.set_place-requires-clause-free
+set_place-requires-clause-free g c = λ p ne at.
+    let one = c.change_leaves.ensures.fit.places.slotted p c.in-Ok.slot.0 at in
+    let none = c.in-Ok.ensures.puts.was_free in
+    absurd (omega (arith, one, none))
+
+pub release-requires : goal.release-requires
+release-requires g c =
+    let ch = c.change_leaves.ensures.changes in
+    let cache = c.change_leaves.ensures.fit.places.cached c.args.page c.args.victim.0 (ch.beside.place c.args.page ∙ c.requires.placed) in
+    record { inside = (let e = ch.frames in let inside = c.requires.inside in omega (arith, e, inside)); handed_out = rw cache refl }
+
+pub returns-in-Ok-clause-free : goal.returns-in-Ok-clause-free
+returns-in-Ok-clause-free g c =
+    let cache = c.change_leaves.ensures.fit.places.cached c.args.page c.args.victim.0 (c.change_leaves.ensures.changes.beside.place c.args.page ∙ c.requires.placed) in
+    c.release.ensures.alone (λ own. (let bad : Private ≡ Cache = sym own ∙ cache in (cc)))

@@ -1,17 +1,17 @@
-use Rattle.std.proofs.Common.{◌≡◌, inl, inr, None, refl, sym, ap, ◌∙◌}
-use Rattle.vm_types.specs.declared.file.FilePage.{FilePage}
+use Rattle.std.proofs.Common.{◌≡◌, inl, inr, None, refl, sym, ap, ◌∙◌, arith}
+use Rattle.vm_types.specs.declared.object.PageKey.{PageKey}
 use Rattle.frames.specs.declared.role.Role.TheVariants.{Zero, Private, Cache}
 use Rattle.frames.specs.FrameTable.{role_of}
 use Rattle.page_cache.specs.declared.place.Place.TheVariants.{Home}
 use Rattle.page_cache.specs.CacheTable.{place_of, is_touched}
-use Rattle.paging.specs.Picture.{Picture, picture_of, held, bytes_at}
+use Rattle.paging.specs.Picture.{Picture, picture_of, held, bytes_at, is_data}
 use Rattle.paging.specs.Parts.{nowhere}
 use Rattle.paging.proofs.Leaving.{Leaves, fit_home, left_spares, unnamed_of}
 use Rattle.paging.proofs.Places.{cases_page}
 use Rattle.paging.proofs.Sparing.{forgotten_spares, spares_then}
 use Rattle.paging.proofs.evicting.send_home.Goals as goal
 
-gone_home : (c : Picture) (p : FilePage) → c.place p ≡ Home → held c p ≡ None
+gone_home : (c : Picture) (p : PageKey) → c.place p ≡ Home → held c p ≡ None
 unfolding held
 gone_home c p home = ap (λ x. bytes_at c.frames c.slots x) home
 
@@ -72,3 +72,20 @@ returns-clause-spares g c = λ k.
     spares_then c.args.victim.0 k old mid new (forgotten_spares c.args.victim.0 k old mid c.requires.fit (c.requires.fit.places.cached c.args.page c.args.victim.0 c.requires.placed) ch)
     (left_spares mid new c.args.page c.args.victim.0 Home nowhere 0 c.change_leaves.ensures.fit leaves (unnamed_of mid c.args.victim.0 c.change_leaves.ensures.clear) k
     (inr (gone_home new c.args.page c.set_place.ensures.placed, ch.beside.touched c.args.page ∙ c.requires.untouched)))
+
+pub change_leaves-requires-clause-data : goal.change_leaves-requires-clause-data
+change_leaves-requires-clause-data g c = ap is_data (c.requires.fit.places.cached c.args.page c.args.victim.0 c.requires.placed)
+
+pub change_leaves-requires-clause-filed : goal.change_leaves-requires-clause-filed
+change_leaves-requires-clause-filed g c = λ e. c.requires.fit.places.cached c.args.page c.args.victim.0 c.requires.placed
+
+pub release-requires : goal.release-requires
+release-requires g c =
+    let ch = c.change_leaves.ensures.changes in
+    let cache = c.change_leaves.ensures.fit.places.cached c.args.page c.args.victim.0 (ch.beside.place c.args.page ∙ c.requires.placed) in
+    record { inside = (let e = ch.frames in let inside = c.requires.inside in omega (arith, e, inside)); handed_out = rw cache refl }
+
+pub returns-clause-free : goal.returns-clause-free
+returns-clause-free g c =
+    let cache = c.change_leaves.ensures.fit.places.cached c.args.page c.args.victim.0 (c.change_leaves.ensures.changes.beside.place c.args.page ∙ c.requires.placed) in
+    c.release.ensures.alone (λ own. (let bad : Private ≡ Cache = sym own ∙ cache in (cc)))

@@ -1,4 +1,4 @@
-use Rattle.std.proofs.Common.{◌≡◌, ℕ, ◌-◌, ◌∙◌, ap, sym, subst, arith}
+use Rattle.std.proofs.Common.{◌≡◌, ◌-◌, ◌∙◌, ap, sym, subst, arith}
 use Rattle.sv39_walk.specs.Entry.{is_accessed, is_dirty}
 use Rattle.paging.specs.Leaves.{Drops}
 use Rattle.paging.proofs.Bits.{bit_seven, drops_seven, seven_clear, seven_accessed}

@@ -1,4 +1,3 @@
-use Rattle.std.proofs.Common.{refl}
 use Rattle.stop_trials.proofs.Contents.{known_file}
 use Rattle.stop_trials.proofs.recovery.add_file.Goals as goal
 

@@ -1,8 +1,8 @@
-use Rattle.std.proofs.Common.{⊎_elim, arith, ◌∙◌, ◌≡◌, inr}
+use Rattle.std.proofs.Common.{◌∙◌, inr}
 use Rattle.disk_model.proofs.Moments.{wider}
-use Rattle.sync_journal.specs.Layout.{map_sector, IsJournalSector, IsPublished}
+use Rattle.sync_journal.specs.Layout.{IsJournalSector, IsPublished}
 use Rattle.sync_journal.proofs.Runs.{published}
-use Rattle.sync_journal.proofs.Phases.{while_staging, while_staging_either, staged_settled, while_opening, opened_settled, opened_live, opened_outside}
+use Rattle.sync_journal.proofs.Phases.{while_staging, while_staging_either, staged_settled, while_opening, opened_settled, opened_live, opened_outside, gate_leaves_map}
 use Rattle.sync_journal.proofs.publish.publish.Goals as goal
 
 pub returns-in_err-stage-clause-source_moments : goal.returns-in_err-stage-clause-source_moments
@@ -86,6 +86,4 @@ returns-clause-touches g c = λ keeps.
 
 pub returns-clause-map : goal.returns-clause-map
 returns-clause-map g c = λ keeps.
-    let d = g.D.SectorDisk in
-    ⊎_elim {C = d.content c.open_gate.new.disk map_sector ≡ d.content c.stage.new.disk map_sector} (λ at. absurd (omega (arith, at))) (λ e. e) ((c.open_gate.ensures.run.touches keeps).content map_sector)
-    ∙ c.in_ok-stage.ensures.map (c.open_gate.ensures.run.kept keeps)
+    gate_leaves_map g.D.SectorDisk c.stage.new.disk c.open_gate.new.disk (c.open_gate.ensures.run.touches keeps) ∙ c.in_ok-stage.ensures.map (c.open_gate.ensures.run.kept keeps)

@@ -1,18 +1,21 @@
-use Rattle.std.proofs.Common.{ap, sym, subst, ◌∙◌}
+use Rattle.std.proofs.Common.{length, ap, sym, subst, ◌∙◌}
 use Rattle.disk_model.specs.Stop.{Image}
-use Rattle.sync_journal.specs.Layout.{map_sector, home_count}
+use Rattle.sync_journal.specs.Layout.{home_count}
 use Rattle.sync_journal.specs.Gate.{is_open_sector}
 use Rattle.sync_journal.specs.Map.{IsBadMap}
+use Rattle.sync_journal.specs.Standing.{map_of}
 use Rattle.sync_journal.proofs.recovery.find_open.Goals as goal
 
 pub returns-in-None-clause-finds : goal.returns-in-None-clause-finds
 returns-in-None-clause-finds g c = λ keeps.
     let first = c.in_ok-read.ensures in
-    let second = c.in_ok-read-2.ensures in
+    let second = c.in_ok-read_page.ensures in
     let before = second.kept keeps in
     let count = c.home_count.ensures ∙ ap home_count (c.sectors.ensures ∙ second.size ∙ first.size) in
-    let map = second.gives keeps ∙ ap (λ (image : Image). image map_sector) (first.same before) in
+    let map = second.read keeps ∙ ap (λ (image : Image). map_of image) (first.same before) in
     record {
       gate = ap is_open_sector (sym (first.gives before)) ∙ sym c.is_open_gate.ensures ∙ c.if-not-is_open_gate.false;
-      map = subst (λ m. IsBadMap (home_count (g.D.SectorDisk.sector_count c.args.disk.now)) m) map (subst (λ n. IsBadMap n c.read-2.new.to) count c.in-None.ensures);
+      map = subst (λ n. IsBadMap n (home_count (g.D.SectorDisk.sector_count c.args.disk.now)) (map_of (g.D.SectorDisk.content c.args.disk.now))) c.told-homes
+          (subst (λ m. IsBadMap (length c.args.homes.now) (home_count (g.D.SectorDisk.sector_count c.args.disk.now)) m) map
+          (subst (λ n. IsBadMap (length c.args.homes.now) n c.read_page.new.to) count c.in-None.ensures));
     }

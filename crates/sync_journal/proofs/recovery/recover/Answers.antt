@@ -7,6 +7,15 @@ use Rattle.sync_journal.specs.Layout.{IsRecovered}
 use Rattle.sync_journal.proofs.Recoveries.{while_reading, while_replaying, bad_since, bad_still, since_first}
 use Rattle.sync_journal.proofs.recovery.recover.Goals as goal
 
+pub returns-in_err-sync-clause-any_moment : goal.returns-in_err-sync-clause-any_moment
+returns-in_err-sync-clause-any_moment g c = λ keeps synced.
+    let d = g.D.SectorDisk in
+    let s = c.sync.ensures in
+    let old = c.args.disk.now in
+    let mid = c.sync.new.self in
+    while_reading d old mid mid (after_none d Nothing old mid (s.same keeps) (s.unsynced keeps) (s.time keeps))
+    (λ image left. g.met.D.SectorDisk.only_now old image (s.kept keeps) left) synced
+
 pub returns-in_err-sync-clause-in_a_row : goal.returns-in_err-sync-clause-in_a_row
 returns-in_err-sync-clause-in_a_row g c = λ keeps synced first was.
     let d = g.D.SectorDisk in

@@ -1,10 +1,14 @@
+use Rattle.trace_lang.proofs.Nothing.{none≢some}
 use Rattle.trace_lang.proofs.forms.msync_of.Goals as goal
 
-pub returns-in_default-clause-only : goal.returns-in_default-clause-only
-returns-in_default-clause-only c = λ pid addr len mode p a l m. cc (c.parse_number.ensures.only _ p)
+pub returns-in_err-pid-clause-only : goal.returns-in_err-pid-clause-only
+returns-in_err-pid-clause-only c = λ pid addr len mode p a l m. absurd (c.in_err-pid.ensures.none _ p)
 
-pub returns-in_default-parse_number-clause-only : goal.returns-in_default-parse_number-clause-only
-returns-in_default-parse_number-clause-only c = λ pid addr len mode p a l m. cc (c.parse_number-2.ensures.only _ a)
+pub returns-in_err-addr-clause-only : goal.returns-in_err-addr-clause-only
+returns-in_err-addr-clause-only c = λ pid addr len mode p a l m. absurd (c.in_err-addr.ensures.none _ a)
 
-pub returns-in_default-parse_number-2-clause-only : goal.returns-in_default-parse_number-2-clause-only
-returns-in_default-parse_number-2-clause-only c = λ pid addr len mode p a l m. cc (c.parse_number-3.ensures.only _ l)
+pub returns-in_err-len-clause-only : goal.returns-in_err-len-clause-only
+returns-in_err-len-clause-only c = λ pid addr len mode p a l m. absurd (c.in_err-len.ensures.none _ l)
+
+pub returns-in_err-mode-clause-only : goal.returns-in_err-mode-clause-only
+returns-in_err-mode-clause-only c = λ pid addr len mode p a l m. absurd (none≢some (c.in_err-mode.ensures.only _ m))

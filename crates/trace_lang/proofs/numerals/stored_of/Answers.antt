@@ -24,12 +24,14 @@ only_stored : (r : Option StoredValue) (width : Width) (value : ℕ) (stored : S
 only_stored None width value stored found some w v = cc
 only_stored (Some s) width value stored found some w v = ap (λ x. Some x) (same_stored s stored (found.0 ∙ sym w) (found.1 ∙ sym v))
 
-pub returns-in_default-clause-only : goal.returns-in_default-clause-only
-returns-in_default-clause-only c = λ stored w h f. cc (c.parse_number.ensures.only _ h)
+pub returns-in_err-value-clause-only : goal.returns-in_err-value-clause-only
+returns-in_err-value-clause-only c = λ stored w h f. absurd (c.in_err-value.ensures.none _ h)
+
+same_value : (a b : ℕ) → Some a ≡ Some b → b ≡ a
+same_value a b e = cc
 
 pub returns-clause-only : goal.returns-clause-only
 returns-clause-only c = λ stored w h f.
-    let o = c.parse_number.ensures.only stored.value h in
-    let e : stored.value ≡ c.in-Some.value = cc in
+    let e = same_value _ _ (c.in_ok-value.ensures.only stored.value h) in
     let P : ℕ → Type 0 = λ v. v < 2 ^ (8 * byte_count c.args.width) in
     only_stored _ _ _ stored c.new.ensures.found (c.new.ensures.fits.1 (subst P e f)) w e

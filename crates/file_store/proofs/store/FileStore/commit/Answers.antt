@@ -16,28 +16,28 @@ use Rattle.file_store.proofs.Rests.{ready_again}
 use Rattle.file_store.proofs.Changed.{are_homes, homes_front, stands_changed, stands_either, homes_put, homes_either}
 use Rattle.file_store.proofs.store.FileStore.commit.Goals as goal
 
-pub homes_of-homes-requires-clause-inside : goal.homes_of-homes-requires-clause-inside
-homes_of-homes-requires-clause-inside g c = λ i p at.
+pub fill_homes-requires-clause-inside : goal.fill_homes-requires-clause-inside
+fill_homes-requires-clause-inside g c = λ i p at.
     entry_page (g.D.SectorDisk.sector_count c.args.self.now.disk) c.args.self.now.directory c.requires.ready.sound p (c.requires.pages.inside i p at)
 
 pub commit-requires-clause-homes : goal.commit-requires-clause-homes
 commit-requires-clause-homes g c =
     let sectors = g.D.SectorDisk.sector_count c.args.self.now.disk in
     let directory = c.args.self.now.directory in
-    let long : length c.homes_of-homes.result ≡ 127 = search rules in
-    let of_list = homes_front directory c.args.pages.now c.homes_of-homes.result (let few = c.requires.pages.few in omega (arith, few, long)) c.homes_of-homes.ensures
+    let long : length c.fill_homes.new.homes ≡ 1023 = c.fill_homes.ensures.long in
+    let of_list = homes_front directory c.args.pages.now c.fill_homes.new.homes (let few = c.requires.pages.few in omega (arith, few, long)) c.fill_homes.ensures.homes
     (λ i p at. entry_page sectors directory c.requires.ready.sound p (c.requires.pages.inside i p at)) in
-    are_homes sectors directory (files_of c.args.self.now) c.args.pages.now (take (length c.args.pages.now) c.homes_of-homes.result) c.requires.ready.sound c.requires.pages of_list
+    are_homes sectors directory (files_of c.args.self.now) c.args.pages.now (take (length c.args.pages.now) c.fill_homes.new.homes) c.requires.ready.sound c.requires.pages of_list
 
 pub returns-clause-ready : goal.returns-clause-ready
 returns-clause-ready g c =
     let sectors = g.D.SectorDisk.sector_count c.args.self.now.disk in
     let directory = c.args.self.now.directory in
-    let long : length c.homes_of-homes.result ≡ 127 = search rules in
-    let of_list = homes_front directory c.args.pages.now c.homes_of-homes.result (let few = c.requires.pages.few in omega (arith, few, long)) c.homes_of-homes.ensures
+    let long : length c.fill_homes.new.homes ≡ 1023 = c.fill_homes.ensures.long in
+    let of_list = homes_front directory c.args.pages.now c.fill_homes.new.homes (let few = c.requires.pages.few in omega (arith, few, long)) c.fill_homes.ensures.homes
     (λ i p at. entry_page sectors directory c.requires.ready.sound p (c.requires.pages.inside i p at)) in
-    ready_again g.D.SectorDisk c.commit.result c.args.self.now c.commit.new.disk c.commit.new.self (take (length c.args.pages.now) c.homes_of-homes.result) c.requires.ready
-    c.commit.ensures.size c.commit.ensures.kept (are_homes sectors directory (files_of c.args.self.now) c.args.pages.now (take (length c.args.pages.now) c.homes_of-homes.result) c.requires.ready.sound c.requires.pages of_list) c.commit.ensures.live c.commit.ensures.rest c.commit.ensures.outside
+    ready_again g.D.SectorDisk c.commit.result c.args.self.now c.commit.new.disk c.commit.new.self (take (length c.args.pages.now) c.fill_homes.new.homes) c.requires.ready
+    c.commit.ensures.size c.commit.ensures.kept (are_homes sectors directory (files_of c.args.self.now) c.args.pages.now (take (length c.args.pages.now) c.fill_homes.new.homes) c.requires.ready.sound c.requires.pages of_list) c.commit.ensures.live c.commit.ensures.rest c.commit.ensures.outside
 
 pub returns-clause-asks : goal.returns-clause-asks
 returns-clause-asks g c = let a = c.commit.ensures.asks.follows.1 in search rules
@@ -50,10 +50,10 @@ returns-clause-any_moment g c = λ k ks files before after left changes.
     let list = c.args.pages.now in
     let given = g.S.PageSource.pages c.args.source.now in
     let old = g.D.SectorDisk.content c.args.self.now.disk in
-    let homes = take (length list) c.homes_of-homes.result in
+    let homes = take (length list) c.fill_homes.new.homes in
     let rest = c.requires.ready.at_rest (c.commit.ensures.kept k) in
-    let long : length c.homes_of-homes.result ≡ 127 = search rules in
-    let of_list = homes_front directory list c.homes_of-homes.result (let few = c.requires.pages.few in omega (arith, few, long)) c.homes_of-homes.ensures
+    let long : length c.fill_homes.new.homes ≡ 1023 = c.fill_homes.ensures.long in
+    let of_list = homes_front directory list c.fill_homes.new.homes (let few = c.requires.pages.few in omega (arith, few, long)) c.fill_homes.ensures.homes
     (λ i p at. entry_page sectors directory c.requires.ready.sound p (c.requires.pages.inside i p at)) in
     let was = has_content g.D.SectorDisk c.args.self.now.disk (StandsFor sectors files before) left in
     weaker g.D.SectorDisk c.args.self.now.disk c.commit.new.disk
@@ -70,10 +70,10 @@ returns-clause-ok g c = λ k ks files before after left changes.
     let list = c.args.pages.now in
     let given = g.S.PageSource.pages c.args.source.now in
     let old = g.D.SectorDisk.content c.args.self.now.disk in
-    let homes = take (length list) c.homes_of-homes.result in
+    let homes = take (length list) c.fill_homes.new.homes in
     let rest = c.requires.ready.at_rest (c.commit.ensures.kept k) in
-    let long : length c.homes_of-homes.result ≡ 127 = search rules in
-    let of_list = homes_front directory list c.homes_of-homes.result (let few = c.requires.pages.few in omega (arith, few, long)) c.homes_of-homes.ensures
+    let long : length c.fill_homes.new.homes ≡ 1023 = c.fill_homes.ensures.long in
+    let of_list = homes_front directory list c.fill_homes.new.homes (let few = c.requires.pages.few in omega (arith, few, long)) c.fill_homes.ensures.homes
     (λ i p at. entry_page sectors directory c.requires.ready.sound p (c.requires.pages.inside i p at)) in
     let was = has_content g.D.SectorDisk c.args.self.now.disk (StandsFor sectors files before) left in
     on_ok_weaker c.commit.result (λ settled image may. stands_changed sectors directory list homes given old image c.requires.ready.sound rest.directory of_list
@@ -103,10 +103,10 @@ returns-clause-homes g c = λ k ks.
     let list = c.args.pages.now in
     let given = g.S.PageSource.pages c.args.source.now in
     let old = g.D.SectorDisk.content c.args.self.now.disk in
-    let homes = take (length list) c.homes_of-homes.result in
+    let homes = take (length list) c.fill_homes.new.homes in
     let rest = c.requires.ready.at_rest (c.commit.ensures.kept k) in
-    let long : length c.homes_of-homes.result ≡ 127 = search rules in
-    let of_list = homes_front directory list c.homes_of-homes.result (let few = c.requires.pages.few in omega (arith, few, long)) c.homes_of-homes.ensures
+    let long : length c.fill_homes.new.homes ≡ 1023 = c.fill_homes.ensures.long in
+    let of_list = homes_front directory list c.fill_homes.new.homes (let few = c.requires.pages.few in omega (arith, few, long)) c.fill_homes.ensures.homes
     (λ i p at. entry_page sectors directory c.requires.ready.sound p (c.requires.pages.inside i p at)) in
     let are = are_homes sectors directory (files_of c.args.self.now) list homes c.requires.ready.sound c.requires.pages of_list in
     on_ok_weaker c.commit.result (λ settled image may. homes_put sectors directory list homes given old image c.requires.ready.sound rest.directory of_list
@@ -120,10 +120,10 @@ returns-clause-homes_moment g c = λ k ks.
     let list = c.args.pages.now in
     let given = g.S.PageSource.pages c.args.source.now in
     let old = g.D.SectorDisk.content c.args.self.now.disk in
-    let homes = take (length list) c.homes_of-homes.result in
+    let homes = take (length list) c.fill_homes.new.homes in
     let rest = c.requires.ready.at_rest (c.commit.ensures.kept k) in
-    let long : length c.homes_of-homes.result ≡ 127 = search rules in
-    let of_list = homes_front directory list c.homes_of-homes.result (let few = c.requires.pages.few in omega (arith, few, long)) c.homes_of-homes.ensures
+    let long : length c.fill_homes.new.homes ≡ 1023 = c.fill_homes.ensures.long in
+    let of_list = homes_front directory list c.fill_homes.new.homes (let few = c.requires.pages.few in omega (arith, few, long)) c.fill_homes.ensures.homes
     (λ i p at. entry_page sectors directory c.requires.ready.sound p (c.requires.pages.inside i p at)) in
     let are = are_homes sectors directory (files_of c.args.self.now) list homes c.requires.ready.sound c.requires.pages of_list in
     weaker g.D.SectorDisk c.args.self.now.disk c.commit.new.disk

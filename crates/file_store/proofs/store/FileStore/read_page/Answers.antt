@@ -1,4 +1,4 @@
-use Rattle.std.proofs.Common.{◌≡◌, ◌+◌, ◌<◌, ℕ, List, sym, ap, subst, ◌∙◌}
+use Rattle.std.proofs.Common.{◌<◌, sym, ap, subst, ◌∙◌}
 use Rattle.sync_journal.specs.Layout.{home_count}
 use Rattle.sync_journal.specs.Standing.{standing}
 use Rattle.disk_model.specs.Sectors.{joined}

@@ -1,5 +1,5 @@
 use Rattle.std.proofs.Common.{◌≡◌, ◌≢◌, ℕ, ◌+◌, ◌<◌, length, set, Some, None, sym, ◌∙◌, arith}
-use Rattle.vm_types.specs.declared.file.FilePage.{FilePage}
+use Rattle.vm_types.specs.declared.object.PageKey.{PageKey}
 use Rattle.page_cache.specs.declared.place.Place.TheVariants.{Home}
 use Rattle.page_cache.specs.declared.index.Index.{Index}
 use Rattle.page_cache.specs.declared.cache.PageCache.TheInside.{Inside}
@@ -12,7 +12,7 @@ use Rattle.page_cache.proofs.Changes.{nothing_held, unmarked, same_set, given-pl
 use Rattle.page_cache.proofs.cache.PageCache.hold.Goals as goal
 
 -- what the caller keeps, of the fields
-free_of : (cache : Inside) (now : CacheTable) (node : ℕ) → table_of cache ≡ now → IsWholeCache cache → ((p : FilePage) → place_of now p ≢ place_in (frame_count now) (Some node))
+free_of : (cache : Inside) (now : CacheTable) (node : ℕ) → table_of cache ≡ now → IsWholeCache cache → ((p : PageKey) → place_of now p ≢ place_in (frame_count now) (Some node))
     → page_at cache.index.pages.items node ≡ None
 free_of cache now node is whole nobody =
     let here = rw (← is) at nobody in
@@ -23,10 +23,10 @@ inside_of cache now node is whole below =
     let here = rw (← is) at below in
     omega (arith, here, whole.least_nodes)
 
-home_of : (cache : Inside) (now : CacheTable) (page : FilePage) → table_of cache ≡ now → place_of now page ≡ Home → place_of (table_of cache) page ≡ Home
+home_of : (cache : Inside) (now : CacheTable) (page : PageKey) → table_of cache ≡ now → place_of now page ≡ Home → place_of (table_of cache) page ≡ Home
 home_of cache now page is home = rw (← is) at home
 
-found_at : (cache : Inside) (now : CacheTable) (index : Index) (node : ℕ) (page : FilePage) → table_of cache ≡ now → IsWholeCache cache
+found_at : (cache : Inside) (now : CacheTable) (index : Index) (node : ℕ) (page : PageKey) → table_of cache ≡ now → IsWholeCache cache
     → node < frame_count now + slot_count now → place_of now page ≡ Home → index.pages.items ≡ set cache.index.pages.items node (Some page)
     → first_node index.pages.items page ≡ Some node
 found_at cache now index node page is whole below home pages =

@@ -1,7 +1,8 @@
 use Rattle.std.proofs.Common.{◌≡◌, inl, inr, refl, sym, ap, ◌∙◌, subst, arith}
-use Rattle.vm_types.specs.declared.file.FilePage.{FilePage}
+use Rattle.vm_types.specs.declared.object.PageKey.{PageKey}
 use Rattle.frames.specs.declared.role.Role.TheVariants.{Free, Private, Cache}
 use Rattle.frames.specs.FrameTable.{role_of}
+use Rattle.frames.proofs.FrameLemmas.{with_bytes-same}
 use Rattle.swap.specs.Slots.{slots_of}
 use Rattle.page_cache.specs.declared.place.Place.TheVariants.{Home, Frame, Slot}
 use Rattle.page_cache.specs.CacheTable.{is_touched}
@@ -41,7 +42,7 @@ returns-in-Ok-get-clause-brought g c =
         at = λ pid k. refl;
         page_of = λ m. refl;
         touched = λ p. elim (cases_page p c.args.page) [
-          | inl is ↦ (let P : FilePage → Type 0 = λ x. is_touched c.set_place.new.self x ≡ is_touched c.obtain.new.core.cache x in subst P (sym is) c.set_place.ensures.touched)
+          | inl is ↦ (let P : PageKey → Type 0 = λ x. is_touched c.set_place.new.self x ≡ is_touched c.obtain.new.core.cache x in subst P (sym is) c.set_place.ensures.touched)
           | inr ne ↦ c.set_place.ensures.others.touched p ne
         ];
         files = λ f. refl;
@@ -93,3 +94,23 @@ release-requires g c =
     let one = c.obtain.ensures.fit.places.slotted c.args.page c.args.slot.0 there in
     let same = ap (λ t. t.count c.args.slot.0) c.get.ensures.same in
     omega (arith, one, same)
+
+pub set_place-requires-clause-free : goal.set_place-requires-clause-free
+set_place-requires-clause-free g c = λ p ne at.
+    let cache = c.obtain.ensures.fit.places.cached p c.in-Ok.frame.0 at in
+    let bad : Free ≡ Cache = sym c.in-Ok.ensures.taken.was_free ∙ cache in (cc)
+
+pub get-requires-clause-in_use : goal.get-requires-clause-in_use
+get-requires-clause-in_use g c =
+    let there = c.obtain.ensures.frees.slotted c.args.page c.args.slot.0 c.requires.there in
+    let one = c.obtain.ensures.fit.places.slotted c.args.page c.args.slot.0 there in
+    omega (arith, one)
+
+pub returns-in-Ok-get-clause-same : goal.returns-in-Ok-get-clause-same
+returns-in-Ok-get-clause-same g c = λ keeps.
+    let there = c.obtain.ensures.frees.slotted c.args.page c.args.slot.0 c.requires.there in
+    let was = c.requires.fit.places.slotted c.args.page c.args.slot.0 c.requires.there in
+    let P : _ → Type 0 = λ pages. g.E.SectorDisk.keeps_model pages.disk in
+    with_bytes-same c.take.new.self c.in-Ok.frame.0 c.get.new.to (let taken = c.in-Ok.ensures.taken in let e = taken.others.frames in let inside = taken.inside in omega (arith, e, inside))
+    ∙ c.in-Ok-get.ensures.gives (subst P c.release.ensures.pages keeps)
+    ∙ (c.obtain.ensures.frees.slots c.args.slot.0 (omega (arith, was))).0

@@ -1,6 +1,7 @@
 use Rattle.std.proofs.Common.{◌≡◌, inl, inr, refl, sym, ap, ◌∙◌, subst}
 use Rattle.std.specs.Option.{option_map}
-use Rattle.vm_types.specs.declared.file.FilePage.{FilePage}
+use Rattle.vm_types.specs.declared.object.PageKey.{PageKey}
+use Rattle.vm_types.specs.declared.object.PageKey.TheVariants.{File}
 use Rattle.file_store.specs.Store.{entry_of, files_of}
 use Rattle.frames.specs.declared.role.Role.TheVariants.{Free, Private, Cache}
 use Rattle.frames.specs.FrameTable.{role_of}
@@ -22,13 +23,13 @@ returns-in-Ok-read_page-clause-brought g c =
     let mid : Picture = picture_of c.obtain.new.core in
     let takes = c.in-Ok.ensures.taken in
     let frees = c.obtain.ensures.frees in
-    let home = frees.home c.args.page c.requires.home in
+    let home = frees.home (File c.args.page) c.requires.home in
     record {
       found = mid;
       fit = c.obtain.ensures.fit;
       frees = frees;
       brings = record {
-        slots = leaves_none mid _ c.args.page home refl;
+        slots = leaves_none mid _ (File c.args.page) home refl;
         frames = frames_written c.obtain.new.core.frames c.take.new.self c.in-Ok.frame.0 c.read_page.new.to takes;
         above = takes.above;
         was_free = takes.was_free;
@@ -40,8 +41,8 @@ returns-in-Ok-read_page-clause-brought g c =
         root = λ pid. refl;
         at = λ pid k. refl;
         page_of = λ m. refl;
-        touched = λ p. elim (cases_page p c.args.page) [
-          | inl is ↦ (let P : FilePage → Type 0 = λ x. is_touched c.set_place.new.self x ≡ is_touched c.obtain.new.core.cache x in subst P (sym is) c.set_place.ensures.touched)
+        touched = λ p. elim (cases_page p (File c.args.page)) [
+          | inl is ↦ (let P : PageKey → Type 0 = λ x. is_touched c.set_place.new.self x ≡ is_touched c.obtain.new.core.cache x in subst P (sym is) c.set_place.ensures.touched)
           | inr ne ↦ c.set_place.ensures.others.touched p ne
         ];
         files = λ f. ap (λ d. option_map (λ e. e.info) (entry_of d f)) c.in-Ok-read_page.ensures.files;
@@ -51,7 +52,7 @@ returns-in-Ok-read_page-clause-brought g c =
 pub returns-in-Ok-read_page-clause-fit : goal.returns-in-Ok-read_page-clause-fit
 returns-in-Ok-read_page-clause-fit g c =
     let brought = returns-in-Ok-read_page-clause-brought g c in
-    fit_brought brought.found _ c.args.page c.in-Ok.frame.0 brought.fit brought.brings
+    fit_brought brought.found _ (File c.args.page) c.in-Ok.frame.0 brought.fit brought.brings
 
 -- what is left of memory where the read failed
 abbrev emptied : (g : Over) (c : goal.After-self-in-Err-1 g) → Picture
@@ -92,3 +93,8 @@ pub returns-in-Err-clause-frees : goal.returns-in-Err-clause-frees
 returns-in-Err-clause-frees g c =
     frees_then (picture_of c.args.self.now) (picture_of c.obtain.new.core) (emptied g c) _ c.obtain.ensures.frees
     (frees_spent (picture_of c.obtain.new.core) (emptied g c) c.in-Ok.frame.0 c.obtain.ensures.fit (spent g c) (freed g c))
+
+pub set_place-requires-clause-free : goal.set_place-requires-clause-free
+set_place-requires-clause-free g c = λ p ne at.
+    let cache = c.obtain.ensures.fit.places.cached p c.in-Ok.frame.0 at in
+    let bad : Free ≡ Cache = sym c.in-Ok.ensures.taken.was_free ∙ cache in (cc)

@@ -1,4 +1,4 @@
-use Rattle.std.proofs.Common.{◌≡◌, ◌+◌, ◌<◌, ◌-◌, ◌^◌, Some, refl, arith}
+use Rattle.std.proofs.Common.{◌≡◌, ◌-◌, Some, refl, arith}
 use Rattle.stop_trials.proofs.Tried.{none_tried, one_tried}
 use Rattle.stop_trials.proofs.runs.Setting.tried.Goals as goal
 

@@ -1,9 +1,9 @@
-use Rattle.std.proofs.Common.{◌≡◌, ◌+◌, ◌≤◌, ◌<◌, ℕ, true, false, Bool, is_some, is_err, ⊎_elim, sym, ap, subst, ◌∙◌, arith, rules, refl}
-use Rattle.std.proofs.lemmas.Bool.{cases_eq, cases_lt}
+use Rattle.std.proofs.Common.{◌≡◌, ◌+◌, ◌<◌, true, false, is_err, ⊎_elim, sym, ap, subst, ◌∙◌, arith, rules}
+use Rattle.std.proofs.lemmas.Bool.{cases_eq}
 use Rattle.disk_model.specs.Sectors.{part_of}
 use Rattle.disk_model.specs.SimDisk.{sector_of, failures_of}
 use Rattle.stop_trials.specs.declared.stopping.Event.TheVariants.{Write}
-use Rattle.stop_trials.specs.Stopping.{Plan, plan_of, after_event}
+use Rattle.stop_trials.specs.Stopping.{plan_of, after_event}
 use Rattle.stop_trials.proofs.Writes.{when_ok, ran_before, one_write}
 use Rattle.stop_trials.proofs.stopping.StoppingDiskSectorDisk.write_page.Goals as goal
 

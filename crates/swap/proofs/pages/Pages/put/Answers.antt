@@ -1,8 +1,8 @@
-use Rattle.std.proofs.Common.{◌≡◌, ◌<◌, ◌+◌, ◌*◌, ℕ, List, [], ◌∷◌, get_or, refl, sym, ap, subst, ◌∙◌, length, Some}
+use Rattle.std.proofs.Common.{◌≡◌, ◌<◌, ◌+◌, ◌*◌, ℕ, List, [], ◌∷◌, refl, sym, subst, ◌∙◌, Some}
 use Rattle.disk_model.specs.Note.{Note}
 use Rattle.disk_model.specs.Stop.{ChangesPage}
 use Rattle.disk_model.specs.Sectors.{part_of}
-use Rattle.swap.specs.Written.{page_of_rows, written_in, IsAsWritten}
+use Rattle.swap.specs.Written.{written_in, IsAsWritten}
 use Rattle.swap.proofs.Written.{rows_make, written_lost, written_new, noted-here}
 use Rattle.swap.proofs.pages.Pages.put.Goals as goal
 

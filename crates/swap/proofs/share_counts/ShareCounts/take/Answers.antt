@@ -1,8 +1,8 @@
-use Rattle.std.proofs.Common.{◌≡◌, ◌<◌, ◌-◌, ℕ, List, Option, Some, None, set, take, length, get_or, sym, subst, ◌∙◌, arith, vec_len}
+use Rattle.std.proofs.Common.{◌≡◌, ◌<◌, ◌-◌, ℕ, List, Option, None, set, take, length, get_or, sym, subst, arith, vec_len}
 use Rattle.std.proofs.lemmas.List.{length-set}
 use Rattle.std.specs.Option.{IfNone}
 use Rattle.swap.specs.Counts.{count_at, IsStack}
-use Rattle.swap.proofs.Stack.{none_free, stack_taken, top_is_free, sound_set}
+use Rattle.swap.proofs.Stack.{none_free, stack_taken, sound_set}
 use Rattle.swap.proofs.share_counts.ShareCounts.take.Goals as goal
 
 pub returns-in_err-n-clause-none : goal.returns-in_err-n-clause-none

@@ -1,4 +1,4 @@
-use Rattle.std.proofs.Common.{rules, arith, ap, sym, ◌∙◌, ◌≡◌, ◌<◌, ◌≤◌, ◌∷◌, [], ◌++◌, length, ℕ, ◌+◌, ◌-◌, List, drop, take, replicate, suc, slice_set, length-set, length-take-le, drop-set-lt, drop-drop, refl}
+use Rattle.std.proofs.Common.{arith, ap, sym, ◌∙◌, ◌≡◌, ◌<◌, ◌≤◌, ◌∷◌, [], ◌++◌, length, ℕ, ◌+◌, ◌-◌, List, drop, take, replicate, suc, slice_set, length-set, length-take-le, drop-set-lt, drop-drop}
 use Rattle.std.proofs.lemmas.List.{take_more_set}
 use Rattle.vm_types.specs.Blank.{blank}
 use Rattle.vm_types.specs.declared.refusal.Fault.{Fault}

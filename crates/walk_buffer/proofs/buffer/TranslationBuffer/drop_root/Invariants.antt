@@ -1,4 +1,4 @@
-use Rattle.std.proofs.Common.{◌≡◌, ◌≢◌, ℕ, ◌<◌, ◌%◌, ◌⊎◌, Some, None, Option, length}
+use Rattle.std.proofs.Common.{◌≡◌, ◌≢◌, ℕ, ◌<◌, None, length}
 use Rattle.walk_buffer.specs.Lines.{line_at, place_of}
 use Rattle.walk_buffer.proofs.buffer.TranslationBuffer.drop_root.Given as goal
 

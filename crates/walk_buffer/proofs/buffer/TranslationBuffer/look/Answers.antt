@@ -1,4 +1,4 @@
-use Rattle.std.proofs.Common.{rules, ◌≡◌, ℕ, ◌<◌, ◌%◌, Some, None, Option, sym, ap, ◌∙◌, slice_index_or, length, arith}
+use Rattle.std.proofs.Common.{rules, ◌≡◌, ℕ, ◌%◌, Some, None, sym, ap, ◌∙◌, slice_index_or, length, arith}
 use Rattle.std.proofs.lemmas.List.{get_or_default}
 use Rattle.walk_buffer.specs.Lines.{line_at}
 use Rattle.walk_buffer.proofs.Looks.{agrees, kept_here}

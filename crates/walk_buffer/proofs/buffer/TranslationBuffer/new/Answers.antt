@@ -1,4 +1,4 @@
-use Rattle.std.proofs.Common.{◌≡◌, ℕ, ◌%◌, Some, None, Option, ap, arith}
+use Rattle.std.proofs.Common.{◌%◌, None, Option, ap, arith}
 use Rattle.std.proofs.lemmas.List.{get_or-replicate}
 use Rattle.walk_buffer.specs.Lines.{leaf_for}
 use Rattle.walk_buffer.specs.declared.line.Line.{Line}

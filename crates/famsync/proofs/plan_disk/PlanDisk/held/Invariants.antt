@@ -1,8 +1,0 @@
-use Rattle.std.proofs.Common.{◌≡◌, ◌-◌}
-use Rattle.famsync.specs.Plans.{row, image_after}
-use Rattle.famsync.proofs.plan_disk.PlanDisk.held.Given as goal
-
--- no later call writes the sector
-abbrev pub invariant-loop-i : goal.invariant-loop-i
-invariant-loop-i l = image_after l.self.calls.now l.self.rows.now (row l.self.image.now) l.self.used l.n
-    ≡ image_after l.self.calls.now l.self.rows.now (row l.self.image.now) (l.self.used - l.i) l.n

@@ -1,0 +1,10 @@
+use Rattle.std.proofs.Common.{◌≡◌, ◌<◌, ℕ, Some, length, slice_get, slice_index}
+use Rattle.vm_types.specs.declared.file.FilePage.{FilePage}
+use Rattle.file_store.specs.Store.{home_of}
+use Rattle.file_store.proofs.commits.fill_homes.Given as goal
+
+abbrev pub invariant-loop-i : goal.invariant-loop-i
+invariant-loop-i l = record {
+  size : length l.homes ≡ 1023;
+  each : (i : ℕ) (p : FilePage) → i < l.i → slice_get l.pages i ≡ Some p → slice_index l.homes i ≡ home_of l.directory p;
+}

@@ -1,0 +1,7 @@
+//! A flat model of the machine, for tests: processes as lists of pages, and files as pages of bytes. It shares no code with the machine.
+#![tactic(auto)]
+
+mod flat;
+mod pages;
+
+pub use flat::Flat;

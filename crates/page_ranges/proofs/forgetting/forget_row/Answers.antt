@@ -1,0 +1,7 @@
+use Rattle.paging.specs.Picture.{picture_of}
+use Rattle.page_ranges.proofs.LastName.{forgets_none}
+use Rattle.page_ranges.proofs.forgetting.forget_row.Goals as goal
+
+pub returns-then-count-eq0-clause-forgets : goal.returns-then-count-eq0-clause-forgets
+returns-then-count-eq0-clause-forgets g c =
+    forgets_none (picture_of c.args.core.now) c.args.pid c.args.first c.args.pages c.requires.fit (c.common_pages-count.ensures.none c.if-count-eq0.true)

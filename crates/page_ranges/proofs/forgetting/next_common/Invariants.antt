@@ -1,0 +1,13 @@
+use Rattle.std.proofs.Common.{◌≡◌, false, ℕ, ◌-◌, ◌^◌, ◌<◌, ◌≤◌}
+use Rattle.vm_types.specs.Objects.{names}
+use Rattle.paging.specs.Picture.{picture_of}
+use Rattle.page_ranges.proofs.forgetting.next_common.Given as goal
+
+abbrev pub invariant-loop-run : goal.invariant-loop-run
+invariant-loop-run g l = record {
+  low : l.first ≤ l.from;
+  none : (k object page : ℕ) → l.first ≤ k → k < l.from → names ((picture_of l.core).at l.pid k) object page ≡ false;
+}
+
+abbrev pub decreases-loop-run : goal.decreases-loop-run
+decreases-loop-run g l = 2 ^ 26 - l.from

@@ -1,0 +1,179 @@
+//! Stores of layout 1 made anew. Their bytes are worked out by hand.
+use crate::bench::{
+    check_left, expect, first_byte, holds, image, opened, put, repeated, sector_with,
+};
+use disk_model::{SectorDisk, SimDisk};
+use file_store::{UpgradeFault, upgrade};
+use std::alloc::Global;
+use std::test::Fail;
+use vm_types::FilePage;
+
+/// The calls of an upgrade of two pages with an open journal: mark, directory, gate, map and two pages are read of the old
+/// device; of the new one the mark is read, and two pages, directory and gate are written, a sync, the mark, and a sync.
+const OLD_CALLS: u64 = 4 + 16;
+
+const NEW_CALLS: u64 = 1 + 16 + 2 + 1 + 1 + 1;
+
+const NEW_WRITES: u64 = 16 + 2 + 1;
+
+/// The directory of a file of a page in home 1, and a read-only one of 1 byte in home 0.
+const DIRECTORY: [(usize, u8); 5] = [(0, 1), (3, 0x80), (5, 0x10), (11, 0xc0), (12, 1)];
+
+/// A device of so many sectors with a store of layout 1, and with these sectors. Page 0 of the body is `5a`, home 1 begins with
+/// `61`, and home 0 with `62` and with a byte behind its file's end. The gate is closed.
+fn old_store(alloc: Global, sectors: u64, changes: &[(u64, [u8; 512])]) -> Result<SimDisk, Fail> {
+    let mut disk = SimDisk::new(alloc, sectors)?;
+    for n in 4..12 {
+        put(&mut disk, n, &[0x5a; 512])?;
+    }
+    put(&mut disk, 0, &repeated(b"FAMSYNC1"))?;
+    put(&mut disk, 1, &sector_with(&DIRECTORY))?;
+    put(&mut disk, 1020, &sector_with(&[(0, 0x62), (1, 0x77)]))?;
+    put(&mut disk, 1028, &sector_with(&[(0, 0x61)]))?;
+    for (n, bytes) in changes {
+        put(&mut disk, *n, bytes)?;
+    }
+    disk.sync()?;
+    Ok(disk.left(alloc, &[])?)
+}
+
+/// What faults the devices of an upgrade have: the calls that fail, and the write of the new device that stops it, if any.
+#[derive(Clone, Copy)]
+struct Armed {
+    old_call: u64,
+    new_call: u64,
+    new_write: u64,
+}
+
+const UNARMED: Armed = Armed {
+    old_call: 0,
+    new_call: 0,
+    new_write: 0,
+};
+
+/// The new device, once a store whose journal holds home 1 was upgraded so far. The old device is only read.
+fn upgraded(alloc: Global, armed: Armed, fault: Option<UpgradeFault>) -> Result<SimDisk, Fail> {
+    let gate = repeated(b"GATEOPEN");
+    let map = sector_with(&[(0, 1), (4, 1)]);
+    let mut old = old_store(alloc, 1036, &[(2, gate), (3, map)])?;
+    old.fail_at(armed.old_call);
+    let mut new = SimDisk::new(alloc, 8211)?;
+    new.fail_at(armed.new_call);
+    new.stop_at(armed.new_write);
+    let told = upgrade(&mut old, &mut new).err();
+    expect(told == fault, "the upgrade ends otherwise")?;
+    expect(
+        (old.writes(), old.syncs()) == (0, 0),
+        "the old device is written",
+    )?;
+    Ok(new)
+}
+
+#[test]
+fn upgrades_a_store(rt: HostRuntime) -> Result<(), Fail> {
+    let whole = upgraded(rt.alloc(), UNARMED, None)?;
+    assert_eq!(rt;
+        (whole.calls(), whole.writes(), whole.syncs()),
+        (NEW_CALLS, NEW_WRITES, 2)
+    );
+    let wanted = [
+        (0, repeated(b"FAMSYNC2")),
+        (1, sector_with(&DIRECTORY)),
+        (2, [0; 512]),
+        (3, [0; 512]),
+        (11, [0; 512]),
+        (8195, sector_with(&[(0, 0x62)])),
+        (8202, [0; 512]),
+        (8203, [0x5a; 512]),
+        (8210, [0x5a; 512]),
+    ];
+    expect(holds(&whole, &wanted), "the new device")?;
+    let mut store = opened(whole)?;
+    let page = FilePage { file: 0, page: 0 };
+    assert_eq!(rt; first_byte(&mut store, page), Some(0x5a));
+    // Where the gate is closed the home stands.
+    let mut old = old_store(rt.alloc(), 1036, &[])?;
+    let mut new = SimDisk::new(rt.alloc(), 8211)?;
+    assert_eq!(rt; upgrade(&mut old, &mut new), Ok(()));
+    let mut store = opened(new)?;
+    assert_eq!(rt; first_byte(&mut store, page), Some(0x61));
+    Ok(())
+}
+
+// Each row has what the faults behind it ask for too: the first of them is told.
+#[test]
+fn refuses_what_cannot_be_upgraded(rt: HostRuntime) -> Result<(), Fail> {
+    let gate = (2, repeated(b"GATEOPEN"));
+    let many = (3, sector_with(&[(0, 128)]));
+    let behind = (3, sector_with(&[(0, 1), (4, 2)]));
+    let twice = (3, sector_with(&[(0, 2)]));
+    let (older, newer) = (repeated(b"FAMSYNC1"), repeated(b"FAMSYNC2"));
+    // One sector too few, the other mark, and a file that ends past home 0 of 1; 128 pages, home 2 of 2, and home 0 twice; one
+    // sector too few, and no room for home 1; and either mark.
+    let rows = [
+        (1019, [gate, many], (8194, newer), UpgradeFault::OldLayout),
+        (
+            1036,
+            [(0, newer), many],
+            (8194, newer),
+            UpgradeFault::OldLayout,
+        ),
+        (1028, [gate, many], (8194, newer), UpgradeFault::OldLayout),
+        (1036, [gate, many], (8194, newer), UpgradeFault::OldJournal),
+        (
+            1036,
+            [gate, behind],
+            (8203, newer),
+            UpgradeFault::OldJournal,
+        ),
+        (1036, [gate, twice], (8203, newer), UpgradeFault::OldJournal),
+        (1036, [many, many], (8194, newer), UpgradeFault::NewSmall),
+        (1036, [many, many], (8203, newer), UpgradeFault::NewSmall),
+        (1036, [many, many], (8211, newer), UpgradeFault::Formatted),
+        (1036, [many, many], (8211, older), UpgradeFault::Formatted),
+    ];
+    for (sectors, changes, (new_sectors, mark), fault) in rows {
+        let mut old = old_store(rt.alloc(), sectors, &changes)?;
+        let mut new = image(rt.alloc(), new_sectors, &[(0, mark)])?;
+        assert_eq!(rt; upgrade(&mut old, &mut new), Err(fault));
+        assert_eq!(rt; (old.writes(), new.writes()), (0, 0));
+    }
+    Ok(())
+}
+
+#[test]
+fn a_stopped_upgrade_leaves_no_mark_or_a_whole_store(rt: HostRuntime) -> Result<(), Fail> {
+    let whole = upgraded(rt.alloc(), UNARMED, None)?;
+    for write in 1..NEW_WRITES + 1 {
+        let armed = Armed {
+            new_write: write,
+            ..UNARMED
+        };
+        let stopped = upgraded(rt.alloc(), armed, Some(UpgradeFault::NewDevice))?;
+        check_left(rt.alloc(), &stopped, write == NEW_WRITES, &whole)?;
+    }
+    Ok(())
+}
+
+#[test]
+fn tells_which_device_failed(rt: HostRuntime) -> Result<(), Fail> {
+    for call in 1..NEW_CALLS + 1 {
+        let armed = Armed {
+            new_call: call,
+            ..UNARMED
+        };
+        let new = upgraded(rt.alloc(), armed, Some(UpgradeFault::NewDevice))?;
+        expect(new.calls() >= call, "the call was not made")?;
+        let armed = Armed {
+            old_call: call,
+            ..UNARMED
+        };
+        let fault = if call > OLD_CALLS {
+            None
+        } else {
+            Some(UpgradeFault::OldDevice)
+        };
+        upgraded(rt.alloc(), armed, fault)?;
+    }
+    Ok(())
+}

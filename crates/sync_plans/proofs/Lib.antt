@@ -1,0 +1,4 @@
+mod Runs
+mod Growth
+pub mod Theorem
+pub mod Least

@@ -1,0 +1,34 @@
+use Rattle.std.proofs.Common.{◌≡◌, ◌<◌, ◌+◌, ⊎_elim, inr, sym, subst, ◌∙◌, arith}
+use Rattle.std.proofs.lemmas.Bool.{cases_eq}
+use Rattle.disk_model.specs.Sectors.{part_of}
+use Rattle.disk_model.proofs.Pages.{more_time, carried}
+use Rattle.sync_plans.specs.PlanDisk.{content_of, unsynced_in, moment_of, left_in}
+use Rattle.sync_plans.proofs.plan_disk.PlanDiskSectorDisk.write_page.Goals as goal
+
+pub loop-i-preserved : goal.loop-i-preserved
+loop-i-preserved c =
+    let old = c.args.self.now in
+    let mid = c.loop-i.self in
+    let new = c.write.new.self in
+    let w = c.write.ensures in
+    let inv = c.loop-i.invariant in
+    let i = c.loop-i.i in
+    let at = c.args.n + i in
+    let below : i < 8 = let len = c.parts-sector-items.ensures.len in omega (arith, c.loop-i-test.true, len) in
+    record {
+      size = w.size ∙ inv.size;
+      kept = λ k. inv.kept (w.kept k);
+      calm = c.in_ok-write.ensures.cause.calm ∙ inv.calm;
+      written = λ k j less. ⊎_elim
+          (λ same. subst (λ m. content_of new (c.args.n + m) ≡ part_of c.args.from.now m) (sym same)
+          (c.in_ok-write.ensures.written k ∙ c.parts-sector-items.ensures.each i (let len = c.parts-sector-items.ensures.len in omega (arith, c.loop-i-test.true, len))))
+          (λ other. (w.others k).others (c.args.n + j) (λ e. other (omega (arith, e))) ∙ inv.written (w.kept k) j (omega (arith, less, other)))
+          (cases_eq j i);
+      others = λ k. record { others = λ m out. (w.others k).others m (λ e. out (omega (arith, e), omega (arith, e, below))) ∙ (inv.others (w.kept k)).others m out };
+      unsynced = λ k m u. ⊎_elim (inv.unsynced (w.kept k) m) (λ e. inr (omega (arith, e), omega (arith, e, below))) (w.unsynced k m u);
+      marked = λ k m from less. ⊎_elim (λ e. subst (λ n. unsynced_in new n) (sym e) (w.marked k))
+          (λ other. w.still k m (inv.marked (w.kept k) m from (omega (arith, less, other)))) (cases_eq m at);
+      still = λ k m u. w.still k m (inv.still (w.kept k) m u);
+      time = λ k. more_time (moment_of old) (moment_of mid) (moment_of new) (left_in old) (left_in mid) (left_in new) (content_of mid) (content_of new) (unsynced_in mid) (unsynced_in new)
+          (inv.time (w.kept k)) (w.time k) (carried at (content_of mid) (content_of new) (unsynced_in mid) (unsynced_in new) (w.others k) (w.still k) (w.marked k));
+    }

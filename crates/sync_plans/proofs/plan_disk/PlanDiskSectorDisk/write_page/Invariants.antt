@@ -1,0 +1,18 @@
+use Rattle.std.proofs.Common.{◌≡◌, ◌⊎◌, ◌≤◌, ◌<◌, ◌+◌, ℕ, false, length}
+use Rattle.disk_model.specs.Stop.{IsOfPage, ChangesPage, Elapses}
+use Rattle.disk_model.specs.Sectors.{part_of}
+use Rattle.sync_plans.specs.PlanDisk.{content_of, unsynced_in, moment_of, left_in}
+use Rattle.sync_plans.proofs.plan_disk.PlanDiskSectorDisk.write_page.Given as goal
+
+abbrev pub invariant-loop-i : goal.invariant-loop-i
+invariant-loop-i l = record {
+  size : length l.self.image.now ≡ length l.initial.self.image.now;
+  kept : l.self.full ≡ false → l.initial.self.full ≡ false;
+  calm : l.self.failures.number ≡ l.initial.self.failures.number;
+  written : l.self.full ≡ false → (j : ℕ) → j < l.i → content_of l.self (l.n + j) ≡ part_of l.from j;
+  others : l.self.full ≡ false → ChangesPage l.n (content_of l.initial.self) (content_of l.self);
+  unsynced : l.self.full ≡ false → (k : ℕ) → unsynced_in l.self k → unsynced_in l.initial.self k ⊎ IsOfPage l.n k;
+  marked : l.self.full ≡ false → (k : ℕ) → l.n ≤ k → k < l.n + l.i → unsynced_in l.self k;
+  still : l.self.full ≡ false → (k : ℕ) → unsynced_in l.initial.self k → unsynced_in l.self k;
+  time : l.self.full ≡ false → Elapses (moment_of l.initial.self) (moment_of l.self) (left_in l.initial.self) (left_in l.self) (content_of l.self) (unsynced_in l.self);
+}

@@ -1,0 +1,5 @@
+pub mod Pages
+pub mod Plans
+pub mod Device
+pub mod Requests
+pub mod PlanDisk

@@ -1,0 +1,205 @@
+//! Rows of traces that are run, and what comes of them: the replies, what the store's device was asked, and the files that are left.
+use crate::evictions::{
+    EIGHT_PAGES, EIGHT_PAGES_SHOWN, EIGHT_PAGES_SYNCED, FORTY_LINES, LOOKED_AFTER_AN_MSYNC,
+    LOOKED_AFTER_TWO_MSYNCS,
+};
+use crate::{evictions, histories, mappings, memory, processes, shared_pages};
+use machine::Config;
+use std::test::Fail;
+use test_traces::{
+    Armed, CONFIG, PLAIN, SMALL, Setting, asked_after_start, expect, expect_all, expect_file,
+    expect_in, image_of_letters, left_in, same,
+};
+
+/// A trace, and its replies.
+type Exchange = (&'static [u8], &'static [u8]);
+
+#[test]
+fn traces_are_answered(rt: HostRuntime) -> Result<(), Fail> {
+    expect_all(rt.alloc(), 4096, &memory::ROWS)?;
+    expect_all(rt.alloc(), 4096, &processes::ROWS)?;
+    expect_all(rt.alloc(), 4096, &histories::ROWS)?;
+    expect_all(rt.alloc(), 8192, &shared_pages::ROWS)?;
+    expect_all(rt.alloc(), 32768, &mappings::ROWS)
+}
+
+#[test]
+fn a_read_only_file_is_kept(rt: HostRuntime) -> Result<(), Fail> {
+    for exchange in memory::LETTERS {
+        expect(rt.alloc(), &image_of_letters(rt.alloc())?, exchange)?;
+    }
+    Ok(())
+}
+
+#[test]
+fn pages_wait_for_frames_and_slots(rt: HostRuntime) -> Result<(), Fail> {
+    for (config, exchange) in evictions::ROWS {
+        let setting = Setting {
+            length: 0x8000,
+            config,
+            armed: Armed::Nothing,
+        };
+        expect_in(rt.alloc(), setting, exchange)?;
+    }
+    Ok(())
+}
+
+/// Eight frames, of which four are for pages, over a file of eight pages.
+const FEW_FRAMES: Setting = Setting {
+    length: 0x8000,
+    config: SMALL,
+    armed: Armed::Nothing,
+};
+
+/// Maps the first page of the file and stores a byte.
+const STORED: Exchange = (
+    b"spawn\nmmap 1 0 4096 rw- shared 0 0\nstore 1 0x10000 1 0x5a\n",
+    b"pid 1\naddr 0x10000\nok\n",
+);
+
+/// The same, and syncs that page.
+const STORED_AND_SYNCED: Exchange = (
+    b"spawn\nmmap 1 0 4096 rw- shared 0 0\nstore 1 0x10000 1 0x5a\nmsync 1 0x10000 4096 sync\n",
+    b"pid 1\naddr 0x10000\nok\nok\n",
+);
+
+/// Two mappings of one page are one page of an msync: through either, both see the byte, and it is committed once.
+const MAPPED_TWICE: Exchange = (
+    b"spawn\nmmap 1 0 4096 rw- shared 0 0\nmmap 1 0x11000 4096 rw- shared 0 0\nstore 1 0x11000 1 7\n\
+load 1 0x10000 1\nmsync 1 0x10000 0x2000 sync\n",
+    b"pid 1\naddr 0x10000\naddr 0x11000\nok\nvalue 0x07\nok\n",
+);
+
+/// Eight frames and no slot, so that a page that is clean is given up and read again from where it stands: from the journal, as long
+/// as that holds it.
+const WITHOUT_SLOTS: Setting = Setting {
+    length: 0xa000,
+    config: Config {
+        frames: 8,
+        slots: 0,
+    },
+    armed: Armed::Nothing,
+};
+
+/// How many writes and syncs the store's device is asked for once a machine has started. An msync of `n` pages has `8 n` sectors of the
+/// body, eight of the map, and the gate, with two syncs; before it comes what a journal that is live still owes to the homes. Pages that
+/// are given up are never written home.
+const ASKED: [(Setting, Exchange, (u64, u64)); 11] = [
+    (PLAIN, (b"", b""), (0, 0)),
+    (PLAIN, STORED, (0, 0)),
+    (PLAIN, STORED_AND_SYNCED, (17, 2)),
+    (PLAIN, MAPPED_TWICE, (17, 2)),
+    (PLAIN, FORTY_LINES, (0, 0)),
+    (
+        Setting {
+            length: 4096,
+            config: Config {
+                frames: 64,
+                slots: 0,
+            },
+            armed: Armed::Nothing,
+        },
+        FORTY_LINES,
+        (0, 0),
+    ),
+    (FEW_FRAMES, FORTY_LINES, (0, 0)),
+    (FEW_FRAMES, EIGHT_PAGES, (0, 0)),
+    (FEW_FRAMES, EIGHT_PAGES_SYNCED, (73, 2)),
+    (WITHOUT_SLOTS, LOOKED_AFTER_AN_MSYNC, (17, 2)),
+    (WITHOUT_SLOTS, LOOKED_AFTER_TWO_MSYNCS, (43, 6)),
+];
+
+#[test]
+fn the_store_is_asked_for_no_more(rt: HostRuntime) -> Result<(), Fail> {
+    for (setting, exchange, wanted) in ASKED {
+        let asked = asked_after_start(rt.alloc(), setting, exchange)?;
+        same("writes and syncs", asked, wanted)?;
+    }
+    Ok(())
+}
+
+/// A file of 5,000 bytes: what is stored past its end is gone with the next msync.
+const PAST_THE_END: Exchange = (
+    b"spawn\nmmap 1 0 12288 rw- shared 0 0\nstore 1 0x11387 1 0xaa\nload 1 0x11388 1\n\
+store 1 0x11388 1 0xbb\nload 1 0x11388 1\nload 1 0x12000 1\nmsync 1 0x10000 12288 sync\nload 1 0x11388 1\n\
+load 1 0x11387 1\n",
+    b"pid 1\naddr 0x10000\nok\nvalue 0x00\nok\nvalue 0xbb\nfault 13 BUS_ADRERR 0x12000\nok\nvalue 0x00\n\
+value 0xaa\n",
+);
+
+/// Shows the first eight bytes of a file.
+const SHOW: &[u8] = b"spawn\nmmap 1 0 4096 r-- shared 0 0\nload 1 0x10000 8\n";
+
+/// A trace, and one on the next machine, which sees what the first has synced.
+const NEXT: [(Setting, Exchange, Exchange); 5] = [
+    (
+        PLAIN,
+        STORED,
+        (SHOW, b"pid 1\naddr 0x10000\nvalue 0x0000000000000000\n"),
+    ),
+    (
+        PLAIN,
+        STORED_AND_SYNCED,
+        (SHOW, b"pid 1\naddr 0x10000\nvalue 0x000000000000005a\n"),
+    ),
+    // What dontneed leaves of a touched page is made durable by the next msync.
+    (
+        PLAIN,
+        (
+            b"spawn\nmmap 1 0 4096 rw- shared 0 0\nstore 1 0x10000 1 0x5a\ndontneed 1 0x10000 4096\n\
+msync 1 0x10000 4096 sync\n",
+            b"pid 1\naddr 0x10000\nok\nok\nok\n",
+        ),
+        (
+            b"faults\nspawn\nmmap 1 0 4096 r-- shared 0 0\nload 1 0x10000 1\n",
+            b"faults 0\npid 1\naddr 0x10000\nvalue 0x5a\n",
+        ),
+    ),
+    (
+        Setting {
+            length: 5000,
+            config: CONFIG,
+            armed: Armed::Nothing,
+        },
+        PAST_THE_END,
+        (
+            b"spawn\nmmap 1 0 8192 r-- shared 0 0\nload 1 0x11386 2\nload 1 0x11388 8\n",
+            b"pid 1\naddr 0x10000\nvalue 0xaa00\nvalue 0x0000000000000000\n",
+        ),
+    ),
+    (FEW_FRAMES, EIGHT_PAGES_SYNCED, EIGHT_PAGES_SHOWN),
+];
+
+#[test]
+fn the_next_machine_sees_what_was_synced(rt: HostRuntime) -> Result<(), Fail> {
+    for (setting, exchange, shown) in NEXT {
+        let disk = left_in(rt.alloc(), setting, exchange)?;
+        expect(rt.alloc(), &disk, shown)?;
+    }
+    Ok(())
+}
+
+/// A trace, and what the pages of the file begin with after a stop; all else is zeros.
+const LEFT: [(Setting, Exchange, &[&[u8]]); 2] = [
+    // What another process stored is made durable as well, and is touched anew by its next store.
+    (
+        PLAIN,
+        (
+            b"spawn\nspawn\nmmap 1 0 4096 rw- shared 0 0\nmmap 2 0 4096 rw- shared 0 0\nstore 1 0x10000 1 0x0a\n\
+store 2 0x10001 1 0x0b\nmsync 1 0x10000 4096 sync\nstore 2 0x10001 1 0x0c\nmsync 1 0x10000 4096 sync\n",
+            b"pid 1\npid 2\naddr 0x10000\naddr 0x10000\nok\nok\nok\nok\nok\n",
+        ),
+        &[b"\x0a\x0c"],
+    ),
+    // Touched pages that were given up are in swap, and none is home.
+    (FEW_FRAMES, EIGHT_PAGES, &[]),
+];
+
+#[test]
+fn a_stop_leaves_what_was_synced(rt: HostRuntime) -> Result<(), Fail> {
+    for (setting, exchange, starts) in LEFT {
+        let disk = left_in(rt.alloc(), setting, exchange)?;
+        expect_file(rt.alloc(), &disk, 0, starts)?;
+    }
+    Ok(())
+}

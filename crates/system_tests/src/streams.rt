@@ -1,0 +1,146 @@
+//! Runs over readers and writers that fail on the way, or count their calls.
+use runner::{RunEnd, WriteFault, write_bytes};
+use std::alloc::Global;
+use std::test::Fail;
+use test_streams::{
+    Calls, CountedReader, CountedWriter, FailingReader, Full, InterruptedReader, LimitedWriter,
+};
+use test_traces::{expect_end, same, streamed};
+
+/// What comes once a reader has given its bytes.
+#[derive(Clone, Copy)]
+enum Input {
+    Ends,
+    Fails,
+    /// Its end, and an interruption before each byte.
+    IsInterrupted,
+}
+
+/// A trace and how it is given, how many bytes the writer takes a call and in all, and what it does then; how the run ends, and what was
+/// taken by then.
+type Stream = (
+    (&'static [u8], Input),
+    (usize, usize, Full),
+    RunEnd,
+    &'static [u8],
+);
+
+/// A writer that takes all replies.
+const ROOMY: (usize, usize, Full) = (100, 1000, Full::Fails);
+
+/// Three lines.
+const THREE: (&[u8], Input) = (b"spawn\nspawn\nspawn\n", Input::Ends);
+
+const STREAMS: [Stream; 6] = [
+    // A line that is unfinished where the reader fails is not run, and one at its end is.
+    (
+        (b"spawn\nspawn\nspa", Input::Fails),
+        ROOMY,
+        RunEnd::ReadFault,
+        b"pid 1\npid 2\n",
+    ),
+    (
+        (b"spawn\nspawn", Input::IsInterrupted),
+        ROOMY,
+        RunEnd::Done,
+        b"pid 1\npid 2\n",
+    ),
+    (
+        THREE,
+        (100, 9, Full::Fails),
+        RunEnd::WriteFault,
+        b"pid 1\npid",
+    ),
+    (
+        THREE,
+        (100, 9, Full::TakesNothing),
+        RunEnd::WriteFault,
+        b"pid 1\npid",
+    ),
+    (THREE, (100, 0, Full::TakesNothing), RunEnd::WriteFault, b""),
+    // A writer of one byte a call changes nothing.
+    (
+        THREE,
+        (1, 1000, Full::Fails),
+        RunEnd::Done,
+        b"pid 1\npid 2\npid 3\n",
+    ),
+];
+
+/// How a run over that reader ends.
+fn streamed_from(
+    alloc: Global,
+    trace: &[u8],
+    input: Input,
+    writer: &mut LimitedWriter,
+) -> Result<RunEnd, Fail> {
+    match input {
+        Input::Ends => {
+            let mut reader = trace;
+            streamed(alloc, &mut reader, writer)
+        }
+        Input::Fails => streamed(alloc, &mut FailingReader { rest: trace }, writer),
+        Input::IsInterrupted => streamed(alloc, &mut InterruptedReader::new(trace), writer),
+    }
+}
+
+#[test]
+fn a_failing_stream_ends_the_run(rt: HostRuntime) -> Result<(), Fail> {
+    for ((trace, input), (each, room, full), ending, taken) in STREAMS {
+        let mut writer = LimitedWriter::new(rt.alloc(), each, room, full);
+        let end = streamed_from(rt.alloc(), trace, input, &mut writer)?;
+        expect_end(end, ending, writer.taken.as_slice(), taken)?;
+    }
+    Ok(())
+}
+
+/// Gives these bytes to the writer, and sees its answer and what it has taken by then.
+fn expect_taken(
+    writer: &mut LimitedWriter,
+    bytes: &[u8],
+    answer: Result<(), WriteFault>,
+    taken: &[u8],
+) -> Result<(), Fail> {
+    same("answer", write_bytes(bytes, writer), answer)?;
+    same("taken", writer.taken.as_slice(), taken)
+}
+
+#[test]
+fn bytes_are_given_in_as_many_calls_as_the_writer_wants(rt: HostRuntime) -> Result<(), Fail> {
+    let mut writer = LimitedWriter::new(rt.alloc(), 2, 7, Full::TakesNothing);
+    expect_taken(&mut writer, b"abcde", Ok(()), b"abcde")?;
+    expect_taken(&mut writer, b"fgh", Err(WriteFault), b"abcdefg")
+}
+
+/// Sixteen faults, and the lines that ask for the history before and after them.
+const SIXTEEN_FAULTS: &[u8] =
+    b"spawn\nfaults\nload 1 0x0 1\nload 1 0x1 1\nload 1 0x2 1\nload 1 0x3 1\nload 1 0x4 1\n\
+load 1 0x5 1\nload 1 0x6 1\nload 1 0x7 1\nload 1 0x8 1\nload 1 0x9 1\nload 1 0xa 1\nload 1 0xb 1\nload 1 0xc 1\n\
+load 1 0xd 1\nload 1 0xe 1\nload 1 0xf 1\nfaults\n";
+
+/// Sees that a run comes to its end that reads so many bytes a call, and how many bytes its writer had taken before each read.
+fn expect_taken_before_reads(
+    alloc: Global,
+    trace: &[u8],
+    each: usize,
+    calls: &Calls,
+    wanted: &[usize],
+) -> Result<(), Fail> {
+    let mut reader = CountedReader::new(alloc, trace, each, calls);
+    let mut writer = CountedWriter::new(1000, calls);
+    let end = streamed(alloc, &mut reader, &mut writer)?;
+    same("taken before reads", reader.taken_before.as_slice(), wanted)?;
+    same("end", end, RunEnd::Done)
+}
+
+/// A history has seventeen lines, and goes to the writer in one call, as the reply to any other line does.
+#[test]
+fn a_history_is_one_call_of_the_writer(rt: HostRuntime) -> Result<(), Fail> {
+    let calls = Calls::new();
+    // Two lines, then a load a call, and then the line that asks for the history.
+    let taken = [
+        0, 15, 40, 65, 90, 115, 140, 165, 190, 215, 240, 265, 290, 315, 340, 365, 390, 415, 841,
+    ];
+    expect_taken_before_reads(rt.alloc(), SIXTEEN_FAULTS, 13, &calls, &taken)?;
+    same("writes", calls.writes.get(), 18)
+}
