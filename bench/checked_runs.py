@@ -53,11 +53,11 @@ def may_stall(model, command, effect, reply, setting):
     if reply not in open_stalls(command, effect):
         return False
     if reply == NOFRAMES:
-        after = copy.deepcopy(model.spaces), copy.deepcopy(model.touched), copy.deepcopy(model.files)
+        before = copy.deepcopy((model.spaces, model.objects, model.touched, model.files))
         if effect:
             effect()
         tables = model.tables()
-        model.spaces, model.touched, model.files = after
+        model.spaces, model.objects, model.touched, model.files = before
         return tables + 3 > setting.frames
     return {NOSWAP: model.held() > setting.slots, SWAPDEV: setting.swap_fails, STOREDEV: setting.store_fails}[reply]
 

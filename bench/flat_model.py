@@ -7,7 +7,7 @@ from typing import NamedTuple, Optional
 
 PAGE = 4096
 USER_START, USER_END = 16, 1 << 26
-MOST_PROCESSES, MOST_RUNS, MOST_PAGES, MOST_FAULTS = 64, 256, 127, 16
+MOST_PROCESSES, MOST_RUNS, MOST_PAGES, MOST_FAULTS = 64, 256, 1023, 16
 NUMBERS = {"ESRCH": 3, "EIO": 5, "EBADF": 9, "EAGAIN": 11, "ENOMEM": 12, "EACCES": 13, "EEXIST": 17, "EINVAL": 22, "ENOSPC": 28, "EOVERFLOW": 75}
 MISALIGNED = {"load": 4, "store": 6, "fetch": 0}
 PAGE_FAULT = {"load": 13, "store": 15, "fetch": 12}
@@ -19,9 +19,12 @@ STALLS = {"spawn": FRAMED, "fork": FRAMED, **{name: (*FRAMED, STOREDEV) for name
 
 
 class Backing(NamedTuple):
-    kind: str  # anon, private or shared
-    file: int = 0
+    kind: str  # anon, private, shared or common
+    number: int = 0  # of the file, or of the object of a common page
     page: int = 0
+
+    def is_of_file(self):
+        return self.kind in ("private", "shared")
 
     def following(self, count):
         return self if self.kind == "anon" else self._replace(page=self.page + count)
@@ -74,6 +77,17 @@ def is_covered(space, pages):
     return len(pages) <= len(space) and all(page in space for page in pages)
 
 
+def without(space, pages):
+    """A space but for these pages."""
+    gone = set(within(space, pages))
+    return {page: view for page, view in space.items() if page not in gone}
+
+
+def with_row(space, pages, prot, backing):
+    """A space with a new mapping of these pages."""
+    return {**space, **{page: View(prot, backing.following(k)) for k, page in enumerate(pages)}}
+
+
 def within(space, pages):
     """The pages of a range that are mapped, without a look at each of a long range."""
     return [page for page in (pages if len(pages) <= len(space) else sorted(space)) if page in pages and page in space]
@@ -87,11 +101,12 @@ def open_stalls(command, effect):
 
 
 class Model:
-    """A state of the flat model, and what each command does to it."""
+    """A state of the flat model, and what each command does to it. Of an object it has the pages that were stored to, as long as they are named."""
 
     def __init__(self, files):
         self.files = files
         self.spaces = {}
+        self.objects = {}
         self.touched = set()
         self.past = deque(maxlen=MOST_FAULTS)
 
@@ -110,8 +125,9 @@ class Model:
         return sum(1 + len({page >> 18 for page in space}) + len({page >> 9 for page in space}) for space in self.spaces.values())
 
     def held(self):
-        """The pages that only memory or swap can hold: own copies, and touched file pages."""
-        return sum(view.own is not None for space in self.spaces.values() for view in space.values()) + len(self.touched)
+        """The pages that only memory or swap can hold: own copies, touched file pages, and pages of objects."""
+        own = sum(view.own is not None for space in self.spaces.values() for view in space.values())
+        return own + len(self.touched) + len(self.objects)
 
     # processes
 
@@ -135,9 +151,37 @@ class Model:
     def exit(self, pid):
         if pid not in self.spaces:
             return error("ESRCH"), None
-        return "ok", lambda: self.spaces.pop(pid)
+        return "ok", lambda: self.leave(pid)
+
+    def leave(self, pid):
+        self.spaces.pop(pid)
+        self.drop_unnamed()
 
     # ranges
+
+    def named(self):
+        """The pages of objects that a page of a process names."""
+        backings = (view.backing for space in self.spaces.values() for view in space.values())
+        return {(backing.number, backing.page) for backing in backings if backing.kind == "common"}
+
+    def drop_unnamed(self):
+        """Lets go of the pages of objects that no page names."""
+        if self.objects:
+            named = self.named()
+            self.objects = {key: content for key, content in self.objects.items() if key in named}
+
+    def take_out(self, pid, after):
+        """Leaves a process the pages of `after`, which are some of those that it has."""
+        self.spaces[pid] = after
+        self.drop_unnamed()
+
+    def put_in(self, pid, pages, prot, backing):
+        """Maps pages, in the place of those that are there. A common mapping takes the least object that no page names then."""
+        self.take_out(pid, without(self.spaces[pid], pages))
+        if backing.kind == "common":
+            used = {number for number, _ in self.named()}
+            backing = backing._replace(number=next(number for number in range(len(used) + 1) if number not in used))
+        self.spaces[pid] = with_row(self.spaces[pid], pages, prot, backing)
 
     def place(self, space, addr, count, is_exact):
         """The first page of a new mapping, or none."""
@@ -157,7 +201,7 @@ class Model:
     def mmap(self, pid, addr, length, prot, kind, file, offset, mode):
         space = self.spaces.get(pid)
         count = -(-length // PAGE)
-        is_file = kind != "anon"
+        is_file = kind in ("private", "shared")
         if space is None:
             return error("ESRCH"), None
         if length == 0 or (mode and addr % PAGE) or (is_file and offset % PAGE):
@@ -173,11 +217,12 @@ class Model:
             return error("ENOMEM"), None
         if mode == "noreplace" and within(space, range(first, first + count)):
             return error("EEXIST"), None
-        backing = Backing(kind, file, offset // PAGE) if is_file else Backing("anon")
-        after = {**space, **{first + k: View(prot, backing.following(k)) for k in range(count)}}
-        if runs(after) > MOST_RUNS:
+        pages, backing = range(first, first + count), Backing(kind, file, offset // PAGE)
+        # a common mapping is of an object of its own, and so follows no other
+        apart = backing._replace(number=-1) if kind == "common" else backing
+        if runs(with_row(space, pages, prot, apart)) > MOST_RUNS:
             return error("ENOMEM"), None
-        return f"addr {PAGE * first:#x}", lambda: self.spaces.update({pid: after})
+        return f"addr {PAGE * first:#x}", lambda: self.put_in(pid, pages, prot, backing)
 
     def munmap(self, pid, addr, length):
         space = self.spaces.get(pid)
@@ -185,11 +230,10 @@ class Model:
             return error("ESRCH"), None
         if length == 0 or addr % PAGE:
             return error("EINVAL"), None
-        gone = set(within(space, pages_of(addr, length)))
-        after = {page: view for page, view in space.items() if page not in gone}
+        after = without(space, pages_of(addr, length))
         if runs(after) > MOST_RUNS:
             return error("ENOMEM"), None
-        return "ok", lambda: self.spaces.update({pid: after})
+        return "ok", lambda: self.take_out(pid, after)
 
     def covering(self, pid, addr, length):
         """What refuses a call on a range that has to be mapped, or answers one on an empty range."""
@@ -208,7 +252,7 @@ class Model:
             return reply, None
         space, pages = self.spaces[pid], pages_of(addr, length)
         backings = [space[page].backing for page in pages]
-        if "w" in prot and any(b.kind == "shared" and self.files[b.file].read_only for b in backings):
+        if "w" in prot and any(b.kind == "shared" and self.files[b.number].read_only for b in backings):
             return error("EACCES"), None
         after = {**space, **{page: replace(space[page], prot=prot) for page in pages}}
         if runs(after) > MOST_RUNS:
@@ -228,7 +272,7 @@ class Model:
         if reply or is_async:
             return reply or "ok", None
         backings = {self.spaces[pid][page].backing for page in pages_of(addr, length)}
-        chosen = {(b.file, b.page) for b in backings if b.kind == "shared"} & self.touched
+        chosen = {(b.number, b.page) for b in backings if b.kind == "shared"} & self.touched
         if len(chosen) > MOST_PAGES:
             return error("ENOSPC"), None
         return "ok", (lambda: self.commit(chosen)) if chosen else None
@@ -244,7 +288,10 @@ class Model:
     def shown(self, view):
         if view.own is not None:
             return view.own
-        return bytes(PAGE) if view.backing.kind == "anon" else self.files[view.backing.file].volatile[view.backing.page]
+        kind, number, page = view.backing
+        if view.backing.is_of_file():
+            return self.files[number].volatile[page]
+        return self.objects.get((number, page), bytes(PAGE)) if kind == "common" else bytes(PAGE)
 
     def fault_of(self, space, kind, addr, width):
         """The first test of an access that holds."""
@@ -256,7 +303,7 @@ class Model:
         if NEEDED[kind] not in view.prot:
             return f"{PAGE_FAULT[kind]} SEGV_ACCERR {addr:#x}"
         backing = view.backing
-        if backing.kind != "anon" and PAGE * backing.page >= self.files[backing.file].length:
+        if backing.is_of_file() and PAGE * backing.page >= self.files[backing.number].length:
             return f"{PAGE_FAULT[kind]} BUS_ADRERR {addr:#x}"
         return None
 
@@ -277,9 +324,12 @@ class Model:
         view = space[page]
         old = self.shown(view)
         after = old[:at] + new + old[at + len(new):]
-        if view.backing.kind == "shared":
-            self.files[view.backing.file].volatile[view.backing.page] = after
-            self.touched.add((view.backing.file, view.backing.page))
+        kind, number, place = view.backing
+        if kind == "shared":
+            self.files[number].volatile[place] = after
+            self.touched.add((number, place))
+        elif kind == "common":
+            self.objects[number, place] = after
         else:
             space[page] = replace(view, own=after)
 
@@ -325,7 +375,7 @@ def mapping(words):
     if len(words) < 5:
         raise BadLine
     *ranged, prot, kind = words[:5]
-    count = {"anon": 0, "private": 2, "shared": 2}.get(kind)
+    count = {"anon": 0, "common": 0, "private": 2, "shared": 2}.get(kind)
     if count is None or not count <= len(words) - 5 <= count + 1:
         raise BadLine
     mode = words[5 + count] if len(words) > 5 + count else None

@@ -22,8 +22,8 @@ def length(rng):
 
 
 def mapping(rng, pid, pages, files):
-    kind = rng.choice(("anon", "anon", "shared", "shared", "shared", "private"))
-    behind = "" if kind == "anon" else f" {rng.randrange(files + (rng.random() < 0.05))} {PAGE * rng.randrange(6)}"
+    kind = rng.choice(("anon", "anon", "common", "shared", "shared", "shared", "private"))
+    behind = "" if kind in ("anon", "common") else f" {rng.randrange(files + (rng.random() < 0.05))} {PAGE * rng.randrange(6)}"
     addr = rng.choice((0, address(rng, pages)))
     mode = rng.choice(("", "", " fixed", " noreplace")) if addr else ""
     return f"mmap {pid} {addr:#x} {length(rng)} {rng.choice(PROTS)} {kind}{behind}{mode}"
@@ -32,7 +32,8 @@ def mapping(rng, pid, pages, files):
 def access(rng, pid, pages):
     kind = rng.choices(("load", "store", "fetch"), (10, 12, 1))[0]
     width = 4 if kind == "fetch" else rng.choice(WIDTHS)
-    addr = address(rng, pages) + rng.randrange(0, PAGE, width) + (rng.random() < 0.01)
+    # most bytes are the first ones of a page, so that a load finds what another process has stored
+    addr = address(rng, pages) + rng.randrange(0, rng.choice((16, 16, 16, PAGE)), width) + (rng.random() < 0.01)
     return {
         "load": f"load {pid} {addr:#x} {width}",
         "store": f"store {pid} {addr} {width} {rng.randrange(1 << 8 * width):#x}",
@@ -64,9 +65,9 @@ def line(rng, pages, files, processes):
 
 
 def trace(rng, count, files):
-    """So many lines; the first ones make processes and map each file."""
+    """So many lines; the first ones make processes, of which some share common pages with the first, and map each file."""
     processes, pages = rng.randrange(1, 9), rng.choice((4, 12, 24, 48))
-    lines = ["spawn"] * processes
+    lines = ["spawn", f"mmap 1 0 {rng.randrange(1, 5) * PAGE} rw- common", *rng.choices(("spawn", "fork 1"), k=processes - 1)]
     for pid in range(1, processes + 1):
         lines += [f"mmap {pid} 0 {rng.randrange(1, 7) * PAGE} rw- {rng.choice(('shared', 'private'))} {file} 0" for file in range(files)]
         lines.append(f"mmap {pid} 0 {pages * PAGE} rw- anon")

@@ -13,7 +13,7 @@
 #include <sys/stat.h>
 #include <unistd.h>
 
-enum { SECTOR = 512, PAGE = 4096, GATE = 2, MAP = 3, BODY = 4, HOMES = 1020, MOST = 127 };
+enum { SECTOR = 512, PAGE = 4096, GATE = 2, MAP = 3, BODY = 11, HOMES = 8195, MOST = 1023 };
 
 static char page[PAGE];
 
@@ -38,7 +38,7 @@ static void plain(int file, int pages, int count) {
         put(file, SECTOR, GATE);
         settle(file);
         for (int k = 0; k < pages; k++) put(file, PAGE, BODY + 8 * k);
-        put(file, SECTOR, MAP);
+        put(file, PAGE, MAP);
         settle(file);
         put(file, SECTOR, GATE);
         settle(file);

@@ -40,6 +40,6 @@ with open(plain, "wb") as file:
     file.write(bytes(1024 * 4096))
 random.seed(42)
 print(f"commits a second of fam_msync as a multiple, median of {rounds} rounds of {seconds} s (least to greatest)")
-for pages in (1, 10, 127):
+for pages in (1, 10, 127, 1023):
     taken = [(measured("fam", image, pages), measured("msync", plain, pages), sqlite_measured(pages)) for _ in range(rounds)]
     print(f"{pages:4} pages: of msync {spread([a / b for a, b, _ in taken])}, of SQLite {spread([a / s for a, _, s in taken])}")

@@ -14,7 +14,7 @@
 #include <sys/syscall.h>
 #include <unistd.h>
 
-enum { PAGE = 4096, FILES = 64, MOST = 127 };
+enum { PAGE = 4096, FILES = 64, MOST = 1023 };
 
 /* A written page is one that was stored to since it was mapped or last made durable: its byte in `written` is 1. */
 struct mapping { unsigned char *at; size_t pages; unsigned char *written; };
@@ -64,7 +64,7 @@ static int open_image(int fd) {
   unsigned char *bytes = mmap(NULL, 512 * sectors + 1, PROT_READ, MAP_SHARED, fd, 0);
   if (bytes == MAP_FAILED) return ENOMEM;
   image.fd = fd, image.bytes = bytes, image.sectors = sectors;
-  uint32_t answer = famsync_open(&image.handle, bytes, sectors, &scratch, &plan);
+  uint32_t answer = famsync_open(&image.handle, bytes, sectors, scratch.calls, scratch.rows, &plan.used, plan.calls, plan.rows);
   return answer == FAMSYNC_OK ? carry_out() : errno_of(answer);
 }
 
@@ -155,7 +155,7 @@ int fam_open(const char *path) {
 /* Reads a file's pages into new memory. */
 static int load(struct mapping *m, uint8_t file) {
   for (size_t k = 0; k < m->pages; k++) {
-    uint32_t answer = famsync_read(&image.handle, image.bytes, image.sectors, &scratch, file, (uint32_t)k, m->at + k * PAGE);
+    uint32_t answer = famsync_read(&image.handle, image.bytes, image.sectors, scratch.calls, scratch.rows, file, (uint32_t)k, m->at + k * PAGE);
     if (answer != FAMSYNC_OK) return errno_of(answer);
   }
   return 0;
@@ -163,7 +163,7 @@ static int load(struct mapping *m, uint8_t file) {
 
 void *fam_map(uint8_t file, size_t *len) {
   uint32_t length;
-  uint32_t answer = file < FILES ? famsync_length(&image.handle, image.bytes, image.sectors, &scratch, file, &length) : FAMSYNC_BAD_PAGES;
+  uint32_t answer = file < FILES ? famsync_length(&image.handle, image.bytes, image.sectors, scratch.calls, scratch.rows, file, &length) : FAMSYNC_BAD_PAGES;
   if (answer != FAMSYNC_OK) return errno = answer == FAMSYNC_BAD_PAGES ? ENOENT : errno_of(answer), NULL;
   *len = length;
   if (mapped[file].at != NULL) return mapped[file].at;
@@ -179,7 +179,7 @@ void *fam_map(uint8_t file, size_t *len) {
   return m.at;
 }
 
-/* Gathers the written pages from `from` to `to`: how many, or -1 where they are over 127. */
+/* Gathers the written pages from `from` to `to`: how many, or -1 where they are over 1,023. */
 static int gather(const unsigned char *from, const unsigned char *to, struct famsync_page *pages, struct famsync_bytes *bytes) {
   int n = 0;
   for (int f = 0; f < FILES; f++) {
@@ -205,7 +205,7 @@ int fam_msync(void *addr, size_t len) {
   const unsigned char *from = addr, *to = addr == NULL ? (unsigned char *)UINTPTR_MAX : from + len;
   int n = gather(from, to, pages, bytes);
   if (n <= 0) return n;
-  uint32_t answer = famsync_commit(&image.handle, image.bytes, image.sectors, &scratch, &plan, pages, (size_t)n, bytes, (size_t)n);
+  uint32_t answer = famsync_commit(&image.handle, image.bytes, image.sectors, scratch.calls, scratch.rows, &plan.used, plan.calls, plan.rows, pages, (size_t)n, bytes, (size_t)n);
   int number = answer == FAMSYNC_OK ? carry_out() : errno_of(answer);
   for (int i = 0; i < n && number == 0; i++) mapped[pages[i].file].written[pages[i].page] = 0;
   return number == 0 ? 0 : fail(number);

@@ -13,7 +13,7 @@ int fam_open(const char *path);
 void *fam_map(uint8_t file, size_t *len);
 
 /* Makes the written pages of a range durable, in all files, all or none; those of every mapped file where addr is NULL.
-   0, or -1 and errno. E2BIG: over 127 written pages, EROFS: one is of a file that may only be read; nothing was done.
+   0, or -1 and errno. E2BIG: over 1,023 written pages, EROFS: one is of a file that may only be read; nothing was done.
    EIO: a device call failed; all or none are durable, and fam_close and fam_open must follow. */
 int fam_msync(void *addr, size_t len);
 

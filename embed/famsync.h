@@ -11,9 +11,9 @@ enum {
   FAMSYNC_TURN = 1,        /* another call's turn: see the states */
   FAMSYNC_BAD_LAYOUT = 2,  /* the image has no layout of a store */
   FAMSYNC_BAD_JOURNAL = 3, /* its journal is open with a map that no commit writes */
-  FAMSYNC_BAD_PAGES = 4,   /* no page, over 127, one twice, one outside of its file; of famsync_length: no such file */
+  FAMSYNC_BAD_PAGES = 4,   /* no page, over 1,023, one twice, one outside of its file; of famsync_length: no such file */
   FAMSYNC_READ_ONLY = 5,   /* the file of a page may only be read */
-  FAMSYNC_NO_ROOM = 6      /* the plan has over 2,048 calls */
+  FAMSYNC_NO_ROOM = 6      /* the plan has over 16,384 calls */
 };
 
 /* States of a handle, which begins as zeros. */
@@ -21,8 +21,10 @@ enum { FAMSYNC_CLOSED = 0, FAMSYNC_READY = 1, FAMSYNC_PENDING = 2 };
 struct famsync_handle { uint32_t state; };
 
 /* Of kind FAMSYNC_WRITE: write row k of the plan, if this is its call k, to this sector of 512 bytes. */
-enum { FAMSYNC_WRITE = 1, FAMSYNC_SYNC = 2, FAMSYNC_ROOM = 2048 };
+enum { FAMSYNC_WRITE = 1, FAMSYNC_SYNC = 2, FAMSYNC_ROOM = 16384 };
 struct famsync_call { uint64_t kind, sector; };
+
+/* The first `used` calls are to be made. With its rows a plan is eight megabytes: put none on a stack. */
 struct famsync_plan {
   size_t used;
   struct famsync_call calls[FAMSYNC_ROOM];
@@ -33,19 +35,22 @@ struct famsync_plan {
 struct famsync_page { uint8_t file; uint32_t page; };
 struct famsync_bytes { const unsigned char *at; };
 
-/* `image` is `sectors` sectors, what the file holds; `scratch` is room to work in. After the result 0 the caller makes the
-   first plan->used calls in their order, and then calls famsync_done, or famsync_failed where one failed. */
-uint32_t famsync_open(struct famsync_handle *handle, const void *image, size_t sectors, struct famsync_plan *scratch,
-                      struct famsync_plan *plan);
-uint32_t famsync_commit(struct famsync_handle *handle, const void *image, size_t sectors, struct famsync_plan *scratch,
-                        struct famsync_plan *plan, const struct famsync_page *pages, size_t page_count,
-                        const struct famsync_bytes *bytes, size_t byte_count);
+/* `image` is `sectors` sectors, what the file holds; `scratch_calls` and `scratch_rows` are room to work in, FAMSYNC_ROOM
+   calls and FAMSYNC_ROOM rows of 512 bytes, as are `calls` and `rows`. After the result 0 the caller makes the first *used
+   calls in their order, and then calls famsync_done, or famsync_failed where one failed. */
+uint32_t famsync_open(struct famsync_handle *handle, const void *image, size_t sectors, struct famsync_call *scratch_calls,
+                      void *scratch_rows, size_t *used, struct famsync_call *calls, void *rows);
+uint32_t famsync_commit(struct famsync_handle *handle, const void *image, size_t sectors, struct famsync_call *scratch_calls,
+                        void *scratch_rows, size_t *used, struct famsync_call *calls, void *rows,
+                        const struct famsync_page *pages, size_t page_count, const struct famsync_bytes *bytes,
+                        size_t byte_count);
 uint32_t famsync_done(struct famsync_handle *handle);
 void famsync_failed(struct famsync_handle *handle);
 
 /* Nothing is to be carried out after these. `to` is 4,096 bytes; the length is in bytes. */
-uint32_t famsync_read(const struct famsync_handle *handle, const void *image, size_t sectors, struct famsync_plan *scratch,
-                      uint8_t file, uint32_t page, unsigned char *to);
+uint32_t famsync_read(const struct famsync_handle *handle, const void *image, size_t sectors,
+                      struct famsync_call *scratch_calls, void *scratch_rows, uint8_t file, uint32_t page,
+                      unsigned char *to);
 uint32_t famsync_length(const struct famsync_handle *handle, const void *image, size_t sectors,
-                        struct famsync_plan *scratch, uint8_t file, uint32_t *to);
+                        struct famsync_call *scratch_calls, void *scratch_rows, uint8_t file, uint32_t *to);
 #endif

@@ -25,20 +25,20 @@ def shown(file, number):
 
 
 with open(path, "wb") as image:
-    image.write(new_image([600 * 4096, 5000, 1], read_only=[2]))
+    image.write(new_image([1100 * 4096, 5000, 1], read_only=[2]))
 expect(b"", 0, b"")
 expect(page(0, 3, 7) + page(1, 1, 8) + b"commit\n" + b"read 0 3\n", 0, b"ok\nok\n" + bytes([7]) * 4096)
 assert shown(1, 1) == bytes([8]) * 904 + bytes(4096 - 904)
 expect(page(0, 3, 9) + page(2, 0, 9) + b"commit\n", 0, b"read-only\n")
-for bad in (page(0, 3, 9) * 2, page(0, 3, 9) + page(1, 2, 9), page(0, 3, 9) + page(5, 0, 9), b"", b"".join(page(0, k, 9) for k in range(128))):
+for bad in (page(0, 3, 9) * 2, page(0, 3, 9) + page(1, 2, 9), page(0, 3, 9) + page(5, 0, 9), b"", b"".join(page(0, k, 9) for k in range(1024))):
     expect(bad + b"commit\n" + page(0, 4, 1) + b"commit\n", 0, b"bad-pages\nok\n")
-expect(b"".join(page(0, k, 6) for k in range(100, 227)) + b"commit\n", 0, b"ok\n")
+expect(b"".join(page(0, k, 6) for k in range(10, 1033)) + b"commit\n", 0, b"ok\n")
 expect(page(0, 3, 9), 1, b"")
 expect(page(0, 3, 9)[:-1], 1, b"")
 expect(page(0, 3, 9) + b"commit", 1, b"")
 expect(b"page 0 3 \n", 1, b"bad-line\n")
 expect(b"read 9 0\n", 0, b"bad-pages\n")
-assert shown(0, 3) == bytes([7]) * 4096 and shown(0, 226) == bytes([6]) * 4096
+assert shown(0, 3) == bytes([7]) * 4096 and shown(0, 1032) == bytes([6]) * 4096
 holder = subprocess.Popen([program, path], stdin=subprocess.PIPE, stdout=subprocess.PIPE)
 holder.stdin.write(b"read 2 0\n")
 holder.stdin.flush()

@@ -3,7 +3,7 @@ the unsynced sectors as they were, as they became, torn in their midst or of any
 stand for the files before or after, and at the end for those after."""
 import ctypes as c, random, sys
 from images import HOMES, new_image
-ROOM, LENGTHS = 2048, [20000, 9000, 1]
+ROOM, LENGTHS = 16384, [20000, 9000, 1]
 WRITE, SYNC = 1, 2
 
 
@@ -35,10 +35,10 @@ def carried_out(image, calls):
 
 
 def asked(name, state, image, *rest):
-    lent, handle = (c.c_ubyte * len(image)).from_buffer_copy(image), c.c_uint32(state)
-    answer = getattr(library, name)(c.byref(handle), lent, c.c_size_t(len(image) // 512), c.byref(scratch), c.byref(plan), *rest)
+    lent, handle, used = (c.c_ubyte * len(image)).from_buffer_copy(image), c.c_uint32(state), c.c_size_t(0)
+    answer = getattr(library, name)(c.byref(handle), lent, c.c_size_t(len(image) // 512), scratch.calls, scratch.rows, c.byref(used), plan.calls, plan.rows, *rest)
     assert bytes(lent) == image, "the image was written"
-    return answer, [(plan.calls[i].kind, plan.calls[i].sector, bytes(plan.rows[i])) for i in range(plan.used)]
+    return answer, [(plan.calls[i].kind, plan.calls[i].sector, bytes(plan.rows[i])) for i in range(used.value)]
 
 
 def homes(image):
