@@ -12,13 +12,14 @@ use frames::Role;
 use mapped_memory::entry_number;
 use mapping::root_of;
 use paging::Core;
+use std::alloc::Global;
 use std::fmt::Debug;
 use std::process::Abort;
 use std::test::Fail;
 use test_fixtures::{LEAST, Sizes, memory, sharers};
 use vm_types::{
-    Answer, Backing, Code, Errno, Fault, FrameNo, MapSource, MsyncMode, Pid, Placing, Prot, Stall,
-    StoredValue, Vpn, Width,
+    Answer, Backing, Code, Errno, Fault, FrameNo, Levels, MapSource, MsyncMode, Pid, Placing, Prot,
+    Stall, StoredValue, Sv39, Vpn, Width,
 };
 
 /// 16 frames and no slot, over a file without a byte, on devices that work.
@@ -110,9 +111,9 @@ fn prot(may: May) -> Prot {
 }
 
 /// An msync. Memory is known to be sound after one that the store didn't fail, so the test ends where it did.
-fn synced<D: SectorDisk, E: SectorDisk>(
+fn synced<D: SectorDisk, E: SectorDisk, M: Levels>(
     rt: &impl Abort,
-    core: &mut Core<D, E>,
+    core: &mut Core<D, E, M>,
     addr: u64,
     len: u64,
 ) -> Answer
@@ -125,9 +126,9 @@ fn synced<D: SectorDisk, E: SectorDisk>(
     }
 }
 
-fn called<D: SectorDisk, E: SectorDisk>(
+fn called<D: SectorDisk, E: SectorDisk, M: Levels>(
     rt: &impl Abort,
-    core: &mut Core<D, E>,
+    core: &mut Core<D, E, M>,
     call: Call,
 ) -> Answer
     requires { IsSoundCore D.SectorDisk E.SectorDisk core.old }
@@ -195,7 +196,7 @@ fn asked(step: Step) -> Option<(Call, Answer)> {
 }
 
 /// How many frames are used.
-fn used_frames<D, E>(core: &Core<D, E>) -> u32 {
+fn used_frames<D, E, M: Levels>(core: &Core<D, E, M>) -> u32 {
     let mut used: u32 = 0;
     for frame in 0..core.frames.len() {
         if core.frames.role(FrameNo(frame)) != Role::Free {
@@ -206,17 +207,17 @@ fn used_frames<D, E>(core: &Core<D, E>) -> u32 {
 }
 
 /// The number that stands for a page of a process; `None` where there is no such process.
-fn number<D, E>(core: &Core<D, E>, pid: u64, addr: u64) -> Option<u64>
+fn number<D, E, M: Levels>(core: &Core<D, E, M>, pid: u64, addr: u64) -> Option<u64>
     requires fit { IsFit (picture_of core.now) }
 {
     let pid = core.live(pid)?;
-    let page = Vpn::new(addr / 4096)?;
+    let page = Vpn::new::<M>(addr / 4096)?;
     let root = root_of(core, pid);
     Some(entry_number(&core.frames, root, page).to_u64())
 }
 
 /// How many share the frame or the slot that an entry of this number names.
-fn shares<D, E>(core: &Core<D, E>, number: u64) -> Option<u8> {
+fn shares<D, E, M: Levels>(core: &Core<D, E, M>, number: u64) -> Option<u8> {
     if number % 2 == 0 {
         return sharers(core, u32::try_from(number / 2).ok()?.checked_sub(1)?);
     }
@@ -229,18 +230,18 @@ fn shares<D, E>(core: &Core<D, E>, number: u64) -> Option<u8> {
 }
 
 /// How many runs process 1 has, and what its page at that address stands on.
-fn runs<D, E>(core: &Core<D, E>, addr: u64) -> Option<(usize, Backing)>
+fn runs<D, E, M: Levels>(core: &Core<D, E, M>, addr: u64) -> Option<(usize, Backing)>
     requires fit { IsFit (picture_of core.now) }
 {
     let pid = core.live(1)?;
-    let page = Vpn::new(addr / 4096)?;
+    let page = Vpn::new::<M>(addr / 4096)?;
     let regions = core.regions(pid);
     let attr = regions.at(page)?;
     Some((regions.runs(), attr.backing))
 }
 
 /// Looks at memory, and ends the test where it isn't as is wanted.
-fn look<D, E>(rt: &impl Abort, core: &Core<D, E>, name: &str, step: Step)
+fn look<D, E, M: Levels>(rt: &impl Abort, core: &Core<D, E, M>, name: &str, step: Step)
     requires fit { IsFit (picture_of core.now) }
 {
     match step {
@@ -259,9 +260,9 @@ fn look<D, E>(rt: &impl Abort, core: &Core<D, E>, name: &str, step: Step)
 }
 
 /// Does one step, and ends the test where it isn't as is wanted.
-fn carry_out_one<D: SectorDisk, E: SectorDisk>(
+fn carry_out_one<D: SectorDisk, E: SectorDisk, M: Levels>(
     rt: &impl Abort,
-    core: &mut Core<D, E>,
+    core: &mut Core<D, E, M>,
     name: &str,
     step: Step,
 )
@@ -278,9 +279,9 @@ fn carry_out_one<D: SectorDisk, E: SectorDisk>(
 }
 
 /// Does steps one after another.
-fn carry_out_part<D: SectorDisk, E: SectorDisk>(
+fn carry_out_part<D: SectorDisk, E: SectorDisk, M: Levels>(
     rt: &impl Abort,
-    core: &mut Core<D, E>,
+    core: &mut Core<D, E, M>,
     name: &str,
     steps: &[Step],
 )
@@ -293,7 +294,11 @@ fn carry_out_part<D: SectorDisk, E: SectorDisk>(
 }
 
 /// Does the steps of a row.
-fn carry_out<D: SectorDisk, E: SectorDisk>(rt: &impl Abort, core: &mut Core<D, E>, row: Row<'_>)
+fn carry_out<D: SectorDisk, E: SectorDisk, M: Levels>(
+    rt: &impl Abort,
+    core: &mut Core<D, E, M>,
+    row: Row<'_>,
+)
     requires { IsSoundCore D.SectorDisk E.SectorDisk core.old }
     ensures { IsSoundCore D.SectorDisk E.SectorDisk core.new }
 {
@@ -302,16 +307,25 @@ fn carry_out<D: SectorDisk, E: SectorDisk>(rt: &impl Abort, core: &mut Core<D, E
     }
 }
 
-/// The device of the store, after the steps of a row in new memory.
-pub(crate) fn disk_after<R: AllocGlobal + Abort>(rt: &R, row: Row<'_>) -> Result<SimDisk, Fail> {
+/// The device of the store, after the steps of a row in new memory of that mode.
+pub(crate) fn disk_after_in<M: Levels>(
+    rt: &impl Abort,
+    alloc: Global,
+    row: Row<'_>,
+) -> Result<SimDisk, Fail> {
     let Sizes { frames, slots, .. } = row.sizes;
     assert!(rt;
         8 <= frames && frames <= 64 && slots <= 64,
         "memory of another size"
     );
-    let mut core = memory(rt.alloc(), row.sizes)?;
+    let mut core = memory::<M>(alloc, row.sizes)?;
     carry_out(rt, &mut core, row);
     Ok(core.store.into_disk())
+}
+
+/// The same in Sv39.
+pub(crate) fn disk_after<R: AllocGlobal + Abort>(rt: &R, row: Row<'_>) -> Result<SimDisk, Fail> {
+    disk_after_in::<Sv39>(rt, rt.alloc(), row)
 }
 
 /// Ends the test where the value isn't the one that is wanted.

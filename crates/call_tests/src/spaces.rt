@@ -7,13 +7,13 @@ use crate::bench::Step::{
     Does, Entry, Faults, Fetches, Loads, Makes, Maps, Places, Reads, Refuses, Runs, Stores,
     UsedFrames,
 };
-use crate::bench::{FILE, PLAIN, Row, disk_after, equal};
+use crate::bench::{FILE, PLAIN, Row, disk_after, disk_after_in, equal};
 use disk_model::SectorDisk;
 use std::test::Fail;
 use test_fixtures::Sizes;
 use vm_types::MapSource::{Anon, Private, Shared};
 use vm_types::Width::{Eight, Four, One, Two};
-use vm_types::{Backing, Code, Errno};
+use vm_types::{Backing, Code, Errno, Sv48};
 
 /// 16 frames over a file of one page.
 const ONE_PAGE: Sizes = Sizes {
@@ -193,6 +193,38 @@ fn one_process_has_its_pages(rt: HostRuntime) -> Result<(), Fail> {
     for row in ROWS {
         let _ = disk_after(&rt, row)?;
     }
+    Ok(())
+}
+
+/// The zero page, a root, three tables below it and a page; the last page of the user half has three tables of its own.
+const FOUR_LEVELS: Row<'static> = Row {
+    name: "has four levels of tables",
+    sizes: PLAIN,
+    parts: &[&[
+        Makes(Spawn, 1),
+        Maps(0x10000, 4096, Anon),
+        Stores(1, 0x10000, 1),
+        UsedFrames(6),
+        Maps(0x7fff_ffff_f000, 4096, Anon),
+        Stores(1, 0x7fff_ffff_ffff, 2),
+        UsedFrames(10),
+        Loads(1, 0x7fff_ffff_ffff, 2),
+        Does(Unmap(0x7fff_ffff_f000, 4096)),
+        UsedFrames(6),
+        Faults(
+            Load(1, 0x7fff_ffff_ffff, One),
+            13,
+            Code::SegvMaperr,
+            0x7fff_ffff_ffff,
+        ),
+        Does(Exit(1)),
+        UsedFrames(1),
+    ]],
+};
+
+#[test]
+fn a_process_has_four_levels(rt: HostRuntime) -> Result<(), Fail> {
+    let _ = disk_after_in::<Sv48>(&rt, rt.alloc(), FOUR_LEVELS)?;
     Ok(())
 }
 

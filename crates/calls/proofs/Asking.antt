@@ -1,4 +1,5 @@
 -- What an access asks for.
+use Rattle.vm_types.specs.declared.mode.Levels as Levels
 use Rattle.std.proofs.Common.{ℕ, ◌≡◌, ◌⊎◌, ◌/◌, true, false, Some, is_some, List, Result, Ok, Err, sym, ap, ◌∙◌, subst}
 use Rattle.disk_model.specs.declared.sector_disk.SectorDisk.{Ghosts}
 use Rattle.page_faults.specs.declared.refusal.AccessRefusal.{AccessRefusal}
@@ -23,7 +24,7 @@ use Rattle.vm_types.specs.Width.{byte_count}
 use Rattle.calls.specs.Accesses.{answer_of, AsksFor, WritesNumber}
 use Rattle.calls.proofs.Refusals.{no_stall, same_stall}
 
-module _ {D E : Type 0} (old new : Core D E) (pid addr : ℕ) (access : Access) (read : (new.store ≡ old.store) ⊎ ReadsHome (picture_of old) pid (addr / 4096))
+module _ {M : Type 0} {m : Levels.Ghosts M} {D E : Type 0} (old new : Core D E M m) (pid addr : ℕ) (access : Access) (read : (new.store ≡ old.store) ⊎ ReadsHome (picture_of old) pid (addr / 4096))
     (slots : (Wants (picture_of old) pid (addr / 4096) access → ⊥) → new.swap ≡ old.swap)
     (slotted : KeepsSlotted (ShowsFile (picture_of old) pid (addr / 4096)) (IsThatPage pid (addr / 4096)) (picture_of old) (picture_of new)) where
   pub asks_unstalled : (reply : Reply) → ((stall : Stall) → reply ≡ Stalled stall → ⊥) → AsksFor old new pid addr access reply
@@ -42,7 +43,7 @@ module _ {D E : Type 0} (old new : Core D E) (pid addr : ℕ) (access : Access) 
   }
 
 -- the tables of no process grant nothing
-pub no_root : (c : Picture) (pid root : ℕ) → is_live c pid ≡ false → c.root pid ≡ Some root → ⊥
+pub no_root : {mode : ℕ} (c : Picture mode) (pid root : ℕ) → is_live c pid ≡ false → c.root pid ≡ Some root → ⊥
 no_root c pid root dead lives = let bad : false ≡ true = sym dead ∙ ap is_some lives in cc
 
 -- an access has one end
@@ -53,11 +54,11 @@ pub one_place : (r : Result Phys AccessRefusal) (a b : Phys) → r ≡ Ok a → 
 one_place r a b here there = let same : ◌≡◌ {A = Result Phys AccessRefusal} (Ok a) (Ok b) = sym here ∙ there in cc
 
 -- a store that the tables granted
-pub writes_walked : {D E : Type 0} (old mid new : Core D E) (n m offset : ℕ) (stored : StoredValue) (page : List ℕ) → mid ≡ old → n ≡ m → KeepsAround mid new
+pub writes_walked : {M : Type 0} {m : Levels.Ghosts M} → {D E : Type 0} (old mid new : Core D E M m) (n m offset : ℕ) (stored : StoredValue) (page : List ℕ) → mid ≡ old → n ≡ m → KeepsAround mid new
     → new.clock ≡ mid.clock → new.refused ≡ mid.refused → new.frames ≡ with_bytes mid.frames n page
     → page ≡ with_number (bytes_of mid.frames n) offset (byte_count stored.width) stored.value → WritesNumber old new m offset stored
 writes_walked old mid new n m offset stored page same number around clock refused frames is =
-    subst (λ (k : Core _ _). WritesNumber k new m offset stored) same (record {
+    subst (λ (k : Core _ _ _ _). WritesNumber k new m offset stored) same (record {
       frames = frames ∙ ap (λ (b : List ℕ). with_bytes mid.frames n b) is
           ∙ ap (λ (x : ℕ). with_bytes mid.frames x (with_number (bytes_of mid.frames x) offset (byte_count stored.width) stored.value)) number;
       around = around;

@@ -46,7 +46,7 @@ guarded_after files (Private page) count = refl
 guarded_after files (Shared page) count = refl
 guarded_after files (Common page) count = refl
 
-module _ (files : Files) (runs : List Run) where
+module _ (mode : ℕ) (files : Files) (runs : List Run) where
   -- no page from the first up to, not including, the last is guarded
   pub record Unguarded (first last : ℕ) : Type 0 where
     pub none : (k : ℕ) → first ≤ k → k < last → is_guarded_page files (space_of runs k) ≡ false
@@ -59,13 +59,13 @@ module _ (files : Files) (runs : List Run) where
   of_run run k e =
       ap (λ (o : Option Attr). is_guarded_page files (option_map plain o)) e ∙ guarded_after files run.attr.backing (k - run.first)
 
-  before_run : (first page : ℕ) (run : Run) → Unguarded first page → IsNextRun (attr_at runs) page run → (k : ℕ) → first ≤ k → k < run.first
+  before_run : (first page : ℕ) (run : Run) → Unguarded first page → IsNextRun mode (attr_at runs) page run → (k : ℕ) → first ≤ k → k < run.first
       → is_guarded_page files (space_of runs k) ≡ false
   before_run first page run past next k low high =
       ⊎_elim (λ (a : k < page). past.none k low a) (λ (b : page ≤ k). missing k (next.none_before k b high)) (lt_or_le k page)
 
   -- the walk ends behind the row
-  pub none_in_row : (first pages page : ℕ) (run : Run) → Unguarded first page → IsNextRun (attr_at runs) page run → first + pages ≤ run.first
+  pub none_in_row : (first pages page : ℕ) (run : Run) → Unguarded first page → IsNextRun mode (attr_at runs) page run → first + pages ≤ run.first
       → false ≡ any_below (λ i. is_guarded_page files (space_of runs (first + i))) pages
   none_in_row first pages page run past next behind =
       sym (none_guarded (λ i. is_guarded_page files (space_of runs (first + i))) pages
@@ -79,7 +79,7 @@ module _ (files : Files) (runs : List Run) where
       (λ i less. ⊎_elim (λ (a : first + i < page). past.none (first + i) (omega arith) a) (λ (b : page ≤ first + i). missing (first + i) (none (first + i) b)) (lt_or_le (first + i) page)))
 
   -- or a run of the row is guarded
-  pub one_in_row : (first pages page : ℕ) (run : Run) → first ≤ page → IsNextRun (attr_at runs) page run → run.first < first + pages → is_guarded files run.attr.backing ≡ true
+  pub one_in_row : (first pages page : ℕ) (run : Run) → first ≤ page → IsNextRun mode (attr_at runs) page run → run.first < first + pages → is_guarded files run.attr.backing ≡ true
       → true ≡ any_below (λ i. is_guarded_page files (space_of runs (first + i))) pages
   one_in_row first pages page run low next inside e =
       let from : page ≤ run.first = next.from in

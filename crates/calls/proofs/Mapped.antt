@@ -1,4 +1,5 @@
 -- mmap of the flat model in a state that memory shows.
+use Rattle.vm_types.specs.declared.mode.Levels as Levels
 use Rattle.std.proofs.Common.{ℕ, ◌-◌, ◌*◌, ◌≡◌, ◌==◌, ◌++◌, not, Bool, true, false, if◌then◌else◌, List, [], ◌∷◌, Option, Some, None, is_none, option_map, refl, sym, ap, ◌∙◌, subst, mul_comm}
 use Rattle.disk_model.specs.declared.sector_disk.SectorDisk.{Ghosts}
 use Rattle.regions.specs.declared.run.Run.{Run}
@@ -39,9 +40,9 @@ use Rattle.calls.proofs.Checks.{first_of-append, first_of-some}
 use Rattle.calls.proofs.Pages.{attrs_as_runs, maps_without}
 
 -- the place and its checks ask for attributes alone
-module _ (a b : ℕ → Option View) (same : attrs_of a ≡ attrs_of b) where
-  place_same : (placing : Placing) (addr pages : ℕ) → place_for placing a addr pages ≡ place_for placing b addr pages
-  place_same Hint addr pages = ap (λ (m : ℕ → Option Attr). placed m addr pages) same
+module _ (mode : ℕ) (a b : ℕ → Option View) (same : attrs_of a ≡ attrs_of b) where
+  place_same : (placing : Placing) (addr pages : ℕ) → place_for mode placing a addr pages ≡ place_for mode placing b addr pages
+  place_same Hint addr pages = ap (λ (m : ℕ → Option Attr). placed mode m addr pages) same
   place_same Fixed addr pages = refl
   place_same NoReplace addr pages = refl
 
@@ -51,14 +52,14 @@ module _ (a b : ℕ → Option View) (same : attrs_of a ≡ attrs_of b) where
   taken_same NoReplace pages None = refl
   taken_same NoReplace pages (Some first) = ap (λ (m : ℕ → Option Attr). not (is_free m first pages)) same
 
-  many_same : (pages : ℕ) (attr : ℕ → Attr) (place : Option ℕ) → passes_runs a pages attr place ≡ passes_runs b pages attr place
+  many_same : (pages : ℕ) (attr : ℕ → Attr) (place : Option ℕ) → passes_runs mode a pages attr place ≡ passes_runs mode b pages attr place
   many_same pages attr None = refl
-  many_same pages attr (Some first) = ap (λ (m : ℕ → Option Attr). Rattle.std.specs.Prelude.nat_lt 256 (run_count (replaced m first pages (attr first)))) same
+  many_same pages attr (Some first) = ap (λ (m : ℕ → Option Attr). Rattle.std.specs.Prelude.nat_lt 256 (run_count mode (replaced m first pages (attr first)))) same
 
   checks_same : (placing : Placing) (pages : ℕ) (attr : ℕ → Attr) (place : Option ℕ)
-      → first_of (place_checks placing a pages attr place) ≡ first_of (place_checks placing b pages attr place)
+      → first_of (place_checks mode placing a pages attr place) ≡ first_of (place_checks mode placing b pages attr place)
   checks_same placing pages attr place =
-      ap (λ (x : Bool). first_of ((is_none place, ENOMEM) ∷ (x, EEXIST) ∷ (passes_runs a pages attr place, ENOMEM) ∷ [])) (taken_same placing pages place)
+      ap (λ (x : Bool). first_of ((is_none place, ENOMEM) ∷ (x, EEXIST) ∷ (passes_runs mode a pages attr place, ENOMEM) ∷ [])) (taken_same placing pages place)
       ∙ ap (λ (x : Bool). first_of ((is_none place, ENOMEM) ∷ (is_taken placing b pages place, EEXIST) ∷ (x, ENOMEM) ∷ [])) (many_same pages attr place)
 
 -- the row that is new
@@ -67,7 +68,7 @@ mapped_row : (b : Bool) (new : Attr) (o : Option Attr) (x : Option View)
 mapped_row true new o x = refl
 mapped_row false new o x = refl
 
-mapped_page : (old new : Picture) (s : State) (pid first pages : ℕ) (attr : Attr) (runs next : List Run) → ShowsPages old s
+mapped_page : {mode : ℕ} (old new : Picture mode) (s : State) (pid first pages : ℕ) (attr : Attr) (runs next : List Run) → ShowsPages old s
     → ((page : ℕ) → attr_at next page ≡ replaced (attr_at runs) first pages attr page)
     → RemapsRow old new pid first pages (attr_at next)
     → (page : ℕ) → mapped (s.views pid) first pages attr page ≡ view new pid page
@@ -80,7 +81,7 @@ mapped_page old new s pid first pages attr runs next shows map row page =
 live_first : (b : Bool) (rest : List Rattle.vm_types.specs.Checks.Check) → b ≡ true → first_of ((not b, ESRCH) ∷ rest) ≡ first_of rest
 live_first b rest e = rw e refl
 
-module _ {D E : Type 0} (g : Ghosts D) (h : Ghosts E) (old : Core D E) (s : State) (pid addr len : ℕ) (prot : Prot) (source : MapSource) (placing : Placing)
+module _ {M : Type 0} {m : Levels.Ghosts M} {D E : Type 0} (g : Ghosts D) (h : Ghosts E) (old : Core D E M m) (s : State) (pid addr len : ℕ) (prot : Prot) (source : MapSource) (placing : Placing)
     (shows : ShowsPages (picture_of old) s) where
   refuses : (errno : Errno) → mmap_errno s pid addr len prot source placing ≡ Some errno
       → Comes g h old old s (Mmap pid addr len prot source placing) (Refused errno)
@@ -109,11 +110,14 @@ module _ {D E : Type 0} (g : Ghosts D) (h : Ghosts E) (old : Core D E) (s : Stat
     attr_same : (first n : ℕ) → attr_for s pid first n source prot ≡ attrs n first
     attr_same first n = ap (λ (maps : Maps). first_attr source prot (free_object maps)) (maps_without (picture_of old) s shows pid first n)
 
-    late_same : (place : Option ℕ) → first_of (flat_checks place) ≡ first_of (place_checks placing (s.views pid) (page_count len) (attrs (page_count len)) place)
+    late_same : (place : Option ℕ) → first_of (flat_checks place) ≡ first_of (place_checks m.mode placing (s.views pid) (page_count len) (attrs (page_count len)) place)
     late_same None = refl
     late_same (Some first) =
-        ap (λ (attr : Attr). first_of ((false, ENOMEM) ∷ (is_taken placing (s.views pid) (page_count len) (Some first), EEXIST)
-        ∷ (Rattle.std.specs.Prelude.nat_lt 256 (run_count (replaced (attrs_of (s.views pid)) first (page_count len) attr)), ENOMEM) ∷ []))
+        ap (λ (x : ℕ). first_of ((false, ENOMEM) ∷ (is_taken placing (s.views pid) (page_count len) (Some first), EEXIST)
+        ∷ (Rattle.std.specs.Prelude.nat_lt 256 (run_count x (replaced (attrs_of (s.views pid)) first (page_count len) (attr_for s pid first (page_count len) source prot))), ENOMEM) ∷ []))
+        shows.same_mode
+        ∙ ap (λ (attr : Attr). first_of ((false, ENOMEM) ∷ (is_taken placing (s.views pid) (page_count len) (Some first), EEXIST)
+        ∷ (Rattle.std.specs.Prelude.nat_lt 256 (run_count m.mode (replaced (attrs_of (s.views pid)) first (page_count len) attr)), ENOMEM) ∷ []))
         (attr_same first (page_count len))
 
     ruled : mmap_errno s pid addr len prot source placing ≡ first_of (mmap_asked_checks s.files addr len prot source placing ++ late)
@@ -131,26 +135,27 @@ module _ {D E : Type 0} (g : Ghosts D) (h : Ghosts E) (old : Core D E) (s : Stat
 
     module _ (asked : None ≡ first_of (mmap_asked_checks (picture_of old).files addr len prot source placing))
         (runs : List Run) (here : (page : ℕ) → attr_at runs page ≡ (picture_of old).at pid page) (pages : ℕ) (count : pages ≡ page_count len) where
-      place_is : mmap_place s pid addr len placing ≡ place_for placing (space_of runs) addr pages
+      place_is : mmap_place s pid addr len placing ≡ place_for m.mode placing (space_of runs) addr pages
       place_is =
-          place_same (s.views pid) (space_of runs) (attrs_as_runs (picture_of old) s pid runs shows here) placing addr (page_count len)
-          ∙ ap (λ (n : ℕ). place_for placing (space_of runs) addr n) (sym count)
+          ap (λ (x : ℕ). place_for x placing (s.views pid) addr (page_count len)) shows.same_mode
+          ∙ place_same m.mode (s.views pid) (space_of runs) (attrs_as_runs (picture_of old) s pid runs shows here) placing addr (page_count len)
+          ∙ ap (λ (n : ℕ). place_for m.mode placing (space_of runs) addr n) (sym count)
 
-      late_is : (place : Option ℕ) → place_for placing (space_of runs) addr pages ≡ place
-          → mmap_errno s pid addr len prot source placing ≡ first_of (place_checks placing (space_of runs) pages (attrs pages) place)
+      late_is : (place : Option ℕ) → place_for m.mode placing (space_of runs) addr pages ≡ place
+          → mmap_errno s pid addr len prot source placing ≡ first_of (place_checks m.mode placing (space_of runs) pages (attrs pages) place)
       late_is place e =
           ruled ∙ first_of-append (mmap_asked_checks s.files addr len prot source placing) late (asked_same ∙ sym asked)
           ∙ ap (λ (o : Option ℕ). first_of (flat_checks o)) (place_is ∙ e) ∙ late_same place
-          ∙ checks_same (s.views pid) (space_of runs) (attrs_as_runs (picture_of old) s pid runs shows here) placing (page_count len) (attrs (page_count len)) place
-          ∙ ap (λ (n : ℕ). first_of (place_checks placing (space_of runs) n (attrs n) place)) (sym count)
+          ∙ checks_same m.mode (s.views pid) (space_of runs) (attrs_as_runs (picture_of old) s pid runs shows here) placing (page_count len) (attrs (page_count len)) place
+          ∙ ap (λ (n : ℕ). first_of (place_checks m.mode placing (space_of runs) n (attrs n) place)) (sym count)
 
       pub refused_place : (errno : Errno)
-          → first_of (place_checks placing (space_of runs) pages (attrs pages) (place_for placing (space_of runs) addr pages)) ≡ Some errno
+          → first_of (place_checks m.mode placing (space_of runs) pages (attrs pages) (place_for m.mode placing (space_of runs) addr pages)) ≡ Some errno
           → Comes g h old old s (Mmap pid addr len prot source placing) (Refused errno)
-      refused_place errno e = refuses errno (late_is (place_for placing (space_of runs) addr pages) refl ∙ e)
+      refused_place errno e = refuses errno (late_is (place_for m.mode placing (space_of runs) addr pages) refl ∙ e)
 
-      pub maps : (first : ℕ) (next : List Run) → MapsPages runs addr pages (attrs pages) placing first next
-          → (new : Core D E) → IsFit (picture_of new) → RemapsRow (picture_of old) (picture_of new) pid first pages (attr_at next)
+      pub maps : (first : ℕ) (next : List Run) → MapsPages m.mode runs addr pages (attrs pages) placing first next
+          → (new : Core D E M m) → IsFit (picture_of new) → RemapsRow (picture_of old) (picture_of new) pid first pages (attr_at next)
           → KeepsNamed (without_maps (picture_of old).at pid first pages) (picture_of old) (picture_of new)
           → Comes g h old new s (Mmap pid addr len prot source placing) (Address (first * 4096))
       maps first next fits new fit row keeps =

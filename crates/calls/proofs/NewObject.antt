@@ -1,9 +1,9 @@
 -- The pages of a new object are named by the mapping alone.
-use Rattle.std.proofs.Common.{◌≡◌, ℕ, zero, suc, inl, inr, ◌⊎◌, ◌+◌, ◌-◌, ◌<◌, ◌≤◌, ◌==◌, ◌&&◌, Bool, true, false, Option, Some, None, IsSome, refl, sym, ap, ◌∙◌, subst, arith, eqb-true, eq-eqb, ne_eqb}
+use Rattle.std.proofs.Common.{◌≡◌, ℕ, zero, suc, inl, inr, ◌⊎◌, ◌+◌, ◌-◌, ◌<◌, ◌≤◌, ◌==◌, ◌&&◌, Bool, true, false, Option, Some, None, IsSome, is_some, refl, sym, ap, ◌∙◌, subst, arith, eqb-true, eq-eqb, ne_eqb}
 use Rattle.std.specs.Prelude.{if◌then◌else◌}
 use Rattle.std.proofs.lemmas.Bool.{cases_Bool, cases_eq, false≢true, true≢false}
 use Rattle.std.proofs.lemmas.Bool.Decides.{nat_tests}
-use Rattle.vm_types.specs.Limits.{named_limit, object_limit}
+use Rattle.vm_types.specs.Limits.{named_limit, object_limit, user_end, widest_end}
 use Rattle.vm_types.specs.declared.command.MapSource.{MapSource}
 use Rattle.vm_types.specs.declared.command.MapSource.TheVariants.{Anon, Private, Shared, Common}
 use Rattle.vm_types.specs.declared.permission.Prot.{Prot}
@@ -15,13 +15,14 @@ use Rattle.vm_types.specs.Mapping.{first_attr}
 use Rattle.vm_types.specs.Objects.{Maps, names, uses, is_used, is_object_page, is_of_object, least_from, free_object}
 use Rattle.vm_types.specs.Rows.{in_row, removed, replaced, IsUserMap}
 use Rattle.vm_types.specs.Runs.{run_count}
-use Rattle.vm_types.proofs.NewObjects.{free-unused}
+use Rattle.vm_types.proofs.Modes.{sizes}
+use Rattle.vm_types.proofs.NewObjects.{free-unused, least-clear}
 use Rattle.paging.specs.Parts.{AreObjects}
 use Rattle.paging.proofs.Places.{objects-fewer}
 use Rattle.page_ranges.specs.Rows.{with_map, without_maps}
 use Rattle.page_ranges.proofs.Marking.{used_where, used_at}
 
--- the number that is found is one of those, or the one behind them
+-- the number that is found is one of those, or the one after them
 least_within : (passes : ℕ → Bool) (n count : ℕ) → least_from passes n count ≤ n + count
 unfolding least_from
 least_within passes n zero = omega arith
@@ -32,18 +33,6 @@ least_within passes n (suc count) = let rest = least_within passes (n + 1) count
 
 pub free_within : (maps : Maps) → free_object maps < object_limit
 free_within maps = let most = least_within (is_used maps) 0 named_limit in omega (arith, most)
-
--- where one of the numbers doesn't pass, the one that is found doesn't
-least_clears : (passes : ℕ → Bool) (n count k : ℕ) → n ≤ k → k ≤ n + count → passes k ≡ false → passes (least_from passes n count) ≡ false
-unfolding least_from
-least_clears passes n zero k from within clear = let same : k ≡ n = omega (arith, from, within) in ap passes (sym same) ∙ clear
-least_clears passes n (suc count) k from within clear = elim (cases_Bool (passes n)) [
-  | inl t ↦ elim (cases_eq k n) [
-    | inl same ↦ absurd (true≢false (sym t ∙ ap passes (sym same) ∙ clear))
-    | inr other ↦ rw t (least_clears passes (n + 1) count k (omega (arith, from, other)) (omega (arith, within)) clear)
-  ]
-  | inr f ↦ rw f f
-]
 
 -- an object that a process uses once the row is out was used before
 used_before : (at : Maps) (pid first pages o : ℕ) → is_used (without_maps at pid first pages) o ≡ true → is_used at o ≡ true
@@ -64,14 +53,25 @@ used_before at pid first pages o is =
       | inr other ↦ rw (ne_eqb q pid other) at e
     ]
 
+wide : (mode k : ℕ) → k < user_end mode → k < widest_end
+wide mode k low = let most = (sizes mode).most in omega (arith, low, most)
+
+-- past the user pages nothing is mapped
+unmapped_high : (mode : ℕ) (map : ℕ → Option Attr) (page : ℕ) → IsUserMap mode map → user_end mode ≤ page → map page ≡ None
+unmapped_high mode map page user high = by_attr (map page) refl
+  where
+    by_attr : (a : Option Attr) → map page ≡ a → a ≡ None
+    by_attr None e = refl
+    by_attr (Some attr) e = let low = (user.user_pages page (ap is_some e)).1 in absurd (omega (arith, low, high))
+
 -- no process uses the new object
-pub new_unused : (at : Maps) (pid first pages : ℕ) → ((page : ℕ) → at 0 page ≡ None) → ((q : ℕ) → run_count (at q) ≤ 256)
+pub new_unused : (mode : ℕ) (at : Maps) (pid first pages : ℕ) → ((page : ℕ) → at 0 page ≡ None) → ((q : ℕ) → IsUserMap mode (at q)) → ((q : ℕ) → run_count mode (at q) ≤ 256)
     → is_used (without_maps at pid first pages) (free_object (without_maps at pid first pages)) ≡ false
-new_unused at pid first pages none few =
+new_unused mode at pid first pages none user few =
     let o = free_object at in
-    let unused : is_used at o ≡ false = free-unused at none few in
+    let unused : is_used at o ≡ false = free-unused mode at none (λ q page high. unmapped_high mode (at q) page (user q) high) few in
     let low : o < object_limit = free_within at in
-    least_clears (is_used (without_maps at pid first pages)) 0 named_limit o (omega arith) (omega (arith, low)) (elim (cases_Bool (is_used (without_maps at pid first pages) o)) [
+    least-clear (is_used (without_maps at pid first pages)) 0 named_limit o (omega arith) (omega (arith, low)) (elim (cases_Bool (is_used (without_maps at pid first pages) o)) [
       | inl t ↦ absurd (true≢false (sym (used_before at pid first pages o t) ∙ unused))
       | inr f ↦ f
     ])
@@ -109,8 +109,8 @@ some_used : (a : Option Attr) (o : ℕ) → uses a o ≡ true → IsSome a
 some_used None o e = absurd (false≢true e)
 some_used (Some attr) o e = refl
 
-module _ (at : Maps) (pid first pages : ℕ) (next : ℕ → Option Attr) (source : MapSource) (prot : Prot) (objects : AreObjects at)
-    (user : (q : ℕ) → IsUserMap (at q)) (living : (q page : ℕ) → IsSome (at q page) → q < 65)
+module _ (mode : ℕ) (at : Maps) (pid first pages : ℕ) (next : ℕ → Option Attr) (source : MapSource) (prot : Prot) (objects : AreObjects at)
+    (user : (q : ℕ) → IsUserMap mode (at q)) (living : (q page : ℕ) → IsSome (at q page) → q < 65)
     (unused : source ≡ Common → is_used (without_maps at pid first pages) (free_object (without_maps at pid first pages)) ≡ false)
     (map : (page : ℕ) → next page ≡ replaced (at pid) first pages (first_attr source prot (free_object (without_maps at pid first pages))) page) where
   abbrev out : Maps
@@ -160,7 +160,7 @@ module _ (at : Maps) (pid first pages : ℕ) (next : ℕ → Option Attr) (sourc
   stayed q k o e = elim (each q k) [
     | inl same ↦ (
         let some : IsSome (at q k) = subst (λ (a : Option Attr). IsSome a) same (some_used (out q k) o e) in
-        used_at out o q (living q k some) (k, ((user q).user_pages k some).1, e))
+        used_at out o q (living q k some) (k, wide mode k ((user q).user_pages k some).1, e))
     | inr none ↦ absurd (false≢true (sym (ap (λ (a : Option Attr). uses a o) none) ∙ e))
   ]
 

@@ -1,4 +1,5 @@
 -- The numbers of processes, and how many runs each has.
+use Rattle.vm_types.specs.declared.mode.Levels as Levels
 use Rattle.std.proofs.Common.{◌≡◌, ℕ, ◌<◌, ◌≤◌, Option, Some, None, IsSome, List, [], refl, ◌∙◌, arith}
 use Rattle.std.proofs.lemmas.Bool.{false≢true}
 use Rattle.vm_types.specs.Runs.{run_count}
@@ -17,7 +18,7 @@ mapped : (o : Option ℕ) (runs : List Run) (k : ℕ) → IsSome (attr_where o r
 mapped None runs k is = absurd (false≢true is)
 mapped (Some r) runs k is = (r, refl)
 
-module _ {D E : Type 0} (c : Core D E) (fit : IsFit (picture_of c)) where
+module _ {M : Type 0} {m : Levels.Ghosts M} {D E : Type 0} (c : Core D E M m) (fit : IsFit (picture_of c)) where
   -- there is no process 0
   pub nobody_has : (page : ℕ) → (picture_of c).at 0 page ≡ None
   nobody_has page = unmapped ((picture_of c).root 0) _ page (λ r at. (let low = (fit.rooted.numbers 0 r at).0 in omega (arith, low)))
@@ -29,8 +30,8 @@ module _ {D E : Type 0} (c : Core D E) (fit : IsFit (picture_of c)) where
       omega (arith, high)
 
   -- a process that doesn't live has no runs
-  pub no_runs : (q : ℕ) → ((r : ℕ) → (picture_of c).root q ≡ Some r → ⊥) → run_count ((picture_of c).at q) ≤ 256
+  pub no_runs : (q : ℕ) → ((r : ℕ) → (picture_of c).root q ≡ Some r → ⊥) → run_count m.mode ((picture_of c).at q) ≤ 256
   no_runs q none =
-      let same : run_count ((picture_of c).at q) ≡ 0 =
-      run_count-same ((picture_of c).at q) (attr_at []) (λ k. unmapped ((picture_of c).root q) _ k none) ∙ run_count-maximal [] tt in
+      let same : run_count m.mode ((picture_of c).at q) ≡ 0 =
+      run_count-same m.mode ((picture_of c).at q) (attr_at []) (λ k. unmapped ((picture_of c).root q) _ k none) ∙ run_count-maximal m.mode [] tt in
       omega (arith, same)

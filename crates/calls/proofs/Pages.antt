@@ -1,4 +1,5 @@
 -- The pages of a process by memory, by its runs and in the flat model.
+use Rattle.vm_types.specs.Limits.{user_end}
 use Rattle.std.proofs.Common.{ℕ, ◌≡◌, ◌^◌, ◌==◌, inl, inr, Bool, true, false, if◌then◌else◌, IsSome, List, Option, Some, None, option_map, refl, sym, ap, ◌∙◌, arith}
 use Rattle.std.proofs.lemmas.Bool.{cases_lt}
 use Rattle.std.proofs.lemmas.Bool.Decides.{nat_tests}
@@ -30,24 +31,24 @@ attr_seen own None = refl
 attr_seen own (Some attr) = refl
 
 -- what memory shows of a page is what the page is, and perhaps a copy
-pub attrs_seen : (c : Picture) (pid : ℕ) → attrs_of (view c pid) ≡ c.at pid
+pub attrs_seen : {mode : ℕ} (c : Picture mode) (pid : ℕ) → attrs_of (view c pid) ≡ c.at pid
 unfolding view
 attrs_seen c pid = λ t page. attr_seen (own_in c.frames c.slots (entry c pid page)) (c.at pid page) t
 
-pub views_seen : (c : Picture) (s : State) → ShowsPages c s → (pid : ℕ) → s.views pid ≡ view c pid
+pub views_seen : {mode : ℕ} (c : Picture mode) (s : State) → ShowsPages c s → (pid : ℕ) → s.views pid ≡ view c pid
 views_seen c s shows pid = λ t page. shows.views pid page t
 
 -- the pages of a process are those of its runs
-pub attrs_by_runs : (c : Picture) (s : State) (pid : ℕ) (runs : List Run) → ShowsPages c s → ((page : ℕ) → attr_at runs page ≡ c.at pid page)
+pub attrs_by_runs : {mode : ℕ} (c : Picture mode) (s : State) (pid : ℕ) (runs : List Run) → ShowsPages c s → ((page : ℕ) → attr_at runs page ≡ c.at pid page)
     → attrs_of (s.views pid) ≡ attr_at runs
 attrs_by_runs c s pid runs shows same = ap attrs_of (views_seen c s shows pid) ∙ attrs_seen c pid ∙ (λ t page. sym (same page) t)
 
 -- as if they had no copies
-pub attrs_as_runs : (c : Picture) (s : State) (pid : ℕ) (runs : List Run) → ShowsPages c s → ((page : ℕ) → attr_at runs page ≡ c.at pid page)
+pub attrs_as_runs : {mode : ℕ} (c : Picture mode) (s : State) (pid : ℕ) (runs : List Run) → ShowsPages c s → ((page : ℕ) → attr_at runs page ≡ c.at pid page)
     → attrs_of (s.views pid) ≡ attrs_of (space_of runs)
 attrs_as_runs c s pid runs shows same = attrs_by_runs c s pid runs shows same ∙ sym (attrs_same runs)
 
-attr_at_page : (c : Picture) (s : State) → ShowsPages c s → (q page : ℕ) → option_map (λ (view : View). view.attr) (s.views q page) ≡ c.at q page
+attr_at_page : {mode : ℕ} (c : Picture mode) (s : State) → ShowsPages c s → (q page : ℕ) → option_map (λ (view : View). view.attr) (s.views q page) ≡ c.at q page
 unfolding view
 attr_at_page c s shows q page =
     ap (λ (o : Option View). option_map (λ (view : View). view.attr) o) (shows.views q page) ∙ attr_seen (own_in c.frames c.slots (entry c q page)) (c.at q page)
@@ -67,7 +68,7 @@ at_test : (b : Bool) (f g : ℕ → Option View) (page : ℕ) → (if b then f e
 at_test true f g page = refl
 at_test false f g page = refl
 
-pub maps_without : (c : Picture) (s : State) → ShowsPages c s → (pid first pages : ℕ) → maps_of (without_pages s.views pid first pages) ≡ without_maps c.at pid first pages
+pub maps_without : {mode : ℕ} (c : Picture mode) (s : State) → ShowsPages c s → (pid first pages : ℕ) → maps_of (without_pages s.views pid first pages) ≡ without_maps c.at pid first pages
 maps_without c s shows pid first pages = λ t q page. (each q page) t
   where
     each : (q page : ℕ) → maps_of (without_pages s.views pid first pages) q page ≡ without_maps c.at pid first pages q page
@@ -77,22 +78,23 @@ maps_without c s shows pid first pages = λ t q page. (each q page) t
         (row_test (in_row first pages page) (s.views pid page) (c.at pid page) (attr_at_page c s shows pid page)) (attr_at_page c s shows q page)
 
 -- what the pages of all processes are, but for those of one
-pub maps_gone : (c : Picture) (s : State) → ShowsPages c s → IsFit c → (pid : ℕ) → maps_of (without_space s.views pid) ≡ without_maps c.at pid 0 (2 ^ 26)
-maps_gone c s shows fit pid = λ t q page. (each q page) t
-  where
-    past : (o : Option Attr) → (IsSome o → ⊥) → o ≡ None
-    past None h = refl
-    past (Some attr) h = absurd (h refl)
+module _ {mode : ℕ} where
+  pub maps_gone : (c : Picture mode) (s : State) → ShowsPages c s → IsFit c → (pid : ℕ) → maps_of (without_space s.views pid) ≡ without_maps c.at pid 0 (user_end mode)
+  maps_gone c s shows fit pid = λ t q page. (each q page) t
+    where
+      past : (o : Option Attr) → (IsSome o → ⊥) → o ≡ None
+      past None h = refl
+      past (Some attr) h = absurd (h refl)
 
-    all_gone : (page : ℕ) → removed (c.at pid) 0 (2 ^ 26) page ≡ None
-    all_gone page = elim (cases_lt page (2 ^ 26)) [
-      | inl low ↦ (let inside : in_row 0 (2 ^ 26) page ≡ true = grind (arith, nat_tests) in rw inside refl)
-      | inr high ↦ (
-          let outside : in_row 0 (2 ^ 26) page ≡ false = grind (arith, nat_tests) in
-          rw outside (past (c.at pid page) (λ is. let within = (fit.granting.user pid).user_pages page is in absurd (omega (arith, within.1, high)))))
-    ]
+      all_gone : (page : ℕ) → removed (c.at pid) 0 (user_end mode) page ≡ None
+      all_gone page = elim (cases_lt page (user_end mode)) [
+        | inl low ↦ (let inside : in_row 0 (user_end mode) page ≡ true = grind (arith, nat_tests) in rw inside refl)
+        | inr high ↦ (
+            let outside : in_row 0 (user_end mode) page ≡ false = grind (arith, nat_tests) in
+            rw outside (past (c.at pid page) (λ is. let within = (fit.granting.user pid).user_pages page is in absurd (omega (arith, within.1, high)))))
+      ]
 
-    each : (q page : ℕ) → maps_of (without_space s.views pid) q page ≡ without_maps c.at pid 0 (2 ^ 26) q page
-    each q page =
-        ap (λ (o : Option View). option_map (λ (view : View). view.attr) o) (at_test (q == pid) (λ k. None) (s.views q) page)
-        ∙ page_test (q == pid) None (s.views q page) (removed (c.at pid) 0 (2 ^ 26) page) (c.at q page) (sym (all_gone page)) (attr_at_page c s shows q page)
+      each : (q page : ℕ) → maps_of (without_space s.views pid) q page ≡ without_maps c.at pid 0 (user_end mode) q page
+      each q page =
+          ap (λ (o : Option View). option_map (λ (view : View). view.attr) o) (at_test (q == pid) (λ k. None) (s.views q) page)
+          ∙ page_test (q == pid) None (s.views q page) (removed (c.at pid) 0 (user_end mode) page) (c.at q page) (sym (all_gone page)) (attr_at_page c s shows q page)

@@ -1,4 +1,5 @@
 -- Loads and fetches of the flat model in a state that memory shows.
+use Rattle.vm_types.specs.declared.mode.Levels as Levels
 use Rattle.std.proofs.Common.{ℕ, ◌%◌, ◌≡◌, true, false, if◌then◌else◌, List, refl, sym, ap, ◌∙◌, subst, arith}
 use Rattle.disk_model.specs.declared.sector_disk.SectorDisk.{Ghosts}
 use Rattle.page_faults.specs.declared.refusal.AccessRefusal.{AccessRefusal}
@@ -46,16 +47,16 @@ use Rattle.calls.proofs.Short.{falls_short}
 use Rattle.calls.proofs.Shown.{judged_is, homes}
 
 -- the frame of a load or a fetch is one of memory's
-pub open_read : (kind : Access) (c : Picture) (pid page : ℕ) (b : Backing) (n : ℕ) → is_store kind ≡ false → IsOpenFor kind c pid page b n → IsFrame c.frames n
+pub open_read : {mode : ℕ} (kind : Access) (c : Picture mode) (pid page : ℕ) (b : Backing) (n : ℕ) → is_store kind ≡ false → IsOpenFor kind c pid page b n → IsFrame c.frames n
 open_read Accesses.Load c pid page b n e usable = usable
 open_read Accesses.Store c pid page b n e usable = cc
 open_read Accesses.Fetch c pid page b n e usable = usable
 
-pub live_outcome : (c : Picture) (s : State) (pid : ℕ) (a b : Outcome) → ShowsPages c s → is_live c pid ≡ true → (if s.live pid then a else b) ≡ a
+pub live_outcome : {mode : ℕ} (c : Picture mode) (s : State) (pid : ℕ) (a b : Outcome) → ShowsPages c s → is_live c pid ≡ true → (if s.live pid then a else b) ≡ a
 live_outcome c s pid a b shows live = let e : s.live pid ≡ true = shows.live pid ∙ live in rw e refl
 
 -- an access without a place: what the flat model says of it decides
-module _ {D E : Type 0} (g : Ghosts D) (h : Ghosts E) (old new : Core D E) (s : State) (pid addr : ℕ) (width : Width) (kind : Access) (command : Command)
+module _ {M : Type 0} {m : Levels.Ghosts M} {D E : Type 0} (g : Ghosts D) (h : Ghosts E) (old new : Core D E M m) (s : State) (pid addr : ℕ) (width : Width) (kind : Access) (command : Command)
     (fine : (v : View) → verdict_of (picture_of old) pid addr width kind ≡ Fine v → is_success (outcome s command).reply ≡ true)
     (tables : (v : View) → verdict_of (picture_of old) pid addr width kind ≡ Fine v → table_count (outcome s command).state ≡ table_count s)
     (faults : (code : Code) → verdict_of (picture_of old) pid addr width kind ≡ Faults code → outcome s command ≡ answers s (Faulted (fault_of kind code addr)))
@@ -83,10 +84,10 @@ module _ {D E : Type 0} (g : Ghosts D) (h : Ghosts E) (old new : Core D E) (s : 
       → (KeepsSeen (picture_of old) (picture_of new) → ShowsPages (picture_of new) s) → Comes g h old new s command (reply_of (answer_of refusal))
   refused (Refusal.Fault fault) is shows same =
       subst (λ (f : Fault). Comes g h old new s command (Faulted f)) (sym is.2)
-      (does_answer g h old new s command (Faulted (fault_of kind is.0 addr)) (subst (λ (c : Core D E). ShowsPages (picture_of c) s) (sym is.3) shows) (faults is.0 is.1))
+      (does_answer g h old new s command (Faulted (fault_of kind is.0 addr)) (subst (λ (c : Core D E M m). ShowsPages (picture_of c) s) (sym is.3) shows) (faults is.0 is.1))
   refused (Refusal.Stall stall) is shows same = stalls stall is.seen is.fine is.stalled.cause is.stalled.short (same is.stalled.keeps)
 
-module _ {D E : Type 0} (g : Ghosts D) (h : Ghosts E) (old new : Core D E) (W : PageKey → Type 0) (s : State) (shows : Shows g old s)
+module _ {M : Type 0} {m : Levels.Ghosts M} {D E : Type 0} (g : Ghosts D) (h : Ghosts E) (old new : Core D E M m) (W : PageKey → Type 0) (s : State) (shows : Shows g old s)
     (keeps : g.keeps_model new.store.disk) (swaps : h.keeps_model new.swap.pages.disk) (goes : Proceeds g h old new) (brings : BringsFiles g h W old new)
     (pid addr : ℕ) (live : is_live (picture_of old) pid ≡ true) where
   load_is : (width : Width) (v : Verdict) → verdict_of (picture_of old) pid addr width Accesses.Load ≡ v → outcome s (Load pid addr width) ≡ load_outcome s addr width v

@@ -1,4 +1,5 @@
 -- What an access without a place says of devices and frames.
+use Rattle.vm_types.specs.declared.mode.Levels as Levels
 use Rattle.std.proofs.Common.{ℕ, ◌≡◌, ◌≤◌, ◌+◌, true, false, ap, subst, arith}
 use Rattle.disk_model.specs.declared.sector_disk.SectorDisk.{Ghosts}
 use Rattle.page_faults.specs.declared.refusal.AccessRefusal.{AccessRefusal}
@@ -31,21 +32,21 @@ stall_no_failure stall e = cc
 pub same_stall : (a b : Stall) → Stalled a ≡ Stalled b → a ≡ b
 same_stall a b e = cc
 
-module _ {D E : Type 0} (g : Ghosts D) (h : Ghosts E) where
-  counted : (old new : Core D E) (stall : Stall) → ReadCause g h old new stall → new.refused.number ≡ old.refused.number + refused_by stall
+module _ {M : Type 0} {m : Levels.Ghosts M} {D E : Type 0} (g : Ghosts D) (h : Ghosts E) where
+  counted : (old new : Core D E M m) (stall : Stall) → ReadCause g h old new stall → new.refused.number ≡ old.refused.number + refused_by stall
   counted old new NoFrames cause = cause.0
   counted old new NoSwap cause = cause.0
   counted old new SwapDevice cause = omega (arith, cause.0)
   counted old new StoreDevice cause = omega (arith, cause.0)
 
-  calm : (old new : Core D E) (stall : Stall) → ReadCause g h old new stall → stalls_store stall ≡ false
+  calm : (old new : Core D E M m) (stall : Stall) → ReadCause g h old new stall → stalls_store stall ≡ false
       → g.failures new.store.disk ≡ g.failures old.store.disk
   calm old new NoFrames cause other = cause.1
   calm old new NoSwap cause other = cause.1
   calm old new SwapDevice cause other = cause.1
   calm old new StoreDevice cause other = absurd (let never : true ≡ false = other in cc)
 
-  swap_calm : (old new : Core D E) (stall : Stall) → ReadCause g h old new stall → stalls_swap stall ≡ false
+  swap_calm : (old new : Core D E M m) (stall : Stall) → ReadCause g h old new stall → stalls_swap stall ≡ false
       → h.failures new.swap.pages.disk ≡ h.failures old.swap.pages.disk
   swap_calm old new NoFrames cause other = cause.2
   swap_calm old new NoSwap cause other = cause.2
@@ -53,7 +54,7 @@ module _ {D E : Type 0} (g : Ghosts D) (h : Ghosts E) where
   swap_calm old new StoreDevice cause other = cause.2
 
   -- a stall comes of what it names
-  pub stall_caused : (old new : Core D E) (stall : Stall) → g.failures old.store.disk ≤ g.failures new.store.disk
+  pub stall_caused : (old new : Core D E M m) (stall : Stall) → g.failures old.store.disk ≤ g.failures new.store.disk
       → h.failures old.swap.pages.disk ≤ h.failures new.swap.pages.disk → ReadCause g h old new stall → IsCaused g h old new (Stalled stall)
   stall_caused old new stall later swap_later cause = record {
     later = later;
@@ -65,7 +66,7 @@ module _ {D E : Type 0} (g : Ghosts D) (h : Ghosts E) where
     stalled = λ other e. subst (λ (x : Stall). ReadCause g h old new x) (same_stall stall other e) cause;
   }
 
-  module _ (old new : Core D E) (pid addr : ℕ) (width : Width) (kind : Access) where
+  module _ (old new : Core D E M m) (pid addr : ℕ) (width : Width) (kind : Access) where
     -- a fault is told before anything is done
     pub refused_idle : (refusal : AccessRefusal) → Faults.IsRefusal g h old new pid addr width kind refusal
         → is_denial (reply_of (answer_of refusal)) ≡ true → new ≡ old
@@ -77,9 +78,9 @@ module _ {D E : Type 0} (g : Ghosts D) (h : Ghosts E) where
     refused_caused (Refusal.Fault fault) later swap_later is = record {
       later = later;
       swap_later = swap_later;
-      calm = λ named. ap (λ (c : Core D E). g.failures c.store.disk) is.3;
-      swap_calm = λ named. ap (λ (c : Core D E). h.failures c.swap.pages.disk) is.3;
-      counted = let same : new.refused.number ≡ old.refused.number = ap (λ (c : Core D E). c.refused.number) is.3 in omega (arith, same);
+      calm = λ named. ap (λ (c : Core D E M m). g.failures c.store.disk) is.3;
+      swap_calm = λ named. ap (λ (c : Core D E M m). h.failures c.swap.pages.disk) is.3;
+      counted = let same : new.refused.number ≡ old.refused.number = ap (λ (c : Core D E M m). c.refused.number) is.3 in omega (arith, same);
       failed = λ e. absurd (no_failure fault e);
       stalled = λ stall e. absurd (no_stall fault stall e);
     }

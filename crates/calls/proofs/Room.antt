@@ -1,4 +1,5 @@
 -- Memory of the size that it was, and sound as it was.
+use Rattle.vm_types.specs.declared.mode.Levels as Levels
 use Rattle.std.proofs.Common.{◌≡◌, refl, sym, ap, ◌∙◌, subst}
 use Rattle.disk_model.specs.declared.sector_disk.SectorDisk.{Ghosts}
 use Rattle.file_store.specs.declared.store.FileStore.{FileStore}
@@ -11,7 +12,7 @@ use Rattle.paging.specs.declared.kernel.Core.{Core}
 use Rattle.paging.specs.Parts.{IsFit}
 use Rattle.paging.specs.Picture.{picture_of}
 
-module _ {D E : Type 0} (old new : Core D E) where
+module _ {M : Type 0} {m : Levels.Ghosts M} {D E : Type 0} (old new : Core D E M m) where
   -- there is a node for each frame and for each slot, so the map of places tells how many there are
   pub room_same : new.cache ≡ old.cache → KeepsRoom (picture_of old) (picture_of new)
   room_same same = record {

@@ -1,4 +1,5 @@
 -- Where memory or slots are short of what processes see, they fall short of what a state needs.
+use Rattle.lifecycle.proofs.Shortage.{tables_alike}
 use Rattle.std.proofs.Common.{ℕ, zero, suc, ◌≡◌, ◌≢◌, inl, inr, ◌+◌, ◌*◌, ◌^◌, ◌<◌, ◌≤◌, ◌==◌, ◌||◌, Bool, false, if◌then◌else◌, Option, Some, is_some, refl, sym, ap, ◌∙◌, arith, eq-eqb, ne_eqb}
 use Rattle.std.proofs.lemmas.Bool.{cases_eq, cases_Bool}
 use Rattle.frames.specs.FrameTable.{frame_count}
@@ -21,24 +22,26 @@ use Rattle.vm_types.specs.View.{View}
 use Rattle.calls.specs.Calls.{FallsShort}
 
 -- the tables of the processes of memory are those of the state that it shows
-pub tables_shown : (c : Picture) (s : State) → ShowsPages c s → table_count s ≡ tables_over (is_live c) (view c)
-unfolding table_count tables_over
-tables_shown c s shows =
-    let lives : s.live ≡ is_live c = λ t pid. shows.live pid t in
-    let sees : s.views ≡ view c = λ t pid page. shows.views pid page t in
-    ap (λ (l : ℕ → Bool). sum_below (λ pid. if l pid then tables_of (s.views pid) else 0) 65) lives
-    ∙ ap (λ (v : ℕ → ℕ → Option View). sum_below (λ pid. if is_live c pid then tables_of (v pid) else 0) 65) sees
+module _ {mode : ℕ} where
+  pub tables_shown : (c : Picture mode) (s : State) → ShowsPages c s → table_count s ≡ tables_over mode (is_live c) (view c)
+  unfolding table_count tables_over
+  tables_shown c s shows =
+      let lives : s.live ≡ is_live c = λ t pid. shows.live pid t in
+      let sees : s.views ≡ view c = λ t pid page. shows.views pid page t in
+      ap (λ (x : ℕ). sum_below (λ pid. if s.live pid then tables_of x (s.views pid) else 0) 65) shows.same_mode
+      ∙ ap (λ (l : ℕ → Bool). sum_below (λ pid. if l pid then tables_of mode (s.views pid) else 0) 65) lives
+      ∙ ap (λ (v : ℕ → ℕ → Option View). sum_below (λ pid. if is_live c pid then tables_of mode (v pid) else 0) 65) sees
 
 -- an access changes no process, and which pages are mapped
-pub tables_kept : (s t : State) → ((pid : ℕ) → t.live pid ≡ s.live pid) → ((pid page : ℕ) → is_some (t.views pid page) ≡ is_some (s.views pid page))
+pub tables_kept : (s t : State) → t.mode ≡ s.mode → ((pid : ℕ) → t.live pid ≡ s.live pid) → ((pid page : ℕ) → is_some (t.views pid page) ≡ is_some (s.views pid page))
     → table_count t ≡ table_count s
 unfolding table_count
-tables_kept s t lives maps =
+tables_kept s t mode lives maps =
     let live : t.live ≡ s.live = λ i pid. lives pid i in
-    let mapped : (λ pid page. is_some (t.views pid page)) ≡ (λ pid page. is_some (s.views pid page)) = λ i pid page. maps pid page i in
-    ap (λ (l : ℕ → Bool). sum_below (λ pid. if l pid then tables_of (t.views pid) else 0) 65) live
-    ∙ ap (λ (m : ℕ → ℕ → Bool). sum_below (λ pid. if s.live pid then 1 + (count_below (λ row. any_below (λ i. m pid (2 ^ 18 * row + i)) (2 ^ 18)) (2 ^ 8)
-    + count_below (λ row. any_below (λ i. m pid (2 ^ 9 * row + i)) (2 ^ 9)) (2 ^ 17)) else 0) 65) mapped
+    ap (λ (x : ℕ). sum_below (λ pid. if t.live pid then tables_of x (t.views pid) else 0) 65) mode
+    ∙ ap (λ (l : ℕ → Bool). sum_below (λ pid. if l pid then tables_of s.mode (t.views pid) else 0) 65) live
+    ∙ sum-below (λ pid. if s.live pid then tables_of s.mode (t.views pid) else 0) (λ pid. if s.live pid then tables_of s.mode (s.views pid) else 0) 65 65 (omega arith)
+    (λ pid ne. ap (λ (n : ℕ). if s.live pid then n else 0) (tables_alike s.mode (t.views pid) (s.views pid) (maps pid)))
 
 -- one summand that was none
 sum_added : (f g : ℕ → ℕ) (x n : ℕ) → x < n → f x ≡ 0 → ((k : ℕ) → k ≢ x → g k ≡ f k) → sum_below g n ≡ sum_below f n + g x
@@ -58,12 +61,12 @@ sum_added f g x (suc n) below none others = elim (cases_eq n x) [
 
 -- a process that comes has the tables of its pages
 pub tables_added : (s : State) (pid : ℕ) (space : ℕ → Option View) → s.live pid ≡ false → pid < 65
-    → table_count (with_process s pid space) ≡ table_count s + tables_of space
+    → table_count (with_process s pid space) ≡ table_count s + tables_of s.mode space
 unfolding table_count
 tables_added s pid space dead below =
-    let f : ℕ → ℕ = λ q. if s.live q then tables_of (s.views q) else 0 in
-    let g : ℕ → ℕ = λ q. if q == pid || s.live q then tables_of (if q == pid then space else s.views q) else 0 in
-    let here : g pid ≡ tables_of space = rw (eq-eqb pid pid refl) refl in
+    let f : ℕ → ℕ = λ q. if s.live q then tables_of s.mode (s.views q) else 0 in
+    let g : ℕ → ℕ = λ q. if q == pid || s.live q then tables_of s.mode (if q == pid then space else s.views q) else 0 in
+    let here : g pid ≡ tables_of s.mode space = rw (eq-eqb pid pid refl) refl in
     let sum : sum_below g 65 ≡ sum_below f 65 + g pid =
     sum_added f g pid 65 below (rw dead refl) (λ q ne. rw (ne_eqb q pid ne) refl) in
     sum ∙ ap (λ (n : ℕ). sum_below f 65 + n) here
@@ -86,7 +89,7 @@ least_below live first (suc count) pid e = elim (cases_Bool (live first)) [
       (ap live (sym same) ∙ free, omega (arith, same)))
 ]
 
-module _ (c : Picture) (s : State) (command : Command) (fit : IsFit c) (shows : ShowsPages c s) where
+module _ {mode : ℕ} (c : Picture mode) (s : State) (command : Command) (fit : IsFit c) (shows : ShowsPages c s) where
   pub falls_short : (stall : Stall) → IsShort c stall → table_count s ≤ table_count (outcome s command).state
       → FallsShort (frame_count c.frames) c.slots.total s command stall
   unfolding IsShort
@@ -100,7 +103,7 @@ module _ (c : Picture) (s : State) (command : Command) (fit : IsFit c) (shows : 
   falls_short StoreDevice short more = short
 
   pub falls_short_to_fork : (frames slots parent : ℕ) (stall : Stall) → frames ≡ frame_count c.frames → slots ≡ c.slots.total → IsShortToFork c parent stall
-      → table_count s + tables_of (view c parent) ≤ table_count (outcome s command).state → FallsShort frames slots s command stall
+      → table_count s + tables_of mode (view c parent) ≤ table_count (outcome s command).state → FallsShort frames slots s command stall
   unfolding IsShortToFork
   falls_short_to_fork frames slots parent NoFrames same room short more =
       let tables = tables_shown c s shows in

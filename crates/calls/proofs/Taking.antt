@@ -25,7 +25,7 @@ stall_no_process stall pid e = cc
 one_process : (a b : ℕ) → Process a ≡ Process b → a ≡ b
 one_process a b e = cc
 
-module _ (old new : Picture) where
+module _ {mode : ℕ} (old new : Picture mode) where
   pub spawn_refused_takes : (errno : Errno) → SpawnTakes old new (Refused errno)
   spawn_refused_takes errno = record {
     root = λ pid e. absurd (refused_no_process errno pid e);

@@ -1,4 +1,6 @@
 -- dontneed of the flat model in a state that memory shows.
+use Rattle.vm_types.specs.declared.mode.Levels as Levels
+use Rattle.vm_types.specs.Limits.{user_end}
 use Rattle.std.proofs.Common.{ℕ, zero, suc, ◌+◌, ◌/◌, ◌%◌, ◌≡◌, ◌≢◌, ◌<◌, ◌≤◌, ◌^◌, ◌==◌, not, Bool, true, false, if◌then◌else◌, List, [], ◌∷◌, Option, Some, None, option_map, refl, sym, ap, ◌∙◌, arith}
 use Rattle.std.proofs.lemmas.Bool.Decides.{nat_tests}
 use Rattle.disk_model.specs.declared.sector_disk.SectorDisk.{Ghosts}
@@ -25,17 +27,18 @@ use Rattle.calls.proofs.Pages.{attrs_by_runs}
 use Rattle.calls.proofs.Protects.{count_from, covered_last}
 
 -- a row of mapped pages lies in the user pages
-pub covered_within : (map : ℕ → Option Attr) (first pages : ℕ) → IsUserMap map → 0 < pages → is_covered map first pages ≡ true → first + pages ≤ 2 ^ 26
-covered_within map first zero user some e = absurd (omega arith)
-covered_within map first (suc count) user some e =
-    let last = user.user_pages (first + count) (covered_last map first count e) in
-    omega (arith, last.1)
+module _ (mode : ℕ) where
+  pub covered_within : (map : ℕ → Option Attr) (first pages : ℕ) → IsUserMap mode map → 0 < pages → is_covered map first pages ≡ true → first + pages ≤ user_end mode
+  covered_within map first zero user some e = absurd (omega arith)
+  covered_within map first (suc count) user some e =
+      let last = user.user_pages (first + count) (covered_last map first count e) in
+      omega (arith, last.1)
 
 seen_without : (own : Option (List ℕ)) (o : Option Attr) → option_map uncopied (view_of own o) ≡ option_map plain o
 seen_without own None = refl
 seen_without own (Some attr) = refl
 
-uncopied_page : (c : Picture) (pid first pages page : ℕ) → without_own (view c pid) first pages page ≡ remapped (view c pid) (c.at pid) first pages page
+uncopied_page : {mode : ℕ} (c : Picture mode) (pid first pages page : ℕ) → without_own (view c pid) first pages page ≡ remapped (view c pid) (c.at pid) first pages page
 unfolding view
 uncopied_page c pid first pages page =
     let own = own_in c.frames c.slots (entry c pid page) in
@@ -45,7 +48,7 @@ uncopied_page c pid first pages page =
       | false ↦ refl
     ]
 
-module _ {D E : Type 0} (g : Ghosts D) (h : Ghosts E) (old : Core D E) (s : State) (pid addr len : ℕ) (shows : ShowsPages (picture_of old) s)
+module _ {M : Type 0} {m : Levels.Ghosts M} {D E : Type 0} (g : Ghosts D) (h : Ghosts E) (old : Core D E M m) (s : State) (pid addr len : ℕ) (shows : ShowsPages (picture_of old) s)
     (live : is_live (picture_of old) pid ≡ true) (aligned : addr % 4096 ≡ 0) (some : len ≢ 0)
     (runs : List Run) (here : (page : ℕ) → attr_at runs page ≡ (picture_of old).at pid page) (pages : ℕ) (count : pages ≡ page_count len) where
   abbrev rest : Option Errno → (ℕ → Option View) → Outcome
@@ -77,7 +80,7 @@ module _ {D E : Type 0} (g : Ghosts D) (h : Ghosts E) (old : Core D E) (s : Stat
       ∙ ap (λ (o : Option View). if in_row (addr / 4096) pages page then option_map uncopied o else o) (shows.views pid page)
       ∙ uncopied_page (picture_of old) pid (addr / 4096) pages page
 
-  pub gives_up : is_covered (attr_at runs) (addr / 4096) pages ≡ true → (new : Core D E)
+  pub gives_up : is_covered (attr_at runs) (addr / 4096) pages ≡ true → (new : Core D E M m)
       → RemapsRow (picture_of old) (picture_of new) pid (addr / 4096) pages ((picture_of old).at pid) → KeepsFiles (picture_of old) (picture_of new)
       → Comes g h old new s (Dontneed pid addr len) Done
   gives_up e new row files =

@@ -1,4 +1,5 @@
 -- Stores of the flat model in a state that memory shows.
+use Rattle.vm_types.specs.declared.mode.Levels as Levels
 use Rattle.std.proofs.Common.{ℕ, ◌/◌, ◌%◌, ◌≡◌, ◌&&◌, Bool, true, false, not, if◌then◌else◌, inl, inr, List, Option, Some, None, is_some, refl, sym, ap, ◌∙◌, subst, arith}
 use Rattle.std.specs.Prelude.{◌==◌}
 use Rattle.std.proofs.lemmas.Bool.Decides.{nat_tests}
@@ -66,7 +67,7 @@ fine_page files (Some w) kind v e =
       | false ↦ λ k. cc
     ] e
 
-pub fine_seen : (c : Picture) (pid addr : ℕ) (width : Width) (kind : Access) (v : View) → verdict_of c pid addr width kind ≡ Fine v → view c pid (addr / 4096) ≡ Some v
+pub fine_seen : {mode : ℕ} (c : Picture mode) (pid addr : ℕ) (width : Width) (kind : Access) (v : View) → verdict_of c pid addr width kind ≡ Fine v → view c pid (addr / 4096) ≡ Some v
 fine_seen c pid addr width kind v e =
     elim (addr % byte_count width == 0) as (λ (b : Bool). (if not b then Faults BusAdraln else page_verdict c.files (view c pid (addr / 4096)) kind) ≡ Fine v
     → view c pid (addr / 4096) ≡ Some v) [
@@ -75,7 +76,7 @@ fine_seen c pid addr width kind v e =
     ] e
 
 -- a shared page has no copy of its own
-pub shared_plain : (c : Picture) (pid page : ℕ) (v : View) → IsFit c → view c pid page ≡ Some v → is_shared v.attr.backing ≡ true → v.own ≡ None
+pub shared_plain : {mode : ℕ} (c : Picture mode) (pid page : ℕ) (v : View) → IsFit c → view c pid page ≡ Some v → is_shared v.attr.backing ≡ true → v.own ≡ None
 shared_plain c pid page v fit seen shared =
     let mapped : c.at pid page ≡ Some v.attr = view-attr c pid page v seen in
     let none = shared_none c pid page v.attr fit.granting mapped (mapped_page c pid page v.attr fit.granting mapped) shared in
@@ -83,7 +84,7 @@ shared_plain c pid page v fit seen shared =
     ap (λ (x : View). x.own) (sym same) ∙ own_in-none c.frames c.slots (entry c pid page) none
 
 -- bytes written to the frame that the access was given leave memory fit
-pub fit_stored : (mid new : Picture) (pid page : ℕ) (b : Backing) (n : ℕ) (w : List ℕ) → IsFit mid → IsOpenToStore mid pid page b n
+pub fit_stored : {mode : ℕ} (mid new : Picture mode) (pid page : ℕ) (b : Backing) (n : ℕ) (w : List ℕ) → IsFit mid → IsOpenToStore mid pid page b n
     → new.frames ≡ Frames.with_bytes mid.frames n w → SameBeside mid new → IsFit new
 fit_stored mid new pid page Anon n w fit usable frames beside = fit_own mid new n w fit usable.0 frames beside pid page usable.1
 fit_stored mid new pid page (Private p) n w fit usable frames beside = fit_own mid new n w fit usable.0 frames beside pid page usable.1
@@ -91,7 +92,7 @@ fit_stored mid new pid page (Shared p) n w fit usable frames beside = fit_file m
 fit_stored mid new pid page (Common p) n w fit usable frames beside = fit_file mid new n w fit usable.0 frames beside (Object p) usable.1
 
 -- and no other page is seen otherwise
-pub others_stored : (old mid new : Picture) (pid page : ℕ) (b : Backing) (n : ℕ) (w : List ℕ) → IsFit mid → IsOpenToStore mid pid page b n
+pub others_stored : {mode : ℕ} (old mid new : Picture mode) (pid page : ℕ) (b : Backing) (n : ℕ) (w : List ℕ) → IsFit mid → IsOpenToStore mid pid page b n
     → new.frames ≡ Frames.with_bytes mid.frames n w → SameBeside mid new → KeepsOtherViews old mid pid page → KeepsOtherViews old new pid page
 others_stored old mid new pid page Anon n w fit usable frames beside others = λ q k other.
     views_others mid new n w fit usable.0 frames beside pid page usable.1 q k other ∙ others q k other
@@ -103,14 +104,14 @@ others_stored old mid new pid page (Common p) n w fit usable frames beside other
     views_file mid new n w fit usable.0 frames beside (Object p) usable.1 q k ∙ others q k other
 
 -- nor has a page another entry
-entries_stored : (mid new : Picture) (pid page : ℕ) (b : Backing) (n : ℕ) (w : List ℕ) → IsFit mid → IsOpenToStore mid pid page b n
+entries_stored : {mode : ℕ} (mid new : Picture mode) (pid page : ℕ) (b : Backing) (n : ℕ) (w : List ℕ) → IsFit mid → IsOpenToStore mid pid page b n
     → new.frames ≡ Frames.with_bytes mid.frames n w → SameBeside mid new → (q k : ℕ) → entry new q k ≡ entry mid q k
 entries_stored mid new pid page Anon n w fit usable frames beside = entries_own mid new n w fit usable.0 frames beside pid page usable.1
 entries_stored mid new pid page (Private p) n w fit usable frames beside = entries_own mid new n w fit usable.0 frames beside pid page usable.1
 entries_stored mid new pid page (Shared p) n w fit usable frames beside = entries_file mid new n w fit usable.0 frames beside (File p) usable.1
 entries_stored mid new pid page (Common p) n w fit usable frames beside = entries_file mid new n w fit usable.0 frames beside (Object p) usable.1
 
-slotted_on : (files : PageKey → Type 0) (own : ℕ → ℕ → Type 0) (old mid new : Picture) → ((p : PageKey) → new.place p ≡ mid.place p)
+slotted_on : {mode : ℕ} (files : PageKey → Type 0) (own : ℕ → ℕ → Type 0) (old mid new : Picture mode) → ((p : PageKey) → new.place p ≡ mid.place p)
     → ((q k : ℕ) → entry new q k ≡ entry mid q k) → KeepsSlotted files own old mid → KeepsSlotted files own old new
 slotted_on files own old mid new place entries slotted = record {
   file_pages = λ p k at. elim (slotted.file_pages p k at) [
@@ -124,21 +125,21 @@ slotted_on files own old mid new place entries slotted = record {
 }
 
 -- and what lay in a slot is still there
-pub slotted_stored : (old mid new : Picture) (pid page : ℕ) (b : Backing) (n : ℕ) (w : List ℕ) (files : PageKey → Type 0) (own : ℕ → ℕ → Type 0)
+pub slotted_stored : {mode : ℕ} (old mid new : Picture mode) (pid page : ℕ) (b : Backing) (n : ℕ) (w : List ℕ) (files : PageKey → Type 0) (own : ℕ → ℕ → Type 0)
     → IsFit mid → IsOpenToStore mid pid page b n → new.frames ≡ Frames.with_bytes mid.frames n w → SameBeside mid new
     → KeepsSlotted files own old mid → KeepsSlotted files own old new
 slotted_stored old mid new pid page b n w files own fit usable frames beside slotted =
     slotted_on files own old mid new beside.place (entries_stored mid new pid page b n w fit usable frames beside) slotted
 
 -- that frame was handed out
-pub open_held : (c : Picture) (pid page : ℕ) (b : Backing) (n : ℕ) → IsOpenToStore c pid page b n → IsHeld c.frames n
+pub open_held : {mode : ℕ} (c : Picture mode) (pid page : ℕ) (b : Backing) (n : ℕ) → IsOpenToStore c pid page b n → IsHeld c.frames n
 open_held c pid page Anon n usable = usable.0
 open_held c pid page (Private p) n usable = usable.0
 open_held c pid page (Shared p) n usable = usable.0
 open_held c pid page (Common p) n usable = usable.0
 
 -- and memory is as large as it was
-pub room_stored : (old mid new : Picture) (n : ℕ) (w : List ℕ) → KeepsRoom old mid → new.frames ≡ Frames.with_bytes mid.frames n w → new.slots ≡ mid.slots → KeepsRoom old new
+pub room_stored : {mode : ℕ} (old mid new : Picture mode) (n : ℕ) (w : List ℕ) → KeepsRoom old mid → new.frames ≡ Frames.with_bytes mid.frames n w → new.slots ≡ mid.slots → KeepsRoom old new
 room_stored old mid new n w room frames slots = record {
   frames = ap Frames.frame_count frames ∙ (with_bytes-others mid.frames n w).frames ∙ room.frames;
   slots = ap (λ (t : SlotTable). t.total) slots ∙ room.slots;
@@ -156,22 +157,23 @@ mapped_still s pid page v w seen q k =
       | false ↦ λ e. refl
     ] refl
 
-stored_tables : (s : State) (pid page : ℕ) (v : View) (b : Backing) (w : List ℕ) → s.views pid page ≡ Some v
-    → table_count (with_shown_bytes s pid page v b w) ≡ table_count s
-unfolding table_count
-stored_tables s pid page v Anon w seen =
-    tables_kept s (with_shown_bytes s pid page v Anon w) (λ q. refl) (mapped_still s pid page v (record v { own = Some w }) seen)
-stored_tables s pid page v (Private p) w seen =
-    tables_kept s (with_shown_bytes s pid page v (Private p) w) (λ q. refl) (mapped_still s pid page v (record v { own = Some w }) seen)
-stored_tables s pid page v (Shared p) w seen = tables_kept s (with_shown_bytes s pid page v (Shared p) w) (λ q. refl) (λ q k. refl)
-stored_tables s pid page v (Common p) w seen = tables_kept s (with_shown_bytes s pid page v (Common p) w) (λ q. refl) (λ q k. refl)
+module _ (mode : ℕ) where
+  stored_tables : (s : State) (pid page : ℕ) (v : View) (b : Backing) (w : List ℕ) → s.views pid page ≡ Some v
+      → table_count (with_shown_bytes s pid page v b w) ≡ table_count s
+  unfolding table_count
+  stored_tables s pid page v Anon w seen =
+      tables_kept s (with_shown_bytes s pid page v Anon w) refl (λ q. refl) (mapped_still s pid page v (record v { own = Some w }) seen)
+  stored_tables s pid page v (Private p) w seen =
+      tables_kept s (with_shown_bytes s pid page v (Private p) w) refl (λ q. refl) (mapped_still s pid page v (record v { own = Some w }) seen)
+  stored_tables s pid page v (Shared p) w seen = tables_kept s (with_shown_bytes s pid page v (Shared p) w) refl (λ q. refl) (λ q k. refl)
+  stored_tables s pid page v (Common p) w seen = tables_kept s (with_shown_bytes s pid page v (Common p) w) refl (λ q. refl) (λ q k. refl)
 
 -- the bytes of the frame of a page of a file or an object are those that it has
-held_there : (c : Picture) (p : PageKey) (n : ℕ) → c.place p ≡ Frame (record { 0 = n }) → held c p ≡ Some (bytes_of c.frames n)
+held_there : {mode : ℕ} (c : Picture mode) (p : PageKey) (n : ℕ) → c.place p ≡ Frame (record { 0 = n }) → held c p ≡ Some (bytes_of c.frames n)
 unfolding held
 held_there c p n at = ap (bytes_at c.frames c.slots) at
 
-module _ {D E : Type 0} (g : Ghosts D) (h : Ghosts E) (old mid : Core D E) (W : PageKey → Type 0) (s : State) (shows : Shows g old s)
+module _ {M : Type 0} {m : Levels.Ghosts M} {D E : Type 0} (g : Ghosts D) (h : Ghosts E) (old mid : Core D E M m) (W : PageKey → Type 0) (s : State) (shows : Shows g old s)
     (keeps : g.keeps_model mid.store.disk) (swaps : h.keeps_model mid.swap.pages.disk) (before : IsFit (picture_of old)) (goes : Proceeds g h old mid)
     (brings : BringsFiles g h W old mid) (pid addr : ℕ) (live : is_live (picture_of old) pid ≡ true) (value : StoredValue) where
   store_is : (v : Verdict) → verdict_of (picture_of old) pid addr value.width Accesses.Store ≡ v → outcome s (Store pid addr value) ≡ store_outcome s pid addr value v
@@ -182,7 +184,7 @@ module _ {D E : Type 0} (g : Ghosts D) (h : Ghosts E) (old mid : Core D E) (W : 
   tables_still : (v : View) → verdict_of (picture_of old) pid addr value.width Accesses.Store ≡ Fine v → table_count (outcome s (Store pid addr value)).state ≡ table_count s
   tables_still v e =
       ap (λ (o : Outcome). table_count o.state) (store_is (Fine v) e)
-      ∙ stored_tables s pid (addr / 4096) v v.attr.backing (with_number (shown s v) (addr % 4096) (byte_count value.width) value.value)
+      ∙ stored_tables m.mode s pid (addr / 4096) v v.attr.backing (with_number (shown s v) (addr % 4096) (byte_count value.width) value.value)
       (shows.pages.views pid (addr / 4096) ∙ fine_seen (picture_of old) pid addr value.width Accesses.Store v e)
 
   pub store_refused : (refusal : AccessRefusal) → IsRefusal g h old mid pid addr value.width Accesses.Store refusal
@@ -212,7 +214,7 @@ module _ {D E : Type 0} (g : Ghosts D) (h : Ghosts E) (old mid : Core D E) (W : 
         ∙ sym (ap (λ (b : Backing). copy_or_behind s b None) is)
         ∙ sym (ap (λ (o : Option (List ℕ)). copy_or_behind s v.attr.backing o) plain)
 
-    module _ (new : Core D E) (w : List ℕ) (frames : new.frames ≡ Frames.with_bytes mid.frames n w) (beside : SameBeside (picture_of mid) (picture_of new)) where
+    module _ (new : Core D E M m) (w : List ℕ) (frames : new.frames ≡ Frames.with_bytes mid.frames n w) (beside : SameBeside (picture_of mid) (picture_of new)) where
       shows_stored : (b : Backing) → v.attr.backing ≡ b → IsReadyToStore (picture_of old) (picture_of mid) pid (addr / 4096) v b n
           → ShowsPages (picture_of new) (with_shown_bytes s pid (addr / 4096) v v.attr.backing w)
       shows_stored Anon is owns =

@@ -1,4 +1,5 @@
 -- What an access returns where it has no place, and what it asks for.
+use Rattle.vm_types.specs.declared.mode.Levels as Levels
 use Rattle.std.specs.Prelude.{ℕ, ◌≡◌, ◌⊎◌, ◌/◌}
 use Rattle.page_faults.specs.declared.refusal.AccessRefusal.{AccessRefusal}
 use Rattle.page_faults.specs.declared.refusal.AccessRefusal.TheVariants as Refusal
@@ -21,11 +22,11 @@ abbrev pub answer_of : AccessRefusal → Answer
 answer_of (Refusal.Fault fault) = Faulted fault
 answer_of (Refusal.Stall stall) = Stalled stall
 
-module _ {D E : Type 0} where
+module _ {M : Type 0} {m : Levels.Ghosts M} {D E : Type 0} where
   -- What an access that returns this asks for: it stalls only where a frame is wanted, and for the store's device only where
   -- its page is to be read from its home; the store is read there alone, slots are asked for and read only where a frame is wanted, and
   -- no other page comes back from one.
-  pub record AsksFor (old new : Core D E) (pid addr : ℕ) (access : Access) (reply : Reply) : Type 0 where
+  pub record AsksFor (old new : Core D E M m) (pid addr : ℕ) (access : Access) (reply : Reply) : Type 0 where
     pub wanted : (stall : Stall) → reply ≡ Reply.Stalled stall → Wants (picture_of old) pid (addr / 4096) access
     pub home : reply ≡ Reply.Stalled StoreDevice → ReadsHome (picture_of old) pid (addr / 4096)
     pub read : (new.store ≡ old.store) ⊎ ReadsHome (picture_of old) pid (addr / 4096)
@@ -33,7 +34,7 @@ module _ {D E : Type 0} where
     pub slotted : KeepsSlotted (ShowsFile (picture_of old) pid (addr / 4096)) (IsThatPage pid (addr / 4096)) (picture_of old) (picture_of new)
 
   -- a number was written into frame n from that byte of it on, and nothing else changed
-  pub record WritesNumber (old new : Core D E) (n offset : ℕ) (stored : StoredValue) : Type 0 where
+  pub record WritesNumber (old new : Core D E M m) (n offset : ℕ) (stored : StoredValue) : Type 0 where
     pub frames : new.frames ≡ with_bytes old.frames n (with_number (bytes_of old.frames n) offset (byte_count stored.width) stored.value)
     pub around : KeepsAround old new
     pub clock : new.clock ≡ old.clock

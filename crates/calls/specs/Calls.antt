@@ -1,4 +1,5 @@
 -- What a call comes to.
+use Rattle.vm_types.specs.declared.mode.Levels as Levels
 use Rattle.std.specs.Prelude.{ℕ, ◌≡◌, ◌+◌, ◌<◌, ◌≤◌, true, false}
 use Rattle.disk_model.specs.declared.sector_disk.SectorDisk.{Ghosts}
 use Rattle.frames.specs.FrameTable.{frame_count}
@@ -28,9 +29,9 @@ FallsShort frames slots s command NoSwap = slots < held_count s
 FallsShort frames slots s command SwapDevice = Unit {0}
 FallsShort frames slots s command StoreDevice = Unit {0}
 
-module _ {D E : Type 0} (g : Ghosts D) (h : Ghosts E) where
+module _ {M : Type 0} {m : Levels.Ghosts M} {D E : Type 0} (g : Ghosts D) (h : Ghosts E) where
   -- what came to pass between two states of memory
-  abbrev pub causes : Core D E → Core D E → Causes
+  abbrev pub causes : Core D E M m → Core D E M m → Causes
   causes old new = record {
     store = g.failures old.store.disk < g.failures new.store.disk;
     swap = h.failures old.swap.pages.disk < h.failures new.swap.pages.disk;
@@ -39,20 +40,20 @@ module _ {D E : Type 0} (g : Ghosts D) (h : Ghosts E) where
 
   -- The call returns what the flat model does and leaves the memory of its state, or it stalls, memory or slots being short where it
   -- names one of them, and nobody sees a change.
-  pub data Comes (old new : Core D E) (s : State) (command : Command) (reply : Reply) : Type 0 where
+  pub data Comes (old new : Core D E M m) (s : State) (command : Command) (reply : Reply) : Type 0 where
     Does : reply ≡ (outcome s command).reply → ShowsPages (picture_of new) (outcome s command).state → Comes old new s command reply
     Stalls : (stall : Stall) → MayStall (causes old new) s command stall → FallsShort (frame_count new.frames) (slots_of new.swap).total s command stall
         → reply ≡ Stalled stall → ShowsPages (picture_of new) s → Comes old new s command reply
 
   -- the same from every state that memory shows, as long as the devices keep the disk model where the call reads them
-  abbrev pub Carries : Core D E → Core D E → Command → Reply → Type 0
+  abbrev pub Carries : Core D E M m → Core D E M m → Command → Reply → Type 0
   Carries old new command reply =
       (s : State) → Shows g old s → (reads_files command ≡ true → g.keeps_model new.store.disk)
       → (reads_swap s command ≡ true → h.keeps_model new.swap.pages.disk) → Comes old new s command reply
 
   -- Whatever the devices do: a reply names a device or the want of a frame exactly where that failed in the call, or was refused.
   -- No failure is forgotten, neither an earlier one nor one in the call, and no more than one request was refused.
-  pub record IsCaused (old new : Core D E) (reply : Reply) : Type 0 where
+  pub record IsCaused (old new : Core D E M m) (reply : Reply) : Type 0 where
     pub later : g.failures old.store.disk ≤ g.failures new.store.disk
     pub swap_later : h.failures old.swap.pages.disk ≤ h.failures new.swap.pages.disk
     pub calm : names_store reply ≡ false → g.failures new.store.disk ≡ g.failures old.store.disk

@@ -44,17 +44,19 @@ abbrev pub attr_there : Maps → ℕ → ℕ → MapSource → Prot → ℕ → 
 attr_there at pid pages source prot first = first_attr source prot (free_object (without_maps at pid first pages))
 
 -- more than 256 runs would result; attr: what the first page would be at that place
-abbrev pub passes_runs : (ℕ → Option View) → ℕ → (ℕ → Attr) → Option ℕ → Bool
-passes_runs space pages attr None = false
-passes_runs space pages attr (Some first) = nat_lt 256 (run_count (replaced (attrs_of space) first pages (attr first)))
+module _ (mode : ℕ) where
+  abbrev pub passes_runs : (ℕ → Option View) → ℕ → (ℕ → Attr) → Option ℕ → Bool
+  passes_runs space pages attr None = false
+  passes_runs space pages attr (Some first) = nat_lt 256 (run_count mode (replaced (attrs_of space) first pages (attr first)))
 
 -- those that ask for the place
-abbrev pub place_checks : Placing → (ℕ → Option View) → ℕ → (ℕ → Attr) → Option ℕ → List Check
-place_checks placing space pages attr place =
-    (is_none place, ENOMEM)
-    ∷ (is_taken placing space pages place, EEXIST)
-    ∷ (passes_runs space pages attr place, ENOMEM)
-    ∷ []
+module _ (mode : ℕ) where
+  abbrev pub place_checks : Placing → (ℕ → Option View) → ℕ → (ℕ → Attr) → Option ℕ → List Check
+  place_checks placing space pages attr place =
+      (is_none place, ENOMEM)
+      ∷ (is_taken placing space pages place, EEXIST)
+      ∷ (passes_runs mode space pages attr place, ENOMEM)
+      ∷ []
 
 -- the numbers of a file and of its page fit into a file page's
 abbrev pub IsNumbered : MapSource → Type 0
@@ -77,9 +79,10 @@ pub record IsAsked (len : ℕ) (source : MapSource) : Type 0 where
   pub fits : FitsFile source (page_count len)
 
 -- A mapping that is not refused: its place, and the runs of the process with it; attr: what the first page is at that place.
-pub record MapsPages (runs : List Run) (addr pages : ℕ) (attr : ℕ → Attr) (placing : Placing) (first : ℕ) (next : List Run) : Type 0 where
-  pub place : place_for placing (space_of runs) addr pages ≡ Some first
-  pub fine : first_of (place_checks placing (space_of runs) pages attr (Some first)) ≡ None
-  pub high : first + pages ≤ user_end
-  pub map : (page : ℕ) → attr_at next page ≡ replaced (attr_at runs) first pages (attr first) page
-  pub user : IsUserMap (attr_at next)
+module _ (mode : ℕ) where
+  pub record MapsPages (runs : List Run) (addr pages : ℕ) (attr : ℕ → Attr) (placing : Placing) (first : ℕ) (next : List Run) : Type 0 where
+    pub place : place_for mode placing (space_of runs) addr pages ≡ Some first
+    pub fine : first_of (place_checks mode placing (space_of runs) pages attr (Some first)) ≡ None
+    pub high : first + pages ≤ user_end mode
+    pub map : (page : ℕ) → attr_at next page ≡ replaced (attr_at runs) first pages (attr first) page
+    pub user : IsUserMap mode (attr_at next)

@@ -10,16 +10,18 @@ use Rattle.vm_types.specs.declared.reply.Reply.TheVariants.{Process, Stalled}
 
 -- A spawn takes one frame, for the root, and gives one up for it only where none is free. Where it stalls none is free, and
 -- none changed hands.
-pub record SpawnTakes (old new : Picture) (reply : Reply) : Type 0 where
-  pub root : (pid : ℕ) → reply ≡ Process pid → (n : ℕ) × TakesRoot old new pid n
-  pub gives : (pid : ℕ) → reply ≡ Process pid → GivesForTables old new None
-  pub tried : (stall : Stall) → reply ≡ Stalled stall → (tried : Option ℕ) × GivesForTables old new tried
-  pub still : (stall : Stall) → reply ≡ Stalled stall → KeepsRoles old new
-  pub full : (stall : Stall) → reply ≡ Stalled stall → IsFull new.frames
+module _ {mode : ℕ} where
+  pub record SpawnTakes (old new : Picture mode) (reply : Reply) : Type 0 where
+    pub root : (pid : ℕ) → reply ≡ Process pid → (n : ℕ) × TakesRoot old new pid n
+    pub gives : (pid : ℕ) → reply ≡ Process pid → GivesForTables old new None
+    pub tried : (stall : Stall) → reply ≡ Stalled stall → (tried : Option ℕ) × GivesForTables old new tried
+    pub still : (stall : Stall) → reply ≡ Stalled stall → KeepsRoles old new
+    pub full : (stall : Stall) → reply ≡ Stalled stall → IsFull new.frames
 
 -- A fork takes frames for the child's tables alone, and gives others up for them only where none is free. Where it stalls, a table
 -- was wanted for which none was.
-pub record ForkTakes (old new : Picture) (parent : ℕ) (reply : Reply) : Type 0 where
-  pub entries : (child : ℕ) → reply ≡ Process child → ForksEntries old new parent child
-  pub tables : (child : ℕ) → reply ≡ Process child → TakesTables old new parent child
-  pub stalls : (stall : Stall) → reply ≡ Stalled stall → (child : ℕ) × StallsToFork old new parent child
+module _ {mode : ℕ} where
+  pub record ForkTakes (old new : Picture mode) (parent : ℕ) (reply : Reply) : Type 0 where
+    pub entries : (child : ℕ) → reply ≡ Process child → ForksEntries old new parent child
+    pub tables : (child : ℕ) → reply ≡ Process child → TakesTables old new parent child
+    pub stalls : (stall : Stall) → reply ≡ Stalled stall → (child : ℕ) × StallsToFork old new parent child

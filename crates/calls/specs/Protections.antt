@@ -14,15 +14,17 @@ use Rattle.vm_types.specs.Runs.{run_count}
 use Rattle.vm_types.specs.View.{View, attrs_of}
 use Rattle.calls.specs.Space.{space_of}
 
-abbrev pub permit_checks : Files → (ℕ → Option View) → ℕ → ℕ → Prot → List Check
-permit_checks files space first pages prot =
-    (not (is_covered (attrs_of space) first pages), ENOMEM)
-    ∷ (denies_stores files space first pages prot, EACCES)
-    ∷ (nat_lt 256 (run_count (protected (attrs_of space) first pages (kept prot))), ENOMEM)
-    ∷ []
+module _ (mode : ℕ) where
+  abbrev pub permit_checks : Files → (ℕ → Option View) → ℕ → ℕ → Prot → List Check
+  permit_checks files space first pages prot =
+      (not (is_covered (attrs_of space) first pages), ENOMEM)
+      ∷ (denies_stores files space first pages prot, EACCES)
+      ∷ (nat_lt 256 (run_count mode (protected (attrs_of space) first pages (kept prot))), ENOMEM)
+      ∷ []
 
 -- A permission that is not refused: the row lies in the user pages, and these are the runs of the process with it.
-pub record IsPermitted (files : Files) (runs : List Run) (first pages : ℕ) (prot : Prot) (next : List Run) : Type 0 where
-  pub fine : first_of (permit_checks files (space_of runs) first pages prot) ≡ None
-  pub high : first + pages ≤ user_end
-  pub map : (page : ℕ) → attr_at next page ≡ protected (attr_at runs) first pages (kept prot) page
+module _ (mode : ℕ) where
+  pub record IsPermitted (files : Files) (runs : List Run) (first pages : ℕ) (prot : Prot) (next : List Run) : Type 0 where
+    pub fine : first_of (permit_checks mode files (space_of runs) first pages prot) ≡ None
+    pub high : first + pages ≤ user_end mode
+    pub map : (page : ℕ) → attr_at next page ≡ protected (attr_at runs) first pages (kept prot) page

@@ -24,7 +24,7 @@ use disk_model::SectorDisk;
 use mapped_memory::Memory;
 use page_faults::{AccessRefusal, access};
 use paging::Core;
-use vm_types::{Access, Answer, Errno, FrameNo, Phys, StoredValue, Width};
+use vm_types::{Access, Answer, Errno, FrameNo, Levels, Phys, StoredValue, Width};
 
 /// The little-endian number of that width at that byte of a page.
 fn read_number(page: &[u8; 4096], at: usize, width: Width) -> u64
@@ -47,7 +47,7 @@ fn write_number(page: &mut [u8; 4096], at: usize, stored: StoredValue)
 }
 
 /// The frame of a place in memory.
-fn frame_of(frames: &Memory, place: Phys) -> FrameNo
+fn frame_of<M: Levels>(frames: &Memory<M>, place: Phys) -> FrameNo
     requires { IsFrame frames.now (place.0 / 4096) }
     ensures { result.0 ≡ place.0 / 4096 }
 {
@@ -67,8 +67,8 @@ fn refused(refusal: AccessRefusal) -> Answer
 }
 
 /// Reads a little-endian number of that width at an address, in bytes, of the process, as data or as an instruction.
-fn read<D: SectorDisk, E: SectorDisk>(
-    core: &mut Core<D, E>,
+fn read<D: SectorDisk, E: SectorDisk, M: Levels>(
+    core: &mut Core<D, E, M>,
     pid: u64,
     addr: u64,
     width: Width,
@@ -111,8 +111,8 @@ fn read<D: SectorDisk, E: SectorDisk>(
 /// pages, `SwapDevice` where that device failed as a frame was given up or the page was brought back, `StoreDevice` where that one
 /// failed as the page was read from its file; then nobody sees a change. Whatever the devices do, no process sees another page
 /// than this one otherwise.
-pub fn load<D: SectorDisk, E: SectorDisk>(
-    core: &mut Core<D, E>,
+pub fn load<D: SectorDisk, E: SectorDisk, M: Levels>(
+    core: &mut Core<D, E, M>,
     pid: u64,
     addr: u64,
     width: Width,
@@ -135,7 +135,11 @@ pub fn load<D: SectorDisk, E: SectorDisk>(
 /// Reads an instruction, the little-endian number of four bytes at an address, in bytes, of the process.
 ///
 /// `ESRCH`, faults and stalls are those of a load; the address is to be a multiple of 4 (our choice).
-pub fn fetch<D: SectorDisk, E: SectorDisk>(core: &mut Core<D, E>, pid: u64, addr: u64) -> Answer
+pub fn fetch<D: SectorDisk, E: SectorDisk, M: Levels>(
+    core: &mut Core<D, E, M>,
+    pid: u64,
+    addr: u64,
+) -> Answer
     requires sound { IsSoundCore D.SectorDisk E.SectorDisk core.old }
     ensures sound { IsSoundCore D.SectorDisk E.SectorDisk core.new }
     ensures comes { Carries D.SectorDisk E.SectorDisk core.old core.new (Fetch pid addr) (reply_of result) }
@@ -155,8 +159,8 @@ pub fn fetch<D: SectorDisk, E: SectorDisk>(core: &mut Core<D, E>, pid: u64, addr
 /// is touched then, and else into the page's own copy.
 ///
 /// `ESRCH`, faults and stalls are those of a load; a store that faults or stalls changes nothing that anybody sees.
-pub fn store<D: SectorDisk, E: SectorDisk>(
-    core: &mut Core<D, E>,
+pub fn store<D: SectorDisk, E: SectorDisk, M: Levels>(
+    core: &mut Core<D, E, M>,
     pid: u64,
     addr: u64,
     stored: StoredValue,

@@ -13,15 +13,15 @@ use crate::space::PAGE;
 use disk_model::SectorDisk;
 use page_ranges::clear_row;
 use paging::Core;
-use vm_types::{Answer, Errno};
+use vm_types::{Answer, Errno, Levels};
 
 /// Gives up the own copies of the pages of the range of `len` bytes from `addr` on (madvise(2), MADV_DONTNEED): each shows what
 /// stands behind it again. File pages keep what was stored to them through shared pages, and stay touched.
 ///
 /// In this order: `ESRCH` where there is no such process, `EINVAL` where the address is no multiple of the page size; a
 /// length of 0 is done with; `ENOMEM` where a page isn't mapped. A refused call changes nothing, also over a hole.
-pub fn dontneed<D: SectorDisk, E: SectorDisk>(
-    core: &mut Core<D, E>,
+pub fn dontneed<D: SectorDisk, E: SectorDisk, M: Levels>(
+    core: &mut Core<D, E, M>,
     pid: u64,
     addr: u64,
     len: u64,

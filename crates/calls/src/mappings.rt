@@ -30,8 +30,8 @@ use page_ranges::{free_object, remap};
 use paging::{Core, PLACES};
 use regions::Regions;
 use vm_types::{
-    Answer, Attr, Backing, Errno, FilePage, MapSource, ObjectPage, Pid, Placing, Prot, TooManyRuns,
-    USER_END, USER_START,
+    Answer, Attr, Backing, Errno, FilePage, Levels, MapSource, ObjectPage, Pid, Placing, Prot,
+    TooManyRuns, USER_START,
 };
 
 /// The most pages that a file can have, and one more than the largest number of a page.
@@ -115,9 +115,9 @@ fn file_page(file: u64, offset: u64) -> FilePage
 }
 
 /// Goes over the processes; each has at most 256 runs.
-fn count_runs<D, E>(core: &Core<D, E>)
+fn count_runs<D, E, M: Levels>(core: &Core<D, E, M>)
     requires fit { IsFit (picture_of core.now) }
-    ensures { (q : ℕ) → run_count ((picture_of core.now).at q) ≤ 256 }
+    ensures { (q : ℕ) → run_count M.mode ((picture_of core.now).at q) ≤ 256 }
 {
     for number in 1..PLACES {
         let _ = runs_of(core, number as u64);
@@ -125,9 +125,9 @@ fn count_runs<D, E>(core: &Core<D, E>)
 }
 
 /// How many runs the process of that number has.
-fn runs_of<D, E>(core: &Core<D, E>, number: u64) -> usize
+fn runs_of<D, E, M: Levels>(core: &Core<D, E, M>, number: u64) -> usize
     requires fit { IsFit (picture_of core.now) }
-    ensures { run_count ((picture_of core.now).at number) ≤ 256 }
+    ensures { run_count M.mode ((picture_of core.now).at number) ≤ 256 }
 {
     match core.live(number) {
         Some(pid) => core.regions(pid).runs(),
@@ -138,11 +138,16 @@ fn runs_of<D, E>(core: &Core<D, E>, number: u64) -> usize
 /// The first page of a new object, for a mapping of these pages.
 // (never inlined: the search has a table of its own, for which no other call should pay)
 #[inline(never)]
-fn object_page<D, E>(core: &Core<D, E>, pid: Pid, first: u64, pages: u64) -> ObjectPage
+fn object_page<D, E, M: Levels>(
+    core: &Core<D, E, M>,
+    pid: Pid,
+    first: u64,
+    pages: u64,
+) -> ObjectPage
     requires fit { IsFit (picture_of core.now) }
-    requires row { first + pages ≤ user_end }
+    requires row { first + pages ≤ user_end M.mode }
     ensures number { result ≡ record { object = new_number (without_maps (picture_of core.now).at pid first pages); page = 0 } }
-    ensures few { (q : ℕ) → run_count ((picture_of core.now).at q) ≤ 256 }
+    ensures few { (q : ℕ) → run_count M.mode ((picture_of core.now).at q) ≤ 256 }
 {
     count_runs(core);
     ObjectPage {
@@ -152,8 +157,8 @@ fn object_page<D, E>(core: &Core<D, E>, pid: Pid, first: u64, pages: u64) -> Obj
 }
 
 /// What the first page of a mapping of these pages is.
-fn first_attr<D, E>(
-    core: &Core<D, E>,
+fn first_attr<D, E, M: Levels>(
+    core: &Core<D, E, M>,
     pid: Pid,
     first: u64,
     pages: u64,
@@ -161,10 +166,10 @@ fn first_attr<D, E>(
     prot: Prot,
 ) -> Attr
     requires fit { IsFit (picture_of core.now) }
-    requires row { first + pages ≤ user_end }
+    requires row { first + pages ≤ user_end M.mode }
     requires numbered { IsNumbered source }
     ensures attr { result ≡ attr_there (picture_of core.now).at pid pages source prot first }
-    ensures few { source ≡ Common → (q : ℕ) → run_count ((picture_of core.now).at q) ≤ 256 }
+    ensures few { source ≡ Common → (q : ℕ) → run_count M.mode ((picture_of core.now).at q) ≤ 256 }
 {
     let backing = match source {
         MapSource::Anon => Backing::Anon,
@@ -179,12 +184,12 @@ fn first_attr<D, E>(
 }
 
 /// The place of a mapping that must be at its address; `None` where it isn't wholly in the user pages.
-fn fixed_place(addr: u64, pages: u64) -> Option<u64>
+fn fixed_place<M: Levels>(addr: u64, pages: u64) -> Option<u64>
     requires { pages ≤ 2 ^ 52 }
-    ensures { result ≡ fixed_place addr pages }
+    ensures { result ≡ fixed_place M.mode addr pages }
 {
     let first = addr / PAGE;
-    if first >= USER_START && first + pages <= USER_END {
+    if first >= USER_START && first + pages <= M::user_end() {
         Some(first)
     } else {
         None
@@ -192,23 +197,23 @@ fn fixed_place(addr: u64, pages: u64) -> Option<u64>
 }
 
 /// The first page of a mapping of `pages` pages; `None` where there is no place for it.
-fn place_of(regions: &Regions, addr: u64, pages: u64, placing: Placing) -> Option<u64>
+fn place_of<M: Levels>(regions: &Regions<M>, addr: u64, pages: u64, placing: Placing) -> Option<u64>
     requires some { 0 < pages }
     requires few { pages ≤ 2 ^ 52 }
-    ensures place { result ≡ place_for placing (space_of regions.now) addr pages }
-    ensures user { IfSome result (λ first. (user_start ≤ first) × (first + pages ≤ user_end)) }
+    ensures place { result ≡ place_for M.mode placing (space_of regions.now) addr pages }
+    ensures user { IfSome result (λ first. (user_start ≤ first) × (first + pages ≤ user_end M.mode)) }
 {
     match placing {
         Placing::Hint => match regions.place(addr, pages) {
             Some(first) => Some(first.get()),
             None => None,
         },
-        Placing::Fixed | Placing::NoReplace => fixed_place(addr, pages),
+        Placing::Fixed | Placing::NoReplace => fixed_place::<M>(addr, pages),
     }
 }
 
 /// Whether no page of the row is mapped.
-fn is_free(regions: &Regions, first: u64, pages: u64) -> bool
+fn is_free<M: Levels>(regions: &Regions<M>, first: u64, pages: u64) -> bool
     requires { first + pages < 2 ^ 64 }
     ensures { result ≡ is_free (attr_at regions.now) first pages }
 {
@@ -219,7 +224,7 @@ fn is_free(regions: &Regions, first: u64, pages: u64) -> bool
 }
 
 /// Whether a page of the place is mapped, and may not be replaced.
-fn is_taken(regions: &Regions, first: u64, pages: u64, placing: Placing) -> bool
+fn is_taken<M: Levels>(regions: &Regions<M>, first: u64, pages: u64, placing: Placing) -> bool
     requires { first + pages < 2 ^ 64 }
     ensures { result ≡ is_taken placing (space_of regions.now) pages (Some first) }
 {
@@ -230,25 +235,25 @@ fn is_taken(regions: &Regions, first: u64, pages: u64, placing: Placing) -> bool
 }
 
 /// Writes the regions with a mapping of `pages` pages into `next`, and returns its first page; or says why its place is refused.
-fn planned<D, E>(
-    core: &Core<D, E>,
+fn planned<D, E, M: Levels>(
+    core: &Core<D, E, M>,
     pid: Pid,
-    regions: &Regions,
+    regions: &Regions<M>,
     addr: u64,
     pages: u64,
     prot: Prot,
     source: MapSource,
     placing: Placing,
-    next: &mut Regions,
+    next: &mut Regions<M>,
 ) -> Result<u64, Errno>
     requires fit { IsFit (picture_of core.now) }
     requires some { 0 < pages }
     requires few { pages ≤ 2 ^ 52 }
     requires numbered { IsNumbered source }
     requires fits { FitsFile source pages }
-    ensures ok { IfOk result (λ first. MapsPages regions.now addr pages (attr_there (picture_of core.now).at pid pages source prot) placing first next.new) }
-    ensures few { OnOk result (source ≡ Common → (q : ℕ) → run_count ((picture_of core.now).at q) ≤ 256) }
-    ensures err { IfErr result (λ errno. first_of (place_checks placing (space_of regions.now) pages (attr_there (picture_of core.now).at pid pages source prot) (place_for placing (space_of regions.now) addr pages)) ≡ Some errno) }
+    ensures ok { IfOk result (λ first. MapsPages M.mode regions.now addr pages (attr_there (picture_of core.now).at pid pages source prot) placing first next.new) }
+    ensures few { OnOk result (source ≡ Common → (q : ℕ) → run_count M.mode ((picture_of core.now).at q) ≤ 256) }
+    ensures err { IfErr result (λ errno. first_of (place_checks M.mode placing (space_of regions.now) pages (attr_there (picture_of core.now).at pid pages source prot) (place_for M.mode placing (space_of regions.now) addr pages)) ≡ Some errno) }
 {
     let Some(first) = place_of(regions, addr, pages, placing) else {
         return Err(Errno::ENOMEM);
@@ -272,9 +277,9 @@ fn planned<D, E>(
 /// file; `EACCES` where stores to a file that may only be read are asked for; `EOVERFLOW` where the mapping would pass the
 /// last page that a file can have; `ENOMEM` where there is no place for it; `EEXIST` where a page of the place is mapped
 /// and may not be replaced; `ENOMEM` where more than 256 runs would result. A refused call changes nothing.
-pub fn mmap<D: SectorDisk, E: SectorDisk>(
-    core: &mut Core<D, E>,
-    room: &mut RegionRoom,
+pub fn mmap<D: SectorDisk, E: SectorDisk, M: Levels>(
+    core: &mut Core<D, E, M>,
+    room: &mut RegionRoom<M>,
     pid: u64,
     addr: u64,
     len: u64,

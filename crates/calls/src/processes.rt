@@ -14,14 +14,14 @@ ghost use Rattle.calls.specs.Idle.{is_denial};
 use disk_model::SectorDisk;
 use lifecycle::free_pid;
 use paging::Core;
-use vm_types::{Answer, Errno};
+use vm_types::{Answer, Errno, Levels};
 
 /// Starts a process with an empty space, and returns its number, the least that is free.
 ///
 /// `EAGAIN` where 64 processes live (fork(2)). It may stall for a frame: `NoFrames` where the tables of all processes, its own
 /// included, and two more frames fill memory, `NoSwap` where slots are fewer than own copies and touched file pages, `SwapDevice`
 /// where that device failed as a frame was given up; then there is no such process, and nobody sees a change.
-pub fn spawn<D: SectorDisk, E: SectorDisk>(core: &mut Core<D, E>) -> Answer
+pub fn spawn<D: SectorDisk, E: SectorDisk, M: Levels>(core: &mut Core<D, E, M>) -> Answer
     requires sound { IsSoundCore D.SectorDisk E.SectorDisk core.old }
     ensures sound { IsSoundCore D.SectorDisk E.SectorDisk core.new }
     ensures comes { Carries D.SectorDisk E.SectorDisk core.old core.new Spawn (reply_of result) }
@@ -46,7 +46,7 @@ pub fn spawn<D: SectorDisk, E: SectorDisk>(core: &mut Core<D, E>) -> Answer
 ///
 /// In this order: `ESRCH` where there is no such parent, `EAGAIN` where 64 processes live. It may stall as a
 /// spawn does, for the child's tables; then there is no child.
-pub fn fork<D: SectorDisk, E: SectorDisk>(core: &mut Core<D, E>, pid: u64) -> Answer
+pub fn fork<D: SectorDisk, E: SectorDisk, M: Levels>(core: &mut Core<D, E, M>, pid: u64) -> Answer
     requires sound { IsSoundCore D.SectorDisk E.SectorDisk core.old }
     ensures sound { IsSoundCore D.SectorDisk E.SectorDisk core.new }
     ensures comes { Carries D.SectorDisk E.SectorDisk core.old core.new (Fork pid) (reply_of result) }
@@ -73,7 +73,7 @@ pub fn fork<D: SectorDisk, E: SectorDisk>(core: &mut Core<D, E>, pid: u64) -> An
 /// objects what another process has.
 ///
 /// `ESRCH` where there is no such process.
-pub fn exit<D: SectorDisk, E: SectorDisk>(core: &mut Core<D, E>, pid: u64) -> Answer
+pub fn exit<D: SectorDisk, E: SectorDisk, M: Levels>(core: &mut Core<D, E, M>, pid: u64) -> Answer
     requires sound { IsSoundCore D.SectorDisk E.SectorDisk core.old }
     ensures sound { IsSoundCore D.SectorDisk E.SectorDisk core.new }
     ensures comes { Carries D.SectorDisk E.SectorDisk core.old core.new (Exit pid) (reply_of result) }

@@ -22,7 +22,7 @@ use file_store::FileStore;
 use page_ranges::reprotect;
 use paging::Core;
 use regions::Regions;
-use vm_types::{Answer, Backing, Errno, Prot, TooManyRuns};
+use vm_types::{Answer, Backing, Errno, Levels, Prot, TooManyRuns};
 
 /// Whether stores through a backing go to a file that may only be read.
 fn is_guarded<D: SectorDisk>(store: &FileStore<D>, backing: Backing) -> bool
@@ -38,9 +38,9 @@ fn is_guarded<D: SectorDisk>(store: &FileStore<D>, backing: Backing) -> bool
 }
 
 /// Whether some page of the row is a shared one of a file that may only be read.
-fn has_guarded<D: SectorDisk>(
+fn has_guarded<D: SectorDisk, M: Levels>(
     store: &FileStore<D>,
-    regions: &Regions,
+    regions: &Regions<M>,
     first: u64,
     pages: u64,
 ) -> bool
@@ -62,9 +62,9 @@ fn has_guarded<D: SectorDisk>(
 }
 
 /// Whether stores are asked for, and some page of the row is a shared one of a file that may only be read.
-fn denies_stores<D: SectorDisk>(
+fn denies_stores<D: SectorDisk, M: Levels>(
     store: &FileStore<D>,
-    regions: &Regions,
+    regions: &Regions<M>,
     first: u64,
     pages: u64,
     prot: Prot,
@@ -76,18 +76,18 @@ fn denies_stores<D: SectorDisk>(
 }
 
 /// Writes the regions with the permission for the pages of the row into `next`, or says why that is refused.
-fn permitted<D: SectorDisk>(
+fn permitted<D: SectorDisk, M: Levels>(
     store: &FileStore<D>,
-    regions: &Regions,
+    regions: &Regions<M>,
     first: u64,
     pages: u64,
     prot: Prot,
-    next: &mut Regions,
+    next: &mut Regions<M>,
 ) -> Result<(), Errno>
     requires some { 0 < pages }
     requires row { first + pages < 2 ^ 64 }
-    ensures ok { OnOk result (IsPermitted (files_of store.now) regions.now first pages prot next.new) }
-    ensures err { IfErr result (λ errno. first_of (permit_checks (files_of store.now) (space_of regions.now) first pages prot) ≡ Some errno) }
+    ensures ok { OnOk result (IsPermitted M.mode (files_of store.now) regions.now first pages prot next.new) }
+    ensures err { IfErr result (λ errno. first_of (permit_checks M.mode (files_of store.now) (space_of regions.now) first pages prot) ≡ Some errno) }
 {
     if !regions.covers(first, pages) {
         return Err(Errno::ENOMEM);
@@ -107,9 +107,9 @@ fn permitted<D: SectorDisk>(
 /// In this order: `ESRCH` where there is no such process, `EINVAL` where the address is no multiple of the page size; a
 /// length of 0 is done with; `ENOMEM` where a page isn't mapped, `EACCES` where stores to a file that may only be read
 /// are asked for, `ENOMEM` where more than 256 runs would result. A refused call changes nothing, also over a hole.
-pub fn mprotect<D: SectorDisk, E: SectorDisk>(
-    core: &mut Core<D, E>,
-    room: &mut RegionRoom,
+pub fn mprotect<D: SectorDisk, E: SectorDisk, M: Levels>(
+    core: &mut Core<D, E, M>,
+    room: &mut RegionRoom<M>,
     pid: u64,
     addr: u64,
     len: u64,

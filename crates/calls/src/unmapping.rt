@@ -14,16 +14,16 @@ use crate::space::PAGE;
 use disk_model::SectorDisk;
 use page_ranges::remap;
 use paging::Core;
-use vm_types::{Answer, Errno, TooManyRuns, USER_END};
+use vm_types::{Answer, Errno, Levels, TooManyRuns};
 
 /// Removes the pages of the range of `len` bytes from `addr` on (munmap(2)), with their own copies; those that aren't
 /// mapped are no error. What was stored to a file through a shared page stays; of an object, what a page still shows.
 ///
 /// In this order: `ESRCH` where there is no such process, `EINVAL` where the length is 0 or the address is no multiple of
 /// the page size, `ENOMEM` where more than 256 runs would result. A refused call changes nothing.
-pub fn munmap<D: SectorDisk, E: SectorDisk>(
-    core: &mut Core<D, E>,
-    room: &mut RegionRoom,
+pub fn munmap<D: SectorDisk, E: SectorDisk, M: Levels>(
+    core: &mut Core<D, E, M>,
+    room: &mut RegionRoom<M>,
     pid: u64,
     addr: u64,
     len: u64,
@@ -49,8 +49,9 @@ pub fn munmap<D: SectorDisk, E: SectorDisk>(
     let next = room.next();
     match regions.remove_into(first, pages, next) {
         Ok(()) => {
-            let start = first.min(USER_END);
-            let end = (first + pages).min(USER_END);
+            let stop = M::user_end();
+            let start = first.min(stop);
+            let end = (first + pages).min(stop);
             remap(core, pid, start, end - start, next);
             Answer::Done
         }

@@ -1,4 +1,5 @@
 -- The seats that entries name, and the pages of one table.
+use Rattle.vm_types.specs.Limits.{top_level}
 use Rattle.std.proofs.Common.{◌≡◌, ◌≢◌, ◌⊎◌, ℕ, inl, inr, Bool, true, false, Option, Some, None, refl, sym, ap, ◌∙◌, subst}
 use Rattle.std.specs.Prelude.{IsSome}
 use Rattle.std.proofs.lemmas.Bool.{cases_Bool, false≢true}
@@ -77,19 +78,19 @@ pub nothing_common : (entry : Entry) → entry ≡ Entries.None → seat (number
 nothing_common entry is = ap (λ x. seat (number_of x)) is ∙ seat-none
 
 -- a page that isn't mapped has no copy
-unmapped_for : (c : Picture) (attr : Option Attr) (e : ℕ) → IsEntryFor c attr e → attr ≡ None → seat e ≡ None
+unmapped_for : {mode : ℕ} (c : Picture mode) (attr : Option Attr) (e : ℕ) → IsEntryFor c attr e → attr ≡ None → seat e ≡ None
 unmapped_for c attr e (Nothing none) gone = ap seat none ∙ seat-none
 unmapped_for c attr e (Resident a is resident) gone = let bad : None ≡ Some a = sym gone ∙ is in (cc)
 unmapped_for c attr e (Away a is away) gone = let bad : None ≡ Some a = sym gone ∙ is in (cc)
 
-pub unmapped_none : (c : Picture) (pid page : ℕ) → IsGranting c → IsPage 2 page → c.at pid page ≡ None → seat (entry c pid page) ≡ None
+pub unmapped_none : {mode : ℕ} (c : Picture mode) (pid page : ℕ) → IsGranting c → IsPage (top_level mode) page → c.at pid page ≡ None → seat (entry c pid page) ≡ None
 unmapped_none c pid page granting h gone = unmapped_for c (c.at pid page) (entry c pid page) (granting.entries pid page h) gone
 
 -- a page with a copy of its own is mapped
-copied_for : (c : Picture) (attr : Option Attr) (e : ℕ) → IsEntryFor c attr e → seat e ≢ None → IsSome attr
+copied_for : {mode : ℕ} (c : Picture mode) (attr : Option Attr) (e : ℕ) → IsEntryFor c attr e → seat e ≢ None → IsSome attr
 copied_for c attr e (Nothing none) some = absurd (some (ap seat none ∙ seat-none))
 copied_for c attr e (Resident a is resident) some = let P : Option Attr → Type 0 = λ x. IsSome x in subst P (sym is) refl
 copied_for c attr e (Away a is away) some = let P : Option Attr → Type 0 = λ x. IsSome x in subst P (sym is) refl
 
-pub copied_mapped : (c : Picture) (pid page : ℕ) → IsGranting c → IsPage 2 page → seat (entry c pid page) ≢ None → IsMapped c pid page
+pub copied_mapped : {mode : ℕ} (c : Picture mode) (pid page : ℕ) → IsGranting c → IsPage (top_level mode) page → seat (entry c pid page) ≢ None → IsMapped c pid page
 copied_mapped c pid page granting h some = copied_for c (c.at pid page) (entry c pid page) (granting.entries pid page h) some

@@ -1,4 +1,5 @@
 -- One page given to the child.
+use Rattle.vm_types.specs.Limits.{top_level}
 use Rattle.std.proofs.Common.{◌≡◌, ◌≢◌, ℕ, inl, inr, ◌⊎◌, ◌+◌, ◌<◌, ◌≤◌, true, false, Option, Some, None, get_or, refl, sym, ap, ◌∙◌, subst, arith}
 use Rattle.std.specs.Prelude.{option_map}
 use Rattle.std.proofs.lemmas.Bool.{cases_Bool}
@@ -27,7 +28,7 @@ pub some_seat : (x y : Seat) → Some x ≡ Some y → x ≡ y
 some_seat x y e = (cc)
 
 -- tables alone were written
-pub set_counts : (old new : Picture) → new.slots ≡ old.slots → KeepsFrames old.frames new.frames → (z : Seat) → count_in new z ≡ count_in old z
+pub set_counts : {mode : ℕ} (old new : Picture mode) → new.slots ≡ old.slots → KeepsFrames old.frames new.frames → (z : Seat) → count_in new z ≡ count_in old z
 set_counts old new slots kept (InFrame n) = ap (λ cs. get_or cs n 0) kept.counts
 set_counts old new slots kept (InSlot k) = ap (λ t. t.count k) slots
 
@@ -42,12 +43,12 @@ lowered_given e some = elim (cases_Bool (is_private e)) [
 ]
 
 -- a page of a process shows what one of another does
-pub view_alike : (c d : Picture) (p q page : ℕ) → d.at q page ≡ c.at p page → own_in d.frames d.slots (entry d q page) ≡ own_in c.frames c.slots (entry c p page) → view d q page ≡ view c p page
+pub view_alike : {mode : ℕ} (c d : Picture mode) (p q page : ℕ) → d.at q page ≡ c.at p page → own_in d.frames d.slots (entry d q page) ≡ own_in c.frames c.slots (entry c p page) → view d q page ≡ view c p page
 unfolding view
 view_alike c d p q page at own = ap (λ o. view_of o (d.at q page)) own ∙ ap (λ a. view_of (own_in c.frames c.slots (entry c p page)) a) at
 
 -- The child's entry of a page, which was none, is the parent's, and names the seat of which a share was without an entry.
-module _ (old new : Picture) (parent child page e : ℕ) (y : Seat) (fit : IsFitBut old y 1 0) (sets : SetsPage old new child page e) (h : IsPage 2 page)
+module _ {mode : ℕ} (old new : Picture mode) (parent child page e : ℕ) (y : Seat) (fit : IsFitBut old y 1 0) (sets : SetsPage old new child page e) (h : IsPage (top_level mode) page)
     (source : entry old parent page ≡ e) (is : seat e ≡ Some y) (bare : entry old child page ≡ 0) (alike : old.at child page ≡ old.at parent page) (below : child < 65)
     (rooted : IsRootedBut new 0) where
   from : seat (entry old parent page) ≡ Some y
@@ -71,7 +72,7 @@ module _ (old new : Picture) (parent child page e : ℕ) (y : Seat) (fit : IsFit
   fit_given = record {
     counted = (
       fit.counted.0,
-      counted_filled (entry old) (entry new) (IsOwned old) (IsOwned new) (count_in old) (count_in new) (page_in old fit.counted.0) (page_in new fit.counted.0)
+      counted_filled mode (entry old) (entry new) (IsOwned old) (IsOwned new) (count_in old) (count_in new) (page_in old fit.counted.0) (page_in new fit.counted.0)
           y child page fit.counted.1 (owned_forth old new sets.beside sets.shares) (owned_back old new sets.beside sets.shares) (count_kept old new sets.beside sets.shares)
           (λ z there. page_kept old new fit.counted.0 sets.beside z) has (fit.counted.1.noted parent page y h from) h below (ap seat bare ∙ seat-none)
           (ap seat sets.changed ∙ is) sets.others nowhere (off-none nowhere),
@@ -95,9 +96,9 @@ module _ (old new : Picture) (parent child page e : ℕ) (y : Seat) (fit : IsFit
       ∙ sym (ap (λ o. option_map (bytes_in old.frames old.slots) o) from))
 
 -- what the steps on one page leave
-module _ (old low mid new : Picture) (parent child r page e : ℕ) (y : Seat) (fit : IsFitBut mid y 1 0) (h : IsPage 2 page) (apart : parent ≢ child)
+module _ {mode : ℕ} (old low mid new : Picture mode) (parent child r page e : ℕ) (y : Seat) (fit : IsFitBut mid y 1 0) (h : IsPage (top_level mode) page) (apart : parent ≢ child)
     (withdraws : Withdraws old low parent page e) (is : seat e ≡ Some y) (raises : RaisesSeat low mid y) (bare : entry old child page ≡ 0)
-    (alike : old.at child page ≡ old.at parent page) (root : mid.root child ≡ Some r) (sets : SetsEntry mid.frames new.frames 2 r page e) (beside : SameBeside mid new) where
+    (alike : old.at child page ≡ old.at parent page) (root : mid.root child ≡ Some r) (sets : SetsEntry mid.frames new.frames (top_level mode) r page e) (beside : SameBeside mid new) where
   page_set : SetsPage mid new child page e
   page_set = sets_page mid new 0 child r page e fit.rooted root h sets beside
 

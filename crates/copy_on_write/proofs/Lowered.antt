@@ -1,4 +1,5 @@
 -- The entry of a process's own page is set to a weaker one.
+use Rattle.vm_types.specs.Limits.{top_level}
 use Rattle.std.proofs.Common.{◌≡◌, ◌≢◌, ℕ, inl, inr, true, Some, None, get_or, refl, sym, ap, ◌∙◌}
 use Rattle.std.proofs.lemmas.Bool.{cases_Bool, false≢true}
 use Rattle.frames.specs.declared.role.Role.TheVariants.{Free}
@@ -21,13 +22,13 @@ use Rattle.copy_on_write.proofs.Given.{set_counts}
 use Rattle.copy_on_write.proofs.Weaker.{weaker_for, weaker_seat, weaker_lowered, leaf_own}
 
 -- an entry was set
-pub places_set : (old new : Picture) (m r page number : ℕ) → IsRootedBut old m → ((pid : ℕ) → new.root pid ≡ old.root pid)
-    → SetsEntry old.frames new.frames 2 r page number → (q row n : ℕ) → IsTableFor old q row n → IsTableFor new q row n
-places_set old new m r page number rooted root sets q row n place x is =
-    row_stays old.frames new.frames r page number sets x row n (rooted.roots q x (sym (root q) ∙ is)) (place x (sym (root q) ∙ is))
+pub places_set : {mode : ℕ} (old new : Picture mode) (m r page number : ℕ) → IsRootedBut old m → ((pid : ℕ) → new.root pid ≡ old.root pid)
+    → SetsEntry old.frames new.frames (top_level mode) r page number → (q row n : ℕ) → IsTableFor old q row n → IsTableFor new q row n
+places_set {mode = mode} old new m r page number rooted root sets q row n place x is =
+    row_stays old.frames new.frames (top_level mode) r page number sets x row n (rooted.roots q x (sym (root q) ∙ is)) (place x (sym (root q) ∙ is))
 
-module _ (old new : Picture) (pid r page e : ℕ) (fit : IsFit old) (root : old.root pid ≡ Some r) (h : IsPage 2 page) (valid : is_valid (entry old pid page) ≡ true)
-    (some : seat (entry old pid page) ≢ None) (weaker : Weakens (entry old pid page) e) (sets : SetsEntry old.frames new.frames 2 r page e) (beside : SameBeside old new) where
+module _ {mode : ℕ} (old new : Picture mode) (pid r page e : ℕ) (fit : IsFit old) (root : old.root pid ≡ Some r) (h : IsPage (top_level mode) page) (valid : is_valid (entry old pid page) ≡ true)
+    (some : seat (entry old pid page) ≢ None) (weaker : Weakens (entry old pid page) e) (sets : SetsEntry old.frames new.frames (top_level mode) r page e) (beside : SameBeside old new) where
   own : is_private (entry old pid page) ≡ true
   own = leaf_own (entry old pid page) valid some
 
@@ -59,7 +60,7 @@ module _ (old new : Picture) (pid r page e : ℕ) (fit : IsFit old) (root : old.
     pointers = λ n i m. (sets.pointers n i m).0;
   }
 
-same_beside : (c : Picture) → SameBeside c c
+same_beside : {mode : ℕ} (c : Picture mode) → SameBeside c c
 same_beside c = record { slots = refl; root = λ q. refl; at = λ q p. refl; page_of = λ n. refl; place = λ p. refl; touched = λ p. refl; files = λ f. refl }
 
 same_number : (e n : ℕ) → n ≡ e → Weakens e n → n ≡ lowered_entry e
@@ -69,7 +70,7 @@ same_number e n same weaker = elim (cases_Bool (is_private e)) [
 ]
 
 -- the entry is as it was, where it had no W
-pub withdrawn_already : (c : Picture) (pid page e : ℕ) → entry c pid page ≡ e → Weakens (entry c pid page) e → Withdraws c c pid page e
+pub withdrawn_already : {mode : ℕ} (c : Picture mode) (pid page e : ℕ) → entry c pid page ≡ e → Weakens (entry c pid page) e → Withdraws c c pid page e
 withdrawn_already c pid page e here weaker = record {
   sets = record {
     changed = here;

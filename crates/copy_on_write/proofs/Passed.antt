@@ -1,4 +1,5 @@
 -- Places of a table that are passed over.
+use Rattle.vm_types.specs.Limits.{top_level}
 use Rattle.std.proofs.Common.{◌≡◌, ◌≢◌, ℕ, inr, Some, ◌+◌, ◌*◌, ◌/◌, ◌<◌, ◌≤◌, sym, ap, ◌∙◌, subst, arith}
 use Rattle.page_tables.specs.Places.{IsTableOf}
 use Rattle.page_tables.specs.Tree.{IsPage, page_entry}
@@ -14,18 +15,18 @@ pub same_table : (start page stop : ℕ) → start ≤ page → page < stop → 
 same_table start page stop from below end = omega arith
 
 -- their pages have no entries
-pub none_passed : (c : Picture) (pid r start stop n low high : ℕ) → c.root pid ≡ Some r → IsTableOf c.frames r (start / 512) n
+pub none_passed : {mode : ℕ} (c : Picture mode) (pid r start stop n low high : ℕ) → c.root pid ≡ Some r → IsTableOf c.frames (top_level mode) r (start / 512) n
     → stop ≤ (start / 512 + 1) * 512 → start ≤ low → high ≤ stop
-    → ((root p : ℕ) → IsTableOf c.frames root (p / 512) n → low ≤ p → p < high → page_entry c.frames 2 root p ≡ 0)
+    → ((root p : ℕ) → IsTableOf c.frames (top_level mode) root (p / 512) n → low ≤ p → p < high → page_entry c.frames (top_level mode) root p ≡ 0)
     → (p : ℕ) → low ≤ p → p < high → entry c pid p ≡ 0
-none_passed c pid r start stop n low high root place one_table least most passed p from below =
-    let T : ℕ → Type 0 = λ x. IsTableOf c.frames r x n in
+none_passed {mode = mode} c pid r start stop n low high root place one_table least most passed p from below =
+    let T : ℕ → Type 0 = λ x. IsTableOf c.frames (top_level mode) r x n in
     let row = same_table start p stop (omega (arith, least, from)) (omega (arith, below, most)) one_table in
     entry-of c pid r p root ∙ passed r p (subst T (sym row) place) from below
 
 -- so they are shared with those before them
-pub shares_passed : (a b : Picture) (parent child low mid high : ℕ) → IsFit a → parent ≢ child → low ≤ mid → mid ≤ high
-    → ((p : ℕ) → a.at child p ≡ a.at parent p) → ((p : ℕ) → IsPage 2 p → low ≤ p → entry a child p ≡ 0)
+pub shares_passed : {mode : ℕ} (a b : Picture mode) (parent child low mid high : ℕ) → IsFit a → parent ≢ child → low ≤ mid → mid ≤ high
+    → ((p : ℕ) → a.at child p ≡ a.at parent p) → ((p : ℕ) → IsPage (top_level mode) p → low ≤ p → entry a child p ≡ 0)
     → ((p : ℕ) → mid ≤ p → p < high → entry b parent p ≡ 0) → SharesRow a b parent child low mid → SharesRow a b parent child low high
 shares_passed a b parent child low mid high fit apart le le' same bare passed one =
     let at = one.beside.at in

@@ -1,4 +1,5 @@
 -- One more shares a frame or a slot, for which no entry names it yet: no process sees that.
+use Rattle.vm_types.specs.Limits.{top_level}
 use Rattle.std.proofs.Common.{◌≡◌, ◌≢◌, ℕ, inl, inr, ◌<◌, ◌≤◌, true, [], Option, Some, get_or, refl, sym, ap, ◌∙◌, subst, arith}
 use Rattle.std.proofs.lemmas.Bool.{cases_eq, false≢true}
 use Rattle.vm_types.specs.declared.object.PageKey.TheVariants.{File, Object}
@@ -32,14 +33,14 @@ use Rattle.mapping.proofs.Forms.{seat_own}
 use Rattle.mapping.proofs.Steps.{same_with, tables_same}
 use Rattle.copy_on_write.specs.Shares.{IsUnwritten, RaisesSeat}
 
-behind-same : (old new : Picture) (b : Backing) (n : ℕ) → KeepsBehind old new → IsBehind old b n → IsBehind new b n
+behind-same : {mode : ℕ} (old new : Picture mode) (b : Backing) (n : ℕ) → KeepsBehind old new → IsBehind old b n → IsBehind new b n
 behind-same old new Backings.Anon n kept behind = behind
 behind-same old new (Backings.Private p) n kept behind = kept.place (File p) n behind
 behind-same old new (Backings.Shared p) n kept behind = kept.place (File p) n behind
 behind-same old new (Backings.Common p) n kept behind = kept.place (Object p) n behind
 
 -- an entry of a page stands for it, where a frame to which it lets stores through is still nobody else's
-entry_for-leaf : (old new : Picture) (attr : Option Attr) (e : ℕ) → KeepsBehind old new
+entry_for-leaf : {mode : ℕ} (old new : Picture mode) (attr : Option Attr) (e : ℕ) → KeepsBehind old new
     → (is_valid e ≡ true → is_private e ≡ true → can_write e ≡ true → count_of old.frames (frame_of e) ≡ 1 → count_of new.frames (frame_of e) ≡ 1)
     → IsEntryFor old attr e → IsEntryFor new attr e
 entry_for-leaf old new attr e kept count (Nothing none) = Nothing none
@@ -62,15 +63,15 @@ entry_for-leaf old new attr e kept count (Away a is away) = Away a is (record {
 })
 
 -- a frame
-module _ (old : Picture) (n : ℕ) (fit : IsFit old) (own : role_of old.frames n ≡ Private) (unwritten : IsUnwritten old (InFrame n)) (t : FrameTable) (shares : Shares old.frames t n) where
-  abbrev new : Picture
+module _ {mode : ℕ} (old : Picture mode) (n : ℕ) (fit : IsFit old) (own : role_of old.frames n ≡ Private) (unwritten : IsUnwritten old (InFrame n)) (t : FrameTable) (shares : Shares old.frames t n) where
+  abbrev new : Picture mode
   new = record old { frames = t }
 
   beside : SameBeside old new
   beside = same_with old t
 
-  trees : KeepsTrees old.frames t 2
-  trees = data_shared old.frames t 2 n fit.rooted.forest shares (λ table. (let bad : Private ≡ Table = sym own ∙ table in (cc)))
+  trees : KeepsTrees old.frames t (top_level mode)
+  trees = data_shared old.frames t (top_level mode) n fit.rooted.forest shares (λ table. (let bad : Private ≡ Table = sym own ∙ table in (cc)))
 
   entries : (q p : ℕ) → entry new q p ≡ entry old q p
   entries q p = entries_kept old new 0 fit.rooted trees.entries beside.root q p
@@ -107,7 +108,7 @@ module _ (old : Picture) (n : ℕ) (fit : IsFit old) (own : role_of old.frames n
         ])
         (fit.granting.entries q p h) in
         rw (entries q p) here);
-    user = λ q. user_map-same (old.at q) (new.at q) (λ p. refl) (fit.granting.user q);
+    user = λ q. user_map-same mode (old.at q) (new.at q) (λ p. refl) (fit.granting.user q);
     readable = λ q. readable-same (old.at q) (new.at q) (λ p. refl) (fit.granting.readable q);
     objects = fit.granting.objects;
   }
@@ -116,7 +117,7 @@ module _ (old : Picture) (n : ℕ) (fit : IsFit old) (own : role_of old.frames n
   fit_frame = record {
     counted = (
       fit.counted.0,
-      counted_shared (entry old) (entry new) (IsOwned old) (IsOwned new) (count_in old) (count_in new) (page_in old fit.counted.0) (page_in new fit.counted.0)
+      counted_shared mode (entry old) (entry new) (IsOwned old) (IsOwned new) (count_in old) (count_in new) (page_in old fit.counted.0) (page_in new fit.counted.0)
           (λ q p h. ap seat (entries q p)) (InFrame n) nowhere fit.counted.1 forth back (λ z ne is. counts z ne) (λ z is. pages fit.counted.0 z) shares.raised,
     );
     rooted = rooted_same old new 0 fit.rooted trees (λ q. refl) (λ q p. refl);
@@ -140,7 +141,7 @@ module _ (old : Picture) (n : ℕ) (fit : IsFit old) (own : role_of old.frames n
     tables = tables_same old new (λ q r p e. trees.missing r p (fit.rooted.roots q r e));
     rows = λ q r row m lives here. (
         let table = (fit.rooted.roots q r lives).table in
-        row_same old.frames t fit.rooted.forest trees.forest trees.same r row m table ((trees.tables r).0 table) here);
+        row_same old.frames t fit.rooted.forest trees.forest trees.same (top_level mode) r row m table ((trees.tables r).0 table) here);
     raised = shares.raised;
     others = counts;
     pointers = λ m i k. trees.same.forth m i k;
@@ -148,8 +149,8 @@ module _ (old : Picture) (n : ℕ) (fit : IsFit old) (own : role_of old.frames n
   }
 
 -- a slot
-module _ (old : Picture) (k : ℕ) (fit : IsFit old) (own : IsOwned old (InSlot k)) (t : SlotTable) (shares : Slots.Shares old.slots t k) where
-  abbrev now : Picture
+module _ {mode : ℕ} (old : Picture mode) (k : ℕ) (fit : IsFit old) (own : IsOwned old (InSlot k)) (t : SlotTable) (shares : Slots.Shares old.slots t k) where
+  abbrev now : Picture mode
   now = record old { slots = t }
 
   same : SameButSlots old now
@@ -187,7 +188,7 @@ module _ (old : Picture) (k : ℕ) (fit : IsFit old) (own : IsOwned old (InSlot 
   fit_slot = record {
     counted = (
       fit.counted.0,
-      counted_shared (entry old) (entry now) (IsOwned old) (IsOwned now) (count_in old) (count_in now) (page_in old fit.counted.0) (page_in now fit.counted.0)
+      counted_shared mode (entry old) (entry now) (IsOwned old) (IsOwned now) (count_in old) (count_in now) (page_in old fit.counted.0) (page_in now fit.counted.0)
           (λ q p h. ap seat (same.entries q p)) (InSlot k) nowhere fit.counted.1 slot_forth slot_back (λ z ne is. slot_counts z ne) (λ z is. slot_pages fit.counted.0 z) shares.raised,
     );
     rooted = rooted_frames old now 0 fit.rooted refl (λ q. refl) (λ q p. refl);

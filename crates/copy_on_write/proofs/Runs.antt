@@ -7,7 +7,7 @@ use Rattle.regions.specs.RunList.{IsNextRun}
 use Rattle.paging.specs.Picture.{Picture}
 use Rattle.copy_on_write.specs.Steps.{IsMappedRow}
 
-module _ (c : Picture) (pid page : ℕ) (map : ℕ → Option Attr) (run : Run) (same : (k : ℕ) → map k ≡ c.at pid k) (next : IsNextRun map page run) where
+module _ {mode : ℕ} (c : Picture mode) (pid page : ℕ) (map : ℕ → Option Attr) (run : Run) (same : (k : ℕ) → map k ≡ c.at pid k) (next : IsNextRun mode map page run) where
   pub unmapped_before : (k : ℕ) → page ≤ k → k < run.first → c.at pid k ≡ None
   unmapped_before k from below = sym (same k) ∙ next.none_before k from below
 

@@ -1,4 +1,5 @@
 -- The steps on one page, whose entry of the parent names a seat, together.
+use Rattle.vm_types.specs.Limits.{top_level}
 use Rattle.std.proofs.Common.{◌≡◌, ◌≢◌, ℕ, inl, ◌/◌, ◌+◌, true, Some, None, refl, sym, ap, ◌∙◌, arith}
 use Rattle.frames.specs.FrameTable.{FrameTable}
 use Rattle.page_tables.specs.Change.{SetsEntry}
@@ -16,7 +17,7 @@ use Rattle.copy_on_write.proofs.Lowered.{places_set}
 use Rattle.copy_on_write.proofs.Sharers.{may_share, unwritten_all}
 
 -- the seat of the parent's page may have one more share, for the child
-pub may_give : (old low : Picture) (parent child page e : ℕ) (y : Seat) → IsFit low → IsPage 2 page → parent ≢ child → is_live old child ≡ true → entry old child page ≡ 0
+pub may_give : {mode : ℕ} (old low : Picture mode) (parent child page e : ℕ) (y : Seat) → IsFit low → IsPage (top_level mode) page → parent ≢ child → is_live old child ≡ true → entry old child page ≡ 0
     → Withdraws old low parent page e → seat e ≡ Some y → MayShare low y
 may_give old low parent child page e y fit h apart live bare withdraws is =
     let lives = live_root (old.root child) live in
@@ -30,7 +31,7 @@ may_give old low parent child page e y fit h apart live bare withdraws is =
       unwritten = unwritten_all low parent page e y fit h source is withdraws.unwritten;
     }
 
-module _ (old low mid : Picture) (parent child page e to : ℕ) (h : IsPage 2 page) (apart : parent ≢ child) (live : is_live old child ≡ true) (bare : entry old child page ≡ 0)
+module _ {mode : ℕ} (old low mid : Picture mode) (parent child page e to : ℕ) (h : IsPage (top_level mode) page) (apart : parent ≢ child) (live : is_live old child ≡ true) (bare : entry old child page ≡ 0)
     (alike : old.at child page ≡ old.at parent page) (place : IsTableFor old child (page / 512) to) (withdraws : Withdraws old low parent page e)
     (places : (q row n : ℕ) → IsTableFor old q row n → IsTableFor low q row n) (some : seat e ≢ None)
     (fits : (y : Seat) → seat e ≡ Some y → IsFitBut mid y 1 0) (raises : (y : Seat) → seat e ≡ Some y → RaisesSeat low mid y) where
@@ -52,7 +53,7 @@ module _ (old low mid : Picture) (parent child page e to : ℕ) (h : IsPage 2 pa
   root : mid.root child ≡ Some lives.0
   root = raised.beside.root child ∙ root_low
 
-  place_mid : IsTableOf mid.frames lives.0 (page / 512) to
+  place_mid : IsTableOf mid.frames (top_level mode) lives.0 (page / 512) to
   place_mid = raised.rows child lives.0 (page / 512) to root_low (places child (page / 512) to place lives.0 root_low)
 
   pub forest_raised : IsForest mid.frames
@@ -61,15 +62,15 @@ module _ (old low mid : Picture) (parent child page e to : ℕ) (h : IsPage 2 pa
   pub table_raised : IsTable mid.frames to
   table_raised = place_mid.table
 
-  pub place_raised : (r : ℕ) × IsRoot 2 mid.frames r × IsTableOf mid.frames r (page / 512) to
+  pub place_raised : (r : ℕ) × IsRoot (top_level mode) mid.frames r × IsTableOf mid.frames (top_level mode) r (page / 512) to
   place_raised = (lives.0, fit.rooted.roots child lives.0 root, place_mid)
 
   -- the child's entry is set
-  module _ (t : FrameTable) (set : (r : ℕ) → IsRoot 2 mid.frames r → IsTableOf mid.frames r (page / 512) to → SetsEntry mid.frames t 2 r page e) where
-    abbrev new : Picture
+  module _ (t : FrameTable) (set : (r : ℕ) → IsRoot (top_level mode) mid.frames r → IsTableOf mid.frames (top_level mode) r (page / 512) to → SetsEntry mid.frames t (top_level mode) r page e) where
+    abbrev new : Picture mode
     new = record mid { frames = t }
 
-    sets : SetsEntry mid.frames new.frames 2 lives.0 page e
+    sets : SetsEntry mid.frames new.frames (top_level mode) lives.0 page e
     sets = set lives.0 (fit.rooted.roots child lives.0 root) place_mid
 
     pub fit_page : IsFit new

@@ -1,4 +1,5 @@
 -- Rows of pages given to the child, one after the other.
+use Rattle.vm_types.specs.Limits.{top_level}
 use Rattle.std.proofs.Common.{◌≡◌, ◌≢◌, ℕ, inl, inr, ◌⊎◌, ◌<◌, ◌/◌, ◌≤◌, Option, Some, None, refl, sym, ap, ◌∙◌, arith}
 use Rattle.std.specs.Prelude.{option_map}
 use Rattle.std.proofs.lemmas.Bool.{cases_lt}
@@ -27,8 +28,8 @@ given_none : (e n : ℕ) → seat e ≡ None → n ≡ 0 → n ≡ given_entry e
 given_none e n none bare = let common = none_common e none in let here = none_here e none in rw (common, here) bare
 
 -- pages of which the parent has no copy
-pub shares_none : (c : Picture) (parent child low high : ℕ) → ((p : ℕ) → c.at child p ≡ c.at parent p) → ((p : ℕ) → IsPage 2 p → low ≤ p → p < high → entry c child p ≡ 0)
-    → ((p : ℕ) → IsPage 2 p → low ≤ p → p < high → seat (entry c parent p) ≡ None) → SharesRow c c parent child low high
+pub shares_none : {mode : ℕ} (c : Picture mode) (parent child low high : ℕ) → ((p : ℕ) → c.at child p ≡ c.at parent p) → ((p : ℕ) → IsPage (top_level mode) p → low ≤ p → p < high → entry c child p ≡ 0)
+    → ((p : ℕ) → IsPage (top_level mode) p → low ≤ p → p < high → seat (entry c parent p) ≡ None) → SharesRow c c parent child low high
 shares_none c parent child low high same bare none = record {
   beside = same_but-refl c;
   room = record { frames = refl; slots = refl };
@@ -49,18 +50,18 @@ shares_none c parent child low high same bare none = record {
 }
 
 -- pages that aren't mapped
-pub shares_unmapped : (c : Picture) (parent child low high : ℕ) → IsGranting c → ((p : ℕ) → c.at child p ≡ c.at parent p) → ((p : ℕ) → IsPage 2 p → low ≤ p → entry c child p ≡ 0)
+pub shares_unmapped : {mode : ℕ} (c : Picture mode) (parent child low high : ℕ) → IsGranting c → ((p : ℕ) → c.at child p ≡ c.at parent p) → ((p : ℕ) → IsPage (top_level mode) p → low ≤ p → entry c child p ≡ 0)
     → ((p : ℕ) → low ≤ p → p < high → c.at parent p ≡ None) → SharesRow c c parent child low high
 shares_unmapped c parent child low high granting same bare none =
     shares_none c parent child low high same (λ p h least under. bare p h least) (λ p h least under. unmapped_none c parent p granting h (none p least under))
 
-one_page : (c : Picture) (pid p q : ℕ) (y : Seat) → IsFit c → IsPage 2 p → IsPage 2 q → seat (entry c pid p) ≡ Some y → seat (entry c pid q) ≡ Some y → p ≡ q
+one_page : {mode : ℕ} (c : Picture mode) (pid p q : ℕ) (y : Seat) → IsFit c → IsPage (top_level mode) p → IsPage (top_level mode) q → seat (entry c pid p) ≡ Some y → seat (entry c pid q) ≡ Some y → p ≡ q
 one_page c pid p q y fit hp hq here there = sym (fit.counted.1.noted pid p y hp here) ∙ fit.counted.1.noted pid q y hq there
 
 -- one row after the other
-module _ (a b c : Picture) (parent child low mid high : ℕ) (fit : IsFit a) (apart : parent ≢ child) (le : low ≤ mid) (le' : mid ≤ high)
+module _ {mode : ℕ} (a b c : Picture mode) (parent child low mid high : ℕ) (fit : IsFit a) (apart : parent ≢ child) (le : low ≤ mid) (le' : mid ≤ high)
     (one : SharesRow a b parent child low mid) (two : SharesRow b c parent child mid high) where
-  above : (p : ℕ) → IsPage 2 p → mid ≤ p → entry b parent p ≡ entry a parent p
+  above : (p : ℕ) → IsPage (top_level mode) p → mid ≤ p → entry b parent p ≡ entry a parent p
   above p h from = one.others parent p h (inr (inr from))
 
   out_front : (p : ℕ) → (p < low) ⊎ (high ≤ p) → (p < low) ⊎ (mid ≤ p)
@@ -119,13 +120,13 @@ module _ (a b c : Picture) (parent child low mid high : ℕ) (fit : IsFit a) (ap
   }
 
 -- the child still has its tables
-pub tables_shared : (a b : Picture) (parent child low high : ℕ) → parent ≢ child → SharesRow a b parent child low high → ((p : ℕ) → IsPage 2 p → seat (entry b parent p) ≡ seat (entry a parent p))
+pub tables_shared : {mode : ℕ} (a b : Picture mode) (parent child low high : ℕ) → parent ≢ child → SharesRow a b parent child low high → ((p : ℕ) → IsPage (top_level mode) p → seat (entry b parent p) ≡ seat (entry a parent p))
     → HasTables a parent child → HasTables b parent child
 tables_shared a b parent child low high apart shares same has p copy =
     whole_kept a b child p shares.beside.root shares.tables (has p (copy.0, λ none. copy.1 (same p copy.0 ∙ none)))
 
 -- the parent has the copies that it had
-pub seats_kept : (a b : Picture) (parent child low high : ℕ) → SharesRow a b parent child low high → (p : ℕ) → IsPage 2 p → seat (entry b parent p) ≡ seat (entry a parent p)
+pub seats_kept : {mode : ℕ} (a b : Picture mode) (parent child low high : ℕ) → SharesRow a b parent child low high → (p : ℕ) → IsPage (top_level mode) p → seat (entry b parent p) ≡ seat (entry a parent p)
 seats_kept a b parent child low high shares p h = elim (cases_lt p low) [
   | inl under ↦ ap seat (shares.others parent p h (inr (inl under)))
   | inr least ↦ elim (cases_lt p high) [
@@ -139,7 +140,7 @@ none_or_some None = inl refl
 none_or_some (Some x) = inr (λ none. (let bad : Some x ≡ None = none in (cc)))
 
 -- where the child has no table for the pages of one table, the parent has no copy of them
-pub none_of_row : (c : Picture) (parent child start p : ℕ) → HasTables c parent child → (IsWhole c child start → ⊥) → p / 512 ≡ start / 512 → IsPage 2 p → seat (entry c parent p) ≡ None
+pub none_of_row : {mode : ℕ} (c : Picture mode) (parent child start p : ℕ) → HasTables c parent child → (IsWhole c child start → ⊥) → p / 512 ≡ start / 512 → IsPage (top_level mode) p → seat (entry c parent p) ≡ None
 none_of_row c parent child start p has missing same h = elim (none_or_some (seat (entry c parent p))) [
   | inl none ↦ none
   | inr some ↦ absurd (missing (row_whole c child p start same (has p (h, some))))

@@ -1,4 +1,5 @@
 -- Who shares a seat: fewer than there are processes, where one has no entry, and nobody who may store to it.
+use Rattle.vm_types.specs.Limits.{top_level}
 use Rattle.std.proofs.Common.{◌≡◌, ℕ, zero, suc, inl, inr, ◌⊎◌, ◌+◌, ◌<◌, ◌≤◌, Bool, true, false, Option, Some, None, refl, sym, ap, ◌∙◌, subst, arith}
 use Rattle.std.proofs.lemmas.Bool.{cases_eq, cases_Bool, false≢true}
 use Rattle.vm_types.specs.Counting.{count_below}
@@ -63,14 +64,14 @@ dead_or_live None = inl refl
 dead_or_live (Some r) = inr (r, refl)
 
 -- there is no process 0
-no_process : (c : Picture) (page : ℕ) → IsFit c → seat (entry c 0 page) ≡ None
+no_process : {mode : ℕ} (c : Picture mode) (page : ℕ) → IsFit c → seat (entry c 0 page) ≡ None
 no_process c page fit = elim (dead_or_live (c.root 0)) [
   | inl dead ↦ ap seat (entry-dead c 0 page dead) ∙ seat-none
   | inr lives ↦ absurd (let number = fit.rooted.numbers 0 lives.0 lives.1 in omega (arith, number.0))
 ]
 
 -- the share count of a seat is the number of those who have it at its page
-counted_at : (c : Picture) (pid page : ℕ) (y : Seat) → IsFit c → IsPage 2 page → seat (entry c pid page) ≡ Some y → count_in c y ≡ holders_at (entry c) page y
+counted_at : {mode : ℕ} (c : Picture mode) (pid page : ℕ) (y : Seat) → IsFit c → IsPage (top_level mode) page → seat (entry c pid page) ≡ Some y → count_in c y ≡ holders_at (entry c) page y
 counted_at c pid page y fit h is =
     let owned = fit.counted.1.named pid page y h is in
     let at = fit.counted.1.noted pid page y h is in
@@ -81,7 +82,7 @@ counted_at c pid page y fit h is =
     omega (arith, here, none, there)
 
 -- one more may share a seat of a page of which a process has no copy
-pub may_share : (c : Picture) (pid page child : ℕ) (y : Seat) → IsFit c → IsPage 2 page → seat (entry c pid page) ≡ Some y → 0 < child → child ≤ 64 → seat (entry c child page) ≡ None → count_in c y < 64
+pub may_share : {mode : ℕ} (c : Picture mode) (pid page child : ℕ) (y : Seat) → IsFit c → IsPage (top_level mode) page → seat (entry c pid page) ≡ Some y → 0 < child → child ≤ 64 → seat (entry c child page) ≡ None → count_in c y < 64
 unfolding holders_at
 may_share c pid page child y fit h is some low none =
     let count = counted_at c pid page y fit h is in
@@ -89,7 +90,7 @@ may_share c pid page child y fit h is some low none =
     omega (arith, count, few)
 
 -- the process whose leaf lets stores through to a seat is the only one to have it
-sole_holder : (c : Picture) (q k pid page : ℕ) (y : Seat) → IsFit c → IsPage 2 k → IsPage 2 page → seat (entry c q k) ≡ Some y → seat (entry c pid page) ≡ Some y → count_in c y ≡ 1 → (q ≡ pid) × (k ≡ page)
+sole_holder : {mode : ℕ} (c : Picture mode) (q k pid page : ℕ) (y : Seat) → IsFit c → IsPage (top_level mode) k → IsPage (top_level mode) page → seat (entry c q k) ≡ Some y → seat (entry c pid page) ≡ Some y → count_in c y ≡ 1 → (q ≡ pid) × (k ≡ page)
 unfolding holders_at
 sole_holder c q k pid page y fit h' h there here one =
     let same : k ≡ page = sym (fit.counted.1.noted q k y h' there) ∙ fit.counted.1.noted pid page y h here in
@@ -99,7 +100,7 @@ sole_holder c q k pid page y fit h' h there here one =
       same,
     )
 
-written : (c : Picture) (attr : Option Attr) (e : ℕ) (y : Seat) → IsEntryFor c attr e → seat e ≡ Some y → is_valid e ≡ true → can_write e ≡ true → count_in c y ≡ 1
+written : {mode : ℕ} (c : Picture mode) (attr : Option Attr) (e : ℕ) (y : Seat) → IsEntryFor c attr e → seat e ≡ Some y → is_valid e ≡ true → can_write e ≡ true → count_in c y ≡ 1
 written c attr e y (Nothing none) is valid write = let bad : None ≡ Some y = sym (ap seat none ∙ seat-none) ∙ is in (cc)
 written c attr e y (Away a at away) is valid write = absurd (false≢true (sym (let z : Rattle.paging.specs.Seats.is_swapped e ≡ false = rw valid refl in z) ∙ away.swapped))
 written c attr e y (Resident a at resident) is valid write =
@@ -109,7 +110,7 @@ written c attr e y (Resident a at resident) is valid write =
     subst P frame ((resident.leaf valid).sole private write)
 
 -- no leaf lets a store through to a seat, where that of one page doesn't
-pub unwritten_all : (c : Picture) (pid page e : ℕ) (y : Seat) → IsFit c → IsPage 2 page → entry c pid page ≡ e → seat e ≡ Some y → (is_valid e ≡ true → can_write e ≡ false) → IsUnwritten c y
+pub unwritten_all : {mode : ℕ} (c : Picture mode) (pid page e : ℕ) (y : Seat) → IsFit c → IsPage (top_level mode) page → entry c pid page ≡ e → seat e ≡ Some y → (is_valid e ≡ true → can_write e ≡ false) → IsUnwritten c y
 unwritten_all c pid page e y fit h source is unwritten q k h' there valid = elim (cases_Bool (can_write (entry c q k))) [
   | inr none ↦ none
   | inl write ↦ (

@@ -101,7 +101,7 @@ weaker_other (Swapped slot) other = unchanged (slot.0 * 1024 + 2) (λ valid. abs
 weaker_other (Parked frame private) other = own_same frame private
 
 -- it stands for the page as before
-pub weaker_for : (c : Picture) (attr : Option Attr) (e e' : ℕ) → is_private e ≡ true → Weakens e e' → IsEntryFor c attr e → IsEntryFor c attr e'
+pub weaker_for : {mode : ℕ} (c : Picture mode) (attr : Option Attr) (e e' : ℕ) → is_private e ≡ true → Weakens e e' → IsEntryFor c attr e → IsEntryFor c attr e'
 weaker_for c attr e e' own weaker (Nothing none) = absurd (false≢true (sym no_bit ∙ sym (ap is_private none) ∙ own))
 weaker_for c attr e e' own weaker (Resident a at resident) =
     let own' : is_private e' ≡ true = weaker.private ∙ own in

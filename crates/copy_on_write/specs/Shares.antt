@@ -38,64 +38,70 @@ pub record Weakens (e e' : ℕ) : Type 0 where
   pub unwritten : is_valid e ≡ true → can_write e' ≡ false
 
 -- No leaf of one page of a process lets stores through now, and nothing else changed. No process sees that.
-pub record Withdraws (old new : Picture) (pid page number : ℕ) : Type 0 where
-  pub sets : SetsPage old new pid page number
-  pub lowered : number ≡ lowered_entry (entry old pid page)
-  pub seated : seat number ≡ seat (entry old pid page)
-  pub unwritten : is_valid number ≡ true → can_write number ≡ false
-  pub views : (q p : ℕ) → view new q p ≡ view old q p
-  pub held : (p : PageKey) → held new p ≡ held old p
-  pub room : KeepsRoom old new
-  pub tables : KeepsTables old new
-  pub roles : (n : ℕ) → role_of new.frames n ≡ role_of old.frames n
-  pub counts : (z : Seat) → count_in new z ≡ count_in old z
-  pub pointers : (n i m : ℕ) → Points old.frames n i m → Points new.frames n i m
+module _ {mode : ℕ} where
+  pub record Withdraws (old new : Picture mode) (pid page number : ℕ) : Type 0 where
+    pub sets : SetsPage old new pid page number
+    pub lowered : number ≡ lowered_entry (entry old pid page)
+    pub seated : seat number ≡ seat (entry old pid page)
+    pub unwritten : is_valid number ≡ true → can_write number ≡ false
+    pub views : (q p : ℕ) → view new q p ≡ view old q p
+    pub held : (p : PageKey) → held new p ≡ held old p
+    pub room : KeepsRoom old new
+    pub tables : KeepsTables old new
+    pub roles : (n : ℕ) → role_of new.frames n ≡ role_of old.frames n
+    pub counts : (z : Seat) → count_in new z ≡ count_in old z
+    pub pointers : (n i m : ℕ) → Points old.frames n i m → Points new.frames n i m
 
 -- no leaf lets a store through to a seat
-abbrev pub IsUnwritten : Picture → Seat → Type 0
-IsUnwritten c y = (q p : ℕ) → IsPage top_level p → seat (entry c q p) ≡ Some y → is_valid (entry c q p) ≡ true → can_write (entry c q p) ≡ false
+module _ {mode : ℕ} where
+  abbrev pub IsUnwritten : Picture mode → Seat → Type 0
+  IsUnwritten c y = (q p : ℕ) → IsPage (top_level mode) p → seat (entry c q p) ≡ Some y → is_valid (entry c q p) ≡ true → can_write (entry c q p) ≡ false
 
 -- One more may share a seat: it is that of own copies, fewer than 64 share it, and no leaf lets a store through to it.
-pub record MayShare (c : Picture) (y : Seat) : Type 0 where
-  pub owned : IsOwned c y
-  pub few : count_in c y < process_limit
-  pub unwritten : IsUnwritten c y
+module _ {mode : ℕ} where
+  pub record MayShare (c : Picture mode) (y : Seat) : Type 0 where
+    pub owned : IsOwned c y
+    pub few : count_in c y < process_limit
+    pub unwritten : IsUnwritten c y
 
 -- one more shares a seat, and no entry, table, view or byte is another one
-pub record RaisesSeat (old new : Picture) (y : Seat) : Type 0 where
-  pub beside : SameButMemory old new
-  pub room : KeepsRoom old new
-  pub roles : (n : ℕ) → role_of new.frames n ≡ role_of old.frames n
-  pub entries : (q p : ℕ) → entry new q p ≡ entry old q p
-  pub views : (q p : ℕ) → view new q p ≡ view old q p
-  pub held : (p : PageKey) → held new p ≡ held old p
-  pub tables : KeepsTables old new
-  pub rows : (q r row n : ℕ) → old.root q ≡ Some r → IsTableOf old.frames r row n → IsTableOf new.frames r row n
-  pub raised : count_in new y ≡ count_in old y + 1
-  pub others : (z : Seat) → z ≢ y → count_in new z ≡ count_in old z
-  pub pointers : (n i m : ℕ) → Points old.frames n i m → Points new.frames n i m
-  pub bytes : (k : ℕ) → IsInUse old.slots k → new.slots.bytes k ≡ old.slots.bytes k
+module _ {mode : ℕ} where
+  pub record RaisesSeat (old new : Picture mode) (y : Seat) : Type 0 where
+    pub beside : SameButMemory old new
+    pub room : KeepsRoom old new
+    pub roles : (n : ℕ) → role_of new.frames n ≡ role_of old.frames n
+    pub entries : (q p : ℕ) → entry new q p ≡ entry old q p
+    pub views : (q p : ℕ) → view new q p ≡ view old q p
+    pub held : (p : PageKey) → held new p ≡ held old p
+    pub tables : KeepsTables old new
+    pub rows : (q r row n : ℕ) → old.root q ≡ Some r → IsTableOf old.frames (top_level mode) r row n → IsTableOf new.frames (top_level mode) r row n
+    pub raised : count_in new y ≡ count_in old y + 1
+    pub others : (z : Seat) → z ≢ y → count_in new z ≡ count_in old z
+    pub pointers : (n i m : ℕ) → Points old.frames n i m → Points new.frames n i m
+    pub bytes : (k : ℕ) → IsInUse old.slots k → new.slots.bytes k ≡ old.slots.bytes k
 
 -- Of the pages from low up to, not including, high, the child has a share of each own copy of the parent: its views are the
 -- parent's, its entries are given from the parent's, which have no W where they name a frame, and of each seat there the count
 -- is one more. All other entries, views and counts are as they were, and every role, table and file page.
-pub record SharesRow (old new : Picture) (parent child low high : ℕ) : Type 0 where
-  pub beside : SameButMemory old new
-  pub room : KeepsRoom old new
-  pub roles : (n : ℕ) → role_of new.frames n ≡ role_of old.frames n
-  pub lowered : (p : ℕ) → IsPage top_level p → low ≤ p → p < high → entry new parent p ≡ lowered_entry (entry old parent p)
-  pub given : (p : ℕ) → IsPage top_level p → low ≤ p → p < high → entry new child p ≡ given_entry (entry old parent p)
-  pub others : (q p : ℕ) → IsPage top_level p → ((q ≢ parent) × (q ≢ child)) ⊎ ((p < low) ⊎ (high ≤ p)) → entry new q p ≡ entry old q p
-  pub shown : (p : ℕ) → IsPage top_level p → low ≤ p → p < high → view new child p ≡ view old parent p
-  pub views : (q p : ℕ) → (q ≢ child) ⊎ ((p < low) ⊎ (high ≤ p)) → view new q p ≡ view old q p
-  pub held : (p : PageKey) → held new p ≡ held old p
-  pub tables : KeepsTables old new
-  pub raised : (y : Seat) (p : ℕ) → IsPage top_level p → low ≤ p → p < high → seat (entry old parent p) ≡ Some y → count_in new y ≡ count_in old y + 1
-  pub kept : (y : Seat) → ((p : ℕ) → IsPage top_level p → low ≤ p → p < high → seat (entry old parent p) ≢ Some y) → count_in new y ≡ count_in old y
-  pub no_fewer : (y : Seat) → count_in old y ≤ count_in new y
-  pub pointers : (n i m : ℕ) → Points old.frames n i m → Points new.frames n i m
-  pub bytes : (k : ℕ) → IsInUse old.slots k → new.slots.bytes k ≡ old.slots.bytes k
+module _ {mode : ℕ} where
+  pub record SharesRow (old new : Picture mode) (parent child low high : ℕ) : Type 0 where
+    pub beside : SameButMemory old new
+    pub room : KeepsRoom old new
+    pub roles : (n : ℕ) → role_of new.frames n ≡ role_of old.frames n
+    pub lowered : (p : ℕ) → IsPage (top_level mode) p → low ≤ p → p < high → entry new parent p ≡ lowered_entry (entry old parent p)
+    pub given : (p : ℕ) → IsPage (top_level mode) p → low ≤ p → p < high → entry new child p ≡ given_entry (entry old parent p)
+    pub others : (q p : ℕ) → IsPage (top_level mode) p → ((q ≢ parent) × (q ≢ child)) ⊎ ((p < low) ⊎ (high ≤ p)) → entry new q p ≡ entry old q p
+    pub shown : (p : ℕ) → IsPage (top_level mode) p → low ≤ p → p < high → view new child p ≡ view old parent p
+    pub views : (q p : ℕ) → (q ≢ child) ⊎ ((p < low) ⊎ (high ≤ p)) → view new q p ≡ view old q p
+    pub held : (p : PageKey) → held new p ≡ held old p
+    pub tables : KeepsTables old new
+    pub raised : (y : Seat) (p : ℕ) → IsPage (top_level mode) p → low ≤ p → p < high → seat (entry old parent p) ≡ Some y → count_in new y ≡ count_in old y + 1
+    pub kept : (y : Seat) → ((p : ℕ) → IsPage (top_level mode) p → low ≤ p → p < high → seat (entry old parent p) ≢ Some y) → count_in new y ≡ count_in old y
+    pub no_fewer : (y : Seat) → count_in old y ≤ count_in new y
+    pub pointers : (n i m : ℕ) → Points old.frames n i m → Points new.frames n i m
+    pub bytes : (k : ℕ) → IsInUse old.slots k → new.slots.bytes k ≡ old.slots.bytes k
 
 -- the entries of the 512 pages of that row of a process stand in table n
-abbrev pub IsTableFor : Picture → ℕ → ℕ → ℕ → Type 0
-IsTableFor c pid row n = (r : ℕ) → c.root pid ≡ Some r → IsTableOf c.frames r row n
+module _ {mode : ℕ} where
+  abbrev pub IsTableFor : Picture mode → ℕ → ℕ → ℕ → Type 0
+  IsTableFor c pid row n = (r : ℕ) → c.root pid ≡ Some r → IsTableOf c.frames (top_level mode) r row n

@@ -8,26 +8,32 @@ use Rattle.paging.specs.Parts.{IsMapped}
 use Rattle.mapping.specs.Changes.{IsWhole, IsTableOnWay}
 
 -- the process has a copy of its own of a page, in a frame or in a slot
-abbrev pub HasCopy : Picture → ℕ → ℕ → Type 0
-HasCopy c pid page = IsPage top_level page × (seat (entry c pid page) ≢ None)
+module _ {mode : ℕ} where
+  abbrev pub HasCopy : Picture mode → ℕ → ℕ → Type 0
+  HasCopy c pid page = IsPage (top_level mode) page × (seat (entry c pid page) ≢ None)
 
 -- no table is missing for the child on the way to a page of which the parent has a copy of its own
-abbrev pub HasTables : Picture → ℕ → ℕ → Type 0
-HasTables c parent child = (page : ℕ) → HasCopy c parent page → IsWhole c child page
+module _ {mode : ℕ} where
+  abbrev pub HasTables : Picture mode → ℕ → ℕ → Type 0
+  HasTables c parent child = (page : ℕ) → HasCopy c parent page → IsWhole c child page
 
 -- the same, of the pages from one up to, not including, another
-abbrev pub HasTablesFrom : Picture → ℕ → ℕ → ℕ → ℕ → Type 0
-HasTablesFrom c parent child low high = (page : ℕ) → low ≤ page → page < high → HasCopy c parent page → IsWhole c child page
+module _ {mode : ℕ} where
+  abbrev pub HasTablesFrom : Picture mode → ℕ → ℕ → ℕ → ℕ → Type 0
+  HasTablesFrom c parent child low high = (page : ℕ) → low ≤ page → page < high → HasCopy c parent page → IsWhole c child page
 
 -- a table is missing for the child on the way to a page of which the parent has a copy of its own
-abbrev pub LacksTableForCopy : Picture → ℕ → ℕ → Type 0
-LacksTableForCopy c parent child = (page : ℕ) × HasCopy c parent page × (IsWhole c child page → ⊥)
+module _ {mode : ℕ} where
+  abbrev pub LacksTableForCopy : Picture mode → ℕ → ℕ → Type 0
+  LacksTableForCopy c parent child = (page : ℕ) × HasCopy c parent page × (IsWhole c child page → ⊥)
 
 -- Each frame that came to be a table is one of the child's, on the way to a page of which the parent has a copy of its own.
-abbrev pub LinksCopies : Picture → Picture → ℕ → ℕ → Type 0
-LinksCopies old new parent child = (n : ℕ) → IsTable new.frames n
-    → IsTable old.frames n ⊎ ((page : ℕ) × HasCopy old parent page × IsTableOnWay new child page n)
+module _ {mode : ℕ} where
+  abbrev pub LinksCopies : Picture mode → Picture mode → ℕ → ℕ → Type 0
+  LinksCopies old new parent child = (n : ℕ) → IsTable new.frames n
+      → IsTable old.frames n ⊎ ((page : ℕ) × HasCopy old parent page × IsTableOnWay new child page n)
 
 -- every page from one up to, not including, another is mapped
-abbrev pub IsMappedRow : Picture → ℕ → ℕ → ℕ → Type 0
-IsMappedRow c pid low high = (page : ℕ) → low ≤ page → page < high → IsMapped c pid page
+module _ {mode : ℕ} where
+  abbrev pub IsMappedRow : Picture mode → ℕ → ℕ → ℕ → Type 0
+  IsMappedRow c pid low high = (page : ℕ) → low ≤ page → page < high → IsMapped c pid page

@@ -23,7 +23,7 @@ use page_ranges::{gap_end, next_entry, table_end, user_page};
 use page_tables::{Entry, decode};
 use paging::Core;
 use sv39_walk::TABLE_ENTRIES;
-use vm_types::{Pid, Stall, USER_START, Vpn};
+use vm_types::{Levels, Pid, Stall, USER_START, Vpn};
 
 /// Makes for the child, whose pages are mapped as the parent's, every table that is missing on the way to a page of which the
 /// parent has a copy of its own, in a frame or in a slot. A frame is asked for only where such a table is missing; to have one,
@@ -33,8 +33,8 @@ use vm_types::{Pid, Stall, USER_START, Vpn};
 ///
 /// # Errors
 /// As `obtain`, where a table is missing and no frame is to be had for it. The tables that were made stay.
-pub fn link_copies<D, E: SectorDisk>(
-    core: &mut Core<D, E>,
+pub fn link_copies<D, E: SectorDisk, M: Levels>(
+    core: &mut Core<D, E, M>,
     parent: Pid,
     child: Pid,
 ) -> Result<(), Stall>
@@ -60,7 +60,7 @@ pub fn link_copies<D, E: SectorDisk>(
 {
     let mut page = USER_START;
     while let Some(run) = core.regions(parent).next_run(page) {
-        link_run(core, parent, child, user_page(run.first), run.end)?;
+        link_run(core, parent, child, user_page::<M>(run.first), run.end)?;
         page = run.end;
     }
     Ok(())
@@ -68,8 +68,8 @@ pub fn link_copies<D, E: SectorDisk>(
 
 /// Makes the child's tables for the pages from `start` up to, not including, `end`, all of which the parent has mapped: no
 /// other page is looked at.
-fn link_run<D, E: SectorDisk>(
-    core: &mut Core<D, E>,
+fn link_run<D, E: SectorDisk, M: Levels>(
+    core: &mut Core<D, E, M>,
     parent: Pid,
     child: Pid,
     start: Vpn,
@@ -81,7 +81,7 @@ fn link_run<D, E: SectorDisk>(
     requires child { is_live (picture_of core.old) child ≡ true }
     requires same { (p : ℕ) → (picture_of core.old).at child p ≡ (picture_of core.old).at parent p }
     requires mapped { IsMappedRow (picture_of core.old) parent start end }
-    requires high { end ≤ user_end }
+    requires high { end ≤ user_end M.mode }
     ensures moves { Moves E.SectorDisk core.old core.new }
     ensures pages { KeepsPages (picture_of core.old) (picture_of core.new) }
     ensures bare { KeepsBare (picture_of core.old) (picture_of core.new) }
@@ -99,15 +99,15 @@ fn link_run<D, E: SectorDisk>(
 {
     let mut page = start.get();
     while page < end {
-        page = link_next(core, parent, child, user_page(page), end)?;
+        page = link_next(core, parent, child, user_page::<M>(page), end)?;
     }
     Ok(())
 }
 
 /// Makes the child's tables for the pages of one table of the parent, from `page` on, as far as `end`; the result is the first
 /// page past them. Where a table of the parent is missing, the pages of the missing one are passed over.
-fn link_next<D, E: SectorDisk>(
-    core: &mut Core<D, E>,
+fn link_next<D, E: SectorDisk, M: Levels>(
+    core: &mut Core<D, E, M>,
     parent: Pid,
     child: Pid,
     page: Vpn,
@@ -119,6 +119,7 @@ fn link_next<D, E: SectorDisk>(
     requires child { is_live (picture_of core.old) child ≡ true }
     requires same { (p : ℕ) → (picture_of core.old).at child p ≡ (picture_of core.old).at parent p }
     requires some { page < end }
+    requires high { end ≤ user_end M.mode }
     ensures moves { Moves E.SectorDisk core.old core.new }
     ensures pages { KeepsPages (picture_of core.old) (picture_of core.new) }
     ensures bare { KeepsBare (picture_of core.old) (picture_of core.new) }
@@ -149,11 +150,12 @@ fn link_next<D, E: SectorDisk>(
 
 /// The first page from `start` up to, not including, `stop` of which a live process has a copy of its own. The entries of
 /// those pages stand in one table, and places without an entry are passed over.
-fn first_copy<D, E>(core: &Core<D, E>, pid: Pid, start: Vpn, stop: u64) -> Option<Vpn>
+fn first_copy<D, E, M: Levels>(core: &Core<D, E, M>, pid: Pid, start: Vpn, stop: u64) -> Option<Vpn>
     requires fit { IsFit (picture_of core.now) }
     requires live { is_live (picture_of core.now) pid ≡ true }
     requires whole { IsWhole (picture_of core.now) pid start }
     requires one_table { stop ≤ (start / table_entries + 1) * table_entries }
+    requires high { stop ≤ user_end M.mode }
     ensures row { IfSome result (λ page. page / table_entries ≡ start / table_entries) }
     ensures some { IfSome result (HasCopy (picture_of core.now) pid) }
     ensures none { IfNone result ((page : ℕ) → start ≤ page → page < stop → seat (entry (picture_of core.now) pid page) ≡ None) }
@@ -166,7 +168,7 @@ fn first_copy<D, E>(core: &Core<D, E>, pid: Pid, start: Vpn, stop: u64) -> Optio
     while page < stop {
         let index = (page % TABLE_ENTRIES) as usize;
         if is_own(decode(number_in(&core.frames, table, index))) {
-            return Some(user_page(page));
+            return Some(user_page::<M>(page));
         }
         page = next_entry(&core.frames, table, page + 1, stop);
     }

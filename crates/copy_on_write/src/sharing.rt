@@ -17,46 +17,52 @@ use page_ranges::{gap_end, next_entry, table_end, user_page};
 use page_tables::decode;
 use paging::Core;
 use sv39_walk::TABLE_ENTRIES;
-use vm_types::{FrameNo, Pid, USER_START, Vpn};
+use vm_types::{FrameNo, Levels, Pid, USER_START, Vpn};
 
 /// Gives the child, whose pages are mapped as the parent's and have no entry, a share of each page of which the parent has a
 /// copy of its own, in a frame or in a slot. No store to such a frame is allowed any more, so that the next one is noticed
 /// and gets a copy (fork(2), copy-on-write). `link_copies` has made the tables that the child wants, so no frame is asked for
 /// and no device, and the call can't fail. It costs the parent's runs and, of these, the tables that they meet and the pages
 /// there that have an entry, and nothing for what isn't mapped.
-pub fn share_pages<D, E>(core: &mut Core<D, E>, parent: Pid, child: Pid)
+pub fn share_pages<D, E, M: Levels>(core: &mut Core<D, E, M>, parent: Pid, child: Pid)
     requires fit { IsFit (picture_of core.old) }
     requires parent { is_live (picture_of core.old) parent ≡ true }
     requires child { is_live (picture_of core.old) child ≡ true }
     requires apart { parent ≢ child }
     requires same { (page : ℕ) → (picture_of core.old).at child page ≡ (picture_of core.old).at parent page }
-    requires bare { (page : ℕ) → IsPage top_level page → entry (picture_of core.old) child page ≡ 0 }
+    requires bare { (page : ℕ) → IsPage (top_level M.mode) page → entry (picture_of core.old) child page ≡ 0 }
     requires linked { HasTables (picture_of core.old) parent child }
     ensures fit { IsFit (picture_of core.new) }
-    ensures shares { SharesRow (picture_of core.old) (picture_of core.new) parent child user_start user_end }
+    ensures shares { SharesRow (picture_of core.old) (picture_of core.new) parent child user_start (user_end M.mode) }
     ensures rest { KeepsBesideMemory core.old core.new }
     ensures refused { core.new.refused ≡ core.old.refused }
 {
     let mut page = USER_START;
     while let Some(run) = core.regions(parent).next_run(page) {
-        share_run(core, parent, child, user_page(run.first), run.end);
+        share_run(core, parent, child, user_page::<M>(run.first), run.end);
         page = run.end;
     }
 }
 
 /// Gives the child its shares of the pages from `start` up to, not including, `end`, all of which the parent has mapped: no
 /// other page is looked at.
-fn share_run<D, E>(core: &mut Core<D, E>, parent: Pid, child: Pid, start: Vpn, end: u64)
+fn share_run<D, E, M: Levels>(
+    core: &mut Core<D, E, M>,
+    parent: Pid,
+    child: Pid,
+    start: Vpn,
+    end: u64,
+)
     requires fit { IsFit (picture_of core.old) }
     requires parent { is_live (picture_of core.old) parent ≡ true }
     requires child { is_live (picture_of core.old) child ≡ true }
     requires apart { parent ≢ child }
     requires same { (p : ℕ) → (picture_of core.old).at child p ≡ (picture_of core.old).at parent p }
-    requires bare { (p : ℕ) → IsPage top_level p → start ≤ p → entry (picture_of core.old) child p ≡ 0 }
+    requires bare { (p : ℕ) → IsPage (top_level M.mode) p → start ≤ p → entry (picture_of core.old) child p ≡ 0 }
     requires linked { HasTables (picture_of core.old) parent child }
     requires mapped { IsMappedRow (picture_of core.old) parent start end }
     requires some { start < end }
-    requires high { end ≤ user_end }
+    requires high { end ≤ user_end M.mode }
     ensures fit { IsFit (picture_of core.new) }
     ensures shares { SharesRow (picture_of core.old) (picture_of core.new) parent child start end }
     ensures rest { KeepsBesideMemory core.old core.new }
@@ -64,21 +70,28 @@ fn share_run<D, E>(core: &mut Core<D, E>, parent: Pid, child: Pid, start: Vpn, e
 {
     let mut page = start.get();
     while page < end {
-        page = share_next(core, parent, child, user_page(page), end);
+        page = share_next(core, parent, child, user_page::<M>(page), end);
     }
 }
 
 /// Gives the child its shares of the pages of one table of the parent, from `page` on, as far as `end`; the result is the first
 /// page past them. Where a table of the parent is missing, the pages of the missing one are passed over.
-fn share_next<D, E>(core: &mut Core<D, E>, parent: Pid, child: Pid, page: Vpn, end: u64) -> u64
+fn share_next<D, E, M: Levels>(
+    core: &mut Core<D, E, M>,
+    parent: Pid,
+    child: Pid,
+    page: Vpn,
+    end: u64,
+) -> u64
     requires fit { IsFit (picture_of core.old) }
     requires parent { is_live (picture_of core.old) parent ≡ true }
     requires child { is_live (picture_of core.old) child ≡ true }
     requires apart { parent ≢ child }
     requires same { (p : ℕ) → (picture_of core.old).at child p ≡ (picture_of core.old).at parent p }
-    requires bare { (p : ℕ) → IsPage top_level p → page ≤ p → entry (picture_of core.old) child p ≡ 0 }
+    requires bare { (p : ℕ) → IsPage (top_level M.mode) p → page ≤ p → entry (picture_of core.old) child p ≡ 0 }
     requires linked { HasTables (picture_of core.old) parent child }
     requires some { page < end }
+    requires high { end ≤ user_end M.mode }
     ensures fit { IsFit (picture_of core.new) }
     ensures further { page < result }
     ensures within { result ≤ end }
@@ -98,17 +111,24 @@ fn share_next<D, E>(core: &mut Core<D, E>, parent: Pid, child: Pid, page: Vpn, e
 /// Gives the child its shares of the pages from `start` up to, not including, `stop`. Their entries stand in one table of the
 /// parent and in one of the child, which are looked for once and not for each page; places of the parent's without an entry
 /// are passed over. Where the child has no table for them, the parent has no copy of any of them.
-fn share_table<D, E>(core: &mut Core<D, E>, parent: Pid, child: Pid, start: Vpn, stop: u64)
+fn share_table<D, E, M: Levels>(
+    core: &mut Core<D, E, M>,
+    parent: Pid,
+    child: Pid,
+    start: Vpn,
+    stop: u64,
+)
     requires fit { IsFit (picture_of core.old) }
     requires parent { is_live (picture_of core.old) parent ≡ true }
     requires child { is_live (picture_of core.old) child ≡ true }
     requires apart { parent ≢ child }
     requires same { (p : ℕ) → (picture_of core.old).at child p ≡ (picture_of core.old).at parent p }
-    requires bare { (p : ℕ) → IsPage top_level p → start ≤ p → entry (picture_of core.old) child p ≡ 0 }
+    requires bare { (p : ℕ) → IsPage (top_level M.mode) p → start ≤ p → entry (picture_of core.old) child p ≡ 0 }
     requires linked { HasTables (picture_of core.old) parent child }
     requires whole { IsWhole (picture_of core.old) parent start }
     requires some { start < stop }
     requires one_table { stop ≤ (start / table_entries + 1) * table_entries }
+    requires high { stop ≤ user_end M.mode }
     ensures fit { IsFit (picture_of core.new) }
     ensures shares { SharesRow (picture_of core.old) (picture_of core.new) parent child start stop }
     ensures rest { KeepsBesideMemory core.old core.new }
@@ -122,13 +142,13 @@ fn share_table<D, E>(core: &mut Core<D, E>, parent: Pid, child: Pid, start: Vpn,
     };
     let mut page = next_entry(&core.frames, from, start.get(), stop);
     while page < stop {
-        share_page(core, parent, child, from, to, user_page(page));
+        share_page(core, parent, child, from, to, user_page::<M>(page));
         page = next_entry(&core.frames, from, page + 1, stop);
     }
 }
 
 /// The lowest table of a live process in which the entry of a page stands; `None` where a table is missing on the way.
-fn table_for<D, E>(core: &Core<D, E>, pid: Pid, page: Vpn) -> Option<FrameNo>
+fn table_for<D, E, M: Levels>(core: &Core<D, E, M>, pid: Pid, page: Vpn) -> Option<FrameNo>
     requires fit { IsFit (picture_of core.now) }
     requires live { is_live (picture_of core.now) pid ≡ true }
     ensures found { IfSome result (λ n. IsTableFor (picture_of core.now) pid (page / table_entries) n.0) }
@@ -143,8 +163,8 @@ fn table_for<D, E>(core: &Core<D, E>, pid: Pid, page: Vpn) -> Option<FrameNo>
 
 /// Gives the child a share of one page, if the parent has a copy of its own of it. Its entry stands in table `from` of the
 /// parent, and in table `to` of the child.
-fn share_page<D, E>(
-    core: &mut Core<D, E>,
+fn share_page<D, E, M: Levels>(
+    core: &mut Core<D, E, M>,
     parent: Pid,
     child: Pid,
     from: FrameNo,
@@ -159,6 +179,7 @@ fn share_page<D, E>(
     requires bare { entry (picture_of core.old) child page ≡ 0 }
     requires from { IsTableFor (picture_of core.old) parent (page / table_entries) from.0 }
     requires to { IsTableFor (picture_of core.old) child (page / table_entries) to.0 }
+    requires user { page < user_end M.mode }
     ensures fit { IsFit (picture_of core.new) }
     ensures shares { SharesRow (picture_of core.old) (picture_of core.new) parent child page (page + 1) }
     ensures places { (q row n : ℕ) → IsTableFor (picture_of core.old) q row n → IsTableFor (picture_of core.new) q row n }

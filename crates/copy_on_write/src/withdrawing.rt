@@ -1,6 +1,6 @@
 //! A page of a process's own that is about to be shared.
 ghost use Rattle.std.specs.Prelude.{◌≡◌, ◌≢◌, ℕ, ◌/◌, ◌<◌, ◌^◌, true, Some, None, IfSome, IfNone};
-ghost use Rattle.vm_types.specs.Limits.{table_entries};
+ghost use Rattle.vm_types.specs.Limits.{table_entries, user_end};
 ghost use Rattle.sv39_walk.specs.Entry.{is_valid, frame_of};
 ghost use Rattle.page_tables.specs.Entry.{number_of, IsEntry};
 ghost use Rattle.paging.specs.Seats.{Seat, seat, is_private};
@@ -13,13 +13,13 @@ use mapped_memory::set_in;
 use page_tables::Entry;
 use paging::Core;
 use sv39_walk::TABLE_ENTRIES;
-use vm_types::{FrameNo, Pid, Vpn};
+use vm_types::{FrameNo, Levels, Pid, Vpn};
 
 /// Lets no store through to a page of which a live process has a copy of its own, and returns the page's entry. What holds the
 /// copy may be shared then, and the next store is noticed (fork(2), copy-on-write). The page's entry stands in that table of
 /// the process, and is `before` so far; it is written only where it has W.
-pub(crate) fn withdraw_write<D, E>(
-    core: &mut Core<D, E>,
+pub(crate) fn withdraw_write<D, E, M: Levels>(
+    core: &mut Core<D, E, M>,
     pid: Pid,
     table: FrameNo,
     page: Vpn,
@@ -31,6 +31,7 @@ pub(crate) fn withdraw_write<D, E>(
     requires form { IsEntry before }
     requires before { number_of before ≡ entry (picture_of core.old) pid page }
     requires own { seat (entry (picture_of core.old) pid page) ≢ None }
+    requires user { page < user_end M.mode }
     ensures fit { IsFit (picture_of core.new) }
     ensures form { IsEntry result }
     ensures own { seat (number_of result) ≢ None }
@@ -65,7 +66,7 @@ fn without_write(before: Entry) -> Option<Entry>
 }
 
 /// One more shares the frame or the slot that an entry names as its process's own. No entry names it for that share yet.
-pub(crate) fn add_share<D, E>(core: &mut Core<D, E>, shared: Entry)
+pub(crate) fn add_share<D, E, M: Levels>(core: &mut Core<D, E, M>, shared: Entry)
     requires fit { IsFit (picture_of core.old) }
     requires form { IsEntry shared }
     requires some { seat (number_of shared) ≢ None }

@@ -2,8 +2,8 @@
 use crate::pages::{Bytes, CommonPage, Page, Range, backing, behind, is_due};
 use std::alloc::{AllocError, Global};
 use vm_types::{
-    Backing, Code, Command, Errno, Fault, FilePage, MapSource, MsyncMode, PageKey, Pid, Placing,
-    Reply, StoredValue, Width,
+    Backing, Code, Command, Errno, Fault, FilePage, MapSource, Mode, MsyncMode, PageKey, Pid,
+    Placing, Reply, StoredValue, Width,
 };
 
 /// The most processes.
@@ -35,6 +35,8 @@ fn process_of(command: Command) -> Option<u64> {
 /// Processes, each a list of pages that may be read and written, and files of zeros at first.
 #[derive(Clone, Drop)]
 pub struct Flat {
+    /// How many levels of tables address spaces have.
+    mode: Mode,
     /// The numbers of the processes that live.
     live: Vec<u64>,
     pages: Vec<Page>,
@@ -43,9 +45,10 @@ pub struct Flat {
 }
 
 impl Flat {
-    /// No process, and files of so many zeros.
-    pub fn new(alloc: Global, lengths: &[u32]) -> Result<Flat, AllocError> {
+    /// No process, address spaces of that mode, and files of so many zeros.
+    pub fn new(alloc: Global, mode: Mode, lengths: &[u32]) -> Result<Flat, AllocError> {
         let mut flat = Flat {
+            mode,
             live: Vec::new(alloc),
             pages: Vec::new(alloc),
             common: Vec::new(alloc),
@@ -110,21 +113,29 @@ impl Flat {
         self.live.len()
     }
 
-    /// How many page tables the processes need: the root of each, and for each table of the two lower levels one that is the
-    /// first to need it (RISC-V Privileged Specification, "Sv39").
+    /// How many page tables the processes need: the root of each, and for each table of the lower levels, two of them in Sv39 and
+    /// three in Sv48, one that is the first to need it (RISC-V Privileged Specification, "Sv39", "Sv48").
     pub fn tables(&self) -> usize {
+        let shifts: &[u32] = match self.mode {
+            Mode::Sv39 => &[9, 18],
+            Mode::Sv48 => &[9, 18, 27],
+        };
         let mut count = self.live.len();
+        for shift in shifts {
+            count = count.saturating_add(self.distinct(*shift));
+        }
+        count
+    }
+
+    /// How many rows of `2 ^ shift` pages have a mapped one, counted for each process.
+    fn distinct(&self, shift: u32) -> usize {
+        let mut count: usize = 0;
         for (i, page) in self.pages.iter().enumerate() {
             let mut earlier = self.pages.iter().take(i);
-            if !earlier.any(|other| other.pid == page.pid
-                && other.number >> 9 == page.number >> 9)
-            {
-                count = count.saturating_add(1);
-            }
-            let mut earlier = self.pages.iter().take(i);
-            if !earlier.any(|other| other.pid == page.pid
-                && other.number >> 18 == page.number >> 18)
-            {
+            if !earlier.any(|other| {
+                other.pid == page.pid
+                    && other.number.wrapping_shr(shift) == page.number.wrapping_shr(shift)
+            }) {
                 count = count.saturating_add(1);
             }
         }

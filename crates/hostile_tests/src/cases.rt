@@ -3,16 +3,19 @@ use crate::bench::Case;
 use machine::Config;
 use std::alloc::Global;
 use std::test::Fail;
+use vm_types::Mode;
 
 const CONFIG: Config = Config {
     frames: 64,
     slots: 16,
+    mode: Mode::Sv39,
 };
 
 /// The fewest frames: four of them for pages, where a process's pages lie together.
 const SMALL: Config = Config {
     frames: 8,
     slots: 16,
+    mode: Mode::Sv39,
 };
 
 /// A file whose last page is a part of one: what is stored past its end is gone with the msync.
@@ -86,6 +89,7 @@ pub(crate) const PAGE_IN_THE_JOURNAL: Case<'static> = Case {
     config: Config {
         frames: 8,
         slots: 0,
+        mode: Mode::Sv39,
     },
     lengths: &[40960],
     gates: &[17, 43],
@@ -131,6 +135,7 @@ pub(crate) const SHARED_COPY: Case<'static> = Case {
     config: Config {
         frames: 10,
         slots: 16,
+        mode: Mode::Sv39,
     },
     lengths: &[],
     gates: &[],
@@ -145,6 +150,7 @@ pub(crate) const OBJECT_PAGES: Case<'static> = Case {
     config: Config {
         frames: 10,
         slots: 16,
+        mode: Mode::Sv39,
     },
     lengths: &[],
     gates: &[],
@@ -162,6 +168,7 @@ pub(crate) const MOST_PAGES: Case<'static> = Case {
     config: Config {
         frames: 2048,
         slots: 0,
+        mode: Mode::Sv39,
     },
     lengths: &[4194304],
     gates: &[8193, 20483, 28685],

@@ -56,7 +56,7 @@ pub(crate) fn heard(
     armed: Armed,
 ) -> Result<Judge, Fail> {
     let mut judge = Judge {
-        flat: Flat::new(alloc, case.lengths)?,
+        flat: Flat::new(alloc, case.config.mode, case.lengths)?,
         stalls: 0,
         synced: 0,
         before: None,

@@ -1,4 +1,5 @@
 -- A process without a page has those of another.
+use Rattle.vm_types.specs.Limits.{top_level}
 use Rattle.std.proofs.Common.{◌≡◌, ◌≢◌, ◌==◌, if◌then◌else◌, eq-eqb, ne_eqb, ℕ, inl, inr, List, Option, Some, None, refl, sym, ap, ◌∙◌}
 use Rattle.std.proofs.lemmas.Bool.{cases_eq}
 use Rattle.vm_types.specs.Objects.{names, uses}
@@ -21,31 +22,32 @@ unmapped_in own None none = refl
 unmapped_in own (Some a) none = absurd (let bad : Some (record { attr = a; own = own }) ≡ None = none in (cc))
 
 -- a page that isn't seen isn't mapped
-pub unmapped_view : (c : Picture) (pid page : ℕ) → view c pid page ≡ None → c.at pid page ≡ None
+pub unmapped_view : {mode : ℕ} (c : Picture mode) (pid page : ℕ) → view c pid page ≡ None → c.at pid page ≡ None
 unfolding view
 unmapped_view c pid page none = unmapped_in (own_in c.frames c.slots (entry c pid page)) (c.at pid page) none
 
-bare_for : (c : Picture) (attr : Option Attr) (e : ℕ) → attr ≡ None → IsEntryFor c attr e → e ≡ 0
+bare_for : {mode : ℕ} (c : Picture mode) (attr : Option Attr) (e : ℕ) → attr ≡ None → IsEntryFor c attr e → e ≡ 0
 bare_for c attr e none (Nothing is) = is
 bare_for c attr e none (Resident a at resident) = absurd (let bad : None ≡ Some a = sym none ∙ at in (cc))
 bare_for c attr e none (Away a at away) = absurd (let bad : None ≡ Some a = sym none ∙ at in (cc))
 
 -- a page that isn't mapped has no entry
-pub bare_page : (c : Picture) (pid page : ℕ) → IsFit c → c.at pid page ≡ None → IsPage 2 page → entry c pid page ≡ 0
+pub bare_page : {mode : ℕ} (c : Picture mode) (pid page : ℕ) → IsFit c → c.at pid page ≡ None → IsPage (top_level mode) page → entry c pid page ≡ 0
 bare_page c pid page fit none h = bare_for c (c.at pid page) (entry c pid page) none (fit.granting.entries pid page h)
 
 -- what the step leaves
-pub record IsAlike (old new : Picture) (parent child : ℕ) : Type 0 where
-  pub fit : IsFit new
-  pub maps : MapsAlike old new parent child
+module _ {mode : ℕ} where
+  pub record IsAlike (old new : Picture mode) (parent child : ℕ) : Type 0 where
+    pub fit : IsFit new
+    pub maps : MapsAlike old new parent child
 
-module _ (old new : Picture) (runs : List Run) (parent child : ℕ) (fit : IsFit old) (apart : parent ≢ child) (empty : (page : ℕ) → view old child page ≡ None)
+module _ {mode : ℕ} (old new : Picture mode) (runs : List Run) (parent child : ℕ) (fit : IsFit old) (apart : parent ≢ child) (empty : (page : ℕ) → view old child page ≡ None)
     (there : (page : ℕ) → attr_at runs page ≡ old.at parent page) (remaps : Remaps old new child) (here : (page : ℕ) → new.at child page ≡ attr_at runs page) where
   seat_bytes : (z : Seat) → bytes_in new.frames new.slots z ≡ bytes_in old.frames old.slots z
   seat_bytes (InFrame n) = ap (λ t. bytes_of t n) remaps.frames
   seat_bytes (InSlot k) = ap (λ t. t.bytes k) remaps.slots
 
-  bare : (page : ℕ) → IsPage 2 page → entry old child page ≡ 0
+  bare : (page : ℕ) → IsPage (top_level mode) page → entry old child page ≡ 0
   bare page h = bare_page old child page fit (unmapped_view old child page (empty page)) h
 
   -- whose pages those of a process are
@@ -71,7 +73,7 @@ module _ (old new : Picture) (runs : List Run) (parent child : ℕ) (fit : IsFit
   alike =
       let entries = entries_remapped old new child fit remaps in
       record {
-        fit = fit_mapped old new child runs fit remaps here (user_map-same (old.at parent) (attr_at runs) there (fit.granting.user parent))
+        fit = fit_mapped old new child runs fit remaps here (user_map-same mode (old.at parent) (attr_at runs) there (fit.granting.user parent))
             (readable-same (old.at parent) (attr_at runs) there (fit.granting.readable parent)) objects_alike bare (λ page. unmapped_view old child page (empty page));
         maps = record {
           root = remaps.root;

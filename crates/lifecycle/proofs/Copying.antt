@@ -1,4 +1,6 @@
 -- A process comes that is a copy of another.
+use Rattle.vm_types.proofs.Modes.{user_pages_fit}
+use Rattle.vm_types.specs.Limits.{user_end, top_level}
 use Rattle.std.proofs.Common.{◌≡◌, ◌≢◌, ℕ, inl, inr, ◌⊎◌, ◌<◌, ◌≤◌, ◌^◌, true, false, List, Option, Some, None, is_some, refl, sym, ap, ◌∙◌, subst, arith}
 use Rattle.std.specs.Prelude.{option_map, IfErr, IsErrAnd, Result, Ok, Err}
 use Rattle.std.proofs.lemmas.Bool.{cases_eq, cases_lt, cases_Bool, false≢true}
@@ -26,22 +28,23 @@ use Rattle.lifecycle.proofs.Keeping.{live_same, files_then}
 use Rattle.lifecycle.proofs.Shortage.{short_alike}
 
 -- Before any page is shared: the child lives, mapped as the parent is, without an entry, and every other process is as it was.
-pub record IsReadied (old mid : Picture) (parent child : ℕ) : Type 0 where
-  pub apart : parent ≢ child
-  pub fit : IsFit mid
-  pub dead : is_live old child ≡ false
-  pub unmapped : (page : ℕ) → view old child page ≡ None
-  pub lives : is_live mid child ≡ true
-  pub others_live : (q : ℕ) → q ≢ child → is_live mid q ≡ is_live old q
-  pub others : (q page : ℕ) → q ≢ child → view mid q page ≡ view old q page
-  pub same : (page : ℕ) → mid.at child page ≡ mid.at parent page
-  pub bare : (page : ℕ) → IsPage 2 page → entry mid child page ≡ 0
-  pub kept_bare : (q page : ℕ) → IsPage 2 page → entry old q page ≡ 0 → entry mid q page ≡ 0
-  pub files : KeepsFiles old mid
-  pub room : KeepsRoom old mid
+module _ {mode : ℕ} where
+  pub record IsReadied (old mid : Picture mode) (parent child : ℕ) : Type 0 where
+    pub apart : parent ≢ child
+    pub fit : IsFit mid
+    pub dead : is_live old child ≡ false
+    pub unmapped : (page : ℕ) → view old child page ≡ None
+    pub lives : is_live mid child ≡ true
+    pub others_live : (q : ℕ) → q ≢ child → is_live mid q ≡ is_live old q
+    pub others : (q page : ℕ) → q ≢ child → view mid q page ≡ view old q page
+    pub same : (page : ℕ) → mid.at child page ≡ mid.at parent page
+    pub bare : (page : ℕ) → IsPage (top_level mode) page → entry mid child page ≡ 0
+    pub kept_bare : (q page : ℕ) → IsPage (top_level mode) page → entry old q page ≡ 0 → entry mid q page ≡ 0
+    pub files : KeepsFiles old mid
+    pub room : KeepsRoom old mid
 
 -- a process was made, then mapped, and then frames were given up for its tables
-pub readied : (old spawned mapped mid : Picture) (parent child : ℕ) → parent ≢ child → is_live old child ≡ false → ((page : ℕ) → old.at child page ≡ None)
+pub readied : {mode : ℕ} (old spawned mapped mid : Picture mode) (parent child : ℕ) → parent ≢ child → is_live old child ≡ false → ((page : ℕ) → old.at child page ≡ None)
     → AddsProcess old spawned child (λ page. None) → KeepsBare old spawned → KeepsFiles old spawned → KeepsRoom old spawned
     → MapsAlike spawned mapped parent child → KeepsRoom spawned mapped
     → IsFit mid → KeepsPages mapped mid → KeepsBare mapped mid → KeepsRoom mapped mid → IsReadied old mid parent child
@@ -65,13 +68,13 @@ view_bare own None none = refl
 view_bare own (Some a) none = ap (λ w. is_some w) none
 
 -- a page without an entry has no copy
-own_none : (c : Picture) (pid page : ℕ) → entry c pid page ≡ 0 → has_own (view c pid page) ≡ false
+own_none : {mode : ℕ} (c : Picture mode) (pid page : ℕ) → entry c pid page ≡ 0 → has_own (view c pid page) ≡ false
 unfolding view
 own_none c pid page none =
     view_bare (own_in c.frames c.slots (entry c pid page)) (c.at pid page) (ap (λ o. option_map (bytes_in c.frames c.slots) o) (ap seat none ∙ seat-none))
 
 -- outside the user pages nothing is mapped
-past_none : (c : Picture) (pid page : ℕ) → IsGranting c → ((16 ≤ page) × (page < 2 ^ 26) → ⊥) → c.at pid page ≡ None
+past_none : {mode : ℕ} (c : Picture mode) (pid page : ℕ) → IsGranting c → ((16 ≤ page) × (page < user_end mode) → ⊥) → c.at pid page ≡ None
 past_none c pid page granting out = elim (cases_attr (c.at pid page)) [
   | inl none ↦ none
   | inr some ↦ absurd (out ((granting.user pid).user_pages page some))
@@ -137,10 +140,10 @@ zero_given : given_entry 0 ≡ 0
 unfolding has_bit
 zero_given = refl
 
-module _ (old mid : Picture) (parent child : ℕ) (ready : IsReadied old mid parent child) where
+module _ {mode : ℕ} (old mid : Picture mode) (parent child : ℕ) (ready : IsReadied old mid parent child) where
   none_here : (page : ℕ) → has_own (view mid child page) ≡ false
-  none_here page = elim (cases_lt page (2 ^ 26)) [
-    | inl below ↦ own_none mid child page (ready.bare page (omega (arith, below)))
+  none_here page = elim (cases_lt page (user_end mode)) [
+    | inl below ↦ own_none mid child page (ready.bare page (omega (arith, below, user_pages_fit mode)))
     | inr past ↦ ap has_own (view-none mid child page (past_none mid child page ready.fit.granting (λ user. (let high = user.1 in omega (arith, high, past)))))
   ]
 
@@ -154,7 +157,7 @@ module _ (old mid : Picture) (parent child : ℕ) (ready : IsReadied old mid par
       (λ page. ap has_own (ready.unmapped page)) ready.room ready.files.touched
 
   -- the child went again
-  pub unmade : (new : Picture) → RemovesProcess mid new child → KeepsProcesses old new
+  pub unmade : (new : Picture mode) → RemovesProcess mid new child → KeepsProcesses old new
   unmade new removed = record {
     live = λ q. elim (cases_eq q child) [
       | inl is ↦ (let P : ℕ → Type 0 = λ x. is_live new x ≡ is_live old x in subst P (sym is) (removed.gone ∙ sym ready.dead))
@@ -167,38 +170,38 @@ module _ (old mid : Picture) (parent child : ℕ) (ready : IsReadied old mid par
   }
 
   -- the child has its shares
-  module _ (new : Picture) (shares : SharesRow mid new parent child 16 (2 ^ 26)) where
-    sides : (page : ℕ) → ((16 ≤ page) × (page < 2 ^ 26)) ⊎ (((page < 16) ⊎ (2 ^ 26 ≤ page)) × ((16 ≤ page) × (page < 2 ^ 26) → ⊥))
+  module _ (new : Picture mode) (shares : SharesRow mid new parent child 16 (user_end mode)) where
+    sides : (page : ℕ) → ((16 ≤ page) × (page < user_end mode)) ⊎ (((page < 16) ⊎ (user_end mode ≤ page)) × ((16 ≤ page) × (page < user_end mode) → ⊥))
     sides page = elim (cases_lt page 16) [
       | inl low ↦ inr (inl low, λ user. (let from = user.0 in omega (arith, from, low)))
-      | inr from ↦ elim (cases_lt page (2 ^ 26)) [
+      | inr from ↦ elim (cases_lt page (user_end mode)) [
         | inl below ↦ inl (from, below)
         | inr past ↦ inr (inr past, λ user. (let high = user.1 in omega (arith, high, past)))
       ]
     ]
 
-    shown_past : (page : ℕ) → ((16 ≤ page) × (page < 2 ^ 26) → ⊥) → (page < 16) ⊎ (2 ^ 26 ≤ page) → view new child page ≡ view old parent page
+    shown_past : (page : ℕ) → ((16 ≤ page) × (page < user_end mode) → ⊥) → (page < 16) ⊎ (user_end mode ≤ page) → view new child page ≡ view old parent page
     shown_past page out side =
         shares.views child page (inr side) ∙ view-none mid child page (past_none mid child page ready.fit.granting out)
         ∙ sym (view-none mid parent page (past_none mid parent page ready.fit.granting out)) ∙ ready.others parent page ready.apart
 
     shown : (page : ℕ) → view new child page ≡ view old parent page
     shown page = elim (sides page) [
-      | inl user ↦ (let below = user.1 in shares.shown page (omega (arith, below)) user.0 below ∙ ready.others parent page ready.apart)
+      | inl user ↦ (let below = user.1 in shares.shown page (omega (arith, below, user_pages_fit mode)) user.0 below ∙ ready.others parent page ready.apart)
       | inr out ↦ shown_past page out.1 out.0
     ]
 
     -- a page outside the user pages had no entry
-    bare_past : (pid page : ℕ) → IsPage 2 page → ((16 ≤ page) × (page < 2 ^ 26) → ⊥) → entry mid pid page ≡ 0
+    bare_past : (pid page : ℕ) → IsPage (top_level mode) page → ((16 ≤ page) × (page < user_end mode) → ⊥) → entry mid pid page ≡ 0
     bare_past pid page h out = bare_page mid pid page ready.fit (past_none mid pid page ready.fit.granting out) h
 
-    pub lowered : (page : ℕ) → IsPage 2 page → entry new parent page ≡ lowered_entry (entry mid parent page)
+    pub lowered : (page : ℕ) → IsPage (top_level mode) page → entry new parent page ≡ lowered_entry (entry mid parent page)
     lowered page h = elim (sides page) [
       | inl user ↦ shares.lowered page h user.0 user.1
       | inr out ↦ (let none = bare_past parent page h out.1 in shares.others parent page h (inr out.0) ∙ none ∙ sym zero_lowered ∙ sym (ap lowered_entry none))
     ]
 
-    pub given : (page : ℕ) → IsPage 2 page → entry new child page ≡ given_entry (entry mid parent page)
+    pub given : (page : ℕ) → IsPage (top_level mode) page → entry new child page ≡ given_entry (entry mid parent page)
     given page h = elim (sides page) [
       | inl user ↦ shares.given page h user.0 user.1
       | inr out ↦ shares.others child page h (inr out.0) ∙ ready.bare page h ∙ sym zero_given ∙ sym (ap given_entry (bare_past parent page h out.1))
@@ -234,12 +237,13 @@ as_stall (Ok x) P stall is p = tt
 as_stall (Err e) P stall is p = subst P (sym is) p
 
 -- no table came to be missing on the way to a page of a process that was there
-pub tables_kept : (old spawned mapped mid new : Picture) (child n : ℕ) → is_live old child ≡ false → TakesRoot old spawned child n → mapped.frames ≡ spawned.frames
-    → ((q : ℕ) → mapped.root q ≡ spawned.root q) → ((q : ℕ) → mid.root q ≡ mapped.root q) → KeepsTables mapped mid → KeepsTables mid new → KeepsTables old new
-tables_kept old spawned mapped mid new child n dead takes frames roots roots' one two q r page e =
-    let other : q ≢ child = λ is. false≢true (sym dead ∙ ap (is_live old) (sym is) ∙ ap (λ o. is_some o) e) in
-    let there : mapped.root q ≡ Some r = roots q ∙ takes.others q other ∙ e in
-    let first : missing_of mapped.frames 2 r page ≡ missing_of old.frames 2 r page = ap (λ t. missing_of t 2 r page) frames ∙ takes.missing q r page e in
-    let second = one q r page there in
-    let third = two q r page (roots' q ∙ there) in
-    omega (arith, first, second, third)
+module _ {mode : ℕ} where
+  pub tables_kept : (old spawned mapped mid new : Picture mode) (child n : ℕ) → is_live old child ≡ false → TakesRoot old spawned child n → mapped.frames ≡ spawned.frames
+      → ((q : ℕ) → mapped.root q ≡ spawned.root q) → ((q : ℕ) → mid.root q ≡ mapped.root q) → KeepsTables mapped mid → KeepsTables mid new → KeepsTables old new
+  tables_kept old spawned mapped mid new child n dead takes frames roots roots' one two q r page e =
+      let other : q ≢ child = λ is. false≢true (sym dead ∙ ap (is_live old) (sym is) ∙ ap (λ o. is_some o) e) in
+      let there : mapped.root q ≡ Some r = roots q ∙ takes.others q other ∙ e in
+      let first : missing_of mapped.frames (top_level mode) r page ≡ missing_of old.frames (top_level mode) r page = ap (λ t. missing_of t (top_level mode) r page) frames ∙ takes.missing q r page e in
+      let second = one q r page there in
+      let third = two q r page (roots' q ∙ there) in
+      omega (arith, first, second, third)

@@ -1,6 +1,9 @@
 -- A process goes of which no page has an entry or a table.
+use Rattle.vm_types.specs.declared.mode.Levels as Levels
+use Rattle.vm_types.specs.Limits.{user_end, top_level}
 use Rattle.std.proofs.Common.{◌≡◌, ◌≢◌, ℕ, zero, suc, inl, inr, ◌⊎◌, ◌≤◌, ◌<◌, ◌^◌, Option, Some, None, true, false, refl, sym, ap, ◌∙◌, subst, arith, eq-eqb, ne_eqb}
-use Rattle.std.specs.Prelude.{is_some, IsSome}
+use Rattle.std.specs.Prelude.{is_some, IsSome, ◌*◌}
+use Rattle.vm_types.proofs.Modes.{user_pages_fit, sizes}
 use Rattle.std.proofs.lemmas.Bool.{cases_eq, cases_Bool, false≢true}
 use Rattle.vm_types.specs.declared.object.ObjectPage.{ObjectPage}
 use Rattle.vm_types.specs.declared.object.PageKey.TheVariants.{Object}
@@ -17,7 +20,7 @@ use Rattle.sv39_walk.specs.Walk.{index_of}
 use Rattle.page_tables.specs.Tree.{IsPage, IsTable, Points, IsSpare, Way, IsBelowRoot, last_table, missing_of}
 use Rattle.page_tables.proofs.Ways.{cases_bool, only_way, last_table-stop}
 use Rattle.page_tables.proofs.Ends.{way_forth, missing_of-is, last_entry-is}
-use Rattle.page_tables.proofs.Hollow.{page_at, field_two}
+use Rattle.page_tables.proofs.Fields.{root_field}
 use Rattle.swap.specs.Slots.{SlotTable, IsReady}
 use Rattle.paging.specs.declared.kernel.Core.{Core}
 use Rattle.paging.specs.Seats.{Seat, InFrame, InSlot, seat}
@@ -38,11 +41,16 @@ use Rattle.page_ranges.specs.Steps.{KeepsDevices, KeepsEntriesOfOthers, ReturnsT
 use Rattle.lifecycle.specs.Changes.{RemovesProcess, FreesTables, TakesNoCopy}
 use Rattle.lifecycle.proofs.Keeping.{live_same}
 
+-- a way ends at the root whose entry is no pointer
+stops_at : (t : FrameTable) (p top r : ℕ) → 0 < top → is_pointer (entry_at t r (index_of p top)) ≡ false → last_table t p top r ≡ (top, r)
+stops_at t p zero r some stop = absurd (omega (arith, some))
+stops_at t p (suc level) r some stop = last_table-stop t p level r stop
+
 -- a table of a process that no longer has tables for its pages is its root, or another process's
-module _ (c : Picture) (pid r : ℕ) (fit : IsFit c) (root : c.root pid ≡ Some r) (bare : IsWithoutTables c pid 0 (2 ^ 26)) where
+module _ {mode : ℕ} (c : Picture mode) (pid r : ℕ) (fit : IsFit c) (root : c.root pid ≡ Some r) (bare : IsWithoutTables c pid 0 (user_end mode)) where
   -- a way that leads to the table begins at the root of another process
-  used_apart : (m : ℕ) → IsUsed c (IsMappedBeside c pid 0 (2 ^ 26)) m
-      → ((q : ℕ) × (c.root q ≡ Some m)) ⊎ ((q : ℕ) × (x : ℕ) × (page : ℕ) × (q ≢ pid) × (c.root q ≡ Some x) × IsBelowRoot c.frames 2 x page m)
+  used_apart : (m : ℕ) → IsUsed c (IsMappedBeside c pid 0 (user_end mode)) m
+      → ((q : ℕ) × (c.root q ≡ Some m)) ⊎ ((q : ℕ) × (x : ℕ) × (page : ℕ) × (q ≢ pid) × (c.root q ≡ Some x) × IsBelowRoot c.frames (top_level mode) x page m)
   used_apart m (AsRoot q is) = inl (q, is)
   used_apart m (OnWay q x page is here below) = elim here.1 [
     | inl ne ↦ inr (q, x, page, ne, is, below)
@@ -65,9 +73,9 @@ module _ (c : Picture) (pid r : ℕ) (fit : IsFit c) (root : c.root pid ≡ Some
         let page = on.2 in
         let below = on.5 in
         let one = fit.rooted.forest.one_way below.2.0 _ r i m below.2.2 p in
-        let W : ℕ → Type 0 = λ y. Way c.frames 2 x page below.0 y in
-        let way : Way c.frames 2 x page below.0 r = subst W one.0 below.2.1 in
-        let ends = only_way c.frames 2 fit.rooted.forest x page r page (fit.rooted.roots q x on.4).unlinked (fit.rooted.roots pid r root).unlinked below.0 0 r way refl in
+        let W : ℕ → Type 0 = λ y. Way c.frames (top_level mode) x page below.0 y in
+        let way : Way c.frames (top_level mode) x page below.0 r = subst W one.0 below.2.1 in
+        let ends = only_way c.frames (top_level mode) fit.rooted.forest x page r page (fit.rooted.roots q x on.4).unlinked (fit.rooted.roots pid r root).unlinked below.0 0 r way refl in
         other_root q x on.3 on.4 ends.1)
   ]
 
@@ -81,25 +89,28 @@ module _ (c : Picture) (pid r : ℕ) (fit : IsFit c) (root : c.root pid ≡ Some
         empty = λ i h. elim (cases_bool (is_pointer (entry_at c.frames r i))) [
           | inl pointer ↦ absurd (no_pointer i (frame_of (entry_at c.frames r i)) (record { table = is_root.table; index = h; pointer = pointer; target = refl }))
           | inr stop ↦ (
-              let p = page_at i 0 0 in
-              let at : index_of p 2 ≡ i = field_two i 0 0 h (omega arith) (omega arith) in
-              let last : last_table c.frames p 2 r ≡ (2, r) = last_table-stop c.frames p 1 r (ap (λ j. is_pointer (entry_at c.frames r j)) at ∙ stop) in
-              let missing : missing_of c.frames 2 r p ≡ 2 = missing_of-is c.frames 2 r p ∙ ap (λ x. x.0) last in
-              ap (entry_at c.frames r) (sym at) ∙ sym (last_entry-is c.frames 2 r p ∙ ap (λ x. entry_at c.frames x.1 (index_of p x.0)) last)
-              ∙ is_root.bare p (λ none. (omega (arith, missing, none))))
+              let p = i * 512 ^ top_level mode in
+              let high = (sizes mode).levels.0 in
+              let at : index_of p (top_level mode) ≡ i = root_field (top_level mode) i h in
+              let last : last_table c.frames p (top_level mode) r ≡ (top_level mode, r) =
+              stops_at c.frames p (top_level mode) r (omega (arith, high)) (ap (λ j. is_pointer (entry_at c.frames r j)) at ∙ stop) in
+              let missing : missing_of c.frames (top_level mode) r p ≡ top_level mode = missing_of-is c.frames (top_level mode) r p ∙ ap (λ x. x.0) last in
+              ap (entry_at c.frames r) (sym at) ∙ sym (last_entry-is c.frames (top_level mode) r p ∙ ap (λ x. entry_at c.frames x.1 (index_of p x.0)) last)
+              ∙ is_root.bare p (λ none. (omega (arith, missing, none, high))))
         ];
       }
 
 -- the way back to the tables as they were
-way_back : (old new : FrameTable) → ((a i b : ℕ) → Points new a i b → Points old a i b) → (r page d n : ℕ) → Way new 2 r page d n → Way old 2 r page d n
-way_back old new back r page d n way = way_forth new old back 2 r page d n way
+module _ (mode : ℕ) where
+  way_back : (old new : FrameTable) → ((a i b : ℕ) → Points new a i b → Points old a i b) → (r page d n : ℕ) → Way new (top_level mode) r page d n → Way old (top_level mode) r page d n
+  way_back old new back r page d n way = way_forth new old back (top_level mode) r page d n way
 
 -- frames of two roles are two
 other_frame : (t : FrameTable) (n m : ℕ) (r s : Role) → role_of t n ≡ r → r ≢ s → role_of t m ≡ s → m ≢ n
 other_frame t n m r s here ne there e = ne (sym here ∙ ap (role_of t) (sym e) ∙ there)
 
 -- a process went whose root had no entry
-module _ (old new : Picture) (pid r : ℕ) (fit : IsFit old) (exits : Exits old new pid r) where
+module _ {mode : ℕ} (old new : Picture mode) (pid r : ℕ) (fit : IsFit old) (exits : Exits old new pid r) where
   bytes_kept : (n : ℕ) (kind : Role) → role_of old.frames n ≡ kind → Table ≢ kind → bytes_of new.frames n ≡ bytes_of old.frames n
   bytes_kept n kind is ne = exits.frames.bytes n (other_frame old.frames r n Table kind exits.spare.table.role ne is)
 
@@ -112,7 +123,7 @@ module _ (old new : Picture) (pid r : ℕ) (fit : IsFit old) (exits : Exits old 
     | inl none ↦ view-none new q page (exits.at q page ne ∙ none) ∙ sym (view-none old q page none)
     | inr some ↦ (
         let user = ((fit.granting.user q).user_pages page some).1 in
-        let h : IsPage 2 page = omega (arith, user) in
+        let h : IsPage (top_level mode) page = omega (arith, user, user_pages_fit mode) in
         view_seated old new q page (exits.at q page ne) (ap seat (entries_left old new pid r fit exits q page))
         (λ z is. seat_bytes z (fit.counted.1.named q page z h is)))
   ]
@@ -133,34 +144,35 @@ module _ (old new : Picture) (pid r : ℕ) (fit : IsFit old) (exits : Exits old 
   }
 
 -- what exit leaves
-pub record IsEnded (old new : Picture) (pid : ℕ) : Type 0 where
-  pub fit : IsFit new
-  pub removed : RemovesProcess old new pid
-  pub others : KeepsEntriesOfOthers old new pid
-  pub tables : FreesTables old new pid
-  pub slots : LosesSlots old new pid 0 (2 ^ 26)
-  pub copies : TakesNoCopy old.frames new.frames
-  pub files : KeepsNamed (without_maps old.at pid 0 (2 ^ 26)) old new
+module _ {mode : ℕ} where
+  pub record IsEnded (old new : Picture mode) (pid : ℕ) : Type 0 where
+    pub fit : IsFit new
+    pub removed : RemovesProcess old new pid
+    pub others : KeepsEntriesOfOthers old new pid
+    pub tables : FreesTables old new pid
+    pub slots : LosesSlots old new pid 0 (user_end mode)
+    pub copies : TakesNoCopy old.frames new.frames
+    pub files : KeepsNamed (without_maps old.at pid 0 (user_end mode)) old new
 
 -- All pages of a process were cleared, and then it was removed.
-module _ (first old new : Picture) (pid r : ℕ) (begun : IsFit first) (fit : IsFit old) (row : RemapsRow first old pid 0 (2 ^ 26) (first.at pid))
-    (beside : KeepsEntriesOfOthers first old pid) (returned : ReturnsTables first old pid) (bare : IsWithoutTables old pid 0 (2 ^ 26))
-    (slots : LosesSlots first old pid 0 (2 ^ 26)) (keeps : KeepsNamed (without_maps first.at pid 0 (2 ^ 26)) first old) (exits : Exits old new pid r) where
+module _ {mode : ℕ} (first old new : Picture mode) (pid r : ℕ) (begun : IsFit first) (fit : IsFit old) (row : RemapsRow first old pid 0 (user_end mode) (first.at pid))
+    (beside : KeepsEntriesOfOthers first old pid) (returned : ReturnsTables first old pid) (bare : IsWithoutTables old pid 0 (user_end mode))
+    (slots : LosesSlots first old pid 0 (user_end mode)) (keeps : KeepsNamed (without_maps first.at pid 0 (user_end mode)) first old) (exits : Exits old new pid r) where
   -- what others name is named still
   named_left : (p : ObjectPage) → old.place (Object p) ≢ Home → is_named new.at p.object p.page ≡ true
-  named_left p away = elim (cases_Bool (is_named (without_maps first.at pid 0 (2 ^ 26)) p.object p.page)) [
+  named_left p away = elim (cases_Bool (is_named (without_maps first.at pid 0 (user_end mode)) p.object p.page)) [
     | inr none ↦ absurd (away (keeps.gone p none))
-    | inl is ↦ named-imp (without_maps first.at pid 0 (2 ^ 26)) new.at p.object p.page (λ q k here. elim (cases_eq q pid) [
+    | inl is ↦ named-imp (without_maps first.at pid 0 (user_end mode)) new.at p.object p.page (λ q k here. elim (cases_eq q pid) [
       | inr ne ↦ ap (λ a. names a p.object p.page) (exits.at q k ne ∙ row.others_at q k ne) ∙ (let was : names (first.at q k) p.object p.page ≡ true = rw (ne_eqb q pid ne) at here in was)
       | inl e ↦ absurd (none_beyond p q k e here)
     ]) is
   ] where
-    none_beyond : (p : ObjectPage) (q k : ℕ) → q ≡ pid → names (without_maps first.at pid 0 (2 ^ 26) q k) p.object p.page ≡ true → ⊥
-    none_beyond p q k e here = elim (cases_Bool (in_row 0 (2 ^ 26) k)) [
+    none_beyond : (p : ObjectPage) (q k : ℕ) → q ≡ pid → names (without_maps first.at pid 0 (user_end mode) q k) p.object p.page ≡ true → ⊥
+    none_beyond p q k e here = elim (cases_Bool (in_row 0 (user_end mode) k)) [
       | inl inside ↦ (let bad : names None p.object p.page ≡ true = rw (eq-eqb q pid e, inside) at here in false≢true bad)
       | inr out ↦ (
           let was : names (first.at pid k) p.object p.page ≡ true = rw (eq-eqb q pid e, out) at here in
-          let high = row_out 0 (2 ^ 26) k out in
+          let high = row_out 0 (user_end mode) k out in
           unmapped_named p (first.at pid k) was (λ some. (let low = ((begun.granting.user pid).user_pages k some).1 in elim high [ inl below ↦ omega (arith, below) | inr past ↦ omega (arith, past, low) ])))
     ] where
       unmapped_named : (p : ObjectPage) (a : Option Attr) → names a p.object p.page ≡ true → (IsSome a → ⊥) → ⊥
@@ -171,7 +183,7 @@ module _ (first old new : Picture) (pid r : ℕ) (begun : IsFit first) (fit : Is
   was_root = sym (row.root pid) ∙ exits.lived
 
   -- a table on the way from its root to one of its pages is no table any more
-  below_gone : (page d n : ℕ) → Way first.frames 2 r page (suc d) n → IsTable old.frames n → ⊥
+  below_gone : (page d n : ℕ) → Way first.frames (top_level mode) r page (suc d) n → IsTable old.frames n → ⊥
   below_gone page d n way table = elim (used_apart old pid r fit exits.lived bare n (bare n table)) [
     | inl is ↦ (begun.rooted.roots is.0 n (sym (row.root is.0) ∙ is.1)).unlinked way.0 _ way.2
     | inr on ↦ (
@@ -179,8 +191,8 @@ module _ (first old new : Picture) (pid r : ℕ) (begun : IsFit first) (fit : Is
         let x = on.1 in
         let below = on.5 in
         let was : first.root q ≡ Some x = sym (row.root q) ∙ on.4 in
-        let there = way_back first.frames old.frames returned.pointers x on.2 (suc below.0) n below.2 in
-        let ends = only_way first.frames 2 begun.rooted.forest x on.2 r page (begun.rooted.roots q x was).unlinked (begun.rooted.roots pid r was_root).unlinked (suc below.0) (suc d) n there way in
+        let there = way_back mode first.frames old.frames returned.pointers x on.2 (suc below.0) n below.2 in
+        let ends = only_way first.frames (top_level mode) begun.rooted.forest x on.2 r page (begun.rooted.roots q x was).unlinked (begun.rooted.roots pid r was_root).unlinked (suc below.0) (suc d) n there way in
         other_root old pid r fit exits.lived bare q x on.3 on.4 ends.1)
   ]
 
@@ -193,7 +205,7 @@ module _ (first old new : Picture) (pid r : ℕ) (begun : IsFit first) (fit : Is
     | inr ne ↦ role_same n ne ∙ e
   ]
 
-  own_freed : (page d n : ℕ) → Way first.frames 2 r page d n → role_of new.frames n ≡ Free
+  own_freed : (page d n : ℕ) → Way first.frames (top_level mode) r page d n → role_of new.frames n ≡ Free
   own_freed page zero n way = ap (role_of new.frames) way ∙ exits.free
   own_freed page (suc d) n way = free_kept n (elim (returned.tables n (begun.rooted.forest.onto_tables way.0 _ n way.2)) [
     | inl still ↦ absurd (below_gone page d n way still)
@@ -214,7 +226,7 @@ module _ (first old new : Picture) (pid r : ℕ) (begun : IsFit first) (fit : Is
         others = λ q page h ne. entries_left old new pid r fit exits q page ∙ beside q page h ne;
         tables = record {
           own = λ x page n e on. (
-              let W : ℕ → Type 0 = λ y. Way first.frames 2 y page on.0 n in
+              let W : ℕ → Type 0 = λ y. Way first.frames (top_level mode) y page on.0 n in
               own_freed page on.0 n (subst W (one_some x r (sym e ∙ was_root)) on.2));
           others = λ n table. elim (returned.tables n table) [
             | inr back ↦ (let under = back.1.3 in inr (back.1.0, back.1.1, back.1.2, (suc under.0, (omega (arith, under.1)), under.2)))
@@ -253,7 +265,7 @@ module _ (first old new : Picture) (pid r : ℕ) (begun : IsFit first) (fit : Is
         };
       }
 
-module _ {D E : Type 0} (h : Ghosts E) where
+module _ {M : Type 0} {m : Levels.Ghosts M} {D E : Type 0} (h : Ghosts E) where
   -- swap that was ready is, after a process went
-  pub ready_ended : (old new : Core D E) (pid low high : ℕ) → KeepsDevices old new → LosesSlots (picture_of old) (picture_of new) pid low high → IsReady h old.swap → IsReady h new.swap
+  pub ready_ended : (old new : Core D E M m) (pid low high : ℕ) → KeepsDevices old new → LosesSlots (picture_of old) (picture_of new) pid low high → IsReady h old.swap → IsReady h new.swap
   ready_ended old new pid low high devices slots ready = ready_released h old.swap old.swap new.swap refl devices.pages slots.total ready

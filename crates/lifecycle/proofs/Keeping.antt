@@ -14,18 +14,18 @@ use Rattle.paging.specs.Shows.{KeepsFiles}
 use Rattle.lifecycle.specs.Changes.{KeepsProcesses, TakesNoCopy}
 
 -- whether a process lives
-pub live_same : (old new : Picture) (pid : ℕ) → new.root pid ≡ old.root pid → is_live new pid ≡ is_live old pid
+pub live_same : {mode : ℕ} (old new : Picture mode) (pid : ℕ) → new.root pid ≡ old.root pid → is_live new pid ≡ is_live old pid
 live_same old new pid root = ap is_some root
 
 pub dead_root : (root : Option ℕ) → is_some root ≡ false → root ≡ None
 dead_root None dead = refl
 dead_root (Some r) dead = absurd (false≢true (sym dead))
 
-pub pages_kept : (old new : Picture) → KeepsPages old new → KeepsProcesses old new
+pub pages_kept : {mode : ℕ} (old new : Picture mode) → KeepsPages old new → KeepsProcesses old new
 pages_kept old new pages = record { live = λ pid. live_same old new pid (pages.root pid); views = pages.views }
 
 -- the files after one step and another
-pub files_then : (a b c : Picture) → KeepsFiles a b → KeepsFiles b c → KeepsFiles a c
+pub files_then : {mode : ℕ} (a b c : Picture mode) → KeepsFiles a b → KeepsFiles b c → KeepsFiles a c
 files_then a b c p q = record {
   held = λ f. elim (q.held f) [
     | inl e ↦ elim (p.held f) [
@@ -39,14 +39,14 @@ files_then a b c p q = record {
 }
 
 -- a frame that is given up is no process's own
-pub no_copy_freed : (old new : Picture) (keep : Option FrameNo) → Frees old new keep → TakesNoCopy old.frames new.frames
+pub no_copy_freed : {mode : ℕ} (old new : Picture mode) (keep : Option FrameNo) → Frees old new keep → TakesNoCopy old.frames new.frames
 no_copy_freed old new keep frees n is = elim (frees.roles n) [
   | inl same ↦ sym same ∙ is
   | inr freed ↦ (let bad : Free ≡ Private = sym freed.0 ∙ is in (cc))
 ]
 
 -- nothing is given up where frames, entries and places are the same
-pub gives_alike : (old new : Picture) → new.frames ≡ old.frames → ((q page : ℕ) → entry new q page ≡ entry old q page) → ((p : PageKey) → new.place p ≡ old.place p)
+pub gives_alike : {mode : ℕ} (old new : Picture mode) → new.frames ≡ old.frames → ((q page : ℕ) → entry new q page ≡ entry old q page) → ((p : PageKey) → new.place p ≡ old.place p)
     → GivesForTables old new None
 gives_alike old new frames entries places = record {
   count = ap frame_count frames;

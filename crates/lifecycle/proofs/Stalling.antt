@@ -1,4 +1,5 @@
 -- A fork that stalls: what it took of memory is given back.
+use Rattle.vm_types.specs.Limits.{top_level}
 use Rattle.std.proofs.Common.{◌≡◌, ◌≢◌, ℕ, zero, suc, inl, inr, ◌⊎◌, ◌+◌, Option, Some, None, refl, sym, ap, ◌∙◌, subst, arith}
 use Rattle.std.proofs.lemmas.Bool.{cases_eq}
 use Rattle.vm_types.specs.declared.object.PageKey.{PageKey}
@@ -20,7 +21,7 @@ use Rattle.copy_on_write.specs.Steps.{HasCopy, LacksTableForCopy}
 use Rattle.lifecycle.specs.Changes.{FreesTables, StallsToFork}
 
 -- no frame was to be had for the root
-pub stalls_first : (old new : Picture) (parent child : ℕ) → old.root child ≡ None → IsFit new → Frees old new None
+pub stalls_first : {mode : ℕ} (old new : Picture mode) (parent child : ℕ) → old.root child ≡ None → IsFit new → Frees old new None
     → (tried : Option ℕ) × GivesForTables old new tried → KeepsRoles old new → IsFull new.frames → StallsToFork old new parent child
 stalls_first old new parent child dead fit frees gives still full =
     let was_table : (n : ℕ) → IsTable new.frames n → IsTable old.frames n = λ n table. (
@@ -48,8 +49,8 @@ private_or Private = inl refl
 private_or Cache = inr (λ e. (cc))
 
 -- A process without entries went, and its tables with it.
-module _ (old new : Picture) (pid : ℕ) (fit : IsFit old) (fit' : IsFit new) (sound : IsSound old.frames) (sound' : IsSound new.frames) (tables : FreesTables old new pid)
-    (others : KeepsEntriesOfOthers old new pid) (bare : (page : ℕ) → IsPage 2 page → entry old pid page ≡ 0) (place : (p : PageKey) → new.place p ≡ old.place p)
+module _ {mode : ℕ} (old new : Picture mode) (pid : ℕ) (fit : IsFit old) (fit' : IsFit new) (sound : IsSound old.frames) (sound' : IsSound new.frames) (tables : FreesTables old new pid)
+    (others : KeepsEntriesOfOthers old new pid) (bare : (page : ℕ) → IsPage (top_level mode) page → entry old pid page ≡ 0) (place : (p : PageKey) → new.place p ≡ old.place p)
     (room : KeepsRoom old new) where
   -- a frame of own copies has a sharer, which is another process
   private_left : (n : ℕ) → role_of old.frames n ≡ Private → role_of new.frames n ≡ Private
@@ -57,7 +58,7 @@ module _ (old new : Picture) (pid : ℕ) (fit : IsFit old) (fit' : IsFit new) (s
     | inl private ↦ private
     | inr other ↦ absurd (
         let page = page_in old fit.counted.0 (InFrame n) in
-        let h : IsPage 2 page = fit.counted.1.pages (InFrame n) is in
+        let h : IsPage (top_level mode) page = fit.counted.1.pages (InFrame n) is in
         let none : holders_at (entry old) page (InFrame n) ≡ 0 = holders_none (entry old) page (InFrame n) (λ q there. elim (cases_eq q pid) [
           | inl e ↦ (
               let gone : seat (entry old q page) ≡ None = ap seat (ap (λ x. entry old x page) e ∙ bare page h) ∙ seat-none in
@@ -101,7 +102,7 @@ module _ (old new : Picture) (pid : ℕ) (fit : IsFit old) (fit' : IsFit new) (s
   ]
 
   -- Its tables were made since memory was as it was first, to no avail.
-  module _ (first : Picture) (parent : ℕ)
+  module _ (first : Picture mode) (parent : ℕ)
       (linked : (n : ℕ) → IsTable old.frames n
       → IsTable first.frames n ⊎ ((old.root pid ≡ Some n) ⊎ ((page : ℕ) × HasCopy first parent page × IsTableOnWay old pid page n))) where
     table_first : (n : ℕ) → IsTable new.frames n → IsTable first.frames n

@@ -1,4 +1,6 @@
 -- A process comes.
+use Rattle.vm_types.proofs.Modes.{user_pages_fit}
+use Rattle.vm_types.specs.Limits.{top_level}
 use Rattle.std.proofs.Common.{◌≡◌, ◌≢◌, ℕ, inl, inr, None, sym, ap, ◌∙◌, subst, arith}
 use Rattle.std.specs.Prelude.{is_some}
 use Rattle.std.proofs.lemmas.Bool.{cases_eq}
@@ -26,8 +28,8 @@ use Rattle.lifecycle.specs.Changes.{AddsProcess, TakesRoot, TakesNoCopy}
 use Rattle.lifecycle.proofs.Keeping.{live_same, files_then, no_copy_freed, gives_alike}
 
 -- A frame was obtained and taken for a table, and that is the root of a process that was made.
-module _ (old mid new : Picture) (pid n : ℕ) (obtains : ObtainsTable old mid n) (spawns : Spawns mid new pid n) where
-  abbrev found : Picture
+module _ {mode : ℕ} (old mid new : Picture mode) (pid n : ℕ) (obtains : ObtainsTable old mid n) (spawns : Spawns mid new pid n) where
+  abbrev found : Picture mode
   found = obtains.found
 
   fit : IsFit found
@@ -51,7 +53,7 @@ module _ (old mid new : Picture) (pid n : ℕ) (obtains : ObtainsTable old mid n
 
   entries_same : (q p : ℕ) → q ≢ pid → entry new q p ≡ entry found q p
   entries_same q p ne = entry-same found new q p (root_same q ne) (λ x e.
-      ap (λ t. page_entry t 2 x p) spawns.frames ∙ obtains.adds.entries x p (fit.rooted.roots q x e))
+      ap (λ t. page_entry t (top_level mode) x p) spawns.frames ∙ obtains.adds.entries x p (fit.rooted.roots q x e))
 
   others_seen : (q p : ℕ) → q ≢ pid → view new q p ≡ view old q p
   others_seen q p ne =
@@ -63,7 +65,7 @@ module _ (old mid new : Picture) (pid n : ℕ) (obtains : ObtainsTable old mid n
         | inl none ↦ view-none new q p (at ∙ none) ∙ sym (view-none found q p none)
         | inr some ↦ (
             let user = ((fit.granting.user q).user_pages p some).1 in
-            let h : IsPage 2 p = omega (arith, user) in
+            let h : IsPage (top_level mode) p = omega (arith, user, user_pages_fit mode) in
             view_seated found new q p at (ap seat (entries_same q p ne)) (λ z is. seat_bytes z (fit.counted.1.named q p z h is)))
       ]
 
@@ -87,7 +89,7 @@ module _ (old mid new : Picture) (pid n : ℕ) (obtains : ObtainsTable old mid n
     roles = λ m ne. ap (λ t. role_of t m) spawns.frames ∙ only m ne;
     frames = ap frame_count spawns.frames ∙ obtains.adds.takes.others.frames ∙ obtains.frees.count;
     missing = λ q r page e. (
-        ap (λ t. missing_of t 2 r page) spawns.frames
+        ap (λ t. missing_of t (top_level mode) r page) spawns.frames
         ∙ obtains.adds.missing r page (fit.rooted.roots q r (obtains.frees.pages.root q ∙ e)) ∙ obtains.frees.missing q r page e);
   }
 
@@ -97,7 +99,7 @@ module _ (old mid new : Picture) (pid n : ℕ) (obtains : ObtainsTable old mid n
     | inl is ↦ (
         let P : ℕ → Type 0 = λ x. entry new x p ≡ entry mid x p in
         subst P (sym is) (bare_started old mid new pid n obtains spawns p ∙ sym (entry-dead mid pid p spawns.was_free)))
-    | inr ne ↦ entry-same mid new q p (spawns.others q ne) (λ x e. ap (λ t. page_entry t 2 x p) spawns.frames)
+    | inr ne ↦ entry-same mid new q p (spawns.others q ne) (λ x e. ap (λ t. page_entry t (top_level mode) x p) spawns.frames)
   ]
 
   pub root_given : GivesForTables old mid None → GivesForTables old new None

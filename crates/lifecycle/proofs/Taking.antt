@@ -1,4 +1,5 @@
 -- What a process that comes takes of memory: its tables, and what was given up for them.
+use Rattle.vm_types.specs.Limits.{user_end, top_level}
 use Rattle.std.proofs.Common.{◌≡◌, ◌≢◌, ℕ, suc, inl, inr, ◌⊎◌, ◌^◌, true, false, ◌&&◌, Some, None, refl, sym, ap, ◌∙◌, subst, arith}
 use Rattle.std.proofs.lemmas.Bool.{cases_eq, cases_Bool, false≢true}
 use Rattle.vm_types.specs.declared.object.PageKey.{PageKey}
@@ -43,7 +44,7 @@ aged_none g e e' none (Left at gone leaves) = elim leaves [
 ]
 
 -- Before any page is shared. A process was made with table n for its root, mapped as its parent is, and then tables were linked.
-module _ (old spawned mapped mid : Picture) (parent child n : ℕ) (gives : GivesForTables old spawned None) (takes : TakesRoot old spawned child n)
+module _ {mode : ℕ} (old spawned mapped mid : Picture mode) (parent child n : ℕ) (gives : GivesForTables old spawned None) (takes : TakesRoot old spawned child n)
     (frames : mapped.frames ≡ spawned.frames) (places : (p : PageKey) → mapped.place p ≡ spawned.place p) (maps : MapsAlike spawned mapped parent child) (root : (q : ℕ) → mid.root q ≡ mapped.root q) (links : LinksCopies mapped mid parent child) where
   pub gives_mapped : GivesForTables old mapped None
   gives_mapped = gives_then old spawned mapped None gives (gives_alike spawned mapped frames maps.entries places)
@@ -75,7 +76,7 @@ module _ (old spawned mapped mid : Picture) (parent child n : ℕ) (gives : Give
   ]
 
 -- Then the child got its shares, and no frame came to another use for that.
-module _ (old mid new : Picture) (parent child : ℕ) (gives : GivesForTables old mid None) (shares : SharesRow mid new parent child 16 (2 ^ 26)) where
+module _ {mode : ℕ} (old mid new : Picture mode) (parent child : ℕ) (gives : GivesForTables old mid None) (shares : SharesRow mid new parent child 16 (user_end mode)) where
   full_shared : IsFull mid.frames → IsFull new.frames
   full_shared full n inside free = full n (let count = shares.room.frames in omega (arith, inside, count)) (sym (shares.roles n) ∙ free)
 
@@ -112,7 +113,7 @@ module _ (old mid new : Picture) (parent child : ℕ) (gives : GivesForTables ol
       let below = on.2 in (
         on.0,
         shares.beside.root child ∙ on.1,
-        (below.0, below.1, way_forth mid.frames new.frames shares.pointers 2 on.0 page (suc below.0) n below.2),
+        (below.0, below.1, way_forth mid.frames new.frames shares.pointers (top_level mode) on.0 page (suc below.0) n below.2),
       )
 
   pub tables_taken : ((n : ℕ) → IsTable mid.frames n

@@ -20,105 +20,117 @@ use Rattle.copy_on_write.specs.Steps.{HasCopy, LacksTableForCopy}
 use Rattle.copy_on_write.specs.Shares.{lowered_entry, given_entry}
 
 -- a process came, with these pages, and every other process is as it was
-pub record AddsProcess (old new : Picture) (pid : ℕ) (space : ℕ → Option View) : Type 0 where
-  pub lives : is_live new pid ≡ true
-  pub pages : (page : ℕ) → view new pid page ≡ space page
-  pub others_live : (q : ℕ) → q ≢ pid → is_live new q ≡ is_live old q
-  pub others : (q page : ℕ) → q ≢ pid → view new q page ≡ view old q page
+module _ {mode : ℕ} where
+  pub record AddsProcess (old new : Picture mode) (pid : ℕ) (space : ℕ → Option View) : Type 0 where
+    pub lives : is_live new pid ≡ true
+    pub pages : (page : ℕ) → view new pid page ≡ space page
+    pub others_live : (q : ℕ) → q ≢ pid → is_live new q ≡ is_live old q
+    pub others : (q page : ℕ) → q ≢ pid → view new q page ≡ view old q page
 
 -- a process went, and every other process is as it was
-pub record RemovesProcess (old new : Picture) (pid : ℕ) : Type 0 where
-  pub gone : is_live new pid ≡ false
-  pub pages : (page : ℕ) → view new pid page ≡ None
-  pub others_live : (q : ℕ) → q ≢ pid → is_live new q ≡ is_live old q
-  pub others : (q page : ℕ) → q ≢ pid → view new q page ≡ view old q page
+module _ {mode : ℕ} where
+  pub record RemovesProcess (old new : Picture mode) (pid : ℕ) : Type 0 where
+    pub gone : is_live new pid ≡ false
+    pub pages : (page : ℕ) → view new pid page ≡ None
+    pub others_live : (q : ℕ) → q ≢ pid → is_live new q ≡ is_live old q
+    pub others : (q page : ℕ) → q ≢ pid → view new q page ≡ view old q page
 
 -- every process is as it was
-pub record KeepsProcesses (old new : Picture) : Type 0 where
-  pub live : (pid : ℕ) → is_live new pid ≡ is_live old pid
-  pub views : (pid page : ℕ) → view new pid page ≡ view old pid page
+module _ {mode : ℕ} where
+  pub record KeepsProcesses (old new : Picture mode) : Type 0 where
+    pub live : (pid : ℕ) → is_live new pid ≡ is_live old pid
+    pub views : (pid page : ℕ) → view new pid page ≡ view old pid page
 
 -- A frame that was free, or that held a page of a process or of a file, is a table now, the root of that process. Every other
 -- frame has the use that it had. No table came or went on the way to a page of another process.
-pub record TakesRoot (old new : Picture) (pid n : ℕ) : Type 0 where
-  pub was_free : (role_of old.frames n ≡ Free) ⊎ (is_data (role_of old.frames n) ≡ true)
-  pub table : role_of new.frames n ≡ Table
-  pub root : new.root pid ≡ Some n
-  pub others : (q : ℕ) → q ≢ pid → new.root q ≡ old.root q
-  pub roles : (m : ℕ) → m ≢ n → role_of new.frames m ≡ role_of old.frames m
-  pub frames : frame_count new.frames ≡ frame_count old.frames
-  pub missing : (q r page : ℕ) → old.root q ≡ Some r → missing_of new.frames top_level r page ≡ missing_of old.frames top_level r page
+module _ {mode : ℕ} where
+  pub record TakesRoot (old new : Picture mode) (pid n : ℕ) : Type 0 where
+    pub was_free : (role_of old.frames n ≡ Free) ⊎ (is_data (role_of old.frames n) ≡ true)
+    pub table : role_of new.frames n ≡ Table
+    pub root : new.root pid ≡ Some n
+    pub others : (q : ℕ) → q ≢ pid → new.root q ≡ old.root q
+    pub roles : (m : ℕ) → m ≢ n → role_of new.frames m ≡ role_of old.frames m
+    pub frames : frame_count new.frames ≡ frame_count old.frames
+    pub missing : (q r page : ℕ) → old.root q ≡ Some r → missing_of new.frames (top_level mode) r page ≡ missing_of old.frames (top_level mode) r page
 
 -- no frame came to hold a page of a process's own
 abbrev pub TakesNoCopy : FrameTable → FrameTable → Type 0
 TakesNoCopy old new = (n : ℕ) → role_of new n ≡ Private → role_of old n ≡ Private
 
 -- The tables of a process are free, its root and those below it, and every other table stays one. No free frame is used.
-pub record FreesTables (old new : Picture) (pid : ℕ) : Type 0 where
-  pub own : (r page n : ℕ) → old.root pid ≡ Some r → IsOnWay old.frames top_level r page n → role_of new.frames n ≡ Free
-  pub others : (n : ℕ) → IsTable old.frames n
-      → IsTable new.frames n ⊎ ((r : ℕ) × (page : ℕ) × (old.root pid ≡ Some r) × IsOnWay old.frames top_level r page n)
-  pub free : (n : ℕ) → role_of old.frames n ≡ Free → role_of new.frames n ≡ Free
+module _ {mode : ℕ} where
+  pub record FreesTables (old new : Picture mode) (pid : ℕ) : Type 0 where
+    pub own : (r page n : ℕ) → old.root pid ≡ Some r → IsOnWay old.frames (top_level mode) r page n → role_of new.frames n ≡ Free
+    pub others : (n : ℕ) → IsTable old.frames n
+        → IsTable new.frames n ⊎ ((r : ℕ) × (page : ℕ) × (old.root pid ≡ Some r) × IsOnWay old.frames (top_level mode) r page n)
+    pub free : (n : ℕ) → role_of old.frames n ≡ Free → role_of new.frames n ≡ Free
 
 -- A process without a page has those of another now, and none of them has an entry.
-pub record MapsAlike (old new : Picture) (parent child : ℕ) : Type 0 where
-  pub root : (q : ℕ) → new.root q ≡ old.root q
-  pub same : (page : ℕ) → new.at child page ≡ new.at parent page
-  pub bare : (page : ℕ) → IsPage top_level page → entry new child page ≡ 0
-  pub entries : (q page : ℕ) → entry new q page ≡ entry old q page
-  pub views : (q page : ℕ) → q ≢ child → view new q page ≡ view old q page
-  pub files : KeepsFiles old new
+module _ {mode : ℕ} where
+  pub record MapsAlike (old new : Picture mode) (parent child : ℕ) : Type 0 where
+    pub root : (q : ℕ) → new.root q ≡ old.root q
+    pub same : (page : ℕ) → new.at child page ≡ new.at parent page
+    pub bare : (page : ℕ) → IsPage (top_level mode) page → entry new child page ≡ 0
+    pub entries : (q page : ℕ) → entry new q page ≡ entry old q page
+    pub views : (q page : ℕ) → q ≢ child → view new q page ≡ view old q page
+    pub files : KeepsFiles old new
 
 -- Each copy of the parent's own, in a frame or in a slot, is the child's too, by the same entry, and no other page of the child
 -- has one. No leaf over such a frame lets stores through.
-pub record SharesCopies (c : Picture) (parent child : ℕ) : Type 0 where
-  pub shared : (page : ℕ) → IsPage top_level page → seat (entry c parent page) ≢ None → entry c child page ≡ entry c parent page
-  pub bare : (page : ℕ) → IsPage top_level page → seat (entry c parent page) ≡ None → entry c child page ≡ 0
-  pub unwritten : (page : ℕ) → IsPage top_level page → is_private (entry c parent page) ≡ true → is_valid (entry c parent page) ≡ true → can_write (entry c parent page) ≡ false
+module _ {mode : ℕ} where
+  pub record SharesCopies (c : Picture mode) (parent child : ℕ) : Type 0 where
+    pub shared : (page : ℕ) → IsPage (top_level mode) page → seat (entry c parent page) ≢ None → entry c child page ≡ entry c parent page
+    pub bare : (page : ℕ) → IsPage (top_level mode) page → seat (entry c parent page) ≡ None → entry c child page ≡ 0
+    pub unwritten : (page : ℕ) → IsPage (top_level mode) page → is_private (entry c parent page) ≡ true → is_valid (entry c parent page) ≡ true → can_write (entry c parent page) ≡ false
 
 -- Until the pages were shared entries lost A alone, or their frames, which were given up for tables; none did unless no frame is
 -- free now. Then the child's were given from the parent's, which have no W since, and those of other processes stayed.
-pub record ForksEntries (old new : Picture) (parent child : ℕ) : Type 0 where
-  pub aged : ℕ → ℕ → ℕ
-  pub ages : (q page : ℕ) → IsPage top_level page → Ages (IsGiven old new None) (entry old q page) (aged q page)
-  pub needed : IsFull new.frames ⊎ ((q page : ℕ) → IsPage top_level page → aged q page ≡ entry old q page)
-  pub lowered : (page : ℕ) → IsPage top_level page → entry new parent page ≡ lowered_entry (aged parent page)
-  pub given : (page : ℕ) → IsPage top_level page → entry new child page ≡ given_entry (aged parent page)
-  pub others : (q page : ℕ) → q ≢ parent → q ≢ child → IsPage top_level page → entry new q page ≡ aged q page
+module _ {mode : ℕ} where
+  pub record ForksEntries (old new : Picture mode) (parent child : ℕ) : Type 0 where
+    pub aged : ℕ → ℕ → ℕ
+    pub ages : (q page : ℕ) → IsPage (top_level mode) page → Ages (IsGiven old new None) (entry old q page) (aged q page)
+    pub needed : IsFull new.frames ⊎ ((q page : ℕ) → IsPage (top_level mode) page → aged q page ≡ entry old q page)
+    pub lowered : (page : ℕ) → IsPage (top_level mode) page → entry new parent page ≡ lowered_entry (aged parent page)
+    pub given : (page : ℕ) → IsPage (top_level mode) page → entry new child page ≡ given_entry (aged parent page)
+    pub others : (q page : ℕ) → q ≢ parent → q ≢ child → IsPage (top_level mode) page → entry new q page ≡ aged q page
 
 -- Frames became tables of the child: its root, or one on the way to a page of which the parent has a copy of its own. Some were
 -- given up for that, none unless no frame is free now. Of other frames none has another use.
-pub record TakesTables (old new : Picture) (parent child : ℕ) : Type 0 where
-  pub roles : (n : ℕ) → (role_of new.frames n ≡ role_of old.frames n)
-      ⊎ ((role_of new.frames n ≡ Table) × ((role_of old.frames n ≡ Free) ⊎ (is_data (role_of old.frames n) ≡ true)))
-  pub linked : (n : ℕ) → IsTable new.frames n
-      → IsTable old.frames n ⊎ ((new.root child ≡ Some n) ⊎ ((page : ℕ) × HasCopy old parent page × IsTableOnWay new child page n))
-  pub needed : IsFull new.frames ⊎ ((n : ℕ) → is_data (role_of old.frames n) ≡ true → role_of new.frames n ≡ role_of old.frames n)
+module _ {mode : ℕ} where
+  pub record TakesTables (old new : Picture mode) (parent child : ℕ) : Type 0 where
+    pub roles : (n : ℕ) → (role_of new.frames n ≡ role_of old.frames n)
+        ⊎ ((role_of new.frames n ≡ Table) × ((role_of old.frames n ≡ Free) ⊎ (is_data (role_of old.frames n) ≡ true)))
+    pub linked : (n : ℕ) → IsTable new.frames n
+        → IsTable old.frames n ⊎ ((new.root child ≡ Some n) ⊎ ((page : ℕ) × HasCopy old parent page × IsTableOnWay new child page n))
+    pub needed : IsFull new.frames ⊎ ((n : ℕ) → is_data (role_of old.frames n) ≡ true → role_of new.frames n ≡ role_of old.frames n)
 
 -- Why and how a fork stalled, by memory as it was when a frame was refused: no frame was free, and the child had no root or lacked a
 -- table on the way to a page of which the parent has a copy of its own. Until then frames became the child's tables alone, and some
 -- were given up for that. Since then those tables came to be free, and nothing else changed.
-pub record StallsToFork (old new : Picture) (parent child : ℕ) : Type 0 where
-  pub asked : Picture
-  pub fit : IsFit asked
-  pub tried : Option ℕ
-  pub gives : GivesForTables old asked tried
-  pub linked : (n : ℕ) → IsTable asked.frames n
-      → IsTable old.frames n ⊎ ((asked.root child ≡ Some n) ⊎ ((page : ℕ) × HasCopy old parent page × IsTableOnWay asked child page n))
-  pub full : IsFull asked.frames
-  pub lacking : (asked.root child ≡ None) ⊎ LacksTableForCopy asked parent child
-  pub roles : (n : ℕ) → (role_of new.frames n ≡ role_of asked.frames n) ⊎ ((role_of new.frames n ≡ Free) × IsTable asked.frames n)
-  pub tables : (n : ℕ) → IsTable new.frames n → IsTable old.frames n
-  pub entries : (q page : ℕ) → q ≢ child → IsPage top_level page → entry new q page ≡ entry asked q page
+module _ {mode : ℕ} where
+  pub record StallsToFork (old new : Picture mode) (parent child : ℕ) : Type 0 where
+    pub asked : Picture mode
+    pub fit : IsFit asked
+    pub tried : Option ℕ
+    pub gives : GivesForTables old asked tried
+    pub linked : (n : ℕ) → IsTable asked.frames n
+        → IsTable old.frames n ⊎ ((asked.root child ≡ Some n) ⊎ ((page : ℕ) × HasCopy old parent page × IsTableOnWay asked child page n))
+    pub full : IsFull asked.frames
+    pub lacking : (asked.root child ≡ None) ⊎ LacksTableForCopy asked parent child
+    pub roles : (n : ℕ) → (role_of new.frames n ≡ role_of asked.frames n) ⊎ ((role_of new.frames n ≡ Free) × IsTable asked.frames n)
+    pub tables : (n : ℕ) → IsTable new.frames n → IsTable old.frames n
+    pub entries : (q page : ℕ) → q ≢ child → IsPage (top_level mode) page → entry new q page ≡ entry asked q page
 
 -- a page of any process but one that had no entry has none
-abbrev pub KeepsBareOfOthers : Picture → Picture → ℕ → Type 0
-KeepsBareOfOthers old new pid = (q page : ℕ) → IsPage top_level page → q ≢ pid → entry old q page ≡ 0 → entry new q page ≡ 0
+module _ {mode : ℕ} where
+  abbrev pub KeepsBareOfOthers : Picture mode → Picture mode → ℕ → Type 0
+  KeepsBareOfOthers old new pid = (q page : ℕ) → IsPage (top_level mode) page → q ≢ pid → entry old q page ≡ 0 → entry new q page ≡ 0
 
 -- Why no copy of a process was to be had, by what processes see and files are touched: the tables that they need with those of the
 -- copy, the zero page and one frame more fill memory; or the own copies and touched pages that there are don't go into swap.
-unfoldable pub IsShortToFork : Picture → ℕ → Stall → Type 0
-IsShortToFork c parent NoFrames = frame_count c.frames ≤ tables_over (is_live c) (view c) + tables_of (view c parent) + 2
-IsShortToFork c parent NoSwap = c.slots.total < copies_over (view c) (touched_file c) (stored_object c)
-IsShortToFork c parent SwapDevice = Unit {0}
-IsShortToFork c parent StoreDevice = Unit {0}
+module _ {mode : ℕ} where
+  unfoldable pub IsShortToFork : Picture mode → ℕ → Stall → Type 0
+  IsShortToFork c parent NoFrames = frame_count c.frames ≤ tables_over mode (is_live c) (view c) + tables_of mode (view c parent) + 2
+  IsShortToFork c parent NoSwap = c.slots.total < copies_over mode (view c) (touched_file c) (stored_object c)
+  IsShortToFork c parent SwapDevice = Unit {0}
+  IsShortToFork c parent StoreDevice = Unit {0}

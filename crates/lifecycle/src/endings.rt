@@ -10,26 +10,27 @@ ghost use Rattle.lifecycle.specs.Changes.{RemovesProcess, FreesTables, TakesNoCo
 
 use page_ranges::{clear_row, forget_row};
 use paging::Core;
-use vm_types::{Pid, USER_END};
+use vm_types::{Levels, Pid};
 
 /// Ends a live process: its own copies are lost, in frames and in slots, its tables are free, and so is its number (exit(2)).
 /// File pages that it stored to stay touched, with their bytes (mmap(2), `MAP_SHARED`), and so do pages of objects that another
 /// process names. No device is asked.
-pub fn exit<D, E>(core: &mut Core<D, E>, pid: Pid)
+pub fn exit<D, E, M: Levels>(core: &mut Core<D, E, M>, pid: Pid)
     requires fit { IsFit (picture_of core.old) }
     requires live { is_live (picture_of core.old) pid ≡ true }
     ensures fit { IsFit (picture_of core.new) }
     ensures removed { RemovesProcess (picture_of core.old) (picture_of core.new) pid }
     ensures others { KeepsEntriesOfOthers (picture_of core.old) (picture_of core.new) pid }
     ensures tables { FreesTables (picture_of core.old) (picture_of core.new) pid }
-    ensures slots { LosesSlots (picture_of core.old) (picture_of core.new) pid 0 user_end }
+    ensures slots { LosesSlots (picture_of core.old) (picture_of core.new) pid 0 (user_end M.mode) }
     ensures copies { TakesNoCopy core.old.frames core.new.frames }
-    ensures files { KeepsNamed (without_maps (picture_of core.old).at pid 0 user_end) (picture_of core.old) (picture_of core.new) }
+    ensures files { KeepsNamed (without_maps (picture_of core.old).at pid 0 (user_end M.mode)) (picture_of core.old) (picture_of core.new) }
     ensures room { KeepsRoom (picture_of core.old) (picture_of core.new) }
     ensures devices { KeepsDevices core.old core.new }
     ensures refused { core.new.refused ≡ core.old.refused }
 {
-    clear_row(core, pid, 0, USER_END);
-    forget_row(core, pid, 0, USER_END);
+    let end = M::user_end();
+    clear_row(core, pid, 0, end);
+    forget_row(core, pid, 0, end);
     core.remove_process(pid);
 }

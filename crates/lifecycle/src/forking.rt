@@ -13,7 +13,7 @@ use crate::{exit, spawn};
 use copy_on_write::{link_copies, share_pages};
 use disk_model::SectorDisk;
 use paging::Core;
-use vm_types::{Pid, Stall};
+use vm_types::{Levels, Pid, Stall};
 
 /// Makes a process of the number `child`, which no live process has, that is a copy of a live one: the same pages, with the
 /// same own copies (fork(2)). It takes frames for the child's tables alone, and copies no page: each own copy, in a frame or in a
@@ -24,7 +24,11 @@ use vm_types::{Pid, Stall};
 /// As `obtain` (`ENOMEM` in fork(2)): `NoFrames` only where the tables that all processes need and those of the copy fill memory,
 /// `NoSwap` only where swap is too small for the own copies and touched pages that there are, `SwapDevice` where that device fails.
 /// Then there is no such process, its tables are given back, and nothing that a process or a file shows has changed.
-pub fn fork<D, E: SectorDisk>(core: &mut Core<D, E>, parent: Pid, child: Pid) -> Result<(), Stall>
+pub fn fork<D, E: SectorDisk, M: Levels>(
+    core: &mut Core<D, E, M>,
+    parent: Pid,
+    child: Pid,
+) -> Result<(), Stall>
     requires fit { IsFit (picture_of core.old) }
     requires swap { IsReady E.SectorDisk core.old.swap }
     requires live { is_live (picture_of core.old) parent ≡ true }
@@ -58,7 +62,7 @@ pub fn fork<D, E: SectorDisk>(core: &mut Core<D, E>, parent: Pid, child: Pid) ->
 }
 
 /// Maps the pages of the child, which has none, as those of the parent.
-fn map_alike<D, E>(core: &mut Core<D, E>, parent: Pid, child: Pid)
+fn map_alike<D, E, M: Levels>(core: &mut Core<D, E, M>, parent: Pid, child: Pid)
     requires fit { IsFit (picture_of core.old) }
     requires parent { is_live (picture_of core.old) parent ≡ true }
     requires child { is_live (picture_of core.old) child ≡ true }

@@ -11,7 +11,8 @@ use Rattle.vm_types.specs.declared.reply.Reply.TheVariants.{Process, Address, Do
 use Rattle.calls.specs.Idle.{names_store, names_swap, refused_count}
 use Rattle.machine.specs.Chain.{Caused}
 use Rattle.machine.specs.Counts.{failed_count, swap_failed_count, Counts}
-use Rattle.machine.specs.Machine.{IsCaused}
+use Rattle.machine.specs.Machine.{store_of, swap_of, IsCaused}
+use Rattle.machine.proofs.Face.{HasCause, cause_of}
 use Rattle.machine.specs.declared.machine.Machine.{Machine}
 
 not_counted : (b : Bool) (n : ℕ) → n ≡ (if b then 1 else 0) → n ≡ 0 → b ≡ false
@@ -19,9 +20,9 @@ not_counted false n is none = refl
 not_counted true n is none = absurd (let one : n ≡ 1 = is in omega (arith, one, none))
 
 module _ {D E : Type 0} (g : Ghosts D) (h : Ghosts E) where
-  refused_failed : (old new : Machine D E) (errno : Errno) → IsCaused g h old new (Refused errno)
-      → g.failures old.core.store.disk + failed_count (Refused errno) ≤ g.failures new.core.store.disk
-  refused_failed old new EIO is = let less : g.failures old.core.store.disk < g.failures new.core.store.disk = is.failed refl in omega (arith, less)
+  refused_failed : (old new : Machine D E) (errno : Errno) → HasCause g h old new (Refused errno)
+      → g.failures (store_of old) + failed_count (Refused errno) ≤ g.failures (store_of new)
+  refused_failed old new EIO is = let less : g.failures (store_of old) < g.failures (store_of new) = is.failed refl in omega (arith, less)
   refused_failed old new ESRCH is = omega (arith, is.later)
   refused_failed old new EBADF is = omega (arith, is.later)
   refused_failed old new EAGAIN is = omega (arith, is.later)
@@ -32,15 +33,15 @@ module _ {D E : Type 0} (g : Ghosts D) (h : Ghosts E) where
   refused_failed old new ENOSPC is = omega (arith, is.later)
   refused_failed old new EOVERFLOW is = omega (arith, is.later)
 
-  stall_failed : (old new : Machine D E) (stall : Stall) → IsCaused g h old new (Stalled stall)
-      → g.failures old.core.store.disk + failed_count (Stalled stall) ≤ g.failures new.core.store.disk
-  stall_failed old new StoreDevice is = let less : g.failures old.core.store.disk < g.failures new.core.store.disk = (is.stalled StoreDevice refl).1 in omega (arith, less)
+  stall_failed : (old new : Machine D E) (stall : Stall) → HasCause g h old new (Stalled stall)
+      → g.failures (store_of old) + failed_count (Stalled stall) ≤ g.failures (store_of new)
+  stall_failed old new StoreDevice is = let less : g.failures (store_of old) < g.failures (store_of new) = is.stalled refl in omega (arith, less)
   stall_failed old new NoFrames is = omega (arith, is.later)
   stall_failed old new NoSwap is = omega (arith, is.later)
   stall_failed old new SwapDevice is = omega (arith, is.later)
 
-  failed_once : (old new : Machine D E) (reply : Reply) → IsCaused g h old new reply
-      → g.failures old.core.store.disk + failed_count reply ≤ g.failures new.core.store.disk
+  failed_once : (old new : Machine D E) (reply : Reply) → HasCause g h old new reply
+      → g.failures (store_of old) + failed_count reply ≤ g.failures (store_of new)
   failed_once old new (Refused errno) is = refused_failed old new errno is
   failed_once old new (Stalled stall) is = stall_failed old new stall is
   failed_once old new (Process pid) is = omega (arith, is.later)
@@ -51,16 +52,16 @@ module _ {D E : Type 0} (g : Ghosts D) (h : Ghosts E) where
   failed_once old new Halted is = omega (arith, is.later)
   failed_once old new (Past past) is = omega (arith, is.later)
 
-  swap_stall_failed : (old new : Machine D E) (stall : Stall) → IsCaused g h old new (Stalled stall)
-      → h.failures old.core.swap.pages.disk + swap_failed_count (Stalled stall) ≤ h.failures new.core.swap.pages.disk
+  swap_stall_failed : (old new : Machine D E) (stall : Stall) → HasCause g h old new (Stalled stall)
+      → h.failures (swap_of old) + swap_failed_count (Stalled stall) ≤ h.failures (swap_of new)
   swap_stall_failed old new SwapDevice is =
-      let less : h.failures old.core.swap.pages.disk < h.failures new.core.swap.pages.disk = (is.stalled SwapDevice refl).2 in omega (arith, less)
+      let less : h.failures (swap_of old) < h.failures (swap_of new) = is.swap_stalled refl in omega (arith, less)
   swap_stall_failed old new NoFrames is = omega (arith, is.swap_later)
   swap_stall_failed old new NoSwap is = omega (arith, is.swap_later)
   swap_stall_failed old new StoreDevice is = omega (arith, is.swap_later)
 
-  swap_failed_once : (old new : Machine D E) (reply : Reply) → IsCaused g h old new reply
-      → h.failures old.core.swap.pages.disk + swap_failed_count reply ≤ h.failures new.core.swap.pages.disk
+  swap_failed_once : (old new : Machine D E) (reply : Reply) → HasCause g h old new reply
+      → h.failures (swap_of old) + swap_failed_count reply ≤ h.failures (swap_of new)
   swap_failed_once old new (Stalled stall) is = swap_stall_failed old new stall is
   swap_failed_once old new (Refused errno) is = omega (arith, is.swap_later)
   swap_failed_once old new (Process pid) is = omega (arith, is.swap_later)
@@ -72,13 +73,13 @@ module _ {D E : Type 0} (g : Ghosts D) (h : Ghosts E) where
   swap_failed_once old new (Past past) is = omega (arith, is.swap_later)
 
   -- where the reply doesn't name the store
-  calm_once : (old new : Machine D E) (reply : Reply) → IsCaused g h old new reply → failed_count reply ≡ 0
-      → g.failures new.core.store.disk ≡ g.failures old.core.store.disk
+  calm_once : (old new : Machine D E) (reply : Reply) → HasCause g h old new reply → failed_count reply ≡ 0
+      → g.failures (store_of new) ≡ g.failures (store_of old)
   calm_once old new reply is none = is.calm (not_counted (names_store reply) (failed_count reply) refl none)
 
   -- where it doesn't name the swap device
-  swap_calm_once : (old new : Machine D E) (reply : Reply) → IsCaused g h old new reply → swap_failed_count reply ≡ 0
-      → h.failures new.core.swap.pages.disk ≡ h.failures old.core.swap.pages.disk
+  swap_calm_once : (old new : Machine D E) (reply : Reply) → HasCause g h old new reply → swap_failed_count reply ≡ 0
+      → h.failures (swap_of new) ≡ h.failures (swap_of old)
   swap_calm_once old new reply is none = is.swap_calm (not_counted (names_swap reply) (swap_failed_count reply) refl none)
 
   pub counts : (old : Machine D E) (replies : List Reply) (new : Machine D E) → Caused g h old replies new → Counts g h old new replies
@@ -86,19 +87,20 @@ module _ {D E : Type 0} (g : Ghosts D) (h : Ghosts E) where
       subst (λ (m : Machine D E). Counts g h old m []) (sym same) (record { refused = omega arith; failed = omega arith; swap_failed = omega arith; calm = λ none. refl; swap_calm = λ none. refl })
   counts old (r ∷ rs) new c =
       let mid = c.0 in
+      let first = cause_of g h old mid r c.1 in
       let rest = counts mid rs new c.2 in
-      let once = failed_once old mid r c.1 in
-      let swap_once = swap_failed_once old mid r c.1 in
+      let once = failed_once old mid r first in
+      let swap_once = swap_failed_once old mid r first in
       record {
-        refused = omega (arith, c.1.counted, rest.refused, sum_by-cons refused_count r rs);
+        refused = omega (arith, first.counted, rest.refused, sum_by-cons refused_count r rs);
         failed = omega (arith, once, rest.failed, sum_by-cons failed_count r rs);
         swap_failed = omega (arith, swap_once, rest.swap_failed, sum_by-cons swap_failed_count r rs);
         calm = λ none.
             let here : failed_count r ≡ 0 = omega (arith, none, sum_by-cons failed_count r rs) in
             let there : sum_by failed_count rs ≡ 0 = omega (arith, none, sum_by-cons failed_count r rs) in
-            rest.calm there ∙ calm_once old mid r c.1 here;
+            rest.calm there ∙ calm_once old mid r first here;
         swap_calm = λ none.
             let here : swap_failed_count r ≡ 0 = omega (arith, none, sum_by-cons swap_failed_count r rs) in
             let there : sum_by swap_failed_count rs ≡ 0 = omega (arith, none, sum_by-cons swap_failed_count r rs) in
-            rest.swap_calm there ∙ swap_calm_once old mid r c.1 here;
+            rest.swap_calm there ∙ swap_calm_once old mid r first here;
       }

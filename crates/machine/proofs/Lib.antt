@@ -1,10 +1,4 @@
-pub mod Accesses
-pub mod Boots
-pub mod Causes
-pub mod Commits
 pub mod Counts
-pub mod Flat
-pub mod Outcomes
+pub mod Face
+pub mod Prefixes
 pub mod Runs
-pub mod Steps
-pub mod Tidied

@@ -10,21 +10,21 @@ use Rattle.vm_types.specs.State.{State, IsRunning}
 use Rattle.vm_types.specs.Step.{ruling, takes}
 use Rattle.vm_types.specs.View.{Pages}
 use Rattle.machine.specs.Chain.{event, Caused, Chain, after, Runs}
-use Rattle.machine.specs.Machine.{IsCaused, IsOneOf, stands_in, MayStand, HoldsIn, StandsForSome, Shows, Meets, causes}
-use Rattle.mapping.specs.Changes.{KeepsRoom}
-use Rattle.paging.specs.Picture.{Picture, picture_of}
+use Rattle.mode_machine.specs.Machine.{IsOneOf, stands_in, MayStand, HoldsIn, StandsForSome}
+use Rattle.machine.specs.Machine.{store_of, KeepsRoom, IsCaused, Shows, Meets}
 use Rattle.machine.specs.declared.machine.Machine.{Machine}
-use Rattle.machine.proofs.Steps.{step_files, Failed, goes_on_or_fails, halted_stays, failed_event, prefix_here, prefix_more, prefix_from_start, prefix_during, failed_before, failed_after, halted_event}
+use Rattle.machine.proofs.Face.{causes, shown, face}
+use Rattle.machine.proofs.Prefixes.{step_files, Failed, goes_on_or_fails, halted_stays, failed_event, prefix_here, prefix_more, prefix_from_start, prefix_during, failed_before, failed_after, halted_event}
 
 -- the same image stands for contents of which Q holds
 pub some_more : (sectors : ℕ) (files : Files) (P Q : Pages → Type 0) (c : Image) → ((p : Pages) → P p → Q p) → StandsForSome sectors files P c → StandsForSome sectors files Q c
 some_more sectors files P Q c more h = (h.0, more h.0 h.1, h.2)
 
-pub room_none : (c : Picture) → KeepsRoom c c
-room_none c = record { frames = refl; slots = refl }
+pub room_none : {D E : Type 0} (m : Machine D E) → KeepsRoom m m
+room_none m = record { frames = refl; slots = refl; mode = refl }
 
-pub room_then : (a b c : Picture) → KeepsRoom a b → KeepsRoom b c → KeepsRoom a c
-room_then a b c first second = record { frames = second.frames ∙ first.frames; slots = second.slots ∙ first.slots }
+pub room_then : {D E : Type 0} (a b c : Machine D E) → KeepsRoom a b → KeepsRoom b c → KeepsRoom a c
+room_then a b c first second = record { frames = second.frames ∙ first.frames; slots = second.slots ∙ first.slots; mode = second.mode ∙ first.mode }
 
 module _ {D E : Type 0} (g : Ghosts D) (h : Ghosts E) where
   -- one reply more
@@ -41,9 +41,9 @@ module _ {D E : Type 0} (g : Ghosts D) (h : Ghosts E) where
     pub shows : Shows g h new last
 
   pub chain_kept : (old : Machine D E) (s : State) (commands : List Command) (replies : List Reply) (events : List Event) (new : Machine D E) (t : State)
-      → Chain g h old s commands replies events new t → g.keeps_model new.core.store.disk → g.keeps_model old.core.store.disk
-  chain_kept old s [] [] [] new t c k = subst (λ (m : Machine D E). g.keeps_model m.core.store.disk) c.0 k
-  chain_kept old s (x ∷ xs) (r ∷ rs) (e ∷ es) new t c k = c.3.kept (chain_kept c.0 c.1 xs rs es new t c.4 k)
+      → Chain g h old s commands replies events new t → g.keeps_model (store_of new) → g.keeps_model (store_of old)
+  chain_kept old s [] [] [] new t c k = subst (λ (m : Machine D E). g.keeps_model (store_of m)) c.0 k
+  chain_kept old s (x ∷ xs) (r ∷ rs) (e ∷ es) new t c k = (face g h old c.0 s c.1 x r c.3).kept (chain_kept c.0 c.1 xs rs es new t c.4 k)
   chain_kept old s [] [] (e ∷ es) new t c k = absurd c
   chain_kept old s [] (r ∷ rs) es new t c k = absurd c
   chain_kept old s (x ∷ xs) [] es new t c k = absurd c
@@ -51,9 +51,9 @@ module _ {D E : Type 0} (g : Ghosts D) (h : Ghosts E) where
 
   -- a chain keeps the numbers of frames and slots
   pub chain_room : (old : Machine D E) (s : State) (commands : List Command) (replies : List Reply) (events : List Event) (new : Machine D E) (t : State)
-      → Chain g h old s commands replies events new t → KeepsRoom (picture_of old.core) (picture_of new.core)
-  chain_room old s [] [] [] new t c = subst (λ (m : Machine D E). KeepsRoom (picture_of old.core) (picture_of m.core)) (sym c.0) (room_none (picture_of old.core))
-  chain_room old s (x ∷ xs) (r ∷ rs) (e ∷ es) new t c = room_then (picture_of old.core) (picture_of c.0.core) (picture_of new.core) c.3.room (chain_room c.0 c.1 xs rs es new t c.4)
+      → Chain g h old s commands replies events new t → KeepsRoom old new
+  chain_room old s [] [] [] new t c = subst (λ (m : Machine D E). KeepsRoom old m) (sym c.0) (room_none old)
+  chain_room old s (x ∷ xs) (r ∷ rs) (e ∷ es) new t c = room_then old c.0 new (face g h old c.0 s c.1 x r c.3).room (chain_room c.0 c.1 xs rs es new t c.4)
   chain_room old s [] [] (e ∷ es) new t c = absurd c
   chain_room old s [] (r ∷ rs) es new t c = absurd c
   chain_room old s (x ∷ xs) [] es new t c = absurd c
@@ -61,21 +61,21 @@ module _ {D E : Type 0} (g : Ghosts D) (h : Ghosts E) where
 
   -- from a halted state nothing but its ends may stand
   pub halted_leaves : (n : ℕ) (files : Files) (ends : List Pages) (old : Machine D E) (s : State) (commands : List Command) (replies : List Reply) (events : List Event) (new : Machine D E) (t : State)
-      → Chain g h old s commands replies events new t → g.keeps_model new.core.store.disk → s.ends ≡ Some ends → s.files ≡ files → g.sector_count old.core.store.disk ≡ n
-      → (m : ℕ) (image : Image) → m ≤ g.moment old.core.store.disk → g.left_since new.core.store.disk m image
-      → g.left_since old.core.store.disk m image ⊎ StandsForSome n files (λ p. IsOneOf p ends) image
-  halted_leaves n files ends old s [] [] [] new t c keeps is f size m image le left = inl (subst (λ (x : Machine D E). g.left_since x.core.store.disk m image) c.0 left)
+      → Chain g h old s commands replies events new t → g.keeps_model (store_of new) → s.ends ≡ Some ends → s.files ≡ files → g.sector_count (store_of old) ≡ n
+      → (m : ℕ) (image : Image) → m ≤ g.moment (store_of old) → g.left_since (store_of new) m image
+      → g.left_since (store_of old) m image ⊎ StandsForSome n files (λ p. IsOneOf p ends) image
+  halted_leaves n files ends old s [] [] [] new t c keeps is f size m image le left = inl (subst (λ (x : Machine D E). g.left_since (store_of x) m image) c.0 left)
   halted_leaves n files ends old s (x ∷ xs) (r ∷ rs) (e ∷ es) new t c keeps is f size m image le left =
       let mid = c.0 in
       let u = c.1 in
-      let meets = c.3 in
+      let meets = face g h old mid s u x r c.3 in
       let kept = chain_kept mid u xs rs es new t c.4 keeps in
       let stays = halted_stays (causes g h old mid) s x r u ends meets.step is in
       let only = meets.moments kept in
       ⊎_elim
       (λ mid_left. ⊎_elim (λ o. inl o) (λ p. inr (subst (λ (k : ℕ). StandsForSome k files (λ q. IsOneOf q ends) image) size
-      (subst (λ (fs : Files). StandsForSome (g.sector_count old.core.store.disk) fs (λ q. IsOneOf q ends) image) f
-      (some_more (g.sector_count old.core.store.disk) s.files (HoldsIn s x r) (λ q. IsOneOf q ends) image (λ q hold. only_ends s x r ends is q hold) p))))
+      (subst (λ (fs : Files). StandsForSome (g.sector_count (store_of old)) fs (λ q. IsOneOf q ends) image) f
+      (some_more (g.sector_count (store_of old)) s.files (HoldsIn s x r) (λ q. IsOneOf q ends) image (λ q hold. only_ends s x r ends is q hold) p))))
       (only.before m image le mid_left))
       (λ p. inr p)
       (halted_leaves n files ends mid u xs rs es new t c.4 keeps (ap (λ (y : State). y.ends) stays.1 ∙ is) (ap (λ (y : State). y.files) stays.1 ∙ f) (meets.size ∙ size)
@@ -92,23 +92,23 @@ module _ {D E : Type 0} (g : Ghosts D) (h : Ghosts E) where
 
   -- while it runs, what stands is what some of the msyncs left
   pub running_leaves : (n : ℕ) (files : Files) (old : Machine D E) (s : State) (commands : List Command) (replies : List Reply) (events : List Event) (new : Machine D E) (t : State)
-      → Chain g h old s commands replies events new t → g.keeps_model new.core.store.disk → IsRunning s → s.files ≡ files → g.sector_count old.core.store.disk ≡ n
-      → (m : ℕ) (image : Image) → m ≤ g.moment old.core.store.disk → g.left_since new.core.store.disk m image
-      → g.left_since old.core.store.disk m image ⊎ StandsForSome n files (IsPrefixHolding s.durable events 0) image
-  running_leaves n files old s [] [] [] new t c keeps run f size m image le left = inl (subst (λ (x : Machine D E). g.left_since x.core.store.disk m image) c.0 left)
+      → Chain g h old s commands replies events new t → g.keeps_model (store_of new) → IsRunning s → s.files ≡ files → g.sector_count (store_of old) ≡ n
+      → (m : ℕ) (image : Image) → m ≤ g.moment (store_of old) → g.left_since (store_of new) m image
+      → g.left_since (store_of old) m image ⊎ StandsForSome n files (IsPrefixHolding s.durable events 0) image
+  running_leaves n files old s [] [] [] new t c keeps run f size m image le left = inl (subst (λ (x : Machine D E). g.left_since (store_of x) m image) c.0 left)
   running_leaves n files old s (x ∷ xs) (r ∷ rs) (e ∷ es) new t c keeps run f size m image le left =
       let mid = c.0 in
       let u = c.1 in
-      let meets = c.3 in
+      let meets = face g h old mid s u x r c.3 in
       let kept = chain_kept mid u xs rs es new t c.4 keeps in
       let only = meets.moments kept in
       let files_u = step_files (causes g h old mid) s x r u meets.step ∙ f in
       let P : List Event → Image → Type 0 = λ l i. StandsForSome n files (IsPrefixHolding s.durable l 0) i in
-      subst (λ (first : Event). g.left_since old.core.store.disk m image ⊎ P (first ∷ es) image) (sym c.2)
+      subst (λ (first : Event). g.left_since (store_of old) m image ⊎ P (first ∷ es) image) (sym c.2)
       (⊎_elim
       (λ mid_left. ⊎_elim (λ o. inl o) (λ p. inr (subst (λ (k : ℕ). StandsForSome k files (IsPrefixHolding s.durable (event s x r ∷ es) 0) image) size
-      (subst (λ (fs : Files). StandsForSome (g.sector_count old.core.store.disk) fs (IsPrefixHolding s.durable (event s x r ∷ es) 0) image) f
-      (some_more (g.sector_count old.core.store.disk) s.files (HoldsIn s x r) (IsPrefixHolding s.durable (event s x r ∷ es) 0) image (λ q hold. held s x r es run q hold) p))))
+      (subst (λ (fs : Files). StandsForSome (g.sector_count (store_of old)) fs (IsPrefixHolding s.durable (event s x r ∷ es) 0) image) f
+      (some_more (g.sector_count (store_of old)) s.files (HoldsIn s x r) (IsPrefixHolding s.durable (event s x r ∷ es) 0) image (λ q hold. held s x r es run q hold) p))))
       (only.before m image le mid_left))
       (λ p. inr p)
       (⊎_elim
@@ -147,7 +147,7 @@ module _ {D E : Type 0} (g : Ghosts D) (h : Ghosts E) where
   none_after ends old s [] [] [] new t c is k = refl
   none_after ends old s (x ∷ xs) (r ∷ rs) (e ∷ es) new t c is zero = refl
   none_after ends old s (x ∷ xs) (r ∷ rs) (e ∷ es) new t c is (suc k) =
-      let stays = halted_stays (causes g h old c.0) s x r c.1 ends c.3.step is in
+      let stays = halted_stays (causes g h old c.0) s x r c.1 ends (face g h old c.0 s c.1 x r c.3).step is in
       let rest = none_after ends c.0 c.1 xs rs es new t c.4 (ap (λ (y : State). y.ends) stays.1 ∙ is) k in
       subst (λ (first : Event). acknowledged (first ∷ es) (suc k) ≡ 0) (sym c.2) (halted_event s x r es k stays.0 rest)
   none_after ends old s [] [] (e ∷ es) new t c is k = absurd c
@@ -161,46 +161,46 @@ module _ {D E : Type 0} (g : Ghosts D) (h : Ghosts E) where
   after_start old s (x ∷ xs) replies events new t c = refl
 
   halted_start : (n : ℕ) (files : Files) (ends : List Pages) (old : Machine D E) (s : State) (commands : List Command) (replies : List Reply) (events : List Event) (new : Machine D E) (t : State)
-      → (c : Chain g h old s commands replies events new t) → g.keeps_model new.core.store.disk → s.ends ≡ Some ends → s.files ≡ files → g.sector_count old.core.store.disk ≡ n
+      → (c : Chain g h old s commands replies events new t) → g.keeps_model (store_of new) → s.ends ≡ Some ends → s.files ≡ files → g.sector_count (store_of old) ≡ n
       → ((d : D) (i : Image) → g.keeps_model d → g.left_since d (g.moment d) i → MayLeave (g.content d) (g.unsynced d) i) → Shows g h old s
-      → (image : Image) → g.left_since new.core.store.disk (g.moment old.core.store.disk) image → StandsForSome n files (λ p. IsOneOf p ends) image
+      → (image : Image) → g.left_since (store_of new) (g.moment (store_of old)) image → StandsForSome n files (λ p. IsOneOf p ends) image
   halted_start n files ends old s commands replies events new t c keeps is f size only_now shows image left =
       let kept = chain_kept old s commands replies events new t c keeps in
       ⊎_elim
-      (λ o. subst (λ (k : ℕ). StandsForSome k files (λ p. IsOneOf p ends) image) size (subst (λ (fs : Files). StandsForSome (g.sector_count old.core.store.disk) fs (λ p. IsOneOf p ends) image) f
-      (some_more (g.sector_count old.core.store.disk) s.files (MayStand s) (λ p. IsOneOf p ends) image (λ q stand. subst (λ (y : Option (List Pages)). stands_in y s.durable q) is stand)
-      (shows.stands kept image (only_now old.core.store.disk image kept o)))))
+      (λ o. subst (λ (k : ℕ). StandsForSome k files (λ p. IsOneOf p ends) image) size (subst (λ (fs : Files). StandsForSome (g.sector_count (store_of old)) fs (λ p. IsOneOf p ends) image) f
+      (some_more (g.sector_count (store_of old)) s.files (MayStand s) (λ p. IsOneOf p ends) image (λ q stand. subst (λ (y : Option (List Pages)). stands_in y s.durable q) is stand)
+      ((shown g h old s shows).stands kept image (only_now (store_of old) image kept o)))))
       (λ p. p)
-      (halted_leaves n files ends old s commands replies events new t c keeps is f size (g.moment old.core.store.disk) image (omega arith) left)
+      (halted_leaves n files ends old s commands replies events new t c keeps is f size (g.moment (store_of old)) image (omega arith) left)
 
   running_start : (n : ℕ) (files : Files) (old : Machine D E) (s : State) (commands : List Command) (replies : List Reply) (events : List Event) (new : Machine D E) (t : State)
-      → (c : Chain g h old s commands replies events new t) → g.keeps_model new.core.store.disk → IsRunning s → s.files ≡ files → g.sector_count old.core.store.disk ≡ n
+      → (c : Chain g h old s commands replies events new t) → g.keeps_model (store_of new) → IsRunning s → s.files ≡ files → g.sector_count (store_of old) ≡ n
       → ((d : D) (i : Image) → g.keeps_model d → g.left_since d (g.moment d) i → MayLeave (g.content d) (g.unsynced d) i) → Shows g h old s
-      → (image : Image) → g.left_since new.core.store.disk (g.moment old.core.store.disk) image → StandsForSome n files (IsPrefixHolding s.durable events 0) image
+      → (image : Image) → g.left_since (store_of new) (g.moment (store_of old)) image → StandsForSome n files (IsPrefixHolding s.durable events 0) image
   running_start n files old s commands replies events new t c keeps run f size only_now shows image left =
       let kept = chain_kept old s commands replies events new t c keeps in
       ⊎_elim
-      (λ o. subst (λ (k : ℕ). StandsForSome k files (IsPrefixHolding s.durable events 0) image) size (subst (λ (fs : Files). StandsForSome (g.sector_count old.core.store.disk) fs (IsPrefixHolding s.durable events 0) image) f
-      (some_more (g.sector_count old.core.store.disk) s.files (MayStand s) (IsPrefixHolding s.durable events 0) image
+      (λ o. subst (λ (k : ℕ). StandsForSome k files (IsPrefixHolding s.durable events 0) image) size (subst (λ (fs : Files). StandsForSome (g.sector_count (store_of old)) fs (IsPrefixHolding s.durable events 0) image) f
+      (some_more (g.sector_count (store_of old)) s.files (MayStand s) (IsPrefixHolding s.durable events 0) image
       (λ q stand. prefix_here s.durable events q (subst (λ (y : Option (List Pages)). stands_in y s.durable q) run stand))
-      (shows.stands kept image (only_now old.core.store.disk image kept o)))))
+      ((shown g h old s shows).stands kept image (only_now (store_of old) image kept o)))))
       (λ p. p)
-      (running_leaves n files old s commands replies events new t c keeps run f size (g.moment old.core.store.disk) image (omega arith) left)
+      (running_leaves n files old s commands replies events new t c keeps run f size (g.moment (store_of old)) image (omega arith) left)
 
   -- what a stop leaves that comes after the first k commands of a halted chain
   pub halted_since : (n : ℕ) (files : Files) (ends : List Pages) (old : Machine D E) (s : State) (commands : List Command) (replies : List Reply) (events : List Event) (new : Machine D E) (t : State)
-      → (c : Chain g h old s commands replies events new t) → g.keeps_model new.core.store.disk → s.ends ≡ Some ends → s.files ≡ files → g.sector_count old.core.store.disk ≡ n
+      → (c : Chain g h old s commands replies events new t) → g.keeps_model (store_of new) → s.ends ≡ Some ends → s.files ≡ files → g.sector_count (store_of old) ≡ n
       → ((d : D) (i : Image) → g.keeps_model d → g.left_since d (g.moment d) i → MayLeave (g.content d) (g.unsynced d) i) → Shows g h old s
-      → (k : ℕ) (image : Image) → g.left_since new.core.store.disk (g.moment (after g h old s commands replies events new t c k).core.store.disk) image
+      → (k : ℕ) (image : Image) → g.left_since (store_of new) (g.moment (store_of (after g h old s commands replies events new t c k))) image
       → StandsForSome n files (λ p. IsOneOf p ends) image
   halted_since n files ends old s commands replies events new t c keeps is f size only_now shows zero image left =
       halted_start n files ends old s commands replies events new t c keeps is f size only_now shows image
-      (subst (λ (m : Machine D E). g.left_since new.core.store.disk (g.moment m.core.store.disk) image) (after_start old s commands replies events new t c) left)
+      (subst (λ (m : Machine D E). g.left_since (store_of new) (g.moment (store_of m)) image) (after_start old s commands replies events new t c) left)
   halted_since n files ends old s [] [] [] new t c keeps is f size only_now shows (suc k) image left =
       halted_start n files ends old s [] [] [] new t c keeps is f size only_now shows image left
   halted_since n files ends old s (x ∷ xs) (r ∷ rs) (e ∷ es) new t c keeps is f size only_now shows (suc k) image left =
-      let stays = halted_stays (causes g h old c.0) s x r c.1 ends c.3.step is in
-      halted_since n files ends c.0 c.1 xs rs es new t c.4 keeps (ap (λ (y : State). y.ends) stays.1 ∙ is) (ap (λ (y : State). y.files) stays.1 ∙ f) (c.3.size ∙ size) only_now c.3.shows k image left
+      let stays = halted_stays (causes g h old c.0) s x r c.1 ends (face g h old c.0 s c.1 x r c.3).step is in
+      halted_since n files ends c.0 c.1 xs rs es new t c.4 keeps (ap (λ (y : State). y.ends) stays.1 ∙ is) (ap (λ (y : State). y.files) stays.1 ∙ f) ((face g h old c.0 s c.1 x r c.3).size ∙ size) only_now (face g h old c.0 s c.1 x r c.3).shows k image left
   halted_since n files ends old s [] [] (e ∷ es) new t c keeps is f size only_now shows (suc k) image left = absurd c
   halted_since n files ends old s [] (r ∷ rs) es new t c keeps is f size only_now shows (suc k) image left = absurd c
   halted_since n files ends old s (x ∷ xs) [] es new t c keeps is f size only_now shows (suc k) image left = absurd c
@@ -208,19 +208,19 @@ module _ {D E : Type 0} (g : Ghosts D) (h : Ghosts E) where
 
   -- every stop leaves a prefix of the msyncs
   pub leaves_prefix : (n : ℕ) (files : Files) (old : Machine D E) (s : State) (commands : List Command) (replies : List Reply) (events : List Event) (new : Machine D E) (t : State)
-      → (c : Chain g h old s commands replies events new t) → g.keeps_model new.core.store.disk → IsRunning s → s.files ≡ files → g.sector_count old.core.store.disk ≡ n
+      → (c : Chain g h old s commands replies events new t) → g.keeps_model (store_of new) → IsRunning s → s.files ≡ files → g.sector_count (store_of old) ≡ n
       → ((d : D) (i : Image) → g.keeps_model d → g.left_since d (g.moment d) i → MayLeave (g.content d) (g.unsynced d) i) → Shows g h old s
-      → (k : ℕ) (image : Image) → g.left_since new.core.store.disk (g.moment (after g h old s commands replies events new t c k).core.store.disk) image
+      → (k : ℕ) (image : Image) → g.left_since (store_of new) (g.moment (store_of (after g h old s commands replies events new t c k))) image
       → StandsForSome n files (IsPrefixHolding s.durable events k) image
   leaves_prefix n files old s commands replies events new t c keeps run f size only_now shows zero image left =
       running_start n files old s commands replies events new t c keeps run f size only_now shows image
-      (subst (λ (m : Machine D E). g.left_since new.core.store.disk (g.moment m.core.store.disk) image) (after_start old s commands replies events new t c) left)
+      (subst (λ (m : Machine D E). g.left_since (store_of new) (g.moment (store_of m)) image) (after_start old s commands replies events new t c) left)
   leaves_prefix n files old s [] [] [] new t c keeps run f size only_now shows (suc k) image left =
       let p = running_start n files old s [] [] [] new t c keeps run f size only_now shows image left in
       some_more n files (IsPrefixHolding s.durable [] 0) (IsPrefixHolding s.durable [] (suc k)) image (λ q hold. record { i = hold.i; holds = hold.holds; same = hold.same }) p
   leaves_prefix n files old s (x ∷ xs) (r ∷ rs) (e ∷ es) new t c keeps run f size only_now shows (suc k) image left =
       let u = c.1 in
-      let meets = c.3 in
+      let meets = face g h old c.0 s u x r c.3 in
       let files_u = step_files (causes g h old c.0) s x r u meets.step ∙ f in
       subst (λ (first : Event). StandsForSome n files (IsPrefixHolding s.durable (first ∷ es) (suc k)) image) (sym c.2)
       (⊎_elim
@@ -268,7 +268,7 @@ module _ {D E : Type 0} (g : Ghosts D) (h : Ghosts E) where
         last = m.0;
         events = ran.events ++ event ran.last x r ∷ [];
         chain = chain_more old s commands replies ran.events mid ran.last new m.0 x r ran.chain m.1;
-        shows = m.1.shows;
+        shows = (face g h mid new ran.last m.0 x r m.1).shows;
       }
 
   pub all_ran : (old new : Machine D E) (s : State) (commands : List Command) (replies : List Reply)
@@ -280,5 +280,5 @@ module _ {D E : Type 0} (g : Ghosts D) (h : Ghosts E) where
     chain = ran.chain;
     shows = ran.shows;
     room = chain_room old s commands replies ran.events new ran.last ran.chain;
-    prefixes = λ run keeps. leaves_prefix (g.sector_count old.core.store.disk) s.files old s commands replies ran.events new ran.last ran.chain keeps run refl refl only_now shows;
+    prefixes = λ run keeps. leaves_prefix (g.sector_count (store_of old)) s.files old s commands replies ran.events new ran.last ran.chain keeps run refl refl only_now shows;
   }

@@ -1,13 +1,12 @@
 -- What a boot leaves, and when it gives up.
-use Rattle.std.specs.Prelude.{ℕ, ◌*◌, ◌^◌, ◌≡◌, ◌<◌, ◌⊎◌, false, None, []}
+use Rattle.std.specs.Prelude.{ℕ, ◌*◌, ◌^◌, ◌≡◌, ◌<◌, ◌⊎◌}
 use Rattle.disk_model.specs.declared.sector_disk.SectorDisk.{Ghosts}
 use Rattle.file_store.specs.Standing.{StandsFor}
-use Rattle.frames.specs.FrameTable.{frame_count}
-use Rattle.swap.specs.Slots.{slots_of}
-use Rattle.vm_types.specs.State.{State, IsRunning}
-use Rattle.machine.specs.declared.boot.Config.{Config}
+use Rattle.vm_types.specs.State.{State}
+use Rattle.mode_machine.specs.Boot.{IsBootState}
+use Rattle.machine.specs.declared.config.Config.{Config}
 use Rattle.machine.specs.declared.machine.Machine.{Machine}
-use Rattle.machine.specs.Machine.{Shows}
+use Rattle.machine.specs.Machine.{Shows, store_of, frames_of, slots_of, mode_of, bits_of}
 
 -- 8 to 65,536 frames
 abbrev pub HasBadFrames : Config → Type 0
@@ -17,25 +16,17 @@ HasBadFrames config = (config.frames < 8) ⊎ (2 ^ 16 < config.frames)
 abbrev pub HasBadSlots : Config → ℕ → Type 0
 HasBadSlots config sectors = (2 ^ 16 < config.slots) ⊎ (sectors < 8 * config.slots)
 
--- as many frames and as much room for slots as were asked for
+-- as many frames and as much room for slots as were asked for, and that mode
 pub record HasRoom {D E : Type 0} (m : Machine D E) (config : Config) : Type 0 where
-  pub frames : frame_count m.core.frames ≡ config.frames
-  pub slots : (slots_of m.core.swap).total ≡ config.slots
-
--- The flat model as it starts: no process, files of which nothing was stored to, and no objects.
-pub record IsBootState (s : State) : Type 0 where
-  pub live : (pid : ℕ) → s.live pid ≡ false
-  pub views : (pid page : ℕ) → s.views pid page ≡ None
-  pub same : (file page : ℕ) → s.volatile file page ≡ s.durable file page
-  pub touched : (file page : ℕ) → s.touched file page ≡ false
-  pub objects : (object page : ℕ) → s.objects object page ≡ None
-  pub past : s.past ≡ []
-  pub running : IsRunning s
+  pub frames : frames_of m ≡ config.frames
+  pub slots : slots_of m ≡ config.slots
+  pub mode : mode_of m ≡ config.mode
 
 module _ {D E : Type 0} (g : Ghosts D) (h : Ghosts E) where
-  -- The machine starts in a state whose files are those that the image at entry stood for.
+  -- The machine starts in a state of its mode, whose files are those that the image at entry stood for.
   pub record Boots (store : D) (m : Machine D E) : Type 0 where
     pub state : State
     pub shows : Shows g h m state
     pub start : IsBootState state
-    pub stands : g.keeps_model m.core.store.disk → StandsFor (g.sector_count store) state.files state.durable (g.content store)
+    pub same_mode : state.mode ≡ bits_of (mode_of m)
+    pub stands : g.keeps_model (store_of m) → StandsFor (g.sector_count store) state.files state.durable (g.content store)

@@ -6,10 +6,9 @@ use Rattle.vm_types.specs.declared.command.Command.{Command}
 use Rattle.vm_types.specs.declared.reply.Reply.{Reply}
 use Rattle.vm_types.specs.Prefix.{Event, IsPrefixHolding}
 use Rattle.vm_types.specs.State.{State, IsRunning}
-use Rattle.mapping.specs.Changes.{KeepsRoom}
-use Rattle.paging.specs.Picture.{picture_of}
+use Rattle.mode_machine.specs.Machine.{StandsForSome}
 use Rattle.machine.specs.declared.machine.Machine.{Machine}
-use Rattle.machine.specs.Machine.{IsCaused, Shows, Meets, StandsForSome}
+use Rattle.machine.specs.Machine.{store_of, KeepsRoom, IsCaused, Shows, Meets}
 
 -- a command and its reply, in the state before it
 abbrev pub event : State → Command → Reply → Event
@@ -49,15 +48,15 @@ module _ {D E : Type 0} (g : Ghosts D) (h : Ghosts E) where
       → Chain old s commands replies events new t → Type 0
   LeavesPrefixes old s commands replies events new t chain =
       (k : ℕ) (image : Image)
-      → g.left_since new.core.store.disk (g.moment (after old s commands replies events new t chain k).core.store.disk) image
-      → StandsForSome (g.sector_count old.core.store.disk) s.files (IsPrefixHolding s.durable events k) image
+      → g.left_since (store_of new) (g.moment (store_of (after old s commands replies events new t chain k))) image
+      → StandsForSome (g.sector_count (store_of old)) s.files (IsPrefixHolding s.durable events k) image
 
-  -- The replies are those of the flat model, there are as many frames and slots as there were, and what a stop leaves is what
-  -- some of the msyncs left.
+  -- The replies are those of the flat model, there are as many frames and slots as there were and the mode is the same, and what a stop leaves
+  -- is what some of the msyncs left.
   pub record Runs (old new : Machine D E) (commands : List Command) (replies : List Reply) (s : State) : Type 0 where
     pub last : State
     pub events : List Event
     pub chain : Chain old s commands replies events new last
     pub shows : Shows g h new last
-    pub room : KeepsRoom (picture_of old.core) (picture_of new.core)
-    pub prefixes : IsRunning s → g.keeps_model new.core.store.disk → LeavesPrefixes old s commands replies events new last chain
+    pub room : KeepsRoom old new
+    pub prefixes : IsRunning s → g.keeps_model (store_of new) → LeavesPrefixes old s commands replies events new last chain

@@ -4,6 +4,7 @@ use Rattle.disk_model.specs.declared.sector_disk.SectorDisk.{Ghosts}
 use Rattle.vm_types.specs.declared.reply.Reply.{Reply}
 use Rattle.calls.specs.Idle.{names_store, names_swap, refused_count}
 use Rattle.machine.specs.declared.machine.Machine.{Machine}
+use Rattle.machine.specs.Machine.{store_of, swap_of, refused_of}
 
 -- how often the store failed, at the least, where a command returns this
 abbrev pub failed_count : Reply → ℕ
@@ -17,8 +18,8 @@ module _ {D E : Type 0} (g : Ghosts D) (h : Ghosts E) where
   -- As many requests for a frame were refused as replies say. Each device failed for each reply that names it, and where
   -- none does, not at all.
   pub record Counts (old new : Machine D E) (replies : List Reply) : Type 0 where
-    pub refused : new.core.refused.number ≡ old.core.refused.number + sum_by refused_count replies
-    pub failed : g.failures old.core.store.disk + sum_by failed_count replies ≤ g.failures new.core.store.disk
-    pub swap_failed : h.failures old.core.swap.pages.disk + sum_by swap_failed_count replies ≤ h.failures new.core.swap.pages.disk
-    pub calm : sum_by failed_count replies ≡ 0 → g.failures new.core.store.disk ≡ g.failures old.core.store.disk
-    pub swap_calm : sum_by swap_failed_count replies ≡ 0 → h.failures new.core.swap.pages.disk ≡ h.failures old.core.swap.pages.disk
+    pub refused : refused_of new ≡ refused_of old + sum_by refused_count replies
+    pub failed : g.failures (store_of old) + sum_by failed_count replies ≤ g.failures (store_of new)
+    pub swap_failed : h.failures (swap_of old) + sum_by swap_failed_count replies ≤ h.failures (swap_of new)
+    pub calm : sum_by failed_count replies ≡ 0 → g.failures (store_of new) ≡ g.failures (store_of old)
+    pub swap_calm : sum_by swap_failed_count replies ≡ 0 → h.failures (swap_of new) ≡ h.failures (swap_of old)

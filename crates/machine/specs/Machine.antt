@@ -1,93 +1,97 @@
--- How a machine is a state of the flat model, stops included.
-use Rattle.std.specs.Prelude.{ℕ, ◌≡◌, ◌⊎◌, true, false, List, [], ◌∷◌, Option, Some, None, is_some}
-use Rattle.disk_model.specs.Moments.{LeavesNow, LeavesOnly}
-use Rattle.disk_model.specs.Stop.{Image}
+-- How a machine, whatever its mode, is a state of the flat model, stops included: each word is that of the machine of its mode.
+use Rattle.std.specs.Prelude.{ℕ, ◌≡◌, Bool}
 use Rattle.disk_model.specs.declared.sector_disk.SectorDisk.{Ghosts}
-use Rattle.file_store.specs.Standing.{StandsFor}
 use Rattle.frames.specs.FrameTable.{frame_count}
-use Rattle.swap.specs.Slots.{slots_of}
-use Rattle.paging.specs.Picture.{picture_of}
-use Rattle.paging.specs.Shows.{ShowsPages}
-use Rattle.mapping.specs.Changes.{KeepsRoom}
-use Rattle.page_ranges.specs.Steps.{KeepsDevices}
-use Rattle.msync.specs.Shows.{IsSoundCore}
-use Rattle.calls.specs.Calls as Calls
-use Rattle.calls.specs.Idle.{is_idle}
+use Rattle.swap.specs.Slots as Slots
 use Rattle.vm_types.specs.declared.command.Command.{Command}
-use Rattle.vm_types.specs.declared.refusal.Stall.{Stall}
+use Rattle.vm_types.specs.declared.mode.Mode.{Mode}
+use Rattle.vm_types.specs.declared.mode.Mode.TheVariants as Modes
 use Rattle.vm_types.specs.declared.reply.Reply.{Reply}
-use Rattle.vm_types.specs.declared.reply.Reply.TheVariants.{Stalled}
-use Rattle.vm_types.specs.Files.{Files}
-use Rattle.vm_types.specs.Prefix.{may_have_taken}
-use Rattle.vm_types.specs.Run.{Step}
-use Rattle.vm_types.specs.Stalls.{Causes, reads_files, reads_swap}
-use Rattle.vm_types.specs.State.{State, IsRunning}
-use Rattle.vm_types.specs.Step.{ruling, takes}
-use Rattle.vm_types.specs.View.{Pages}
-use Rattle.machine.specs.Accesses.{Accesses}
+use Rattle.vm_types.specs.History.{Past}
+use Rattle.vm_types.specs.State.{State}
+use Rattle.mode_machine.specs.Machine as OfMode
 use Rattle.machine.specs.declared.machine.Machine.{Machine}
+use Rattle.machine.specs.declared.machine.Machine.TheVariants.{Sv39, Sv48}
 
--- one of a list of contents
-abbrev pub IsOneOf : Pages → List Pages → Type 0
-IsOneOf pages [] = ⊥
-IsOneOf pages (one ∷ others) = (pages ≡ one) ⊎ IsOneOf pages others
+-- the bits of an address in a mode, by which a state of the flat model tells its mode
+abbrev pub bits_of : Mode → ℕ
+bits_of Modes.Sv39 = 39
+bits_of Modes.Sv48 = 48
 
-abbrev pub stands_in : Option (List Pages) → Pages → Pages → Type 0
-stands_in None durable pages = pages ≡ durable
-stands_in (Some ends) durable pages = IsOneOf pages ends
+module _ {D E : Type 0} where
+  -- the store's device
+  abbrev pub store_of : Machine D E → D
+  store_of (Sv39 m) = m.core.store.disk
+  store_of (Sv48 m) = m.core.store.disk
 
--- the contents of all files that a stop may leave in a state: the durable ones, or once it has halted one of its ends
-abbrev pub MayStand : State → Pages → Type 0
-MayStand s pages = stands_in s.ends s.durable pages
+  -- the swap device
+  abbrev pub swap_of : Machine D E → E
+  swap_of (Sv39 m) = m.core.swap.pages.disk
+  swap_of (Sv48 m) = m.core.swap.pages.disk
 
--- the same at any moment of a command: what it makes durable may stand as well
-abbrev pub HoldsIn : State → Command → Reply → Pages → Type 0
-HoldsIn s command reply pages =
-    MayStand s pages ⊎ (IsRunning s × (may_have_taken reply ≡ true) × (pages ≡ takes s (ruling s command) s.durable))
+  -- whether an msync failed
+  abbrev pub halted_of : Machine D E → Bool
+  halted_of (Sv39 m) = m.halted
+  halted_of (Sv48 m) = m.halted
 
--- the image stands for contents of which P holds
-abbrev pub StandsForSome : ℕ → Files → (Pages → Type 0) → Image → Type 0
-StandsForSome sectors files P image = (pages : Pages) × P pages × StandsFor sectors files pages image
+  -- the last faults of accesses
+  abbrev pub past_of : Machine D E → Past
+  past_of (Sv39 m) = m.past
+  past_of (Sv48 m) = m.past
+
+  -- how many frames memory has
+  abbrev pub frames_of : Machine D E → ℕ
+  frames_of (Sv39 m) = frame_count m.core.frames
+  frames_of (Sv48 m) = frame_count m.core.frames
+
+  -- how many slots there are
+  abbrev pub slots_of : Machine D E → ℕ
+  slots_of (Sv39 m) = (Slots.slots_of m.core.swap).total
+  slots_of (Sv48 m) = (Slots.slots_of m.core.swap).total
+
+  -- how many requests for a frame were refused
+  abbrev pub refused_of : Machine D E → ℕ
+  refused_of (Sv39 m) = m.core.refused.number
+  refused_of (Sv48 m) = m.core.refused.number
+
+  abbrev pub mode_of : Machine D E → Mode
+  mode_of (Sv39 m) = Modes.Sv39
+  mode_of (Sv48 m) = Modes.Sv48
+
+  -- there are as many frames and slots as there were, and the mode is the same
+  pub record KeepsRoom (old new : Machine D E) : Type 0 where
+    pub frames : frames_of new ≡ frames_of old
+    pub slots : slots_of new ≡ slots_of old
+    pub mode : mode_of new ≡ mode_of old
 
 module _ {D E : Type 0} (g : Ghosts D) (h : Ghosts E) where
   -- whatever the devices do: what the reply names came to pass between the two machines
   abbrev pub IsCaused : Machine D E → Machine D E → Reply → Type 0
-  IsCaused old new reply = Calls.IsCaused g h old.core new.core reply
+  IsCaused (Sv39 old) (Sv39 new) reply = OfMode.IsCaused g h old new reply
+  IsCaused (Sv48 old) (Sv48 new) reply = OfMode.IsCaused g h old new reply
+  IsCaused (Sv39 old) (Sv48 new) reply = ⊥
+  IsCaused (Sv48 old) (Sv39 new) reply = ⊥
 
   -- The machine may go on: unless it has halted, its store may be read and committed to, slots may be put and got, and its memory
   -- is fit.
-  pub record IsSoundMachine (m : Machine D E) : Type 0 where
-    pub going : m.halted ≡ false → IsSoundCore g h m.core
+  abbrev pub IsSoundMachine : Machine D E → Type 0
+  IsSoundMachine (Sv39 m) = OfMode.IsSoundMachine g h m
+  IsSoundMachine (Sv48 m) = OfMode.IsSoundMachine g h m
 
   -- The machine is in that state: its memory shows it, and so does every image that a stop may leave now.
-  pub record Shows (m : Machine D E) (s : State) : Type 0 where
-    pub pages : ShowsPages (picture_of m.core) s
-    pub running : is_some s.ends ≡ m.halted
-    pub past : m.past ≡ s.past
-    pub stands : g.keeps_model m.core.store.disk
-        → LeavesNow g m.core.store.disk (StandsForSome (g.sector_count m.core.store.disk) s.files (MayStand s))
-
-  -- what came to pass between two states of the machine
-  abbrev pub causes : Machine D E → Machine D E → Causes
-  causes old new = Calls.causes g h old.core new.core
+  abbrev pub Shows : Machine D E → State → Type 0
+  Shows (Sv39 m) s = OfMode.Shows g h m s
+  Shows (Sv48 m) s = OfMode.Shows g h m s
 
   -- A command was carried out: as the flat model does, stalled for want of memory only where that is short, with as many frames and
-  -- slots as there were, and with nothing else durable at any moment.
-  pub record Meets (old new : Machine D E) (s t : State) (command : Command) (reply : Reply) : Type 0 where
-    pub step : Step (causes old new) s command reply t
-    pub shows : Shows new t
-    pub capacity : (stall : Stall) → reply ≡ Stalled stall → Calls.FallsShort (frame_count new.core.frames) (slots_of new.core.swap).total s command stall
-    pub room : KeepsRoom (picture_of old.core) (picture_of new.core)
-    pub accesses : Accesses old.core new.core command reply
-    pub size : g.sector_count new.core.store.disk ≡ g.sector_count old.core.store.disk
-    pub swap_size : h.sector_count new.core.swap.pages.disk ≡ h.sector_count old.core.swap.pages.disk
-    pub kept : g.keeps_model new.core.store.disk → g.keeps_model old.core.store.disk
-    pub swap_kept : h.keeps_model new.core.swap.pages.disk → h.keeps_model old.core.swap.pages.disk
-    pub idle : is_idle s command reply ≡ true → KeepsDevices old.core new.core
-    pub moments : g.keeps_model new.core.store.disk
-        → LeavesOnly g old.core.store.disk new.core.store.disk (StandsForSome (g.sector_count old.core.store.disk) s.files (HoldsIn s command reply))
+  -- slots as there were, in the same mode, and with nothing else durable at any moment.
+  abbrev pub Meets : Machine D E → Machine D E → State → State → Command → Reply → Type 0
+  Meets (Sv39 old) (Sv39 new) s t command reply = OfMode.Meets g h old new s t command reply
+  Meets (Sv48 old) (Sv48 new) s t command reply = OfMode.Meets g h old new s t command reply
+  Meets (Sv39 old) (Sv48 new) s t command reply = ⊥
+  Meets (Sv48 old) (Sv39 new) s t command reply = ⊥
 
   -- The premise of a command's contract: a device that it reads keeps its model.
-  pub record IsReadable (m : Machine D E) (s : State) (command : Command) : Type 0 where
-    pub files : reads_files command ≡ true → g.keeps_model m.core.store.disk
-    pub slots : reads_swap s command ≡ true → h.keeps_model m.core.swap.pages.disk
+  abbrev pub IsReadable : Machine D E → State → Command → Type 0
+  IsReadable (Sv39 m) s command = OfMode.IsReadable g h m s command
+  IsReadable (Sv48 m) s command = OfMode.IsReadable g h m s command

@@ -1,10 +1,9 @@
 //! The machine: a trace's commands, carried out one after another over a store that survives stops.
 #![tactic(auto)]
 
-mod boot;
-mod fault_log;
+mod config;
 mod machine;
-mod syncs;
 
-pub use boot::{BootFault, Config};
+pub use config::Config;
 pub use machine::Machine;
+pub use mode_machine::BootFault;

@@ -1,63 +1,67 @@
 //! The machine: commands in, replies out, over a store that survives stops.
-ghost use Rattle.std.specs.Prelude.{◌≡◌, ◌≤◌, ◌<◌, length, is_some, true};
+ghost use Rattle.std.specs.Prelude.{◌≡◌, ◌≤◌, ◌<◌, ◌⊎◌, ℕ, IfOk, IfErr, OnOk, length, is_some};
+ghost use Rattle.disk_model.specs.Moments.{Touches, Nothing, LeavesOnly};
+ghost use Rattle.disk_model.specs.Stop.{Image};
+ghost use Rattle.file_store.specs.Standing.{StandsAs, IsBadLayout};
+ghost use Rattle.sync_journal.specs.Standing.{IsBadJournal};
+ghost use Rattle.vm_types.specs.Replies.{told};
 ghost use Rattle.vm_types.specs.State.{State, IsRunning};
-ghost use Rattle.machine.specs.Machine.{IsCaused, IsSoundMachine, IsReadable, Shows, Meets};
-ghost use Rattle.mapping.specs.Changes.{KeepsRoom};
-ghost use Rattle.paging.specs.Parts.{IsFit};
-ghost use Rattle.paging.specs.Picture.{picture_of, is_live};
-ghost use Rattle.vm_types.specs.Replies.{reply_of, told};
-ghost use Rattle.vm_types.specs.Step.{noted_fault};
-ghost use Rattle.vm_types.specs.declared.refusal.Fault.{Fault};
+ghost use Rattle.mode_machine.specs.Tidy.{IsTidy};
+ghost use Rattle.machine.specs.Boot.{HasBadFrames, HasBadSlots, HasRoom, Boots};
 ghost use Rattle.machine.specs.Chain.{Caused, Runs};
 ghost use Rattle.machine.specs.Counts.{Counts};
-ghost use Rattle.machine.specs.Tidy.{IsTidy};
+ghost use Rattle.machine.specs.Machine.{store_of, swap_of, halted_of, past_of, KeepsRoom, IsCaused, IsSoundMachine, IsReadable, Shows, Meets};
 
-use crate::fault_log::FaultLog;
-use calls::{RegionRoom, SyncRoom};
+use crate::config::Config;
 use disk_model::SectorDisk;
-use paging::Core;
-use vm_types::{Answer, Command, History, Reply};
+use mode_machine::{BootFault, ModeMachine, Sizes};
+use std::alloc::Global;
+use vm_types::{Answer, Command, History, Mode, Reply, Sv39, Sv48};
 
-/// A machine over a store device `D` and a swap device `E`, made by `boot`.
+/// A machine over a store device `D` and a swap device `E`, made by `boot`: one for each mode of address spaces.
 ///
 /// Its replies are those of the flat model in `vm_types`, and what a stop leaves in the store is what some of its
 /// msyncs left, in order and each taken whole (Park, Kelly and Shen, Failure-Atomic msync, EuroSys 2013).
 #[derive(Drop)]
-pub struct Machine<D, E> {
-    pub(crate) core: Core<D, E>,
-    /// Whether an msync failed.
-    pub(crate) halted: bool,
-    /// The last faults of accesses.
-    pub(crate) past: FaultLog,
-    /// Where msyncs keep their pages.
-    pub(crate) sync_room: SyncRoom,
-    /// Where calls put the regions that a process gets.
-    pub(crate) region_room: RegionRoom,
+pub enum Machine<D, E> {
+    /// Three levels of page tables.
+    Sv39(ModeMachine<D, E, Sv39>),
+    /// Four levels of page tables.
+    Sv48(ModeMachine<D, E, Sv48>),
 }
 
 impl<D: SectorDisk, E: SectorDisk> Machine<D, E> {
     /// The store's device.
     pub fn store(&self) -> &D
-        ensures { result.now ≡ self.now.core.store.disk }
+        ensures { result.now ≡ store_of self.now }
     {
-        self.core.store.disk()
+        match self {
+            Machine::Sv39(machine) => machine.store(),
+            Machine::Sv48(machine) => machine.store(),
+        }
     }
 
     /// The store's device, given back. What was stored and not made durable is lost.
     pub fn into_store(self) -> D
     where
         E: Drop,
-        ensures { result ≡ self.core.store.disk }
+        ensures { result ≡ store_of self }
     {
-        self.core.store.into_disk()
+        match self {
+            Machine::Sv39(machine) => machine.into_store(),
+            Machine::Sv48(machine) => machine.into_store(),
+        }
     }
 
     /// Whether an msync returned `EIO`: every command then returns `Halted`, and none otherwise.
     pub fn is_halted(&self) -> bool
-        ensures halted { result ≡ self.now.halted }
+        ensures halted { result ≡ halted_of self.now }
         ensures ends { (s : State) → Shows D.SectorDisk E.SectorDisk self.now s → result ≡ is_some s.ends }
     {
-        self.halted
+        match self {
+            Machine::Sv39(machine) => machine.is_halted(),
+            Machine::Sv48(machine) => machine.is_halted(),
+        }
     }
 
     /// Carries out one command, as `step` does, and returns the reply in the few bytes that all but a history take. `None` where
@@ -65,71 +69,36 @@ impl<D: SectorDisk, E: SectorDisk> Machine<D, E> {
     pub fn carry_out(&mut self, command: Command) -> Option<Answer>
         requires sound { IsSoundMachine D.SectorDisk E.SectorDisk self.old }
         ensures sound { IsSoundMachine D.SectorDisk E.SectorDisk self.new }
-        ensures kept { D.keeps_model self.new.core.store.disk → D.keeps_model self.old.core.store.disk }
-        ensures swap_kept { E.keeps_model self.new.core.swap.pages.disk → E.keeps_model self.old.core.swap.pages.disk }
-        ensures room { KeepsRoom (picture_of self.old.core) (picture_of self.new.core) }
-        ensures caused { IsCaused D.SectorDisk E.SectorDisk self.old self.new (told self.new.past result) }
+        ensures kept { D.keeps_model (store_of self.new) → D.keeps_model (store_of self.old) }
+        ensures swap_kept { E.keeps_model (swap_of self.new) → E.keeps_model (swap_of self.old) }
+        ensures room { KeepsRoom self.old self.new }
+        ensures caused { IsCaused D.SectorDisk E.SectorDisk self.old self.new (told (past_of self.new) result) }
         ensures meets { (s : State) → Shows D.SectorDisk E.SectorDisk self.old s → IsReadable D.SectorDisk E.SectorDisk self.new s command
-            → (t : State) × Meets D.SectorDisk E.SectorDisk self.old self.new s t command (told self.new.past result) }
+            → (t : State) × Meets D.SectorDisk E.SectorDisk self.old self.new s t command (told (past_of self.new) result) }
     {
-        if self.halted {
-            return Some(Answer::Halted);
-        }
-        let core = &mut self.core;
-        let room = &mut self.region_room;
-        match command {
-            Command::Spawn => Some(calls::spawn(core)),
-            Command::Fork { pid } => Some(calls::fork(core, pid)),
-            Command::Exit { pid } => Some(calls::exit(core, pid)),
-            Command::Mmap {
-                pid,
-                addr,
-                len,
-                prot,
-                source,
-                placing,
-            } => Some(calls::mmap(core, room, pid, addr, len, prot, source, placing)),
-            Command::Munmap { pid, addr, len } => Some(calls::munmap(core, room, pid, addr, len)),
-            Command::Mprotect {
-                pid,
-                addr,
-                len,
-                prot,
-            } => Some(calls::mprotect(core, room, pid, addr, len, prot)),
-            Command::Msync {
-                pid,
-                addr,
-                len,
-                mode,
-            } => Some(self.msync(pid, addr, len, mode)),
-            Command::Dontneed { pid, addr, len } => Some(calls::dontneed(core, pid, addr, len)),
-            Command::Load { pid, addr, width } => {
-                let answer = calls::load(core, pid, addr, width);
-                Some(self.noted(pid, answer))
-            }
-            Command::Store { pid, addr, stored } => {
-                let answer = calls::store(core, pid, addr, stored);
-                Some(self.noted(pid, answer))
-            }
-            Command::Fetch { pid, addr } => {
-                let answer = calls::fetch(core, pid, addr);
-                Some(self.noted(pid, answer))
-            }
-            Command::PastFaults => None,
+        match self {
+            Machine::Sv39(machine) => machine.carry_out(command),
+            Machine::Sv48(machine) => machine.carry_out(command),
         }
     }
 
     /// How many accesses have found the translation of their page kept from an earlier one (RISC-V Privileged Specification,
     /// "Supervisor Memory-Management Fence Instruction"); it stays at its greatest value. No clause speaks of it.
     pub fn hits(&self) -> u64 {
-        self.core.frames.hits()
+        match self {
+            Machine::Sv39(machine) => machine.hits(),
+            Machine::Sv48(machine) => machine.hits(),
+        }
     }
 
     /// The last faults of accesses, oldest first, each with its process: 16 at most.
     pub fn history(&self) -> History
-        ensures { result ≡ self.now.past }
+        ensures { result ≡ past_of self.now }
     {
-        self.past.history()
+        match self {
+            Machine::Sv39(machine) => machine.history(),
+            Machine::Sv48(machine) => machine.history(),
+        }
     }
 
     /// Carries out one command. It takes no memory of the host. A command that would succeed may stall, and then has
@@ -141,36 +110,19 @@ impl<D: SectorDisk, E: SectorDisk> Machine<D, E> {
     pub fn step(&mut self, command: Command) -> Reply
         requires sound { IsSoundMachine D.SectorDisk E.SectorDisk self.old }
         ensures sound { IsSoundMachine D.SectorDisk E.SectorDisk self.new }
-        ensures kept { D.keeps_model self.new.core.store.disk → D.keeps_model self.old.core.store.disk }
-        ensures swap_kept { E.keeps_model self.new.core.swap.pages.disk → E.keeps_model self.old.core.swap.pages.disk }
-        ensures room { KeepsRoom (picture_of self.old.core) (picture_of self.new.core) }
+        ensures kept { D.keeps_model (store_of self.new) → D.keeps_model (store_of self.old) }
+        ensures swap_kept { E.keeps_model (swap_of self.new) → E.keeps_model (swap_of self.old) }
+        ensures room { KeepsRoom self.old self.new }
         ensures caused { IsCaused D.SectorDisk E.SectorDisk self.old self.new result }
         ensures meets { (s : State) → Shows D.SectorDisk E.SectorDisk self.old s → IsReadable D.SectorDisk E.SectorDisk self.new s command
             → (t : State) × Meets D.SectorDisk E.SectorDisk self.old self.new s t command result }
         // No bytes are kept of shared anonymous memory that no process has.
         ensures tidy { (s : State) → Shows D.SectorDisk E.SectorDisk self.new s → IsRunning s → IsTidy s }
     {
-        match self.carry_out(command) {
-            Some(answer) => answer.reply(),
-            None => Reply::Past(self.past.history()),
+        match self {
+            Machine::Sv39(machine) => machine.step(command),
+            Machine::Sv48(machine) => machine.step(command),
         }
-    }
-
-    /// What an access of a process returned. The fault of one that faulted is kept.
-    fn noted(&mut self, pid: u64, answer: Answer) -> Answer
-        requires fit { IsFit (picture_of self.old.core) }
-        ensures answer { result ≡ answer }
-        ensures core { self.new.core ≡ self.old.core }
-        ensures halted { self.new.halted ≡ self.old.halted }
-        ensures past { ((fault : Fault) → answer ≡ Answer.Faulted fault → is_live (picture_of self.old.core) pid ≡ true)
-            → self.new.past ≡ noted_fault pid (reply_of answer) self.old.past }
-    {
-        if let Answer::Faulted(fault) = answer {
-            if let Some(pid) = self.core.live(pid) {
-                self.past.note(pid, fault);
-            }
-        }
-        answer
     }
 
     /// Carries out commands one after another, and writes the reply to each. Whatever the devices do, each failed at least once
@@ -180,16 +132,88 @@ impl<D: SectorDisk, E: SectorDisk> Machine<D, E> {
         requires sound { IsSoundMachine D.SectorDisk E.SectorDisk self.old }
         requires lengths { length replies.old ≡ length commands.now }
         ensures sound { IsSoundMachine D.SectorDisk E.SectorDisk self.new }
-        ensures kept { D.keeps_model self.new.core.store.disk → D.keeps_model self.old.core.store.disk }
-        ensures swap_kept { E.keeps_model self.new.core.swap.pages.disk → E.keeps_model self.old.core.swap.pages.disk }
-        ensures room { KeepsRoom (picture_of self.old.core) (picture_of self.new.core) }
+        ensures kept { D.keeps_model (store_of self.new) → D.keeps_model (store_of self.old) }
+        ensures swap_kept { E.keeps_model (swap_of self.new) → E.keeps_model (swap_of self.old) }
+        ensures room { KeepsRoom self.old self.new }
         ensures caused { Caused D.SectorDisk E.SectorDisk self.old replies.new self.new }
         ensures counts { Counts D.SectorDisk E.SectorDisk self.old self.new replies.new }
-        ensures run { (s : State) → Shows D.SectorDisk E.SectorDisk self.old s → D.keeps_model self.new.core.store.disk → E.keeps_model self.new.core.swap.pages.disk
+        ensures run { (s : State) → Shows D.SectorDisk E.SectorDisk self.old s → D.keeps_model (store_of self.new) → E.keeps_model (swap_of self.new)
             → Runs D.SectorDisk E.SectorDisk self.old self.new commands.now replies.new s }
     {
         for (i, command) in commands.iter().enumerate() {
             replies[i] = self.step(*command);
+        }
+    }
+}
+
+impl<D: SectorDisk, E: SectorDisk + Drop> Machine<D, E> {
+    /// Starts a machine over a store as a stop left it, or as whoever had it last in this program, who may have left writes
+    /// unsynced: opens it, recovering it, and takes all memory that the machine will ever need. The sizes are looked at
+    /// before the store is asked.
+    ///
+    /// `Frames`, `Slots`, `BadLayout` and `BadJournal` come exactly where their texts say, unless an earlier one
+    /// comes; `Device` exactly where the store device failed in this call. Each fault hands the store back.
+    pub fn boot(
+        alloc: Global,
+        config: Config,
+        store: D,
+        swap: E,
+    ) -> Result<Machine<D, E>, (BootFault, D)>
+        ensures sound { IfOk result (λ m. IsSoundMachine D.SectorDisk E.SectorDisk m) }
+        ensures boots { IfOk result (λ m. Boots D.SectorDisk E.SectorDisk store m) }
+        ensures room { IfOk result (λ m. HasRoom m config) }
+        // The swap device is as it came.
+        ensures swap { IfOk result (λ m. swap_of m ≡ swap) }
+        ensures size { IfOk result (λ m. D.sector_count (store_of m) ≡ D.sector_count store) }
+        ensures kept { IfOk result (λ m. D.keeps_model (store_of m) → D.keeps_model store) }
+        ensures later { IfOk result (λ m. D.failures store ≤ D.failures (store_of m)) }
+        ensures calm { IfOk result (λ m. D.failures (store_of m) ≡ D.failures store) }
+        ensures frames { OnOk result (HasBadFrames config → ⊥) }
+        ensures slots { OnOk result (HasBadSlots config (E.sector_count swap) → ⊥) }
+        ensures layout { IfOk result (λ m. D.keeps_model (store_of m) → IsBadLayout (D.sector_count store) (D.content store) → ⊥) }
+        ensures journal { IfOk result (λ m. D.keeps_model (store_of m) → IsBadJournal (D.sector_count store) (D.content store) → ⊥) }
+
+        // Where the store came without unsynced writes, a stop at any moment of the call leaves what stood before it, and what
+        // stood before any earlier stop.
+        ensures any_moment { IfOk result (λ m. D.keeps_model (store_of m) → ((k : ℕ) → D.unsynced store k → ⊥)
+            → LeavesOnly D.SectorDisk store (store_of m) (StandsAs (D.sector_count store) (D.content store))) }
+        ensures in_a_row { IfOk result (λ m. D.keeps_model (store_of m) → ((k : ℕ) → D.unsynced store k → ⊥) → (first : Image) → StandsAs (D.sector_count store) first (D.content store)
+            → LeavesOnly D.SectorDisk store (store_of m) (StandsAs (D.sector_count store) first)) }
+        ensures err_moment { IfErr result (λ e. D.keeps_model e.1 → ((k : ℕ) → D.unsynced store k → ⊥)
+            → LeavesOnly D.SectorDisk store e.1 (StandsAs (D.sector_count store) (D.content store))) }
+        ensures err_in_a_row { IfErr result (λ e. D.keeps_model e.1 → ((k : ℕ) → D.unsynced store k → ⊥) → (first : Image) → StandsAs (D.sector_count store) first (D.content store)
+            → LeavesOnly D.SectorDisk store e.1 (StandsAs (D.sector_count store) first)) }
+
+        ensures err_size { IfErr result (λ e. D.sector_count e.1 ≡ D.sector_count store) }
+        ensures err_kept { IfErr result (λ e. D.keeps_model e.1 → D.keeps_model store) }
+        ensures err_later { IfErr result (λ e. D.failures store ≤ D.failures e.1) }
+        ensures bad_frames { IfErr result (λ e. e.0 ≡ BootFault.Frames → HasBadFrames config) }
+        ensures only_frames { IfErr result (λ e. HasBadFrames config → e.0 ≡ BootFault.Frames) }
+        ensures bad_slots { IfErr result (λ e. e.0 ≡ BootFault.Slots → HasBadSlots config (E.sector_count swap)) }
+        ensures only_slots { IfErr result (λ e. (HasBadFrames config → ⊥) → HasBadSlots config (E.sector_count swap) → e.0 ≡ BootFault.Slots) }
+        ensures device { IfErr result (λ e. e.0 ≡ BootFault.Device → D.failures store < D.failures e.1) }
+        ensures err_calm { IfErr result (λ e. (e.0 ≡ BootFault.Device → ⊥) → D.failures e.1 ≡ D.failures store) }
+        ensures bad_layout { IfErr result (λ e. D.keeps_model e.1 → e.0 ≡ BootFault.BadLayout → IsBadLayout (D.sector_count store) (D.content store)) }
+        ensures bad_journal { IfErr result (λ e. D.keeps_model e.1 → e.0 ≡ BootFault.BadJournal → IsBadJournal (D.sector_count store) (D.content store)) }
+        // A bad layout is reported before a bad journal.
+        ensures layout_first { IfErr result (λ e. D.keeps_model e.1 → e.0 ≡ BootFault.BadJournal → IsBadLayout (D.sector_count store) (D.content store) → ⊥) }
+        // Nothing was asked of the store, or nothing written to it.
+        ensures unasked { IfErr result (λ e. (e.0 ≡ BootFault.Frames) ⊎ (e.0 ≡ BootFault.Slots) → e.1 ≡ store) }
+        ensures unwritten { IfErr result (λ e. D.keeps_model e.1 → (e.0 ≡ BootFault.BadLayout) ⊎ (e.0 ≡ BootFault.BadJournal) → Touches D.SectorDisk Nothing store e.1) }
+    {
+        let sizes = Sizes {
+            frames: config.frames,
+            slots: config.slots,
+        };
+        match config.mode {
+            Mode::Sv39 => match ModeMachine::boot(alloc, sizes, store, swap) {
+                Ok(machine) => Ok(Machine::Sv39(machine)),
+                Err(fault) => Err(fault),
+            },
+            Mode::Sv48 => match ModeMachine::boot(alloc, sizes, store, swap) {
+                Ok(machine) => Ok(Machine::Sv48(machine)),
+                Err(fault) => Err(fault),
+            },
         }
     }
 }

@@ -12,7 +12,7 @@ use file_store::{FileSource, format};
 use machine::{Config, Machine};
 use std::alloc::Global;
 use std::test::Fail;
-use vm_types::{Command, MapSource, MsyncMode, Placing, Prot, Reply, StoredValue, Width};
+use vm_types::{Command, MapSource, Mode, MsyncMode, Placing, Prot, Reply, StoredValue, Width};
 
 /// A device with a store of one file, of one page of zeros.
 fn formatted(alloc: Global) -> Result<SimDisk, Fail> {
@@ -33,6 +33,7 @@ fn booted(alloc: Global, store: SimDisk) -> Result<Machine<SimDisk, SimDisk>, Fa
     let config = Config {
         frames: 8,
         slots: 16,
+        mode: Mode::Sv39,
     };
     let swap = SimDisk::new(alloc, 8 * 16)?;
     match Machine::boot(alloc, config, store, swap) {

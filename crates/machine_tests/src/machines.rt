@@ -10,7 +10,7 @@ use std::fmt::Debug;
 use std::process::Abort;
 use std::test::Fail;
 use vm_types::{
-    Answer, Code, Command, Errno, Fault, MapSource, MsyncMode, Pid, Placing, Prot, Reply,
+    Answer, Code, Command, Errno, Fault, MapSource, Mode, MsyncMode, Pid, Placing, Prot, Reply,
     StoredValue, Width,
 };
 
@@ -42,7 +42,11 @@ fn image(alloc: Global, formatted: bool, failing: Option<u64>) -> Result<SimDisk
 fn booted(alloc: Global, frames: u32, store: SimDisk) -> Result<Machine<SimDisk, SimDisk>, Fail>
     ensures { IfOk result (λ m. IsSoundMachine ⟦<SimDisk as SectorDisk>⟧ ⟦<SimDisk as SectorDisk>⟧ m) }
 {
-    let config = Config { frames, slots: 16 };
+    let config = Config {
+        frames,
+        slots: 16,
+        mode: Mode::Sv39,
+    };
     match Machine::boot(alloc, config, store, SimDisk::new(alloc, 128)?) {
         Ok(machine) => Ok(machine),
         Err((fault, _)) => Err(Fail::new(format_args!("boot: {fault:?}"))),
@@ -223,7 +227,11 @@ fn boots_are_refused(rt: HostRuntime) -> Result<(), Fail> {
         (8, 16, Some(1), BootFault::Device, 4),
         (8, 16, None, BootFault::BadLayout, 5),
     ] {
-        let config = Config { frames, slots };
+        let config = Config {
+            frames,
+            slots,
+            mode: Mode::Sv39,
+        };
         let store = image(rt.alloc(), false, failing)?;
         match Machine::boot(rt.alloc(), config, store, SimDisk::new(rt.alloc(), 135)?) {
             Ok(_) => return Err(Fail::new("it booted")),

@@ -8,7 +8,7 @@ mod walking;
 
 pub use memory::Memory;
 pub use trees::{
-    entry, entry_number, link_table, missing_tables, number_in, prune, set, set_in, table_of,
-    take_table,
+    entry, entry_number, last_table, link_table, missing_tables, number_in, prune, set, set_in,
+    table_of, take_table,
 };
 pub use walking::{keep, walk};

@@ -6,20 +6,21 @@ ghost use Rattle.walk_buffer.specs.Lines.{line_at};
 
 use frames::{Frames, Role};
 use std::alloc::{AllocError, Global};
-use std::marker::Model;
-use vm_types::{FrameNo, NoFree};
+use std::marker::{Model, PhantomData};
+use vm_types::{FrameNo, Levels, NoFree};
 use walk_buffer::TranslationBuffer;
 
-/// Physical memory of 8 to 65,536 frames, as `Frames`, and a buffer of translations. In contracts it is the bytes, the role and
+/// Physical memory of 8 to 65,536 frames, as `Frames`, whose page tables are those of the mode, and a buffer of translations. In contracts it is the bytes, the role and
 /// the share count of each frame: no call but `hits` tells what the buffer has.
 #[derive(Drop)]
-pub struct Memory {
+pub struct Memory<M: Levels> {
     pub(crate) frames: Frames,
     pub(crate) buffer: TranslationBuffer,
     pub(crate) hits: u64,
+    pub(crate) levels: PhantomData<M>,
 }
 
-impl Model for Memory {
+impl<M: Levels> Model for Memory<M> {
     ghost use Rattle.frames.specs.FrameTable.{FrameTable};
     ghost use Rattle.mapped_memory.specs.Kept.{LinesAreLeaves};
 
@@ -27,10 +28,10 @@ impl Model for Memory {
 
     ghost view = { λ m. m.frames };
 
-    ghost invariant = { λ m. LinesAreLeaves m.frames m.buffer };
+    ghost invariant = { λ m. LinesAreLeaves M.mode m.frames m.buffer };
 }
 
-impl Memory {
+impl<M: Levels> Memory<M> {
     ghost use Rattle.std.specs.Borrow.{sem};
     ghost use Rattle.frames.specs.declared.role.Role.TheVariants.{Free, Private};
     ghost use Rattle.frames.specs.FrameTable.{frame_count, bytes_of, count_of, IsSound, IsFresh, IsFull, IsHeld, is_handed_out, Takes, Shares, Releases, with_bytes};
@@ -38,7 +39,7 @@ impl Memory {
     ghost use Rattle.mapped_memory.specs.Lending.{LendsFrame};
 
     /// Memory of `count` frames, 8 to 65,536, all of them free but frame 0.
-    pub fn new(alloc: Global, count: u32) -> Result<Memory, AllocError>
+    pub fn new(alloc: Global, count: u32) -> Result<Memory<M>, AllocError>
         requires least { 8 ≤ count }
         requires most { count ≤ 65536 }
         ensures fresh { IfOk result (λ memory. IsFresh memory count) }
@@ -48,6 +49,7 @@ impl Memory {
             frames: Frames::new(alloc, count)?,
             buffer: TranslationBuffer::new(),
             hits: 0,
+            levels: PhantomData,
         })
     }
 
@@ -92,7 +94,7 @@ impl Memory {
     /// The bytes of frame `n`, to be changed. All other frames stay as they are, and so do all roles and counts.
     pub fn bytes_mut(&mut self, n: FrameNo) -> &mut [u8; 4096]
         requires { IsHeld self.old n.0 }
-        ensures* writes_back { sem 𝓛 (LendsFrame self.entry n.0 result) }
+        ensures* writes_back { sem 𝓛 (LendsFrame M.row M.Levels self.entry n.0 result) }
         ensures value { result.now ≡ bytes_of self.old n.0 }
     {
         forget_table(&self.frames, &mut self.buffer, n);

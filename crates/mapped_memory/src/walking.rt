@@ -12,7 +12,7 @@ use crate::memory::Memory;
 use frames::Frames;
 use page_tables::entry_number;
 use sv39_walk::{Pte, WalkFault};
-use vm_types::{Access, FrameNo, PAGE_BYTES, Phys, Vpn};
+use vm_types::{Access, FrameNo, Levels, PAGE_BYTES, Phys, Vpn};
 use walk_buffer::{TranslationBuffer, lets};
 
 // Bytes of a page, as a number of addresses.
@@ -23,41 +23,42 @@ const PAGE: u64 = PAGE_BYTES as u64;
 ///
 /// # Errors
 /// The reason, exactly where there is one.
-pub fn walk(
-    memory: &mut Memory,
+pub fn walk<M: Levels>(
+    memory: &mut Memory<M>,
     root: FrameNo,
     addr: u64,
     access: Access,
 ) -> Result<Phys, WalkFault>
     requires forest { IsForest memory.old }
-    requires root { IsRoot top_level memory.old root.0 }
-    ensures walked { result ≡ translated top_level memory.old root.0 addr access }
+    requires root { IsRoot (top_level M.mode) memory.old root.0 }
+    ensures walked { result ≡ translated (top_level M.mode) memory.old root.0 addr access }
     ensures same { memory.new ≡ memory.old }
 {
-    let Some(page) = Vpn::new(addr / PAGE) else {
-        return sv39_walk::walk(&memory.frames, root, addr, access);
+    let Some(page) = Vpn::new::<M>(addr / PAGE) else {
+        return sv39_walk::walk::<M>(&memory.frames, root, addr, access);
     };
     match memory.buffer.look(root, page, access) {
         Some(frame) => {
             memory.hits = memory.hits.saturating_add(1);
             Ok(place_in(frame, addr))
         }
-        None => walk_and_keep(&memory.frames, &mut memory.buffer, root, page, addr, access),
+        None => walk_and_keep::<M>(&memory.frames, &mut memory.buffer, root, page, addr, access),
     }
 }
 
-/// Keeps the leaf of a page where it lets the access go through, so that the next walk to the page finds its line. Memory
+/// Keeps the leaf of a user page of the mode where it lets the access go through, so that the next walk to the page finds its line. Memory
 /// stays as it is.
-pub fn keep(memory: &mut Memory, root: FrameNo, page: Vpn, access: Access)
+pub fn keep<M: Levels>(memory: &mut Memory<M>, root: FrameNo, page: Vpn, access: Access)
     requires forest { IsForest memory.old }
-    requires root { IsRoot top_level memory.old root.0 }
+    requires root { IsRoot (top_level M.mode) memory.old root.0 }
+    requires user { page < user_end M.mode }
     ensures same { memory.new ≡ memory.old }
 {
-    let _ = keep_leaf(&memory.frames, &mut memory.buffer, root, page, access);
+    let _ = keep_leaf::<M>(&memory.frames, &mut memory.buffer, root, page, access);
 }
 
 // The walk to a page that has no line. Its leaf is kept where that lets the access go through.
-fn walk_and_keep(
+fn walk_and_keep<M: Levels>(
     frames: &Frames,
     buffer: &mut TranslationBuffer,
     root: FrameNo,
@@ -66,22 +67,22 @@ fn walk_and_keep(
     access: Access,
 ) -> Result<Phys, WalkFault>
     requires forest { IsForest frames.now }
-    requires root { IsRoot top_level frames.now root.0 }
+    requires root { IsRoot (top_level M.mode) frames.now root.0 }
     requires page { page_of addr ≡ page }
-    requires small { page < user_end }
-    requires kept { LinesAreLeaves frames.now buffer.old }
-    ensures walked { result ≡ translated top_level frames.now root.0 addr access }
-    ensures kept { LinesAreLeaves frames.now buffer.new }
+    requires small { page < user_end M.mode }
+    requires kept { LinesAreLeaves M.mode frames.now buffer.old }
+    ensures walked { result ≡ translated (top_level M.mode) frames.now root.0 addr access }
+    ensures kept { LinesAreLeaves M.mode frames.now buffer.new }
 {
-    match keep_leaf(frames, buffer, root, page, access) {
+    match keep_leaf::<M>(frames, buffer, root, page, access) {
         Some(frame) => Ok(place_in(frame, addr)),
-        None => sv39_walk::walk(frames, root, addr, access),
+        None => sv39_walk::walk::<M>(frames, root, addr, access),
     }
 }
 
 // Keeps the leaf of a page where it lets the access go through, into a frame of memory, and returns that frame: the walk to
 // each address of the page ends there.
-fn keep_leaf(
+fn keep_leaf<M: Levels>(
     frames: &Frames,
     buffer: &mut TranslationBuffer,
     root: FrameNo,
@@ -89,13 +90,13 @@ fn keep_leaf(
     access: Access,
 ) -> Option<FrameNo>
     requires forest { IsForest frames.now }
-    requires root { IsRoot top_level frames.now root.0 }
-    requires small { page < user_end }
-    requires kept { LinesAreLeaves frames.now buffer.old }
-    ensures walked { IfSome result (λ frame. (addr : ℕ) → page_of addr ≡ page → translated top_level frames.now root.0 addr access ≡ Ok (place_in frame.0 addr)) }
-    ensures kept { LinesAreLeaves frames.now buffer.new }
+    requires root { IsRoot (top_level M.mode) frames.now root.0 }
+    requires small { page < user_end M.mode }
+    requires kept { LinesAreLeaves M.mode frames.now buffer.old }
+    ensures walked { IfSome result (λ frame. (addr : ℕ) → page_of addr ≡ page → translated (top_level M.mode) frames.now root.0 addr access ≡ Ok (place_in frame.0 addr)) }
+    ensures kept { LinesAreLeaves M.mode frames.now buffer.new }
 {
-    let leaf = entry_number(frames, root, page);
+    let leaf = entry_number::<M>(frames, root, page);
     if !is_usable(frames, leaf, access) {
         return None;
     }

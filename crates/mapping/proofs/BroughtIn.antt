@@ -1,4 +1,5 @@
 -- A file page brought into a frame, or left where it was where the read failed.
+use Rattle.vm_types.specs.declared.mode.Levels as Levels
 use Rattle.std.proofs.Common.{◌≡◌, ℕ, false, inl, inr, ◌⊎◌, Option, Some, None, Result, Ok, Err, refl, sym, ap, ◌∙◌, subst, arith}
 use Rattle.std.specs.Prelude.{IfOk, IfErr, OnErr}
 use Rattle.vm_types.specs.declared.file.FilePage.{FilePage}
@@ -28,8 +29,8 @@ use Rattle.mapping.proofs.Slotted.{slotted_then, slotted_frees}
 use Rattle.mapping.proofs.Steps.{spaces_then, room_then, seen_then, tables_then, bare_then, tables_same, spaces_freed, room_freed, seen_freed, tables_freed, bare_freed}
 
 -- a frame was obtained, and the page of a file or an object brought into it
-module _ (old new : Picture) (page : PageKey) (n : ℕ) (obtains : ObtainsCached old new page n) where
-  abbrev found : Picture
+module _ {mode : ℕ} (old new : Picture mode) (page : PageKey) (n : ℕ) (obtains : ObtainsCached old new page n) where
+  abbrev found : Picture mode
   found = obtains.found
 
   spaces_came : KeepsSpaces old new
@@ -65,7 +66,7 @@ module _ (old new : Picture) (page : PageKey) (n : ℕ) (obtains : ObtainsCached
   files_came f = obtains.brings.files f ∙ obtains.frees.pages.files.files f
 
 -- an outcome of either kind
-module _ (old new : Picture) (page : PageKey) where
+module _ {mode : ℕ} (old new : Picture mode) (page : PageKey) where
   pub spaces_of : (r : Result FrameNo Stall) → IfOk r (λ n. ObtainsCached old new page n.0) → OnErr r (Frees old new None) → KeepsSpaces old new
   spaces_of (Ok n) obtains frees = spaces_came old new page n.0 obtains
   spaces_of (Err s) obtains frees = spaces_freed old new None frees
@@ -114,27 +115,28 @@ module _ {D : Type 0} (g : Ghosts D) where
         directory = refl;
       })
 
-  freed : (before after : D) (W : PageKey → Type 0) (old new : Picture) (p : PageKey) → (held new p ≡ held old p) ⊎ ((held new p ≡ None) × (old.touched p ≡ false)) → IsBrought g before after W old new p
+module _ {mode : ℕ} {D : Type 0} (g : Ghosts D) where
+  freed : (before after : D) (W : PageKey → Type 0) (old new : Picture mode) (p : PageKey) → (held new p ≡ held old p) ⊎ ((held new p ≡ None) × (old.touched p ≡ false)) → IsBrought g before after W old new p
   freed before after W old new p (inl same) = Stays same
   freed before after W old new p (inr home) = Leaves home.0 home.1
 
-  pub brings_freed : (before after : D) (W : PageKey → Type 0) (old new : Picture) (keep : Option FrameNo) → Frees old new keep → BringsPages g before after W old new
+  pub brings_freed : (before after : D) (W : PageKey → Type 0) (old new : Picture mode) (keep : Option FrameNo) → Frees old new keep → BringsPages g before after W old new
   brings_freed before after W old new keep frees = record { each = λ p. freed before after W old new p (frees.pages.files.held p); files = frees.pages.files.files }
 
-  pub brings_none : (before after : D) (W : PageKey → Type 0) (c : Picture) → BringsPages g before after W c c
+  pub brings_none : (before after : D) (W : PageKey → Type 0) (c : Picture mode) → BringsPages g before after W c c
   brings_none before after W c = record { each = λ p. Stays refl; files = λ f. refl }
 
-  else_brought : (before after : D) (W : PageKey → Type 0) (old found new : Picture) (p : PageKey) → found.touched p ≡ old.touched p → held new p ≡ held found p
+  else_brought : (before after : D) (W : PageKey → Type 0) (old found new : Picture mode) (p : PageKey) → found.touched p ≡ old.touched p → held new p ≡ held found p
       → (held found p ≡ held old p) ⊎ ((held found p ≡ None) × (old.touched p ≡ false)) → IsBrought g before after W old new p
   else_brought before after W old found new p touched same (inl e) = Stays (same ∙ e)
   else_brought before after W old found new p touched same (inr home) = Leaves (same ∙ home.0) home.1
 
-  no_home : (p : Picture) (x : PageKey) → p.place x ≡ Home → held p x ≡ None
+  no_home : (p : Picture mode) (x : PageKey) → p.place x ≡ Home → held p x ≡ None
   unfolding held
   no_home p x home = ap (λ y. bytes_at p.frames p.slots y) home
 
   -- read from its home
-  came_home : (before after : D) (old new : Picture) (page : PageKey) (n : ℕ) → ObtainsCached old new page n → IsBrought g before after (λ y. y ≡ page) old new page
+  came_home : (before after : D) (old new : Picture mode) (page : PageKey) (n : ℕ) → ObtainsCached old new page n → IsBrought g before after (λ y. y ≡ page) old new page
       → BringsPages g before after (λ p. p ≡ page) old new
   came_home before after old new page n obtains here = record {
     each = λ p. elim (cases_page p page) [
@@ -146,23 +148,23 @@ module _ {D : Type 0} (g : Ghosts D) where
     files = files_came old new page n obtains;
   }
 
-  pub brings_home : (before after : D) (old new : Picture) (page : FilePage) (n : ℕ) → ObtainsCached old new (File page) n → old.touched (File page) ≡ false → IsRead g before after page (bytes_of new.frames n)
+  pub brings_home : (before after : D) (old new : Picture mode) (page : FilePage) (n : ℕ) → ObtainsCached old new (File page) n → old.touched (File page) ≡ false → IsRead g before after page (bytes_of new.frames n)
       → BringsPages g before after (λ p. p ≡ File page) old new
   brings_home before after old new page n obtains untouched read = came_home before after old new (File page) n obtains
       (Comes page (bytes_of new.frames n) refl refl (held_here obtains.found new (File page) n obtains.fit obtains.brings) untouched read)
 
   -- zeros
-  pub brings_blank : (before after : D) (old new : Picture) (page : ObjectPage) (n : ℕ) → ObtainsCached old new (Object page) n → old.touched (Object page) ≡ false → bytes_of new.frames n ≡ zero_page
+  pub brings_blank : (before after : D) (old new : Picture mode) (page : ObjectPage) (n : ℕ) → ObtainsCached old new (Object page) n → old.touched (Object page) ≡ false → bytes_of new.frames n ≡ zero_page
       → BringsPages g before after (λ p. p ≡ Object page) old new
   brings_blank before after old new page n obtains untouched blank = came_home before after old new (Object page) n obtains
       (Blank page refl refl (held_here obtains.found new (Object page) n obtains.fit obtains.brings ∙ ap (λ w. Some w) blank) untouched)
 
-  held_slot : (c : Picture) (p : PageKey) (k : ℕ) → c.place p ≡ Slot (record { 0 = k }) → held c p ≡ Some (c.slots.bytes k)
+  held_slot : (c : Picture mode) (p : PageKey) (k : ℕ) → c.place p ≡ Slot (record { 0 = k }) → held c p ≡ Some (c.slots.bytes k)
   unfolding held
   held_slot c p k at = ap (λ y. bytes_at c.frames c.slots y) at
 
   -- read from its slot
-  pub brings_slot : (before after : D) (old new : Picture) (page : PageKey) (n k : ℕ) → ObtainsCached old new page n → old.place page ≡ Slot (record { 0 = k }) → bytes_of new.frames n ≡ old.slots.bytes k
+  pub brings_slot : (before after : D) (old new : Picture mode) (page : PageKey) (n k : ℕ) → ObtainsCached old new page n → old.place page ≡ Slot (record { 0 = k }) → bytes_of new.frames n ≡ old.slots.bytes k
       → BringsPages g before after (λ p. p ≡ page) old new
   brings_slot before after old new page n k obtains at same = record {
     each = λ p. elim (cases_page p page) [
@@ -174,37 +176,38 @@ module _ {D : Type 0} (g : Ghosts D) where
     files = files_came old new page n obtains;
   }
 
-  pub brings_home_of : (before after : D) (old new : Picture) (page : FilePage) (r : Result FrameNo Stall) → IfOk r (λ n. ObtainsCached old new (File page) n.0) → OnErr r (Frees old new None) → old.touched (File page) ≡ false
+  pub brings_home_of : (before after : D) (old new : Picture mode) (page : FilePage) (r : Result FrameNo Stall) → IfOk r (λ n. ObtainsCached old new (File page) n.0) → OnErr r (Frees old new None) → old.touched (File page) ≡ false
       → IfOk r (λ n. IsRead g before after page (bytes_of new.frames n.0)) → BringsPages g before after (λ p. p ≡ File page) old new
   brings_home_of before after old new page (Ok n) obtains frees untouched read = brings_home before after old new page n.0 obtains untouched read
   brings_home_of before after old new page (Err s) obtains frees untouched read = brings_freed before after (λ p. p ≡ File page) old new None frees
 
-  pub brings_blank_of : (before after : D) (old new : Picture) (page : ObjectPage) (r : Result FrameNo Stall) → IfOk r (λ n. ObtainsCached old new (Object page) n.0) → OnErr r (Frees old new None) → old.touched (Object page) ≡ false
+  pub brings_blank_of : (before after : D) (old new : Picture mode) (page : ObjectPage) (r : Result FrameNo Stall) → IfOk r (λ n. ObtainsCached old new (Object page) n.0) → OnErr r (Frees old new None) → old.touched (Object page) ≡ false
       → IfOk r (λ n. bytes_of new.frames n.0 ≡ zero_page) → BringsPages g before after (λ p. p ≡ Object page) old new
   brings_blank_of before after old new page (Ok n) obtains frees untouched blank = brings_blank before after old new page n.0 obtains untouched blank
   brings_blank_of before after old new page (Err s) obtains frees untouched blank = brings_freed before after (λ p. p ≡ Object page) old new None frees
 
-  pub brings_slot_of : (before after : D) (old new : Picture) (page : PageKey) (k : ℕ) (r : Result FrameNo Stall) → IfOk r (λ n. ObtainsCached old new page n.0) → OnErr r (Frees old new None)
+  pub brings_slot_of : (before after : D) (old new : Picture mode) (page : PageKey) (k : ℕ) (r : Result FrameNo Stall) → IfOk r (λ n. ObtainsCached old new page n.0) → OnErr r (Frees old new None)
       → old.place page ≡ Slot (record { 0 = k }) → IfOk r (λ n. bytes_of new.frames n.0 ≡ old.slots.bytes k) → BringsPages g before after (λ p. p ≡ page) old new
   brings_slot_of before after old new page k (Ok n) obtains frees at same = brings_slot before after old new page n.0 k obtains at same
   brings_slot_of before after old new page k (Err s) obtains frees at same = brings_freed before after (λ p. p ≡ page) old new None frees
 
+module _ {M : Type 0} {m : Levels.Ghosts M} {D : Type 0} (g : Ghosts D) where
   module _ {E : Type 0} (h : Ghosts E) where
     -- what a stall of the swap device's layer is by both devices
-    pub cause_of : (old new : Core D E) (stall : Stall) → new.store ≡ old.store → StallCause h old new stall → ReadCause g h old new stall
+    pub cause_of : (old new : Core D E M m) (stall : Stall) → new.store ≡ old.store → StallCause h old new stall → ReadCause g h old new stall
     cause_of old new NoFrames same c = (c.0, ap (λ s. g.failures s.disk) same, c.1)
     cause_of old new NoSwap same c = (c.0, ap (λ s. g.failures s.disk) same, c.1)
     cause_of old new SwapDevice same c = (c.0, ap (λ s. g.failures s.disk) same, c.1)
     cause_of old new StoreDevice same c = absurd c
 
-    pub causes_of : (old new : Core D E) (r : Result FrameNo Stall) → new.store ≡ old.store → HasStallCause h old new r → HasReadCause g h old new r
+    pub causes_of : (old new : Core D E M m) (r : Result FrameNo Stall) → new.store ≡ old.store → HasStallCause h old new r → HasReadCause g h old new r
     causes_of old new (Ok n) same c = (c.0, ap (λ s. g.failures s.disk) same, c.1)
     causes_of old new (Err s) same c = cause_of old new s same c
 
-    no_store : (old new : Core D E) (stall : Stall) → StallCause h old new stall → stall ≡ StoreDevice → ⊥
+    no_store : (old new : Core D E M m) (stall : Stall) → StallCause h old new stall → stall ≡ StoreDevice → ⊥
     no_store old new stall c is = (let P : Stall → Type 0 = λ s. StallCause h old new s in subst P is c)
 
-    pub never_store : (Q : Type 0) (old new : Core D E) (r : Result FrameNo Stall) → HasStallCause h old new r → IfErr r (λ stall. stall ≡ StoreDevice → Q)
+    pub never_store : (Q : Type 0) (old new : Core D E M m) (r : Result FrameNo Stall) → HasStallCause h old new r → IfErr r (λ stall. stall ≡ StoreDevice → Q)
     never_store Q old new (Ok n) c = tt
     never_store Q old new (Err s) c = λ is. absurd (no_store old new s c is)
 

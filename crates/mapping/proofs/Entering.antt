@@ -1,4 +1,6 @@
 -- The fullest entry of a page set where no table is missing.
+use Rattle.vm_types.specs.declared.mode.Levels as Levels
+use Rattle.vm_types.specs.Limits.{top_level}
 use Rattle.std.proofs.Common.{◌≡◌, ◌≢◌, ℕ, inl, Bool, true, false, Some, [], get_or, sym, ap, ◌∙◌, subst}
 use Rattle.vm_types.specs.declared.object.PageKey.{PageKey}
 use Rattle.vm_types.specs.declared.region.Attr.{Attr}
@@ -28,7 +30,7 @@ use Rattle.mapping.proofs.Forms.{full_entry, full_dirty_sound, mapped_page}
 use Rattle.mapping.proofs.Steps.{tables_same}
 
 -- what a call leaves that changes frames and the count of refused requests alone
-pub beside_around : {D E : Type 0} (old new : Core D E) → KeepsAround old new → SameBeside (picture_of old) (picture_of new)
+pub beside_around : {M : Type 0} {m : Levels.Ghosts M} → {D E : Type 0} (old new : Core D E M m) → KeepsAround old new → SameBeside (picture_of old) (picture_of new)
 beside_around old new rest = record {
   slots = ap slots_of rest.swap;
   root = λ pid. ap (λ v. root_in v.items pid) rest.roots;
@@ -41,9 +43,9 @@ beside_around old new rest = record {
 }
 
 -- The page keeps the seat of its own copy, or has none as before.
-module _ (old new : Picture) (pid page r : ℕ) (a : Attr) (frame : ℕ) (private : Bool) (linked : IsLinked old pid page) (lives : old.root pid ≡ Some r)
-    (at : old.at pid page ≡ Some a) (sets : (number : ℕ) × IsFullEntry old a frame private number × SetsEntry old.frames new.frames 2 r page number) (beside : SameBeside old new) where
-  pub entered_page : IsPage 2 page
+module _ {mode : ℕ} (old new : Picture mode) (pid page r : ℕ) (a : Attr) (frame : ℕ) (private : Bool) (linked : IsLinked old pid page) (lives : old.root pid ≡ Some r)
+    (at : old.at pid page ≡ Some a) (sets : (number : ℕ) × IsFullEntry old a frame private number × SetsEntry old.frames new.frames (top_level mode) r page number) (beside : SameBeside old new) where
+  pub entered_page : IsPage (top_level mode) page
   entered_page = mapped_page old pid page a linked.fit.granting at
 
   pub full_set : SetsPage old new pid page sets.0
@@ -74,10 +76,10 @@ module _ (old new : Picture) (pid page r : ℕ) (a : Attr) (frame : ℕ) (privat
         fit_set old new pid page sets.0 0 full_set entered_page for (rooted_set old new 0 r page sets.0 linked.fit.rooted sets.2 beside)
         (full_dirty_sound old a frame private sets.0 linked.fit.places sets.1 behind) same nowhere 0 linked.fit
 
-module _ {D E : Type 0} where
+module _ {M : Type 0} {m : Levels.Ghosts M} {D E : Type 0} where
   -- a call that set one page's entry alone
-  pub enters_set : (old new : Core D E) (pid page r : ℕ) (a : Attr) (frame : ℕ) (private : Bool) → IsLinked (picture_of old) pid page → (picture_of old).root pid ≡ Some r
-      → (picture_of old).at pid page ≡ Some a → (sets : (number : ℕ) × IsFullEntry (picture_of old) a frame private number × SetsEntry old.frames new.frames 2 r page number) → KeepsAround old new
+  pub enters_set : (old new : Core D E M m) (pid page r : ℕ) (a : Attr) (frame : ℕ) (private : Bool) → IsLinked (picture_of old) pid page → (picture_of old).root pid ≡ Some r
+      → (picture_of old).at pid page ≡ Some a → (sets : (number : ℕ) × IsFullEntry (picture_of old) a frame private number × SetsEntry old.frames new.frames (top_level m.mode) r page number) → KeepsAround old new
       → new.refused.number ≡ old.refused.number → seat sets.0 ≡ seat (entry (picture_of old) pid page)
       → (private ≡ true → is_shared a.backing ≡ false) → (private ≡ false → IsBehind (picture_of old) a.backing frame) → is_past_end (picture_of old).files a.backing ≡ false
       → Enters old new pid page
@@ -101,12 +103,12 @@ module _ {D E : Type 0} where
       }
 
 -- A file page that lies in a frame was touched.
-module _ (old mid : Picture) (fp : PageKey) (frame : ℕ) (frames : mid.frames ≡ old.frames) (slots : mid.slots ≡ old.slots) (root : (q : ℕ) → mid.root q ≡ old.root q)
+module _ {mode : ℕ} (old mid : Picture mode) (fp : PageKey) (frame : ℕ) (frames : mid.frames ≡ old.frames) (slots : mid.slots ≡ old.slots) (root : (q : ℕ) → mid.root q ≡ old.root q)
     (at : (q k : ℕ) → mid.at q k ≡ old.at q k) (page_of : (x : ℕ) → mid.page_of x ≡ old.page_of x) (place : (p : PageKey) → mid.place p ≡ old.place p)
     (touched : mid.touched fp ≡ true) (others : (p : PageKey) → p ≢ fp → mid.touched p ≡ old.touched p) (files : (f : ℕ) → mid.files f ≡ old.files f)
     (there : old.place fp ≡ Frame (record { 0 = frame })) where
   pub entry_marked : (q k : ℕ) → entry mid q k ≡ entry old q k
-  entry_marked q k = entry-same old mid q k (root q) (λ x e. ap (λ t. page_entry t 2 x k) frames)
+  entry_marked q k = entry-same old mid q k (root q) (λ x e. ap (λ t. page_entry t (top_level mode) x k) frames)
 
   pub fit_marked : IsFit old → IsFit mid
   fit_marked fit = fit_touched old mid fp fit frames slots (λ home. (let bad : Home ≡ Frame (record { 0 = frame }) = sym home ∙ there in (cc))) touched others place root at page_of files entry_marked
@@ -115,7 +117,7 @@ module _ (old mid : Picture) (fp : PageKey) (frame : ℕ) (frames : mid.frames �
   linked_marked pid page linked = record {
     fit = fit_marked linked.fit;
     lives = λ none. linked.lives (sym (root pid) ∙ none);
-    whole = λ r e. ap (λ t. missing_of t 2 r page) frames ∙ linked.whole r (sym (root pid) ∙ e);
+    whole = λ r e. ap (λ t. missing_of t (top_level mode) r page) frames ∙ linked.whole r (sym (root pid) ∙ e);
   }
 
   pub view_marked : (q k : ℕ) → view mid q k ≡ view old q k
@@ -123,4 +125,4 @@ module _ (old mid : Picture) (fp : PageKey) (frame : ℕ) (frames : mid.frames �
       (ap (λ e. own_in mid.frames mid.slots e) (entry_marked q k) ∙ ap (λ t. own_in t mid.slots (entry old q k)) frames ∙ ap (λ t. own_in old.frames t (entry old q k)) slots)
 
   pub tables_marked : KeepsTables old mid
-  tables_marked = tables_same old mid (λ q r p e. ap (λ t. missing_of t 2 r p) frames)
+  tables_marked = tables_same old mid (λ q r p e. ap (λ t. missing_of t (top_level mode) r p) frames)

@@ -1,4 +1,6 @@
 -- The fullest entry of a page fits it, and the frame of a page with an entry is in use.
+use Rattle.vm_types.proofs.Modes.{user_pages_fit}
+use Rattle.vm_types.specs.Limits.{top_level}
 use Rattle.std.proofs.Common.{◌≡◌, ◌≢◌, ℕ, inl, inr, Bool, true, false, Option, Some, None, length, refl, sym, ap, ◌∙◌, subst, arith, eqb-true}
 use Rattle.std.specs.Prelude.{◌&&◌}
 use Rattle.std.proofs.lemmas.Bool.{cases_Bool, cases_lt, false≢true}
@@ -44,15 +46,15 @@ parked_bits : (e : ℕ) (a : Attr) (frame : ℕ) (private write stored : Bool) �
 parked_bits e a frame private write stored over barred =
     (ap is_valid (over.parked barred) ∙ parked_invalid frame private, ap (λ x. has_bit x 1) (over.parked barred) ∙ parked_framed frame private)
 
-full_writes : (c : Picture) (a : Attr) (frame : ℕ) (private : Bool) → full_write c a frame private ≡ true → Permission.can_write a.prot ≡ true
+full_writes : {mode : ℕ} (c : Picture mode) (a : Attr) (frame : ℕ) (private : Bool) → full_write c a frame private ≡ true → Permission.can_write a.prot ≡ true
 full_writes c a frame true w = and_right _ _ w
 full_writes c a frame false w = and_right _ _ w
 
-full_sole : (c : Picture) (a : Attr) (frame : ℕ) (private : Bool) → private ≡ true → full_write c a frame private ≡ true → count_of c.frames frame ≡ 1
+full_sole : {mode : ℕ} (c : Picture mode) (a : Attr) (frame : ℕ) (private : Bool) → private ≡ true → full_write c a frame private ≡ true → count_of c.frames frame ≡ 1
 full_sole c a frame true is w = eqb-true (count_of c.frames frame) 1 (and_left _ _ w)
 full_sole c a frame false is w = absurd (false≢true is)
 
-full_shared : (c : Picture) (a : Attr) (frame : ℕ) (private : Bool) → private ≡ false → full_write c a frame private ≡ true → is_shared a.backing ≡ true
+full_shared : {mode : ℕ} (c : Picture mode) (a : Attr) (frame : ℕ) (private : Bool) → private ≡ false → full_write c a frame private ≡ true → is_shared a.backing ≡ true
 full_shared c a frame true is w = absurd (false≢true (sym is))
 full_shared c a frame false is w = and_left _ _ w
 
@@ -87,7 +89,7 @@ seat_kept was e a frame true write stored over same names here =
 seat_kept was e a frame false write stored over same names here =
     seat_over_common e a frame write stored over ∙ sym (seat_common was (sym same) here)
 
-pub full_entry : (c : Picture) (attr : Option Attr) (a : Attr) (frame : ℕ) (private : Bool) (e : ℕ) → attr ≡ Some a → IsFullEntry c a frame private e
+pub full_entry : {mode : ℕ} (c : Picture mode) (attr : Option Attr) (a : Attr) (frame : ℕ) (private : Bool) (e : ℕ) → attr ≡ Some a → IsFullEntry c a frame private e
     → (private ≡ true → is_shared a.backing ≡ false) → (private ≡ false → IsBehind c a.backing frame) → is_past_end c.files a.backing ≡ false → IsEntryFor c attr e
 full_entry c attr a frame private e at full alone behind inside = Resident a at (record {
   framed = λ invalid. elim (cases_Bool (is_barred a.prot)) [
@@ -110,7 +112,7 @@ full_entry c attr a frame private e at full alone behind inside = Resident a at 
 same_key : (p q : PageKey) → Some p ≡ Some q → p ≡ q
 same_key p q e = cc
 
-touched_there : (c : Picture) (b : Backing) (frame : ℕ) (p : PageKey) → HasPlaces c → IsBehind c b frame → is_touched_behind c b ≡ true
+touched_there : {mode : ℕ} (c : Picture mode) (b : Backing) (frame : ℕ) (p : PageKey) → HasPlaces c → IsBehind c b frame → is_touched_behind c b ≡ true
     → c.place p ≡ Frame (record { 0 = frame }) → c.touched p ≡ true
 touched_there c Anon frame p places behind touched here = absurd (false≢true touched)
 touched_there c (Private q) frame p places behind touched here = absurd (false≢true touched)
@@ -120,7 +122,7 @@ touched_there c (Common q) frame p places behind touched here =
     ap c.touched (places.apart p (Object q) (here ∙ sym behind) (λ home. (let bad : Home ≡ Frame (record { 0 = frame }) = sym home ∙ here in (cc)))) ∙ touched
 
 -- it has D only over the frame of a touched page of a file or an object
-pub full_dirty_sound : (c : Picture) (a : Attr) (frame : ℕ) (private : Bool) (e : ℕ) → HasPlaces c → IsFullEntry c a frame private e
+pub full_dirty_sound : {mode : ℕ} (c : Picture mode) (a : Attr) (frame : ℕ) (private : Bool) (e : ℕ) → HasPlaces c → IsFullEntry c a frame private e
     → (private ≡ false → IsBehind c a.backing frame)
     → (p : PageKey) → is_valid e ≡ true → is_private e ≡ false → is_dirty e ≡ true → c.place p ≡ Frame (record { 0 = frame_of e }) → c.touched p ≡ true
 full_dirty_sound c a frame true e places full behind p valid common dirty here = absurd (false≢true (sym common ∙ full.owned))
@@ -140,47 +142,47 @@ used_inside t n sound used = elim (cases_lt n (length t.roles)) [
 some_same : (attr : Option Attr) (a b : Attr) → attr ≡ Some a → attr ≡ Some b → a ≡ b
 some_same attr a b e f = let both : Some a ≡ Some b = sym e ∙ f in (cc)
 
-is_resident : (c : Picture) (attr : Option Attr) (a : Attr) (e : ℕ) → attr ≡ Some a → e ≢ 0 → is_swapped e ≡ false → IsEntryFor c attr e → IsResident c a e
+is_resident : {mode : ℕ} (c : Picture mode) (attr : Option Attr) (a : Attr) (e : ℕ) → attr ≡ Some a → e ≢ 0 → is_swapped e ≡ false → IsEntryFor c attr e → IsResident c a e
 is_resident c attr a e at some here (Nothing none) = absurd (some none)
 is_resident c attr a e at some here (Away b is away) = absurd (false≢true (sym here ∙ away.swapped))
 is_resident c attr a e at some here (Resident b is resident) =
     let P : Attr → Type 0 = λ x. IsResident c x e in subst P (some_same attr b a is at) resident
 
 -- what the entry of a page says that lies in a frame
-pub resident_page : (c : Picture) (pid page : ℕ) (a : Attr) → IsGranting c → IsPage 2 page → c.at pid page ≡ Some a → entry c pid page ≢ 0 → is_swapped (entry c pid page) ≡ false
+pub resident_page : {mode : ℕ} (c : Picture mode) (pid page : ℕ) (a : Attr) → IsGranting c → IsPage (top_level mode) page → c.at pid page ≡ Some a → entry c pid page ≢ 0 → is_swapped (entry c pid page) ≡ false
     → IsResident c a (entry c pid page)
 resident_page c pid page a granting h at some here = is_resident c (c.at pid page) a (entry c pid page) at some here (granting.entries pid page h)
 
-pub behind_of : (c : Picture) (b : Backing) (p : PageKey) (n : ℕ) → stands_on b ≡ Some p → c.place p ≡ Frame (record { 0 = n }) → IsBehind c b n
+pub behind_of : {mode : ℕ} (c : Picture mode) (b : Backing) (p : PageKey) (n : ℕ) → stands_on b ≡ Some p → c.place p ≡ Frame (record { 0 = n }) → IsBehind c b n
 behind_of c Anon p n is at = (cc)
 behind_of c (Private q) p n is at = ap c.place (same_key (File q) p is) ∙ at
 behind_of c (Shared q) p n is at = ap c.place (same_key (File q) p is) ∙ at
 behind_of c (Common q) p n is at = ap c.place (same_key (Object q) p is) ∙ at
 
-pub touched_of : (c : Picture) (b : Backing) (p : PageKey) → is_shared b ≡ true → stands_on b ≡ Some p → is_touched_behind c b ≡ c.touched p
+pub touched_of : {mode : ℕ} (c : Picture mode) (b : Backing) (p : PageKey) → is_shared b ≡ true → stands_on b ≡ Some p → is_touched_behind c b ≡ c.touched p
 touched_of c Anon p shared is = absurd (false≢true shared)
 touched_of c (Private q) p shared is = absurd (false≢true shared)
 touched_of c (Shared q) p shared is = ap c.touched (same_key (File q) p is)
 touched_of c (Common q) p shared is = ap c.touched (same_key (Object q) p is)
 
-pub behind_used : (c : Picture) (b : Backing) (n : ℕ) → IsSound c.frames → HasPlaces c → IsBehind c b n → role_of c.frames n ≢ Role.Free
+pub behind_used : {mode : ℕ} (c : Picture mode) (b : Backing) (n : ℕ) → IsSound c.frames → HasPlaces c → IsBehind c b n → role_of c.frames n ≢ Role.Free
 behind_used c Anon n sound places behind free =
     let bad : Role.Zero ≡ Role.Free = sym sound.zero_role ∙ ap (role_of c.frames) (sym behind) ∙ free in (cc)
 behind_used c (Private p) n sound places behind free = let bad : Role.Cache ≡ Role.Free = sym (places.cached (File p) n behind) ∙ free in (cc)
 behind_used c (Shared p) n sound places behind free = let bad : Role.Cache ≡ Role.Free = sym (places.cached (File p) n behind) ∙ free in (cc)
 behind_used c (Common p) n sound places behind free = let bad : Role.Cache ≡ Role.Free = sym (places.cached (Object p) n behind) ∙ free in (cc)
 
-pub behind_datum : (c : Picture) (b : Backing) (n : ℕ) → IsSound c.frames → HasPlaces c → IsBehind c b n → role_of c.frames n ≢ Role.Table
+pub behind_datum : {mode : ℕ} (c : Picture mode) (b : Backing) (n : ℕ) → IsSound c.frames → HasPlaces c → IsBehind c b n → role_of c.frames n ≢ Role.Table
 behind_datum c Anon n sound places behind table =
     let bad : Role.Zero ≡ Role.Table = sym sound.zero_role ∙ ap (role_of c.frames) (sym behind) ∙ table in (cc)
 behind_datum c (Private p) n sound places behind table = let bad : Role.Cache ≡ Role.Table = sym (places.cached (File p) n behind) ∙ table in (cc)
 behind_datum c (Shared p) n sound places behind table = let bad : Role.Cache ≡ Role.Table = sym (places.cached (File p) n behind) ∙ table in (cc)
 behind_datum c (Common p) n sound places behind table = let bad : Role.Cache ≡ Role.Table = sym (places.cached (Object p) n behind) ∙ table in (cc)
 
-pub own_role : (c : Picture) (pid page : ℕ) → IsFit c → IsPage 2 page → is_private (entry c pid page) ≡ true → role_of c.frames (frame_of (entry c pid page)) ≡ Role.Private
+pub own_role : {mode : ℕ} (c : Picture mode) (pid page : ℕ) → IsFit c → IsPage (top_level mode) page → is_private (entry c pid page) ≡ true → role_of c.frames (frame_of (entry c pid page)) ≡ Role.Private
 own_role c pid page fit h own = fit.counted.1.named pid page (InFrame (frame_of (entry c pid page))) h (seat_own (entry c pid page) own)
 
-pub resident_used : (c : Picture) (pid page : ℕ) (a : Attr) → IsSound c.frames → IsFit c → IsPage 2 page → c.at pid page ≡ Some a → entry c pid page ≢ 0 → is_swapped (entry c pid page) ≡ false
+pub resident_used : {mode : ℕ} (c : Picture mode) (pid page : ℕ) (a : Attr) → IsSound c.frames → IsFit c → IsPage (top_level mode) page → c.at pid page ≡ Some a → entry c pid page ≢ 0 → is_swapped (entry c pid page) ≡ false
     → role_of c.frames (frame_of (entry c pid page)) ≢ Role.Free
 resident_used c pid page a sound fit h at some here = elim (cases_Bool (is_private (entry c pid page))) [
   | inl private ↦ (λ free. let bad : Role.Private ≡ Role.Free = sym (own_role c pid page fit h private) ∙ free in (cc))
@@ -188,11 +190,11 @@ resident_used c pid page a sound fit h at some here = elim (cases_Bool (is_priva
 ]
 
 -- a mapped page has a place in the tables
-pub mapped_page : (c : Picture) (pid page : ℕ) (a : Attr) → IsGranting c → c.at pid page ≡ Some a → IsPage 2 page
-mapped_page c pid page a granting at =
+pub mapped_page : {mode : ℕ} (c : Picture mode) (pid page : ℕ) (a : Attr) → IsGranting c → c.at pid page ≡ Some a → IsPage (top_level mode) page
+mapped_page {mode = mode} c pid page a granting at =
     let some = ap Rattle.std.specs.Prelude.is_some at in
     let low = (granting.user pid).user_pages page some in
-    omega (arith, low)
+    omega (arith, low, user_pages_fit mode)
 
 -- a page without a seat has no frame of its own, and doesn't lie in a slot
 own_seat : (e : ℕ) → seat e ≡ None → is_private e ≡ false
@@ -213,7 +215,7 @@ none_here e none = elim (cases_Bool (is_swapped e)) [
 pub seat_zero : (e : ℕ) → e ≡ 0 → seat e ≡ None
 seat_zero e none = ap seat none ∙ seat-none
 
-shared_seat : (c : Picture) (attr : Option Attr) (a : Attr) (e : ℕ) → attr ≡ Some a → is_shared a.backing ≡ true → IsEntryFor c attr e → seat e ≡ None
+shared_seat : {mode : ℕ} (c : Picture mode) (attr : Option Attr) (a : Attr) (e : ℕ) → attr ≡ Some a → is_shared a.backing ≡ true → IsEntryFor c attr e → seat e ≡ None
 shared_seat c attr a e at shared (Nothing none) = seat_zero e none
 shared_seat c attr a e at shared (Away b is away) =
     let P : Attr → Type 0 = λ x. is_shared x.backing ≡ false in absurd (false≢true (sym (subst P (some_same attr b a is at) away.not_shared) ∙ shared))
@@ -229,5 +231,5 @@ shared_seat c attr a e at shared (Resident b is resident) =
     ]
 
 -- a shared page has no own copy
-pub shared_none : (c : Picture) (pid page : ℕ) (a : Attr) → IsGranting c → c.at pid page ≡ Some a → IsPage 2 page → is_shared a.backing ≡ true → seat (entry c pid page) ≡ None
+pub shared_none : {mode : ℕ} (c : Picture mode) (pid page : ℕ) (a : Attr) → IsGranting c → c.at pid page ≡ Some a → IsPage (top_level mode) page → is_shared a.backing ≡ true → seat (entry c pid page) ≡ None
 shared_none c pid page a granting at h shared = shared_seat c (c.at pid page) a (entry c pid page) at shared (granting.entries pid page h)

@@ -1,4 +1,5 @@
 -- A frame of its own given to a page, with the bytes that it showed.
+use Rattle.vm_types.specs.Limits.{top_level}
 use Rattle.std.proofs.Common.{◌≡◌, ◌≢◌, ℕ, inl, inr, Bool, true, false, Some, get_or, refl, sym, ap, ◌∙◌, subst, eq-eqb, ne_eqb}
 use Rattle.std.specs.Prelude.{◌&&◌, ◌==◌}
 use Rattle.std.proofs.lemmas.Bool.{cases_Bool}
@@ -45,7 +46,7 @@ one_number : (m n : ℕ) → InFrame m ≡ InFrame n → m ≡ n
 unfolding seat_number
 one_number m n e = ap seat_number e
 
-pub keeps_files_then : (a b c : Picture) → KeepsFiles a b → KeepsFiles b c → KeepsFiles a c
+pub keeps_files_then : {mode : ℕ} (a b c : Picture mode) → KeepsFiles a b → KeepsFiles b c → KeepsFiles a c
 keeps_files_then a b c p q = record {
   held = λ x. elim (q.held x) [
     | inl later ↦ elim (p.held x) [
@@ -58,19 +59,19 @@ keeps_files_then a b c p q = record {
   files = λ f. q.files f ∙ p.files f;
 }
 
-behind_is : (c : Picture) (b : Backing) (n : ℕ) → IsBehind c b n → frame_behind c b ≡ n
+behind_is : {mode : ℕ} (c : Picture mode) (b : Backing) (n : ℕ) → IsBehind c b n → frame_behind c b ≡ n
 behind_is c Backings.Anon n behind = sym behind
 behind_is c (Backings.Private p) n behind = ap frame_of_place behind
 behind_is c (Backings.Shared p) n behind = ap frame_of_place behind
 behind_is c (Backings.Common p) n behind = ap frame_of_place behind
 
-behind_stays : (old new : Picture) (b : Backing) (x m : ℕ) → IsBehind old b x → x ≡ m → ((p : PageKey) → old.place p ≡ Frame (record { 0 = m }) → new.place p ≡ Frame (record { 0 = m })) → IsBehind new b x
+behind_stays : {mode : ℕ} (old new : Picture mode) (b : Backing) (x m : ℕ) → IsBehind old b x → x ≡ m → ((p : PageKey) → old.place p ≡ Frame (record { 0 = m }) → new.place p ≡ Frame (record { 0 = m })) → IsBehind new b x
 behind_stays old new Backings.Anon x m behind is kept = behind
 behind_stays old new (Backings.Private p) x m behind is kept = kept (File p) (behind ∙ ap (λ i. Frame (record { 0 = i })) is) ∙ ap (λ i. Frame (record { 0 = i })) (sym is)
 behind_stays old new (Backings.Shared p) x m behind is kept = kept (File p) (behind ∙ ap (λ i. Frame (record { 0 = i })) is) ∙ ap (λ i. Frame (record { 0 = i })) (sym is)
 behind_stays old new (Backings.Common p) x m behind is kept = kept (Object p) (behind ∙ ap (λ i. Frame (record { 0 = i })) is) ∙ ap (λ i. Frame (record { 0 = i })) (sym is)
 
-pub behind_freed : (old new : Picture) (b : Backing) (m : ℕ) → Frees old new (Some (record { 0 = m })) → role_of old.frames m ≢ Table → IsBehind old b m
+pub behind_freed : {mode : ℕ} (old new : Picture mode) (b : Backing) (m : ℕ) → Frees old new (Some (record { 0 = m })) → role_of old.frames m ≢ Table → IsBehind old b m
     → (x : ℕ) → IsBehind old b x → IsBehind new b x × (bytes_of new.frames x ≡ bytes_of old.frames x)
 behind_freed old new b m frees datum there x behind =
     let is : x ≡ m = sym (behind_is old b x behind) ∙ behind_is old b m there in (
@@ -78,19 +79,19 @@ behind_freed old new b m frees datum there x behind =
       (let P : ℕ → Type 0 = λ y. bytes_of new.frames y ≡ bytes_of old.frames y in subst P (sym is) (frees.kept_bytes m refl datum)),
     )
 
-pub shown_own : (c : Picture) (e : ℕ) (b : Backing) → is_private e ≡ true → shown_frame c e b ≡ frame_of e
+pub shown_own : {mode : ℕ} (c : Picture mode) (e : ℕ) (b : Backing) → is_private e ≡ true → shown_frame c e b ≡ frame_of e
 shown_own c e b private = rw private refl
 
-pub shown_common : (c : Picture) (e : ℕ) (b : Backing) → is_private e ≡ false → shown_frame c e b ≡ frame_behind c b
+pub shown_common : {mode : ℕ} (c : Picture mode) (e : ℕ) (b : Backing) → is_private e ≡ false → shown_frame c e b ≡ frame_behind c b
 shown_common c e b common = rw common refl
 
 -- the frame that a page shows stands behind it, where it has none of its own
-pub shown_behind : (c : Picture) (e : ℕ) (b : Backing) → is_private e ≡ false → ((n : ℕ) × IsBehind c b n) → IsBehind c b (shown_frame c e b)
+pub shown_behind : {mode : ℕ} (c : Picture mode) (e : ℕ) (b : Backing) → is_private e ≡ false → ((n : ℕ) × IsBehind c b n) → IsBehind c b (shown_frame c e b)
 shown_behind c e b common there =
     let P : ℕ → Type 0 = λ x. IsBehind c b x in
     subst P (sym (shown_common c e b common ∙ behind_is c b there.0 there.1)) there.1
 
-pub own_view : (c : Picture) (pid page : ℕ) (a : Attr) → c.at pid page ≡ Some a → is_private (entry c pid page) ≡ true
+pub own_view : {mode : ℕ} (c : Picture mode) (pid page : ℕ) (a : Attr) → c.at pid page ≡ Some a → is_private (entry c pid page) ≡ true
     → view c pid page ≡ Some (record { attr = a; own = Some (bytes_of c.frames (frame_of (entry c pid page))) })
 unfolding view
 own_view c pid page a at own =
@@ -98,19 +99,19 @@ own_view c pid page a at own =
     ∙ ap (λ o. view_of (Some (bytes_of c.frames (frame_of (entry c pid page)))) o) at
 
 -- whether the process is the only one to have its private frame
-pub sole_when : (c : Picture) (e : ℕ) → is_private e ≡ true → count_of c.frames (frame_of e) ≡ 1 → is_sole c e ≡ true
+pub sole_when : {mode : ℕ} (c : Picture mode) (e : ℕ) → is_private e ≡ true → count_of c.frames (frame_of e) ≡ 1 → is_sole c e ≡ true
 sole_when c e private one = rw (private, eq-eqb (count_of c.frames (frame_of e)) 1 one) refl
 
-pub common_when : (c : Picture) (e : ℕ) → is_private e ≡ false → is_sole c e ≡ false
+pub common_when : {mode : ℕ} (c : Picture mode) (e : ℕ) → is_private e ≡ false → is_sole c e ≡ false
 common_when c e common = rw common refl
 
-pub several_when : (c : Picture) (e : ℕ) → count_of c.frames (frame_of e) ≢ 1 → is_sole c e ≡ false
+pub several_when : {mode : ℕ} (c : Picture mode) (e : ℕ) → count_of c.frames (frame_of e) ≢ 1 → is_sole c e ≡ false
 several_when c e many = elim (cases_Bool (is_private e)) [
   | inl private ↦ rw (private, ne_eqb (count_of c.frames (frame_of e)) 1 many) refl
   | inr common ↦ common_when c e common
 ]
 
-pub full_own : (c : Picture) (a : Attr) (n e : ℕ) → count_of c.frames n ≡ 1 → can_write a.prot ≡ true → IsFullEntry c a n true e → IsEntryOver e a.prot n true true true
+pub full_own : {mode : ℕ} (c : Picture mode) (a : Attr) (n e : ℕ) → count_of c.frames n ≡ 1 → can_write a.prot ≡ true → IsFullEntry c a n true e → IsEntryOver e a.prot n true true true
 full_own c a n e one writable full =
     let both : ((count_of c.frames n == 1) && can_write a.prot) ≡ true = ap (λ x. x && can_write a.prot) (eq-eqb (count_of c.frames n) 1 one) ∙ writable in
     let P : Bool → Type 0 = λ x. IsEntryOver e a.prot n true x ((count_of c.frames n == 1) && can_write a.prot) in
@@ -118,10 +119,10 @@ full_own c a n e one writable full =
     subst Q both (subst P both full)
 
 -- the frame m holds what the page shows
-module _ (old : Picture) (pid page m : ℕ) (a : Attr) (sound : IsSound old.frames) (linked : IsLinked old pid page) (at : old.at pid page ≡ Some a)
+module _ {mode : ℕ} (old : Picture mode) (pid page m : ℕ) (a : Attr) (sound : IsSound old.frames) (linked : IsLinked old pid page) (at : old.at pid page ≡ Some a)
     (resident : is_swapped (entry old pid page) ≡ false) (own : is_private (entry old pid page) ≡ true → frame_of (entry old pid page) ≡ m)
     (common : is_private (entry old pid page) ≡ false → IsBehind old a.backing m) where
-  here : IsPage 2 page
+  here : IsPage (top_level mode) page
   here = mapped_page old pid page a linked.fit.granting at
 
   pub shown_used : role_of old.frames m ≢ Free
@@ -136,8 +137,8 @@ module _ (old : Picture) (pid page m : ℕ) (a : Attr) (sound : IsSound old.fram
     | inr not_own ↦ behind_datum old a.backing m sound linked.fit.places (common not_own)
   ]
 
-  module _ (mid : Picture) (n r : ℕ) (copy : TakesCopy old mid n page m) (lives : old.root pid ≡ Some r) where
-    abbrev found : Picture
+  module _ (mid : Picture mode) (n r : ℕ) (copy : TakesCopy old mid n page m) (lives : old.root pid ≡ Some r) where
+    abbrev found : Picture mode
     found = copy.found
 
     entry_found : entry found pid page ≡ entry old pid page
@@ -148,7 +149,7 @@ module _ (old : Picture) (pid page m : ℕ) (a : Attr) (sound : IsSound old.fram
     pub lives_found : found.root pid ≡ Some r
     lives_found = copy.frees.pages.root pid ∙ lives
 
-    pub whole_found : missing_of found.frames 2 r page ≡ 0
+    pub whole_found : missing_of found.frames (top_level mode) r page ≡ 0
     whole_found = copy.frees.missing pid r page lives ∙ linked.whole r lives
 
     pub at_found : found.at pid page ≡ Some a
@@ -160,7 +161,7 @@ module _ (old : Picture) (pid page m : ℕ) (a : Attr) (sound : IsSound old.fram
     pub apart : m ≢ n
     apart e = shown_used (sym kept_role ∙ ap (role_of found.frames) e ∙ copy.changes.was_free)
 
-    module _ (set : Picture) (sets : (number : ℕ) × IsFullEntry mid a n true number × SetsEntry mid.frames set.frames 2 r page number) (beside : SameBeside mid set)
+    module _ (set : Picture mode) (sets : (number : ℕ) × IsFullEntry mid a n true number × SetsEntry mid.frames set.frames (top_level mode) r page number) (beside : SameBeside mid set)
         (alone : is_shared a.backing ≡ false) (inside : is_past_end found.files a.backing ≡ false) where
       pub spaces_set : KeepsSpaces old set
       spaces_set = spaces_then old found set (spaces_freed old found _ copy.frees) (record { root = λ q. beside.root q ∙ copy.changes.root q; at = λ q p. beside.at q p ∙ copy.changes.at q p })
@@ -243,7 +244,7 @@ module _ (old : Picture) (pid page m : ℕ) (a : Attr) (sound : IsSound old.fram
         role_shared = ap (λ rs. get_or rs m Free) sets.2.kept.roles ∙ copy.changes.frames.roles m apart ∙ kept_role
             ∙ ap (role_of old.frames) (sym (own private)) ∙ own_role old pid page linked.fit here private
 
-        module _ (new : Picture) (releases : Releases set.frames new.frames m) (beside' : SameBeside set new) where
+        module _ (new : Picture mode) (releases : Releases set.frames new.frames m) (beside' : SameBeside set new) where
           pub fit_shared : IsFit new
           fit_shared = fit_released set new m 0 fit_moved' role_shared releases beside'
 

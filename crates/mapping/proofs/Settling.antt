@@ -1,4 +1,5 @@
 -- A frame that was taken for a page is given to it: its entry names the frame as its process's own.
+use Rattle.vm_types.specs.Limits.{top_level}
 use Rattle.std.proofs.Common.{◌≡◌, ◌≢◌, ℕ, ◌⊎◌, ◌<◌, true, false, Some, None, get_or, sym, ap, ◌∙◌, subst, arith}
 use Rattle.std.specs.Prelude.{option_map}
 use Rattle.std.proofs.lemmas.Bool.{false≢true}
@@ -22,12 +23,12 @@ use Rattle.paging.proofs.Taking.{trees_changed, entries_changed, views_changed, 
 use Rattle.mapping.specs.Leaves.{IsFullEntry}
 use Rattle.mapping.proofs.Forms.{full_entry, mapped_page, seat_over}
 
-module _ (found mid : Picture) (pid page r n : ℕ) (a : Attr) (fit : IsFit found) (changes : ChangesFrame found mid n) (role : role_of mid.frames n ≡ Private) (one : count_of mid.frames n ≡ 1)
-    (noted : mid.page_of n ≡ page) (lives : found.root pid ≡ Some r) (whole : missing_of found.frames 2 r page ≡ 0) (at : found.at pid page ≡ Some a) where
+module _ {mode : ℕ} (found mid : Picture mode) (pid page r n : ℕ) (a : Attr) (fit : IsFit found) (changes : ChangesFrame found mid n) (role : role_of mid.frames n ≡ Private) (one : count_of mid.frames n ≡ 1)
+    (noted : mid.page_of n ≡ page) (lives : found.root pid ≡ Some r) (whole : missing_of found.frames (top_level mode) r page ≡ 0) (at : found.at pid page ≡ Some a) where
   datum : role_of mid.frames n ≢ Table
   datum t = let bad : Private ≡ Table = sym role ∙ t in (cc)
 
-  here : IsPage 2 page
+  here : IsPage (top_level mode) page
   here = mapped_page found pid page a fit.granting at
 
   pub fit_mid : IsFitBut mid (InFrame n) 1 0
@@ -39,13 +40,13 @@ module _ (found mid : Picture) (pid page r n : ℕ) (a : Attr) (fit : IsFit foun
   pub forest_mid : IsForest mid.frames
   forest_mid = fit_mid.rooted.forest
 
-  pub root_mid : IsRoot 2 mid.frames r
+  pub root_mid : IsRoot (top_level mode) mid.frames r
   root_mid = fit_mid.rooted.roots pid r lives_mid
 
-  missing_mid : (x p : ℕ) → IsRoot 2 found.frames x → missing_of mid.frames 2 x p ≡ missing_of found.frames 2 x p
+  missing_mid : (x p : ℕ) → IsRoot (top_level mode) found.frames x → missing_of mid.frames (top_level mode) x p ≡ missing_of found.frames (top_level mode) x p
   missing_mid = (trees_changed found mid n fit changes datum).missing
 
-  pub whole_mid : missing_of mid.frames 2 r page ≡ 0
+  pub whole_mid : missing_of mid.frames (top_level mode) r page ≡ 0
   whole_mid = missing_mid r page (fit.rooted.roots pid r lives) ∙ whole
 
   pub entry_mid : (q p : ℕ) → entry mid q p ≡ entry found q p
@@ -54,7 +55,7 @@ module _ (found mid : Picture) (pid page r n : ℕ) (a : Attr) (fit : IsFit foun
   below : pid < 65
   below = let number = fit.rooted.numbers pid r lives in omega (arith, number)
 
-  module _ (new : Picture) (sets : (number : ℕ) × IsFullEntry mid a n true number × SetsEntry mid.frames new.frames 2 r page number) (beside : SameBeside mid new)
+  module _ (new : Picture mode) (sets : (number : ℕ) × IsFullEntry mid a n true number × SetsEntry mid.frames new.frames (top_level mode) r page number) (beside : SameBeside mid new)
       (alone : is_shared a.backing ≡ false) (inside : is_past_end found.files a.backing ≡ false) where
     set : SetsPage mid new pid page sets.0
     set = sets_page mid new 0 pid r page sets.0 fit_mid.rooted lives_mid here sets.2 beside
@@ -89,7 +90,7 @@ module _ (found mid : Picture) (pid page r n : ℕ) (a : Attr) (fit : IsFit foun
     pub settled_entry : entry new pid page ≡ sets.0
     settled_entry = set.changed
 
-    pub settled_others : (q p : ℕ) → IsPage 2 p → (q ≢ pid) ⊎ (p ≢ page) → entry new q p ≡ entry found q p
+    pub settled_others : (q p : ℕ) → IsPage (top_level mode) p → (q ≢ pid) ⊎ (p ≢ page) → entry new q p ≡ entry found q p
     settled_others q p h other = set.others q p h other ∙ entry_mid q p
 
     pub settled_full : IsFullEntry mid a n true (entry new pid page)
@@ -107,7 +108,7 @@ module _ (found mid : Picture) (pid page r n : ℕ) (a : Attr) (fit : IsFit foun
     pub settled_room : frame_count new.frames ≡ frame_count found.frames
     settled_room = sets.2.kept.frames ∙ changes.frames.frames
 
-    pub settled_missing : (q x p : ℕ) → found.root q ≡ Some x → missing_of new.frames 2 x p ≡ missing_of found.frames 2 x p
+    pub settled_missing : (q x p : ℕ) → found.root q ≡ Some x → missing_of new.frames (top_level mode) x p ≡ missing_of found.frames (top_level mode) x p
     settled_missing q x p e = sets.2.missing x p (fit_mid.rooted.roots q x (changes.root q ∙ e)) ∙ missing_mid x p (fit.rooted.roots q x e)
 
     pub settled_views : (q p : ℕ) → (q ≢ pid) ⊎ (p ≢ page) → view new q p ≡ view found q p

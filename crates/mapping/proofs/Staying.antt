@@ -5,7 +5,7 @@ use Rattle.paging.specs.Parts.{IsFit}
 use Rattle.mapping.specs.Changes.{IsLinked, IsWhole, KeepsSpaces, KeepsTables}
 
 -- no process came or went, and no table came to be missing
-pub linked_kept : (old new : Picture) (pid page : ℕ) → IsLinked old pid page → IsFit new → KeepsSpaces old new → KeepsTables old new → IsLinked new pid page
+pub linked_kept : {mode : ℕ} (old new : Picture mode) (pid page : ℕ) → IsLinked old pid page → IsFit new → KeepsSpaces old new → KeepsTables old new → IsLinked new pid page
 linked_kept old new pid page linked fit spaces tables = record {
   fit = fit;
   lives = λ none. linked.lives (sym (spaces.root pid) ∙ none);
@@ -17,5 +17,5 @@ linked_kept old new pid page linked fit spaces tables = record {
 }
 
 -- its tables were made
-pub linked_now : (old new : Picture) (pid page : ℕ) → old.root pid ≢ None → IsFit new → KeepsSpaces old new → IsWhole new pid page → IsLinked new pid page
+pub linked_now : {mode : ℕ} (old new : Picture mode) (pid page : ℕ) → old.root pid ≢ None → IsFit new → KeepsSpaces old new → IsWhole new pid page → IsLinked new pid page
 linked_now old new pid page lives fit spaces whole = record { fit = fit; lives = λ none. lives (sym (spaces.root pid) ∙ none); whole = whole }

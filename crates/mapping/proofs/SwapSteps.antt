@@ -1,4 +1,5 @@
 -- A page's own copy read from its slot into a frame.
+use Rattle.vm_types.specs.Limits.{top_level}
 use Rattle.std.proofs.Common.{◌≡◌, ◌≢◌, ℕ, inl, inr, ◌+◌, ◌*◌, ◌<◌, ◌^◌, true, false, List, Option, Some, None, refl, sym, ap, ◌∙◌, subst, arith}
 use Rattle.std.proofs.lemmas.Bool.{cases_eq, cases_Bool, false≢true}
 use Rattle.vm_types.specs.declared.object.PageKey.{PageKey}
@@ -62,7 +63,7 @@ away_seat k low =
 some_seat : (x y : Seat) → Some x ≡ Some y → x ≡ y
 some_seat x y e = (cc)
 
-not_shared_away : (c : Picture) (attr : Option Attr) (a : Attr) (e : ℕ) → attr ≡ Some a → is_swapped e ≡ true → e ≢ 0 → IsEntryFor c attr e → IsSwapped c a e
+not_shared_away : {mode : ℕ} (c : Picture mode) (attr : Option Attr) (a : Attr) (e : ℕ) → attr ≡ Some a → is_swapped e ≡ true → e ≢ 0 → IsEntryFor c attr e → IsSwapped c a e
 not_shared_away c attr a e at away some (Nothing none) = absurd (some none)
 not_shared_away c attr a e at away some (Resident b is resident) = elim (cases_Bool (is_valid e)) [
   | inl valid ↦ absurd (false≢true (sym (let z : is_swapped e ≡ false = rw valid refl in z) ∙ away))
@@ -74,7 +75,7 @@ not_shared_away c attr a e at away some (Away b is swapped) =
     subst P (cc) swapped
 
 -- the page lies in a slot by its region too
-pub swapped_page : (c : Picture) (pid page : ℕ) (a : Attr) → IsFit c → IsPage 2 page → c.at pid page ≡ Some a → is_swapped (entry c pid page) ≡ true → IsSwapped c a (entry c pid page)
+pub swapped_page : {mode : ℕ} (c : Picture mode) (pid page : ℕ) (a : Attr) → IsFit c → IsPage (top_level mode) page → c.at pid page ≡ Some a → is_swapped (entry c pid page) ≡ true → IsSwapped c a (entry c pid page)
 swapped_page c pid page a fit h at away =
     not_shared_away c (c.at pid page) a (entry c pid page) at away (λ none. false≢true (sym zero_here ∙ sym (ap is_swapped none) ∙ away)) (fit.granting.entries pid page h)
 
@@ -100,7 +101,7 @@ own_spent old taken new n w takes releases =
     }
 
 -- a share of a slot was given back: the bytes of all slots are as they were
-module _ (old new : Picture) (k x d : ℕ) (s : Seat) (fit : IsFitBut old s x d) (same : SameButSlots old new) (releases : Slots.Releases old.slots new.slots k) where
+module _ {mode : ℕ} (old new : Picture mode) (k x d : ℕ) (s : Seat) (fit : IsFitBut old s x d) (same : SameButSlots old new) (releases : Slots.Releases old.slots new.slots k) where
   slot_bytes : (j : ℕ) → IsInUse old.slots j → new.slots.bytes j ≡ old.slots.bytes j
   slot_bytes j used = elim (cases_eq j k) [
     | inl e ↦ ap new.slots.bytes e ∙ releases.bytes_kept ∙ ap old.slots.bytes (sym e)
@@ -125,13 +126,13 @@ module _ (old new : Picture) (k x d : ℕ) (s : Seat) (fit : IsFitBut old s x d)
   held_given p = ap (λ y. bytes_at new.frames new.slots y) (same.place p) ∙ place_bytes p (old.place p) refl
 
 -- a page in a slot keeps its entry while a frame is taken
-pub entry_taken : (old taken : Picture) (pid page n : ℕ) (obtains : ObtainsOwn old taken None n page) → IsPage 2 page → is_swapped (entry old pid page) ≡ true → entry taken pid page ≡ entry old pid page
+pub entry_taken : {mode : ℕ} (old taken : Picture mode) (pid page n : ℕ) (obtains : ObtainsOwn old taken None n page) → IsPage (top_level mode) page → is_swapped (entry old pid page) ≡ true → entry taken pid page ≡ entry old pid page
 entry_taken old taken pid page n obtains h away =
     entries_changed obtains.found taken n obtains.fit (changes_taken obtains.found taken n page obtains.own) (λ t. (let bad : Private ≡ Table = sym obtains.own.takes.kind_set ∙ t in (cc))) pid page
     ∙ obtains.frees.entries pid page h (inr (inl away))
 
 -- the frame that was taken was written
-pub changes_written : (found taken : Picture) (n page : ℕ) → TakesOwn found taken n page → (t : SlotTable) → t ≡ taken.slots → (w : List ℕ)
+pub changes_written : {mode : ℕ} (found taken : Picture mode) (n page : ℕ) → TakesOwn found taken n page → (t : SlotTable) → t ≡ taken.slots → (w : List ℕ)
     → ChangesFrame found (record taken { slots = t; frames = with_bytes taken.frames n w }) n
 changes_written found taken n page own t slots w = record {
   slots = slots ∙ own.slots;
@@ -146,7 +147,7 @@ changes_written found taken n page own t slots w = record {
 }
 
 -- and given back
-pub changes_spent : (found taken : Picture) (n page : ℕ) → TakesOwn found taken n page → (t : SlotTable) → t ≡ taken.slots → (w : List ℕ) (u : FrameTable) → Releases (with_bytes taken.frames n w) u n
+pub changes_spent : {mode : ℕ} (found taken : Picture mode) (n page : ℕ) → TakesOwn found taken n page → (t : SlotTable) → t ≡ taken.slots → (w : List ℕ) (u : FrameTable) → Releases (with_bytes taken.frames n w) u n
     → ChangesFrame found (record taken { slots = t; frames = u }) n
 changes_spent found taken n page own t slots w u releases = record {
   slots = slots ∙ own.slots;
@@ -161,7 +162,7 @@ changes_spent found taken n page own t slots w u releases = record {
 }
 
 -- the fullest entry by the share count of its frame alone
-pub full_count : (c c' : Picture) (a : Attr) (n e : ℕ) → count_of c'.frames n ≡ count_of c.frames n → IsFullEntry c a n true e → IsFullEntry c' a n true e
+pub full_count : {mode : ℕ} (c c' : Picture mode) (a : Attr) (n e : ℕ) → count_of c'.frames n ≡ count_of c.frames n → IsFullEntry c a n true e → IsFullEntry c' a n true e
 full_count c c' a n e same full =
     let P : ℕ → Type 0 = λ x. IsEntryOver e a.prot n true ((x == 1) && can_write a.prot) ((x == 1) && can_write a.prot) in
     subst P (sym same) full

@@ -1,4 +1,5 @@
 -- What a page's own copy leaves that was read from its slot.
+use Rattle.vm_types.specs.Limits.{top_level}
 use Rattle.std.proofs.Common.{◌≡◌, ◌≢◌, ℕ, inl, inr, ◌+◌, ◌*◌, ◌<◌, ◌^◌, true, false, Some, None, refl, sym, ap, ◌∙◌, subst}
 use Rattle.std.specs.Prelude.{option_map}
 use Rattle.vm_types.specs.declared.object.PageKey.{PageKey}
@@ -27,7 +28,7 @@ use Rattle.mapping.proofs.Steps.{spaces_then, spaces_freed, room_then, room_free
 use Rattle.mapping.proofs.SwapSteps.{swapped_page, away_seat, views_given, held_given}
 
 -- what was held went home or stayed
-pub files_then : (a b c : Picture) → KeepsFiles a b → ((p : PageKey) → held c p ≡ held b p) → ((p : PageKey) → c.touched p ≡ b.touched p) → ((f : ℕ) → c.files f ≡ b.files f) → KeepsFiles a c
+pub files_then : {mode : ℕ} (a b c : Picture mode) → KeepsFiles a b → ((p : PageKey) → held c p ≡ held b p) → ((p : PageKey) → c.touched p ≡ b.touched p) → ((f : ℕ) → c.files f ≡ b.files f) → KeepsFiles a c
 files_then a b c first held_same touched files = record {
   held = λ p. elim (first.held p) [
     | inl same ↦ inl (held_same p ∙ same)
@@ -38,17 +39,17 @@ files_then a b c first held_same touched files = record {
 }
 
 -- entries are in frames
-slots_aside : (c : Picture) (t : SlotTable) (q p : ℕ) → entry (record c { slots = t }) q p ≡ entry c q p
+slots_aside : {mode : ℕ} (c : Picture mode) (t : SlotTable) (q p : ℕ) → entry (record c { slots = t }) q p ≡ entry c q p
 unfolding entry
 slots_aside c t q p = refl
 
-module _ (old taken : Picture) (pid page n k r : ℕ) (a : Attr) (obtains : ObtainsOwn old taken None n page) (linked : IsLinked old pid page) (lives : old.root pid ≡ Some r)
+module _ {mode : ℕ} (old taken : Picture mode) (pid page n k r : ℕ) (a : Attr) (obtains : ObtainsOwn old taken None n page) (linked : IsLinked old pid page) (lives : old.root pid ≡ Some r)
     (at : old.at pid page ≡ Some a) (away : is_swapped (entry old pid page) ≡ true) (number : entry old pid page ≡ k * 1024 + 2) (low : k < 2 ^ 32)
-    (written : Picture) (changes : ChangesFrame obtains.found written n) (role : role_of written.frames n ≡ Private) (one : count_of written.frames n ≡ 1) (noted : written.page_of n ≡ page) where
-  abbrev found : Picture
+    (written : Picture mode) (changes : ChangesFrame obtains.found written n) (role : role_of written.frames n ≡ Private) (one : count_of written.frames n ≡ 1) (noted : written.page_of n ≡ page) where
+  abbrev found : Picture mode
   found = obtains.found
 
-  here : IsPage 2 page
+  here : IsPage (top_level mode) page
   here = mapped_page old pid page a linked.fit.granting at
 
   entry_found : entry found pid page ≡ entry old pid page
@@ -63,7 +64,7 @@ module _ (old taken : Picture) (pid page n k r : ℕ) (a : Attr) (obtains : Obta
   pub lives_of : found.root pid ≡ Some r
   lives_of = obtains.frees.pages.root pid ∙ lives
 
-  pub whole_of : missing_of found.frames 2 r page ≡ 0
+  pub whole_of : missing_of found.frames (top_level mode) r page ≡ 0
   whole_of = obtains.frees.missing pid r page lives ∙ linked.whole r lives
 
   pub at_of : found.at pid page ≡ Some a
@@ -81,7 +82,7 @@ module _ (old taken : Picture) (pid page n k r : ℕ) (a : Attr) (obtains : Obta
   apart : InSlot k ≢ InFrame n
   apart e = (cc)
 
-  module _ (set : Picture) (sets : (number : ℕ) × IsFullEntry written a n true number × SetsEntry written.frames set.frames 2 r page number) (beside : SameBeside written set) where
+  module _ (set : Picture mode) (sets : (number : ℕ) × IsFullEntry written a n true number × SetsEntry written.frames set.frames (top_level mode) r page number) (beside : SameBeside written set) where
     fit_moved' : IsFitBut set (InSlot k) 1 0
     fit_moved' = settled_moved found written pid page r n a obtains.fit changes role one noted lives_of whole_of at_of set sets beside not_shared inside (InSlot k) from apart
 
@@ -92,7 +93,7 @@ module _ (old taken : Picture) (pid page n k r : ℕ) (a : Attr) (obtains : Obta
     slot_set = owned.0
 
     module _ (t : SlotTable) (releases : Releases set.slots t k) where
-      abbrev new : Picture
+      abbrev new : Picture mode
       new = record set { slots = t }
 
       pub fit_in : IsFit (record set { slots = t })

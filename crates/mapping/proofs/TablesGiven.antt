@@ -1,4 +1,5 @@
 -- What tables taken and linked take of memory.
+use Rattle.vm_types.specs.Limits.{top_level}
 use Rattle.std.proofs.Common.{◌≡◌, ◌≢◌, ◌-◌, ◌<◌, ◌≤◌, ℕ, zero, suc, inl, inr, Option, Some, None, get_or, sym, ap, ◌∙◌, subst, arith}
 use Rattle.std.proofs.lemmas.Bool.{cases_eq}
 use Rattle.frames.specs.declared.role.Role.TheVariants.{Free}
@@ -23,18 +24,20 @@ table_before old new n count role table =
     record { inside = subst P count table.inside; role = sym role ∙ table.role }
 
 -- a table on the way to a page that is not the root
-below_root : (t : FrameTable) (root page n depth : ℕ) → depth ≤ 2 → Way t 2 root page depth n → n ≢ root → IsBelowRoot t 2 root page n
-below_root t root page n zero least way ne = absurd (ne way)
-below_root t root page n (suc depth) least way ne = (depth, omega (arith, least), way)
+module _ (mode : ℕ) where
+  below_root : (t : FrameTable) (root page n depth : ℕ) → depth ≤ top_level mode → Way t (top_level mode) root page depth n → n ≢ root → IsBelowRoot t (top_level mode) root page n
+  below_root t root page n zero least way ne = absurd (ne way)
+  below_root t root page n (suc depth) least way ne = (depth, omega (arith, least), way)
 
 -- where roots and pointers stand, a table is on the ways that it was on
-pub way_stands : (old new : Picture) (pid page n : ℕ) → new.root pid ≡ old.root pid → ((a i b : ℕ) → Points old.frames a i b → Points new.frames a i b)
-    → IsTableOnWay old pid page n → IsTableOnWay new pid page n
-way_stands old new pid page n root pointers way =
-    let below : IsBelowRoot old.frames 2 way.0 page n = way.2 in
-    (way.0, root ∙ way.1, (below.0, below.1, way_forth old.frames new.frames pointers 2 way.0 page (suc below.0) n below.2))
+module _ {mode : ℕ} where
+  pub way_stands : (old new : Picture mode) (pid page n : ℕ) → new.root pid ≡ old.root pid → ((a i b : ℕ) → Points old.frames a i b → Points new.frames a i b)
+      → IsTableOnWay old pid page n → IsTableOnWay new pid page n
+  way_stands old new pid page n root pointers way =
+      let below : IsBelowRoot old.frames (top_level mode) way.0 page n = way.2 in
+      (way.0, root ∙ way.1, (below.0, below.1, way_forth old.frames new.frames pointers (top_level mode) way.0 page (suc below.0) n below.2))
 
-pub links_then : (a b c : Picture) (pid page : ℕ) (tried : Option ℕ) → c.root pid ≡ b.root pid → GivesForTables b c tried
+pub links_then : {mode : ℕ} (a b c : Picture mode) (pid page : ℕ) (tried : Option ℕ) → c.root pid ≡ b.root pid → GivesForTables b c tried
     → LinksTables a b pid page → LinksTables b c pid page → LinksTables a c pid page
 links_then a b c pid page tried root gives first second n table = elim (second n table) [
   | inl was ↦ elim (first n was) [
@@ -45,18 +48,18 @@ links_then a b c pid page tried root gives first second n table = elim (second n
 ]
 
 -- no frame came to another use
-pub links_none : (old new : Picture) (pid page : ℕ) → frame_count new.frames ≡ frame_count old.frames → KeepsRoles old new → LinksTables old new pid page
+pub links_none : {mode : ℕ} (old new : Picture mode) (pid page : ℕ) → frame_count new.frames ≡ frame_count old.frames → KeepsRoles old new → LinksTables old new pid page
 links_none old new pid page count still n table = inl (table_before old.frames new.frames n count (still n) table)
 
 -- frames were given up: a table that was missing still is
-pub still_wanted : (old new : Picture) (pid root page : ℕ) → Frees old new None → old.root pid ≡ Some root → missing_of old.frames 2 root page ≢ 0
+pub still_wanted : {mode : ℕ} (old new : Picture mode) (pid root page : ℕ) → Frees old new None → old.root pid ≡ Some root → missing_of old.frames (top_level mode) root page ≢ 0
     → IsWhole new pid page → ⊥
 still_wanted old new pid root page frees lives missing whole =
     missing (sym (frees.missing pid root page lives) ∙ whole root (frees.pages.root pid ∙ lives))
 
 -- a frame was obtained, taken for a table, and linked on the way to a page
-module _ (old taken new : Picture) (pid root page table : ℕ) (obtains : ObtainsTable old taken table) (lives : old.root pid ≡ Some root)
-    (links : LinksTable taken.frames new.frames 2 root page table) (beside : SameBeside taken new) where
+module _ {mode : ℕ} (old taken new : Picture mode) (pid root page table : ℕ) (obtains : ObtainsTable old taken table) (lives : old.root pid ≡ Some root)
+    (links : LinksTable taken.frames new.frames (top_level mode) root page table) (beside : SameBeside taken new) where
   lives_taken : taken.root pid ≡ Some root
   lives_taken = obtains.beside.root pid ∙ obtains.frees.pages.root pid ∙ lives
 
@@ -89,10 +92,10 @@ module _ (old taken new : Picture) (pid root page table : ℕ) (obtains : Obtain
   -- the way to the page ends at the table, which is not the root
   on_way : (n : ℕ) → n ≡ table → IsTableOnWay new pid page n
   on_way n e =
-      let last = last_table new.frames page 2 root in
-      let end = ends new.frames 2 root page links.forest links.stays.table in
-      let P : ℕ → Type 0 = λ x. Way new.frames 2 root page (2 - last.0) x in
-      (root, beside.root pid ∙ lives_taken, below_root new.frames root page n (2 - last.0) (omega arith) (subst P (links.ends ∙ sym e) end.way) (λ is. apart pid root lives_taken (sym is ∙ e)))
+      let last = last_table new.frames page (top_level mode) root in
+      let end = ends new.frames (top_level mode) root page links.forest links.stays.table in
+      let P : ℕ → Type 0 = λ x. Way new.frames (top_level mode) root page (top_level mode - last.0) x in
+      (root, beside.root pid ∙ lives_taken, below_root mode new.frames root page n (top_level mode - last.0) (omega arith) (subst P (links.ends ∙ sym e) end.way) (λ is. apart pid root lives_taken (sym is ∙ e)))
 
   pub links_linked : GivesForTables old taken None → KeepsRolesBut old taken table → LinksTables old new pid page
   links_linked gives only n is_table = elim (cases_eq n table) [

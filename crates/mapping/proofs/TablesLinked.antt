@@ -1,4 +1,5 @@
 -- A table linked: what every process and file sees stays.
+use Rattle.vm_types.specs.Limits.{top_level}
 use Rattle.std.proofs.Common.{◌≡◌, ◌≢◌, ◌≤◌, ℕ, inl, inr, Some, Option, get_or, sym, ap, ◌∙◌, subst, arith}
 use Rattle.std.specs.Prelude.{IsSome}
 use Rattle.std.proofs.lemmas.Bool.{cases_eq}
@@ -25,9 +26,9 @@ not_free : (t : FrameTable) (n m : ℕ) (r : Role) → role_of t n ≡ Free → 
 not_free t n m r free is ne e = ne (sym is ∙ ap (role_of t) e ∙ free)
 
 -- a frame was obtained, taken for a table, and linked on the way to a mapped page
-module _ (old taken new : Picture) (pid root page table : ℕ) (obtains : ObtainsTable old taken table) (lives : old.root pid ≡ Some root)
-    (links : LinksTable taken.frames new.frames 2 root page table) (beside : SameBeside taken new) where
-  abbrev found : Picture
+module _ {mode : ℕ} (old taken new : Picture mode) (pid root page table : ℕ) (obtains : ObtainsTable old taken table) (lives : old.root pid ≡ Some root)
+    (links : LinksTable taken.frames new.frames (top_level mode) root page table) (beside : SameBeside taken new) where
+  abbrev found : Picture mode
   found = obtains.found
 
   fit : IsFit found
@@ -53,7 +54,7 @@ module _ (old taken new : Picture) (pid root page table : ℕ) (obtains : Obtain
   ne_table : (q r : ℕ) → found.root q ≡ Some r → r ≢ table
   ne_table q r e is = loose q (obtains.beside.root q ∙ e ∙ ap (λ x. Some x) is)
 
-  pub is_root_taken : IsRoot 2 taken.frames root
+  pub is_root_taken : IsRoot (top_level mode) taken.frames root
   is_root_taken = obtains.adds.roots root (fit.rooted.roots pid root lives_found)
 
   bytes_linked : (n : ℕ) (r : Role) → role_of found.frames n ≡ r → r ≢ Free → r ≢ Table → bytes_of new.frames n ≡ bytes_of found.frames n
@@ -108,8 +109,8 @@ module _ (old taken new : Picture) (pid root page table : ℕ) (obtains : Obtain
       elim (cases_eq r root) [
         | inl is ↦ (
             let less = links.no_more p in
-            let P : ℕ → Type 0 = λ x. missing_of new.frames 2 x p ≤ missing_of found.frames 2 x p in
-            let Q : ℕ → Type 0 = λ x. missing_of taken.frames 2 x p ≡ missing_of found.frames 2 x p in
+            let P : ℕ → Type 0 = λ x. missing_of new.frames (top_level mode) x p ≤ missing_of found.frames (top_level mode) x p in
+            let Q : ℕ → Type 0 = λ x. missing_of taken.frames (top_level mode) x p ≡ missing_of found.frames (top_level mode) x p in
             let same = subst Q is taken_same in
             subst P (sym is) (omega (arith, less, same)))
         | inr ne ↦ (let linked_same = links.missing r p ne (ne_table q r e) (obtains.adds.roots r is_root) in omega (arith, linked_same, taken_same))
@@ -144,5 +145,5 @@ module _ (old taken new : Picture) (pid root page table : ℕ) (obtains : Obtain
         | inr freed ↦ (let bad : Free ≡ Private = sym freed.0 ∙ mid in (cc))
       ]
 
-  pub missing_taken : missing_of taken.frames 2 root page ≡ missing_of old.frames 2 root page
+  pub missing_taken : missing_of taken.frames (top_level mode) root page ≡ missing_of old.frames (top_level mode) root page
   missing_taken = obtains.adds.missing root page (fit.rooted.roots pid root lives_found) ∙ obtains.frees.missing pid root page lives

@@ -1,4 +1,5 @@
 -- What the calls on one page's entry need and leave.
+use Rattle.vm_types.specs.declared.mode.Levels as Levels
 use Rattle.std.specs.Prelude.{Bool, ◌&&◌, ◌==◌, ◌≡◌, ◌≢◌, ℕ, ◌≤◌, ◌⊎◌, true, if◌then◌else◌, List, Some, None}
 use Rattle.vm_types.specs.Limits.{top_level}
 use Rattle.vm_types.specs.declared.object.PageKey.{PageKey}
@@ -24,70 +25,84 @@ use Rattle.paging.specs.Calls.{Frees, UsesDevice}
 use Rattle.paging.specs.Steps.{ChangesFrame}
 
 -- no table is missing on the way to a page of a process
-abbrev pub IsWhole : Picture → ℕ → ℕ → Type 0
-IsWhole c pid page = (r : ℕ) → c.root pid ≡ Some r → missing_of c.frames top_level r page ≡ 0
+module _ {mode : ℕ} where
+  abbrev pub IsWhole : Picture mode → ℕ → ℕ → Type 0
+  IsWhole c pid page = (r : ℕ) → c.root pid ≡ Some r → missing_of c.frames (top_level mode) r page ≡ 0
 
 -- a page of a live process, on whose way no table is missing
-pub record IsLinked (c : Picture) (pid page : ℕ) : Type 0 where
-  pub fit : IsFit c
-  pub lives : c.root pid ≢ None
-  pub whole : IsWhole c pid page
+module _ {mode : ℕ} where
+  pub record IsLinked (c : Picture mode) (pid page : ℕ) : Type 0 where
+    pub fit : IsFit c
+    pub lives : c.root pid ≢ None
+    pub whole : IsWhole c pid page
 
 -- no table came to be missing
-abbrev pub KeepsTables : Picture → Picture → Type 0
-KeepsTables old new = (pid r page : ℕ) → old.root pid ≡ Some r → missing_of new.frames top_level r page ≤ missing_of old.frames top_level r page
+module _ {mode : ℕ} where
+  abbrev pub KeepsTables : Picture mode → Picture mode → Type 0
+  KeepsTables old new = (pid r page : ℕ) → old.root pid ≡ Some r → missing_of new.frames (top_level mode) r page ≤ missing_of old.frames (top_level mode) r page
 
 -- table n lies below the root of a process on the way to a page of it
-abbrev pub IsTableOnWay : Picture → ℕ → ℕ → ℕ → Type 0
-IsTableOnWay c pid page n = (r : ℕ) × (c.root pid ≡ Some r) × IsBelowRoot c.frames top_level r page n
+module _ {mode : ℕ} where
+  abbrev pub IsTableOnWay : Picture mode → ℕ → ℕ → ℕ → Type 0
+  IsTableOnWay c pid page n = (r : ℕ) × (c.root pid ≡ Some r) × IsBelowRoot c.frames (top_level mode) r page n
 
 -- each frame that came to be a table is one on the way to that page
-abbrev pub LinksTables : Picture → Picture → ℕ → ℕ → Type 0
-LinksTables old new pid page = (n : ℕ) → IsTable new.frames n → IsTable old.frames n ⊎ IsTableOnWay new pid page n
+module _ {mode : ℕ} where
+  abbrev pub LinksTables : Picture mode → Picture mode → ℕ → ℕ → Type 0
+  LinksTables old new pid page = (n : ℕ) → IsTable new.frames n → IsTable old.frames n ⊎ IsTableOnWay new pid page n
 
 -- a page that had no entry has none
-abbrev pub KeepsBare : Picture → Picture → Type 0
-KeepsBare old new = (pid page : ℕ) → IsPage top_level page → entry old pid page ≡ 0 → entry new pid page ≡ 0
+module _ {mode : ℕ} where
+  abbrev pub KeepsBare : Picture mode → Picture mode → Type 0
+  KeepsBare old new = (pid page : ℕ) → IsPage (top_level mode) page → entry old pid page ≡ 0 → entry new pid page ≡ 0
 
 -- every page but one that had no entry has none
-abbrev pub KeepsOtherBare : Picture → Picture → ℕ → ℕ → Type 0
-KeepsOtherBare old new pid page = (q p : ℕ) → IsPage top_level p → (q ≢ pid) ⊎ (p ≢ page) → entry old q p ≡ 0 → entry new q p ≡ 0
+module _ {mode : ℕ} where
+  abbrev pub KeepsOtherBare : Picture mode → Picture mode → ℕ → ℕ → Type 0
+  KeepsOtherBare old new pid page = (q p : ℕ) → IsPage (top_level mode) p → (q ≢ pid) ⊎ (p ≢ page) → entry old q p ≡ 0 → entry new q p ≡ 0
 
 -- that page of that process
 abbrev pub IsThatPage : ℕ → ℕ → ℕ → ℕ → Type 0
 IsThatPage pid page q p = (q ≡ pid) × (p ≡ page)
 
 -- What lies in a slot stays there, but for these pages of files and objects, and for the own copies of these pages of processes.
-pub record KeepsSlotted (files : PageKey → Type 0) (own : ℕ → ℕ → Type 0) (old new : Picture) : Type 0 where
-  pub file_pages : (p : PageKey) (k : SlotNo) → old.place p ≡ Slot k → files p ⊎ (new.place p ≡ Slot k)
-  pub copies : (q p : ℕ) → IsPage top_level p → is_swapped (entry old q p) ≡ true → own q p ⊎ (entry new q p ≡ entry old q p)
+module _ {mode : ℕ} where
+  pub record KeepsSlotted (files : PageKey → Type 0) (own : ℕ → ℕ → Type 0) (old new : Picture mode) : Type 0 where
+    pub file_pages : (p : PageKey) (k : SlotNo) → old.place p ≡ Slot k → files p ⊎ (new.place p ≡ Slot k)
+    pub copies : (q p : ℕ) → IsPage (top_level mode) p → is_swapped (entry old q p) ≡ true → own q p ⊎ (entry new q p ≡ entry old q p)
 
 -- the same processes live, with the same regions
-pub record KeepsSpaces (old new : Picture) : Type 0 where
-  pub root : (pid : ℕ) → new.root pid ≡ old.root pid
-  pub at : (pid page : ℕ) → new.at pid page ≡ old.at pid page
+module _ {mode : ℕ} where
+  pub record KeepsSpaces (old new : Picture mode) : Type 0 where
+    pub root : (pid : ℕ) → new.root pid ≡ old.root pid
+    pub at : (pid page : ℕ) → new.at pid page ≡ old.at pid page
 
 -- memory and swap are as many as they were
-pub record KeepsRoom (old new : Picture) : Type 0 where
-  pub frames : frame_count new.frames ≡ frame_count old.frames
-  pub slots : new.slots.total ≡ old.slots.total
+module _ {mode : ℕ} where
+  pub record KeepsRoom (old new : Picture mode) : Type 0 where
+    pub frames : frame_count new.frames ≡ frame_count old.frames
+    pub slots : new.slots.total ≡ old.slots.total
 
 -- every page is seen as it was
-abbrev pub KeepsViews : Picture → Picture → Type 0
-KeepsViews old new = (pid page : ℕ) → view new pid page ≡ view old pid page
+module _ {mode : ℕ} where
+  abbrev pub KeepsViews : Picture mode → Picture mode → Type 0
+  KeepsViews old new = (pid page : ℕ) → view new pid page ≡ view old pid page
 
 -- every page but one is seen as it was
-abbrev pub KeepsOtherViews : Picture → Picture → ℕ → ℕ → Type 0
-KeepsOtherViews old new pid page = (q p : ℕ) → (q ≢ pid) ⊎ (p ≢ page) → view new q p ≡ view old q p
+module _ {mode : ℕ} where
+  abbrev pub KeepsOtherViews : Picture mode → Picture mode → ℕ → ℕ → Type 0
+  KeepsOtherViews old new pid page = (q p : ℕ) → (q ≢ pid) ⊎ (p ≢ page) → view new q p ≡ view old q p
 
 -- no process sees a change, and no page of a file or an object became touched or clean
-pub record KeepsSeen (old new : Picture) : Type 0 where
-  pub views : (q k : ℕ) → view new q k ≡ view old q k
-  pub touched : (p : PageKey) → new.touched p ≡ old.touched p
+module _ {mode : ℕ} where
+  pub record KeepsSeen (old new : Picture mode) : Type 0 where
+    pub views : (q k : ℕ) → view new q k ≡ view old q k
+    pub touched : (p : PageKey) → new.touched p ≡ old.touched p
 
 -- whether the process with that entry is the only one to have its private frame
-abbrev pub is_sole : Picture → ℕ → Bool
-is_sole c e = is_private e && (count_of c.frames (frame_of e) == 1)
+module _ {mode : ℕ} where
+  abbrev pub is_sole : Picture mode → ℕ → Bool
+  is_sole c e = is_private e && (count_of c.frames (frame_of e) == 1)
 
 -- the frame of a page of a file or an object at that place
 abbrev pub frame_of_place : Place → ℕ
@@ -96,53 +111,58 @@ frame_of_place (Frame n) = n.0
 frame_of_place (Slot n) = 0
 
 -- the frame that holds what stands behind a page, where it is in memory: the zero page, or that of the page of a file or an object
-abbrev pub frame_behind : Picture → Backing → ℕ
-frame_behind c Anon = 0
-frame_behind c (Private p) = frame_of_place (c.place (File p))
-frame_behind c (Shared p) = frame_of_place (c.place (File p))
-frame_behind c (Common p) = frame_of_place (c.place (Object p))
+module _ {mode : ℕ} where
+  abbrev pub frame_behind : Picture mode → Backing → ℕ
+  frame_behind c Anon = 0
+  frame_behind c (Private p) = frame_of_place (c.place (File p))
+  frame_behind c (Shared p) = frame_of_place (c.place (File p))
+  frame_behind c (Common p) = frame_of_place (c.place (Object p))
 
 -- the frame whose bytes a page shows
-abbrev pub shown_frame : Picture → ℕ → Backing → ℕ
-shown_frame c e backing = if is_private e then frame_of e else frame_behind c backing
+module _ {mode : ℕ} where
+  abbrev pub shown_frame : Picture mode → ℕ → Backing → ℕ
+  shown_frame c e backing = if is_private e then frame_of e else frame_behind c backing
 
 -- the bytes that a page shows, where they are in memory
-abbrev pub shown_bytes : Picture → ℕ → ℕ → Attr → List ℕ
-shown_bytes c pid page attr = bytes_of c.frames (shown_frame c (entry c pid page) attr.backing)
+module _ {mode : ℕ} where
+  abbrev pub shown_bytes : Picture mode → ℕ → ℕ → Attr → List ℕ
+  shown_bytes c pid page attr = bytes_of c.frames (shown_frame c (entry c pid page) attr.backing)
 
 -- the page of a file or an object, which lies in a frame, is among the touched ones, and no other came, went or changed
-pub record MarksTouched (old new : Picture) (page : PageKey) : Type 0 where
-  pub place : (p : PageKey) → new.place p ≡ old.place p
-  pub bytes : (p : PageKey) (n : FrameNo) → old.place p ≡ Frame n → bytes_of new.frames n.0 ≡ bytes_of old.frames n.0
-  pub touched : new.touched page ≡ true
-  pub others : (p : PageKey) → p ≢ page → new.touched p ≡ old.touched p
-  pub files : (f : ℕ) → new.files f ≡ old.files f
+module _ {mode : ℕ} where
+  pub record MarksTouched (old new : Picture mode) (page : PageKey) : Type 0 where
+    pub place : (p : PageKey) → new.place p ≡ old.place p
+    pub bytes : (p : PageKey) (n : FrameNo) → old.place p ≡ Frame n → bytes_of new.frames n.0 ≡ bytes_of old.frames n.0
+    pub touched : new.touched page ≡ true
+    pub others : (p : PageKey) → p ≢ page → new.touched p ≡ old.touched p
+    pub files : (f : ℕ) → new.files f ≡ old.files f
 
 -- A frame was obtained, but not frame m, and taken for one page, at which its process will have it, with the bytes of frame m.
 -- No entry names it yet.
-pub record TakesCopy (old new : Picture) (n page m : ℕ) : Type 0 where
-  pub found : Picture
-  pub fit : IsFit found
-  pub frees : Frees old found (Some (record { 0 = m }))
-  pub changes : ChangesFrame found new n
-  pub inside : IsFrame new.frames n
-  pub role : role_of new.frames n ≡ Role.Private
-  pub count : count_of new.frames n ≡ 1
-  pub noted : new.page_of n ≡ page
-  pub copied : bytes_of new.frames n ≡ bytes_of old.frames m
+module _ {mode : ℕ} where
+  pub record TakesCopy (old new : Picture mode) (n page m : ℕ) : Type 0 where
+    pub found : Picture mode
+    pub fit : IsFit found
+    pub frees : Frees old found (Some (record { 0 = m }))
+    pub changes : ChangesFrame found new n
+    pub inside : IsFrame new.frames n
+    pub role : role_of new.frames n ≡ Role.Private
+    pub count : count_of new.frames n ≡ 1
+    pub noted : new.page_of n ≡ page
+    pub copied : bytes_of new.frames n ≡ bytes_of old.frames m
 
-module _ {D E : Type 0} where
+module _ {M : Type 0} {m : Levels.Ghosts M} {D E : Type 0} where
   -- No frame was asked for and none changed hands, no device was asked, and no page but that one has another entry.
-  pub record IsCalm (old new : Core D E) (pid page : ℕ) : Type 0 where
+  pub record IsCalm (old new : Core D E M m) (pid page : ℕ) : Type 0 where
     pub store : new.store ≡ old.store
     pub swap : new.swap ≡ old.swap
     pub refused : new.refused.number ≡ old.refused.number
     pub frames : KeepsFrames old.frames new.frames
     pub place : (p : PageKey) → (picture_of new).place p ≡ (picture_of old).place p
-    pub others : (q p : ℕ) → IsPage top_level p → (q ≢ pid) ⊎ (p ≢ page) → entry (picture_of new) q p ≡ entry (picture_of old) q p
+    pub others : (q p : ℕ) → IsPage (top_level m.mode) p → (q ≢ pid) ⊎ (p ≢ page) → entry (picture_of new) q p ≡ entry (picture_of old) q p
 
   -- Only one page's entry changed, and perhaps which pages of files and objects are touched: every page is seen as it was.
-  pub record Enters (old new : Core D E) (pid page : ℕ) : Type 0 where
+  pub record Enters (old new : Core D E M m) (pid page : ℕ) : Type 0 where
     pub fit : IsFit (picture_of new)
     pub spaces : KeepsSpaces (picture_of old) (picture_of new)
     pub tables : KeepsTables (picture_of old) (picture_of new)
@@ -150,7 +170,7 @@ module _ {D E : Type 0} where
     pub calm : IsCalm old new pid page
 
   -- all but the frames is as it was
-  pub record KeepsAround (old new : Core D E) : Type 0 where
+  pub record KeepsAround (old new : Core D E M m) : Type 0 where
     pub store : new.store ≡ old.store
     pub swap : new.swap ≡ old.swap
     pub cache : new.cache ≡ old.cache
@@ -158,10 +178,10 @@ module _ {D E : Type 0} where
     pub regions : new.regions ≡ old.regions
     pub page_of : new.page_of ≡ old.page_of
 
-module _ {E : Type 0} (h : Ghosts E) where
+module _ {M : Type 0} {m : Levels.Ghosts M} {E : Type 0} (h : Ghosts E) where
   module _ {D : Type 0} where
     -- frames may have been given up, and the swap device was read and written
-    pub record Moves (old new : Core D E) : Type 0 where
+    pub record Moves (old new : Core D E M m) : Type 0 where
       pub fit : IsFit (picture_of new)
       pub swap : IsReady h new.swap
       pub spaces : KeepsSpaces (picture_of old) (picture_of new)

@@ -16,10 +16,10 @@ ghost use Rattle.mapping.specs.Changes.{IsWhole, KeepsBare, KeepsSlotted, LinksT
 use disk_model::SectorDisk;
 use mapped_memory::{link_table, missing_tables};
 use paging::Core;
-use vm_types::{FrameNo, Pid, Stall, Vpn};
+use vm_types::{FrameNo, Levels, Pid, Stall, Vpn};
 
 /// The root table of a live process.
-pub fn root_of<D, E>(core: &Core<D, E>, pid: Pid) -> FrameNo
+pub fn root_of<D, E, M: Levels>(core: &Core<D, E, M>, pid: Pid) -> FrameNo
     requires live { (picture_of core.now).root pid ≢ None }
     ensures { (picture_of core.now).root pid ≡ Some result.0 }
 {
@@ -34,8 +34,8 @@ pub fn root_of<D, E>(core: &Core<D, E>, pid: Pid) -> FrameNo
 ///
 /// # Errors
 /// As `obtain`, where a table is missing and no frame is to be had for it. The tables that were made stay.
-pub fn link_tables<D, E: SectorDisk>(
-    core: &mut Core<D, E>,
+pub fn link_tables<D, E: SectorDisk, M: Levels>(
+    core: &mut Core<D, E, M>,
     pid: Pid,
     page: Vpn,
 ) -> Result<(), Stall>
@@ -66,8 +66,8 @@ pub fn link_tables<D, E: SectorDisk>(
 }
 
 // Links a table in the highest missing place on the way to a mapped page.
-fn link_one<D, E: SectorDisk>(
-    core: &mut Core<D, E>,
+fn link_one<D, E: SectorDisk, M: Levels>(
+    core: &mut Core<D, E, M>,
     pid: Pid,
     root: FrameNo,
     page: Vpn,
@@ -76,13 +76,13 @@ fn link_one<D, E: SectorDisk>(
     requires swap { IsReady E.SectorDisk core.old.swap }
     requires lives { (picture_of core.old).root pid ≡ Some root.0 }
     requires mapped { IsMapped (picture_of core.old) pid page }
-    requires missing { missing_of core.old.frames top_level root.0 page ≢ 0 }
+    requires missing { missing_of core.old.frames (top_level M.mode) root.0 page ≢ 0 }
     ensures moves { Moves E.SectorDisk core.old core.new }
     ensures pages { KeepsPages (picture_of core.old) (picture_of core.new) }
     ensures no_copy { (n : ℕ) → role_of core.new.frames n ≡ Private → role_of core.old.frames n ≡ Private }
     ensures bare { KeepsBare (picture_of core.old) (picture_of core.new) }
     ensures slotted { KeepsSlotted (λ p. ⊥) (λ q p. ⊥) (picture_of core.old) (picture_of core.new) }
-    ensures lowered { OnOk result (missing_of core.new.frames top_level root.0 page + 1 ≡ missing_of core.old.frames top_level root.0 page) }
+    ensures lowered { OnOk result (missing_of core.new.frames (top_level M.mode) root.0 page + 1 ≡ missing_of core.old.frames (top_level M.mode) root.0 page) }
     ensures wanted { OnErr result (IsWhole (picture_of core.new) pid page → ⊥) }
     ensures gives { OnOk result (GivesForTables (picture_of core.old) (picture_of core.new) None) }
     ensures tried { OnErr result ((tried : Option ℕ) × GivesForTables (picture_of core.old) (picture_of core.new) tried) }

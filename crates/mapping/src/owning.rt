@@ -23,7 +23,7 @@ use mapped_memory::{Memory, entry_number};
 use page_cache::Place;
 use paging::Core;
 use sv39_walk::Pte;
-use vm_types::{Attr, Backing, FrameNo, PageKey, Pid, Stall, Vpn};
+use vm_types::{Attr, Backing, FrameNo, Levels, PageKey, Pid, Stall, Vpn};
 
 /// Gives a page that may be written, and that isn't shared, a frame of its own that shows the same bytes and allows
 /// stores, by W and D (RISC-V Privileged Specification, "Sv39 page table entry"). Where it is the only one to have its
@@ -31,8 +31,8 @@ use vm_types::{Attr, Backing, FrameNo, PageKey, Pid, Stall, Vpn};
 ///
 /// # Errors
 /// As `obtain`, where a frame is wanted and none is to be had. Then the page is seen as before.
-pub fn own_frame<D, E: SectorDisk>(
-    core: &mut Core<D, E>,
+pub fn own_frame<D, E: SectorDisk, M: Levels>(
+    core: &mut Core<D, E, M>,
     pid: Pid,
     page: Vpn,
     attr: Attr,
@@ -76,8 +76,8 @@ pub fn own_frame<D, E: SectorDisk>(
 }
 
 // Gives such a page, of which its process hasn't its frame alone, a copy of what it shows, in a frame of its own.
-fn copy_page<D, E: SectorDisk>(
-    core: &mut Core<D, E>,
+fn copy_page<D, E: SectorDisk, M: Levels>(
+    core: &mut Core<D, E, M>,
     pid: Pid,
     page: Vpn,
     attr: Attr,
@@ -121,7 +121,7 @@ fn copy_page<D, E: SectorDisk>(
 }
 
 // The frame whose bytes a page shows, by its entry and what stands behind it.
-fn shown_frame<D, E>(core: &Core<D, E>, entry: Pte, backing: Backing) -> FrameNo
+fn shown_frame<D, E, M: Levels>(core: &Core<D, E, M>, entry: Pte, backing: Backing) -> FrameNo
     requires number { is_private entry.0 ≡ true → frame_of entry.0 < 2 ^ 32 }
     requires in_memory { is_private entry.0 ≡ false → (n : ℕ) × IsBehind (picture_of core.now) backing n }
     ensures { result.0 ≡ shown_frame (picture_of core.now) entry.0 backing }
@@ -138,7 +138,7 @@ fn shown_frame<D, E>(core: &Core<D, E>, entry: Pte, backing: Backing) -> FrameNo
 }
 
 // The frame in which a page of a file or an object lies.
-fn cached_frame<D, E>(core: &Core<D, E>, page: PageKey) -> FrameNo
+fn cached_frame<D, E, M: Levels>(core: &Core<D, E, M>, page: PageKey) -> FrameNo
     requires { (n : ℕ) × ((picture_of core.now).place page ≡ Frame (record { 0 = n })) }
     ensures { result.0 ≡ frame_of_place ((picture_of core.now).place page) }
 {
@@ -150,8 +150,8 @@ fn cached_frame<D, E>(core: &Core<D, E>, page: PageKey) -> FrameNo
 
 // A free frame, taken for that page as a process's own, with the bytes of frame `from`, which isn't given up for it. No entry
 // names it yet.
-fn take_copy<D, E: SectorDisk>(
-    core: &mut Core<D, E>,
+fn take_copy<D, E: SectorDisk, M: Levels>(
+    core: &mut Core<D, E, M>,
     from: FrameNo,
     page: Vpn,
 ) -> Result<FrameNo, Stall>
@@ -175,7 +175,7 @@ fn take_copy<D, E: SectorDisk>(
 }
 
 // Gives a frame of zeros the bytes of another. Those of the zero page aren't copied.
-fn fill(frames: &mut Memory, from: FrameNo, own: FrameNo)
+fn fill<M: Levels>(frames: &mut Memory<M>, from: FrameNo, own: FrameNo)
     requires source { IsFrame frames.old from.0 }
     requires target { IsHeld frames.old own.0 }
     requires zeros { bytes_of frames.old own.0 ≡ zero_bytes }

@@ -16,7 +16,7 @@ ghost use Rattle.mapping.specs.Files.{Proceeds, BringsFiles, IsInStore};
 use disk_model::SectorDisk;
 use page_cache::Place;
 use paging::Core;
-use vm_types::{FrameNo, PageKey, Stall};
+use vm_types::{FrameNo, Levels, PageKey, Stall};
 
 /// The frame of a file page that begins inside its file, or of a page of an object that a process names. Where it lies in a
 /// slot it is read from there, and the slot is given back; where it is at home a file page is read from the store, and a page of
@@ -25,8 +25,8 @@ use vm_types::{FrameNo, PageKey, Stall};
 /// # Errors
 /// As `obtain`, where no frame is to be had; `SwapDevice` or `StoreDevice` where that device failed. Then the page stays where it
 /// was.
-pub fn cached<D: SectorDisk, E: SectorDisk>(
-    core: &mut Core<D, E>,
+pub fn cached<D: SectorDisk, E: SectorDisk, M: Levels>(
+    core: &mut Core<D, E, M>,
     page: PageKey,
 ) -> Result<FrameNo, Stall>
     requires fit { IsFit (picture_of core.old) }
@@ -54,8 +54,8 @@ pub fn cached<D: SectorDisk, E: SectorDisk>(
 }
 
 /// The same of a page that is at home.
-fn bring_home<D: SectorDisk, E: SectorDisk>(
-    core: &mut Core<D, E>,
+fn bring_home<D: SectorDisk, E: SectorDisk, M: Levels>(
+    core: &mut Core<D, E, M>,
     page: PageKey,
 ) -> Result<FrameNo, Stall>
     requires fit { IsFit (picture_of core.old) }

@@ -1,6 +1,6 @@
 //! Frames that stand behind a page, shown at it.
-ghost use Rattle.std.specs.Prelude.{◌≡◌, ◌≢◌, ℕ, None, Some, true, false};
-ghost use Rattle.vm_types.specs.Limits.{top_level};
+ghost use Rattle.std.specs.Prelude.{◌<◌, ◌≡◌, ◌≢◌, ℕ, None, Some, true, false};
+ghost use Rattle.vm_types.specs.Limits.{top_level, user_end};
 ghost use Rattle.vm_types.specs.Permission.{can_read, can_write};
 ghost use Rattle.vm_types.specs.Attributes.{stands_on};
 ghost use Rattle.vm_types.specs.declared.region.Backing.TheVariants.{Anon};
@@ -22,14 +22,14 @@ use crate::linking::root_of;
 use mapped_memory::{entry_number, set};
 use page_tables::{Grant, entry_over};
 use paging::Core;
-use vm_types::{Attr, Backing, FrameNo, PageKey, Pid, Vpn};
+use vm_types::{Attr, Backing, FrameNo, Levels, PageKey, Pid, Vpn};
 
 /// The zero page, the frame of zeros that nothing is written to.
 pub const ZERO_PAGE: FrameNo = FrameNo(0);
 
 /// Shows the zero page at an anonymous page that has no entry. Its leaf is without W and D (RISC-V Privileged Specification,
 /// "Sv39 page table entry"): each store asks for a frame first.
-pub fn show_zero<D, E>(core: &mut Core<D, E>, pid: Pid, page: Vpn, attr: Attr)
+pub fn show_zero<D, E, M: Levels>(core: &mut Core<D, E, M>, pid: Pid, page: Vpn, attr: Attr)
     requires linked { IsLinked (picture_of core.old) pid page }
     requires attr { (picture_of core.old).at pid page ≡ Some attr }
     requires anonymous { attr.backing ≡ Anon }
@@ -45,8 +45,8 @@ pub fn show_zero<D, E>(core: &mut Core<D, E>, pid: Pid, page: Vpn, attr: Attr)
 /// Shows the frame of its file page at a page of a file without an own copy. Stores are allowed to a shared page of a
 /// touched file page alone, so that the first one to any other is noticed: it finds D clear (RISC-V Privileged
 /// Specification, "Sv39 page table entry", the scheme of Svade).
-pub fn show_cached<D, E>(
-    core: &mut Core<D, E>,
+pub fn show_cached<D, E, M: Levels>(
+    core: &mut Core<D, E, M>,
     pid: Pid,
     page: Vpn,
     attr: Attr,
@@ -68,7 +68,7 @@ pub fn show_cached<D, E>(
 /// Gives a page that lies in a frame the entry that allows all that its permission and the sharing of its frame
 /// do: W over a frame that nobody else has and over that of a shared page, D there where the file page is touched
 /// (RISC-V Privileged Specification, "Sv39 page table entry").
-pub fn regrant<D, E>(core: &mut Core<D, E>, pid: Pid, page: Vpn, attr: Attr)
+pub fn regrant<D, E, M: Levels>(core: &mut Core<D, E, M>, pid: Pid, page: Vpn, attr: Attr)
     requires linked { IsLinked (picture_of core.old) pid page }
     requires attr { (picture_of core.old).at pid page ≡ Some attr }
     requires resident { entry (picture_of core.old) pid page ≢ 0 }
@@ -92,8 +92,8 @@ pub fn regrant<D, E>(core: &mut Core<D, E>, pid: Pid, page: Vpn, attr: Attr)
 
 /// Marks the page of a file or an object behind a shared page touched, and shows its frame there with stores allowed, by W and D: one follows
 /// at once (RISC-V Privileged Specification, "Sv39 page table entry").
-pub fn touch<D, E>(
-    core: &mut Core<D, E>,
+pub fn touch<D, E, M: Levels>(
+    core: &mut Core<D, E, M>,
     pid: Pid,
     page: Vpn,
     attr: Attr,
@@ -117,8 +117,8 @@ pub fn touch<D, E>(
 }
 
 /// Sets the fullest entry for a page over a frame.
-pub(crate) fn set_full<D, E>(
-    core: &mut Core<D, E>,
+pub(crate) fn set_full<D, E, M: Levels>(
+    core: &mut Core<D, E, M>,
     root: FrameNo,
     page: Vpn,
     attr: Attr,
@@ -126,12 +126,13 @@ pub(crate) fn set_full<D, E>(
     private: bool,
 )
     requires forest { IsForest core.old.frames }
-    requires root { IsRoot top_level core.old.frames root.0 }
-    requires whole { missing_of core.old.frames top_level root.0 page ≡ 0 }
+    requires root { IsRoot (top_level M.mode) core.old.frames root.0 }
+    requires user { page < user_end M.mode }
+    requires whole { missing_of core.old.frames (top_level M.mode) root.0 page ≡ 0 }
     requires inside { IsFrame core.old.frames frame.0 }
     requires readable { can_write attr.prot ≡ true → can_read attr.prot ≡ true }
     ensures sets { (number : ℕ) × IsFullEntry (picture_of core.old) attr frame.0 private number
-        × SetsEntry core.old.frames core.new.frames top_level root.0 page number }
+        × SetsEntry core.old.frames core.new.frames (top_level M.mode) root.0 page number }
     ensures rest { KeepsAround core.old core.new }
     ensures not_refused { core.new.refused.number ≡ core.old.refused.number }
 {
@@ -140,7 +141,12 @@ pub(crate) fn set_full<D, E>(
 }
 
 // What the fullest entry of a page over a frame allows.
-fn full_grant<D, E>(core: &Core<D, E>, attr: Attr, frame: FrameNo, private: bool) -> Grant
+fn full_grant<D, E, M: Levels>(
+    core: &Core<D, E, M>,
+    attr: Attr,
+    frame: FrameNo,
+    private: bool,
+) -> Grant
     requires { IsFrame core.now.frames frame.0 }
     ensures frame { result.frame ≡ frame }
     ensures private { result.private ≡ private }
@@ -166,7 +172,7 @@ fn full_grant<D, E>(core: &Core<D, E>, attr: Attr, frame: FrameNo, private: bool
 }
 
 // Whether stores through such a page reach a touched page of a file or an object.
-fn is_touched_behind<D, E>(core: &Core<D, E>, backing: Backing) -> bool
+fn is_touched_behind<D, E, M: Levels>(core: &Core<D, E, M>, backing: Backing) -> bool
     ensures { result ≡ is_touched_behind (picture_of core.now) backing }
 {
     match backing {

@@ -16,15 +16,15 @@ use disk_model::{DiskFault, SectorDisk};
 use mapped_memory::entry;
 use page_tables::Entry;
 use paging::Core;
-use vm_types::{Attr, FrameNo, Pid, Stall, Vpn};
+use vm_types::{Attr, FrameNo, Levels, Pid, Stall, Vpn};
 
 /// Reads a page's own copy from its slot into a frame, which no other process has, and gives the page the entry that
 /// allows all that its permission does. The process's share of the slot is given back.
 ///
 /// # Errors
 /// As `obtain`, where no frame is to be had, and `SwapDevice` where the swap device failed. Then the page lies where it lay.
-pub fn swap_in<D, E: SectorDisk>(
-    core: &mut Core<D, E>,
+pub fn swap_in<D, E: SectorDisk, M: Levels>(
+    core: &mut Core<D, E, M>,
     pid: Pid,
     page: Vpn,
     attr: Attr,

@@ -5,7 +5,7 @@ ghost use Rattle.vm_types.specs.Attributes.{backing_fits};
 use crate::bench::equal;
 use regions::Regions;
 use std::process::Abort;
-use vm_types::{Attr, Backing, FilePage, Prot, TooManyRuns, Vpn};
+use vm_types::{Attr, Backing, FilePage, Levels, Prot, Sv39, Sv48, TooManyRuns, Vpn};
 
 /// What is done with a row of pages; what is mapped are zeros, or shared pages of file 0 from one on.
 #[derive(Clone, Copy)]
@@ -29,9 +29,9 @@ fn backing(page: Option<u16>, pages: u64) -> Backing
 }
 
 /// Changes so many pages from the first one on; how many runs there are then.
-fn runs_after(
+fn runs_after<M: Levels>(
     rt: &impl Abort,
-    regions: &mut Regions,
+    regions: &mut Regions<M>,
     first: u64,
     pages: u64,
     change: Change,
@@ -40,7 +40,7 @@ fn runs_after(
     assert!(rt; first <= 0x10000);
     assert!(rt; 0 < pages);
     assert!(rt; pages <= 1000);
-    let mut next = Regions::new();
+    let mut next = Regions::<M>::new();
     match change {
         Change::Map(prot, page) => {
             let backing = backing(page, pages);
@@ -53,10 +53,9 @@ fn runs_after(
     Ok(regions.runs())
 }
 
-#[test]
-fn pages_split_and_merge(rt: HostRuntime) {
+fn split_and_merge<M: Levels>(rt: &impl Abort) {
     let read_write = Prot::READ | Prot::WRITE;
-    let mut regions = Regions::new();
+    let mut regions = Regions::<M>::new();
     for (first, pages, change, runs) in [
         (0x20, 5, Change::Map(read_write, None), 1),
         (0x22, 1, Change::Map(Prot::READ, None), 3),
@@ -69,19 +68,25 @@ fn pages_split_and_merge(rt: HostRuntime) {
         (0x23, 1, Change::Map(read_write, Some(0)), 3),
         (0x21, 2, Change::Remove, 3),
     ] {
-        let got = runs_after(&rt, &mut regions, first, pages, change);
-        equal(&rt, (first, pages, got), (first, pages, Ok(runs)));
+        let got = runs_after(rt, &mut regions, first, pages, change);
+        equal(rt, (first, pages, got), (first, pages, Ok(runs)));
     }
     equal(
-        &rt,
+        rt,
         [regions.covers(0x23, 2), regions.covers(0x20, 4)],
         [true, false],
     );
 }
 
 #[test]
+fn pages_split_and_merge(rt: HostRuntime) {
+    split_and_merge::<Sv39>(&rt);
+    split_and_merge::<Sv48>(&rt);
+}
+
+#[test]
 fn more_than_256_runs_are_refused(rt: HostRuntime) {
-    let mut regions = Regions::new();
+    let mut regions = Regions::<Sv39>::new();
     let mapped = Change::Map(Prot::READ | Prot::WRITE, Some(0));
     equal(&rt, runs_after(&rt, &mut regions, 0x10, 511, mapped), Ok(1));
     let barred = Change::Protect(Prot::READ);
@@ -104,7 +109,7 @@ fn more_than_256_runs_are_refused(rt: HostRuntime) {
 
 #[test]
 fn a_map_tells_what_its_pages_are(rt: HostRuntime) {
-    let mut regions = Regions::new();
+    let mut regions = Regions::<Sv39>::new();
     let mapped = Change::Map(Prot::READ, Some(0));
     equal(&rt, runs_after(&rt, &mut regions, 0x20, 5, mapped), Ok(1));
     let copy = regions.copied();
@@ -114,9 +119,9 @@ fn a_map_tells_what_its_pages_are(rt: HostRuntime) {
     equal(
         &rt,
         [copy.place(0x25000, 3), copy.place(0x24000, 1)],
-        [Vpn::new(0x25), Vpn::new(0x10)],
+        [Vpn::new::<Sv39>(0x25), Vpn::new::<Sv39>(0x10)],
     );
-    let page = Vpn::new(0x22).expect(&rt, "a user page");
+    let page = Vpn::new::<Sv39>(0x22).expect(&rt, "a user page");
     let third = Attr {
         prot: Prot::READ,
         backing: Backing::Shared(FilePage { file: 0, page: 2 }),
@@ -124,4 +129,25 @@ fn a_map_tells_what_its_pages_are(rt: HostRuntime) {
     equal(&rt, copy.at(page), Some(third));
     let next = copy.next_run(0x21).expect(&rt, "a mapped page");
     equal(&rt, (next.first, next.end), (0x21, 0x25));
+}
+
+// The first address that Sv39 has no page for, and the last page of Sv48.
+#[test]
+fn the_mode_has_a_last_page(rt: HostRuntime) {
+    let (small, large) = (Regions::<Sv39>::new(), Regions::<Sv48>::new());
+    for (addr, pages, first, second) in [
+        (0x3f_ffff_f000, 1, 0x3ff_ffff, 0x3ff_ffff),
+        (0x3f_ffff_f000, 2, 0x10, 0x3ff_ffff),
+        (0x40_0000_0000, 1, 0x10, 0x400_0000),
+        (0x7fff_ffff_f000, 1, 0x10, 0x7_ffff_ffff),
+        (0x7fff_ffff_f000, 2, 0x10, 0x10),
+        (0x8000_0000_0000, 1, 0x10, 0x10),
+    ] {
+        let places = (small.place(addr, pages), large.place(addr, pages));
+        equal(
+            &rt,
+            (addr, places),
+            (addr, (Vpn::new::<Sv39>(first), Vpn::new::<Sv48>(second))),
+        );
+    }
 }

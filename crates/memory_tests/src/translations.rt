@@ -2,7 +2,7 @@
 use crate::bench::equal;
 use std::process::Abort;
 use sv39_walk::Pte;
-use vm_types::{Access, FrameNo, Vpn};
+use vm_types::{Access, FrameNo, Sv39, Sv48, Vpn};
 use walk_buffer::{PLACES, TranslationBuffer};
 
 /// A call that changes the lines.
@@ -28,12 +28,12 @@ fn take_step(rt: &impl Abort, buffer: &mut TranslationBuffer, step: Step) {
     }
 }
 
-// Pages 17 and 81 have one place.
+// Pages 17 and 2 ^ 34 + 17 have one place.
 #[test]
 fn a_kept_leaf_is_found_until_it_is_dropped(rt: HostRuntime) {
     let (root, other) = (FrameNo(1), FrameNo(2));
-    let page = Vpn::new(17).expect(&rt, "a user page");
-    let twin = Vpn::new(81).expect(&rt, "a user page");
+    let page = Vpn::new::<Sv39>(17).expect(&rt, "a user page");
+    let twin = Vpn::new::<Sv48>((1 << 34) + 17).expect(&rt, "a user page");
     let frame = Some(FrameNo(5));
     let mut buffer = TranslationBuffer::new();
     for (step, found) in [

@@ -1,6 +1,6 @@
 //! Frames and page tables behind a buffer: what stands in a table, which walks find a line, and where all of them lead.
-ghost use Rattle.std.specs.Prelude.{◌≡◌, IfOk};
-ghost use Rattle.vm_types.specs.Limits.{top_level};
+ghost use Rattle.std.specs.Prelude.{◌≡◌, ◌<◌, IfOk};
+ghost use Rattle.vm_types.specs.Limits.{top_level, user_end};
 ghost use Rattle.page_tables.specs.Change.{AddsTable};
 ghost use Rattle.page_tables.specs.Entry.{IsEntry};
 ghost use Rattle.page_tables.specs.Tree.{IsForest, IsRoot};
@@ -17,7 +17,7 @@ use std::alloc::{AllocError, Global};
 use std::process::Abort;
 use std::test::Fail;
 use sv39_walk::{Pte, WalkFault};
-use vm_types::{Access, FrameNo, Phys, Prot, SlotNo, Vpn};
+use vm_types::{Access, FrameNo, Levels, Phys, Prot, SlotNo, Sv39, Sv48, Vpn};
 
 // A private leaf over frame 5, and one over frame 6: V, R, W, U, A and D.
 const FIFTH: Entry = Entry::Leaf(Pte(5591));
@@ -32,42 +32,44 @@ const PARKED_PRIVATE: Entry = Entry::Parked(FrameNo(9), true);
 // Where walks to any entry but a leaf end.
 const NOWHERE: Result<u64, WalkFault> = Err(WalkFault::Invalid);
 
-/// Memory of 8 frames with a tree that has its tables for page 17: the root in frame 1, then the tables in frames 2 and 3. The
-/// page's entry stands at byte 136 of the last.
+/// Memory of 8 frames with a tree that has its tables for page 17: the root in frame 1, then the tables in frames 2 and 3, and in
+/// frame 4 where there are four levels. The page's entry stands at byte 136 of the last.
 #[derive(Drop)]
-struct Tree {
-    memory: Memory,
+struct Tree<M: Levels> {
+    memory: Memory<M>,
     root: FrameNo,
     page: Vpn,
 }
 
-fn new_table(rt: &impl Abort, memory: &mut Memory) -> FrameNo
+fn new_table<M: Levels>(rt: &impl Abort, memory: &mut Memory<M>) -> FrameNo
     requires { IsForest memory.old }
-    ensures { AddsTable memory.old memory.new top_level result.0 }
+    ensures { AddsTable memory.old memory.new (top_level M.mode) result.0 }
 {
     take_table(memory).expect(rt, "a free frame")
 }
 
-fn add_table(rt: &impl Abort, memory: &mut Memory, root: FrameNo, page: Vpn)
+fn add_table<M: Levels>(rt: &impl Abort, memory: &mut Memory<M>, root: FrameNo, page: Vpn)
     requires forest { IsForest memory.old }
-    requires root { IsRoot top_level memory.old root.0 }
+    requires root { IsRoot (top_level M.mode) memory.old root.0 }
     ensures forest { IsForest memory.new }
-    ensures root { IsRoot top_level memory.new root.0 }
+    ensures root { IsRoot (top_level M.mode) memory.new root.0 }
 {
     let table = new_table(rt, memory);
     assert!(rt; missing_tables(memory, root, page) != 0);
     link_table(memory, root, page, table);
 }
 
-fn plant_tree(rt: &impl Abort, alloc: Global) -> Result<Tree, AllocError>
+fn plant_tree<M: Levels>(rt: &impl Abort, alloc: Global) -> Result<Tree<M>, AllocError>
     ensures forest { IfOk result (λ tree. IsForest tree.memory) }
-    ensures root { IfOk result (λ tree. IsRoot top_level tree.memory tree.root.0) }
+    ensures root { IfOk result (λ tree. IsRoot (top_level M.mode) tree.memory tree.root.0) }
+    ensures user { IfOk result (λ tree. tree.page < user_end M.mode) }
 {
-    let mut memory = Memory::new(alloc, 8)?;
-    let page = Vpn::new(17).expect(rt, "a user page");
+    let mut memory = Memory::<M>::new(alloc, 8)?;
+    let page = Vpn::new::<M>(17).expect(rt, "a user page");
     let root = new_table(rt, &mut memory);
-    add_table(rt, &mut memory, root, page);
-    add_table(rt, &mut memory, root, page);
+    for level in 0..M::top_level() {
+        add_table(rt, &mut memory, root, page);
+    }
     Ok(Tree { memory, root, page })
 }
 
@@ -88,15 +90,15 @@ fn checked(rt: &impl Abort, entry: Entry) -> Entry
 }
 
 // Walks twice to an address in page 17: both walks have to end so, and so many have found a line then.
-fn walk_twice(
+fn walk_twice<M: Levels>(
     rt: &impl Abort,
-    memory: &mut Memory,
+    memory: &mut Memory<M>,
     root: FrameNo,
     end: Result<u64, WalkFault>,
     hits: u64,
 )
     requires forest { IsForest memory.old }
-    requires root { IsRoot top_level memory.old root.0 }
+    requires root { IsRoot (top_level M.mode) memory.old root.0 }
     ensures { memory.new ≡ memory.old }
 {
     let first = walk(memory, root, 0x11387, Access::Load);
@@ -106,12 +108,11 @@ fn walk_twice(
 }
 
 // An entry's number, the first two of its bytes, where walks end, and how many have found a line then: the second to each leaf.
-#[test]
-fn entries_stand_in_tables(rt: HostRuntime) -> Result<(), Fail> {
-    let mut tree = plant_tree(&rt, rt.alloc())?;
-    assert!(&rt; tree.memory.len() == 8);
+fn entries_stand<M: Levels>(rt: &impl Abort, alloc: Global) -> Result<(), Fail> {
+    let mut tree = plant_tree::<M>(rt, alloc)?;
+    assert!(rt; tree.memory.len() == 8);
     let pointer = &tree.memory.bytes(FrameNo(2))[..8];
-    equal(&rt, pointer, [0x01, 0x0c, 0, 0, 0, 0, 0, 0].as_slice());
+    equal(rt, pointer, [0x01, 0x0c, 0, 0, 0, 0, 0, 0].as_slice());
     for (entry, number, low, high, end, hits) in [
         (FIFTH, 5591, 0xd7, 0x15, Ok(21383), 1),
         (SIXTH, 6615, 0xd7, 0x19, Ok(25479), 2),
@@ -120,27 +121,28 @@ fn entries_stand_in_tables(rt: HostRuntime) -> Result<(), Fail> {
         (PARKED_PRIVATE, 9476, 0x04, 0x25, NOWHERE, 2),
         (FIFTH, 5591, 0xd7, 0x15, Ok(21383), 3),
     ] {
-        assert!(&rt; missing_tables(&tree.memory, tree.root, tree.page) == 0);
-        set(&mut tree.memory, tree.root, tree.page, checked(&rt, entry));
+        assert!(rt; missing_tables(&tree.memory, tree.root, tree.page) == 0);
+        set(&mut tree.memory, tree.root, tree.page, checked(rt, entry));
         let found = entry_number(&tree.memory, tree.root, tree.page).to_u64();
-        assert!(&rt; tree.memory.len() == 8);
-        let bytes = &tree.memory.bytes(FrameNo(3))[136..144];
+        assert!(rt; tree.memory.len() == 8);
+        let bytes = &tree.memory.bytes(FrameNo(1 + M::top_level()))[136..144];
         equal(
-            &rt,
+            rt,
             (found, bytes),
             (number, [low, high, 0, 0, 0, 0, 0, 0].as_slice()),
         );
-        walk_twice(&rt, &mut tree.memory, tree.root, end, hits);
+        walk_twice(rt, &mut tree.memory, tree.root, end, hits);
     }
     Ok(())
 }
 
 // Takes away the entry of the page, at its place in the lowest table.
-fn clear(rt: &impl Abort, memory: &mut Memory, root: FrameNo, page: Vpn)
+fn clear<M: Levels>(rt: &impl Abort, memory: &mut Memory<M>, root: FrameNo, page: Vpn)
+    requires user { page < user_end M.mode }
     requires forest { IsForest memory.old }
-    requires root { IsRoot top_level memory.old root.0 }
+    requires root { IsRoot (top_level M.mode) memory.old root.0 }
     ensures forest { IsForest memory.new }
-    ensures root { IsRoot top_level memory.new root.0 }
+    ensures root { IsRoot (top_level M.mode) memory.new root.0 }
 {
     let table = table_of(memory, root, page).expect(rt, "a lowest table");
     let index = (page.get() % 512) as usize;
@@ -150,19 +152,27 @@ fn clear(rt: &impl Abort, memory: &mut Memory, root: FrameNo, page: Vpn)
 }
 
 // A leaf that was kept is found by both walks, and not once its entry is gone, with the tables or without them.
-#[test]
-fn tables_without_entries_are_given_back(rt: HostRuntime) -> Result<(), Fail> {
-    let mut tree = plant_tree(&rt, rt.alloc())?;
-    assert!(&rt; missing_tables(&tree.memory, tree.root, tree.page) == 0);
-    set(&mut tree.memory, tree.root, tree.page, checked(&rt, FIFTH));
+fn tables_are_given_back<M: Levels>(rt: &impl Abort, alloc: Global) -> Result<(), Fail> {
+    let mut tree = plant_tree::<M>(rt, alloc)?;
+    assert!(rt; missing_tables(&tree.memory, tree.root, tree.page) == 0);
+    set(&mut tree.memory, tree.root, tree.page, checked(rt, FIFTH));
     keep(&mut tree.memory, tree.root, tree.page, Access::Load);
-    walk_twice(&rt, &mut tree.memory, tree.root, Ok(21383), 2);
-    clear(&rt, &mut tree.memory, tree.root, tree.page);
-    walk_twice(&rt, &mut tree.memory, tree.root, NOWHERE, 2);
+    walk_twice(rt, &mut tree.memory, tree.root, Ok(21383), 2);
+    clear(rt, &mut tree.memory, tree.root, tree.page);
+    walk_twice(rt, &mut tree.memory, tree.root, NOWHERE, 2);
     prune(&mut tree.memory, tree.root, tree.page);
-    equal(&rt, missing_tables(&tree.memory, tree.root, tree.page), 2);
-    walk_twice(&rt, &mut tree.memory, tree.root, NOWHERE, 2);
+    let missing = u32::from(missing_tables(&tree.memory, tree.root, tree.page));
+    equal(rt, missing, M::top_level());
+    walk_twice(rt, &mut tree.memory, tree.root, NOWHERE, 2);
     Ok(())
+}
+
+#[test]
+fn entries_stand_and_tables_are_given_back(rt: HostRuntime) -> Result<(), Fail> {
+    entries_stand::<Sv39>(&rt, rt.alloc())?;
+    entries_stand::<Sv48>(&rt, rt.alloc())?;
+    tables_are_given_back::<Sv39>(&rt, rt.alloc())?;
+    tables_are_given_back::<Sv48>(&rt, rt.alloc())
 }
 
 #[test]
@@ -192,7 +202,7 @@ fn entries_of_pages_in_frames(rt: HostRuntime) {
 
 #[test]
 fn a_frame_is_shared_written_copied_and_given_back(rt: HostRuntime) -> Result<(), Fail> {
-    let mut memory = Memory::new(rt.alloc(), 8)?;
+    let mut memory = Memory::<Sv39>::new(rt.alloc(), 8)?;
     let root = new_table(&rt, &mut memory);
     memory.release_root(root);
     let page = memory.take(Role::Private).expect(&rt, "a free frame");

@@ -1,7 +1,7 @@
 //! Numbers that look random, and commands that are made of them.
-ghost use Rattle.std.specs.Prelude.{◌<◌};
+ghost use Rattle.std.specs.Prelude.{◌<◌, ◌^◌};
 
-use vm_types::{Command, MapSource, MsyncMode, Placing, Prot, StoredValue, Width};
+use vm_types::{Command, MapSource, Mode, MsyncMode, Placing, Prot, StoredValue, Width};
 
 /// The pages that commands name, in rows of four neighbours, each row under a table of its own.
 const PLACES: u64 = 12;
@@ -15,22 +15,37 @@ const PROCESSES: usize = 3;
 /// Pages of the file.
 pub(crate) const FILE_PAGES: u32 = 6;
 
+/// The row that lies apart in Sv48: it has only the root in common with the others.
+const FAR: u64 = 2;
+
+/// The first page of a row.
+fn first_page(mode: Mode, row: u64) -> u64
+    ensures { result < 2 ^ 40 }
+{
+    match mode {
+        Mode::Sv48 if row == FAR => 16 + (255 << 27),
+        _ => 16 + row % PLACES * 512,
+    }
+}
+
 /// The address of a page, in bytes.
-fn address(place: u64) -> u64 {
+fn address(mode: Mode, place: u64) -> u64 {
     let place = place % PLACES;
-    4096 * (16 + place / ROW * 512 + place % ROW)
+    4096 * (first_page(mode, place / ROW) + place % ROW)
 }
 
 /// A row of numbers, the same for a seed at each run (Marsaglia, "Xorshift RNGs").
 #[derive(Drop)]
 pub(crate) struct Draws {
+    mode: Mode,
     state: u64,
 }
 
 impl Draws {
-    /// The row of that seed.
-    pub(crate) fn new(seed: u64) -> Draws {
+    /// The row of that seed, for machines of that mode.
+    pub(crate) fn new(mode: Mode, seed: u64) -> Draws {
         Draws {
+            mode,
             state: seed.wrapping_mul(0x9e37_79b9_7f4a_7c15) | 1,
         }
     }
@@ -52,7 +67,7 @@ impl Draws {
     fn range(&mut self) -> (u64, u64) {
         let place = self.below(PLACES);
         let count = 1 + self.below(ROW - place % ROW);
-        (address(place), 4096 * count)
+        (address(self.mode, place), 4096 * count)
     }
 
     /// What a mapping is to stand on.
@@ -93,7 +108,8 @@ impl Draws {
     /// A command, where so many processes live.
     pub(crate) fn command(&mut self, processes: usize) -> Option<Command> {
         let pid = 1 + self.below(PROCESSES as u64 + 1);
-        let addr = address(self.below(PLACES));
+        let place = self.below(PLACES);
+        let addr = address(self.mode, place);
         let may_come = processes < PROCESSES;
         Some(match self.below(32) {
             0 | 1 if may_come => Command::Spawn,

@@ -9,7 +9,7 @@ use flat_model::Flat;
 use machine::{Config, Machine};
 use std::alloc::Global;
 use std::test::Fail;
-use vm_types::{Command, Reply, Stall};
+use vm_types::{Command, Mode, Reply, Stall};
 
 /// Commands of a run.
 const COMMANDS: usize = 400;
@@ -112,7 +112,7 @@ struct Told {
 
 /// A run of random commands.
 fn run(alloc: Global, setting: Setting, seed: u64) -> Result<Told, Fail> {
-    let mut flat = Flat::new(alloc, &[4096 * FILE_PAGES])?;
+    let mut flat = Flat::new(alloc, setting.config.mode, &[4096 * FILE_PAGES])?;
     let mut machine = booted(alloc, setting.config, setting.failing)?;
     carry_out(&mut machine, setting, &mut flat, seed)
 }
@@ -127,7 +127,7 @@ fn carry_out<D: SectorDisk, E: SectorDisk>(
     requires sound { IsSoundMachine D.SectorDisk E.SectorDisk machine.old }
     ensures sound { IsSoundMachine D.SectorDisk E.SectorDisk machine.new }
 {
-    let mut draws = Draws::new(seed);
+    let mut draws = Draws::new(setting.config.mode, seed);
     let mut told = Told {
         stalls: 0,
         swap_device: 0,
@@ -147,61 +147,88 @@ fn carry_out<D: SectorDisk, E: SectorDisk>(
 }
 
 /// Memory for all tables, but not for all pages, and slots for them.
-const ENOUGH: Config = Config {
-    frames: 18,
-    slots: 48,
-};
+fn enough(mode: Mode) -> Config {
+    let frames = match mode {
+        Mode::Sv39 => 18,
+        Mode::Sv48 => 27,
+    };
+    Config {
+        frames,
+        slots: 48,
+        mode,
+    }
+}
 
 /// Every reply is the flat model's, or a stall that memory or slots are short for: runs in 8 to 12 frames with few slots and with many.
-#[test]
-fn few_frames_and_random_commands(rt: HostRuntime) -> Result<(), Fail> {
+fn few_frames(alloc: Global, mode: Mode) -> Result<(), Fail> {
     for seed in 0..5 {
         for frames in 8..13 {
             for slots in [0, 3, 16] {
                 let setting = Setting {
-                    config: Config { frames, slots },
+                    config: Config {
+                        frames,
+                        slots,
+                        mode,
+                    },
                     failing: None,
                 };
-                run(rt.alloc(), setting, 100 * seed + u64::from(frames))?;
+                run(alloc, setting, 100 * seed + u64::from(frames))?;
             }
         }
     }
     Ok(())
 }
 
+#[test]
+fn few_frames_and_random_commands(rt: HostRuntime) -> Result<(), Fail> {
+    few_frames(rt.alloc(), Mode::Sv39)
+}
+
+#[test]
+fn few_frames_in_four_levels(rt: HostRuntime) -> Result<(), Fail> {
+    few_frames(rt.alloc(), Mode::Sv48)
+}
+
 /// Where there is enough no command stalls.
 #[test]
 fn nothing_stalls_where_there_is_enough(rt: HostRuntime) -> Result<(), Fail> {
-    for seed in 0..10 {
-        let setting = Setting {
-            config: ENOUGH,
-            failing: None,
-        };
-        let told = run(rt.alloc(), setting, seed)?;
-        if told.stalls != 0 {
-            return Err(Fail::new(format_args!("seed {seed}: {told:?}")));
+    for mode in [Mode::Sv39, Mode::Sv48] {
+        for seed in 0..10 {
+            let setting = Setting {
+                config: enough(mode),
+                failing: None,
+            };
+            let told = run(rt.alloc(), setting, seed)?;
+            if told.stalls != 0 {
+                return Err(Fail::new(format_args!("{mode:?}, seed {seed}: {told:?}")));
+            }
         }
     }
     Ok(())
 }
 
 /// A swap device that fails one call stalls one command at most, which has changed nothing.
-#[test]
-fn a_swap_device_that_fails_once(rt: HostRuntime) -> Result<(), Fail> {
+fn failing_once(alloc: Global, mode: Mode) -> Result<(), Fail> {
     let mut told = 0_u64;
     for call in 1..30 {
         let setting = Setting {
-            config: ENOUGH,
+            config: enough(mode),
             failing: Some(11 * call),
         };
-        let stalls = run(rt.alloc(), setting, call)?;
+        let stalls = run(alloc, setting, call)?;
         if stalls.stalls != stalls.swap_device || stalls.swap_device > 1 {
-            return Err(Fail::new(format_args!("call {call}: {stalls:?}")));
+            return Err(Fail::new(format_args!("{mode:?}, call {call}: {stalls:?}")));
         }
         told = told.wrapping_add(stalls.swap_device);
     }
     if told == 0 {
-        return Err(Fail::new(format_args!("no call of the swap device failed")));
+        return Err(Fail::new(format_args!("{mode:?}: no call of the swap device failed")));
     }
     Ok(())
+}
+
+#[test]
+fn a_swap_device_that_fails_once(rt: HostRuntime) -> Result<(), Fail> {
+    failing_once(rt.alloc(), Mode::Sv39)?;
+    failing_once(rt.alloc(), Mode::Sv48)
 }

@@ -1,4 +1,5 @@
 -- What is kept where frames alone change.
+use Rattle.vm_types.specs.declared.mode.Levels as Levels
 use Rattle.std.proofs.Common.{[], get_or, ap, ◌∙◌}
 use Rattle.file_store.specs.Store.{files_of}
 use Rattle.page_cache.specs.CacheTable.{place_of, is_touched}
@@ -8,8 +9,8 @@ use Rattle.paging.specs.Picture.{picture_of, attr_where, root_in}
 use Rattle.paging.specs.Leaves.{KeepsAllButFrames}
 use Rattle.paging.specs.Steps.{SameBeside}
 
-module _ {D E : Type 0} where
-  pub same_beside : (old new : Core D E) → KeepsAllButFrames old new → SameBeside (picture_of old) (picture_of new)
+module _ {M : Type 0} {m : Levels.Ghosts M} {D E : Type 0} where
+  pub same_beside : (old new : Core D E M m) → KeepsAllButFrames old new → SameBeside (picture_of old) (picture_of new)
   same_beside old new kept = record {
     slots = ap (λ s. slots_of s) kept.swap;
     root = λ p. ap (λ v. root_in v.items p) kept.roots;

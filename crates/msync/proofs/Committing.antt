@@ -1,4 +1,5 @@
 -- A commit of the touched pages of a row, as the flat model sees it.
+use Rattle.vm_types.specs.declared.mode.Levels as Levels
 use Rattle.std.proofs.Common.{ℕ, zero, suc, inl, inr, ◌⊎◌, ◌-◌, ◌*◌, ◌≡◌, ◌≢◌, ◌<◌, ◌≤◌, ◌&&◌, ◌++◌, not, Bool, true, false, min, List, [], ◌∷◌, length, take, replicate, slice_get, Option, Some, None, Result, Err, refl, sym, ap, ◌∙◌, subst, arith, get_or-take}
 use Rattle.std.specs.Option.{option_map}
 use Rattle.std.specs.Prelude.{is_some, IsErrOf}
@@ -66,7 +67,7 @@ get_some (x ∷ xs) zero less = refl
 get_some (x ∷ xs) (suc i) less = get_some xs i (omega arith)
 
 -- the pages of a commit, as they stand at the front of the list
-pub fits : (c : Picture) (chosen : Chosen) → IsListed c chosen → chosen.count ≤ length chosen.list
+pub fits : {mode : ℕ} (c : Picture mode) (chosen : Chosen) → IsListed c chosen → chosen.count ≤ length chosen.list
 fits c chosen listed = omega (arith, listed.few, listed.room)
 
 pub front_length : (chosen : Chosen) → chosen.count ≤ length chosen.list → length (take chosen.count chosen.list) ≡ chosen.count
@@ -75,20 +76,20 @@ front_length chosen fit = length-take-le chosen.count chosen.list fit
 pub front_same : (chosen : Chosen) (i : ℕ) → i < chosen.count → page_at (take chosen.count chosen.list) i ≡ page_at chosen.list i
 front_same chosen i less = get_or-take chosen.count chosen.list i (record { file = 0; page = 0 }) less
 
-pub front_touched : (c : Picture) (chosen : Chosen) → IsListed c chosen → (i : ℕ) → i < length (take chosen.count chosen.list)
+pub front_touched : {mode : ℕ} (c : Picture mode) (chosen : Chosen) → IsListed c chosen → (i : ℕ) → i < length (take chosen.count chosen.list)
     → c.touched (File (page_at (take chosen.count chosen.list) i)) ≡ true
 front_touched c chosen listed i less =
     let below : i < chosen.count = omega (arith, front_length chosen (fits c chosen listed)) in
     ap (λ q. c.touched (File q)) (front_same chosen i below) ∙ listed.touched i below
 
-front_once : (c : Picture) (chosen : Chosen) → IsListed c chosen → (i j : ℕ) → i < j → j < length (take chosen.count chosen.list)
+front_once : {mode : ℕ} (c : Picture mode) (chosen : Chosen) → IsListed c chosen → (i j : ℕ) → i < j → j < length (take chosen.count chosen.list)
     → page_at (take chosen.count chosen.list) i ≢ page_at (take chosen.count chosen.list) j
 front_once c chosen listed i j less high e =
     let below : j < chosen.count = omega (arith, front_length chosen (fits c chosen listed)) in
     listed.once i j less below (sym (front_same chosen i (omega arith)) ∙ e ∙ front_same chosen j below)
 
 -- they may be committed
-pub are_pages : (c : Picture) (chosen : Chosen) → IsFit c → IsListed c chosen → ArePages c.files (take chosen.count chosen.list)
+pub are_pages : {mode : ℕ} (c : Picture mode) (chosen : Chosen) → IsFit c → IsListed c chosen → ArePages c.files (take chosen.count chosen.list)
 are_pages c chosen fit listed =
     let front = take chosen.count chosen.list in
     record {
@@ -105,7 +106,7 @@ are_pages c chosen fit listed =
     }
 
 -- they lie in their spots, each once
-pub are_spots : (c : Picture) (chosen : Chosen) (list : List Spot) → IsListed c chosen → HasSpots c (take chosen.count chosen.list) list → AreSpots c list
+pub are_spots : {mode : ℕ} (c : Picture mode) (chosen : Chosen) (list : List Spot) → IsListed c chosen → HasSpots c (take chosen.count chosen.list) list → AreSpots c list
 are_spots c chosen list listed spots =
     let front = take chosen.count chosen.list in
     record {
@@ -159,7 +160,7 @@ from_settled : (files : Files) (t : FrameTable) (s : SlotTable) (p : FilePage) (
 from_settled files t s p (Framed n) bytes is = (cc)
 from_settled files t s p (Slotted k) bytes is = let bad : None ≡ Some bytes = is in (cc)
 
-module _ (c : Picture) (s : State) (pid first count : ℕ) (pages : List FilePage) (list : List Spot) (fit : IsFit c) (shows : ShowsPages c s) (spots : HasSpots c pages list)
+module _ {mode : ℕ} (c : Picture mode) (s : State) (pid first count : ℕ) (pages : List FilePage) (list : List Spot) (fit : IsFit c) (shows : ShowsPages c s) (spots : HasSpots c pages list)
     (lists : Lists (λ page. touched_in s pid first count page.file page.page) pages (length pages)) where
   -- the bytes of a page of the list
   there : ℕ → List ℕ
@@ -217,7 +218,7 @@ module _ (c : Picture) (s : State) (pid first count : ℕ) (pages : List FilePag
       let r = lists.all p taken in
       (r.0, omega (arith, r.1, spots.count), spots.same r.0 r.1 ∙ r.2)
 
-  module _ (new : Picture) (settles : Settles c new list (length list)) where
+  module _ (new : Picture mode) (settles : Settles c new list (length list)) where
     touched_now : (p : FilePage) → (s.touched p.file p.page && not (touched_in s pid first count p.file p.page)) ≡ new.touched (File p)
     touched_now p = elim (cases_taken (touched_in s pid first count p.file p.page)) [
       | inl taken ↦ (
@@ -268,6 +269,7 @@ module _ (c : Picture) (s : State) (pid first count : ℕ) (pages : List FilePag
       objects = λ o. shows.objects o ∙ sym (rw (settles.untouched (Object o) (none_object o), settles.kept (Object o) (none_object o)) refl);
       blank = λ o bytes untouched is. shows.blank o bytes (sym (settles.untouched (Object o) (none_object o)) ∙ untouched) (sym (settles.kept (Object o) (none_object o)) ∙ is);
       held = held_now;
+      same_mode = shows.same_mode;
       clean = λ p untouched inside. elim (cases_taken (touched_in s pid first count p.file p.page)) [
         | inl taken ↦ taken_page s pid first count p.file p.page s.volatile taken ∙ sym (taken_page s pid first count p.file p.page s.durable taken)
         | inr left ↦ left_page s pid first count p.file p.page s.volatile left
@@ -276,7 +278,7 @@ module _ (c : Picture) (s : State) (pid first count : ℕ) (pages : List FilePag
       ];
     }
 
-module _ (c new : Picture) (chosen : Chosen) (list : List Spot) (fit : IsFit c) (listed : IsListed c chosen) (spots : HasSpots c (take chosen.count chosen.list) list)
+module _ {mode : ℕ} (c new : Picture mode) (chosen : Chosen) (list : List Spot) (fit : IsFit c) (listed : IsListed c chosen) (spots : HasSpots c (take chosen.count chosen.list) list)
     (settles : Settles c new list (length list)) where
   was_touched : (i : ℕ) → i < length list → c.touched (File (spot_at list i).page) ≡ true
   was_touched i less =
@@ -329,12 +331,12 @@ module _ (c new : Picture) (chosen : Chosen) (list : List Spot) (fit : IsFit c) 
         ]))
   ]
 
-slot_of : (c : Picture) (p : PageKey) (at : Residence) → c.place p ≡ place_at at → IsSlotted at → (k : SlotNo) × (c.place p ≡ Slot k)
+slot_of : {mode : ℕ} (c : Picture mode) (p : PageKey) (at : Residence) → c.place p ≡ place_at at → IsSlotted at → (k : SlotNo) × (c.place p ≡ Slot k)
 slot_of c p (Framed n) placed is = absurd is
 slot_of c p (Slotted k) placed is = (k, placed)
 
 -- where one of the spots is a slot, a page of the commit lies in one
-pub away_of : (c : Picture) (chosen : Chosen) (list : List Spot) → chosen.count ≤ length chosen.list → HasSpots c (take chosen.count chosen.list) list → HasSlot list → IsAway c chosen
+pub away_of : {mode : ℕ} (c : Picture mode) (chosen : Chosen) (list : List Spot) → chosen.count ≤ length chosen.list → HasSpots c (take chosen.count chosen.list) list → HasSlot list → IsAway c chosen
 away_of c chosen list fit spots has =
     let i = has.0 in
     let below : i < length (take chosen.count chosen.list) = (let less = has.1 in omega (arith, less, spots.count)) in
@@ -364,31 +366,37 @@ after_is s after pid addr len mode chosen same e =
     let taken : Some (committed s pid same.first same.count s.durable) ≡ Some after = sym (ap (commit_of s) same.ruling) ∙ e in
     cc
 
+-- and it leaves something
+pub takes_some : (s : State) (pid addr len : ℕ) (mode : MsyncMode) (chosen : Chosen) → TakesSame s pid addr len mode chosen → commits s (Msync pid addr len mode) ≡ None → ⊥
+takes_some s pid addr len mode chosen same none =
+    let bad : Some (committed s pid same.first same.count s.durable) ≡ None = sym (ap (commit_of s) same.ruling) ∙ none in (cc)
+
 -- memory with other slots and another directory
-abbrev pub with_store : Picture → SlotTable → Directory → Picture
-with_store c t d = record c { slots = t; files = λ f. option_map (λ e. e.info) (entry_of d f) }
+module _ {mode : ℕ} where
+  abbrev pub with_store : Picture mode → SlotTable → Directory → Picture mode
+  with_store c t d = record c { slots = t; files = λ f. option_map (λ e. e.info) (entry_of d f) }
 
 -- the same slots and files
-pub fit_store : (c : Picture) (t t' : SlotTable) (d d' : Directory) → t' ≡ t → d' ≡ d → IsFit (with_store c t d) → IsFit (with_store c t' d')
+pub fit_store : {mode : ℕ} (c : Picture mode) (t t' : SlotTable) (d d' : Directory) → t' ≡ t → d' ≡ d → IsFit (with_store c t d) → IsFit (with_store c t' d')
 fit_store c t t' d d' slots files fit =
     let P : SlotTable → Type 0 = λ x. IsFit (with_store c x d) in
     let Q : Directory → Type 0 = λ x. IsFit (with_store c t' x) in
     subst Q (sym files) (subst P (sym slots) fit)
 
-pub spots_store : (c : Picture) (t t' : SlotTable) (d d' : Directory) (list : List Spot) → t' ≡ t → d' ≡ d → AreSpots (with_store c t d) list → AreSpots (with_store c t' d') list
+pub spots_store : {mode : ℕ} (c : Picture mode) (t t' : SlotTable) (d d' : Directory) (list : List Spot) → t' ≡ t → d' ≡ d → AreSpots (with_store c t d) list → AreSpots (with_store c t' d') list
 spots_store c t t' d d' list slots files spots =
     let P : SlotTable → Type 0 = λ x. AreSpots (with_store c x d) list in
     let Q : Directory → Type 0 = λ x. AreSpots (with_store c t' x) list in
     subst Q (sym files) (subst P (sym slots) spots)
 
-pub shows_store : (c : Picture) (t t' : SlotTable) (d d' : Directory) (s : State) → t' ≡ t → d' ≡ d → ShowsPages (with_store c t d) s → ShowsPages (with_store c t' d') s
+pub shows_store : {mode : ℕ} (c : Picture mode) (t t' : SlotTable) (d d' : Directory) (s : State) → t' ≡ t → d' ≡ d → ShowsPages (with_store c t d) s → ShowsPages (with_store c t' d') s
 shows_store c t t' d d' s slots files shows =
     let P : SlotTable → Type 0 = λ x. ShowsPages (with_store c x d) s in
     let Q : Directory → Type 0 = λ x. ShowsPages (with_store c t' x) s in
     subst Q (sym files) (subst P (sym slots) shows)
 
 -- and what is settled over them
-pub settles_store : (c n : Picture) (t t' : SlotTable) (d d' : Directory) (list : List Spot) (k : ℕ) → t' ≡ t → d' ≡ d → Settles (with_store c t' d') n list k → Settles (with_store c t d) n list k
+pub settles_store : {mode : ℕ} (c n : Picture mode) (t t' : SlotTable) (d d' : Directory) (list : List Spot) (k : ℕ) → t' ≡ t → d' ≡ d → Settles (with_store c t' d') n list k → Settles (with_store c t d) n list k
 settles_store c n t t' d d' list k slots files settles =
     let P : SlotTable → Type 0 = λ x. Settles (with_store c x d) n list k in
     let Q : Directory → Type 0 = λ x. Settles (with_store c t' x) n list k in
@@ -402,9 +410,9 @@ module _ {D : Type 0} (g : Ghosts D) where
     pub kept : g.keeps_model new.disk → g.keeps_model old.disk
     pub either : g.keeps_model new.disk → model → LeavesNow g old.disk (StandsFor n files before) → LeavesOnly g old.disk new.disk (StandsForEither n files before after)
 
-module _ {D E : Type 0} (g : Ghosts D) (h : Ghosts E) where
+module _ {M : Type 0} {m : Levels.Ghosts M} {D E : Type 0} (g : Ghosts D) (h : Ghosts E) where
   -- a commit that came to some end
-  commit_ended : (model : Type 0) (old new : Core D E) (s : State) (after : Pages) (pid addr len : ℕ) (mode : MsyncMode) (reply : Reply) (chosen : Chosen) → Shows g old s
+  commit_ended : (model : Type 0) (old new : Core D E M m) (s : State) (after : Pages) (pid addr len : ℕ) (mode : MsyncMode) (reply : Reply) (chosen : Chosen) → Shows g old s
       → (same : TakesSame s pid addr len mode chosen) → commits s (Msync pid addr len mode) ≡ Some after
       → StoreCommits g model (g.sector_count old.store.disk) s.files s.durable (committed s pid same.first same.count s.durable) old.store new.store
       → IsEnd g h model old new s (Msync pid addr len mode) reply → Commits g h model old new s after (Msync pid addr len mode) reply
@@ -419,7 +427,7 @@ module _ {D E : Type 0} (g : Ghosts D) (h : Ghosts E) where
       } in
       subst (λ (x : Pages). Commits g h model old new s x (Msync pid addr len mode) reply) (after_is s after pid addr len mode chosen same takes) done
 
-  pub commit_done : (model : Type 0) (old new : Core D E) (s : State) (after : Pages) (pid addr len : ℕ) (mode : MsyncMode) (chosen : Chosen) → Shows g old s
+  pub commit_done : (model : Type 0) (old new : Core D E M m) (s : State) (after : Pages) (pid addr len : ℕ) (mode : MsyncMode) (chosen : Chosen) → Shows g old s
       → (same : TakesSame s pid addr len mode chosen) → commits s (Msync pid addr len mode) ≡ Some after
       → StoreCommits g model (g.sector_count old.store.disk) s.files s.durable (committed s pid same.first same.count s.durable) old.store new.store
       → (g.keeps_model new.store.disk → model → LeavesNow g old.store.disk (StandsFor (g.sector_count old.store.disk) s.files s.durable)
@@ -438,14 +446,14 @@ module _ {D E : Type 0} (g : Ghosts D) (h : Ghosts E) where
       commit_ended model old new s after pid addr len mode Done chosen shows same takes store
       (Acknowledged refl (subst (λ (x : State). ShowsPages (picture_of new) x) t_is pages) (subst P t_is now) sound)
 
-  pub commit_failed : (model : Type 0) (old new : Core D E) (s : State) (after : Pages) (pid addr len : ℕ) (mode : MsyncMode) (chosen : Chosen) → Shows g old s
+  pub commit_failed : (model : Type 0) (old new : Core D E M m) (s : State) (after : Pages) (pid addr len : ℕ) (mode : MsyncMode) (chosen : Chosen) → Shows g old s
       → (same : TakesSame s pid addr len mode chosen) → commits s (Msync pid addr len mode) ≡ Some after → KeepsMemory old new
       → StoreCommits g model (g.sector_count old.store.disk) s.files s.durable (committed s pid same.first same.count s.durable) old.store new.store
       → g.failures old.store.disk < g.failures new.store.disk → Commits g h model old new s after (Msync pid addr len mode) (Refused EIO)
   commit_failed model old new s after pid addr len mode chosen shows same takes memory store grew =
       commit_ended model old new s after pid addr len mode (Refused EIO) chosen shows same takes store (Failed refl grew memory)
 
-  pub commit_unread : (model : Type 0) (old new : Core D E) (s : State) (after : Pages) (pid addr len : ℕ) (mode : MsyncMode) (chosen : Chosen) → Shows g old s
+  pub commit_unread : (model : Type 0) (old new : Core D E M m) (s : State) (after : Pages) (pid addr len : ℕ) (mode : MsyncMode) (chosen : Chosen) → Shows g old s
       → (same : TakesSame s pid addr len mode chosen) → commits s (Msync pid addr len mode) ≡ Some after → KeepsMemory old new
       → StoreCommits g model (g.sector_count old.store.disk) s.files s.durable (committed s pid same.first same.count s.durable) old.store new.store
       → h.failures old.swap.pages.disk < h.failures new.swap.pages.disk → ShowsPages (picture_of new) s → IsSoundCore g h new
@@ -463,13 +471,13 @@ module _ {D E : Type 0} (g : Ghosts D) (h : Ghosts E) where
       (Unread refl grew memory still sound (λ k. moments k (shows.stands (store.kept k))))
 
   -- the same under a stronger premise
-  end_under : (model more : Type 0) (old new : Core D E) (s : State) (pid addr len : ℕ) (mode : MsyncMode) (reply : Reply) → (more → model)
+  end_under : (model more : Type 0) (old new : Core D E M m) (s : State) (pid addr len : ℕ) (mode : MsyncMode) (reply : Reply) → (more → model)
       → IsEnd g h model old new s (Msync pid addr len mode) reply → IsEnd g h more old new s (Msync pid addr len mode) reply
   end_under model more old new s pid addr len mode reply from (Acknowledged is pages shows sound) = Acknowledged is pages (λ m. shows (from m)) sound
   end_under model more old new s pid addr len mode reply from (Failed is grew memory) = Failed is grew memory
   end_under model more old new s pid addr len mode reply from (Unread is grew memory shows sound moments) = Unread is grew memory shows sound moments
 
-  pub commits_under : (model more : Type 0) (old new : Core D E) (s : State) (after : Pages) (pid addr len : ℕ) (mode : MsyncMode) (reply : Reply) → (more → model)
+  pub commits_under : (model more : Type 0) (old new : Core D E M m) (s : State) (after : Pages) (pid addr len : ℕ) (mode : MsyncMode) (reply : Reply) → (more → model)
       → Commits g h model old new s after (Msync pid addr len mode) reply → Commits g h more old new s after (Msync pid addr len mode) reply
   commits_under model more old new s after pid addr len mode reply from c = record {
     end = end_under model more old new s pid addr len mode reply from c.end;

@@ -2,18 +2,19 @@
 use Rattle.std.proofs.Common.{ℕ, ◌+◌, ◌≡◌, ◌<◌, ◌≤◌, ◌==◌, ◌&&◌, ⊎_elim, true, false, leb, ltb, if◌then◌else◌, List, refl, sym, ap, ◌∙◌, arith}
 use Rattle.std.proofs.lemmas.Bool.{cases_lt}
 use Rattle.std.proofs.lemmas.Bool.Decides.{nat_tests}
+use Rattle.vm_types.specs.Limits.{file_page_limit}
 use Rattle.vm_types.specs.declared.file.FilePage.{FilePage}
 use Rattle.vm_types.specs.declared.object.PageKey.TheVariants.{File}
 use Rattle.vm_types.specs.declared.region.Backing.TheVariants.{Shared}
 use Rattle.page_cache.specs.CacheTable.{CacheTable, is_touched}
 use Rattle.page_cache.specs.Gathering.{IsTouchedIn, Gathers, HasAll}
 use Rattle.page_cache.specs.Gathering as Cache
-use Rattle.msync.specs.Choice.{of_files, page_at, in_file_row, is_taken_behind, Appends, Overflows}
+use Rattle.msync.specs.Choice.{of_files, page_at, in_file_row, is_taken_behind, AreInFiles, Appends, Overflows}
 use Rattle.msync.proofs.Walking.{both_true, and_true}
 
--- a touched page of a row, by tests
-behind : (t : CacheTable) (first : FilePage) (count : ℕ) (p : FilePage) → IsTouchedIn t first.file first.page count p → is_taken_behind (of_files (is_touched t)) (Shared first) count p ≡ true
-behind t first count p in_row =
+-- a touched page of a row, or of the front of it, by tests
+behind : (t : CacheTable) (first : FilePage) (count front : ℕ) (p : FilePage) → front ≤ count → IsTouchedIn t first.file first.page front p → is_taken_behind (of_files (is_touched t)) (Shared first) count p ≡ true
+behind t first count front p less in_row =
     let same = in_row.row.0 in
     let low = in_row.row.1 in
     let high = in_row.row.2 in
@@ -21,8 +22,13 @@ behind t first count p in_row =
     let row : (leb first.page p.page && ltb p.page (first.page + count)) ≡ true = grind (arith, nat_tests) in
     and_true (is_touched t (File p)) (in_file_row first count p) in_row.touched (and_true (p.file == first.file) (leb first.page p.page && ltb p.page (first.page + count)) file row)
 
-in_row_of : (t : CacheTable) (first : FilePage) (count : ℕ) (p : FilePage) → is_taken_behind (of_files (is_touched t)) (Shared first) count p ≡ true → IsTouchedIn t first.file first.page count p
-in_row_of t first count p e =
+-- The front of a row reaches as far as files do.
+abbrev pub Reaches : ℕ → ℕ → ℕ → Type 0
+Reaches first count front = (k : ℕ) → k < file_page_limit → k < first + count → k < first + front
+
+in_row_of : (t : CacheTable) (first : FilePage) (count front : ℕ) (p : FilePage) → AreInFiles (of_files (is_touched t)) → Reaches first.page count front
+    → is_taken_behind (of_files (is_touched t)) (Shared first) count p ≡ true → IsTouchedIn t first.file first.page front p
+in_row_of t first count front p inside reaches e =
     let a = both_true (is_touched t (File p)) (in_file_row first count p) e in
     let d = both_true (p.file == first.file) (leb first.page p.page && ltb p.page (first.page + count)) a.1 in
     let file = d.0 in
@@ -30,22 +36,24 @@ in_row_of t first count p e =
     let same : p.file ≡ first.file = grind (arith, nat_tests) in
     let low : first.page ≤ p.page = grind (arith, nat_tests) in
     let high : p.page < first.page + count = grind (arith, nat_tests) in
-    record { row = (same, low, high); touched = a.0 }
+    record { row = (same, low, reaches p.page (inside p a.0) high); touched = a.0 }
 
-pub gathered : (t : CacheTable) (first : FilePage) (count used n : ℕ) (x y : List FilePage) → Gathers t first.file first.page count used x y n
-    → HasAll t first.file first.page count y n → Appends (is_taken_behind (of_files (is_touched t)) (Shared first) count) x y used n
-gathered t first count used n x y gathers all = record {
+-- no more is gathered from the whole row than from such a front of it
+pub gathered : (t : CacheTable) (first : FilePage) (count front used : ℕ) (x y : List FilePage) → front ≤ count → Reaches first.page count front → AreInFiles (of_files (is_touched t))
+    → (n : ℕ) → Gathers t first.file first.page front used x y n → HasAll t first.file first.page front y n
+    → Appends (is_taken_behind (of_files (is_touched t)) (Shared first) count) x y used n
+gathered t first count front used x y less reaches inside n gathers all = record {
   order = gathers.longer;
   few = gathers.most;
   kept = gathers.kept;
-  each = λ i low high. behind t first count (page_at y i) (gathers.touched i low high);
+  each = λ i low high. behind t first count front (page_at y i) less (gathers.touched i low high);
   once = gathers.once;
-  all = λ p e. all p (in_row_of t first count p e);
+  all = λ p e. all p (in_row_of t first count front p inside reaches e);
 }
 
-pub overflown : (t : CacheTable) (first : FilePage) (count used : ℕ) (x y : List FilePage) → used ≤ 1023 → Cache.Overflows t first.file first.page count used x y
+pub overflown : (t : CacheTable) (first : FilePage) (count front used : ℕ) (x y : List FilePage) → front ≤ count → used ≤ 1023 → Cache.Overflows t first.file first.page front used x y
     → Overflows (is_taken_behind (of_files (is_touched t)) (Shared first) count) x used
-overflown t first count used x y few over =
+overflown t first count front used x y short few over =
     let at : ℕ → FilePage = λ i. if ltb i 1023 then page_at y i else over.missing in
     let old : (i : ℕ) → i < 1023 → at i ≡ page_at y i = λ i less. let t : ltb i 1023 ≡ true = grind (arith, nat_tests) in rw t refl in
     let new : (i : ℕ) → 1023 ≤ i → at i ≡ over.missing = λ i more. let t : ltb i 1023 ≡ false = grind (arith, nat_tests) in rw t refl in
@@ -55,8 +63,8 @@ overflown t first count used x y few over =
       kept = λ i less. old i (omega (arith, less, few)) ∙ over.full.kept i less;
       each = λ i low high.
           ⊎_elim
-          (λ (less : i < 1023). ap passes (old i less) ∙ behind t first count (page_at y i) (over.full.touched i low less))
-          (λ (more : 1023 ≤ i). ap passes (new i more) ∙ behind t first count over.missing over.touched)
+          (λ (less : i < 1023). ap passes (old i less) ∙ behind t first count front (page_at y i) short (over.full.touched i low less))
+          (λ (more : 1023 ≤ i). ap passes (new i more) ∙ behind t first count front over.missing short over.touched)
           (cases_lt i 1023);
       once = λ i j less low high e.
           ⊎_elim

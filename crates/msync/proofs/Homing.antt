@@ -9,7 +9,7 @@ use Rattle.paging.proofs.Homing.{Homes, same, views, held_else, held_none}
 use Rattle.msync.specs.Settling.{SettlesOne}
 use Rattle.msync.specs.Spots.{slotted_at}
 
-pub settles_homed : (old new : Picture) (page : FilePage) (k : ℕ) → IsFit old → Homes old new (File page) k → SettlesOne old new (slotted_at page (record { 0 = k }))
+pub settles_homed : {mode : ℕ} (old new : Picture mode) (page : FilePage) (k : ℕ) → IsFit old → Homes old new (File page) k → SettlesOne old new (slotted_at page (record { 0 = k }))
 settles_homed old new page k fit homes = record {
   frames = ap frame_count homes.frames;
   slots = homes.slots.others.total;

@@ -47,15 +47,15 @@ shares_in_view : (own : Option (List ℕ)) (a : Option Attr) (p : FilePage) → 
 shares_in_view own None p = refl
 shares_in_view own (Some a) p = refl
 
-view-attr : (c : Picture) (pid page : ℕ) → option_map (λ (v : View). v.attr) (view c pid page) ≡ c.at pid page
+view-attr : {mode : ℕ} (c : Picture mode) (pid page : ℕ) → option_map (λ (v : View). v.attr) (view c pid page) ≡ c.at pid page
 unfolding view
 view-attr c pid page = attr_in_view (own_in c.frames c.slots (entry c pid page)) (c.at pid page)
 
-view-shares : (c : Picture) (pid page : ℕ) (p : FilePage) → shares (view c pid page) p.file p.page ≡ shares_page (c.at pid page) p
+view-shares : {mode : ℕ} (c : Picture mode) (pid page : ℕ) (p : FilePage) → shares (view c pid page) p.file p.page ≡ shares_page (c.at pid page) p
 unfolding view
 view-shares c pid page p = shares_in_view (own_in c.frames c.slots (entry c pid page)) (c.at pid page) p
 
-pub the_process : (c : Picture) (map : ℕ → Option Attr) (s : State) (pid : ℕ) (r : Bool) → ShowsPages c s → r ≡ is_live c pid → r ≡ true
+pub the_process : {mode : ℕ} (c : Picture mode) (map : ℕ → Option Attr) (s : State) (pid : ℕ) (r : Bool) → ShowsPages c s → r ≡ is_live c pid → r ≡ true
     → ((page : ℕ) → c.at pid page ≡ map page) → IsProcess (of_files c.touched) map s pid
 the_process c map s pid r shows is live at = record {
   live = shows.live pid ∙ sym is ∙ live;
@@ -69,7 +69,7 @@ pub at_where : (o : Option ℕ) (runs : List Run) (page : ℕ) → is_some o ≡
 at_where None runs page live = cc
 at_where (Some r) runs page live = refl
 
-pub no_process : (c : Picture) (s : State) (pid : ℕ) (r : Bool) → ShowsPages c s → r ≡ is_live c pid → r ≡ false → s.live pid ≡ false
+pub no_process : {mode : ℕ} (c : Picture mode) (s : State) (pid : ℕ) (r : Bool) → ShowsPages c s → r ≡ is_live c pid → r ≡ false → s.live pid ≡ false
 no_process c s pid r shows is dead = shows.live pid ∙ sym is ∙ dead
 
 -- what the flat model takes
@@ -171,7 +171,7 @@ module _ (touched : FilePage → Bool) (map : ℕ → Option Attr) (s : State) (
         lists = same_lists (addr / 4096) (page_count len) list taken choice.2;
       }
 
-pub listed_of : (c : Picture) (map : ℕ → Option Attr) (first count : ℕ) (list : List FilePage) (r : Ruling) → length list ≡ 1023
+pub listed_of : {mode : ℕ} (c : Picture mode) (map : ℕ → Option Attr) (first count : ℕ) (list : List FilePage) (r : Ruling) → length list ≡ 1023
     → IsChoice (is_chosen (of_files c.touched) map first count) list r → AreListed c list r
 listed_of c map first count list (Refuses errno) room choice = tt
 listed_of c map first count list Passes room choice = tt
@@ -189,7 +189,7 @@ chosen_same touched a b first count page same =
     ap (λ (t : Bool). touched page && t)
     (any_same (λ i. shares_page (a (first + i)) page) (λ i. shares_page (b (first + i)) page) count (λ k. ap (λ (o : Option Attr). shares_page o page) (same (first + k))))
 
-pub taken_of : (c : Picture) (map : ℕ → Option Attr) (pid addr len : ℕ) (list : List FilePage) (r : Ruling) → ((page : ℕ) → c.at pid page ≡ map page)
+pub taken_of : {mode : ℕ} (c : Picture mode) (map : ℕ → Option Attr) (pid addr len : ℕ) (list : List FilePage) (r : Ruling) → ((page : ℕ) → c.at pid page ≡ map page)
     → IsChoice (is_chosen (of_files c.touched) map (addr / 4096) (page_count len)) list r → AreTaken c pid addr len list r
 taken_of c map pid addr len list (Refuses errno) same choice = tt
 taken_of c map pid addr len list Passes same choice = tt
@@ -203,7 +203,7 @@ in_file d f (Some x) info is e =
     let same : x.info ≡ info = cc in
     (d.numbers f x is, (let small = d.lengths f x is in omega (arith, small, ap (λ (i : FileInfo). i.length) same)))
 
-pub touched_within : (c : Picture) (d : Directory) → IsFit c → ((f : ℕ) → c.files f ≡ option_map (λ e. e.info) (entry_of d f)) → IsWithin (of_files c.touched) 64 (2 ^ 20)
+pub touched_within : {mode : ℕ} (c : Picture mode) (d : Directory) → IsFit c → ((f : ℕ) → c.files f ≡ option_map (λ e. e.info) (entry_of d f)) → IsWithin (of_files c.touched) 64 (2 ^ 20)
 touched_within c d fit files = record {
   file = λ p e. (let at = fit.places.inside (File p) (fit.dirty.held (File p) e) in (in_file d p.file (entry_of d p.file) at.0 refl (sym (files p.file) ∙ at.1)).0);
   page = λ p e. (

@@ -22,7 +22,7 @@ use Rattle.msync.specs.Spots.{framed_at}
 use Rattle.msync.specs.Settling.{ClearsLeaf, SettlesOne}
 use Rattle.paging.proofs.Cleaning.{Untouches, entries_untouched, views_untouched, held_untouched}
 
-pub held_framed : (c : Picture) (p : PageKey) (n : ℕ) → c.place p ≡ Frame (record { 0 = n }) → held c p ≡ Some (bytes_of c.frames n)
+pub held_framed : {mode : ℕ} (c : Picture mode) (p : PageKey) (n : ℕ) → c.place p ≡ Frame (record { 0 = n }) → held c p ≡ Some (bytes_of c.frames n)
 unfolding held
 held_framed c p n at = ap (λ x. bytes_at c.frames c.slots x) at
 
@@ -33,7 +33,7 @@ private_datum : (r : Role) → r ≡ Private → r ≢ Cache
 private_datum r p c = let bad : Private ≡ Cache = sym p ∙ c in (cc)
 
 -- bytes of the page's frame were written
-module _ (a b : Picture) (page : FilePage) (n : ℕ) (w : List ℕ) (fit : IsFit a) (placed : a.place (File page) ≡ Frame (record { 0 = n }))
+module _ {mode : ℕ} (a b : Picture mode) (page : FilePage) (n : ℕ) (w : List ℕ) (fit : IsFit a) (placed : a.place (File page) ≡ Frame (record { 0 = n }))
     (is : b.frames ≡ with_bytes a.frames n w) (beside : SameBeside a b) where
   cache : role_of a.frames n ≡ Cache
   cache = fit.places.cached (File page) n placed
@@ -80,7 +80,7 @@ leaf_cleared n e e' page concerned frame changed =
       loses = record { had = bits.1; number = changed.3 };
     }
 
-module _ (a b x y : Picture) (page : FilePage) (n : ℕ) (w : List ℕ) (fit_a : IsFit a) (fit_b : IsFit b) (fit_x : IsFit x) (placed : a.place (File page) ≡ Frame (record { 0 = n }))
+module _ {mode : ℕ} (a b x y : Picture mode) (page : FilePage) (n : ℕ) (w : List ℕ) (fit_a : IsFit a) (fit_b : IsFit b) (fit_x : IsFit x) (placed : a.place (File page) ≡ Frame (record { 0 = n }))
     (inside : IsFrame a.frames n) (is : b.frames ≡ with_bytes a.frames n w) (beside : SameBeside a b) (changes : ChangesLeaves ClearDirty n b x) (u : Untouches x y (File page))
     (bytes : w ≡ trimmed a.files page.file page.page (bytes_of a.frames n)) where
   place : (p : PageKey) → y.place p ≡ a.place p

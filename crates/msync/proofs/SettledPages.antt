@@ -1,19 +1,19 @@
 -- Pages are settled one after the other.
-use Rattle.std.proofs.Common.{◌≡◌, ◌≢◌, ℕ, zero, suc, inl, inr, ◌⊎◌, ◌+◌, ◌-◌, ◌<◌, true, false, List, length, Some, refl, sym, ap, ◌∙◌, subst, arith}
+use Rattle.vm_types.specs.declared.mode.Levels as Levels
+use Rattle.std.proofs.Common.{◌≡◌, ◌≢◌, ℕ, zero, suc, inl, inr, ◌⊎◌, ◌+◌, ◌-◌, ◌<◌, false, List, length, Some, refl, sym, ap, ◌∙◌, subst, arith}
 use Rattle.std.proofs.lemmas.Bool.{cases_eq, false≢true}
 use Rattle.std.proofs.lemmas.Option.{same_Some}
 use Rattle.vm_types.specs.declared.file.FilePage.{FilePage}
 use Rattle.vm_types.specs.declared.object.PageKey.{PageKey}
 use Rattle.vm_types.specs.declared.object.PageKey.TheVariants.{File}
 use Rattle.vm_types.specs.Files.{inside_of, cut, trimmed}
-use Rattle.frames.specs.FrameTable.{frame_count, bytes_of, IsFrame}
+use Rattle.frames.specs.FrameTable.{frame_count, bytes_of}
 use Rattle.swap.specs.declared.slots.Swap.{Swap}
 use Rattle.swap.specs.Slots.{slots_of, IsReady}
 use Rattle.swap.specs.Written.{IsAsWritten}
 use Rattle.swap.specs.declared.pages.Pages.{Pages as Swap_pages}
 use Rattle.disk_model.specs.declared.sector_disk.SectorDisk.{Ghosts}
 use Rattle.sv39_walk.specs.Entry.{is_dirty}
-use Rattle.page_cache.specs.declared.place.Place.{Place}
 use Rattle.paging.specs.declared.kernel.Core.{Core}
 use Rattle.paging.specs.Picture.{Picture, entry, held, bytes_at}
 use Rattle.paging.specs.Parts.{IsFit, HasPlaces}
@@ -34,7 +34,7 @@ pub one_file : (p q : FilePage) → File p ≡ File q → p ≡ q
 one_file p q e = (cc)
 
 -- no page at all
-pub settles_none : (c : Picture) (list : List Spot) → Settles c c list 0
+pub settles_none : {mode : ℕ} (c : Picture mode) (list : List Spot) → Settles c c list 0
 settles_none c list = record {
   frames = refl;
   slots = refl;
@@ -51,13 +51,13 @@ settles_none c list = record {
 }
 
 -- the bytes of a page at its spot
-pub held_spot : (c : Picture) (p : PageKey) (at : Residence) → c.place p ≡ place_at at → held c p ≡ Some (bytes_there c.frames c.slots at)
+pub held_spot : {mode : ℕ} (c : Picture mode) (p : PageKey) (at : Residence) → c.place p ≡ place_at at → held c p ≡ Some (bytes_there c.frames c.slots at)
 unfolding held
 held_spot c p (Framed n) placed = ap (λ x. bytes_at c.frames c.slots x) placed
 held_spot c p (Slotted k) placed = ap (λ x. bytes_at c.frames c.slots x) placed
 
 -- what a page comes to is what it would have come to before
-settled_same : (a b : Picture) (p : FilePage) (at : Residence) → ((f : ℕ) → b.files f ≡ a.files f) → a.place (File p) ≡ place_at at → b.place (File p) ≡ place_at at → held b (File p) ≡ held a (File p)
+settled_same : {mode : ℕ} (a b : Picture mode) (p : FilePage) (at : Residence) → ((f : ℕ) → b.files f ≡ a.files f) → a.place (File p) ≡ place_at at → b.place (File p) ≡ place_at at → held b (File p) ≡ held a (File p)
     → settled_in b.files b.frames p at ≡ settled_in a.files a.frames p at
 settled_same a b p (Slotted k) files was now same = refl
 settled_same a b p (Framed n) files was now same =
@@ -65,11 +65,11 @@ settled_same a b p (Framed n) files was now same =
     ap (λ info. Some (cut (inside_of info p.page) (bytes_of b.frames n.0))) (files p.file)
     ∙ ap (λ (w : List ℕ). Some (trimmed a.files p.file p.page w)) bytes
 
-still_there : (a b : Picture) (p : PageKey) (at : Residence) → HasPlaces b → frame_count b.frames ≡ frame_count a.frames → b.place p ≡ place_at at → IsThere a.frames a.slots at → IsThere b.frames b.slots at
+still_there : {mode : ℕ} (a b : Picture mode) (p : PageKey) (at : Residence) → HasPlaces b → frame_count b.frames ≡ frame_count a.frames → b.place p ≡ place_at at → IsThere a.frames a.slots at → IsThere b.frames b.slots at
 still_there a b p (Framed n) places frames now there = omega (arith, frames, there)
 still_there a b p (Slotted k) places frames now there = (let one = places.slotted p k.0 now in omega (arith, one))
 
-module _ (a b : Picture) (list : List Spot) (i : ℕ) (spots : AreSpots a list) (less : i < length list) (settles : Settles a b list i) where
+module _ {mode : ℕ} (a b : Picture mode) (list : List Spot) (i : ℕ) (spots : AreSpots a list) (less : i < length list) (settles : Settles a b list i) where
   -- the pages that are left lie where they lay
   apart : (j : ℕ) → j < i → File (spot_at list j).page ≢ File (spot_at list i).page
   apart j below e = spots.once j i below less (one_file (spot_at list j).page (spot_at list i).page e)
@@ -82,7 +82,7 @@ module _ (a b : Picture) (list : List Spot) (i : ℕ) (spots : AreSpots a list) 
       record { placed = now; there = still_there a b (File x.page) x.at fit.places settles.frames now was.there }
 
   -- one page more
-  module _ (c : Picture) (fit : IsFit b) (one : SettlesOne b c (spot_at list i)) where
+  module _ (c : Picture mode) (fit : IsFit b) (one : SettlesOne b c (spot_at list i)) where
     other : (p : PageKey) → ((j : ℕ) → j < i + 1 → File (spot_at list j).page ≢ p) → p ≢ File (spot_at list i).page
     other p none e = none i (omega arith) (sym e)
 
@@ -158,11 +158,11 @@ cases_listed list (suc n) p = elim (cases_page (File (spot_at list n).page) p) [
   ]
 ]
 
-module _ {D E : Type 0} where
-  pub beside_none : (c : Core D E) → KeepsBesidePages c c
+module _ {M : Type 0} {m : Levels.Ghosts M} {D E : Type 0} where
+  pub beside_none : (c : Core D E M m) → KeepsBesidePages c c
   beside_none c = record { store = refl; pages = refl; roots = refl; regions = refl; page_of = refl; clock = refl; refused = refl }
 
-  pub beside_then : (a b c : Core D E) → KeepsBesidePages a b → KeepsBesidePages b c → KeepsBesidePages a c
+  pub beside_then : (a b c : Core D E M m) → KeepsBesidePages a b → KeepsBesidePages b c → KeepsBesidePages a c
   beside_then a b c f g = record {
     store = g.store ∙ f.store;
     pages = g.pages ∙ f.pages;

@@ -85,73 +85,78 @@ at_stands (Shared q) n i p less e =
     and_true (p.file == q.file) (leb q.page p.page && ltb p.page (q.page + n)) f row
 
 -- a page of a run
-share_in : (map : ℕ → Option Attr) (page : ℕ) (run : Run) (k : ℕ) (p : FilePage) → IsNextRun map page run → run.first ≤ k → k < run.end
-    → shares_page (map k) p ≡ is_shared_page (backing_after run.attr.backing (k - run.first)) p.file p.page
-share_in map page run k p next low high = ap (λ (o : Option Attr). shares_page o p) (next.mapped k low high)
+module _ (mode : ℕ) where
+  share_in : (map : ℕ → Option Attr) (page : ℕ) (run : Run) (k : ℕ) (p : FilePage) → IsNextRun mode map page run → run.first ≤ k → k < run.end
+      → shares_page (map k) p ≡ is_shared_page (backing_after run.attr.backing (k - run.first)) p.file p.page
+  share_in map page run k p next low high = ap (λ (o : Option Attr). shares_page o p) (next.mapped k low high)
 
 share_none : (map : ℕ → Option Attr) (k : ℕ) (p : FilePage) → map k ≡ None → shares_page (map k) p ≡ false
 share_none map k p e = ap (λ (o : Option Attr). shares_page o p) e
 
 -- the part of a run that lies in the row
-run_to_row : (touched : FilePage → Bool) (map : ℕ → Option Attr) (first page stop : ℕ) (run : Run) (p : FilePage) → IsNextRun map page run → first ≤ page → stop ≤ run.end
-    → is_taken_behind touched run.attr.backing (stop - run.first) p ≡ true → is_chosen touched map first (stop - first) p ≡ true
-run_to_row touched map first page stop run p next from end e =
-    let parts = both_true (touched p) (stands_behind run.attr.backing (stop - run.first) p) e in
-    let r = stands_at run.attr.backing (stop - run.first) p parts.1 in
-    let j : ℕ = (run.first + r.0) - first in
-    let less : j < stop - first = omega (arith, r.1, next.from) in
-    let at : first + j ≡ run.first + r.0 = omega (arith, next.from) in
-    let off : (run.first + r.0) - run.first ≡ r.0 = omega arith in
-    let here : shares_page (map (first + j)) p ≡ true =
-    ap (λ (k : ℕ). shares_page (map k) p) at
-    ∙ share_in map page run (run.first + r.0) p next (omega arith) (omega (arith, r.1))
-    ∙ ap (λ (i : ℕ). is_shared_page (backing_after run.attr.backing i) p.file p.page) off ∙ r.2 in
-    and_true (touched p) (is_shared_in map first (stop - first) p) parts.0
-    (one_passes (λ i. shares_page (map (first + i)) p) j (stop - first) less here)
+module _ (mode : ℕ) where
+  run_to_row : (touched : FilePage → Bool) (map : ℕ → Option Attr) (first page stop : ℕ) (run : Run) (p : FilePage) → IsNextRun mode map page run → first ≤ page → stop ≤ run.end
+      → is_taken_behind touched run.attr.backing (stop - run.first) p ≡ true → is_chosen touched map first (stop - first) p ≡ true
+  run_to_row touched map first page stop run p next from end e =
+      let parts = both_true (touched p) (stands_behind run.attr.backing (stop - run.first) p) e in
+      let r = stands_at run.attr.backing (stop - run.first) p parts.1 in
+      let j : ℕ = (run.first + r.0) - first in
+      let less : j < stop - first = omega (arith, r.1, next.from) in
+      let at : first + j ≡ run.first + r.0 = omega (arith, next.from) in
+      let off : (run.first + r.0) - run.first ≡ r.0 = omega arith in
+      let here : shares_page (map (first + j)) p ≡ true =
+      ap (λ (k : ℕ). shares_page (map k) p) at
+      ∙ share_in mode map page run (run.first + r.0) p next (omega arith) (omega (arith, r.1))
+      ∙ ap (λ (i : ℕ). is_shared_page (backing_after run.attr.backing i) p.file p.page) off ∙ r.2 in
+      and_true (touched p) (is_shared_in map first (stop - first) p) parts.0
+      (one_passes (λ i. shares_page (map (first + i)) p) j (stop - first) less here)
 
-row_to_run : (touched : FilePage → Bool) (map : ℕ → Option Attr) (first page stop : ℕ) (run : Run) (p : FilePage) → IsNextRun map page run → first ≤ page → stop ≤ run.end
-    → is_chosen touched map first (stop - first) p ≡ true
-    → (is_chosen touched map first (page - first) p ≡ true) ⊎ (is_taken_behind touched run.attr.backing (stop - run.first) p ≡ true)
-row_to_run touched map first page stop run p next from end e =
-    let parts = both_true (touched p) (is_shared_in map first (stop - first) p) e in
-    let r = any_true (λ i. shares_page (map (first + i)) p) (stop - first) parts.1 in
-    ⊎_elim
-    (λ (early : first + r.0 < page).
-    inl (and_true (touched p) (is_shared_in map first (page - first) p) parts.0
-    (one_passes (λ i. shares_page (map (first + i)) p) r.0 (page - first) (omega arith) r.2)))
-    (λ (late : page ≤ first + r.0).
-    ⊎_elim
-    (λ (hole : first + r.0 < run.first).
-    absurd (let k : true ≡ false = sym r.2 ∙ share_none map (first + r.0) p (next.none_before (first + r.0) late hole) in cc))
-    (λ (here : run.first ≤ first + r.0).
-    let less : first + r.0 < stop = omega (arith, r.1) in
-    inr (and_true (touched p) (stands_behind run.attr.backing (stop - run.first) p) parts.0
-    (at_stands run.attr.backing (stop - run.first) ((first + r.0) - run.first) p (omega arith)
-    (sym (share_in map page run (first + r.0) p next here (omega arith)) ∙ r.2))))
-    (cases_lt (first + r.0) run.first))
-    (cases_lt (first + r.0) page)
+module _ (mode : ℕ) where
+  row_to_run : (touched : FilePage → Bool) (map : ℕ → Option Attr) (first page stop : ℕ) (run : Run) (p : FilePage) → IsNextRun mode map page run → first ≤ page → stop ≤ run.end
+      → is_chosen touched map first (stop - first) p ≡ true
+      → (is_chosen touched map first (page - first) p ≡ true) ⊎ (is_taken_behind touched run.attr.backing (stop - run.first) p ≡ true)
+  row_to_run touched map first page stop run p next from end e =
+      let parts = both_true (touched p) (is_shared_in map first (stop - first) p) e in
+      let r = any_true (λ i. shares_page (map (first + i)) p) (stop - first) parts.1 in
+      ⊎_elim
+      (λ (early : first + r.0 < page).
+      inl (and_true (touched p) (is_shared_in map first (page - first) p) parts.0
+      (one_passes (λ i. shares_page (map (first + i)) p) r.0 (page - first) (omega arith) r.2)))
+      (λ (late : page ≤ first + r.0).
+      ⊎_elim
+      (λ (hole : first + r.0 < run.first).
+      absurd (let k : true ≡ false = sym r.2 ∙ share_none map (first + r.0) p (next.none_before (first + r.0) late hole) in cc))
+      (λ (here : run.first ≤ first + r.0).
+      let less : first + r.0 < stop = omega (arith, r.1) in
+      inr (and_true (touched p) (stands_behind run.attr.backing (stop - run.first) p) parts.0
+      (at_stands run.attr.backing (stop - run.first) ((first + r.0) - run.first) p (omega arith)
+      (sym (share_in mode map page run (first + r.0) p next here (omega arith)) ∙ r.2))))
+      (cases_lt (first + r.0) run.first))
+      (cases_lt (first + r.0) page)
 
 -- one run further
-pub walk_on : (touched : FilePage → Bool) (map : ℕ → Option Attr) (first page stop : ℕ) (run : Run) (x y z : List FilePage) (v w : ℕ)
-    → IsNextRun map page run → first ≤ page → page ≤ stop → stop ≤ run.end
-    → Appends (is_chosen touched map first (page - first)) x y 0 v → Appends (is_taken_behind touched run.attr.backing (stop - run.first)) y z v w
-    → Appends (is_chosen touched map first (stop - first)) x z 0 w
-walk_on touched map first page stop run x y z v w next from more end f g =
-    in_turn (is_chosen touched map first (page - first)) (is_taken_behind touched run.attr.backing (stop - run.first)) (is_chosen touched map first (stop - first)) x y z 0 v w
-    (λ p e. chosen_longer touched map first (page - first) (stop - first) p (omega arith) e)
-    (λ p e. run_to_row touched map first page stop run p next from end e)
-    (λ p e. row_to_run touched map first page stop run p next from end e)
-    f g
+module _ (mode : ℕ) where
+  pub walk_on : (touched : FilePage → Bool) (map : ℕ → Option Attr) (first page stop : ℕ) (run : Run) (x y z : List FilePage) (v w : ℕ)
+      → IsNextRun mode map page run → first ≤ page → page ≤ stop → stop ≤ run.end
+      → Appends (is_chosen touched map first (page - first)) x y 0 v → Appends (is_taken_behind touched run.attr.backing (stop - run.first)) y z v w
+      → Appends (is_chosen touched map first (stop - first)) x z 0 w
+  walk_on touched map first page stop run x y z v w next from more end f g =
+      in_turn (is_chosen touched map first (page - first)) (is_taken_behind touched run.attr.backing (stop - run.first)) (is_chosen touched map first (stop - first)) x y z 0 v w
+      (λ p e. chosen_longer touched map first (page - first) (stop - first) p (omega arith) e)
+      (λ p e. run_to_row mode touched map first page stop run p next from end e)
+      (λ p e. row_to_run mode touched map first page stop run p next from end e)
+      f g
 
-pub walk_over : (touched : FilePage → Bool) (map : ℕ → Option Attr) (first page stop end : ℕ) (run : Run) (x y : List FilePage) (v : ℕ)
-    → IsNextRun map page run → first ≤ page → page ≤ end → stop ≤ run.end → stop ≤ end
-    → Appends (is_chosen touched map first (page - first)) x y 0 v → Overflows (is_taken_behind touched run.attr.backing (stop - run.first)) y v
-    → Overflows (is_chosen touched map first (end - first)) x 0
-walk_over touched map first page stop end run x y v next from order high within f g =
-    over (is_chosen touched map first (page - first)) (is_taken_behind touched run.attr.backing (stop - run.first)) (is_chosen touched map first (end - first)) x y 0 v
-    (λ p e. chosen_longer touched map first (page - first) (end - first) p (omega arith) e)
-    (λ p e. chosen_longer touched map first (stop - first) (end - first) p (omega arith) (run_to_row touched map first page stop run p next from high e))
-    f g
+module _ (mode : ℕ) where
+  pub walk_over : (touched : FilePage → Bool) (map : ℕ → Option Attr) (first page stop end : ℕ) (run : Run) (x y : List FilePage) (v : ℕ)
+      → IsNextRun mode map page run → first ≤ page → page ≤ end → stop ≤ run.end → stop ≤ end
+      → Appends (is_chosen touched map first (page - first)) x y 0 v → Overflows (is_taken_behind touched run.attr.backing (stop - run.first)) y v
+      → Overflows (is_chosen touched map first (end - first)) x 0
+  walk_over touched map first page stop end run x y v next from order high within f g =
+      over (is_chosen touched map first (page - first)) (is_taken_behind touched run.attr.backing (stop - run.first)) (is_chosen touched map first (end - first)) x y 0 v
+      (λ p e. chosen_longer touched map first (page - first) (end - first) p (omega arith) e)
+      (λ p e. chosen_longer touched map first (stop - first) (end - first) p (omega arith) (run_to_row mode touched map first page stop run p next from high e))
+      f g
 
 pub walk_start : (touched : FilePage → Bool) (map : ℕ → Option Attr) (first : ℕ) (list : List FilePage) → Appends (is_chosen touched map first (first - first)) list list 0 0
 walk_start touched map first list =

@@ -1,6 +1,6 @@
 -- What an msync takes of memory.
 use Rattle.std.specs.Prelude.{ℕ, ◌+◌, ◌/◌, ◌<◌, ◌≤◌, ◌≡◌, ◌≢◌, ◌==◌, ◌&&◌, Bool, true, false, List, [], length, get_or, Option, Some, None}
-use Rattle.vm_types.specs.Limits.{msync_pages}
+use Rattle.vm_types.specs.Limits.{file_page_limit, msync_pages}
 use Rattle.vm_types.specs.declared.command.MsyncMode.{MsyncMode}
 use Rattle.vm_types.specs.declared.file.FilePage.{FilePage}
 use Rattle.vm_types.specs.declared.object.PageKey.{PageKey}
@@ -51,6 +51,10 @@ stands_behind (Common first) count page = false
 -- of pages of files and objects those of files
 abbrev pub of_files : (PageKey → Bool) → FilePage → Bool
 of_files touched page = touched (File page)
+
+-- of pages of files none that no file is long enough for
+abbrev pub AreInFiles : (FilePage → Bool) → Type 0
+AreInFiles touched = (page : FilePage) → touched page ≡ true → page.page < file_page_limit
 
 -- the same of touched file pages alone
 abbrev pub is_taken_behind : (FilePage → Bool) → Backing → ℕ → FilePage → Bool
@@ -111,17 +115,19 @@ RulesSame s pid addr len mode list Passes = msync_ruling s pid addr len mode ≡
 RulesSame s pid addr len mode list (Takes count) = TakesSame s pid addr len mode (chosen_of list count)
 
 -- the pages of a commit: some, each once, all touched
-pub record IsListed (c : Picture) (chosen : Chosen) : Type 0 where
-  pub some : 0 < chosen.count
-  pub few : chosen.count ≤ msync_pages
-  pub room : length chosen.list ≡ msync_pages
-  pub touched : (i : ℕ) → i < chosen.count → c.touched (File (page_at chosen.list i)) ≡ true
-  pub once : (i j : ℕ) → i < j → j < chosen.count → page_at chosen.list i ≢ page_at chosen.list j
+module _ {mode : ℕ} where
+  pub record IsListed (c : Picture mode) (chosen : Chosen) : Type 0 where
+    pub some : 0 < chosen.count
+    pub few : chosen.count ≤ msync_pages
+    pub room : length chosen.list ≡ msync_pages
+    pub touched : (i : ℕ) → i < chosen.count → c.touched (File (page_at chosen.list i)) ≡ true
+    pub once : (i j : ℕ) → i < j → j < chosen.count → page_at chosen.list i ≢ page_at chosen.list j
 
-abbrev pub AreListed : Picture → List FilePage → Ruling → Type 0
-AreListed c list (Refuses errno) = Unit {0}
-AreListed c list Passes = Unit {0}
-AreListed c list (Takes count) = IsListed c (chosen_of list count)
+module _ {mode : ℕ} where
+  abbrev pub AreListed : Picture mode → List FilePage → Ruling → Type 0
+  AreListed c list (Refuses errno) = Unit {0}
+  AreListed c list Passes = Unit {0}
+  AreListed c list (Takes count) = IsListed c (chosen_of list count)
 
 -- a refusal that doesn't come from the store's device
 abbrev pub IsNoDeviceFault : Ruling → Type 0
@@ -130,24 +136,28 @@ IsNoDeviceFault Passes = Unit {0}
 IsNoDeviceFault (Takes count) = Unit {0}
 
 -- whether an msync of these bytes takes the file page: it is touched, and stands behind a shared page of them
-abbrev pub is_taken : Picture → ℕ → ℕ → ℕ → FilePage → Bool
-is_taken c pid addr len page = is_chosen (of_files c.touched) (c.at pid) (addr / 4096) (page_count len) page
+module _ {mode : ℕ} where
+  abbrev pub is_taken : Picture mode → ℕ → ℕ → ℕ → FilePage → Bool
+  is_taken c pid addr len page = is_chosen (of_files c.touched) (c.at pid) (addr / 4096) (page_count len) page
 
-abbrev pub AreTaken : Picture → ℕ → ℕ → ℕ → List FilePage → Ruling → Type 0
-AreTaken c pid addr len list (Refuses errno) = Unit {0}
-AreTaken c pid addr len list Passes = Unit {0}
-AreTaken c pid addr len list (Takes count) = (i : ℕ) → i < count → is_taken c pid addr len (page_at list i) ≡ true
+module _ {mode : ℕ} where
+  abbrev pub AreTaken : Picture mode → ℕ → ℕ → ℕ → List FilePage → Ruling → Type 0
+  AreTaken c pid addr len list (Refuses errno) = Unit {0}
+  AreTaken c pid addr len list Passes = Unit {0}
+  AreTaken c pid addr len list (Takes count) = (i : ℕ) → i < count → is_taken c pid addr len (page_at list i) ≡ true
 
 -- a page that it takes lies in a slot
-pub record TakesAway (c : Picture) (pid addr len : ℕ) : Type 0 where
-  pub page : FilePage
-  pub slot : SlotNo
-  pub taken : is_taken c pid addr len page ≡ true
-  pub placed : c.place (File page) ≡ Slot slot
+module _ {mode : ℕ} where
+  pub record TakesAway (c : Picture mode) (pid addr len : ℕ) : Type 0 where
+    pub page : FilePage
+    pub slot : SlotNo
+    pub taken : is_taken c pid addr len page ≡ true
+    pub placed : c.place (File page) ≡ Slot slot
 
 -- a page of the commit lies in a slot
-pub record IsAway (c : Picture) (chosen : Chosen) : Type 0 where
-  pub number : ℕ
-  pub below : number < chosen.count
-  pub slot : SlotNo
-  pub placed : c.place (File (page_at chosen.list number)) ≡ Slot slot
+module _ {mode : ℕ} where
+  pub record IsAway (c : Picture mode) (chosen : Chosen) : Type 0 where
+    pub number : ℕ
+    pub below : number < chosen.count
+    pub slot : SlotNo
+    pub placed : c.place (File (page_at chosen.list number)) ≡ Slot slot

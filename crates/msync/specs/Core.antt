@@ -1,4 +1,5 @@
 -- What an msync comes to.
+use Rattle.vm_types.specs.declared.mode.Levels as Levels
 use Rattle.std.specs.Prelude.{◌≡◌, ◌<◌, ℕ}
 use Rattle.disk_model.specs.Moments.{LeavesOnly}
 use Rattle.disk_model.specs.declared.sector_disk.SectorDisk.{Ghosts}
@@ -19,9 +20,9 @@ use Rattle.paging.specs.Shows.{ShowsPages}
 use Rattle.msync.specs.Choice.{TakesAway}
 use Rattle.msync.specs.Shows.{IsSoundCore, Shows}
 
-module _ {D E : Type 0} where
+module _ {M : Type 0} {m : Levels.Ghosts M} {D E : Type 0} where
   -- memory and slots are as they were, and the store has the same files
-  pub record KeepsMemory (old new : Core D E) : Type 0 where
+  pub record KeepsMemory (old new : Core D E M m) : Type 0 where
     pub directory : new.store.directory ≡ old.store.directory
     pub slots : slots_of new.swap ≡ slots_of old.swap
     pub frames : new.frames ≡ old.frames
@@ -32,14 +33,14 @@ module _ {D E : Type 0} where
     pub clock : new.clock ≡ old.clock
     pub refused : new.refused ≡ old.refused
 
-module _ {D E : Type 0} (g : Ghosts D) (h : Ghosts E) where
+module _ {M : Type 0} {m : Levels.Ghosts M} {D E : Type 0} (g : Ghosts D) (h : Ghosts E) where
   -- A slot gave back what was put: where a page that is taken lies in one, the swap device has kept its model.
-  abbrev pub GivesBack : Core D E → Core D E → ℕ → ℕ → ℕ → Type 0
+  abbrev pub GivesBack : Core D E M m → Core D E M m → ℕ → ℕ → ℕ → Type 0
   GivesBack old new pid addr len = TakesAway (picture_of old) pid addr len → h.keeps_model new.swap.pages.disk
 
   -- The commit was made; or the store failed in it, and memory is as it was; or a slot couldn't be read, and so are memory and
   -- what every image of a stop stands for, at every moment. What is durable then is told as long as slots gave back what was put.
-  pub data IsEnd (given_back : Type 0) (old new : Core D E) (s : State) (command : Command) (reply : Reply) : Type 0 where
+  pub data IsEnd (given_back : Type 0) (old new : Core D E M m) (s : State) (command : Command) (reply : Reply) : Type 0 where
     Acknowledged : reply ≡ Done → ShowsPages (picture_of new) (outcome s command).state → (given_back → Shows g new (outcome s command).state) → IsSoundCore g h new
         → IsEnd given_back old new s command reply
     Failed : reply ≡ Refused EIO → g.failures old.store.disk < g.failures new.store.disk → KeepsMemory old new → IsEnd given_back old new s command reply
@@ -49,7 +50,7 @@ module _ {D E : Type 0} (g : Ghosts D) (h : Ghosts E) where
 
   -- What an msync that makes pages durable comes to: at every moment a stop leaves the files as they were, or with all of
   -- those pages, as long as slots gave back what was put.
-  pub record Commits (given_back : Type 0) (old new : Core D E) (s : State) (after : Pages) (command : Command) (reply : Reply) : Type 0 where
+  pub record Commits (given_back : Type 0) (old new : Core D E M m) (s : State) (after : Pages) (command : Command) (reply : Reply) : Type 0 where
     pub end : IsEnd given_back old new s command reply
     pub directory : new.store.directory ≡ old.store.directory
     pub size : g.sector_count new.store.disk ≡ g.sector_count old.store.disk

@@ -1,4 +1,5 @@
 -- What becomes of memory once file pages were committed.
+use Rattle.vm_types.specs.declared.mode.Levels as Levels
 use Rattle.std.specs.Prelude.{◌≡◌, ◌≢◌, ℕ, ◌+◌, ◌<◌, ◌⊎◌, true, false, List, length, Option, Some, None}
 use Rattle.vm_types.specs.Limits.{top_level}
 use Rattle.vm_types.specs.declared.file.FilePage.{FilePage}
@@ -18,9 +19,9 @@ use Rattle.msync.specs.declared.chosen.Residence.TheVariants.{Framed, Slotted}
 use Rattle.msync.specs.declared.chosen.Spot.{Spot}
 use Rattle.msync.specs.Spots.{spot_at}
 
-module _ {D E : Type 0} where
+module _ {M : Type 0} {m : Levels.Ghosts M} {D E : Type 0} where
   -- all but frames, places and the shares of slots is as it was, and no device was asked
-  pub record KeepsBesidePages (old new : Core D E) : Type 0 where
+  pub record KeepsBesidePages (old new : Core D E M m) : Type 0 where
     pub store : new.store ≡ old.store
     pub pages : new.swap.pages ≡ old.swap.pages
     pub roots : new.roots ≡ old.roots
@@ -50,66 +51,73 @@ abbrev pub settled_in : Files → FrameTable → FilePage → Residence → Opti
 settled_in files t p (Framed n) = Some (trimmed files p.file p.page (bytes_of t n.0))
 settled_in files t p (Slotted k) = None
 
-abbrev pub settled_bytes : Picture → Spot → Option (List ℕ)
-settled_bytes c spot = settled_in c.files c.frames spot.page spot.at
+module _ {mode : ℕ} where
+  abbrev pub settled_bytes : Picture mode → Spot → Option (List ℕ)
+  settled_bytes c spot = settled_in c.files c.frames spot.page spot.at
 
 -- One page that was committed is touched no more. Every page keeps its own copy, and every other page of a file or an object its place and bytes.
-pub record SettlesOne (old new : Picture) (spot : Spot) : Type 0 where
-  pub frames : frame_count new.frames ≡ frame_count old.frames
-  pub slots : new.slots.total ≡ old.slots.total
-  pub root : (pid : ℕ) → new.root pid ≡ old.root pid
-  pub views : (pid page : ℕ) → view new pid page ≡ view old pid page
-  pub entries : (pid page : ℕ) → IsPage top_level page
-      → (entry new pid page ≡ entry old pid page) ⊎ ClearsLeaf (λ n. spot.at ≡ Framed (record { 0 = n })) (entry old pid page) (entry new pid page)
-  pub files : (f : ℕ) → new.files f ≡ old.files f
-  pub placed : new.place (File spot.page) ≡ settled_place spot.at
-  pub elsewhere : (p : PageKey) → p ≢ File spot.page → new.place p ≡ old.place p
-  pub cleaned : new.touched (File spot.page) ≡ false
-  pub untouched : (p : PageKey) → p ≢ File spot.page → new.touched p ≡ old.touched p
-  pub settled : held new (File spot.page) ≡ settled_bytes old spot
-  pub kept : (p : PageKey) → p ≢ File spot.page → held new p ≡ held old p
+module _ {mode : ℕ} where
+  pub record SettlesOne (old new : Picture mode) (spot : Spot) : Type 0 where
+    pub frames : frame_count new.frames ≡ frame_count old.frames
+    pub slots : new.slots.total ≡ old.slots.total
+    pub root : (pid : ℕ) → new.root pid ≡ old.root pid
+    pub views : (pid page : ℕ) → view new pid page ≡ view old pid page
+    pub entries : (pid page : ℕ) → IsPage (top_level mode) page
+        → (entry new pid page ≡ entry old pid page) ⊎ ClearsLeaf (λ n. spot.at ≡ Framed (record { 0 = n })) (entry old pid page) (entry new pid page)
+    pub files : (f : ℕ) → new.files f ≡ old.files f
+    pub placed : new.place (File spot.page) ≡ settled_place spot.at
+    pub elsewhere : (p : PageKey) → p ≢ File spot.page → new.place p ≡ old.place p
+    pub cleaned : new.touched (File spot.page) ≡ false
+    pub untouched : (p : PageKey) → p ≢ File spot.page → new.touched p ≡ old.touched p
+    pub settled : held new (File spot.page) ≡ settled_bytes old spot
+    pub kept : (p : PageKey) → p ≢ File spot.page → held new p ≡ held old p
 
 -- the frame is that of one of these pages
 abbrev pub IsFrameIn : List Spot → ℕ → Type 0
 IsFrameIn list n = (i : ℕ) × (i < length list) × ((spot_at list i).at ≡ Framed (record { 0 = n }))
 
 -- the same of the first n of these pages
-pub record Settles (old new : Picture) (list : List Spot) (n : ℕ) : Type 0 where
-  pub frames : frame_count new.frames ≡ frame_count old.frames
-  pub slots : new.slots.total ≡ old.slots.total
-  pub root : (pid : ℕ) → new.root pid ≡ old.root pid
-  pub views : (pid page : ℕ) → view new pid page ≡ view old pid page
-  pub entries : (pid page : ℕ) → IsPage top_level page → (entry new pid page ≡ entry old pid page) ⊎ ClearsLeaf (IsFrameIn list) (entry old pid page) (entry new pid page)
-  pub files : (f : ℕ) → new.files f ≡ old.files f
-  pub placed : (i : ℕ) → i < n → new.place (File (spot_at list i).page) ≡ settled_place (spot_at list i).at
-  pub elsewhere : (p : PageKey) → ((i : ℕ) → i < n → File (spot_at list i).page ≢ p) → new.place p ≡ old.place p
-  pub cleaned : (i : ℕ) → i < n → new.touched (File (spot_at list i).page) ≡ false
-  pub untouched : (p : PageKey) → ((i : ℕ) → i < n → File (spot_at list i).page ≢ p) → new.touched p ≡ old.touched p
-  pub settled : (i : ℕ) → i < n → held new (File (spot_at list i).page) ≡ settled_bytes old (spot_at list i)
-  pub kept : (p : PageKey) → ((i : ℕ) → i < n → File (spot_at list i).page ≢ p) → held new p ≡ held old p
+module _ {mode : ℕ} where
+  pub record Settles (old new : Picture mode) (list : List Spot) (n : ℕ) : Type 0 where
+    pub frames : frame_count new.frames ≡ frame_count old.frames
+    pub slots : new.slots.total ≡ old.slots.total
+    pub root : (pid : ℕ) → new.root pid ≡ old.root pid
+    pub views : (pid page : ℕ) → view new pid page ≡ view old pid page
+    pub entries : (pid page : ℕ) → IsPage (top_level mode) page → (entry new pid page ≡ entry old pid page) ⊎ ClearsLeaf (IsFrameIn list) (entry old pid page) (entry new pid page)
+    pub files : (f : ℕ) → new.files f ≡ old.files f
+    pub placed : (i : ℕ) → i < n → new.place (File (spot_at list i).page) ≡ settled_place (spot_at list i).at
+    pub elsewhere : (p : PageKey) → ((i : ℕ) → i < n → File (spot_at list i).page ≢ p) → new.place p ≡ old.place p
+    pub cleaned : (i : ℕ) → i < n → new.touched (File (spot_at list i).page) ≡ false
+    pub untouched : (p : PageKey) → ((i : ℕ) → i < n → File (spot_at list i).page ≢ p) → new.touched p ≡ old.touched p
+    pub settled : (i : ℕ) → i < n → held new (File (spot_at list i).page) ≡ settled_bytes old (spot_at list i)
+    pub kept : (p : PageKey) → ((i : ℕ) → i < n → File (spot_at list i).page ≢ p) → held new p ≡ held old p
 
 -- A leaf over the frame of a file page that was touched, and is no more, lost D. It is no process's own copy.
-pub record LosesTouched (old new : Picture) (e e' : ℕ) : Type 0 where
-  pub leaf : is_valid e ≡ true
-  pub common : is_private e ≡ false
-  pub loses : LosesDirty e e'
-  pub page : FilePage
-  pub over : old.place (File page) ≡ Frame (record { 0 = frame_of e })
-  pub was : old.touched (File page) ≡ true
-  pub now : new.touched (File page) ≡ false
+module _ {mode : ℕ} where
+  pub record LosesTouched (old new : Picture mode) (e e' : ℕ) : Type 0 where
+    pub leaf : is_valid e ≡ true
+    pub common : is_private e ≡ false
+    pub loses : LosesDirty e e'
+    pub page : FilePage
+    pub over : old.place (File page) ≡ Frame (record { 0 = frame_of e })
+    pub was : old.touched (File page) ≡ true
+    pub now : new.touched (File page) ≡ false
 
 -- Every entry of every process is the number that it was, but for D of leaves over file pages that were made durable.
-abbrev pub LosesDirtyOnly : Picture → Picture → Type 0
-LosesDirtyOnly old new = (pid page : ℕ) → IsPage top_level page → (entry new pid page ≡ entry old pid page) ⊎ LosesTouched old new (entry old pid page) (entry new pid page)
+module _ {mode : ℕ} where
+  abbrev pub LosesDirtyOnly : Picture mode → Picture mode → Type 0
+  LosesDirtyOnly old new = (pid page : ℕ) → IsPage (top_level mode) page → (entry new pid page ≡ entry old pid page) ⊎ LosesTouched old new (entry old pid page) (entry new pid page)
 
 -- a touched file page left its slot: it is at home, and touched no more
-pub record ComesHome (old new : Picture) (page : FilePage) : Type 0 where
-  pub slot : SlotNo
-  pub was : old.place (File page) ≡ Slot slot
-  pub touched : old.touched (File page) ≡ true
-  pub now : new.place (File page) ≡ Home
-  pub clean : new.touched (File page) ≡ false
+module _ {mode : ℕ} where
+  pub record ComesHome (old new : Picture mode) (page : FilePage) : Type 0 where
+    pub slot : SlotNo
+    pub was : old.place (File page) ≡ Slot slot
+    pub touched : old.touched (File page) ≡ true
+    pub now : new.place (File page) ≡ Home
+    pub clean : new.touched (File page) ≡ false
 
 -- every page of a file or an object lies where it lay, or is a file page that came home from its slot
-abbrev pub SettlesPlaces : Picture → Picture → Type 0
-SettlesPlaces old new = (p : PageKey) → (new.place p ≡ old.place p) ⊎ ((f : FilePage) × (p ≡ File f) × ComesHome old new f)
+module _ {mode : ℕ} where
+  abbrev pub SettlesPlaces : Picture mode → Picture mode → Type 0
+  SettlesPlaces old new = (p : PageKey) → (new.place p ≡ old.place p) ⊎ ((f : FilePage) × (p ≡ File f) × ComesHome old new f)

@@ -1,4 +1,5 @@
 -- How processes and files over a store are a state of the flat model, stops included.
+use Rattle.vm_types.specs.declared.mode.Levels as Levels
 use Rattle.disk_model.specs.Moments.{LeavesNow}
 use Rattle.disk_model.specs.declared.sector_disk.SectorDisk.{Ghosts}
 use Rattle.file_store.specs.Standing.{StandsFor}
@@ -10,15 +11,15 @@ use Rattle.paging.specs.Parts.{IsFit}
 use Rattle.paging.specs.Picture.{picture_of}
 use Rattle.paging.specs.Shows.{ShowsPages}
 
-module _ {D E : Type 0} (g : Ghosts D) where
+module _ {M : Type 0} {m : Levels.Ghosts M} {D E : Type 0} (g : Ghosts D) where
   -- The memory shows the state, and every image that a stop may leave now stands for its durable files.
-  pub record Shows (c : Core D E) (s : State) : Type 0 where
+  pub record Shows (c : Core D E M m) (s : State) : Type 0 where
     pub pages : ShowsPages (picture_of c) s
     pub stands : g.keeps_model c.store.disk → LeavesNow g c.store.disk (StandsFor (g.sector_count c.store.disk) s.files s.durable)
 
   module _ (h : Ghosts E) where
     -- between two calls: the store may be read and committed to, slots may be put and got, and memory is fit
-    pub record IsSoundCore (c : Core D E) : Type 0 where
+    pub record IsSoundCore (c : Core D E M m) : Type 0 where
       pub ready : IsReadyStore g c.store
       pub swap : IsReady h c.swap
       pub fit : IsFit (picture_of c)

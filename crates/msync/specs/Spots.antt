@@ -49,21 +49,24 @@ abbrev pub HasSlot : List Spot → Type 0
 HasSlot list = (i : ℕ) × (i < length list) × IsSlotted (spot_at list i).at
 
 -- the file page lies there
-pub record IsSpot (c : Picture) (spot : Spot) : Type 0 where
-  pub placed : c.place (File spot.page) ≡ place_at spot.at
-  pub there : IsThere c.frames c.slots spot.at
+module _ {mode : ℕ} where
+  pub record IsSpot (c : Picture mode) (spot : Spot) : Type 0 where
+    pub placed : c.place (File spot.page) ≡ place_at spot.at
+    pub there : IsThere c.frames c.slots spot.at
 
 -- file pages that lie there, each once
-pub record AreSpots (c : Picture) (list : List Spot) : Type 0 where
-  pub each : (i : ℕ) → i < length list → IsSpot c (spot_at list i)
-  pub once : (i j : ℕ) → i < j → j < length list → (spot_at list i).page ≢ (spot_at list j).page
+module _ {mode : ℕ} where
+  pub record AreSpots (c : Picture mode) (list : List Spot) : Type 0 where
+    pub each : (i : ℕ) → i < length list → IsSpot c (spot_at list i)
+    pub once : (i j : ℕ) → i < j → j < length list → (spot_at list i).page ≢ (spot_at list j).page
 
 -- the pages of a list with the places that they lie in, of 4,096 bytes each
-pub record HasSpots (c : Picture) (pages : List FilePage) (list : List Spot) : Type 0 where
-  pub count : length list ≡ length pages
-  pub same : (i : ℕ) → i < length pages → (spot_at list i).page ≡ page_at pages i
-  pub spots : (i : ℕ) → i < length pages → IsSpot c (spot_at list i)
-  pub whole : (i : ℕ) → i < length pages → length (bytes_there c.frames c.slots (spot_at list i).at) ≡ 4096
+module _ {mode : ℕ} where
+  pub record HasSpots (c : Picture mode) (pages : List FilePage) (list : List Spot) : Type 0 where
+    pub count : length list ≡ length pages
+    pub same : (i : ℕ) → i < length pages → (spot_at list i).page ≡ page_at pages i
+    pub spots : (i : ℕ) → i < length pages → IsSpot c (spot_at list i)
+    pub whole : (i : ℕ) → i < length pages → length (bytes_there c.frames c.slots (spot_at list i).at) ≡ 4096
 
 module _ {E : Type 0} (h : Ghosts E) where
   -- Slots were read: what they hold, and who has them, is as it was. Without a cause the device was not asked.

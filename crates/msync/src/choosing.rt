@@ -9,20 +9,20 @@ ghost use Rattle.page_cache.specs.CacheTable.{is_touched};
 ghost use Rattle.paging.specs.Picture.{picture_of};
 ghost use Rattle.paging.specs.Parts.{IsFit};
 ghost use Rattle.paging.specs.Shows.{ShowsPages};
-ghost use Rattle.msync.specs.Choice.{of_files, is_taken_behind, is_chosen, Appends, Overflows, IsChoice, RulesSame, AreListed, AreTaken, IsNoDeviceFault};
+ghost use Rattle.msync.specs.Choice.{of_files, is_taken_behind, is_chosen, AreInFiles, Appends, Overflows, IsChoice, RulesSame, AreListed, AreTaken, IsNoDeviceFault};
 
 use crate::chosen::Ruling;
 use page_cache::{PageCache, TooMany};
 use paging::Core;
 use regions::Regions;
-use vm_types::{Backing, Errno, FilePage, MSYNC_PAGES, MsyncMode, PAGE_BYTES};
+use vm_types::{Backing, Errno, FilePage, Levels, MSYNC_PAGES, MsyncMode, PAGE_BYTES};
 
 /// Bytes of a page, as a number of addresses.
 const PAGE: u64 = PAGE_BYTES as u64;
 
 /// Judges an msync: the checks of msync(2) in our order. The pages that it takes are at the front of the list.
-pub(crate) fn rule<D, E>(
-    core: &Core<D, E>,
+pub(crate) fn rule<D, E, M: Levels>(
+    core: &Core<D, E, M>,
     pid: u64,
     addr: u64,
     len: u64,
@@ -57,15 +57,16 @@ pub(crate) fn rule<D, E>(
 }
 
 /// The touched pages of the row of `count` pages from `first` on: `ENOSPC` where there are more than one msync takes.
-fn choose(
-    regions: &Regions,
+fn choose<M: Levels>(
+    regions: &Regions<M>,
     cache: &PageCache,
     first: u64,
     count: u64,
     list: &mut [FilePage; MSYNC_PAGES],
 ) -> Ruling
     requires room { first + count < 2 ^ 64 }
-    requires user { IsUserMap (attr_at regions.now) }
+    requires user { IsUserMap M.mode (attr_at regions.now) }
+    requires inside { AreInFiles (of_files (is_touched cache.now)) }
     ensures { IsChoice (is_chosen (of_files (is_touched cache.now)) (attr_at regions.now) first count) list.new result }
 {
     match choose_between(regions, cache, first, first + count, list) {
@@ -77,15 +78,16 @@ fn choose(
 
 /// Lists the touched pages behind the pages from `first` up to, not including, `end`, run by run, and returns how many there
 /// are; `TooMany` exactly where that would be over 1,023.
-fn choose_between(
-    regions: &Regions,
+fn choose_between<M: Levels>(
+    regions: &Regions<M>,
     cache: &PageCache,
     first: u64,
     end: u64,
     list: &mut [FilePage; MSYNC_PAGES],
 ) -> Result<usize, TooMany>
     requires order { first ≤ end }
-    requires user { IsUserMap (attr_at regions.now) }
+    requires user { IsUserMap M.mode (attr_at regions.now) }
+    requires inside { AreInFiles (of_files (is_touched cache.now)) }
     ensures ok { IfOk result (Appends (is_chosen (of_files (is_touched cache.now)) (attr_at regions.now) first (end - first)) list.old list.new 0) }
     ensures too_many { OnErr result (Overflows (is_chosen (of_files (is_touched cache.now)) (attr_at regions.now) first (end - first)) list.old 0) }
 {
@@ -111,14 +113,18 @@ fn choose_behind(
     list: &mut [FilePage; MSYNC_PAGES],
     used: usize,
 ) -> Result<usize, TooMany>
-    requires count { count < 2 ^ 32 }
     requires row { backing_fits backing count }
+    requires inside { AreInFiles (of_files (is_touched cache.now)) }
     requires few { used ≤ msync_pages }
     ensures ok { IfOk result (Appends (is_taken_behind (of_files (is_touched cache.now)) backing count) list.old list.new used) }
     ensures too_many { OnErr result (Overflows (is_taken_behind (of_files (is_touched cache.now)) backing count) list.old used) }
 {
     match backing {
         Backing::Anon | Backing::Private(_) | Backing::Common(_) => Ok(used),
-        Backing::Shared(first) => cache.dirty_in(first.file, first.page, count as u32, list, used),
+        Backing::Shared(first) => {
+            // A row may have 2 ^ 32 pages, one more than a u32 tells. No file is long enough for the last of them.
+            let count = count.min(u64::from(u32::MAX)) as u32;
+            cache.dirty_in(first.file, first.page, count, list, used)
+        }
     }
 }

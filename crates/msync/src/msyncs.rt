@@ -32,7 +32,7 @@ use disk_model::SectorDisk;
 use page_cache::Place;
 use paging::Core;
 use sync_journal::CommitFault;
-use vm_types::{Answer, Errno, FilePage, MSYNC_PAGES, MsyncMode, PageKey, Stall};
+use vm_types::{Answer, Errno, FilePage, Levels, MSYNC_PAGES, MsyncMode, PageKey, Stall};
 
 /// Makes the touched pages of a range durable, all at once and over all files (msync(2); Park, Kelly and Shen, Failure-Atomic
 /// msync, EuroSys 2013): the file pages, stored to and not made durable since, that stand behind the shared pages which hold
@@ -48,8 +48,8 @@ use vm_types::{Answer, Errno, FilePage, MSYNC_PAGES, MsyncMode, PageKey, Stall};
 ///
 /// What becomes durable of a page in a slot is what was put there as long as the swap device keeps its model. Its time is that of
 /// the touched pages times the runs of all processes, however long they are.
-pub fn msync<D: SectorDisk, E: SectorDisk>(
-    core: &mut Core<D, E>,
+pub fn msync<D: SectorDisk, E: SectorDisk, M: Levels>(
+    core: &mut Core<D, E, M>,
     room: &mut SyncRoom,
     pid: u64,
     addr: u64,
@@ -90,8 +90,8 @@ pub fn msync<D: SectorDisk, E: SectorDisk>(
 
 /// Commits the first pages of a list to the store, which are touched no more then. Where the store fails, or a slot can't be read, memory is left as
 /// it was.
-fn commit<D: SectorDisk, E: SectorDisk>(
-    core: &mut Core<D, E>,
+fn commit<D: SectorDisk, E: SectorDisk, M: Levels>(
+    core: &mut Core<D, E, M>,
     list: &[FilePage; MSYNC_PAGES],
     count: usize,
     spots: &mut [Spot; MSYNC_PAGES],
@@ -139,7 +139,11 @@ fn commit<D: SectorDisk, E: SectorDisk>(
 }
 
 /// Puts the places that touched pages lie in to the front of a list.
-fn fill_spots<D, E>(core: &Core<D, E>, pages: &[FilePage], spots: &mut [Spot; MSYNC_PAGES])
+fn fill_spots<D, E, M: Levels>(
+    core: &Core<D, E, M>,
+    pages: &[FilePage],
+    spots: &mut [Spot; MSYNC_PAGES],
+)
     requires fit { IsFit (picture_of core.now) }
     requires few { length pages.now ≤ msync_pages }
     requires touched { (i : ℕ) → i < length pages.now → (picture_of core.now).touched (File (page_at pages.now i)) ≡ true }
@@ -151,7 +155,7 @@ fn fill_spots<D, E>(core: &Core<D, E>, pages: &[FilePage], spots: &mut [Spot; MS
 }
 
 /// The place that a touched page lies in.
-fn spot_of<D, E>(core: &Core<D, E>, page: FilePage) -> Spot
+fn spot_of<D, E, M: Levels>(core: &Core<D, E, M>, page: FilePage) -> Spot
     requires fit { IsFit (picture_of core.now) }
     requires touched { (picture_of core.now).touched (File page) ≡ true }
     ensures spot { IsSpot (picture_of core.now) result }

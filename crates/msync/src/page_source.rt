@@ -9,17 +9,18 @@ use disk_model::{DiskFault, SectorDisk};
 use mapped_memory::Memory;
 use swap::Swap;
 use sync_journal::{PageSource, SourceFault};
+use vm_types::Levels;
 
 /// File pages in frames and in slots, by a list of them. It fails only where the swap device does, and asks that one only for a
 /// page in a slot.
 #[derive(Drop)]
-pub(crate) struct TouchedPages<'a, E> {
-    pub frames: &'a Memory,
+pub(crate) struct TouchedPages<'f, 'a, E, M: Levels> {
+    pub frames: &'f Memory<M>,
     pub swap: &'a mut Swap<E>,
     pub spots: &'a [Spot],
 }
 
-impl<E: SectorDisk> PageSource for TouchedPages<'_, E> {
+impl<E: SectorDisk, M: Levels> PageSource for TouchedPages<'_, '_, E, M> {
     ghost use Rattle.msync.specs.Spots.{spot_at, bytes_there, IsThere, HasSlot, ReadsSwap};
     ghost use Rattle.msync.specs.Reads.{same_then};
 

@@ -14,11 +14,11 @@ use crate::chosen::{Residence, Spot};
 use disk_model::SectorDisk;
 use page_cache::Place;
 use paging::{Change, Core, change_leaves};
-use vm_types::{FilePage, FrameNo, PageKey, SlotNo};
+use vm_types::{FilePage, FrameNo, Levels, PageKey, SlotNo};
 
 /// Pages that were committed: bytes past the end of their files become zero, no entry says D of them, and they are touched
 /// no more. One that lay in a slot is at home then, and its slot is free. Every page keeps its own copy.
-pub(crate) fn settle<D: SectorDisk, E>(core: &mut Core<D, E>, spots: &[Spot])
+pub(crate) fn settle<D: SectorDisk, E, M: Levels>(core: &mut Core<D, E, M>, spots: &[Spot])
     requires fit { IsFit (picture_of core.old) }
     requires spots { AreSpots (picture_of core.old) spots.now }
     ensures fit { IsFit (picture_of core.new) }
@@ -32,7 +32,7 @@ pub(crate) fn settle<D: SectorDisk, E>(core: &mut Core<D, E>, spots: &[Spot])
 }
 
 /// The same of one page.
-fn settle_one<D: SectorDisk, E>(core: &mut Core<D, E>, spot: Spot)
+fn settle_one<D: SectorDisk, E, M: Levels>(core: &mut Core<D, E, M>, spot: Spot)
     requires fit { IsFit (picture_of core.old) }
     requires spot { IsSpot (picture_of core.old) spot }
     ensures fit { IsFit (picture_of core.new) }
@@ -47,7 +47,11 @@ fn settle_one<D: SectorDisk, E>(core: &mut Core<D, E>, spot: Spot)
 }
 
 /// The same of a page in a frame.
-fn settle_in_frame<D: SectorDisk, E>(core: &mut Core<D, E>, page: FilePage, frame: FrameNo)
+fn settle_in_frame<D: SectorDisk, E, M: Levels>(
+    core: &mut Core<D, E, M>,
+    page: FilePage,
+    frame: FrameNo,
+)
     requires fit { IsFit (picture_of core.old) }
     requires placed { (picture_of core.old).place (File page) ≡ Frame frame }
     requires inside { IsFrame core.old.frames frame.0 }
@@ -62,7 +66,7 @@ fn settle_in_frame<D: SectorDisk, E>(core: &mut Core<D, E>, page: FilePage, fram
 }
 
 /// The same of a page in a slot, which is given back.
-fn settle_in_slot<D, E>(core: &mut Core<D, E>, page: FilePage, slot: SlotNo)
+fn settle_in_slot<D, E, M: Levels>(core: &mut Core<D, E, M>, page: FilePage, slot: SlotNo)
     requires fit { IsFit (picture_of core.old) }
     requires placed { (picture_of core.old).place (File page) ≡ Slot slot }
     ensures fit { IsFit (picture_of core.new) }
@@ -75,7 +79,7 @@ fn settle_in_slot<D, E>(core: &mut Core<D, E>, page: FilePage, slot: SlotNo)
 }
 
 /// Bytes past the end of a page's file become zero in its frame.
-fn cut_tail<D: SectorDisk, E>(core: &mut Core<D, E>, page: FilePage, frame: FrameNo)
+fn cut_tail<D: SectorDisk, E, M: Levels>(core: &mut Core<D, E, M>, page: FilePage, frame: FrameNo)
     requires fit { IsFit (picture_of core.old) }
     requires placed { (picture_of core.old).place (File page) ≡ Frame frame }
     requires inside { IsFrame core.old.frames frame.0 }

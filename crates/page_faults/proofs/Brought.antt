@@ -1,4 +1,6 @@
 -- An access goes on after the file page of its page was brought into a frame.
+use Rattle.vm_types.specs.declared.mode.Levels as Levels
+use Rattle.vm_types.specs.Limits.{top_level}
 use Rattle.std.proofs.Common.{◌≡◌, ◌≤◌, ℕ, false, inl, inr, ◌⊎◌, None, Result, Ok, Err, refl, sym, ◌∙◌, subst, arith}
 use Rattle.std.specs.Prelude.{IfErr}
 use Rattle.vm_types.specs.declared.access.Access.{Access}
@@ -29,19 +31,20 @@ none_left : (m n : ℕ) → m ≤ n → n ≡ 0 → m ≡ 0
 none_left m n low none = omega (arith, low, none)
 
 -- no table came to be missing
-pub linked_then : (old new : Picture) (pid page : ℕ) → IsFit new → KeepsSpaces old new → KeepsTables old new → IsLinked old pid page → IsLinked new pid page
-linked_then old new pid page fit spaces tables linked = record {
-  fit = fit;
-  lives = λ none. linked.lives (sym (spaces.root pid) ∙ none);
-  whole = λ r at. (
-      let was = sym (spaces.root pid) ∙ at in
-      none_left (missing_of new.frames 2 r page) (missing_of old.frames 2 r page) (tables pid r page was) (linked.whole r was));
-}
+module _ {mode : ℕ} where
+  pub linked_then : (old new : Picture mode) (pid page : ℕ) → IsFit new → KeepsSpaces old new → KeepsTables old new → IsLinked old pid page → IsLinked new pid page
+  linked_then old new pid page fit spaces tables linked = record {
+    fit = fit;
+    lives = λ none. linked.lives (sym (spaces.root pid) ∙ none);
+    whole = λ r at. (
+        let was = sym (spaces.root pid) ∙ at in
+        none_left (missing_of new.frames (top_level mode) r page) (missing_of old.frames (top_level mode) r page) (tables pid r page was) (linked.whole r was));
+  }
 
-files_same : (c : Picture) → KeepsFiles c c
+files_same : {mode : ℕ} (c : Picture mode) → KeepsFiles c c
 files_same c = record { held = λ p. inl refl; touched = λ p. refl; files = λ f. refl }
 
-module _ {D E : Type 0} (old mid : Core D E) (pid page : ℕ) (p : PageKey) (shows : ShowsFile (picture_of old) pid page p) where
+module _ {M : Type 0} {m : Levels.Ghosts M} {D E : Type 0} (old mid : Core D E M m) (pid page : ℕ) (p : PageKey) (shows : ShowsFile (picture_of old) pid page p) where
   only : (q : PageKey) → q ≡ p → ShowsFile (picture_of old) pid page q
   only q is = let P : PageKey → Type 0 = λ x. ShowsFile (picture_of old) pid page x in subst P (sym is) shows
 
@@ -53,15 +56,15 @@ module _ {D E : Type 0} (old mid : Core D E) (pid page : ℕ) (p : PageKey) (sho
   module _ (idle : (n : FrameNo) → (picture_of old).place p ≡ Frame n → mid ≡ old) where
     pub wants_then : (access : Access) → Wants (picture_of mid) pid page access → Wants (picture_of old) pid page access
     wants_then access wants = elim (there_or (picture_of old) pid page access p shows) [
-      | inl there ↦ (let P : Core D E → Type 0 = λ k. Wants (picture_of k) pid page access in subst P (idle there.0 there.1) wants)
+      | inl there ↦ (let P : Core D E M m → Type 0 = λ k. Wants (picture_of k) pid page access in subst P (idle there.0 there.1) wants)
       | inr away ↦ away
     ]
 
-    pub calm_then : (new : Core D E) (access : Access) → ((Wants (picture_of mid) pid page access → ⊥) → IsCalm mid new pid page)
+    pub calm_then : (new : Core D E M m) (access : Access) → ((Wants (picture_of mid) pid page access → ⊥) → IsCalm mid new pid page)
         → (Wants (picture_of old) pid page access → ⊥) → IsCalm old new pid page
     calm_then new access calm none =
         let there = page_there (picture_of old) pid page access p shows none in
-        let P : Core D E → Type 0 = λ k. IsCalm k new pid page in
+        let P : Core D E M m → Type 0 = λ k. IsCalm k new pid page in
         subst P (idle there.0 there.1) (calm (λ wants. none (wants_then access wants)))
 
   module _ (g : Ghosts D) (h : Ghosts E) where
@@ -71,7 +74,7 @@ module _ {D E : Type 0} (old mid : Core D E) (pid page : ℕ) (p : PageKey) (sho
         brings_after g old.store.disk mid.store.disk W (ShowsFile (picture_of old) pid page) (picture_of old) (picture_of old) (picture_of mid) only (files_same (picture_of old)) (brings kept)
 
     -- no other came after it
-    pub brings_on : (new : Core D E) → BringsFiles g h (λ q. q ≡ p) old mid → KeepsSeen (picture_of old) (picture_of mid) → new.store ≡ mid.store → UsesDevice h mid.swap.pages.disk new.swap.pages.disk
+    pub brings_on : (new : Core D E M m) → BringsFiles g h (λ q. q ≡ p) old mid → KeepsSeen (picture_of old) (picture_of mid) → new.store ≡ mid.store → UsesDevice h mid.swap.pages.disk new.swap.pages.disk
         → ((q : PageKey) → (held (picture_of new) q ≡ held (picture_of mid) q) ⊎ ((held (picture_of new) q ≡ None) × ((picture_of mid).touched q ≡ false)))
         → ((f : ℕ) → (picture_of new).files f ≡ (picture_of mid).files f) → BringsFiles g h (ShowsFile (picture_of old) pid page) old new
     brings_on new brings keeps same device each files kept =
@@ -96,7 +99,7 @@ module _ {D E : Type 0} (old mid : Core D E) (pid page : ℕ) (p : PageKey) (sho
     }
 
     -- or a frame was refused afterwards
-    pub stalled_on : (new : Core D E) (access : Access) (r : Result FrameNo Stall) → ((n : FrameNo) → (picture_of old).place p ≡ Frame n → mid ≡ old) → KeepsSeen (picture_of old) (picture_of mid)
+    pub stalled_on : (new : Core D E M m) (access : Access) (r : Result FrameNo Stall) → ((n : FrameNo) → (picture_of old).place p ≡ Frame n → mid ≡ old) → KeepsSeen (picture_of old) (picture_of mid)
         → h.failures mid.swap.pages.disk ≡ h.failures old.swap.pages.disk → mid.refused.number ≡ old.refused.number → g.failures mid.store.disk ≡ g.failures old.store.disk
         → HasStallCause h mid new r → IfErr r (IsStalled g h mid new pid page access) → IfErr r (IsStalled g h old new pid page access)
     stalled_on new access (Ok n) idle keeps swap_calm same calm cause stalled = tt

@@ -1,4 +1,5 @@
 -- A page whose entry was set, or that came back from its slot, grants what its region lets be done.
+use Rattle.vm_types.specs.declared.mode.Levels as Levels
 use Rattle.std.proofs.Common.{◌≡◌, ◌≢◌, ℕ, Bool, true, false, Some, Result, Ok, Err, refl, subst}
 use Rattle.std.specs.Prelude.{IfOk, IfErr, OnErr}
 use Rattle.vm_types.specs.declared.access.Access.{Access}
@@ -32,7 +33,7 @@ use Rattle.page_faults.proofs.Settled.{readable, ready_read, entered_read, enter
 use Rattle.page_faults.proofs.Steps.{ok_from, no_store}
 
 -- a page that is to be read
-module _ (old new : Picture) (pid page : ℕ) (a : Attr) (access : Access) (n : ℕ) (private write stored : Bool) (fit : IsFit new) (sound : IsSound new.frames) (was : old.at pid page ≡ Some a)
+module _ {mode : ℕ} (old new : Picture mode) (pid page : ℕ) (a : Attr) (access : Access) (n : ℕ) (private write stored : Bool) (fit : IsFit new) (sound : IsSound new.frames) (was : old.at pid page ≡ Some a)
     (now : new.at pid page ≡ Some a) (keeps : KeepsSeen old new) (over : IsEntryOver (entry new pid page) a.prot n private write stored) (other : access ≢ Store) (allowed : lets access a.prot ≡ true) where
   pub read_ready : IsReadyAt old new pid page a access n
   read_ready = ready_read access old new pid page a n other (readable old new pid page a n private write stored fit sound was now keeps over)
@@ -40,11 +41,11 @@ module _ (old new : Picture) (pid page : ℕ) (a : Attr) (access : Access) (n : 
   pub read_entered : IsEntered new pid page a access n
   read_entered = entered_read access new pid page a n private write stored other allowed over (entered_ready access old new pid page a n read_ready)
 
-keeps_all : (c : Picture) → KeepsSeen c c
+keeps_all : {mode : ℕ} (c : Picture mode) → KeepsSeen c c
 keeps_all c = record { views = λ q k. refl; touched = λ p. refl }
 
 -- a page that came back from its slot
-module _ (new : Picture) (pid page : ℕ) (a : Attr) (fit : IsFit new) (sound : IsSound new.frames) (now : new.at pid page ≡ Some a) (alone : is_shared a.backing ≡ false) (n : ℕ)
+module _ {mode : ℕ} (new : Picture mode) (pid page : ℕ) (a : Attr) (fit : IsFit new) (sound : IsSound new.frames) (now : new.at pid page ≡ Some a) (alone : is_shared a.backing ≡ false) (n : ℕ)
     (full : IsFullEntry new a n true (entry new pid page)) (one : count_of new.frames n ≡ 1) where
   own_shown : AreShown new (seen_at new pid page a) (bytes_of new.frames n)
   own_shown =
@@ -75,7 +76,7 @@ module _ (new : Picture) (pid page : ℕ) (a : Attr) (fit : IsFit new) (sound : 
   self_entered Store allowed =
       entered_store new pid page a n true (reads_too new pid page a fit now allowed) (stores allowed) (entered_ready Store new new pid page a n (self_ready Store allowed))
 
-module _ (old new : Picture) (pid page : ℕ) (a : Attr) (access : Access) (fit : IsFit new) (sound : IsSound new.frames) (now : new.at pid page ≡ Some a) (alone : is_shared a.backing ≡ false)
+module _ {mode : ℕ} (old new : Picture mode) (pid page : ℕ) (a : Attr) (access : Access) (fit : IsFit new) (sound : IsSound new.frames) (now : new.at pid page ≡ Some a) (alone : is_shared a.backing ≡ false)
     (allowed : lets access a.prot ≡ true) where
   pub swapped_entered : (r : Result FrameNo Stall) → IfOk r (λ n. IsFullEntry new a n.0 true (entry new pid page)) → IfOk r (λ n. count_of new.frames n.0 ≡ 1) → IfOk r (λ n. IsEntered new pid page a access n.0)
   swapped_entered r full one =
@@ -93,7 +94,7 @@ module _ (old new : Picture) (pid page : ℕ) (a : Attr) (access : Access) (fit 
       ok_from P R Q r (λ n f o. ready_after old new new pid page a access n.0 was now keeps (self_ready new pid page a fit sound now alone n.0 f o access allowed)) full one
 
 -- or stayed there
-module _ {D E : Type 0} (g : Ghosts D) (h : Ghosts E) (old new : Core D E) (pid page : ℕ) (access : Access) where
+module _ {M : Type 0} {m : Levels.Ghosts M} {D E : Type 0} (g : Ghosts D) (h : Ghosts E) (old new : Core D E M m) (pid page : ℕ) (access : Access) where
   pub swapped_stalled : (r : Result FrameNo Stall) → new.store ≡ old.store → KeepsFiles (picture_of old) (picture_of new) → OnErr r (KeepsViews (picture_of old) (picture_of new))
       → is_swapped (entry (picture_of old) pid page) ≡ true → HasStallCause h old new r → IfErr r (IsShort (picture_of new)) → IfErr r (IsStalled g h old new pid page access)
   swapped_stalled (Ok n) same files views away cause short = tt

@@ -1,4 +1,6 @@
 -- An access goes on after the tables on its way were linked.
+use Rattle.vm_types.specs.declared.mode.Levels as Levels
+use Rattle.vm_types.specs.Limits.{top_level}
 use Rattle.std.proofs.Common.{◌≡◌, ℕ, inl, inr, ◌⊎◌, true, false, None, Some, Result, refl, sym, ap, ◌∙◌, subst}
 use Rattle.std.specs.Prelude.{IfOk, IfErr}
 use Rattle.std.proofs.lemmas.Bool.{false≢true}
@@ -37,14 +39,14 @@ use Rattle.page_faults.proofs.Settled.{ready_after}
 use Rattle.page_faults.proofs.Steps.{keeps_seen, brings_after, cause_then, ok_then, stall_then, no_store}
 use Rattle.page_faults.proofs.Wanted.{whole_or, shows_back}
 
-past_still : (old new : Picture) (b : Backing) → ((f : ℕ) → new.files f ≡ old.files f) → is_past_end old.files b ≡ false → is_past_end new.files b ≡ false
+past_still : {mode : ℕ} (old new : Picture mode) (b : Backing) → ((f : ℕ) → new.files f ≡ old.files f) → is_past_end old.files b ≡ false → is_past_end new.files b ≡ false
 past_still old new Anon files e = e
 past_still old new (Private p) files e = ap (λ o. is_past_end_of o p.page) (files p.file) ∙ e
 past_still old new (Shared p) files e = ap (λ o. is_past_end_of o p.page) (files p.file) ∙ e
 past_still old new (Common p) files e = e
 
 -- what lets the access still lets it
-pub open_still : (old new : Picture) (pid page : ℕ) (access : Access) (a : Attr) → ((q k : ℕ) → new.at q k ≡ old.at q k) → ((f : ℕ) → new.files f ≡ old.files f) → IsOpenTo old pid page access a
+pub open_still : {mode : ℕ} (old new : Picture mode) (pid page : ℕ) (access : Access) (a : Attr) → ((q k : ℕ) → new.at q k ≡ old.at q k) → ((f : ℕ) → new.files f ≡ old.files f) → IsOpenTo old pid page access a
     → IsOpenTo new pid page access a
 open_still old new pid page access a at files is = record {
   mapped = at pid page ∙ is.mapped;
@@ -56,21 +58,22 @@ zero_here : is_swapped 0 ≡ false
 zero_here = none_here 0 (seat_zero 0 refl)
 
 -- a page on whose way a table is missing has no entry
-lacks_none : (c : Picture) (pid page : ℕ) → LacksTable c pid page → entry c pid page ≡ 0
-lacks_none c pid page lacks = entry-of c pid lacks.root page lacks.lives ∙ page_entry-missing c.frames 2 lacks.root page lacks.missing
+module _ {mode : ℕ} where
+  lacks_none : (c : Picture mode) (pid page : ℕ) → LacksTable c pid page → entry c pid page ≡ 0
+  lacks_none c pid page lacks = entry-of c pid lacks.root page lacks.lives ∙ page_entry-missing c.frames (top_level mode) lacks.root page lacks.missing
 
-module _ {D E : Type 0} (old mid : Core D E) (pid page : ℕ) (lives : (r : ℕ) × ((picture_of old).root pid ≡ Some r)) (pages : KeepsPages (picture_of old) (picture_of mid))
+module _ {M : Type 0} {m : Levels.Ghosts M} {D E : Type 0} (old mid : Core D E M m) (pid page : ℕ) (lives : (r : ℕ) × ((picture_of old).root pid ≡ Some r)) (pages : KeepsPages (picture_of old) (picture_of mid))
     (idle : IsWhole (picture_of old) pid page → mid ≡ old) where
   pub wants_back : (access : Access) → Wants (picture_of mid) pid page access → Wants (picture_of old) pid page access
   wants_back access wants = elim (whole_or (picture_of old) pid page lives) [
-    | inl whole ↦ (let P : Core D E → Type 0 = λ k. Wants (picture_of k) pid page access in subst P (idle whole) wants)
+    | inl whole ↦ (let P : Core D E M m → Type 0 = λ k. Wants (picture_of k) pid page access in subst P (idle whole) wants)
     | inr lacks ↦ ForTable lacks
   ]
 
-  pub calm_back : (new : Core D E) (access : Access) → ((Wants (picture_of mid) pid page access → ⊥) → IsCalm mid new pid page) → (Wants (picture_of old) pid page access → ⊥) → IsCalm old new pid page
+  pub calm_back : (new : Core D E M m) (access : Access) → ((Wants (picture_of mid) pid page access → ⊥) → IsCalm mid new pid page) → (Wants (picture_of old) pid page access → ⊥) → IsCalm old new pid page
   calm_back new access calm none = elim (whole_or (picture_of old) pid page lives) [
     | inl whole ↦ (
-        let P : Core D E → Type 0 = λ k. IsCalm k new pid page in
+        let P : Core D E M m → Type 0 = λ k. IsCalm k new pid page in
         subst P (idle whole) (calm (λ wants. none (wants_back access wants))))
     | inr lacks ↦ absurd (none (ForTable lacks))
   ]
@@ -82,7 +85,7 @@ module _ {D E : Type 0} (old mid : Core D E) (pid page : ℕ) (lives : (r : ℕ)
   pub home_back : IsWhole (picture_of mid) pid page → GivesForTables (picture_of old) (picture_of mid) None → LinksTables (picture_of old) (picture_of mid) pid page
       → ReadsHome (picture_of mid) pid page → ReadsHome (picture_of old) pid page
   home_back linked gives tables home = elim (whole_or (picture_of old) pid page lives) [
-    | inl whole ↦ (let P : Core D E → Type 0 = λ k. ReadsHome (picture_of k) pid page in subst P (idle whole) home)
+    | inl whole ↦ (let P : Core D E M m → Type 0 = λ k. ReadsHome (picture_of k) pid page in subst P (idle whole) home)
     | inr lacks ↦ record {
       file = home.file;
       shows = shows_before (File home.file) home.shows;
@@ -103,13 +106,13 @@ module _ {D E : Type 0} (old mid : Core D E) (pid page : ℕ) (lives : (r : ℕ)
   read_back linked gives tables new same (inr home) = inr (home_back linked gives tables home)
 
   -- a page that lies in a slot lay there
-  pub away_back : IsPage 2 page → KeepsBare (picture_of old) (picture_of mid) → is_swapped (entry (picture_of mid) pid page) ≡ true → is_swapped (entry (picture_of old) pid page) ≡ true
+  pub away_back : IsPage (top_level m.mode) page → KeepsBare (picture_of old) (picture_of mid) → is_swapped (entry (picture_of mid) pid page) ≡ true → is_swapped (entry (picture_of old) pid page) ≡ true
   away_back h bare away = elim (whole_or (picture_of old) pid page lives) [
-    | inl whole ↦ (let P : Core D E → Type 0 = λ k. is_swapped (entry (picture_of k) pid page) ≡ true in subst P (idle whole) away)
+    | inl whole ↦ (let P : Core D E M m → Type 0 = λ k. is_swapped (entry (picture_of k) pid page) ≡ true in subst P (idle whole) away)
     | inr lacks ↦ absurd (false≢true (sym zero_here ∙ sym (ap is_swapped (bare pid page h (lacks_none (picture_of old) pid page lacks))) ∙ away))
   ]
 
-  pub ready_back : (new : Picture) (a : Attr) (access : Access) (r : Result FrameNo Stall) → (picture_of old).at pid page ≡ Some a
+  pub ready_back : (new : Picture m.mode) (a : Attr) (access : Access) (r : Result FrameNo Stall) → (picture_of old).at pid page ≡ Some a
       → IfOk r (λ n. IsReadyAt (picture_of mid) new pid page a access n.0) → IfOk r (λ n. IsReadyAt (picture_of old) new pid page a access n.0)
   ready_back new a access r was ready =
       let P : FrameNo → Type 0 = λ n. IsReadyAt (picture_of mid) new pid page a access n.0 in
@@ -117,7 +120,7 @@ module _ {D E : Type 0} (old mid : Core D E) (pid page : ℕ) (lives : (r : ℕ)
       ok_then P Q r (λ n. ready_after (picture_of old) (picture_of mid) new pid page a access n.0 was (pages.at pid page ∙ was) (keeps_seen (picture_of old) (picture_of mid) pages)) ready
 
   module _ (g : Ghosts D) (h : Ghosts E) (moves : Moves h old mid) where
-    pub brings_back : (new : Core D E) → BringsFiles g h (ShowsFile (picture_of mid) pid page) mid new → BringsFiles g h (ShowsFile (picture_of old) pid page) old new
+    pub brings_back : (new : Core D E M m) → BringsFiles g h (ShowsFile (picture_of mid) pid page) mid new → BringsFiles g h (ShowsFile (picture_of old) pid page) old new
     brings_back new brings kept =
         let W = ShowsFile (picture_of mid) pid page in
         let V = ShowsFile (picture_of old) pid page in
@@ -125,7 +128,7 @@ module _ {D E : Type 0} (old mid : Core D E) (pid page : ℕ) (lives : (r : ℕ)
         subst P moves.store
         (brings_after g mid.store.disk new.store.disk W V (picture_of old) (picture_of mid) (picture_of new) shows_before pages.files (brings kept))
 
-    one_stalled : IsWhole (picture_of mid) pid page → GivesForTables (picture_of old) (picture_of mid) None → LinksTables (picture_of old) (picture_of mid) pid page → (new : Core D E) (access : Access) (stall : Stall) → mid.refused.number ≡ old.refused.number → h.failures mid.swap.pages.disk ≡ h.failures old.swap.pages.disk
+    one_stalled : IsWhole (picture_of mid) pid page → GivesForTables (picture_of old) (picture_of mid) None → LinksTables (picture_of old) (picture_of mid) pid page → (new : Core D E M m) (access : Access) (stall : Stall) → mid.refused.number ≡ old.refused.number → h.failures mid.swap.pages.disk ≡ h.failures old.swap.pages.disk
         → IsStalled g h mid new pid page access stall → IsStalled g h old new pid page access stall
     one_stalled linked gives tables new access stall same swap_calm stalled = record {
       keeps = seen_then (picture_of old) (picture_of mid) (picture_of new) (keeps_seen (picture_of old) (picture_of mid) pages) stalled.keeps;
@@ -135,7 +138,7 @@ module _ {D E : Type 0} (old mid : Core D E) (pid page : ℕ) (lives : (r : ℕ)
       home = λ device. home_back linked gives tables (stalled.home device);
     }
 
-    pub stalled_back : IsWhole (picture_of mid) pid page → GivesForTables (picture_of old) (picture_of mid) None → LinksTables (picture_of old) (picture_of mid) pid page → (new : Core D E) (access : Access) (r : Result FrameNo Stall) → mid.refused.number ≡ old.refused.number → h.failures mid.swap.pages.disk ≡ h.failures old.swap.pages.disk
+    pub stalled_back : IsWhole (picture_of mid) pid page → GivesForTables (picture_of old) (picture_of mid) None → LinksTables (picture_of old) (picture_of mid) pid page → (new : Core D E M m) (access : Access) (r : Result FrameNo Stall) → mid.refused.number ≡ old.refused.number → h.failures mid.swap.pages.disk ≡ h.failures old.swap.pages.disk
         → IfErr r (IsStalled g h mid new pid page access) → IfErr r (IsStalled g h old new pid page access)
     stalled_back linked gives tables new access r same swap_calm stalled =
         stall_then (IsStalled g h mid new pid page access) (IsStalled g h old new pid page access) r (λ s. one_stalled linked gives tables new access s same swap_calm) stalled

@@ -62,6 +62,6 @@ opens_store e prot n private over readable =
     }
 
 -- a page that may be written may be read
-pub reads_too : (c : Picture) (pid page : ℕ) (a : Attr) → IsFit c → c.at pid page ≡ Some a → Permission.can_write a.prot ≡ true → Permission.can_read a.prot ≡ true
+pub reads_too : {mode : ℕ} (c : Picture mode) (pid page : ℕ) (a : Attr) → IsFit c → c.at pid page ≡ Some a → Permission.can_write a.prot ≡ true → Permission.can_read a.prot ≡ true
 reads_too c pid page a fit mapped =
     let P : Option Attr → Type 0 = λ o. IfSome o (λ attr. ReadsToo attr.prot) in subst P mapped (fit.granting.readable pid page)

@@ -1,4 +1,5 @@
 -- A page that a store is to reach got a frame of its own.
+use Rattle.vm_types.specs.declared.mode.Levels as Levels
 use Rattle.std.proofs.Common.{◌≡◌, ℕ, true, false, Some, Result, Ok, Err, refl}
 use Rattle.std.specs.Prelude.{IfOk, IfErr, OnErr}
 use Rattle.vm_types.specs.declared.access.Access.TheVariants.{Store}
@@ -25,7 +26,7 @@ use Rattle.page_faults.proofs.Settled.{entered_store, entered_ready, ready_own, 
 use Rattle.page_faults.proofs.Steps.{ok_from, no_store}
 use Rattle.page_faults.proofs.Wanted.{sole_there}
 
-module _ (old new : Picture) (pid page : ℕ) (a : Attr) (sound : IsSound old.frames) (fit : IsFit new) (sound' : IsSound new.frames) (now : new.at pid page ≡ Some a)
+module _ {mode : ℕ} (old new : Picture mode) (pid page : ℕ) (a : Attr) (sound : IsSound old.frames) (fit : IsFit new) (sound' : IsSound new.frames) (now : new.at pid page ≡ Some a)
     (alone : is_shared a.backing ≡ false) (writable : can_write a.prot ≡ true) (here : is_swapped (entry old pid page) ≡ false)
     (memory : is_private (entry old pid page) ≡ false → (m : ℕ) × IsBehind old a.backing m)
     (stays : (m : ℕ) → is_private (entry old pid page) ≡ false → IsBehind old a.backing m → IsBehind new a.backing m × (bytes_of new.frames m ≡ bytes_of old.frames m))
@@ -52,7 +53,7 @@ module _ (old new : Picture) (pid page : ℕ) (a : Attr) (sound : IsSound old.fr
       let Q : FrameNo → Type 0 = λ n. IsEntered new pid page a Store n.0 in
       ok_from P R Q r (λ n b o. entered_store new pid page a n.0 true (reads_too new pid page a fit now writable) o (entered_ready Store old new pid page a n.0 (one_ready n b o))) bytes over
 
-module _ {D E : Type 0} (old new : Core D E) (pid page : ℕ) (a : Attr) (was : (picture_of old).at pid page ≡ Some a) (alone : is_shared a.backing ≡ false) where
+module _ {M : Type 0} {m : Levels.Ghosts M} {D E : Type 0} (old new : Core D E M m) (pid page : ℕ) (a : Attr) (was : (picture_of old).at pid page ≡ Some a) (alone : is_shared a.backing ≡ false) where
   -- where no frame is wanted the page has its own
   pub owned_calm : (is_sole (picture_of old) (entry (picture_of old) pid page) ≡ true → IsCalm old new pid page) → (Wants (picture_of old) pid page Store → ⊥) → IsCalm old new pid page
   owned_calm calm none = calm (sole_there (picture_of old) pid page a was alone none)

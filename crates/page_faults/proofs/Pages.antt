@@ -1,5 +1,7 @@
 -- Pages of files and objects behind mapped pages.
-use Rattle.std.proofs.Common.{◌≡◌, ◌≢◌, ℕ, ◌*◌, ◌^◌, ◌<◌, ◌≤◌, true, false, Option, Some, None, refl, sym, ap, ◌∙◌, subst, arith, eq-eqb}
+use Rattle.vm_types.specs.Limits.{widest_end}
+use Rattle.vm_types.proofs.Modes.{sizes}
+use Rattle.std.proofs.Common.{◌≡◌, ◌≢◌, ℕ, ◌*◌, ◌<◌, ◌≤◌, true, false, Option, Some, None, refl, sym, ap, ◌∙◌, subst, arith, eq-eqb}
 use Rattle.std.specs.Prelude.{nat_le}
 use Rattle.std.proofs.lemmas.Bool.{false≢true}
 use Rattle.std.proofs.lemmas.Bool.Decides.{nat_tests}
@@ -38,7 +40,7 @@ names_itself : (p : ObjectPage) (b : Backing) → b ≡ Common p → is_object_p
 names_itself p b is = ap (λ x. is_object_page x p.object p.page) is ∙ rw (eq-eqb p.object p.object refl, eq-eqb p.page p.page refl) refl
 
 -- what stands behind a mapped page that isn't past the end of its file can be brought in
-page_for : (c : Picture) (pid page : ℕ) (a : Attr) (b : Backing) (p : PageKey) → pid < 65 → page < 2 ^ 26 → c.at pid page ≡ Some a → a.backing ≡ b → stands_on b ≡ Some p
+page_for : {mode : ℕ} (c : Picture mode) (pid page : ℕ) (a : Attr) (b : Backing) (p : PageKey) → pid < 65 → page < widest_end → c.at pid page ≡ Some a → a.backing ≡ b → stands_on b ≡ Some p
     → is_past_end c.files b ≡ false → IsPageFor c p
 page_for c pid page a Anon p low high mapped backed is inside = let bad : None ≡ Some p = is in (cc)
 page_for c pid page a (Private q) p low high mapped backed is inside =
@@ -53,10 +55,11 @@ page_for c pid page a (Common q) p low high mapped backed is inside =
 low_number : (pid : ℕ) → pid ≤ 64 → pid < 65
 low_number pid low = omega (arith, low)
 
-pub page_inside : (c : Picture) (pid page : ℕ) (a : Attr) (p : PageKey) → IsLinked c pid page → c.at pid page ≡ Some a → stands_on a.backing ≡ Some p → is_past_end c.files a.backing ≡ false → IsPageFor c p
-page_inside c pid page a p linked mapped is inside =
+pub page_inside : {mode : ℕ} (c : Picture mode) (pid page : ℕ) (a : Attr) (p : PageKey) → IsLinked c pid page → c.at pid page ≡ Some a → stands_on a.backing ≡ Some p → is_past_end c.files a.backing ≡ false → IsPageFor c p
+page_inside {mode = mode} c pid page a p linked mapped is inside =
     let root = some_root (c.root pid) linked.lives in
-    page_for c pid page a a.backing p (low_number pid (linked.fit.rooted.numbers pid root.0 root.1).1) (page_user c pid page a linked.fit mapped).1 mapped refl is inside
+    let high = (page_user c pid page a linked.fit mapped).1 in
+    page_for c pid page a a.backing p (low_number pid (linked.fit.rooted.numbers pid root.0 root.1).1) (omega (arith, high, (sizes mode).most)) mapped refl is inside
   where
     some_root : (o : Option ℕ) → o ≢ None → (r : ℕ) × (o ≡ Some r)
     some_root None lives = absurd (lives refl)

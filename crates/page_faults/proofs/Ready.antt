@@ -1,4 +1,5 @@
 -- What the frame of a page holds where the page's entry names one, and what an access may do with it.
+use Rattle.vm_types.specs.Limits.{top_level}
 use Rattle.std.proofs.Common.{◌≡◌, ◌≢◌, ℕ, inl, inr, ◌⊎◌, true, false, Option, Some, None, List, refl, sym, ap, ◌∙◌, subst}
 use Rattle.std.proofs.lemmas.Bool.{cases_Bool, false≢true}
 use Rattle.std.specs.Prelude.{option_map}
@@ -45,11 +46,11 @@ pub own_in-none : (t : FrameTable) (s : SlotTable) (e : ℕ) → seat e ≡ None
 own_in-none t s e none = ap (option_map (bytes_in t s)) none
 
 -- what a mapped page is to its process
-pub view-mapped : (c : Picture) (pid page : ℕ) (a : Attr) → c.at pid page ≡ Some a → view c pid page ≡ Some (seen_at c pid page a)
+pub view-mapped : {mode : ℕ} (c : Picture mode) (pid page : ℕ) (a : Attr) → c.at pid page ≡ Some a → view c pid page ≡ Some (seen_at c pid page a)
 unfolding view
 view-mapped c pid page a mapped = ap (view_of (own_in c.frames c.slots (entry c pid page))) mapped
 
-behind_shown : (c : Picture) (b : Backing) (n : ℕ) → IsSound c.frames → IsBehind c b n → AreBehind c b (bytes_of c.frames n)
+behind_shown : {mode : ℕ} (c : Picture mode) (b : Backing) (n : ℕ) → IsSound c.frames → IsBehind c b n → AreBehind c b (bytes_of c.frames n)
 behind_shown c Anon n sound behind = ap (bytes_of c.frames) behind ∙ sound.zero_page ∙ zero_same
 behind_shown c (Private p) n sound behind = (record { 0 = n }, behind, refl)
 behind_shown c (Shared p) n sound behind = (record { 0 = n }, behind, refl)
@@ -59,13 +60,13 @@ pub same_key : (p q : PageKey) → Some p ≡ Some q → p ≡ q
 same_key p q e = cc
 
 -- what stands behind a page lies in the frame that is behind it
-behind_place : (c : Picture) (b : Backing) (p : PageKey) (n : ℕ) → stands_on b ≡ Some p → IsBehind c b n → c.place p ≡ Frame (record { 0 = n })
+behind_place : {mode : ℕ} (c : Picture mode) (b : Backing) (p : PageKey) (n : ℕ) → stands_on b ≡ Some p → IsBehind c b n → c.place p ≡ Frame (record { 0 = n })
 behind_place c Anon p n is at = (let bad : None ≡ Some p = is in (cc))
 behind_place c (Private q) p n is at = ap c.place (sym (same_key (File q) p is)) ∙ at
 behind_place c (Shared q) p n is at = ap c.place (sym (same_key (File q) p is)) ∙ at
 behind_place c (Common q) p n is at = ap c.place (sym (same_key (Object q) p is)) ∙ at
 
-module _ (c : Picture) (pid page : ℕ) (a : Attr) (fit : IsFit c) (sound : IsSound c.frames) (h : IsPage 2 page) (mapped : c.at pid page ≡ Some a)
+module _ {mode : ℕ} (c : Picture mode) (pid page : ℕ) (a : Attr) (fit : IsFit c) (sound : IsSound c.frames) (h : IsPage (top_level mode) page) (mapped : c.at pid page ≡ Some a)
     (some : entry c pid page ≢ 0) (here : is_swapped (entry c pid page) ≡ false) where
   pub resident : IsResident c a (entry c pid page)
   resident = resident_page c pid page a fit.granting h mapped some here
@@ -116,7 +117,7 @@ module _ (c : Picture) (pid page : ℕ) (a : Attr) (fit : IsFit c) (sound : IsSo
   view-own own = view-mapped c pid page a mapped ∙ ap (λ o. Some (record { attr = a; own = o })) (own_in-private c.frames c.slots (entry c pid page) own)
 
 -- a page that may be read, in memory as it is left
-pub reads : (old new : Picture) (pid page : ℕ) (a : Attr) (fit : IsFit new) (sound : IsSound new.frames) (h : IsPage 2 page) (mapped : new.at pid page ≡ Some a)
+pub reads : {mode : ℕ} (old new : Picture mode) (pid page : ℕ) (a : Attr) (fit : IsFit new) (sound : IsSound new.frames) (h : IsPage (top_level mode) page) (mapped : new.at pid page ≡ Some a)
     (some : entry new pid page ≢ 0) (here : is_swapped (entry new pid page) ≡ false) (keeps : KeepsSeen old new)
     → Reads old new (seen_at new pid page a) (frame_of (entry new pid page))
 reads old new pid page a fit sound h mapped some here keeps = record {
@@ -126,7 +127,7 @@ reads old new pid page a fit sound h mapped some here keeps = record {
 }
 
 -- a shared page that may be written
-pub touches : (old new : Picture) (pid page : ℕ) (a : Attr) (p : PageKey) (fit : IsFit new) (sound : IsSound new.frames) (h : IsPage 2 page) (mapped : new.at pid page ≡ Some a)
+pub touches : {mode : ℕ} (old new : Picture mode) (pid page : ℕ) (a : Attr) (p : PageKey) (fit : IsFit new) (sound : IsSound new.frames) (h : IsPage (top_level mode) page) (mapped : new.at pid page ≡ Some a)
     (valid : is_valid (entry new pid page) ≡ true) → is_dirty (entry new pid page) ≡ true → is_shared a.backing ≡ true → stands_on a.backing ≡ Some p
     → ((q k : ℕ) → view new q k ≡ view old q k) → ((q : PageKey) → q ≢ p → new.touched q ≡ old.touched q)
     → MarksTouchedIn old new p (frame_of (entry new pid page))
@@ -144,7 +145,7 @@ touches old new pid page a p fit sound h mapped valid dirty shared is views othe
     }
 
 -- a page of the process's own that may be written
-pub owns : (old new : Picture) (pid page : ℕ) (a : Attr) (own : Option (List ℕ)) (fit : IsFit new) (sound : IsSound new.frames) (h : IsPage 2 page) (mapped : new.at pid page ≡ Some a)
+pub owns : {mode : ℕ} (old new : Picture mode) (pid page : ℕ) (a : Attr) (own : Option (List ℕ)) (fit : IsFit new) (sound : IsSound new.frames) (h : IsPage (top_level mode) page) (mapped : new.at pid page ≡ Some a)
     (valid : is_valid (entry new pid page) ≡ true) → can_write (entry new pid page) ≡ true → is_shared a.backing ≡ false
     → AreShown new (record { attr = a; own = own }) (bytes_of new.frames (frame_of (entry new pid page)))
     → ((q k : ℕ) → (q ≢ pid) ⊎ (k ≢ page) → view new q k ≡ view old q k) → ((q : PageKey) → new.touched q ≡ old.touched q)

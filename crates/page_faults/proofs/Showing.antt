@@ -31,19 +31,21 @@ use Rattle.page_faults.specs.Outcome.{Owns, MarksTouchedIn}
 use Rattle.page_faults.proofs.Storing.{view_own, views_others, held_own, views_file, held_else, held_written}
 
 -- the processes and the files of a state, without what each process sees and what is touched
-pub record ShowsFiles (c : Picture) (s : State) : Type 0 where
-  pub live : (pid : ℕ) → s.live pid ≡ is_live c pid
-  pub files : (f : ℕ) → s.files f ≡ c.files f
-  pub objects : (p : ObjectPage) (bytes : List ℕ) → held c (Object p) ≡ Some bytes → or_zeros (s.objects p.object p.page) ≡ bytes
-  pub stored : (p : ObjectPage) (bytes : List ℕ) → s.objects p.object p.page ≡ Some bytes → held c (Object p) ≡ Some bytes
-  pub held : (p : FilePage) (bytes : List ℕ) → held c (File p) ≡ Some bytes → s.volatile p.file p.page ≡ bytes
-  pub clean : (p : FilePage) → s.touched p.file p.page ≡ false → IsPageOf c.files p.file p.page → s.volatile p.file p.page ≡ s.durable p.file p.page
+module _ {mode : ℕ} where
+  pub record ShowsFiles (c : Picture mode) (s : State) : Type 0 where
+    pub live : (pid : ℕ) → s.live pid ≡ is_live c pid
+    pub files : (f : ℕ) → s.files f ≡ c.files f
+    pub objects : (p : ObjectPage) (bytes : List ℕ) → held c (Object p) ≡ Some bytes → or_zeros (s.objects p.object p.page) ≡ bytes
+    pub stored : (p : ObjectPage) (bytes : List ℕ) → s.objects p.object p.page ≡ Some bytes → held c (Object p) ≡ Some bytes
+    pub held : (p : FilePage) (bytes : List ℕ) → held c (File p) ≡ Some bytes → s.volatile p.file p.page ≡ bytes
+    pub clean : (p : FilePage) → s.touched p.file p.page ≡ false → IsPageOf c.files p.file p.page → s.volatile p.file p.page ≡ s.durable p.file p.page
 
--- what is at home is as it is durable
-abbrev pub IsHomeDurable : {D : Type 0} → Ghosts D → D → Picture → State → Type 0
-IsHomeDurable g disk c s = (p : FilePage) → IsPageOf c.files p.file p.page → standing_page (g.content disk) p.file p.page ≡ s.durable p.file p.page
+module _ {mode : ℕ} where
+  -- what is at home is as it is durable
+  abbrev pub IsHomeDurable : {D : Type 0} → Ghosts D → D → Picture mode → State → Type 0
+  IsHomeDurable g disk c s = (p : FilePage) → IsPageOf c.files p.file p.page → standing_page (g.content disk) p.file p.page ≡ s.durable p.file p.page
 
-page_of_same : (old new : Picture) (p : FilePage) → ((f : ℕ) → new.files f ≡ old.files f) → IsPageOf new.files p.file p.page → IsPageOf old.files p.file p.page
+page_of_same : {mode : ℕ} (old new : Picture mode) (p : FilePage) → ((f : ℕ) → new.files f ≡ old.files f) → IsPageOf new.files p.file p.page → IsPageOf old.files p.file p.page
 page_of_same old new p files inside = (inside.0, sym (files p.file) ∙ inside.1, inside.2)
 
 one_file : (p q : FilePage) → File p ≡ File q → p ≡ q
@@ -61,15 +63,15 @@ no_file o p e = (cc)
 one_list : (v w : List ℕ) → Some v ≡ Some w → v ≡ w
 one_list v w same = (cc)
 
-held_away : (c : Picture) (p : PageKey) (bytes : List ℕ) → held c p ≡ Some bytes → c.place p ≢ Home
+held_away : {mode : ℕ} (c : Picture mode) (p : PageKey) (bytes : List ℕ) → held c p ≡ Some bytes → c.place p ≢ Home
 unfolding held
 held_away c p bytes is home = let bad : None ≡ Some bytes = sym (ap (bytes_at c.frames c.slots) home) ∙ is in (cc)
 
 -- what a page of an object has that was stored to
-stored_at : (c : Picture) (s : State) → ShowsPages c s → (p : ObjectPage) → c.touched (Object p) ≡ true → s.objects p.object p.page ≡ held c (Object p)
+stored_at : {mode : ℕ} (c : Picture mode) (s : State) → ShowsPages c s → (p : ObjectPage) → c.touched (Object p) ≡ true → s.objects p.object p.page ≡ held c (Object p)
 stored_at c s shows p touched = (let at : object_bytes c p ≡ held c (Object p) = rw touched refl in shows.objects p ∙ at)
 
-module _ {D : Type 0} (g : Ghosts D) (before after : D) (W : PageKey → Type 0) (old new : Picture) (s : State) (fit : IsFit new) (brings : BringsPages g before after W old new)
+module _ {mode : ℕ} {D : Type 0} (g : Ghosts D) (before after : D) (W : PageKey → Type 0) (old new : Picture mode) (s : State) (fit : IsFit new) (brings : BringsPages g before after W old new)
     (spaces : KeepsSpaces old new) (kept : g.keeps_model after) (homes : IsHomeDurable g before old s) where
   held_now : ShowsPages old s → (p : FilePage) (bytes : List ℕ) → held new (File p) ≡ Some bytes → IsBrought g before after W old new (File p) → s.volatile p.file p.page ≡ bytes
   held_now shows p bytes is (Stays same) = shows.held p bytes (sym same ∙ is)
@@ -133,26 +135,27 @@ module _ {D : Type 0} (g : Ghosts D) (before after : D) (W : PageKey → Type 0)
         ];
         blank = λ p bytes untouched is. sym (files.objects p bytes is) ∙ ap or_zeros (none_stored shows p (sym (keeps.touched (Object p)) ∙ untouched));
         held = files.held;
+        same_mode = shows.same_mode;
         clean = λ p untouched. files.clean p (shows.touched p ∙ sym (keeps.touched (File p)) ∙ untouched);
       }
 
-held_in : (c : Picture) (p : PageKey) (n : ℕ) → c.place p ≡ Frame (record { 0 = n }) → held c p ≡ Some (bytes_of c.frames n)
+held_in : {mode : ℕ} (c : Picture mode) (p : PageKey) (n : ℕ) → c.place p ≡ Frame (record { 0 = n }) → held c p ≡ Some (bytes_of c.frames n)
 unfolding held
 held_in c p n at = ap (bytes_at c.frames c.slots) at
 
-behind_shown : (c : Picture) (s : State) (b : Backing) (bytes : List ℕ) → ShowsFiles c s → AreBehind c b bytes → bytes ≡ behind s b
+behind_shown : {mode : ℕ} (c : Picture mode) (s : State) (b : Backing) (bytes : List ℕ) → ShowsFiles c s → AreBehind c b bytes → bytes ≡ behind s b
 behind_shown c s Anon bytes shows is = is
 behind_shown c s (Private p) bytes shows is = is.2 ∙ sym (shows.held p (bytes_of c.frames is.0.0) (held_in c (File p) is.0.0 is.1))
 behind_shown c s (Shared p) bytes shows is = is.2 ∙ sym (shows.held p (bytes_of c.frames is.0.0) (held_in c (File p) is.0.0 is.1))
 behind_shown c s (Common p) bytes shows is = is.2 ∙ sym (shows.objects p (bytes_of c.frames is.0.0) (held_in c (Object p) is.0.0 is.1))
 
-own_shown : (c : Picture) (s : State) (b : Backing) (own : Option (List ℕ)) (bytes : List ℕ) → ShowsFiles c s → AreOwnOrBehind c b own bytes
+own_shown : {mode : ℕ} (c : Picture mode) (s : State) (b : Backing) (own : Option (List ℕ)) (bytes : List ℕ) → ShowsFiles c s → AreOwnOrBehind c b own bytes
     → bytes ≡ copy_or_behind s b own
 own_shown c s b (Some copy) bytes shows is = is
 own_shown c s b None bytes shows is = behind_shown c s b bytes shows is
 
 -- the bytes that a page shows are those of the state
-pub bytes_shown : (c : Picture) (s : State) (v : View) (bytes : List ℕ) → ShowsFiles c s → AreShown c v bytes → bytes ≡ shown s v
+pub bytes_shown : {mode : ℕ} (c : Picture mode) (s : State) (v : View) (bytes : List ℕ) → ShowsFiles c s → AreShown c v bytes → bytes ≡ shown s v
 bytes_shown c s v bytes shows is = own_shown c s v.attr.backing v.own bytes shows is
 
 same_test : (q p : FilePage) → q ≡ p → (q.file == p.file && q.page == p.page) ≡ true
@@ -209,7 +212,7 @@ some_at t k Home away = absurd (away refl)
 some_at t k (Frame n) away = (bytes_of t n.0, refl)
 some_at t k (Slot n) away = (k.bytes n.0, refl)
 
-some_held : (c : Picture) (p : PageKey) → c.place p ≢ Home → (bytes : List ℕ) × (held c p ≡ Some bytes)
+some_held : {mode : ℕ} (c : Picture mode) (p : PageKey) → c.place p ≢ Home → (bytes : List ℕ) × (held c p ≡ Some bytes)
 unfolding held
 some_held c p away = some_at c.frames c.slots (c.place p) away
 
@@ -231,7 +234,7 @@ state_own s pid page v w (Shared p) shared = (cc)
 state_own s pid page v w (Common p) shared = (cc)
 
 -- A store to a page of the process's own: old is before the access, mid after it, and new has the bytes written.
-module _ (old mid new : Picture) (s : State) (pid page n : ℕ) (v : View) (w : List ℕ) (fit : IsFit mid) (frames : new.frames ≡ Frames.with_bytes mid.frames n w)
+module _ {mode : ℕ} (old mid new : Picture mode) (s : State) (pid page n : ℕ) (v : View) (w : List ℕ) (fit : IsFit mid) (frames : new.frames ≡ Frames.with_bytes mid.frames n w)
     (beside : SameBeside mid new) (was : IsFit old) (shows : ShowsPages old s) (files : ShowsFiles mid s) where
   -- a page of an object that isn't written keeps its bytes
   object_else : (o : ObjectPage) → mid.touched (Object o) ≡ old.touched (Object o) → ((bytes : List ℕ) → held mid (Object o) ≡ Some bytes → held new (Object o) ≡ Some bytes)
@@ -267,6 +270,7 @@ module _ (old mid new : Picture) (s : State) (pid page n : ℕ) (v : View) (w : 
         objects = λ o. object_else o (owns.touched (Object o)) (λ bytes is. held_own mid new n w fit owns.held frames beside pid page owns.sole (Object o) ∙ is);
         blank = λ o bytes untouched is. blank_else o bytes (owns.touched (Object o)) untouched (sym (held_own mid new n w fit owns.held frames beside pid page owns.sole (Object o)) ∙ is);
         held = λ p bytes is. files.held p bytes (sym (held_own mid new n w fit owns.held frames beside pid page owns.sole (File p)) ∙ is);
+        same_mode = shows.same_mode;
         clean = λ p untouched inside. files.clean p (touched p ∙ untouched) (page_of_same mid new p beside.files inside);
       })
 
@@ -292,6 +296,7 @@ module _ (old mid new : Picture) (s : State) (pid page n : ℕ) (v : View) (w : 
           | inr ne ↦ rw (other_test q p ne)
               (files.held q bytes (sym (held_else mid new n w fit marks.held frames beside (File p) marks.place (File q) (other q ne)) ∙ there))
         ];
+        same_mode = shows.same_mode;
         clean = λ q untouched inside. elim (cases_file q p) [
           | inl is ↦ (let bad : true ≡ false = sym marks.touched ∙ ap (λ x. mid.touched (File x)) (sym is) ∙ sym (beside.touched (File q)) ∙ untouched in (cc))
           | inr ne ↦ rw (other_test q p ne)
@@ -323,5 +328,6 @@ module _ (old mid new : Picture) (s : State) (pid page n : ℕ) (v : View) (w : 
               (sym (held_else mid new n w fit marks.held frames beside (Object p) marks.place (Object o) (other o ne)) ∙ is)
         ];
         held = λ q bytes there. files.held q bytes (sym (held_else mid new n w fit marks.held frames beside (Object p) marks.place (File q) (file q)) ∙ there);
+        same_mode = shows.same_mode;
         clean = λ q untouched inside. files.clean q (touched q ∙ untouched) (page_of_same mid new q beside.files inside);
       }

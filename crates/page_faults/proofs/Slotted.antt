@@ -1,4 +1,5 @@
 -- What lies in a slot stays there, from step to step of an access, but for what the page shows.
+use Rattle.vm_types.specs.declared.mode.Levels as Levels
 use Rattle.std.proofs.Common.{◌≡◌, ◌≢◌, ℕ, inl, inr, ◌⊎◌, refl, sym, ap, ◌∙◌, subst}
 use Rattle.std.proofs.lemmas.Bool.{cases_eq}
 use Rattle.vm_types.specs.declared.object.PageKey.{PageKey}
@@ -11,11 +12,11 @@ use Rattle.page_faults.proofs.Steps.{keeps_seen}
 use Rattle.page_faults.proofs.Wanted.{shows_back}
 
 -- nothing changed
-pub slotted_same : (files : PageKey → Type 0) (own : ℕ → ℕ → Type 0) (c : Picture) → KeepsSlotted files own c c
+pub slotted_same : {mode : ℕ} (files : PageKey → Type 0) (own : ℕ → ℕ → Type 0) (c : Picture mode) → KeepsSlotted files own c c
 slotted_same files own c = record { file_pages = λ p k at. inr at; copies = λ q p h away. inr refl }
 
 -- more may come back
-slotted_wider : (few more : PageKey → Type 0) (own others : ℕ → ℕ → Type 0) (old new : Picture) → ((p : PageKey) → few p → more p) → ((q p : ℕ) → own q p → others q p)
+slotted_wider : {mode : ℕ} (few more : PageKey → Type 0) (own others : ℕ → ℕ → Type 0) (old new : Picture mode) → ((p : PageKey) → few p → more p) → ((q p : ℕ) → own q p → others q p)
     → KeepsSlotted few own old new → KeepsSlotted more others old new
 slotted_wider few more own others old new files copies slotted = record {
   file_pages = λ p k at. elim (slotted.file_pages p k at) [
@@ -29,7 +30,7 @@ slotted_wider few more own others old new files copies slotted = record {
 }
 
 -- two steps
-slotted_then : (files : PageKey → Type 0) (own : ℕ → ℕ → Type 0) (a b c : Picture) → KeepsSlotted files own a b → KeepsSlotted files own b c → KeepsSlotted files own a c
+slotted_then : {mode : ℕ} (files : PageKey → Type 0) (own : ℕ → ℕ → Type 0) (a b c : Picture mode) → KeepsSlotted files own a b → KeepsSlotted files own b c → KeepsSlotted files own a c
 slotted_then files own a b c first second = record {
   file_pages = λ p k at. elim (first.file_pages p k at) [
     | inl came ↦ inl came
@@ -54,7 +55,7 @@ that_or_other pid page q p = elim (cases_eq q pid) [
 ]
 
 -- one page's entry changed
-pub slotted_calm : {D E : Type 0} (files : PageKey → Type 0) (old new : Core D E) (pid page : ℕ) → IsCalm old new pid page → KeepsSlotted files (IsThatPage pid page) (picture_of old) (picture_of new)
+pub slotted_calm : {M : Type 0} {m : Levels.Ghosts M} → {D E : Type 0} (files : PageKey → Type 0) (old new : Core D E M m) (pid page : ℕ) → IsCalm old new pid page → KeepsSlotted files (IsThatPage pid page) (picture_of old) (picture_of new)
 slotted_calm files old new pid page calm = record {
   file_pages = λ p k at. inr (calm.place p ∙ at);
   copies = λ q p h away. elim (that_or_other pid page q p) [
@@ -63,7 +64,7 @@ slotted_calm files old new pid page calm = record {
   ];
 }
 
-module _ (old mid : Picture) (pid page : ℕ) where
+module _ {mode : ℕ} (old mid : Picture mode) (pid page : ℕ) where
   -- no file page came back
   pub slotted_own : KeepsSlotted (λ p. ⊥) (IsThatPage pid page) old mid → KeepsSlotted (ShowsFile old pid page) (IsThatPage pid page) old mid
   slotted_own slotted =
@@ -81,7 +82,7 @@ module _ (old mid : Picture) (pid page : ℕ) where
       slotted_wider (λ p. p ≡ shown) (ShowsFile old pid page) (λ q p. ⊥) (IsThatPage pid page) old mid
       (λ p is. (let P : PageKey → Type 0 = λ x. ShowsFile old pid page x in subst P (sym is) shows)) (λ q p none. absurd none) slotted
 
-  module _ (new : Picture) where
+  module _ (new : Picture mode) where
     -- and then the page's entry was made, or its own copy
     pub slotted_on : (shown : PageKey) → ShowsFile old pid page shown → KeepsSlotted (λ p. p ≡ shown) (λ q p. ⊥) old mid → KeepsSlotted (λ p. ⊥) (IsThatPage pid page) mid new
         → KeepsSlotted (ShowsFile old pid page) (IsThatPage pid page) old new

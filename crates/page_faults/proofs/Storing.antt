@@ -1,4 +1,5 @@
 -- Bytes written to the frame that the access of a store was given.
+use Rattle.vm_types.specs.Limits.{top_level}
 use Rattle.std.proofs.Common.{◌≡◌, ◌≢◌, ℕ, inl, inr, ◌⊎◌, true, List, Option, Some, None, sym, ap, ◌∙◌, subst, arith}
 use Rattle.vm_types.specs.declared.object.PageKey.{PageKey}
 use Rattle.vm_types.specs.declared.region.Attr.{Attr}
@@ -28,7 +29,7 @@ attr_in own None v is = let bad : None ≡ Some v = is in (cc)
 attr_in own (Some a) v is = ap (λ x. Some x.attr) (one_view (record { attr = a; own = own }) v is)
 
 -- what is seen is mapped
-pub view-attr : (c : Picture) (pid page : ℕ) (v : View) → view c pid page ≡ Some v → c.at pid page ≡ Some v.attr
+pub view-attr : {mode : ℕ} (c : Picture mode) (pid page : ℕ) (v : View) → view c pid page ≡ Some v → c.at pid page ≡ Some v.attr
 unfolding view
 view-attr c pid page v is = attr_in (own_in c.frames c.slots (entry c pid page)) (c.at pid page) v is
 
@@ -42,7 +43,7 @@ sits : (o : Option Seat) (x : Seat) → o ≡ Some x → is_seat o x ≡ true
 sits o x is = ap (λ y. is_seat y x) is ∙ seat-same x
 
 -- a frame of one process alone is named at one page by it alone
-sole_page : (c : Picture) (pid page n q k : ℕ) → IsFit c → IsSoleOwner c pid page n → IsPage 2 k → seat (entry c q k) ≡ Some (InFrame n) → (q ≡ pid) × (k ≡ page)
+sole_page : {mode : ℕ} (c : Picture mode) (pid page n q k : ℕ) → IsFit c → IsSoleOwner c pid page n → IsPage (top_level mode) k → seat (entry c q k) ≡ Some (InFrame n) → (q ≡ pid) × (k ≡ page)
 unfolding holders_at
 sole_page c pid page n q k fit sole h there =
     let counted = fit.counted.1 in
@@ -61,7 +62,7 @@ sole_page c pid page n q k fit sole h there =
       same,
     )
 
-module _ (old new : Picture) (n : ℕ) (w : List ℕ) (fit : IsFit old) (held_there : IsHeld old.frames n) (frames : new.frames ≡ with_bytes old.frames n w)
+module _ {mode : ℕ} (old new : Picture mode) (n : ℕ) (w : List ℕ) (fit : IsFit old) (held_there : IsHeld old.frames n) (frames : new.frames ≡ with_bytes old.frames n w)
     (beside : SameBeside old new) where
   pub bytes_there : bytes_of new.frames n ≡ w
   bytes_there = ap (λ t. bytes_of t n) frames ∙ with_bytes-same old.frames n w held_there.inside
@@ -83,7 +84,7 @@ module _ (old new : Picture) (n : ℕ) (w : List ℕ) (fit : IsFit old) (held_th
     seat_bytes (InFrame m) ne = other_bytes m (λ e. ne (ap (λ x. InFrame x) e))
     seat_bytes (InSlot k) ne = ap (λ t. t.bytes k) beside.slots
 
-    same_view : (q k : ℕ) → (IsPage 2 k → (z : Seat) → seat (entry old q k) ≡ Some z → z ≢ InFrame n) → view new q k ≡ view old q k
+    same_view : (q k : ℕ) → (IsPage (top_level mode) k → (z : Seat) → seat (entry old q k) ≡ Some z → z ≢ InFrame n) → view new q k ≡ view old q k
     same_view q k ne = each_view old new fit.granting beside.at q k
         (λ h. view_seated old new q k (beside.at q k) (ap seat (same_entries q k)) (λ z is. seat_bytes z (ne h z is)))
 

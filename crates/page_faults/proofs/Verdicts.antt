@@ -1,5 +1,7 @@
 -- An entry that grants an access gives its place, and the walk finds no other.
-use Rattle.std.proofs.Common.{◌≡◌, ℕ, inl, inr, ◌+◌, ◌*◌, ◌/◌, ◌%◌, ◌^◌, ◌<◌, ◌≤◌, true, false, Option, Some, None, Ok, refl, sym, ap, ◌∙◌, subst, arith, eq-eqb}
+use Rattle.vm_types.specs.Limits.{user_end, top_level}
+use Rattle.vm_types.proofs.Modes.{user_pages_fit}
+use Rattle.std.proofs.Common.{◌≡◌, ℕ, inl, inr, ◌+◌, ◌*◌, ◌/◌, ◌%◌, ◌<◌, ◌≤◌, true, false, Option, Some, None, Ok, refl, sym, ap, ◌∙◌, subst, arith, eq-eqb}
 use Rattle.std.specs.Prelude.{IsSome, is_some, ◌⊎◌}
 use Rattle.std.proofs.lemmas.Bool.{false≢true}
 use Rattle.vm_types.specs.declared.access.Access.{Access}
@@ -35,19 +37,20 @@ use Rattle.page_faults.proofs.Walks.{translated-entry}
 use Rattle.page_faults.proofs.Ready.{valid_zero, valid_some, valid_here, resident, shown_there, view-mapped, reads, touches, owns}
 
 -- user pages alone are mapped
-pub page_user : (c : Picture) (pid page : ℕ) (a : Attr) → IsFit c → c.at pid page ≡ Some a → (16 ≤ page) × (page < 2 ^ 26)
+pub page_user : {mode : ℕ} (c : Picture mode) (pid page : ℕ) (a : Attr) → IsFit c → c.at pid page ≡ Some a → (16 ≤ page) × (page < user_end mode)
 page_user c pid page a fit mapped =
     (fit.granting.user pid).user_pages page (let P : Option Attr → Type 0 = λ x. IsSome x in subst P (sym mapped) refl)
 
-pub page_small : (page : ℕ) → page < 2 ^ 26 → IsPage 2 page
-page_small page h = omega arith
+page_small : (mode page : ℕ) → page < user_end mode → IsPage (top_level mode) page
+page_small mode page h = omega (arith, h, user_pages_fit mode)
 
 -- the walk reads the entry
-walk_entry : (c : Picture) (pid root addr : ℕ) (access : Access) → IsFit c → c.root pid ≡ Some root → addr / 4096 < 2 ^ 26
-    → translated 2 c.frames root addr access ≡ answer_of (frame_count c.frames) addr access 0 (entry c pid (addr / 4096))
-walk_entry c pid root addr access fit lives user =
-    translated-entry c.frames root addr access fit.rooted.forest (fit.rooted.roots pid root lives) user
-    ∙ ap (answer_of (frame_count c.frames) addr access 0) (sym (entry-of c pid root (addr / 4096) lives))
+module _ {mode : ℕ} where
+  walk_entry : (c : Picture mode) (pid root addr : ℕ) (access : Access) → IsFit c → c.root pid ≡ Some root → addr / 4096 < user_end mode
+      → translated (top_level mode) c.frames root addr access ≡ answer_of (frame_count c.frames) addr access 0 (entry c pid (addr / 4096))
+  walk_entry c pid root addr access fit lives user =
+      translated-entry mode c.frames root addr access fit.rooted.forest (fit.rooted.roots pid root lives) user
+      ∙ ap (answer_of (frame_count c.frames) addr access 0) (sym (entry-of c pid root (addr / 4096) lives))
 
 frame_there : (n offset : ℕ) → offset < 4096 → (n * 4096 + offset) / 4096 ≡ n
 frame_there n offset h = omega arith
@@ -58,31 +61,31 @@ offset_there n offset h = omega arith
 offset_small : (addr : ℕ) → addr % 4096 < 4096
 offset_small addr = omega arith
 
-open_inside_store : (c : Picture) (pid page : ℕ) (b : Backing) (n : ℕ) → IsOpenToStore c pid page b n → n < frame_count c.frames
+open_inside_store : {mode : ℕ} (c : Picture mode) (pid page : ℕ) (b : Backing) (n : ℕ) → IsOpenToStore c pid page b n → n < frame_count c.frames
 open_inside_store c pid page Anon n is = is.0.inside
 open_inside_store c pid page (Private p) n is = is.0.inside
 open_inside_store c pid page (Shared p) n is = is.0.inside
 open_inside_store c pid page (Common p) n is = is.0.inside
 
-open_inside : (access : Access) (c : Picture) (pid page : ℕ) (b : Backing) (n : ℕ) → IsOpenFor access c pid page b n → n < frame_count c.frames
+open_inside : {mode : ℕ} (access : Access) (c : Picture mode) (pid page : ℕ) (b : Backing) (n : ℕ) → IsOpenFor access c pid page b n → n < frame_count c.frames
 open_inside Load c pid page b n is = is
 open_inside Store c pid page b n is = open_inside_store c pid page b n is
 open_inside Fetch c pid page b n is = is
 
-ready_open_store : (old new : Picture) (pid page : ℕ) (v : View) (b : Backing) (n : ℕ) → IsReadyToStore old new pid page v b n → IsOpenToStore new pid page b n
+ready_open_store : {mode : ℕ} (old new : Picture mode) (pid page : ℕ) (v : View) (b : Backing) (n : ℕ) → IsReadyToStore old new pid page v b n → IsOpenToStore new pid page b n
 ready_open_store old new pid page v Anon n ready = (ready.held, ready.sole)
 ready_open_store old new pid page v (Private p) n ready = (ready.held, ready.sole)
 ready_open_store old new pid page v (Shared p) n ready = (ready.held, ready.place, ready.touched)
 ready_open_store old new pid page v (Common p) n ready = (ready.held, ready.place, ready.touched)
 
 -- a frame that is ready may be used
-pub ready_open : (access : Access) (old new : Picture) (pid page : ℕ) (v : View) (n : ℕ) → IsReadyFor access old new pid page v n → IsOpenFor access new pid page v.attr.backing n
+pub ready_open : {mode : ℕ} (access : Access) (old new : Picture mode) (pid page : ℕ) (v : View) (n : ℕ) → IsReadyFor access old new pid page v n → IsOpenFor access new pid page v.attr.backing n
 ready_open Load old new pid page v n ready = ready.inside
 ready_open Store old new pid page v n ready = ready_open_store old new pid page v v.attr.backing n ready
 ready_open Fetch old new pid page v n ready = ready.inside
 
 -- the page's entry was made to grant the access
-pub placed_made : (old new : Picture) (pid root addr : ℕ) (width : Width) (access : Access) (a : Attr) (n : ℕ) → IsFit new → new.root pid ≡ Some root → addr / 4096 < 2 ^ 26
+pub placed_made : {mode : ℕ} (old new : Picture mode) (pid root addr : ℕ) (width : Width) (access : Access) (a : Attr) (n : ℕ) → IsFit new → new.root pid ≡ Some root → addr / 4096 < user_end mode
     → verdict_of old pid addr width access ≡ Fine (seen_at old pid (addr / 4096) a)
     → IsEntered new pid (addr / 4096) a access n → IsPlaced old new pid addr width access (record { 0 = n * 4096 + addr % 4096 })
 placed_made old new pid root addr width access a n fit lives user fine entered =
@@ -100,7 +103,7 @@ placed_made old new pid root addr width access a n fit lives user fine entered =
       usable = subst P (sym (frame_there n (addr % 4096) (offset_small addr))) entered.usable;
     }
 
-pub grants_made : (old new : Picture) (pid addr : ℕ) (width : Width) (access : Access) (a : Attr) (n : ℕ)
+pub grants_made : {mode : ℕ} (old new : Picture mode) (pid addr : ℕ) (width : Width) (access : Access) (a : Attr) (n : ℕ)
     → verdict_of old pid addr width access ≡ Fine (seen_at old pid (addr / 4096) a)
     → IsReadyAt old new pid (addr / 4096) a access n → Grants old new pid addr width access (record { 0 = n * 4096 + addr % 4096 })
 grants_made old new pid addr width access a n fine ready =
@@ -112,7 +115,7 @@ grants_made old new pid addr width access a n fine ready =
     }
 
 -- what the tests of an access find
-pub verdict-none : (c : Picture) (pid page : ℕ) (access : Access) → c.at pid page ≡ None → page_verdict c.files (view c pid page) access ≡ Faults SegvMaperr
+pub verdict-none : {mode : ℕ} (c : Picture mode) (pid page : ℕ) (access : Access) → c.at pid page ≡ None → page_verdict c.files (view c pid page) access ≡ Faults SegvMaperr
 verdict-none c pid page access none = ap (λ o. page_verdict c.files o access) (view-none c pid page none)
 
 page_verdict-denied : (files : Files) (v : View) (access : Access) → lets access v.attr.prot ≡ false → page_verdict files (Some v) access ≡ Faults SegvAccerr
@@ -126,7 +129,7 @@ page_verdict-fine : (files : Files) (v : View) (access : Access) → lets access
     → page_verdict files (Some v) access ≡ Fine v
 page_verdict-fine files v access allowed inside = rw (allowed, inside) refl
 
-module _ (c : Picture) (pid page : ℕ) (access : Access) (a : Attr) (mapped : c.at pid page ≡ Some a) where
+module _ {mode : ℕ} (c : Picture mode) (pid page : ℕ) (access : Access) (a : Attr) (mapped : c.at pid page ≡ Some a) where
   pub verdict-denied : lets access a.prot ≡ false → page_verdict c.files (view c pid page) access ≡ Faults SegvAccerr
   verdict-denied denied =
       ap (λ o. page_verdict c.files o access) (view-mapped c pid page a mapped)
@@ -144,12 +147,12 @@ module _ (c : Picture) (pid page : ℕ) (access : Access) (a : Attr) (mapped : c
       ∙ page_verdict-fine c.files (seen_at c pid page a) access allowed inside
 
 -- of an aligned address the page decides
-pub verdict-aligned : (c : Picture) (pid addr : ℕ) (width : Width) (access : Access) → addr % byte_count width ≡ 0
+pub verdict-aligned : {mode : ℕ} (c : Picture mode) (pid addr : ℕ) (width : Width) (access : Access) → addr % byte_count width ≡ 0
     → verdict_of c pid addr width access ≡ page_verdict c.files (view c pid (addr / 4096)) access
 verdict-aligned c pid addr width access aligned = rw (eq-eqb (addr % byte_count width) 0 aligned) refl
 
 -- a leaf lets an access be done only where the region does
-leaf_lets : (c : Picture) (a : Attr) (access : Access) (e : ℕ) → IsLeafFor c a e → grants access e ≡ true → lets access a.prot ≡ true
+leaf_lets : {mode : ℕ} (c : Picture mode) (a : Attr) (access : Access) (e : ℕ) → IsLeafFor c a e → grants access e ≡ true → lets access a.prot ≡ true
 leaf_lets c a Load e leaf granted = leaf.within.reads granted
 leaf_lets c a Store e leaf granted = leaf.within.writes granted
 leaf_lets c a Fetch e leaf granted = leaf.within.executes granted
@@ -166,18 +169,18 @@ none_some : (a : Attr) → None ≡ Some a → ⊥
 none_some a e = (cc)
 
 -- a page that isn't mapped has no leaf
-nothing_in : (c : Picture) (o : Option Attr) (e : ℕ) → o ≡ None → is_valid e ≡ true → IsEntryFor c o e → ⊥
+nothing_in : {mode : ℕ} (c : Picture mode) (o : Option Attr) (e : ℕ) → o ≡ None → is_valid e ≡ true → IsEntryFor c o e → ⊥
 nothing_in c o e none valid (Nothing zero_now) = false≢true (sym valid_zero ∙ sym (ap is_valid zero_now) ∙ valid)
 nothing_in c o e none valid (Resident a at lies) = none_some a (sym none ∙ at)
 nothing_in c o e none valid (Away a at lies) = none_some a (sym none ∙ at)
 
-nothing_valid : (c : Picture) (pid page : ℕ) → IsFit c → IsPage 2 page → c.at pid page ≡ None → is_valid (entry c pid page) ≡ true → ⊥
+nothing_valid : {mode : ℕ} (c : Picture mode) (pid page : ℕ) → IsFit c → IsPage (top_level mode) page → c.at pid page ≡ None → is_valid (entry c pid page) ≡ true → ⊥
 nothing_valid c pid page fit h none valid = nothing_in c (c.at pid page) (entry c pid page) none valid (fit.granting.entries pid page h)
 
-keeps_all : (c : Picture) → KeepsSeen c c
+keeps_all : {mode : ℕ} (c : Picture mode) → KeepsSeen c c
 keeps_all c = record { views = λ q k. refl; touched = λ p. refl }
 
-module _ (c : Picture) (pid page : ℕ) (a : Attr) (fit : IsFit c) (sound : IsSound c.frames) (h : IsPage 2 page) (mapped : c.at pid page ≡ Some a) where
+module _ {mode : ℕ} (c : Picture mode) (pid page : ℕ) (a : Attr) (fit : IsFit c) (sound : IsSound c.frames) (h : IsPage (top_level mode) page) (mapped : c.at pid page ≡ Some a) where
   shown_at : Opens Store (entry c pid page) → AreShown c (seen_at c pid page a) (bytes_of c.frames (frame_of (entry c pid page)))
   shown_at opens = shown_there c pid page a fit sound h mapped (valid_some (entry c pid page) opens.valid) (valid_here (entry c pid page) opens.valid)
 
@@ -202,41 +205,42 @@ module _ (c : Picture) (pid page : ℕ) (a : Attr) (fit : IsFit c) (sound : IsSo
       reads c c pid page a fit sound h mapped (valid_some (entry c pid page) opens.valid) (valid_here (entry c pid page) opens.valid) (keeps_all c)
 
 -- the walk answered a place
-pub grants_found : (c : Picture) (pid root addr : ℕ) (width : Width) (access : Access) (phys : Phys) → IsFit c → IsSound c.frames → c.root pid ≡ Some root
-    → addr / 4096 < 2 ^ 26 → addr % byte_count width ≡ 0 → translated 2 c.frames root addr access ≡ Ok phys
-    → IsPlaced c c pid addr width access phys × Grants c c pid addr width access phys
-grants_found c pid root addr width access phys fit sound lives user aligned walked =
-    let page = addr / 4096 in
-    let h = page_small page user in
-    let places : Places (frame_count c.frames) addr access (entry c pid page) phys =
-    answer-places (frame_count c.frames) addr access (entry c pid page) phys (sym (walk_entry c pid root addr access fit lives user) ∙ walked) in
-    let number : phys.0 / 4096 ≡ frame_of (entry c pid page) =
-    ap (λ x. x / 4096) places.place ∙ frame_there (frame_of (entry c pid page)) (addr % 4096) (offset_small addr) in
-    elim (cases_mapped (c.at pid page)) [
-      | inl none ↦ absurd (nothing_valid c pid page fit h none places.opens.valid)
-      | inr some ↦ (
-          let a = some.0 in
-          let resides = resident c pid page a fit sound h some.1 (valid_some (entry c pid page) places.opens.valid) (valid_here (entry c pid page) places.opens.valid) in
-          let allowed = leaf_lets c a access (entry c pid page) (resides.leaf places.opens.valid) places.opens.grants in
-          let fine = verdict-aligned c pid addr width access aligned ∙ verdict-fine c pid page access a some.1 allowed resides.inside in
-          let P : ℕ → Type 0 = λ x. IsReadyFor access c c pid page (seen_at c pid page a) x in
-          let Q : ℕ → Type 0 = λ x. IsOpenFor access c pid page a.backing x in
-          let ready = ready_there c pid page a fit sound h some.1 access places.opens in (
-            record {
-              seen = seen_at c pid page a;
-              fine = fine;
-              root = root;
-              lives = lives;
-              place = walked;
-              offset = ap (λ x. x % 4096) places.place ∙ offset_there (frame_of (entry c pid page)) (addr % 4096) (offset_small addr);
-              usable = subst Q (sym number) (ready_open access c c pid page (seen_at c pid page a) (frame_of (entry c pid page)) ready);
-            },
-            record { seen = seen_at c pid page a; fine = fine; ready = subst P (sym number) ready },
-          ))
-    ]
+module _ {mode : ℕ} where
+  pub grants_found : (c : Picture mode) (pid root addr : ℕ) (width : Width) (access : Access) (phys : Phys) → IsFit c → IsSound c.frames → c.root pid ≡ Some root
+      → addr / 4096 < user_end mode → addr % byte_count width ≡ 0 → translated (top_level mode) c.frames root addr access ≡ Ok phys
+      → IsPlaced c c pid addr width access phys × Grants c c pid addr width access phys
+  grants_found c pid root addr width access phys fit sound lives user aligned walked =
+      let page = addr / 4096 in
+      let h = page_small mode page user in
+      let places : Places (frame_count c.frames) addr access (entry c pid page) phys =
+      answer-places (frame_count c.frames) addr access (entry c pid page) phys (sym (walk_entry c pid root addr access fit lives user) ∙ walked) in
+      let number : phys.0 / 4096 ≡ frame_of (entry c pid page) =
+      ap (λ x. x / 4096) places.place ∙ frame_there (frame_of (entry c pid page)) (addr % 4096) (offset_small addr) in
+      elim (cases_mapped (c.at pid page)) [
+        | inl none ↦ absurd (nothing_valid c pid page fit h none places.opens.valid)
+        | inr some ↦ (
+            let a = some.0 in
+            let resides = resident c pid page a fit sound h some.1 (valid_some (entry c pid page) places.opens.valid) (valid_here (entry c pid page) places.opens.valid) in
+            let allowed = leaf_lets c a access (entry c pid page) (resides.leaf places.opens.valid) places.opens.grants in
+            let fine = verdict-aligned c pid addr width access aligned ∙ verdict-fine c pid page access a some.1 allowed resides.inside in
+            let P : ℕ → Type 0 = λ x. IsReadyFor access c c pid page (seen_at c pid page a) x in
+            let Q : ℕ → Type 0 = λ x. IsOpenFor access c pid page a.backing x in
+            let ready = ready_there c pid page a fit sound h some.1 access places.opens in (
+              record {
+                seen = seen_at c pid page a;
+                fine = fine;
+                root = root;
+                lives = lives;
+                place = walked;
+                offset = ap (λ x. x % 4096) places.place ∙ offset_there (frame_of (entry c pid page)) (addr % 4096) (offset_small addr);
+                usable = subst Q (sym number) (ready_open access c c pid page (seen_at c pid page a) (frame_of (entry c pid page)) ready);
+              },
+              record { seen = seen_at c pid page a; fine = fine; ready = subst P (sym number) ready },
+            ))
+      ]
 
 -- what is known of a page by region and file says what the access finds
-pub finds_judged : (c : Picture) (pid addr : ℕ) (width : Width) (access : Access) (page : ℕ) (found : Finding) → page ≡ addr / 4096 → addr % byte_count width ≡ 0
+pub finds_judged : {mode : ℕ} (c : Picture mode) (pid addr : ℕ) (width : Width) (access : Access) (page : ℕ) (found : Finding) → page ≡ addr / 4096 → addr % byte_count width ≡ 0
     → IsUnwalked c pid addr access → Judges c pid page access found → Finds c pid addr width access found
 finds_judged c pid addr width access page (Finding.Place phys) is aligned unwalked judges = absurd judges
 finds_judged c pid addr width access page (Finding.Page found attr) is aligned unwalked judges =
@@ -254,8 +258,8 @@ finds_judged c pid addr width access page (Finding.Fault code) is aligned unwalk
     verdict-aligned c pid addr width access aligned ∙ ap (λ k. page_verdict c.files (view c pid k) access) (sym is) ∙ judges
 
 -- an address of no user page
-pub verdict-outside : (c : Picture) (pid addr : ℕ) (width : Width) (access : Access) → IsFit c → addr % byte_count width ≡ 0
-    → ((16 ≤ addr / 4096) × (addr / 4096 < 2 ^ 26) → ⊥) → verdict_of c pid addr width access ≡ Faults SegvMaperr
+pub verdict-outside : {mode : ℕ} (c : Picture mode) (pid addr : ℕ) (width : Width) (access : Access) → IsFit c → addr % byte_count width ≡ 0
+    → ((16 ≤ addr / 4096) × (addr / 4096 < user_end mode) → ⊥) → verdict_of c pid addr width access ≡ Faults SegvMaperr
 verdict-outside c pid addr width access fit aligned outside =
     verdict-aligned c pid addr width access aligned
     ∙ verdict-none c pid (addr / 4096) access (none_where (c.at pid (addr / 4096)) (λ some. outside ((fit.granting.user pid).user_pages (addr / 4096) some)))
@@ -265,5 +269,5 @@ some_in None live = absurd (false≢true live)
 some_in (Some r) live = (r, refl)
 
 -- a live process has a root
-pub live_root : (c : Picture) (pid : ℕ) → is_live c pid ≡ true → (r : ℕ) × (c.root pid ≡ Some r)
+pub live_root : {mode : ℕ} (c : Picture mode) (pid : ℕ) → is_live c pid ≡ true → (r : ℕ) × (c.root pid ≡ Some r)
 live_root c pid live = some_in (c.root pid) live

@@ -1,12 +1,14 @@
 -- The walk reads what the tables of a process say of a page.
-use Rattle.std.proofs.Common.{◌≡◌, ℕ, zero, suc, inl, inr, ◌-◌, ◌/◌, ◌^◌, ◌<◌, true, false, sym, ap, ◌∙◌, arith}
+use Rattle.vm_types.specs.Limits.{user_end, top_level}
+use Rattle.std.proofs.Common.{◌≡◌, ℕ, zero, suc, inl, inr, ◌-◌, ◌/◌, ◌<◌, true, false, sym, ap, ◌∙◌, arith}
 use Rattle.std.specs.Prelude.{nat_lt, nat_le}
 use Rattle.std.proofs.lemmas.Bool.{cases_eq}
 use Rattle.std.proofs.lemmas.Bool.Decides.{nat_tests}
 use Rattle.vm_types.specs.declared.access.Access.{Access}
 use Rattle.frames.specs.FrameTable.{FrameTable, frame_count}
 use Rattle.sv39_walk.specs.Entry.{entry_at, frame_of, is_pointer}
-use Rattle.sv39_walk.specs.Walk.{index_of, is_canonical, leads_on, last_of, answer_of, translated}
+use Rattle.sv39_walk.specs.Walk.{index_of, leads_on, last_of, answer_of, translated}
+use Rattle.walk_buffer.proofs.Looks.{canonical}
 use Rattle.sv39_walk.proofs.Way.{last_of-zero, last_of-stop, last_of-next}
 use Rattle.page_tables.specs.Tree.{IsTable, IsForest, IsRoot, last_table, last_entry, missing_of, page_entry}
 use Rattle.page_tables.proofs.Ways.{last_table-zero, last_table-next, last_table-stop, cases_bool, next_table}
@@ -38,31 +40,26 @@ last_of-table t forest page (suc level) n table = elim (cases_bool (is_pointer (
       last_of-stop t page (suc level) n (omega arith) stops ∙ ap (with_entry t page) (sym (last_table-stop t page level n stop)))
 ]
 
--- an address of a user page
-low_canonical : (addr : ℕ) → addr / 4096 < 2 ^ 26 → is_canonical 2 addr ≡ true
-unfolding is_canonical
-low_canonical addr h = let high : addr / 2 ^ 38 ≡ 0 = omega arith in rw high
-
-module _ (t : FrameTable) (root addr : ℕ) (access : Access) (forest : IsForest t) (is_root : IsRoot 2 t root) (user : addr / 4096 < 2 ^ 26) where
-  answered : translated 2 t root addr access
-      ≡ answer_of (frame_count t) addr access (missing_of t 2 root (addr / 4096)) (last_entry t 2 root (addr / 4096))
+module _ (mode : ℕ) (t : FrameTable) (root addr : ℕ) (access : Access) (forest : IsForest t) (is_root : IsRoot (top_level mode) t root) (user : addr / 4096 < user_end mode) where
+  answered : translated (top_level mode) t root addr access
+      ≡ answer_of (frame_count t) addr access (missing_of t (top_level mode) root (addr / 4096)) (last_entry t (top_level mode) root (addr / 4096))
   unfolding translated
   answered =
-      let last = last_of-table t forest (addr / 4096) 2 root is_root.table in
+      let last = last_of-table t forest (addr / 4096) (top_level mode) root is_root.table in
       rw (
-        low_canonical addr user,
+        canonical mode addr user,
         outside_false root (frame_count t) is_root.table.inside,
         last,
-        missing_of-is t 2 root (addr / 4096),
-        last_entry-is t 2 root (addr / 4096),
+        missing_of-is t (top_level mode) root (addr / 4096),
+        last_entry-is t (top_level mode) root (addr / 4096),
       )
 
   -- what an access comes to is what the page's own entry says
-  pub translated-entry : translated 2 t root addr access ≡ answer_of (frame_count t) addr access 0 (page_entry t 2 root (addr / 4096))
-  translated-entry = elim (cases_eq (missing_of t 2 root (addr / 4096)) 0) [
-    | inl whole ↦ answered ∙ ap (λ m. answer_of (frame_count t) addr access m (last_entry t 2 root (addr / 4096))) whole
-        ∙ ap (answer_of (frame_count t) addr access 0) (sym (page_entry-whole t 2 root (addr / 4096) whole))
-    | inr ne ↦ answered ∙ ap (answer_of (frame_count t) addr access (missing_of t 2 root (addr / 4096))) (is_root.bare (addr / 4096) ne)
-        ∙ answer-nothing (frame_count t) addr access (missing_of t 2 root (addr / 4096))
-        ∙ sym (ap (answer_of (frame_count t) addr access 0) (page_entry-missing t 2 root (addr / 4096) ne) ∙ answer-nothing (frame_count t) addr access 0)
+  pub translated-entry : translated (top_level mode) t root addr access ≡ answer_of (frame_count t) addr access 0 (page_entry t (top_level mode) root (addr / 4096))
+  translated-entry = elim (cases_eq (missing_of t (top_level mode) root (addr / 4096)) 0) [
+    | inl whole ↦ answered ∙ ap (λ m. answer_of (frame_count t) addr access m (last_entry t (top_level mode) root (addr / 4096))) whole
+        ∙ ap (answer_of (frame_count t) addr access 0) (sym (page_entry-whole t (top_level mode) root (addr / 4096) whole))
+    | inr ne ↦ answered ∙ ap (answer_of (frame_count t) addr access (missing_of t (top_level mode) root (addr / 4096))) (is_root.bare (addr / 4096) ne)
+        ∙ answer-nothing (frame_count t) addr access (missing_of t (top_level mode) root (addr / 4096))
+        ∙ sym (ap (answer_of (frame_count t) addr access 0) (page_entry-missing t (top_level mode) root (addr / 4096) ne) ∙ answer-nothing (frame_count t) addr access 0)
   ]

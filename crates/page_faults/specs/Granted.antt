@@ -18,11 +18,13 @@ pub record Opens (access : Access) (e : ℕ) : Type 0 where
   pub dirty : is_store access ≡ true → is_dirty e ≡ true
 
 -- the page's entry grants the access to frame n, which may be used for it
-pub record IsEntered (c : Picture) (pid page : ℕ) (attr : Attr) (access : Access) (n : ℕ) : Type 0 where
-  pub opens : Opens access (entry c pid page)
-  pub frame : frame_of (entry c pid page) ≡ n
-  pub usable : IsOpenFor access c pid page attr.backing n
+module _ {mode : ℕ} where
+  pub record IsEntered (c : Picture mode) (pid page : ℕ) (attr : Attr) (access : Access) (n : ℕ) : Type 0 where
+    pub opens : Opens access (entry c pid page)
+    pub frame : frame_of (entry c pid page) ≡ n
+    pub usable : IsOpenFor access c pid page attr.backing n
 
 -- and is ready for it
-abbrev pub IsReadyAt : Picture → Picture → ℕ → ℕ → Attr → Access → ℕ → Type 0
-IsReadyAt old new pid page attr access n = IsReadyFor access old new pid page (seen_at old pid page attr) n
+module _ {mode : ℕ} where
+  abbrev pub IsReadyAt : Picture mode → Picture mode → ℕ → ℕ → Attr → Access → ℕ → Type 0
+  IsReadyAt old new pid page attr access n = IsReadyFor access old new pid page (seen_at old pid page attr) n

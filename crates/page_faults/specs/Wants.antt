@@ -20,44 +20,49 @@ use Rattle.paging.specs.Parts.{is_shared}
 use Rattle.mapping.specs.Changes.{is_sole, LinksTables}
 
 -- a table is missing on the way to a page of a process
-pub record LacksTable (c : Picture) (pid page : ℕ) : Type 0 where
-  pub root : ℕ
-  pub lives : c.root pid ≡ Some root
-  pub missing : missing_of c.frames top_level root page ≢ 0
+module _ {mode : ℕ} where
+  pub record LacksTable (c : Picture mode) (pid page : ℕ) : Type 0 where
+    pub root : ℕ
+    pub lives : c.root pid ≡ Some root
+    pub missing : missing_of c.frames (top_level mode) root page ≢ 0
 
 -- a page on that backing is of that page of a file or an object
 abbrev pub IsOfFile : Backing → PageKey → Type 0
 IsOfFile b p = stands_on b ≡ Some p
 
 -- a page of a process shows that page of a file or an object: it is mapped on it, and has no copy of its own, in a frame or in a slot
-pub record ShowsFile (c : Picture) (pid page : ℕ) (p : PageKey) : Type 0 where
-  pub attr : Attr
-  pub mapped : c.at pid page ≡ Some attr
-  pub behind : IsOfFile attr.backing p
-  pub none : seat (entry c pid page) ≡ None
+module _ {mode : ℕ} where
+  pub record ShowsFile (c : Picture mode) (pid page : ℕ) (p : PageKey) : Type 0 where
+    pub attr : Attr
+    pub mapped : c.at pid page ≡ Some attr
+    pub behind : IsOfFile attr.backing p
+    pub none : seat (entry c pid page) ≡ None
 
 -- An access to a page wants a frame: for a table on its way, for its own copy that lies in a slot, for the page of a file or an object that it
 -- shows and that lies in no frame, or for a store to a page that isn't shared and of which the process hasn't its frame alone.
-pub data Wants (c : Picture) (pid page : ℕ) (access : Access) : Type 0 where
-  ForTable : LacksTable c pid page → Wants c pid page access
-  ForSlot : is_swapped (entry c pid page) ≡ true → Wants c pid page access
-  ForFile : (p : PageKey) → ShowsFile c pid page p → ((n : FrameNo) → c.place p ≢ Frame n) → Wants c pid page access
-  ForStore : (attr : Attr) → access ≡ Store → c.at pid page ≡ Some attr → is_shared attr.backing ≡ false
-      → is_sole c (entry c pid page) ≡ false → Wants c pid page access
+module _ {mode : ℕ} where
+  pub data Wants (c : Picture mode) (pid page : ℕ) (access : Access) : Type 0 where
+    ForTable : LacksTable c pid page → Wants c pid page access
+    ForSlot : is_swapped (entry c pid page) ≡ true → Wants c pid page access
+    ForFile : (p : PageKey) → ShowsFile c pid page p → ((n : FrameNo) → c.place p ≢ Frame n) → Wants c pid page access
+    ForStore : (attr : Attr) → access ≡ Store → c.at pid page ≡ Some attr → is_shared attr.backing ≡ false
+        → is_sole c (entry c pid page) ≡ false → Wants c pid page access
 
 -- Tables are missing on a page's way, and no frame is free once they are made: those frames, the tables on this way alone, may
 -- be had by giving up one that holds the file page.
-pub record FillsMemory (c : Picture) (pid page : ℕ) : Type 0 where
-  pub lacks : LacksTable c pid page
-  pub linked : Picture
-  pub gives : GivesForTables c linked None
-  pub tables : LinksTables c linked pid page
-  pub full : IsFull linked.frames
+module _ {mode : ℕ} where
+  pub record FillsMemory (c : Picture mode) (pid page : ℕ) : Type 0 where
+    pub lacks : LacksTable c pid page
+    pub linked : Picture mode
+    pub gives : GivesForTables c linked None
+    pub tables : LinksTables c linked pid page
+    pub full : IsFull linked.frames
 
 -- The page shows a file page that nobody has touched, and that is to be read from its home: it lies there, or the frame that it
 -- lies in may be given up for the tables that are missing on the page's way.
-pub record ReadsHome (c : Picture) (pid page : ℕ) : Type 0 where
-  pub file : FilePage
-  pub shows : ShowsFile c pid page (File file)
-  pub untouched : c.touched (File file) ≡ false
-  pub home : (c.place (File file) ≡ Home) ⊎ FillsMemory c pid page
+module _ {mode : ℕ} where
+  pub record ReadsHome (c : Picture mode) (pid page : ℕ) : Type 0 where
+    pub file : FilePage
+    pub shows : ShowsFile c pid page (File file)
+    pub untouched : c.touched (File file) ≡ false
+    pub home : (c.place (File file) ≡ Home) ⊎ FillsMemory c pid page

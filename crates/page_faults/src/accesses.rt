@@ -17,7 +17,7 @@ use crate::granting::grant;
 use crate::refusal::AccessRefusal;
 use disk_model::SectorDisk;
 use paging::Core;
-use vm_types::{Access, Phys, Pid, Width};
+use vm_types::{Access, Levels, Phys, Pid, Width};
 
 /// The place in memory of an access of a live process to the address, in bytes: of its first byte, and the others follow
 /// in the same frame. A fetch is of width `Four`. The place is what the walk gives from the process's root (RISC-V Privileged
@@ -33,8 +33,8 @@ use vm_types::{Access, Phys, Pid, Width};
 /// `NoFrames` and `NoSwap` where that frame was refused, since memory or slots are short of what the processes have; `SwapDevice`
 /// where the swap device failed; `StoreDevice` where the store device failed as the file page was read from its home. Then no process
 /// and no file sees a change.
-pub fn access<D: SectorDisk, E: SectorDisk>(
-    core: &mut Core<D, E>,
+pub fn access<D: SectorDisk, E: SectorDisk, M: Levels>(
+    core: &mut Core<D, E, M>,
     pid: Pid,
     addr: u64,
     width: Width,

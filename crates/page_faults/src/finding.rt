@@ -1,5 +1,6 @@
 //! What an access finds.
-ghost use Rattle.std.specs.Prelude.{◌≡◌, true};
+ghost use Rattle.std.specs.Prelude.{◌<◌, ◌≡◌, true};
+ghost use Rattle.vm_types.specs.Limits.{user_end};
 ghost use Rattle.paging.specs.Picture.{picture_of, is_live};
 ghost use Rattle.paging.specs.Parts.{IsFit};
 ghost use Rattle.page_faults.specs.Found.{Finds, Judges};
@@ -10,7 +11,7 @@ use disk_model::SectorDisk;
 use mapped_memory::{keep, walk};
 use mapping::root_of;
 use paging::Core;
-use vm_types::{Access, Attr, Code, PAGE_BYTES, Phys, Pid, Vpn, Width};
+use vm_types::{Access, Attr, Code, Levels, PAGE_BYTES, Phys, Pid, Vpn, Width};
 
 /// Bytes of a page, as a number of addresses.
 pub(crate) const PAGE: u64 = PAGE_BYTES as u64;
@@ -30,8 +31,8 @@ pub(crate) enum Finding {
 /// regions do; else the first of these that holds is the fault (its order is our choice; sigaction(2), si_code): the address
 /// is no multiple of the width, its page isn't mapped, the permission lacks the access, the page lies past the file's end.
 /// Nothing changes but what the buffer of translations has.
-pub(crate) fn find<D: SectorDisk, E>(
-    core: &mut Core<D, E>,
+pub(crate) fn find<D: SectorDisk, E, M: Levels>(
+    core: &mut Core<D, E, M>,
     pid: Pid,
     addr: u64,
     width: Width,
@@ -45,7 +46,7 @@ pub(crate) fn find<D: SectorDisk, E>(
     if addr % u64::from(width.bytes()) != 0 {
         return Finding::Fault(Code::BusAdraln);
     }
-    let Some(page) = Vpn::new(addr / PAGE) else {
+    let Some(page) = Vpn::new::<M>(addr / PAGE) else {
         return Finding::Fault(Code::SegvMaperr);
     };
     let root = root_of(core, pid);
@@ -56,7 +57,12 @@ pub(crate) fn find<D: SectorDisk, E>(
 }
 
 /// What is known of a page by its region and its file.
-fn judge<D: SectorDisk, E>(core: &Core<D, E>, pid: Pid, page: Vpn, access: Access) -> Finding
+fn judge<D: SectorDisk, E, M: Levels>(
+    core: &Core<D, E, M>,
+    pid: Pid,
+    page: Vpn,
+    access: Access,
+) -> Finding
     requires lives { is_live (picture_of core.now) pid ≡ true }
     ensures { Judges (picture_of core.now) pid page access result }
 {
@@ -73,9 +79,15 @@ fn judge<D: SectorDisk, E>(core: &Core<D, E>, pid: Pid, page: Vpn, access: Acces
 }
 
 /// Keeps the leaf of a page that an access was just granted in the buffer of translations, for the next access to the page.
-pub(crate) fn keep_line<D, E>(core: &mut Core<D, E>, pid: Pid, page: Vpn, access: Access)
+pub(crate) fn keep_line<D, E, M: Levels>(
+    core: &mut Core<D, E, M>,
+    pid: Pid,
+    page: Vpn,
+    access: Access,
+)
     requires fit { IsFit (picture_of core.old) }
     requires lives { is_live (picture_of core.old) pid ≡ true }
+    requires user { page < user_end M.mode }
     ensures { core.new ≡ core.old }
 {
     let root = root_of(core, pid);

@@ -23,15 +23,15 @@ use mapping::{
 };
 use paging::Core;
 use sv39_walk::Pte;
-use vm_types::{Access, Attr, Backing, FilePage, FrameNo, PageKey, Pid, Stall, Vpn};
+use vm_types::{Access, Attr, Backing, FilePage, FrameNo, Levels, PageKey, Pid, Stall, Vpn};
 
 /// Makes the entry of a mapped page, which allows the access, grant it: first the tables on its way are made, then the page is
 /// brought in from where it lies by then. Returns the frame that the page lies in.
 ///
 /// # Errors
 /// As `obtain`, where a frame is wanted and none is to be had; `SwapDevice` or `StoreDevice` where that device failed.
-pub(crate) fn grant<D: SectorDisk, E: SectorDisk>(
-    core: &mut Core<D, E>,
+pub(crate) fn grant<D: SectorDisk, E: SectorDisk, M: Levels>(
+    core: &mut Core<D, E, M>,
     pid: Pid,
     page: Vpn,
     attr: Attr,
@@ -59,8 +59,8 @@ pub(crate) fn grant<D: SectorDisk, E: SectorDisk>(
 }
 
 /// Of a page on whose way no table is missing.
-fn grant_linked<D: SectorDisk, E: SectorDisk>(
-    core: &mut Core<D, E>,
+fn grant_linked<D: SectorDisk, E: SectorDisk, M: Levels>(
+    core: &mut Core<D, E, M>,
     pid: Pid,
     page: Vpn,
     attr: Attr,
@@ -92,8 +92,8 @@ fn grant_linked<D: SectorDisk, E: SectorDisk>(
 }
 
 /// Makes the entry of a page that doesn't lie in a slot grant loads or fetches, as its permission has them.
-fn grant_read<D: SectorDisk, E: SectorDisk>(
-    core: &mut Core<D, E>,
+fn grant_read<D: SectorDisk, E: SectorDisk, M: Levels>(
+    core: &mut Core<D, E, M>,
     pid: Pid,
     page: Vpn,
     attr: Attr,
@@ -135,8 +135,8 @@ fn grant_read<D: SectorDisk, E: SectorDisk>(
 }
 
 /// Makes the entry of a page that doesn't lie in a slot grant stores.
-fn grant_store<D: SectorDisk, E: SectorDisk>(
-    core: &mut Core<D, E>,
+fn grant_store<D: SectorDisk, E: SectorDisk, M: Levels>(
+    core: &mut Core<D, E, M>,
     pid: Pid,
     page: Vpn,
     attr: Attr,
@@ -176,8 +176,8 @@ fn grant_store<D: SectorDisk, E: SectorDisk>(
 }
 
 /// Of a page that lies in a frame of its own, or behind which there are zeros.
-fn grant_own<D: SectorDisk, E: SectorDisk>(
-    core: &mut Core<D, E>,
+fn grant_own<D: SectorDisk, E: SectorDisk, M: Levels>(
+    core: &mut Core<D, E, M>,
     pid: Pid,
     page: Vpn,
     attr: Attr,
@@ -204,8 +204,8 @@ fn grant_own<D: SectorDisk, E: SectorDisk>(
 }
 
 /// Of a private page of a file that has no copy of its own.
-fn grant_copy<D: SectorDisk, E: SectorDisk>(
-    core: &mut Core<D, E>,
+fn grant_copy<D: SectorDisk, E: SectorDisk, M: Levels>(
+    core: &mut Core<D, E, M>,
     pid: Pid,
     page: Vpn,
     attr: Attr,
@@ -233,8 +233,8 @@ fn grant_copy<D: SectorDisk, E: SectorDisk>(
 }
 
 /// Of a shared page of a file or an object.
-fn grant_shared<D: SectorDisk, E: SectorDisk>(
-    core: &mut Core<D, E>,
+fn grant_shared<D: SectorDisk, E: SectorDisk, M: Levels>(
+    core: &mut Core<D, E, M>,
     pid: Pid,
     page: Vpn,
     attr: Attr,

@@ -1,4 +1,6 @@
 -- Pages without entries.
+use Rattle.vm_types.specs.declared.mode.Levels as Levels
+use Rattle.vm_types.specs.Limits.{top_level}
 use Rattle.std.proofs.Common.{◌≡◌, ◌≢◌, ℕ, suc, inl, inr, ◌⊎◌, ◌+◌, ◌<◌, ◌≤◌, true, Option, Some, None, get_or, refl, sym, ap, ◌∙◌, arith}
 use Rattle.std.proofs.lemmas.Bool.{cases_lt, false≢true}
 use Rattle.std.specs.Prelude.{◌↔◌}
@@ -25,7 +27,7 @@ use Rattle.page_ranges.proofs.Returning.{same_but-refl}
 use Rattle.page_ranges.proofs.Sharing.{fit_emptied, owned_emptied}
 
 -- another memory beside the same regions and places
-pub same_beside : (c : Picture) (t : FrameTable) → SameBeside c (record c { frames = t })
+pub same_beside : {mode : ℕ} (c : Picture mode) (t : FrameTable) → SameBeside c (record c { frames = t })
 same_beside c t = record {
   slots = refl;
   root = λ q. refl;
@@ -36,7 +38,7 @@ same_beside c t = record {
   files = λ f. refl;
 }
 
-pub but_memory : (a b : Picture) → SameBeside a b → SameButMemory a b
+pub but_memory : {mode : ℕ} (a b : Picture mode) → SameBeside a b → SameButMemory a b
 but_memory a b beside = record {
   root = beside.root;
   at = beside.at;
@@ -46,7 +48,7 @@ but_memory a b beside = record {
   files = beside.files;
 }
 
-pub but_then : (a b c : Picture) → SameButMemory a b → SameButMemory b c → SameButMemory a c
+pub but_then : {mode : ℕ} (a b c : Picture mode) → SameButMemory a b → SameButMemory b c → SameButMemory a c
 but_then a b c one two = record {
   root = λ q. two.root q ∙ one.root q;
   at = λ q page. two.at q page ∙ one.at q page;
@@ -56,10 +58,10 @@ but_then a b c one two = record {
   files = λ f. two.files f ∙ one.files f;
 }
 
-pub rest-refl : {D E : Type 0} (c : Core D E) → KeepsBesideMemory c c
+pub rest-refl : {M : Type 0} {m : Levels.Ghosts M} → {D E : Type 0} (c : Core D E M m) → KeepsBesideMemory c c
 rest-refl c = record { store = refl; pages = refl; cache = refl; roots = refl; regions = refl; page_of = refl }
 
-pub rest_then : {D E : Type 0} (a b c : Core D E) → KeepsBesideMemory a b → KeepsBesideMemory b c → KeepsBesideMemory a c
+pub rest_then : {M : Type 0} {m : Levels.Ghosts M} → {D E : Type 0} (a b c : Core D E M m) → KeepsBesideMemory a b → KeepsBesideMemory b c → KeepsBesideMemory a c
 rest_then a b c one two = record {
   store = two.store ∙ one.store;
   pages = two.pages ∙ one.pages;
@@ -78,30 +80,31 @@ tables_then a b c one two = record {
   pointers = λ n i m. (λ p. (two.pointers n i m).0 ((one.pointers n i m).0 p), λ p. (one.pointers n i m).1 ((two.pointers n i m).1 p));
 }
 
-pub returned-refl : (c : Picture) (pid : ℕ) → ReturnsTables c c pid
+pub returned-refl : {mode : ℕ} (c : Picture mode) (pid : ℕ) → ReturnsTables c c pid
 returned-refl c pid = record { tables = λ n table. inl table; free = λ n e. e; copies = λ n e. e; pointers = λ n i m p. p }
 
-pub returned_then : (a b c : Picture) (pid : ℕ) → SameButMemory a b → ReturnsTables a b pid → ReturnsTables b c pid → ReturnsTables a c pid
-returned_then a b c pid beside one two = record {
-  tables = λ n table. elim (one.tables n table) [
-    | inr gone ↦ inr (two.free n gone.0, gone.1)
-    | inl still ↦ elim (two.tables n still) [
-      | inl now ↦ inl now
-      | inr gone ↦ (
-          let below = gone.1.3 in
-          let root : a.root pid ≡ Some gone.1.0 = sym (beside.root pid) ∙ gone.1.2 in
-          let way = way_forth b.frames a.frames one.pointers 2 gone.1.0 gone.1.1 (suc below.0) n below.2 in
-          inr (gone.0, (gone.1.0, gone.1.1, root, (below.0, below.1, way))))
-    ]
-  ];
-  free = λ n e. two.free n (one.free n e);
-  copies = λ n e. one.copies n (two.copies n e);
-  pointers = λ n i m p. one.pointers n i m (two.pointers n i m p);
-}
+module _ {mode : ℕ} where
+  pub returned_then : (a b c : Picture mode) (pid : ℕ) → SameButMemory a b → ReturnsTables a b pid → ReturnsTables b c pid → ReturnsTables a c pid
+  returned_then a b c pid beside one two = record {
+    tables = λ n table. elim (one.tables n table) [
+      | inr gone ↦ inr (two.free n gone.0, gone.1)
+      | inl still ↦ elim (two.tables n still) [
+        | inl now ↦ inl now
+        | inr gone ↦ (
+            let below = gone.1.3 in
+            let root : a.root pid ≡ Some gone.1.0 = sym (beside.root pid) ∙ gone.1.2 in
+            let way = way_forth b.frames a.frames one.pointers (top_level mode) gone.1.0 gone.1.1 (suc below.0) n below.2 in
+            inr (gone.0, (gone.1.0, gone.1.1, root, (below.0, below.1, way))))
+      ]
+    ];
+    free = λ n e. two.free n (one.free n e);
+    copies = λ n e. one.copies n (two.copies n e);
+    pointers = λ n i m p. one.pointers n i m (two.pointers n i m p);
+  }
 
 -- no own copy in a slot
-pub slots_none : (old new : Picture) (pid low high : ℕ) → new.slots ≡ old.slots
-    → ((page : ℕ) → IsPage 2 page → low ≤ page → page < high → entry old pid page ≡ 0) → ReturnsSlots old new pid low high
+pub slots_none : {mode : ℕ} (old new : Picture mode) (pid low high : ℕ) → new.slots ≡ old.slots
+    → ((page : ℕ) → IsPage (top_level mode) page → low ≤ page → page < high → entry old pid page ≡ 0) → ReturnsSlots old new pid low high
 slots_none old new pid low high same none = record {
   total = ap (λ t. t.total) same;
   fewer = λ k. (let e = ap (λ t. t.count k) same in omega (arith, e));
@@ -111,7 +114,7 @@ slots_none old new pid low high same none = record {
 }
 
 -- pages that had no entries
-pub clears_none : (c : Picture) (pid low high : ℕ) → ((page : ℕ) → IsPage 2 page → low ≤ page → page < high → entry c pid page ≡ 0) → Clears c c pid low high
+pub clears_none : {mode : ℕ} (c : Picture mode) (pid low high : ℕ) → ((page : ℕ) → IsPage (top_level mode) page → low ≤ page → page < high → entry c pid page ≡ 0) → Clears c c pid low high
 clears_none c pid low high none = record {
   beside = same_but-refl c;
   returned = returned-refl c pid;
@@ -133,11 +136,11 @@ out_back pid low mid high q page le (inr (inl below)) = inr (inl (omega (arith, 
 out_back pid low mid high q page le (inr (inr above)) = inr (inr above)
 
 -- a process has a slot at one page at most
-pub one_page : (c : Picture) (pid k p q : ℕ) → IsFit c → IsPage 2 p → IsPage 2 q → seat (entry c pid p) ≡ Some (InSlot k) → seat (entry c pid q) ≡ Some (InSlot k) → p ≡ q
+pub one_page : {mode : ℕ} (c : Picture mode) (pid k p q : ℕ) → IsFit c → IsPage (top_level mode) p → IsPage (top_level mode) q → seat (entry c pid p) ≡ Some (InSlot k) → seat (entry c pid q) ≡ Some (InSlot k) → p ≡ q
 one_page c pid k p q fit hp hq here there = sym (fit.counted.1.noted pid p (InSlot k) hp here) ∙ fit.counted.1.noted pid q (InSlot k) hq there
 
-slots_then : (a b c : Picture) (pid low mid high : ℕ) → IsFit a → low ≤ mid → mid ≤ high
-    → ((page : ℕ) → IsPage 2 page → mid ≤ page → page < high → entry b pid page ≡ entry a pid page)
+slots_then : {mode : ℕ} (a b c : Picture mode) (pid low mid high : ℕ) → IsFit a → low ≤ mid → mid ≤ high
+    → ((page : ℕ) → IsPage (top_level mode) page → mid ≤ page → page < high → entry b pid page ≡ entry a pid page)
     → ReturnsSlots a b pid low mid → ReturnsSlots b c pid mid high → ReturnsSlots a c pid low high
 slots_then a b c pid low mid high fit le le' same one two = record {
   total = two.total ∙ one.total;
@@ -162,7 +165,7 @@ slots_then a b c pid low mid high fit le le' same one two = record {
 }
 
 -- one row after the other
-pub clears_then : (a b c : Picture) (pid low mid high : ℕ) → IsFit a → low ≤ mid → mid ≤ high → Clears a b pid low mid → Clears b c pid mid high → Clears a c pid low high
+pub clears_then : {mode : ℕ} (a b c : Picture mode) (pid low mid high : ℕ) → IsFit a → low ≤ mid → mid ≤ high → Clears a b pid low mid → Clears b c pid mid high → Clears a c pid low high
 clears_then a b c pid low mid high fit le le' one two = record {
   beside = but_then a b c one.beside two.beside;
   returned = returned_then a b c pid one.beside one.returned two.returned;
@@ -192,16 +195,16 @@ table_kept old new n kept =
     )
 
 -- the entry of a page was taken out
-module _ (old mid : Picture) (pid r page : ℕ) (fit : IsFit old) (root : old.root pid ≡ Some r) (h : IsPage 2 page)
-    (sets : SetsEntry old.frames mid.frames 2 r page 0) (beside : SameBeside old mid) where
+module _ {mode : ℕ} (old mid : Picture mode) (pid r page : ℕ) (fit : IsFit old) (root : old.root pid ≡ Some r) (h : IsPage (top_level mode) page)
+    (sets : SetsEntry old.frames mid.frames (top_level mode) r page 0) (beside : SameBeside old mid) where
   page_out : SetsPage old mid pid page 0
   page_out = sets_page old mid 0 pid r page 0 fit.rooted root h sets beside
 
   rooted_out : IsRootedBut mid 0
   rooted_out = rooted_set old mid 0 r page 0 fit.rooted sets beside
 
-  places_out : (row n : ℕ) → IsTableOf old.frames r row n → IsTableOf mid.frames r row n
-  places_out row n = row_stays old.frames mid.frames r page 0 sets r row n (fit.rooted.roots pid r root)
+  places_out : (row n : ℕ) → IsTableOf old.frames (top_level mode) r row n → IsTableOf mid.frames (top_level mode) r row n
+  places_out row n = row_stays old.frames mid.frames (top_level mode) r page 0 sets r row n (fit.rooted.roots pid r root)
 
   tables_out : SameTables old.frames mid.frames
   tables_out = record { tables = λ n. table_kept old.frames mid.frames n sets.kept; pointers = sets.pointers }
@@ -217,11 +220,11 @@ module _ (old mid : Picture) (pid r page : ℕ) (fit : IsFit old) (root : old.ro
   lacks_out = lacks_seat (seat (entry old pid page)) refl
 
   -- and the share of what it named was given back
-  module _ (new : Picture) (gives : ReturnsSeat mid new (seat (entry old pid page))) where
+  module _ (new : Picture mode) (gives : ReturnsSeat mid new (seat (entry old pid page))) where
     pub tables_page : SameTables old.frames new.frames
     tables_page = tables_then old.frames mid.frames new.frames tables_out gives.tables
 
-    pub places_page : (row n : ℕ) → IsTableOf old.frames r row n → IsTableOf new.frames r row n
+    pub places_page : (row n : ℕ) → IsTableOf old.frames (top_level mode) r row n → IsTableOf new.frames (top_level mode) r row n
     places_page row n here = gives.rows pid r row n (beside.root pid ∙ root) (places_out row n here)
 
     role_out : (n : ℕ) → role_of mid.frames n ≡ role_of old.frames n

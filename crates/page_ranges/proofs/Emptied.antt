@@ -1,5 +1,7 @@
 -- Rows without entries: what the processes see.
-use Rattle.std.proofs.Common.{◌≡◌, ℕ, inl, inr, ◌⊎◌, ◌+◌, ◌<◌, ◌≤◌, ◌^◌, true, false, List, Option, Some, None, refl, sym, ap, ◌∙◌, arith}
+use Rattle.vm_types.specs.Limits.{user_end, top_level}
+use Rattle.vm_types.proofs.Modes.{sizes, user_pages_fit}
+use Rattle.std.proofs.Common.{◌≡◌, ℕ, inl, inr, ◌⊎◌, ◌+◌, ◌<◌, ◌≤◌, true, false, List, Option, Some, None, refl, sym, ap, ◌∙◌, arith}
 use Rattle.std.specs.Prelude.{leb, ltb, is_some, option_map}
 use Rattle.std.proofs.lemmas.Bool.{cases_lt, cases_Bool, and_parts, and_cases, leb-true, leb-false, ltb-true, ltb-false}
 use Rattle.vm_types.specs.declared.region.Attr.{Attr}
@@ -18,12 +20,12 @@ view_plain own None none = refl
 view_plain own (Some a) none = ap (λ w. Some (record { attr = a; own = w })) none
 
 -- a page without an entry has no own copy
-pub view-bare : (c : Picture) (pid page : ℕ) → entry c pid page ≡ 0 → view c pid page ≡ option_map plain (c.at pid page)
+pub view-bare : {mode : ℕ} (c : Picture mode) (pid page : ℕ) → entry c pid page ≡ 0 → view c pid page ≡ option_map plain (c.at pid page)
 unfolding view
 view-bare c pid page none =
     view_plain (own_in c.frames c.slots (entry c pid page)) (c.at pid page) (ap (λ o. option_map (bytes_in c.frames c.slots) o) (ap seat none ∙ seat-none))
 
-pub unmapped_zero : (c : Picture) (o : Option Attr) (e : ℕ) → IsEntryFor c o e → o ≡ None → e ≡ 0
+pub unmapped_zero : {mode : ℕ} (c : Picture mode) (o : Option Attr) (e : ℕ) → IsEntryFor c o e → o ≡ None → e ≡ 0
 unmapped_zero c o e (Nothing none) gone = none
 unmapped_zero c o e (Resident a is resident) gone = let bad : None ≡ Some a = sym gone ∙ is in (cc)
 unmapped_zero c o e (Away a is away) gone = let bad : None ≡ Some a = sym gone ∙ is in (cc)
@@ -33,11 +35,12 @@ none_here None h = refl
 none_here (Some a) h = absurd (h refl)
 
 -- a page under the first user page has no entry
-pub low_zero : (c : Picture) (pid page : ℕ) → IsGranting c → page < 16 → entry c pid page ≡ 0
-low_zero c pid page granting low =
-    let h : IsPage 2 page = (let it : page < 134217728 = omega arith in it) in
-    unmapped_zero c (c.at pid page) (entry c pid page) (granting.entries pid page h)
-    (none_here (c.at pid page) (λ some. (let above = ((granting.user pid).user_pages page some).0 in omega (arith, low, above))))
+module _ {mode : ℕ} where
+  pub low_zero : (c : Picture mode) (pid page : ℕ) → IsGranting c → page < 16 → entry c pid page ≡ 0
+  low_zero c pid page granting low =
+      let h : IsPage (top_level mode) page = (let fits = user_pages_fit mode in let least = (sizes mode).least in omega (arith, fits, least, low)) in
+      unmapped_zero c (c.at pid page) (entry c pid page) (granting.entries pid page h)
+      (none_here (c.at pid page) (λ some. (let above = ((granting.user pid).user_pages page some).0 in omega (arith, low, above))))
 
 pub row_parts : (first pages page : ℕ) → in_row first pages page ≡ true → (first ≤ page) × (page < first + pages)
 row_parts first pages page e =
@@ -50,9 +53,13 @@ row_out first pages page e = elim (and_cases (leb first page) (ltb page (first +
   | inr high ↦ inr (ltb-false page (first + pages) high)
 ]
 
+-- the user pages of a row are pages of the tree
+pub pages_inside : (mode first pages page : ℕ) → first + pages ≤ user_end mode → in_row first pages page ≡ true → IsPage (top_level mode) page
+pages_inside mode first pages page row e = let parts = row_parts first pages page e in let fits = user_pages_fit mode in omega (arith, parts, row, fits)
+
 -- the pages from low to high are the user pages of a row
-module _ (old new : Picture) (pid first pages low high : ℕ) (fit : IsFit old) (granting : IsGranting new) (clears : Clears old new pid low high)
-    (row : first + pages ≤ 2 ^ 26) (start : low ≤ high) (begins : (low ≡ first) ⊎ ((low ≡ 16) × (first < 16))) (reaches : first + pages ≤ high)
+module _ {mode : ℕ} (old new : Picture mode) (pid first pages low high : ℕ) (fit : IsFit old) (granting : IsGranting new) (clears : Clears old new pid low high)
+    (row : first + pages ≤ user_end mode) (start : low ≤ high) (begins : (low ≡ first) ⊎ ((low ≡ 16) × (first < 16))) (reaches : first + pages ≤ high)
     (ends : (high ≡ low) ⊎ (high ≡ first + pages)) where
   entry_gone : (page : ℕ) → in_row first pages page ≡ true → entry new pid page ≡ 0
   entry_gone page e =
@@ -63,7 +70,7 @@ module _ (old new : Picture) (pid first pages low high : ℕ) (fit : IsFit old) 
           | inr is ↦ (let l = is.0 in omega (arith, before, l))
         ])
         | inr from ↦ (
-            let h : IsPage 2 page = (let it : page < 134217728 = omega (arith, at.1, row) in it) in
+            let h : IsPage (top_level mode) page = (let fits = user_pages_fit mode in omega (arith, at.1, row, fits)) in
             clears.gone page h from (omega (arith, at.1, reaches)))
       ]
 

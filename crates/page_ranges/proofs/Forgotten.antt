@@ -1,5 +1,6 @@
 -- A row was cleared, and then the pages of objects that it alone named were forgotten.
-use Rattle.std.proofs.Common.{◌≡◌, ℕ, inl, inr, ◌+◌, true, Some, refl, sym, ap, ◌∙◌, subst, arith, eq-eqb, ne_eqb}
+use Rattle.vm_types.specs.Limits.{top_level}
+use Rattle.std.proofs.Common.{◌≡◌, ℕ, inl, inr, ◌+◌, true, refl, sym, ◌∙◌, subst, arith, eq-eqb, ne_eqb}
 use Rattle.std.specs.Prelude.{IsSome}
 use Rattle.std.proofs.lemmas.Bool.{cases_Bool, cases_eq}
 use Rattle.vm_types.specs.declared.object.PageKey.TheVariants as Objects
@@ -10,17 +11,16 @@ use Rattle.vm_types.specs.declared.object.PageKey.{PageKey}
 use Rattle.vm_types.specs.declared.object.PageKey.TheVariants.{Object}
 use Rattle.frames.specs.declared.role.Role.TheVariants.{Free, Table, Private, Cache}
 use Rattle.page_tables.specs.Tree.{IsPage, IsTable}
-use Rattle.page_cache.specs.declared.place.Place.TheVariants.{Slot}
-use Rattle.paging.specs.Picture.{Picture, view, held}
+use Rattle.paging.specs.Picture.{Picture}
 use Rattle.paging.specs.Shows.{KeepsFiles}
 use Rattle.paging.proofs.Places.{named-same}
 use Rattle.paging.proofs.Rooted.{used_kept}
 use Rattle.page_ranges.specs.Rows.{RemapsRow, ForgetsRow, KeepsNamed, IsLasting, without_maps}
 use Rattle.page_ranges.specs.Steps.{KeepsEntriesOfOthers, ReturnsTables, ReturnsSlots, LosesSlots, IsMappedBeside, IsWithoutTables}
 
-module _ (old mid new : Picture) (pid first pages : ℕ) (row : RemapsRow old mid pid first pages (old.at pid)) (forgets : ForgetsRow mid new pid first pages)
+module _ {mode : ℕ} (old mid new : Picture mode) (pid first pages : ℕ) (row : RemapsRow old mid pid first pages (old.at pid)) (forgets : ForgetsRow mid new pid first pages)
     (place : (p : PageKey) → mid.place p ≡ old.place p) where
-  pub row_forgot : ((page : ℕ) → in_row first pages page ≡ true → IsPage 2 page) → RemapsRow old new pid first pages (old.at pid)
+  pub row_forgot : ((page : ℕ) → in_row first pages page ≡ true → IsPage (top_level mode) page) → RemapsRow old new pid first pages (old.at pid)
   row_forgot user = record {
     root = λ q. forgets.root q ∙ row.root q;
     at = λ page. forgets.at pid page ∙ row.at page;

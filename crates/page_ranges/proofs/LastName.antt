@@ -1,5 +1,7 @@
 -- Whether a page of an object is named by others than a row, and what forgetting those leaves that aren't.
-use Rattle.std.proofs.Common.{◌≡◌, ◌≢◌, ℕ, inl, inr, ◌⊎◌, ◌+◌, ◌<◌, ◌≤◌, ◌^◌, true, false, Option, Some, None, refl, sym, ap, ◌∙◌, subst, arith, eqb-true, eq-eqb, ne_eqb, ◌==◌}
+use Rattle.vm_types.specs.declared.mode.Levels as Levels
+use Rattle.vm_types.specs.Limits.{widest_end}
+use Rattle.std.proofs.Common.{◌≡◌, ◌≢◌, ℕ, inl, inr, ◌⊎◌, ◌+◌, ◌<◌, ◌≤◌, true, false, Option, Some, None, refl, sym, ap, ◌∙◌, subst, arith, eqb-true, eq-eqb, ne_eqb, ◌==◌}
 use Rattle.std.proofs.lemmas.Bool.{cases_eq, cases_lt, cases_Bool, false≢true, and_parts}
 use Rattle.vm_types.specs.declared.object.ObjectPage.{ObjectPage}
 use Rattle.vm_types.specs.declared.object.PageKey.{PageKey}
@@ -22,7 +24,7 @@ use Rattle.page_ranges.proofs.Emptied.{row_parts, row_out}
 use Rattle.vm_types.proofs.Naming.{named-at, named-where}
 use Rattle.page_ranges.proofs.Named.{named-imp}
 
-module _ (at : Maps) (pid first pages : ℕ) where
+module _ (mode : ℕ) (at : Maps) (pid first pages : ℕ) where
   beside_same : (q k : ℕ) → (q ≢ pid) ⊎ (in_row first pages k ≡ false) → without_maps at pid first pages q k ≡ at q k
   beside_same q k (inl ne) = rw (ne_eqb q pid ne) refl
   beside_same q k (inr out) = elim (cases_eq q pid) [
@@ -46,7 +48,7 @@ module _ (at : Maps) (pid first pages : ℕ) where
       ]
     ]
 
-  pub named_beside : (p : ObjectPage) (q k : ℕ) → q < 65 → k < 2 ^ 26 → q ≢ pid → names (at q k) p.object p.page ≡ true → is_named (without_maps at pid first pages) p.object p.page ≡ true
+  pub named_beside : (p : ObjectPage) (q k : ℕ) → q < 65 → k < widest_end → q ≢ pid → names (at q k) p.object p.page ≡ true → is_named (without_maps at pid first pages) p.object p.page ≡ true
   named_beside p q k low high ne here =
       named-at (without_maps at pid first pages) p.object p.page q k low high (ap (λ x. names x p.object p.page) (beside_same q k (inl ne)) ∙ here)
 
@@ -84,11 +86,12 @@ module _ (at : Maps) (pid first pages : ℕ) where
           false≢true (sym (ap (λ x. names x p.object p.page) gone) ∙ is)
 
 -- so no page that names it has an entry
-pub bare_last : (c : Picture) (pid first pages : ℕ) (p : ObjectPage) (j : ℕ) → IsFit c → IsBareRow c pid first pages → in_row first pages j ≡ true → names (c.at pid j) p.object p.page ≡ true
-    → ((q : ℕ) → q ≢ pid → names (c.at q j) p.object p.page ≡ false) → HasNoEntry c p
-bare_last c pid first pages p j fit bare inside here none q k h named =
-    let there = only_there c.at pid first pages fit.granting.objects p j inside here none q k named in
-    ap (λ x. entry c x k) there.0 ∙ ap (λ x. entry c pid x) there.1 ∙ bare j inside
+module _ {mode : ℕ} where
+  pub bare_last : (c : Picture mode) (pid first pages : ℕ) (p : ObjectPage) (j : ℕ) → IsFit c → IsBareRow c pid first pages → in_row first pages j ≡ true → names (c.at pid j) p.object p.page ≡ true
+      → ((q : ℕ) → q ≢ pid → names (c.at q j) p.object p.page ≡ false) → HasNoEntry c p
+  bare_last c pid first pages p j fit bare inside here none q k h named =
+      let there = only_there mode c.at pid first pages fit.granting.objects p j inside here none q k named in
+      ap (λ x. entry c x k) there.0 ∙ ap (λ x. entry c pid x) there.1 ∙ bare j inside
 
 slot_or : (x : Place) (k : ℕ) → (x ≡ Slot (record { 0 = k })) ⊎ (x ≢ Slot (record { 0 = k }))
 slot_or Home k = inr (λ e. (cc))
@@ -102,7 +105,7 @@ slot_or (Slot j) k = elim (cases_eq j.0 k) [
   number (Frame n) = 0
   number (Slot j) = j.0
 
-pub more_none : (c : Picture) (pid first pages : ℕ) → ForgetsMore c c pid first pages
+pub more_none : {mode : ℕ} (c : Picture mode) (pid first pages : ℕ) → ForgetsMore c c pid first pages
 more_none c pid first pages = record {
   root = λ q. refl;
   at = λ q page. refl;
@@ -121,7 +124,7 @@ more_none c pid first pages = record {
   lasting = λ p is. (refl, refl, refl);
 }
 
-pub more_then : (a b c : Picture) (pid first pages : ℕ) (p : ObjectPage) → IsFit b → ForgetsMore a b pid first pages → Forgets b c p
+pub more_then : {mode : ℕ} (a b c : Picture mode) (pid first pages : ℕ) (p : ObjectPage) → IsFit b → ForgetsMore a b pid first pages → Forgets b c p
     → is_named (without_maps a.at pid first pages) p.object p.page ≡ false → ForgetsMore a c pid first pages
 more_then a b c pid first pages p fit more forgets unnamed = record {
   root = λ q. forgets.root q ∙ more.root q;
@@ -200,7 +203,7 @@ some_same : (p q : ObjectPage) → Some p ≡ Some q → p ≡ q
 some_same p q e = cc
 
 -- one node more was looked at
-module _ (a b : Picture) (pid first pages frames node : ℕ) (more : ForgetsMore a b pid first pages)
+module _ {mode : ℕ} (a b : Picture mode) (pid first pages frames node : ℕ) (more : ForgetsMore a b pid first pages)
     (gone : (p : ObjectPage) (m : ℕ) → node_of frames (b.place (Object p)) ≡ Some m → m < node → is_named (without_maps a.at pid first pages) p.object p.page ≡ true)
     (o : Option ObjectPage) (found : (p : ObjectPage) → node_of frames (b.place (Object p)) ≡ Some node → o ≡ Some p) where
   pub gone_none : o ≡ None → (p : ObjectPage) (m : ℕ) → node_of frames (b.place (Object p)) ≡ Some m → m < node + 1 → is_named (without_maps a.at pid first pages) p.object p.page ≡ true
@@ -219,7 +222,7 @@ module _ (a b : Picture) (pid first pages frames node : ℕ) (more : ForgetsMore
     | inr ne ↦ gone p m at (omega (arith, below, ne))
   ]
 
-  pub gone_forgot : (c : Picture) (q : ObjectPage) → o ≡ Some q → Forgets b c q
+  pub gone_forgot : (c : Picture mode) (q : ObjectPage) → o ≡ Some q → Forgets b c q
       → (p : ObjectPage) (m : ℕ) → node_of frames (c.place (Object p)) ≡ Some m → m < node + 1 → is_named (without_maps a.at pid first pages) p.object p.page ≡ true
   gone_forgot c q is forgets p m at below = elim (cases_page (Object p) (Object q)) [
     | inl e ↦ absurd (let bad : None ≡ Some m = sym (ap (λ x. node_of frames x) (ap c.place e ∙ forgets.placed)) ∙ at in (cc))
@@ -237,7 +240,7 @@ away_or (Frame n) = inr (λ e. (cc))
 away_or (Slot k) = inr (λ e. (cc))
 
 -- what was forgotten, where no page is left that only the row named
-forgets_when : (a b : Picture) (pid first pages : ℕ) → ForgetsMore a b pid first pages
+forgets_when : {mode : ℕ} (a b : Picture mode) (pid first pages : ℕ) → ForgetsMore a b pid first pages
     → ((p : ObjectPage) → is_named (without_maps a.at pid first pages) p.object p.page ≡ false → b.place (Object p) ≡ Home) → ForgetsRow a b pid first pages
 forgets_when a b pid first pages more home = record {
   root = more.root;
@@ -262,7 +265,7 @@ forgets_when a b pid first pages more home = record {
 }
 
 -- all nodes were looked at
-module _ (a b : Picture) (pid first pages frames nodes : ℕ) (fit : IsFit a) (more : ForgetsMore a b pid first pages)
+module _ {mode : ℕ} (a b : Picture mode) (pid first pages frames nodes : ℕ) (fit : IsFit a) (more : ForgetsMore a b pid first pages)
     (inside : (p : ObjectPage) (m : ℕ) → node_of frames (a.place (Object p)) ≡ Some m → m < nodes)
     (gone : (p : ObjectPage) (m : ℕ) → node_of frames (b.place (Object p)) ≡ Some m → m < nodes → is_named (without_maps a.at pid first pages) p.object p.page ≡ true) where
   home_or : (x : Place) → (x ≡ Home) ⊎ ((m : ℕ) × (node_of frames x ≡ Some m))
@@ -282,7 +285,7 @@ module _ (a b : Picture) (pid first pages frames nodes : ℕ) (fit : IsFit a) (m
   ])
 
 -- all pages of the row were looked at
-module _ (a b : Picture) (pid first pages : ℕ) (fit : IsFit a) (more : ForgetsMore a b pid first pages)
+module _ {mode : ℕ} (a b : Picture mode) (pid first pages : ℕ) (fit : IsFit a) (more : ForgetsMore a b pid first pages)
     (gone : (k : ℕ) (p : ObjectPage) → first ≤ k → k < first + pages → names (a.at pid k) p.object p.page ≡ true
     → (b.place (Object p) ≡ Home) ⊎ (is_named (without_maps a.at pid first pages) p.object p.page ≡ true)) where
   pub forgets_row : ForgetsRow a b pid first pages
@@ -293,12 +296,12 @@ module _ (a b : Picture) (pid first pages : ℕ) (fit : IsFit a) (more : Forgets
       | inr away ↦ (let who = named-where a.at p.object p.page (fit.places.inside (Object p) away) in home_of p none who.0 who.1 who.2 who.3 who.4)
     ]
   ]) where
-    home_of : (p : ObjectPage) → is_named (without_maps a.at pid first pages) p.object p.page ≡ false → (q k : ℕ) → q < 65 → k < 2 ^ 26 → names (a.at q k) p.object p.page ≡ true
+    home_of : (p : ObjectPage) → is_named (without_maps a.at pid first pages) p.object p.page ≡ false → (q k : ℕ) → q < 65 → k < widest_end → names (a.at q k) p.object p.page ≡ true
         → b.place (Object p) ≡ Home
     home_of p none q k low high here = elim (cases_eq q pid) [
-      | inr ne ↦ absurd (false≢true (sym none ∙ named_beside a.at pid first pages p q k low high ne here))
+      | inr ne ↦ absurd (false≢true (sym none ∙ named_beside mode a.at pid first pages p q k low high ne here))
       | inl e ↦ elim (cases_Bool (in_row first pages k)) [
-        | inr out ↦ absurd (false≢true (sym none ∙ named-at (without_maps a.at pid first pages) p.object p.page q k low high (ap (λ x. names x p.object p.page) (beside_same a.at pid first pages q k (inr out)) ∙ here)))
+        | inr out ↦ absurd (false≢true (sym none ∙ named-at (without_maps a.at pid first pages) p.object p.page q k low high (ap (λ x. names x p.object p.page) (beside_same mode a.at pid first pages q k (inr out)) ∙ here)))
         | inl within ↦ (
             let parts = row_parts first pages k within in
             elim (gone k p parts.0 parts.1 (ap (λ x. names (a.at x k) p.object p.page) (sym e) ∙ here)) [
@@ -309,38 +312,39 @@ module _ (a b : Picture) (pid first pages : ℕ) (fit : IsFit a) (more : Forgets
     ]
 
 -- no page of the row is of an object
-pub forgets_none : (a : Picture) (pid first pages : ℕ) → IsFit a
-    → ((k object page : ℕ) → first ≤ k → k < first + pages → names (a.at pid k) object page ≡ false) → ForgetsRow a a pid first pages
-forgets_none a pid first pages fit none = record {
-  root = λ q. refl;
-  at = λ q page. refl;
-  page_of = λ n. refl;
-  entries = λ q page h. refl;
-  views = λ q page. refl;
-  frames = refl;
-  roles = λ n. inl refl;
-  pointers = λ n i m. (λ x. x, λ x. x);
-  total = refl;
-  fewer = λ k. omega arith;
-  counts = λ k none. refl;
-  bytes = λ k used. refl;
-  keeps = record {
-    touched = λ p is. refl;
-    place = λ p is. refl;
-    gone = λ p unnamed. home_of p unnamed (a.place (Object p)) refl;
-    files = λ f. refl;
-    held = λ p is. inl refl;
-  };
-} where
-  named : (p : ObjectPage) → a.place (Object p) ≢ Home → is_named (without_maps a.at pid first pages) p.object p.page ≡ true
-  named p away = named_without a.at pid first pages p (fit.places.inside (Object p) away) (λ k inside. (let parts = row_parts first pages k inside in none k p.object p.page parts.0 parts.1))
+module _ {mode : ℕ} where
+  pub forgets_none : (a : Picture mode) (pid first pages : ℕ) → IsFit a
+      → ((k object page : ℕ) → first ≤ k → k < first + pages → names (a.at pid k) object page ≡ false) → ForgetsRow a a pid first pages
+  forgets_none a pid first pages fit none = record {
+    root = λ q. refl;
+    at = λ q page. refl;
+    page_of = λ n. refl;
+    entries = λ q page h. refl;
+    views = λ q page. refl;
+    frames = refl;
+    roles = λ n. inl refl;
+    pointers = λ n i m. (λ x. x, λ x. x);
+    total = refl;
+    fewer = λ k. omega arith;
+    counts = λ k none. refl;
+    bytes = λ k used. refl;
+    keeps = record {
+      touched = λ p is. refl;
+      place = λ p is. refl;
+      gone = λ p unnamed. home_of p unnamed (a.place (Object p)) refl;
+      files = λ f. refl;
+      held = λ p is. inl refl;
+    };
+  } where
+    named : (p : ObjectPage) → a.place (Object p) ≢ Home → is_named (without_maps a.at pid first pages) p.object p.page ≡ true
+    named p away = named_without mode a.at pid first pages p (fit.places.inside (Object p) away) (λ k inside. (let parts = row_parts first pages k inside in none k p.object p.page parts.0 parts.1))
 
-  home_of : (p : ObjectPage) → is_named (without_maps a.at pid first pages) p.object p.page ≡ false → (x : Place) → a.place (Object p) ≡ x → a.place (Object p) ≡ Home
-  home_of p unnamed Home is = is
-  home_of p unnamed (Frame n) is = absurd (false≢true (sym unnamed ∙ named p (λ home. (let bad : Home ≡ Frame n = sym home ∙ is in (cc)))))
-  home_of p unnamed (Slot k) is = absurd (false≢true (sym unnamed ∙ named p (λ home. (let bad : Home ≡ Slot k = sym home ∙ is in (cc)))))
+    home_of : (p : ObjectPage) → is_named (without_maps a.at pid first pages) p.object p.page ≡ false → (x : Place) → a.place (Object p) ≡ x → a.place (Object p) ≡ Home
+    home_of p unnamed Home is = is
+    home_of p unnamed (Frame n) is = absurd (false≢true (sym unnamed ∙ named p (λ home. (let bad : Home ≡ Frame n = sym home ∙ is in (cc)))))
+    home_of p unnamed (Slot k) is = absurd (false≢true (sym unnamed ∙ named p (λ home. (let bad : Home ≡ Slot k = sym home ∙ is in (cc)))))
 
-pub same_without : (a b : Picture) (pid first pages : ℕ) (p : ObjectPage) → ForgetsMore a b pid first pages
+pub same_without : {mode : ℕ} (a b : Picture mode) (pid first pages : ℕ) (p : ObjectPage) → ForgetsMore a b pid first pages
     → is_named (without_maps b.at pid first pages) p.object p.page ≡ is_named (without_maps a.at pid first pages) p.object p.page
 same_without a b pid first pages p more = without_same a.at b.at pid first pages p more.at
 
@@ -361,7 +365,7 @@ names_one (Some a) p q is so = alike a.backing is so where
       ap (λ x. of x p.page) objects ∙ ap (λ x. of q.object x) pages
 
 -- one page more was looked at, and those between it and the ones before name nothing
-module _ (a b c : Picture) (pid first pages from k : ℕ) (p : ObjectPage)
+module _ {mode : ℕ} (a b c : Picture mode) (pid first pages from k : ℕ) (p : ObjectPage)
     (before : (j : ℕ) (q : ObjectPage) → first ≤ j → j < from → names (a.at pid j) q.object q.page ≡ true
     → (b.place (Object q) ≡ Home) ⊎ (is_named (without_maps a.at pid first pages) q.object q.page ≡ true))
     (at : (j : ℕ) → b.at pid j ≡ a.at pid j) (here : names (b.at pid k) p.object p.page ≡ true)
@@ -384,7 +388,7 @@ module _ (a b c : Picture) (pid first pages from k : ℕ) (p : ObjectPage)
     ]
   ]
 
-pub rest_then : {D E : Type 0} (a b c : Core D E) → KeepsBesidePlaces a b → KeepsBesidePlaces b c → KeepsBesidePlaces a c
+pub rest_then : {M : Type 0} {m : Levels.Ghosts M} → {D E : Type 0} (a b c : Core D E M m) → KeepsBesidePlaces a b → KeepsBesidePlaces b c → KeepsBesidePlaces a c
 rest_then a b c p q = record {
   store = q.store ∙ p.store;
   pages = q.pages ∙ p.pages;

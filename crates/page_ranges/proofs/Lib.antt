@@ -5,7 +5,6 @@ pub mod BetweenEntries
 pub mod Sharing
 pub mod Returning
 pub mod ClearedPages
-pub mod Needed
 pub mod Pruned
 pub mod Emptied
 pub mod Passed

@@ -1,10 +1,11 @@
 -- Objects are marked one after the other.
-use Rattle.std.proofs.Common.{◌≡◌, ◌≢◌, ℕ, zero, suc, ◌+◌, ◌-◌, ◌^◌, ◌<◌, ◌≤◌, inl, inr, ◌⊎◌, Bool, true, false, Option, Some, None, List, length, get_or, set, refl, sym, ap, ◌∙◌, arith, length-set, get_or-set_same, get_or-set_other, eqb-true, eq-eqb, ne_eqb}
+use Rattle.vm_types.specs.declared.mode.Levels as Levels
+use Rattle.std.proofs.Common.{◌≡◌, ◌≢◌, ℕ, zero, suc, ◌+◌, ◌-◌, ◌<◌, ◌≤◌, inl, inr, ◌⊎◌, Bool, true, false, Option, Some, None, List, length, get_or, set, refl, sym, ap, ◌∙◌, arith, length-set, get_or-set_same, get_or-set_other, eqb-true, eq-eqb, ne_eqb}
 use Rattle.std.specs.Prelude.{replicate}
 use Rattle.std.proofs.lemmas.List.{get_or_past, get_or-replicate, length-replicate}
 use Rattle.std.proofs.lemmas.Bool.Decides.{nat_tests}
 use Rattle.std.proofs.lemmas.Bool.{cases_Bool, cases_eq, cases_lt, false≢true}
-use Rattle.vm_types.specs.Limits.{named_limit}
+use Rattle.vm_types.specs.Limits.{named_limit, widest_end}
 use Rattle.vm_types.specs.declared.object.ObjectPage.{ObjectPage}
 use Rattle.vm_types.specs.declared.region.Attr.{Attr}
 use Rattle.vm_types.specs.declared.region.Backing.{Backing}
@@ -98,7 +99,7 @@ none_uses map k o none is = false≢true (sym (ap (λ x. uses x o) none) ∙ is)
 
 -- what a process has, but for the row
 pub mine : (at : Maps) (pid q first pages : ℕ) → q ≡ pid → (o : ℕ) → IsUsedBy (without_maps at pid first pages) q o
-    → IsUsedBetween (at q) 0 first o ⊎ IsUsedBetween (at q) (first + pages) (2 ^ 26) o
+    → IsUsedBetween (at q) 0 first o ⊎ IsUsedBetween (at q) (first + pages) widest_end o
 mine at pid q first pages same o (k, high, is) = elim (cases_lt k first) [
   | inl low ↦ inl (k, omega arith, low, out_of k (out_low k low) is)
   | inr late ↦ elim (cases_lt k (first + pages)) [
@@ -122,7 +123,7 @@ mine at pid q first pages same o (k, high, is) = elim (cases_lt k first) [
     in_of : (k : ℕ) → in_row first pages k ≡ true → uses (without_maps at pid first pages q k) o ≡ false
     in_of k inside = (let e : without_maps at pid first pages q k ≡ None = rw (eq-eqb q pid same, inside) refl in ap (λ x. uses x o) e)
 
-pub mine_back : (at : Maps) (pid q first pages from end : ℕ) → q ≡ pid → ((k : ℕ) → from ≤ k → k < end → in_row first pages k ≡ false) → end ≤ 2 ^ 26 → (o : ℕ) → IsUsedBetween (at q) from end o
+pub mine_back : (at : Maps) (pid q first pages from end : ℕ) → q ≡ pid → ((k : ℕ) → from ≤ k → k < end → in_row first pages k ≡ false) → end ≤ widest_end → (o : ℕ) → IsUsedBetween (at q) from end o
     → IsUsedBy (without_maps at pid first pages) q o
 mine_back at pid q first pages from end same out small o (k, low, high, is) =
     (k, omega (arith, high, small), (let e : without_maps at pid first pages q k ≡ at q k = rw (eq-eqb q pid same, out k low high) (ap (λ x. at x k) (sym same)) in ap (λ x. uses x o) e ∙ is))
@@ -130,15 +131,15 @@ mine_back at pid q first pages from end same out small o (k, low, high, is) =
 pub low_out : (first pages k : ℕ) → 0 ≤ k → k < first → in_row first pages k ≡ false
 low_out first pages k from low = grind (arith, nat_tests)
 
-pub high_out : (first pages k : ℕ) → first + pages ≤ k → k < 2 ^ 26 → in_row first pages k ≡ false
+pub high_out : (first pages k : ℕ) → first + pages ≤ k → k < widest_end → in_row first pages k ≡ false
 high_out first pages k past high = grind (arith, nat_tests)
 
 -- and what any other has
-pub theirs : (at : Maps) (pid q first pages : ℕ) → q ≢ pid → (o : ℕ) → IsUsedBy (without_maps at pid first pages) q o → IsUsedBetween (at q) 0 (2 ^ 26) o
+pub theirs : (at : Maps) (pid q first pages : ℕ) → q ≢ pid → (o : ℕ) → IsUsedBy (without_maps at pid first pages) q o → IsUsedBetween (at q) 0 widest_end o
 theirs at pid q first pages other o (k, high, is) =
     (k, omega arith, high, (let e : without_maps at pid first pages q k ≡ at q k = rw (ne_eqb q pid other) refl in ap (λ x. uses x o) (sym e) ∙ is))
 
-pub theirs_back : (at : Maps) (pid q first pages : ℕ) → q ≢ pid → (o : ℕ) → IsUsedBetween (at q) 0 (2 ^ 26) o → IsUsedBy (without_maps at pid first pages) q o
+pub theirs_back : (at : Maps) (pid q first pages : ℕ) → q ≢ pid → (o : ℕ) → IsUsedBetween (at q) 0 widest_end o → IsUsedBy (without_maps at pid first pages) q o
 theirs_back at pid q first pages other o (k, low, high, is) =
     (k, high, (let e : without_maps at pid first pages q k ≡ at q k = rw (ne_eqb q pid other) refl in ap (λ x. uses x o) e ∙ is))
 
@@ -167,14 +168,14 @@ least_end f n = refl
 pub used_where : (f : Maps) (o : ℕ) → is_used f o ≡ true → (q : ℕ) × (q < 65) × IsUsedBy f q o
 unfolding is_used
 used_where f o is =
-    let who = any-where (λ p. any_below (λ k. uses (f p k) o) (2 ^ 26)) 65 is in
-    let at = any-where (λ k. uses (f who.0 k) o) (2 ^ 26) who.2 in
+    let who = any-where (λ p. any_below (λ k. uses (f p k) o) widest_end) 65 is in
+    let at = any-where (λ k. uses (f who.0 k) o) widest_end who.2 in
     (who.0, who.1, (at.0, at.1, at.2))
 
 pub used_at : (f : Maps) (o q : ℕ) → q < 65 → IsUsedBy f q o → is_used f o ≡ true
 unfolding is_used
 used_at f o q low (k, high, is) =
-    any-at (λ p. any_below (λ k. uses (f p k) o) (2 ^ 26)) 65 q low (any-at (λ k. uses (f q k) o) (2 ^ 26) k high is)
+    any-at (λ p. any_below (λ k. uses (f p k) o) widest_end) 65 q low (any-at (λ k. uses (f q k) o) widest_end k high is)
 
 -- the same, by how many numbers are left
 one_more : (n m : ℕ) → n < m → m - n ≡ suc (m - (n + 1))
@@ -214,7 +215,7 @@ unmapped None runs k none = refl
 unmapped (Some r) runs k none = absurd (none r refl)
 
 -- there is no process 0
-pub nobody : {D E : Type 0} (c : Core D E) → IsFit (picture_of c) → (pid first pages o : ℕ) → IsUsedBy (without_maps (picture_of c).at pid first pages) 0 o → ⊥
+pub nobody : {M : Type 0} {m : Levels.Ghosts M} {D E : Type 0} (c : Core D E M m) → IsFit (picture_of c) → (pid first pages o : ℕ) → IsUsedBy (without_maps (picture_of c).at pid first pages) 0 o → ⊥
 nobody c fit pid first pages o (k, high, is) =
     let none : (picture_of c).at 0 k ≡ None = unmapped ((picture_of c).root 0) _ k (λ r at. (let low = (fit.rooted.numbers 0 r at).0 in omega (arith, low))) in
     elim (cases_eq 0 pid) [
@@ -231,7 +232,7 @@ nobody c fit pid first pages o (k, high, is) =
     ]
 
 -- a run more
-module _ (map : ℕ → Option Attr) (run : Run) (from at end : ℕ) (xs ys zs : List Bool) (low : from ≤ at) (next : IsNextRun map at run) (before : run.first < end)
+module _ (mode : ℕ) (map : ℕ → Option Attr) (run : Run) (from at end : ℕ) (xs ys zs : List Bool) (low : from ≤ at) (next : IsNextRun mode map at run) (before : run.first < end)
     (kept : (o : ℕ) → get_or xs o false ≡ true → get_or ys o false ≡ true)
     (all : (o : ℕ) → o < named_limit → IsUsedBetween map from at o → get_or ys o false ≡ true)
     (only : (o : ℕ) → get_or ys o false ≡ true → (get_or xs o false ≡ true) ⊎ IsUsedBetween map from end o)
@@ -257,8 +258,8 @@ module _ (map : ℕ → Option Attr) (run : Run) (from at end : ℕ) (xs ys zs :
   ]
 
 -- the next run of the same pages
-pub next_over : (f g : ℕ → Option Attr) (run : Run) (at : ℕ) → ((k : ℕ) → f k ≡ g k) → IsNextRun f at run → IsNextRun g at run
-next_over f g run at same next = record {
+pub next_over : (mode : ℕ) (f g : ℕ → Option Attr) (run : Run) (at : ℕ) → ((k : ℕ) → f k ≡ g k) → IsNextRun mode f at run → IsNextRun mode g at run
+next_over mode f g run at same next = record {
   from = next.from;
   low = next.low;
   nonempty = next.nonempty;

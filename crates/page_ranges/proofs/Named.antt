@@ -1,5 +1,6 @@
 -- What processes name hangs on what stands behind their pages, and on no permission.
-use Rattle.std.proofs.Common.{◌≡◌, ℕ, ◌^◌, Bool, true, Option, Some, None, refl, sym, ap, ◌∙◌}
+use Rattle.vm_types.specs.Limits.{widest_end}
+use Rattle.std.proofs.Common.{◌≡◌, ℕ, true, Option, Some, None, refl, sym, ◌∙◌}
 use Rattle.std.specs.Prelude.{option_map}
 use Rattle.std.proofs.Common.{inl, inr}
 use Rattle.std.proofs.lemmas.Bool.{cases_Bool}
@@ -15,8 +16,8 @@ use Rattle.paging.proofs.Counts.{any-same, any-more}
 pub named-alike : (f g : Maps) (object page : ℕ) → ((p k : ℕ) → names (g p k) object page ≡ names (f p k) object page) → is_named g object page ≡ is_named f object page
 unfolding is_named
 named-alike f g object page same =
-    any-same (λ p. any_below (λ k. names (g p k) object page) (2 ^ 26)) (λ p. any_below (λ k. names (f p k) object page) (2 ^ 26)) 65
-    (λ p. any-same (λ k. names (g p k) object page) (λ k. names (f p k) object page) (2 ^ 26) (λ k. same p k))
+    any-same (λ p. any_below (λ k. names (g p k) object page) widest_end) (λ p. any_below (λ k. names (f p k) object page) widest_end) 65
+    (λ p. any-same (λ k. names (g p k) object page) (λ k. names (f p k) object page) widest_end (λ k. same p k))
 
 pub objects-alike : (f g : Maps) → ((p k object page : ℕ) → names (g p k) object page ≡ names (f p k) object page) → ((p k object : ℕ) → uses (g p k) object ≡ uses (f p k) object)
     → AreObjects f → AreObjects g
@@ -48,5 +49,5 @@ uses-protected map first count prot k object = elim (cases_Bool (in_row first co
 pub named-imp : (f g : Maps) (object page : ℕ) → ((p k : ℕ) → names (f p k) object page ≡ true → names (g p k) object page ≡ true) → is_named f object page ≡ true → is_named g object page ≡ true
 unfolding is_named
 named-imp f g object page more here =
-    any-more (λ p. any_below (λ k. names (f p k) object page) (2 ^ 26)) (λ p. any_below (λ k. names (g p k) object page) (2 ^ 26)) 65
-    (λ p. any-more (λ k. names (f p k) object page) (λ k. names (g p k) object page) (2 ^ 26) (λ k is. more p k is)) here
+    any-more (λ p. any_below (λ k. names (f p k) object page) widest_end) (λ p. any_below (λ k. names (g p k) object page) widest_end) 65
+    (λ p. any-more (λ k. names (f p k) object page) (λ k. names (g p k) object page) widest_end (λ k is. more p k is)) here

@@ -1,4 +1,5 @@
 -- A process gets other regions.
+use Rattle.vm_types.specs.Limits.{top_level}
 use Rattle.std.proofs.Common.{◌≡◌, ℕ, inl, inr, ◌+◌, ◌<◌, true, false, Option, Some, refl, sym, ap, ◌∙◌, subst, arith, ◌⊎◌, ◌≢◌, None, eq-eqb, ne_eqb}
 use Rattle.std.specs.Prelude.{IsSome, option_map}
 use Rattle.std.proofs.lemmas.Bool.{cases_eq, cases_Bool}
@@ -29,14 +30,15 @@ use Rattle.page_ranges.specs.Steps.{IsBeside, KeepsEntriesOfOthers, ReturnsTable
 use Rattle.page_ranges.proofs.Emptied.{row_parts, view-bare}
 
 -- Frames and slots are for what they were, and are shared as they were.
-pub record SameSeats (old new : Picture) : Type 0 where
-  pub roles : (n : ℕ) → role_of new.frames n ≡ role_of old.frames n
-  pub counts : (n : ℕ) → count_of new.frames n ≡ count_of old.frames n
-  pub slots : new.slots ≡ old.slots
-  pub page_of : (n : ℕ) → new.page_of n ≡ old.page_of n
-  pub place : (p : PageKey) → new.place p ≡ old.place p
+module _ {mode : ℕ} where
+  pub record SameSeats (old new : Picture mode) : Type 0 where
+    pub roles : (n : ℕ) → role_of new.frames n ≡ role_of old.frames n
+    pub counts : (n : ℕ) → count_of new.frames n ≡ count_of old.frames n
+    pub slots : new.slots ≡ old.slots
+    pub page_of : (n : ℕ) → new.page_of n ≡ old.page_of n
+    pub place : (p : PageKey) → new.place p ≡ old.place p
 
-module _ (old new : Picture) (same : SameSeats old new) where
+module _ {mode : ℕ} (old new : Picture mode) (same : SameSeats old new) where
   pub owned_on : (z : Seat) → IsOwned old z → IsOwned new z
   owned_on (InFrame n) is = same.roles n ∙ is
   owned_on (InSlot k) is = ((let P : SlotTable → Type 0 = λ t. 0 < t.count k in subst P (sym same.slots) is.0), λ p e. is.1 p (sym (same.place p) ∙ e))
@@ -54,9 +56,9 @@ module _ (old new : Picture) (same : SameSeats old new) where
   pages_on sp (InSlot k) is = refl
 
 -- the memory is the same
-module _ (old new : Picture) (pid : ℕ) (fit : IsFit old) (remaps : Remaps old new pid) where
+module _ {mode : ℕ} (old new : Picture mode) (pid : ℕ) (fit : IsFit old) (remaps : Remaps old new pid) where
   pub entries_remapped : (q page : ℕ) → entry new q page ≡ entry old q page
-  entries_remapped = entries_kept old new 0 fit.rooted (λ r p is_root. ap (λ t. page_entry t 2 r p) remaps.frames) remaps.root
+  entries_remapped = entries_kept old new 0 fit.rooted (λ r p is_root. ap (λ t. page_entry t (top_level mode) r p) remaps.frames) remaps.root
 
   seats : SameSeats old new
   seats = record {
@@ -78,19 +80,19 @@ module _ (old new : Picture) (pid : ℕ) (fit : IsFit old) (remaps : Remaps old 
       let was : (q r : ℕ) → new.root q ≡ Some r → old.root q ≡ Some r = λ q r e. sym (remaps.root q) ∙ e in
       record {
         forest = (let P : FrameTable → Type 0 = λ t. IsForest t in subst P (sym remaps.frames) fit.rooted.forest);
-        roots = λ q r e. (let P : FrameTable → Type 0 = λ t. IsRoot 2 t r in subst P (sym remaps.frames) (fit.rooted.roots q r (was q r e)));
+        roots = λ q r e. (let P : FrameTable → Type 0 = λ t. IsRoot (top_level mode) t r in subst P (sym remaps.frames) (fit.rooted.roots q r (was q r e)));
         apart = λ p q r e f. fit.rooted.apart p q r (was p r e) (was q r f);
         numbers = λ q r e. fit.rooted.numbers q r (was q r e);
         used = λ m table. inr (used_kept old new (IsMapped new) (IsMapped new) m
             (λ a i b p. (let P : FrameTable → Type 0 = λ t. Points t a i b in subst P (sym remaps.frames) p)) remaps.root (λ q p some. some) (used m (table_back m table)));
       }
 
-  pub fit_remapped : IsUserMap (new.at pid) → IsReadableMap (new.at pid) → AreObjects new.at → ((p : ObjectPage) → old.place (Object p) ≢ Home → is_named new.at p.object p.page ≡ true) → ((page : ℕ) → IsPage 2 page → IsEntryFor old (new.at pid page) (entry old pid page))
+  pub fit_remapped : IsUserMap mode (new.at pid) → IsReadableMap (new.at pid) → AreObjects new.at → ((p : ObjectPage) → old.place (Object p) ≢ Home → is_named new.at p.object p.page ≡ true) → ((page : ℕ) → IsPage (top_level mode) page → IsEntryFor old (new.at pid page) (entry old pid page))
       → ((m : ℕ) → IsTable old.frames m → IsUsed old (IsMapped new) m) → IsFit new
   fit_remapped user readable objects named fits used = record {
     counted = (
       fit.counted.0,
-      counted_same (entry old) (entry new) (IsOwned old) (IsOwned new) (count_in old) (count_in new) (page_in old fit.counted.0) (page_in new fit.counted.0)
+      counted_same mode (entry old) (entry new) (IsOwned old) (IsOwned new) (count_in old) (count_in new) (page_in old fit.counted.0) (page_in new fit.counted.0)
           (λ q p h. ap seat (entries_remapped q p)) nowhere 0 fit.counted.1 (owned_on old new seats) (owned_before old new seats) (counts_on old new seats) (pages_on old new seats fit.counted.0),
     );
     rooted = rooted_remapped used;
@@ -107,8 +109,8 @@ module _ (old new : Picture) (pid : ℕ) (fit : IsFit old) (remaps : Remaps old 
             rw (remaps.others q page ne, entries_remapped q page) there)
       ];
       user = λ q. elim (cases_eq q pid) [
-        | inl is ↦ (let P : ℕ → Type 0 = λ x. IsUserMap (new.at x) in subst P (sym is) user)
-        | inr ne ↦ user_map-same (old.at q) (new.at q) (λ page. remaps.others q page ne) (fit.granting.user q)
+        | inl is ↦ (let P : ℕ → Type 0 = λ x. IsUserMap mode (new.at x) in subst P (sym is) user)
+        | inr ne ↦ user_map-same mode (old.at q) (new.at q) (λ page. remaps.others q page ne) (fit.granting.user q)
       ];
       readable = λ q. elim (cases_eq q pid) [
         | inl is ↦ (let P : ℕ → Type 0 = λ x. IsReadableMap (new.at x) in subst P (sym is) readable)
@@ -132,7 +134,7 @@ module _ (old new : Picture) (pid : ℕ) (fit : IsFit old) (remaps : Remaps old 
   held_remapped p = held_same old new p (remaps.place p) remaps.slots (λ n here. ap (λ t. bytes_of t n) remaps.frames)
 
 -- a row was cleared, and then the process got regions that are new there alone
-module _ (old mid new : Picture) (pid first pages : ℕ) (map : ℕ → Option Attr) (fit : IsFit mid) (row : RemapsRow old mid pid first pages (old.at pid))
+module _ {mode : ℕ} (old mid new : Picture mode) (pid first pages : ℕ) (map : ℕ → Option Attr) (fit : IsFit mid) (row : RemapsRow old mid pid first pages (old.at pid))
     (remaps : Remaps mid new pid) (at : (page : ℕ) → new.at pid page ≡ map page)
     (others : (page : ℕ) → in_row first pages page ≡ false → map page ≡ old.at pid page) where
   at_mid : (page : ℕ) → in_row first pages page ≡ false → new.at pid page ≡ mid.at pid page
@@ -181,10 +183,10 @@ module _ (old mid new : Picture) (pid first pages : ℕ) (map : ℕ → Option A
     ]
   ]
 
-  pub fit_row : IsWithoutTables mid pid first (first + pages) → IsUserMap map → IsReadableMap map → AreObjects (with_map old.at pid map)
+  pub fit_row : IsWithoutTables mid pid first (first + pages) → IsUserMap mode map → IsReadableMap map → AreObjects (with_map old.at pid map)
       → ((p : ObjectPage) → is_named (without_maps old.at pid first pages) p.object p.page ≡ false → mid.place (Object p) ≡ Home) → IsFit new
   fit_row none_left user readable objects gone =
-      fit_remapped mid new pid fit remaps (user_map-same map (new.at pid) at user) (readable-same map (new.at pid) at readable)
+      fit_remapped mid new pid fit remaps (user_map-same mode map (new.at pid) at user) (readable-same map (new.at pid) at readable)
       (objects-same (with_map old.at pid map) new.at with_new objects)
       (λ p away. elim (cases_Bool (is_named (without_maps old.at pid first pages) p.object p.page)) [
         | inl is ↦ named-more (without_maps old.at pid first pages) new.at p.object p.page without_more is

@@ -19,14 +19,14 @@ use Rattle.paging.specs.Parts.{IsFit}
 use Rattle.paging.specs.Shows.{ShowsPages, object_bytes}
 use Rattle.page_ranges.specs.Rows.{KeepsNamed}
 
-held_home : (c : Picture) (p : PageKey) → c.place p ≡ Home → held c p ≡ None
+held_home : {mode : ℕ} (c : Picture mode) (p : PageKey) → c.place p ≡ Home → held c p ≡ None
 unfolding held
 held_home c p home = ap (bytes_at c.frames c.slots) home
 
 none_some : (bytes : List ℕ) (o : Option (List ℕ)) → o ≡ None → o ≡ Some bytes → ⊥
 none_some bytes o none some = let bad : None ≡ Some bytes = sym none ∙ some in (cc)
 
-pub shows_named : (old new : Picture) (s : State) (maps : Maps) (live : ℕ → Bool) (views : ℕ → ℕ → Option View) → IsFit new → ShowsPages old s → KeepsNamed maps old new
+pub shows_named : {mode : ℕ} (old new : Picture mode) (s : State) (maps : Maps) (live : ℕ → Bool) (views : ℕ → ℕ → Option View) → IsFit new → ShowsPages old s → KeepsNamed maps old new
     → ((pid : ℕ) → live pid ≡ is_live new pid) → ((pid page : ℕ) → views pid page ≡ view new pid page)
     → ShowsPages new (record s { live = live; views = views; objects = named_objects maps s.objects })
 shows_named old new s maps live views fit shows keeps lives sees = record {
@@ -49,6 +49,7 @@ shows_named old new s maps live views fit shows keeps lives sees = record {
     | inl same ↦ shows.held p bytes (sym same ∙ is)
     | inr home ↦ absurd (none_some bytes (held new (File p)) home.0 is)
   ];
+  same_mode = shows.same_mode;
   clean = λ p untouched inside. shows.clean p (sym (keeps.touched (File p) tt) ∙ untouched) (inside.0, sym (keeps.files p.file) ∙ inside.1, inside.2);
 }
   where
@@ -67,12 +68,12 @@ some_at t k Home away = absurd (away refl)
 some_at t k (Frame n) away = refl
 some_at t k (Slot n) away = refl
 
-some_held : (c : Picture) (p : PageKey) → c.place p ≢ Home → is_some (held c p) ≡ true
+some_held : {mode : ℕ} (c : Picture mode) (p : PageKey) → c.place p ≢ Home → is_some (held c p) ≡ true
 unfolding held
 some_held c p away = some_at c.frames c.slots (c.place p) away
 
 -- what is in the objects of the state was stored to
-pub stored_shown : (c : Picture) (s : State) → IsFit c → ShowsPages c s → (object page : ℕ) → is_some (s.objects object page) ≡ stored_object c object page
+pub stored_shown : {mode : ℕ} (c : Picture mode) (s : State) → IsFit c → ShowsPages c s → (object page : ℕ) → is_some (s.objects object page) ≡ stored_object c object page
 stored_shown c s fit shows object page =
     let p : ObjectPage = record { object = object; page = page } in
     elim (cases_Bool (c.touched (Object p))) [
@@ -85,12 +86,14 @@ stored_shown c s fit shows object page =
     ]
 
 -- the slots that a state needs are those that memory counts
-pub held_shown : (c : Picture) (s : State) → IsFit c → ShowsPages c s → held_count s ≡ copies_over (view c) (touched_file c) (stored_object c)
-unfolding held_count copies_over
-held_shown c s fit shows =
-    let sees : s.views ≡ view c = λ t pid page. shows.views pid page t in
-    let marks : s.touched ≡ touched_file c = λ t file page. shows.touched (record { file = file; page = page }) t in
-    let stored : (λ object page. is_some (s.objects object page)) ≡ stored_object c = λ t object page. stored_shown c s fit shows object page t in
-    ap (λ (v : ℕ → ℕ → Option View). copies_over v s.touched (λ object page. is_some (s.objects object page))) sees
-    ∙ ap (λ (m : ℕ → ℕ → Bool). copies_over (view c) m (λ object page. is_some (s.objects object page))) marks
-    ∙ ap (copies_over (view c) (touched_file c)) stored
+module _ {mode : ℕ} where
+  pub held_shown : (c : Picture mode) (s : State) → IsFit c → ShowsPages c s → held_count s ≡ copies_over mode (view c) (touched_file c) (stored_object c)
+  unfolding held_count copies_over
+  held_shown c s fit shows =
+      let sees : s.views ≡ view c = λ t pid page. shows.views pid page t in
+      let marks : s.touched ≡ touched_file c = λ t file page. shows.touched (record { file = file; page = page }) t in
+      let stored : (λ object page. is_some (s.objects object page)) ≡ stored_object c = λ t object page. stored_shown c s fit shows object page t in
+      ap (λ x. copies_over x s.views s.touched (λ object page. is_some (s.objects object page))) shows.same_mode
+      ∙ ap (λ (v : ℕ → ℕ → Option View). copies_over mode v s.touched (λ object page. is_some (s.objects object page))) sees
+      ∙ ap (λ (m : ℕ → ℕ → Bool). copies_over mode (view c) m (λ object page. is_some (s.objects object page))) marks
+      ∙ ap (copies_over mode (view c) (touched_file c)) stored

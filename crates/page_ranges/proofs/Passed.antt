@@ -1,5 +1,6 @@
 -- Pages of a row that are not mapped, passed over.
-use Rattle.std.proofs.Common.{◌≡◌, ℕ, inl, inr, ◌⊎◌, ◌<◌, ◌≤◌, ◌+◌, ◌^◌, Option, None, ap, ◌∙◌, subst, arith}
+use Rattle.vm_types.specs.Limits.{user_end, top_level}
+use Rattle.std.proofs.Common.{◌≡◌, ℕ, inl, inr, ◌⊎◌, ◌<◌, ◌≤◌, ◌+◌, Option, None, ap, ◌∙◌, subst, arith}
 use Rattle.std.specs.Prelude.{max, IsSome}
 use Rattle.std.proofs.lemmas.Bool.{cases_eq, cases_lt, false≢true}
 use Rattle.vm_types.specs.declared.region.Attr.{Attr}
@@ -13,18 +14,18 @@ use Rattle.page_ranges.proofs.ClearedPages.{clears_none, clears_then}
 use Rattle.page_ranges.proofs.Emptied.{files_cleared, unmapped_zero, remaps_cleared, slots_cleared, tables_cleared}
 
 -- a page that isn't mapped has no entry
-bare : (c : Picture) (pid page : ℕ) → IsGranting c → IsPage 2 page → c.at pid page ≡ None → entry c pid page ≡ 0
+bare : {mode : ℕ} (c : Picture mode) (pid page : ℕ) → IsGranting c → IsPage (top_level mode) page → c.at pid page ≡ None → entry c pid page ≡ 0
 bare c pid page granting h gone = unmapped_zero c (c.at pid page) (entry c pid page) (granting.entries pid page h) gone
 
 not_mapped : (o : Option Attr) → o ≡ None → IsSome o → ⊥
 not_mapped o gone some = let P : Option Attr → Type 0 = λ x. IsSome x in false≢true (subst P gone some)
 
 -- what was cleared goes on over pages that aren't mapped
-module _ (c : Picture) (pid low mid high : ℕ) (granting : IsGranting c) (gap : IsUnmapped (c.at pid) mid high) where
-  none_there : (page : ℕ) → IsPage 2 page → mid ≤ page → page < high → entry c pid page ≡ 0
+module _ {mode : ℕ} (c : Picture mode) (pid low mid high : ℕ) (granting : IsGranting c) (gap : IsUnmapped (c.at pid) mid high) where
+  none_there : (page : ℕ) → IsPage (top_level mode) page → mid ≤ page → page < high → entry c pid page ≡ 0
   none_there page h from below = bare c pid page granting h (gap page from below)
 
-  pub clears_on : (old : Picture) → IsFit old → low ≤ mid → mid ≤ high → Clears old c pid low mid → Clears old c pid low high
+  pub clears_on : (old : Picture mode) → IsFit old → low ≤ mid → mid ≤ high → Clears old c pid low mid → Clears old c pid low high
   clears_on old fit le le' clears = clears_then old c c pid low mid high fit le le' clears (clears_none c pid mid high none_there)
 
   beside_on : (q p : ℕ) → IsMappedBeside c pid low mid q p → IsBeside pid low high q p
@@ -69,8 +70,8 @@ ends low page end (inl is) = elim (cases_lt page end) [
 ends low page end (inr le) = inr (omega (arith, le))
 
 -- a row is cleared once it is as far as a page, and no page of the row is mapped from there on
-module _ (old new : Picture) (pid first pages low page : ℕ) (fit : IsFit old) (granting : IsGranting new) (clears : Clears old new pid low page) (cleared : IsCleared new pid low page)
-    (row : first + pages ≤ 2 ^ 26) (is : low ≡ max first 16) (least : low ≤ page) (within : (page ≡ low) ⊎ (page ≤ first + pages))
+module _ {mode : ℕ} (old new : Picture mode) (pid first pages low page : ℕ) (fit : IsFit old) (granting : IsGranting new) (clears : Clears old new pid low page) (cleared : IsCleared new pid low page)
+    (row : first + pages ≤ user_end mode) (is : low ≡ max first 16) (least : low ≤ page) (within : (page ≡ low) ⊎ (page ≤ first + pages))
     (none : IsUnmapped (new.at pid) page (first + pages)) where
   gap : IsUnmapped (new.at pid) page (max page (first + pages))
   gap p from below = none p from (omega (arith, from, below))

@@ -1,4 +1,6 @@
 -- Rows of pages that get another permission: one page after the other.
+use Rattle.vm_types.specs.declared.mode.Levels as Levels
+use Rattle.vm_types.specs.Limits.{top_level}
 use Rattle.std.proofs.Common.{◌≡◌, ◌≢◌, ℕ, inl, inr, ◌⊎◌, ◌+◌, ◌<◌, ◌≤◌, ◌↔◌, Bool, true, false, Option, Some, get_or, refl, sym, ap, ◌∙◌, subst, arith}
 use Rattle.std.proofs.lemmas.Bool.{cases_eq, cases_lt, cases_Bool, false≢true}
 use Rattle.vm_types.specs.declared.permission.Prot.{Prot}
@@ -25,10 +27,10 @@ use Rattle.mapping.proofs.Forms.{seat_own}
 use Rattle.page_ranges.proofs.Sharing.{inside_memory, private_used, cache_used}
 use Rattle.page_ranges.proofs.ClearedPages.{out_front, out_back, other_page}
 
-pub beside-refl : (c : Picture) → SameBeside c c
+pub beside-refl : {mode : ℕ} (c : Picture mode) → SameBeside c c
 beside-refl c = record { slots = refl; root = λ q. refl; at = λ q page. refl; page_of = λ n. refl; place = λ p. refl; touched = λ p. refl; files = λ f. refl }
 
-pub beside_then : (a b c : Picture) → SameBeside a b → SameBeside b c → SameBeside a c
+pub beside_then : {mode : ℕ} (a b c : Picture mode) → SameBeside a b → SameBeside b c → SameBeside a c
 beside_then a b c one two = record {
   slots = two.slots ∙ one.slots;
   root = λ q. two.root q ∙ one.root q;
@@ -39,10 +41,10 @@ beside_then a b c one two = record {
   files = λ f. two.files f ∙ one.files f;
 }
 
-pub around-refl : {D E : Type 0} (c : Core D E) → KeepsAround c c
+pub around-refl : {M : Type 0} {m : Levels.Ghosts M} → {D E : Type 0} (c : Core D E M m) → KeepsAround c c
 around-refl c = record { store = refl; swap = refl; cache = refl; roots = refl; regions = refl; page_of = refl }
 
-pub around_then : {D E : Type 0} (a b c : Core D E) → KeepsAround a b → KeepsAround b c → KeepsAround a c
+pub around_then : {M : Type 0} {m : Levels.Ghosts M} → {D E : Type 0} (a b c : Core D E M m) → KeepsAround a b → KeepsAround b c → KeepsAround a c
 around_then a b c one two = record {
   store = two.store ∙ one.store;
   swap = two.swap ∙ one.swap;
@@ -64,8 +66,8 @@ frames_then a b c one two = record {
 }
 
 -- nothing changed: the pages have no entries, or lie in slots
-pub permits_same : (c : Picture) (pid low high : ℕ) (prot : Prot)
-    → ((page : ℕ) → IsPage 2 page → low ≤ page → page < high → (entry c pid page ≡ 0) ⊎ (is_swapped (entry c pid page) ≡ true)) → PermitsRow c c pid low high prot
+pub permits_same : {mode : ℕ} (c : Picture mode) (pid low high : ℕ) (prot : Prot)
+    → ((page : ℕ) → IsPage (top_level mode) page → low ≤ page → page < high → (entry c pid page ≡ 0) ⊎ (is_swapped (entry c pid page) ≡ true)) → PermitsRow c c pid low high prot
 permits_same c pid low high prot each = record {
   beside = beside-refl c;
   memory = frames-refl c.frames;
@@ -76,7 +78,7 @@ permits_same c pid low high prot each = record {
   ];
 }
 
-pub permits_none : (c : Picture) (pid low high : ℕ) (prot : Prot) → ((page : ℕ) → IsPage 2 page → low ≤ page → page < high → entry c pid page ≡ 0)
+pub permits_none : {mode : ℕ} (c : Picture mode) (pid low high : ℕ) (prot : Prot) → ((page : ℕ) → IsPage (top_level mode) page → low ≤ page → page < high → entry c pid page ≡ 0)
     → PermitsRow c c pid low high prot
 permits_none c pid low high prot none = permits_same c pid low high prot (λ page h least below. inl (none page h least below))
 
@@ -94,7 +96,7 @@ counts_moved t t' o prot e x counts (Kept some here writable stores is) =
     Kept some here writable (λ w. stores_moved t t' o prot e counts (stores.0 w), λ s. stores.1 (stores_moved t' t o prot e (sym counts) s)) is
 
 -- one row after the other
-pub permits_then : (a b c : Picture) (pid low mid high : ℕ) (prot : Prot) → low ≤ mid → mid ≤ high → PermitsRow a b pid low mid prot → PermitsRow b c pid mid high prot
+pub permits_then : {mode : ℕ} (a b c : Picture mode) (pid low mid high : ℕ) (prot : Prot) → low ≤ mid → mid ≤ high → PermitsRow a b pid low mid prot → PermitsRow b c pid mid high prot
     → PermitsRow a c pid low high prot
 permits_then a b c pid low mid high prot le le' one two = record {
   beside = beside_then a b c one.beside two.beside;
@@ -113,16 +115,16 @@ permits_then a b c pid low mid high prot le le' one two = record {
 }
 
 -- the entry of a page was set to one of that permission
-module _ (old new : Picture) (pid r page number : ℕ) (prot : Prot) (rooted : IsRootedBut old 0) (root : old.root pid ≡ Some r) (h : IsPage 2 page)
-    (sets : SetsEntry old.frames new.frames 2 r page number) (beside : SameBeside old new) where
+module _ {mode : ℕ} (old new : Picture mode) (pid r page number : ℕ) (prot : Prot) (rooted : IsRootedBut old 0) (root : old.root pid ≡ Some r) (h : IsPage (top_level mode) page)
+    (sets : SetsEntry old.frames new.frames (top_level mode) r page number) (beside : SameBeside old new) where
   page_permitted : SetsPage old new pid page number
   page_permitted = sets_page old new 0 pid r page number rooted root h sets beside
 
   pub rooted_permitted : IsRootedBut new 0
   rooted_permitted = rooted_set old new 0 r page number rooted sets beside
 
-  pub places_permitted : (row n : ℕ) → IsTableOf old.frames r row n → IsTableOf new.frames r row n
-  places_permitted row n = row_stays old.frames new.frames r page number sets r row n (rooted.roots pid r root)
+  pub places_permitted : (row n : ℕ) → IsTableOf old.frames (top_level mode) r row n → IsTableOf new.frames (top_level mode) r row n
+  places_permitted row n = row_stays old.frames new.frames (top_level mode) r page number sets r row n (rooted.roots pid r root)
 
   module _ (writable : Bool) (some : entry old pid page ≢ 0) (here : is_swapped (entry old pid page) ≡ false) (stores : (writable ≡ true) ↔ TakesStores old.frames (old.at pid page) prot (entry old pid page))
       (is : IsPermittedEntry prot writable (entry old pid page) number) where
@@ -152,13 +154,13 @@ module _ (old new : Picture) (pid r page number : ℕ) (prot : Prot) (rooted : I
           subst P at (subst Q (sym page_permitted.changed) (Kept some here writable stores is)));
     }
 
-behind_inside : (c : Picture) (b : Backing) (n : ℕ) → IsSound c.frames → HasPlaces c → IsBehind c b n → IsFrame c.frames n
+behind_inside : {mode : ℕ} (c : Picture mode) (b : Backing) (n : ℕ) → IsSound c.frames → HasPlaces c → IsBehind c b n → IsFrame c.frames n
 behind_inside c Backing.Anon n sound places behind = let least = sound.least in omega (arith, least, behind)
 behind_inside c (Backing.Private p) n sound places behind = inside_memory c.frames n sound (cache_used (role_of c.frames n) (places.cached (File p) n behind))
 behind_inside c (Backing.Shared p) n sound places behind = inside_memory c.frames n sound (cache_used (role_of c.frames n) (places.cached (File p) n behind))
 behind_inside c (Backing.Common p) n sound places behind = inside_memory c.frames n sound (cache_used (role_of c.frames n) (places.cached (Object p) n behind))
 
-named_for : (c : Picture) (o : Option Attr) (e : ℕ) → IsSound c.frames → HasPlaces c → IsEntryFor c o e → (is_private e ≡ true → role_of c.frames (frame_of e) ≡ Private)
+named_for : {mode : ℕ} (c : Picture mode) (o : Option Attr) (e : ℕ) → IsSound c.frames → HasPlaces c → IsEntryFor c o e → (is_private e ≡ true → role_of c.frames (frame_of e) ≡ Private)
     → e ≢ 0 → is_swapped e ≡ false → IsFrame c.frames (frame_of e)
 named_for c o e sound places (Parts.Nothing none) private some here = absurd (some none)
 named_for c o e sound places (Parts.Away a at away) private some here = absurd (false≢true (sym here ∙ away.swapped))
@@ -168,7 +170,7 @@ named_for c o e sound places (Parts.Resident a at resident) private some here = 
 ]
 
 -- each entry names a frame of memory, or its page lies in a slot
-pub named_entries : (c : Picture) (pid : ℕ) → IsSound c.frames → IsFit c → NamesFrames c pid
+pub named_entries : {mode : ℕ} (c : Picture mode) (pid : ℕ) → IsSound c.frames → IsFit c → NamesFrames c pid
 named_entries c pid sound fit page h some here =
     named_for c (c.at pid page) (entry c pid page) sound fit.places (fit.granting.entries pid page h)
     (λ own. fit.counted.1.named pid page (InFrame (frame_of (entry c pid page))) h (seat_own (entry c pid page) own)) some here

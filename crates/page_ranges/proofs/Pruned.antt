@@ -1,17 +1,18 @@
 -- Tables without entries given back.
-use Rattle.std.proofs.Common.{◌≡◌, ◌≢◌, ℕ, zero, suc, inl, inr, ◌⊎◌, ◌-◌, ◌/◌, ◌<◌, ◌≤◌, true, false, Option, Some, refl, sym, ap, ◌∙◌, subst, arith}
+use Rattle.vm_types.specs.Limits.{top_level}
+use Rattle.std.proofs.Common.{◌≡◌, ◌≢◌, ℕ, suc, inl, inr, ◌⊎◌, ◌-◌, ◌/◌, ◌^◌, ◌<◌, ◌≤◌, Option, Some, refl, sym, ap, ◌∙◌, subst, arith}
 use Rattle.std.specs.Prelude.{IsSome}
-use Rattle.std.proofs.lemmas.Bool.{cases_eq, cases_lt, false≢true}
+use Rattle.std.proofs.lemmas.Bool.{cases_eq, cases_lt}
 use Rattle.vm_types.specs.declared.region.Attr.{Attr}
 use Rattle.frames.specs.declared.role.Role.{Role}
 use Rattle.frames.specs.declared.role.Role.TheVariants.{Free, Zero, Table, Private, Cache}
 use Rattle.frames.specs.FrameTable.{FrameTable, IsFrame, role_of, IsSound}
-use Rattle.sv39_walk.specs.Entry.{entry_at, is_pointer}
 use Rattle.sv39_walk.specs.Walk.{index_of}
-use Rattle.page_tables.specs.Tree.{IsPage, IsTable, IsRoot, Way, IsBelowRoot, last_table, missing_of, page_entry}
+use Rattle.page_tables.specs.Tree.{IsPage, IsTable, IsForest, IsRoot, last_table, Way, IsBelowRoot, missing_of, page_entry}
 use Rattle.page_tables.specs.Change.{Prunes, IsPruned}
 use Rattle.page_tables.proofs.Ways.{ends, only_way}
 use Rattle.page_tables.proofs.Ends.{missing_of-is}
+use Rattle.page_tables.proofs.Needed.{stay_way, still_used}
 use Rattle.paging.specs.Seats.{Seat, InFrame, InSlot, seat}
 use Rattle.paging.specs.Picture.{Picture, entry, bytes_in, IsOwned}
 use Rattle.paging.specs.Parts.{IsEntryFor, Nothing, Resident, Away, IsUsed, AsRoot, OnWay, IsMapped, IsRootedBut, IsFit, nowhere}
@@ -22,8 +23,6 @@ use Rattle.paging.proofs.Rooted.{used_kept}
 use Rattle.paging.proofs.Setting.{view_seated, each_view, held_same}
 use Rattle.page_ranges.specs.Steps.{IsBeside, SameTables, Clears, IsMappedBeside, IsWithoutTables, IsCleared}
 use Rattle.page_ranges.proofs.ClearedPages.{but_memory, slots_none}
-use Rattle.page_ranges.proofs.Gaps.{index_one, index_two, index_high}
-use Rattle.page_ranges.proofs.Needed.{stay_way, still_used}
 use Rattle.page_ranges.proofs.Sharing.{inside_memory, private_data, cache_data}
 
 cases_table : (r : Role) → (r ≡ Table) ⊎ (r ≢ Table)
@@ -63,18 +62,27 @@ shares_pruned old new top root page sound prunes =
       counts = λ n e. prunes.kept.counts n (λ t. (let bad : Private ≡ Table = sym e ∙ t in (cc)));
     }
 
-mapped_still : (old new : Picture) → SameBeside old new → (q p : ℕ) → IsMapped old q p → IsMapped new q p
+-- where all tables but the root are missing none is left without entries
+pub root_pruned : (t : FrameTable) (top r page : ℕ) → IsForest t → IsTable t r → missing_of t top r page ≡ top → IsPruned t top r page
+root_pruned t top r page forest table all =
+    let end = ends t top r page forest table in
+    let n = (last_table t page top r).1 in
+    let none : top - (last_table t page top r).0 ≡ 0 = (let e = sym (missing_of-is t top r page) ∙ all in omega (arith, e)) in
+    let P : ℕ → Type 0 = λ x. Way t top r page x n in
+    record { last = inl (subst P none end.way) }
+
+mapped_still : {mode : ℕ} (old new : Picture mode) → SameBeside old new → (q p : ℕ) → IsMapped old q p → IsMapped new q p
 mapped_still old new beside q p some = let P : Option Attr → Type 0 = λ x. IsSome x in subst P (sym (beside.at q p)) some
 
-some_mapped : (c : Picture) (o : Option Attr) (e : ℕ) → IsEntryFor c o e → e ≢ 0 → IsSome o
+some_mapped : {mode : ℕ} (c : Picture mode) (o : Option Attr) (e : ℕ) → IsEntryFor c o e → e ≢ 0 → IsSome o
 some_mapped c o e (Nothing none) some = absurd (some none)
 some_mapped c o e (Resident a is resident) some = let P : Option Attr → Type 0 = λ x. IsSome x in subst P (sym is) refl
 some_mapped c o e (Away a is away) some = let P : Option Attr → Type 0 = λ x. IsSome x in subst P (sym is) refl
 
 -- tables without entries were given back, on the way to the page `start`
-module _ (old new : Picture) (pid r start : ℕ) (fit : IsFit old) (sound : IsSound old.frames) (root : old.root pid ≡ Some r)
-    (prunes : Prunes old.frames new.frames 2 r start) (beside : SameBeside old new) where
-  is_root : IsRoot 2 old.frames r
+module _ {mode : ℕ} (old new : Picture mode) (pid r start : ℕ) (fit : IsFit old) (sound : IsSound old.frames) (root : old.root pid ≡ Some r)
+    (prunes : Prunes old.frames new.frames (top_level mode) r start) (beside : SameBeside old new) where
+  is_root : IsRoot (top_level mode) old.frames r
   is_root = fit.rooted.roots pid r root
 
   -- a table that stays is used as it was
@@ -82,7 +90,7 @@ module _ (old new : Picture) (pid r start : ℕ) (fit : IsFit old) (sound : IsSo
   used_stays mapped mapped' m table maps (AsRoot q is) = AsRoot q (beside.root q ∙ is)
   used_stays mapped mapped' m table maps (OnWay q x p is here below) =
       OnWay q x p (beside.root q ∙ is) (maps q p here)
-      (below.0, below.1, stay_way old.frames new.frames r start fit.rooted.forest prunes x p (suc below.0) m table below.2)
+      (below.0, below.1, stay_way old.frames new.frames (top_level mode) r start fit.rooted.forest prunes x p (suc below.0) m table below.2)
 
   rooted_pruned : IsRootedBut new 0
   rooted_pruned =
@@ -102,7 +110,7 @@ module _ (old new : Picture) (pid r start : ℕ) (fit : IsFit old) (sound : IsSo
   same_pruned = entries_kept old new 0 fit.rooted prunes.entries beside.root
 
   shares : KeepsShares old.frames new.frames
-  shares = shares_pruned old.frames new.frames 2 r start sound prunes
+  shares = shares_pruned old.frames new.frames (top_level mode) r start sound prunes
 
   pub fit_pruned : IsFit new
   fit_pruned = fit_same old new nowhere 0 0 0 fit beside shares (λ q p h. same_pruned q p) rooted_pruned
@@ -111,7 +119,7 @@ module _ (old new : Picture) (pid r start : ℕ) (fit : IsFit old) (sound : IsSo
   seat_bytes (InFrame n) is = prunes.kept.bytes n (private_data (role_of old.frames n) is)
   seat_bytes (InSlot k) is = ap (λ t. t.bytes k) beside.slots
 
-  pub clears_pruned : (low high : ℕ) → ((page : ℕ) → IsPage 2 page → low ≤ page → page < high → entry old pid page ≡ 0) → Clears old new pid low high
+  pub clears_pruned : (low high : ℕ) → ((page : ℕ) → IsPage (top_level mode) page → low ≤ page → page < high → entry old pid page ≡ 0) → Clears old new pid low high
   clears_pruned low high none = record {
     beside = but_memory old new beside;
     returned = record {
@@ -133,14 +141,14 @@ module _ (old new : Picture) (pid r start : ℕ) (fit : IsFit old) (sound : IsSo
   }
 
   -- where the pages from low on, as far as `start`, were cleared before, and those from there on have no entries
-  module _ (low stop : ℕ) (le : low ≤ start) (cleared : IsCleared old pid low start) (none : (page : ℕ) → IsPage 2 page → start ≤ page → page < stop → entry old pid page ≡ 0) where
-    none_now : (page : ℕ) → IsPage 2 page → low ≤ page → page < stop → entry new pid page ≡ 0
+  module _ (low stop : ℕ) (le : low ≤ start) (cleared : IsCleared old pid low start) (none : (page : ℕ) → IsPage (top_level mode) page → start ≤ page → page < stop → entry old pid page ≡ 0) where
+    none_now : (page : ℕ) → IsPage (top_level mode) page → low ≤ page → page < stop → entry new pid page ≡ 0
     none_now page h least below = elim (cases_lt page start) [
       | inl front ↦ same_pruned pid page ∙ cleared.none page h least front
       | inr back ↦ same_pruned pid page ∙ none page h back below
     ]
 
-    beside_now : (p : ℕ) → IsPage 2 p → entry new pid p ≢ 0 → IsBeside pid low stop pid p
+    beside_now : (p : ℕ) → IsPage (top_level mode) p → entry new pid p ≢ 0 → IsBeside pid low stop pid p
     beside_now p h some = elim (cases_lt p low) [
       | inl below ↦ inr (inl below)
       | inr from ↦ elim (cases_lt p stop) [
@@ -149,7 +157,7 @@ module _ (old new : Picture) (pid r start : ℕ) (fit : IsFit old) (sound : IsSo
       ]
     ]
 
-    some_now : (p : ℕ) → IsPage 2 p → entry new pid p ≢ 0 → IsMappedBeside new pid low stop pid p
+    some_now : (p : ℕ) → IsPage (top_level mode) p → entry new pid p ≢ 0 → IsMappedBeside new pid low stop pid p
     some_now p h some = (
       some_mapped new (new.at pid p) (entry new pid p) (fit_pruned.granting.entries pid p h) some,
       beside_now p h some,
@@ -175,32 +183,36 @@ module _ (old new : Picture) (pid r start : ℕ) (fit : IsFit old) (sound : IsSo
     ]
 
     -- a page that is mapped still, and isn't one of those, needs the tables that stay
-    still_on : (q x p m : ℕ) → IsTable new.frames m → old.root q ≡ Some x → IsMappedBeside new pid low stop q p → IsBelowRoot old.frames 2 x p m → IsUsed new (IsMappedBeside new pid low stop) m
+    still_on : (q x p m : ℕ) → IsTable new.frames m → old.root q ≡ Some x → IsMappedBeside new pid low stop q p → IsBelowRoot old.frames (top_level mode) x p m → IsUsed new (IsMappedBeside new pid low stop) m
     still_on q x p m table is after below =
-        OnWay q x p (beside.root q ∙ is) after (below.0, below.1, stay_way old.frames new.frames r start fit.rooted.forest prunes x p (suc below.0) m table below.2)
+        OnWay q x p (beside.root q ∙ is) after (below.0, below.1, stay_way old.frames new.frames (top_level mode) r start fit.rooted.forest prunes x p (suc below.0) m table below.2)
 
     -- a table below the root is on the way to a page that isn't cleared before
-    needed_before : (m p d : ℕ) → d < 2 → Way old.frames 2 r p (suc d) m → (q : ℕ) × IsMappedBeside old pid low start pid q × IsBelowRoot old.frames 2 r q m
-    needed_before m p d below w = by_use (cleared.tables m (fit.rooted.forest.onto_tables w.0 (index_of p (2 - d)) m w.2))
+    needed_before : (m p d : ℕ) → d < top_level mode → Way old.frames (top_level mode) r p (suc d) m
+        → (q : ℕ) × IsMappedBeside old pid low start pid q × IsBelowRoot old.frames (top_level mode) r q m
+    needed_before m p d below w = by_use (cleared.tables m (fit.rooted.forest.onto_tables w.0 (index_of p (top_level mode - d)) m w.2))
       where
-        by_use : IsUsed old (IsMappedBeside old pid low start) m → (q : ℕ) × IsMappedBeside old pid low start pid q × IsBelowRoot old.frames 2 r q m
-        by_use (AsRoot q is) = absurd ((fit.rooted.roots q m is).unlinked w.0 (index_of p (2 - d)) w.2)
+        by_use : IsUsed old (IsMappedBeside old pid low start) m → (q : ℕ) × IsMappedBeside old pid low start pid q × IsBelowRoot old.frames (top_level mode) r q m
+        by_use (AsRoot q is) = absurd ((fit.rooted.roots q m is).unlinked w.0 (index_of p (top_level mode - d)) w.2)
         by_use (OnWay q x k is here under) =
-            let one = only_way old.frames 2 fit.rooted.forest r p x k is_root.unlinked (fit.rooted.roots q x is).unlinked (suc d) (suc under.0) m w under.2 in
+            let one = only_way old.frames (top_level mode) fit.rooted.forest r p x k is_root.unlinked (fit.rooted.roots q x is).unlinked (suc d) (suc under.0) m w under.2 in
             let mine : old.root q ≡ Some r = is ∙ ap (λ y. Some y) (sym one.1) in
             let who : q ≡ pid = fit.rooted.apart q pid r mine root in
             let P : ℕ → Type 0 = λ y. IsMappedBeside old pid low start y k in
-            let Q : ℕ → Type 0 = λ y. IsBelowRoot old.frames 2 y k m in
+            let Q : ℕ → Type 0 = λ y. IsBelowRoot old.frames (top_level mode) y k m in
             (k, subst P who here, subst Q (sym one.1) under)
 
-    module _ (pruned : IsPruned new.frames 2 r start) (one_table : (p : ℕ) → start ≤ p → p < stop → p / 512 ≡ start / 512) where
-      block : (p : ℕ) → IsMappedBeside old pid low start pid p → IsMappedBeside new pid low stop pid p ⊎ ((index_of p 2 ≡ index_of start 2) × (index_of p 1 ≡ index_of start 1))
+    -- the pages that are cleared now lie in one block, those of a lowest table, or those in the place of a missing one
+    module _ (pruned : IsPruned new.frames (top_level mode) r start) (inside : IsPage (top_level mode) start)
+        (e : ℕ) (positive : 0 < e) (size : (e ≡ 1) ⊎ (e ≡ missing_of old.frames (top_level mode) r start))
+        (one_table : (p : ℕ) → start ≤ p → p < stop → p / 512 ^ e ≡ start / 512 ^ e) where
+      block : (p : ℕ) → IsMappedBeside old pid low start pid p → IsMappedBeside new pid low stop pid p ⊎ (p / 512 ^ e ≡ start / 512 ^ e)
       block p here = elim (kept_page pid p here) [
         | inl after ↦ inl after
-        | inr inside ↦ (let row = one_table p inside.1 inside.2 in inr (index_two p start row, index_one p start row))
+        | inr between ↦ inr (one_table p between.1 between.2)
       ]
 
-      entry_new : (p : ℕ) → entry new pid p ≡ page_entry new.frames 2 r p
+      entry_new : (p : ℕ) → entry new pid p ≡ page_entry new.frames (top_level mode) r p
       entry_new p = entry-of new pid r p (beside.root pid ∙ root)
 
       tables_block : IsWithoutTables new pid low stop
@@ -210,59 +222,22 @@ module _ (old new : Picture) (pid r start : ℕ) (fit : IsFit old) (sound : IsSo
           by_use (AsRoot q is) = AsRoot q (beside.root q ∙ is)
           by_use (OnWay q x p is here below) = elim (kept_page q p here) [
             | inl after ↦ still_on q x p m table is after below
-            | inr inside ↦ (
-                let who : old.root pid ≡ Some x = ap old.root (sym inside.0) ∙ is in
+            | inr between ↦ (
+                let who : old.root pid ≡ Some x = ap old.root (sym between.0) ∙ is in
                 let same : Some x ≡ Some r = sym who ∙ root in
                 let mine : x ≡ r = (cc) in
-                let W : ℕ → Type 0 = λ y. Way old.frames 2 y p (suc below.0) m in
+                let W : ℕ → Type 0 = λ y. Way old.frames (top_level mode) y p (suc below.0) m in
                 let Q : ℕ → Type 0 = λ y. IsMappedBeside old pid low start y p in
-                let left = still_used old.frames new.frames r start fit.rooted.forest is_root prunes pruned (IsMappedBeside old pid low start pid) (IsMappedBeside new pid low stop pid) block
-                (λ k h some. some_now k h (λ none'. some (sym (entry_new k) ∙ none'))) needed_before m p below.0 below.1 table (subst Q inside.0 here) (subst W mine below.2) in
+                let left = still_used (top_level mode) old.frames new.frames r start fit.rooted.forest is_root prunes pruned inside e positive size (IsMappedBeside old pid low start pid) (IsMappedBeside new pid low stop pid) block
+                (λ k h some. some_now k h (λ none'. some (sym (entry_new k) ∙ none'))) needed_before m p below.0 below.1 table (subst Q between.0 here) (subst W mine below.2) in
                 OnWay pid r left.0 (beside.root pid ∙ root) left.1 left.2)
           ]
 
       pub cleared_block : IsCleared new pid low stop
       cleared_block = record { none = none_now; tables = tables_block }
 
-    -- where two tables are missing no table is on the way to those pages
-    module _ (two : missing_of old.frames 2 r start ≡ 2) (one_table : (p : ℕ) → start ≤ p → p < stop → p / 262144 ≡ start / 262144) where
-      stops : is_pointer (entry_at old.frames r (index_of start 2)) ≡ false
-      stops =
-          let end = ends old.frames 2 r start fit.rooted.forest is_root.table in
-          let level : (last_table old.frames start 2 r).0 ≡ 2 = sym (missing_of-is old.frames 2 r start) ∙ two in
-          let P : ℕ → Type 0 = λ x. Way old.frames 2 r start (2 - x) (last_table old.frames start 2 r).1 in
-          let top : (last_table old.frames start 2 r).1 ≡ r = subst P level end.way in
-          let Q : ℕ → Type 0 = λ x. is_pointer (entry_at old.frames (last_table old.frames start 2 r).1 (index_of start x)) ≡ false in
-          let S : ℕ → Type 0 = λ x. is_pointer (entry_at old.frames x (index_of start 2)) ≡ false in
-          subst S top (subst Q level (end.stops (omega (arith, level))))
-
-      first_pointer : (p d m : ℕ) → d < 2 → Way old.frames 2 r p (suc d) m → is_pointer (entry_at old.frames r (index_of p 2)) ≡ true
-      first_pointer p zero m below w = let Q : ℕ → Type 0 = λ x. is_pointer (entry_at old.frames x (index_of p 2)) ≡ true in subst Q w.1 w.2.pointer
-      first_pointer p (suc zero) m below w = let Q : ℕ → Type 0 = λ x. is_pointer (entry_at old.frames x (index_of p 2)) ≡ true in subst Q w.1.1 w.1.2.pointer
-      first_pointer p (suc (suc d)) m below w = absurd (omega arith)
-
-      tables_far : IsWithoutTables new pid low stop
-      tables_far m table = by_use (cleared.tables m (prunes.kept.tables m table))
-        where
-          by_use : IsUsed old (IsMappedBeside old pid low start) m → IsUsed new (IsMappedBeside new pid low stop) m
-          by_use (AsRoot q is) = AsRoot q (beside.root q ∙ is)
-          by_use (OnWay q x p is here below) = elim (kept_page q p here) [
-            | inl after ↦ still_on q x p m table is after below
-            | inr inside ↦ (
-                let who : old.root pid ≡ Some x = ap old.root (sym inside.0) ∙ is in
-                let same : Some x ≡ Some r = sym who ∙ root in
-                let mine : x ≡ r = (cc) in
-                let W : ℕ → Type 0 = λ y. Way old.frames 2 y p (suc below.0) m in
-                let pointer = first_pointer p below.0 m below.1 (subst W mine below.2) in
-                let at : index_of p 2 ≡ index_of start 2 = index_high p start (one_table p inside.1 inside.2) in
-                absurd (false≢true (sym stops ∙ sym (ap (λ i. is_pointer (entry_at old.frames r i)) at) ∙ pointer)))
-          ]
-
-      pub cleared_far : IsCleared new pid low stop
-      cleared_far = record { none = none_now; tables = tables_far }
-
 -- no page was cleared yet
-pub cleared_none : (c : Picture) (pid page : ℕ) → IsFit c → IsSound c.frames → IsCleared c pid page page
+pub cleared_none : {mode : ℕ} (c : Picture mode) (pid page : ℕ) → IsFit c → IsSound c.frames → IsCleared c pid page page
 cleared_none c pid page fit sound = record {
   none = λ k h least below. absurd (omega (arith, least, below));
   tables = λ m table. elim (fit.rooted.used m table) [
@@ -278,7 +253,7 @@ cleared_none c pid page fit sound = record {
     ]
 
 -- pages that were cleared before stay so while those from `start` on are
-pub cleared_still : (a b : Picture) (pid low start stop : ℕ) → Clears a b pid start stop → SameTables a.frames b.frames → IsCleared a pid low start → IsCleared b pid low start
+pub cleared_still : {mode : ℕ} (a b : Picture mode) (pid low start stop : ℕ) → Clears a b pid start stop → SameTables a.frames b.frames → IsCleared a pid low start → IsCleared b pid low start
 cleared_still a b pid low start stop clears same cleared = record {
   none = λ k h least below. clears.kept pid k h (inr (inl below)) ∙ cleared.none k h least below;
   tables = λ m table. used_kept a b (IsMappedBeside a pid low start) (IsMappedBeside b pid low start) m (λ x i y p. (same.pointers x i y).0 p) clears.beside.root

@@ -1,4 +1,6 @@
 -- A row of pages with another permission, and the regions that say so.
+use Rattle.vm_types.specs.Limits.{user_end, top_level}
+use Rattle.vm_types.proofs.Modes.{user_pages_fit}
 use Rattle.std.proofs.Common.{◌≡◌, ℕ, inl, inr, ◌⊎◌, ◌+◌, ◌<◌, ◌≤◌, ◌^◌, ◌↔◌, Bool, true, false, List, Option, Some, None, get_or, refl, sym, ap, ◌∙◌, subst, arith}
 use Rattle.std.specs.Prelude.{IsSome, IfSome, leb, ltb, option_map, if◌then◌else◌}
 use Rattle.std.proofs.lemmas.Bool.{cases_eq, cases_lt, cases_Bool, and_from, le-leb, lt-ltb, false≢true}
@@ -53,11 +55,12 @@ fits_still (Some a) prot true fits = fits
 fits_still (Some a) prot false fits = fits
 
 -- another permission maps no page
-pub user_protected : (map : ℕ → Option Attr) (first pages : ℕ) (prot : Prot) → IsUserMap map → IsUserMap (protected map first pages prot)
-user_protected map first pages prot user = record {
-  user_pages = λ page some. user.user_pages page (mapped_before (map page) prot (in_row first pages page) some);
-  file_pages = λ page. fits_still (map page) prot (in_row first pages page) (user.file_pages page);
-}
+module _ (mode : ℕ) where
+  pub user_protected : (map : ℕ → Option Attr) (first pages : ℕ) (prot : Prot) → IsUserMap mode map → IsUserMap mode (protected map first pages prot)
+  user_protected map first pages prot user = record {
+    user_pages = λ page some. user.user_pages page (mapped_before (map page) prot (in_row first pages page) some);
+    file_pages = λ page. fits_still (map page) prot (in_row first pages page) (user.file_pages page);
+  }
 
 -- a page lies in the seat that it had
 seat_still : (t : FrameTable) (o : Option Attr) (prot : Prot) (e e' : ℕ) → Permits t o prot e e' → seat e' ≡ seat e
@@ -72,7 +75,7 @@ shared_one : (o : Option Attr) (a : Attr) → o ≡ Some a → is_mapped_shared 
 shared_one o a is shared = ap is_mapped_shared (sym is) ∙ shared
 
 -- what the page is now, with the entry that it has now
-resident_permitted : (new : Picture) (t : FrameTable) (o : Option Attr) (a : Attr) (prot : Prot) (writable : Bool) (e e' : ℕ) → o ≡ Some a
+resident_permitted : {mode : ℕ} (new : Picture mode) (t : FrameTable) (o : Option Attr) (a : Attr) (prot : Prot) (writable : Bool) (e e' : ℕ) → o ≡ Some a
     → new.frames.counts ≡ t.counts → ((writable ≡ true) ↔ TakesStores t o prot e) → IsPermittedEntry prot writable e e' → IsResident new a e → IsResident new (with_prot prot a) e'
 resident_permitted new t o a prot writable e e' at counts stores permitted resident =
     let is = allowed prot writable e e' permitted in
@@ -97,7 +100,7 @@ resident_permitted new t o a prot writable e e' at counts stores permitted resid
     }
 
 -- nor does a permission change what the entry of a page in a slot says
-away_permitted : (new : Picture) (o : Option Attr) (prot : Prot) (e : ℕ) → is_swapped e ≡ true → IsEntryFor new o e → IsEntryFor new (option_map (with_prot prot) o) e
+away_permitted : {mode : ℕ} (new : Picture mode) (o : Option Attr) (prot : Prot) (e : ℕ) → is_swapped e ≡ true → IsEntryFor new o e → IsEntryFor new (option_map (with_prot prot) o) e
 away_permitted new o prot e away (Parts.Nothing none) = Parts.Nothing none
 away_permitted new o prot e away (Parts.Resident a at resident) = elim (cases_Bool (is_valid e)) [
   | inl valid ↦ absurd (false≢true (sym (let z : is_swapped e ≡ false = rw valid refl in z) ∙ away))
@@ -106,7 +109,7 @@ away_permitted new o prot e away (Parts.Resident a at resident) = elim (cases_Bo
 away_permitted new o prot e away (Parts.Away a at swapped) = Parts.Away (with_prot prot a) (ap (option_map (with_prot prot)) at)
     (record { swapped = swapped.swapped; common = swapped.common; inside = swapped.inside; not_shared = swapped.not_shared })
 
-entry_permitted : (new : Picture) (t : FrameTable) (o : Option Attr) (prot : Prot) (e e' : ℕ) → new.frames.counts ≡ t.counts → Permits t o prot e e' → IsEntryFor new o e
+entry_permitted : {mode : ℕ} (new : Picture mode) (t : FrameTable) (o : Option Attr) (prot : Prot) (e e' : ℕ) → new.frames.counts ≡ t.counts → Permits t o prot e e' → IsEntryFor new o e
     → IsEntryFor new (option_map (with_prot prot) o) e'
 entry_permitted new t o prot e e' counts (Empty none none') for = Parts.Nothing none'
 entry_permitted new t o prot e e' counts (Away away is) for =
@@ -143,12 +146,12 @@ view_permitted : (prot : Prot) (o : Option Attr) (own own' : Option (List ℕ)) 
 view_permitted prot None own own' same = refl
 view_permitted prot (Some a) own own' same = ap (λ w. Some (record { attr = with_prot prot a; own = w })) same
 
-own_kept : (old new : Picture) (o o' : Option Seat) → o' ≡ o → ((z : Seat) → o ≡ Some z → bytes_in new.frames new.slots z ≡ bytes_in old.frames old.slots z)
+own_kept : {mode : ℕ} (old new : Picture mode) (o o' : Option Seat) → o' ≡ o → ((z : Seat) → o ≡ Some z → bytes_in new.frames new.slots z ≡ bytes_in old.frames old.slots z)
     → option_map (bytes_in new.frames new.slots) o' ≡ option_map (bytes_in old.frames old.slots) o
 own_kept old new None o' e each = ap (λ x. option_map (bytes_in new.frames new.slots) x) e
 own_kept old new (Some z) o' e each = ap (λ x. option_map (bytes_in new.frames new.slots) x) e ∙ ap (λ b. Some b) (each z refl)
 
-pub view-is : (c : Picture) (pid page : ℕ) → view c pid page ≡ view_of (own_in c.frames c.slots (entry c pid page)) (c.at pid page)
+pub view-is : {mode : ℕ} (c : Picture mode) (pid page : ℕ) → view c pid page ≡ view_of (own_in c.frames c.slots (entry c pid page)) (c.at pid page)
 unfolding view
 view-is c pid page = refl
 
@@ -160,10 +163,10 @@ some_protected (Some a) prot false some = refl
 
 -- The pages from low to high, which are the user pages of a row, have entries of that permission; then the process got
 -- the regions.
-module _ (old mid new : Picture) (pid first pages low high : ℕ) (prot : Prot) (fit : IsFit old) (permits : PermitsRow old mid pid low high prot)
+module _ {mode : ℕ} (old mid new : Picture mode) (pid first pages low high : ℕ) (prot : Prot) (fit : IsFit old) (permits : PermitsRow old mid pid low high prot)
     (rooted : IsRootedBut mid 0) (remaps : Remaps mid new pid)
     (at : (page : ℕ) → new.at pid page ≡ protected (old.at pid) first pages prot page) (reads : ReadsToo prot)
-    (row : first + pages ≤ 2 ^ 26) (begins : (low ≡ first) ⊎ ((low ≡ 16) × (first < 16))) (reaches : first + pages ≤ high)
+    (row : first + pages ≤ user_end mode) (begins : (low ≡ first) ⊎ ((low ≡ 16) × (first < 16))) (reaches : first + pages ≤ high)
     (ends : (high ≡ low) ⊎ (high ≡ first + pages)) where
   role : (m : ℕ) → role_of new.frames m ≡ role_of old.frames m
   role m = ap (λ t. role_of t m) remaps.frames ∙ ap (λ rs. get_or rs m Free) permits.memory.roles
@@ -196,12 +199,12 @@ module _ (old mid new : Picture) (pid first pages low high : ℕ) (prot : Prot) 
   files f = remaps.files f ∙ permits.beside.files f
 
   same_entry : (q page : ℕ) → entry new q page ≡ entry mid q page
-  same_entry = entries_kept mid new 0 rooted (λ r p is_root. ap (λ t. page_entry t 2 r p) remaps.frames) remaps.root
+  same_entry = entries_kept mid new 0 rooted (λ r p is_root. ap (λ t. page_entry t (top_level mode) r p) remaps.frames) remaps.root
 
-  kept : (q page : ℕ) → IsPage 2 page → IsBeside pid low high q page → entry new q page ≡ entry old q page
+  kept : (q page : ℕ) → IsPage (top_level mode) page → IsBeside pid low high q page → entry new q page ≡ entry old q page
   kept q page h out = same_entry q page ∙ permits.kept q page h out
 
-  changed : (page : ℕ) → IsPage 2 page → low ≤ page → page < high → Permits old.frames (old.at pid page) prot (entry old pid page) (entry new pid page)
+  changed : (page : ℕ) → IsPage (top_level mode) page → low ≤ page → page < high → Permits old.frames (old.at pid page) prot (entry old pid page) (entry new pid page)
   changed page h least below =
       let P : ℕ → Type 0 = λ x. Permits old.frames (old.at pid page) prot (entry old pid page) x in
       subst P (sym (same_entry pid page)) (permits.changed page h least below)
@@ -221,7 +224,7 @@ module _ (old mid new : Picture) (pid first pages low high : ℕ) (prot : Prot) 
   seats : SameSeats old new
   seats = record { roles = role; counts = count; slots = slots; page_of = page_of; place = place }
 
-  seat_here : (q page : ℕ) → IsPage 2 page → seat (entry new q page) ≡ seat (entry old q page)
+  seat_here : (q page : ℕ) → IsPage (top_level mode) page → seat (entry new q page) ≡ seat (entry old q page)
   seat_here q page h = elim (by_row q page) [
     | inl out ↦ ap seat (kept q page h out)
     | inr here ↦ (
@@ -280,18 +283,18 @@ module _ (old mid new : Picture) (pid first pages low high : ℕ) (prot : Prot) 
     | inr ne ↦ remaps.others q page ne ∙ permits.beside.at q page
   ]
 
-  entry_none : (page : ℕ) → IsPage 2 page → IsBeside pid low high pid page → in_row first pages page ≡ true → entry old pid page ≡ 0
+  entry_none : (page : ℕ) → IsPage (top_level mode) page → IsBeside pid low high pid page → in_row first pages page ≡ true → entry old pid page ≡ 0
   entry_none page h out e = low_zero old pid page fit.granting (under_sixteen page out e)
 
   keeps_behind : KeepsBehind old new
   keeps_behind = record { place = λ p n e. place p ∙ e; files = files }
 
-  fits_still_here : (q page : ℕ) → IsPage 2 page → IsEntryFor new (old.at q page) (entry old q page)
+  fits_still_here : (q page : ℕ) → IsPage (top_level mode) page → IsEntryFor new (old.at q page) (entry old q page)
   fits_still_here q page h =
       entry_for-same old new (old.at q page) (entry old q page) keeps_behind (λ private write one. count (frame_of (entry old q page)) ∙ one)
       (fit.granting.entries q page h)
 
-  fits : (q page : ℕ) → IsPage 2 page → IsEntryFor new (new.at q page) (entry new q page)
+  fits : (q page : ℕ) → IsPage (top_level mode) page → IsEntryFor new (new.at q page) (entry new q page)
   fits q page h = elim (by_row q page) [
     | inl out ↦ rw (at_beside q page out, kept q page h out) (fits_still_here q page h)
     | inr here ↦ (
@@ -313,7 +316,7 @@ module _ (old mid new : Picture) (pid first pages low high : ℕ) (prot : Prot) 
     | inr ne ↦ ap (λ a. uses a object) (remaps.others q k ne ∙ permits.beside.at q k)
   ]
 
-  dirty_still : (q page : ℕ) (p : PageKey) → IsPage 2 page → is_valid (entry new q page) ≡ true → is_private (entry new q page) ≡ false → is_dirty (entry new q page) ≡ true
+  dirty_still : (q page : ℕ) (p : PageKey) → IsPage (top_level mode) page → is_valid (entry new q page) ≡ true → is_private (entry new q page) ≡ false → is_dirty (entry new q page) ≡ true
       → new.place p ≡ Frame (record { 0 = frame_of (entry new q page) }) → new.touched p ≡ true
   dirty_still q page p h valid common dirty there = elim (by_row q page) [
     | inl out ↦ (
@@ -348,7 +351,7 @@ module _ (old mid new : Picture) (pid first pages low high : ℕ) (prot : Prot) 
       let was : (q r : ℕ) → new.root q ≡ Some r → mid.root q ≡ Some r = λ q r e. sym (remaps.root q) ∙ e in
       record {
         forest = (let P : FrameTable → Type 0 = λ t. IsForest t in subst P (sym remaps.frames) rooted.forest);
-        roots = λ q r e. (let P : FrameTable → Type 0 = λ t. IsRoot 2 t r in subst P (sym remaps.frames) (rooted.roots q r (was q r e)));
+        roots = λ q r e. (let P : FrameTable → Type 0 = λ t. IsRoot (top_level mode) t r in subst P (sym remaps.frames) (rooted.roots q r (was q r e)));
         apart = λ p q r e f. rooted.apart p q r (was p r e) (was q r f);
         numbers = λ q r e. rooted.numbers q r (was q r e);
         used = λ m table. elim (rooted.used m (let P : FrameTable → Type 0 = λ t. IsTable t m in subst P remaps.frames table)) [
@@ -362,7 +365,7 @@ module _ (old mid new : Picture) (pid first pages low high : ℕ) (prot : Prot) 
   fit_reprotected = record {
     counted = (
       fit.counted.0,
-      counted_same (entry old) (entry new) (IsOwned old) (IsOwned new) (count_in old) (count_in new) (page_in old fit.counted.0) (page_in new fit.counted.0)
+      counted_same mode (entry old) (entry new) (IsOwned old) (IsOwned new) (count_in old) (count_in new) (page_in old fit.counted.0) (page_in new fit.counted.0)
           seat_here nowhere 0 fit.counted.1 (owned_on old new seats) (owned_before old new seats) (counts_on old new seats) (pages_on old new seats fit.counted.0),
     );
     rooted = rooted_new;
@@ -370,9 +373,9 @@ module _ (old mid new : Picture) (pid first pages low high : ℕ) (prot : Prot) 
       entries = fits;
       user = λ q. elim (cases_eq q pid) [
         | inl is ↦ (
-            let P : ℕ → Type 0 = λ x. IsUserMap (new.at x) in
-            subst P (sym is) (user_map-same (protected (old.at pid) first pages prot) (new.at pid) at (user_protected (old.at pid) first pages prot (fit.granting.user pid))))
-        | inr ne ↦ user_map-same (old.at q) (new.at q) (λ page. remaps.others q page ne ∙ permits.beside.at q page) (fit.granting.user q)
+            let P : ℕ → Type 0 = λ x. IsUserMap mode (new.at x) in
+            subst P (sym is) (user_map-same mode (protected (old.at pid) first pages prot) (new.at pid) at (user_protected mode (old.at pid) first pages prot (fit.granting.user pid))))
+        | inr ne ↦ user_map-same mode (old.at q) (new.at q) (λ page. remaps.others q page ne ∙ permits.beside.at q page) (fit.granting.user q)
       ];
       readable = λ q. elim (cases_eq q pid) [
         | inl is ↦ (
@@ -394,19 +397,19 @@ module _ (old mid new : Picture) (pid first pages low high : ℕ) (prot : Prot) 
   seat_bytes (InFrame n) is = bytes n (private_data (role_of old.frames n) is)
   seat_bytes (InSlot k) is = ap (λ t. t.bytes k) slots
 
-  own_bytes : (q page : ℕ) → IsPage 2 page → (z : Seat) → seat (entry old q page) ≡ Some z → bytes_in new.frames new.slots z ≡ bytes_in old.frames old.slots z
+  own_bytes : (q page : ℕ) → IsPage (top_level mode) page → (z : Seat) → seat (entry old q page) ≡ Some z → bytes_in new.frames new.slots z ≡ bytes_in old.frames old.slots z
   own_bytes q page h z is = seat_bytes z (fit.counted.1.named q page z h is)
 
   view_beside : (q page : ℕ) → IsBeside pid low high q page → view new q page ≡ view old q page
-  view_beside q page out = elim (cases_lt page (512 ^ 3)) [
+  view_beside q page out = elim (cases_lt page (512 ^ (top_level mode + 1))) [
     | inl h ↦ view_seated old new q page (at_beside q page out) (ap seat (kept q page h out)) (own_bytes q page h)
     | inr past ↦ (
-        let none = none_here (old.at q page) (λ some. (let under = ((fit.granting.user q).user_pages page some).1 in omega (arith, past, under))) in
+        let none = none_here (old.at q page) (λ some. (let under = ((fit.granting.user q).user_pages page some).1 in let fits = user_pages_fit mode in omega (arith, past, under, fits))) in
         view-none new q page (at_beside q page out ∙ none) ∙ sym (view-none old q page none))
   ]
 
-  page_here : (page : ℕ) → in_row first pages page ≡ true → IsPage 2 page
-  page_here page e = let under = (row_parts first pages page e).1 in let it : page < 134217728 = omega (arith, under, row) in it
+  page_here : (page : ℕ) → in_row first pages page ≡ true → IsPage (top_level mode) page
+  page_here page e = let under = (row_parts first pages page e).1 in let fits = user_pages_fit mode in omega (arith, under, row, fits)
 
   view_here : (page : ℕ) → in_row first pages page ≡ true → view new pid page ≡ option_map (permitted prot) (view old pid page)
   view_here page e =

@@ -1,4 +1,5 @@
 -- The share of a frame or of a slot given back, which an entry named before: nobody who keeps it sees a change.
+use Rattle.vm_types.specs.Limits.{top_level}
 use Rattle.std.proofs.Common.{◌≡◌, ◌≢◌, ℕ, inl, inr, ◌+◌, ◌<◌, ◌≤◌, ◌^◌, true, false, Option, Some, None, refl, sym, ap, ◌∙◌, subst, arith}
 use Rattle.std.proofs.lemmas.Bool.{cases_eq, cases_Bool}
 use Rattle.vm_types.specs.declared.object.PageKey.{PageKey}
@@ -29,10 +30,10 @@ use Rattle.page_ranges.specs.Steps.{SameButMemory, LacksHolder, ReturnsSeat}
 use Rattle.page_ranges.proofs.Sharing.{private_data}
 
 -- what lacks the holder of a seat
-pub lacks_some : (c : Picture) (o : Option Seat) (y : Seat) → o ≡ Some y → LacksHolder c o → IsFitBut c y 1 0 × IsOwned c y
+pub lacks_some : {mode : ℕ} (c : Picture mode) (o : Option Seat) (y : Seat) → o ≡ Some y → LacksHolder c o → IsFitBut c y 1 0 × IsOwned c y
 lacks_some c o y is lacks = let P : Option Seat → Type 0 = λ x. LacksHolder c x in subst P is lacks
 
-pub lacks_none : (c : Picture) (o : Option Seat) → o ≡ None → LacksHolder c o → IsFit c
+pub lacks_none : {mode : ℕ} (c : Picture mode) (o : Option Seat) → o ≡ None → LacksHolder c o → IsFit c
 lacks_none c o is lacks = let P : Option Seat → Type 0 = λ x. LacksHolder c x in subst P is lacks
 
 pub slot_of : (number k : ℕ) (e : Entry) → number_of e ≡ number → IsEntry e → e ≡ Swapped (record { 0 = k }) → seat number ≡ Some (InSlot k)
@@ -53,11 +54,11 @@ frame_seat number own = seat_own number own
 pub no_seat : (number : ℕ) → is_private number ≡ false → is_swapped number ≡ false → seat number ≡ None
 no_seat number common here = seat_common number common here
 
-pub same_but-refl : (c : Picture) → SameButMemory c c
+pub same_but-refl : {mode : ℕ} (c : Picture mode) → SameButMemory c c
 same_but-refl c = record { root = λ q. refl; at = λ q p. refl; page_of = λ n. refl; place = λ p. refl; touched = λ p. refl; files = λ f. refl }
 
 -- nothing was given back
-pub gives_none : (c : Picture) (o : Option Seat) → o ≡ None → ReturnsSeat c c o
+pub gives_none : {mode : ℕ} (c : Picture mode) (o : Option Seat) → o ≡ None → ReturnsSeat c c o
 gives_none c o none = record {
   beside = same_but-refl c;
   entries = λ q p. refl;
@@ -80,7 +81,7 @@ some_slot : (k j : ℕ) → Some (InSlot k) ≡ Some (InSlot j) → k ≡ j
 some_slot k j e = (cc)
 
 -- the share of a slot
-module _ (old : Picture) (k : ℕ) (fit : IsFitBut old (InSlot k) 1 0) (has : IsOwned old (InSlot k)) (t : SlotTable) (releases : Slots.Releases old.slots t k) (o : Option Seat)
+module _ {mode : ℕ} (old : Picture mode) (k : ℕ) (fit : IsFitBut old (InSlot k) 1 0) (has : IsOwned old (InSlot k)) (t : SlotTable) (releases : Slots.Releases old.slots t k) (o : Option Seat)
     (is : o ≡ Some (InSlot k)) where
   pub fit_slot : IsFit (record old { slots = t })
   fit_slot = fit_slot_released old (record old { slots = t }) k 0 fit has (with_slots old t) releases
@@ -114,16 +115,16 @@ module _ (old : Picture) (k : ℕ) (fit : IsFitBut old (InSlot k) 1 0) (has : Is
   }
 
 -- the share of a frame
-module _ (old : Picture) (n : ℕ) (fit : IsFitBut old (InFrame n) 1 0) (own : role_of old.frames n ≡ Private) (t : FrameTable) (releases : Releases old.frames t n) (o : Option Seat)
+module _ {mode : ℕ} (old : Picture mode) (n : ℕ) (fit : IsFitBut old (InFrame n) 1 0) (own : role_of old.frames n ≡ Private) (t : FrameTable) (releases : Releases old.frames t n) (o : Option Seat)
     (is : o ≡ Some (InFrame n)) where
-  abbrev new : Picture
+  abbrev new : Picture mode
   new = record old { frames = t }
 
   beside : SameBeside old new
   beside = record { slots = refl; root = λ q. refl; at = λ q p. refl; page_of = λ m. refl; place = λ p. refl; touched = λ p. refl; files = λ f. refl }
 
-  trees : KeepsTrees old.frames t 2
-  trees = data_released old.frames t 2 n fit.rooted.forest releases (private_data (role_of old.frames n) own)
+  trees : KeepsTrees old.frames t (top_level mode)
+  trees = data_released old.frames t (top_level mode) n fit.rooted.forest releases (private_data (role_of old.frames n) own)
 
   pub fit_frame : IsFit new
   fit_frame = fit_released old new n 0 fit own releases beside
@@ -146,7 +147,7 @@ module _ (old : Picture) (n : ℕ) (fit : IsFitBut old (InFrame n) 1 0) (own : r
     tables = record { tables = trees.tables; pointers = λ a i m. (trees.same.forth a i m, trees.same.back a i m) };
     rows = λ q r row m lives here. (
         let table = (fit.rooted.roots q r lives).table in
-        row_same old.frames t fit.rooted.forest trees.forest trees.same r row m table ((trees.tables r).0 table) here);
+        row_same old.frames t fit.rooted.forest trees.forest trees.same (top_level mode) r row m table ((trees.tables r).0 table) here);
     free = λ m e. releases.others.roles m (λ same_one. (let bad : Free ≡ Private = sym e ∙ ap (role_of old.frames) same_one ∙ own in (cc))) ∙ e;
     copies = was_private;
     slots = record {

@@ -1,4 +1,5 @@
 -- What gives back the share of a frame or of a slot, or takes an entry out: counts, and slots.
+use Rattle.vm_types.specs.Limits.{top_level}
 use Rattle.std.proofs.Common.{◌≡◌, ◌≢◌, ℕ, inl, inr, ◌+◌, ◌<◌, true, false, Option, Some, None, refl, sym, ap, ◌∙◌, subst, arith}
 use Rattle.std.proofs.lemmas.Bool.{cases_lt, false≢true}
 use Rattle.std.proofs.lemmas.List.{get_or_past}
@@ -58,10 +59,10 @@ off-other : (x : Seat) (d : ℕ) (y : Seat) → x ≢ y → off x d y ≡ 0
 off-other x d y ne = rw (seat-other x y ne) refl
 
 -- Of the page (pid, page) the entry named seat x, and names none now: the count of x is one too high.
-module _ (old new : ℕ → ℕ → ℕ) (owned owned' : Seat → Type 0) (count count' page page' : Seat → ℕ) (x x' : Seat) (pid k : ℕ)
-    (counted : AreCounted old owned count page x' 0) (forth : (z : Seat) → owned z → owned' z) (back : (z : Seat) → owned' z → owned z)
+module _ (mode : ℕ) (old new : ℕ → ℕ → ℕ) (owned owned' : Seat → Type 0) (count count' page page' : Seat → ℕ) (x x' : Seat) (pid k : ℕ)
+    (counted : AreCounted mode old owned count page x' 0) (forth : (z : Seat) → owned z → owned' z) (back : (z : Seat) → owned' z → owned z)
     (counts : (z : Seat) → owned z → count' z ≡ count z) (pages : (z : Seat) → owned z → page' z ≡ page z)
-    (h : IsPage 2 k) (below : pid < 65) (from : seat (old pid k) ≡ Some x) (to : seat (new pid k) ≡ None) (others : OthersSame old new pid k) where
+    (h : IsPage (top_level mode) k) (below : pid < 65) (from : seat (old pid k) ≡ Some x) (to : seat (new pid k) ≡ None) (others : OthersSame mode old new pid k) where
   noted_x : page x ≡ k
   noted_x = counted.noted pid k x h from
 
@@ -74,7 +75,7 @@ module _ (old new : ℕ → ℕ → ℕ) (owned owned' : Seat → Type 0) (count
       count-one (λ q. is_seat (seat (old q k)) x) (λ q. is_seat (seat (new q k)) x) pid 65 below (sits (seat (old pid k)) x from) (sits_none (seat (new pid k)) x to)
       (λ q ne. ap (λ e. is_seat (seat e) x) (sym (others q k h (inl ne))))
 
-  still : (z : Seat) (p : ℕ) → z ≢ x → IsPage 2 p → holders_at new p z ≡ holders_at old p z
+  still : (z : Seat) (p : ℕ) → z ≢ x → IsPage (top_level mode) p → holders_at new p z ≡ holders_at old p z
   unfolding holders_at
   still z p ne h' = count-same (λ q. is_seat (seat (new q p)) z) (λ q. is_seat (seat (old q p)) z) 65 (λ q. elim (by_page q p pid k) [
     | inl e ↦ (
@@ -89,7 +90,7 @@ module _ (old new : ℕ → ℕ → ℕ) (owned owned' : Seat → Type 0) (count
       let moved : new q p ≡ new pid k = ap (λ v. new v p) e.0 ∙ ap (λ v. new pid v) e.1 in
       let bad : None ≡ Some z = sym to ∙ ap seat (sym moved) ∙ is in (cc)
 
-  pub counted_emptied : AreCounted new owned' count' page' x 1
+  pub counted_emptied : AreCounted mode new owned' count' page' x 1
   counted_emptied = record {
     counts = λ z now. (
         let was = back z now in
@@ -109,7 +110,7 @@ module _ (old new : ℕ → ℕ → ℕ) (owned owned' : Seat → Type 0) (count
               let a = off-other x 1 z (λ f. ne (sym f)) in
               rw (pages z was) (omega (arith, before, s, a, zero)))
         ]);
-    pages = λ z now. (let was = back z now in let P : ℕ → Type 0 = λ v. IsPage 2 v in subst P (sym (pages z was)) (counted.pages z was));
+    pages = λ z now. (let was = back z now in let P : ℕ → Type 0 = λ v. IsPage (top_level mode) v in subst P (sym (pages z was)) (counted.pages z was));
     named = λ q p z h' is. elim (by_page q p pid k) [
       | inl e ↦ absurd (gone q p z e is)
       | inr away ↦ forth z (counted.named q p z h' (ap seat (sym (others q p h' away)) ∙ is))
@@ -123,13 +124,13 @@ module _ (old new : ℕ → ℕ → ℕ) (owned owned' : Seat → Type 0) (count
   }
 
 -- the entry of a page, which named seat x, was taken out
-module _ (old new : Picture) (x : Seat) (m pid page : ℕ) (fit : IsFitBut old nowhere 0 m) (sets : SetsPage old new pid page 0) (h : IsPage 2 page) (below : pid < 65)
+module _ {mode : ℕ} (old new : Picture mode) (x : Seat) (m pid page : ℕ) (fit : IsFitBut old nowhere 0 m) (sets : SetsPage old new pid page 0) (h : IsPage (top_level mode) page) (below : pid < 65)
     (from : seat (entry old pid page) ≡ Some x) (rooted : IsRootedBut new m) where
   pub fit_emptied : IsFitBut new x 1 m
   fit_emptied = record {
     counted = (
       fit.counted.0,
-      counted_emptied (entry old) (entry new) (IsOwned old) (IsOwned new) (count_in old) (count_in new) (page_in old fit.counted.0) (page_in new fit.counted.0)
+      counted_emptied mode (entry old) (entry new) (IsOwned old) (IsOwned new) (count_in old) (count_in new) (page_in old fit.counted.0) (page_in new fit.counted.0)
           x nowhere pid page fit.counted.1 (owned_forth old new sets.beside sets.shares) (owned_back old new sets.beside sets.shares) (count_kept old new sets.beside sets.shares)
           (λ z is. page_kept old new fit.counted.0 sets.beside z) h below from (ap seat sets.changed ∙ seat-none) sets.others,
     );

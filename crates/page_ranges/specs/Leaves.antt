@@ -43,13 +43,15 @@ pub data Permits (t : FrameTable) (attr : Option Attr) (prot : Prot) (e e' : ℕ
   Kept : e ≢ 0 → is_swapped e ≡ false → (writable : Bool) → ((writable ≡ true) ↔ TakesStores t attr prot e) → IsPermittedEntry prot writable e e' → Permits t attr prot e e'
 
 -- each entry of a process names a frame of memory, or its page lies in a slot
-abbrev pub NamesFrames : Picture → ℕ → Type 0
-NamesFrames c pid = (page : ℕ) → IsPage top_level page → entry c pid page ≢ 0 → is_swapped (entry c pid page) ≡ false → IsFrame c.frames (frame_of (entry c pid page))
+module _ {mode : ℕ} where
+  abbrev pub NamesFrames : Picture mode → ℕ → Type 0
+  NamesFrames c pid = (page : ℕ) → IsPage (top_level mode) page → entry c pid page ≢ 0 → is_swapped (entry c pid page) ≡ false → IsFrame c.frames (frame_of (entry c pid page))
 
 -- the pages of one process from low up to, not including, high have entries of that permission, and all else is as it was
-pub record PermitsRow (old new : Picture) (pid low high : ℕ) (prot : Prot) : Type 0 where
-  pub beside : SameBeside old new
-  pub memory : KeepsFrames old.frames new.frames
-  pub kept : (q page : ℕ) → IsPage top_level page → IsBeside pid low high q page → entry new q page ≡ entry old q page
-  pub changed : (page : ℕ) → IsPage top_level page → low ≤ page → page < high
-      → Permits old.frames (old.at pid page) prot (entry old pid page) (entry new pid page)
+module _ {mode : ℕ} where
+  pub record PermitsRow (old new : Picture mode) (pid low high : ℕ) (prot : Prot) : Type 0 where
+    pub beside : SameBeside old new
+    pub memory : KeepsFrames old.frames new.frames
+    pub kept : (q page : ℕ) → IsPage (top_level mode) page → IsBeside pid low high q page → entry new q page ≡ entry old q page
+    pub changed : (page : ℕ) → IsPage (top_level mode) page → low ≤ page → page < high
+        → Permits old.frames (old.at pid page) prot (entry old pid page) (entry new pid page)

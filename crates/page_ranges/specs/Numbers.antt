@@ -1,6 +1,6 @@
 -- The objects of which pages are, marked by their numbers.
 use Rattle.std.specs.Prelude.{◌≡◌, ◌≤◌, ◌<◌, ◌⊎◌, ℕ, Bool, true, false, Option, List, length, get_or}
-use Rattle.vm_types.specs.Limits.{named_limit, user_end}
+use Rattle.vm_types.specs.Limits.{named_limit, widest_end}
 use Rattle.vm_types.specs.declared.region.Attr.{Attr}
 use Rattle.vm_types.specs.Objects.{Maps, uses}
 
@@ -10,7 +10,7 @@ IsUsedBetween map from end object = (k : ℕ) × (from ≤ k) × (k < end) × (u
 
 -- a page of the process is of the object
 abbrev pub IsUsedBy : Maps → ℕ → ℕ → Type 0
-IsUsedBy maps pid object = (k : ℕ) × (k < user_end) × (uses (maps pid k) object ≡ true)
+IsUsedBy maps pid object = (k : ℕ) × (k < widest_end) × (uses (maps pid k) object ≡ true)
 
 -- these objects were marked, and no others
 pub record Marks (some : ℕ → Type 0) (old new : List Bool) : Type 0 where

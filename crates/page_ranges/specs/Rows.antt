@@ -1,4 +1,5 @@
 -- What the calls on rows of pages leave.
+use Rattle.vm_types.specs.declared.mode.Levels as Levels
 use Rattle.std.specs.Prelude.{◌≡◌, ◌≢◌, ℕ, ◌<◌, ◌≤◌, ◌⊎◌, ◌↔◌, ◌==◌, Bool, true, false, if◌then◌else◌, ◌+◌, Option, Some, None, option_map}
 use Rattle.vm_types.specs.Limits.{top_level}
 use Rattle.vm_types.specs.declared.permission.Prot.{Prot}
@@ -48,14 +49,15 @@ remapped space map first pages page = if in_row first pages page then option_map
 
 -- One process's pages are those of a map, the ones of the row without entries and own copies. All else is as it was, each
 -- entry of another page too.
-pub record RemapsRow (old new : Picture) (pid first pages : ℕ) (map : ℕ → Option Attr) : Type 0 where
-  pub root : (q : ℕ) → new.root q ≡ old.root q
-  pub at : (page : ℕ) → new.at pid page ≡ map page
-  pub others_at : (q page : ℕ) → q ≢ pid → new.at q page ≡ old.at q page
-  pub entries : (page : ℕ) → in_row first pages page ≡ true → entry new pid page ≡ 0
-  pub kept : (page : ℕ) → IsPage top_level page → in_row first pages page ≡ false → entry new pid page ≡ entry old pid page
-  pub views : (page : ℕ) → view new pid page ≡ remapped (view old pid) map first pages page
-  pub others : (q page : ℕ) → q ≢ pid → view new q page ≡ view old q page
+module _ {mode : ℕ} where
+  pub record RemapsRow (old new : Picture mode) (pid first pages : ℕ) (map : ℕ → Option Attr) : Type 0 where
+    pub root : (q : ℕ) → new.root q ≡ old.root q
+    pub at : (page : ℕ) → new.at pid page ≡ map page
+    pub others_at : (q page : ℕ) → q ≢ pid → new.at q page ≡ old.at q page
+    pub entries : (page : ℕ) → in_row first pages page ≡ true → entry new pid page ≡ 0
+    pub kept : (page : ℕ) → IsPage (top_level mode) page → in_row first pages page ≡ false → entry new pid page ≡ entry old pid page
+    pub views : (page : ℕ) → view new pid page ≡ remapped (view old pid) map first pages page
+    pub others : (q page : ℕ) → q ≢ pid → view new q page ≡ view old q page
 
 -- the number of a frame or a slot, the slots being numbered behind so many frames
 abbrev pub node_of : ℕ → Place → Option ℕ
@@ -85,55 +87,59 @@ IsLasting maps (Object p) = is_named maps p.object p.page ≡ true
 
 -- Every page of a file, and of an object those that these maps name, lies where it lay and has the bytes that it had; none of them
 -- became touched or clean. A page of an object that they don't name is at home.
-pub record KeepsNamed (maps : Maps) (old new : Picture) : Type 0 where
-  pub touched : (p : PageKey) → IsLasting maps p → new.touched p ≡ old.touched p
-  pub place : (p : PageKey) → IsLasting maps p → new.place p ≡ old.place p
-  pub gone : (p : ObjectPage) → is_named maps p.object p.page ≡ false → new.place (Object p) ≡ Home
-  pub files : (f : ℕ) → new.files f ≡ old.files f
-  pub held : (p : PageKey) → IsLasting maps p → (held new p ≡ held old p) ⊎ ((held new p ≡ None) × (old.touched p ≡ false))
+module _ {mode : ℕ} where
+  pub record KeepsNamed (maps : Maps) (old new : Picture mode) : Type 0 where
+    pub touched : (p : PageKey) → IsLasting maps p → new.touched p ≡ old.touched p
+    pub place : (p : PageKey) → IsLasting maps p → new.place p ≡ old.place p
+    pub gone : (p : ObjectPage) → is_named maps p.object p.page ≡ false → new.place (Object p) ≡ Home
+    pub files : (f : ℕ) → new.files f ≡ old.files f
+    pub held : (p : PageKey) → IsLasting maps p → (held new p ≡ held old p) ⊎ ((held new p ≡ None) × (old.touched p ≡ false))
 
 -- the pages of the row have no entries
-abbrev pub IsBareRow : Picture → ℕ → ℕ → ℕ → Type 0
-IsBareRow c pid first pages = (page : ℕ) → in_row first pages page ≡ true → entry c pid page ≡ 0
+module _ {mode : ℕ} where
+  abbrev pub IsBareRow : Picture mode → ℕ → ℕ → ℕ → Type 0
+  IsBareRow c pid first pages = (page : ℕ) → in_row first pages page ≡ true → entry c pid page ≡ 0
 
 -- Pages of objects that only the row of one process names are at home now, and their frames and slots are free. Nothing else changed:
 -- every entry is as it was, and every page is seen as it was but for what stands behind those of the row.
-pub record ForgetsRow (old new : Picture) (pid first pages : ℕ) : Type 0 where
-  pub root : (q : ℕ) → new.root q ≡ old.root q
-  pub at : (q page : ℕ) → new.at q page ≡ old.at q page
-  pub page_of : (n : ℕ) → new.page_of n ≡ old.page_of n
-  pub entries : (q page : ℕ) → IsPage top_level page → entry new q page ≡ entry old q page
-  pub views : (q page : ℕ) → view new q page ≡ view old q page
-  pub frames : frame_count new.frames ≡ frame_count old.frames
-  pub roles : (n : ℕ) → (role_of new.frames n ≡ role_of old.frames n) ⊎ ((role_of new.frames n ≡ Free) × (role_of old.frames n ≡ Cache))
-  pub pointers : (n i m : ℕ) → Points old.frames n i m ↔ Points new.frames n i m
-  pub total : new.slots.total ≡ old.slots.total
-  pub fewer : (k : ℕ) → new.slots.count k ≤ old.slots.count k
-  pub counts : (k : ℕ) → ((p : ObjectPage) → old.place (Object p) ≢ Slot (record { 0 = k })) → new.slots.count k ≡ old.slots.count k
-  pub bytes : (k : ℕ) → IsInUse new.slots k → new.slots.bytes k ≡ old.slots.bytes k
-  pub keeps : KeepsNamed (without_maps old.at pid first pages) old new
+module _ {mode : ℕ} where
+  pub record ForgetsRow (old new : Picture mode) (pid first pages : ℕ) : Type 0 where
+    pub root : (q : ℕ) → new.root q ≡ old.root q
+    pub at : (q page : ℕ) → new.at q page ≡ old.at q page
+    pub page_of : (n : ℕ) → new.page_of n ≡ old.page_of n
+    pub entries : (q page : ℕ) → IsPage (top_level mode) page → entry new q page ≡ entry old q page
+    pub views : (q page : ℕ) → view new q page ≡ view old q page
+    pub frames : frame_count new.frames ≡ frame_count old.frames
+    pub roles : (n : ℕ) → (role_of new.frames n ≡ role_of old.frames n) ⊎ ((role_of new.frames n ≡ Free) × (role_of old.frames n ≡ Cache))
+    pub pointers : (n i m : ℕ) → Points old.frames n i m ↔ Points new.frames n i m
+    pub total : new.slots.total ≡ old.slots.total
+    pub fewer : (k : ℕ) → new.slots.count k ≤ old.slots.count k
+    pub counts : (k : ℕ) → ((p : ObjectPage) → old.place (Object p) ≢ Slot (record { 0 = k })) → new.slots.count k ≡ old.slots.count k
+    pub bytes : (k : ℕ) → IsInUse new.slots k → new.slots.bytes k ≡ old.slots.bytes k
+    pub keeps : KeepsNamed (without_maps old.at pid first pages) old new
 
 -- Pages of objects that only the row names, some of them, are at home now; nothing else changed.
-pub record ForgetsMore (old new : Picture) (pid first pages : ℕ) : Type 0 where
-  pub root : (q : ℕ) → new.root q ≡ old.root q
-  pub at : (q page : ℕ) → new.at q page ≡ old.at q page
-  pub page_of : (n : ℕ) → new.page_of n ≡ old.page_of n
-  pub files : (f : ℕ) → new.files f ≡ old.files f
-  pub entries : (q page : ℕ) → IsPage top_level page → entry new q page ≡ entry old q page
-  pub views : (q page : ℕ) → view new q page ≡ view old q page
-  pub frames : frame_count new.frames ≡ frame_count old.frames
-  pub roles : (n : ℕ) → (role_of new.frames n ≡ role_of old.frames n) ⊎ ((role_of new.frames n ≡ Free) × (role_of old.frames n ≡ Cache))
-  pub pointers : (n i m : ℕ) → Points old.frames n i m ↔ Points new.frames n i m
-  pub total : new.slots.total ≡ old.slots.total
-  pub fewer : (k : ℕ) → new.slots.count k ≤ old.slots.count k
-  pub counts : (k : ℕ) → ((p : ObjectPage) → old.place (Object p) ≢ Slot (record { 0 = k })) → new.slots.count k ≡ old.slots.count k
-  pub bytes : (k : ℕ) → IsInUse new.slots k → new.slots.bytes k ≡ old.slots.bytes k
-  pub place : (p : PageKey) → (new.place p ≡ old.place p) ⊎ (new.place p ≡ Home)
-  pub lasting : (p : PageKey) → IsLasting (without_maps old.at pid first pages) p → (new.place p ≡ old.place p) × (new.touched p ≡ old.touched p) × (held new p ≡ held old p)
+module _ {mode : ℕ} where
+  pub record ForgetsMore (old new : Picture mode) (pid first pages : ℕ) : Type 0 where
+    pub root : (q : ℕ) → new.root q ≡ old.root q
+    pub at : (q page : ℕ) → new.at q page ≡ old.at q page
+    pub page_of : (n : ℕ) → new.page_of n ≡ old.page_of n
+    pub files : (f : ℕ) → new.files f ≡ old.files f
+    pub entries : (q page : ℕ) → IsPage (top_level mode) page → entry new q page ≡ entry old q page
+    pub views : (q page : ℕ) → view new q page ≡ view old q page
+    pub frames : frame_count new.frames ≡ frame_count old.frames
+    pub roles : (n : ℕ) → (role_of new.frames n ≡ role_of old.frames n) ⊎ ((role_of new.frames n ≡ Free) × (role_of old.frames n ≡ Cache))
+    pub pointers : (n i m : ℕ) → Points old.frames n i m ↔ Points new.frames n i m
+    pub total : new.slots.total ≡ old.slots.total
+    pub fewer : (k : ℕ) → new.slots.count k ≤ old.slots.count k
+    pub counts : (k : ℕ) → ((p : ObjectPage) → old.place (Object p) ≢ Slot (record { 0 = k })) → new.slots.count k ≡ old.slots.count k
+    pub bytes : (k : ℕ) → IsInUse new.slots k → new.slots.bytes k ≡ old.slots.bytes k
+    pub place : (p : PageKey) → (new.place p ≡ old.place p) ⊎ (new.place p ≡ Home)
+    pub lasting : (p : PageKey) → IsLasting (without_maps old.at pid first pages) p → (new.place p ≡ old.place p) × (new.touched p ≡ old.touched p) × (held new p ≡ held old p)
 
-module _ {D E : Type 0} where
+module _ {M : Type 0} {m : Levels.Ghosts M} {D E : Type 0} where
   -- another page names it and nothing changed, or none does and it was forgotten
-  abbrev pub IsLastName : Core D E → Core D E → ℕ → ℕ → ℕ → ObjectPage → Type 0
+  abbrev pub IsLastName : Core D E M m → Core D E M m → ℕ → ℕ → ℕ → ObjectPage → Type 0
   IsLastName old new pid first pages p =
       ((new ≡ old) × (is_named (without_maps (picture_of old).at pid first pages) p.object p.page ≡ true))
       ⊎ (Forgets (picture_of old) (picture_of new) p × KeepsBesidePlaces old new
@@ -142,13 +148,14 @@ module _ {D E : Type 0} where
 -- The mapped pages of a row of one process have the permission, and keep their own copies. Those that lie in frames have the
 -- entry of that permission over the same frame, with W exactly where a store may go to it, and those in slots the entry that
 -- they had. All else is as it was, each entry of another page too.
-pub record ReprotectsRow (old new : Picture) (pid first pages : ℕ) (prot : Prot) : Type 0 where
-  pub root : (q : ℕ) → new.root q ≡ old.root q
-  pub at : (page : ℕ) → new.at pid page ≡ protected (old.at pid) first pages prot page
-  pub others_at : (q page : ℕ) → q ≢ pid → new.at q page ≡ old.at q page
-  pub views : (page : ℕ) → view new pid page ≡ reprotected (view old pid) first pages prot page
-  pub entries : (page : ℕ) → in_row first pages page ≡ true
-      → Permits old.frames (old.at pid page) prot (entry old pid page) (entry new pid page)
-  pub kept : (page : ℕ) → IsPage top_level page → in_row first pages page ≡ false → entry new pid page ≡ entry old pid page
-  pub others : (q page : ℕ) → q ≢ pid → view new q page ≡ view old q page
-  pub files : KeepsFiles old new
+module _ {mode : ℕ} where
+  pub record ReprotectsRow (old new : Picture mode) (pid first pages : ℕ) (prot : Prot) : Type 0 where
+    pub root : (q : ℕ) → new.root q ≡ old.root q
+    pub at : (page : ℕ) → new.at pid page ≡ protected (old.at pid) first pages prot page
+    pub others_at : (q page : ℕ) → q ≢ pid → new.at q page ≡ old.at q page
+    pub views : (page : ℕ) → view new pid page ≡ reprotected (view old pid) first pages prot page
+    pub entries : (page : ℕ) → in_row first pages page ≡ true
+        → Permits old.frames (old.at pid page) prot (entry old pid page) (entry new pid page)
+    pub kept : (page : ℕ) → IsPage (top_level mode) page → in_row first pages page ≡ false → entry new pid page ≡ entry old pid page
+    pub others : (q page : ℕ) → q ≢ pid → view new q page ≡ view old q page
+    pub files : KeepsFiles old new

@@ -13,21 +13,21 @@ ghost use Rattle.page_ranges.specs.Rows.{RemapsRow};
 ghost use Rattle.page_ranges.specs.Steps.{KeepsBesideMemory, KeepsEntriesOfOthers, SameTables, ReturnsTables, ReturnsSlots, Clears, IsWithoutTables, IsCleared, LacksHolder, ReturnsSeat, IsStepEnd};
 
 use crate::entries::next_entry;
-use crate::rows::{middle_end, next_part, table_end, user_page};
-use mapped_memory::{missing_tables, number_in, prune, set_in, table_of};
+use crate::rows::{next_part, span_end, table_end, user_page};
+use mapped_memory::{last_table, number_in, prune, set_in, table_of};
 use mapping::root_of;
 use page_tables::{Entry, decode};
 use paging::Core;
 use sv39_walk::{Pte, TABLE_ENTRIES};
-use vm_types::{FrameNo, Pid, USER_START, Vpn};
+use vm_types::{FrameNo, Levels, Pid, USER_START, Vpn};
 
 /// Takes the entries of the `pages` pages from `first` on out of the tables of a live process, with the own copies that
 /// they name, in frames and in slots; the pages stay mapped. A frame or a slot that nobody shares any more is free, and so is a
 /// table that was there for those pages alone (munmap(2), for the part that lies in memory and swap).
-pub fn clear_row<D, E>(core: &mut Core<D, E>, pid: Pid, first: u64, pages: u64)
+pub fn clear_row<D, E, M: Levels>(core: &mut Core<D, E, M>, pid: Pid, first: u64, pages: u64)
     requires fit { IsFit (picture_of core.old) }
     requires live { is_live (picture_of core.old) pid ≡ true }
-    requires row { first + pages ≤ user_end }
+    requires row { first + pages ≤ user_end M.mode }
     ensures fit { IsFit (picture_of core.new) }
     ensures row { RemapsRow (picture_of core.old) (picture_of core.new) pid first pages ((picture_of core.old).at pid) }
     ensures files { KeepsFiles (picture_of core.old) (picture_of core.new) }
@@ -47,11 +47,11 @@ pub fn clear_row<D, E>(core: &mut Core<D, E>, pid: Pid, first: u64, pages: u64)
 }
 
 /// Clears the pages from `start` up to, not including, `end`, table by table.
-fn clear_part<D, E>(core: &mut Core<D, E>, pid: Pid, start: Vpn, end: u64)
+fn clear_part<D, E, M: Levels>(core: &mut Core<D, E, M>, pid: Pid, start: Vpn, end: u64)
     requires fit { IsFit (picture_of core.old) }
     requires live { is_live (picture_of core.old) pid ≡ true }
     requires some { start < end }
-    requires high { end ≤ user_end }
+    requires high { end ≤ user_end M.mode }
     ensures fit { IsFit (picture_of core.new) }
     ensures clears { Clears (picture_of core.old) (picture_of core.new) pid start end }
     ensures cleared { (low : ℕ) → low ≤ start → IsCleared (picture_of core.old) pid low start → IsCleared (picture_of core.new) pid low end }
@@ -60,18 +60,18 @@ fn clear_part<D, E>(core: &mut Core<D, E>, pid: Pid, start: Vpn, end: u64)
 {
     let mut page = start.get();
     while page < end {
-        page = clear_next(core, pid, user_page(page), end);
+        page = clear_next(core, pid, user_page::<M>(page), end);
     }
 }
 
 /// Clears the pages from `start` on whose entries stand in one table, as far as `end`. The result is the first page
 /// past them. Where a table is missing on the way, there is nothing to clear on all its pages; but a table between it and the
 /// root may be without entries, since a call that stalled for the want of a frame leaves the tables that it linked.
-fn clear_next<D, E>(core: &mut Core<D, E>, pid: Pid, start: Vpn, end: u64) -> u64
+fn clear_next<D, E, M: Levels>(core: &mut Core<D, E, M>, pid: Pid, start: Vpn, end: u64) -> u64
     requires fit { IsFit (picture_of core.old) }
     requires live { is_live (picture_of core.old) pid ≡ true }
     requires some { start < end }
-    requires high { end ≤ user_end }
+    requires high { end ≤ user_end M.mode }
     ensures fit { IsFit (picture_of core.new) }
     ensures further { start < result }
     ensures within { result ≤ end }
@@ -82,29 +82,29 @@ fn clear_next<D, E>(core: &mut Core<D, E>, pid: Pid, start: Vpn, end: u64) -> u6
     ensures refused { core.new.refused ≡ core.old.refused }
 {
     let top_table = root_of(core, pid);
-    match missing_tables(&core.frames, top_table, start) {
-        0 => {
-            let stop = end.min(table_end(start));
-            clear_table(core, pid, start, stop);
-            stop
-        }
-        1 => {
-            prune(&mut core.frames, top_table, start);
-            end.min(table_end(start))
-        }
-        _ => end.min(middle_end(start)),
+    let (missing, _) = last_table(&core.frames, top_table, start);
+    if missing == 0 {
+        let stop = end.min(table_end(start));
+        clear_table(core, pid, start, stop);
+        return stop;
     }
+    let stop = end.min(span_end(start, missing));
+    if missing == M::top_level() {
+        return stop;
+    }
+    prune(&mut core.frames, top_table, start);
+    stop
 }
 
 /// Clears the pages from `start` up to, not including, `stop`, whose entries stand in one table, and releases the tables
 /// that are without entries then. Places without an entry are passed over many at a time.
-fn clear_table<D, E>(core: &mut Core<D, E>, pid: Pid, start: Vpn, stop: u64)
+fn clear_table<D, E, M: Levels>(core: &mut Core<D, E, M>, pid: Pid, start: Vpn, stop: u64)
     requires fit { IsFit (picture_of core.old) }
     requires live { is_live (picture_of core.old) pid ≡ true }
     requires whole { IsWhole (picture_of core.old) pid start }
     requires some { start < stop }
     requires one_table { stop ≤ (start / table_entries + 1) * table_entries }
-    requires high { stop ≤ user_end }
+    requires high { stop ≤ user_end M.mode }
     ensures fit { IsFit (picture_of core.new) }
     ensures clears { Clears (picture_of core.old) (picture_of core.new) pid start stop }
     ensures cleared { (low : ℕ) → low ≤ start → IsCleared (picture_of core.old) pid low start → IsCleared (picture_of core.new) pid low stop }
@@ -117,7 +117,7 @@ fn clear_table<D, E>(core: &mut Core<D, E>, pid: Pid, start: Vpn, stop: u64)
     };
     let mut page = next_entry(&core.frames, table, start.get(), stop);
     while page < stop {
-        clear_page(core, pid, root, table, user_page(page));
+        clear_page(core, pid, root, table, user_page::<M>(page));
         page = next_entry(&core.frames, table, page + 1, stop);
     }
     prune(&mut core.frames, root, start);
@@ -125,15 +125,21 @@ fn clear_table<D, E>(core: &mut Core<D, E>, pid: Pid, start: Vpn, stop: u64)
 
 /// Takes the entry of a page out, to which no table is missing, and gives back the share of the frame or the slot that it names
 /// as the process's own. The table may be without entries then. Where the page has none, nothing is written.
-fn clear_page<D, E>(core: &mut Core<D, E>, pid: Pid, root: FrameNo, table: FrameNo, page: Vpn)
+fn clear_page<D, E, M: Levels>(
+    core: &mut Core<D, E, M>,
+    pid: Pid,
+    root: FrameNo,
+    table: FrameNo,
+    page: Vpn,
+)
     requires fit { IsFit (picture_of core.old) }
     requires root { (picture_of core.old).root pid ≡ Some root.0 }
-    requires inside { IsPage top_level page }
-    requires place { IsTableOf core.old.frames root.0 (page / table_entries) table.0 }
+    requires inside { IsPage (top_level M.mode) page }
+    requires place { IsTableOf core.old.frames (top_level M.mode) root.0 (page / table_entries) table.0 }
     ensures fit { IsFit (picture_of core.new) }
     ensures clears { Clears (picture_of core.old) (picture_of core.new) pid page (page + 1) }
     ensures tables { SameTables core.old.frames core.new.frames }
-    ensures places { (row n : ℕ) → IsTableOf core.old.frames root.0 row n → IsTableOf core.new.frames root.0 row n }
+    ensures places { (row n : ℕ) → IsTableOf core.old.frames (top_level M.mode) root.0 row n → IsTableOf core.new.frames (top_level M.mode) root.0 row n }
     ensures rest { KeepsBesideMemory core.old core.new }
     ensures refused { core.new.refused ≡ core.old.refused }
 {
@@ -148,7 +154,7 @@ fn clear_page<D, E>(core: &mut Core<D, E>, pid: Pid, root: FrameNo, table: Frame
 
 /// Gives back the share of the frame or the slot that an entry named as its process's own, where it named one. The entry is
 /// taken out already.
-fn give_back<D, E>(core: &mut Core<D, E>, number: Pte)
+fn give_back<D, E, M: Levels>(core: &mut Core<D, E, M>, number: Pte)
     requires form { IsPageEntry number.0 }
     requires lacks { LacksHolder (picture_of core.old) (seat number.0) }
     ensures fit { IsFit (picture_of core.new) }

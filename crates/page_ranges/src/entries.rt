@@ -9,21 +9,21 @@ ghost use Rattle.page_tables.specs.Places.{IsTableOf};
 use byteorder::{ByteOrder, LittleEndian};
 use mapped_memory::Memory;
 use sv39_walk::TABLE_ENTRIES;
-use vm_types::FrameNo;
+use vm_types::{FrameNo, Levels};
 
 /// How many places one test looks at.
 const GROUP: u64 = 8;
 
 /// The first page from `page` on, and before `stop`, that has an entry; `stop` where none has. The entries of these pages
 /// stand in that lowest table, and are looked at many at a time.
-pub fn next_entry(memory: &Memory, table: FrameNo, page: u64, stop: u64) -> u64
+pub fn next_entry<M: Levels>(memory: &Memory<M>, table: FrameNo, page: u64, stop: u64) -> u64
     requires table { IsTable memory.now table.0 }
     requires order { page ≤ stop }
     requires one_table { stop ≤ (page / table_entries + 1) * table_entries }
     ensures from { page ≤ result }
     ensures within { result ≤ stop }
-    ensures passed { (root p : ℕ) → IsTableOf memory.now root (p / table_entries) table.0 → page ≤ p → p < result → page_entry memory.now top_level root p ≡ 0 }
-    ensures found { (root : ℕ) → IsTableOf memory.now root (result / table_entries) table.0 → result < stop → page_entry memory.now top_level root result ≢ 0 }
+    ensures passed { (root p : ℕ) → IsTableOf memory.now (top_level M.mode) root (p / table_entries) table.0 → page ≤ p → p < result → page_entry memory.now (top_level M.mode) root p ≡ 0 }
+    ensures found { (root : ℕ) → IsTableOf memory.now (top_level M.mode) root (result / table_entries) table.0 → result < stop → page_entry memory.now (top_level M.mode) root result ≢ 0 }
 {
     next_set(memory, table, page, stop)
 }
@@ -31,7 +31,7 @@ pub fn next_entry(memory: &Memory, table: FrameNo, page: u64, stop: u64) -> u64
 /// The first number from `first` on, and before `stop`, at whose place of a table an entry stands; `stop` where none does. The
 /// place of a number is its remainder by 512: in a lowest table the numbers are pages, and in one above it those of the tables
 /// below.
-pub(crate) fn next_set(memory: &Memory, table: FrameNo, first: u64, stop: u64) -> u64
+pub(crate) fn next_set<M: Levels>(memory: &Memory<M>, table: FrameNo, first: u64, stop: u64) -> u64
     requires table { IsTable memory.now table.0 }
     requires order { first ≤ stop }
     requires one_table { stop ≤ (first / table_entries + 1) * table_entries }
@@ -48,7 +48,7 @@ pub(crate) fn next_set(memory: &Memory, table: FrameNo, first: u64, stop: u64) -
 }
 
 // How many numbers from one without an entry on have none, as far as one look tells: eight or one.
-fn none_from(memory: &Memory, table: FrameNo, first: u64, stop: u64) -> u64
+fn none_from<M: Levels>(memory: &Memory<M>, table: FrameNo, first: u64, stop: u64) -> u64
     requires inside { IsFrame memory.now table.0 }
     requires below { first < stop }
     requires one_table { stop ≤ (first / table_entries + 1) * table_entries }
@@ -71,7 +71,7 @@ fn place_of(number: u64) -> usize
 }
 
 // Whether the eight places from `index` on have no entry, by one test.
-fn are_none(memory: &Memory, table: FrameNo, index: usize) -> bool
+fn are_none<M: Levels>(memory: &Memory<M>, table: FrameNo, index: usize) -> bool
     requires inside { IsFrame memory.now table.0 }
     requires within { index + 8 ≤ table_entries }
     ensures { result ≡ true → (i : ℕ) → index ≤ i → i < index + 8 → entry_at memory.now table.0 i ≡ 0 }
@@ -80,7 +80,7 @@ fn are_none(memory: &Memory, table: FrameNo, index: usize) -> bool
 }
 
 // The numbers at four places joined, which is 0 only where each of them is.
-fn four_at(memory: &Memory, table: FrameNo, index: usize) -> u64
+fn four_at<M: Levels>(memory: &Memory<M>, table: FrameNo, index: usize) -> u64
     requires inside { IsFrame memory.now table.0 }
     requires within { index + 4 ≤ table_entries }
     ensures { result ≡ 0 → (i : ℕ) → index ≤ i → i < index + 4 → entry_at memory.now table.0 i ≡ 0 }
@@ -92,7 +92,7 @@ fn four_at(memory: &Memory, table: FrameNo, index: usize) -> u64
 }
 
 // Whether no entry stands at a place.
-fn is_none(memory: &Memory, table: FrameNo, index: usize) -> bool
+fn is_none<M: Levels>(memory: &Memory<M>, table: FrameNo, index: usize) -> bool
     requires inside { IsFrame memory.now table.0 }
     requires below { index < table_entries }
     ensures { (result ≡ true) ↔ (entry_at memory.now table.0 index ≡ 0) }
@@ -102,7 +102,7 @@ fn is_none(memory: &Memory, table: FrameNo, index: usize) -> bool
 
 /// The number at a place of a table.
 #[tactic(auto, unfolding(sv39_walk::specs::Entry::entry_at))]
-pub(crate) fn number_at(memory: &Memory, table: FrameNo, index: usize) -> u64
+pub(crate) fn number_at<M: Levels>(memory: &Memory<M>, table: FrameNo, index: usize) -> u64
     requires inside { IsFrame memory.now table.0 }
     requires below { index < table_entries }
     ensures { result ≡ entry_at memory.now table.0 index }

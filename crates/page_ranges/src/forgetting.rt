@@ -16,7 +16,7 @@ ghost use Rattle.page_ranges.specs.Rows.{ForgetsRow, IsBareRow, IsLastName, is_c
 
 use paging::{Core, PLACES, page_over};
 use regions::Run;
-use vm_types::{Attr, Backing, FrameNo, ObjectPage, PageKey, Pid, SlotNo, Vpn};
+use vm_types::{Attr, Backing, FrameNo, Levels, ObjectPage, PageKey, Pid, SlotNo, Vpn};
 
 /// A page of a process and the page of an object that it names.
 #[derive(Clone, Copy, Debug)]
@@ -28,10 +28,10 @@ pub(crate) struct Named {
 /// Forgets the pages of objects that the `pages` pages from `first` on of a live process name, and no other page does: each is at
 /// home, as zeros, and its frame or slot is free. The pages of the row have no entries. Where none of them is of an object nothing is
 /// looked at but the regions; else either the pages of the row that are, or all frames and slots, whichever are fewer, once each.
-pub fn forget_row<D, E>(core: &mut Core<D, E>, pid: Pid, first: u64, pages: u64)
+pub fn forget_row<D, E, M: Levels>(core: &mut Core<D, E, M>, pid: Pid, first: u64, pages: u64)
     requires fit { IsFit (picture_of core.old) }
     requires live { is_live (picture_of core.old) pid ≡ true }
-    requires row { first + pages ≤ user_end }
+    requires row { first + pages ≤ user_end M.mode }
     requires bare { IsBareRow (picture_of core.old) pid first pages }
     ensures fit { IsFit (picture_of core.new) }
     ensures forgets { ForgetsRow (picture_of core.old) (picture_of core.new) pid first pages }
@@ -49,7 +49,7 @@ pub fn forget_row<D, E>(core: &mut Core<D, E>, pid: Pid, first: u64, pages: u64)
 }
 
 /// How many pages from `first` up to, not including, `end` are of objects.
-fn common_pages<D, E>(core: &Core<D, E>, pid: Pid, first: u64, end: u64) -> u64
+fn common_pages<D, E, M: Levels>(core: &Core<D, E, M>, pid: Pid, first: u64, end: u64) -> u64
     requires live { is_live (picture_of core.now) pid ≡ true }
     ensures none { result ≡ 0 → (k object page : ℕ) → first ≤ k → k < end → names ((picture_of core.now).at pid k) object page ≡ false }
 {
@@ -79,10 +79,10 @@ fn common_part(run: Run, end: u64) -> u64
 }
 
 /// `forget_row` by the pages of the row that are of objects.
-fn forget_pages<D, E>(core: &mut Core<D, E>, pid: Pid, first: u64, pages: u64)
+fn forget_pages<D, E, M: Levels>(core: &mut Core<D, E, M>, pid: Pid, first: u64, pages: u64)
     requires fit { IsFit (picture_of core.old) }
     requires live { is_live (picture_of core.old) pid ≡ true }
-    requires row { first + pages ≤ user_end }
+    requires row { first + pages ≤ user_end M.mode }
     requires bare { IsBareRow (picture_of core.old) pid first pages }
     ensures fit { IsFit (picture_of core.new) }
     ensures forgets { ForgetsRow (picture_of core.old) (picture_of core.new) pid first pages }
@@ -96,7 +96,12 @@ fn forget_pages<D, E>(core: &mut Core<D, E>, pid: Pid, first: u64, pages: u64)
 }
 
 /// The first page from `first` up to, not including, `end` that is of an object.
-fn next_common<D, E>(core: &Core<D, E>, pid: Pid, first: u64, end: u64) -> Option<Named>
+fn next_common<D, E, M: Levels>(
+    core: &Core<D, E, M>,
+    pid: Pid,
+    first: u64,
+    end: u64,
+) -> Option<Named>
     requires live { is_live (picture_of core.now) pid ≡ true }
     ensures some { IfSome result (IsNextCommon (picture_of core.now) pid first end) }
     ensures none { IfNone result ((k object page : ℕ) → first ≤ k → k < end → names ((picture_of core.now).at pid k) object page ≡ false) }
@@ -106,7 +111,7 @@ fn next_common<D, E>(core: &Core<D, E>, pid: Pid, first: u64, end: u64) -> Optio
         if run.first >= end {
             return None;
         }
-        if let Some(named) = first_of(run) {
+        if let Some(named) = first_of::<M>(run) {
             return Some(named);
         }
         from = run.end;
@@ -115,22 +120,22 @@ fn next_common<D, E>(core: &Core<D, E>, pid: Pid, first: u64, end: u64) -> Optio
 }
 
 /// The first page of a run, where that is of an object.
-fn first_of(run: Run) -> Option<Named>
-    requires user { (user_start ≤ run.first) × (run.first < user_end) }
+fn first_of<M: Levels>(run: Run) -> Option<Named>
+    requires user { (user_start ≤ run.first) × (run.first < user_end M.mode) }
     ensures some { IfSome result (λ named. (named.at ≡ run.first) × (run.attr.backing ≡ Common named.page)) }
     ensures none { IfNone result (is_common run.attr.backing ≡ false) }
 {
-    match (Vpn::new(run.first), run.attr.backing) {
+    match (Vpn::new::<M>(run.first), run.attr.backing) {
         (Some(at), Backing::Common(page)) => Some(Named { at, page }),
         _ => None,
     }
 }
 
 /// `forget_row` by frames and slots.
-fn forget_nodes<D, E>(core: &mut Core<D, E>, pid: Pid, first: u64, pages: u64)
+fn forget_nodes<D, E, M: Levels>(core: &mut Core<D, E, M>, pid: Pid, first: u64, pages: u64)
     requires fit { IsFit (picture_of core.old) }
     requires live { is_live (picture_of core.old) pid ≡ true }
-    requires row { first + pages ≤ user_end }
+    requires row { first + pages ≤ user_end M.mode }
     requires bare { IsBareRow (picture_of core.old) pid first pages }
     ensures fit { IsFit (picture_of core.new) }
     ensures forgets { ForgetsRow (picture_of core.old) (picture_of core.new) pid first pages }
@@ -152,7 +157,7 @@ fn is_common(backing: Backing) -> bool
 }
 
 /// The page of an object that a frame holds, or a slot, the slots being numbered behind the frames.
-fn object_at<D, E>(core: &Core<D, E>, node: u32) -> Option<ObjectPage>
+fn object_at<D, E, M: Levels>(core: &Core<D, E, M>, node: u32) -> Option<ObjectPage>
     requires { node < frame_count core.now.cache + slot_count core.now.cache }
     ensures away { IfSome result (λ p. (picture_of core.now).place (Object p) ≢ Home) }
     ensures found { (p : ObjectPage) → node_of (frame_count core.now.cache) ((picture_of core.now).place (Object p)) ≡ Some node → result ≡ Some p }
@@ -170,10 +175,16 @@ fn object_at<D, E>(core: &Core<D, E>, node: u32) -> Option<ObjectPage>
 }
 
 /// Forgets a page of an object that lies somewhere, where none but the row names it.
-fn forget_last<D, E>(core: &mut Core<D, E>, pid: Pid, first: u64, pages: u64, page: ObjectPage)
+fn forget_last<D, E, M: Levels>(
+    core: &mut Core<D, E, M>,
+    pid: Pid,
+    first: u64,
+    pages: u64,
+    page: ObjectPage,
+)
     requires fit { IsFit (picture_of core.old) }
     requires live { is_live (picture_of core.old) pid ≡ true }
-    requires row { first + pages ≤ user_end }
+    requires row { first + pages ≤ user_end M.mode }
     requires bare { IsBareRow (picture_of core.old) pid first pages }
     requires away { (picture_of core.old).place (Object page) ≢ Home }
     ensures fit { IsFit (picture_of core.new) }
@@ -187,7 +198,7 @@ fn forget_last<D, E>(core: &mut Core<D, E>, pid: Pid, first: u64, pages: u64, pa
 
 /// Forgets a page of an object that a live process names at a page without an entry, where no other process does there. (A page of an
 /// object is at one page number in all processes.)
-fn forget_there<D, E>(core: &mut Core<D, E>, pid: Pid, at: Vpn, page: ObjectPage)
+fn forget_there<D, E, M: Levels>(core: &mut Core<D, E, M>, pid: Pid, at: Vpn, page: ObjectPage)
     requires fit { IsFit (picture_of core.old) }
     requires named { names ((picture_of core.old).at pid at) page.object page.page ≡ true }
     requires bare { entry (picture_of core.old) pid at ≡ 0 }
@@ -200,8 +211,8 @@ fn forget_there<D, E>(core: &mut Core<D, E>, pid: Pid, at: Vpn, page: ObjectPage
 }
 
 /// The page from `first` up to, not including, `end` that names that page of an object.
-fn page_naming<D, E>(
-    core: &Core<D, E>,
+fn page_naming<D, E, M: Levels>(
+    core: &Core<D, E, M>,
     pid: Pid,
     first: u64,
     end: u64,
@@ -216,7 +227,7 @@ fn page_naming<D, E>(
         if run.first >= end {
             return None;
         }
-        if let Some(at) = page_over(run, PageKey::Object(page)) {
+        if let Some(at) = page_over::<M>(run, PageKey::Object(page)) {
             if at.get() < end {
                 return Some(at);
             }
@@ -227,7 +238,12 @@ fn page_naming<D, E>(
 }
 
 /// Whether another process than this one names that page of an object at a page.
-fn is_named_beside<D, E>(core: &Core<D, E>, pid: Pid, at: Vpn, page: ObjectPage) -> bool
+fn is_named_beside<D, E, M: Levels>(
+    core: &Core<D, E, M>,
+    pid: Pid,
+    at: Vpn,
+    page: ObjectPage,
+) -> bool
     requires fit { IsFit (picture_of core.now) }
     ensures some { result ≡ true → (q : ℕ) × (q < 65) × (q ≢ pid) × (names ((picture_of core.now).at q at) page.object page.page ≡ true) }
     ensures none { result ≡ false → (q : ℕ) → q ≢ pid → names ((picture_of core.now).at q at) page.object page.page ≡ false }
@@ -241,7 +257,13 @@ fn is_named_beside<D, E>(core: &Core<D, E>, pid: Pid, at: Vpn, page: ObjectPage)
 }
 
 /// Whether the process of that number, where it is another one, names that page of an object at a page.
-fn names_at<D, E>(core: &Core<D, E>, number: u64, pid: Pid, at: Vpn, page: ObjectPage) -> bool
+fn names_at<D, E, M: Levels>(
+    core: &Core<D, E, M>,
+    number: u64,
+    pid: Pid,
+    at: Vpn,
+    page: ObjectPage,
+) -> bool
     requires fit { IsFit (picture_of core.now) }
     ensures some { result ≡ true → (number ≢ pid) × (names ((picture_of core.now).at number at) page.object page.page ≡ true) }
     ensures none { result ≡ false → number ≢ pid → names ((picture_of core.now).at number at) page.object page.page ≡ false }

@@ -8,16 +8,16 @@ ghost use Rattle.page_ranges.specs.Numbers.{Marks, IsUsedBetween, IsUsedBy};
 ghost use Rattle.page_ranges.specs.Rows.{without_maps};
 
 use paging::{Core, PLACES};
-use vm_types::{Backing, Pid, USER_END};
+use vm_types::{Backing, Levels, Pid, WIDEST_END};
 
 /// How many objects runs of pages name at most: 64 processes have 256 runs each.
 const NAMED: usize = 64 * 256;
 
 /// The least number of an object of which no page is, once the `pages` pages from `first` on of the process are mapped no more. Its
 /// time is that of the runs of all processes and of the numbers.
-pub fn free_object<D, E>(core: &Core<D, E>, pid: Pid, first: u64, pages: u64) -> u16
+pub fn free_object<D, E, M: Levels>(core: &Core<D, E, M>, pid: Pid, first: u64, pages: u64) -> u16
     requires fit { IsFit (picture_of core.now) }
-    requires row { first + pages ≤ user_end }
+    requires row { first + pages ≤ user_end M.mode }
     ensures { result ≡ free_object (without_maps (picture_of core.now).at pid first pages) }
 {
     let mut used = [false; NAMED];
@@ -28,8 +28,8 @@ pub fn free_object<D, E>(core: &Core<D, E>, pid: Pid, first: u64, pages: u64) ->
 }
 
 /// Marks the objects of the process of that number, where it lives.
-fn mark_process<D, E>(
-    core: &Core<D, E>,
+fn mark_process<D, E, M: Levels>(
+    core: &Core<D, E, M>,
     number: u64,
     pid: Pid,
     first: u64,
@@ -37,7 +37,7 @@ fn mark_process<D, E>(
     used: &mut [bool; NAMED],
 )
     requires fit { IsFit (picture_of core.now) }
-    requires row { first + pages ≤ user_end }
+    requires row { first + pages ≤ user_end M.mode }
     requires room { length used.old ≡ named_limit }
     ensures marks { Marks (IsUsedBy (without_maps (picture_of core.now).at pid first pages) number) used.old used.new }
 {
@@ -46,14 +46,20 @@ fn mark_process<D, E>(
     };
     if process.get() == pid.get() {
         mark(core, process, 0, first, used);
-        mark(core, process, first + pages, USER_END, used);
+        mark(core, process, first + pages, WIDEST_END, used);
     } else {
-        mark(core, process, 0, USER_END, used);
+        mark(core, process, 0, WIDEST_END, used);
     }
 }
 
 /// Marks the objects of the pages from `from` up to, not including, `end`.
-fn mark<D, E>(core: &Core<D, E>, pid: Pid, from: u64, end: u64, used: &mut [bool; NAMED])
+fn mark<D, E, M: Levels>(
+    core: &Core<D, E, M>,
+    pid: Pid,
+    from: u64,
+    end: u64,
+    used: &mut [bool; NAMED],
+)
     requires live { is_live (picture_of core.now) pid ≡ true }
     requires room { length used.old ≡ named_limit }
     ensures marks { Marks (IsUsedBetween ((picture_of core.now).at pid) from end) used.old used.new }

@@ -23,7 +23,7 @@ use mapping::root_of;
 use paging::Core;
 use regions::Regions;
 use sv39_walk::{Pte, TABLE_ENTRIES};
-use vm_types::{FrameNo, Pid, Prot, USER_START, Vpn};
+use vm_types::{FrameNo, Levels, Pid, Prot, USER_START, Vpn};
 
 /// Gives the `pages` pages from `first` on of a live process the permission `prot`, which allows reading what it allows writing,
 /// and the process the regions that say so. A resident page stays in its frame, where it can be read and run at once, as
@@ -32,17 +32,17 @@ use vm_types::{FrameNo, Pid, Prot, USER_START, Vpn};
 /// W or no D needs a fault first. A page in a slot stays there, and its entry, which has no permission, is the same number: the
 /// next access brings it back with what its region allows (mprotect(2); RISC-V Privileged Specification, "Sv39 page table
 /// entry").
-pub fn reprotect<D, E>(
-    core: &mut Core<D, E>,
+pub fn reprotect<D, E, M: Levels>(
+    core: &mut Core<D, E, M>,
     pid: Pid,
     first: u64,
     pages: u64,
     prot: Prot,
-    regions: &Regions,
+    regions: &Regions<M>,
 )
     requires fit { IsFit (picture_of core.old) }
     requires live { is_live (picture_of core.old) pid ≡ true }
-    requires row { first + pages ≤ user_end }
+    requires row { first + pages ≤ user_end M.mode }
     requires reads { ReadsToo prot }
     requires map { (page : ℕ) → attr_at regions.now page ≡ protected ((picture_of core.old).at pid) first pages prot page }
     ensures fit { IsFit (picture_of core.new) }
@@ -57,19 +57,25 @@ pub fn reprotect<D, E>(
     let end = first + pages;
     let mut page = first.max(USER_START);
     while page < end {
-        page = permit_next(core, pid, user_page(page), end, prot);
+        page = permit_next(core, pid, user_page::<M>(page), end, prot);
     }
     core.remap(pid, regions);
 }
 
 /// Passes the pages from `start` on, and before `end`, on whose way a table is missing, and gives the permission to the pages
 /// after them whose entries stand in one table. The result is the first page past those.
-fn permit_next<D, E>(core: &mut Core<D, E>, pid: Pid, start: Vpn, end: u64, prot: Prot) -> u64
+fn permit_next<D, E, M: Levels>(
+    core: &mut Core<D, E, M>,
+    pid: Pid,
+    start: Vpn,
+    end: u64,
+    prot: Prot,
+) -> u64
     requires rooted { IsRootedBut (picture_of core.old) 0 }
     requires named { NamesFrames (picture_of core.old) pid }
     requires live { is_live (picture_of core.old) pid ≡ true }
     requires some { start < end }
-    requires high { end ≤ user_end }
+    requires high { end ≤ user_end M.mode }
     requires reads { ReadsToo prot }
     ensures rooted { IsRootedBut (picture_of core.new) 0 }
     ensures named { NamesFrames (picture_of core.new) pid }
@@ -84,7 +90,7 @@ fn permit_next<D, E>(core: &mut Core<D, E>, pid: Pid, start: Vpn, end: u64, prot
     if linked >= end {
         return end;
     }
-    let first = user_page(linked);
+    let first = user_page::<M>(linked);
     let stop = end.min(table_end(first));
     permit_table(core, pid, first, stop, prot);
     stop
@@ -92,14 +98,20 @@ fn permit_next<D, E>(core: &mut Core<D, E>, pid: Pid, start: Vpn, end: u64, prot
 
 /// Gives the permission to the pages from `start` up to, not including, `stop`, whose entries stand in one table. Places
 /// without an entry are passed over many at a time.
-fn permit_table<D, E>(core: &mut Core<D, E>, pid: Pid, start: Vpn, stop: u64, prot: Prot)
+fn permit_table<D, E, M: Levels>(
+    core: &mut Core<D, E, M>,
+    pid: Pid,
+    start: Vpn,
+    stop: u64,
+    prot: Prot,
+)
     requires rooted { IsRootedBut (picture_of core.old) 0 }
     requires named { NamesFrames (picture_of core.old) pid }
     requires live { is_live (picture_of core.old) pid ≡ true }
     requires whole { IsWhole (picture_of core.old) pid start }
     requires some { start < stop }
     requires one_table { stop ≤ (start / table_entries + 1) * table_entries }
-    requires high { stop ≤ user_end }
+    requires high { stop ≤ user_end M.mode }
     requires reads { ReadsToo prot }
     ensures rooted { IsRootedBut (picture_of core.new) 0 }
     ensures named { NamesFrames (picture_of core.new) pid }
@@ -113,14 +125,14 @@ fn permit_table<D, E>(core: &mut Core<D, E>, pid: Pid, start: Vpn, stop: u64, pr
     };
     let mut page = next_entry(&core.frames, table, start.get(), stop);
     while page < stop {
-        permit_page(core, pid, root, table, user_page(page), prot);
+        permit_page(core, pid, root, table, user_page::<M>(page), prot);
         page = next_entry(&core.frames, table, page + 1, stop);
     }
 }
 
 /// Gives the permission to a page whose entry stands in that table of a process. The entry of a page in a slot is left alone.
-fn permit_page<D, E>(
-    core: &mut Core<D, E>,
+fn permit_page<D, E, M: Levels>(
+    core: &mut Core<D, E, M>,
     pid: Pid,
     root: FrameNo,
     table: FrameNo,
@@ -131,12 +143,12 @@ fn permit_page<D, E>(
     requires named { NamesFrames (picture_of core.old) pid }
     requires live { is_live (picture_of core.old) pid ≡ true }
     requires root { (picture_of core.old).root pid ≡ Some root.0 }
-    requires inside { IsPage top_level page }
-    requires place { IsTableOf core.old.frames root.0 (page / table_entries) table.0 }
+    requires inside { IsPage (top_level M.mode) page }
+    requires place { IsTableOf core.old.frames (top_level M.mode) root.0 (page / table_entries) table.0 }
     requires reads { ReadsToo prot }
     ensures rooted { IsRootedBut (picture_of core.new) 0 }
     ensures named { NamesFrames (picture_of core.new) pid }
-    ensures places { (row n : ℕ) → IsTableOf core.old.frames root.0 row n → IsTableOf core.new.frames root.0 row n }
+    ensures places { (row n : ℕ) → IsTableOf core.old.frames (top_level M.mode) root.0 row n → IsTableOf core.new.frames (top_level M.mode) root.0 row n }
     ensures permits { PermitsRow (picture_of core.old) (picture_of core.new) pid page (page + 1) prot }
     ensures rest { KeepsAround core.old core.new }
     ensures refused { core.new.refused ≡ core.old.refused }
@@ -160,7 +172,13 @@ fn permit_page<D, E>(
 
 /// Whether a store may go to the frame that a page's entry names: the permission allows it, and either the frame is the
 /// process's own and nobody else has it, or it is not, and the page is a shared one.
-fn takes_stores<D, E>(core: &Core<D, E>, pid: Pid, page: Vpn, number: Pte, prot: Prot) -> bool
+fn takes_stores<D, E, M: Levels>(
+    core: &Core<D, E, M>,
+    pid: Pid,
+    page: Vpn,
+    number: Pte,
+    prot: Prot,
+) -> bool
     requires live { is_live (picture_of core.now) pid ≡ true }
     requires named { IsFrame core.now.frames (frame_of number.0) }
     ensures { (result ≡ true) ↔ TakesStores core.now.frames ((picture_of core.now).at pid page) prot number.0 }

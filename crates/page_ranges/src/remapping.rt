@@ -14,17 +14,23 @@ use crate::clearing::clear_row;
 use crate::forgetting::forget_row;
 use paging::Core;
 use regions::Regions;
-use vm_types::Pid;
+use vm_types::{Levels, Pid};
 
 /// Gives a live process these regions, which are the ones that it has but for the `pages` pages from `first` on. Those
 /// have no own copies afterwards, in frames or in slots, and no entries: the next access to one finds what it is now (mmap(2), MAP_FIXED, and
 /// munmap(2)). Pages of objects that none but this row named are forgotten.
-pub fn remap<D, E>(core: &mut Core<D, E>, pid: Pid, first: u64, pages: u64, regions: &Regions)
+pub fn remap<D, E, M: Levels>(
+    core: &mut Core<D, E, M>,
+    pid: Pid,
+    first: u64,
+    pages: u64,
+    regions: &Regions<M>,
+)
     requires fit { IsFit (picture_of core.old) }
     requires live { is_live (picture_of core.old) pid ≡ true }
-    requires row { first + pages ≤ user_end }
+    requires row { first + pages ≤ user_end M.mode }
     requires others { (page : ℕ) → in_row first pages page ≡ false → attr_at regions.now page ≡ (picture_of core.old).at pid page }
-    requires user { IsUserMap (attr_at regions.now) }
+    requires user { IsUserMap M.mode (attr_at regions.now) }
     requires readable { IsReadableMap (attr_at regions.now) }
     requires objects { AreObjects (with_map (picture_of core.old).at pid (attr_at regions.now)) }
     ensures fit { IsFit (picture_of core.new) }

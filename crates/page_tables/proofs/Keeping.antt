@@ -209,6 +209,6 @@ fresh_forest t count sound fresh = no_tables t (λ n. elim (cases_lt n (frame_co
 
 -- the same of the call's result
 pub if_taken : (result : Result FrameNo NoFree) (old new : FrameTable) → IsForest old → IfOk result (λ n. Takes old new Table n.0)
-    → IfOk result (λ n. AddsTable old new 2 n.0)
-if_taken (Ok n) old new forest takes = adds_table old new 2 n.0 forest takes
+    → IfOk result (λ n. (top : ℕ) → AddsTable old new top n.0)
+if_taken (Ok n) old new forest takes = λ top. adds_table old new top n.0 forest takes
 if_taken (Err e) old new forest takes = tt

@@ -11,5 +11,7 @@ pub mod Keeping
 pub mod Pruning
 pub mod Data
 pub mod Tight
-pub mod Hollow
+pub mod Fields
 pub mod Places
+pub mod Spans
+pub mod Needed

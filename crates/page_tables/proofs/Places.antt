@@ -1,77 +1,74 @@
 -- The pages of one row have one lowest table.
-use Rattle.std.proofs.Common.{◌≡◌, ℕ, ◌*◌, ◌/◌, ◌%◌, refl, sym, ap, ◌∙◌, subst, arith}
+use Rattle.std.proofs.Common.{◌≡◌, ℕ, zero, suc, inl, inr, ◌*◌, ◌/◌, ◌%◌, refl, sym, ap, ◌∙◌, subst, arith}
 use Rattle.frames.specs.FrameTable.{FrameTable}
-use Rattle.sv39_walk.specs.Entry.{entry_at}
+use Rattle.sv39_walk.specs.Entry.{entry_at, is_pointer, frame_of}
 use Rattle.sv39_walk.specs.Walk.{index_of}
 use Rattle.page_tables.specs.Tree.{IsTable, IsForest, IsRoot, last_table, page_entry}
 use Rattle.page_tables.specs.Change.{SetsEntry}
 use Rattle.page_tables.specs.Places.{IsTableOf}
-use Rattle.page_tables.proofs.Ways.{ends}
+use Rattle.page_tables.proofs.Pages.{index_of-suc}
+use Rattle.page_tables.proofs.Ways.{ends, cases_bool, last_table-next, last_table-stop, last_table-zero}
 use Rattle.page_tables.proofs.Ends.{SameTrees, same_last, missing_of-is, last_entry-is, page_entry-whole}
 use Rattle.page_tables.proofs.Setting.{at_place}
 
-same_one : (p q : ℕ) → p / 512 ≡ q / 512 → index_of p 1 ≡ index_of q 1
-unfolding index_of
-same_one p q same = ap (λ x. x % 512) same
-
-same_two : (p q : ℕ) → p / 262144 ≡ q / 262144 → index_of p 2 ≡ index_of q 2
-unfolding index_of
-same_two p q same = ap (λ x. x % 512) same
-
-higher : (p q : ℕ) → p / 512 ≡ q / 512 → p / 262144 ≡ q / 262144
-higher p q same = omega arith
+same_above : (p q k : ℕ) → p / 512 ≡ q / 512 → index_of p (suc k) ≡ index_of q (suc k)
+same_above p q k same = index_of-suc p k ∙ ap (λ x. index_of x k) same ∙ sym (index_of-suc q k)
 
 -- pages of one row have the same end of the way
-pub last_in_row : (t : FrameTable) (p q r : ℕ) → p / 512 ≡ q / 512 → last_table t q 2 r ≡ last_table t p 2 r
-unfolding last_table
-last_in_row t p q r same =
-    let one = same_one p q same in
-    let two = same_two p q (higher p q same) in
-    rw (one, two) refl
+pub last_in_row : (t : FrameTable) (p q level r : ℕ) → p / 512 ≡ q / 512 → last_table t q level r ≡ last_table t p level r
+last_in_row t p q zero r same = last_table-zero t q r ∙ sym (last_table-zero t p r)
+last_in_row t p q (suc level) r same =
+    let one = same_above p q level same in
+    let here : entry_at t r (index_of q (suc level)) ≡ entry_at t r (index_of p (suc level)) = ap (entry_at t r) (sym one) in
+    elim (cases_bool (is_pointer (entry_at t r (index_of p (suc level))))) [
+      | inl pointer ↦ last_table-next t q level r (ap is_pointer here ∙ pointer) ∙ ap (λ x. last_table t q level (frame_of x)) here
+          ∙ last_in_row t p q level (frame_of (entry_at t r (index_of p (suc level)))) same ∙ sym (last_table-next t p level r pointer)
+      | inr stop ↦ last_table-stop t q level r (ap is_pointer here ∙ stop) ∙ sym (last_table-stop t p level r stop)
+    ]
 
 pub index_low : (page : ℕ) → index_of page 0 ≡ page % 512
 unfolding index_of
 index_low page = omega arith
 
 -- where the way to a page ends at level 0 is the table of its row
-pub found_at : (t : FrameTable) (root page n : ℕ) → IsTable t n → (last_table t page 2 root).0 ≡ 0 → (last_table t page 2 root).1 ≡ n
-    → IsTableOf t root (page / 512) n
-found_at t root page n table level is = record {
+pub found_at : (t : FrameTable) (top root page n : ℕ) → IsTable t n → (last_table t page top root).0 ≡ 0 → (last_table t page top root).1 ≡ n
+    → IsTableOf t top root (page / 512) n
+found_at t top root page n table level is = record {
   table = table;
-  whole = λ p same. missing_of-is t 2 root p ∙ ap (λ x. x.0) (last_in_row t page p root (sym same)) ∙ level;
-  last = λ p same. ap (λ x. x.1) (last_in_row t page p root (sym same)) ∙ is;
+  whole = λ p same. missing_of-is t top root p ∙ ap (λ x. x.0) (last_in_row t page p top root (sym same)) ∙ level;
+  last = λ p same. ap (λ x. x.1) (last_in_row t page p top root (sym same)) ∙ is;
 }
 
 -- the entry of a page stands in the table of its row
-pub entry_in_row : (t : FrameTable) (root page n : ℕ) → IsTableOf t root (page / 512) n → page_entry t 2 root page ≡ entry_at t n (page % 512)
-entry_in_row t root page n row =
+pub entry_in_row : (t : FrameTable) (top root page n : ℕ) → IsTableOf t top root (page / 512) n → page_entry t top root page ≡ entry_at t n (page % 512)
+entry_in_row t top root page n row =
     let whole = row.whole page refl in
-    page_entry-whole t 2 root page whole ∙ last_entry-is t 2 root page
-    ∙ at_place t _ _ n (page % 512) (row.last page refl) (ap (index_of page) (sym (missing_of-is t 2 root page) ∙ whole) ∙ index_low page)
+    page_entry-whole t top root page whole ∙ last_entry-is t top root page
+    ∙ at_place t _ _ n (page % 512) (row.last page refl) (ap (index_of page) (sym (missing_of-is t top root page) ∙ whole) ∙ index_low page)
 
 -- a row keeps its table when an entry of a page is set
-pub row_stays : (old new : FrameTable) (root page e : ℕ) → SetsEntry old new 2 root page e → (r row n : ℕ) → IsRoot 2 old r
-    → IsTableOf old r row n → IsTableOf new r row n
-row_stays old new root page e sets r row n is_root old_row =
+pub row_stays : (old new : FrameTable) (top root page e : ℕ) → SetsEntry old new top root page e → (r row n : ℕ) → IsRoot top old r
+    → IsTableOf old top r row n → IsTableOf new top r row n
+row_stays old new top root page e sets r row n is_root old_row =
     let first : row * 512 / 512 ≡ row = omega arith in
-    let end = ends new 2 r (row * 512) sets.forest (sets.roots r is_root).table in
+    let end = ends new top r (row * 512) sets.forest (sets.roots r is_root).table in
     let P : ℕ → Type 0 = λ x. IsTable new x in
     record {
       table = subst P (ap (λ x. x.1) (sets.ends r (row * 512) is_root.table) ∙ old_row.last (row * 512) first) end.table;
-      whole = λ p same. missing_of-is new 2 r p ∙ ap (λ x. x.0) (sets.ends r p is_root.table) ∙ sym (missing_of-is old 2 r p) ∙ old_row.whole p same;
+      whole = λ p same. missing_of-is new top r p ∙ ap (λ x. x.0) (sets.ends r p is_root.table) ∙ sym (missing_of-is old top r p) ∙ old_row.whole p same;
       last = λ p same. ap (λ x. x.1) (sets.ends r p is_root.table) ∙ old_row.last p same;
     }
 
 -- and when frames change that are in no tree
-pub row_same : (old new : FrameTable) → IsForest old → IsForest new → SameTrees old new → (r row n : ℕ) → IsTable old r → IsTable new r
-    → IsTableOf old r row n → IsTableOf new r row n
-row_same old new forest forest' same r row n table table' old_row =
-    let moved : (p : ℕ) → last_table new p 2 r ≡ last_table old p 2 r = λ p. (same_last old new forest forest' same 2 r p table table').0 in
+pub row_same : (old new : FrameTable) → IsForest old → IsForest new → SameTrees old new → (top r row n : ℕ) → IsTable old r → IsTable new r
+    → IsTableOf old top r row n → IsTableOf new top r row n
+row_same old new forest forest' same top r row n table table' old_row =
+    let moved : (p : ℕ) → last_table new p top r ≡ last_table old p top r = λ p. (same_last old new forest forest' same top r p table table').0 in
     let first : row * 512 / 512 ≡ row = omega arith in
-    let end = ends new 2 r (row * 512) forest' table' in
+    let end = ends new top r (row * 512) forest' table' in
     let P : ℕ → Type 0 = λ x. IsTable new x in
     record {
       table = subst P (ap (λ x. x.1) (moved (row * 512)) ∙ old_row.last (row * 512) first) end.table;
-      whole = λ p same. missing_of-is new 2 r p ∙ ap (λ x. x.0) (moved p) ∙ sym (missing_of-is old 2 r p) ∙ old_row.whole p same;
+      whole = λ p same. missing_of-is new top r p ∙ ap (λ x. x.0) (moved p) ∙ sym (missing_of-is old top r p) ∙ old_row.whole p same;
       last = λ p same. ap (λ x. x.1) (moved p) ∙ old_row.last p same;
     }

@@ -1,4 +1,4 @@
--- Tables as trees. `top` is the level of a root: 2 for Sv39, and one less than the number of levels for any other.
+-- Tables as trees. `top` is the level of a root: one less than the number of levels, 2 for Sv39 and 3 for Sv48.
 use Rattle.std.specs.Prelude.{◌≡◌, ◌≢◌, ℕ, zero, suc, ◌+◌, ◌-◌, ◌<◌, ◌≤◌, ◌^◌, true, false, ◌==◌, if◌then◌else◌}
 use Rattle.vm_types.specs.Limits.{table_entries}
 use Rattle.frames.specs.declared.role.Role.TheVariants.{Table}

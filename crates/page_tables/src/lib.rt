@@ -9,6 +9,6 @@ mod tables;
 pub use forms::{Entry, decode};
 pub use leaves::{Grant, entry_over};
 pub use tables::{
-    entry, entry_number, link_table, missing_tables, number_in, prune, set, set_in, table_of,
-    take_table,
+    entry, entry_number, last_table, link_table, missing_tables, number_in, prune, set, set_in,
+    table_of, take_table,
 };

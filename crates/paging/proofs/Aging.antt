@@ -35,7 +35,7 @@ ages_then g a b c (Left is given left) (Same same) = let P : ℕ → Type 0 = λ
 ages_then g a b c (Left is given left) (Cleared again more) = absurd (left_none a b ClearAccessed left again)
 ages_then g a b c (Left is given left) (Left again more gone) = absurd (left_none a b Forget left again)
 
-pub gives_same : (c : Picture) → GivesForTables c c None
+pub gives_same : {mode : ℕ} (c : Picture mode) → GivesForTables c c None
 gives_same c = record {
   count = refl;
   roles = λ n. inl refl;
@@ -44,14 +44,14 @@ gives_same c = record {
   needed = inr (record { roles = λ n datum. refl; entries = λ pid page h. refl; places = λ p. refl });
 }
 
-pub full_then : (old new : Picture) (tried : Option ℕ) → GivesForTables old new tried → IsFull old.frames → IsFull new.frames
+pub full_then : {mode : ℕ} (old new : Picture mode) (tried : Option ℕ) → GivesForTables old new tried → IsFull old.frames → IsFull new.frames
 full_then old new tried gives full = λ n inside free. elim (gives.roles n) [
   | inl same ↦ full n (let e = gives.count in let P : ℕ → Type 0 = λ k. n < k in subst P e inside) (sym same ∙ free)
   | inr table ↦ (let bad : Table ≡ Free = sym table.0 ∙ free in (cc))
 ]
 
 -- what was given up stays so
-given_still : (a b c : Picture) (tried : Option ℕ) → GivesForTables b c tried → (n : ℕ) → IsGiven a b None n → IsGiven a c tried n
+given_still : {mode : ℕ} (a b c : Picture mode) (tried : Option ℕ) → GivesForTables b c tried → (n : ℕ) → IsGiven a b None n → IsGiven a c tried n
 given_still a b c tried later n given = (
   given.0,
   elim given.1 [
@@ -64,7 +64,7 @@ given_still a b c tried later n given = (
 )
 
 -- and what is given up later held a page from the beginning
-given_later : (a b c : Picture) (tried : Option ℕ) → GivesForTables a b None → (n : ℕ) → IsGiven b c tried n → IsGiven a c tried n
+given_later : {mode : ℕ} (a b c : Picture mode) (tried : Option ℕ) → GivesForTables a b None → (n : ℕ) → IsGiven b c tried n → IsGiven a c tried n
 given_later a b c tried first n given = (
   elim (first.roles n) [
     | inl same ↦ sym (ap is_data same) ∙ given.0
@@ -73,14 +73,14 @@ given_later a b c tried first n given = (
   given.1,
 )
 
-none_then : (a b c : Picture) → GivesNone a b → GivesNone b c → GivesNone a c
+none_then : {mode : ℕ} (a b c : Picture mode) → GivesNone a b → GivesNone b c → GivesNone a c
 none_then a b c f g = record {
   roles = λ n datum. (let first = f.roles n datum in g.roles n (ap is_data first ∙ datum) ∙ first);
   entries = λ pid page h. g.entries pid page h ∙ f.entries pid page h;
   places = λ p. g.places p ∙ f.places p;
 }
 
-pub gives_then : (a b c : Picture) (tried : Option ℕ) → GivesForTables a b None → GivesForTables b c tried → GivesForTables a c tried
+pub gives_then : {mode : ℕ} (a b c : Picture mode) (tried : Option ℕ) → GivesForTables a b None → GivesForTables b c tried → GivesForTables a c tried
 gives_then a b c tried f g = record {
   count = g.count ∙ f.count;
   roles = λ n. elim (f.roles n) [

@@ -119,7 +119,7 @@ pub framed : (change : Change) (e : ℕ) → concerns change e ≡ true → conc
 framed change e h = let f = some_framed change e h in rw (ne_eqb e 0 f.0, f.1) refl
 
 -- and its page is mapped
-pub resident_of : (c : Picture) (attr : Option Attr) (e : ℕ) → IsEntryFor c attr e → (e ≢ 0) → is_swapped e ≡ false → (a : Attr) × (attr ≡ Some a) × IsResident c a e
+pub resident_of : {mode : ℕ} (c : Picture mode) (attr : Option Attr) (e : ℕ) → IsEntryFor c attr e → (e ≢ 0) → is_swapped e ≡ false → (a : Attr) × (attr ≡ Some a) × IsResident c a e
 resident_of c attr e (Nothing none) some not_away = absurd (some none)
 resident_of c attr e (Resident a at res) some not_away = (a, at, res)
 resident_of c attr e (Away a at away) some not_away = absurd (false≢true (sym not_away ∙ away.swapped))
@@ -153,7 +153,7 @@ seat_changed ClearAccessed e e' is common c = seat_dropped e e' (leaf_accessed e
 seat_changed ClearDirty e e' is common c = seat_dropped e e' (leaf_dirty e is).0 c.0
 
 -- an entry that lost a bit fits its page as it did
-resident_dropped : (c : Picture) (a : Attr) (e e' : ℕ) → is_valid e ≡ true → Drops e e' → IsResident c a e → IsResident c a e'
+resident_dropped : {mode : ℕ} (c : Picture mode) (a : Attr) (e e' : ℕ) → is_valid e ≡ true → Drops e e' → IsResident c a e → IsResident c a e'
 resident_dropped c a e e' valid drops r =
     let leaf = r.leaf valid in
     record {
@@ -172,12 +172,12 @@ resident_dropped c a e e' valid drops r =
       };
     }
 
-for_dropped : (c : Picture) (attr : Option Attr) (e e' : ℕ) → is_valid e ≡ true → Drops e e' → IsEntryFor c attr e → IsEntryFor c attr e'
+for_dropped : {mode : ℕ} (c : Picture mode) (attr : Option Attr) (e e' : ℕ) → is_valid e ≡ true → Drops e e' → IsEntryFor c attr e → IsEntryFor c attr e'
 for_dropped c attr e e' valid drops (Nothing none) = absurd (valid_some e valid none)
 for_dropped c attr e e' valid drops (Resident a at r) = Resident a at (resident_dropped c a e e' valid drops r)
 for_dropped c attr e e' valid drops (Away a at away) = absurd (false≢true (sym (let z : is_swapped e ≡ false = rw valid refl in z) ∙ away.swapped))
 
-pub for_changed : (c : Picture) (change : Change) (attr : Option Attr) (e e' : ℕ) → concerns change e ≡ true → IsChanged change e e' → IsEntryFor c attr e → IsEntryFor c attr e'
+pub for_changed : {mode : ℕ} (c : Picture mode) (change : Change) (attr : Option Attr) (e e' : ℕ) → concerns change e ≡ true → IsChanged change e e' → IsEntryFor c attr e → IsEntryFor c attr e'
 for_changed c Forget attr e e' is none for = Nothing none
 for_changed c ClearAccessed attr e e' is ch for = for_dropped c attr e e' (leaf_accessed e is).0 ch.0 for
 for_changed c ClearDirty attr e e' is ch for = for_dropped c attr e e' (leaf_dirty e is).0 ch.0 for

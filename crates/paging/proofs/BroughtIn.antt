@@ -1,4 +1,5 @@
 -- A file page comes into a free frame, and is touched there.
+use Rattle.vm_types.specs.Limits.{top_level}
 use Rattle.std.proofs.Common.{◌≡◌, ◌≢◌, ℕ, inl, inr, ◌<◌, List, true, false, Option, Some, refl, sym, ap, ◌∙◌, subst, arith}
 use Rattle.std.proofs.lemmas.Bool.{cases_eq, false≢true}
 use Rattle.vm_types.specs.declared.object.PageKey.{PageKey}
@@ -44,7 +45,7 @@ frames_written old mid n w takes =
       counts = λ m ne. takes.others.counts m ne;
     }
 
-module _ (old new : Picture) (page : PageKey) (n : ℕ) (fit : IsFit old) (brings : BringsIn old new page n) where
+module _ {mode : ℕ} (old new : Picture mode) (page : PageKey) (n : ℕ) (fit : IsFit old) (brings : BringsIn old new page n) where
   free_cache : Free ≢ Cache
   free_cache e = (cc)
 
@@ -57,8 +58,8 @@ module _ (old new : Picture) (page : PageKey) (n : ℕ) (fit : IsFit old) (bring
   cache_ne : (m : ℕ) → role_of old.frames m ≡ Cache → m ≢ n
   cache_ne m cache = not_there m (λ free. (let bad : Cache ≡ Free = sym cache ∙ free in (cc)))
 
-  trees : KeepsTrees old.frames new.frames 2
-  trees = data_changed old.frames new.frames 2 n fit.rooted.forest brings.frames (λ t. (let bad : Free ≡ Table = sym brings.was_free ∙ t in (cc))) (λ t. (let bad : Cache ≡ Table = sym brings.kind ∙ t in (cc)))
+  trees : KeepsTrees old.frames new.frames (top_level mode)
+  trees = data_changed old.frames new.frames (top_level mode) n fit.rooted.forest brings.frames (λ t. (let bad : Free ≡ Table = sym brings.was_free ∙ t in (cc))) (λ t. (let bad : Cache ≡ Table = sym brings.kind ∙ t in (cc)))
 
   same : (pid k : ℕ) → entry new pid k ≡ entry old pid k
   same = entries_kept old new 0 fit.rooted trees.entries brings.root
@@ -113,7 +114,7 @@ module _ (old new : Picture) (page : PageKey) (n : ℕ) (fit : IsFit old) (bring
   pages (InFrame m) is = brings.page_of m
   pages (InSlot k) is = refl
 
-  own_ne : (pid k : ℕ) → IsPage 2 k → is_private (entry old pid k) ≡ true → frame_of (entry old pid k) ≢ n
+  own_ne : (pid k : ℕ) → IsPage (top_level mode) k → is_private (entry old pid k) ≡ true → frame_of (entry old pid k) ≢ n
   own_ne pid k h own = private_ne (frame_of (entry old pid k)) (fit.counted.1.named pid k (InFrame (frame_of (entry old pid k))) h (rw own refl))
 
   placed : HasPlaces new
@@ -189,7 +190,7 @@ module _ (old new : Picture) (page : PageKey) (n : ℕ) (fit : IsFit old) (bring
   fit_brought = record {
     counted = (
       fit.counted.0,
-      counted_same (entry old) (entry new) (IsOwned old) (IsOwned new) (count_in old) (count_in new) (page_in old fit.counted.0) (page_in new fit.counted.0)
+      counted_same mode (entry old) (entry new) (IsOwned old) (IsOwned new) (count_in old) (count_in new) (page_in old fit.counted.0) (page_in new fit.counted.0)
           (λ q p h. ap seat (same q p)) nowhere 0 fit.counted.1 forth back counts pages,
     );
     rooted = rooted_same old new 0 fit.rooted trees brings.root brings.at;
@@ -199,7 +200,7 @@ module _ (old new : Picture) (page : PageKey) (n : ℕ) (fit : IsFit old) (bring
     dirty = dirtied;
   }
 
-  pub trees_brought : KeepsTrees old.frames new.frames 2
+  pub trees_brought : KeepsTrees old.frames new.frames (top_level mode)
   trees_brought = trees
 
   pub entries_brought : (pid k : ℕ) → entry new pid k ≡ entry old pid k
@@ -228,7 +229,7 @@ module _ (old new : Picture) (page : PageKey) (n : ℕ) (fit : IsFit old) (bring
   held_here = ap (λ x. bytes_at new.frames new.slots x) brings.placed
 
 -- a file page that isn't at home was touched
-module _ (old new : Picture) (page : PageKey) (fit : IsFit old) (frames : new.frames ≡ old.frames) (slots : new.slots ≡ old.slots) (away : old.place page ≢ Home) (now : new.touched page ≡ true)
+module _ {mode : ℕ} (old new : Picture mode) (page : PageKey) (fit : IsFit old) (frames : new.frames ≡ old.frames) (slots : new.slots ≡ old.slots) (away : old.place page ≢ Home) (now : new.touched page ≡ true)
     (others : (p : PageKey) → p ≢ page → new.touched p ≡ old.touched p) (place : (p : PageKey) → new.place p ≡ old.place p) (root : (pid : ℕ) → new.root pid ≡ old.root pid)
     (at : (pid k : ℕ) → new.at pid k ≡ old.at pid k) (page_of : (m : ℕ) → new.page_of m ≡ old.page_of m) (files : (f : ℕ) → new.files f ≡ old.files f)
     (same : (pid k : ℕ) → entry new pid k ≡ entry old pid k) where
@@ -261,7 +262,7 @@ module _ (old new : Picture) (page : PageKey) (fit : IsFit old) (frames : new.fr
   fit_touched = record {
     counted = (
       fit.counted.0,
-      counted_same (entry old) (entry new) (IsOwned old) (IsOwned new) (count_in old) (count_in new) (page_in old fit.counted.0) (page_in new fit.counted.0)
+      counted_same mode (entry old) (entry new) (IsOwned old) (IsOwned new) (count_in old) (count_in new) (page_in old fit.counted.0) (page_in new fit.counted.0)
           (λ q p h. ap seat (same q p)) nowhere 0 fit.counted.1 forth' back' counts' pages',
     );
     rooted = rooted_frames old new 0 fit.rooted frames root at;

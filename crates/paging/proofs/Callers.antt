@@ -1,4 +1,5 @@
 -- What a call knows of its page after a frame was asked for.
+use Rattle.vm_types.specs.Limits.{top_level}
 use Rattle.std.proofs.Common.{◌≡◌, ◌≢◌, ℕ, inl, inr, ◌⊎◌, true, false, Option, Some, sym, ◌∙◌, subst}
 use Rattle.std.proofs.lemmas.Bool.{cases_Bool}
 use Rattle.vm_types.specs.declared.number.FrameNo.{FrameNo}
@@ -14,14 +15,14 @@ use Rattle.paging.specs.Calls.{Frees, IsStaying}
 use Rattle.paging.proofs.Places.{one_frame}
 
 -- the frame behind a page is one
-one_behind : (c : Picture) (b : Backing) (n m : ℕ) → IsBehind c b n → IsBehind c b m → (n ≡ 0) ⊎ (n ≡ m)
+one_behind : {mode : ℕ} (c : Picture mode) (b : Backing) (n m : ℕ) → IsBehind c b n → IsBehind c b m → (n ≡ 0) ⊎ (n ≡ m)
 one_behind c Anon n m e f = inl e
 one_behind c (Private p) n m e f = inr (one_frame m n (sym f ∙ e))
 one_behind c (Shared p) n m e f = inr (one_frame m n (sym f ∙ e))
 one_behind c (Common p) n m e f = inr (one_frame m n (sym f ∙ e))
 
 -- a page whose shown bytes lie in the frame to keep keeps its entry
-pub shown_stays : (c : Picture) (attr : Option Attr) (b : Backing) (e n : ℕ) → IsEntryFor c attr e → ((a : Attr) → attr ≡ Some a → a.backing ≡ b)
+pub shown_stays : {mode : ℕ} (c : Picture mode) (attr : Option Attr) (b : Backing) (e n : ℕ) → IsEntryFor c attr e → ((a : Attr) → attr ≡ Some a → a.backing ≡ b)
     → (is_private e ≡ true → frame_of e ≡ n) → (is_private e ≡ false → is_swapped e ≡ false → IsBehind c b n) → is_swapped e ≡ false → IsStaying (Some (record { 0 = n })) e
 shown_stays c attr b e n (Nothing none) is own behind resident = inl none
 shown_stays c attr b e n (Away a at away) is own behind resident = inr (inl away.swapped)
@@ -36,14 +37,14 @@ shown_stays c attr b e n (Resident a at res) is own behind resident = elim (case
 ]
 
 -- so its call goes on where it was
-module _ (old new : Picture) (keep : Option FrameNo) (frees : Frees old new keep) (pid r page : ℕ) (root : old.root pid ≡ Some r) (h : IsPage 2 page) where
+module _ {mode : ℕ} (old new : Picture mode) (keep : Option FrameNo) (frees : Frees old new keep) (pid r page : ℕ) (root : old.root pid ≡ Some r) (h : IsPage (top_level mode) page) where
   pub still_lives : new.root pid ≡ Some r
   still_lives = frees.pages.root pid ∙ root
 
-  pub still_whole : missing_of old.frames 2 r page ≡ 0 → missing_of new.frames 2 r page ≡ 0
+  pub still_whole : missing_of old.frames (top_level mode) r page ≡ 0 → missing_of new.frames (top_level mode) r page ≡ 0
   still_whole whole = frees.missing pid r page root ∙ whole
 
-  pub still_missing : missing_of old.frames 2 r page ≢ 0 → missing_of new.frames 2 r page ≢ 0
+  pub still_missing : missing_of old.frames (top_level mode) r page ≢ 0 → missing_of new.frames (top_level mode) r page ≢ 0
   still_missing some none = some (sym (frees.missing pid r page root) ∙ none)
 
   pub still_none : entry old pid page ≡ 0 → entry new pid page ≡ 0

@@ -1,4 +1,5 @@
 -- A page of a file or an object in a frame, of which no entry says D, is touched no more.
+use Rattle.vm_types.specs.Limits.{top_level}
 use Rattle.std.proofs.Common.{◌≡◌, ◌≢◌, ℕ, inl, inr, ◌<◌, true, false, sym, ap, ◌∙◌, subst, refl}
 use Rattle.std.proofs.lemmas.Bool.{false≢true}
 use Rattle.vm_types.specs.declared.object.PageKey.{PageKey}
@@ -22,23 +23,24 @@ use Rattle.paging.proofs.Seats.{counted_same}
 use Rattle.paging.proofs.Setting.{view_seated, held_same}
 
 -- nothing but the touched set changed
-pub record Untouches (old new : Picture) (page : PageKey) : Type 0 where
-  pub frames : new.frames ≡ old.frames
-  pub slots : new.slots ≡ old.slots
-  pub root : (pid : ℕ) → new.root pid ≡ old.root pid
-  pub at : (pid k : ℕ) → new.at pid k ≡ old.at pid k
-  pub page_of : (x : ℕ) → new.page_of x ≡ old.page_of x
-  pub files : (f : ℕ) → new.files f ≡ old.files f
-  pub place : (p : PageKey) → new.place p ≡ old.place p
-  pub now : new.touched page ≡ false
-  pub others : (p : PageKey) → p ≢ page → new.touched p ≡ old.touched p
+module _ {mode : ℕ} where
+  pub record Untouches (old new : Picture mode) (page : PageKey) : Type 0 where
+    pub frames : new.frames ≡ old.frames
+    pub slots : new.slots ≡ old.slots
+    pub root : (pid : ℕ) → new.root pid ≡ old.root pid
+    pub at : (pid k : ℕ) → new.at pid k ≡ old.at pid k
+    pub page_of : (x : ℕ) → new.page_of x ≡ old.page_of x
+    pub files : (f : ℕ) → new.files f ≡ old.files f
+    pub place : (p : PageKey) → new.place p ≡ old.place p
+    pub now : new.touched page ≡ false
+    pub others : (p : PageKey) → p ≢ page → new.touched p ≡ old.touched p
 
-module _ (old new : Picture) (page : PageKey) (n : ℕ) (fit : IsFit old) (u : Untouches old new page) where
+module _ {mode : ℕ} (old new : Picture mode) (page : PageKey) (n : ℕ) (fit : IsFit old) (u : Untouches old new page) where
   role : (m : ℕ) → role_of new.frames m ≡ role_of old.frames m
   role m = ap (λ t. role_of t m) u.frames
 
   pub entries_untouched : (pid k : ℕ) → entry new pid k ≡ entry old pid k
-  entries_untouched = entries_kept old new 0 fit.rooted (λ r p is_root. ap (λ t. page_entry t 2 r p) u.frames) u.root
+  entries_untouched = entries_kept old new 0 fit.rooted (λ r p is_root. ap (λ t. page_entry t (top_level mode) r p) u.frames) u.root
 
   forth : (z : Seat) → IsOwned old z → IsOwned new z
   forth (InFrame m) is = role m ∙ is
@@ -70,7 +72,7 @@ module _ (old new : Picture) (page : PageKey) (n : ℕ) (fit : IsFit old) (u : U
   fit_untouched placed clear = record {
     counted = (
       fit.counted.0,
-      counted_same (entry old) (entry new) (IsOwned old) (IsOwned new) (count_in old) (count_in new) (page_in old fit.counted.0) (page_in new fit.counted.0)
+      counted_same mode (entry old) (entry new) (IsOwned old) (IsOwned new) (count_in old) (count_in new) (page_in old fit.counted.0) (page_in new fit.counted.0)
           (λ q p h. ap seat (entries_untouched q p)) nowhere 0 fit.counted.1 forth back counts pages,
     );
     rooted = rooted_frames old new 0 fit.rooted u.frames u.root u.at;

@@ -1,4 +1,5 @@
 -- A frame loses a share to a slot, and a page of a file leaves its frame.
+use Rattle.vm_types.specs.Limits.{top_level}
 use Rattle.std.proofs.Common.{◌≡◌, ◌≢◌, ℕ, inl, inr, ◌⊎◌, ◌<◌, Option, Some, None, get_or, refl, sym, ap, ◌∙◌, subst, arith}
 use Rattle.std.proofs.lemmas.Bool.{cases_eq}
 use Rattle.frames.specs.declared.role.Role.TheVariants.{Free, Table, Private, Cache}
@@ -24,14 +25,14 @@ cases_some None = inl refl
 cases_some (Some r) = inr (r, refl)
 
 -- only a live process has own copies
-pub seat_number : (c : Picture) (m pid page : ℕ) (z : Seat) → IsRootedBut c m → seat (entry c pid page) ≡ Some z → pid < 65
+pub seat_number : {mode : ℕ} (c : Picture mode) (m pid page : ℕ) (z : Seat) → IsRootedBut c m → seat (entry c pid page) ≡ Some z → pid < 65
 seat_number c m pid page z rooted is = elim (cases_some (c.root pid)) [
   | inl dead ↦ (let bad : None ≡ Some z = sym (ap seat (entry-dead c pid page dead) ∙ seat-none) ∙ is in (cc))
   | inr lives ↦ (let number = rooted.numbers pid lives.0 lives.1 in omega (arith, number))
 ]
 
 -- a share of a private frame was given back, after an entry was moved away from it
-module _ (old new : Picture) (n m : ℕ) (fit : IsFitBut old (InFrame n) 1 m) (held : role_of old.frames n ≡ Private) (releases : Releases old.frames new.frames n) (beside : SameBeside old new) where
+module _ {mode : ℕ} (old new : Picture mode) (n m : ℕ) (fit : IsFitBut old (InFrame n) 1 m) (held : role_of old.frames n ≡ Private) (releases : Releases old.frames new.frames n) (beside : SameBeside old new) where
   kept_role : 1 < count_of old.frames n → role_of new.frames n ≡ role_of old.frames n
   kept_role more = ap (λ rs. get_or rs n Free) (releases.role_kept more)
 
@@ -71,13 +72,13 @@ module _ (old new : Picture) (n m : ℕ) (fit : IsFitBut old (InFrame n) 1 m) (h
 
   pub fit_released : IsFitBut new nowhere 0 m
   fit_released =
-      let trees = data_released old.frames new.frames 2 n fit.rooted.forest releases (λ t. (let bad : Private ≡ Table = sym held ∙ t in (cc))) in
-      let same : (pid k : ℕ) → IsPage 2 k → entry new pid k ≡ entry old pid k = λ pid k h. entries_kept old new m fit.rooted trees.entries beside.root pid k in
+      let trees = data_released old.frames new.frames (top_level mode) n fit.rooted.forest releases (λ t. (let bad : Private ≡ Table = sym held ∙ t in (cc))) in
+      let same : (pid k : ℕ) → IsPage (top_level mode) k → entry new pid k ≡ entry old pid k = λ pid k h. entries_kept old new m fit.rooted trees.entries beside.root pid k in
       let lowered = releases.lowered in
       record {
         counted = (
           fit.counted.0,
-          counted_released (entry old) (entry new) (IsOwned old) (IsOwned new) (count_in old) (count_in new)
+          counted_released mode (entry old) (entry new) (IsOwned old) (IsOwned new) (count_in old) (count_in new)
               (page_in old fit.counted.0) (page_in new fit.counted.0) (λ q p h. ap seat (same q p h)) (InFrame n) nowhere fit.counted.1 held forth back counts pages lowered
               (λ q p z h is. seat_number old m q p z fit.rooted is),
         );
@@ -86,7 +87,7 @@ module _ (old new : Picture) (n m : ℕ) (fit : IsFitBut old (InFrame n) 1 m) (h
             (λ pid k h private write one. elim (cases_eq (frame_of (entry old pid k)) n) [
               | inl e ↦ (
                   let own : seat (entry old pid k) ≡ Some (InFrame n) = rw private (ap (λ j. Some (InFrame j)) e) in
-                  let more = not_alone (entry old) (entry old) (IsOwned old) (IsOwned old) (count_in old) (count_in old) (page_in old fit.counted.0) (page_in old fit.counted.0) (λ q p h'. refl) (InFrame n) fit.counted.1 pid k h (seat_number old m pid k (InFrame n) fit.rooted own) own in
+                  let more = not_alone mode (entry old) (entry old) (IsOwned old) (IsOwned old) (count_in old) (count_in old) (page_in old fit.counted.0) (page_in old fit.counted.0) (λ q p h'. refl) (InFrame n) fit.counted.1 pid k h (seat_number old m pid k (InFrame n) fit.rooted own) own in
                   let one_n : count_of old.frames n ≡ 1 = ap (count_of old.frames) (sym e) ∙ one in
                   absurd (omega (arith, more, one_n)))
               | inr ne ↦ releases.others.counts (frame_of (entry old pid k)) ne ∙ one

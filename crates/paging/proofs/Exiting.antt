@@ -1,4 +1,5 @@
 -- A process goes.
+use Rattle.vm_types.specs.Limits.{top_level}
 use Rattle.std.proofs.Common.{true, ◌≡◌, ◌≢◌, ℕ, zero, suc, inl, inr, Option, Some, None, refl, sym, ap, ◌∙◌, subst}
 use Rattle.std.specs.Prelude.{IsSome}
 use Rattle.std.proofs.lemmas.Bool.{cases_eq, false≢true}
@@ -32,13 +33,14 @@ data_was : (new : FrameTable) (n m : ℕ) (r : Role) → role_of new n ≡ Free 
 data_was new n m r free other here e = other (sym here ∙ ap (role_of new) e ∙ free)
 
 -- no way leads on from a root without entries
-no_way : (t : FrameTable) (root page depth n : ℕ) → IsEmptyTable t root → Way t 2 root page (suc depth) n → ⊥
-no_way t root page zero n empty way = let P : ℕ → Type 0 = λ x. Points t x _ n in empty_not_linking t root empty _ n (subst P way.1 way.2)
-no_way t root page (suc depth) n empty way = no_way t root page depth way.0 empty way.1
+module _ (mode : ℕ) where
+  no_way : (t : FrameTable) (root page depth n : ℕ) → IsEmptyTable t root → Way t (top_level mode) root page (suc depth) n → ⊥
+  no_way t root page zero n empty way = let P : ℕ → Type 0 = λ x. Points t x _ n in empty_not_linking t root empty _ n (subst P way.1 way.2)
+  no_way t root page (suc depth) n empty way = no_way t root page depth way.0 empty way.1
 
-module _ (old new : Picture) (pid r : ℕ) (fit : IsFit old) (exits : Exits old new pid r) where
-  drops : DropsTree old.frames new.frames 2 r
-  drops = root_released old.frames new.frames 2 r fit.rooted.forest exits.spare exits.frames exits.free
+module _ {mode : ℕ} (old new : Picture mode) (pid r : ℕ) (fit : IsFit old) (exits : Exits old new pid r) where
+  drops : DropsTree old.frames new.frames (top_level mode) r
+  drops = root_released old.frames new.frames (top_level mode) r fit.rooted.forest exits.spare exits.frames exits.free
 
   shares_dropped : KeepsShares old.frames new.frames
   shares_dropped =
@@ -60,7 +62,7 @@ module _ (old new : Picture) (pid r : ℕ) (fit : IsFit old) (exits : Exits old 
   entries_left q page = elim (cases_eq q pid) [
     | inl is ↦ (
         let P : ℕ → Type 0 = λ x. entry new x page ≡ entry old x page in
-        subst P (sym is) (entry-dead new pid page exits.gone ∙ sym (entry-of old pid r page exits.lived ∙ spare_entry old.frames r page exits.spare)))
+        subst P (sym is) (entry-dead new pid page exits.gone ∙ sym (entry-of old pid r page exits.lived ∙ spare_entry mode old.frames r page exits.spare)))
     | inr ne ↦ entry-same old new q page (exits.others q ne) (λ x e. drops.entries x page (other_root q x ne e) (fit.rooted.roots q x e))
   ]
 
@@ -75,11 +77,11 @@ module _ (old new : Picture) (pid r : ℕ) (fit : IsFit old) (exits : Exits old 
   used_left m ne (OnWay q x page is here below) =
       let other : q ≢ pid = λ e. (
       let same : x ≡ r = one_some x r (sym is ∙ ap old.root e ∙ exits.lived) in
-      let P : ℕ → Type 0 = λ y. Way old.frames 2 y page (suc below.0) m in
-      no_way old.frames r page below.0 m exits.spare.empty (subst P same below.2)) in
+      let P : ℕ → Type 0 = λ y. Way old.frames (top_level mode) y page (suc below.0) m in
+      no_way mode old.frames r page below.0 m exits.spare.empty (subst P same below.2)) in
       let Q : Option Attr → Type 0 = λ y. IsSome y in
       OnWay q x page (exits.others q other ∙ is) (subst Q (sym (exits.at q page other)) here)
-      (below.0, below.1, way_forth old.frames new.frames drops.same.forth 2 x page (suc below.0) m below.2)
+      (below.0, below.1, way_forth old.frames new.frames drops.same.forth (top_level mode) x page (suc below.0) m below.2)
 
   rooted_left : IsRootedBut new 0
   rooted_left = record {
@@ -114,7 +116,7 @@ module _ (old new : Picture) (pid r : ℕ) (fit : IsFit old) (exits : Exits old 
               subst P (ap (λ x. new.at x page) is ∙ exits.unmapped page) some));
           file_pages = λ page. (let none : new.at q page ≡ None = ap (λ x. new.at x page) is ∙ exits.unmapped page in rw none tt);
         }
-        | inr ne ↦ user_map-same (old.at q) (new.at q) (λ page. exits.at q page ne) (fit.granting.user q)
+        | inr ne ↦ user_map-same mode (old.at q) (new.at q) (λ page. exits.at q page ne) (fit.granting.user q)
       ];
       readable = λ q. elim (cases_eq q pid) [
         | inl is ↦ (λ page. (let none : new.at q page ≡ None = ap (λ x. new.at x page) is ∙ exits.unmapped page in rw none tt))

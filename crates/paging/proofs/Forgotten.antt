@@ -1,4 +1,5 @@
 -- A page of an object that no entry is over is at home, and its frame or slot is free.
+use Rattle.vm_types.specs.Limits.{top_level}
 use Rattle.std.proofs.Common.{◌≡◌, ◌≢◌, ℕ, inl, inr, ◌<◌, true, false, Some, None, refl, sym, ap, ◌∙◌, subst, arith, eq-eqb, eqb-true, ◌==◌}
 use Rattle.std.proofs.lemmas.Bool.{cases_eq, cases_Bool, false≢true, and_from}
 use Rattle.vm_types.specs.declared.object.ObjectPage.{ObjectPage}
@@ -47,16 +48,16 @@ concerned_some Forget e is zero = let none : concerns Forget 0 ≡ true = ap (co
 concerned_some ClearAccessed e is zero = let none : concerns ClearAccessed 0 ≡ true = ap (concerns ClearAccessed) (sym zero) ∙ is in let bad = rw valid_zero at none in false≢true bad
 concerned_some ClearDirty e is zero = let none : concerns ClearDirty 0 ≡ true = ap (concerns ClearDirty) (sym zero) ∙ is in let bad = rw valid_zero at none in false≢true bad
 
-module _ (c : Picture) (p : ObjectPage) (n : ℕ) (fit : IsFit c) (bare : HasNoEntry c p) (placed : c.place (Object p) ≡ Frame (record { 0 = n })) (above : 0 < n) where
+module _ {mode : ℕ} (c : Picture mode) (p : ObjectPage) (n : ℕ) (fit : IsFit c) (bare : HasNoEntry c p) (placed : c.place (Object p) ≡ Frame (record { 0 = n })) (above : 0 < n) where
   -- no entry is over its frame
-  pub none_over : (change : Change) (pid k : ℕ) → IsPage 2 k → IsOver c change n pid k → ⊥
+  pub none_over : (change : Change) (pid k : ℕ) → IsPage (top_level mode) k → IsOver c change n pid k → ⊥
   none_over change pid k h over =
       let res = over_resident c change n pid k fit h over in
       let on = over_backed c change n pid k fit h over (Object p) res.0 above placed res.1 in
       let named : names (c.at pid k) p.object p.page ≡ true = ap (λ a. names a p.object p.page) res.1 ∙ named_backing res.0.backing p on in
       concerned_some change (entry c pid k) over.concerned (bare pid k h named)
 
-  pub none_named : (pid k : ℕ) → IsPage 2 k → entry c pid k ≢ 0 → is_private (entry c pid k) ≡ false → is_swapped (entry c pid k) ≡ false → frame_of (entry c pid k) ≢ n
+  pub none_named : (pid k : ℕ) → IsPage (top_level mode) k → entry c pid k ≢ 0 → is_private (entry c pid k) ≡ false → is_swapped (entry c pid k) ≡ false → frame_of (entry c pid k) ≢ n
   none_named pid k h some common here e = none_over Forget pid k h (record { concerned = some_there (entry c pid k) some here; frame = e }) where
     some_there : (x : ℕ) → x ≢ 0 → is_swapped x ≡ false → concerns Forget x ≡ true
     some_there x some here = elim (cases_Bool (x == 0)) [
@@ -65,7 +66,7 @@ module _ (c : Picture) (p : ObjectPage) (n : ℕ) (fit : IsFit c) (bare : HasNoE
     ]
 
 -- its mark was taken, and then it left its frame
-module _ (old mid new : Picture) (p : ObjectPage) (n : ℕ) (fit : IsFit old) (bare : HasNoEntry old p) (placed : old.place (Object p) ≡ Frame (record { 0 = n })) (above : 0 < n)
+module _ {mode : ℕ} (old mid new : Picture mode) (p : ObjectPage) (n : ℕ) (fit : IsFit old) (bare : HasNoEntry old p) (placed : old.place (Object p) ≡ Frame (record { 0 = n })) (above : 0 < n)
     (u : Untouches old mid (Object p)) (leaves : Leaves mid new (Object p) n Home) where
   fit_mid : IsFit mid
   fit_mid = fit_untouched old mid (Object p) n fit u placed (none_over old p n fit bare placed above ClearDirty)
@@ -73,7 +74,7 @@ module _ (old mid new : Picture) (p : ObjectPage) (n : ℕ) (fit : IsFit old) (b
   bare_mid : HasNoEntry mid p
   bare_mid pid k h named = entries_untouched old mid (Object p) n fit u pid k ∙ bare pid k h (ap (λ a. names a p.object p.page) (sym (u.at pid k)) ∙ named)
 
-  unnamed_mid : (pid k : ℕ) → IsPage 2 k → entry mid pid k ≢ 0 → is_private (entry mid pid k) ≡ false → is_swapped (entry mid pid k) ≡ false → frame_of (entry mid pid k) ≢ n
+  unnamed_mid : (pid k : ℕ) → IsPage (top_level mode) k → entry mid pid k ≢ 0 → is_private (entry mid pid k) ≡ false → is_swapped (entry mid pid k) ≡ false → frame_of (entry mid pid k) ≢ n
   unnamed_mid = none_named mid p n fit_mid bare_mid (u.place (Object p) ∙ placed) above
 
   held_home : held new (Object p) ≡ None
@@ -115,7 +116,7 @@ module _ (old mid new : Picture) (p : ObjectPage) (n : ℕ) (fit : IsFit old) (b
       }
 
 -- it left its slot
-module _ (old new : Picture) (p : ObjectPage) (k : ℕ) (fit : IsFit old) (homes : Homes old new (Object p) k) where
+module _ {mode : ℕ} (old new : Picture mode) (p : ObjectPage) (k : ℕ) (fit : IsFit old) (homes : Homes old new (Object p) k) where
   pub fit_forgotten_slot : IsFit new
   fit_forgotten_slot = fit_homed old new (Object p) k fit homes
 
@@ -151,7 +152,7 @@ module _ (old new : Picture) (p : ObjectPage) (k : ℕ) (fit : IsFit old) (homes
   }
 
 -- at home already
-pub forgets_home : (c : Picture) (p : ObjectPage) → IsFit c → c.place (Object p) ≡ Home → Forgets c c p
+pub forgets_home : {mode : ℕ} (c : Picture mode) (p : ObjectPage) → IsFit c → c.place (Object p) ≡ Home → Forgets c c p
 forgets_home c p fit home = record {
   root = λ pid. refl;
   at = λ pid k. refl;

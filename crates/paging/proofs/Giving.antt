@@ -1,4 +1,5 @@
 -- What is told of frames that are given up for others, from what was done to one.
+use Rattle.vm_types.specs.Limits.{top_level}
 use Rattle.std.proofs.Common.{◌≡◌, ℕ, ◌⊎◌, inl, inr, true, Option, Some, None, refl, sym, ap, ◌∙◌, subst, arith}
 use Rattle.std.specs.declared.result.Result.{Result}
 use Rattle.std.specs.declared.result.Result.TheVariants.{Ok, Err}
@@ -26,10 +27,10 @@ on_err_same Q (Ok n) is = tt
 on_err_same Q (Err e) is = is
 
 -- marks cleared
-pub marks_none : (c : Picture) → ClearsMarks c c
+pub marks_none : {mode : ℕ} (c : Picture mode) → ClearsMarks c c
 marks_none c = record { roles = λ n. refl; entries = λ pid page h. Same refl; pointers = λ n i m points. points }
 
-pub marks_then : (s old new : Picture) (n : ℕ) → ClearsMarks s old → ChangesLeaves ClearAccessed n old new → ClearsMarks s new
+pub marks_then : {mode : ℕ} (s old new : Picture mode) (n : ℕ) → ClearsMarks s old → ChangesLeaves ClearAccessed n old new → ClearsMarks s new
 marks_then s old new n marks ch = record {
   roles = λ m. ch.roles m ∙ marks.roles m;
   entries = λ pid page h. ages_then (λ m. ⊥) (entry s pid page) (entry old pid page) (entry new pid page) (marks.entries pid page h) (elim (ch.entries pid page h) [
@@ -40,10 +41,10 @@ marks_then s old new n marks ch = record {
 }
 
 -- one frame given up, or none
-pub frame_none : (c : Picture) (v : ℕ) → GivesFrame c c v
+pub frame_none : {mode : ℕ} (c : Picture mode) (v : ℕ) → GivesFrame c c v
 frame_none c v = record { roles = λ n ne. refl; entries = λ pid page h. Same refl; pointers = λ n i m points. points }
 
-pub frame_given : (old mid new : Picture) (v : ℕ) → ClearsMarks old mid → GivesUp v mid new → is_data (role_of mid.frames v) ≡ true → GivesFrame old new v
+pub frame_given : {mode : ℕ} (old mid new : Picture mode) (v : ℕ) → ClearsMarks old mid → GivesUp v mid new → is_data (role_of mid.frames v) ≡ true → GivesFrame old new v
 frame_given old mid new v marks gives datum =
     let given : ℕ → Type 0 = λ n. (n ≡ v) × (is_data (role_of old.frames n) ≡ true) in
     let was : is_data (role_of old.frames v) ≡ true = sym (ap is_data (marks.roles v)) ∙ datum in
@@ -56,7 +57,7 @@ frame_given old mid new v marks gives datum =
     }
 
 -- a frame was tried for a table in vain
-pub tables_tried : (old new : Picture) (keep : Option FrameNo) (v : ℕ) → Frees old new keep → GivesFrame old new v → KeepsRoles old new → IsFull new.frames → GivesForTables old new (Some v)
+pub tables_tried : {mode : ℕ} (old new : Picture mode) (keep : Option FrameNo) (v : ℕ) → Frees old new keep → GivesFrame old new v → KeepsRoles old new → IsFull new.frames → GivesForTables old new (Some v)
 tables_tried old new keep v frees gives still full = record {
   count = frees.count;
   roles = λ n. inl (still n);
@@ -67,18 +68,19 @@ tables_tried old new keep v frees gives still full = record {
 }
 
 -- the frame that is taken then is the one that was given up, where any was
-pub frame_taken : (old found : Picture) (keep : Option FrameNo) (v n : ℕ) → Frees old found keep → GivesFrame old found v → IsFull old.frames ⊎ (found ≡ old) → IsFrame found.frames n
-    → role_of found.frames n ≡ Free → GivesFrame old found n
-frame_taken old found keep v n frees gives needed inside free = elim needed [
-  | inl full ↦ elim (cases_eq n v) [
-    | inl e ↦ (let P : ℕ → Type 0 = λ k. GivesFrame old found k in subst P (sym e) gives)
-    | inr ne ↦ absurd (full n (let same = frees.count in omega (arith, same, inside)) (sym (gives.roles n ne) ∙ free))
+module _ {mode : ℕ} where
+  pub frame_taken : (old found : Picture mode) (keep : Option FrameNo) (v n : ℕ) → Frees old found keep → GivesFrame old found v → IsFull old.frames ⊎ (found ≡ old) → IsFrame found.frames n
+      → role_of found.frames n ≡ Free → GivesFrame old found n
+  frame_taken old found keep v n frees gives needed inside free = elim needed [
+    | inl full ↦ elim (cases_eq n v) [
+      | inl e ↦ (let P : ℕ → Type 0 = λ k. GivesFrame old found k in subst P (sym e) gives)
+      | inr ne ↦ absurd (full n (let same = frees.count in omega (arith, same, inside)) (sym (gives.roles n ne) ∙ free))
+    ]
+    | inr same ↦ (let P : Picture mode → Type 0 = λ c. GivesFrame old c n in subst P (sym same) (frame_none old n))
   ]
-  | inr same ↦ (let P : Picture → Type 0 = λ c. GivesFrame old c n in subst P (sym same) (frame_none old n))
-]
 
 -- a frame was obtained and became a table
-module _ (old found new : Picture) (n : ℕ) (fit : IsFit found) (frees : Frees old found None) (adds : AddsTable found.frames new.frames 2 n) (beside : SameBeside found new)
+module _ {mode : ℕ} (old found new : Picture mode) (n : ℕ) (fit : IsFit found) (frees : Frees old found None) (adds : AddsTable found.frames new.frames (top_level mode) n) (beside : SameBeside found new)
     (gives : GivesFrame old found n) where
   pub roles_but : KeepsRolesBut old new n
   roles_but m ne = adds.takes.others.roles m ne ∙ gives.roles m ne
@@ -105,12 +107,12 @@ module _ (old found new : Picture) (n : ℕ) (fit : IsFit found) (frees : Frees 
   none_table same = record {
     roles = λ m datum. elim (cases_eq m n) [
       | inl e ↦ (
-          let free : role_of old.frames n ≡ Free = ap (λ (c : Picture). role_of c.frames n) (sym same) ∙ adds.takes.was_free in
+          let free : role_of old.frames n ≡ Free = ap (λ (c : Picture mode). role_of c.frames n) (sym same) ∙ adds.takes.was_free in
           absurd (false≢true (sym (ap is_data (ap (role_of old.frames) e ∙ free)) ∙ datum)))
       | inr ne ↦ roles_but m ne
     ];
-    entries = λ pid page h. entries_same pid page ∙ ap (λ (c : Picture). entry c pid page) same;
-    places = λ p. beside.place p ∙ ap (λ (c : Picture). c.place p) same;
+    entries = λ pid page h. entries_same pid page ∙ ap (λ (c : Picture mode). entry c pid page) same;
+    places = λ p. beside.place p ∙ ap (λ (c : Picture mode). c.place p) same;
   }
 
   pub table_given : IsFull old.frames ⊎ (found ≡ old) → GivesForTables old new None

@@ -1,4 +1,6 @@
 -- A share handed over shows nothing.
+use Rattle.vm_types.proofs.Modes.{user_pages_fit}
+use Rattle.vm_types.specs.Limits.{top_level}
 use Rattle.std.proofs.Common.{◌≡◌, ◌≢◌, ℕ, inl, inr, ◌⊎◌, ◌<◌, true, [], Option, Some, None, get_or, refl, sym, ap, ◌∙◌, arith}
 use Rattle.std.specs.Prelude.{option_map}
 use Rattle.std.proofs.lemmas.Bool.{cases_eq}
@@ -23,18 +25,18 @@ use Rattle.paging.proofs.Moves.{view_kept, view-none}
 use Rattle.paging.proofs.Seats.{not_alone}
 
 -- a share of a frame was given back, whose entry had been moved away
-module _ (old new : Picture) (n k : ℕ) (fit : IsFitBut old (InFrame n) 1 0) (own : role_of old.frames n ≡ Private) (releases : Releases old.frames new.frames n) (beside : SameBeside old new) where
-  trees : KeepsTrees old.frames new.frames 2
-  trees = data_released old.frames new.frames 2 n fit.rooted.forest releases (λ t. (let bad : Private ≡ Table = sym own ∙ t in (cc)))
+module _ {mode : ℕ} (old new : Picture mode) (n k : ℕ) (fit : IsFitBut old (InFrame n) 1 0) (own : role_of old.frames n ≡ Private) (releases : Releases old.frames new.frames n) (beside : SameBeside old new) where
+  trees : KeepsTrees old.frames new.frames (top_level mode)
+  trees = data_released old.frames new.frames (top_level mode) n fit.rooted.forest releases (λ t. (let bad : Private ≡ Table = sym own ∙ t in (cc)))
 
   pub same : (pid p : ℕ) → entry new pid p ≡ entry old pid p
   same = entries_kept old new 0 fit.rooted trees.entries beside.root
 
-  shared : (pid p : ℕ) → IsPage 2 p → seat (entry old pid p) ≡ Some (InFrame n) → 1 < count_of old.frames n
-  shared pid p h is = not_alone (entry old) (entry old) (IsOwned old) (IsOwned old) (count_in old) (count_in old) (page_in old fit.counted.0) (page_in old fit.counted.0) (λ q r h'. refl) (InFrame n) fit.counted.1 pid p h
+  shared : (pid p : ℕ) → IsPage (top_level mode) p → seat (entry old pid p) ≡ Some (InFrame n) → 1 < count_of old.frames n
+  shared pid p h is = not_alone mode (entry old) (entry old) (IsOwned old) (IsOwned old) (count_in old) (count_in old) (page_in old fit.counted.0) (page_in old fit.counted.0) (λ q r h'. refl) (InFrame n) fit.counted.1 pid p h
       (seat_number old 0 pid p (InFrame n) fit.rooted is) is
 
-  seat_bytes : (pid p : ℕ) → IsPage 2 p → (z : Seat) → seat (entry old pid p) ≡ Some z → bytes_in new.frames new.slots z ≡ bytes_in old.frames old.slots z
+  seat_bytes : (pid p : ℕ) → IsPage (top_level mode) p → (z : Seat) → seat (entry old pid p) ≡ Some z → bytes_in new.frames new.slots z ≡ bytes_in old.frames old.slots z
   seat_bytes pid p h (InSlot j) is = ap (λ t. t.bytes j) beside.slots
   seat_bytes pid p h (InFrame m) is = elim (cases_eq m n) [
     | inl e ↦ ap (λ bs. get_or bs m []) (releases.bytes_kept (shared pid p h (is ∙ ap (λ i. Some (InFrame i)) e)))
@@ -69,7 +71,7 @@ module _ (old new : Picture) (n k : ℕ) (fit : IsFitBut old (InFrame n) 1 0) (o
       views = λ pid p. elim (cases_attr (old.at pid p)) [
         | inl none ↦ view-none new pid p (beside.at pid p ∙ none) ∙ sym (view-none old pid p none)
         | inr some ↦ (
-            let h : IsPage 2 p = (let u = ((fit.granting.user pid).user_pages p some).1 in omega (arith, u)) in
+            let h : IsPage (top_level mode) p = (let u = ((fit.granting.user pid).user_pages p some).1 in omega (arith, u, user_pages_fit mode)) in
             view_kept old new pid p (beside.at pid p) (ap (λ e. own_in new.frames new.slots e) (same pid p) ∙ own_kept (seat (entry old pid p)) (seat_bytes pid p h)))
       ];
       files = record { held = λ p. inl (held_same p); touched = beside.touched; files = beside.files };
@@ -79,7 +81,7 @@ module _ (old new : Picture) (n k : ℕ) (fit : IsFitBut old (InFrame n) 1 0) (o
     role = after;
     counts = releases.others.counts;
     bytes = λ m ne used. releases.others.bytes m ne;
-    ends = λ pid r p e. (let table = (fit.rooted.roots pid r e).table in (same_last old.frames new.frames fit.rooted.forest trees.forest trees.same 2 r p table ((trees.tables r).0 table)).0);
+    ends = λ pid r p e. (let table = (fit.rooted.roots pid r e).table in (same_last old.frames new.frames fit.rooted.forest trees.forest trees.same (top_level mode) r p table ((trees.tables r).0 table)).0);
     entries = λ pid p h stays. same pid p;
     ages = λ pid p h. Same (same pid p);
     pointers = trees.same.forth;

@@ -1,4 +1,6 @@
 -- An own copy handed over to a slot.
+use Rattle.vm_types.proofs.Modes.{user_pages_fit}
+use Rattle.vm_types.specs.Limits.{top_level}
 use Rattle.std.proofs.Common.{◌≡◌, ◌≢◌, ℕ, inl, inr, ◌⊎◌, ◌+◌, ◌*◌, ◌/◌, ◌%◌, ◌^◌, ◌<◌, true, false, [], Option, Some, None, get_or, refl, sym, ap, ◌∙◌, subst, arith, ne_eqb}
 use Rattle.std.proofs.lemmas.Bool.{cases_eq, cases_Bool, false≢true}
 use Rattle.vm_types.specs.declared.object.PageKey.{PageKey}
@@ -62,20 +64,21 @@ away_seat : (e k : ℕ) → IsAway e k → seat e ≡ Some (InSlot k)
 away_seat e k away = rw (away.common, away.swapped) (ap (λ j. Some (InSlot j)) away.slot)
 
 -- a page with an own copy has its table
-pub seat_whole : (c : Picture) (pid r page : ℕ) (z : Seat) → c.root pid ≡ Some r → seat (entry c pid page) ≡ Some z → missing_of c.frames 2 r page ≡ 0
-seat_whole c pid r page z root is = elim (cases_eq (missing_of c.frames 2 r page) 0) [
-  | inl e ↦ e
-  | inr some ↦ (
-      let none : seat (entry c pid page) ≡ None = ap seat (entry-of c pid r page root ∙ page_entry-missing c.frames 2 r page some) ∙ seat-none in
-      let bad : None ≡ Some z = sym none ∙ is in (cc))
-]
+module _ {mode : ℕ} where
+  pub seat_whole : (c : Picture mode) (pid r page : ℕ) (z : Seat) → c.root pid ≡ Some r → seat (entry c pid page) ≡ Some z → missing_of c.frames (top_level mode) r page ≡ 0
+  seat_whole c pid r page z root is = elim (cases_eq (missing_of c.frames (top_level mode) r page) 0) [
+    | inl e ↦ e
+    | inr some ↦ (
+        let none : seat (entry c pid page) ≡ None = ap seat (entry-of c pid r page root ∙ page_entry-missing c.frames (top_level mode) r page some) ∙ seat-none in
+        let bad : None ≡ Some z = sym none ∙ is in (cc))
+  ]
 
 private_zero : is_private 0 ≡ false
 unfolding has_bit
 private_zero = refl
 
 -- a page with an own copy may lie in a slot
-own_region : (c new : Picture) (a : Option Attr) (e e' k : ℕ) → IsEntryFor c a e → is_private e ≡ true → IsAway e' k → ((f : ℕ) → new.files f ≡ c.files f) → IsEntryFor new a e'
+own_region : {mode : ℕ} (c new : Picture mode) (a : Option Attr) (e e' k : ℕ) → IsEntryFor c a e → is_private e ≡ true → IsAway e' k → ((f : ℕ) → new.files f ≡ c.files f) → IsEntryFor new a e'
 own_region c new a e e' k (Nothing none) own away files = absurd (false≢true (sym (ap is_private none ∙ private_zero) ∙ own))
 own_region c new a e e' k (Away b at is) own away files = absurd (false≢true (sym is.common ∙ own))
 own_region c new a e e' k (Resident b at res) own away files = Away b at (record {
@@ -106,7 +109,7 @@ seat_frame : (e n : ℕ) → seat e ≡ Some (InFrame n) → frame_of e ≡ n
 unfolding seat_no
 seat_frame e n is = (let own = frame_seat e n is in let there : Some (InFrame (frame_of e)) ≡ Some (InFrame n) = rw own at is in ap seat_no there)
 
-own_not_swapped : (c : Picture) (a : Option Attr) (e : ℕ) → IsEntryFor c a e → is_private e ≡ true → is_swapped e ≡ false
+own_not_swapped : {mode : ℕ} (c : Picture mode) (a : Option Attr) (e : ℕ) → IsEntryFor c a e → is_private e ≡ true → is_swapped e ≡ false
 own_not_swapped c a e (Nothing none) own = absurd (false≢true (sym (ap is_private none ∙ private_zero) ∙ own))
 own_not_swapped c a e (Away b at is) own = absurd (false≢true (sym is.common ∙ own))
 own_not_swapped c a e (Resident b at res) own = elim (cases_Bool (is_valid e)) [
@@ -115,8 +118,8 @@ own_not_swapped c a e (Resident b at res) own = elim (cases_Bool (is_valid e)) [
 ]
 
 -- The entry that named a private frame names slot k, and the frame lost a share.
-module _ (old mid new : Picture) (k pid r page n number : ℕ) (share : HasShare old k page) (root : old.root pid ≡ Some r) (h : IsPage 2 page)
-    (from : seat (entry old pid page) ≡ Some (InFrame n)) (away : IsAway number k) (sets : SetsEntry old.frames mid.frames 2 r page number) (beside : SameBeside old mid)
+module _ {mode : ℕ} (old mid new : Picture mode) (k pid r page n number : ℕ) (share : HasShare old k page) (root : old.root pid ≡ Some r) (h : IsPage (top_level mode) page)
+    (from : seat (entry old pid page) ≡ Some (InFrame n)) (away : IsAway number k) (sets : SetsEntry old.frames mid.frames (top_level mode) r page number) (beside : SameBeside old mid)
     (releases : Releases mid.frames new.frames n) (beside' : SameBeside mid new) where
   set_page : SetsPage old mid pid page number
   set_page = sets_page old mid 0 pid r page number share.fit.rooted root h sets beside
@@ -133,7 +136,7 @@ module _ (old mid new : Picture) (k pid r page n number : ℕ) (share : HasShare
   pub handed : IsFit new
   handed = fit_released mid new n 0 moved (ap (λ rs. get_or rs n Free) sets.kept.roles ∙ was) releases beside'
 
-  views_mid : bytes_in old.frames old.slots (InSlot k) ≡ bytes_in old.frames old.slots (InFrame n) → (q p : ℕ) → IsPage 2 p → view mid q p ≡ view old q p
+  views_mid : bytes_in old.frames old.slots (InSlot k) ≡ bytes_in old.frames old.slots (InFrame n) → (q p : ℕ) → IsPage (top_level mode) p → view mid q p ≡ view old q p
   views_mid alike = views_moved old mid (InFrame n) (InSlot k) 0 pid page number share.fit set_page h (seat_number old 0 pid page (InFrame n) share.fit.rooted from) from (away_seat number k away)
       (λ e. (cc)) share.owned share.noted
       (own_region old mid (old.at pid page) (entry old pid page) number k (share.fit.granting.entries pid page h) (frame_seat (entry old pid page) n from) away beside.files)
@@ -176,7 +179,7 @@ module _ (old mid new : Picture) (k pid r page n number : ℕ) (share : HasShare
       at = beside.at;
       views = λ q p. elim (cases_attr (old.at q p)) [
         | inl none ↦ view-none mid q p (beside.at q p ∙ none) ∙ sym (view-none old q p none)
-        | inr some ↦ views_mid alike q p (let u = ((share.fit.granting.user q).user_pages p some).1 in omega (arith, u))
+        | inr some ↦ views_mid alike q p (let u = ((share.fit.granting.user q).user_pages p some).1 in omega (arith, u, user_pages_fit mode))
       ];
       files = record { held = λ p. inl (held_mid p); touched = beside.touched; files = beside.files };
     };
@@ -185,7 +188,7 @@ module _ (old mid new : Picture) (k pid r page n number : ℕ) (share : HasShare
     role = inl (ap (λ rs. get_or rs n Free) sets.kept.roles);
     counts = λ m ne. ap (λ cs. get_or cs m 0) sets.kept.counts;
     bytes = λ m ne used. sets.kept.bytes m used;
-    ends = λ q x p e. last_set old.frames mid.frames r page number share.fit.rooted.forest sets x p (share.fit.rooted.roots q x e).table;
+    ends = λ q x p e. last_set mode old.frames mid.frames r page number share.fit.rooted.forest sets x p (share.fit.rooted.roots q x e).table;
     entries = λ q p h' stays. elim (by_page q p pid page) [
       | inl e ↦ (
           let P : ℕ → Type 0 = λ x. (entry old x p ≡ 0) ⊎ ((is_swapped (entry old x p) ≡ true) ⊎ (frame_of (entry old x p) ≢ n)) in

@@ -9,7 +9,7 @@ use Rattle.vm_types.specs.declared.file.FilePage.{FilePage}
 use Rattle.vm_types.specs.declared.object.ObjectPage.{ObjectPage}
 use Rattle.vm_types.specs.declared.object.PageKey.{PageKey}
 use Rattle.vm_types.specs.declared.object.PageKey.TheVariants.{File, Object}
-use Rattle.vm_types.specs.Limits.{object_limit}
+use Rattle.vm_types.specs.Limits.{object_limit, top_level, user_end}
 use Rattle.frames.specs.declared.role.Role.TheVariants.{Private}
 use Rattle.frames.specs.FrameTable.{role_of, count_of}
 use Rattle.page_tables.specs.Tree.{IsPage}
@@ -79,15 +79,17 @@ claim_is (ObjectAt p i) (FileAt q j) t = absurd (false≢true t)
 claim_is (ObjectAt p i) (ObjectAt q j) t = let h = both (p == q) (i == j) t in ap (λ z. ObjectAt z i) (eq_at p q h.0) ∙ ap (λ z. ObjectAt q z) (eq_at i j h.1)
 claim_is (FileAt p i) (FileAt q j) t = let h = both (p == q) (i == j) t in ap (λ z. FileAt z i) (eq_at p q h.0) ∙ ap (λ z. FileAt q z) (eq_at i j h.1)
 
-abbrev pub is_inside : Claim → Type 0
-is_inside (OwnAt p k) = (p < 65) × (k < 2 ^ 26)
-is_inside (FileAt f k) = (f < 64) × (k < 2 ^ 20)
-is_inside (ObjectAt o k) = (o < object_limit) × (k < object_page_limit)
+module _ (mode : ℕ) where
+  abbrev pub is_inside : Claim → Type 0
+  is_inside (OwnAt p k) = (p < 65) × (k < user_end mode)
+  is_inside (FileAt f k) = (f < 64) × (k < 2 ^ 20)
+  is_inside (ObjectAt o k) = (o < object_limit) × (k < object_page_limit)
 
-unfoldable claims : (Claim → Bool) → ℕ
-claims Q =
-    sum_below (λ p. count_below (λ k. Q (OwnAt p k)) (2 ^ 26)) 65 + sum_below (λ f. count_below (λ k. Q (FileAt f k)) (2 ^ 20)) 64
-    + sum_below (λ o. count_below (λ k. Q (ObjectAt o k)) object_page_limit) object_limit
+module _ (mode : ℕ) where
+  unfoldable claims : (Claim → Bool) → ℕ
+  claims Q =
+      sum_below (λ p. count_below (λ k. Q (OwnAt p k)) (user_end mode)) 65 + sum_below (λ f. count_below (λ k. Q (FileAt f k)) (2 ^ 20)) 64
+      + sum_below (λ o. count_below (λ k. Q (ObjectAt o k)) object_page_limit) object_limit
 
 owns_same : (P Q : Claim → Bool) (n m : ℕ) → ((p k : ℕ) → P (OwnAt p k) ≡ Q (OwnAt p k)) → sum_below (λ p. count_below (λ k. P (OwnAt p k)) m) n ≡ sum_below (λ p. count_below (λ k. Q (OwnAt p k)) m) n
 owns_same P Q n m same = sum-below (λ p. count_below (λ k. P (OwnAt p k)) m) (λ p. count_below (λ k. Q (OwnAt p k)) m) n n (omega arith) (λ p ne. count-same (λ k. P (OwnAt p k)) (λ k. Q (OwnAt p k)) m (same p))
@@ -98,29 +100,30 @@ files_same P Q n m same = sum-below (λ p. count_below (λ k. P (FileAt p k)) m)
 objects_same : (P Q : Claim → Bool) (n m : ℕ) → ((p k : ℕ) → P (ObjectAt p k) ≡ Q (ObjectAt p k)) → sum_below (λ p. count_below (λ k. P (ObjectAt p k)) m) n ≡ sum_below (λ p. count_below (λ k. Q (ObjectAt p k)) m) n
 objects_same P Q n m same = sum-below (λ p. count_below (λ k. P (ObjectAt p k)) m) (λ p. count_below (λ k. Q (ObjectAt p k)) m) n n (omega arith) (λ p ne. count-same (λ k. P (ObjectAt p k)) (λ k. Q (ObjectAt p k)) m (same p))
 
-claims_less : (P Q : Claim → Bool) (x : Claim) → is_inside x → P x ≡ true → Q x ≡ false → ((y : Claim) → y ≢ x → P y ≡ Q y) → claims P ≡ claims Q + 1
-unfolding claims
-claims_less P Q (OwnAt p x) below here gone others =
-    let a = sum-one (λ q. count_below (λ k. P (OwnAt q k)) (2 ^ 26)) (λ q. count_below (λ k. Q (OwnAt q k)) (2 ^ 26)) p 65 below.0
-    (count-one (λ k. P (OwnAt p k)) (λ k. Q (OwnAt p k)) x (2 ^ 26) below.1 here gone (λ k ne. others (OwnAt p k) (λ e. ne (ap page_of e))))
-    (λ q ne. count-same (λ k. P (OwnAt q k)) (λ k. Q (OwnAt q k)) (2 ^ 26) (λ k. others (OwnAt q k) (λ e. ne (ap first_of e)))) in
-    let b = files_same P Q 64 (2 ^ 20) (λ q k. others (FileAt q k) (λ e. (cc))) in
-    let c = objects_same P Q object_limit object_page_limit (λ q k. others (ObjectAt q k) (λ e. (cc))) in
-    omega (arith, a, b, c)
-claims_less P Q (FileAt p x) below here gone others =
-    let a = sum-one (λ q. count_below (λ k. P (FileAt q k)) (2 ^ 20)) (λ q. count_below (λ k. Q (FileAt q k)) (2 ^ 20)) p 64 below.0
-    (count-one (λ k. P (FileAt p k)) (λ k. Q (FileAt p k)) x (2 ^ 20) below.1 here gone (λ k ne. others (FileAt p k) (λ e. ne (ap page_of e))))
-    (λ q ne. count-same (λ k. P (FileAt q k)) (λ k. Q (FileAt q k)) (2 ^ 20) (λ k. others (FileAt q k) (λ e. ne (ap first_of e)))) in
-    let b = owns_same P Q 65 (2 ^ 26) (λ q k. others (OwnAt q k) (λ e. (cc))) in
-    let c = objects_same P Q object_limit object_page_limit (λ q k. others (ObjectAt q k) (λ e. (cc))) in
-    omega (arith, a, b, c)
-claims_less P Q (ObjectAt p x) below here gone others =
-    let a = sum-one (λ q. count_below (λ k. P (ObjectAt q k)) object_page_limit) (λ q. count_below (λ k. Q (ObjectAt q k)) object_page_limit) p object_limit below.0
-    (count-one (λ k. P (ObjectAt p k)) (λ k. Q (ObjectAt p k)) x object_page_limit below.1 here gone (λ k ne. others (ObjectAt p k) (λ e. ne (ap page_of e))))
-    (λ q ne. count-same (λ k. P (ObjectAt q k)) (λ k. Q (ObjectAt q k)) object_page_limit (λ k. others (ObjectAt q k) (λ e. ne (ap first_of e)))) in
-    let b = owns_same P Q 65 (2 ^ 26) (λ q k. others (OwnAt q k) (λ e. (cc))) in
-    let c = files_same P Q 64 (2 ^ 20) (λ q k. others (FileAt q k) (λ e. (cc))) in
-    omega (arith, a, b, c)
+module _ (mode : ℕ) where
+  claims_less : (P Q : Claim → Bool) (x : Claim) → is_inside mode x → P x ≡ true → Q x ≡ false → ((y : Claim) → y ≢ x → P y ≡ Q y) → claims mode P ≡ claims mode Q + 1
+  unfolding claims
+  claims_less P Q (OwnAt p x) below here gone others =
+      let a = sum-one (λ q. count_below (λ k. P (OwnAt q k)) (user_end mode)) (λ q. count_below (λ k. Q (OwnAt q k)) (user_end mode)) p 65 below.0
+      (count-one (λ k. P (OwnAt p k)) (λ k. Q (OwnAt p k)) x (user_end mode) below.1 here gone (λ k ne. others (OwnAt p k) (λ e. ne (ap page_of e))))
+      (λ q ne. count-same (λ k. P (OwnAt q k)) (λ k. Q (OwnAt q k)) (user_end mode) (λ k. others (OwnAt q k) (λ e. ne (ap first_of e)))) in
+      let b = files_same P Q 64 (2 ^ 20) (λ q k. others (FileAt q k) (λ e. (cc))) in
+      let c = objects_same P Q object_limit object_page_limit (λ q k. others (ObjectAt q k) (λ e. (cc))) in
+      omega (arith, a, b, c)
+  claims_less P Q (FileAt p x) below here gone others =
+      let a = sum-one (λ q. count_below (λ k. P (FileAt q k)) (2 ^ 20)) (λ q. count_below (λ k. Q (FileAt q k)) (2 ^ 20)) p 64 below.0
+      (count-one (λ k. P (FileAt p k)) (λ k. Q (FileAt p k)) x (2 ^ 20) below.1 here gone (λ k ne. others (FileAt p k) (λ e. ne (ap page_of e))))
+      (λ q ne. count-same (λ k. P (FileAt q k)) (λ k. Q (FileAt q k)) (2 ^ 20) (λ k. others (FileAt q k) (λ e. ne (ap first_of e)))) in
+      let b = owns_same P Q 65 (user_end mode) (λ q k. others (OwnAt q k) (λ e. (cc))) in
+      let c = objects_same P Q object_limit object_page_limit (λ q k. others (ObjectAt q k) (λ e. (cc))) in
+      omega (arith, a, b, c)
+  claims_less P Q (ObjectAt p x) below here gone others =
+      let a = sum-one (λ q. count_below (λ k. P (ObjectAt q k)) object_page_limit) (λ q. count_below (λ k. Q (ObjectAt q k)) object_page_limit) p object_limit below.0
+      (count-one (λ k. P (ObjectAt p k)) (λ k. Q (ObjectAt p k)) x object_page_limit below.1 here gone (λ k ne. others (ObjectAt p k) (λ e. ne (ap page_of e))))
+      (λ q ne. count-same (λ k. P (ObjectAt q k)) (λ k. Q (ObjectAt q k)) object_page_limit (λ k. others (ObjectAt q k) (λ e. ne (ap first_of e)))) in
+      let b = owns_same P Q 65 (user_end mode) (λ q k. others (OwnAt q k) (λ e. (cc))) in
+      let c = files_same P Q 64 (2 ^ 20) (λ q k. others (FileAt q k) (λ e. (cc))) in
+      omega (arith, a, b, c)
 
 -- whether a state has it
 abbrev pub is_claimed : (ℕ → ℕ → Option View) → (ℕ → ℕ → Bool) → (ℕ → ℕ → Bool) → Claim → Bool
@@ -128,9 +131,10 @@ is_claimed views touched stored (OwnAt p k) = has_own (views p k)
 is_claimed views touched stored (FileAt f k) = touched f k
 is_claimed views touched stored (ObjectAt o k) = stored o k
 
-claimed_are : (views : ℕ → ℕ → Option View) (touched stored : ℕ → ℕ → Bool) → claims (is_claimed views touched stored) ≡ copies_over views touched stored
-unfolding claims copies_over
-claimed_are views touched stored = refl
+module _ (mode : ℕ) where
+  claimed_are : (views : ℕ → ℕ → Option View) (touched stored : ℕ → ℕ → Bool) → claims mode (is_claimed views touched stored) ≡ copies_over mode views touched stored
+  unfolding claims copies_over
+  claimed_are views touched stored = refl
 
 count-all : (f : ℕ → Bool) (n : ℕ) → ((k : ℕ) → k < n → f k ≡ true) → count_below f n ≡ n
 unfolding count_below
@@ -168,22 +172,23 @@ abbrev object_of : ℕ → ℕ → ObjectPage
 object_of object page = record { object = object; page = page }
 
 -- so many things with claims of their own are no more than a state has
-pub claims_fit : (views : ℕ → ℕ → Option View) (touched stored : ℕ → ℕ → Bool) (n : ℕ) (code : (k : ℕ) → nat_lt k n ≡ true → Claim)
-    → ((k : ℕ) (h : nat_lt k n ≡ true) → is_inside (code k h)) → ((k : ℕ) (h : nat_lt k n ≡ true) → is_claimed views touched stored (code k h) ≡ true)
-    → ((j k : ℕ) (h : nat_lt j n ≡ true) (i : nat_lt k n ≡ true) → code j h ≡ code k i → j ≡ k) → n ≤ copies_over views touched stored
-claims_fit views touched stored n code inner holds apart =
-    let most = pigeons is_inside claims claim_eq claim_same claim_is claims_less (λ k. nat_lt k n) code n (is_claimed views touched stored)
-    (λ k h below. inner k h) (λ k h below. holds k h) (λ j k h i lt lt' e. apart j k h i e) in
-    let all = count-all (λ k. nat_lt k n) n (λ k lt. lt_true k n lt) in
-    let same = claimed_are views touched stored in
-    omega (arith, most, all, same)
+module _ (mode : ℕ) where
+  pub claims_fit : (views : ℕ → ℕ → Option View) (touched stored : ℕ → ℕ → Bool) (n : ℕ) (code : (k : ℕ) → nat_lt k n ≡ true → Claim)
+      → ((k : ℕ) (h : nat_lt k n ≡ true) → is_inside mode (code k h)) → ((k : ℕ) (h : nat_lt k n ≡ true) → is_claimed views touched stored (code k h) ≡ true)
+      → ((j k : ℕ) (h : nat_lt j n ≡ true) (i : nat_lt k n ≡ true) → code j h ≡ code k i → j ≡ k) → n ≤ copies_over mode views touched stored
+  claims_fit views touched stored n code inner holds apart =
+      let most = pigeons (is_inside mode) (claims mode) claim_eq claim_same claim_is (claims_less mode) (λ k. nat_lt k n) code n (is_claimed views touched stored)
+      (λ k h below. inner k h) (λ k h below. holds k h) (λ j k h i lt lt' e. apart j k h i e) in
+      let all = count-all (λ k. nat_lt k n) n (λ k lt. lt_true k n lt) in
+      let same = claimed_are mode views touched stored in
+      omega (arith, most, all, same)
 
 -- Where every slot is in use and one frame more needs one, the processes and files have more than there are slots.
-module _ (c : Picture) (m : ℕ) (fit : IsFitBut c nowhere 0 m) (full : IsFull c.slots) (n : ℕ) (needs : NeedsSlot c n)
-    (user : (pid page : ℕ) → has_own (view c pid page) ≡ true → page < 2 ^ 26)
+module _ {mode : ℕ} (c : Picture mode) (m : ℕ) (fit : IsFitBut c nowhere 0 m) (full : IsFull c.slots) (n : ℕ) (needs : NeedsSlot c n)
+    (user : (pid page : ℕ) → has_own (view c pid page) ≡ true → page < user_end mode)
     (files : (p : FilePage) → c.place (File p) ≢ Home → (p.file < 64) × (p.page < 2 ^ 20))
     (objects : (p : ObjectPage) → c.place (Object p) ≢ Home → (p.object < object_limit) × (p.page < object_page_limit))
-    (shared : role_of c.frames n ≡ Private → 0 < count_of c.frames n) (has_seat : (pid page : ℕ) (z : Seat) → IsPage 2 page → seat (entry c pid page) ≡ Some z → has_own (view c pid page) ≡ true) where
+    (shared : role_of c.frames n ≡ Private → 0 < count_of c.frames n) (has_seat : (pid page : ℕ) (z : Seat) → IsPage (top_level mode) page → seat (entry c pid page) ≡ Some z → has_own (view c pid page) ≡ true) where
   some_holder : (z : Seat) → IsOwned c z → 0 < count_in c z → (pid : ℕ) × (pid < 65) × (seat (entry c pid (page_in c fit.counted.0 z)) ≡ Some z)
   unfolding holders_at
   some_holder z own some =
@@ -195,7 +200,7 @@ module _ (c : Picture) (m : ℕ) (fit : IsFitBut c nowhere 0 m) (full : IsFull c
 
   -- the claim of what lies at a seat or a place
   data HasClaim (z : Seat) (at : Place) : Type 0 where
-    Own : (pid page : ℕ) → pid < 65 → IsPage 2 page → seat (entry c pid page) ≡ Some z → HasClaim z at
+    Own : (pid page : ℕ) → pid < 65 → IsPage (top_level mode) page → seat (entry c pid page) ≡ Some z → HasClaim z at
     Kept : (p : PageKey) → c.place p ≡ at → at ≢ Home → c.touched p ≡ true → HasClaim z at
 
   claim_of : {z : Seat} {at : Place} → HasClaim z at → Claim
@@ -220,7 +225,7 @@ module _ (c : Picture) (m : ℕ) (fit : IsFitBut c nowhere 0 m) (full : IsFull c
       let same : object_of p.object p.page ≡ object_of q.object q.page = ap (λ x. object_of x p.page) (ap first_of e) ∙ ap (λ x. object_of q.object x) (ap page_of e) in
       inr (sym is ∙ ap (λ x. c.place (Object x)) same ∙ is')
 
-  inner : (z : Seat) (at : Place) (a : HasClaim z at) → is_inside (claim_of a)
+  inner : (z : Seat) (at : Place) (a : HasClaim z at) → is_inside mode (claim_of a)
   unfolding claim_of
   inner z at (Own pid page lt h is) = (lt, user pid page (has_seat pid page z h is))
   inner z at (Kept (File p) is away touched) = files p (λ home. away (sym is ∙ home))
@@ -279,7 +284,7 @@ module _ (c : Picture) (m : ℕ) (fit : IsFitBut c nowhere 0 m) (full : IsFull c
   ]
   apart_by j k (inr le) (inr le') below below' e = omega (arith, le, le', below, below')
 
-  inner_by : (k : ℕ) (a : (k < c.slots.total) ⊎ (c.slots.total ≤ k)) → is_inside (code_by k a)
+  inner_by : (k : ℕ) (a : (k < c.slots.total) ⊎ (c.slots.total ≤ k)) → is_inside mode (code_by k a)
   unfolding code_by
   inner_by k (inl lt) = inner (InSlot k) (Slot (record { 0 = k })) (slot_claim k lt)
   inner_by k (inr le) = inner (InFrame n) (Frame (record { 0 = n })) frame_claim
@@ -289,9 +294,9 @@ module _ (c : Picture) (m : ℕ) (fit : IsFitBut c nowhere 0 m) (full : IsFull c
   holds_by k (inl lt) = holds (InSlot k) (Slot (record { 0 = k })) (slot_claim k lt)
   holds_by k (inr le) = holds (InFrame n) (Frame (record { 0 = n })) frame_claim
 
-  pub more_held : c.slots.total < copies_over (view c) (touched_file c) (stored_object c)
+  pub more_held : c.slots.total < copies_over mode (view c) (touched_file c) (stored_object c)
   more_held =
-      let most = claims_fit (view c) (touched_file c) (stored_object c) (c.slots.total + 1) (λ k h. code_by k (cases_lt k c.slots.total))
+      let most = claims_fit mode (view c) (touched_file c) (stored_object c) (c.slots.total + 1) (λ k h. code_by k (cases_lt k c.slots.total))
       (λ k h. inner_by k (cases_lt k c.slots.total)) (λ k h. holds_by k (cases_lt k c.slots.total))
       (λ j k h i e. apart_by j k (cases_lt j c.slots.total) (cases_lt k c.slots.total) (true_lt j (c.slots.total + 1) h) (true_lt k (c.slots.total + 1) i) e) in
       omega (arith, most)

@@ -1,4 +1,5 @@
 -- A page of a file or an object that lay in a slot is at home and touched no more, and its slot is free.
+use Rattle.vm_types.specs.Limits.{top_level}
 use Rattle.std.proofs.Common.{◌≡◌, ◌≢◌, ℕ, inl, inr, ◌<◌, true, false, Some, None, refl, sym, ap, ◌∙◌, subst, arith}
 use Rattle.std.proofs.lemmas.Bool.{false≢true}
 use Rattle.vm_types.specs.declared.object.PageKey.{PageKey}
@@ -37,20 +38,21 @@ slot_frame : (k n : ℕ) → Slot (record { 0 = k }) ≢ Frame (record { 0 = n }
 slot_frame k n e = (cc)
 
 -- the steps, taken together
-pub record Homes (old new : Picture) (page : PageKey) (k : ℕ) : Type 0 where
-  pub was : old.place page ≡ Slot (record { 0 = k })
-  pub frames : new.frames ≡ old.frames
-  pub slots : Releases old.slots new.slots k
-  pub root : (pid : ℕ) → new.root pid ≡ old.root pid
-  pub at : (pid q : ℕ) → new.at pid q ≡ old.at pid q
-  pub page_of : (m : ℕ) → new.page_of m ≡ old.page_of m
-  pub files : (f : ℕ) → new.files f ≡ old.files f
-  pub placed : new.place page ≡ Home
-  pub others : (p : PageKey) → p ≢ page → new.place p ≡ old.place p
-  pub now : new.touched page ≡ false
-  pub rest : (p : PageKey) → p ≢ page → new.touched p ≡ old.touched p
+module _ {mode : ℕ} where
+  pub record Homes (old new : Picture mode) (page : PageKey) (k : ℕ) : Type 0 where
+    pub was : old.place page ≡ Slot (record { 0 = k })
+    pub frames : new.frames ≡ old.frames
+    pub slots : Releases old.slots new.slots k
+    pub root : (pid : ℕ) → new.root pid ≡ old.root pid
+    pub at : (pid q : ℕ) → new.at pid q ≡ old.at pid q
+    pub page_of : (m : ℕ) → new.page_of m ≡ old.page_of m
+    pub files : (f : ℕ) → new.files f ≡ old.files f
+    pub placed : new.place page ≡ Home
+    pub others : (p : PageKey) → p ≢ page → new.place p ≡ old.place p
+    pub now : new.touched page ≡ false
+    pub rest : (p : PageKey) → p ≢ page → new.touched p ≡ old.touched p
 
-module _ (old new : Picture) (page : PageKey) (k : ℕ) (fit : IsFit old) (homes : Homes old new page k) where
+module _ {mode : ℕ} (old new : Picture mode) (page : PageKey) (k : ℕ) (fit : IsFit old) (homes : Homes old new page k) where
   one : old.slots.count k ≡ 1
   one = fit.places.slotted page k homes.was
 
@@ -58,7 +60,7 @@ module _ (old new : Picture) (page : PageKey) (k : ℕ) (fit : IsFit old) (homes
   gone = let less = homes.slots.lowered in let c = one in omega (arith, less, c)
 
   pub same : (pid q : ℕ) → entry new pid q ≡ entry old pid q
-  same = entries_kept old new 0 fit.rooted (λ r p is_root. ap (λ t. page_entry t 2 r p) homes.frames) homes.root
+  same = entries_kept old new 0 fit.rooted (λ r p is_root. ap (λ t. page_entry t (top_level mode) r p) homes.frames) homes.root
 
   role : (m : ℕ) → role_of new.frames m ≡ role_of old.frames m
   role m = ap (λ t. role_of t m) homes.frames
@@ -169,7 +171,7 @@ module _ (old new : Picture) (page : PageKey) (k : ℕ) (fit : IsFit old) (homes
   fit_homed = record {
     counted = (
       fit.counted.0,
-      counted_same (entry old) (entry new) (IsOwned old) (IsOwned new) (count_in old) (count_in new) (page_in old fit.counted.0) (page_in new fit.counted.0)
+      counted_same mode (entry old) (entry new) (IsOwned old) (IsOwned new) (count_in old) (count_in new) (page_in old fit.counted.0) (page_in new fit.counted.0)
           (λ q p h. ap seat (same q p)) nowhere 0 fit.counted.1 forth back counts pages,
     );
     rooted = rooted_frames old new 0 fit.rooted homes.frames homes.root homes.at;

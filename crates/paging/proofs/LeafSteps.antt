@@ -1,4 +1,7 @@
 -- Entries over one frame changed: what stays, and where such entries stand.
+use Rattle.vm_types.specs.declared.mode.Levels as Levels
+use Rattle.vm_types.proofs.Modes.{user_pages_fit}
+use Rattle.vm_types.specs.Limits.{user_end, top_level}
 use Rattle.std.proofs.Common.{◌≡◌, ◌≢◌, ℕ, inl, inr, ◌⊎◌, ◌+◌, ◌-◌, ◌^◌, ◌<◌, ◌≤◌, true, false, List, [], Option, Some, None, get_or, refl, sym, ap, ◌∙◌, subst, arith}
 use Rattle.std.specs.Prelude.{IsSome, IfNone, is_some}
 use Rattle.std.proofs.lemmas.Bool.{cases_eq, cases_Bool, false≢true}
@@ -43,27 +46,28 @@ use Rattle.paging.proofs.Ways.{by_page}
 use Rattle.std.specs.Prelude.{option_map}
 
 -- where an entry was set, each way ends where it ended
-pub last_set : (old new : FrameTable) (root page number : ℕ) → IsForest old → SetsEntry old new 2 root page number → (r p : ℕ) → IsTable old r → last_table new p 2 r ≡ last_table old p 2 r
-last_set old new root page number forest sets r p table =
-    let end = ends old 2 r p forest table in
-    let l = last_table old p 2 r in
-    let w = way_forth old new (λ a i b. (sets.pointers a i b).0) 2 r p (2 - l.0) l.1 end.way in
-    let there : IsTable new l.1 = record { inside = (let e = sets.kept.frames in rw e end.table.inside); role = ap (λ rs. get_or rs l.1 Free) sets.kept.roles ∙ end.table.role } in
-    last_is new 2 r p l.0 l.1 end.least w (λ h. elim (cases_Bool (is_pointer (entry_at new l.1 (index_of p l.0)))) [
-      | inl t ↦ (
-          let was = (sets.pointers l.1 (index_of p l.0) (frame_of (entry_at new l.1 (index_of p l.0)))).1 (record { table = there; index = index_of-lt p l.0; pointer = t; target = refl }) in
-          absurd (false≢true (sym (end.stops h) ∙ was.pointer)))
-      | inr f ↦ f
-    ])
+module _ (mode : ℕ) where
+  pub last_set : (old new : FrameTable) (root page number : ℕ) → IsForest old → SetsEntry old new (top_level mode) root page number → (r p : ℕ) → IsTable old r → last_table new p (top_level mode) r ≡ last_table old p (top_level mode) r
+  last_set old new root page number forest sets r p table =
+      let end = ends old (top_level mode) r p forest table in
+      let l = last_table old p (top_level mode) r in
+      let w = way_forth old new (λ a i b. (sets.pointers a i b).0) (top_level mode) r p (top_level mode - l.0) l.1 end.way in
+      let there : IsTable new l.1 = record { inside = (let e = sets.kept.frames in rw e end.table.inside); role = ap (λ rs. get_or rs l.1 Free) sets.kept.roles ∙ end.table.role } in
+      last_is new (top_level mode) r p l.0 l.1 end.least w (λ h. elim (cases_Bool (is_pointer (entry_at new l.1 (index_of p l.0)))) [
+        | inl t ↦ (
+            let was = (sets.pointers l.1 (index_of p l.0) (frame_of (entry_at new l.1 (index_of p l.0)))).1 (record { table = there; index = index_of-lt p l.0; pointer = t; target = refl }) in
+            absurd (false≢true (sym (end.stops h) ∙ was.pointer)))
+        | inr f ↦ f
+      ])
 
 -- where an entry over a frame stands
-module _ (c : Picture) (change : Change) (n pid k : ℕ) (fit : IsFit c) (h : IsPage 2 k) (over : IsOver c change n pid k) where
+module _ {mode : ℕ} (c : Picture mode) (change : Change) (n pid k : ℕ) (fit : IsFit c) (h : IsPage (top_level mode) k) (over : IsOver c change n pid k) where
   pub over_resident : (a : Attr) × (c.at pid k ≡ Some a) × IsResident c a (entry c pid k)
   over_resident =
       let f = some_framed change (entry c pid k) over.concerned in
       resident_of c (c.at pid k) (entry c pid k) (fit.granting.entries pid k h) f.0 f.1
 
-  pub over_user : (16 ≤ k) × (k < 2 ^ 26)
+  pub over_user : (16 ≤ k) × (k < user_end mode)
   over_user = let P : Option Attr → Type 0 = λ x. IsSome x in (fit.granting.user pid).user_pages k (subst P (sym over_resident.1) refl)
 
   pub over_common : role_of c.frames n ≡ Cache → is_private (entry c pid k) ≡ false
@@ -107,20 +111,21 @@ module _ (c : Picture) (change : Change) (n pid k : ℕ) (fit : IsFit c) (h : Is
   over_mapped none = let bad : None ≡ Some over_resident.0 = sym none ∙ over_resident.1 in (cc)
 
 -- no table is missing on the way to it
-pub over_whole : (c : Picture) (change : Change) (n pid r k : ℕ) → c.root pid ≡ Some r → IsOver c change n pid k → missing_of c.frames 2 r k ≡ 0
-over_whole c change n pid r k root over = elim (cases_eq (missing_of c.frames 2 r k) 0) [
-  | inl e ↦ e
-  | inr some ↦ absurd ((some_framed change (entry c pid k) over.concerned).0 (entry-of c pid r k root ∙ page_entry-missing c.frames 2 r k some))
-]
+module _ {mode : ℕ} where
+  pub over_whole : (c : Picture mode) (change : Change) (n pid r k : ℕ) → c.root pid ≡ Some r → IsOver c change n pid k → missing_of c.frames (top_level mode) r k ≡ 0
+  over_whole c change n pid r k root over = elim (cases_eq (missing_of c.frames (top_level mode) r k) 0) [
+    | inl e ↦ e
+    | inr some ↦ absurd ((some_framed change (entry c pid k) over.concerned).0 (entry-of c pid r k root ∙ page_entry-missing c.frames (top_level mode) r k some))
+  ]
 
-pub over_lives : (c : Picture) (change : Change) (n pid k : ℕ) → c.root pid ≡ None → IsOver c change n pid k → ⊥
+pub over_lives : {mode : ℕ} (c : Picture mode) (change : Change) (n pid k : ℕ) → c.root pid ≡ None → IsOver c change n pid k → ⊥
 over_lives c change n pid k dead over = (some_framed change (entry c pid k) over.concerned).0 (entry-dead c pid k dead)
 
 cases_root : (o : Option ℕ) → (o ≡ None) ⊎ ((r : ℕ) × (o ≡ Some r))
 cases_root None = inl refl
 cases_root (Some r) = inr (r, refl)
 
-pub over_number : (c : Picture) (change : Change) (n pid k : ℕ) → IsFit c → IsOver c change n pid k → (1 ≤ pid) × (pid ≤ 64)
+pub over_number : {mode : ℕ} (c : Picture mode) (change : Change) (n pid k : ℕ) → IsFit c → IsOver c change n pid k → (1 ≤ pid) × (pid ≤ 64)
 over_number c change n pid k fit over = elim (cases_root (c.root pid)) [
   | inl dead ↦ absurd (over_lives c change n pid k dead over)
   | inr lives ↦ fit.rooted.numbers pid lives.0 lives.1
@@ -182,16 +187,16 @@ pub one_after : (p : PageKey) (n m : ℕ) → key_after p n ≡ key_after p m �
 one_after p n m e = let same : offset_of p + n ≡ offset_of p + m = sym (offset_after p n) ∙ ap offset_of e ∙ offset_after p m in omega (arith, same)
 
 -- an entry over the frame of a page of a file or an object, within a run, is over the run's page for it
-pub over_in_run : (c : Picture) (change : Change) (n pid k : ℕ) (run : Run) (p : PageKey) → IsFit c → 0 < n → c.place p ≡ Frame (record { 0 = n }) → IsRunOf c pid run → run.first ≤ k → k < run.end
+pub over_in_run : {mode : ℕ} (c : Picture mode) (change : Change) (n pid k : ℕ) (run : Run) (p : PageKey) → IsFit c → 0 < n → c.place p ≡ Frame (record { 0 = n }) → IsRunOf c pid run → run.first ≤ k → k < run.end
     → IsOver c change n pid k → IsPageOver run p k
-over_in_run c change n pid k run p fit above at of low high over = record {
+over_in_run {mode = mode} c change n pid k run p fit above at of low high over = record {
   from = low;
   below = high;
-  is = over_backed c change n pid k fit (let small = of.high in omega arith) over p (attr_after run.attr (k - run.first)) above at (of.mapped k low high);
+  is = over_backed c change n pid k fit (let small = of.high in omega (arith, small, user_pages_fit mode)) over p (attr_after run.attr (k - run.first)) above at (of.mapped k low high);
 }
 
 -- the next run of a process's regions
-pub run_of : (c : Picture) (pid : ℕ) (runs : List Run) (page : ℕ) (run : Run) → ((k : ℕ) → c.at pid k ≡ attr_at runs k) → IsNextRun (attr_at runs) page run → IsRunOf c pid run
+pub run_of : {mode : ℕ} (c : Picture mode) (pid : ℕ) (runs : List Run) (page : ℕ) (run : Run) → ((k : ℕ) → c.at pid k ≡ attr_at runs k) → IsNextRun mode (attr_at runs) page run → IsRunOf c pid run
 run_of c pid runs page run at next = record {
   low = next.low;
   nonempty = next.nonempty;
@@ -202,7 +207,7 @@ run_of c pid runs page run at next = record {
 at_where : (r : Option ℕ) (runs : List Run) (page root : ℕ) → r ≡ Some root → attr_where r runs page ≡ attr_at runs page
 at_where r runs page root is = ap (λ x. attr_where x runs page) is
 
-pub map_of : {D E : Type 0} (c : Core D E) (pid root : ℕ) (runs : List Run) → (picture_of c).root pid ≡ Some root → get_or c.regions.items pid [] ≡ runs
+pub map_of : {M : Type 0} {m : Levels.Ghosts M} → {D E : Type 0} (c : Core D E M m) (pid root : ℕ) (runs : List Run) → (picture_of c).root pid ≡ Some root → get_or c.regions.items pid [] ≡ runs
     → (page : ℕ) → (picture_of c).at pid page ≡ attr_at runs page
 map_of c pid root runs live same page =
     at_where (root_in c.roots.items pid) (get_or c.regions.items pid []) page root live ∙ ap (λ (rs : List Run). attr_at rs page) same
@@ -212,8 +217,8 @@ cases_attr None = inl refl
 cases_attr (Some a) = inr refl
 
 -- One entry over the frame was changed.
-module _ (old new : Picture) (change : Change) (n pid r page number : ℕ) (fit : IsFit old) (root : old.root pid ≡ Some r) (h : IsPage 2 page) (over : IsOver old change n pid page)
-    (filed : change ≡ Forget → role_of old.frames n ≡ Cache) (changed : IsChanged change (entry old pid page) number) (sets : SetsEntry old.frames new.frames 2 r page number)
+module _ {mode : ℕ} (old new : Picture mode) (change : Change) (n pid r page number : ℕ) (fit : IsFit old) (root : old.root pid ≡ Some r) (h : IsPage (top_level mode) page) (over : IsOver old change n pid page)
+    (filed : change ≡ Forget → role_of old.frames n ≡ Cache) (changed : IsChanged change (entry old pid page) number) (sets : SetsEntry old.frames new.frames (top_level mode) r page number)
     (beside : SameBeside old new) where
   one_page : SetsPage old new pid page number
   one_page = sets_page old new 0 pid r page number fit.rooted root h sets beside
@@ -221,7 +226,7 @@ module _ (old new : Picture) (change : Change) (n pid r page number : ℕ) (fit 
   seat_here : seat number ≡ seat (entry old pid page)
   seat_here = seat_changed change (entry old pid page) number over.concerned (λ forget. over_common old change n pid page fit h over (filed forget)) changed
 
-  seats : (q p : ℕ) → IsPage 2 p → seat (entry new q p) ≡ seat (entry old q p)
+  seats : (q p : ℕ) → IsPage (top_level mode) p → seat (entry new q p) ≡ seat (entry old q p)
   seats q p h' = elim (by_page q p pid page) [
     | inl e ↦ (
         let P : ℕ → Type 0 = λ x. seat (entry new x p) ≡ seat (entry old x p) in
@@ -241,7 +246,7 @@ module _ (old new : Picture) (change : Change) (n pid r page number : ℕ) (fit 
   fit_changed = record {
     counted = (
       fit.counted.0,
-      counted_same (entry old) (entry new) (IsOwned old) (IsOwned new) (count_in old) (count_in new) (page_in old fit.counted.0) (page_in new fit.counted.0)
+      counted_same mode (entry old) (entry new) (IsOwned old) (IsOwned new) (count_in old) (count_in new) (page_in old fit.counted.0) (page_in new fit.counted.0)
           seats nowhere 0 fit.counted.1 (owned_forth old new beside one_page.shares) (owned_back old new beside one_page.shares) (count_kept old new beside one_page.shares)
           (λ z is. page_kept old new fit.counted.0 beside z),
     );
@@ -278,10 +283,10 @@ module _ (old new : Picture) (change : Change) (n pid r page number : ℕ) (fit 
     views = λ q p. elim (cases_attr (old.at q p)) [
       | inl none ↦ view-none new q p (beside.at q p ∙ none) ∙ sym (view-none old q p none)
       | inr some ↦ (
-          let h' : IsPage 2 p = (let u = ((fit.granting.user q).user_pages p some).1 in omega (arith, u)) in
+          let h' : IsPage (top_level mode) p = (let u = ((fit.granting.user q).user_pages p some).1 in omega (arith, u, user_pages_fit mode)) in
           view_kept old new q p (beside.at q p) (own_kept (seat (entry old q p)) (seat (entry new q p)) (seats q p h') (λ z is. seat_bytes z (fit.counted.1.named q p z h' is))))
     ];
-    ends = λ q x p e. last_set old.frames new.frames r page number fit.rooted.forest sets x p (fit.rooted.roots q x e).table;
+    ends = λ q x p e. last_set mode old.frames new.frames r page number fit.rooted.forest sets x p (fit.rooted.roots q x e).table;
     pointers = λ m i t. (sets.pointers m i t).0;
     entries = λ q p h'. elim (by_page q p pid page) [
       | inl e ↦ (
@@ -297,7 +302,7 @@ module _ (old new : Picture) (change : Change) (n pid r page number : ℕ) (fit 
   clear_here now = false≢true (sym (changed_once change (entry old pid page) number changed) ∙ sym (ap (concerns change) one_page.changed) ∙ now.concerned)
 
 -- entries changed, and others after them
-pub changes_none : (change : Change) (n : ℕ) (c : Picture) → ChangesLeaves change n c c
+pub changes_none : {mode : ℕ} (change : Change) (n : ℕ) (c : Picture mode) → ChangesLeaves change n c c
 changes_none change n c = record {
   beside = record { slots = refl; root = λ p. refl; at = λ p k. refl; page_of = λ m. refl; place = λ p. refl; touched = λ p. refl; files = λ f. refl };
   frames = refl;
@@ -311,13 +316,13 @@ changes_none change n c = record {
 }
 
 -- what was clear is clear still
-pub still_clear : (change : Change) (n pid k : ℕ) (old new : Picture) → ChangesLeaves change n old new → IsPage 2 k → (IsOver old change n pid k → ⊥) → IsOver new change n pid k → ⊥
+pub still_clear : {mode : ℕ} (change : Change) (n pid k : ℕ) (old new : Picture mode) → ChangesLeaves change n old new → IsPage (top_level mode) k → (IsOver old change n pid k → ⊥) → IsOver new change n pid k → ⊥
 still_clear change n pid k old new changes h clear over = elim (changes.entries pid k h) [
   | inl same ↦ clear (record { concerned = ap (concerns change) (sym same) ∙ over.concerned; frame = ap frame_of (sym same) ∙ over.frame })
   | inr was ↦ clear was.0
 ]
 
-pub changes_then : (change : Change) (n : ℕ) (a b c : Picture) → ChangesLeaves change n a b → ChangesLeaves change n b c → ChangesLeaves change n a c
+pub changes_then : {mode : ℕ} (change : Change) (n : ℕ) (a b c : Picture mode) → ChangesLeaves change n a b → ChangesLeaves change n b c → ChangesLeaves change n a c
 changes_then change n a b c f g = record {
   beside = record {
     slots = g.beside.slots ∙ f.beside.slots;
@@ -349,15 +354,15 @@ changes_then change n a b c f g = record {
   ];
 }
 
-pub holds_kept : (change : Change) (n : ℕ) (old new : Picture) (held : Held) → ChangesLeaves change n old new → Holds old n held → Holds new n held
+pub holds_kept : {mode : ℕ} (change : Change) (n : ℕ) (old new : Picture mode) (held : Held) → ChangesLeaves change n old new → Holds old n held → Holds new n held
 holds_kept change n old new (Own page) changes is = (changes.roles n ∙ is.0, changes.beside.page_of n ∙ is.1)
 holds_kept change n old new (Filed p) changes is = changes.beside.place p ∙ is
 
-module _ {D E : Type 0} where
-  pub frames_none : (c : Core D E) → KeepsAllButFrames c c
-  frames_none c = record { store = refl; swap = refl; cache = refl; roots = refl; regions = refl; page_of = refl; clock = refl; refused = refl }
+module _ {M : Type 0} {m : Levels.Ghosts M} {D E : Type 0} where
+  pub frames_none : (c : Core D E M m) → KeepsAllButFrames c c
+  frames_none c = record { store = refl; swap = refl; cache = refl; roots = refl; regions = refl; page_of = refl; clock = refl; refused = refl; keep = refl; looks = refl }
 
-  pub frames_then : (a b c : Core D E) → KeepsAllButFrames a b → KeepsAllButFrames b c → KeepsAllButFrames a c
+  pub frames_then : (a b c : Core D E M m) → KeepsAllButFrames a b → KeepsAllButFrames b c → KeepsAllButFrames a c
   frames_then a b c f g = record {
     store = g.store ∙ f.store;
     swap = g.swap ∙ f.swap;
@@ -366,5 +371,7 @@ module _ {D E : Type 0} where
     regions = g.regions ∙ f.regions;
     page_of = g.page_of ∙ f.page_of;
     clock = g.clock ∙ f.clock;
+    keep = g.keep ∙ f.keep;
+    looks = g.looks ∙ f.looks;
     refused = g.refused ∙ f.refused;
   }

@@ -1,4 +1,6 @@
 -- A page of a file leaves its frame, for home or for a slot.
+use Rattle.vm_types.proofs.Modes.{user_pages_fit}
+use Rattle.vm_types.specs.Limits.{top_level}
 use Rattle.std.proofs.Common.{◌≡◌, ◌≢◌, ℕ, inl, inr, ◌⊎◌, ◌<◌, true, false, Option, Some, None, refl, sym, ap, ◌∙◌, subst, arith, ne_eqb}
 use Rattle.std.proofs.lemmas.Bool.{cases_eq, cases_Bool, false≢true}
 use Rattle.vm_types.specs.declared.object.PageKey.{PageKey}
@@ -33,46 +35,48 @@ use Rattle.paging.proofs.Rooted.{rooted_same}
 use Rattle.paging.proofs.Evicted.{seat_number as seat_below}
 
 -- the file page left frame v, which is free now; every other file page is where it was
-pub record Leaves (old new : Picture) (page : PageKey) (v : ℕ) (at : Place) : Type 0 where
-  pub was : old.place page ≡ Frame (record { 0 = v })
-  pub above : v ≢ 0
-  pub placed : new.place page ≡ at
-  pub others : (p : PageKey) → p ≢ page → new.place p ≡ old.place p
-  pub frames : SameButFor v old.frames new.frames
-  pub free : role_of new.frames v ≡ Free
-  pub slots : new.slots ≡ old.slots
-  pub root : (pid : ℕ) → new.root pid ≡ old.root pid
-  pub at_same : (pid k : ℕ) → new.at pid k ≡ old.at pid k
-  pub page_of : (m : ℕ) → new.page_of m ≡ old.page_of m
-  pub touched : (p : PageKey) → new.touched p ≡ old.touched p
-  pub files : (f : ℕ) → new.files f ≡ old.files f
+module _ {mode : ℕ} where
+  pub record Leaves (old new : Picture mode) (page : PageKey) (v : ℕ) (at : Place) : Type 0 where
+    pub was : old.place page ≡ Frame (record { 0 = v })
+    pub above : v ≢ 0
+    pub placed : new.place page ≡ at
+    pub others : (p : PageKey) → p ≢ page → new.place p ≡ old.place p
+    pub frames : SameButFor v old.frames new.frames
+    pub free : role_of new.frames v ≡ Free
+    pub slots : new.slots ≡ old.slots
+    pub root : (pid : ℕ) → new.root pid ≡ old.root pid
+    pub at_same : (pid k : ℕ) → new.at pid k ≡ old.at pid k
+    pub page_of : (m : ℕ) → new.page_of m ≡ old.page_of m
+    pub touched : (p : PageKey) → new.touched p ≡ old.touched p
+    pub files : (f : ℕ) → new.files f ≡ old.files f
 
 -- no entry is over a frame that was forgotten
-pub unnamed_of : (c : Picture) (v : ℕ) → IsClear c Forget v → (pid k : ℕ) → IsPage 2 k → entry c pid k ≢ 0 → is_private (entry c pid k) ≡ false → is_swapped (entry c pid k) ≡ false → frame_of (entry c pid k) ≢ v
+pub unnamed_of : {mode : ℕ} (c : Picture mode) (v : ℕ) → IsClear c Forget v → (pid k : ℕ) → IsPage (top_level mode) k → entry c pid k ≢ 0 → is_private (entry c pid k) ≡ false → is_swapped (entry c pid k) ≡ false → frame_of (entry c pid k) ≢ v
 unnamed_of c v clear pid k h some common resident frame =
     clear pid k h (record { concerned = rw (ne_eqb (entry c pid k) 0 some, resident) refl; frame = frame })
 
 -- where it may go: home untouched, or touched into a slot that has one share and no holder
-pub data GoesTo (c : Picture) (page : PageKey) : Place → Seat → ℕ → Type 0 where
-  ToHome : c.touched page ≡ false → GoesTo c page Home nowhere 0
-  ToSlot : (k : ℕ) → c.touched page ≡ true → IsOwned c (InSlot k) → c.slots.count k ≡ 1 → GoesTo c page (Slot (record { 0 = k })) (InSlot k) 1
+module _ {mode : ℕ} where
+  pub data GoesTo (c : Picture mode) (page : PageKey) : Place → Seat → ℕ → Type 0 where
+    ToHome : c.touched page ≡ false → GoesTo c page Home nowhere 0
+    ToSlot : (k : ℕ) → c.touched page ≡ true → IsOwned c (InSlot k) → c.slots.count k ≡ 1 → GoesTo c page (Slot (record { 0 = k })) (InSlot k) 1
 
-module _ (old new : Picture) (page : PageKey) (v : ℕ) (at : Place) (x : Seat) (d : ℕ) (fit : IsFitBut old x d 0) (leaves : Leaves old new page v at)
-    (unnamed : (pid k : ℕ) → IsPage 2 k → entry old pid k ≢ 0 → is_private (entry old pid k) ≡ false → is_swapped (entry old pid k) ≡ false → frame_of (entry old pid k) ≢ v) where
+module _ {mode : ℕ} (old new : Picture mode) (page : PageKey) (v : ℕ) (at : Place) (x : Seat) (d : ℕ) (fit : IsFitBut old x d 0) (leaves : Leaves old new page v at)
+    (unnamed : (pid k : ℕ) → IsPage (top_level mode) k → entry old pid k ≢ 0 → is_private (entry old pid k) ≡ false → is_swapped (entry old pid k) ≡ false → frame_of (entry old pid k) ≢ v) where
   cache : role_of old.frames v ≡ Cache
   cache = fit.places.cached page v leaves.was
 
-  trees : KeepsTrees old.frames new.frames 2
+  trees : KeepsTrees old.frames new.frames (top_level mode)
   trees =
       let cache_table : Cache ≢ Table = λ e. (cc) in
       let free_table : Free ≢ Table = λ e. (cc) in
-      data_changed old.frames new.frames 2 v fit.rooted.forest leaves.frames (λ e. cache_table (sym cache ∙ e)) (λ e. free_table (sym leaves.free ∙ e))
+      data_changed old.frames new.frames (top_level mode) v fit.rooted.forest leaves.frames (λ e. cache_table (sym cache ∙ e)) (λ e. free_table (sym leaves.free ∙ e))
 
-  same : (pid k : ℕ) → IsPage 2 k → entry new pid k ≡ entry old pid k
+  same : (pid k : ℕ) → IsPage (top_level mode) k → entry new pid k ≡ entry old pid k
   same pid k h =
       let cache_table : Cache ≢ Table = λ e. (cc) in
       let free_table : Free ≢ Table = λ e. (cc) in
-      let trees = data_changed old.frames new.frames 2 v fit.rooted.forest leaves.frames (λ e. cache_table (sym cache ∙ e)) (λ e. free_table (sym leaves.free ∙ e)) in
+      let trees = data_changed old.frames new.frames (top_level mode) v fit.rooted.forest leaves.frames (λ e. cache_table (sym cache ∙ e)) (λ e. free_table (sym leaves.free ∙ e)) in
       entries_kept old new 0 fit.rooted trees.entries leaves.root pid k
 
   private_ne : (n : ℕ) → role_of old.frames n ≡ Private → n ≢ v
@@ -90,14 +94,14 @@ module _ (old new : Picture) (page : PageKey) (v : ℕ) (at : Place) (x : Seat) 
     | inr f ↦ rw (f, framed f) refl
   ]
 
-  other : (pid k : ℕ) {a : Attr} → IsPage 2 k → IsResident old a (entry old pid k) → is_private (entry old pid k) ≡ false → frame_of (entry old pid k) ≢ v
+  other : (pid k : ℕ) {a : Attr} → IsPage (top_level mode) k → IsResident old a (entry old pid k) → is_private (entry old pid k) ≡ false → frame_of (entry old pid k) ≢ v
   unfolding frame_of
   other pid k h res common = elim (cases_eq (entry old pid k) 0) [
     | inl none ↦ λ e. leaves.above (sym e ∙ (let zero_frame : frame_of 0 ≡ 0 = refl in ap frame_of none ∙ zero_frame))
     | inr some ↦ unnamed pid k h some common (not_swapped (entry old pid k) res.framed)
   ]
 
-  entry_left : (pid k : ℕ) (attr : Option Attr) → IsPage 2 k → IsEntryFor old attr (entry old pid k) → IsEntryFor new attr (entry old pid k)
+  entry_left : (pid k : ℕ) (attr : Option Attr) → IsPage (top_level mode) k → IsEntryFor old attr (entry old pid k) → IsEntryFor new attr (entry old pid k)
   entry_left pid k attr h (Nothing none) = Nothing none
   entry_left pid k attr h (Away a is away) = Away a is (record {
     swapped = away.swapped;
@@ -123,7 +127,7 @@ module _ (old new : Picture) (page : PageKey) (v : ℕ) (at : Place) (x : Seat) 
   granting_left : IsGranting new
   granting_left = record {
     entries = λ pid k h. (let e = entry_left pid k (old.at pid k) h (fit.granting.entries pid k h) in rw (leaves.at_same pid k, same pid k h) e);
-    user = λ pid. user_map-same (old.at pid) (new.at pid) (leaves.at_same pid) (fit.granting.user pid);
+    user = λ pid. user_map-same mode (old.at pid) (new.at pid) (leaves.at_same pid) (fit.granting.user pid);
     readable = λ pid. readable-same (old.at pid) (new.at pid) (leaves.at_same pid) (fit.granting.readable pid);
     objects = objects-same old.at new.at leaves.at_same fit.granting.objects;
   }
@@ -141,10 +145,10 @@ module _ (old new : Picture) (page : PageKey) (v : ℕ) (at : Place) (x : Seat) 
   rooted_left =
       let cache_table : Cache ≢ Table = λ e. (cc) in
       let free_table : Free ≢ Table = λ e. (cc) in
-      rooted_same old new 0 fit.rooted (data_changed old.frames new.frames 2 v fit.rooted.forest leaves.frames (λ e. cache_table (sym cache ∙ e)) (λ e. free_table (sym leaves.free ∙ e)))
+      rooted_same old new 0 fit.rooted (data_changed old.frames new.frames (top_level mode) v fit.rooted.forest leaves.frames (λ e. cache_table (sym cache ∙ e)) (λ e. free_table (sym leaves.free ∙ e)))
       leaves.root leaves.at_same
 
-  seat_number : (pid k : ℕ) (z : Seat) → IsPage 2 k → seat (entry old pid k) ≡ Some z → pid < 65
+  seat_number : (pid k : ℕ) (z : Seat) → IsPage (top_level mode) k → seat (entry old pid k) ≡ Some z → pid < 65
   seat_number pid k z h is = seat_below old 0 pid k z fit.rooted is
 
   frame_page : (sp : ℕ → ℕ) (z : Seat) → page_in new sp z ≡ page_in old sp z
@@ -276,10 +280,10 @@ module _ (old new : Picture) (page : PageKey) (v : ℕ) (at : Place) (x : Seat) 
       ap (λ x. bytes_at new.frames new.slots x) (leaves.others p ne)
       ∙ bytes_left (old.place p) (λ there. ne (fit.places.apart p page (there ∙ sym leaves.was) (λ home. (let bad : Home ≡ Frame (record { 0 = v }) = sym home ∙ there in (cc)))))
 
-  pub same_left : (pid k : ℕ) → IsPage 2 k → entry new pid k ≡ entry old pid k
+  pub same_left : (pid k : ℕ) → IsPage (top_level mode) k → entry new pid k ≡ entry old pid k
   same_left = same
 
-  pub trees_left : KeepsTrees old.frames new.frames 2
+  pub trees_left : KeepsTrees old.frames new.frames (top_level mode)
   trees_left = trees
 
   pub held_left : (p : PageKey) → p ≢ page → held new p ≡ held old p
@@ -294,7 +298,7 @@ module _ (old new : Picture) (page : PageKey) (v : ℕ) (at : Place) (x : Seat) 
       views = λ pid p. elim (cases_attr (old.at pid p)) [
         | inl none ↦ view-none new pid p (leaves.at_same pid p ∙ none) ∙ sym (view-none old pid p none)
         | inr some ↦ (
-            let h : IsPage 2 p = (let u = ((fit.granting.user pid).user_pages p some).1 in omega (arith, u)) in
+            let h : IsPage (top_level mode) p = (let u = ((fit.granting.user pid).user_pages p some).1 in omega (arith, u, user_pages_fit mode)) in
             view_kept old new pid p (leaves.at_same pid p)
             (ap (λ e. own_in new.frames new.slots e) (same pid p h) ∙ own_left (seat (entry old pid p)) (λ z is. fit.counted.1.named pid p z h is)))
       ];
@@ -312,7 +316,7 @@ module _ (old new : Picture) (page : PageKey) (v : ℕ) (at : Place) (x : Seat) 
     role = inr (leaves.free, ap is_data cache);
     counts = leaves.frames.counts;
     bytes = λ n ne used. leaves.frames.bytes n ne;
-    ends = λ pid r p e. (let table = (fit.rooted.roots pid r e).table in (same_last old.frames new.frames fit.rooted.forest trees.forest trees.same 2 r p table ((trees.tables r).0 table)).0);
+    ends = λ pid r p e. (let table = (fit.rooted.roots pid r e).table in (same_last old.frames new.frames fit.rooted.forest trees.forest trees.same (top_level mode) r p table ((trees.tables r).0 table)).0);
     entries = λ pid p h stays. same pid p h;
     ages = λ pid p h. Same (same pid p h);
     pointers = trees.same.forth;
@@ -330,9 +334,9 @@ one_slot : (j k : ℕ) → Slot (record { 0 = j }) ≡ Slot (record { 0 = k }) �
 unfolding slot_number
 one_slot j k e = ap slot_number e
 
-module _ (old new : Picture) (page : PageKey) (v : ℕ) where
+module _ {mode : ℕ} (old new : Picture mode) (page : PageKey) (v : ℕ) where
   abbrev Unnamed : Type 0
-  Unnamed = (pid k : ℕ) → IsPage 2 k → entry old pid k ≢ 0 → is_private (entry old pid k) ≡ false → is_swapped (entry old pid k) ≡ false → frame_of (entry old pid k) ≢ v
+  Unnamed = (pid k : ℕ) → IsPage (top_level mode) k → entry old pid k ≢ 0 → is_private (entry old pid k) ≡ false → is_swapped (entry old pid k) ≡ false → frame_of (entry old pid k) ≢ v
 
   forth_home : (fit : IsFit old) → Leaves old new page v Home → Unnamed → (z : Seat) → IsOwned old z → IsOwned new z
   forth_home fit leaves unnamed (InFrame n) is = forth_frame old new page v Home nowhere 0 fit leaves unnamed n is
@@ -348,7 +352,7 @@ module _ (old new : Picture) (page : PageKey) (v : ℕ) where
   fit_home fit leaves untouched unnamed = record {
     counted = (
       fit.counted.0,
-      counted_same (entry old) (entry new) (IsOwned old) (IsOwned new) (count_in old) (count_in new) (page_in old fit.counted.0) (page_in new fit.counted.0)
+      counted_same mode (entry old) (entry new) (IsOwned old) (IsOwned new) (count_in old) (count_in new) (page_in old fit.counted.0) (page_in new fit.counted.0)
           (λ q p h. ap seat (same old new page v Home nowhere 0 fit leaves unnamed q p h)) nowhere 0 fit.counted.1
           (forth_home fit leaves unnamed) (back_home fit leaves unnamed)
           (λ z is. count_left old new page v Home nowhere 0 fit leaves unnamed z is) (λ z is. frame_page old new page v Home nowhere 0 fit leaves unnamed fit.counted.0 z),
@@ -376,7 +380,7 @@ module _ (old new : Picture) (page : PageKey) (v : ℕ) where
     fit_slot fit own one leaves touched unnamed = record {
       counted = (
         fit.counted.0,
-        counted_left (entry old) (entry new) (IsOwned old) (IsOwned new) (count_in old) (count_in new) (page_in old fit.counted.0) (page_in new fit.counted.0)
+        counted_left mode (entry old) (entry new) (IsOwned old) (IsOwned new) (count_in old) (count_in new) (page_in old fit.counted.0) (page_in new fit.counted.0)
             (λ q p h. ap seat (same old new page v place_k (InSlot k) 1 fit leaves unnamed q p h)) (InSlot k) nowhere fit.counted.1 own one (λ now. now.1 page leaves.placed)
             (forth_slot fit leaves unnamed) (back_slot fit leaves unnamed)
             (λ z ne is. count_left old new page v place_k (InSlot k) 1 fit leaves unnamed z is) (λ z is. frame_page old new page v place_k (InSlot k) 1 fit leaves unnamed fit.counted.0 z)

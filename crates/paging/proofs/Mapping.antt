@@ -1,4 +1,6 @@
 -- A process starts, and pages are mapped for which nothing stands.
+use Rattle.vm_types.proofs.Modes.{sizes}
+use Rattle.vm_types.specs.Limits.{top_level}
 use Rattle.std.proofs.Common.{true, ◌≡◌, ◌≢◌, ℕ, inl, inr, ◌⊎◌, ◌<◌, ◌≤◌, List, Option, Some, None, refl, sym, ap, ◌∙◌, subst, arith}
 use Rattle.std.specs.Prelude.{IsSome}
 use Rattle.std.proofs.lemmas.Bool.{cases_eq, false≢true}
@@ -42,10 +44,11 @@ unfolding number_or
 one_some a b e = ap number_or e
 
 -- nothing stands in a tree of which the root has no entry
-pub spare_entry : (t : FrameTable) (n page : ℕ) → IsSpare t n → page_entry t 2 n page ≡ 0
-spare_entry t n page spare =
-    let level : missing_of t 2 n page ≡ 2 = missing_of-is t 2 n page ∙ ap (λ x. x.0) (empty_last t page 2 n spare.empty) in
-    page_entry-missing t 2 n page (λ none. (omega (arith, level, none)))
+module _ (mode : ℕ) where
+  pub spare_entry : (t : FrameTable) (n page : ℕ) → IsSpare t n → page_entry t (top_level mode) n page ≡ 0
+  spare_entry t n page spare =
+      let level : missing_of t (top_level mode) n page ≡ top_level mode = missing_of-is t (top_level mode) n page ∙ ap (λ x. x.0) (empty_last t page (top_level mode) n spare.empty) in
+      page_entry-missing t (top_level mode) n page (λ none. (omega (arith, level, none, (sizes mode).levels)))
 
 -- the frames are the same
 pub shares_frames : (old new : FrameTable) → new ≡ old → KeepsShares old new
@@ -58,7 +61,7 @@ shares_frames old new same = record {
 }
 
 -- Only processes and tables changed, and every entry is the same: own copies lie where they lay.
-module _ (old new : Picture) (shares : KeepsShares old.frames new.frames) (slots : new.slots ≡ old.slots) (page_of : (m : ℕ) → new.page_of m ≡ old.page_of m)
+module _ {mode : ℕ} (old new : Picture mode) (shares : KeepsShares old.frames new.frames) (slots : new.slots ≡ old.slots) (page_of : (m : ℕ) → new.page_of m ≡ old.page_of m)
     (place : (p : PageKey) → new.place p ≡ old.place p) (same : (q p : ℕ) → entry new q p ≡ entry old q p) where
   forth : (z : Seat) → IsOwned old z → IsOwned new z
   forth (InFrame n) is = shares.private n is
@@ -79,21 +82,21 @@ module _ (old new : Picture) (shares : KeepsShares old.frames new.frames) (slots
   pub counted_there : (x : Seat) (d : ℕ) → IsCountedBut old x d → IsCountedBut new x d
   counted_there x d counted = (
     counted.0,
-    counted_same (entry old) (entry new) (IsOwned old) (IsOwned new) (count_in old) (count_in new) (page_in old counted.0) (page_in new counted.0)
+    counted_same mode (entry old) (entry new) (IsOwned old) (IsOwned new) (count_in old) (count_in new) (page_in old counted.0) (page_in new counted.0)
         (λ q p h. ap seat (same q p)) x d counted.1 forth back counts (λ z is. pages counted.0 z),
   )
 
 -- table n, which was in no tree, is the root of a new process
-module _ (old new : Picture) (pid n : ℕ) (fit : IsFitBut old nowhere 0 n) (is_root : IsRoot 2 old.frames n) (spare : IsSpare old.frames n)
+module _ {mode : ℕ} (old new : Picture mode) (pid n : ℕ) (fit : IsFitBut old nowhere 0 n) (is_root : IsRoot (top_level mode) old.frames n) (spare : IsSpare old.frames n)
     (loose : (q : ℕ) → old.root q ≢ Some n) (spawns : Spawns old new pid n) where
   nothing_here : (page : ℕ) → entry new pid page ≡ 0
-  nothing_here page = entry-of new pid n page spawns.lives ∙ ap (λ t. page_entry t 2 n page) spawns.frames ∙ spare_entry old.frames n page spare
+  nothing_here page = entry-of new pid n page spawns.lives ∙ ap (λ t. page_entry t (top_level mode) n page) spawns.frames ∙ spare_entry mode old.frames n page spare
 
   entries_spawned : (q page : ℕ) → entry new q page ≡ entry old q page
   entries_spawned q page = elim (cases_eq q pid) [
     | inl e ↦ (let P : ℕ → Type 0 = λ x. entry new x page ≡ entry old x page in
         subst P (sym e) (nothing_here page ∙ sym (entry-dead old pid page spawns.was_free)))
-    | inr ne ↦ entry-same old new q page (spawns.others q ne) (λ x e. ap (λ t. page_entry t 2 x page) spawns.frames)
+    | inr ne ↦ entry-same old new q page (spawns.others q ne) (λ x e. ap (λ t. page_entry t (top_level mode) x page) spawns.frames)
   ]
 
   roots_now : (q r : ℕ) → new.root q ≡ Some r → ((q ≡ pid) × (r ≡ n)) ⊎ ((q ≢ pid) × (old.root q ≡ Some r))
@@ -110,14 +113,14 @@ module _ (old new : Picture) (pid n : ℕ) (fit : IsFitBut old nowhere 0 n) (is_
   used_spawned m (OnWay q r page is here below) =
       let ne = was_other q r is in
       let P : Option Attr → Type 0 = λ x. IsSome x in
-      let Q : FrameTable → Type 0 = λ t. IsBelowRoot t 2 r page m in
+      let Q : FrameTable → Type 0 = λ t. IsBelowRoot t (top_level mode) r page m in
       OnWay q r page (spawns.others q ne ∙ is) (subst P (sym (spawns.at q page ne)) here) (subst Q (sym spawns.frames) below)
 
   rooted_spawned : IsRootedBut new 0
   rooted_spawned = record {
     forest = (let P : FrameTable → Type 0 = λ t. IsForest t in subst P (sym spawns.frames) fit.rooted.forest);
-    roots = λ q r e. (let P : FrameTable → Type 0 = λ t. IsRoot 2 t r in subst P (sym spawns.frames) (elim (roots_now q r e) [
-      | inl here ↦ (let Q : ℕ → Type 0 = λ x. IsRoot 2 old.frames x in subst Q (sym here.1) is_root)
+    roots = λ q r e. (let P : FrameTable → Type 0 = λ t. IsRoot (top_level mode) t r in subst P (sym spawns.frames) (elim (roots_now q r e) [
+      | inl here ↦ (let Q : ℕ → Type 0 = λ x. IsRoot (top_level mode) old.frames x in subst Q (sym here.1) is_root)
       | inr there ↦ fit.rooted.roots q r there.1
     ]));
     apart = λ p q r e f. elim (roots_now p r e) [
@@ -167,7 +170,7 @@ module _ (old new : Picture) (pid n : ℕ) (fit : IsFitBut old nowhere 0 n) (is_
               user_pages = λ page some. absurd (false≢true (let P : Option Attr → Type 0 = λ x. IsSome x in subst P (ap (λ x. new.at x page) is ∙ spawns.unmapped page) some));
               file_pages = λ page. (let none : new.at q page ≡ None = ap (λ x. new.at x page) is ∙ spawns.unmapped page in rw none tt);
             }
-            | inr ne ↦ user_map-same (old.at q) (new.at q) (λ page. spawns.at q page ne) (fit.granting.user q)
+            | inr ne ↦ user_map-same mode (old.at q) (new.at q) (λ page. spawns.at q page ne) (fit.granting.user q)
           ];
           readable = λ q. elim (cases_eq q pid) [
             | inl is ↦ (λ page. (let none : new.at q page ≡ None = ap (λ x. new.at x page) is ∙ spawns.unmapped page in rw none tt))
@@ -180,28 +183,30 @@ module _ (old new : Picture) (pid n : ℕ) (fit : IsFitBut old nowhere 0 n) (is_
       }
 
 -- a table was taken, and it is the root of a new process
-pub fit_spawned : (old mid new : Picture) (pid n : ℕ) → IsFit old → role_of old.frames 0 ≢ Table → AddsTable old.frames mid.frames 2 n
-    → SameBeside old mid → Spawns mid new pid n → IsFit new
-fit_spawned old mid new pid n fit zero_page adds beside spawns =
-    let rooted = rooted_taken old mid n fit.rooted zero_page adds beside in
-    let taken = fit_same old mid nowhere 0 0 n fit beside (shares_taken old.frames mid.frames 2 n adds)
-    (λ q p h. entries_kept old mid 0 fit.rooted adds.entries beside.root q p) rooted in
-    fit_added mid new pid n taken adds.root adds.spare (loose_table old mid n fit.rooted adds beside.root) spawns
+module _ {mode : ℕ} where
+  pub fit_spawned : (old mid new : Picture mode) (pid n : ℕ) → IsFit old → role_of old.frames 0 ≢ Table → AddsTable old.frames mid.frames (top_level mode) n
+      → SameBeside old mid → Spawns mid new pid n → IsFit new
+  fit_spawned old mid new pid n fit zero_page adds beside spawns =
+      let rooted = rooted_taken old mid n fit.rooted zero_page adds beside in
+      let taken = fit_same old mid nowhere 0 0 n fit beside (shares_taken old.frames mid.frames (top_level mode) n adds)
+      (λ q p h. entries_kept old mid 0 fit.rooted adds.entries beside.root q p) rooted in
+      fit_added mid new pid n taken adds.root adds.spare (loose_table old mid n fit.rooted adds beside.root) spawns
 
 -- a frame was obtained and taken for a table, and that is the root of a new process
-pub fit_started : (first mid new : Picture) (pid n : ℕ) → ObtainsTable first mid n → Spawns mid new pid n → IsFit new
+pub fit_started : {mode : ℕ} (first mid new : Picture mode) (pid n : ℕ) → ObtainsTable first mid n → Spawns mid new pid n → IsFit new
 fit_started first mid new pid n obtains spawns =
     fit_spawned obtains.found mid new pid n obtains.fit obtains.zero_page obtains.adds obtains.beside spawns
 
 -- nothing stands for its pages
-pub bare_started : (first mid new : Picture) (pid n : ℕ) → ObtainsTable first mid n → Spawns mid new pid n → (page : ℕ) → entry new pid page ≡ 0
-bare_started first mid new pid n obtains spawns page =
-    entry-of new pid n page spawns.lives ∙ ap (λ t. page_entry t 2 n page) spawns.frames ∙ spare_entry mid.frames n page obtains.adds.spare
+module _ {mode : ℕ} where
+  pub bare_started : (first mid new : Picture mode) (pid n : ℕ) → ObtainsTable first mid n → Spawns mid new pid n → (page : ℕ) → entry new pid page ≡ 0
+  bare_started first mid new pid n obtains spawns page =
+      entry-of new pid n page spawns.lives ∙ ap (λ t. page_entry t (top_level mode) n page) spawns.frames ∙ spare_entry mode mid.frames n page obtains.adds.spare
 
 -- The regions of a process change, where each entry fits what its page is afterwards, and each table is used still.
-module _ (old new : Picture) (pid : ℕ) (fit : IsFit old) (remaps : Remaps old new pid) where
+module _ {mode : ℕ} (old new : Picture mode) (pid : ℕ) (fit : IsFit old) (remaps : Remaps old new pid) where
   pub entries_remapped : (q page : ℕ) → entry new q page ≡ entry old q page
-  entries_remapped = entries_kept old new 0 fit.rooted (λ r p is_root. ap (λ t. page_entry t 2 r p) remaps.frames) remaps.root
+  entries_remapped = entries_kept old new 0 fit.rooted (λ r p is_root. ap (λ t. page_entry t (top_level mode) r p) remaps.frames) remaps.root
 
   behind_remapped : KeepsBehind old new
   behind_remapped = record { place = λ p x e. remaps.place p ∙ e; files = remaps.files }
@@ -215,7 +220,7 @@ module _ (old new : Picture) (pid : ℕ) (fit : IsFit old) (remaps : Remaps old 
   rooted_remapped : ((m : ℕ) → IsUsed old (IsMapped old) m → IsUsed old (IsMapped new) m) → IsRootedBut new 0
   rooted_remapped used = record {
     forest = (let P : FrameTable → Type 0 = λ t. IsForest t in subst P (sym remaps.frames) fit.rooted.forest);
-    roots = λ q r e. (let P : FrameTable → Type 0 = λ t. IsRoot 2 t r in subst P (sym remaps.frames) (fit.rooted.roots q r (lived q r e)));
+    roots = λ q r e. (let P : FrameTable → Type 0 = λ t. IsRoot (top_level mode) t r in subst P (sym remaps.frames) (fit.rooted.roots q r (lived q r e)));
     apart = λ p q r e f. fit.rooted.apart p q r (lived p r e) (lived q r f);
     numbers = λ q r e. fit.rooted.numbers q r (lived q r e);
     used = λ m table. (
@@ -227,7 +232,7 @@ module _ (old new : Picture) (pid : ℕ) (fit : IsFit old) (remaps : Remaps old 
         ]);
   }
 
-  pub fit_remapped : IsUserMap (new.at pid) → IsReadableMap (new.at pid) → AreObjects new.at → ((p : ObjectPage) → old.place (Object p) ≢ Home → is_named new.at p.object p.page ≡ true) → ((page : ℕ) → IsPage 2 page → IsEntryFor old (new.at pid page) (entry old pid page))
+  pub fit_remapped : IsUserMap mode (new.at pid) → IsReadableMap (new.at pid) → AreObjects new.at → ((p : ObjectPage) → old.place (Object p) ≢ Home → is_named new.at p.object p.page ≡ true) → ((page : ℕ) → IsPage (top_level mode) page → IsEntryFor old (new.at pid page) (entry old pid page))
       → ((m : ℕ) → IsUsed old (IsMapped old) m → IsUsed old (IsMapped new) m) → IsFit new
   fit_remapped user readable objects named fits used =
       let shares = shares_frames old.frames new.frames remaps.frames in
@@ -247,8 +252,8 @@ module _ (old new : Picture) (pid : ℕ) (fit : IsFit old) (remaps : Remaps old 
                 rw (remaps.others q page ne, entries_remapped q page) there)
           ];
           user = λ q. elim (cases_eq q pid) [
-            | inl is ↦ (let P : ℕ → Type 0 = λ x. IsUserMap (new.at x) in subst P (sym is) user)
-            | inr ne ↦ user_map-same (old.at q) (new.at q) (λ page. remaps.others q page ne) (fit.granting.user q)
+            | inl is ↦ (let P : ℕ → Type 0 = λ x. IsUserMap mode (new.at x) in subst P (sym is) user)
+            | inr ne ↦ user_map-same mode (old.at q) (new.at q) (λ page. remaps.others q page ne) (fit.granting.user q)
           ];
           readable = λ q. elim (cases_eq q pid) [
             | inl is ↦ (let P : ℕ → Type 0 = λ x. IsReadableMap (new.at x) in subst P (sym is) readable)
@@ -261,22 +266,23 @@ module _ (old new : Picture) (pid : ℕ) (fit : IsFit old) (remaps : Remaps old 
       }
 
 -- each mapped page of a process is mapped still
-used_mapped : (c : Picture) (mapped mapped' : ℕ → ℕ → Type 0) (m : ℕ) → ((q page : ℕ) → mapped q page → mapped' q page) → IsUsed c mapped m → IsUsed c mapped' m
+used_mapped : {mode : ℕ} (c : Picture mode) (mapped mapped' : ℕ → ℕ → Type 0) (m : ℕ) → ((q page : ℕ) → mapped q page → mapped' q page) → IsUsed c mapped m → IsUsed c mapped' m
 used_mapped c mapped mapped' m maps (AsRoot q is) = AsRoot q is
 used_mapped c mapped mapped' m maps (OnWay q r page is here below) = OnWay q r page is (maps q page here) below
 
 -- a process that had no page, and for whose pages nothing stands, has these regions
-pub fit_mapped : (old new : Picture) (pid : ℕ) (runs : List Run) → IsFit old → Remaps old new pid → ((page : ℕ) → new.at pid page ≡ attr_at runs page)
-    → IsUserMap (attr_at runs) → IsReadableMap (attr_at runs) → AreObjects new.at → ((page : ℕ) → IsPage 2 page → entry old pid page ≡ 0) → ((page : ℕ) → old.at pid page ≡ None) → IsFit new
-fit_mapped old new pid runs fit remaps at user readable objects bare unmapped =
-    let P : Option Attr → Type 0 = λ x. IsSome x in
-    fit_remapped old new pid fit remaps (user_map-same (attr_at runs) (new.at pid) at user) (readable-same (attr_at runs) (new.at pid) at readable) objects
-    (λ p away. named-more old.at new.at p.object p.page (λ q page. elim (cases_eq q pid) [
-      | inl is ↦ inr (ap (λ x. old.at x page) is ∙ unmapped page)
-      | inr ne ↦ inl (remaps.others q page ne)
-    ]) (fit.places.inside (Object p) away))
-    (λ page h. Nothing (bare page h))
-    (λ m. used_mapped old (IsMapped old) (IsMapped new) m (λ q page some. elim (cases_eq q pid) [
-      | inl is ↦ absurd (false≢true (subst P (ap (λ x. old.at x page) is ∙ unmapped page) some))
-      | inr ne ↦ subst P (sym (remaps.others q page ne)) some
-    ]))
+module _ {mode : ℕ} where
+  pub fit_mapped : (old new : Picture mode) (pid : ℕ) (runs : List Run) → IsFit old → Remaps old new pid → ((page : ℕ) → new.at pid page ≡ attr_at runs page)
+      → IsUserMap mode (attr_at runs) → IsReadableMap (attr_at runs) → AreObjects new.at → ((page : ℕ) → IsPage (top_level mode) page → entry old pid page ≡ 0) → ((page : ℕ) → old.at pid page ≡ None) → IsFit new
+  fit_mapped old new pid runs fit remaps at user readable objects bare unmapped =
+      let P : Option Attr → Type 0 = λ x. IsSome x in
+      fit_remapped old new pid fit remaps (user_map-same mode (attr_at runs) (new.at pid) at user) (readable-same (attr_at runs) (new.at pid) at readable) objects
+      (λ p away. named-more old.at new.at p.object p.page (λ q page. elim (cases_eq q pid) [
+        | inl is ↦ inr (ap (λ x. old.at x page) is ∙ unmapped page)
+        | inr ne ↦ inl (remaps.others q page ne)
+      ]) (fit.places.inside (Object p) away))
+      (λ page h. Nothing (bare page h))
+      (λ m. used_mapped old (IsMapped old) (IsMapped new) m (λ q page some. elim (cases_eq q pid) [
+        | inl is ↦ absurd (false≢true (subst P (ap (λ x. old.at x page) is ∙ unmapped page) some))
+        | inr ne ↦ subst P (sym (remaps.others q page ne)) some
+      ]))

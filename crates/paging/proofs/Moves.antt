@@ -1,4 +1,5 @@
 -- An own copy goes from one seat to another: the steps for one process.
+use Rattle.vm_types.specs.Limits.{top_level}
 use Rattle.std.proofs.Common.{◌≡◌, ◌≢◌, ℕ, inl, inr, ◌<◌, true, false, Option, Some, None, refl, sym, ap, ◌∙◌, subst}
 use Rattle.std.specs.Prelude.{option_map}
 use Rattle.vm_types.specs.declared.region.Attr.{Attr}
@@ -16,24 +17,24 @@ use Rattle.paging.proofs.Granting.{KeepsBehind, granting_changed}
 use Rattle.paging.proofs.Places.{places_same, dirty_changed}
 use Rattle.paging.proofs.Ways.{by_page}
 
-pub behind_kept : (old new : Picture) → SameBeside old new → KeepsBehind old new
+pub behind_kept : {mode : ℕ} (old new : Picture mode) → SameBeside old new → KeepsBehind old new
 behind_kept old new beside = record { place = λ p n e. beside.place p ∙ e; files = beside.files }
 
-pub owned_forth : (old new : Picture) → SameBeside old new → KeepsShares old.frames new.frames → (z : Seat) → IsOwned old z → IsOwned new z
+pub owned_forth : {mode : ℕ} (old new : Picture mode) → SameBeside old new → KeepsShares old.frames new.frames → (z : Seat) → IsOwned old z → IsOwned new z
 owned_forth old new beside shares (InFrame n) is = shares.private n is
 owned_forth old new beside shares (InSlot k) is =
     ((let P : SlotTable → Type 0 = λ t. 0 < t.count k in subst P (sym beside.slots) is.0), λ p e. is.1 p (sym (beside.place p) ∙ e))
 
-pub owned_back : (old new : Picture) → SameBeside old new → KeepsShares old.frames new.frames → (z : Seat) → IsOwned new z → IsOwned old z
+pub owned_back : {mode : ℕ} (old new : Picture mode) → SameBeside old new → KeepsShares old.frames new.frames → (z : Seat) → IsOwned new z → IsOwned old z
 owned_back old new beside shares (InFrame n) is = shares.was_private n is
 owned_back old new beside shares (InSlot k) is =
     ((let P : SlotTable → Type 0 = λ t. 0 < t.count k in subst P beside.slots is.0), λ p e. is.1 p (beside.place p ∙ e))
 
-pub count_kept : (old new : Picture) → SameBeside old new → KeepsShares old.frames new.frames → (z : Seat) → IsOwned old z → count_in new z ≡ count_in old z
+pub count_kept : {mode : ℕ} (old new : Picture mode) → SameBeside old new → KeepsShares old.frames new.frames → (z : Seat) → IsOwned old z → count_in new z ≡ count_in old z
 count_kept old new beside shares (InFrame n) is = shares.counts n is
 count_kept old new beside shares (InSlot k) is = ap (λ t. t.count k) beside.slots
 
-pub page_kept : (old new : Picture) (sp : ℕ → ℕ) → SameBeside old new → (z : Seat) → page_in new sp z ≡ page_in old sp z
+pub page_kept : {mode : ℕ} (old new : Picture mode) (sp : ℕ → ℕ) → SameBeside old new → (z : Seat) → page_in new sp z ≡ page_in old sp z
 page_kept old new sp beside (InFrame n) = beside.page_of n
 page_kept old new sp beside (InSlot k) = refl
 
@@ -41,31 +42,31 @@ none_where : (o : Option Attr) → ((a : Attr) → o ≡ Some a → ⊥) → o �
 none_where None h = refl
 none_where (Some a) h = absurd (h a refl)
 
-pub view-none : (c : Picture) (pid page : ℕ) → c.at pid page ≡ None → view c pid page ≡ None
+pub view-none : {mode : ℕ} (c : Picture mode) (pid page : ℕ) → c.at pid page ≡ None → view c pid page ≡ None
 unfolding view
 view-none c pid page none = ap (λ a. view_of (own_in c.frames c.slots (entry c pid page)) a) none
 
 -- a page is seen as before where its own copy is the same
-pub view_kept : (old new : Picture) (pid page : ℕ) → new.at pid page ≡ old.at pid page
+pub view_kept : {mode : ℕ} (old new : Picture mode) (pid page : ℕ) → new.at pid page ≡ old.at pid page
     → own_in new.frames new.slots (entry new pid page) ≡ own_in old.frames old.slots (entry old pid page) → view new pid page ≡ view old pid page
 unfolding view
 view_kept old new pid page at own = ap (λ o. view_of o (new.at pid page)) own ∙ ap (λ a. view_of (own_in old.frames old.slots (entry old pid page)) a) at
 
-own_at : (c : Picture) (e : ℕ) (x : Seat) → seat e ≡ Some x → own_in c.frames c.slots e ≡ Some (bytes_in c.frames c.slots x)
+own_at : {mode : ℕ} (c : Picture mode) (e : ℕ) (x : Seat) → seat e ≡ Some x → own_in c.frames c.slots e ≡ Some (bytes_in c.frames c.slots x)
 own_at c e x is = ap (λ o. option_map (bytes_in c.frames c.slots) o) is
 
-bytes_same : (old new : Picture) → new.slots ≡ old.slots → ((n : ℕ) → role_of old.frames n ≡ Private → bytes_of new.frames n ≡ bytes_of old.frames n)
+bytes_same : {mode : ℕ} (old new : Picture mode) → new.slots ≡ old.slots → ((n : ℕ) → role_of old.frames n ≡ Private → bytes_of new.frames n ≡ bytes_of old.frames n)
     → (z : Seat) → IsOwned old z → bytes_in new.frames new.slots z ≡ bytes_in old.frames old.slots z
 bytes_same old new slots frames (InFrame n) is = frames n is
 bytes_same old new slots frames (InSlot k) is = ap (λ t. t.bytes k) slots
 
-own_same : (old new : Picture) (o : Option Seat) → ((z : Seat) → o ≡ Some z → bytes_in new.frames new.slots z ≡ bytes_in old.frames old.slots z)
+own_same : {mode : ℕ} (old new : Picture mode) (o : Option Seat) → ((z : Seat) → o ≡ Some z → bytes_in new.frames new.slots z ≡ bytes_in old.frames old.slots z)
     → option_map (bytes_in new.frames new.slots) o ≡ option_map (bytes_in old.frames old.slots) o
 own_same old new None each = refl
 own_same old new (Some z) each = ap (λ b. Some b) (each z refl)
 
 -- The entry of a page names seat y now, in place of x: y has one holder less than shares before, and x after.
-module _ (old new : Picture) (x y : Seat) (m pid page number : ℕ) (fit : IsFitBut old y 1 m) (sets : SetsPage old new pid page number) (h : IsPage 2 page) (below : pid < 65)
+module _ {mode : ℕ} (old new : Picture mode) (x y : Seat) (m pid page number : ℕ) (fit : IsFitBut old y 1 m) (sets : SetsPage old new pid page number) (h : IsPage (top_level mode) page) (below : pid < 65)
     (from : seat (entry old pid page) ≡ Some x) (to : seat number ≡ Some y) (apart : x ≢ y) (has : IsOwned old y) (noted : page_in old fit.counted.0 y ≡ page)
     (for : IsEntryFor new (old.at pid page) number) (parked : is_valid number ≡ true → is_private number ≡ false → ⊥) (rooted : IsRootedBut new m) where
   now : seat (entry new pid page) ≡ Some y
@@ -75,7 +76,7 @@ module _ (old new : Picture) (x y : Seat) (m pid page number : ℕ) (fit : IsFit
   fit_moved = record {
     counted = (
       fit.counted.0,
-      counted_moved (entry old) (entry new) (IsOwned old) (IsOwned new) (count_in old) (count_in new) (page_in old fit.counted.0) (page_in new fit.counted.0)
+      counted_moved mode (entry old) (entry new) (IsOwned old) (IsOwned new) (count_in old) (count_in new) (page_in old fit.counted.0) (page_in new fit.counted.0)
           x y pid page fit.counted.1 (owned_forth old new sets.beside sets.shares) (owned_back old new sets.beside sets.shares) (count_kept old new sets.beside sets.shares)
           (λ z is. page_kept old new fit.counted.0 sets.beside z) has noted h below from now apart sets.others,
     );
@@ -89,7 +90,7 @@ module _ (old new : Picture) (x y : Seat) (m pid page number : ℕ) (fit : IsFit
   }
 
   -- nobody sees it, where both seats have the same bytes
-  pub views_moved : bytes_in old.frames old.slots y ≡ bytes_in old.frames old.slots x → (q p : ℕ) → IsPage 2 p → view new q p ≡ view old q p
+  pub views_moved : bytes_in old.frames old.slots y ≡ bytes_in old.frames old.slots x → (q p : ℕ) → IsPage (top_level mode) p → view new q p ≡ view old q p
   views_moved same q p h' =
       let stays : (z : Seat) → IsOwned old z → bytes_in new.frames new.slots z ≡ bytes_in old.frames old.slots z =
       bytes_same old new sets.beside.slots (λ n is. sets.bytes n (λ t. (let bad : Private ≡ Table = sym is ∙ t in (cc)))) in

@@ -1,4 +1,5 @@
 -- The shares of a private frame, passed on to a slot one after the other.
+use Rattle.vm_types.specs.Limits.{user_end, top_level}
 use Rattle.std.proofs.Common.{◌≡◌, ◌≢◌, ℕ, ◌+◌, ◌^◌, ◌<◌, ◌≤◌, true, inl, inr, ◌⊎◌, Option, Some, None, is_some, refl, sym, ap, ◌∙◌, subst, arith}
 use Rattle.vm_types.specs.declared.region.Attr.{Attr}
 use Rattle.frames.specs.FrameTable.{role_of, count_of, bytes_of}
@@ -14,7 +15,7 @@ use Rattle.paging.proofs.Puts.{SameButSlots}
 use Rattle.paging.proofs.Seats.{holders_none}
 use Rattle.paging.proofs.Start.{seat-none, entry-dead}
 
-seat_mapped : (c : Picture) (a : Option Attr) (e : ℕ) (z : Seat) → IsEntryFor c a e → seat e ≡ Some z → is_some a ≡ true
+seat_mapped : {mode : ℕ} (c : Picture mode) (a : Option Attr) (e : ℕ) (z : Seat) → IsEntryFor c a e → seat e ≡ Some z → is_some a ≡ true
 seat_mapped c a e z (Nothing none) is = let bad : None ≡ Some z = sym (ap seat none ∙ seat-none) ∙ is in (cc)
 seat_mapped c a e z (Resident b at res) is = ap (λ o. is_some o) at
 seat_mapped c a e z (Away b at away) is = ap (λ o. is_some o) at
@@ -22,7 +23,7 @@ seat_mapped c a e z (Away b at away) is = ap (λ o. is_some o) at
 pub slot_no_seat : (k n : ℕ) → Some (InSlot k) ≡ Some (InFrame n) → ⊥
 slot_no_seat k n e = (cc)
 
-pub dead_seat : (c : Picture) (pid page : ℕ) (z : Seat) → c.root pid ≡ None → seat (entry c pid page) ≢ Some z
+pub dead_seat : {mode : ℕ} (c : Picture mode) (pid page : ℕ) (z : Seat) → c.root pid ≡ None → seat (entry c pid page) ≢ Some z
 dead_seat c pid page z dead is = let bad : None ≡ Some z = sym (ap seat (entry-dead c pid page dead) ∙ seat-none) ∙ is in (cc)
 
 cases_root : (o : Option ℕ) → (o ≡ None) ⊎ ((r : ℕ) × (o ≡ Some r))
@@ -30,15 +31,15 @@ cases_root None = inl refl
 cases_root (Some r) = inr (r, refl)
 
 -- place 0 is no process's
-pub first_seat : (c : Picture) (m page : ℕ) (z : Seat) → IsRootedBut c m → (q : ℕ) → q < 1 → seat (entry c q page) ≢ Some z
+pub first_seat : {mode : ℕ} (c : Picture mode) (m page : ℕ) (z : Seat) → IsRootedBut c m → (q : ℕ) → q < 1 → seat (entry c q page) ≢ Some z
 first_seat c m page z rooted q less is = elim (cases_root (c.root q)) [
   | inl dead ↦ dead_seat c q page z dead is
   | inr lives ↦ (let n = rooted.numbers q lives.0 lives.1 in omega (arith, n, less))
 ]
 
-module _ (c : Picture) (v k page : ℕ) (handing : IsHanding c v k page) where
-  pub page_range : IsPage 2 page
-  page_range = let P : ℕ → Type 0 = λ n. IsPage 2 n in subst P handing.noted (handing.share.fit.counted.1.pages (InFrame v) handing.role)
+module _ {mode : ℕ} (c : Picture mode) (v k page : ℕ) (handing : IsHanding c v k page) where
+  pub page_range : IsPage (top_level mode) page
+  page_range = let P : ℕ → Type 0 = λ n. IsPage (top_level mode) n in subst P handing.noted (handing.share.fit.counted.1.pages (InFrame v) handing.role)
 
   -- some process has the frame
   pub somebody : ((q : ℕ) → q < 65 → seat (entry c q page) ≢ Some (InFrame v)) → ⊥
@@ -51,12 +52,12 @@ module _ (c : Picture) (v k page : ℕ) (handing : IsHanding c v k page) where
       omega (arith, counts, nobody, some)
 
   -- at a user page
-  pub no_user : ((16 ≤ page) × (page < 2 ^ 26) → ⊥) → ⊥
+  pub no_user : ((16 ≤ page) × (page < user_end mode) → ⊥) → ⊥
   no_user out = somebody (λ q less is. out ((handing.share.fit.granting.user q).user_pages page
       (seat_mapped c (c.at q page) (entry c q page) (InFrame v) (handing.share.fit.granting.entries q page page_range) is)))
 
 -- A process gave its share of the frame for that of the slot. Where another has the frame still, the slot is shared once more.
-module _ (old mid new : Picture) (pid page v k : ℕ) (handing : IsHanding old v k page) (fit : IsFit mid) (moved : seat (entry mid pid page) ≡ Some (InSlot k))
+module _ {mode : ℕ} (old mid new : Picture mode) (pid page v k : ℕ) (handing : IsHanding old v k page) (fit : IsFit mid) (moved : seat (entry mid pid page) ≡ Some (InSlot k))
     (slots : mid.slots ≡ old.slots) (lowered : count_of mid.frames v + 1 ≡ count_of old.frames v)
     (kept : 1 < count_of old.frames v → (role_of mid.frames v ≡ role_of old.frames v) × (bytes_of mid.frames v ≡ bytes_of old.frames v))
     (noted : mid.page_of v ≡ old.page_of v) (another : count_of old.frames v ≢ 1) where

@@ -1,4 +1,5 @@
 -- Places and dirty bits: what each step does to where file pages are, and to which are touched.
+use Rattle.vm_types.specs.Limits.{top_level, widest_end}
 use Rattle.std.specs.Prelude.{◌⊎◌}
 use Rattle.std.proofs.lemmas.Bool.{cases_eq, false≢true}
 use Rattle.std.proofs.Common.{◌≡◌, ◌≢◌, ◌<◌, ◌^◌, ℕ, inl, inr, true, false, Option, None, sym, ap, ◌∙◌, subst}
@@ -71,8 +72,8 @@ names-same a b object page e = ap (λ x. names x object page) e
 pub named-same : (f g : Maps) (object page : ℕ) → ((p k : ℕ) → g p k ≡ f p k) → is_named g object page ≡ is_named f object page
 unfolding is_named
 named-same f g object page same =
-    any-same (λ p. any_below (λ k. names (g p k) object page) (2 ^ 26)) (λ p. any_below (λ k. names (f p k) object page) (2 ^ 26)) 65
-    (λ p. any-same (λ k. names (g p k) object page) (λ k. names (f p k) object page) (2 ^ 26) (λ k. names-same (g p k) (f p k) object page (same p k)))
+    any-same (λ p. any_below (λ k. names (g p k) object page) widest_end) (λ p. any_below (λ k. names (f p k) object page) widest_end) 65
+    (λ p. any-same (λ k. names (g p k) object page) (λ k. names (f p k) object page) widest_end (λ k. names-same (g p k) (f p k) object page (same p k)))
 
 pub objects-same : (f g : Maps) → ((p k : ℕ) → g p k ≡ f p k) → AreObjects f → AreObjects g
 objects-same f g same objects = record {
@@ -81,11 +82,11 @@ objects-same f g same objects = record {
   below = λ p k object here. objects.below p k object (sym (ap (λ x. uses x object) (same p k)) ∙ here);
 }
 
-pub page_for-same : (old new : Picture) (p : PageKey) → ((q k : ℕ) → new.at q k ≡ old.at q k) → ((f : ℕ) → new.files f ≡ old.files f) → IsPageFor old p → IsPageFor new p
+pub page_for-same : {mode : ℕ} (old new : Picture mode) (p : PageKey) → ((q k : ℕ) → new.at q k ≡ old.at q k) → ((f : ℕ) → new.files f ≡ old.files f) → IsPageFor old p → IsPageFor new p
 page_for-same old new (File p) at files is = (is.0, files p.file ∙ is.1, is.2)
 page_for-same old new (Object p) at files is = named-same old.at new.at p.object p.page at ∙ is
 
-page_for-renamed : (old new : Picture) (p : PageKey) → ((f : ℕ) → new.files f ≡ old.files f) → ((q : ObjectPage) → old.place (Object q) ≢ Home → is_named new.at q.object q.page ≡ true)
+page_for-renamed : {mode : ℕ} (old new : Picture mode) (p : PageKey) → ((f : ℕ) → new.files f ≡ old.files f) → ((q : ObjectPage) → old.place (Object q) ≢ Home → is_named new.at q.object q.page ≡ true)
     → old.place p ≢ Home → IsPageFor old p → IsPageFor new p
 page_for-renamed old new (File p) files named away is = (is.0, files p.file ∙ is.1, is.2)
 page_for-renamed old new (Object p) files named away is = named p away
@@ -94,8 +95,8 @@ page_for-renamed old new (Object p) files named away is = named p away
 pub named_by : (f : Maps) (object page : ℕ) → is_named f object page ≡ true → (p : ℕ) × (k : ℕ) × (names (f p k) object page ≡ true)
 unfolding is_named
 named_by f object page is =
-    let who = any-found (λ p. any_below (λ k. names (f p k) object page) (2 ^ 26)) 65 is in
-    let at = any-found (λ k. names (f who.0 k) object page) (2 ^ 26) who.1 in
+    let who = any-found (λ p. any_below (λ k. names (f p k) object page) widest_end) 65 is in
+    let at = any-found (λ k. names (f who.0 k) object page) widest_end who.1 in
     (who.0, at.0, at.1)
 
 -- where fewer pages are mapped
@@ -117,14 +118,14 @@ objects-fewer f g fewer objects = record {
 pub named-more : (f g : Maps) (object page : ℕ) → ((p k : ℕ) → (g p k ≡ f p k) ⊎ (f p k ≡ None)) → is_named f object page ≡ true → is_named g object page ≡ true
 unfolding is_named
 named-more f g object page more here =
-    any-more (λ p. any_below (λ k. names (f p k) object page) (2 ^ 26)) (λ p. any_below (λ k. names (g p k) object page) (2 ^ 26)) 65
-    (λ p. any-more (λ k. names (f p k) object page) (λ k. names (g p k) object page) (2 ^ 26) (λ k is. elim (more p k) [
+    any-more (λ p. any_below (λ k. names (f p k) object page) widest_end) (λ p. any_below (λ k. names (g p k) object page) widest_end) 65
+    (λ p. any-more (λ k. names (f p k) object page) (λ k. names (g p k) object page) widest_end (λ k is. elim (more p k) [
       | inl same ↦ names-same (g p k) (f p k) object page same ∙ is
       | inr none ↦ absurd (false≢true (sym (ap (λ x. names x object page) none) ∙ is))
     ])) here
 
 -- all places and slots are as they were, and the same frames hold file pages
-pub places_same : (old new : Picture) → HasPlaces old → ((p : PageKey) → new.place p ≡ old.place p) → ((q k : ℕ) → new.at q k ≡ old.at q k) → ((f : ℕ) → new.files f ≡ old.files f) → new.slots ≡ old.slots
+pub places_same : {mode : ℕ} (old new : Picture mode) → HasPlaces old → ((p : PageKey) → new.place p ≡ old.place p) → ((q k : ℕ) → new.at q k ≡ old.at q k) → ((f : ℕ) → new.files f ≡ old.files f) → new.slots ≡ old.slots
     → ((n : ℕ) → role_of old.frames n ≡ Cache → role_of new.frames n ≡ Cache) → ((n : ℕ) → role_of new.frames n ≡ Cache → role_of old.frames n ≡ Cache) → HasPlaces new
 places_same old new places same at files slots forth back = record {
   cached = λ p n e. forth n (places.cached p n (sym (same p) ∙ e));
@@ -139,7 +140,7 @@ places_same old new places same at files slots forth back = record {
 }
 
 -- all places and slots are as they were, the same frames hold file pages, and what processes are said to name hangs on the new pages
-pub places_renamed : (old new : Picture) → HasPlaces old → ((p : PageKey) → new.place p ≡ old.place p) → ((f : ℕ) → new.files f ≡ old.files f) → ((p : ObjectPage) → old.place (Object p) ≢ Home → is_named new.at p.object p.page ≡ true) → new.slots ≡ old.slots
+pub places_renamed : {mode : ℕ} (old new : Picture mode) → HasPlaces old → ((p : PageKey) → new.place p ≡ old.place p) → ((f : ℕ) → new.files f ≡ old.files f) → ((p : ObjectPage) → old.place (Object p) ≢ Home → is_named new.at p.object p.page ≡ true) → new.slots ≡ old.slots
     → ((n : ℕ) → role_of old.frames n ≡ Cache → role_of new.frames n ≡ Cache) → ((n : ℕ) → role_of new.frames n ≡ Cache → role_of old.frames n ≡ Cache) → HasPlaces new
 places_renamed old new places same files named slots forth back = record {
   cached = λ p n e. forth n (places.cached p n (sym (same p) ∙ e));
@@ -154,8 +155,8 @@ places_renamed old new places same files named slots forth back = record {
 }
 
 -- all entries, places and touched pages are as they were
-pub dirty_same : (old new : Picture) → IsDirtySound old → ((p : PageKey) → new.place p ≡ old.place p) → ((p : PageKey) → new.touched p ≡ old.touched p)
-    → ((pid page : ℕ) → IsPage 2 page → entry new pid page ≡ entry old pid page) → IsDirtySound new
+pub dirty_same : {mode : ℕ} (old new : Picture mode) → IsDirtySound old → ((p : PageKey) → new.place p ≡ old.place p) → ((p : PageKey) → new.touched p ≡ old.touched p)
+    → ((pid page : ℕ) → IsPage (top_level mode) page → entry new pid page ≡ entry old pid page) → IsDirtySound new
 dirty_same old new sound place touched same = record {
   dirty = λ pid page p h valid common dirty here. (
       let e = same pid page h in
@@ -166,8 +167,8 @@ dirty_same old new sound place touched same = record {
 }
 
 -- the entry of one page changed
-pub dirty_changed : (old new : Picture) (pid page : ℕ) → IsDirtySound old → ((p : PageKey) → new.place p ≡ old.place p) → ((p : PageKey) → new.touched p ≡ old.touched p)
-    → ((q p : ℕ) → IsPage 2 p → (q ≢ pid) ⊎ (p ≢ page) → entry new q p ≡ entry old q p)
+pub dirty_changed : {mode : ℕ} (old new : Picture mode) (pid page : ℕ) → IsDirtySound old → ((p : PageKey) → new.place p ≡ old.place p) → ((p : PageKey) → new.touched p ≡ old.touched p)
+    → ((q p : ℕ) → IsPage (top_level mode) p → (q ≢ pid) ⊎ (p ≢ page) → entry new q p ≡ entry old q p)
     → ((p : PageKey) → is_valid (entry new pid page) ≡ true → is_private (entry new pid page) ≡ false → is_dirty (entry new pid page) ≡ true
     → old.place p ≡ Frame (record { 0 = frame_of (entry new pid page) }) → old.touched p ≡ true) → IsDirtySound new
 dirty_changed old new pid page sound place touched same here = record {

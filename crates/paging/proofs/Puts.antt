@@ -1,4 +1,5 @@
 -- A slot was taken: nothing names it yet.
+use Rattle.vm_types.specs.Limits.{top_level}
 use Rattle.std.proofs.Common.{◌≡◌, ◌≢◌, ℕ, inl, inr, ◌==◌, if◌then◌else◌, List, refl, sym, ap, ◌∙◌, arith, eq-eqb, ne_eqb}
 use Rattle.std.proofs.lemmas.Bool.{cases_eq}
 use Rattle.vm_types.specs.declared.object.PageKey.{PageKey}
@@ -16,20 +17,21 @@ use Rattle.paging.proofs.Places.{page_for-same, dirty_same}
 use Rattle.paging.proofs.Rooted.{rooted_frames}
 
 -- nothing but slots changed
-pub record SameButSlots (old new : Picture) : Type 0 where
-  pub frames : new.frames ≡ old.frames
-  pub root : (pid : ℕ) → new.root pid ≡ old.root pid
-  pub at : (pid page : ℕ) → new.at pid page ≡ old.at pid page
-  pub page_of : (n : ℕ) → new.page_of n ≡ old.page_of n
-  pub place : (p : PageKey) → new.place p ≡ old.place p
-  pub touched : (p : PageKey) → new.touched p ≡ old.touched p
-  pub files : (f : ℕ) → new.files f ≡ old.files f
-  pub entries : (pid page : ℕ) → entry new pid page ≡ entry old pid page
+module _ {mode : ℕ} where
+  pub record SameButSlots (old new : Picture mode) : Type 0 where
+    pub frames : new.frames ≡ old.frames
+    pub root : (pid : ℕ) → new.root pid ≡ old.root pid
+    pub at : (pid page : ℕ) → new.at pid page ≡ old.at pid page
+    pub page_of : (n : ℕ) → new.page_of n ≡ old.page_of n
+    pub place : (p : PageKey) → new.place p ≡ old.place p
+    pub touched : (p : PageKey) → new.touched p ≡ old.touched p
+    pub files : (f : ℕ) → new.files f ≡ old.files f
+    pub entries : (pid page : ℕ) → entry new pid page ≡ entry old pid page
 
 slot_pages : (ℕ → ℕ) → ℕ → ℕ → ℕ → ℕ
 slot_pages sp k page j = if j == k then page else sp j
 
-module _ (old new : Picture) (k page m : ℕ) (bytes : List ℕ) (fit : IsFitBut old nowhere 0 m) (same : SameButSlots old new) (puts : Puts old.slots new.slots k bytes) (h : IsPage 2 page) where
+module _ {mode : ℕ} (old new : Picture mode) (k page m : ℕ) (bytes : List ℕ) (fit : IsFitBut old nowhere 0 m) (same : SameButSlots old new) (puts : Puts old.slots new.slots k bytes) (h : IsPage (top_level mode) page) where
   no_file : (p : PageKey) → old.place p ≡ Slot (record { 0 = k }) → ⊥
   no_file p e = let one = fit.places.slotted p k e in let none = puts.was_free in omega (arith, one, none)
 
@@ -60,7 +62,7 @@ module _ (old new : Picture) (k page m : ℕ) (bytes : List ℕ) (fit : IsFitBut
   fit_put = record {
     counted = (
       slot_pages fit.counted.0 k page,
-      counted_fresh (entry old) (entry new) (IsOwned old) (IsOwned new) (count_in old) (count_in new)
+      counted_fresh mode (entry old) (entry new) (IsOwned old) (IsOwned new) (count_in old) (count_in new)
           (page_in old fit.counted.0) (page_in new (slot_pages fit.counted.0 k page)) (λ q p h'. ap seat (same.entries q p)) (InSlot k) nowhere page fit.counted.1
           (λ is. (let some = is.0 in let none = puts.was_free in omega (arith, some, none))) forth back counts pages puts.counted (rw (eq-eqb k k refl) refl) h,
     );

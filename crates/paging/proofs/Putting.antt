@@ -1,4 +1,6 @@
 -- A slot was taken, or was not to be had: what is seen stays.
+use Rattle.vm_types.proofs.Modes.{user_pages_fit}
+use Rattle.vm_types.specs.Limits.{top_level}
 use Rattle.std.proofs.Common.{◌≡◌, ◌≢◌, ℕ, inl, inr, ◌<◌, List, Option, Some, None, refl, sym, ap, ◌∙◌, subst, arith}
 use Rattle.std.specs.Prelude.{option_map}
 use Rattle.std.proofs.lemmas.Bool.{cases_eq}
@@ -22,7 +24,7 @@ use Rattle.paging.proofs.Puts.{SameButSlots}
 use Rattle.paging.proofs.Rooted.{rooted_frames}
 use Rattle.paging.proofs.Seats.{counted_same, counted_shared}
 
-pub with_slots : (c : Picture) (t : SlotTable) → SameButSlots c (record c { slots = t })
+pub with_slots : {mode : ℕ} (c : Picture mode) (t : SlotTable) → SameButSlots c (record c { slots = t })
 unfolding entry
 with_slots c t = record { frames = refl; root = λ p. refl; at = λ p k. refl; page_of = λ n. refl; place = λ p. refl; touched = λ p. refl; files = λ f. refl; entries = λ q p. refl }
 
@@ -31,11 +33,11 @@ kept_by old new k bytes puts j used =
     let ne : j ≢ k = λ e. (let P : ℕ → Type 0 = λ i. IsInUse old i in let u = subst P e used in let none = puts.was_free in omega (arith, u, none)) in
     (puts.others.bytes j ne used, puts.others.counts j ne)
 
-pub owned_by : (c : Picture) (t : SlotTable) (k : ℕ) (bytes : List ℕ) → IsFit c → Puts c.slots t k bytes → IsOwned (record c { slots = t }) (InSlot k)
+pub owned_by : {mode : ℕ} (c : Picture mode) (t : SlotTable) (k : ℕ) (bytes : List ℕ) → IsFit c → Puts c.slots t k bytes → IsOwned (record c { slots = t }) (InSlot k)
 owned_by c t k bytes fit puts =
     ((let one = puts.counted in omega (arith, one)), λ p e. (let one = fit.places.slotted p k e in let none = puts.was_free in omega (arith, one, none)))
 
-module _ (old new : Picture) (fit : IsFit old) (same : SameButSlots old new)
+module _ {mode : ℕ} (old new : Picture mode) (fit : IsFit old) (same : SameButSlots old new)
     (kept : (j : ℕ) → IsInUse old.slots j → new.slots.bytes j ≡ old.slots.bytes j) where
   own_bytes : (z : Seat) → IsOwned old z → bytes_in new.frames new.slots z ≡ bytes_in old.frames old.slots z
   own_bytes (InFrame n) is = ap (λ t. bytes_of t n) same.frames
@@ -62,7 +64,7 @@ module _ (old new : Picture) (fit : IsFit old) (same : SameButSlots old new)
       views = λ pid p. elim (cases_attr (old.at pid p)) [
         | inl none ↦ view-none new pid p (same.at pid p ∙ none) ∙ sym (view-none old pid p none)
         | inr some ↦ (
-            let h : IsPage 2 p = (let u = ((fit.granting.user pid).user_pages p some).1 in omega (arith, u)) in
+            let h : IsPage (top_level mode) p = (let u = ((fit.granting.user pid).user_pages p some).1 in omega (arith, u, user_pages_fit mode)) in
             view_kept old new pid p (same.at pid p)
             (ap (λ e. own_in new.frames new.slots e) (same.entries pid p) ∙ own_put (seat (entry old pid p)) (λ z is. fit.counted.1.named pid p z h is)))
       ];
@@ -73,7 +75,7 @@ module _ (old new : Picture) (fit : IsFit old) (same : SameButSlots old new)
     role = inl (ap (λ t. role_of t v) same.frames);
     counts = λ n ne. ap (λ t. count_of t n) same.frames;
     bytes = λ n ne used. ap (λ t. bytes_of t n) same.frames;
-    ends = λ pid r p e. ap (λ t. last_table t p 2 r) same.frames;
+    ends = λ pid r p e. ap (λ t. last_table t p (top_level mode) r) same.frames;
     entries = λ pid p h stays. same.entries pid p;
     ages = λ pid p h. SameAge (same.entries pid p);
     pointers = λ n i m points. (let P : FrameTable → Type 0 = λ t. Points t n i m in subst P (sym same.frames) points);
@@ -83,7 +85,7 @@ module _ (old new : Picture) (fit : IsFit old) (same : SameButSlots old new)
   }
 
 -- no slot was taken
-module _ (old new : Picture) (fit : IsFit old) (same : SameButSlots old new) (slots : Same old.slots new.slots) where
+module _ {mode : ℕ} (old new : Picture mode) (fit : IsFit old) (same : SameButSlots old new) (slots : Same old.slots new.slots) where
   in_use : (j : ℕ) → IsInUse old.slots j → IsInUse new.slots j
   in_use j used = let c = slots.counts j in omega (arith, c, used)
 
@@ -110,7 +112,7 @@ module _ (old new : Picture) (fit : IsFit old) (same : SameButSlots old new) (sl
   fit_unput = record {
     counted = (
       fit.counted.0,
-      counted_same (entry old) (entry new) (IsOwned old) (IsOwned new) (count_in old) (count_in new) (page_in old fit.counted.0) (page_in new fit.counted.0)
+      counted_same mode (entry old) (entry new) (IsOwned old) (IsOwned new) (count_in old) (count_in new) (page_in old fit.counted.0) (page_in new fit.counted.0)
           (λ q p h. ap seat (same.entries q p)) nowhere 0 fit.counted.1 forth back counts pages,
     );
     rooted = rooted_frames old new 0 fit.rooted same.frames same.root same.at;
@@ -131,7 +133,7 @@ module _ (old new : Picture) (fit : IsFit old) (same : SameButSlots old new) (sl
   }
 
 -- one more shares a slot that holds own copies
-module _ (old new : Picture) (k page : ℕ) (fit : IsFit old) (same : SameButSlots old new) (own : IsOwned old (InSlot k)) (noted : fit.counted.0 k ≡ page) (shares : Shares old.slots new.slots k) where
+module _ {mode : ℕ} (old new : Picture mode) (k page : ℕ) (fit : IsFit old) (same : SameButSlots old new) (own : IsOwned old (InSlot k)) (noted : fit.counted.0 k ≡ page) (shares : Shares old.slots new.slots k) where
   more_used : (j : ℕ) → IsInUse old.slots j → IsInUse new.slots j
   more_used j used = elim (cases_eq j k) [
     | inl e ↦ (let r = shares.raised in let P : ℕ → Type 0 = λ i. 0 < new.slots.count i in subst P (sym e) (omega (arith, r)))
@@ -165,7 +167,7 @@ module _ (old new : Picture) (k page : ℕ) (fit : IsFit old) (same : SameButSlo
     fit = record {
       counted = (
         fit.counted.0,
-        counted_shared (entry old) (entry new) (IsOwned old) (IsOwned new) (count_in old) (count_in new) (page_in old fit.counted.0) (page_in new fit.counted.0)
+        counted_shared mode (entry old) (entry new) (IsOwned old) (IsOwned new) (count_in old) (count_in new) (page_in old fit.counted.0) (page_in new fit.counted.0)
             (λ q p h. ap seat (same.entries q p)) (InSlot k) nowhere fit.counted.1 forth_shared back_shared counts_shared pages_shared shares.raised,
       );
       rooted = rooted_frames old new 0 fit.rooted same.frames same.root same.at;

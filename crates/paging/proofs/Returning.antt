@@ -1,4 +1,5 @@
 -- A frame asked for in vain, and a slot left.
+use Rattle.vm_types.specs.Limits.{top_level}
 use Rattle.std.proofs.Common.{◌≡◌, ◌≢◌, ℕ, inl, inr, List, None, sym, ap, ◌∙◌, subst, arith}
 use Rattle.std.proofs.lemmas.Bool.{cases_eq}
 use Rattle.vm_types.specs.declared.object.PageKey.{PageKey}
@@ -26,7 +27,7 @@ unfolding slot_number
 one_slot j k e = ap slot_number e
 
 -- the slot of a file page lost its only share
-pub leaves_slot : (old new : Picture) (page : PageKey) (k : ℕ) (t : SlotTable) → old.place page ≡ Slot (record { 0 = k }) → t ≡ old.slots → Slots.Releases t new.slots k → old.slots.count k ≡ 1
+pub leaves_slot : {mode : ℕ} (old new : Picture mode) (page : PageKey) (k : ℕ) (t : SlotTable) → old.place page ≡ Slot (record { 0 = k }) → t ≡ old.slots → Slots.Releases t new.slots k → old.slots.count k ≡ 1
     → LeavesSlot old new page
 leaves_slot old new page k t at same releases one =
     let other : (j : ℕ) → old.place page ≢ Slot (record { 0 = j }) → j ≢ k = λ j ne e. ne (at ∙ ap (λ i. Slot (record { 0 = i })) (sym e)) in
@@ -43,7 +44,7 @@ leaves_slot old new page k t at same releases one =
     }
 
 -- a page that lies at home leaves no slot
-pub leaves_none : (old new : Picture) (page : PageKey) → old.place page ≡ Home → new.slots ≡ old.slots → LeavesSlot old new page
+pub leaves_none : {mode : ℕ} (old new : Picture mode) (page : PageKey) → old.place page ≡ Home → new.slots ≡ old.slots → LeavesSlot old new page
 leaves_none old new page home same = record {
   total = ap (λ s. s.total) same;
   left = λ k here. (let bad : Home ≡ Slot (record { 0 = k }) = sym home ∙ here in (cc));
@@ -62,37 +63,38 @@ frames_spent old mid new n w takes releases =
       counts = λ m ne. releases.others.counts m ne ∙ written.counts m ne;
     }
 
-pub frees_spent : (old new : Picture) (n : ℕ) → IsFit old → ChangesFrame old new n → role_of new.frames n ≡ Free → Frees old new None
-frees_spent old new n fit changes free =
-    let datum : role_of new.frames n ≢ Table = λ t. (let bad : Free ≡ Table = sym free ∙ t in (cc)) in
-    let trees = trees_changed old new n fit changes datum in
-    record {
-      pages = record {
-        root = changes.root;
-        at = changes.at;
-        views = views_changed old new n fit changes datum;
-        files = record { held = λ p. inl (held_changed old new n fit changes datum p); touched = changes.touched; files = changes.files };
-      };
-      count = changes.frames.frames;
-      roles = λ m. elim (cases_eq m n) [
-        | inl e ↦ inl (ap (role_of new.frames) e ∙ free ∙ sym (ap (role_of old.frames) e ∙ changes.was_free))
-        | inr ne ↦ inl (changes.frames.roles m ne)
-      ];
-      missing = λ pid r page e. trees.missing r page (fit.rooted.roots pid r e);
-      ends = λ pid r p e. (let table = (fit.rooted.roots pid r e).table in (same_last old.frames new.frames fit.rooted.forest trees.forest trees.same 2 r p table ((trees.tables r).0 table)).0);
-      entries = λ pid page h stays. entries_changed old new n fit changes datum pid page;
-      slots = λ k used. (ap (λ t. t.bytes k) changes.slots, ap (λ t. t.count k) changes.slots);
-      total = ap (λ t. t.total) changes.slots;
-      home = λ p e. changes.place p ∙ e;
-      slotted = λ p k e. changes.place p ∙ e;
-      kept_place = λ p n kept e. absurd kept;
-      kept_role = λ n kept. absurd kept;
-      kept_count = λ n kept. absurd kept;
-      kept_bytes = λ n kept other. absurd kept;
-    }
+module _ {mode : ℕ} where
+  pub frees_spent : (old new : Picture mode) (n : ℕ) → IsFit old → ChangesFrame old new n → role_of new.frames n ≡ Free → Frees old new None
+  frees_spent old new n fit changes free =
+      let datum : role_of new.frames n ≢ Table = λ t. (let bad : Free ≡ Table = sym free ∙ t in (cc)) in
+      let trees = trees_changed old new n fit changes datum in
+      record {
+        pages = record {
+          root = changes.root;
+          at = changes.at;
+          views = views_changed old new n fit changes datum;
+          files = record { held = λ p. inl (held_changed old new n fit changes datum p); touched = changes.touched; files = changes.files };
+        };
+        count = changes.frames.frames;
+        roles = λ m. elim (cases_eq m n) [
+          | inl e ↦ inl (ap (role_of new.frames) e ∙ free ∙ sym (ap (role_of old.frames) e ∙ changes.was_free))
+          | inr ne ↦ inl (changes.frames.roles m ne)
+        ];
+        missing = λ pid r page e. trees.missing r page (fit.rooted.roots pid r e);
+        ends = λ pid r p e. (let table = (fit.rooted.roots pid r e).table in (same_last old.frames new.frames fit.rooted.forest trees.forest trees.same (top_level mode) r p table ((trees.tables r).0 table)).0);
+        entries = λ pid page h stays. entries_changed old new n fit changes datum pid page;
+        slots = λ k used. (ap (λ t. t.bytes k) changes.slots, ap (λ t. t.count k) changes.slots);
+        total = ap (λ t. t.total) changes.slots;
+        home = λ p e. changes.place p ∙ e;
+        slotted = λ p k e. changes.place p ∙ e;
+        kept_place = λ p n kept e. absurd kept;
+        kept_role = λ n kept. absurd kept;
+        kept_count = λ n kept. absurd kept;
+        kept_bytes = λ n kept other. absurd kept;
+      }
 
 -- frame 0, the zero page, is no table where a frame was asked for
-pub zero_no_table : (old new : Picture) → IsSound old.frames → Frees old new None → role_of new.frames 0 ≢ Table
+pub zero_no_table : {mode : ℕ} (old new : Picture mode) → IsSound old.frames → Frees old new None → role_of new.frames 0 ≢ Table
 zero_no_table old new sound frees e = elim (frees.roles 0) [
   | inl same ↦ (let bad : Zero ≡ Table = sym sound.zero_role ∙ sym same ∙ e in (cc))
   | inr gone ↦ (let bad : Free ≡ Table = sym gone.0 ∙ e in (cc))

@@ -1,4 +1,5 @@
 -- Counts of seats: what each step does to them.
+use Rattle.vm_types.specs.Limits.{top_level}
 use Rattle.std.proofs.Common.{◌≡◌, ◌≢◌, ℕ, inl, inr, ◌+◌, ◌<◌, ◌⊎◌, true, false, Option, Some, None, refl, sym, ap, ◌∙◌, subst, arith, eq-eqb, ne_eqb}
 use Rattle.std.proofs.lemmas.Bool.{cases_eq}
 use Rattle.page_tables.specs.Tree.{IsPage}
@@ -47,11 +48,11 @@ some_seat : (x y : Seat) → Some x ≡ Some y → x ≡ y
 some_seat x y e = (cc)
 
 -- Of the page (pid, page) the entry names seat y now, and named x before, whose counts was right and is off now.
-module _ (old new : ℕ → ℕ → ℕ) (owned owned' : Seat → Type 0) (count count' page page' : Seat → ℕ) (x y : Seat) (pid k : ℕ)
-    (counted : AreCounted old owned count page y 1) (forth : (z : Seat) → owned z → owned' z) (back : (z : Seat) → owned' z → owned z)
+module _ (mode : ℕ) (old new : ℕ → ℕ → ℕ) (owned owned' : Seat → Type 0) (count count' page page' : Seat → ℕ) (x y : Seat) (pid k : ℕ)
+    (counted : AreCounted mode old owned count page y 1) (forth : (z : Seat) → owned z → owned' z) (back : (z : Seat) → owned' z → owned z)
     (counts : (z : Seat) → owned z → count' z ≡ count z) (pages : (z : Seat) → owned z → page' z ≡ page z)
-    (has : owned y) (noted : page y ≡ k) (h : IsPage 2 k) (below : pid < 65) (from : seat (old pid k) ≡ Some x) (to : seat (new pid k) ≡ Some y) (apart : x ≢ y)
-    (others : OthersSame old new pid k) where
+    (has : owned y) (noted : page y ≡ k) (h : IsPage (top_level mode) k) (below : pid < 65) (from : seat (old pid k) ≡ Some x) (to : seat (new pid k) ≡ Some y) (apart : x ≢ y)
+    (others : OthersSame mode old new pid k) where
   held : owned x
   held = counted.named pid k x h from
 
@@ -70,7 +71,7 @@ module _ (old new : ℕ → ℕ → ℕ) (owned owned' : Seat → Type 0) (count
       count-one (λ q. is_seat (seat (old q k)) x) (λ q. is_seat (seat (new q k)) x) pid 65 below (sits (seat (old pid k)) x from) (sits_not (seat (new pid k)) y x to (λ e. apart (sym e)))
       (λ q ne. ap (λ e. is_seat (seat e) x) (sym (others q k h (inl ne))))
 
-  same : (z : Seat) (p : ℕ) → z ≢ x → z ≢ y → IsPage 2 p → holders_at new p z ≡ holders_at old p z
+  same : (z : Seat) (p : ℕ) → z ≢ x → z ≢ y → IsPage (top_level mode) p → holders_at new p z ≡ holders_at old p z
   unfolding holders_at
   same z p ne ne' h' = count-same (λ q. is_seat (seat (new q p)) z) (λ q. is_seat (seat (old q p)) z) 65 (λ q. elim (by_page q p pid k) [
     | inl e ↦ (
@@ -80,7 +81,7 @@ module _ (old new : ℕ → ℕ → ℕ) (owned owned' : Seat → Type 0) (count
     | inr away ↦ ap (λ e. is_seat (seat e) z) (others q p h' away)
   ])
 
-  pub counted_moved : AreCounted new owned' count' page' x 1
+  pub counted_moved : AreCounted mode new owned' count' page' x 1
   counted_moved = record {
     counts = λ z now. (
         let was = back z now in
@@ -113,7 +114,7 @@ module _ (old new : ℕ → ℕ → ℕ) (owned owned' : Seat → Type 0) (count
         ]);
     pages = λ z now. (
         let was = back z now in
-        let P : ℕ → Type 0 = λ v. IsPage 2 v in subst P (sym (pages z was)) (counted.pages z was));
+        let P : ℕ → Type 0 = λ v. IsPage (top_level mode) v in subst P (sym (pages z was)) (counted.pages z was));
     named = λ q p z h' is. elim (by_page q p pid k) [
       | inl e ↦ (
           let moved : new q p ≡ new pid k = ap (λ v. new v p) e.0 ∙ ap (λ v. new pid v) e.1 in
@@ -131,18 +132,18 @@ module _ (old new : ℕ → ℕ → ℕ) (owned owned' : Seat → Type 0) (count
   }
 
 -- Of the page (pid, page) the entry names seat y now, whose count was off, and named none before.
-module _ (old new : ℕ → ℕ → ℕ) (owned owned' : Seat → Type 0) (count count' page page' : Seat → ℕ) (y : Seat) (pid k : ℕ)
-    (counted : AreCounted old owned count page y 1) (forth : (z : Seat) → owned z → owned' z) (back : (z : Seat) → owned' z → owned z)
+module _ (mode : ℕ) (old new : ℕ → ℕ → ℕ) (owned owned' : Seat → Type 0) (count count' page page' : Seat → ℕ) (y : Seat) (pid k : ℕ)
+    (counted : AreCounted mode old owned count page y 1) (forth : (z : Seat) → owned z → owned' z) (back : (z : Seat) → owned' z → owned z)
     (counts : (z : Seat) → owned z → count' z ≡ count z) (pages : (z : Seat) → owned z → page' z ≡ page z)
-    (has : owned y) (noted : page y ≡ k) (h : IsPage 2 k) (below : pid < 65) (from : seat (old pid k) ≡ None) (to : seat (new pid k) ≡ Some y)
-    (others : OthersSame old new pid k) where
+    (has : owned y) (noted : page y ≡ k) (h : IsPage (top_level mode) k) (below : pid < 65) (from : seat (old pid k) ≡ None) (to : seat (new pid k) ≡ Some y)
+    (others : OthersSame mode old new pid k) where
   filled : holders_at new k y ≡ holders_at old k y + 1
   unfolding holders_at
   filled =
       count-one (λ q. is_seat (seat (new q k)) y) (λ q. is_seat (seat (old q k)) y) pid 65 below (sits (seat (new pid k)) y to) (sits_none (seat (old pid k)) y from)
       (λ q ne. ap (λ e. is_seat (seat e) y) (others q k h (inl ne)))
 
-  still : (z : Seat) (p : ℕ) → z ≢ y → IsPage 2 p → holders_at new p z ≡ holders_at old p z
+  still : (z : Seat) (p : ℕ) → z ≢ y → IsPage (top_level mode) p → holders_at new p z ≡ holders_at old p z
   unfolding holders_at
   still z p ne h' = count-same (λ q. is_seat (seat (new q p)) z) (λ q. is_seat (seat (old q p)) z) 65 (λ q. elim (by_page q p pid k) [
     | inl e ↦ (
@@ -152,7 +153,7 @@ module _ (old new : ℕ → ℕ → ℕ) (owned owned' : Seat → Type 0) (count
     | inr away ↦ ap (λ e. is_seat (seat e) z) (others q p h' away)
   ])
 
-  pub counted_filled : (x' : Seat) → ((z : Seat) → off x' 0 z ≡ 0) → AreCounted new owned' count' page' x' 0
+  pub counted_filled : (x' : Seat) → ((z : Seat) → off x' 0 z ≡ 0) → AreCounted mode new owned' count' page' x' 0
   counted_filled x' none = record {
     counts = λ z now. (
         let was = back z now in
@@ -172,7 +173,7 @@ module _ (old new : ℕ → ℕ → ℕ) (owned owned' : Seat → Type 0) (count
               let a = off-other y 1 z (λ f. ne (sym f)) in
               rw (pages z was) (omega (arith, before, s, a, zero)))
         ]);
-    pages = λ z now. (let was = back z now in let P : ℕ → Type 0 = λ v. IsPage 2 v in subst P (sym (pages z was)) (counted.pages z was));
+    pages = λ z now. (let was = back z now in let P : ℕ → Type 0 = λ v. IsPage (top_level mode) v in subst P (sym (pages z was)) (counted.pages z was));
     named = λ q p z h' is. elim (by_page q p pid k) [
       | inl e ↦ (
           let moved : new q p ≡ new pid k = ap (λ v. new v p) e.0 ∙ ap (λ v. new pid v) e.1 in
@@ -209,34 +210,34 @@ pub holders_none : (entries : ℕ → ℕ → ℕ) (p : ℕ) (x : Seat) → ((q 
 unfolding holders_at
 holders_none entries p x none = count-none (λ q. is_seat (seat (entries q p)) x) 65 (λ q. not_there x (seat (entries q p)) (λ y is e. none q (is ∙ ap (λ z. Some z) e)))
 
-module _ (old new : ℕ → ℕ → ℕ) (owned owned' : Seat → Type 0) (count count' page page' : Seat → ℕ) (same : (q p : ℕ) → IsPage 2 p → seat (new q p) ≡ seat (old q p)) where
-  pub counted_same : (x : Seat) (d : ℕ) → AreCounted old owned count page x d → ((z : Seat) → owned z → owned' z) → ((z : Seat) → owned' z → owned z)
-      → ((z : Seat) → owned z → count' z ≡ count z) → ((z : Seat) → owned z → page' z ≡ page z) → AreCounted new owned' count' page' x d
+module _ (mode : ℕ) (old new : ℕ → ℕ → ℕ) (owned owned' : Seat → Type 0) (count count' page page' : Seat → ℕ) (same : (q p : ℕ) → IsPage (top_level mode) p → seat (new q p) ≡ seat (old q p)) where
+  pub counted_same : (x : Seat) (d : ℕ) → AreCounted mode old owned count page x d → ((z : Seat) → owned z → owned' z) → ((z : Seat) → owned' z → owned z)
+      → ((z : Seat) → owned z → count' z ≡ count z) → ((z : Seat) → owned z → page' z ≡ page z) → AreCounted mode new owned' count' page' x d
   counted_same x d counted forth back counts pages = record {
     counts = λ z now. (
         let was = back z now in
         let here = counted.counts z was in
         let k = seats_kept old new z (page z) (λ q. same q (page z) (counted.pages z was)) in
         counts z was ∙ here ∙ ap (λ v. v + off x d z) (sym k) ∙ ap (λ v. holders_at new v z + off x d z) (sym (pages z was)));
-    pages = λ z now. (let was = back z now in let P : ℕ → Type 0 = λ v. IsPage 2 v in subst P (sym (pages z was)) (counted.pages z was));
+    pages = λ z now. (let was = back z now in let P : ℕ → Type 0 = λ v. IsPage (top_level mode) v in subst P (sym (pages z was)) (counted.pages z was));
     named = λ q p z h is. forth z (counted.named q p z h (sym (same q p h) ∙ is));
     noted = λ q p z h is. (let was = sym (same q p h) ∙ is in pages z (counted.named q p z h was) ∙ counted.noted q p z h was);
   }
 
-  unnamed : (x : Seat) → (x' : Seat) (d : ℕ) → AreCounted old owned count page x' d → (owned x → ⊥) → (p : ℕ) → IsPage 2 p → holders_at new p x ≡ 0
+  unnamed : (x : Seat) → (x' : Seat) (d : ℕ) → AreCounted mode old owned count page x' d → (owned x → ⊥) → (p : ℕ) → IsPage (top_level mode) p → holders_at new p x ≡ 0
   unfolding holders_at
   unnamed x x' d counted fresh p h = count-none (λ q. is_seat (seat (new q p)) x) 65 (λ q. not_there x (seat (new q p)) (λ y is e. fresh (subst owned e (counted.named q p y h (sym (same q p h) ∙ is)))))
 
   -- a seat was taken that nobody had, and no entry names it yet
-  pub counted_fresh : (x x' : Seat) (k : ℕ) → AreCounted old owned count page x' 0 → (owned x → ⊥) → ((z : Seat) → z ≢ x → owned z → owned' z) → ((z : Seat) → z ≢ x → owned' z → owned z)
-      → ((z : Seat) → z ≢ x → owned z → count' z ≡ count z) → ((z : Seat) → z ≢ x → owned z → page' z ≡ page z) → count' x ≡ 1 → page' x ≡ k → IsPage 2 k
-      → AreCounted new owned' count' page' x 1
+  pub counted_fresh : (x x' : Seat) (k : ℕ) → AreCounted mode old owned count page x' 0 → (owned x → ⊥) → ((z : Seat) → z ≢ x → owned z → owned' z) → ((z : Seat) → z ≢ x → owned' z → owned z)
+      → ((z : Seat) → z ≢ x → owned z → count' z ≡ count z) → ((z : Seat) → z ≢ x → owned z → page' z ≡ page z) → count' x ≡ 1 → page' x ≡ k → IsPage (top_level mode) k
+      → AreCounted mode new owned' count' page' x 1
   counted_fresh x x' k counted fresh forth back counts pages one noted h =
-      let other : (q p : ℕ) (z : Seat) → IsPage 2 p → seat (new q p) ≡ Some z → z ≢ x = λ q p z h' is e. fresh (subst owned e (counted.named q p z h' (sym (same q p h') ∙ is))) in
+      let other : (q p : ℕ) (z : Seat) → IsPage (top_level mode) p → seat (new q p) ≡ Some z → z ≢ x = λ q p z h' is e. fresh (subst owned e (counted.named q p z h' (sym (same q p h') ∙ is))) in
       record {
         counts = λ z now. elim (cases_seat z x) [
           | inl e ↦ (
-              let none : holders_at new (page' x) x ≡ 0 = unnamed x x' 0 counted fresh (page' x) (let P : ℕ → Type 0 = λ v. IsPage 2 v in subst P (sym noted) h) in
+              let none : holders_at new (page' x) x ≡ 0 = unnamed x x' 0 counted fresh (page' x) (let P : ℕ → Type 0 = λ v. IsPage (top_level mode) v in subst P (sym noted) h) in
               let here = off-here x 1 in
               let P : Seat → Type 0 = λ v. count' v ≡ holders_at new (page' v) v + off x 1 v in
               subst P (sym e) (omega (arith, one, none, here)))
@@ -250,8 +251,8 @@ module _ (old new : ℕ → ℕ → ℕ) (owned owned' : Seat → Type 0) (count
               rw (pages z ne was) (omega (arith, here, none, none', c, k)))
         ];
         pages = λ z now. elim (cases_seat z x) [
-          | inl e ↦ (let P : Seat → Type 0 = λ v. IsPage 2 (page' v) in let Q : ℕ → Type 0 = λ v. IsPage 2 v in subst P (sym e) (subst Q (sym noted) h))
-          | inr ne ↦ (let was = back z ne now in let P : ℕ → Type 0 = λ v. IsPage 2 v in subst P (sym (pages z ne was)) (counted.pages z was))
+          | inl e ↦ (let P : Seat → Type 0 = λ v. IsPage (top_level mode) (page' v) in let Q : ℕ → Type 0 = λ v. IsPage (top_level mode) v in subst P (sym e) (subst Q (sym noted) h))
+          | inr ne ↦ (let was = back z ne now in let P : ℕ → Type 0 = λ v. IsPage (top_level mode) v in subst P (sym (pages z ne was)) (counted.pages z was))
         ];
         named = λ q p z h' is. forth z (other q p z h' is) (counted.named q p z h' (sym (same q p h') ∙ is));
         noted = λ q p z h' is. (
@@ -260,8 +261,8 @@ module _ (old new : ℕ → ℕ → ℕ) (owned owned' : Seat → Type 0) (count
       }
 
   -- one more shares a seat, and no entry names it for that yet
-  pub counted_shared : (x x' : Seat) → AreCounted old owned count page x' 0 → ((z : Seat) → owned z → owned' z) → ((z : Seat) → owned' z → owned z)
-      → ((z : Seat) → z ≢ x → owned z → count' z ≡ count z) → ((z : Seat) → owned z → page' z ≡ page z) → count' x ≡ count x + 1 → AreCounted new owned' count' page' x 1
+  pub counted_shared : (x x' : Seat) → AreCounted mode old owned count page x' 0 → ((z : Seat) → owned z → owned' z) → ((z : Seat) → owned' z → owned z)
+      → ((z : Seat) → z ≢ x → owned z → count' z ≡ count z) → ((z : Seat) → owned z → page' z ≡ page z) → count' x ≡ count x + 1 → AreCounted mode new owned' count' page' x 1
   counted_shared x x' counted forth back counts pages more = record {
     counts = λ z now. (
         let was = back z now in
@@ -280,13 +281,13 @@ module _ (old new : ℕ → ℕ → ℕ) (owned owned' : Seat → Type 0) (count
               let none' = off-other x 1 z (λ e. ne (sym e)) in
               rw (pages z was) (omega (arith, here, none, k, c, none')))
         ]);
-    pages = λ z now. (let was = back z now in let P : ℕ → Type 0 = λ v. IsPage 2 v in subst P (sym (pages z was)) (counted.pages z was));
+    pages = λ z now. (let was = back z now in let P : ℕ → Type 0 = λ v. IsPage (top_level mode) v in subst P (sym (pages z was)) (counted.pages z was));
     named = λ q p z h is. forth z (counted.named q p z h (sym (same q p h) ∙ is));
     noted = λ q p z h is. (let was = sym (same q p h) ∙ is in pages z (counted.named q p z h was) ∙ counted.noted q p z h was);
   }
 
   -- an entry that names a seat whose count is one too high isn't alone
-  pub not_alone : (x : Seat) → AreCounted old owned count page x 1 → (q p : ℕ) → IsPage 2 p → q < 65 → seat (old q p) ≡ Some x → 1 < count x
+  pub not_alone : (x : Seat) → AreCounted mode old owned count page x 1 → (q p : ℕ) → IsPage (top_level mode) p → q < 65 → seat (old q p) ≡ Some x → 1 < count x
   unfolding holders_at
   not_alone x counted q p h below is =
       let has = counted.named q p x h is in
@@ -298,9 +299,9 @@ module _ (old new : ℕ → ℕ → ℕ) (owned owned' : Seat → Type 0) (count
       omega (arith, here, one, some)
 
   -- one less shares a seat, from which an entry was moved away; it is nobody's where nobody is left
-  pub counted_released : (x x' : Seat) → AreCounted old owned count page x 1 → owned x → ((z : Seat) → (z ≢ x) ⊎ (1 < count z) → owned z → owned' z) → ((z : Seat) → owned' z → owned z)
+  pub counted_released : (x x' : Seat) → AreCounted mode old owned count page x 1 → owned x → ((z : Seat) → (z ≢ x) ⊎ (1 < count z) → owned z → owned' z) → ((z : Seat) → owned' z → owned z)
       → ((z : Seat) → z ≢ x → owned z → count' z ≡ count z) → ((z : Seat) → owned z → page' z ≡ page z) → count' x + 1 ≡ count x
-      → ((q p : ℕ) (z : Seat) → IsPage 2 p → seat (old q p) ≡ Some z → q < 65) → AreCounted new owned' count' page' x' 0
+      → ((q p : ℕ) (z : Seat) → IsPage (top_level mode) p → seat (old q p) ≡ Some z → q < 65) → AreCounted mode new owned' count' page' x' 0
   counted_released x x' counted held forth back counts pages less below = record {
     counts = λ z now. (
         let was = back z now in
@@ -319,7 +320,7 @@ module _ (old new : ℕ → ℕ → ℕ) (owned owned' : Seat → Type 0) (count
               let none' = off-other x 1 z (λ e. ne (sym e)) in
               rw (pages z was) (omega (arith, here, none, k, c, none')))
         ]);
-    pages = λ z now. (let was = back z now in let P : ℕ → Type 0 = λ v. IsPage 2 v in subst P (sym (pages z was)) (counted.pages z was));
+    pages = λ z now. (let was = back z now in let P : ℕ → Type 0 = λ v. IsPage (top_level mode) v in subst P (sym (pages z was)) (counted.pages z was));
     named = λ q p z h is. (
         let was = sym (same q p h) ∙ is in
         elim (cases_seat z x) [
@@ -333,11 +334,11 @@ module _ (old new : ℕ → ℕ → ℕ) (owned owned' : Seat → Type 0) (count
   }
 
   -- a seat that no entry names is nobody's now
-  pub counted_left : (x x' : Seat) → AreCounted old owned count page x 1 → owned x → count x ≡ 1 → (owned' x → ⊥) → ((z : Seat) → z ≢ x → owned z → owned' z) → ((z : Seat) → owned' z → owned z)
+  pub counted_left : (x x' : Seat) → AreCounted mode old owned count page x 1 → owned x → count x ≡ 1 → (owned' x → ⊥) → ((z : Seat) → z ≢ x → owned z → owned' z) → ((z : Seat) → owned' z → owned z)
       → ((z : Seat) → z ≢ x → owned z → count' z ≡ count z) → ((z : Seat) → owned z → page' z ≡ page z)
-      → ((q p : ℕ) (z : Seat) → IsPage 2 p → seat (old q p) ≡ Some z → q < 65) → AreCounted new owned' count' page' x' 0
+      → ((q p : ℕ) (z : Seat) → IsPage (top_level mode) p → seat (old q p) ≡ Some z → q < 65) → AreCounted mode new owned' count' page' x' 0
   counted_left x x' counted held one gone forth back counts pages below =
-      let alone : (q p : ℕ) → IsPage 2 p → seat (old q p) ≡ Some x → ⊥ = λ q p h is. (let more = not_alone x counted q p h (below q p x h is) is in omega (arith, more, one)) in
+      let alone : (q p : ℕ) → IsPage (top_level mode) p → seat (old q p) ≡ Some x → ⊥ = λ q p h is. (let more = not_alone x counted q p h (below q p x h is) is in omega (arith, more, one)) in
       let ne : (z : Seat) → owned' z → z ≢ x = λ z now e. gone (subst owned' e now) in
       record {
         counts = λ z now. (
@@ -348,7 +349,7 @@ module _ (old new : ℕ → ℕ → ℕ) (owned owned' : Seat → Type 0) (count
             let c = counts z (ne z now) was in
             let none' = off-other x 1 z (λ e. ne z now (sym e)) in
             rw (pages z was) (omega (arith, here, none, k, c, none')));
-        pages = λ z now. (let was = back z now in let P : ℕ → Type 0 = λ v. IsPage 2 v in subst P (sym (pages z was)) (counted.pages z was));
+        pages = λ z now. (let was = back z now in let P : ℕ → Type 0 = λ v. IsPage (top_level mode) v in subst P (sym (pages z was)) (counted.pages z was));
         named = λ q p z h is. (
             let was = sym (same q p h) ∙ is in
             forth z (λ e. alone q p h (was ∙ ap (λ v. Some v) e)) (counted.named q p z h was));

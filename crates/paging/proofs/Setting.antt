@@ -1,4 +1,6 @@
 -- One page's entry set, and what is seen then.
+use Rattle.vm_types.proofs.Modes.{user_pages_fit}
+use Rattle.vm_types.specs.Limits.{top_level}
 use Rattle.std.proofs.Common.{◌≡◌, ◌≢◌, ℕ, inl, inr, ◌⊎◌, ◌<◌, true, false, List, Option, Some, None, refl, sym, ap, ◌∙◌, subst, arith}
 use Rattle.std.specs.Prelude.{option_map}
 use Rattle.vm_types.specs.declared.object.PageKey.{PageKey}
@@ -26,30 +28,30 @@ use Rattle.paging.proofs.Seats.{counted_same, counted_filled, off-none}
 use Rattle.paging.proofs.Ways.{by_page}
 
 -- a page whose own copy lies in the same seat, with the same bytes, is seen as before
-own_kept : (old new : Picture) (o o' : Option Seat) → o' ≡ o → ((z : Seat) → o ≡ Some z → bytes_in new.frames new.slots z ≡ bytes_in old.frames old.slots z)
+own_kept : {mode : ℕ} (old new : Picture mode) (o o' : Option Seat) → o' ≡ o → ((z : Seat) → o ≡ Some z → bytes_in new.frames new.slots z ≡ bytes_in old.frames old.slots z)
     → option_map (bytes_in new.frames new.slots) o' ≡ option_map (bytes_in old.frames old.slots) o
 own_kept old new None o' e each = ap (λ x. option_map (bytes_in new.frames new.slots) x) e
 own_kept old new (Some z) o' e each = ap (λ x. option_map (bytes_in new.frames new.slots) x) e ∙ ap (λ b. Some b) (each z refl)
 
-pub view_seated : (old new : Picture) (q p : ℕ) → new.at q p ≡ old.at q p → seat (entry new q p) ≡ seat (entry old q p)
+pub view_seated : {mode : ℕ} (old new : Picture mode) (q p : ℕ) → new.at q p ≡ old.at q p → seat (entry new q p) ≡ seat (entry old q p)
     → ((z : Seat) → seat (entry old q p) ≡ Some z → bytes_in new.frames new.slots z ≡ bytes_in old.frames old.slots z) → view new q p ≡ view old q p
 view_seated old new q p at same bytes = view_kept old new q p at (own_kept old new (seat (entry old q p)) (seat (entry new q p)) same bytes)
 
 -- pages that are no user pages show nothing
-pub each_view : (old new : Picture) → IsGranting old → ((q p : ℕ) → new.at q p ≡ old.at q p) → (q p : ℕ) → (IsPage 2 p → view new q p ≡ view old q p) → view new q p ≡ view old q p
-each_view old new granting at q p each = elim (cases_attr (old.at q p)) [
+pub each_view : {mode : ℕ} (old new : Picture mode) → IsGranting old → ((q p : ℕ) → new.at q p ≡ old.at q p) → (q p : ℕ) → (IsPage (top_level mode) p → view new q p ≡ view old q p) → view new q p ≡ view old q p
+each_view {mode = mode} old new granting at q p each = elim (cases_attr (old.at q p)) [
   | inl none ↦ view-none new q p (at q p ∙ none) ∙ sym (view-none old q p none)
-  | inr some ↦ each (let u = ((granting.user q).user_pages p some).1 in omega (arith, u))
+  | inr some ↦ each (let u = ((granting.user q).user_pages p some).1 in omega (arith, u, user_pages_fit mode))
 ]
 
 -- file pages lie where they lay, and their bytes are the same
-bytes_there : (old new : Picture) (x : Place) → new.slots ≡ old.slots → ((m : ℕ) → x ≡ Frame (record { 0 = m }) → bytes_of new.frames m ≡ bytes_of old.frames m)
+bytes_there : {mode : ℕ} (old new : Picture mode) (x : Place) → new.slots ≡ old.slots → ((m : ℕ) → x ≡ Frame (record { 0 = m }) → bytes_of new.frames m ≡ bytes_of old.frames m)
     → bytes_at new.frames new.slots x ≡ bytes_at old.frames old.slots x
 bytes_there old new Home slots same = refl
 bytes_there old new (Frame m) slots same = ap (λ (w : _). Some w) (same m.0 refl)
 bytes_there old new (Slot j) slots same = ap (λ t. Some (t.bytes j.0)) slots
 
-pub held_same : (old new : Picture) (p : PageKey) → new.place p ≡ old.place p → new.slots ≡ old.slots
+pub held_same : {mode : ℕ} (old new : Picture mode) (p : PageKey) → new.place p ≡ old.place p → new.slots ≡ old.slots
     → ((m : ℕ) → old.place p ≡ Frame (record { 0 = m }) → bytes_of new.frames m ≡ bytes_of old.frames m) → held new p ≡ held old p
 unfolding held
 held_same old new p place slots same = ap (λ x. bytes_at new.frames new.slots x) place ∙ bytes_there old new (old.place p) slots same
@@ -58,7 +60,7 @@ no_table : (r s : Role) → r ≡ s → s ≢ Table → r ≢ Table
 no_table r s e ne f = ne (sym e ∙ f)
 
 -- The entry of a page was set.
-module _ (old new : Picture) (pid page number m : ℕ) (sets : SetsPage old new pid page number) (h : IsPage 2 page)
+module _ {mode : ℕ} (old new : Picture mode) (pid page number m : ℕ) (sets : SetsPage old new pid page number) (h : IsPage (top_level mode) page)
     (for : IsEntryFor new (old.at pid page) number) (rooted : IsRootedBut new m)
     (dirty : (p : PageKey) → is_valid number ≡ true → is_private number ≡ false → is_dirty number ≡ true → old.place p ≡ Frame (record { 0 = frame_of number }) → old.touched p ≡ true) where
   granted : (x : Seat) (d : ℕ) → IsFitBut old x d m → IsGranting new
@@ -73,7 +75,7 @@ module _ (old new : Picture) (pid page number m : ℕ) (sets : SetsPage old new 
 
   -- it names the seat that it named, or none as before
   module _ (same : seat number ≡ seat (entry old pid page)) where
-    pub seats_set : (q p : ℕ) → IsPage 2 p → seat (entry new q p) ≡ seat (entry old q p)
+    pub seats_set : (q p : ℕ) → IsPage (top_level mode) p → seat (entry new q p) ≡ seat (entry old q p)
     seats_set q p h' = elim (by_page q p pid page) [
       | inl e ↦ (
           let P : ℕ → Type 0 = λ x. seat (entry new x p) ≡ seat (entry old x p) in
@@ -86,7 +88,7 @@ module _ (old new : Picture) (pid page number m : ℕ) (sets : SetsPage old new 
     fit_set x d fit = record {
       counted = (
         fit.counted.0,
-        counted_same (entry old) (entry new) (IsOwned old) (IsOwned new) (count_in old) (count_in new) (page_in old fit.counted.0) (page_in new fit.counted.0)
+        counted_same mode (entry old) (entry new) (IsOwned old) (IsOwned new) (count_in old) (count_in new) (page_in old fit.counted.0) (page_in new fit.counted.0)
             seats_set x d fit.counted.1 (owned_forth old new sets.beside sets.shares) (owned_back old new sets.beside sets.shares) (count_kept old new sets.beside sets.shares)
             (λ z is. page_kept old new fit.counted.0 sets.beside z),
       );
@@ -102,7 +104,7 @@ module _ (old new : Picture) (pid page number m : ℕ) (sets : SetsPage old new 
   fit_filled y fit has noted below from to = record {
     counted = (
       fit.counted.0,
-      counted_filled (entry old) (entry new) (IsOwned old) (IsOwned new) (count_in old) (count_in new) (page_in old fit.counted.0) (page_in new fit.counted.0)
+      counted_filled mode (entry old) (entry new) (IsOwned old) (IsOwned new) (count_in old) (count_in new) (page_in old fit.counted.0) (page_in new fit.counted.0)
           y pid page fit.counted.1 (owned_forth old new sets.beside sets.shares) (owned_back old new sets.beside sets.shares) (count_kept old new sets.beside sets.shares)
           (λ z is. page_kept old new fit.counted.0 sets.beside z) has (noted fit.counted.0) h below from (ap seat sets.changed ∙ to) sets.others nowhere (off-none nowhere),
     );
@@ -113,7 +115,7 @@ module _ (old new : Picture) (pid page number m : ℕ) (sets : SetsPage old new 
   }
 
 -- what is seen where an entry was set
-module _ (old new : Picture) (pid page number m : ℕ) (x : Seat) (d : ℕ) (fit : IsFitBut old x d m) (sets : SetsPage old new pid page number) where
+module _ {mode : ℕ} (old new : Picture mode) (pid page number m : ℕ) (x : Seat) (d : ℕ) (fit : IsFitBut old x d m) (sets : SetsPage old new pid page number) where
   seat_bytes : (z : Seat) → IsOwned old z → bytes_in new.frames new.slots z ≡ bytes_in old.frames old.slots z
   seat_bytes (InFrame n) is = sets.bytes n (no_table (role_of old.frames n) Private is (λ e. (cc)))
   seat_bytes (InSlot k) is = ap (λ t. t.bytes k) sets.beside.slots
@@ -122,7 +124,7 @@ module _ (old new : Picture) (pid page number m : ℕ) (x : Seat) (d : ℕ) (fit
   other_views q p other = each_view old new fit.granting sets.beside.at q p (λ h. view_seated old new q p (sets.beside.at q p) (ap seat (sets.others q p h other))
       (λ z is. seat_bytes z (fit.counted.1.named q p z h is)))
 
-  pub set_views : IsPage 2 page → seat number ≡ seat (entry old pid page) → (q p : ℕ) → view new q p ≡ view old q p
+  pub set_views : IsPage (top_level mode) page → seat number ≡ seat (entry old pid page) → (q p : ℕ) → view new q p ≡ view old q p
   set_views h same q p = elim (by_page q p pid page) [
     | inl e ↦ (
         let P : ℕ → Type 0 = λ a. view new a p ≡ view old a p in
@@ -142,10 +144,10 @@ shares_written old new n w is =
     let P : FrameTable → Type 0 = λ t. KeepsShares old t in
     subst P (sym is) (record { private = λ m e. e; was_private = λ m e. e; cache = λ m e. e; was_cache = λ m e. e; counts = λ m e. refl })
 
-module _ (old new : Picture) (x : Seat) (d m n : ℕ) (w : List ℕ) (fit : IsFitBut old x d m) (frames : new.frames ≡ with_bytes old.frames n w) (beside : SameBeside old new)
+module _ {mode : ℕ} (old new : Picture mode) (x : Seat) (d m n : ℕ) (w : List ℕ) (fit : IsFitBut old x d m) (frames : new.frames ≡ with_bytes old.frames n w) (beside : SameBeside old new)
     (datum : role_of old.frames n ≢ Table) where
-  pub trees_written : KeepsTrees old.frames new.frames 2
-  trees_written = let P : FrameTable → Type 0 = λ t. KeepsTrees old.frames t 2 in subst P (sym frames) (data_written old.frames 2 n w fit.rooted.forest datum)
+  pub trees_written : KeepsTrees old.frames new.frames (top_level mode)
+  trees_written = let P : FrameTable → Type 0 = λ t. KeepsTrees old.frames t (top_level mode) in subst P (sym frames) (data_written old.frames (top_level mode) n w fit.rooted.forest datum)
 
   pub entries_written : (q p : ℕ) → entry new q p ≡ entry old q p
   entries_written = entries_kept old new m fit.rooted trees_written.entries beside.root

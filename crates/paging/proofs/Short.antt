@@ -48,7 +48,7 @@ kept_number (Some k) = k.0
 abbrev is_bound : FrameTable → Option FrameNo → ℕ → Bool
 is_bound t keep n = is_table (role_of t n) || ((n == 0) || (n == kept_number keep))
 
-module _ (c : Picture) (keep : Option FrameNo) (sound : IsSound c.frames) (refuses : Refuses c keep NoFrames) where
+module _ {mode : ℕ} (c : Picture mode) (keep : Option FrameNo) (sound : IsSound c.frames) (refuses : Refuses c keep NoFrames) where
   or_right : (a b : Bool) → b ≡ true → (a || b) ≡ true
   or_right false b t = t
   or_right true b t = refl

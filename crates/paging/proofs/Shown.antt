@@ -1,5 +1,5 @@
 -- A state that memory shows is shown after frames were given up.
-use Rattle.std.proofs.Common.{◌≡◌, inl, inr, true, false, Some, None, is_some, refl, sym, ap, ◌∙◌}
+use Rattle.std.proofs.Common.{ℕ, ◌≡◌, inl, inr, true, false, Some, None, is_some, refl, sym, ap, ◌∙◌}
 use Rattle.std.proofs.lemmas.Bool.{cases_Bool, false≢true}
 use Rattle.vm_types.specs.declared.object.ObjectPage.{ObjectPage}
 use Rattle.vm_types.specs.declared.object.PageKey.TheVariants.{File, Object}
@@ -8,7 +8,7 @@ use Rattle.paging.specs.Picture.{Picture}
 use Rattle.paging.specs.Calls.{KeepsPages}
 use Rattle.paging.specs.Shows.{ShowsPages, KeepsFiles, object_bytes}
 
-pub object-kept : (old new : Picture) (p : ObjectPage) → KeepsFiles old new → object_bytes new p ≡ object_bytes old p
+pub object-kept : {mode : ℕ} (old new : Picture mode) (p : ObjectPage) → KeepsFiles old new → object_bytes new p ≡ object_bytes old p
 object-kept old new p keeps = elim (cases_Bool (old.touched (Object p))) [
   | inl t ↦ rw (keeps.touched (Object p), t) (elim (keeps.held (Object p)) [
     | inl same ↦ same
@@ -17,7 +17,7 @@ object-kept old new p keeps = elim (cases_Bool (old.touched (Object p))) [
   | inr f ↦ rw (keeps.touched (Object p), f) refl
 ]
 
-pub shows_kept : (old new : Picture) (s : State) → KeepsPages old new → ShowsPages old s → ShowsPages new s
+pub shows_kept : {mode : ℕ} (old new : Picture mode) (s : State) → KeepsPages old new → ShowsPages old s → ShowsPages new s
 shows_kept old new s keeps shows = record {
   live = λ pid. shows.live pid ∙ ap (λ r. is_some r) (sym (keeps.root pid));
   views = λ pid page. shows.views pid page ∙ sym (keeps.views pid page);
@@ -27,6 +27,7 @@ shows_kept old new s keeps shows = record {
     | inl same ↦ shows.held p bytes (sym same ∙ here)
     | inr home ↦ (let bad : None ≡ Some bytes = sym home.0 ∙ here in (cc))
   ];
+  same_mode = shows.same_mode;
   clean = λ p untouched inside. shows.clean p (sym (keeps.files.touched (File p)) ∙ untouched) (inside.0, sym (keeps.files.files p.file) ∙ inside.1, inside.2);
   objects = λ p. shows.objects p ∙ sym (object-kept old new p keeps.files);
   blank = λ p bytes untouched here. elim (keeps.files.held (Object p)) [
@@ -35,7 +36,7 @@ shows_kept old new s keeps shows = record {
   ];
 }
 
-pub keeps_then : (a b c : Picture) → KeepsPages a b → KeepsPages b c → KeepsPages a c
+pub keeps_then : {mode : ℕ} (a b c : Picture mode) → KeepsPages a b → KeepsPages b c → KeepsPages a c
 keeps_then a b c p q = record {
   root = λ pid. q.root pid ∙ p.root pid;
   at = λ pid page. q.at pid page ∙ p.at pid page;

@@ -16,7 +16,7 @@ use Rattle.paging.proofs.Rooted.{rooted_frames}
 use Rattle.paging.proofs.Puts.{SameButSlots}
 use Rattle.paging.proofs.Evicted.{seat_number}
 
-module _ (old new : Picture) (k m : ℕ) (fit : IsFitBut old (InSlot k) 1 m) (has : IsOwned old (InSlot k)) (same : SameButSlots old new) (releases : Releases old.slots new.slots k) where
+module _ {mode : ℕ} (old new : Picture mode) (k m : ℕ) (fit : IsFitBut old (InSlot k) 1 m) (has : IsOwned old (InSlot k)) (same : SameButSlots old new) (releases : Releases old.slots new.slots k) where
   no_file : (p : PageKey) (j : ℕ) → j ≡ k → old.place p ≡ Slot (record { 0 = j }) → ⊥
   no_file p j is e = has.1 p (e ∙ ap (λ i. Slot (record { 0 = i })) is)
 
@@ -61,7 +61,7 @@ module _ (old new : Picture) (k m : ℕ) (fit : IsFitBut old (InSlot k) 1 m) (ha
   fit_slot_released = record {
     counted = (
       fit.counted.0,
-      counted_released (entry old) (entry new) (IsOwned old) (IsOwned new) (count_in old) (count_in new)
+      counted_released mode (entry old) (entry new) (IsOwned old) (IsOwned new) (count_in old) (count_in new)
           (page_in old fit.counted.0) (page_in new fit.counted.0) (λ q p h. ap seat (same.entries q p)) (InSlot k) nowhere fit.counted.1 has forth back counts pages releases.lowered
           (λ q p z h is. seat_number old m q p z fit.rooted is),
     );

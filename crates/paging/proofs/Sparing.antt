@@ -1,4 +1,5 @@
 -- Steps of an eviction, one after another.
+use Rattle.vm_types.specs.Limits.{top_level}
 use Rattle.std.proofs.Common.{◌≡◌, ◌≢◌, ℕ, ◌<◌, inl, inr, ◌⊎◌, true, Option, Some, get_or, length, refl, sym, ap, ◌∙◌, subst, arith}
 use Rattle.std.proofs.lemmas.Bool.{cases_eq, false≢true}
 use Rattle.vm_types.specs.declared.object.PageKey.{PageKey}
@@ -32,12 +33,13 @@ use Rattle.paging.proofs.Shown.{keeps_then}
 no_data : (r : Role) → r ≡ Free → is_data r ≡ true → ⊥
 no_data r free datum = false≢true (sym (ap is_data free) ∙ datum)
 
-stays_free : (v : ℕ) (a b : Picture) → (role_of b.frames v ≡ role_of a.frames v) ⊎ ((role_of b.frames v ≡ Free) × (is_data (role_of a.frames v) ≡ true)) → is_data (role_of b.frames v) ≡ true → role_of b.frames v ≡ role_of a.frames v
+stays_free : {mode : ℕ} (v : ℕ) (a b : Picture mode) → (role_of b.frames v ≡ role_of a.frames v) ⊎ ((role_of b.frames v ≡ Free) × (is_data (role_of a.frames v) ≡ true)) → is_data (role_of b.frames v) ≡ true → role_of b.frames v ≡ role_of a.frames v
 stays_free v a b (inl same) datum = same
 stays_free v a b (inr gone) datum = absurd (no_data (role_of b.frames v) gone.0 datum)
 
-pub missing_ends : (old new : Picture) (r page : ℕ) → last_table new.frames page 2 r ≡ last_table old.frames page 2 r → missing_of new.frames 2 r page ≡ missing_of old.frames 2 r page
-missing_ends old new r page e = missing_of-is new.frames 2 r page ∙ ap (λ l. l.0) e ∙ sym (missing_of-is old.frames 2 r page)
+module _ {mode : ℕ} where
+  pub missing_ends : (old new : Picture mode) (r page : ℕ) → last_table new.frames page (top_level mode) r ≡ last_table old.frames page (top_level mode) r → missing_of new.frames (top_level mode) r page ≡ missing_of old.frames (top_level mode) r page
+  missing_ends old new r page e = missing_of-is new.frames (top_level mode) r page ∙ ap (λ l. l.0) e ∙ sym (missing_of-is old.frames (top_level mode) r page)
 
 cases_place : (p : Place) (v : ℕ) → (p ≡ Frame (record { 0 = v })) ⊎ (p ≢ Frame (record { 0 = v }))
 cases_place Home v = inr (λ e. (cc))
@@ -58,7 +60,7 @@ staying v keep above other e (inr (inr (inl zero_page))) = inr (inr (λ is. abov
 staying v keep above other e (inr (inr (inr kept))) = inr (inr (not_kept v keep other (frame_of e) kept))
 
 -- the frame isn't kept: what was to stay does
-pub frees_of : (v k : ℕ) (old new : Picture) (keep : Option FrameNo) → Spares v k old new → v ≢ 0
+pub frees_of : {mode : ℕ} (v k : ℕ) (old new : Picture mode) (keep : Option FrameNo) → Spares v k old new → v ≢ 0
     → ((j : ℕ) → IsInUse old.slots j → (new.slots.bytes j ≡ old.slots.bytes j) × (new.slots.count j ≡ old.slots.count j)) → (IsToKeep keep v → ⊥) → Frees old new keep
 frees_of v k old new keep s above slots other = record {
   pages = s.pages;
@@ -81,13 +83,13 @@ frees_of v k old new keep s above slots other = record {
 }
 
 -- changed entries show nothing
-module _ (change : Change) (n : ℕ) (old new : Picture) (fit : IsFit old) (ch : ChangesLeaves change n old new) where
+module _ {mode : ℕ} (change : Change) (n : ℕ) (old new : Picture mode) (fit : IsFit old) (ch : ChangesLeaves change n old new) where
   not_over : (pid page : ℕ) → IsOver old change n pid page → (entry old pid page ≡ 0) ⊎ ((is_swapped (entry old pid page) ≡ true) ⊎ (frame_of (entry old pid page) ≢ n)) → ⊥
   not_over pid page over (inl none) = (some_framed change (entry old pid page) over.concerned).0 none
   not_over pid page over (inr (inl away)) = false≢true (sym (some_framed change (entry old pid page) over.concerned).1 ∙ away)
   not_over pid page over (inr (inr other)) = other over.frame
 
-  entries_unchanged : (pid page : ℕ) → IsPage 2 page → (entry old pid page ≡ 0) ⊎ ((is_swapped (entry old pid page) ≡ true) ⊎ (frame_of (entry old pid page) ≢ n))
+  entries_unchanged : (pid page : ℕ) → IsPage (top_level mode) page → (entry old pid page ≡ 0) ⊎ ((is_swapped (entry old pid page) ≡ true) ⊎ (frame_of (entry old pid page) ≢ n))
       → entry new pid page ≡ entry old pid page
   entries_unchanged pid page h stays = elim (ch.entries pid page h) [
     | inl same ↦ same
@@ -107,7 +109,7 @@ module _ (change : Change) (n : ℕ) (old new : Picture) (fit : IsFit old) (ch :
   pages_unchanged = record { root = ch.beside.root; at = ch.beside.at; views = ch.views; files = record { held = λ p. inl (held_same p); touched = ch.beside.touched; files = ch.beside.files } }
 
 -- entries over a file page's frame were forgotten
-pub forgotten_spares : (n k : ℕ) (old new : Picture) → IsFit old → role_of old.frames n ≡ Cache → ChangesLeaves Forget n old new → Spares n k old new
+pub forgotten_spares : {mode : ℕ} (n k : ℕ) (old new : Picture mode) → IsFit old → role_of old.frames n ≡ Cache → ChangesLeaves Forget n old new → Spares n k old new
 forgotten_spares n k old new fit cache ch = record {
   pages = pages_unchanged Forget n old new fit ch;
   count = ch.frames;
@@ -127,7 +129,7 @@ forgotten_spares n k old new fit cache ch = record {
   place = λ p ne. ch.beside.place p;
 }
 
-pub spares_then : (v k : ℕ) (a b c : Picture) → Spares v k a b → Spares v k b c → Spares v k a c
+pub spares_then : {mode : ℕ} (v k : ℕ) (a b c : Picture mode) → Spares v k a b → Spares v k b c → Spares v k a c
 spares_then v k a b c f g = record {
   pages = keeps_then a b c f.pages g.pages;
   count = g.count ∙ f.count;
@@ -157,7 +159,7 @@ spares_then v k a b c f g = record {
   place = λ p ne. (let first = f.place p ne in g.place p (λ e. ne (sym first ∙ e)) ∙ first);
 }
 
-pub spares_none : (v k : ℕ) (c : Picture) → Spares v k c c
+pub spares_none : {mode : ℕ} (v k : ℕ) (c : Picture mode) → Spares v k c c
 spares_none v k c = record {
   pages = record { root = λ p. refl; at = λ p j. refl; views = λ p j. refl; files = record { held = λ p. inl refl; touched = λ p. refl; files = λ f. refl } };
   count = refl;
@@ -175,7 +177,7 @@ spares_none v k c = record {
 }
 
 -- frames given up, and then others
-pub frees_none : (c : Picture) (keep : Option FrameNo) → Frees c c keep
+pub frees_none : {mode : ℕ} (c : Picture mode) (keep : Option FrameNo) → Frees c c keep
 frees_none c keep = record {
   pages = record { root = λ p. refl; at = λ p k. refl; views = λ p k. refl; files = record { held = λ p. inl refl; touched = λ p. refl; files = λ f. refl } };
   count = refl;
@@ -193,7 +195,7 @@ frees_none c keep = record {
   kept_bytes = λ n kept datum. refl;
 }
 
-pub frees_then : (a b c : Picture) (keep : Option FrameNo) → Frees a b keep → Frees b c keep → Frees a c keep
+pub frees_then : {mode : ℕ} (a b c : Picture mode) (keep : Option FrameNo) → Frees a b keep → Frees b c keep → Frees a c keep
 frees_then a b c keep f g = record {
   pages = keeps_then a b c f.pages g.pages;
   count = g.count ∙ f.count;
@@ -224,11 +226,11 @@ frees_then a b c keep f g = record {
   kept_bytes = λ n kept datum. g.kept_bytes n kept (λ t. datum (sym (f.kept_role n kept) ∙ t)) ∙ f.kept_bytes n kept datum;
 }
 
-pub gives_frees : (v : ℕ) (old new : Picture) (keep : Option FrameNo) → GivesUp v old new → v ≢ 0 → (IsToKeep keep v → ⊥) → Frees old new keep
+pub gives_frees : {mode : ℕ} (v : ℕ) (old new : Picture mode) (keep : Option FrameNo) → GivesUp v old new → v ≢ 0 → (IsToKeep keep v → ⊥) → Frees old new keep
 gives_frees v old new keep gives above other =
     frees_of v gives.0 old new keep gives.2 above (λ j used. gives.2.slots j (λ e. (let P : ℕ → Type 0 = λ i. IsInUse old.slots i in gives.1 (subst P e used))) used) other
 
-pub changes_frees : (change : Change) (n : ℕ) (old new : Picture) (keep : Option FrameNo) → IsFit old → ChangesLeaves change n old new → n ≢ 0 → (IsToKeep keep n → ⊥) → Frees old new keep
+pub changes_frees : {mode : ℕ} (change : Change) (n : ℕ) (old new : Picture mode) (keep : Option FrameNo) → IsFit old → ChangesLeaves change n old new → n ≢ 0 → (IsToKeep keep n → ⊥) → Frees old new keep
 changes_frees change n old new keep fit ch above other = record {
   pages = pages_unchanged change n old new fit ch;
   count = ch.frames;

@@ -1,4 +1,5 @@
 -- Why no frame was to be had, told by what processes see and files are touched.
+use Rattle.vm_types.specs.Limits.{user_end}
 use Rattle.std.proofs.Common.{◌≡◌, ◌≢◌, ℕ, inl, inr, ◌*◌, ◌^◌, ◌<◌, ◌≤◌, true, Option, Some, None, is_some, length, List, refl, sym, ap, ◌∙◌, subst, arith}
 use Rattle.std.specs.Prelude.{option_map, IfSome, ◌==◌}
 use Rattle.std.proofs.lemmas.Bool.{cases_lt, and_parts, eqb-true, false≢true}
@@ -73,7 +74,7 @@ page_where (Some a) object page is fits = page_backing a.backing is fits where
   page_backing (SharedOf p) is fits = absurd (false≢true is)
   page_backing (CommonOf p) is fits = let same : p.page ≡ page = eqb-true p.page page (and_parts (p.object == object) (p.page == page) is).1 in omega (arith, same, fits)
 
-module _ (c : Picture) (fit : IsFit c) (sound : IsSound c.frames) (few : (f k : ℕ) → IsPageOf c.files f k → (f < 64) × (k < 2 ^ 20)) where
+module _ {mode : ℕ} (c : Picture mode) (fit : IsFit c) (sound : IsSound c.frames) (few : (f k : ℕ) → IsPageOf c.files f k → (f < 64) × (k < 2 ^ 20)) where
   mapped : (pid page : ℕ) → is_some (view c pid page) ≡ true → is_some (c.at pid page) ≡ true
   unfolding view
   mapped pid page some = some_at (own_in c.frames c.slots (entry c pid page)) (c.at pid page) some
@@ -82,10 +83,10 @@ module _ (c : Picture) (fit : IsFit c) (sound : IsSound c.frames) (few : (f k : 
   unfolding view
   seen pid page some = some_view (own_in c.frames c.slots (entry c pid page)) (c.at pid page) some
 
-  user : (pid page : ℕ) → is_some (c.at pid page) ≡ true → page < 2 ^ 26
+  user : (pid page : ℕ) → is_some (c.at pid page) ≡ true → page < user_end mode
   user pid page some = ((fit.granting.user pid).user_pages page some).1
 
-  own_user : (pid page : ℕ) → has_own (view c pid page) ≡ true → page < 2 ^ 26
+  own_user : (pid page : ℕ) → has_own (view c pid page) ≡ true → page < user_end mode
   unfolding view
   own_user pid page own = user pid page (own_at (own_in c.frames c.slots (entry c pid page)) (c.at pid page) own)
 
@@ -102,7 +103,7 @@ module _ (c : Picture) (fit : IsFit c) (sound : IsSound c.frames) (few : (f k : 
   number : (pid r : ℕ) → c.root pid ≡ Some r → pid < 65
   number pid r e = let n = fit.rooted.numbers pid r e in omega (arith, n)
 
-  counted : table_frames c.frames ≤ tables_over (is_live c) (view c)
+  counted : table_frames c.frames ≤ tables_over mode (is_live c) (view c)
   counted = tables_counted c (is_live c) (view c) number (λ pid r e. ap (λ o. is_some o) e) (λ pid page some. user pid page (mapped pid page some)) used
 
   seated : (pid page : ℕ) (z : Seat) (e : ℕ) → seat e ≡ Some z → entry c pid page ≡ e → IsEntryFor c (c.at pid page) e → has_own (view c pid page) ≡ true

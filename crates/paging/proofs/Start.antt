@@ -23,9 +23,10 @@ pub seat-none : seat 0 ≡ None
 unfolding has_bit
 seat-none = refl
 
-pub entry-dead : (c : Picture) (pid page : ℕ) → c.root pid ≡ None → entry c pid page ≡ 0
-unfolding entry
-entry-dead c pid page dead = ap (λ r. entry_in c.frames r page) dead
+module _ {mode : ℕ} where
+  pub entry-dead : (c : Picture mode) (pid page : ℕ) → c.root pid ≡ None → entry c pid page ≡ 0
+  unfolding entry
+  entry-dead c pid page dead = ap (λ r. entry_in mode c.frames r page) dead
 
 -- the roles of memory of which no frame was handed out
 fresh_role : (t : FrameTable) (count n : ℕ) → IsSound t → IsFresh t count → (role_of t n ≡ Free) ⊎ (role_of t n ≡ Zero)
@@ -37,7 +38,7 @@ fresh_role t count n sound fresh = elim (cases_eq n 0) [
   ]
 ]
 
-module _ (c : Picture) (count : ℕ) (sound : IsSound c.frames) (fresh : IsFresh c.frames count) (dead : (pid : ℕ) → c.root pid ≡ None)
+module _ {mode : ℕ} (c : Picture mode) (count : ℕ) (sound : IsSound c.frames) (fresh : IsFresh c.frames count) (dead : (pid : ℕ) → c.root pid ≡ None)
     (unmapped : (pid page : ℕ) → c.at pid page ≡ None) (home : (p : PageKey) → c.place p ≡ Home) (untouched : (p : PageKey) → c.touched p ≡ false)
     (free : (k : ℕ) → c.slots.count k ≡ 0) where
   no_private : (n : ℕ) → role_of c.frames n ≢ Private

@@ -1,4 +1,5 @@
 -- Steps that change tables alone.
+use Rattle.vm_types.specs.Limits.{top_level}
 use Rattle.std.proofs.Common.{◌≡◌, ℕ, inl, inr, Some, Option, get_or, sym, ap, ◌∙◌, subst}
 use Rattle.std.specs.Prelude.{IsSome}
 use Rattle.vm_types.specs.declared.region.Attr.{Attr}
@@ -24,8 +25,8 @@ shares_kept old new kept =
       counts = λ n e. ap (λ cs. get_or cs n 0) kept.counts;
     }
 
-pub sets_page : (old new : Picture) (m pid r page number : ℕ) → IsRootedBut old m → old.root pid ≡ Some r → IsPage 2 page
-    → SetsEntry old.frames new.frames 2 r page number → SameBeside old new → SetsPage old new pid page number
+pub sets_page : {mode : ℕ} (old new : Picture mode) (m pid r page number : ℕ) → IsRootedBut old m → old.root pid ≡ Some r → IsPage (top_level mode) page
+    → SetsEntry old.frames new.frames (top_level mode) r page number → SameBeside old new → SetsPage old new pid page number
 sets_page old new m pid r page number rooted root h sets beside = record {
   changed = entry-of new pid r page (beside.root pid ∙ root) ∙ sets.changed;
   others = λ q p h' other. entry-same old new q p (beside.root q) (λ x e. sets.entries x p (rooted.roots q x e) h' (elim other [
@@ -38,7 +39,7 @@ sets_page old new m pid r page number rooted root h sets beside = record {
 }
 
 -- an entry set
-pub rooted_set : (old new : Picture) (n root page number : ℕ) → IsRootedBut old n → SetsEntry old.frames new.frames 2 root page number
+pub rooted_set : {mode : ℕ} (old new : Picture mode) (n root page number : ℕ) → IsRootedBut old n → SetsEntry old.frames new.frames (top_level mode) root page number
     → SameBeside old new → IsRootedBut new n
 rooted_set old new n root page number rooted sets beside =
     let was : (pid r : ℕ) → new.root pid ≡ Some r → old.root pid ≡ Some r = λ pid r e. sym (beside.root pid) ∙ e in

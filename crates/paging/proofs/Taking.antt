@@ -1,4 +1,5 @@
 -- A frame taken for a process's own, and a frame given back that no entry names.
+use Rattle.vm_types.specs.Limits.{top_level}
 use Rattle.std.proofs.Common.{◌≡◌, ◌≢◌, ℕ, inl, inr, ◌<◌, refl, sym, ap, ◌∙◌, subst}
 use Rattle.std.proofs.lemmas.Bool.{cases_eq}
 use Rattle.vm_types.specs.declared.object.PageKey.{PageKey}
@@ -23,7 +24,7 @@ seat_frame : Seat → ℕ
 seat_frame (InFrame n) = n
 seat_frame (InSlot k) = 0
 
-pub changes_taken : (old new : Picture) (n page : ℕ) → TakesOwn old new n page → ChangesFrame old new n
+pub changes_taken : {mode : ℕ} (old new : Picture mode) (n page : ℕ) → TakesOwn old new n page → ChangesFrame old new n
 changes_taken old new n page own = record {
   slots = own.slots;
   frames = own.takes.others;
@@ -36,7 +37,7 @@ changes_taken old new n page own = record {
   files = own.files;
 }
 
-module _ (old new : Picture) (n : ℕ) (fit : IsFit old) (changes : ChangesFrame old new n) (datum : role_of new.frames n ≢ Table) where
+module _ {mode : ℕ} (old new : Picture mode) (n : ℕ) (fit : IsFit old) (changes : ChangesFrame old new n) (datum : role_of new.frames n ≢ Table) where
   used_ne : (m : ℕ) → role_of old.frames m ≢ Free → m ≢ n
   used_ne m used e = used (ap (role_of old.frames) e ∙ changes.was_free)
 
@@ -46,8 +47,8 @@ module _ (old new : Picture) (n : ℕ) (fit : IsFit old) (changes : ChangesFrame
   pub cache_ne : (m : ℕ) → role_of old.frames m ≡ Cache → m ≢ n
   cache_ne m cache = used_ne m (λ free. (let bad : Cache ≡ Free = sym cache ∙ free in (cc)))
 
-  pub trees_changed : KeepsTrees old.frames new.frames 2
-  trees_changed = data_changed old.frames new.frames 2 n fit.rooted.forest changes.frames (λ t. (let bad : Free ≡ Table = sym changes.was_free ∙ t in (cc))) datum
+  pub trees_changed : KeepsTrees old.frames new.frames (top_level mode)
+  trees_changed = data_changed old.frames new.frames (top_level mode) n fit.rooted.forest changes.frames (λ t. (let bad : Free ≡ Table = sym changes.was_free ∙ t in (cc))) datum
 
   pub entries_changed : (q p : ℕ) → entry new q p ≡ entry old q p
   entries_changed = entries_kept old new 0 fit.rooted trees_changed.entries changes.root
@@ -94,11 +95,11 @@ module _ (old new : Picture) (n : ℕ) (fit : IsFit old) (changes : ChangesFrame
   ]
 
   -- it is private, and no entry names it yet
-  pub fit_own : (page : ℕ) → role_of new.frames n ≡ Private → count_of new.frames n ≡ 1 → new.page_of n ≡ page → IsPage 2 page → IsFitBut new (InFrame n) 1 0
+  pub fit_own : (page : ℕ) → role_of new.frames n ≡ Private → count_of new.frames n ≡ 1 → new.page_of n ≡ page → IsPage (top_level mode) page → IsFitBut new (InFrame n) 1 0
   fit_own page role one noted h = record {
     counted = (
       fit.counted.0,
-      counted_fresh (entry old) (entry new) (IsOwned old) (IsOwned new) (count_in old) (count_in new) (page_in old fit.counted.0) (page_in new fit.counted.0)
+      counted_fresh mode (entry old) (entry new) (IsOwned old) (IsOwned new) (count_in old) (count_in new) (page_in old fit.counted.0) (page_in new fit.counted.0)
           (λ q p h'. ap seat (entries_changed q p)) (InFrame n) nowhere page fit.counted.1
           (λ is. private_ne n is refl) (λ z ne is. forth z is) back counts pages one noted h,
     );
@@ -117,7 +118,7 @@ module _ (old new : Picture) (n : ℕ) (fit : IsFit old) (changes : ChangesFrame
       record {
         counted = (
           fit.counted.0,
-          counted_same (entry old) (entry new) (IsOwned old) (IsOwned new) (count_in old) (count_in new) (page_in old fit.counted.0) (page_in new fit.counted.0)
+          counted_same mode (entry old) (entry new) (IsOwned old) (IsOwned new) (count_in old) (count_in new) (page_in old fit.counted.0) (page_in new fit.counted.0)
               (λ q p h. ap seat (entries_changed q p)) nowhere 0 fit.counted.1 forth (λ z is. back z (not_owned z is) is)
               (λ z is. counts z (owned_ne z is) is) (λ z is. pages z (owned_ne z is) is),
         );

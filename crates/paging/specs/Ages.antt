@@ -23,36 +23,42 @@ pub data Ages (given : ℕ → Type 0) (e e' : ℕ) : Type 0 where
 
 -- One frame may have been given up, or was tried: it held a page. No other frame came to another use, no other entry lost its
 -- frame, and every pointer to a table stands.
-pub record GivesFrame (old new : Picture) (v : ℕ) : Type 0 where
-  pub roles : (n : ℕ) → n ≢ v → role_of new.frames n ≡ role_of old.frames n
-  pub entries : (pid page : ℕ) → IsPage top_level page
-      → Ages (λ n. (n ≡ v) × (is_data (role_of old.frames n) ≡ true)) (entry old pid page) (entry new pid page)
-  pub pointers : (n i m : ℕ) → Points old.frames n i m → Points new.frames n i m
+module _ {mode : ℕ} where
+  pub record GivesFrame (old new : Picture mode) (v : ℕ) : Type 0 where
+    pub roles : (n : ℕ) → n ≢ v → role_of new.frames n ≡ role_of old.frames n
+    pub entries : (pid page : ℕ) → IsPage (top_level mode) page
+        → Ages (λ n. (n ≡ v) × (is_data (role_of old.frames n) ≡ true)) (entry old pid page) (entry new pid page)
+    pub pointers : (n i m : ℕ) → Points old.frames n i m → Points new.frames n i m
 
 -- a frame held a page, and holds none now, or is the one that was tried last
-abbrev pub IsGiven : Picture → Picture → Option ℕ → ℕ → Type 0
-IsGiven old new tried n = (is_data (role_of old.frames n) ≡ true) × ((is_data (role_of new.frames n) ≡ false) ⊎ (tried ≡ Some n))
+module _ {mode : ℕ} where
+  abbrev pub IsGiven : Picture mode → Picture mode → Option ℕ → ℕ → Type 0
+  IsGiven old new tried n = (is_data (role_of old.frames n) ≡ true) × ((is_data (role_of new.frames n) ≡ false) ⊎ (tried ≡ Some n))
 
 -- no frame was given up: each that held a page has its use, every entry is as it was, and every file page lies where it lay
-pub record GivesNone (old new : Picture) : Type 0 where
-  pub roles : (n : ℕ) → is_data (role_of old.frames n) ≡ true → role_of new.frames n ≡ role_of old.frames n
-  pub entries : (pid page : ℕ) → IsPage top_level page → entry new pid page ≡ entry old pid page
-  pub places : (p : PageKey) → new.place p ≡ old.place p
+module _ {mode : ℕ} where
+  pub record GivesNone (old new : Picture mode) : Type 0 where
+    pub roles : (n : ℕ) → is_data (role_of old.frames n) ≡ true → role_of new.frames n ≡ role_of old.frames n
+    pub entries : (pid page : ℕ) → IsPage (top_level mode) page → entry new pid page ≡ entry old pid page
+    pub places : (p : PageKey) → new.place p ≡ old.place p
 
 -- Frames became tables, and some of them were given up for that; of the others none has another use. Only entries over those
 -- that were given up lost their frames, every pointer to a table stands, and none was given up unless no frame is free now.
-pub record GivesForTables (old new : Picture) (tried : Option ℕ) : Type 0 where
-  pub count : frame_count new.frames ≡ frame_count old.frames
-  pub roles : (n : ℕ) → (role_of new.frames n ≡ role_of old.frames n)
-      ⊎ ((role_of new.frames n ≡ Table) × ((role_of old.frames n ≡ Free) ⊎ (is_data (role_of old.frames n) ≡ true)))
-  pub entries : (pid page : ℕ) → IsPage top_level page → Ages (IsGiven old new tried) (entry old pid page) (entry new pid page)
-  pub pointers : (n i m : ℕ) → Points old.frames n i m → Points new.frames n i m
-  pub needed : IsFull new.frames ⊎ GivesNone old new
+module _ {mode : ℕ} where
+  pub record GivesForTables (old new : Picture mode) (tried : Option ℕ) : Type 0 where
+    pub count : frame_count new.frames ≡ frame_count old.frames
+    pub roles : (n : ℕ) → (role_of new.frames n ≡ role_of old.frames n)
+        ⊎ ((role_of new.frames n ≡ Table) × ((role_of old.frames n ≡ Free) ⊎ (is_data (role_of old.frames n) ≡ true)))
+    pub entries : (pid page : ℕ) → IsPage (top_level mode) page → Ages (IsGiven old new tried) (entry old pid page) (entry new pid page)
+    pub pointers : (n i m : ℕ) → Points old.frames n i m → Points new.frames n i m
+    pub needed : IsFull new.frames ⊎ GivesNone old new
 
 -- every frame but one has the use that it had
-abbrev pub KeepsRolesBut : Picture → Picture → ℕ → Type 0
-KeepsRolesBut old new v = (n : ℕ) → n ≢ v → role_of new.frames n ≡ role_of old.frames n
+module _ {mode : ℕ} where
+  abbrev pub KeepsRolesBut : Picture mode → Picture mode → ℕ → Type 0
+  KeepsRolesBut old new v = (n : ℕ) → n ≢ v → role_of new.frames n ≡ role_of old.frames n
 
 -- every frame has the use that it had
-abbrev pub KeepsRoles : Picture → Picture → Type 0
-KeepsRoles old new = (n : ℕ) → role_of new.frames n ≡ role_of old.frames n
+module _ {mode : ℕ} where
+  abbrev pub KeepsRoles : Picture mode → Picture mode → Type 0
+  KeepsRoles old new = (n : ℕ) → role_of new.frames n ≡ role_of old.frames n

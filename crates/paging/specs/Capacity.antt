@@ -24,27 +24,32 @@ unfoldable pub table_frames : FrameTable → ℕ
 table_frames t = count_below (λ n. is_table (role_of t n)) (frame_count t)
 
 -- how many tables these processes may have
-unfoldable pub tables_over : (ℕ → Bool) → (ℕ → ℕ → Option View) → ℕ
-tables_over live views = sum_below (λ pid. if live pid then tables_of (views pid) else 0) 65
+module _ (mode : ℕ) where
+  unfoldable pub tables_over : (ℕ → Bool) → (ℕ → ℕ → Option View) → ℕ
+  tables_over live views = sum_below (λ pid. if live pid then tables_of mode (views pid) else 0) 65
 
 -- their own copies, the touched file pages, and the pages of objects that were stored to
-unfoldable pub copies_over : (ℕ → ℕ → Option View) → (ℕ → ℕ → Bool) → (ℕ → ℕ → Bool) → ℕ
-copies_over views touched stored =
-    sum_below (λ pid. count_below (λ page. has_own (views pid page)) user_end) 65
-    + sum_below (λ file. count_below (touched file) file_page_limit) file_limit
-    + sum_below (λ object. count_below (stored object) object_page_limit) object_limit
+module _ (mode : ℕ) where
+  unfoldable pub copies_over : (ℕ → ℕ → Option View) → (ℕ → ℕ → Bool) → (ℕ → ℕ → Bool) → ℕ
+  copies_over views touched stored =
+      sum_below (λ pid. count_below (λ page. has_own (views pid page)) (user_end mode)) 65
+      + sum_below (λ file. count_below (touched file) file_page_limit) file_limit
+      + sum_below (λ object. count_below (stored object) object_page_limit) object_limit
 
 -- whether a file page is touched
-abbrev pub touched_file : Picture → ℕ → ℕ → Bool
-touched_file c file page = c.touched (File (record { file = file; page = page }))
+module _ {mode : ℕ} where
+  abbrev pub touched_file : Picture mode → ℕ → ℕ → Bool
+  touched_file c file page = c.touched (File (record { file = file; page = page }))
 
 -- whether a page of an object was stored to
-abbrev pub stored_object : Picture → ℕ → ℕ → Bool
-stored_object c object page = c.touched (Object (record { object = object; page = page }))
+module _ {mode : ℕ} where
+  abbrev pub stored_object : Picture mode → ℕ → ℕ → Bool
+  stored_object c object page = c.touched (Object (record { object = object; page = page }))
 
 -- why no frame was to be had, by what processes see, which files are touched and which objects were stored to
-unfoldable pub IsShort : Picture → Stall → Type 0
-IsShort c NoFrames = frame_count c.frames ≤ tables_over (is_live c) (view c) + 2
-IsShort c NoSwap = c.slots.total < copies_over (view c) (touched_file c) (stored_object c)
-IsShort c SwapDevice = Unit {0}
-IsShort c StoreDevice = Unit {0}
+module _ {mode : ℕ} where
+  unfoldable pub IsShort : Picture mode → Stall → Type 0
+  IsShort c NoFrames = frame_count c.frames ≤ tables_over mode (is_live c) (view c) + 2
+  IsShort c NoSwap = c.slots.total < copies_over mode (view c) (touched_file c) (stored_object c)
+  IsShort c SwapDevice = Unit {0}
+  IsShort c StoreDevice = Unit {0}

@@ -1,4 +1,5 @@
 -- The entries over one frame, and what becomes of them.
+use Rattle.vm_types.specs.declared.mode.Levels as Levels
 use Rattle.std.specs.Prelude.{◌≡◌, ◌≢◌, ◌⊎◌, ℕ, ◌==◌, ◌+◌, ◌-◌, ◌<◌, ◌≤◌, Bool, true, false, not, ◌&&◌, Some}
 use Rattle.vm_types.specs.Limits.{top_level, user_start, user_end}
 use Rattle.vm_types.specs.declared.object.PageKey.{PageKey}
@@ -27,29 +28,34 @@ concerns ClearAccessed e = is_valid e && is_accessed e
 concerns ClearDirty e = is_valid e && is_dirty e
 
 -- the page has such an entry over frame n
-pub record IsOver (c : Picture) (change : Change) (n pid page : ℕ) : Type 0 where
-  pub concerned : concerns change (entry c pid page) ≡ true
-  pub frame : frame_of (entry c pid page) ≡ n
+module _ {mode : ℕ} where
+  pub record IsOver (c : Picture mode) (change : Change) (n pid page : ℕ) : Type 0 where
+    pub concerned : concerns change (entry c pid page) ≡ true
+    pub frame : frame_of (entry c pid page) ≡ n
 
 -- no process has one
-abbrev pub IsClear : Picture → Change → ℕ → Type 0
-IsClear c change n = (pid page : ℕ) → IsPage top_level page → IsOver c change n pid page → ⊥
+module _ {mode : ℕ} where
+  abbrev pub IsClear : Picture mode → Change → ℕ → Type 0
+  IsClear c change n = (pid page : ℕ) → IsPage (top_level mode) page → IsOver c change n pid page → ⊥
 
 -- some process has one
-abbrev pub HasEntryOver : Picture → Change → ℕ → Type 0
-HasEntryOver c change n = (pid : ℕ) × (page : ℕ) × IsPage top_level page × IsOver c change n pid page
+module _ {mode : ℕ} where
+  abbrev pub HasEntryOver : Picture mode → Change → ℕ → Type 0
+  HasEntryOver c change n = (pid : ℕ) × (page : ℕ) × IsPage (top_level mode) page × IsOver c change n pid page
 
 -- the first page of a process from a page on that has one
-pub record IsFirstOver (c : Picture) (change : Change) (n pid low k : ℕ) : Type 0 where
-  pub from : low ≤ k
-  pub user : k < user_end
-  pub over : IsOver c change n pid k
-  pub before : (j : ℕ) → low ≤ j → j < k → IsOver c change n pid j → ⊥
+module _ {mode : ℕ} where
+  pub record IsFirstOver (c : Picture mode) (change : Change) (n pid low k : ℕ) : Type 0 where
+    pub from : low ≤ k
+    pub user : k < user_end mode
+    pub over : IsOver c change n pid k
+    pub before : (j : ℕ) → low ≤ j → j < k → IsOver c change n pid j → ⊥
 
 -- what a frame holds
-abbrev pub Holds : Picture → ℕ → Held → Type 0
-Holds c n (Own page) = (role_of c.frames n ≡ Role.Private) × (c.page_of n ≡ page)
-Holds c n (Filed p) = c.place p ≡ Frame (record { 0 = n })
+module _ {mode : ℕ} where
+  abbrev pub Holds : Picture mode → ℕ → Held → Type 0
+  Holds c n (Own page) = (role_of c.frames n ≡ Role.Private) × (c.page_of n ≡ page)
+  Holds c n (Filed p) = c.place p ≡ Frame (record { 0 = n })
 
 -- a leaf lost a bit that grants nothing
 pub record Drops (old new : ℕ) : Type 0 where
@@ -67,21 +73,22 @@ IsChanged ClearAccessed e e' = Drops e e' × (is_dirty e' ≡ is_dirty e) × (is
 IsChanged ClearDirty e e' = Drops e e' × (is_accessed e' ≡ is_accessed e) × (is_dirty e' ≡ false) × (e' + 128 ≡ e)
 
 -- entries over frame n were changed so, and nothing else was
-pub record ChangesLeaves (change : Change) (n : ℕ) (old new : Picture) : Type 0 where
-  pub beside : SameBeside old new
-  pub frames : frame_count new.frames ≡ frame_count old.frames
-  pub bytes : (m : ℕ) → role_of old.frames m ≢ Role.Table → bytes_of new.frames m ≡ bytes_of old.frames m
-  pub roles : (m : ℕ) → role_of new.frames m ≡ role_of old.frames m
-  pub counts : (m : ℕ) → count_of new.frames m ≡ count_of old.frames m
-  pub views : (pid page : ℕ) → view new pid page ≡ view old pid page
-  pub ends : (pid r page : ℕ) → old.root pid ≡ Some r → last_table new.frames page top_level r ≡ last_table old.frames page top_level r
-  pub pointers : (n i m : ℕ) → Points old.frames n i m → Points new.frames n i m
-  pub entries : (pid page : ℕ) → IsPage top_level page
-      → (entry new pid page ≡ entry old pid page) ⊎ (IsOver old change n pid page × IsChanged change (entry old pid page) (entry new pid page))
+module _ {mode : ℕ} where
+  pub record ChangesLeaves (change : Change) (n : ℕ) (old new : Picture mode) : Type 0 where
+    pub beside : SameBeside old new
+    pub frames : frame_count new.frames ≡ frame_count old.frames
+    pub bytes : (m : ℕ) → role_of old.frames m ≢ Role.Table → bytes_of new.frames m ≡ bytes_of old.frames m
+    pub roles : (m : ℕ) → role_of new.frames m ≡ role_of old.frames m
+    pub counts : (m : ℕ) → count_of new.frames m ≡ count_of old.frames m
+    pub views : (pid page : ℕ) → view new pid page ≡ view old pid page
+    pub ends : (pid r page : ℕ) → old.root pid ≡ Some r → last_table new.frames page (top_level mode) r ≡ last_table old.frames page (top_level mode) r
+    pub pointers : (n i m : ℕ) → Points old.frames n i m → Points new.frames n i m
+    pub entries : (pid page : ℕ) → IsPage (top_level mode) page
+        → (entry new pid page ≡ entry old pid page) ⊎ (IsOver old change n pid page × IsChanged change (entry old pid page) (entry new pid page))
 
-module _ {D E : Type 0} where
+module _ {M : Type 0} {m : Levels.Ghosts M} {D E : Type 0} where
   -- all but frames is as it was
-  pub record KeepsAllButFrames (old new : Core D E) : Type 0 where
+  pub record KeepsAllButFrames (old new : Core D E M m) : Type 0 where
     pub store : new.store ≡ old.store
     pub swap : new.swap ≡ old.swap
     pub cache : new.cache ≡ old.cache
@@ -89,6 +96,8 @@ module _ {D E : Type 0} where
     pub regions : new.regions ≡ old.regions
     pub page_of : new.page_of ≡ old.page_of
     pub clock : new.clock ≡ old.clock
+    pub keep : new.keep ≡ old.keep
+    pub looks : new.looks ≡ old.looks
     pub refused : new.refused ≡ old.refused
 
 -- the page of a file or an object so many pages further on
@@ -103,8 +112,9 @@ pub record IsPageOver (run : Run) (p : PageKey) (k : ℕ) : Type 0 where
   pub is : stands_on (attr_after run.attr (k - run.first)).backing ≡ Some p
 
 -- a run of user pages of a process
-pub record IsRunOf (c : Picture) (pid : ℕ) (run : Run) : Type 0 where
-  pub low : user_start ≤ run.first
-  pub nonempty : run.first < run.end
-  pub high : run.end ≤ user_end
-  pub mapped : (k : ℕ) → run.first ≤ k → k < run.end → c.at pid k ≡ Some (attr_after run.attr (k - run.first))
+module _ {mode : ℕ} where
+  pub record IsRunOf (c : Picture mode) (pid : ℕ) (run : Run) : Type 0 where
+    pub low : user_start ≤ run.first
+    pub nonempty : run.first < run.end
+    pub high : run.end ≤ user_end mode
+    pub mapped : (k : ℕ) → run.first ≤ k → k < run.end → c.at pid k ≡ Some (attr_after run.attr (k - run.first))

@@ -1,4 +1,5 @@
 -- What memory holds, by functions: the frames, the processes by their numbers, and the pages of files and objects.
+use Rattle.vm_types.specs.declared.mode.Levels as Levels
 use Rattle.std.specs.Prelude.{◌≡◌, ◌<◌, ◌≢◌, ℕ, Bool, true, false, List, [], Option, Some, None, is_some, slice_index_or}
 use Rattle.std.specs.Option.{option_map}
 use Rattle.vm_types.specs.Limits.{top_level}
@@ -22,7 +23,7 @@ use Rattle.paging.specs.Seats.{Seat, InFrame, InSlot, seat}
 use Rattle.paging.specs.declared.kernel.Core.{Core}
 pub use Rattle.paging.specs.Seats.{is_private, is_swapped}
 
-pub record Picture : Type 0 where
+pub record Picture (mode : ℕ) : Type 0 where
   pub frames : FrameTable
   pub slots : SlotTable
   -- the root table of each process
@@ -47,8 +48,8 @@ attr_where (Some root) runs page = attr_at runs page
 abbrev pub root_in : List (Option FrameNo) → ℕ → Option ℕ
 root_in roots pid = option_map number_of_frame (slice_index_or roots pid None)
 
-module _ {D E : Type 0} where
-  abbrev pub picture_of : Core D E → Picture
+module _ {M : Type 0} {m : Levels.Ghosts M} {D E : Type 0} where
+  abbrev pub picture_of : Core D E M m → Picture m.mode
   picture_of c = record {
     frames = c.frames;
     slots = slots_of c.swap;
@@ -60,16 +61,19 @@ module _ {D E : Type 0} where
     files = files_of c.store;
   }
 
-abbrev pub is_live : Picture → ℕ → Bool
-is_live c pid = is_some (c.root pid)
+module _ {mode : ℕ} where
+  abbrev pub is_live : Picture mode → ℕ → Bool
+  is_live c pid = is_some (c.root pid)
 
-abbrev pub entry_in : FrameTable → Option ℕ → ℕ → ℕ
-entry_in t None page = 0
-entry_in t (Some root) page = page_entry t top_level root page
+module _ (mode : ℕ) where
+  abbrev pub entry_in : FrameTable → Option ℕ → ℕ → ℕ
+  entry_in t None page = 0
+  entry_in t (Some root) page = page_entry t (top_level mode) root page
 
 -- the number that stands for a page of a process, 0 where a table is missing or the process doesn't live
-unfoldable pub entry : Picture → ℕ → ℕ → ℕ
-entry c pid page = entry_in c.frames (c.root pid) page
+module _ {mode : ℕ} where
+  unfoldable pub entry : Picture mode → ℕ → ℕ → ℕ
+  entry c pid page = entry_in mode c.frames (c.root pid) page
 
 abbrev pub bytes_in : FrameTable → SlotTable → Seat → List ℕ
 bytes_in t s (InFrame n) = bytes_of t n
@@ -84,23 +88,27 @@ view_of own None = None
 view_of own (Some attr) = Some (record { attr = attr; own = own })
 
 -- a page of a process, as the process has it
-unfoldable pub view : Picture → ℕ → ℕ → Option View
-view c pid page = view_of (own_in c.frames c.slots (entry c pid page)) (c.at pid page)
+module _ {mode : ℕ} where
+  unfoldable pub view : Picture mode → ℕ → ℕ → Option View
+  view c pid page = view_of (own_in c.frames c.slots (entry c pid page)) (c.at pid page)
 
 -- the share count of a seat
-abbrev pub count_in : Picture → Seat → ℕ
-count_in c (InFrame n) = count_of c.frames n
-count_in c (InSlot k) = c.slots.count k
+module _ {mode : ℕ} where
+  abbrev pub count_in : Picture mode → Seat → ℕ
+  count_in c (InFrame n) = count_of c.frames n
+  count_in c (InSlot k) = c.slots.count k
 
 -- the page at which processes have a seat: that of a frame is noted, that of a slot is told
-abbrev pub page_in : Picture → (ℕ → ℕ) → Seat → ℕ
-page_in c slot_page (InFrame n) = c.page_of n
-page_in c slot_page (InSlot k) = slot_page k
+module _ {mode : ℕ} where
+  abbrev pub page_in : Picture mode → (ℕ → ℕ) → Seat → ℕ
+  page_in c slot_page (InFrame n) = c.page_of n
+  page_in c slot_page (InSlot k) = slot_page k
 
 -- the seat of an own copy: a private frame, or a slot in use that holds no page of a file or an object
-abbrev pub IsOwned : Picture → Seat → Type 0
-IsOwned c (InFrame n) = role_of c.frames n ≡ Private
-IsOwned c (InSlot k) = (0 < c.slots.count k) × ((p : PageKey) → c.place p ≢ Slot (record { 0 = k }))
+module _ {mode : ℕ} where
+  abbrev pub IsOwned : Picture mode → Seat → Type 0
+  IsOwned c (InFrame n) = role_of c.frames n ≡ Private
+  IsOwned c (InSlot k) = (0 < c.slots.count k) × ((p : PageKey) → c.place p ≢ Slot (record { 0 = k }))
 
 -- the bytes of a page of a file or an object that isn't at home
 abbrev pub bytes_at : FrameTable → SlotTable → Place → Option (List ℕ)
@@ -109,8 +117,9 @@ bytes_at t s (Frame n) = Some (bytes_of t n.0)
 bytes_at t s (Slot k) = Some (s.bytes k.0)
 
 -- the bytes of a page of a file or an object in memory or swap; none where it is at home
-unfoldable pub held : Picture → PageKey → Option (List ℕ)
-held c p = bytes_at c.frames c.slots (c.place p)
+module _ {mode : ℕ} where
+  unfoldable pub held : Picture mode → PageKey → Option (List ℕ)
+  held c p = bytes_at c.frames c.slots (c.place p)
 
 -- whether a frame holds a page of a process or of a file
 abbrev pub is_data : Role → Bool

@@ -10,10 +10,11 @@ pub record HasNoRoots (roots : List (Option FrameNo)) : Type 0 where
   pub count : length roots ≡ 65
   pub none : (pid : ℕ) → slice_index_or roots pid None ≡ None
 
-pub record IsEmptyRoom (room : Room) (frames slots : ℕ) : Type 0 where
-  pub fresh : IsFresh room.frames frames
-  pub sound : IsSound room.frames
-  pub roots : HasNoRoots room.roots.items
-  pub regions : length room.regions.items ≡ 65
-  pub pages : length room.page_of.items ≡ frames
-  pub cache : CacheTable.IsFresh room.cache frames slots
+module _ {M : Type 0} where
+  pub record IsEmptyRoom (room : Room M) (frames slots : ℕ) : Type 0 where
+    pub fresh : IsFresh room.frames frames
+    pub sound : IsSound room.frames
+    pub roots : HasNoRoots room.roots.items
+    pub regions : length room.regions.items ≡ 65
+    pub pages : length room.page_of.items ≡ frames
+    pub cache : CacheTable.IsFresh room.cache frames slots

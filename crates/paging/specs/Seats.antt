@@ -34,12 +34,14 @@ abbrev pub off : Seat → ℕ → Seat → ℕ
 off x d y = if same_seat x y then d else 0
 
 -- Counts, while that of seat x is off by d: the share count of a seat is the number of entries that name it, all at one page.
-pub record AreCounted (entries : ℕ → ℕ → ℕ) (owned : Seat → Type 0) (count page : Seat → ℕ) (x : Seat) (d : ℕ) : Type 0 where
-  pub counts : (y : Seat) → owned y → count y ≡ holders_at entries (page y) y + off x d y
-  pub pages : (y : Seat) → owned y → IsPage top_level (page y)
-  pub named : (pid p : ℕ) (y : Seat) → IsPage top_level p → seat (entries pid p) ≡ Some y → owned y
-  pub noted : (pid p : ℕ) (y : Seat) → IsPage top_level p → seat (entries pid p) ≡ Some y → page y ≡ p
+module _ (mode : ℕ) where
+  pub record AreCounted (entries : ℕ → ℕ → ℕ) (owned : Seat → Type 0) (count page : Seat → ℕ) (x : Seat) (d : ℕ) : Type 0 where
+    pub counts : (y : Seat) → owned y → count y ≡ holders_at entries (page y) y + off x d y
+    pub pages : (y : Seat) → owned y → IsPage (top_level mode) (page y)
+    pub named : (pid p : ℕ) (y : Seat) → IsPage (top_level mode) p → seat (entries pid p) ≡ Some y → owned y
+    pub noted : (pid p : ℕ) (y : Seat) → IsPage (top_level mode) p → seat (entries pid p) ≡ Some y → page y ≡ p
 
 -- all but one entry is as it was
-abbrev pub OthersSame : (ℕ → ℕ → ℕ) → (ℕ → ℕ → ℕ) → ℕ → ℕ → Type 0
-OthersSame old new pid page = (q p : ℕ) → IsPage top_level p → (q ≢ pid) ⊎ (p ≢ page) → new q p ≡ old q p
+module _ (mode : ℕ) where
+  abbrev pub OthersSame : (ℕ → ℕ → ℕ) → (ℕ → ℕ → ℕ) → ℕ → ℕ → Type 0
+  OthersSame old new pid page = (q p : ℕ) → IsPage (top_level mode) p → (q ≢ pid) ⊎ (p ≢ page) → new q p ≡ old q p

@@ -18,10 +18,10 @@ use crate::shares::hand_over;
 use disk_model::SectorDisk;
 use page_cache::Place;
 use swap::PutFault;
-use vm_types::{FrameNo, PageKey, Stall};
+use vm_types::{FrameNo, Levels, PageKey, Stall};
 
 /// Gives up the frame of an untouched page of a file or an object, which is at home then.
-pub(crate) fn send_home<D, E>(core: &mut Core<D, E>, victim: FrameNo, page: PageKey)
+pub(crate) fn send_home<D, E, M: Levels>(core: &mut Core<D, E, M>, victim: FrameNo, page: PageKey)
     requires fit { IsFit (picture_of core.old) }
     requires inside { IsFrame core.old.frames victim.0 }
     requires placed { (picture_of core.old).place page ≡ Frame victim }
@@ -41,8 +41,8 @@ pub(crate) fn send_home<D, E>(core: &mut Core<D, E>, victim: FrameNo, page: Page
 ///
 /// # Errors
 /// `SwapDevice` only where the swap device failed.
-fn send_away<D, E: SectorDisk>(
-    core: &mut Core<D, E>,
+fn send_away<D, E: SectorDisk, M: Levels>(
+    core: &mut Core<D, E, M>,
     victim: FrameNo,
     page: PageKey,
 ) -> Result<(), Stall>
@@ -78,7 +78,10 @@ fn send_away<D, E: SectorDisk>(
 ///
 /// # Errors
 /// `SwapDevice` only where the swap device failed.
-fn send_copies<D, E: SectorDisk>(core: &mut Core<D, E>, victim: FrameNo) -> Result<(), Stall>
+fn send_copies<D, E: SectorDisk, M: Levels>(
+    core: &mut Core<D, E, M>,
+    victim: FrameNo,
+) -> Result<(), Stall>
     requires fit { IsFit (picture_of core.old) }
     requires swap { IsReady E.SectorDisk core.old.swap }
     requires inside { IsFrame core.old.frames victim.0 }
@@ -108,7 +111,10 @@ fn send_copies<D, E: SectorDisk>(core: &mut Core<D, E>, victim: FrameNo) -> Resu
 ///
 /// # Errors
 /// `SwapDevice` only where the swap device failed.
-pub(crate) fn evict<D, E: SectorDisk>(core: &mut Core<D, E>, victim: FrameNo) -> Result<(), Stall>
+pub(crate) fn evict<D, E: SectorDisk, M: Levels>(
+    core: &mut Core<D, E, M>,
+    victim: FrameNo,
+) -> Result<(), Stall>
     requires fit { IsFit (picture_of core.old) }
     requires swap { IsReady E.SectorDisk core.old.swap }
     requires inside { IsFrame core.old.frames victim.0 }

@@ -10,9 +10,9 @@ ghost use Rattle.paging.specs.Calls.{KeepsBesidePlaces};
 
 use crate::kernel::Core;
 use page_cache::Place;
-use vm_types::{FrameNo, ObjectPage, PageKey, SlotNo};
+use vm_types::{FrameNo, Levels, ObjectPage, PageKey, SlotNo};
 
-impl<D, E> Core<D, E> {
+impl<D, E, M: Levels> Core<D, E, M> {
     /// Forgets a page of an object, for which no page of a process has an entry: it is at home, as zeros, and the frame or the slot
     /// that it had is free.
     pub fn forget(&mut self, page: ObjectPage)

@@ -16,7 +16,7 @@ use page_cache::PageCache;
 use regions::Regions;
 use std::alloc::{AllocError, Global};
 use swap::Swap;
-use vm_types::{FrameNo, PROCESSES};
+use vm_types::{FrameNo, Levels, PROCESSES};
 
 /// The places for processes: a process has the place of its number, and place 0 stays free.
 pub const PLACES: usize = PROCESSES + 1;
@@ -25,23 +25,27 @@ pub const PLACES: usize = PROCESSES + 1;
 /// the table of frames is sound, always holds. What else holds between two calls is said by `IsFit`; a function may break that
 /// on its way.
 #[derive(Drop)]
-pub struct Core<D, E> {
+pub struct Core<D, E, M: Levels> {
     /// The files, as they stand on their device.
     pub store: FileStore<D>,
     /// The slots that pages are swapped to.
     pub swap: Swap<E>,
     /// Physical memory, with its buffer of translations.
-    pub frames: Memory,
+    pub frames: Memory<M>,
     /// Where each file page is.
     pub cache: PageCache,
     /// The root table of each live process.
     pub(crate) roots: Vec<Option<FrameNo>>,
     /// The regions of each live process. Those at the place of another process number mean nothing.
-    pub(crate) regions: Vec<Regions>,
+    pub(crate) regions: Vec<Regions<M>>,
     /// The page at which its processes have each private frame. What stands for another frame means nothing.
-    pub(crate) page_of: Vec<u32>,
+    pub(crate) page_of: Vec<u64>,
     /// The frame that is looked at first when one is to be given up.
     pub(crate) clock: Clock,
+    /// The frame that the clock is to keep while it looks for one.
+    pub(crate) keep: Option<FrameNo>,
+    /// How often it has looked, for contracts alone.
+    pub(crate) looks: Count,
     /// How often `obtain` has refused a frame, for contracts alone. Nobody else can raise it.
     pub(crate) refused: Count,
     pub ghost sound: { IsSound frames } by { IsSound-prop frames },
@@ -55,7 +59,7 @@ pub struct Core<D, E> {
     pub ghost bounded: { AreBounded (files_of store) } by { AreBounded-prop (files_of store) },
 }
 
-impl<D, E> Core<D, E> {
+impl<D, E, M: Levels> Core<D, E, M> {
     ghost use Rattle.paging.specs.Picture.{picture_of};
     ghost use Rattle.paging.specs.Parts.{IsFit};
     ghost use Rattle.paging.specs.Calls.{IsStart};
@@ -72,7 +76,7 @@ impl<D, E> Core<D, E> {
         swap: Swap<E>,
         frames: u32,
         slots: u32,
-    ) -> Result<Core<D, E>, (AllocError, FileStore<D>)>
+    ) -> Result<Core<D, E, M>, (AllocError, FileStore<D>)>
     where
         E: Drop,
         requires swap { Slots.IsFresh (slots_of swap) slots }
@@ -86,7 +90,7 @@ impl<D, E> Core<D, E> {
         ensures swap { IfOk result (λ core. core.swap ≡ swap) }
         ensures err { IfErr result (λ e. e.1 ≡ store) }
     {
-        match Room::new(alloc, frames, slots) {
+        match Room::<M>::new(alloc, frames, slots) {
             Ok(
                 Room {
                     frames,
@@ -104,6 +108,8 @@ impl<D, E> Core<D, E> {
                 regions,
                 page_of,
                 clock: Clock::new(),
+                keep: None,
+                looks: Count::new(),
                 refused: Count::new(),
             }),
             Err(refused) => Err((refused, store)),
@@ -113,19 +119,19 @@ impl<D, E> Core<D, E> {
 
 /// All memory that is taken of the host, with no process in it.
 #[derive(Drop)]
-struct Room {
-    frames: Memory,
+struct Room<M: Levels> {
+    frames: Memory<M>,
     cache: PageCache,
     roots: Vec<Option<FrameNo>>,
-    regions: Vec<Regions>,
-    page_of: Vec<u32>,
+    regions: Vec<Regions<M>>,
+    page_of: Vec<u64>,
 }
 
-impl Room {
+impl<M: Levels> Room<M> {
     ghost use Rattle.paging.specs.Room.{IsEmptyRoom};
 
     /// Takes it.
-    fn new(alloc: Global, frames: u32, slots: u32) -> Result<Room, AllocError>
+    fn new(alloc: Global, frames: u32, slots: u32) -> Result<Room<M>, AllocError>
         requires least_frames { 8 ≤ frames }
         requires most_frames { frames ≤ 65536 }
         requires most_slots { slots ≤ 65536 }
@@ -149,7 +155,7 @@ impl Room {
 }
 
 /// So many zeros, one a frame.
-fn zeros(alloc: Global, count: u32) -> Result<Vec<u32>, AllocError>
+fn zeros(alloc: Global, count: u32) -> Result<Vec<u64>, AllocError>
     ensures { IfOk result (λ v. length v.items ≡ count) }
 {
     let mut words = Vec::with_capacity(alloc, count as usize)?;
@@ -171,7 +177,7 @@ fn no_roots(alloc: Global) -> Result<Vec<Option<FrameNo>>, AllocError>
 }
 
 /// Regions without a page, for each place.
-fn no_regions(alloc: Global) -> Result<Vec<Regions>, AllocError>
+fn no_regions<M: Levels>(alloc: Global) -> Result<Vec<Regions<M>>, AllocError>
     ensures { IfOk result (λ v. length v.items ≡ 65) }
 {
     let mut regions = Vec::with_capacity(alloc, PLACES)?;

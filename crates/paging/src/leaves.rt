@@ -19,7 +19,7 @@ use mapped_memory::{entry, entry_number, set};
 use page_tables::Entry;
 use regions::Run;
 use sv39_walk::Pte;
-use vm_types::{FrameNo, PageKey, Vpn};
+use vm_types::{FrameNo, Levels, PageKey, Vpn};
 
 /// What becomes of an entry.
 #[derive(Clone, Copy, Debug, PartialEq, Eq)]
@@ -36,13 +36,13 @@ pub enum Change {
 #[derive(Clone, Copy, Debug, PartialEq, Eq)]
 pub(crate) enum Held {
     /// The own copy of that page.
-    Own(u32),
+    Own(u64),
     /// That page of a file or an object.
     Filed(PageKey),
 }
 
 /// What the frame holds.
-pub(crate) fn held_in<D, E>(core: &Core<D, E>, frame: FrameNo) -> Held
+pub(crate) fn held_in<D, E, M: Levels>(core: &Core<D, E, M>, frame: FrameNo) -> Held
     requires fit { IsFit (picture_of core.now) }
     requires inside { IsFrame core.now.frames frame.0 }
     requires data { is_data (role_of core.now.frames frame.0) ≡ true }
@@ -70,8 +70,8 @@ fn is_concerned(entry: Pte, change: Change) -> bool
 }
 
 /// Whether the page has an entry over the frame that the change is for.
-fn is_over<D, E>(
-    core: &Core<D, E>,
+fn is_over<D, E, M: Levels>(
+    core: &Core<D, E, M>,
     pid: usize,
     root: FrameNo,
     page: Vpn,
@@ -88,8 +88,8 @@ fn is_over<D, E>(
 }
 
 /// The first page of a process from a page on that has an entry over the frame that the change is for.
-pub(crate) fn find_in<D, E>(
-    core: &Core<D, E>,
+pub(crate) fn find_in<D, E, M: Levels>(
+    core: &Core<D, E, M>,
     pid: usize,
     root: FrameNo,
     low: u64,
@@ -103,17 +103,17 @@ pub(crate) fn find_in<D, E>(
     requires number { pid < 65 }
     requires holds { Holds (picture_of core.now) frame.0 held }
     ensures some { IfSome result (λ k. IsFirstOver (picture_of core.now) change frame.0 pid low k) }
-    ensures none { IfNone result ((k : ℕ) → low ≤ k → IsPage top_level k → IsOver (picture_of core.now) change frame.0 pid k → ⊥) }
+    ensures none { IfNone result ((k : ℕ) → low ≤ k → IsPage (top_level M.mode) k → IsOver (picture_of core.now) change frame.0 pid k → ⊥) }
 {
     match held {
-        Held::Own(page) => find_own(core, pid, root, low, u64::from(page), frame, change),
+        Held::Own(page) => find_own(core, pid, root, low, page, frame, change),
         Held::Filed(page) => find_filed(core, pid, root, low, page, frame, change),
     }
 }
 
 /// The same where the frame has the own copy of a page.
-fn find_own<D, E>(
-    core: &Core<D, E>,
+fn find_own<D, E, M: Levels>(
+    core: &Core<D, E, M>,
     pid: usize,
     root: FrameNo,
     low: u64,
@@ -127,12 +127,12 @@ fn find_own<D, E>(
     requires role { role_of core.now.frames frame.0 ≡ Roles.Private }
     requires noted { (picture_of core.now).page_of frame.0 ≡ page }
     ensures some { IfSome result (λ k. IsFirstOver (picture_of core.now) change frame.0 pid low k) }
-    ensures none { IfNone result ((k : ℕ) → low ≤ k → IsPage top_level k → IsOver (picture_of core.now) change frame.0 pid k → ⊥) }
+    ensures none { IfNone result ((k : ℕ) → low ≤ k → IsPage (top_level M.mode) k → IsOver (picture_of core.now) change frame.0 pid k → ⊥) }
 {
     if page < low {
         return None;
     }
-    match Vpn::new(page) {
+    match Vpn::new::<M>(page) {
         Some(at) => {
             if is_over(core, pid, root, at, frame, change) {
                 Some(at)
@@ -145,8 +145,8 @@ fn find_own<D, E>(
 }
 
 /// The same where the frame holds a page of a file or an object: run by run, it has at most one page of a run.
-fn find_filed<D, E>(
-    core: &Core<D, E>,
+fn find_filed<D, E, M: Levels>(
+    core: &Core<D, E, M>,
     pid: usize,
     root: FrameNo,
     low: u64,
@@ -160,7 +160,7 @@ fn find_filed<D, E>(
     requires number { pid < 65 }
     requires placed { (picture_of core.now).place page ≡ Frame frame }
     ensures some { IfSome result (λ k. IsFirstOver (picture_of core.now) change frame.0 pid low k) }
-    ensures none { IfNone result ((k : ℕ) → low ≤ k → IsPage top_level k → IsOver (picture_of core.now) change frame.0 pid k → ⊥) }
+    ensures none { IfNone result ((k : ℕ) → low ≤ k → IsPage (top_level M.mode) k → IsOver (picture_of core.now) change frame.0 pid k → ⊥) }
 {
     let mut from = low;
     while let Some(run) = core.regions[pid].next_run(from) {
@@ -173,8 +173,8 @@ fn find_filed<D, E>(
 }
 
 /// The same within one run.
-fn find_over<D, E>(
-    core: &Core<D, E>,
+fn find_over<D, E, M: Levels>(
+    core: &Core<D, E, M>,
     pid: usize,
     root: FrameNo,
     run: Run,
@@ -190,7 +190,7 @@ fn find_over<D, E>(
     ensures some { IfSome result (λ k. IsFirstOver (picture_of core.now) change frame.0 pid run.first k × (k < run.end)) }
     ensures none { IfNone result ((k : ℕ) → run.first ≤ k → k < run.end → IsOver (picture_of core.now) change frame.0 pid k → ⊥) }
 {
-    match page_over(run, page) {
+    match page_over::<M>(run, page) {
         Some(at) => {
             if is_over(core, pid, root, at, frame, change) {
                 Some(at)
@@ -203,31 +203,31 @@ fn find_over<D, E>(
 }
 
 /// The page of a run that stands on this page of a file or an object.
-pub fn page_over(run: Run, page: PageKey) -> Option<Vpn>
+pub fn page_over<M: Levels>(run: Run, page: PageKey) -> Option<Vpn>
     requires low { user_start ≤ run.first }
     requires order { run.first ≤ run.end }
-    requires high { run.end ≤ user_end }
+    requires high { run.end ≤ user_end M.mode }
     ensures some { IfSome result (λ k. IsPageOver run page k) }
     ensures none { IfNone result ((k : ℕ) → IsPageOver run page k → ⊥) }
 {
     match run.attr.backing.stands_on() {
-        Some(first) => page_after(run, first, page),
+        Some(first) => page_after::<M>(run, first, page),
         None => None,
     }
 }
 
 /// The same in a run the first page of which stands on `first`.
-fn page_after(run: Run, first: PageKey, page: PageKey) -> Option<Vpn>
+fn page_after<M: Levels>(run: Run, first: PageKey, page: PageKey) -> Option<Vpn>
     requires low { user_start ≤ run.first }
     requires order { run.first ≤ run.end }
-    requires high { run.end ≤ user_end }
+    requires high { run.end ≤ user_end M.mode }
     requires first { stands_on run.attr.backing ≡ Some first }
     ensures some { IfSome result (λ k. IsPageOver run page k) }
     ensures none { IfNone result ((k : ℕ) → IsPageOver run page k → ⊥) }
 {
     let offset = offset_from(first, page)?;
     if offset < run.end - run.first {
-        Vpn::new(run.first + offset)
+        Vpn::new::<M>(run.first + offset)
     } else {
         None
     }
@@ -258,8 +258,8 @@ fn offset_from(first: PageKey, page: PageKey) -> Option<u64>
 }
 
 /// Changes the entry of one page, which is over the frame.
-fn change_at<D, E>(
-    core: &mut Core<D, E>,
+fn change_at<D, E, M: Levels>(
+    core: &mut Core<D, E, M>,
     pid: usize,
     root: FrameNo,
     page: Vpn,
@@ -268,7 +268,7 @@ fn change_at<D, E>(
 )
     requires fit { IsFit (picture_of core.old) }
     requires lives { (picture_of core.old).root pid ≡ Some root.0 }
-    requires user { page < user_end }
+    requires user { page < user_end M.mode }
     requires over { IsOver (picture_of core.old) change frame.0 pid page }
     requires filed { change ≡ Kinds.Forget → role_of core.old.frames frame.0 ≡ Roles.Cache }
     ensures fit { IsFit (picture_of core.new) }
@@ -281,8 +281,8 @@ fn change_at<D, E>(
 }
 
 /// Changes so each entry of a process that is over the frame.
-fn change_in<D, E>(
-    core: &mut Core<D, E>,
+fn change_in<D, E, M: Levels>(
+    core: &mut Core<D, E, M>,
     pid: usize,
     root: FrameNo,
     held: Held,
@@ -298,7 +298,7 @@ fn change_in<D, E>(
     ensures fit { IsFit (picture_of core.new) }
     ensures beside { KeepsAllButFrames core.old core.new }
     ensures changes { ChangesLeaves change frame.0 (picture_of core.old) (picture_of core.new) }
-    ensures clear { (page : ℕ) → IsPage top_level page → IsOver (picture_of core.new) change frame.0 pid page → ⊥ }
+    ensures clear { (page : ℕ) → IsPage (top_level M.mode) page → IsOver (picture_of core.new) change frame.0 pid page → ⊥ }
 {
     let mut low = 0;
     while let Some(page) = find_in(core, pid, root, low, held, frame, change) {
@@ -308,7 +308,13 @@ fn change_in<D, E>(
 }
 
 /// The same for the process of that number, where it lives.
-fn change_of<D, E>(core: &mut Core<D, E>, pid: usize, held: Held, frame: FrameNo, change: Change)
+fn change_of<D, E, M: Levels>(
+    core: &mut Core<D, E, M>,
+    pid: usize,
+    held: Held,
+    frame: FrameNo,
+    change: Change,
+)
     requires fit { IsFit (picture_of core.old) }
     requires above { 0 < frame.0 }
     requires number { pid < 65 }
@@ -317,7 +323,7 @@ fn change_of<D, E>(core: &mut Core<D, E>, pid: usize, held: Held, frame: FrameNo
     ensures fit { IsFit (picture_of core.new) }
     ensures beside { KeepsAllButFrames core.old core.new }
     ensures changes { ChangesLeaves change frame.0 (picture_of core.old) (picture_of core.new) }
-    ensures clear { (page : ℕ) → IsPage top_level page → IsOver (picture_of core.new) change frame.0 pid page → ⊥ }
+    ensures clear { (page : ℕ) → IsPage (top_level M.mode) page → IsOver (picture_of core.new) change frame.0 pid page → ⊥ }
 {
     match core.roots[pid] {
         Some(root) => change_in(core, pid, root, held, frame, change),
@@ -327,7 +333,7 @@ fn change_of<D, E>(core: &mut Core<D, E>, pid: usize, held: Held, frame: FrameNo
 
 /// Changes so each entry over a frame that holds a page, in the tables of all processes: no process sees it. Entries are forgotten
 /// only over a frame that holds a page of a file or an object.
-pub fn change_leaves<D, E>(core: &mut Core<D, E>, frame: FrameNo, change: Change)
+pub fn change_leaves<D, E, M: Levels>(core: &mut Core<D, E, M>, frame: FrameNo, change: Change)
     requires fit { IsFit (picture_of core.old) }
     requires inside { IsFrame core.old.frames frame.0 }
     requires data { is_data (role_of core.old.frames frame.0) ≡ true }
@@ -345,7 +351,11 @@ pub fn change_leaves<D, E>(core: &mut Core<D, E>, frame: FrameNo, change: Change
 }
 
 /// Whether the change is for an entry over a frame that holds a page.
-pub(crate) fn has_leaf<D, E>(core: &Core<D, E>, frame: FrameNo, change: Change) -> bool
+pub(crate) fn has_leaf<D, E, M: Levels>(
+    core: &Core<D, E, M>,
+    frame: FrameNo,
+    change: Change,
+) -> bool
     requires fit { IsFit (picture_of core.now) }
     requires inside { IsFrame core.now.frames frame.0 }
     requires data { is_data (role_of core.now.frames frame.0) ≡ true }

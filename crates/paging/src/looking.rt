@@ -11,57 +11,52 @@ ghost use Rattle.paging.specs.Evictions.{IsEvictable, IsAccessed, ClearsMarks, L
 use crate::kernel::Core;
 use crate::leaves::{Change, change_leaves, has_leaf};
 use clock_replace::{FrameView, NoVictim};
-use disk_model::Count;
 use frames::Role;
-use vm_types::FrameNo;
+use vm_types::{FrameNo, Levels};
 
-/// The frames, one of which may be kept.
-#[derive(Drop)]
-struct View<'a, D, E> {
-    core: &'a mut Core<D, E>,
-    keep: Option<FrameNo>,
-    looks: Count,
-}
-
-impl<D, E> FrameView for View<'_, D, E> {
+impl<D, E, M: Levels> FrameView for Core<D, E, M> {
     ghost use Rattle.paging.specs.Views.{Follows};
 
-    ghost total = { λ v. frame_count v.core.now.frames };
+    ghost total = { λ c. frame_count c.frames };
 
-    ghost looks = { λ v. v.looks.number };
+    ghost looks = { λ c. c.looks.number };
 
-    ghost evictable_at = { λ v n. IsEvictable (picture_of v.core.now) v.keep n };
+    ghost evictable_at = { λ c n. IsEvictable (picture_of c) c.keep n };
 
-    ghost marked = { λ v n. IsAccessed (picture_of v.core.now) n };
+    ghost marked = { λ c n. IsAccessed (picture_of c) n };
 
-    ghost is_open = { λ v. IsFit (picture_of v.core.now) };
+    ghost is_open = { λ c. IsFit (picture_of c) };
 
-    ghost follows = { λ a b. (b.core.ghost_name ≡ a.core.ghost_name) × Follows a.core.now b.core.now a.keep b.keep };
+    ghost follows = { λ a b. Follows a b a.keep b.keep };
 
     fn frames(&self) -> u32 {
-        self.core.frames.len()
+        self.frames.len()
     }
 
     fn evictable(&mut self, n: u32) -> bool {
         self.looks.raise();
-        is_evictable(self.core, self.keep, FrameNo(n))
+        is_evictable(self, self.keep, FrameNo(n))
     }
 
     fn accessed(&self, n: u32) -> bool {
-        is_accessed(self.core, FrameNo(n))
+        is_accessed(self, FrameNo(n))
     }
 
     fn clear(&mut self, n: u32) {
-        change_leaves(self.core, FrameNo(n), Change::ClearAccessed);
+        change_leaves(self, FrameNo(n), Change::ClearAccessed);
     }
 
-    ghost stays = { λ v. (refl, record { kept = refl; marks = λ s f. f; full = λ f. f; frees = λ s f. f; looked = record { store = refl; swap = refl; roots = refl; regions = refl; refused = refl } }) };
+    ghost stays = { λ c. record { kept = refl; marks = λ s f. f; full = λ f. f; frees = λ s f. f; looked = record { store = refl; swap = refl; roots = refl; regions = refl; refused = refl } } };
 
-    ghost goes_on = { λ a b c p q. (q.0 ∙ p.0, record { kept = q.1.kept ∙ p.1.kept; marks = λ s f. q.1.marks s (p.1.marks s f); full = λ f. q.1.full (p.1.full f); frees = λ s f. q.1.frees s (p.1.frees s f); looked = record { store = q.1.looked.store ∙ p.1.looked.store; swap = q.1.looked.swap ∙ p.1.looked.swap; roots = q.1.looked.roots ∙ p.1.looked.roots; regions = q.1.looked.regions ∙ p.1.looked.regions; refused = q.1.looked.refused ∙ p.1.looked.refused } }) };
+    ghost goes_on = { λ a b c p q. record { kept = q.kept ∙ p.kept; marks = λ s f. q.marks s (p.marks s f); full = λ f. q.full (p.full f); frees = λ s f. q.frees s (p.frees s f); looked = record { store = q.looked.store ∙ p.looked.store; swap = q.looked.swap ∙ p.looked.swap; roots = q.looked.roots ∙ p.looked.roots; regions = q.looked.regions ∙ p.looked.regions; refused = q.looked.refused ∙ p.looked.refused } } };
 }
 
 /// Whether the frame holds a page and isn't to be kept.
-pub(crate) fn is_spareable<D, E>(core: &Core<D, E>, keep: Option<FrameNo>, n: FrameNo) -> bool
+pub(crate) fn is_spareable<D, E, M: Levels>(
+    core: &Core<D, E, M>,
+    keep: Option<FrameNo>,
+    n: FrameNo,
+) -> bool
     requires { IsFrame core.now.frames n.0 }
     ensures spareable { result ≡ true → IsSpareable (picture_of core.now) keep n.0 }
     ensures other { IsSpareable (picture_of core.now) keep n.0 → result ≡ true }
@@ -78,7 +73,7 @@ pub(crate) fn is_spareable<D, E>(core: &Core<D, E>, keep: Option<FrameNo>, n: Fr
 }
 
 /// Whether the frame needs a slot to be given up.
-fn needs_slot<D, E>(core: &Core<D, E>, n: FrameNo) -> bool
+fn needs_slot<D, E, M: Levels>(core: &Core<D, E, M>, n: FrameNo) -> bool
     requires fit { IsFit (picture_of core.now) }
     requires inside { IsFrame core.now.frames n.0 }
     ensures needs { result ≡ true → NeedsSlot (picture_of core.now) n.0 }
@@ -94,7 +89,7 @@ fn needs_slot<D, E>(core: &Core<D, E>, n: FrameNo) -> bool
 }
 
 /// Whether the frame may be given up now.
-fn is_evictable<D, E>(core: &Core<D, E>, keep: Option<FrameNo>, n: FrameNo) -> bool
+fn is_evictable<D, E, M: Levels>(core: &Core<D, E, M>, keep: Option<FrameNo>, n: FrameNo) -> bool
     requires fit { IsFit (picture_of core.now) }
     requires inside { IsFrame core.now.frames n.0 }
     ensures { (result ≡ true) ↔ IsEvictable (picture_of core.now) keep n.0 }
@@ -103,7 +98,7 @@ fn is_evictable<D, E>(core: &Core<D, E>, keep: Option<FrameNo>, n: FrameNo) -> b
 }
 
 /// Whether a leaf over the frame has A.
-fn is_accessed<D, E>(core: &Core<D, E>, n: FrameNo) -> bool
+fn is_accessed<D, E, M: Levels>(core: &Core<D, E, M>, n: FrameNo) -> bool
     requires fit { IsFit (picture_of core.now) }
     requires inside { IsFrame core.now.frames n.0 }
     ensures { (result ≡ true) ↔ IsAccessed (picture_of core.now) n.0 }
@@ -112,8 +107,8 @@ fn is_accessed<D, E>(core: &Core<D, E>, n: FrameNo) -> bool
 }
 
 /// A frame to be given up, chosen by the clock.
-pub(crate) fn choose<D, E>(
-    core: &mut Core<D, E>,
+pub(crate) fn choose<D, E, M: Levels>(
+    core: &mut Core<D, E, M>,
     keep: Option<FrameNo>,
 ) -> Result<FrameNo, NoVictim>
     requires fit { IsFit (picture_of core.old) }
@@ -125,13 +120,9 @@ pub(crate) fn choose<D, E>(
     ensures found { IfOk result (λ n. IsEvictable (picture_of core.new) keep n.0) }
     ensures none { OnErr result ((n : ℕ) → IsFrame core.new.frames n → IsEvictable (picture_of core.new) keep n → ⊥) }
 {
+    core.keep = keep;
     let mut clock = core.clock;
-    let mut view = View {
-        core,
-        keep,
-        looks: Count::new(),
-    };
-    let choice = clock.victim(&mut view);
+    let choice = clock.victim(core);
     core.clock = clock;
     choice
 }

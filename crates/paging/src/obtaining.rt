@@ -17,7 +17,7 @@ use crate::kernel::Core;
 use crate::looking::{choose, is_spareable};
 use clock_replace::NoVictim;
 use disk_model::SectorDisk;
-use vm_types::{FrameNo, Stall};
+use vm_types::{FrameNo, Levels, Stall};
 
 /// A free frame, to be taken at once. Where none is free, a frame is given up for it, but not the one to keep: its page goes
 /// to a slot, or home where nobody has touched it. No process sees a change, and no file does.
@@ -25,8 +25,8 @@ use vm_types::{FrameNo, Stall};
 /// # Errors
 /// `NoFrames` only where every frame but the zero page is a table or the one to keep, `NoSwap` only where every other one needs a
 /// slot and none is free; both raise the count of refused requests. `SwapDevice` only where the swap device failed.
-pub fn obtain<D, E: SectorDisk>(
-    core: &mut Core<D, E>,
+pub fn obtain<D, E: SectorDisk, M: Levels>(
+    core: &mut Core<D, E, M>,
     keep: Option<FrameNo>,
 ) -> Result<FrameNo, Stall>
     requires fit { IsFit (picture_of core.old) }
@@ -58,7 +58,10 @@ pub fn obtain<D, E: SectorDisk>(
 }
 
 /// The same where none is free.
-fn give_up<D, E: SectorDisk>(core: &mut Core<D, E>, keep: Option<FrameNo>) -> Result<FrameNo, Stall>
+fn give_up<D, E: SectorDisk, M: Levels>(
+    core: &mut Core<D, E, M>,
+    keep: Option<FrameNo>,
+) -> Result<FrameNo, Stall>
     requires fit { IsFit (picture_of core.old) }
     requires swap { IsReady E.SectorDisk core.old.swap }
     requires full { IsFull core.old.frames }
@@ -92,7 +95,7 @@ fn give_up<D, E: SectorDisk>(core: &mut Core<D, E>, keep: Option<FrameNo>) -> Re
 }
 
 /// Whether some frame holds a page and isn't to be kept.
-fn has_spareable<D, E>(core: &Core<D, E>, keep: Option<FrameNo>) -> bool
+fn has_spareable<D, E, M: Levels>(core: &Core<D, E, M>, keep: Option<FrameNo>) -> bool
     ensures some { result ≡ true → (n : ℕ) × IsSpareable (picture_of core.now) keep n }
     ensures none { result ≡ false → (n : ℕ) → IsFrame core.now.frames n → IsSpareable (picture_of core.now) keep n → ⊥ }
 {

@@ -9,9 +9,9 @@ ghost use Rattle.paging.specs.Calls.{KeepsBesideProcesses, KeepsBesideTrees};
 
 use crate::kernel::Core;
 use regions::Regions;
-use vm_types::{FrameNo, Pid};
+use vm_types::{FrameNo, Levels, Pid};
 
-impl<D, E> Core<D, E> {
+impl<D, E, M: Levels> Core<D, E, M> {
     ghost use Rattle.std.specs.Prelude.{IfSome, is_some};
     ghost use Rattle.paging.specs.Parts.{IsFit};
 
@@ -33,7 +33,7 @@ impl<D, E> Core<D, E> {
     }
 
     /// The regions of a live process.
-    pub fn regions(&self, pid: Pid) -> &Regions
+    pub fn regions(&self, pid: Pid) -> &Regions<M>
         requires live { is_live (picture_of self.now) pid ≡ true }
         ensures { (page : ℕ) → attr_at result.now page ≡ (picture_of self.now).at pid page }
     {
@@ -52,7 +52,7 @@ impl<D, E> Core<D, E> {
     }
 
     /// Gives a live process these regions, whatever entries its pages have. No more than their runs are copied.
-    pub fn remap(&mut self, pid: Pid, regions: &Regions)
+    pub fn remap(&mut self, pid: Pid, regions: &Regions<M>)
         requires live { is_live (picture_of self.old) pid ≡ true }
         ensures remaps { Remaps (picture_of self.old) (picture_of self.new) pid }
         ensures at { (page : ℕ) → (picture_of self.new).at pid page ≡ attr_at regions.now page }

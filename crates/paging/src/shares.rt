@@ -14,7 +14,7 @@ use disk_model::SectorDisk;
 use mapped_memory::{entry_number, set};
 use page_tables::Entry;
 use sv39_walk::Pte;
-use vm_types::{FrameNo, SlotNo, Vpn};
+use vm_types::{FrameNo, Levels, SlotNo, Vpn};
 
 /// Whether an entry names that frame as the process's own.
 fn is_own(entry: Pte, frame: FrameNo) -> bool
@@ -25,8 +25,8 @@ fn is_own(entry: Pte, frame: FrameNo) -> bool
 }
 
 /// Gives a process, which has the frame at that page, the share of the slot in place of its share of the frame.
-fn give_share<D, E>(
-    core: &mut Core<D, E>,
+fn give_share<D, E, M: Levels>(
+    core: &mut Core<D, E, M>,
     pid: usize,
     root: FrameNo,
     page: Vpn,
@@ -35,7 +35,7 @@ fn give_share<D, E>(
 )
     requires share { HasShare (picture_of core.old) slot.0 page }
     requires lives { (picture_of core.old).root pid ≡ Some root.0 }
-    requires user { page < user_end }
+    requires user { page < user_end M.mode }
     requires from { seat (entry (picture_of core.old) pid page) ≡ Some (InFrame frame.0) }
     requires same { (picture_of core.old).slots.bytes slot.0 ≡ bytes_of core.old.frames frame.0 }
     ensures fit { IsFit (picture_of core.new) }
@@ -54,8 +54,8 @@ fn give_share<D, E>(
 }
 
 /// The same, and the slot has a share for another process then, where the frame has one left; whether nobody has the frame.
-fn pass_share<D, E: SectorDisk>(
-    core: &mut Core<D, E>,
+fn pass_share<D, E: SectorDisk, M: Levels>(
+    core: &mut Core<D, E, M>,
     pid: usize,
     root: FrameNo,
     page: Vpn,
@@ -65,7 +65,7 @@ fn pass_share<D, E: SectorDisk>(
     requires ready { IsReady E.SectorDisk core.old.swap }
     requires handing { IsHanding (picture_of core.old) frame.0 slot.0 page }
     requires lives { (picture_of core.old).root pid ≡ Some root.0 }
-    requires user { page < user_end }
+    requires user { page < user_end M.mode }
     requires from { seat (entry (picture_of core.old) pid page) ≡ Some (InFrame frame.0) }
     ensures ready { IsReady E.SectorDisk core.new.swap }
     ensures spares { Spares frame.0 slot.0 (picture_of core.old) (picture_of core.new) }
@@ -87,8 +87,8 @@ fn pass_share<D, E: SectorDisk>(
 }
 
 /// The same for the process of that number, where it lives and has the frame.
-fn hand_one<D, E: SectorDisk>(
-    core: &mut Core<D, E>,
+fn hand_one<D, E: SectorDisk, M: Levels>(
+    core: &mut Core<D, E, M>,
     pid: usize,
     page: Vpn,
     frame: FrameNo,
@@ -97,7 +97,7 @@ fn hand_one<D, E: SectorDisk>(
     requires ready { IsReady E.SectorDisk core.old.swap }
     requires handing { IsHanding (picture_of core.old) frame.0 slot.0 page }
     requires number { pid < 65 }
-    requires user { page < user_end }
+    requires user { page < user_end M.mode }
     ensures ready { IsReady E.SectorDisk core.new.swap }
     ensures spares { Spares frame.0 slot.0 (picture_of core.old) (picture_of core.new) }
     ensures plain { KeepsPlain core.old core.new }
@@ -119,7 +119,11 @@ fn hand_one<D, E: SectorDisk>(
 
 /// Gives each process that has the private frame the share of a slot in place of it. The slot has one share, for which no
 /// entry names it yet, and the frame's bytes.
-pub(crate) fn hand_over<D, E: SectorDisk>(core: &mut Core<D, E>, frame: FrameNo, slot: SlotNo)
+pub(crate) fn hand_over<D, E: SectorDisk, M: Levels>(
+    core: &mut Core<D, E, M>,
+    frame: FrameNo,
+    slot: SlotNo,
+)
     requires ready { IsReady E.SectorDisk core.old.swap }
     requires inside { IsFrame core.old.frames frame.0 }
     requires handing { IsHanding (picture_of core.old) frame.0 slot.0 ((picture_of core.old).page_of frame.0) }
@@ -130,7 +134,7 @@ pub(crate) fn hand_over<D, E: SectorDisk>(core: &mut Core<D, E>, frame: FrameNo,
     ensures plain { KeepsPlain core.old core.new }
     ensures pages { core.new.swap.pages ≡ core.old.swap.pages }
 {
-    let Some(page) = Vpn::new(u64::from(core.page_of[frame.0 as usize])) else {
+    let Some(page) = Vpn::new::<M>(core.page_of[frame.0 as usize]) else {
         unreachable!()
     };
     for pid in 1..PLACES {

@@ -23,9 +23,9 @@ use disk_model::{DiskFault, SectorDisk};
 use frames::Role;
 use mapped_memory::take_table;
 use page_cache::Place;
-use vm_types::{FilePage, FrameNo, NoFree, ObjectPage, PageKey, SlotNo, Stall, Vpn};
+use vm_types::{FilePage, FrameNo, Levels, NoFree, ObjectPage, PageKey, SlotNo, Stall, Vpn};
 
-impl<D, E: SectorDisk> Core<D, E> {
+impl<D, E: SectorDisk, M: Levels> Core<D, E, M> {
     /// A free frame of zeros, taken for that page as a process's own. No entry names it yet. Where none is free another is given
     /// up for it, but not the one to keep.
     ///
@@ -47,7 +47,7 @@ impl<D, E: SectorDisk> Core<D, E> {
         obtain(self, keep)?;
         match self.frames.take(Role::Private) {
             Ok(own) => {
-                self.page_of[own.0 as usize] = page.get() as u32;
+                self.page_of[own.0 as usize] = page.get();
                 Ok(own)
             }
             Err(NoFree) => unreachable!(),
@@ -151,7 +151,7 @@ impl<D, E: SectorDisk> Core<D, E> {
     }
 }
 
-impl<D: SectorDisk, E: SectorDisk> Core<D, E> {
+impl<D: SectorDisk, E: SectorDisk, M: Levels> Core<D, E, M> {
     /// Reads a file page, which begins inside its file and lies at home, into a free frame: it lies there afterwards.
     ///
     /// # Errors

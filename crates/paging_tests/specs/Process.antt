@@ -30,8 +30,9 @@ plain = replaced (replaced (replaced (λ k. None) 16 7 shared_first) 32 6 own_fi
 abbrev pub mapped : ℕ → Option Attr
 mapped = replaced plain 64 2 common_first
 
--- process 1 lives, and no other, and has these pages
-pub record IsAlone (c : Picture) : Type 0 where
-  pub live : is_live c 1 ≡ true
-  pub pages : (page : ℕ) → c.at 1 page ≡ mapped page
-  pub others : (q : ℕ) → q ≢ 1 → c.root q ≡ None
+module _ {mode : ℕ} where
+  -- process 1 lives, and no other, and has these pages
+  pub record IsAlone (c : Picture mode) : Type 0 where
+    pub live : is_live c 1 ≡ true
+    pub pages : (page : ℕ) → c.at 1 page ≡ mapped page
+    pub others : (q : ℕ) → q ≢ 1 → c.root q ≡ None

@@ -1,6 +1,7 @@
-//! A process in memory of 8 frames, over devices in memory: the steps that a test takes there, and what it looks at.
+//! A process in memory of 8 frames, or of 9 where there are four levels of tables, over devices in memory: the steps that a test takes there,
+//! and what it looks at.
 ghost use Rattle.std.specs.Prelude.{◌≡◌, ◌≢◌, ◌≤◌, ◌<◌, ◌+◌, ◌/◌, ℕ, true, false, None, Some, IfOk, OnOk};
-ghost use Rattle.vm_types.specs.Limits.{user_start, user_end};
+ghost use Rattle.vm_types.specs.Limits.{user_start};
 ghost use Rattle.vm_types.specs.Attributes.{backing_fits};
 ghost use Rattle.vm_types.specs.Rows.{IsUserMap, replaced};
 ghost use Rattle.regions.specs.RunList.{attr_at};
@@ -30,8 +31,8 @@ use std::process::Abort;
 use std::test::Fail;
 use test_fixtures::{LEAST, Sizes, first_process, memory};
 use vm_types::{
-    Access, Answer, Attr, Backing, Code, Errno, FilePage, FrameNo, MsyncMode, ObjectPage, PageKey,
-    Phys, Pid, Prot, Stall, TooManyRuns, Vpn, Width,
+    Access, Answer, Attr, Backing, Code, Errno, FilePage, FrameNo, Levels, MsyncMode, ObjectPage,
+    PageKey, Phys, Pid, Prot, Stall, Sv39, Sv48, TooManyRuns, Vpn, Width,
 };
 
 /// The first page of the one file, which begins with 7. It has six pages, and of the last 904 bytes are inside.
@@ -68,7 +69,7 @@ pub(crate) struct Visit(pub u64, pub Act, pub Seen, pub u64);
 #[derive(Clone, Copy)]
 pub(crate) enum Step {
     Go(Visit),
-    /// Where a page lies, and whether it is touched.
+    /// Where a page lies, a frame as three levels of tables have it, and whether it is touched.
     Page(PageKey, Place, bool),
     /// How many slots are free.
     Free(u32),
@@ -85,33 +86,38 @@ pub(crate) fn equal<T: PartialEq + Debug + Drop>(rt: &impl Abort, got: T, want: 
 }
 
 // So many pages more are mapped, to be read and written.
-fn map(regions: &Regions, first: u64, pages: u64, backing: Backing) -> Result<Regions, TooManyRuns>
+fn map<M: Levels>(
+    regions: &Regions<M>,
+    first: u64,
+    pages: u64,
+    backing: Backing,
+) -> Result<Regions<M>, TooManyRuns>
     requires some { 0 < pages }
     requires low { user_start ≤ first }
-    requires high { first + pages ≤ user_end }
+    requires high { first + pages ≤ 100 }
     requires file_pages { backing_fits backing pages }
     requires readable { IsReadableMap (attr_at regions.now) }
     ensures readable { IfOk result (λ next. IsReadableMap (attr_at next)) }
-    ensures user { IfOk result (λ next. IsUserMap (attr_at next)) }
+    ensures user { IfOk result (λ next. IsUserMap M.mode (attr_at next)) }
     ensures map { IfOk result (λ next. (page : ℕ) → attr_at next page ≡ replaced (attr_at regions.now) first pages (writable backing) page) }
 {
     let attr = Attr {
         prot: Prot::WRITE.kept(),
         backing,
     };
-    let mut next = Regions::new();
+    let mut next = Regions::<M>::new();
     regions.replace_into(first, pages, attr, &mut next)?;
     Ok(next)
 }
 
 // Shared pages of the file from page 16 on, the last of them past its end, own pages from page 32 on, a private page of the file
 // at page 48, and two pages of an object from page 64 on.
-fn mappings() -> Result<Regions, TooManyRuns>
+fn mappings<M: Levels>() -> Result<Regions<M>, TooManyRuns>
     ensures readable { IfOk result (λ regions. IsReadableMap (attr_at regions)) }
-    ensures user { IfOk result (λ regions. IsUserMap (attr_at regions)) }
+    ensures user { IfOk result (λ regions. IsUserMap M.mode (attr_at regions)) }
     ensures map { IfOk result (λ regions. (page : ℕ) → attr_at regions page ≡ mapped page) }
 {
-    let none = Regions::new();
+    let none = Regions::<M>::new();
     let shared = map(&none, 16, 7, Backing::Shared(FIRST))?;
     let own = map(&shared, 32, 6, Backing::Anon)?;
     let private = map(&own, 48, 1, Backing::Private(FIRST))?;
@@ -120,11 +126,11 @@ fn mappings() -> Result<Regions, TooManyRuns>
 }
 
 // Process 1 with these pages.
-fn spawn(core: &mut Core<SimDisk, SimDisk>, regions: &Regions) -> Result<(), Stall>
+fn spawn<M: Levels>(core: &mut Core<SimDisk, SimDisk, M>, regions: &Regions<M>) -> Result<(), Stall>
     requires sound { IsSoundCore ⟦<SimDisk as SectorDisk>⟧ ⟦<SimDisk as SectorDisk>⟧ core.old }
     requires none { (pid : ℕ) → (picture_of core.old).root pid ≡ None }
     requires readable { IsReadableMap (attr_at regions.now) }
-    requires user { IsUserMap (attr_at regions.now) }
+    requires user { IsUserMap M.mode (attr_at regions.now) }
     requires map { (page : ℕ) → attr_at regions.now page ≡ mapped page }
     ensures fit { OnOk result (IsFit (picture_of core.new)) }
     ensures store { OnOk result (IsReadyStore ⟦<SimDisk as SectorDisk>⟧ core.new.store) }
@@ -139,29 +145,30 @@ fn spawn(core: &mut Core<SimDisk, SimDisk>, regions: &Regions) -> Result<(), Sta
 }
 
 /// Process 1 alone in memory of so many slots, where that call of the swap device fails.
-pub(crate) fn started(
+pub(crate) fn started<M: Levels>(
     alloc: Global,
     slots: u32,
     swap_fails: u64,
-) -> Result<Core<SimDisk, SimDisk>, Fail>
+) -> Result<Core<SimDisk, SimDisk, M>, Fail>
     ensures sound { IfOk result (λ core. IsSoundCore ⟦<SimDisk as SectorDisk>⟧ ⟦<SimDisk as SectorDisk>⟧ core) }
     ensures alone { IfOk result (λ core. IsAlone (picture_of core)) }
 {
-    let regions = mappings()?;
+    let regions = mappings::<M>()?;
     let sizes = Sizes {
+        frames: 6 + M::top_level(),
         slots: slots.min(4),
         length: 21_384,
         first: 7,
         swap_fails,
         ..LEAST
     };
-    let mut core = memory(alloc, sizes)?;
+    let mut core = memory::<M>(alloc, sizes)?;
     spawn(&mut core, &regions)?;
     Ok(core)
 }
 
 // The frame of a place, where it is one of memory.
-fn frame_of(core: &Core<SimDisk, SimDisk>, place: Phys) -> FrameNo
+fn frame_of<M: Levels>(core: &Core<SimDisk, SimDisk, M>, place: Phys) -> FrameNo
     requires { IsFrame core.now.frames (place.0 / 4096) }
     ensures { result.0 ≡ place.0 / 4096 }
 {
@@ -171,7 +178,12 @@ fn frame_of(core: &Core<SimDisk, SimDisk>, place: Phys) -> FrameNo
 }
 
 // A load or a fetch.
-fn load(core: &mut Core<SimDisk, SimDisk>, addr: u64, width: Width, kind: Access) -> Seen
+fn load<M: Levels>(
+    core: &mut Core<SimDisk, SimDisk, M>,
+    addr: u64,
+    width: Width,
+    kind: Access,
+) -> Seen
     requires sound { IsSoundCore ⟦<SimDisk as SectorDisk>⟧ ⟦<SimDisk as SectorDisk>⟧ core.old }
     requires kind { is_store kind ≡ false }
     ensures sound { IsSoundCore ⟦<SimDisk as SectorDisk>⟧ ⟦<SimDisk as SectorDisk>⟧ core.new }
@@ -195,7 +207,7 @@ fn put(page: &mut [u8; 4096], addr: u64, byte: u8) -> u8 {
 }
 
 // A store of a byte, which tells the one that was there.
-fn store(core: &mut Core<SimDisk, SimDisk>, addr: u64, byte: u8) -> Seen
+fn store<M: Levels>(core: &mut Core<SimDisk, SimDisk, M>, addr: u64, byte: u8) -> Seen
     requires sound { IsSoundCore ⟦<SimDisk as SectorDisk>⟧ ⟦<SimDisk as SectorDisk>⟧ core.old }
     ensures sound { IsSoundCore ⟦<SimDisk as SectorDisk>⟧ ⟦<SimDisk as SectorDisk>⟧ core.new }
     ensures spaces { KeepsSpaces (picture_of core.old) (picture_of core.new) }
@@ -220,7 +232,7 @@ fn refused(refusal: AccessRefusal) -> Seen {
 }
 
 /// The number that stands for a page of a live process.
-pub(crate) fn number(core: &Core<SimDisk, SimDisk>, pid: Pid, page: Vpn) -> u64
+pub(crate) fn number<M: Levels>(core: &Core<SimDisk, SimDisk, M>, pid: Pid, page: Vpn) -> u64
     requires fit { IsFit (picture_of core.now) }
     requires live { is_live (picture_of core.now) pid ≡ true }
     ensures { result ≡ entry (picture_of core.now) pid page }
@@ -230,20 +242,20 @@ pub(crate) fn number(core: &Core<SimDisk, SimDisk>, pid: Pid, page: Vpn) -> u64
 }
 
 // The last ten bits of the number that stands for a page of process 1, by an address there.
-fn bits(core: &Core<SimDisk, SimDisk>, addr: u64) -> u64
+fn bits<M: Levels>(core: &Core<SimDisk, SimDisk, M>, addr: u64) -> u64
     requires { IsFit (picture_of core.now) }
 {
     let Some(pid) = core.live(1) else {
         return 0;
     };
-    let Some(page) = Vpn::new(addr / 4096) else {
+    let Some(page) = Vpn::new::<M>(addr / 4096) else {
         return 0;
     };
     number(core, pid, page) % 1024
 }
 
 // What is done at an address.
-fn perform(core: &mut Core<SimDisk, SimDisk>, addr: u64, act: Act) -> Seen
+fn perform<M: Levels>(core: &mut Core<SimDisk, SimDisk, M>, addr: u64, act: Act) -> Seen
     requires sound { IsSoundCore ⟦<SimDisk as SectorDisk>⟧ ⟦<SimDisk as SectorDisk>⟧ core.old }
     ensures sound { IsSoundCore ⟦<SimDisk as SectorDisk>⟧ ⟦<SimDisk as SectorDisk>⟧ core.new }
     ensures spaces { KeepsSpaces (picture_of core.old) (picture_of core.new) }
@@ -256,7 +268,7 @@ fn perform(core: &mut Core<SimDisk, SimDisk>, addr: u64, act: Act) -> Seen
 }
 
 // One visit.
-fn go(rt: &impl Abort, core: &mut Core<SimDisk, SimDisk>, visit: Visit)
+fn go<M: Levels>(rt: &impl Abort, core: &mut Core<SimDisk, SimDisk, M>, visit: Visit)
     requires sound { IsSoundCore ⟦<SimDisk as SectorDisk>⟧ ⟦<SimDisk as SectorDisk>⟧ core.old }
     ensures sound { IsSoundCore ⟦<SimDisk as SectorDisk>⟧ ⟦<SimDisk as SectorDisk>⟧ core.new }
     ensures spaces { KeepsSpaces (picture_of core.old) (picture_of core.new) }
@@ -267,7 +279,11 @@ fn go(rt: &impl Abort, core: &mut Core<SimDisk, SimDisk>, visit: Visit)
 }
 
 /// Visits in their order.
-pub(crate) fn go_all(rt: &impl Abort, core: &mut Core<SimDisk, SimDisk>, visits: &[Visit])
+pub(crate) fn go_all<M: Levels>(
+    rt: &impl Abort,
+    core: &mut Core<SimDisk, SimDisk, M>,
+    visits: &[Visit],
+)
     requires sound { IsSoundCore ⟦<SimDisk as SectorDisk>⟧ ⟦<SimDisk as SectorDisk>⟧ core.old }
     ensures sound { IsSoundCore ⟦<SimDisk as SectorDisk>⟧ ⟦<SimDisk as SectorDisk>⟧ core.new }
     ensures spaces { KeepsSpaces (picture_of core.old) (picture_of core.new) }
@@ -278,9 +294,9 @@ pub(crate) fn go_all(rt: &impl Abort, core: &mut Core<SimDisk, SimDisk>, visits:
 }
 
 // An msync, which does not come to EIO.
-fn sync(
+fn sync<M: Levels>(
     rt: &impl Abort,
-    core: &mut Core<SimDisk, SimDisk>,
+    core: &mut Core<SimDisk, SimDisk, M>,
     call: (u64, u64, u64, MsyncMode),
 ) -> Answer
     requires sound { IsSoundCore ⟦<SimDisk as SectorDisk>⟧ ⟦<SimDisk as SectorDisk>⟧ core.old }
@@ -293,7 +309,7 @@ fn sync(
 }
 
 // A byte of a sector of the store; `None` where there is no such sector.
-fn stored(core: &Core<SimDisk, SimDisk>, sector: u64, at: usize) -> Option<u8> {
+fn stored<M: Levels>(core: &Core<SimDisk, SimDisk, M>, sector: u64, at: usize) -> Option<u8> {
     let disk = core.store.disk();
     if sector >= disk.sectors() {
         return None;
@@ -301,8 +317,16 @@ fn stored(core: &Core<SimDisk, SimDisk>, sector: u64, at: usize) -> Option<u8> {
     disk.sector(sector).get(at).copied()
 }
 
+// A place that is told for three levels of tables: where there are four, the table more lies in a lower frame.
+fn placed<M: Levels>(place: Place) -> Place {
+    match place {
+        Place::Frame(FrameNo(n)) => Place::Frame(FrameNo(n.saturating_add(M::top_level() - 2))),
+        Place::Home | Place::Slot(_) => place,
+    }
+}
+
 // One step.
-fn take(rt: &impl Abort, core: &mut Core<SimDisk, SimDisk>, step: Step)
+fn take<M: Levels>(rt: &impl Abort, core: &mut Core<SimDisk, SimDisk, M>, step: Step)
     requires sound { IsSoundCore ⟦<SimDisk as SectorDisk>⟧ ⟦<SimDisk as SectorDisk>⟧ core.old }
     ensures sound { IsSoundCore ⟦<SimDisk as SectorDisk>⟧ ⟦<SimDisk as SectorDisk>⟧ core.new }
 {
@@ -312,7 +336,7 @@ fn take(rt: &impl Abort, core: &mut Core<SimDisk, SimDisk>, step: Step)
             equal(
                 rt,
                 (core.cache.place(page), core.cache.is_touched(page)),
-                (place, touched),
+                (placed::<M>(place), touched),
             )
         }
         Step::Free(slots) => equal(rt, core.swap.free_slots(), slots),
@@ -323,16 +347,27 @@ fn take(rt: &impl Abort, core: &mut Core<SimDisk, SimDisk>, step: Step)
     }
 }
 
-/// Takes steps in memory of so many slots, where that call of the swap device fails.
-pub(crate) fn follow(
+// Takes steps in one mode.
+fn follow_in<M: Levels>(
     rt: &impl Abort,
     alloc: Global,
     (slots, swap_fails): (u32, u64),
     steps: &[Step],
 ) -> Result<(), Fail> {
-    let mut core = started(alloc, slots, swap_fails)?;
+    let mut core = started::<M>(alloc, slots, swap_fails)?;
     for step in steps {
         take(rt, &mut core, *step);
     }
     Ok(())
+}
+
+/// Takes steps in memory of so many slots, where that call of the swap device fails, in both modes.
+pub(crate) fn follow(
+    rt: &impl Abort,
+    alloc: Global,
+    memory: (u32, u64),
+    steps: &[Step],
+) -> Result<(), Fail> {
+    follow_in::<Sv39>(rt, alloc, memory, steps)?;
+    follow_in::<Sv48>(rt, alloc, memory, steps)
 }

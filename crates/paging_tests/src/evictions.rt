@@ -1,4 +1,4 @@
-//! Pages that go from memory and come back. Of the 8 frames one is the zero page and three are tables, so four pages find room.
+//! Pages that go from memory and come back. Of the frames one is the zero page, and three or four are tables, so four pages find room.
 use crate::bench::Act::{Load, Store};
 use crate::bench::Seen::{Byte, Stalled};
 use crate::bench::Step::{Free, Go, Page};

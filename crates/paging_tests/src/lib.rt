@@ -1,4 +1,4 @@
-//! Tests of memory that evicts: accesses and msyncs of a process, in 8 frames that are soon full.
+//! Tests of memory that evicts: accesses and msyncs of a process, in 8 or 9 frames that are soon full.
 #![tactic(auto)]
 
 #[cfg(test)]

@@ -17,7 +17,7 @@ use std::test::Fail;
 use test_fixtures::first_process;
 use vm_types::PageKey::Object;
 use vm_types::Width::One;
-use vm_types::{FrameNo, ObjectPage, Pid, SlotNo, Vpn};
+use vm_types::{FrameNo, Levels, ObjectPage, Pid, SlotNo, Sv39, Sv48, Vpn};
 
 /// A page of an object lies in a slot only where it was stored to, and nowhere else.
 const COMMON: [Step; 13] = [
@@ -56,7 +56,7 @@ const AWAY: [Visit; 10] = [
 ];
 
 // Whether a page of a live process has no entry.
-fn is_bare(core: &Core<SimDisk, SimDisk>, pid: Pid, page: Vpn) -> bool
+fn is_bare<M: Levels>(core: &Core<SimDisk, SimDisk, M>, pid: Pid, page: Vpn) -> bool
     requires fit { IsFit (picture_of core.now) }
     requires live { is_live (picture_of core.now) pid ≡ true }
     ensures bare { result ≡ true → entry (picture_of core.now) pid page ≡ 0 }
@@ -65,14 +65,14 @@ fn is_bare(core: &Core<SimDisk, SimDisk>, pid: Pid, page: Vpn) -> bool
 }
 
 // No page of a process has an entry for it then, and it is forgotten: its slot is free.
-fn forget_away(rt: &impl Abort, core: &mut Core<SimDisk, SimDisk>)
+fn forget_away<M: Levels>(rt: &impl Abort, core: &mut Core<SimDisk, SimDisk, M>)
     requires sound { IsSoundCore ⟦<SimDisk as SectorDisk>⟧ ⟦<SimDisk as SectorDisk>⟧ core.old }
     requires alone { IsAlone (picture_of core.old) }
 {
     go_all(rt, core, &AWAY);
     equal(rt, core.cache.place(Object(OBJECT)), Slot(SlotNo(1)));
     let pid = first_process();
-    let page = Vpn::new(64).expect(rt, "a user page");
+    let page = Vpn::new::<M>(64).expect(rt, "a user page");
     if is_bare(core, pid, page) {
         core.forget(OBJECT);
     }
@@ -82,7 +82,7 @@ fn forget_away(rt: &impl Abort, core: &mut Core<SimDisk, SimDisk>)
 
 #[test]
 fn a_page_of_an_object_is_forgotten(rt: HostRuntime) -> Result<(), Fail> {
-    let mut core = started(rt.alloc(), 4, 0)?;
-    forget_away(&rt, &mut core);
+    forget_away(&rt, &mut started::<Sv39>(rt.alloc(), 4, 0)?);
+    forget_away(&rt, &mut started::<Sv48>(rt.alloc(), 4, 0)?);
     Ok(())
 }

@@ -7,7 +7,7 @@ use test_steps::Step::{self, Does, Fails, File, Files, Refuses, Removes, Shows};
 use test_steps::{NEW, TwoFiles, UNMADE, carry_out, carry_out_all, carry_out_for_each, path};
 
 /// Words that the programs do not take.
-const OTHER_WORDS: [Step<'static>; 29] = [
+const OTHER_WORDS: [Step<'static>; 34] = [
     Refuses(Format, &[]),
     Refuses(Format, &["new"]),
     Refuses(Format, &["new", "/tmp/none"]),
@@ -21,6 +21,11 @@ const OTHER_WORDS: [Step<'static>; 29] = [
     Refuses(Run, &["/tmp/none", "/tmp/none", "64", "4294967296"]),
     Refuses(Run, &["/tmp/none", "/tmp/none", "+64", "16"]),
     Refuses(Run, &["/tmp/none", "/tmp/none", "64", "16", "1"]),
+    Refuses(Run, &["/tmp/none", "/tmp/none", "64", "16", "sv57"]),
+    Refuses(Run, &["/tmp/none", "/tmp/none", "64", "16", "Sv48"]),
+    Refuses(Run, &["/tmp/none", "/tmp/none", "64", "sv48"]),
+    Refuses(Run, &["/tmp/none", "/tmp/none", "sv48"]),
+    Refuses(Run, &["/tmp/none", "/tmp/none", "64", "16", "sv48", "sv48"]),
     Refuses(Run, &["-h"]),
     Refuses(Cat, &[]),
     Refuses(Cat, &["/tmp/none"]),

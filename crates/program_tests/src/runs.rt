@@ -15,7 +15,7 @@ const RUN: &[&str] = &["@image", "@swap"];
 const FIRST: &[&str] = &["@image", "0"];
 
 /// Runs, each on a new image.
-const RUNS: [(&str, &[Step<'static>]); 6] = [
+const RUNS: [(&str, &[Step<'static>]); 7] = [
     (
         "empty",
         &[
@@ -46,6 +46,33 @@ load 1 0x10000 1\n",
                 b"pid 1\naddr 0x10000\nvalue 0x5a\n",
             ),
             Shows(FIRST, &[(b"\x5a", 1), (b"\0", 4095)]),
+            Removes(&["@image", "@swap"]),
+        ],
+    ),
+    // In four levels there are more user pages than in three, which is what a machine has that is told nothing.
+    (
+        "modes",
+        &[
+            NEW,
+            Does(
+                Run,
+                &["@image", "@swap", "8", "16", "sv48"],
+                b"spawn\nmmap 1 0x7ffffffff000 4096 rw- shared 0 0 fixed\nstore 1 0x7ffffffff000 1 9\n\
+msync 1 0x7ffffffff000 4096 sync\nload 1 0x800000000000 1\n",
+                b"pid 1\naddr 0x7ffffffff000\nok\nok\nfault 13 SEGV_MAPERR 0x800000000000\n",
+            ),
+            Does(
+                Run,
+                &["@image", "@swap", "8", "16", "sv39"],
+                b"spawn\nmmap 1 0x7ffffffff000 4096 rw- anon fixed\nmmap 1 0 4096 r-- shared 0 0\nload 1 0x10000 1\n",
+                b"pid 1\nerror 12 ENOMEM\naddr 0x10000\nvalue 0x09\n",
+            ),
+            Does(
+                Run,
+                &["@image", "@swap", "8", "16"],
+                b"spawn\nmmap 1 0x7ffffffff000 4096 rw- anon fixed\n",
+                b"pid 1\nerror 12 ENOMEM\n",
+            ),
             Removes(&["@image", "@swap"]),
         ],
     ),

@@ -1,5 +1,6 @@
 //! The program that runs traces.
 ghost use Rattle.std.specs.Prelude.{◌≡◌, ◌≤◌, IfOk};
+ghost use Rattle.machine.specs.Machine.{halted_of};
 ghost use Rattle.programs.specs.Faults.{end_status};
 
 use crate::faults::{ProgramFault, report};
@@ -19,9 +20,9 @@ const MAX_SLOTS: u32 = 65536;
 /// The status of a trace that was read to its end by a machine that halted on the way.
 const HALTED: u8 = 3;
 
-/// `pagerun IMAGE SWAP` and `pagerun IMAGE SWAP FRAMES SLOTS`: makes SWAP where it is missing, lengthens it to
+/// `pagerun IMAGE SWAP [FRAMES SLOTS [sv39|sv48]]`: makes SWAP where it is missing, lengthens it to
 /// `4096 * SLOTS` bytes where SLOTS is at most 65,536, boots a machine on the image and runs the trace of `reader`, whose
-/// replies go to `writer`. FRAMES is 64 and SLOTS 16 where they are not given.
+/// replies go to `writer`. FRAMES is 64, SLOTS 16 and the mode of address spaces Sv39 where they are not given.
 ///
 /// Returns the exit status: 0 done; 1 a fault; 2 other words; 3 the end of the trace with a halted machine. For 1 and 2
 /// one line on `errors` says why.
@@ -64,7 +65,7 @@ fn status_of<'a, D: SectorDisk, E: SectorDisk>(
     end: RunEnd,
     machine: &Machine<D, E>,
 ) -> Result<u8, ProgramFault<'a>>
-    ensures { IfOk result (λ status. (end ≡ RunEnd.Done) × (status ≡ end_status machine.now.halted)) }
+    ensures { IfOk result (λ status. (end ≡ RunEnd.Done) × (status ≡ end_status (halted_of machine.now))) }
 {
     match end {
         RunEnd::Done if machine.is_halted() => Ok(HALTED),

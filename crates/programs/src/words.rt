@@ -4,11 +4,13 @@ use crate::numbers::number;
 use clap::{Arg, Command};
 use machine::Config;
 use std::alloc::Global;
+use vm_types::Mode;
 
-/// The page frames and slots of a machine where none are named.
+/// The page frames, the slots and the mode of a machine where none are named.
 pub const DEFAULT_CONFIG: Config = Config {
     frames: 64,
     slots: 16,
+    mode: Mode::Sv39,
 };
 
 /// The words of `pagefmt`.
@@ -41,7 +43,7 @@ pub(crate) struct CatWords<'a> {
     pub file: u32,
 }
 
-/// The words of `pagerun IMAGE SWAP` and `pagerun IMAGE SWAP FRAMES SLOTS`.
+/// The words of `pagerun IMAGE SWAP [FRAMES SLOTS [sv39|sv48]]`.
 #[derive(Clone, Copy, Debug, PartialEq, Eq)]
 pub(crate) struct RunWords<'a> {
     pub image: &'a str,
@@ -90,11 +92,16 @@ pub(crate) fn run_words<'a>(
         .arg(Arg::new(alloc, "IMAGE").required(true))?
         .arg(Arg::new(alloc, "SWAP").required(true))?
         .arg(Arg::new(alloc, "FRAMES"))?
-        .arg(Arg::new(alloc, "SLOTS"))?;
+        .arg(Arg::new(alloc, "SLOTS"))?
+        .arg(Arg::new(alloc, "MODE"))?;
     let matches = command.try_get_matches_from(words)?;
     let image = matches.get_str("IMAGE").ok_or(ProgramFault::Usage)?;
     let swap = matches.get_str("SWAP").ok_or(ProgramFault::Usage)?;
-    let config = config(matches.get_str("FRAMES"), matches.get_str("SLOTS"))?;
+    let config = config(
+        matches.get_str("FRAMES"),
+        matches.get_str("SLOTS"),
+        matches.get_str("MODE"),
+    )?;
     Ok(RunWords {
         image,
         swap,
@@ -120,14 +127,28 @@ pub(crate) fn cat_words<'a>(
     })
 }
 
-/// Both numbers, or neither.
-fn config<'a>(frames: Option<&str>, slots: Option<&str>) -> Result<Config, ProgramFault<'a>> {
+/// Both numbers and perhaps a mode, or none of them.
+fn config<'a>(
+    frames: Option<&str>,
+    slots: Option<&str>,
+    mode: Option<&str>,
+) -> Result<Config, ProgramFault<'a>> {
     match (frames, slots) {
         (None, None) => Ok(DEFAULT_CONFIG),
         (Some(frames), Some(slots)) => Ok(Config {
             frames: number(frames).ok_or(ProgramFault::Usage)?,
             slots: number(slots).ok_or(ProgramFault::Usage)?,
+            mode: mode_of(mode)?,
         }),
         _ => Err(ProgramFault::Usage),
+    }
+}
+
+/// The mode of that name, or Sv39 where none is given.
+fn mode_of<'a>(name: Option<&str>) -> Result<Mode, ProgramFault<'a>> {
+    match name {
+        None | Some("sv39") => Ok(Mode::Sv39),
+        Some("sv48") => Ok(Mode::Sv48),
+        Some(_) => Err(ProgramFault::Usage),
     }
 }

@@ -7,9 +7,9 @@ use Rattle.regions.specs.RunList.{end_of, IsMaximal, pushed, pushed_part, pasted
 use Rattle.regions.proofs.ListLemmas.{end_of-pushed, length-pushed}
 
 -- the runs that are still to be pasted lie behind what is there
-pub record Pending (low : ℕ) (done rest : List Run) : Type 0 where
+pub record Pending (mode : ℕ) (low : ℕ) (done rest : List Run) : Type 0 where
   pub from : ℕ
-  pub order : IsMaximal from rest
+  pub order : IsMaximal mode from rest
   pub behind : end_of 16 done ≤ max low from
 
 abbrev end_or : Option Run → ℕ
@@ -23,18 +23,20 @@ part_end low high prot run part true e =
     omega arith
 part_end low high prot run part false e = cc
 
-pub after_part : (low high : ℕ) (prot : Option Prot) (done : List Run) (run : Run) (rest : List Run) (part : Run) → run_between low high prot run ≡ Some part → Pending low done (run ∷ rest) → Pending low (pushed done part) rest
-after_part low high prot done run rest part e p =
-    let ends : end_of 16 (pushed done part) ≡ part.end = end_of-pushed 16 done part in
-    let within : part.end ≤ run.end = part_end low high prot run part (ltb (max run.first low) (min run.end high)) e in
-    record { from = run.end; order = p.order.3; behind = omega arith }
+module _ (mode : ℕ) where
+  pub after_part : (low high : ℕ) (prot : Option Prot) (done : List Run) (run : Run) (rest : List Run) (part : Run) → run_between low high prot run ≡ Some part → Pending mode low done (run ∷ rest) → Pending mode low (pushed done part) rest
+  after_part low high prot done run rest part e p =
+      let ends : end_of 16 (pushed done part) ≡ part.end = end_of-pushed 16 done part in
+      let within : part.end ≤ run.end = part_end low high prot run part (ltb (max run.first low) (min run.end high)) e in
+      record { from = run.end; order = p.order.3; behind = omega arith }
 
-pub after_none : (low : ℕ) (done : List Run) (run : Run) (rest : List Run) → Pending low done (run ∷ rest) → Pending low done rest
-after_none low done run rest p =
-    let b : end_of 16 done ≤ max low p.from = p.behind in
-    let f : p.from ≤ run.first = p.order.0 in
-    let s : run.first < run.end = p.order.1.nonempty in
-    record { from = run.end; order = p.order.3; behind = omega arith }
+module _ (mode : ℕ) where
+  pub after_none : (low : ℕ) (done : List Run) (run : Run) (rest : List Run) → Pending mode low done (run ∷ rest) → Pending mode low done rest
+  after_none low done run rest p =
+      let b : end_of 16 done ≤ max low p.from = p.behind in
+      let f : p.from ≤ run.first = p.order.0 in
+      let s : run.first < run.end = p.order.1.nonempty in
+      record { from = run.end; order = p.order.3; behind = omega arith }
 
 pub longer_part : (done : List Run) (part : Option Run) → length done ≤ length (pushed_part done part)
 longer_part done None = omega arith
@@ -51,14 +53,14 @@ longer_pasted low high prot done (run ∷ rest) =
 next_of : (runs : List Run) (i : ℕ) (d : Run) → i < length runs → drop i runs ≡ get_or runs i d ∷ drop (i + 1) runs
 next_of runs i d h = drop-cons runs i d h ∙ ap (λ (k : ℕ). get_or runs i d ∷ drop k runs) (sym (add-one i))
 
-module _ (low high : ℕ) (prot : Option Prot) (done runs : List Run) (i : ℕ) (d : Run) (h : i < length runs) (o : Option Run) (is : o ≡ run_between low high prot (get_or runs i d)) where
-  pub pending_some : (part : Run) → o ≡ Some part → Pending low done (drop i runs) → Pending low (pushed done part) (drop (i + 1) runs)
+module _ (mode : ℕ) (low high : ℕ) (prot : Option Prot) (done runs : List Run) (i : ℕ) (d : Run) (h : i < length runs) (o : Option Run) (is : o ≡ run_between low high prot (get_or runs i d)) where
+  pub pending_some : (part : Run) → o ≡ Some part → Pending mode low done (drop i runs) → Pending mode low (pushed done part) (drop (i + 1) runs)
   pending_some part e p =
-      after_part low high prot done (get_or runs i d) (drop (i + 1) runs) part (sym is ∙ e) (subst (λ (l : List Run). Pending low done l) (next_of runs i d h) p)
+      after_part mode low high prot done (get_or runs i d) (drop (i + 1) runs) part (sym is ∙ e) (subst (λ (l : List Run). Pending mode low done l) (next_of runs i d h) p)
 
-  pub pending_none : Pending low done (drop i runs) → Pending low done (drop (i + 1) runs)
+  pub pending_none : Pending mode low done (drop i runs) → Pending mode low done (drop (i + 1) runs)
   pending_none p =
-      after_none low done (get_or runs i d) (drop (i + 1) runs) (subst (λ (l : List Run). Pending low done l) (next_of runs i d h) p)
+      after_none mode low done (get_or runs i d) (drop (i + 1) runs) (subst (λ (l : List Run). Pending mode low done l) (next_of runs i d h) p)
 
   step : pasted low high prot done (drop i runs) ≡ pasted low high prot (pushed_part done o) (drop (i + 1) runs)
   step =

@@ -11,10 +11,11 @@ joins_last-take (run ∷ runs) zero d next h = refl
 joins_last-take (run ∷ []) (suc k) d next h = absurd (omega arith)
 joins_last-take (run ∷ (other ∷ runs)) (suc k) d next h = joins_last-take (other ∷ runs) k d next (omega arith)
 
-pub run_at : (from : ℕ) (runs : List Run) (k : ℕ) (d : Run) → k < length runs → IsMaximal from (take (suc k) runs) → IsRun (get_or runs k d)
-run_at from [] k d h m = absurd (omega arith)
-run_at from (run ∷ runs) zero d h m = m.1
-run_at from (run ∷ runs) (suc k) d h m = run_at run.end runs k d (omega arith) m.3
+module _ (mode : ℕ) where
+  pub run_at : (from : ℕ) (runs : List Run) (k : ℕ) (d : Run) → k < length runs → IsMaximal mode from (take (suc k) runs) → IsRun mode (get_or runs k d)
+  run_at from [] k d h m = absurd (omega arith)
+  run_at from (run ∷ runs) zero d h m = m.1
+  run_at from (run ∷ runs) (suc k) d h m = run_at run.end runs k d (omega arith) m.3
 
 pub merged_at : (runs : List Run) (k : ℕ) (d next : Run) → k < length runs → joins (get_or runs k d) next ≡ true → take (suc k) (set runs k (merged (get_or runs k d) next)) ≡ pushed (take (suc k) runs) next
 merged_at [] k d next h e = absurd (omega arith)
@@ -47,9 +48,10 @@ pub joins_last-is : (runs : List Run) (n : ℕ) (d next : Run) → 0 < n → n �
 joins_last-is runs n d next a b =
     ap (λ (k : ℕ). joins_last (take k runs) next) (sym (less_one n a)) ∙ joins_last-take runs (n - 1) d next (omega arith)
 
-pub last_run : (runs : List Run) (n : ℕ) (d : Run) → 0 < n → n ≤ length runs → IsMaximal 16 (take n runs) → IsRun (get_or runs (n - 1) d)
-last_run runs n d a b m =
-    run_at 16 runs (n - 1) d (omega arith) (subst (λ (k : ℕ). IsMaximal 16 (take k runs)) (sym (less_one n a)) m)
+module _ (mode : ℕ) where
+  pub last_run : (runs : List Run) (n : ℕ) (d : Run) → 0 < n → n ≤ length runs → IsMaximal mode 16 (take n runs) → IsRun mode (get_or runs (n - 1) d)
+  last_run runs n d a b m =
+      run_at mode 16 runs (n - 1) d (omega arith) (subst (λ (k : ℕ). IsMaximal mode 16 (take k runs)) (sym (less_one n a)) m)
 
 pub merged_last : (runs : List Run) (n : ℕ) (d next : Run) → 0 < n → n ≤ length runs → joins_last (take n runs) next ≡ true → take n (set runs (n - 1) (merged (get_or runs (n - 1) d) next)) ≡ pushed (take n runs) next
 merged_last runs n d next a b e =

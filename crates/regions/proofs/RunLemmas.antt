@@ -2,6 +2,8 @@
 use Rattle.std.proofs.Common.{◌≡◌, ℕ, ◌+◌, ◌-◌, ◌^◌, ◌<◌, ◌≤◌, ◌⊎◌, inl, inr, ⊎_elim, max, min, Bool, true, false, if◌then◌else◌, ◌==◌, ◌&&◌, leb, ltb, refl, sym, ◌∙◌, ap, subst, arith, Option, Some, None, option_map, eqb-true, le-leb, lt-ltb}
 use Rattle.std.proofs.lemmas.Bool.{and_parts}
 use Rattle.std.proofs.lemmas.Bool.Decides.{leb_tells, nat_tests}
+use Rattle.vm_types.specs.Limits.{user_end}
+use Rattle.vm_types.proofs.Modes.{sizes}
 use Rattle.vm_types.specs.declared.permission.Prot.{Prot}
 use Rattle.vm_types.specs.declared.region.Attr.{Attr}
 use Rattle.vm_types.specs.Attributes.{attr_after, backing_after, attr_eq, backing_fits}
@@ -76,20 +78,26 @@ joins-true run next e =
       goes_on = attr_eq-true (attr_after run.attr (run.end - run.first)) next.attr parts.1;
     }
 
-pub merged-run : (run next : Run) → IsRun run → IsRun next → Joins run next → IsRun (merged run next)
-merged-run run next r n j =
-    let t : run.end ≡ next.first = j.touches in
-    let a : run.first < run.end = r.nonempty in
-    let b : next.first < next.end = n.nonempty in
-    let split : (run.end - run.first) + (next.end - next.first) ≡ next.end - run.first = omega arith in
-    let fits : backing_fits (backing_after run.attr.backing (run.end - run.first)) (next.end - next.first) =
-    subst (λ (x : Attr). backing_fits x.backing (next.end - next.first)) (sym j.goes_on) n.file_pages in
-    record {
-      low = r.low;
-      nonempty = omega arith;
-      high = n.high;
-      file_pages = subst (λ (m : ℕ). backing_fits run.attr.backing m) split (backing_fits-merged run.attr.backing (run.end - run.first) (next.end - next.first) fits);
-    }
+-- a run ends where user pages of any mode end
+module _ (mode : ℕ) where
+  pub widest_run : (run : Run) → IsRun mode run → run.end ≤ 2 ^ 35
+  widest_run run r = omega (arith, r.high, (sizes mode).most)
+
+module _ (mode : ℕ) where
+  pub merged-run : (run next : Run) → IsRun mode run → IsRun mode next → Joins run next → IsRun mode (merged run next)
+  merged-run run next r n j =
+      let t : run.end ≡ next.first = j.touches in
+      let a : run.first < run.end = r.nonempty in
+      let b : next.first < next.end = n.nonempty in
+      let split : (run.end - run.first) + (next.end - next.first) ≡ next.end - run.first = omega arith in
+      let fits : backing_fits (backing_after run.attr.backing (run.end - run.first)) (next.end - next.first) =
+      subst (λ (x : Attr). backing_fits x.backing (next.end - next.first)) (sym j.goes_on) n.file_pages in
+      record {
+        low = r.low;
+        nonempty = omega arith;
+        high = n.high;
+        file_pages = subst (λ (m : ℕ). backing_fits run.attr.backing m) split (backing_fits-merged run.attr.backing (run.end - run.first) (next.end - next.first) fits);
+      }
 
 after_merged : (run next : Run) (page : ℕ) → run.first < run.end → Joins run next → run.end ≤ page → attr_after next.attr (page - next.first) ≡ attr_after run.attr (page - run.first)
 after_merged run next page r j h =
@@ -148,29 +156,30 @@ attr_in_part None page = None
 attr_in_part (Some run) page = attr_in run page
 
 -- the part is a run of its own
-pub record IsPart (low high : ℕ) (run part : Run) : Type 0 where
-  pub is_run : IsRun part
+pub record IsPart (mode : ℕ) (low high : ℕ) (run part : Run) : Type 0 where
+  pub is_run : IsRun mode part
   pub first : part.first ≡ max run.first low
   pub end : part.end ≤ run.end
   pub within : part.end ≤ high
 
-pub cut-run : (low high : ℕ) (prot : Option Prot) (run : Run) → IsRun run → max run.first low < min run.end high → IsPart low high run (cut prot run (max run.first low) (min run.end high))
-cut-run low high prot run r h =
-    let low_ok : 16 ≤ run.first = r.low in
-    let high_ok : run.end ≤ 2 ^ 26 = r.high in
-    let fits : backing_fits run.attr.backing ((max run.first low - run.first) + (min run.end high - max run.first low)) =
-    backing_fits-less run.attr.backing ((max run.first low - run.first) + (min run.end high - max run.first low)) (run.end - run.first) (omega arith) r.file_pages in
-    record {
-      is_run = record {
-        low = omega arith;
-        nonempty = h;
-        high = omega arith;
-        file_pages = backing_fits-after run.attr.backing (max run.first low - run.first) (min run.end high - max run.first low) fits;
-      };
-      first = refl;
-      end = omega arith;
-      within = omega arith;
-    }
+module _ (mode : ℕ) where
+  pub cut-run : (low high : ℕ) (prot : Option Prot) (run : Run) → IsRun mode run → max run.first low < min run.end high → IsPart mode low high run (cut prot run (max run.first low) (min run.end high))
+  cut-run low high prot run r h =
+      let low_ok : 16 ≤ run.first = r.low in
+      let high_ok : run.end ≤ user_end mode = r.high in
+      let fits : backing_fits run.attr.backing ((max run.first low - run.first) + (min run.end high - max run.first low)) =
+      backing_fits-less run.attr.backing ((max run.first low - run.first) + (min run.end high - max run.first low)) (run.end - run.first) (omega arith) r.file_pages in
+      record {
+        is_run = record {
+          low = omega arith;
+          nonempty = h;
+          high = omega arith;
+          file_pages = backing_fits-after run.attr.backing (max run.first low - run.first) (min run.end high - max run.first low) fits;
+        };
+        first = refl;
+        end = omega arith;
+        within = omega arith;
+      }
 
 clipped_outside : (low high : ℕ) (prot : Option Prot) (run : Run) (page : ℕ) → (page < max run.first low) ⊎ (min run.end high ≤ page) → clipped low high prot page (attr_in run page) ≡ None
 clipped_outside low high prot run page h =

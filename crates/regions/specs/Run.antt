@@ -6,11 +6,11 @@ use Rattle.vm_types.specs.declared.region.Attr.{Attr}
 use Rattle.vm_types.specs.Attributes.{attr_after, attr_eq, backing_fits}
 use Rattle.regions.specs.declared.run.Run.{Run}
 
--- a run isn't empty, and its pages are user pages and its file pages under 2 ^ 32
-pub record IsRun (run : Run) : Type 0 where
+-- a run isn't empty, and its pages are user pages of the mode and its file pages under 2 ^ 32
+pub record IsRun (mode : ℕ) (run : Run) : Type 0 where
   pub low : user_start ≤ run.first
   pub nonempty : run.first < run.end
-  pub high : run.end ≤ user_end
+  pub high : run.end ≤ user_end mode
   pub file_pages : backing_fits run.attr.backing (run.end - run.first)
 
 -- what the page is, where it is of the run

@@ -1,6 +1,6 @@
 -- Lists of runs in order, the map that they stand for, and how they are put together.
 use Rattle.std.specs.Prelude.{ℕ, ◌-◌, ◌<◌, ◌≡◌, ◌≤◌, Bool, false, if◌then◌else◌, List, [], ◌∷◌, Option, Some, None}
-use Rattle.vm_types.specs.Limits.{user_start, user_end}
+use Rattle.vm_types.specs.Limits.{user_start, user_end, widest_end}
 use Rattle.vm_types.specs.declared.permission.Prot.{Prot}
 use Rattle.vm_types.specs.declared.region.Attr.{Attr}
 use Rattle.vm_types.specs.Attributes.{attr_after, attr_eq}
@@ -24,20 +24,20 @@ joins_first run (next ∷ _) = joins run next
 
 -- what a walk over mapped pages finds from a page on: no page is mapped before the run, the run's are its own, and behind it
 -- the map does not go on with it
-pub record IsNextRun (map : ℕ → Option Attr) (page : ℕ) (run : Run) : Type 0 where
+pub record IsNextRun (mode : ℕ) (map : ℕ → Option Attr) (page : ℕ) (run : Run) : Type 0 where
   pub from : page ≤ run.first
   pub low : user_start ≤ run.first
   pub nonempty : run.first < run.end
-  pub high : run.end ≤ user_end
+  pub high : run.end ≤ user_end mode
   pub none_before : (k : ℕ) → page ≤ k → k < run.first → map k ≡ None
   pub mapped : (k : ℕ) → run.first ≤ k → k < run.end → map k ≡ Some (attr_after run.attr (k - run.first))
   pub ends : (attr : Attr) → map run.end ≡ Some attr → attr_eq (attr_after run.attr (run.end - run.first)) attr ≡ false
 
 -- runs from a page on, in order, of which no two neighbours are one
-abbrev pub IsMaximal : ℕ → List Run → Type 0
-IsMaximal from [] = Unit {0}
-IsMaximal from (run ∷ runs) =
-    (from ≤ run.first) × IsRun run × (joins_first run runs ≡ false) × IsMaximal run.end runs
+abbrev pub IsMaximal : ℕ → ℕ → List Run → Type 0
+IsMaximal mode from [] = Unit {0}
+IsMaximal mode from (run ∷ runs) =
+    (from ≤ run.first) × IsRun mode run × (joins_first run runs ≡ false) × IsMaximal mode run.end runs
 
 -- where the last run ends; the page, where there is none
 abbrev pub end_of : ℕ → List Run → ℕ
@@ -67,13 +67,13 @@ pasted low high prot runs (next ∷ others) = pasted low high prot (pushed_part 
 
 -- the list without the pages from first up to, not including, end
 abbrev pub list_removed : List Run → ℕ → ℕ → List Run
-list_removed runs first end = pasted end user_end None (pasted 0 first None [] runs) runs
+list_removed runs first end = pasted end widest_end None (pasted 0 first None [] runs) runs
 
 -- the list with another permission for them
 abbrev pub list_protected : List Run → ℕ → ℕ → Prot → List Run
 list_protected runs first end prot =
-    pasted end user_end None (pasted first end (Some prot) (pasted 0 first None [] runs) runs) runs
+    pasted end widest_end None (pasted first end (Some prot) (pasted 0 first None [] runs) runs) runs
 
 -- the list with a run in their place
 abbrev pub list_replaced : List Run → Run → List Run
-list_replaced runs run = pasted run.end user_end None (pushed (pasted 0 run.first None [] runs) run) runs
+list_replaced runs run = pasted run.end widest_end None (pushed (pasted 0 run.first None [] runs) run) runs

@@ -1,6 +1,6 @@
 -- What a walk along a list of runs finds.
 use Rattle.std.specs.Prelude.{ℕ, ◌+◌, Bool, true, leb, ltb, max, not, ◌&&◌, if◌then◌else◌, List, [], ◌∷◌, Option, Some, None}
-use Rattle.vm_types.specs.Limits.{user_end}
+use Rattle.vm_types.specs.Limits.{user_end, widest_end}
 use Rattle.regions.specs.declared.run.Run.{Run}
 use Rattle.regions.specs.Run.{run_between}
 
@@ -20,9 +20,9 @@ is_clear first end [] = true
 is_clear first end (run ∷ runs) = not (ltb run.first end && ltb first run.end) && is_clear first end runs
 
 -- the lowest page from this one on where so many pages lie between two runs or behind the last
-abbrev pub lowest_gap : ℕ → ℕ → List Run → Option ℕ
-lowest_gap count page [] = if leb (page + count) user_end then Some page else None
-lowest_gap count page (run ∷ runs) = if leb (page + count) run.first then Some page else lowest_gap count run.end runs
+abbrev pub lowest_gap : ℕ → ℕ → ℕ → List Run → Option ℕ
+lowest_gap mode count page [] = if leb (page + count) (user_end mode) then Some page else None
+lowest_gap mode count page (run ∷ runs) = if leb (page + count) run.first then Some page else lowest_gap mode count run.end runs
 
 abbrev pub run_or : Option Run → Option Run → Option Run
 run_or None other = other
@@ -31,4 +31,4 @@ run_or (Some run) other = Some run
 -- the part from the page on of the first run that has one
 abbrev pub first_part : ℕ → List Run → Option Run
 first_part page [] = None
-first_part page (run ∷ runs) = run_or (run_between page user_end None run) (first_part page runs)
+first_part page (run ∷ runs) = run_or (run_between page widest_end None run) (first_part page runs)

@@ -2,7 +2,7 @@
 ghost use Rattle.std.specs.Prelude.{◌≡◌};
 
 use crate::attributes::{attr_after, attr_follows};
-use vm_types::{Attr, Prot};
+use vm_types::{Attr, Levels, Prot};
 
 /// The pages from `first` up to, not including, `end`. The first one's attributes are `attr`; file pages follow one
 /// another.
@@ -17,8 +17,8 @@ impl Run {
     ghost use Rattle.regions.specs.Run.{IsRun, run_between, joins, attr_in};
 
     /// What the page is; `None` where it isn't of this run.
-    pub(crate) fn at(&self, page: u64) -> Option<Attr>
-        requires { IsRun self.now }
+    pub(crate) fn at<M: Levels>(&self, page: u64) -> Option<Attr>
+        requires { IsRun M.mode self.now }
         ensures { result ≡ attr_in self.now page }
     {
         if self.first <= page && page < self.end {
@@ -29,16 +29,16 @@ impl Run {
     }
 
     /// Whether `next` begins where this run ends, and goes on with it.
-    pub(crate) fn joins(&self, next: Run) -> bool
-        requires { IsRun self.now }
+    pub(crate) fn joins<M: Levels>(&self, next: Run) -> bool
+        requires { IsRun M.mode self.now }
         ensures { result ≡ joins self.now next }
     {
         self.end == next.first && attr_follows(self.attr, self.end - self.first, next.attr)
     }
 
     /// The part between `low` and `high`, with the permission `prot` where one is given; `None` where that is empty.
-    pub(crate) fn part(&self, low: u64, high: u64, prot: Option<Prot>) -> Option<Run>
-        requires { IsRun self.now }
+    pub(crate) fn part<M: Levels>(&self, low: u64, high: u64, prot: Option<Prot>) -> Option<Run>
+        requires { IsRun M.mode self.now }
         ensures { result ≡ run_between low high prot self.now }
     {
         let first = self.first.max(low);

@@ -4,20 +4,21 @@ ghost use Rattle.vm_types.specs.Limits.{user_start};
 
 use crate::RUNS;
 use crate::run::Run;
-use std::marker::Model;
-use vm_types::{Attr, Backing, Prot, TooManyRuns, USER_END, USER_START, Vpn};
+use std::marker::{Model, PhantomData};
+use vm_types::{Attr, Backing, Levels, Prot, TooManyRuns, USER_START, Vpn, WIDEST_END};
 
 /// Bytes of a page.
 const PAGE_BYTES: u64 = vm_types::PAGE_BYTES as u64;
 
-/// A map from user pages to attributes of at most 256 runs. Contracts see it through `attr_at`, as that map.
+/// A map from user pages of the mode to attributes of at most 256 runs. Contracts see it through `attr_at`, as that map.
 #[derive(Debug, Drop)]
-pub struct Regions {
+pub struct Regions<M: Levels> {
     runs: [Run; RUNS],
     len: usize,
+    levels: PhantomData<M>,
 }
 
-impl Model for Regions {
+impl<M: Levels> Model for Regions<M> {
     ghost use Rattle.std.specs.Prelude.{ℕ, ◌≤◌, ◌≡◌, List, length, take};
     ghost use Rattle.regions.specs.declared.run.Run.{Run};
 
@@ -28,10 +29,10 @@ impl Model for Regions {
 
     ghost view = { λ r. take r.len r.runs };
 
-    ghost invariant = { λ r. (r.len ≤ 256) × (length r.runs ≡ 256) × IsMaximal user_start (take r.len r.runs) };
+    ghost invariant = { λ r. (r.len ≤ 256) × (length r.runs ≡ 256) × IsMaximal M.mode user_start (take r.len r.runs) };
 }
 
-impl Regions {
+impl<M: Levels> Regions<M> {
     ghost use Rattle.vm_types.specs.Attributes.{backing_fits};
     ghost use Rattle.vm_types.specs.Placement.{is_place, placed};
     ghost use Rattle.vm_types.specs.Rows.{IsUserMap, is_covered, protected, removed, replaced};
@@ -42,24 +43,24 @@ impl Regions {
     ghost use Rattle.vm_types.specs.Limits.{user_start, user_end};
 
     /// No page is mapped.
-    pub fn new() -> Regions
+    pub fn new() -> Regions<M>
         ensures empty { (page : ℕ) → attr_at result page ≡ None }
-        ensures user { IsUserMap (attr_at result) }
+        ensures user { IsUserMap M.mode (attr_at result) }
     {
-        Regions::empty()
+        Regions::<M>::empty()
     }
 
     /// Removes every page. Only the number of runs is written, whatever the table holds.
     pub fn clear(&mut self)
         ensures none { self.new ≡ [] }
         ensures empty { (page : ℕ) → attr_at self.new page ≡ None }
-        ensures user { IsUserMap (attr_at self.new) }
+        ensures user { IsUserMap M.mode (attr_at self.new) }
     {
         self.len = 0;
     }
 
     /// The table without a run.
-    fn empty() -> Regions
+    fn empty() -> Regions<M>
         ensures { result ≡ [] }
     {
         let unused = Run {
@@ -73,13 +74,14 @@ impl Regions {
         Regions {
             runs: [unused; RUNS],
             len: 0,
+            levels: PhantomData,
         }
     }
 
     /// The runs in order.
     fn as_slice(&self) -> &[Run]
         ensures runs { result.now ≡ self.now }
-        ensures maximal { IsMaximal user_start self.now }
+        ensures maximal { IsMaximal M.mode user_start self.now }
         ensures room { length self.now ≤ 256 }
     {
         &self.runs[..self.len]
@@ -88,7 +90,7 @@ impl Regions {
     /// The runs from the first one on that ends behind the page. It is found by halves, in at most nine steps.
     fn runs_behind(&self, page: u64) -> &[Run]
         ensures runs { result.now ≡ runs_behind page self.now }
-        ensures maximal { IsMaximal user_start self.now }
+        ensures maximal { IsMaximal M.mode user_start self.now }
     {
         let runs = self.as_slice();
         let ended = runs.partition_point(|run| run.end <= page);
@@ -97,24 +99,25 @@ impl Regions {
 
     /// How many runs the map has, at most 256.
     pub fn runs(&self) -> usize
-        ensures count { result ≡ run_count (attr_at self.now) }
+        ensures count { result ≡ run_count M.mode (attr_at self.now) }
         ensures limit { result ≤ 256 }
     {
         self.as_slice().len()
     }
 
-    /// The same map again. It is 8 KiB long, so it is never copied unasked.
-    pub fn copied(&self) -> Regions
+    /// The same map again. It is 12 KiB long, so it is never copied unasked.
+    pub fn copied(&self) -> Regions<M>
         ensures { result ≡ self.now }
     {
         Regions {
             runs: self.runs,
             len: self.len,
+            levels: PhantomData,
         }
     }
 
     /// Makes this the same map as another. Of the table no more than that one's runs are written.
-    pub fn assign(&mut self, other: &Regions)
+    pub fn assign(&mut self, other: &Regions<M>)
         ensures { self.new ≡ other.now }
     {
         let len = other.len;
@@ -125,18 +128,18 @@ impl Regions {
     /// What the page is; `None` where it isn't mapped.
     pub fn at(&self, page: Vpn) -> Option<Attr>
         ensures value { result ≡ attr_at self.now page }
-        ensures user { IsUserMap (attr_at self.now) }
+        ensures user { IsUserMap M.mode (attr_at self.now) }
     {
         let page = page.get();
         let run = self.runs_behind(page).first()?;
-        run.at(page)
+        run.at::<M>(page)
     }
 
     /// The pages of one run that come first from `page` on, to the run's end: so a caller walks over the mapped pages of a
     /// row in at most 256 steps, each a search by halves. `None` exactly where no page from `page` on is mapped.
     pub fn next_run(&self, page: u64) -> Option<Run>
         ensures none { IfNone result ((k : ℕ) → page ≤ k → attr_at self.now k ≡ None) }
-        ensures some { IfSome result (IsNextRun (attr_at self.now) page) }
+        ensures some { IfSome result (IsNextRun M.mode (attr_at self.now) page) }
     {
         self.first_part(page)
     }
@@ -144,10 +147,10 @@ impl Regions {
     /// The part from the page on of the first run that has one.
     fn first_part(&self, page: u64) -> Option<Run>
         ensures part { result ≡ first_part page self.now }
-        ensures maximal { IsMaximal user_start self.now }
+        ensures maximal { IsMaximal M.mode user_start self.now }
     {
         let run = self.runs_behind(page).first()?;
-        run.part(page, USER_END, None)
+        run.part::<M>(page, WIDEST_END, None)
     }
 
     /// Whether each of the `pages` pages from `first` on is mapped.
@@ -161,7 +164,7 @@ impl Regions {
     /// The first page from this one on that isn't mapped.
     fn gap_from(&self, page: u64) -> u64
         ensures gap { result ≡ gap_from page self.now }
-        ensures maximal { IsMaximal user_start self.now }
+        ensures maximal { IsMaximal M.mode user_start self.now }
     {
         let mut gap = page;
         for run in self.runs_behind(page) {
@@ -177,11 +180,11 @@ impl Regions {
     /// are free user pages, else to the lowest free row of that many user pages; `None` where there is none.
     pub fn place(&self, address: u64, pages: u64) -> Option<Vpn>
         requires { 0 < pages }
-        ensures { result ≡ placed (attr_at self.now) address pages }
+        ensures { result ≡ placed M.mode (attr_at self.now) address pages }
     {
         let hint = address / PAGE_BYTES;
         if address != 0 && self.is_place(hint, pages) {
-            return Vpn::new(hint);
+            return Vpn::new::<M>(hint);
         }
         self.lowest_gap(pages)
     }
@@ -189,9 +192,10 @@ impl Regions {
     /// Whether the `pages` pages from `first` on are free user pages.
     fn is_place(&self, first: u64, pages: u64) -> bool
         requires { 0 < pages }
-        ensures { result ≡ is_place (attr_at self.now) pages first }
+        ensures { result ≡ is_place M.mode (attr_at self.now) pages first }
     {
-        if first < USER_START || first > USER_END || pages > USER_END - first {
+        let end = M::user_end();
+        if first < USER_START || first > end || pages > end - first {
             return false;
         }
         self.is_clear(first, first + pages)
@@ -200,7 +204,7 @@ impl Regions {
     /// Whether no run has a page from `first` up to, not including, `end`.
     fn is_clear(&self, first: u64, end: u64) -> bool
         ensures clear { result ≡ is_clear first end self.now }
-        ensures maximal { IsMaximal user_start self.now }
+        ensures maximal { IsMaximal M.mode user_start self.now }
     {
         match self.runs_behind(first).first() {
             Some(run) => end <= run.first,
@@ -211,18 +215,19 @@ impl Regions {
     /// The lowest page where `pages` pages lie between two runs or behind the last.
     fn lowest_gap(&self, pages: u64) -> Option<Vpn>
         requires { 0 < pages }
-        ensures place { result ≡ lowest_gap pages user_start self.now }
-        ensures maximal { IsMaximal user_start self.now }
+        ensures place { result ≡ lowest_gap M.mode pages user_start self.now }
+        ensures maximal { IsMaximal M.mode user_start self.now }
     {
+        let end = M::user_end();
         let mut start = USER_START;
         for run in self.as_slice() {
             if pages <= run.first - start {
-                return Vpn::new(start);
+                return Vpn::new::<M>(start);
             }
             start = run.end;
         }
-        if pages <= USER_END - start {
-            Vpn::new(start)
+        if pages <= end - start {
+            Vpn::new::<M>(start)
         } else {
             None
         }
@@ -235,17 +240,17 @@ impl Regions {
         first: u64,
         pages: u64,
         attr: Attr,
-        next: &mut Regions,
+        next: &mut Regions<M>,
     ) -> Result<(), TooManyRuns>
         requires some { 0 < pages }
         requires low { user_start ≤ first }
-        requires high { first + pages ≤ user_end }
+        requires high { first + pages ≤ user_end M.mode }
         requires file_pages { backing_fits attr.backing pages }
         ensures ok { OnOk result ((page : ℕ) → attr_at next.new page ≡ replaced (attr_at self.now) first pages attr page) }
-        ensures few { OnOk result (run_count (replaced (attr_at self.now) first pages attr) ≤ 256) }
-        ensures too_many { OnErr result (256 < run_count (replaced (attr_at self.now) first pages attr)) }
-        ensures user_before { IsUserMap (attr_at self.now) }
-        ensures user_after { OnOk result (IsUserMap (attr_at next.new)) }
+        ensures few { OnOk result (run_count M.mode (replaced (attr_at self.now) first pages attr) ≤ 256) }
+        ensures too_many { OnErr result (256 < run_count M.mode (replaced (attr_at self.now) first pages attr)) }
+        ensures user_before { IsUserMap M.mode (attr_at self.now) }
+        ensures user_after { OnOk result (IsUserMap M.mode (attr_at next.new)) }
     {
         let run = Run {
             first,
@@ -255,24 +260,29 @@ impl Regions {
         next.clear();
         next.paste(self.as_slice(), 0, first, None)?;
         next.push(run)?;
-        next.paste(self.as_slice(), run.end, USER_END, None)?;
+        next.paste(self.as_slice(), run.end, WIDEST_END, None)?;
         Ok(())
     }
 
     /// Makes `next` this map without the `pages` pages from `first` on; a page that isn't mapped is no error.
     /// `TooManyRuns` exactly where that has more than 256 runs; then `next` is some map.
-    pub fn remove_into(&self, first: u64, pages: u64, next: &mut Regions) -> Result<(), TooManyRuns>
+    pub fn remove_into(
+        &self,
+        first: u64,
+        pages: u64,
+        next: &mut Regions<M>,
+    ) -> Result<(), TooManyRuns>
         requires some { 0 < pages }
         requires row { first + pages < 2 ^ 64 }
         ensures ok { OnOk result ((page : ℕ) → attr_at next.new page ≡ removed (attr_at self.now) first pages page) }
-        ensures few { OnOk result (run_count (removed (attr_at self.now) first pages) ≤ 256) }
-        ensures too_many { OnErr result (256 < run_count (removed (attr_at self.now) first pages)) }
-        ensures user_before { IsUserMap (attr_at self.now) }
-        ensures user_after { OnOk result (IsUserMap (attr_at next.new)) }
+        ensures few { OnOk result (run_count M.mode (removed (attr_at self.now) first pages) ≤ 256) }
+        ensures too_many { OnErr result (256 < run_count M.mode (removed (attr_at self.now) first pages)) }
+        ensures user_before { IsUserMap M.mode (attr_at self.now) }
+        ensures user_after { OnOk result (IsUserMap M.mode (attr_at next.new)) }
     {
         next.clear();
         next.paste(self.as_slice(), 0, first, None)?;
-        next.paste(self.as_slice(), first + pages, USER_END, None)?;
+        next.paste(self.as_slice(), first + pages, WIDEST_END, None)?;
         Ok(())
     }
 
@@ -283,21 +293,21 @@ impl Regions {
         first: u64,
         pages: u64,
         prot: Prot,
-        next: &mut Regions,
+        next: &mut Regions<M>,
     ) -> Result<(), TooManyRuns>
         requires some { 0 < pages }
         requires row { first + pages < 2 ^ 64 }
         ensures ok { OnOk result ((page : ℕ) → attr_at next.new page ≡ protected (attr_at self.now) first pages prot page) }
-        ensures few { OnOk result (run_count (protected (attr_at self.now) first pages prot) ≤ 256) }
-        ensures too_many { OnErr result (256 < run_count (protected (attr_at self.now) first pages prot)) }
-        ensures user_before { IsUserMap (attr_at self.now) }
-        ensures user_after { OnOk result (IsUserMap (attr_at next.new)) }
+        ensures few { OnOk result (run_count M.mode (protected (attr_at self.now) first pages prot) ≤ 256) }
+        ensures too_many { OnErr result (256 < run_count M.mode (protected (attr_at self.now) first pages prot)) }
+        ensures user_before { IsUserMap M.mode (attr_at self.now) }
+        ensures user_after { OnOk result (IsUserMap M.mode (attr_at next.new)) }
     {
         let end = first + pages;
         next.clear();
         next.paste(self.as_slice(), 0, first, None)?;
         next.paste(self.as_slice(), first, end, Some(prot))?;
-        next.paste(self.as_slice(), end, USER_END, None)?;
+        next.paste(self.as_slice(), end, WIDEST_END, None)?;
         Ok(())
     }
 
@@ -310,7 +320,7 @@ impl Regions {
         high: u64,
         prot: Option<Prot>,
     ) -> Result<(), TooManyRuns>
-        requires maximal { IsMaximal user_start runs.now }
+        requires maximal { IsMaximal M.mode user_start runs.now }
         requires behind { end_of user_start self.old ≤ max low user_start }
         requires few { length self.old ≤ 256 }
         ensures ok { OnOk result (self.new ≡ pasted low high prot self.old runs.now) }
@@ -318,7 +328,7 @@ impl Regions {
         ensures err { OnErr result (256 < length (pasted low high prot self.old runs.now)) }
     {
         for run in runs {
-            if let Some(part) = run.part(low, high, prot) {
+            if let Some(part) = run.part::<M>(low, high, prot) {
                 self.push(part)?;
             }
         }
@@ -327,7 +337,7 @@ impl Regions {
 
     /// Puts a run behind the others, joining it with the last where it goes on with that.
     fn push(&mut self, next: Run) -> Result<(), TooManyRuns>
-        requires run { IsRun next }
+        requires run { IsRun M.mode next }
         requires behind { end_of user_start self.old ≤ next.first }
         ensures ok { OnOk result (self.new ≡ pushed self.old next) }
         ensures few { OnOk result (length self.new ≤ 256) }
@@ -352,6 +362,6 @@ impl Regions {
         if self.len == 0 {
             return false;
         }
-        self.runs[self.len - 1].joins(next)
+        self.runs[self.len - 1].joins::<M>(next)
     }
 }

@@ -8,8 +8,9 @@ use Rattle.vm_types.specs.declared.reply.Reply.{Reply}
 use Rattle.vm_types.specs.Prefix.{Event}
 use Rattle.vm_types.specs.State.{State}
 use Rattle.machine.specs.declared.machine.Machine.{Machine}
-use Rattle.machine.specs.Machine.{IsReadable, Shows, Meets}
+use Rattle.machine.specs.Machine.{store_of, swap_of, Shows, Meets}
 use Rattle.machine.specs.Chain.{event, Caused, Chain, Runs}
+use Rattle.machine.proofs.Face.{readable, face}
 use Rattle.machine.proofs.Runs.{chain_room, leaves_prefix}
 use Rattle.trace_lang.specs.Lines.{lines_of}
 use Rattle.runner.specs.declared.engine.RunEnd.{RunEnd}
@@ -104,36 +105,36 @@ module _ {D E : Type 0} (g : Ghosts D) (h : Ghosts E) where
 
   -- a store that keeps the disk model to the end kept it from the beginning
   kept_all : (old new : Machine D E) (lines : List (List ℕ)) (text : List ℕ) → CarriesOut g h old lines text new
-      → g.keeps_model new.core.store.disk → g.keeps_model old.core.store.disk
-  kept_all old new [] text carried keeps = subst (λ m. g.keeps_model m.core.store.disk) carried.1 keeps
+      → g.keeps_model (store_of new) → g.keeps_model (store_of old)
+  kept_all old new [] text carried keeps = subst (λ m. g.keeps_model (store_of m)) carried.1 keeps
   kept_all old new (line ∷ lines) text carried keeps =
       let mid = kept_all carried.0 new lines carried.2 carried.4 keeps in
       elim carried.3 [
         | inl o ↦ o.kept mid
-        | inr r ↦ subst (λ m. g.keeps_model m.core.store.disk) r.same mid
+        | inr r ↦ subst (λ m. g.keeps_model (store_of m)) r.same mid
       ]
 
   -- and so a swap device
   swap_kept_all : (old new : Machine D E) (lines : List (List ℕ)) (text : List ℕ) → CarriesOut g h old lines text new
-      → h.keeps_model new.core.swap.pages.disk → h.keeps_model old.core.swap.pages.disk
-  swap_kept_all old new [] text carried keeps = subst (λ m. h.keeps_model m.core.swap.pages.disk) carried.1 keeps
+      → h.keeps_model (swap_of new) → h.keeps_model (swap_of old)
+  swap_kept_all old new [] text carried keeps = subst (λ m. h.keeps_model (swap_of m)) carried.1 keeps
   swap_kept_all old new (line ∷ lines) text carried keeps =
       let mid = swap_kept_all carried.0 new lines carried.2 carried.4 keeps in
       elim carried.3 [
         | inl o ↦ o.swap_kept mid
-        | inr r ↦ subst (λ m. h.keeps_model m.core.swap.pages.disk) r.same mid
+        | inr r ↦ subst (λ m. h.keeps_model (swap_of m)) r.same mid
       ]
 
   pub kept_trace : (end : RunEnd) (old new : Machine D E) (left left_then held held_then : Option (List ℕ)) (bytes : List ℕ)
       → EndsSo g h end left_then (stage old [] [] held) (stage new [] [] held_then) bytes []
-      → g.keeps_model new.core.store.disk → g.keeps_model old.core.store.disk
+      → g.keeps_model (store_of new) → g.keeps_model (store_of old)
   kept_trace end old new left left_then held held_then bytes ended keeps =
       let r = ran end old new left left_then held held_then bytes ended in
       kept_all old new r.lines r.text r.runs keeps
 
   pub swap_kept_trace : (end : RunEnd) (old new : Machine D E) (left left_then held held_then : Option (List ℕ)) (bytes : List ℕ)
       → EndsSo g h end left_then (stage old [] [] held) (stage new [] [] held_then) bytes []
-      → h.keeps_model new.core.swap.pages.disk → h.keeps_model old.core.swap.pages.disk
+      → h.keeps_model (swap_of new) → h.keeps_model (swap_of old)
   swap_kept_trace end old new left left_then held held_then bytes ended keeps =
       let r = ran end old new left left_then held held_then bytes ended in
       swap_kept_all old new r.lines r.text r.runs keeps
@@ -176,7 +177,7 @@ module _ {D E : Type 0} (g : Ghosts D) (h : Ghosts E)
   }
 
   relates : (old new : Machine D E) (s : State) (lines : List (List ℕ)) (text : List ℕ)
-      → CarriesOut g h old lines text new → Shows g h old s → g.keeps_model new.core.store.disk → h.keeps_model new.core.swap.pages.disk
+      → CarriesOut g h old lines text new → Shows g h old s → g.keeps_model (store_of new) → h.keeps_model (swap_of new)
       → Session old new s lines text
   relates old new s [] text carried shows keeps swap_keeps = record {
     commands = [];
@@ -191,13 +192,10 @@ module _ {D E : Type 0} (g : Ghosts D) (h : Ghosts E)
       let mid = carried.0 in
       elim carried.3 [
         | inl o ↦
-            let readable : IsReadable g h mid s o.command = record {
-              files = λ _. kept_all g h mid new lines carried.2 carried.4 keeps;
-              slots = λ _. swap_kept_all g h mid new lines carried.2 carried.4 swap_keeps;
-            } in
-            let step = o.steps s shows readable in
+            let may = readable g h mid s o.command (kept_all g h mid new lines carried.2 carried.4 keeps) (swap_kept_all g h mid new lines carried.2 carried.4 swap_keeps) in
+            let step = o.steps s shows may in
             obeyed old mid new s line lines carried.1 carried.2 text o carried.5 step
-            (relates mid new step.0 lines carried.2 carried.4 step.1.shows keeps swap_keeps)
+            (relates mid new step.0 lines carried.2 carried.4 (face g h old mid s step.0 o.command o.reply step.1).shows keeps swap_keeps)
         | inr r ↦
             rejected old mid new s line lines carried.1 carried.2 text r carried.5
             (relates old new s lines carried.2 (subst (λ m. CarriesOut g h m lines carried.2 new) r.same carried.4) shows keeps swap_keeps)
@@ -212,12 +210,12 @@ module _ {D E : Type 0} (g : Ghosts D) (h : Ghosts E)
     shows = a.shows;
     room = chain_room g h old s a.commands a.replies a.events new a.last a.chain;
     prefixes = λ run keeps.
-        leaves_prefix g h (g.sector_count old.core.store.disk) s.files old s a.commands a.replies a.events new a.last a.chain keeps run refl refl only_now before;
+        leaves_prefix g h (g.sector_count (store_of old)) s.files old s a.commands a.replies a.events new a.last a.chain keeps run refl refl only_now before;
   }
 
   pub runs_trace : (end : RunEnd) (old new : Machine D E) (s : State) (left left_then held held_then : Option (List ℕ)) (bytes : List ℕ)
       → Consumes left left_then bytes → EndsSo g h end left_then (stage old [] [] held) (stage new [] [] held_then) bytes []
-      → Shows g h old s → g.keeps_model new.core.store.disk → h.keeps_model new.core.swap.pages.disk → RunsTrace g h end old new (streams left held) (streams left_then held_then) s
+      → Shows g h old s → g.keeps_model (store_of new) → h.keeps_model (swap_of new) → RunsTrace g h end old new (streams left held) (streams left_then held_then) s
   runs_trace end old new s left left_then held held_then bytes read ended shows keeps swap_keeps =
       let r = ran g h end old new left left_then held held_then bytes ended in
       let a = relates old new s r.lines r.text r.runs shows keeps swap_keeps in

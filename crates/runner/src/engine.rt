@@ -1,7 +1,7 @@
 //! Runs the lines of a trace.
 ghost use Rattle.std.specs.Prelude.{◌≡◌, ℕ, List, Option, [], ◌∷◌, ◌++◌, ◌+◌, ◌<◌, ◌≤◌, length, take, IfNone, IfOk, IfSome, MatchOption, MatchResult, OnOk, slice_index};
 ghost use Rattle.std.specs.Io.KnownBytes.{Consumes, IsAtEnd};
-ghost use Rattle.machine.specs.Machine.{IsSoundMachine, Shows};
+ghost use Rattle.machine.specs.Machine.{store_of, swap_of, past_of, IsSoundMachine, Shows};
 ghost use Rattle.vm_types.specs.State.{State};
 ghost use Rattle.runner.specs.Progress.{stage, HoldsOpenLine, RunsLast, GoesOn, BreaksOff, Ends, EndsSo};
 ghost use Rattle.runner.specs.Session.{Answers};
@@ -42,7 +42,7 @@ struct ReadFault;
 fn answer_history<D: SectorDisk, E: SectorDisk>(output: &mut OutputBuffer, machine: &Machine<D, E>)
     requires room { length output.old < 32768 }
     ensures room { length output.new ≤ length output.old + 1024 }
-    ensures text { output.new ≡ output.old ++ text_of (Past machine.now.past) }
+    ensures text { output.new ≡ output.old ++ text_of (Past (past_of machine.now)) }
 {
     output.push_history(&machine.history());
 }
@@ -315,12 +315,12 @@ pub fn run<R: Read, W: Write, D: SectorDisk, E: SectorDisk>(
 ) -> RunEnd
     requires { IsSoundMachine D.SectorDisk E.SectorDisk machine.old }
     ensures sound { IsSoundMachine D.SectorDisk E.SectorDisk machine.new }
-    ensures kept { D.keeps_model machine.new.core.store.disk → D.keeps_model machine.old.core.store.disk }
-    ensures swap_kept { E.keeps_model machine.new.core.swap.pages.disk → E.keeps_model machine.old.core.swap.pages.disk }
+    ensures kept { D.keeps_model (store_of machine.new) → D.keeps_model (store_of machine.old) }
+    ensures swap_kept { E.keeps_model (swap_of machine.new) → E.keeps_model (swap_of machine.old) }
     ensures caused { CausedTrace D.SectorDisk E.SectorDisk result machine.old machine.new
         (streams (R.remaining reader.old) (W.contents writer.old)) (streams (R.remaining reader.new) (W.contents writer.new)) }
-    ensures runs { (s : State) → Shows D.SectorDisk E.SectorDisk machine.old s → D.keeps_model machine.new.core.store.disk
-        → E.keeps_model machine.new.core.swap.pages.disk → RunsTrace D.SectorDisk E.SectorDisk result machine.old machine.new
+    ensures runs { (s : State) → Shows D.SectorDisk E.SectorDisk machine.old s → D.keeps_model (store_of machine.new)
+        → E.keeps_model (swap_of machine.new) → RunsTrace D.SectorDisk E.SectorDisk result machine.old machine.new
         (streams (R.remaining reader.old) (W.contents writer.old)) (streams (R.remaining reader.new) (W.contents writer.new)) s }
 {
     run_turns(reader, writer, machine)

@@ -33,6 +33,7 @@ pub(crate) fn stop_words<'a>(
     let config = Config {
         frames: number_or(matches.get_str("frames"), DEFAULT_CONFIG.frames)?,
         slots: number_or(matches.get_str("slots"), DEFAULT_CONFIG.slots)?,
+        mode: DEFAULT_CONFIG.mode,
     };
     let every = number_or(matches.get_str("every"), 1)?;
     if every == 0 {

@@ -1,9 +1,9 @@
--- RISC-V Privileged Specification, "Virtual Address Translation Process", for Sv39 and for any other number of levels of
--- 512 entries each (`top` is one less than that number: 2 for Sv39). Where the specification leaves a choice, ours is:
+-- RISC-V Privileged Specification, "Virtual Address Translation Process", for any number of levels of
+-- 512 entries each (`top` is one less than that number: 2 for Sv39, 3 for Sv48). Where the specification leaves a choice, ours is:
 -- user mode, MXR clear; no PMA or PMP check but that tables and pages lie in memory, a page fault too where they don't; A
 -- and D are kept by software, so a clear A, and a clear D at a store, is a page fault; A, D and U of a pointer aren't
 -- looked at. The specification doesn't part its page faults by reasons: names and order of the reasons are our own.
-use Rattle.std.specs.Prelude.{ℕ, zero, suc, ◌+◌, ◌-◌, ◌*◌, ◌/◌, ◌%◌, ◌^◌, Bool, true, false, ◌&&◌, ◌||◌, not, ◌==◌, nat_lt, nat_le, if◌then◌else◌, Result, Ok, Err}
+use Rattle.std.specs.Prelude.{◌≡◌, refl, List, [], ◌∷◌, ℕ, zero, suc, ◌+◌, ◌-◌, ◌*◌, ◌/◌, ◌%◌, ◌^◌, Bool, true, false, ◌&&◌, ◌||◌, not, ◌==◌, nat_lt, nat_le, if◌then◌else◌, Result, Ok, Err}
 use Rattle.vm_types.specs.Limits.{table_entries}
 use Rattle.vm_types.specs.declared.access.Access.{Access}
 use Rattle.vm_types.specs.declared.access.Access.TheVariants.{Load, Store, Fetch}
@@ -65,3 +65,33 @@ translated top t root addr access =
     if not (is_canonical top addr) then Err NonCanonical
     else if nat_le (frame_count t) root then Err Outside
     else let last = last_of t (page_of addr) top root in answer_of (frame_count t) addr access last.0 last.1
+
+-- the fields of the last user page of each mode, from the highest down
+abbrev pub fields : ℕ → ℕ → List ℕ
+fields page zero = index_of page 0 ∷ []
+fields page (suc level) = index_of page (suc level) ∷ fields page level
+
+pub last_of_sv39 : fields (page_of 0x3fffffffff) 2 ≡ 255 ∷ 511 ∷ 511 ∷ []
+unfolding index_of
+last_of_sv39 = refl
+
+pub last_of_sv48 : fields (page_of 0x7fffffffffff) 3 ≡ 255 ∷ 511 ∷ 511 ∷ 511 ∷ []
+unfolding index_of
+last_of_sv48 = refl
+
+-- the first address that Sv39 has no place for in its lower half is one of Sv48
+pub above_sv39 : is_canonical 2 0x4000000000 ≡ false
+unfolding is_canonical
+above_sv39 = refl
+
+pub inside_sv48 : is_canonical 3 0x4000000000 ≡ true
+unfolding is_canonical
+inside_sv48 = refl
+
+pub above_sv48 : is_canonical 3 0x800000000000 ≡ false
+unfolding is_canonical
+above_sv48 = refl
+
+pub top_of_sv48 : is_canonical 3 0xffff800000000000 ≡ true
+unfolding is_canonical
+top_of_sv48 = refl

@@ -3,13 +3,14 @@ use crate::evictions::{
     EIGHT_PAGES, EIGHT_PAGES_SHOWN, EIGHT_PAGES_SYNCED, FORTY_LINES, LOOKED_AFTER_AN_MSYNC,
     LOOKED_AFTER_TWO_MSYNCS,
 };
-use crate::{evictions, histories, mappings, memory, processes, shared_pages};
+use crate::{evictions, four_levels, histories, mappings, memory, processes, shared_pages};
 use machine::Config;
 use std::test::Fail;
 use test_traces::{
     Armed, CONFIG, PLAIN, SMALL, Setting, asked_after_start, expect, expect_all, expect_file,
     expect_in, image_of_letters, left_in, same,
 };
+use vm_types::Mode;
 
 /// A trace, and its replies.
 type Exchange = (&'static [u8], &'static [u8]);
@@ -21,6 +22,25 @@ fn traces_are_answered(rt: HostRuntime) -> Result<(), Fail> {
     expect_all(rt.alloc(), 4096, &histories::ROWS)?;
     expect_all(rt.alloc(), 8192, &shared_pages::ROWS)?;
     expect_all(rt.alloc(), 32768, &mappings::ROWS)
+}
+
+/// 64 frames, over a page of zeros.
+const SV48: Setting = Setting {
+    length: 4096,
+    config: Config {
+        frames: 64,
+        slots: 16,
+        mode: Mode::Sv48,
+    },
+    armed: Armed::Nothing,
+};
+
+#[test]
+fn four_levels_are_answered(rt: HostRuntime) -> Result<(), Fail> {
+    for exchange in four_levels::ROWS {
+        expect_in(rt.alloc(), SV48, exchange)?;
+    }
+    expect_in(rt.alloc(), PLAIN, four_levels::IN_THREE_LEVELS)
 }
 
 #[test]
@@ -77,6 +97,7 @@ const WITHOUT_SLOTS: Setting = Setting {
     config: Config {
         frames: 8,
         slots: 0,
+        mode: Mode::Sv39,
     },
     armed: Armed::Nothing,
 };
@@ -96,6 +117,7 @@ const ASKED: [(Setting, Exchange, (u64, u64)); 11] = [
             config: Config {
                 frames: 64,
                 slots: 0,
+                mode: Mode::Sv39,
             },
             armed: Armed::Nothing,
         },

@@ -1,6 +1,7 @@
 //! Traces that need more pages than memory has frames, and their replies: frames are given up, and their pages come back from swap.
 use machine::Config;
 use test_traces::{CONFIG, SMALL};
+use vm_types::Mode;
 
 /// Two objects of shared anonymous memory, of which the first outlives the process that mapped it, and a third one begins with zeros.
 const COMMON: (&[u8], &[u8]) = (
@@ -12,12 +13,13 @@ addr 0x10000\nvalue 0x00\n",
 );
 
 /// How many frames and slots there are, a trace, and its replies, over a file of eight pages.
-pub(crate) const ROWS: [(Config, (&[u8], &[u8])); 8] = [
+pub(crate) const ROWS: [(Config, (&[u8], &[u8])); 10] = [
     // Without a slot no page of a process's own can be given up: the fifth store stalls.
     (
         Config {
             frames: 8,
             slots: 0,
+            mode: Mode::Sv39,
         },
         (
             b"spawn\nmmap 1 0 0x10000 rw- anon\nstore 1 0x10000 1 0x1\nstore 1 0x11000 1 0x2\n\
@@ -30,6 +32,7 @@ store 1 0x12000 1 0x3\nstore 1 0x13000 1 0x4\nstore 1 0x14000 1 0x5\nload 1 0x10
         Config {
             frames: 10,
             slots: 16,
+            mode: Mode::Sv39,
         },
         (
             b"spawn\nmmap 1 0 0x6000 rw- anon\nstore 1 0x10000 1 0x11\nfork 1\nstore 1 0x11000 1 0x21\n\
@@ -43,6 +46,7 @@ store 2 0x10001 1 0x22\nload 1 0x10000 2\nload 2 0x10000 2\n",
         Config {
             frames: 9,
             slots: 2,
+            mode: Mode::Sv39,
         },
         (
             b"spawn\nmmap 1 0 4096 rw- anon\nstore 1 0x10000 1 1\nfork 1\nstore 2 0x10000 1 2\n\
@@ -55,6 +59,7 @@ load 1 0x10000 1\nload 2 0x10000 1\n",
         Config {
             frames: 8,
             slots: 3,
+            mode: Mode::Sv39,
         },
         (
             b"spawn\nmmap 1 0 0x8000 rw- shared 0 0\nstore 1 0x10000 1 1\nstore 1 0x11000 1 2\n\
@@ -70,6 +75,7 @@ store 1 0x16000 1 7\nstore 1 0x17000 1 8\nmsync 1 0x10000 0x8000 sync\nstore 1 0
         Config {
             frames: 9,
             slots: 4,
+            mode: Mode::Sv39,
         },
         COMMON,
     ),
@@ -88,6 +94,7 @@ store 1 0x16000 1 7\nstore 1 0x17000 1 8\nmsync 1 0x10000 0x8000 sync\nstore 1 0
         Config {
             frames: 8,
             slots: 0,
+            mode: Mode::Sv39,
         },
         (
             b"spawn\nmmap 1 0 4096 rw- anon\nstore 1 0x10000 1 1\nspawn\nfork 1\nfork 1\nload 1 0x10000 1\nexit 2\n\
@@ -95,6 +102,28 @@ fork 1\nload 2 0x10000 1\nstore 2 0x10000 1 2\nexit 1\nstore 2 0x10000 1 3\nload
             b"pid 1\naddr 0x10000\nok\npid 2\nstall 2 NOSWAP\nstall 2 NOSWAP\nvalue 0x01\nok\npid 2\nvalue 0x01\n\
 stall 1 NOFRAMES\nok\nok\nvalue 0x03\n",
         ),
+    ),
+    // In Sv48 a process has a table more: three frames are left for pages, and the fourth store stalls without a slot.
+    (
+        Config {
+            frames: 8,
+            slots: 0,
+            mode: Mode::Sv48,
+        },
+        (
+            b"spawn\nmmap 1 0 0x10000 rw- anon\nstore 1 0x10000 1 0x1\nstore 1 0x11000 1 0x2\n\
+store 1 0x12000 1 0x3\nstore 1 0x13000 1 0x4\nload 1 0x10000 1\nload 1 0x13000 1\n",
+            b"pid 1\naddr 0x10000\nok\nok\nok\nstall 2 NOSWAP\nvalue 0x01\nvalue 0x00\n",
+        ),
+    ),
+    // With slots the forty lines have the same replies in Sv48.
+    (
+        Config {
+            frames: 8,
+            slots: 16,
+            mode: Mode::Sv48,
+        },
+        FORTY_LINES,
     ),
 ];
 

@@ -6,6 +6,7 @@ use runner::RunEnd;
 use std::alloc::Global;
 use std::test::Fail;
 use test_traces::{Armed, CONFIG, PLAIN, SMALL, Setting, expect_ending, image, ran_on, same};
+use vm_types::Mode;
 
 /// A trace, its replies, and how its run ends: whether the machine is halted then, or why none starts.
 type Ending = (
@@ -51,6 +52,7 @@ const ENDINGS: [Ending; 9] = [
             config: Config {
                 frames: 8,
                 slots: 17,
+                mode: Mode::Sv39,
             },
             armed: Armed::Nothing,
         },
@@ -142,6 +144,7 @@ fn refused_for_frames(
     let few = Config {
         frames: 7,
         slots: 16,
+        mode: Mode::Sv39,
     };
     let mut output = Vec::new(alloc);
     match ran_on(alloc, few, devices, reader, &mut output) {

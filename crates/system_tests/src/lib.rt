@@ -10,6 +10,8 @@ mod failing_devices;
 #[cfg(test)]
 mod files;
 #[cfg(test)]
+mod four_levels;
+#[cfg(test)]
 mod histories;
 #[cfg(test)]
 mod limits;

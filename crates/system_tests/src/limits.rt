@@ -5,6 +5,7 @@ use machine::Config;
 use std::alloc::Global;
 use std::test::Fail;
 use test_traces::{Armed, Exchange, PLAIN, SMALL, Setting, expect_file, expect_in, left_in};
+use vm_types::Mode;
 
 /// Takes every other page its right to be stored to, up to the limit of 256 runs.
 fn runs_to_the_limit(alloc: Global) -> Result<Exchange, Fail> {
@@ -36,6 +37,7 @@ const ROOMY: Setting = Setting {
     config: Config {
         frames: 2048,
         slots: 0,
+        mode: Mode::Sv39,
     },
     armed: Armed::Nothing,
 };
@@ -115,6 +117,7 @@ fn expect_processes(
 const ROOM_FOR_ALL: Config = Config {
     frames: 128,
     slots: 16,
+    mode: Mode::Sv39,
 };
 
 /// All processes are made, then one more is refused, and one that has ended makes room for another. In eight frames seven are made, and all

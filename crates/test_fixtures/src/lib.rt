@@ -16,7 +16,7 @@ use std::alloc::Global;
 use std::test::Fail;
 use swap::Swap;
 use sync_journal::FIRST_HOME;
-use vm_types::{Pid, SlotNo};
+use vm_types::{Levels, Pid, SlotNo};
 
 /// How large memory, its swap and its one file are, and which call of each device fails, the first being 1; 0 is none.
 #[derive(Clone, Copy)]
@@ -80,7 +80,7 @@ fn opened(disk: SimDisk) -> Result<FileStore<SimDisk>, OpenFault>
 }
 
 /// Memory of these sizes, with no process yet.
-pub fn memory(alloc: Global, sizes: Sizes) -> Result<Core<SimDisk, SimDisk>, Fail>
+pub fn memory<M: Levels>(alloc: Global, sizes: Sizes) -> Result<Core<SimDisk, SimDisk, M>, Fail>
     requires least { 8 ≤ sizes.frames }
     requires most { sizes.frames ≤ 64 }
     requires slots { sizes.slots ≤ 64 }
@@ -96,7 +96,7 @@ pub fn memory(alloc: Global, sizes: Sizes) -> Result<Core<SimDisk, SimDisk>, Fai
     let mut device = SimDisk::new(alloc, 8 * u64::from(sizes.slots))?;
     device.fail_at(sizes.swap_fails);
     let swap = Swap::new(alloc, device, sizes.slots)?;
-    match Core::new(alloc, store, swap, sizes.frames, sizes.slots) {
+    match Core::<SimDisk, SimDisk, M>::new(alloc, store, swap, sizes.frames, sizes.slots) {
         Ok(core) => Ok(core),
         Err((refused, _)) => Err(Fail::from(refused)),
     }
@@ -113,7 +113,7 @@ pub fn first_process() -> Pid
 }
 
 /// The share count of a slot; `None` where memory has no such slot.
-pub fn sharers<D, E>(core: &Core<D, E>, slot: u32) -> Option<u8> {
+pub fn sharers<D, E, M: Levels>(core: &Core<D, E, M>, slot: u32) -> Option<u8> {
     if slot < core.swap.len() {
         Some(core.swap.count(SlotNo(slot)))
     } else {

@@ -10,6 +10,7 @@ use runner::{RunEnd, run, run_on};
 use std::alloc::Global;
 use std::io::{Read, Write};
 use std::test::Fail;
+use vm_types::Mode;
 
 /// The fault that a device is to have: the store's, or that of swap, whose calls are counted from the start of the machine on.
 #[derive(Clone, Copy, Debug, PartialEq, Eq)]
@@ -26,12 +27,14 @@ pub enum Armed {
 pub const CONFIG: Config = Config {
     frames: 64,
     slots: 16,
+    mode: Mode::Sv39,
 };
 
 /// The fewest frames: with one process and pages that lie together there are four for pages, beside the zero page and three tables.
 pub const SMALL: Config = Config {
     frames: 8,
     slots: 16,
+    mode: Mode::Sv39,
 };
 
 /// What a trace is run on: a machine of that size over a file of so many zeros, and the fault of its devices.

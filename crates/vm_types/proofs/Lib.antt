@@ -1,3 +1,4 @@
+pub mod Modes
 pub mod Naming
 pub mod NewObjects
 pub mod SharedMemory

@@ -1,14 +1,15 @@
 -- The number of a new object is one that no process uses, since processes have fewer runs than there are numbers to try.
 use Rattle.std.proofs.Common.{◌≡◌, ◌≢◌, ℕ, zero, suc, inl, inr, ◌+◌, ◌*◌, ◌<◌, ◌≤◌, ◌^◌, Bool, true, false, not, ◌||◌, ◌==◌, Option, Some, None, refl, sym, ap, ◌∙◌, arith, eqb-true, eq-eqb, ne_eqb}
-use Rattle.std.proofs.lemmas.Bool.{cases_eq, cases_Bool, false≢true, true≢false, and_parts}
+use Rattle.std.proofs.lemmas.Bool.{cases_eq, cases_lt, cases_Bool, false≢true, true≢false, and_parts}
 use Rattle.vm_types.specs.declared.region.Attr.{Attr}
 use Rattle.vm_types.specs.declared.region.Backing.{Backing}
 use Rattle.vm_types.specs.declared.region.Backing.TheVariants.{Anon, Private, Shared, Common}
 use Rattle.vm_types.specs.Attributes.{attr_after, backing_after, backing_eq}
 use Rattle.vm_types.specs.Counting.{any_below, count_below, sum_below}
-use Rattle.vm_types.specs.Limits.{named_limit, object_limit, user_end}
+use Rattle.vm_types.specs.Limits.{named_limit, object_limit, user_end, widest_end}
 use Rattle.vm_types.specs.Objects.{Maps, uses, is_of_object, is_used, least_from, free_object}
 use Rattle.vm_types.specs.Runs.{begins, begins_run, runs_below, run_count}
+use Rattle.vm_types.proofs.Modes.{sizes}
 use Rattle.vm_types.proofs.Naming.{any-at}
 
 least-below : (passes : ℕ → Bool) (n count : ℕ) → least_from passes n count ≤ n + count
@@ -24,7 +25,7 @@ pub free-below : (maps : Maps) → free_object maps < 2 ^ 16
 free-below maps = let most = least-below (is_used maps) 0 named_limit in omega (arith, most)
 
 -- where one of the numbers doesn't pass, the one that is found doesn't
-least-clear : (passes : ℕ → Bool) (n count k : ℕ) → n ≤ k → k ≤ n + count → passes k ≡ false → passes (least_from passes n count) ≡ false
+pub least-clear : (passes : ℕ → Bool) (n count k : ℕ) → n ≤ k → k ≤ n + count → passes k ≡ false → passes (least_from passes n count) ≡ false
 unfolding least_from
 least-clear passes n zero k from within clear = let same : k ≡ n = omega (arith, from, within) in ap passes (sym same) ∙ clear
 least-clear passes n (suc count) k from within clear = elim (cases_Bool (passes n)) [
@@ -146,15 +147,28 @@ objects-runs map (suc n) =
         before (suc j) goes t = any-at (λ k. uses (map k) o) (suc j) j (omega arith) (uses_before (map j) (map (suc j)) o goes t)
 
 -- those of all processes are no more than their runs
-objects-all : (maps : Maps) (n : ℕ) → count_below (λ o. any_below (λ p. any_below (λ k. uses (maps p k) o) user_end) n) object_limit
-    ≤ sum_below (λ p. run_count (maps p)) n
-unfolding any_below sum_below run_count
-objects-all maps zero = let none = count-none (λ o. any_below (λ p. any_below (λ k. uses (maps p k) o) user_end) zero) object_limit (λ o. refl) in omega (arith, none)
+objects-all : (maps : Maps) (n : ℕ) → count_below (λ o. any_below (λ p. any_below (λ k. uses (maps p k) o) widest_end) n) object_limit
+    ≤ sum_below (λ p. runs_below (maps p) widest_end) n
+unfolding any_below sum_below
+objects-all maps zero = let none = count-none (λ o. any_below (λ p. any_below (λ k. uses (maps p k) o) widest_end) zero) object_limit (λ o. refl) in omega (arith, none)
 objects-all maps (suc n) =
     let rest = objects-all maps n in
-    let one = objects-runs (maps n) user_end in
-    let either = count-or (λ o. any_below (λ k. uses (maps n k) o) user_end) (λ o. any_below (λ p. any_below (λ k. uses (maps p k) o) user_end) n) object_limit in
+    let one = objects-runs (maps n) widest_end in
+    let either = count-or (λ o. any_below (λ k. uses (maps n k) o) widest_end) (λ o. any_below (λ p. any_below (λ k. uses (maps p k) o) widest_end) n) object_limit in
     omega (arith, rest, one, either)
+
+-- no run begins where no page is mapped
+runs-end : (map : ℕ → Option Attr) (n m : ℕ) → n ≤ m → ((page : ℕ) → n ≤ page → map page ≡ None) → runs_below map m ≡ runs_below map n
+unfolding runs_below
+runs-end map n zero most none = let same : n ≡ 0 = omega (arith, most) in ap (runs_below map) (sym same)
+runs-end map n (suc m) most none = elim (cases_lt m n) [
+  | inl here ↦ (let same : n ≡ suc m = omega (arith, most, here) in ap (runs_below map) (sym same))
+  | inr late ↦ rw (starts m (none m late)) (runs-end map n m late none)
+]
+  where
+    starts : (k : ℕ) → map k ≡ None → begins_run map k ≡ false
+    starts zero e = rw e refl
+    starts (suc k) e = rw e refl
 
 sum-most : (f : ℕ → ℕ) (n : ℕ) → f 0 ≡ 0 → ((k : ℕ) → f k ≤ 256) → sum_below f (suc n) ≤ 256 * n
 unfolding sum_below
@@ -170,10 +184,12 @@ runs-none map (suc n) none = rw (starts n, runs-none map n none) refl where
   starts (suc m) = rw (none (suc m)) refl
 
 -- no page names an object of the new number, where no process has more than 256 runs
-pub free-unused : (maps : Maps) → ((page : ℕ) → maps 0 page ≡ None) → ((p : ℕ) → run_count (maps p) ≤ 256) → is_used maps (free_object maps) ≡ false
+pub free-unused : (mode : ℕ) (maps : Maps) → ((page : ℕ) → maps 0 page ≡ None) → ((p page : ℕ) → user_end mode ≤ page → maps p page ≡ None)
+    → ((p : ℕ) → run_count mode (maps p) ≤ 256) → is_used maps (free_object maps) ≡ false
 unfolding is_used run_count
-free-unused maps none most =
+free-unused mode maps none high most =
     let all = objects-all maps 65 in
-    let sum = sum-most (λ p. run_count (maps p)) 64 (runs-none (maps 0) user_end none) most in
+    let sum = sum-most (λ p. runs_below (maps p) widest_end) 64 (runs-none (maps 0) widest_end none)
+    (λ p. let same = runs-end (maps p) (user_end mode) widest_end (sizes mode).most (high p) in let few = most p in omega (arith, same, few)) in
     let free = count-free (is_used maps) object_limit (omega (arith, all, sum)) in
     least-clear (is_used maps) 0 named_limit free.0 (omega arith) (let below = free.1 in omega (arith, below)) free.2

@@ -8,7 +8,7 @@ use Rattle.vm_types.specs.declared.region.Backing.{Backing}
 use Rattle.vm_types.specs.declared.region.Backing.TheVariants.{Anon, Private, Shared, Common}
 use Rattle.vm_types.specs.Access.{with_shown_bytes}
 use Rattle.vm_types.specs.Counting.{any_below}
-use Rattle.vm_types.specs.Limits.{user_end}
+use Rattle.vm_types.specs.Limits.{user_end, widest_end}
 use Rattle.vm_types.specs.Mapping.{new_object, with_mapping}
 use Rattle.vm_types.specs.Objects.{Maps, maps_of, names, uses, is_object_page, is_of_object, is_named, is_used, named_objects, with_object, free_object}
 use Rattle.vm_types.specs.Processes.{forked}
@@ -50,12 +50,12 @@ any-more f g (suc n) more none = elim (cases_Bool (f n)) [
     rest false is = is
 
 -- what another process still names is kept
-pub named-kept : (maps : Maps) (objects : ℕ → ℕ → Option (List ℕ)) (p : ObjectPage) (q k : ℕ) → q < 65 → k < user_end → names (maps q k) p.object p.page ≡ true
+pub named-kept : (maps : Maps) (objects : ℕ → ℕ → Option (List ℕ)) (p : ObjectPage) (q k : ℕ) → q < 65 → k < widest_end → names (maps q k) p.object p.page ≡ true
     → named_objects maps objects p.object p.page ≡ objects p.object p.page
 unfolding is_named
 named-kept maps objects p q k low high is =
     let named : is_named maps p.object p.page ≡ true =
-    any-at (λ r. any_below (λ j. names (maps r j) p.object p.page) user_end) 65 q low (any-at (λ j. names (maps q j) p.object p.page) user_end k high is) in
+    any-at (λ r. any_below (λ j. names (maps r j) p.object p.page) widest_end) 65 q low (any-at (λ j. names (maps q j) p.object p.page) widest_end k high is) in
     rw named refl
 
 names-uses : (a : Option Attr) (object page : ℕ) → names a object page ≡ true → uses a object ≡ true
@@ -73,14 +73,14 @@ unfolding is_used is_named
 unused-unnamed maps object page none =
     outer 65 none
   where
-    one : (q : ℕ) → any_below (λ j. names (maps q j) object page) user_end ≡ true → any_below (λ j. uses (maps q j) object) user_end ≡ true
-    one q is = elim (cases_Bool (any_below (λ j. uses (maps q j) object) user_end)) [
+    one : (q : ℕ) → any_below (λ j. names (maps q j) object page) widest_end ≡ true → any_below (λ j. uses (maps q j) object) widest_end ≡ true
+    one q is = elim (cases_Bool (any_below (λ j. uses (maps q j) object) widest_end)) [
       | inl t ↦ t
-      | inr e ↦ absurd (false≢true (sym (any-more (λ j. names (maps q j) object page) (λ j. uses (maps q j) object) user_end (λ j. names-uses (maps q j) object page) e) ∙ is))
+      | inr e ↦ absurd (false≢true (sym (any-more (λ j. names (maps q j) object page) (λ j. uses (maps q j) object) widest_end (λ j. names-uses (maps q j) object page) e) ∙ is))
     ]
 
-    outer : (n : ℕ) → any_below (λ q. any_below (λ j. uses (maps q j) object) user_end) n ≡ false → any_below (λ q. any_below (λ j. names (maps q j) object page) user_end) n ≡ false
-    outer n e = any-more (λ q. any_below (λ j. names (maps q j) object page) user_end) (λ q. any_below (λ j. uses (maps q j) object) user_end) n one e
+    outer : (n : ℕ) → any_below (λ q. any_below (λ j. uses (maps q j) object) widest_end) n ≡ false → any_below (λ q. any_below (λ j. names (maps q j) object page) widest_end) n ≡ false
+    outer n e = any-more (λ q. any_below (λ j. names (maps q j) object page) widest_end) (λ q. any_below (λ j. uses (maps q j) object) widest_end) n one e
 
 -- bytes that no page names are gone
 pub unnamed-gone : (maps : Maps) (objects : ℕ → ℕ → Option (List ℕ)) (object page : ℕ) → is_named maps object page ≡ false → named_objects maps objects object page ≡ None
@@ -88,15 +88,17 @@ unnamed-gone maps objects object page none = rw none refl
 
 -- the object of a new mapping has no bytes, whatever an earlier one of its number had
 pub new-blank : (s : State) (pid first pages page : ℕ) (attr : Attr) → ((k : ℕ) → maps_of (without_row s pid first pages).views 0 k ≡ None)
-    → ((p : ℕ) → run_count (maps_of (without_row s pid first pages).views p) ≤ 256) → (with_mapping s pid first pages attr).objects (new_object s pid first pages) page ≡ None
-new-blank s pid first pages page attr none most =
+    → ((p k : ℕ) → user_end s.mode ≤ k → maps_of (without_row s pid first pages).views p k ≡ None)
+    → ((p : ℕ) → run_count s.mode (maps_of (without_row s pid first pages).views p) ≤ 256) → (with_mapping s pid first pages attr).objects (new_object s pid first pages) page ≡ None
+new-blank s pid first pages page attr none high most =
     let maps = maps_of (without_row s pid first pages).views in
-    unnamed-gone maps s.objects (free_object maps) page (unused-unnamed maps (free_object maps) page (free-unused maps none most))
+    unnamed-gone maps s.objects (free_object maps) page (unused-unnamed maps (free_object maps) page (free-unused s.mode maps none high most))
 
 -- so its pages show zeros
 pub new-zeros : (s : State) (pid first pages page : ℕ) (attr : Attr) (v : View) → v.own ≡ None
     → v.attr.backing ≡ Common (record { object = new_object s pid first pages; page = page })
-    → ((k : ℕ) → maps_of (without_row s pid first pages).views 0 k ≡ None) → ((p : ℕ) → run_count (maps_of (without_row s pid first pages).views p) ≤ 256)
+    → ((k : ℕ) → maps_of (without_row s pid first pages).views 0 k ≡ None) → ((p k : ℕ) → user_end s.mode ≤ k → maps_of (without_row s pid first pages).views p k ≡ None)
+    → ((p : ℕ) → run_count s.mode (maps_of (without_row s pid first pages).views p) ≤ 256)
     → shown (with_mapping s pid first pages attr) v ≡ zero_page
-new-zeros s pid first pages page attr v own is none most =
-    shows-object (with_mapping s pid first pages attr) v (record { object = new_object s pid first pages; page = page }) own is ∙ ap or_zeros (new-blank s pid first pages page attr none most)
+new-zeros s pid first pages page attr v own is none high most =
+    shows-object (with_mapping s pid first pages attr) v (record { object = new_object s pid first pages; page = page }) own is ∙ ap or_zeros (new-blank s pid first pages page attr none high most)

@@ -1,6 +1,7 @@
 -- What the pages after a given one are, where mapped pages follow one another. mmap(2): a mapping of a file
 -- begins at an offset of the file, and its pages are the file's from there on.
 use Rattle.std.specs.Prelude.{ℕ, ◌+◌, ◌≤◌, ◌^◌, Bool, true, false, ◌==◌, ◌&&◌, Option, Some, None}
+use Rattle.vm_types.specs.Limits.{widest_end}
 use Rattle.vm_types.specs.declared.file.FilePage.{FilePage}
 use Rattle.vm_types.specs.declared.object.ObjectPage.{ObjectPage}
 use Rattle.vm_types.specs.declared.object.PageKey.{PageKey}
@@ -50,12 +51,12 @@ backing_after (Common page) count = Common (object_page_after page count)
 abbrev pub attr_after : Attr → ℕ → Attr
 attr_after attr count = record { prot = attr.prot; backing = backing_after attr.backing count }
 
--- whether the pages of the file or object behind a row of this many pages are all under 2 ^ 32
+-- whether the pages behind a row of this many pages have numbers: those of a file are under 2 ^ 32, and an object has no more than a process can map
 abbrev pub backing_fits : Backing → ℕ → Type 0
 backing_fits Anon count = Unit {0}
 backing_fits (Private page) count = page.page + count ≤ 2 ^ 32
 backing_fits (Shared page) count = page.page + count ≤ 2 ^ 32
-backing_fits (Common page) count = page.page + count ≤ 2 ^ 32
+backing_fits (Common page) count = page.page + count ≤ widest_end
 
 abbrev pub file_page_eq : FilePage → FilePage → Bool
 file_page_eq a b = (a.file == b.file) && (a.page == b.page)

@@ -1,10 +1,11 @@
--- Sizes. The user half of an Sv39 address space: RISC-V Privileged Specification, "Sv39: Page-Based 39-bit Virtual-Memory System": three levels of
--- tables, and the addresses below 2 ^ 38 by their sign. The lowest pages stay free, as on Linux (vm.mmap_min_addr in proc_sys_vm(5)).
-use Rattle.std.specs.Prelude.{ℕ, ◌+◌, ◌*◌, ◌^◌}
+-- Sizes. The user half of an address space in two modes: RISC-V Privileged Specification, "Sv39: Page-Based 39-bit Virtual-Memory System": three levels of
+-- tables, and the addresses below 2 ^ 38 by their sign; "Sv48: Page-Based 48-bit Virtual-Memory System": four levels, and the addresses below 2 ^ 47. A mode is
+-- known by the bits of its addresses: 39 is Sv39, and every other number is Sv48. The lowest pages stay free, as on Linux (vm.mmap_min_addr in proc_sys_vm(5)).
+use Rattle.std.specs.Prelude.{ℕ, ◌+◌, ◌*◌, ◌^◌, ◌==◌, if◌then◌else◌}
 
 -- the level of a root table
-abbrev pub top_level : ℕ
-top_level = 2
+unfoldable pub top_level : ℕ → ℕ
+top_level mode = if mode == 39 then 2 else 3
 
 -- the entries of a table
 abbrev pub table_entries : ℕ
@@ -15,8 +16,12 @@ abbrev pub user_start : ℕ
 user_start = 16
 
 -- one past the last page that may be mapped
-abbrev pub user_end : ℕ
-user_end = 2 ^ 26
+unfoldable pub user_end : ℕ → ℕ
+user_end mode = if mode == 39 then 2 ^ 26 else 2 ^ 35
+
+-- one past the last page that may be mapped in any mode
+abbrev pub widest_end : ℕ
+widest_end = 2 ^ 35
 
 -- the most pages that one msync makes durable
 abbrev pub msync_pages : ℕ

@@ -90,7 +90,7 @@ is_taken NoReplace space pages (Some first) = not (is_free (attrs_of space) firs
 abbrev pub has_too_many_runs : State → ℕ → ℕ → MapSource → Prot → Option ℕ → Bool
 has_too_many_runs s pid pages source prot None = false
 has_too_many_runs s pid pages source prot (Some first) =
-    nat_lt 256 (run_count (replaced (attrs_of (s.views pid)) first pages (attr_for s pid first pages source prot)))
+    nat_lt 256 (run_count s.mode (replaced (attrs_of (s.views pid)) first pages (attr_for s pid first pages source prot)))
 
 -- the checks in their order
 abbrev pub mmap_checks : State → ℕ → ℕ → ℕ → Prot → MapSource → Placing → Option ℕ → List Check
@@ -108,13 +108,13 @@ mmap_checks s pid addr len prot source placing place =
     ∷ []
 
 -- where a mapping of so many pages goes
-abbrev pub place_for : Placing → (ℕ → Option View) → ℕ → ℕ → Option ℕ
-place_for Hint space addr pages = placed (attrs_of space) addr pages
-place_for Fixed space addr pages = fixed_place addr pages
-place_for NoReplace space addr pages = fixed_place addr pages
+abbrev pub place_for : ℕ → Placing → (ℕ → Option View) → ℕ → ℕ → Option ℕ
+place_for mode Hint space addr pages = placed mode (attrs_of space) addr pages
+place_for mode Fixed space addr pages = fixed_place mode addr pages
+place_for mode NoReplace space addr pages = fixed_place mode addr pages
 
 abbrev pub mmap_place : State → ℕ → ℕ → ℕ → Placing → Option ℕ
-mmap_place s pid addr len placing = place_for placing (s.views pid) addr (page_count len)
+mmap_place s pid addr len placing = place_for s.mode placing (s.views pid) addr (page_count len)
 
 -- why an mmap is refused, if it is
 abbrev pub mmap_errno : State → ℕ → ℕ → ℕ → Prot → MapSource → Placing → Option Errno

@@ -2,7 +2,7 @@
 -- MAP_ANONYMOUS with MAP_SHARED. That the least free number is taken is our choice.
 use Rattle.std.specs.Prelude.{ℕ, zero, suc, ◌+◌, Bool, false, ◌==◌, ◌&&◌, if◌then◌else◌, Option, Some, None, List}
 use Rattle.vm_types.specs.Counting.{any_below}
-use Rattle.vm_types.specs.Limits.{named_limit, user_end}
+use Rattle.vm_types.specs.Limits.{named_limit, widest_end}
 use Rattle.vm_types.specs.declared.region.Attr.{Attr}
 use Rattle.vm_types.specs.declared.region.Backing.{Backing}
 use Rattle.vm_types.specs.declared.region.Backing.TheVariants.{Anon, Private, Shared, Common}
@@ -39,18 +39,18 @@ abbrev pub uses : Option Attr → ℕ → Bool
 uses None object = false
 uses (Some attr) object = is_of_object attr.backing object
 
--- whether some page of some process does
+-- whether some page of some process does, in any mode
 unfoldable pub is_named : Maps → ℕ → ℕ → Bool
-is_named maps object page = any_below (λ pid. any_below (λ k. names (maps pid k) object page) user_end) 65
+is_named maps object page = any_below (λ pid. any_below (λ k. names (maps pid k) object page) widest_end) 65
 
 unfoldable pub is_used : Maps → ℕ → Bool
-is_used maps object = any_below (λ pid. any_below (λ k. uses (maps pid k) object) user_end) 65
+is_used maps object = any_below (λ pid. any_below (λ k. uses (maps pid k) object) widest_end) 65
 
 -- the bytes of those pages that a process still names: what none names is gone
 abbrev pub named_objects : Maps → Objects → Objects
 named_objects maps objects = λ object page. if is_named maps object page then objects object page else None
 
--- the least of so many numbers from this one on that doesn't pass, or else the one behind them
+-- the least of so many numbers from this one on that doesn't pass, or else the one after them
 unfoldable pub least_from : (ℕ → Bool) → ℕ → ℕ → ℕ
 least_from passes n zero = n
 least_from passes n (suc count) = if passes n then least_from passes (n + 1) count else n

@@ -35,7 +35,7 @@ abbrev pub munmap_checks : State → ℕ → ℕ → ℕ → List Check
 munmap_checks s pid addr len =
     (not (s.live pid), ESRCH)
     ∷ ((len == 0) || not (addr % 4096 == 0), EINVAL)
-    ∷ (nat_lt 256 (run_count (removed (attrs_of (s.views pid)) (addr / 4096) (pages_from addr len))), ENOMEM)
+    ∷ (nat_lt 256 (run_count s.mode (removed (attrs_of (s.views pid)) (addr / 4096) (pages_from addr len))), ENOMEM)
     ∷ []
 
 -- a page with another permission
@@ -78,7 +78,7 @@ abbrev pub row_checks : State → ℕ → ℕ → ℕ → Prot → List Check
 row_checks s pid first pages prot =
     (not (is_covered (attrs_of (s.views pid)) first pages), ENOMEM)
     ∷ (denies_stores s.files (s.views pid) first pages prot, EACCES)
-    ∷ (nat_lt 256 (run_count (protected (attrs_of (s.views pid)) first pages (kept prot))), ENOMEM)
+    ∷ (nat_lt 256 (run_count s.mode (protected (attrs_of (s.views pid)) first pages (kept prot))), ENOMEM)
     ∷ []
 
 -- a page without a copy of its own

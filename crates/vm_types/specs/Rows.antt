@@ -28,7 +28,7 @@ unfoldable pub is_covered : (ℕ → Option Attr) → ℕ → ℕ → Bool
 is_covered map first zero = true
 is_covered map first (suc count) = is_some (map (first + count)) && is_covered map first count
 
--- only user pages are mapped, which are 16 up to, not including, 2 ^ 26, and file pages are under 2 ^ 32
-pub record IsUserMap (map : ℕ → Option Attr) : Type 0 where
-  pub user_pages : (page : ℕ) → IsSome (map page) → (user_start ≤ page) × (page < user_end)
+-- only user pages of the mode are mapped, and file pages are under 2 ^ 32
+pub record IsUserMap (mode : ℕ) (map : ℕ → Option Attr) : Type 0 where
+  pub user_pages : (page : ℕ) → IsSome (map page) → (user_start ≤ page) × (page < user_end mode)
   pub file_pages : (page : ℕ) → IfSome (map page) (λ attr. backing_fits attr.backing 1)

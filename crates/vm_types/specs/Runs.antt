@@ -26,5 +26,5 @@ runs_below map zero = 0
 runs_below map (suc page) = if begins_run map page then runs_below map page + 1 else runs_below map page
 
 -- how many runs the map of user pages has
-unfoldable pub run_count : (ℕ → Option Attr) → ℕ
-run_count map = runs_below map user_end
+unfoldable pub run_count : ℕ → (ℕ → Option Attr) → ℕ
+run_count mode map = runs_below map (user_end mode)

@@ -8,6 +8,8 @@ use Rattle.vm_types.specs.View.{Pages, Objects, View, zero_page}
 
 -- Between two commands.
 pub record State : Type 0 where
+  -- the mode of its address spaces, which never changes: 39 for Sv39, else Sv48
+  pub mode : ℕ
   -- which process numbers live
   pub live : ℕ → Bool
   -- the mapped pages of each process: process, page number

@@ -212,6 +212,7 @@ sample_space page =
 -- so many processes of such pages, and no file
 abbrev pub sample_state : ℕ → State
 sample_state count = record {
+  mode = 39;
   live = λ pid. not (pid == 0) && nat_lt pid (count + 1);
   views = λ pid. sample_space;
   files = λ file. None;

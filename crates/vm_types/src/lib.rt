@@ -6,6 +6,7 @@ mod access;
 mod command;
 mod file;
 mod history;
+mod mode;
 mod number;
 mod object;
 mod permission;
@@ -18,6 +19,7 @@ pub use access::{Access, StoredValue};
 pub use command::{Command, MapSource, MsyncMode, Placing};
 pub use file::{FileInfo, FilePage};
 pub use history::History;
+pub use mode::{Levels, Mode, Sv39, Sv48, WIDEST_END};
 pub use number::{FrameNo, NoFree, Phys, Pid, SlotNo, TooManyRuns, Vpn};
 pub use object::{ObjectPage, PageKey};
 pub use permission::Prot;
@@ -31,9 +33,6 @@ pub const PAGE_BYTES: usize = 4096;
 
 /// The first user page, at address `0x10000`.
 pub const USER_START: u64 = 16;
-
-/// One past the last user page, which ends at address `0x3fffffffff`.
-pub const USER_END: u64 = 1 << 26;
 
 /// The most processes that live at once; their numbers are 1 to this one.
 pub const PROCESSES: usize = 64;

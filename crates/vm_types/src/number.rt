@@ -1,8 +1,9 @@
 //! Numbers that are no mere numbers: processes, pages, frames, slots and physical addresses.
 ghost use Rattle.std.specs.Prelude.{◌≡◌, ◌<◌, ◌≤◌, ◌^◌, IfSome, IsSome, ◌↔◌};
-ghost use Rattle.vm_types.specs.Limits.{user_start, user_end};
+ghost use Rattle.vm_types.specs.Limits.{user_start, user_end, widest_end};
 
-use crate::{USER_END, USER_START};
+use crate::USER_START;
+use crate::mode::Levels;
 use std::marker::Model;
 
 /// A process number, 1 to 64. In contracts it is that number.
@@ -51,8 +52,8 @@ impl Pid {
     }
 }
 
-/// A number of a user page, 16 to 67,108,863 (virtual addresses `0x10000` to `0x3fffffffff`, the lower half of
-/// Sv39 but its first 64 KiB). In contracts it is that number.
+/// A number of a user page of some mode: in Sv39 16 to 67,108,863 (virtual addresses `0x10000` to `0x3fffffffff`, the lower half but
+/// its first 64 KiB), in Sv48 16 to 34,359,738,367 (up to `0x7fffffffffff`). In contracts it is that number.
 #[derive(Clone, Copy, Debug, PartialEq, Eq, PartialOrd, Ord)]
 pub struct Vpn {
     page: u64,
@@ -60,34 +61,34 @@ pub struct Vpn {
 
 impl Model for Vpn {
     ghost use Rattle.std.specs.Prelude.{ℕ, ◌≤◌, ◌<◌, ◌^◌};
-    ghost use Rattle.vm_types.specs.Limits.{user_start, user_end};
+    ghost use Rattle.vm_types.specs.Limits.{user_start, widest_end};
 
     ghost Value = { ℕ };
 
     ghost view = { λ v. v.page };
 
-    ghost invariant = { λ v. (user_start ≤ v.page) × (v.page < user_end) };
+    ghost invariant = { λ v. (user_start ≤ v.page) × (v.page < widest_end) };
 
     ghost inverse = { λ n. record { page = n } };
 }
 
 impl Vpn {
-    /// The page of that number; `None` exactly where it is no user page.
-    pub fn new(number: u64) -> Option<Vpn>
+    /// The page of that number; `None` exactly where it is no user page of the mode.
+    pub fn new<M: Levels>(number: u64) -> Option<Vpn>
         ensures found { IfSome result (λ page. page ≡ number) }
-        ensures known { IsSome result ↔ ((user_start ≤ number) × (number < user_end)) }
+        ensures known { IsSome result ↔ ((user_start ≤ number) × (number < user_end M.mode)) }
     {
-        if number >= USER_START && number < USER_END {
+        if number >= USER_START && number < M::user_end() {
             Some(Vpn { page: number })
         } else {
             None
         }
     }
 
-    /// The number, 16 to 67,108,863.
+    /// The number, 16 to 34,359,738,367.
     pub fn get(self) -> u64
         ensures number { result ≡ self }
-        ensures range { (user_start ≤ result) × (result < user_end) }
+        ensures range { (user_start ≤ result) × (result < widest_end) }
     {
         self.page
     }

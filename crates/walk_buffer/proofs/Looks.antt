@@ -1,6 +1,8 @@
 -- What a line says of a walk.
-use Rattle.std.proofs.Common.{ℕ, ◌/◌, ◌%◌, ◌^◌, ◌≡◌, ◌<◌, Bool, true, false, ◌&&◌, ◌||◌, not, ◌==◌, nat_le, if◌then◌else◌, Ok, Some, Option, refl, sym, ap, ◌∙◌, subst, arith}
+use Rattle.std.proofs.Common.{ℕ, ◌/◌, ◌%◌, ◌^◌, ◌≡◌, ◌<◌, Bool, true, false, ◌&&◌, ◌||◌, not, ◌==◌, nat_le, if◌then◌else◌, Ok, Some, Option, inl, inr, refl, sym, ap, ◌∙◌, subst, arith}
 use Rattle.std.proofs.lemmas.Bool.Decides.{nat_tests}
+use Rattle.vm_types.specs.Limits.{top_level, user_end}
+use Rattle.vm_types.proofs.Modes.{two_modes}
 use Rattle.vm_types.specs.declared.access.Access.{Access}
 use Rattle.frames.specs.FrameTable.{FrameTable, frame_count}
 use Rattle.sv39_walk.specs.Entry.{is_valid, is_user, is_accessed, is_dirty, is_reserved, is_leaf, frame_of, grants}
@@ -9,9 +11,20 @@ use Rattle.walk_buffer.specs.Lines.{Agrees, Gives, IsLine, lets, place_in, leaf_
 use Rattle.walk_buffer.specs.declared.line.Line.{Line}
 use Rattle.walk_buffer.specs.declared.buffer.TranslationBuffer.{TranslationBuffer}
 
-canonical : (addr : ℕ) → addr / 4096 < 2 ^ 26 → is_canonical 2 addr ≡ true
+canonical_three : (addr : ℕ) → addr / 4096 < 2 ^ 26 → is_canonical 2 addr ≡ true
 unfolding is_canonical
-canonical addr low = let e : addr / 2 ^ 38 ≡ 0 = omega (arith, low) in rw e refl
+canonical_three addr low = let e : addr / 2 ^ 38 ≡ 0 = omega (arith, low) in rw e refl
+
+canonical_four : (addr : ℕ) → addr / 4096 < 2 ^ 35 → is_canonical 3 addr ≡ true
+unfolding is_canonical
+canonical_four addr low = let e : addr / 2 ^ 47 ≡ 0 = omega (arith, low) in rw e refl
+
+-- the addresses of user pages are canonical
+pub canonical : (mode addr : ℕ) → addr / 4096 < user_end mode → is_canonical (top_level mode) addr ≡ true
+canonical mode addr low = elim (two_modes mode) [
+  | inl three ↦ ap (λ top. is_canonical top addr) three.0 ∙ canonical_three addr (omega (arith, low, three.1))
+  | inr four ↦ ap (λ top. is_canonical top addr) four.0 ∙ canonical_four addr (omega (arith, low, four.1))
+]
 
 in_frame : (e page : ℕ) → frame_in 0 e page ≡ frame_of e
 unfolding frame_in
@@ -51,13 +64,13 @@ answers count addr e access h inside =
     _ _ _ _ _ _ _ _ _ h0.0 h1.0 h2.0 whole h3.0 h4.0 h5.0 (marked (is_store access) (is_dirty e) h5.1) within
     ∙ ap (λ (n : ℕ). Ok (place_in n addr)) same
 
-pub walks : (t : FrameTable) (root page addr e : ℕ) (access : Access) → IsLine t root page e → addr / 4096 ≡ page → page < 2 ^ 26
-    → lets access e ≡ true → translated 2 t root addr access ≡ Ok (place_in (frame_of e) addr)
+pub walks : (mode : ℕ) (t : FrameTable) (root page addr e : ℕ) (access : Access) → IsLine mode t root page e → addr / 4096 ≡ page → page < user_end mode
+    → lets access e ≡ true → translated (top_level mode) t root addr access ≡ Ok (place_in (frame_of e) addr)
 unfolding translated
-walks t root page addr e access line at low h =
-    let there : last_of t (addr / 4096) 2 root ≡ (0, e) = ap (λ (p : ℕ). last_of t p 2 root) at ∙ line.last in
+walks mode t root page addr e access line at low h =
+    let there : last_of t (addr / 4096) (top_level mode) root ≡ (0, e) = ap (λ (p : ℕ). last_of t p (top_level mode) root) at ∙ line.last in
     let inside : nat_le (frame_count t) root ≡ false = grind (arith, nat_tests, line.inside) in
-    let c : is_canonical 2 addr ≡ true = canonical addr (omega (arith, at, low)) in
+    let c : is_canonical (top_level mode) addr ≡ true = canonical mode addr (omega (arith, at, low)) in
     rw c (rw inside (rw there (answers (frame_count t) addr e access h line.target)))
 
 pub kept_here : (o : Option Line) (line : Line) (root page : ℕ) → o ≡ Some line → (line.root.0 == root) ≡ true → (line.page == page) ≡ true
@@ -66,6 +79,6 @@ kept_here o line root page e a b = rw e (rw a (rw b refl))
 
 -- what a look says of every memory in which the lines are leaves
 pub agrees : (b : TranslationBuffer) (root page : ℕ) (access : Access) (frame : ℕ) → Gives b root page access frame → Agrees b root page access frame
-agrees b root page access frame gives = λ t addr coherent at low.
-    let P : ℕ → Type 0 = λ n. translated 2 t root addr access ≡ Ok (place_in n addr) in
-    subst P (sym gives.3) (walks t root page addr gives.0 access (coherent root page gives.0 gives.1) at low gives.2)
+agrees b root page access frame gives = λ mode t addr coherent at low.
+    let P : ℕ → Type 0 = λ n. translated (top_level mode) t root addr access ≡ Ok (place_in n addr) in
+    subst P (sym gives.3) (walks mode t root page addr gives.0 access (coherent root page gives.0 gives.1) at low gives.2)

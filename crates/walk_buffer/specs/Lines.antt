@@ -24,14 +24,14 @@ abbrev pub line_at : TranslationBuffer → ℕ → ℕ → Option ℕ
 line_at b root page = leaf_for (slice_index_or b.lines (place_of page) None) root page
 
 -- the leaf ends the walk to the page, at the lowest level, and names a frame of memory
-pub record IsLine (t : FrameTable) (root page leaf : ℕ) : Type 0 where
+pub record IsLine (mode : ℕ) (t : FrameTable) (root page leaf : ℕ) : Type 0 where
   pub inside : root < frame_count t
-  pub last : last_of t page top_level root ≡ (0, leaf)
+  pub last : last_of t page (top_level mode) root ≡ (0, leaf)
   pub target : frame_of leaf < frame_count t
 
 -- each line is the leaf of its page in that memory
-abbrev pub IsCoherent : FrameTable → TranslationBuffer → Type 0
-IsCoherent t b = (root page leaf : ℕ) → line_at b root page ≡ Some leaf → IsLine t root page leaf
+abbrev pub IsCoherent : ℕ → FrameTable → TranslationBuffer → Type 0
+IsCoherent mode t b = (root page leaf : ℕ) → line_at b root page ≡ Some leaf → IsLine mode t root page leaf
 
 -- whether a leaf lets an access in user mode go through
 abbrev pub lets : Access → ℕ → Bool
@@ -46,8 +46,8 @@ Gives b root page access frame = (leaf : ℕ) × (line_at b root page ≡ Some l
 abbrev pub place_in : ℕ → ℕ → Phys
 place_in frame addr = record { 0 = frame * 4096 + addr % 4096 }
 
--- in each memory in which the lines are leaves of their pages, the walk to an address of the page ends in that frame
+-- in each mode, in each memory in which the lines are leaves of their pages, the walk to an address of the page ends in that frame
 abbrev pub Agrees : TranslationBuffer → ℕ → ℕ → Access → ℕ → Type 0
 Agrees b root page access frame =
-    (t : FrameTable) (addr : ℕ) → IsCoherent t b → page_of addr ≡ page → page < user_end
-    → translated top_level t root addr access ≡ Ok (place_in frame addr)
+    (mode : ℕ) (t : FrameTable) (addr : ℕ) → IsCoherent mode t b → page_of addr ≡ page → page < user_end mode
+    → translated (top_level mode) t root addr access ≡ Ok (place_in frame addr)

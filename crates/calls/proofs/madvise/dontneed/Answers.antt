@@ -14,7 +14,7 @@ pub clear_row-requires-clause-row : goal.clear_row-requires-clause-row
 clear_row-requires-clause-row g c =
     let old = picture_of c.args.core.now in
     let here : attr_at c.regions.result.now ≡ old.at c.in-Some.pid = λ t page. c.regions.ensures page t in
-    covered_within (old.at c.in-Some.pid) (c.args.addr / 4096) c.div_ceil-pages.result (c.requires.sound.fit.granting.user c.in-Some.pid)
+    covered_within g.M.Levels.mode (old.at c.in-Some.pid) (c.args.addr / 4096) c.div_ceil-pages.result (c.requires.sound.fit.granting.user c.in-Some.pid)
     (omega (arith, c.div_ceil-pages.ensures, c.if-len-eq0.false))
     (subst (λ (m : ℕ → Option Attr). is_covered m (c.args.addr / 4096) c.div_ceil-pages.result ≡ true) here (sym c.covers.ensures ∙ c.if-not-covers.false))
 

@@ -11,7 +11,7 @@ loop-number-init g c = record { few = λ q low high. absurd (omega (arith, low, 
 pub loop-number-preserved : goal.loop-number-preserved
 loop-number-preserved g c = record {
   few = λ q low high. elim (cases_eq q c.loop-number.number) [
-    | inl same ↦ subst (λ (p : ℕ). run_count ((picture_of c.args.core.now).at p) ≤ 256) (sym same) c.runs_of.ensures
+    | inl same ↦ subst (λ (p : ℕ). run_count g.M.Levels.mode ((picture_of c.args.core.now).at p) ≤ 256) (sym same) c.runs_of.ensures
     | inr other ↦ c.loop-number.invariant.few q low (omega (arith, high, other))
   ];
 }

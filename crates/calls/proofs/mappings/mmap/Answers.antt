@@ -1,3 +1,4 @@
+use Rattle.vm_types.proofs.Modes.{sizes}
 use Rattle.std.proofs.Common.{ℕ, ◌≡◌, Option, Some, subst, arith}
 use Rattle.regions.specs.RunList.{attr_at}
 use Rattle.page_ranges.specs.Rows.{without_maps, KeepsNamed, RemapsRow}
@@ -35,10 +36,16 @@ remap-requires-clause-objects g c =
     let pages = c.div_ceil-pages.result in
     let runs = c.regions-regions.result.now in
     let here : attr_at runs ≡ at pid = λ t page. c.regions-regions.ensures page t in
-    objects_mapped at pid first pages (attr_at c.planned.new.next) c.args.source c.args.prot fit.granting.objects fit.granting.user (lives_below c.args.core.now fit)
-    (λ is. new_unused at pid first pages (nobody_has c.args.core.now fit) (c.in-Ok.ensures.few is))
+    objects_mapped g.M.Levels.mode at pid first pages (attr_at c.planned.new.next) c.args.source c.args.prot fit.granting.objects fit.granting.user (lives_below c.args.core.now fit)
+    (λ is. new_unused g.M.Levels.mode at pid first pages (nobody_has c.args.core.now fit) fit.granting.user (c.in-Ok.ensures.few is))
     (subst (λ (m : ℕ → Option Attr). (page : ℕ) → attr_at c.planned.new.next page ≡ replaced m first pages (attr_there at pid pages c.args.source c.args.prot first) page) here
     c.in-Ok.ensures.ok.map)
+
+pub overflow_mul-result : goal.overflow_mul-result
+overflow_mul-result g c =
+    let high = c.in-Ok.ensures.ok.high in
+    let most = (sizes g.M.Levels.mode).most in
+    omega (arith, high, most)
 
 pub returns-in-Ok-clause-comes : goal.returns-in-Ok-clause-comes
 returns-in-Ok-clause-comes g c = λ s shows reads swaps.
@@ -51,7 +58,7 @@ returns-in-Ok-clause-comes g c = λ s shows reads swaps.
     maps g.D.SectorDisk g.E.SectorDisk a.core.now s a.pid a.addr a.len a.prot a.source a.placing shows.pages (found_lives (picture_of a.core.now) c.in-Some.pid a.pid c.in-Some.ensures.found)
     c.in_default-refusal.ensures.asked runs (subst (λ (p : ℕ). (page : ℕ) → attr_at runs page ≡ old.at p page) same c.regions-regions.ensures) pages count
     c.in-Ok.first c.planned.new.next
-    (subst (λ (p : ℕ). MapsPages runs a.addr pages (attr_there old.at p pages a.source a.prot) a.placing c.in-Ok.first c.planned.new.next) same c.in-Ok.ensures.ok)
+    (subst (λ (p : ℕ). MapsPages g.M.Levels.mode runs a.addr pages (attr_there old.at p pages a.source a.prot) a.placing c.in-Ok.first c.planned.new.next) same c.in-Ok.ensures.ok)
     c.remap.new.core c.remap.ensures.fit (subst (λ (p : ℕ). RemapsRow old (picture_of c.remap.new.core) p c.in-Ok.first pages (attr_at c.planned.new.next)) same c.remap.ensures.row)
     (subst (λ (p : ℕ). KeepsNamed (without_maps old.at p c.in-Ok.first pages) old (picture_of c.remap.new.core)) same c.remap.ensures.files)
 
@@ -65,7 +72,7 @@ returns-in-Err-clause-comes g c = λ s shows reads swaps.
     refused_place g.D.SectorDisk g.E.SectorDisk a.core.now s a.pid a.addr a.len a.prot a.source a.placing shows.pages (found_lives (picture_of a.core.now) c.in-Some.pid a.pid c.in-Some.ensures.found)
     c.in_default-refusal.ensures.asked runs
     (subst (λ (p : ℕ). (page : ℕ) → attr_at runs page ≡ old.at p page) c.in-Some.ensures.found.0 c.regions-regions.ensures) pages count c.in-Err.errno
-    (subst (λ (p : ℕ). first_of (place_checks a.placing (space_of runs) pages (attr_there old.at p pages a.source a.prot) (place_for a.placing (space_of runs) a.addr pages)) ≡ Some c.in-Err.errno)
+    (subst (λ (p : ℕ). first_of (place_checks g.M.Levels.mode a.placing (space_of runs) pages (attr_there old.at p pages a.source a.prot) (place_for g.M.Levels.mode a.placing (space_of runs) a.addr pages)) ≡ Some c.in-Err.errno)
     c.in-Some.ensures.found.0 c.in-Err.ensures.err)
 
 pub returns-in-Ok-clause-room : goal.returns-in-Ok-clause-room

@@ -1,3 +1,4 @@
+use Rattle.vm_types.specs.Limits.{user_end}
 use Rattle.std.proofs.Common.{ℕ, ◌^◌, subst}
 use Rattle.lifecycle.specs.Changes.{RemovesProcess}
 use Rattle.page_ranges.specs.Rows.{KeepsNamed, without_maps}
@@ -12,7 +13,7 @@ returns-clause-comes g c = λ s shows reads swaps.
     exits g.D.SectorDisk g.E.SectorDisk c.args.core.now c.exit.new.core s c.args.pid shows.pages
     (found_lives (picture_of c.args.core.now) c.in-Some.pid c.args.pid c.in-Some.ensures.found)
     c.requires.sound.fit c.exit.ensures.fit
-    (subst (λ (p : ℕ). KeepsNamed (without_maps (picture_of c.args.core.now).at p 0 (2 ^ 26)) (picture_of c.args.core.now) (picture_of c.exit.new.core)) c.in-Some.ensures.found.0 c.exit.ensures.files)
+    (subst (λ (p : ℕ). KeepsNamed (without_maps (picture_of c.args.core.now).at p 0 (user_end g.M.Levels.mode)) (picture_of c.args.core.now) (picture_of c.exit.new.core)) c.in-Some.ensures.found.0 c.exit.ensures.files)
     (subst (λ (p : ℕ). RemovesProcess (picture_of c.args.core.now) (picture_of c.exit.new.core) p) c.in-Some.ensures.found.0 c.exit.ensures.removed)
 
 pub returns-clause-sound : goal.returns-clause-sound

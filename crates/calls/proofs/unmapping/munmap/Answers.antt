@@ -1,4 +1,5 @@
-use Rattle.std.proofs.Common.{ℕ, ◌+◌, ◌-◌, ◌/◌, ◌%◌, ◌≡◌, ◌≢◌, ◌<◌, ◌≤◌, ◌^◌, min, subst, arith}
+use Rattle.vm_types.specs.Limits.{user_end}
+use Rattle.std.proofs.Common.{ℕ, ◌+◌, ◌-◌, ◌/◌, ◌%◌, ◌≡◌, ◌≢◌, ◌<◌, ◌≤◌, ◌^◌, min, ap, ◌∙◌, subst, arith}
 use Rattle.regions.specs.RunList.{attr_at}
 use Rattle.regions.proofs.PermissionLemmas.{reads_removed, reads_same}
 use Rattle.page_ranges.specs.Rows.{without_maps, KeepsNamed, RemapsRow}
@@ -16,7 +17,10 @@ remap-requires-clause-others g c =
     let old = picture_of c.args.core.now in
     let runs = c.regions-regions.result.now in
     let map : (page : ℕ) → attr_at c.remove_into.new.next page ≡ removed (attr_at runs) (c.args.addr / 4096) c.div_ceil-pages.result page = c.in-Ok.ensures.ok in
-    others_stay (c.args.addr / 4096) c.div_ceil-pages.result c.min-start.result (c.min-end.result - c.min-start.result) (omega (arith, c.min-start.ensures)) (omega (arith, c.min-end.ensures))
+    let until = c.user_end-stop.ensures.end in
+    others_stay g.M.Levels.mode (c.args.addr / 4096) c.div_ceil-pages.result c.min-start.result (c.min-end.result - c.min-start.result)
+    (c.min-start.ensures ∙ ap (λ (n : ℕ). min (c.args.addr / 4096) n) until)
+    (ap (λ (n : ℕ). n - c.min-start.result) (c.min-end.ensures ∙ ap (λ (n : ℕ). min (c.args.addr / 4096 + c.div_ceil-pages.result) n) until))
     old c.in-Some.pid runs c.remove_into.new.next (c.requires.sound.fit.granting.user c.in-Some.pid) c.regions-regions.ensures map
 
 pub remap-requires-clause-readable : goal.remap-requires-clause-readable
@@ -44,13 +48,14 @@ returns-in-Ok-clause-comes g c = λ s shows reads swaps.
     let size = c.min-end.result - c.min-start.result in
     let count : pages ≡ page_count a.len = omega (arith, c.div_ceil-pages.ensures) in
     let same : c.in-Some.pid ≡ a.pid = c.in-Some.ensures.found.0 in
-    let few : run_count (removed (attr_at runs) first pages) ≤ 256 = c.in-Ok.ensures.few in
+    let few : run_count g.M.Levels.mode (removed (attr_at runs) first pages) ≤ 256 = c.in-Ok.ensures.few in
     let map : (page : ℕ) → attr_at c.remove_into.new.next page ≡ removed (attr_at runs) first pages page = c.in-Ok.ensures.ok in
     unmaps g.D.SectorDisk g.E.SectorDisk a.core.now s a.pid a.addr a.len shows.pages (found_lives (picture_of a.core.now) c.in-Some.pid a.pid c.in-Some.ensures.found)
     (let some : a.len ≢ 0 = omega arith in some) (let aligned : a.addr % 4096 ≡ 0 = omega arith in aligned)
     runs (subst (λ (p : ℕ). (page : ℕ) → attr_at runs page ≡ old.at p page) same c.regions-regions.ensures) pages count
     few c.remove_into.new.next map (c.requires.sound.fit.granting.user a.pid) start size
-    (let from : start ≡ min first (2 ^ 26) = c.min-start.ensures in from) (let to : size ≡ min (first + pages) (2 ^ 26) - start = omega (arith, c.min-end.ensures) in to)
+    (c.min-start.ensures ∙ ap (λ (n : ℕ). min first n) c.user_end-stop.ensures.end)
+    (ap (λ (n : ℕ). n - start) (c.min-end.ensures ∙ ap (λ (n : ℕ). min (first + pages) n) c.user_end-stop.ensures.end))
     c.remap.new.core c.remap.ensures.fit (subst (λ (p : ℕ). RemapsRow old (picture_of c.remap.new.core) p start size (attr_at c.remove_into.new.next)) same c.remap.ensures.row)
     (subst (λ (p : ℕ). KeepsNamed (without_maps old.at p start size) old (picture_of c.remap.new.core)) same c.remap.ensures.files)
 
@@ -62,7 +67,7 @@ returns-in-Err-clause-comes g c = λ s shows reads swaps.
     let pages = c.div_ceil-pages.result in
     let first = a.addr / 4096 in
     let count : pages ≡ page_count a.len = omega (arith, c.div_ceil-pages.ensures) in
-    let many : 256 < run_count (removed (attr_at runs) first pages) = c.in-Err.ensures.too_many in
+    let many : 256 < run_count g.M.Levels.mode (removed (attr_at runs) first pages) = c.in-Err.ensures.too_many in
     refused_many g.D.SectorDisk g.E.SectorDisk a.core.now s a.pid a.addr a.len shows.pages (found_lives (picture_of a.core.now) c.in-Some.pid a.pid c.in-Some.ensures.found)
     (let some : a.len ≢ 0 = omega arith in some) (let aligned : a.addr % 4096 ≡ 0 = omega arith in aligned)
     runs (subst (λ (p : ℕ). (page : ℕ) → attr_at runs page ≡ old.at p page) c.in-Some.ensures.found.0 c.regions-regions.ensures) pages count many

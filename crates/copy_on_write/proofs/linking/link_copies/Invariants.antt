@@ -1,3 +1,4 @@
+use Rattle.vm_types.specs.Limits.{user_end}
 use Rattle.std.proofs.Common.{◌≡◌, ◌-◌, ◌^◌, ℕ, None}
 use Rattle.frames.specs.declared.role.Role.TheVariants.{Private}
 use Rattle.frames.specs.FrameTable.{role_of}
@@ -23,4 +24,4 @@ invariant-loop-run g l = record {
 }
 
 abbrev pub decreases-loop-run : goal.decreases-loop-run
-decreases-loop-run g l = 2 ^ 26 - l.page
+decreases-loop-run g l = user_end g.M.Levels.mode - l.page

@@ -1,3 +1,4 @@
+use Rattle.vm_types.specs.Limits.{top_level}
 use Rattle.std.proofs.Common.{◌∙◌, ap, arith}
 use Rattle.page_tables.specs.Tree.{missing_of}
 use Rattle.paging.specs.Seats.{seat}
@@ -10,7 +11,7 @@ use Rattle.copy_on_write.proofs.sharing.share_next.Goals as goal
 pub returns-in-Some-clause-next : goal.returns-in-Some-clause-next
 returns-in-Some-clause-next g c r root =
     let gap = c.in-Some.ensures.end r root in
-    step_gap c.args.page c.args.end c.min.result c.in-Some.gap (missing_of c.args.core.now.frames 2 r c.args.page) gap.0 gap.1 c.min.ensures
+    step_gap c.args.page c.args.end c.min.result c.in-Some.gap (missing_of c.args.core.now.frames (top_level g.M.Levels.mode) r c.args.page) gap.0 gap.1 c.min.ensures
 
 pub returns-in-Some-clause-shares : goal.returns-in-Some-clause-shares
 returns-in-Some-clause-shares g c =

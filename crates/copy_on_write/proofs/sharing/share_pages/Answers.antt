@@ -1,3 +1,5 @@
+use Rattle.vm_types.proofs.Modes.{sizes}
+use Rattle.vm_types.specs.Limits.{user_end, top_level}
 use Rattle.std.proofs.Common.{◌≡◌, ℕ, inr, ◌<◌, ◌≤◌, ◌^◌, None, refl, sym, ap, ◌∙◌, subst, arith}
 use Rattle.std.specs.Prelude.{is_some}
 use Rattle.page_tables.specs.Tree.{IsPage}
@@ -13,10 +15,10 @@ use Rattle.copy_on_write.proofs.sharing.share_pages.Goals as goal
 
 pub loop-run-init : goal.loop-run-init
 loop-run-init g c =
-    let old : Picture = picture_of c.args.core.now in
+    let old : Picture g.M.Levels.mode = picture_of c.args.core.now in
     record {
       from = omega arith;
-      most = omega arith;
+      most = (let least = (sizes g.M.Levels.mode).least in omega (arith, least));
       fit = c.requires.fit;
       shares = shares_none old c.args.parent c.args.child 16 16 c.requires.same (λ p h least under. c.requires.bare p h) (λ p h least under. absurd (omega (arith, least, under)));
       rest = rest-refl c.args.core.now;
@@ -41,32 +43,32 @@ share_run-requires-clause-bare g c p h from =
 
 pub share_run-requires-clause-linked : goal.share_run-requires-clause-linked
 share_run-requires-clause-linked g c =
-    let old : Picture = picture_of c.args.core.now in
-    let mid : Picture = picture_of c.loop-run.core in
+    let old : Picture g.M.Levels.mode = picture_of c.args.core.now in
+    let mid : Picture g.M.Levels.mode = picture_of c.loop-run.core in
     let shares = c.loop-run.invariant.shares in
     tables_shared old mid c.args.parent c.args.child 16 c.loop-run.page c.requires.apart shares
     (seats_kept old mid c.args.parent c.args.child 16 c.loop-run.page shares) c.requires.linked
 
 pub share_run-requires-clause-mapped : goal.share_run-requires-clause-mapped
 share_run-requires-clause-mapped g c =
-    let mid : Picture = picture_of c.loop-run.core in
+    let mid : Picture g.M.Levels.mode = picture_of c.loop-run.core in
     let run = c.in-Some.run' in
     let P : ℕ → Type 0 = λ x. IsMappedRow mid c.args.parent x run.end in
     subst P (sym c.user_page.ensures)
     (mapped_inside mid c.args.parent c.loop-run.page (attr_at c.regions.result.now) run c.regions.ensures c.in-Some.ensures.some)
 
 -- a row of pages that aren't mapped, from the page that the loop has come to
-unmapped_row : (old mid : Picture) (parent child page high : ℕ) → IsFit mid → SharesRow old mid parent child 16 page → ((p : ℕ) → old.at child p ≡ old.at parent p)
-    → ((p : ℕ) → IsPage 2 p → entry old child p ≡ 0) → ((p : ℕ) → page ≤ p → p < high → mid.at parent p ≡ None) → SharesRow mid mid parent child page high
+unmapped_row : {mode : ℕ} (old mid : Picture mode) (parent child page high : ℕ) → IsFit mid → SharesRow old mid parent child 16 page → ((p : ℕ) → old.at child p ≡ old.at parent p)
+    → ((p : ℕ) → IsPage (top_level mode) p → entry old child p ≡ 0) → ((p : ℕ) → page ≤ p → p < high → mid.at parent p ≡ None) → SharesRow mid mid parent child page high
 unmapped_row old mid parent child page high fit shares same bare none =
     shares_unmapped mid parent child page high fit.granting (λ p. shares.beside.at child p ∙ same p ∙ sym (shares.beside.at parent p))
     (λ p h least. shares.others child p h (inr (inr least)) ∙ bare p h) none
 
 pub loop-run-preserved : goal.loop-run-preserved
 loop-run-preserved g c =
-    let old : Picture = picture_of c.args.core.now in
-    let mid : Picture = picture_of c.loop-run.core in
-    let new : Picture = picture_of c.share_run.new.core in
+    let old : Picture g.M.Levels.mode = picture_of c.args.core.now in
+    let mid : Picture g.M.Levels.mode = picture_of c.loop-run.core in
+    let new : Picture g.M.Levels.mode = picture_of c.share_run.new.core in
     let run = c.in-Some.run' in
     let next = c.in-Some.ensures.some in
     let k = c.loop-run.invariant in
@@ -90,9 +92,9 @@ loop-run-preserved g c =
 
 pub returns-clause-shares : goal.returns-clause-shares
 returns-clause-shares g c =
-    let old : Picture = picture_of c.args.core.now in
-    let mid : Picture = picture_of c.loop-run.core in
+    let old : Picture g.M.Levels.mode = picture_of c.args.core.now in
+    let mid : Picture g.M.Levels.mode = picture_of c.loop-run.core in
     let k = c.loop-run.invariant in
-    shares_then old mid mid c.args.parent c.args.child 16 c.loop-run.page (2 ^ 26) c.requires.fit c.requires.apart k.from k.most k.shares
-    (unmapped_row old mid c.args.parent c.args.child c.loop-run.page (2 ^ 26) k.fit k.shares c.requires.same c.requires.bare
+    shares_then old mid mid c.args.parent c.args.child 16 c.loop-run.page (user_end g.M.Levels.mode) c.requires.fit c.requires.apart k.from k.most k.shares
+    (unmapped_row old mid c.args.parent c.args.child c.loop-run.page (user_end g.M.Levels.mode) k.fit k.shares c.requires.same c.requires.bare
     (λ p past under. sym (c.regions.ensures p) ∙ c.in_default.ensures.none p past))

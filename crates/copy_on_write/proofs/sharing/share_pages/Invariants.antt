@@ -1,3 +1,4 @@
+use Rattle.vm_types.specs.Limits.{user_end}
 use Rattle.std.proofs.Common.{◌≡◌, ◌-◌, ◌≤◌, ◌^◌}
 use Rattle.paging.specs.Parts.{IsFit}
 use Rattle.paging.specs.Picture.{picture_of}
@@ -8,7 +9,7 @@ use Rattle.copy_on_write.proofs.sharing.share_pages.Given as goal
 abbrev pub invariant-loop-run : goal.invariant-loop-run
 invariant-loop-run g l = record {
   from : 16 ≤ l.page;
-  most : l.page ≤ 2 ^ 26;
+  most : l.page ≤ user_end g.M.Levels.mode;
   fit : IsFit (picture_of l.core);
   shares : SharesRow (picture_of l.fn.core) (picture_of l.core) l.parent l.child 16 l.page;
   rest : KeepsBesideMemory l.fn.core l.core;
@@ -16,4 +17,4 @@ invariant-loop-run g l = record {
 }
 
 abbrev pub decreases-loop-run : goal.decreases-loop-run
-decreases-loop-run g l = 2 ^ 26 - l.page
+decreases-loop-run g l = user_end g.M.Levels.mode - l.page

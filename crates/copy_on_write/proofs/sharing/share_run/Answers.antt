@@ -8,7 +8,7 @@ use Rattle.copy_on_write.proofs.sharing.share_run.Goals as goal
 
 pub loop-page-init : goal.loop-page-init
 loop-page-init g c =
-    let old : Picture = picture_of c.args.core.now in
+    let old : Picture g.M.Levels.mode = picture_of c.args.core.now in
     record {
       from = omega (arith, c.get-page.ensures.number);
       within = omega (arith, c.get-page.ensures.number, c.requires.some);
@@ -37,17 +37,17 @@ share_next-page-requires-clause-bare g c p h from =
 
 pub share_next-page-requires-clause-linked : goal.share_next-page-requires-clause-linked
 share_next-page-requires-clause-linked g c =
-    let old : Picture = picture_of c.args.core.now in
-    let mid : Picture = picture_of c.loop-page.core in
+    let old : Picture g.M.Levels.mode = picture_of c.args.core.now in
+    let mid : Picture g.M.Levels.mode = picture_of c.loop-page.core in
     let shares = c.loop-page.invariant.shares in
     tables_shared old mid c.args.parent c.args.child c.args.start c.loop-page.page c.requires.apart shares
     (seats_kept old mid c.args.parent c.args.child c.args.start c.loop-page.page shares) c.requires.linked
 
 pub loop-page-preserved : goal.loop-page-preserved
 loop-page-preserved g c =
-    let old : Picture = picture_of c.args.core.now in
-    let mid : Picture = picture_of c.loop-page.core in
-    let new : Picture = picture_of c.share_next-page.new.core in
+    let old : Picture g.M.Levels.mode = picture_of c.args.core.now in
+    let mid : Picture g.M.Levels.mode = picture_of c.loop-page.core in
+    let new : Picture g.M.Levels.mode = picture_of c.share_next-page.new.core in
     let next = c.share_next-page.result in
     let k = c.loop-page.invariant in
     let step = c.share_next-page.ensures in

@@ -1,3 +1,5 @@
+use Rattle.vm_types.proofs.Modes.{user_pages_fit}
+use Rattle.vm_types.specs.Limits.{top_level}
 use Rattle.std.proofs.Common.{◌≡◌, ℕ, inr, ◌+◌, ◌/◌, ◌<◌, ◌≤◌, refl, sym, ap, ◌∙◌, subst, arith}
 use Rattle.std.specs.Prelude.{is_some}
 use Rattle.page_tables.specs.Tree.{IsPage}
@@ -13,14 +15,14 @@ use Rattle.copy_on_write.proofs.sharing.share_table.Goals as goal
 
 pub returns-in_default-table_for-clause-shares : goal.returns-in_default-table_for-clause-shares
 returns-in_default-table_for-clause-shares g c =
-    let old : Picture = picture_of c.args.core.now in
+    let old : Picture g.M.Levels.mode = picture_of c.args.core.now in
     shares_none old c.args.parent c.args.child c.args.start c.args.stop c.requires.same (λ p h least under. c.requires.bare p h least)
     (λ p h least under. none_of_row old c.args.parent c.args.child c.args.start p c.requires.linked c.in_default-table_for.ensures.missing
     (same_table c.args.start p c.args.stop least under c.requires.one_table) h)
 
 pub loop-page-init : goal.loop-page-init
 loop-page-init g c =
-    let old : Picture = picture_of c.args.core.now in
+    let old : Picture g.M.Levels.mode = picture_of c.args.core.now in
     let r = live_root (old.root c.args.parent) c.requires.parent in
     let step = c.next_entry-page.ensures in
     let from = step.from in
@@ -51,7 +53,7 @@ share_page-requires-clause-same g c p =
 pub share_page-requires-clause-bare : goal.share_page-requires-clause-bare
 share_page-requires-clause-bare g c =
     let page = c.user_page.result in
-    let h : IsPage 2 page = omega (arith, c.user_page.ensures, c.loop-page-test.true, c.requires.one_table) in
+    let h : IsPage (top_level g.M.Levels.mode) page = omega (arith, c.user_page.ensures, c.loop-page-test.true, c.requires.high, user_pages_fit g.M.Levels.mode) in
     let over : c.loop-page.page ≤ page = omega (arith, c.user_page.ensures) in
     let least = c.loop-page.invariant.least in
     c.loop-page.invariant.shares.others c.args.child page h (inr (inr over)) ∙ c.requires.bare page h (omega (arith, over, least))
@@ -72,9 +74,9 @@ share_page-requires-clause-to g c =
 
 pub loop-page-preserved : goal.loop-page-preserved
 loop-page-preserved g c =
-    let old : Picture = picture_of c.args.core.now in
-    let mid : Picture = picture_of c.loop-page.core in
-    let new : Picture = picture_of c.share_page.new.core in
+    let old : Picture g.M.Levels.mode = picture_of c.args.core.now in
+    let mid : Picture g.M.Levels.mode = picture_of c.loop-page.core in
+    let new : Picture g.M.Levels.mode = picture_of c.share_page.new.core in
     let page = c.loop-page.page in
     let next = c.next_entry-page-in-loop-page.result in
     let k = c.loop-page.invariant in

@@ -27,7 +27,7 @@ share-requires-clause-few g c =
 
 pub returns-in-Swapped-clause-fit : goal.returns-in-Swapped-clause-fit
 returns-in-Swapped-clause-fit g c y at =
-    let old : Picture = picture_of c.args.core.now in
+    let old : Picture g.M.Levels.mode = picture_of c.args.core.now in
     let k = c.in-Swapped.slot.0 in
     let t = slots_of c.share.new.self in
     let is = slot_seat c.args.shared c.in-Swapped.slot c.in-Swapped.is c.requires.form in
@@ -36,7 +36,7 @@ returns-in-Swapped-clause-fit g c y at =
 
 pub returns-in-Swapped-clause-raises : goal.returns-in-Swapped-clause-raises
 returns-in-Swapped-clause-raises g c y at =
-    let old : Picture = picture_of c.args.core.now in
+    let old : Picture g.M.Levels.mode = picture_of c.args.core.now in
     let k = c.in-Swapped.slot.0 in
     let t = slots_of c.share.new.self in
     let is = slot_seat c.args.shared c.in-Swapped.slot c.in-Swapped.is c.requires.form in
@@ -70,7 +70,7 @@ share-requires-2 g c =
 
 pub returns-clause-fit : goal.returns-clause-fit
 returns-clause-fit g c y at =
-    let old : Picture = picture_of c.args.core.now in
+    let old : Picture g.M.Levels.mode = picture_of c.args.core.now in
     let n = frame_of (number_of c.args.shared) in
     let t = c.share-2.new.self in
     let own = framed_own c.args.shared c.requires.form c.in_default.not-Swapped c.requires.some in
@@ -82,7 +82,7 @@ returns-clause-fit g c y at =
 
 pub returns-clause-raises : goal.returns-clause-raises
 returns-clause-raises g c y at =
-    let old : Picture = picture_of c.args.core.now in
+    let old : Picture g.M.Levels.mode = picture_of c.args.core.now in
     let n = frame_of (number_of c.args.shared) in
     let t = c.share-2.new.self in
     let own = framed_own c.args.shared c.requires.form c.in_default.not-Swapped c.requires.some in

@@ -1,3 +1,4 @@
+use Rattle.vm_types.proofs.Modes.{user_pages_fit}
 use Rattle.std.proofs.Common.{◌≡◌, ℕ, ◌%◌, true, refl, sym, ap, ◌∙◌, subst, arith}
 use Rattle.sv39_walk.specs.Entry.{is_valid}
 use Rattle.page_tables.specs.Entry.{number_of}
@@ -11,26 +12,26 @@ use Rattle.copy_on_write.proofs.withdrawing.withdraw_write.Goals as goal
 
 pub returns-clause-fit : goal.returns-clause-fit
 returns-clause-fit g c =
-    let old : Picture = picture_of c.args.core.now in
-    let new : Picture = record old { frames = c.set_in.new.memory } in
+    let old : Picture g.M.Levels.mode = picture_of c.args.core.now in
+    let new : Picture g.M.Levels.mode = record old { frames = c.set_in.new.memory } in
     let r = live_root (old.root c.args.pid) c.requires.live in
     let valid : is_valid (entry old c.args.pid c.args.page) ≡ true = ap is_valid (sym c.requires.before) ∙ c.in-Some.ensures.valid in
     let W : ℕ → Type 0 = λ x. Weakens x (number_of c.in-Some.after) in
-    let sets = c.set_in.ensures.sets r.0 c.args.page (c.requires.fit.rooted.roots c.args.pid r.0 r.1) (omega (arith, c.get.ensures)) (c.requires.place r.0 r.1)
+    let sets = c.set_in.ensures.sets r.0 c.args.page (c.requires.fit.rooted.roots c.args.pid r.0 r.1) (omega (arith, c.requires.user, user_pages_fit g.M.Levels.mode)) (c.requires.place r.0 r.1)
     (ap (λ x. x % 512) (sym c.get.ensures.number)) in
-    fit_lowered old new c.args.pid r.0 c.args.page (number_of c.in-Some.after) c.requires.fit r.1 (omega (arith, c.get.ensures)) valid c.requires.own
+    fit_lowered old new c.args.pid r.0 c.args.page (number_of c.in-Some.after) c.requires.fit r.1 (omega (arith, c.requires.user, user_pages_fit g.M.Levels.mode)) valid c.requires.own
     (subst W c.requires.before c.in-Some.ensures.weaker) sets (same_beside old c.set_in.new.memory)
 
 pub returns-clause-withdrawn : goal.returns-clause-withdrawn
 returns-clause-withdrawn g c =
-    let old : Picture = picture_of c.args.core.now in
-    let new : Picture = record old { frames = c.set_in.new.memory } in
+    let old : Picture g.M.Levels.mode = picture_of c.args.core.now in
+    let new : Picture g.M.Levels.mode = record old { frames = c.set_in.new.memory } in
     let r = live_root (old.root c.args.pid) c.requires.live in
     let valid : is_valid (entry old c.args.pid c.args.page) ≡ true = ap is_valid (sym c.requires.before) ∙ c.in-Some.ensures.valid in
     let W : ℕ → Type 0 = λ x. Weakens x (number_of c.in-Some.after) in
-    let sets = c.set_in.ensures.sets r.0 c.args.page (c.requires.fit.rooted.roots c.args.pid r.0 r.1) (omega (arith, c.get.ensures)) (c.requires.place r.0 r.1)
+    let sets = c.set_in.ensures.sets r.0 c.args.page (c.requires.fit.rooted.roots c.args.pid r.0 r.1) (omega (arith, c.requires.user, user_pages_fit g.M.Levels.mode)) (c.requires.place r.0 r.1)
     (ap (λ x. x % 512) (sym c.get.ensures.number)) in
-    withdraws old new c.args.pid r.0 c.args.page (number_of c.in-Some.after) c.requires.fit r.1 (omega (arith, c.get.ensures)) valid c.requires.own
+    withdraws old new c.args.pid r.0 c.args.page (number_of c.in-Some.after) c.requires.fit r.1 (omega (arith, c.requires.user, user_pages_fit g.M.Levels.mode)) valid c.requires.own
     (subst W c.requires.before c.in-Some.ensures.weaker) sets (same_beside old c.set_in.new.memory)
 
 pub returns-clause-own : goal.returns-clause-own
@@ -41,14 +42,14 @@ returns-in_default-clause-own g c none = c.requires.own (ap seat (sym c.requires
 
 pub returns-clause-places : goal.returns-clause-places
 returns-clause-places g c =
-    let old : Picture = picture_of c.args.core.now in
-    let new : Picture = record old { frames = c.set_in.new.memory } in
+    let old : Picture g.M.Levels.mode = picture_of c.args.core.now in
+    let new : Picture g.M.Levels.mode = record old { frames = c.set_in.new.memory } in
     let r = live_root (old.root c.args.pid) c.requires.live in
-    let sets = c.set_in.ensures.sets r.0 c.args.page (c.requires.fit.rooted.roots c.args.pid r.0 r.1) (omega (arith, c.get.ensures)) (c.requires.place r.0 r.1)
+    let sets = c.set_in.ensures.sets r.0 c.args.page (c.requires.fit.rooted.roots c.args.pid r.0 r.1) (omega (arith, c.requires.user, user_pages_fit g.M.Levels.mode)) (c.requires.place r.0 r.1)
     (ap (λ x. x % 512) (sym c.get.ensures.number)) in
     places_set old new 0 r.0 c.args.page (number_of c.in-Some.after) c.requires.fit.rooted (λ q. refl) sets
 
 pub set_in-requires-clause-placed : goal.set_in-requires-clause-placed
 set_in-requires-clause-placed g c =
     let r = live_root ((picture_of c.args.core.now).root c.args.pid) c.requires.live in
-    (r.0, c.args.page, c.requires.fit.rooted.roots c.args.pid r.0 r.1, omega (arith, c.get.ensures), c.requires.place r.0 r.1, ap (λ x. x % 512) (sym c.get.ensures.number))
+    (r.0, c.args.page, c.requires.fit.rooted.roots c.args.pid r.0 r.1, omega (arith, c.requires.user, user_pages_fit g.M.Levels.mode), c.requires.place r.0 r.1, ap (λ x. x % 512) (sym c.get.ensures.number))

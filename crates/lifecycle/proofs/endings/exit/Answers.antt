@@ -1,4 +1,7 @@
-use Rattle.std.proofs.Common.{◌≡◌, ◌+◌, ◌≤◌, ◌^◌, ℕ, true, ap, ◌∙◌, arith}
+use Rattle.vm_types.proofs.Modes.{user_pages_fit}
+use Rattle.vm_types.specs.declared.mode.Levels as Levels
+use Rattle.vm_types.specs.Limits.{user_end, top_level}
+use Rattle.std.proofs.Common.{◌≡◌, ◌+◌, ◌≤◌, ◌^◌, ℕ, true, ap, ◌∙◌, subst, arith}
 use Rattle.std.specs.Prelude.{is_some}
 use Rattle.vm_types.specs.declared.object.PageKey.{PageKey}
 use Rattle.vm_types.specs.Rows.{in_row}
@@ -7,15 +10,17 @@ use Rattle.page_cache.specs.CacheTable.{place_of}
 use Rattle.paging.specs.declared.kernel.Core.{Core}
 use Rattle.paging.specs.Picture.{picture_of}
 use Rattle.page_ranges.proofs.Emptied.{row_parts}
+use Rattle.page_ranges.specs.Rows.{RemapsRow, ForgetsRow}
 use Rattle.page_ranges.proofs.Forgotten.{row_forgot, others_forgot, tables_forgot, slots_forgot, none_left_forgot, files_forgot}
-use Rattle.page_ranges.specs.Steps.{KeepsBesideMemory}
+use Rattle.page_ranges.specs.Steps.{KeepsBesideMemory, IsWithoutTables, ReturnsSlots, LosesSlots}
 use Rattle.lifecycle.proofs.Ending.{spare_root, ended}
 use Rattle.lifecycle.proofs.endings.exit.Goals as goal
 
-pages_inside : (first pages page : ℕ) → first + pages ≤ 2 ^ 26 → in_row first pages page ≡ true → IsPage 2 page
-pages_inside first pages page row e = let parts = row_parts first pages page e in omega (arith, parts, row)
+module _ (mode : ℕ) where
+  pages_inside : (first pages page : ℕ) → first + pages ≤ user_end mode → in_row first pages page ≡ true → IsPage (top_level mode) page
+  pages_inside first pages page row e = let parts = row_parts first pages page e in omega (arith, parts, row, user_pages_fit mode)
 
-same_places : {D E : Type 0} (a b : Core D E) → KeepsBesideMemory a b → (p : PageKey) → (picture_of b).place p ≡ (picture_of a).place p
+same_places : {M : Type 0} {m : Levels.Ghosts M} → {D E : Type 0} (a b : Core D E M m) → KeepsBesideMemory a b → (p : PageKey) → (picture_of b).place p ≡ (picture_of a).place p
 same_places a b rest p = ap (λ t. place_of t p) rest.cache
 
 pub forget_row-requires-clause-live : goal.forget_row-requires-clause-live
@@ -32,90 +37,130 @@ remove_process-requires-clause-spare g c r root =
     let first = picture_of c.args.core.now in
     let cleared = picture_of c.clear_row.new.core in
     let old = picture_of c.forget_row.new.core in
-    let forgets = c.forget_row.ensures.forgets in
+    let same = c.user_end-end.ensures.end in
+    let row = subst (λ (n : ℕ). RemapsRow first cleared c.args.pid 0 n (first.at c.args.pid)) same c.clear_row.ensures.row in
+    let forgets = subst (λ (n : ℕ). ForgetsRow cleared old c.args.pid 0 n) same c.forget_row.ensures.forgets in
+    let none_left = subst (λ (n : ℕ). IsWithoutTables cleared c.args.pid 0 (0 + n)) same c.clear_row.ensures.none_left in
+    let slots = subst (λ (n : ℕ). ReturnsSlots first cleared c.args.pid 0 (0 + n)) same c.clear_row.ensures.slots in
+    let sum : 0 + user_end g.M.Levels.mode ≡ user_end g.M.Levels.mode = omega arith in
     let place = same_places c.args.core.now c.clear_row.new.core c.clear_row.ensures.rest in
-    spare_root old c.args.pid r c.forget_row.ensures.fit root (none_left_forgot first cleared old c.args.pid 0 (2 ^ 26) c.clear_row.ensures.row forgets place c.clear_row.ensures.none_left)
+    spare_root old c.args.pid r c.forget_row.ensures.fit root (subst (λ (n : ℕ). IsWithoutTables old c.args.pid 0 n) sum (none_left_forgot first cleared old c.args.pid 0 (user_end g.M.Levels.mode) row forgets place none_left))
 
 pub returns-clause-fit : goal.returns-clause-fit
 returns-clause-fit g c =
     let first = picture_of c.args.core.now in
     let cleared = picture_of c.clear_row.new.core in
     let old = picture_of c.forget_row.new.core in
-    let forgets = c.forget_row.ensures.forgets in
+    let same = c.user_end-end.ensures.end in
+    let row = subst (λ (n : ℕ). RemapsRow first cleared c.args.pid 0 n (first.at c.args.pid)) same c.clear_row.ensures.row in
+    let forgets = subst (λ (n : ℕ). ForgetsRow cleared old c.args.pid 0 n) same c.forget_row.ensures.forgets in
+    let none_left = subst (λ (n : ℕ). IsWithoutTables cleared c.args.pid 0 (0 + n)) same c.clear_row.ensures.none_left in
+    let slots = subst (λ (n : ℕ). ReturnsSlots first cleared c.args.pid 0 (0 + n)) same c.clear_row.ensures.slots in
+    let sum : 0 + user_end g.M.Levels.mode ≡ user_end g.M.Levels.mode = omega arith in
     let place = same_places c.args.core.now c.clear_row.new.core c.clear_row.ensures.rest in
     (ended first old (picture_of c.remove_process.new.self) c.args.pid c.remove_process.ensures.exits.0
-    c.requires.fit c.forget_row.ensures.fit (row_forgot first cleared old c.args.pid 0 (2 ^ 26) c.clear_row.ensures.row forgets place (λ page e. pages_inside 0 (2 ^ 26) page (omega arith) e)) (others_forgot first cleared old c.args.pid 0 (2 ^ 26) c.clear_row.ensures.row forgets place c.clear_row.ensures.others)
-    (tables_forgot first cleared old c.args.pid 0 (2 ^ 26) c.clear_row.ensures.row forgets place c.clear_row.ensures.tables) (none_left_forgot first cleared old c.args.pid 0 (2 ^ 26) c.clear_row.ensures.row forgets place c.clear_row.ensures.none_left)
-    (slots_forgot first cleared old c.args.pid 0 (2 ^ 26) c.clear_row.ensures.row forgets place c.clear_row.ensures.slots) (files_forgot first cleared old c.args.pid 0 (2 ^ 26) c.clear_row.ensures.row forgets place c.clear_row.ensures.files) c.remove_process.ensures.exits.1).fit
+    c.requires.fit c.forget_row.ensures.fit (row_forgot first cleared old c.args.pid 0 (user_end g.M.Levels.mode) row forgets place (λ page e. pages_inside g.M.Levels.mode 0 (user_end g.M.Levels.mode) page (omega arith) e)) (others_forgot first cleared old c.args.pid 0 (user_end g.M.Levels.mode) row forgets place c.clear_row.ensures.others)
+    (tables_forgot first cleared old c.args.pid 0 (user_end g.M.Levels.mode) row forgets place c.clear_row.ensures.tables) (subst (λ (n : ℕ). IsWithoutTables old c.args.pid 0 n) sum (none_left_forgot first cleared old c.args.pid 0 (user_end g.M.Levels.mode) row forgets place none_left))
+    (subst (λ (n : ℕ). LosesSlots first old c.args.pid 0 n) sum (slots_forgot first cleared old c.args.pid 0 (user_end g.M.Levels.mode) row forgets place slots)) (files_forgot first cleared old c.args.pid 0 (user_end g.M.Levels.mode) row forgets place c.clear_row.ensures.files) c.remove_process.ensures.exits.1).fit
 
 pub returns-clause-removed : goal.returns-clause-removed
 returns-clause-removed g c =
     let first = picture_of c.args.core.now in
     let cleared = picture_of c.clear_row.new.core in
     let old = picture_of c.forget_row.new.core in
-    let forgets = c.forget_row.ensures.forgets in
+    let same = c.user_end-end.ensures.end in
+    let row = subst (λ (n : ℕ). RemapsRow first cleared c.args.pid 0 n (first.at c.args.pid)) same c.clear_row.ensures.row in
+    let forgets = subst (λ (n : ℕ). ForgetsRow cleared old c.args.pid 0 n) same c.forget_row.ensures.forgets in
+    let none_left = subst (λ (n : ℕ). IsWithoutTables cleared c.args.pid 0 (0 + n)) same c.clear_row.ensures.none_left in
+    let slots = subst (λ (n : ℕ). ReturnsSlots first cleared c.args.pid 0 (0 + n)) same c.clear_row.ensures.slots in
+    let sum : 0 + user_end g.M.Levels.mode ≡ user_end g.M.Levels.mode = omega arith in
     let place = same_places c.args.core.now c.clear_row.new.core c.clear_row.ensures.rest in
     (ended first old (picture_of c.remove_process.new.self) c.args.pid c.remove_process.ensures.exits.0
-    c.requires.fit c.forget_row.ensures.fit (row_forgot first cleared old c.args.pid 0 (2 ^ 26) c.clear_row.ensures.row forgets place (λ page e. pages_inside 0 (2 ^ 26) page (omega arith) e)) (others_forgot first cleared old c.args.pid 0 (2 ^ 26) c.clear_row.ensures.row forgets place c.clear_row.ensures.others)
-    (tables_forgot first cleared old c.args.pid 0 (2 ^ 26) c.clear_row.ensures.row forgets place c.clear_row.ensures.tables) (none_left_forgot first cleared old c.args.pid 0 (2 ^ 26) c.clear_row.ensures.row forgets place c.clear_row.ensures.none_left)
-    (slots_forgot first cleared old c.args.pid 0 (2 ^ 26) c.clear_row.ensures.row forgets place c.clear_row.ensures.slots) (files_forgot first cleared old c.args.pid 0 (2 ^ 26) c.clear_row.ensures.row forgets place c.clear_row.ensures.files) c.remove_process.ensures.exits.1).removed
+    c.requires.fit c.forget_row.ensures.fit (row_forgot first cleared old c.args.pid 0 (user_end g.M.Levels.mode) row forgets place (λ page e. pages_inside g.M.Levels.mode 0 (user_end g.M.Levels.mode) page (omega arith) e)) (others_forgot first cleared old c.args.pid 0 (user_end g.M.Levels.mode) row forgets place c.clear_row.ensures.others)
+    (tables_forgot first cleared old c.args.pid 0 (user_end g.M.Levels.mode) row forgets place c.clear_row.ensures.tables) (subst (λ (n : ℕ). IsWithoutTables old c.args.pid 0 n) sum (none_left_forgot first cleared old c.args.pid 0 (user_end g.M.Levels.mode) row forgets place none_left))
+    (subst (λ (n : ℕ). LosesSlots first old c.args.pid 0 n) sum (slots_forgot first cleared old c.args.pid 0 (user_end g.M.Levels.mode) row forgets place slots)) (files_forgot first cleared old c.args.pid 0 (user_end g.M.Levels.mode) row forgets place c.clear_row.ensures.files) c.remove_process.ensures.exits.1).removed
 
 pub returns-clause-others : goal.returns-clause-others
 returns-clause-others g c =
     let first = picture_of c.args.core.now in
     let cleared = picture_of c.clear_row.new.core in
     let old = picture_of c.forget_row.new.core in
-    let forgets = c.forget_row.ensures.forgets in
+    let same = c.user_end-end.ensures.end in
+    let row = subst (λ (n : ℕ). RemapsRow first cleared c.args.pid 0 n (first.at c.args.pid)) same c.clear_row.ensures.row in
+    let forgets = subst (λ (n : ℕ). ForgetsRow cleared old c.args.pid 0 n) same c.forget_row.ensures.forgets in
+    let none_left = subst (λ (n : ℕ). IsWithoutTables cleared c.args.pid 0 (0 + n)) same c.clear_row.ensures.none_left in
+    let slots = subst (λ (n : ℕ). ReturnsSlots first cleared c.args.pid 0 (0 + n)) same c.clear_row.ensures.slots in
+    let sum : 0 + user_end g.M.Levels.mode ≡ user_end g.M.Levels.mode = omega arith in
     let place = same_places c.args.core.now c.clear_row.new.core c.clear_row.ensures.rest in
     (ended first old (picture_of c.remove_process.new.self) c.args.pid c.remove_process.ensures.exits.0
-    c.requires.fit c.forget_row.ensures.fit (row_forgot first cleared old c.args.pid 0 (2 ^ 26) c.clear_row.ensures.row forgets place (λ page e. pages_inside 0 (2 ^ 26) page (omega arith) e)) (others_forgot first cleared old c.args.pid 0 (2 ^ 26) c.clear_row.ensures.row forgets place c.clear_row.ensures.others)
-    (tables_forgot first cleared old c.args.pid 0 (2 ^ 26) c.clear_row.ensures.row forgets place c.clear_row.ensures.tables) (none_left_forgot first cleared old c.args.pid 0 (2 ^ 26) c.clear_row.ensures.row forgets place c.clear_row.ensures.none_left)
-    (slots_forgot first cleared old c.args.pid 0 (2 ^ 26) c.clear_row.ensures.row forgets place c.clear_row.ensures.slots) (files_forgot first cleared old c.args.pid 0 (2 ^ 26) c.clear_row.ensures.row forgets place c.clear_row.ensures.files) c.remove_process.ensures.exits.1).others
+    c.requires.fit c.forget_row.ensures.fit (row_forgot first cleared old c.args.pid 0 (user_end g.M.Levels.mode) row forgets place (λ page e. pages_inside g.M.Levels.mode 0 (user_end g.M.Levels.mode) page (omega arith) e)) (others_forgot first cleared old c.args.pid 0 (user_end g.M.Levels.mode) row forgets place c.clear_row.ensures.others)
+    (tables_forgot first cleared old c.args.pid 0 (user_end g.M.Levels.mode) row forgets place c.clear_row.ensures.tables) (subst (λ (n : ℕ). IsWithoutTables old c.args.pid 0 n) sum (none_left_forgot first cleared old c.args.pid 0 (user_end g.M.Levels.mode) row forgets place none_left))
+    (subst (λ (n : ℕ). LosesSlots first old c.args.pid 0 n) sum (slots_forgot first cleared old c.args.pid 0 (user_end g.M.Levels.mode) row forgets place slots)) (files_forgot first cleared old c.args.pid 0 (user_end g.M.Levels.mode) row forgets place c.clear_row.ensures.files) c.remove_process.ensures.exits.1).others
 
 pub returns-clause-tables : goal.returns-clause-tables
 returns-clause-tables g c =
     let first = picture_of c.args.core.now in
     let cleared = picture_of c.clear_row.new.core in
     let old = picture_of c.forget_row.new.core in
-    let forgets = c.forget_row.ensures.forgets in
+    let same = c.user_end-end.ensures.end in
+    let row = subst (λ (n : ℕ). RemapsRow first cleared c.args.pid 0 n (first.at c.args.pid)) same c.clear_row.ensures.row in
+    let forgets = subst (λ (n : ℕ). ForgetsRow cleared old c.args.pid 0 n) same c.forget_row.ensures.forgets in
+    let none_left = subst (λ (n : ℕ). IsWithoutTables cleared c.args.pid 0 (0 + n)) same c.clear_row.ensures.none_left in
+    let slots = subst (λ (n : ℕ). ReturnsSlots first cleared c.args.pid 0 (0 + n)) same c.clear_row.ensures.slots in
+    let sum : 0 + user_end g.M.Levels.mode ≡ user_end g.M.Levels.mode = omega arith in
     let place = same_places c.args.core.now c.clear_row.new.core c.clear_row.ensures.rest in
     (ended first old (picture_of c.remove_process.new.self) c.args.pid c.remove_process.ensures.exits.0
-    c.requires.fit c.forget_row.ensures.fit (row_forgot first cleared old c.args.pid 0 (2 ^ 26) c.clear_row.ensures.row forgets place (λ page e. pages_inside 0 (2 ^ 26) page (omega arith) e)) (others_forgot first cleared old c.args.pid 0 (2 ^ 26) c.clear_row.ensures.row forgets place c.clear_row.ensures.others)
-    (tables_forgot first cleared old c.args.pid 0 (2 ^ 26) c.clear_row.ensures.row forgets place c.clear_row.ensures.tables) (none_left_forgot first cleared old c.args.pid 0 (2 ^ 26) c.clear_row.ensures.row forgets place c.clear_row.ensures.none_left)
-    (slots_forgot first cleared old c.args.pid 0 (2 ^ 26) c.clear_row.ensures.row forgets place c.clear_row.ensures.slots) (files_forgot first cleared old c.args.pid 0 (2 ^ 26) c.clear_row.ensures.row forgets place c.clear_row.ensures.files) c.remove_process.ensures.exits.1).tables
+    c.requires.fit c.forget_row.ensures.fit (row_forgot first cleared old c.args.pid 0 (user_end g.M.Levels.mode) row forgets place (λ page e. pages_inside g.M.Levels.mode 0 (user_end g.M.Levels.mode) page (omega arith) e)) (others_forgot first cleared old c.args.pid 0 (user_end g.M.Levels.mode) row forgets place c.clear_row.ensures.others)
+    (tables_forgot first cleared old c.args.pid 0 (user_end g.M.Levels.mode) row forgets place c.clear_row.ensures.tables) (subst (λ (n : ℕ). IsWithoutTables old c.args.pid 0 n) sum (none_left_forgot first cleared old c.args.pid 0 (user_end g.M.Levels.mode) row forgets place none_left))
+    (subst (λ (n : ℕ). LosesSlots first old c.args.pid 0 n) sum (slots_forgot first cleared old c.args.pid 0 (user_end g.M.Levels.mode) row forgets place slots)) (files_forgot first cleared old c.args.pid 0 (user_end g.M.Levels.mode) row forgets place c.clear_row.ensures.files) c.remove_process.ensures.exits.1).tables
 
 pub returns-clause-slots : goal.returns-clause-slots
 returns-clause-slots g c =
     let first = picture_of c.args.core.now in
     let cleared = picture_of c.clear_row.new.core in
     let old = picture_of c.forget_row.new.core in
-    let forgets = c.forget_row.ensures.forgets in
+    let same = c.user_end-end.ensures.end in
+    let row = subst (λ (n : ℕ). RemapsRow first cleared c.args.pid 0 n (first.at c.args.pid)) same c.clear_row.ensures.row in
+    let forgets = subst (λ (n : ℕ). ForgetsRow cleared old c.args.pid 0 n) same c.forget_row.ensures.forgets in
+    let none_left = subst (λ (n : ℕ). IsWithoutTables cleared c.args.pid 0 (0 + n)) same c.clear_row.ensures.none_left in
+    let slots = subst (λ (n : ℕ). ReturnsSlots first cleared c.args.pid 0 (0 + n)) same c.clear_row.ensures.slots in
+    let sum : 0 + user_end g.M.Levels.mode ≡ user_end g.M.Levels.mode = omega arith in
     let place = same_places c.args.core.now c.clear_row.new.core c.clear_row.ensures.rest in
     (ended first old (picture_of c.remove_process.new.self) c.args.pid c.remove_process.ensures.exits.0
-    c.requires.fit c.forget_row.ensures.fit (row_forgot first cleared old c.args.pid 0 (2 ^ 26) c.clear_row.ensures.row forgets place (λ page e. pages_inside 0 (2 ^ 26) page (omega arith) e)) (others_forgot first cleared old c.args.pid 0 (2 ^ 26) c.clear_row.ensures.row forgets place c.clear_row.ensures.others)
-    (tables_forgot first cleared old c.args.pid 0 (2 ^ 26) c.clear_row.ensures.row forgets place c.clear_row.ensures.tables) (none_left_forgot first cleared old c.args.pid 0 (2 ^ 26) c.clear_row.ensures.row forgets place c.clear_row.ensures.none_left)
-    (slots_forgot first cleared old c.args.pid 0 (2 ^ 26) c.clear_row.ensures.row forgets place c.clear_row.ensures.slots) (files_forgot first cleared old c.args.pid 0 (2 ^ 26) c.clear_row.ensures.row forgets place c.clear_row.ensures.files) c.remove_process.ensures.exits.1).slots
+    c.requires.fit c.forget_row.ensures.fit (row_forgot first cleared old c.args.pid 0 (user_end g.M.Levels.mode) row forgets place (λ page e. pages_inside g.M.Levels.mode 0 (user_end g.M.Levels.mode) page (omega arith) e)) (others_forgot first cleared old c.args.pid 0 (user_end g.M.Levels.mode) row forgets place c.clear_row.ensures.others)
+    (tables_forgot first cleared old c.args.pid 0 (user_end g.M.Levels.mode) row forgets place c.clear_row.ensures.tables) (subst (λ (n : ℕ). IsWithoutTables old c.args.pid 0 n) sum (none_left_forgot first cleared old c.args.pid 0 (user_end g.M.Levels.mode) row forgets place none_left))
+    (subst (λ (n : ℕ). LosesSlots first old c.args.pid 0 n) sum (slots_forgot first cleared old c.args.pid 0 (user_end g.M.Levels.mode) row forgets place slots)) (files_forgot first cleared old c.args.pid 0 (user_end g.M.Levels.mode) row forgets place c.clear_row.ensures.files) c.remove_process.ensures.exits.1).slots
 
 pub returns-clause-copies : goal.returns-clause-copies
 returns-clause-copies g c =
     let first = picture_of c.args.core.now in
     let cleared = picture_of c.clear_row.new.core in
     let old = picture_of c.forget_row.new.core in
-    let forgets = c.forget_row.ensures.forgets in
+    let same = c.user_end-end.ensures.end in
+    let row = subst (λ (n : ℕ). RemapsRow first cleared c.args.pid 0 n (first.at c.args.pid)) same c.clear_row.ensures.row in
+    let forgets = subst (λ (n : ℕ). ForgetsRow cleared old c.args.pid 0 n) same c.forget_row.ensures.forgets in
+    let none_left = subst (λ (n : ℕ). IsWithoutTables cleared c.args.pid 0 (0 + n)) same c.clear_row.ensures.none_left in
+    let slots = subst (λ (n : ℕ). ReturnsSlots first cleared c.args.pid 0 (0 + n)) same c.clear_row.ensures.slots in
+    let sum : 0 + user_end g.M.Levels.mode ≡ user_end g.M.Levels.mode = omega arith in
     let place = same_places c.args.core.now c.clear_row.new.core c.clear_row.ensures.rest in
     (ended first old (picture_of c.remove_process.new.self) c.args.pid c.remove_process.ensures.exits.0
-    c.requires.fit c.forget_row.ensures.fit (row_forgot first cleared old c.args.pid 0 (2 ^ 26) c.clear_row.ensures.row forgets place (λ page e. pages_inside 0 (2 ^ 26) page (omega arith) e)) (others_forgot first cleared old c.args.pid 0 (2 ^ 26) c.clear_row.ensures.row forgets place c.clear_row.ensures.others)
-    (tables_forgot first cleared old c.args.pid 0 (2 ^ 26) c.clear_row.ensures.row forgets place c.clear_row.ensures.tables) (none_left_forgot first cleared old c.args.pid 0 (2 ^ 26) c.clear_row.ensures.row forgets place c.clear_row.ensures.none_left)
-    (slots_forgot first cleared old c.args.pid 0 (2 ^ 26) c.clear_row.ensures.row forgets place c.clear_row.ensures.slots) (files_forgot first cleared old c.args.pid 0 (2 ^ 26) c.clear_row.ensures.row forgets place c.clear_row.ensures.files) c.remove_process.ensures.exits.1).copies
+    c.requires.fit c.forget_row.ensures.fit (row_forgot first cleared old c.args.pid 0 (user_end g.M.Levels.mode) row forgets place (λ page e. pages_inside g.M.Levels.mode 0 (user_end g.M.Levels.mode) page (omega arith) e)) (others_forgot first cleared old c.args.pid 0 (user_end g.M.Levels.mode) row forgets place c.clear_row.ensures.others)
+    (tables_forgot first cleared old c.args.pid 0 (user_end g.M.Levels.mode) row forgets place c.clear_row.ensures.tables) (subst (λ (n : ℕ). IsWithoutTables old c.args.pid 0 n) sum (none_left_forgot first cleared old c.args.pid 0 (user_end g.M.Levels.mode) row forgets place none_left))
+    (subst (λ (n : ℕ). LosesSlots first old c.args.pid 0 n) sum (slots_forgot first cleared old c.args.pid 0 (user_end g.M.Levels.mode) row forgets place slots)) (files_forgot first cleared old c.args.pid 0 (user_end g.M.Levels.mode) row forgets place c.clear_row.ensures.files) c.remove_process.ensures.exits.1).copies
 
 pub returns-clause-files : goal.returns-clause-files
 returns-clause-files g c =
     let first = picture_of c.args.core.now in
     let cleared = picture_of c.clear_row.new.core in
     let old = picture_of c.forget_row.new.core in
-    let forgets = c.forget_row.ensures.forgets in
+    let same = c.user_end-end.ensures.end in
+    let row = subst (λ (n : ℕ). RemapsRow first cleared c.args.pid 0 n (first.at c.args.pid)) same c.clear_row.ensures.row in
+    let forgets = subst (λ (n : ℕ). ForgetsRow cleared old c.args.pid 0 n) same c.forget_row.ensures.forgets in
+    let none_left = subst (λ (n : ℕ). IsWithoutTables cleared c.args.pid 0 (0 + n)) same c.clear_row.ensures.none_left in
+    let slots = subst (λ (n : ℕ). ReturnsSlots first cleared c.args.pid 0 (0 + n)) same c.clear_row.ensures.slots in
+    let sum : 0 + user_end g.M.Levels.mode ≡ user_end g.M.Levels.mode = omega arith in
     let place = same_places c.args.core.now c.clear_row.new.core c.clear_row.ensures.rest in
     (ended first old (picture_of c.remove_process.new.self) c.args.pid c.remove_process.ensures.exits.0
-    c.requires.fit c.forget_row.ensures.fit (row_forgot first cleared old c.args.pid 0 (2 ^ 26) c.clear_row.ensures.row forgets place (λ page e. pages_inside 0 (2 ^ 26) page (omega arith) e)) (others_forgot first cleared old c.args.pid 0 (2 ^ 26) c.clear_row.ensures.row forgets place c.clear_row.ensures.others)
-    (tables_forgot first cleared old c.args.pid 0 (2 ^ 26) c.clear_row.ensures.row forgets place c.clear_row.ensures.tables) (none_left_forgot first cleared old c.args.pid 0 (2 ^ 26) c.clear_row.ensures.row forgets place c.clear_row.ensures.none_left)
-    (slots_forgot first cleared old c.args.pid 0 (2 ^ 26) c.clear_row.ensures.row forgets place c.clear_row.ensures.slots) (files_forgot first cleared old c.args.pid 0 (2 ^ 26) c.clear_row.ensures.row forgets place c.clear_row.ensures.files) c.remove_process.ensures.exits.1).files
+    c.requires.fit c.forget_row.ensures.fit (row_forgot first cleared old c.args.pid 0 (user_end g.M.Levels.mode) row forgets place (λ page e. pages_inside g.M.Levels.mode 0 (user_end g.M.Levels.mode) page (omega arith) e)) (others_forgot first cleared old c.args.pid 0 (user_end g.M.Levels.mode) row forgets place c.clear_row.ensures.others)
+    (tables_forgot first cleared old c.args.pid 0 (user_end g.M.Levels.mode) row forgets place c.clear_row.ensures.tables) (subst (λ (n : ℕ). IsWithoutTables old c.args.pid 0 n) sum (none_left_forgot first cleared old c.args.pid 0 (user_end g.M.Levels.mode) row forgets place none_left))
+    (subst (λ (n : ℕ). LosesSlots first old c.args.pid 0 n) sum (slots_forgot first cleared old c.args.pid 0 (user_end g.M.Levels.mode) row forgets place slots)) (files_forgot first cleared old c.args.pid 0 (user_end g.M.Levels.mode) row forgets place c.clear_row.ensures.files) c.remove_process.ensures.exits.1).files

@@ -1,3 +1,4 @@
+use Rattle.vm_types.specs.Limits.{user_end}
 use Rattle.std.proofs.Common.{◌≡◌, true, ◌≢◌, ℕ, [], None, refl, sym, ap, ◌∙◌, subst}
 use Rattle.std.specs.Prelude.{is_some, slice_index_or}
 use Rattle.std.proofs.lemmas.Bool.{false≢true}
@@ -25,21 +26,21 @@ use Rattle.lifecycle.proofs.forking.fork.Goals as goal
 
 pub returns-in_err-spawn-clause-short : goal.returns-in_err-spawn-clause-short
 returns-in_err-spawn-clause-short g c =
-    let old : Picture = picture_of c.args.core.now in
+    let old : Picture g.M.Levels.mode = picture_of c.args.core.now in
     let done = c.in_err-spawn.ensures in
     as_stall c.from_residual.result (IsShortToFork old c.args.parent) c.in_err-spawn.field-0.0 c.from_residual.ensures.1
     (short_before old (picture_of c.spawn.new.core) c.args.parent c.in_err-spawn.field-0.0 done.err done.room done.files.touched done.short)
 
 pub returns-in-Err-clause-swap : goal.returns-in-Err-clause-swap
 returns-in-Err-clause-swap g c =
-    ready_ended g.E.SectorDisk c.link_copies.new.core c.exit.new.core c.args.child 0 67108864 c.exit.ensures.devices c.exit.ensures.slots c.in-Err.ensures.moves.swap
+    ready_ended g.E.SectorDisk c.link_copies.new.core c.exit.new.core c.args.child 0 (user_end g.M.Levels.mode) c.exit.ensures.devices c.exit.ensures.slots c.in-Err.ensures.moves.swap
 
 pub returns-in-Err-clause-err : goal.returns-in-Err-clause-err
 returns-in-Err-clause-err g c =
-    let old : Picture = picture_of c.args.core.now in
-    let spawned : Picture = picture_of c.spawn.new.core in
-    let mapped : Picture = picture_of c.map_alike.new.core in
-    let mid : Picture = picture_of c.link_copies.new.core in
+    let old : Picture g.M.Levels.mode = picture_of c.args.core.now in
+    let spawned : Picture g.M.Levels.mode = picture_of c.spawn.new.core in
+    let mapped : Picture g.M.Levels.mode = picture_of c.map_alike.new.core in
+    let mid : Picture g.M.Levels.mode = picture_of c.link_copies.new.core in
     let apart : c.args.parent ≢ c.args.child = λ is. false≢true (sym c.requires.dead ∙ ap (is_live old) (sym is) ∙ c.requires.live) in
     let unmapped : (page : ℕ) → old.at c.args.child page ≡ None =
     λ page. ap (λ r. attr_where r (slice_index_or c.args.core.now.regions.items c.args.child []) page) (dead_root (old.root c.args.child) c.requires.dead) in
@@ -53,10 +54,10 @@ returns-in-Err-clause-err g c =
 
 pub returns-in-Err-clause-files : goal.returns-in-Err-clause-files
 returns-in-Err-clause-files g c =
-    let old : Picture = picture_of c.args.core.now in
-    let spawned : Picture = picture_of c.spawn.new.core in
-    let mapped : Picture = picture_of c.map_alike.new.core in
-    let mid : Picture = picture_of c.link_copies.new.core in
+    let old : Picture g.M.Levels.mode = picture_of c.args.core.now in
+    let spawned : Picture g.M.Levels.mode = picture_of c.spawn.new.core in
+    let mapped : Picture g.M.Levels.mode = picture_of c.map_alike.new.core in
+    let mid : Picture g.M.Levels.mode = picture_of c.link_copies.new.core in
     let apart : c.args.parent ≢ c.args.child = λ is. false≢true (sym c.requires.dead ∙ ap (is_live old) (sym is) ∙ c.requires.live) in
     let unmapped : (page : ℕ) → old.at c.args.child page ≡ None =
     λ page. ap (λ r. attr_where r (slice_index_or c.args.core.now.regions.items c.args.child []) page) (dead_root (old.root c.args.child) c.requires.dead) in
@@ -73,10 +74,10 @@ returns-in-Err-clause-files g c =
 
 pub returns-in-Err-clause-short : goal.returns-in-Err-clause-short
 returns-in-Err-clause-short g c =
-    let old : Picture = picture_of c.args.core.now in
-    let spawned : Picture = picture_of c.spawn.new.core in
-    let mapped : Picture = picture_of c.map_alike.new.core in
-    let mid : Picture = picture_of c.link_copies.new.core in
+    let old : Picture g.M.Levels.mode = picture_of c.args.core.now in
+    let spawned : Picture g.M.Levels.mode = picture_of c.spawn.new.core in
+    let mapped : Picture g.M.Levels.mode = picture_of c.map_alike.new.core in
+    let mid : Picture g.M.Levels.mode = picture_of c.link_copies.new.core in
     let apart : c.args.parent ≢ c.args.child = λ is. false≢true (sym c.requires.dead ∙ ap (is_live old) (sym is) ∙ c.requires.live) in
     let unmapped : (page : ℕ) → old.at c.args.child page ≡ None =
     λ page. ap (λ r. attr_where r (slice_index_or c.args.core.now.regions.items c.args.child []) page) (dead_root (old.root c.args.child) c.requires.dead) in
@@ -90,10 +91,10 @@ returns-in-Err-clause-short g c =
 
 pub returns-clause-ok : goal.returns-clause-ok
 returns-clause-ok g c =
-    let old : Picture = picture_of c.args.core.now in
-    let spawned : Picture = picture_of c.spawn.new.core in
-    let mapped : Picture = picture_of c.map_alike.new.core in
-    let mid : Picture = picture_of c.link_copies.new.core in
+    let old : Picture g.M.Levels.mode = picture_of c.args.core.now in
+    let spawned : Picture g.M.Levels.mode = picture_of c.spawn.new.core in
+    let mapped : Picture g.M.Levels.mode = picture_of c.map_alike.new.core in
+    let mid : Picture g.M.Levels.mode = picture_of c.link_copies.new.core in
     let apart : c.args.parent ≢ c.args.child = λ is. false≢true (sym c.requires.dead ∙ ap (is_live old) (sym is) ∙ c.requires.live) in
     let unmapped : (page : ℕ) → old.at c.args.child page ≡ None =
     λ page. ap (λ r. attr_where r (slice_index_or c.args.core.now.regions.items c.args.child []) page) (dead_root (old.root c.args.child) c.requires.dead) in
@@ -107,10 +108,10 @@ returns-clause-ok g c =
 
 pub returns-clause-shared : goal.returns-clause-shared
 returns-clause-shared g c =
-    let old : Picture = picture_of c.args.core.now in
-    let spawned : Picture = picture_of c.spawn.new.core in
-    let mapped : Picture = picture_of c.map_alike.new.core in
-    let mid : Picture = picture_of c.link_copies.new.core in
+    let old : Picture g.M.Levels.mode = picture_of c.args.core.now in
+    let spawned : Picture g.M.Levels.mode = picture_of c.spawn.new.core in
+    let mapped : Picture g.M.Levels.mode = picture_of c.map_alike.new.core in
+    let mid : Picture g.M.Levels.mode = picture_of c.link_copies.new.core in
     let apart : c.args.parent ≢ c.args.child = λ is. false≢true (sym c.requires.dead ∙ ap (is_live old) (sym is) ∙ c.requires.live) in
     let unmapped : (page : ℕ) → old.at c.args.child page ≡ None =
     λ page. ap (λ r. attr_where r (slice_index_or c.args.core.now.regions.items c.args.child []) page) (dead_root (old.root c.args.child) c.requires.dead) in
@@ -124,10 +125,10 @@ returns-clause-shared g c =
 
 pub returns-clause-bare : goal.returns-clause-bare
 returns-clause-bare g c =
-    let old : Picture = picture_of c.args.core.now in
-    let spawned : Picture = picture_of c.spawn.new.core in
-    let mapped : Picture = picture_of c.map_alike.new.core in
-    let mid : Picture = picture_of c.link_copies.new.core in
+    let old : Picture g.M.Levels.mode = picture_of c.args.core.now in
+    let spawned : Picture g.M.Levels.mode = picture_of c.spawn.new.core in
+    let mapped : Picture g.M.Levels.mode = picture_of c.map_alike.new.core in
+    let mid : Picture g.M.Levels.mode = picture_of c.link_copies.new.core in
     let apart : c.args.parent ≢ c.args.child = λ is. false≢true (sym c.requires.dead ∙ ap (is_live old) (sym is) ∙ c.requires.live) in
     let unmapped : (page : ℕ) → old.at c.args.child page ≡ None =
     λ page. ap (λ r. attr_where r (slice_index_or c.args.core.now.regions.items c.args.child []) page) (dead_root (old.root c.args.child) c.requires.dead) in
@@ -162,19 +163,19 @@ returns-clause-tables g c =
 
 pub returns-in_err-spawn-clause-stalls : goal.returns-in_err-spawn-clause-stalls
 returns-in_err-spawn-clause-stalls g c =
-    let old : Picture = picture_of c.args.core.now in
-    let new : Picture = picture_of c.spawn.new.core in
+    let old : Picture g.M.Levels.mode = picture_of c.args.core.now in
+    let new : Picture g.M.Levels.mode = picture_of c.spawn.new.core in
     let done = c.in_err-spawn.ensures in
     on_err c.from_residual.result (StallsToFork old new c.args.parent c.args.child)
     (stalls_first old new c.args.parent c.args.child (dead_root (old.root c.args.child) c.requires.dead) done.fit done.frees done.tried done.still done.full)
 
 pub returns-in-Err-clause-stalls : goal.returns-in-Err-clause-stalls
 returns-in-Err-clause-stalls g c =
-    let old : Picture = picture_of c.args.core.now in
-    let spawned : Picture = picture_of c.spawn.new.core in
-    let mapped : Picture = picture_of c.map_alike.new.core in
-    let mid : Picture = picture_of c.link_copies.new.core in
-    let new : Picture = picture_of c.exit.new.core in
+    let old : Picture g.M.Levels.mode = picture_of c.args.core.now in
+    let spawned : Picture g.M.Levels.mode = picture_of c.spawn.new.core in
+    let mapped : Picture g.M.Levels.mode = picture_of c.map_alike.new.core in
+    let mid : Picture g.M.Levels.mode = picture_of c.link_copies.new.core in
+    let new : Picture g.M.Levels.mode = picture_of c.exit.new.core in
     let first = c.in_ok-spawn.ensures in
     let maps = c.map_alike.ensures.mapped in
     let frames = c.map_alike.ensures.rest.frames in
@@ -193,10 +194,10 @@ returns-in-Err-clause-stalls g c =
 
 pub returns-clause-entries : goal.returns-clause-entries
 returns-clause-entries g c =
-    let old : Picture = picture_of c.args.core.now in
-    let spawned : Picture = picture_of c.spawn.new.core in
-    let mapped : Picture = picture_of c.map_alike.new.core in
-    let mid : Picture = picture_of c.link_copies.new.core in
+    let old : Picture g.M.Levels.mode = picture_of c.args.core.now in
+    let spawned : Picture g.M.Levels.mode = picture_of c.spawn.new.core in
+    let mapped : Picture g.M.Levels.mode = picture_of c.map_alike.new.core in
+    let mid : Picture g.M.Levels.mode = picture_of c.link_copies.new.core in
     let apart : c.args.parent ≢ c.args.child = λ is. false≢true (sym c.requires.dead ∙ ap (is_live old) (sym is) ∙ c.requires.live) in
     let unmapped : (page : ℕ) → old.at c.args.child page ≡ None =
     λ page. ap (λ r. attr_where r (slice_index_or c.args.core.now.regions.items c.args.child []) page) (dead_root (old.root c.args.child) c.requires.dead) in
@@ -213,10 +214,10 @@ returns-clause-entries g c =
 
 pub returns-clause-takes : goal.returns-clause-takes
 returns-clause-takes g c =
-    let old : Picture = picture_of c.args.core.now in
-    let spawned : Picture = picture_of c.spawn.new.core in
-    let mapped : Picture = picture_of c.map_alike.new.core in
-    let mid : Picture = picture_of c.link_copies.new.core in
+    let old : Picture g.M.Levels.mode = picture_of c.args.core.now in
+    let spawned : Picture g.M.Levels.mode = picture_of c.spawn.new.core in
+    let mapped : Picture g.M.Levels.mode = picture_of c.map_alike.new.core in
+    let mid : Picture g.M.Levels.mode = picture_of c.link_copies.new.core in
     let first = c.in_ok-spawn.ensures in
     let maps = c.map_alike.ensures.mapped in
     let frames = c.map_alike.ensures.rest.frames in
@@ -229,7 +230,7 @@ returns-clause-takes g c =
 
 pub exit-requires-clause-live : goal.exit-requires-clause-live
 exit-requires-clause-live g c =
-    let mapped : Picture = picture_of c.map_alike.new.core in
+    let mapped : Picture g.M.Levels.mode = picture_of c.map_alike.new.core in
     live_same mapped (picture_of c.link_copies.new.core) c.args.child (c.in-Err.ensures.moves.spaces.root c.args.child)
     ∙ live_same (picture_of c.spawn.new.core) mapped c.args.child (c.map_alike.ensures.mapped.root c.args.child) ∙ c.in_ok-spawn.ensures.ok.lives
 

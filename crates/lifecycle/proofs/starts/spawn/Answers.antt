@@ -57,8 +57,8 @@ returns-clause-room g c =
 
 pub returns-in_err-root-clause-err : goal.returns-in_err-root-clause-err
 returns-in_err-root-clause-err g c =
-    let old : Picture = picture_of c.args.core.now in
-    let new : Picture = picture_of c.take_table.new.self in
+    let old : Picture g.M.Levels.mode = picture_of c.args.core.now in
+    let new : Picture g.M.Levels.mode = picture_of c.take_table.new.self in
     on_err c.from_residual.result (KeepsProcesses old new) (pages_kept old new c.in_err-root.ensures.frees.pages)
 
 pub returns-in_err-root-clause-bare : goal.returns-in_err-root-clause-bare

@@ -1,3 +1,4 @@
+use Rattle.vm_types.specs.Limits.{top_level}
 use Rattle.std.proofs.Common.{sym, subst}
 use Rattle.frames.specs.FrameTable.{FrameTable}
 use Rattle.page_tables.specs.Tree.{IsForest, IsRoot, IsSpare}
@@ -5,13 +6,13 @@ use Rattle.mapped_memory.proofs.Keeping.{kept_by, linked_leaf, no_more}
 use Rattle.mapped_memory.proofs.trees.link_table.Goals as goal
 
 pub invariant_of-memory : goal.invariant_of-memory
-invariant_of-memory c =
+invariant_of-memory g c =
     let t = c.memory.inside.frames in
     let root = c.args.root.0 in
     let table = c.args.table.0 in
     let b = c.memory.inside.buffer in
     let forest = subst (λ (x : FrameTable). IsForest x) (sym c.memory.view_is) c.requires.forest in
-    let is_root = subst (λ (x : FrameTable). IsRoot 2 x root) (sym c.memory.view_is) c.requires.root in
+    let is_root = subst (λ (x : FrameTable). IsRoot (top_level g.M.Levels.mode) x root) (sym c.memory.view_is) c.requires.root in
     let spare = subst (λ (x : FrameTable). IsSpare x table) (sym c.memory.view_is) c.requires.spare in
-    kept_by t c.link_table.new.frames b b (no_more b)
-    (linked_leaf t c.link_table.new.frames root forest is_root c.args.page table c.link_table.ensures.links spare c.requires.other) c.memory.invariant
+    kept_by g.M.Levels.mode t c.link_table.new.frames b b (no_more b)
+    (linked_leaf g.M.Levels.mode t c.link_table.new.frames root forest is_root c.args.page table c.link_table.ensures.links spare c.requires.other) c.memory.invariant

@@ -1,3 +1,4 @@
+use Rattle.vm_types.specs.Limits.{top_level}
 use Rattle.std.proofs.Common.{sym, subst}
 use Rattle.frames.specs.FrameTable.{FrameTable}
 use Rattle.page_tables.specs.Tree.{IsForest, IsRoot}
@@ -5,10 +6,10 @@ use Rattle.mapped_memory.proofs.Keeping.{kept_by, no_more, pruned_leaf}
 use Rattle.mapped_memory.proofs.trees.prune.Goals as goal
 
 pub invariant_of-memory : goal.invariant_of-memory
-invariant_of-memory c =
+invariant_of-memory g c =
     let t = c.memory.inside.frames in
     let root = c.args.root.0 in
     let b = c.memory.inside.buffer in
     let forest = subst (λ (x : FrameTable). IsForest x) (sym c.memory.view_is) c.requires.forest in
-    let is_root = subst (λ (x : FrameTable). IsRoot 2 x root) (sym c.memory.view_is) c.requires.root in
-    kept_by t c.prune.new.frames b b (no_more b) (pruned_leaf t c.prune.new.frames root forest is_root c.args.page c.prune.ensures.prunes) c.memory.invariant
+    let is_root = subst (λ (x : FrameTable). IsRoot (top_level g.M.Levels.mode) x root) (sym c.memory.view_is) c.requires.root in
+    kept_by g.M.Levels.mode t c.prune.new.frames b b (no_more b) (pruned_leaf g.M.Levels.mode t c.prune.new.frames root forest is_root c.args.page c.prune.ensures.prunes) c.memory.invariant

@@ -1,4 +1,5 @@
-use Rattle.std.proofs.Common.{◌≡◌, subst, sym, Ok, Err, Result}
+use Rattle.vm_types.specs.Limits.{top_level}
+use Rattle.std.proofs.Common.{◌≡◌, ℕ, subst, sym, Ok, Err, Result}
 use Rattle.std.specs.Prelude.{IfOk, OnErr}
 use Rattle.frames.specs.FrameTable.{FrameTable}
 use Rattle.vm_types.specs.declared.number.FrameNo.{FrameNo}
@@ -10,12 +11,21 @@ use Rattle.mapped_memory.specs.Kept.{LinesAreLeaves}
 use Rattle.mapped_memory.proofs.Keeping.{kept_by, no_more, taken_leaf}
 use Rattle.mapped_memory.proofs.trees.take_table.Goals as goal
 
-either : (old new : FrameTable) (b : TranslationBuffer) (r : Result FrameNo NoFree) → LinesAreLeaves old b
-    → IfOk r (λ n. AddsTable old new 2 n.0) → OnErr r (new ≡ old) → LinesAreLeaves new b
-either old new b (Ok n) kept taken err = kept_by old new b b (no_more b) (taken_leaf old new n.0 Table taken.takes) kept
-either old new b (Err e) kept taken err = subst (λ (t : FrameTable). LinesAreLeaves t b) (sym err) kept
+either : (mode : ℕ) (old new : FrameTable) (b : TranslationBuffer) (r : Result FrameNo NoFree) → LinesAreLeaves mode old b
+    → IfOk r (λ n. (top : ℕ) → AddsTable old new top n.0) → OnErr r (new ≡ old) → LinesAreLeaves mode new b
+either mode old new b (Ok n) kept taken err = kept_by mode old new b b (no_more b) (taken_leaf old new n.0 Table (taken 0).takes mode) kept
+either mode old new b (Err e) kept taken err = subst (λ (t : FrameTable). LinesAreLeaves mode t b) (sym err) kept
 
 pub invariant_of-memory : goal.invariant_of-memory
-invariant_of-memory c =
-    either c.memory.inside.frames c.take_table.new.frames c.memory.inside.buffer c.take_table.result c.memory.invariant
+invariant_of-memory g c =
+    either g.M.Levels.mode c.memory.inside.frames c.take_table.new.frames c.memory.inside.buffer c.take_table.result c.memory.invariant
     c.take_table.ensures.taken c.take_table.ensures.err
+
+every : (r : Result FrameNo NoFree) (old new : FrameTable) (mode : ℕ) → IfOk r (λ n. (top : ℕ) → AddsTable old new top n.0) → IfOk r (λ n. AddsTable old new (top_level mode) n.0)
+every (Ok n) old new mode taken = taken (top_level mode)
+every (Err e) old new mode taken = tt
+
+pub returns-clause-taken : goal.returns-clause-taken
+returns-clause-taken g c =
+    let T : FrameTable → Type 0 = λ x. IfOk c.take_table.result (λ n. AddsTable x c.take_table.new.frames (top_level g.M.Levels.mode) n.0) in
+    subst T c.memory.view_is (every c.take_table.result c.memory.inside.frames c.take_table.new.frames g.M.Levels.mode c.take_table.ensures.taken)

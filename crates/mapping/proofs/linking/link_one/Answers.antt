@@ -22,9 +22,9 @@ link_table-requires-clause-missing g c none =
 
 pub returns-clause-moves : goal.returns-clause-moves
 returns-clause-moves g c =
-    let old : Picture = picture_of c.args.core.now in
-    let taken : Picture = picture_of c.take_table.new.self in
-    let new : Picture = record taken { frames = c.link_table.new.memory } in
+    let old : Picture g.M.Levels.mode = picture_of c.args.core.now in
+    let taken : Picture g.M.Levels.mode = picture_of c.take_table.new.self in
+    let new : Picture g.M.Levels.mode = record taken { frames = c.link_table.new.memory } in
     let took = c.in_ok-table.ensures.taken in
     let done = c.in_ok-table.ensures in
     let links = c.link_table.ensures.links in
@@ -42,44 +42,44 @@ returns-clause-moves g c =
 
 pub returns-clause-pages : goal.returns-clause-pages
 returns-clause-pages g c =
-    let taken : Picture = picture_of c.take_table.new.self in
+    let taken : Picture g.M.Levels.mode = picture_of c.take_table.new.self in
     pages_linked (picture_of c.args.core.now) taken (record taken { frames = c.link_table.new.memory }) c.args.pid c.args.root.0 c.args.page c.in_ok-table.table.0 c.in_ok-table.ensures.taken c.requires.lives
     c.link_table.ensures.links (same_with taken c.link_table.new.memory)
 
 pub returns-clause-bare : goal.returns-clause-bare
 returns-clause-bare g c =
-    let taken : Picture = picture_of c.take_table.new.self in
+    let taken : Picture g.M.Levels.mode = picture_of c.take_table.new.self in
     bare_linked (picture_of c.args.core.now) taken (record taken { frames = c.link_table.new.memory }) c.args.pid c.args.root.0 c.args.page c.in_ok-table.table.0 c.in_ok-table.ensures.taken c.requires.lives
     c.link_table.ensures.links (same_with taken c.link_table.new.memory)
 
 pub returns-clause-slotted : goal.returns-clause-slotted
 returns-clause-slotted g c =
-    let taken : Picture = picture_of c.take_table.new.self in
+    let taken : Picture g.M.Levels.mode = picture_of c.take_table.new.self in
     slotted_linked (picture_of c.args.core.now) taken (record taken { frames = c.link_table.new.memory }) c.args.pid c.args.root.0 c.args.page c.in_ok-table.table.0 c.in_ok-table.ensures.taken c.requires.lives
     c.link_table.ensures.links (same_with taken c.link_table.new.memory)
 
 pub returns-clause-no_copy : goal.returns-clause-no_copy
 returns-clause-no_copy g c =
-    let taken : Picture = picture_of c.take_table.new.self in
+    let taken : Picture g.M.Levels.mode = picture_of c.take_table.new.self in
     no_copy_linked (picture_of c.args.core.now) taken (record taken { frames = c.link_table.new.memory }) c.args.pid c.args.root.0 c.args.page c.in_ok-table.table.0 c.in_ok-table.ensures.taken c.requires.lives
     c.link_table.ensures.links (same_with taken c.link_table.new.memory)
 
 pub returns-clause-lowered : goal.returns-clause-lowered
 returns-clause-lowered g c =
-    let taken : Picture = picture_of c.take_table.new.self in
+    let taken : Picture g.M.Levels.mode = picture_of c.take_table.new.self in
     c.link_table.ensures.links.lowered
     ∙ missing_taken (picture_of c.args.core.now) taken (record taken { frames = c.link_table.new.memory }) c.args.pid c.args.root.0 c.args.page c.in_ok-table.table.0 c.in_ok-table.ensures.taken c.requires.lives
     c.link_table.ensures.links (same_with taken c.link_table.new.memory)
 
 pub returns-clause-gives : goal.returns-clause-gives
 returns-clause-gives g c =
-    let taken : Picture = picture_of c.take_table.new.self in
+    let taken : Picture g.M.Levels.mode = picture_of c.take_table.new.self in
     gives_linked (picture_of c.args.core.now) taken (record taken { frames = c.link_table.new.memory }) c.args.pid c.args.root.0 c.args.page c.in_ok-table.table.0 c.in_ok-table.ensures.taken c.requires.lives
     c.link_table.ensures.links (same_with taken c.link_table.new.memory) c.in_ok-table.ensures.gives
 
 pub returns-clause-tables : goal.returns-clause-tables
 returns-clause-tables g c =
-    let taken : Picture = picture_of c.take_table.new.self in
+    let taken : Picture g.M.Levels.mode = picture_of c.take_table.new.self in
     links_linked (picture_of c.args.core.now) taken (record taken { frames = c.link_table.new.memory }) c.args.pid c.args.root.0 c.args.page c.in_ok-table.table.0 c.in_ok-table.ensures.taken c.requires.lives
     c.link_table.ensures.links (same_with taken c.link_table.new.memory) c.in_ok-table.ensures.gives c.in_ok-table.ensures.only
 
@@ -102,8 +102,8 @@ returns-in_err-table-clause-no_copy g c n is = elim (c.in_err-table.ensures.free
 
 pub returns-in_err-table-clause-wanted : goal.returns-in_err-table-clause-wanted
 returns-in_err-table-clause-wanted g c =
-    let old : Picture = picture_of c.args.core.now in
-    let new : Picture = picture_of c.take_table.new.self in
+    let old : Picture g.M.Levels.mode = picture_of c.args.core.now in
+    let new : Picture g.M.Levels.mode = picture_of c.take_table.new.self in
     on_err c.from_residual.result (IsWhole new c.args.pid c.args.page → ⊥)
     (still_wanted old new c.args.pid c.args.root.0 c.args.page c.in_err-table.ensures.frees c.requires.lives c.requires.missing)
 

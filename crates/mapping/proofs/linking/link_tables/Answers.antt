@@ -56,9 +56,9 @@ loop-pid-preserved g c =
 
 pub returns-in_err-link_one-clause-tried : goal.returns-in_err-link_one-clause-tried
 returns-in_err-link_one-clause-tried g c =
-    let first : Picture = picture_of c.args.core.now in
-    let mid : Picture = picture_of c.loop-pid.core in
-    let last : Picture = picture_of c.link_one.new.core in
+    let first : Picture g.M.Levels.mode = picture_of c.args.core.now in
+    let mid : Picture g.M.Levels.mode = picture_of c.loop-pid.core in
+    let last : Picture g.M.Levels.mode = picture_of c.link_one.new.core in
     let step = c.in_err-link_one.ensures.tried in
     on_err c.from_residual.result ((tried : Option ℕ) × GivesForTables first last tried)
     (step.0, gives_then first mid last step.0 c.loop-pid.invariant.9 step.1)

@@ -1,3 +1,4 @@
+use Rattle.vm_types.specs.Limits.{top_level}
 use Rattle.std.proofs.Common.{◌≡◌, ◌≤◌, ℕ, Some, None}
 use Rattle.frames.specs.declared.role.Role.TheVariants.{Private}
 use Rattle.frames.specs.FrameTable.{role_of}
@@ -13,12 +14,12 @@ abbrev pub invariant-loop-pid : goal.invariant-loop-pid
 invariant-loop-pid g l =
     Moves g.E.SectorDisk l.initial.core l.core × KeepsPages (picture_of l.initial.core) (picture_of l.core) × KeepsBare (picture_of l.initial.core) (picture_of l.core)
     × (l.core.refused.number ≡ l.initial.core.refused.number) × ((picture_of l.core).root l.pid ≡ Some l.root.0) × IsMapped (picture_of l.core) l.pid l.page
-    × (missing_of l.core.frames 2 l.root.0 l.page ≤ missing_of l.initial.core.frames 2 l.root.0 l.page)
-    × (missing_of l.initial.core.frames 2 l.root.0 l.page ≡ 0 → l.core ≡ l.initial.core)
+    × (missing_of l.core.frames (top_level g.M.Levels.mode) l.root.0 l.page ≤ missing_of l.initial.core.frames (top_level g.M.Levels.mode) l.root.0 l.page)
+    × (missing_of l.initial.core.frames (top_level g.M.Levels.mode) l.root.0 l.page ≡ 0 → l.core ≡ l.initial.core)
     × ((n : ℕ) → role_of l.core.frames n ≡ Private → role_of l.initial.core.frames n ≡ Private)
     × GivesForTables (picture_of l.initial.core) (picture_of l.core) None × LinksTables (picture_of l.initial.core) (picture_of l.core) l.pid l.page
     × KeepsSlotted (λ p. ⊥) (λ q p. ⊥) (picture_of l.initial.core) (picture_of l.core)
     × (g.E.SectorDisk.failures l.core.swap.pages.disk ≡ g.E.SectorDisk.failures l.initial.core.swap.pages.disk)
 
 abbrev pub decreases-loop-pid : goal.decreases-loop-pid
-decreases-loop-pid g l = missing_of l.core.frames 2 l.root.0 l.page
+decreases-loop-pid g l = missing_of l.core.frames (top_level g.M.Levels.mode) l.root.0 l.page

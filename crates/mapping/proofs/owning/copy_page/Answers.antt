@@ -1,3 +1,4 @@
+use Rattle.std.specs.Prelude.{is_some}
 use Rattle.std.proofs.Common.{◌≡◌, None, inl, refl, sym, ap, ◌∙◌, subst}
 use Rattle.std.specs.Prelude.{IsTrue}
 use Rattle.std.proofs.lemmas.Bool.{false≢true}
@@ -22,7 +23,7 @@ use Rattle.mapping.proofs.owning.copy_page.Goals as goal
 
 pub take_copy-requires-clause-source : goal.take_copy-requires-clause-source
 take_copy-requires-clause-source g c =
-    let old : Picture = picture_of c.args.core.now in
+    let old : Picture g.M.Levels.mode = picture_of c.args.core.now in
     used_inside old.frames c.args.shown.0 c.args.core.now.sound
     (shown_used old c.args.pid c.args.page c.args.shown.0 c.args.attr c.args.core.now.sound c.requires.linked c.requires.attr c.requires.resident c.requires.own c.requires.common)
 
@@ -36,8 +37,8 @@ take_copy-requires-clause-datum g c =
 
 pub set_full-requires-clause-forest : goal.set_full-requires-clause-forest
 set_full-requires-clause-forest g c =
-    let old : Picture = picture_of c.args.core.now in
-    let mid : Picture = picture_of c.take_copy.new.core in
+    let old : Picture g.M.Levels.mode = picture_of c.args.core.now in
+    let mid : Picture g.M.Levels.mode = picture_of c.take_copy.new.core in
     let copy = c.in_ok-own.ensures.taken in
     let n = c.in_ok-own.own.0 in
     let r = c.root_of-root.result.0 in
@@ -45,8 +46,8 @@ set_full-requires-clause-forest g c =
 
 pub set_full-requires-clause-root : goal.set_full-requires-clause-root
 set_full-requires-clause-root g c =
-    let old : Picture = picture_of c.args.core.now in
-    let mid : Picture = picture_of c.take_copy.new.core in
+    let old : Picture g.M.Levels.mode = picture_of c.args.core.now in
+    let mid : Picture g.M.Levels.mode = picture_of c.take_copy.new.core in
     let copy = c.in_ok-own.ensures.taken in
     let n = c.in_ok-own.own.0 in
     let r = c.root_of-root.result.0 in
@@ -54,8 +55,8 @@ set_full-requires-clause-root g c =
 
 pub set_full-requires-clause-whole : goal.set_full-requires-clause-whole
 set_full-requires-clause-whole g c =
-    let old : Picture = picture_of c.args.core.now in
-    let mid : Picture = picture_of c.take_copy.new.core in
+    let old : Picture g.M.Levels.mode = picture_of c.args.core.now in
+    let mid : Picture g.M.Levels.mode = picture_of c.take_copy.new.core in
     let copy = c.in_ok-own.ensures.taken in
     let n = c.in_ok-own.own.0 in
     let r = c.root_of-root.result.0 in
@@ -66,9 +67,9 @@ set_full-requires-clause-inside g c = c.in_ok-own.ensures.taken.inside
 
 pub release-requires : goal.release-requires
 release-requires g c =
-    let old : Picture = picture_of c.args.core.now in
-    let mid : Picture = picture_of c.take_copy.new.core in
-    let set : Picture = picture_of c.set_full.new.core in
+    let old : Picture g.M.Levels.mode = picture_of c.args.core.now in
+    let mid : Picture g.M.Levels.mode = picture_of c.take_copy.new.core in
+    let set : Picture g.M.Levels.mode = picture_of c.set_full.new.core in
     let sets = c.set_full.ensures.sets in
     let beside = beside_around c.take_copy.new.core c.set_full.new.core c.set_full.ensures.rest in
     let copy = c.in_ok-own.ensures.taken in
@@ -84,9 +85,9 @@ release-requires g c =
 
 pub returns-then-is_private-clause-moves : goal.returns-then-is_private-clause-moves
 returns-then-is_private-clause-moves g c =
-    let old : Picture = picture_of c.args.core.now in
-    let mid : Picture = picture_of c.take_copy.new.core in
-    let set : Picture = picture_of c.set_full.new.core in
+    let old : Picture g.M.Levels.mode = picture_of c.args.core.now in
+    let mid : Picture g.M.Levels.mode = picture_of c.take_copy.new.core in
+    let set : Picture g.M.Levels.mode = picture_of c.set_full.new.core in
     let sets = c.set_full.ensures.sets in
     let beside = beside_around c.take_copy.new.core c.set_full.new.core c.set_full.ensures.rest in
     let copy = c.in_ok-own.ensures.taken in
@@ -94,7 +95,7 @@ returns-then-is_private-clause-moves g c =
     let r = c.root_of-root.result.0 in
     let inside = past_end-same old copy.found c.args.attr.backing copy.frees.pages.files.files ∙ c.requires.inside in
     let private = sym (ap is_private c.requires.was) ∙ sym c.is_private.ensures ∙ c.if-is_private.true in
-    let new : Picture = record set { frames = c.release.new.self } in
+    let new : Picture g.M.Levels.mode = record set { frames = c.release.new.self } in
     let beside' : SameBeside set new = same_with set c.release.new.self in
     let releases = c.release.ensures.change in
     let done = c.in_ok-own.ensures in
@@ -110,9 +111,9 @@ returns-then-is_private-clause-moves g c =
 
 pub returns-then-is_private-clause-own : goal.returns-then-is_private-clause-own
 returns-then-is_private-clause-own g c =
-    let old : Picture = picture_of c.args.core.now in
-    let mid : Picture = picture_of c.take_copy.new.core in
-    let set : Picture = picture_of c.set_full.new.core in
+    let old : Picture g.M.Levels.mode = picture_of c.args.core.now in
+    let mid : Picture g.M.Levels.mode = picture_of c.take_copy.new.core in
+    let set : Picture g.M.Levels.mode = picture_of c.set_full.new.core in
     let sets = c.set_full.ensures.sets in
     let beside = beside_around c.take_copy.new.core c.set_full.new.core c.set_full.ensures.rest in
     let copy = c.in_ok-own.ensures.taken in
@@ -120,16 +121,16 @@ returns-then-is_private-clause-own g c =
     let r = c.root_of-root.result.0 in
     let inside = past_end-same old copy.found c.args.attr.backing copy.frees.pages.files.files ∙ c.requires.inside in
     let private = sym (ap is_private c.requires.was) ∙ sym c.is_private.ensures ∙ c.if-is_private.true in
-    let new : Picture = record set { frames = c.release.new.self } in
+    let new : Picture g.M.Levels.mode = record set { frames = c.release.new.self } in
     let beside' : SameBeside set new = same_with set c.release.new.self in
     let releases = c.release.ensures.change in
     own_shared old c.args.pid c.args.page c.args.shown.0 c.args.attr c.args.core.now.sound c.requires.linked c.requires.attr c.requires.resident c.requires.own c.requires.common mid n r copy c.root_of-root.ensures set sets beside c.requires.not_shared inside private new releases beside'
 
 pub returns-then-is_private-clause-bytes : goal.returns-then-is_private-clause-bytes
 returns-then-is_private-clause-bytes g c =
-    let old : Picture = picture_of c.args.core.now in
-    let mid : Picture = picture_of c.take_copy.new.core in
-    let set : Picture = picture_of c.set_full.new.core in
+    let old : Picture g.M.Levels.mode = picture_of c.args.core.now in
+    let mid : Picture g.M.Levels.mode = picture_of c.take_copy.new.core in
+    let set : Picture g.M.Levels.mode = picture_of c.set_full.new.core in
     let sets = c.set_full.ensures.sets in
     let beside = beside_around c.take_copy.new.core c.set_full.new.core c.set_full.ensures.rest in
     let copy = c.in_ok-own.ensures.taken in
@@ -137,16 +138,16 @@ returns-then-is_private-clause-bytes g c =
     let r = c.root_of-root.result.0 in
     let inside = past_end-same old copy.found c.args.attr.backing copy.frees.pages.files.files ∙ c.requires.inside in
     let private = sym (ap is_private c.requires.was) ∙ sym c.is_private.ensures ∙ c.if-is_private.true in
-    let new : Picture = record set { frames = c.release.new.self } in
+    let new : Picture g.M.Levels.mode = record set { frames = c.release.new.self } in
     let beside' : SameBeside set new = same_with set c.release.new.self in
     let releases = c.release.ensures.change in
     bytes_shared old c.args.pid c.args.page c.args.shown.0 c.args.attr c.args.core.now.sound c.requires.linked c.requires.attr c.requires.resident c.requires.own c.requires.common mid n r copy c.root_of-root.ensures set sets beside c.requires.not_shared inside private new releases beside'
 
 pub returns-then-is_private-clause-entry : goal.returns-then-is_private-clause-entry
 returns-then-is_private-clause-entry g c =
-    let old : Picture = picture_of c.args.core.now in
-    let mid : Picture = picture_of c.take_copy.new.core in
-    let set : Picture = picture_of c.set_full.new.core in
+    let old : Picture g.M.Levels.mode = picture_of c.args.core.now in
+    let mid : Picture g.M.Levels.mode = picture_of c.take_copy.new.core in
+    let set : Picture g.M.Levels.mode = picture_of c.set_full.new.core in
     let sets = c.set_full.ensures.sets in
     let beside = beside_around c.take_copy.new.core c.set_full.new.core c.set_full.ensures.rest in
     let copy = c.in_ok-own.ensures.taken in
@@ -154,16 +155,16 @@ returns-then-is_private-clause-entry g c =
     let r = c.root_of-root.result.0 in
     let inside = past_end-same old copy.found c.args.attr.backing copy.frees.pages.files.files ∙ c.requires.inside in
     let private = sym (ap is_private c.requires.was) ∙ sym c.is_private.ensures ∙ c.if-is_private.true in
-    let new : Picture = record set { frames = c.release.new.self } in
+    let new : Picture g.M.Levels.mode = record set { frames = c.release.new.self } in
     let beside' : SameBeside set new = same_with set c.release.new.self in
     let releases = c.release.ensures.change in
     entry_shared old c.args.pid c.args.page c.args.shown.0 c.args.attr c.args.core.now.sound c.requires.linked c.requires.attr c.requires.resident c.requires.own c.requires.common mid n r copy c.root_of-root.ensures set sets beside c.requires.not_shared inside private new releases beside' c.requires.writable
 
 pub returns-then-is_private-clause-sole : goal.returns-then-is_private-clause-sole
 returns-then-is_private-clause-sole g c =
-    let old : Picture = picture_of c.args.core.now in
-    let mid : Picture = picture_of c.take_copy.new.core in
-    let set : Picture = picture_of c.set_full.new.core in
+    let old : Picture g.M.Levels.mode = picture_of c.args.core.now in
+    let mid : Picture g.M.Levels.mode = picture_of c.take_copy.new.core in
+    let set : Picture g.M.Levels.mode = picture_of c.set_full.new.core in
     let sets = c.set_full.ensures.sets in
     let beside = beside_around c.take_copy.new.core c.set_full.new.core c.set_full.ensures.rest in
     let copy = c.in_ok-own.ensures.taken in
@@ -171,16 +172,16 @@ returns-then-is_private-clause-sole g c =
     let r = c.root_of-root.result.0 in
     let inside = past_end-same old copy.found c.args.attr.backing copy.frees.pages.files.files ∙ c.requires.inside in
     let private = sym (ap is_private c.requires.was) ∙ sym c.is_private.ensures ∙ c.if-is_private.true in
-    let new : Picture = record set { frames = c.release.new.self } in
+    let new : Picture g.M.Levels.mode = record set { frames = c.release.new.self } in
     let beside' : SameBeside set new = same_with set c.release.new.self in
     let releases = c.release.ensures.change in
     count_shared old c.args.pid c.args.page c.args.shown.0 c.args.attr c.args.core.now.sound c.requires.linked c.requires.attr c.requires.resident c.requires.own c.requires.common mid n r copy c.root_of-root.ensures set sets beside c.requires.not_shared inside private new releases beside'
 
 pub returns-then-is_private-clause-others : goal.returns-then-is_private-clause-others
 returns-then-is_private-clause-others g c =
-    let old : Picture = picture_of c.args.core.now in
-    let mid : Picture = picture_of c.take_copy.new.core in
-    let set : Picture = picture_of c.set_full.new.core in
+    let old : Picture g.M.Levels.mode = picture_of c.args.core.now in
+    let mid : Picture g.M.Levels.mode = picture_of c.take_copy.new.core in
+    let set : Picture g.M.Levels.mode = picture_of c.set_full.new.core in
     let sets = c.set_full.ensures.sets in
     let beside = beside_around c.take_copy.new.core c.set_full.new.core c.set_full.ensures.rest in
     let copy = c.in_ok-own.ensures.taken in
@@ -188,16 +189,16 @@ returns-then-is_private-clause-others g c =
     let r = c.root_of-root.result.0 in
     let inside = past_end-same old copy.found c.args.attr.backing copy.frees.pages.files.files ∙ c.requires.inside in
     let private = sym (ap is_private c.requires.was) ∙ sym c.is_private.ensures ∙ c.if-is_private.true in
-    let new : Picture = record set { frames = c.release.new.self } in
+    let new : Picture g.M.Levels.mode = record set { frames = c.release.new.self } in
     let beside' : SameBeside set new = same_with set c.release.new.self in
     let releases = c.release.ensures.change in
     others_shared old c.args.pid c.args.page c.args.shown.0 c.args.attr c.args.core.now.sound c.requires.linked c.requires.attr c.requires.resident c.requires.own c.requires.common mid n r copy c.root_of-root.ensures set sets beside c.requires.not_shared inside private new releases beside'
 
 pub returns-then-is_private-clause-bare : goal.returns-then-is_private-clause-bare
 returns-then-is_private-clause-bare g c =
-    let old : Picture = picture_of c.args.core.now in
-    let mid : Picture = picture_of c.take_copy.new.core in
-    let set : Picture = picture_of c.set_full.new.core in
+    let old : Picture g.M.Levels.mode = picture_of c.args.core.now in
+    let mid : Picture g.M.Levels.mode = picture_of c.take_copy.new.core in
+    let set : Picture g.M.Levels.mode = picture_of c.set_full.new.core in
     let sets = c.set_full.ensures.sets in
     let beside = beside_around c.take_copy.new.core c.set_full.new.core c.set_full.ensures.rest in
     let copy = c.in_ok-own.ensures.taken in
@@ -205,16 +206,16 @@ returns-then-is_private-clause-bare g c =
     let r = c.root_of-root.result.0 in
     let inside = past_end-same old copy.found c.args.attr.backing copy.frees.pages.files.files ∙ c.requires.inside in
     let private = sym (ap is_private c.requires.was) ∙ sym c.is_private.ensures ∙ c.if-is_private.true in
-    let new : Picture = record set { frames = c.release.new.self } in
+    let new : Picture g.M.Levels.mode = record set { frames = c.release.new.self } in
     let beside' : SameBeside set new = same_with set c.release.new.self in
     let releases = c.release.ensures.change in
     bare_shared old c.args.pid c.args.page c.args.shown.0 c.args.attr c.args.core.now.sound c.requires.linked c.requires.attr c.requires.resident c.requires.own c.requires.common mid n r copy c.root_of-root.ensures set sets beside c.requires.not_shared inside private new releases beside'
 
 pub returns-then-is_private-clause-slotted : goal.returns-then-is_private-clause-slotted
 returns-then-is_private-clause-slotted g c =
-    let old : Picture = picture_of c.args.core.now in
-    let mid : Picture = picture_of c.take_copy.new.core in
-    let set : Picture = picture_of c.set_full.new.core in
+    let old : Picture g.M.Levels.mode = picture_of c.args.core.now in
+    let mid : Picture g.M.Levels.mode = picture_of c.take_copy.new.core in
+    let set : Picture g.M.Levels.mode = picture_of c.set_full.new.core in
     let sets = c.set_full.ensures.sets in
     let beside = beside_around c.take_copy.new.core c.set_full.new.core c.set_full.ensures.rest in
     let copy = c.in_ok-own.ensures.taken in
@@ -222,16 +223,16 @@ returns-then-is_private-clause-slotted g c =
     let r = c.root_of-root.result.0 in
     let inside = past_end-same old copy.found c.args.attr.backing copy.frees.pages.files.files ∙ c.requires.inside in
     let private = sym (ap is_private c.requires.was) ∙ sym c.is_private.ensures ∙ c.if-is_private.true in
-    let new : Picture = record set { frames = c.release.new.self } in
+    let new : Picture g.M.Levels.mode = record set { frames = c.release.new.self } in
     let beside' : SameBeside set new = same_with set c.release.new.self in
     let releases = c.release.ensures.change in
     slotted_shared old c.args.pid c.args.page c.args.shown.0 c.args.attr c.args.core.now.sound c.requires.linked c.requires.attr c.requires.resident c.requires.own c.requires.common mid n r copy c.root_of-root.ensures set sets beside c.requires.not_shared inside private new releases beside'
 
 pub returns-then-is_private-clause-files : goal.returns-then-is_private-clause-files
 returns-then-is_private-clause-files g c =
-    let old : Picture = picture_of c.args.core.now in
-    let mid : Picture = picture_of c.take_copy.new.core in
-    let set : Picture = picture_of c.set_full.new.core in
+    let old : Picture g.M.Levels.mode = picture_of c.args.core.now in
+    let mid : Picture g.M.Levels.mode = picture_of c.take_copy.new.core in
+    let set : Picture g.M.Levels.mode = picture_of c.set_full.new.core in
     let sets = c.set_full.ensures.sets in
     let beside = beside_around c.take_copy.new.core c.set_full.new.core c.set_full.ensures.rest in
     let copy = c.in_ok-own.ensures.taken in
@@ -239,16 +240,16 @@ returns-then-is_private-clause-files g c =
     let r = c.root_of-root.result.0 in
     let inside = past_end-same old copy.found c.args.attr.backing copy.frees.pages.files.files ∙ c.requires.inside in
     let private = sym (ap is_private c.requires.was) ∙ sym c.is_private.ensures ∙ c.if-is_private.true in
-    let new : Picture = record set { frames = c.release.new.self } in
+    let new : Picture g.M.Levels.mode = record set { frames = c.release.new.self } in
     let beside' : SameBeside set new = same_with set c.release.new.self in
     let releases = c.release.ensures.change in
     files_shared old c.args.pid c.args.page c.args.shown.0 c.args.attr c.args.core.now.sound c.requires.linked c.requires.attr c.requires.resident c.requires.own c.requires.common mid n r copy c.root_of-root.ensures set sets beside c.requires.not_shared inside private new releases beside'
 
 pub returns-then-is_private-clause-behind : goal.returns-then-is_private-clause-behind
 returns-then-is_private-clause-behind g c =
-    let old : Picture = picture_of c.args.core.now in
-    let mid : Picture = picture_of c.take_copy.new.core in
-    let set : Picture = picture_of c.set_full.new.core in
+    let old : Picture g.M.Levels.mode = picture_of c.args.core.now in
+    let mid : Picture g.M.Levels.mode = picture_of c.take_copy.new.core in
+    let set : Picture g.M.Levels.mode = picture_of c.set_full.new.core in
     let sets = c.set_full.ensures.sets in
     let beside = beside_around c.take_copy.new.core c.set_full.new.core c.set_full.ensures.rest in
     let copy = c.in_ok-own.ensures.taken in
@@ -256,16 +257,16 @@ returns-then-is_private-clause-behind g c =
     let r = c.root_of-root.result.0 in
     let inside = past_end-same old copy.found c.args.attr.backing copy.frees.pages.files.files ∙ c.requires.inside in
     let private = sym (ap is_private c.requires.was) ∙ sym c.is_private.ensures ∙ c.if-is_private.true in
-    let new : Picture = record set { frames = c.release.new.self } in
+    let new : Picture g.M.Levels.mode = record set { frames = c.release.new.self } in
     let beside' : SameBeside set new = same_with set c.release.new.self in
     let releases = c.release.ensures.change in
     λ x not_own. absurd (false≢true (sym not_own ∙ private))
 
 pub returns-else-is_private-clause-moves : goal.returns-else-is_private-clause-moves
 returns-else-is_private-clause-moves g c =
-    let old : Picture = picture_of c.args.core.now in
-    let mid : Picture = picture_of c.take_copy.new.core in
-    let set : Picture = picture_of c.set_full.new.core in
+    let old : Picture g.M.Levels.mode = picture_of c.args.core.now in
+    let mid : Picture g.M.Levels.mode = picture_of c.take_copy.new.core in
+    let set : Picture g.M.Levels.mode = picture_of c.set_full.new.core in
     let sets = c.set_full.ensures.sets in
     let beside = beside_around c.take_copy.new.core c.set_full.new.core c.set_full.ensures.rest in
     let copy = c.in_ok-own.ensures.taken in
@@ -286,9 +287,9 @@ returns-else-is_private-clause-moves g c =
 
 pub returns-else-is_private-clause-own : goal.returns-else-is_private-clause-own
 returns-else-is_private-clause-own g c =
-    let old : Picture = picture_of c.args.core.now in
-    let mid : Picture = picture_of c.take_copy.new.core in
-    let set : Picture = picture_of c.set_full.new.core in
+    let old : Picture g.M.Levels.mode = picture_of c.args.core.now in
+    let mid : Picture g.M.Levels.mode = picture_of c.take_copy.new.core in
+    let set : Picture g.M.Levels.mode = picture_of c.set_full.new.core in
     let sets = c.set_full.ensures.sets in
     let beside = beside_around c.take_copy.new.core c.set_full.new.core c.set_full.ensures.rest in
     let copy = c.in_ok-own.ensures.taken in
@@ -300,9 +301,9 @@ returns-else-is_private-clause-own g c =
 
 pub returns-else-is_private-clause-bytes : goal.returns-else-is_private-clause-bytes
 returns-else-is_private-clause-bytes g c =
-    let old : Picture = picture_of c.args.core.now in
-    let mid : Picture = picture_of c.take_copy.new.core in
-    let set : Picture = picture_of c.set_full.new.core in
+    let old : Picture g.M.Levels.mode = picture_of c.args.core.now in
+    let mid : Picture g.M.Levels.mode = picture_of c.take_copy.new.core in
+    let set : Picture g.M.Levels.mode = picture_of c.set_full.new.core in
     let sets = c.set_full.ensures.sets in
     let beside = beside_around c.take_copy.new.core c.set_full.new.core c.set_full.ensures.rest in
     let copy = c.in_ok-own.ensures.taken in
@@ -314,9 +315,9 @@ returns-else-is_private-clause-bytes g c =
 
 pub returns-else-is_private-clause-entry : goal.returns-else-is_private-clause-entry
 returns-else-is_private-clause-entry g c =
-    let old : Picture = picture_of c.args.core.now in
-    let mid : Picture = picture_of c.take_copy.new.core in
-    let set : Picture = picture_of c.set_full.new.core in
+    let old : Picture g.M.Levels.mode = picture_of c.args.core.now in
+    let mid : Picture g.M.Levels.mode = picture_of c.take_copy.new.core in
+    let set : Picture g.M.Levels.mode = picture_of c.set_full.new.core in
     let sets = c.set_full.ensures.sets in
     let beside = beside_around c.take_copy.new.core c.set_full.new.core c.set_full.ensures.rest in
     let copy = c.in_ok-own.ensures.taken in
@@ -328,9 +329,9 @@ returns-else-is_private-clause-entry g c =
 
 pub returns-else-is_private-clause-sole : goal.returns-else-is_private-clause-sole
 returns-else-is_private-clause-sole g c =
-    let old : Picture = picture_of c.args.core.now in
-    let mid : Picture = picture_of c.take_copy.new.core in
-    let set : Picture = picture_of c.set_full.new.core in
+    let old : Picture g.M.Levels.mode = picture_of c.args.core.now in
+    let mid : Picture g.M.Levels.mode = picture_of c.take_copy.new.core in
+    let set : Picture g.M.Levels.mode = picture_of c.set_full.new.core in
     let sets = c.set_full.ensures.sets in
     let beside = beside_around c.take_copy.new.core c.set_full.new.core c.set_full.ensures.rest in
     let copy = c.in_ok-own.ensures.taken in
@@ -342,9 +343,9 @@ returns-else-is_private-clause-sole g c =
 
 pub returns-else-is_private-clause-others : goal.returns-else-is_private-clause-others
 returns-else-is_private-clause-others g c =
-    let old : Picture = picture_of c.args.core.now in
-    let mid : Picture = picture_of c.take_copy.new.core in
-    let set : Picture = picture_of c.set_full.new.core in
+    let old : Picture g.M.Levels.mode = picture_of c.args.core.now in
+    let mid : Picture g.M.Levels.mode = picture_of c.take_copy.new.core in
+    let set : Picture g.M.Levels.mode = picture_of c.set_full.new.core in
     let sets = c.set_full.ensures.sets in
     let beside = beside_around c.take_copy.new.core c.set_full.new.core c.set_full.ensures.rest in
     let copy = c.in_ok-own.ensures.taken in
@@ -356,9 +357,9 @@ returns-else-is_private-clause-others g c =
 
 pub returns-else-is_private-clause-bare : goal.returns-else-is_private-clause-bare
 returns-else-is_private-clause-bare g c =
-    let old : Picture = picture_of c.args.core.now in
-    let mid : Picture = picture_of c.take_copy.new.core in
-    let set : Picture = picture_of c.set_full.new.core in
+    let old : Picture g.M.Levels.mode = picture_of c.args.core.now in
+    let mid : Picture g.M.Levels.mode = picture_of c.take_copy.new.core in
+    let set : Picture g.M.Levels.mode = picture_of c.set_full.new.core in
     let sets = c.set_full.ensures.sets in
     let beside = beside_around c.take_copy.new.core c.set_full.new.core c.set_full.ensures.rest in
     let copy = c.in_ok-own.ensures.taken in
@@ -370,9 +371,9 @@ returns-else-is_private-clause-bare g c =
 
 pub returns-else-is_private-clause-slotted : goal.returns-else-is_private-clause-slotted
 returns-else-is_private-clause-slotted g c =
-    let old : Picture = picture_of c.args.core.now in
-    let mid : Picture = picture_of c.take_copy.new.core in
-    let set : Picture = picture_of c.set_full.new.core in
+    let old : Picture g.M.Levels.mode = picture_of c.args.core.now in
+    let mid : Picture g.M.Levels.mode = picture_of c.take_copy.new.core in
+    let set : Picture g.M.Levels.mode = picture_of c.set_full.new.core in
     let sets = c.set_full.ensures.sets in
     let beside = beside_around c.take_copy.new.core c.set_full.new.core c.set_full.ensures.rest in
     let copy = c.in_ok-own.ensures.taken in
@@ -384,9 +385,9 @@ returns-else-is_private-clause-slotted g c =
 
 pub returns-else-is_private-clause-files : goal.returns-else-is_private-clause-files
 returns-else-is_private-clause-files g c =
-    let old : Picture = picture_of c.args.core.now in
-    let mid : Picture = picture_of c.take_copy.new.core in
-    let set : Picture = picture_of c.set_full.new.core in
+    let old : Picture g.M.Levels.mode = picture_of c.args.core.now in
+    let mid : Picture g.M.Levels.mode = picture_of c.take_copy.new.core in
+    let set : Picture g.M.Levels.mode = picture_of c.set_full.new.core in
     let sets = c.set_full.ensures.sets in
     let beside = beside_around c.take_copy.new.core c.set_full.new.core c.set_full.ensures.rest in
     let copy = c.in_ok-own.ensures.taken in
@@ -398,9 +399,9 @@ returns-else-is_private-clause-files g c =
 
 pub returns-else-is_private-clause-behind : goal.returns-else-is_private-clause-behind
 returns-else-is_private-clause-behind g c =
-    let old : Picture = picture_of c.args.core.now in
-    let mid : Picture = picture_of c.take_copy.new.core in
-    let set : Picture = picture_of c.set_full.new.core in
+    let old : Picture g.M.Levels.mode = picture_of c.args.core.now in
+    let mid : Picture g.M.Levels.mode = picture_of c.take_copy.new.core in
+    let set : Picture g.M.Levels.mode = picture_of c.set_full.new.core in
     let sets = c.set_full.ensures.sets in
     let beside = beside_around c.take_copy.new.core c.set_full.new.core c.set_full.ensures.rest in
     let copy = c.in_ok-own.ensures.taken in
@@ -430,7 +431,10 @@ returns-in_err-own-clause-slotted g c =
 
 pub returns-in_err-own-clause-behind : goal.returns-in_err-own-clause-behind
 returns-in_err-own-clause-behind g c = λ x not_own behind.
-    let old : Picture = picture_of c.args.core.now in
+    let old : Picture g.M.Levels.mode = picture_of c.args.core.now in
     behind_freed old (picture_of c.take_copy.new.core) c.args.attr.backing c.args.shown.0 c.in_err-own.ensures.frees
     (shown_datum old c.args.pid c.args.page c.args.shown.0 c.args.attr c.args.core.now.sound c.requires.linked c.requires.attr c.requires.resident c.requires.own c.requires.common)
     (c.requires.common not_own) x behind
+
+pub set_full-requires-clause-user : goal.set_full-requires-clause-user
+set_full-requires-clause-user g c = ((c.requires.linked.fit.granting.user c.args.pid).user_pages c.args.page (ap is_some c.requires.attr)).1

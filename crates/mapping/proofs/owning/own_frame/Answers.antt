@@ -22,7 +22,7 @@ entry_number-entry-requires-clause-root g c = c.requires.linked.fit.rooted.roots
 
 pub shown_frame-shown-requires-clause-number : goal.shown_frame-shown-requires-clause-number
 shown_frame-shown-requires-clause-number g c =
-    let old : Picture = picture_of c.args.core.now in
+    let old : Picture g.M.Levels.mode = picture_of c.args.core.now in
     let e = c.entry_number-entry.ensures ∙ sym (entry-of old c.args.pid c.root_of-root.result.0 c.args.page c.root_of-root.ensures) in
     let h = mapped_page old c.args.pid c.args.page c.args.attr c.requires.linked.fit.granting c.requires.attr in
     λ private.
@@ -34,13 +34,13 @@ shown_frame-shown-requires-clause-number g c =
 
 pub shown_frame-shown-requires-clause-in_memory : goal.shown_frame-shown-requires-clause-in_memory
 shown_frame-shown-requires-clause-in_memory g c =
-    let old : Picture = picture_of c.args.core.now in
+    let old : Picture g.M.Levels.mode = picture_of c.args.core.now in
     let e = c.entry_number-entry.ensures ∙ sym (entry-of old c.args.pid c.root_of-root.result.0 c.args.page c.root_of-root.ensures) in
     λ common. c.requires.in_memory (sym (ap is_private e) ∙ common)
 
 pub count-requires : goal.count-requires
 count-requires g c =
-    let old : Picture = picture_of c.args.core.now in
+    let old : Picture g.M.Levels.mode = picture_of c.args.core.now in
     let e = c.entry_number-entry.ensures ∙ sym (entry-of old c.args.pid c.root_of-root.result.0 c.args.page c.root_of-root.ensures) in
     let shown = c.shown_frame-shown.ensures ∙ ap (λ x. shown_frame old x c.args.attr.backing) e in
     let h = mapped_page old c.args.pid c.args.page c.args.attr c.requires.linked.fit.granting c.requires.attr in
@@ -52,7 +52,7 @@ count-requires g c =
 
 pub regrant-requires-clause-resident : goal.regrant-requires-clause-resident
 regrant-requires-clause-resident g c =
-    let old : Picture = picture_of c.args.core.now in
+    let old : Picture g.M.Levels.mode = picture_of c.args.core.now in
     let e = c.entry_number-entry.ensures ∙ sym (entry-of old c.args.pid c.root_of-root.result.0 c.args.page c.root_of-root.ensures) in
     let own = sym (ap is_private e) ∙ sym c.is_private.ensures ∙ c.if-is_private.true in
     λ none. false≢true (sym (none_common (entry old c.args.pid c.args.page) (seat_zero (entry old c.args.pid c.args.page) none)) ∙ own)
@@ -62,7 +62,7 @@ returns-then-count-eq1-clause-moves g c = moves_entered g.E.SectorDisk c.args.co
 
 pub returns-then-count-eq1-clause-own : goal.returns-then-count-eq1-clause-own
 returns-then-count-eq1-clause-own g c =
-    let old : Picture = picture_of c.args.core.now in
+    let old : Picture g.M.Levels.mode = picture_of c.args.core.now in
     let e = c.entry_number-entry.ensures ∙ sym (entry-of old c.args.pid c.root_of-root.result.0 c.args.page c.root_of-root.ensures) in
     let shown = c.shown_frame-shown.ensures ∙ ap (λ x. shown_frame old x c.args.attr.backing) e in
     let h = mapped_page old c.args.pid c.args.page c.args.attr c.requires.linked.fit.granting c.requires.attr in
@@ -77,7 +77,7 @@ returns-then-count-eq1-clause-own g c =
 
 pub returns-then-count-eq1-clause-bytes : goal.returns-then-count-eq1-clause-bytes
 returns-then-count-eq1-clause-bytes g c =
-    let old : Picture = picture_of c.args.core.now in
+    let old : Picture g.M.Levels.mode = picture_of c.args.core.now in
     let e = c.entry_number-entry.ensures ∙ sym (entry-of old c.args.pid c.root_of-root.result.0 c.args.page c.root_of-root.ensures) in
     let shown = c.shown_frame-shown.ensures ∙ ap (λ x. shown_frame old x c.args.attr.backing) e in
     let h = mapped_page old c.args.pid c.args.page c.args.attr c.requires.linked.fit.granting c.requires.attr in
@@ -93,7 +93,7 @@ returns-then-count-eq1-clause-bytes g c =
 
 pub returns-then-count-eq1-clause-entry : goal.returns-then-count-eq1-clause-entry
 returns-then-count-eq1-clause-entry g c =
-    let old : Picture = picture_of c.args.core.now in
+    let old : Picture g.M.Levels.mode = picture_of c.args.core.now in
     let e = c.entry_number-entry.ensures ∙ sym (entry-of old c.args.pid c.root_of-root.result.0 c.args.page c.root_of-root.ensures) in
     let shown = c.shown_frame-shown.ensures ∙ ap (λ x. shown_frame old x c.args.attr.backing) e in
     let h = mapped_page old c.args.pid c.args.page c.args.attr c.requires.linked.fit.granting c.requires.attr in
@@ -111,7 +111,7 @@ returns-then-count-eq1-clause-entry g c =
 
 pub returns-then-count-eq1-clause-sole : goal.returns-then-count-eq1-clause-sole
 returns-then-count-eq1-clause-sole g c =
-    let old : Picture = picture_of c.args.core.now in
+    let old : Picture g.M.Levels.mode = picture_of c.args.core.now in
     let e = c.entry_number-entry.ensures ∙ sym (entry-of old c.args.pid c.root_of-root.result.0 c.args.page c.root_of-root.ensures) in
     let shown = c.shown_frame-shown.ensures ∙ ap (λ x. shown_frame old x c.args.attr.backing) e in
     let h = mapped_page old c.args.pid c.args.page c.args.attr c.requires.linked.fit.granting c.requires.attr in
@@ -125,7 +125,7 @@ returns-then-count-eq1-clause-sole g c =
 
 pub returns-then-count-eq1-clause-behind : goal.returns-then-count-eq1-clause-behind
 returns-then-count-eq1-clause-behind g c =
-    let old : Picture = picture_of c.args.core.now in
+    let old : Picture g.M.Levels.mode = picture_of c.args.core.now in
     let e = c.entry_number-entry.ensures ∙ sym (entry-of old c.args.pid c.root_of-root.result.0 c.args.page c.root_of-root.ensures) in
     let shown = c.shown_frame-shown.ensures ∙ ap (λ x. shown_frame old x c.args.attr.backing) e in
     let h = mapped_page old c.args.pid c.args.page c.args.attr c.requires.linked.fit.granting c.requires.attr in
@@ -145,7 +145,7 @@ returns-then-count-eq1-clause-slotted g c = slotted_calm (λ p. ⊥) c.args.core
 
 pub copy_page-requires-clause-own : goal.copy_page-requires-clause-own
 copy_page-requires-clause-own g c =
-    let old : Picture = picture_of c.args.core.now in
+    let old : Picture g.M.Levels.mode = picture_of c.args.core.now in
     let e = c.entry_number-entry.ensures ∙ sym (entry-of old c.args.pid c.root_of-root.result.0 c.args.page c.root_of-root.ensures) in
     let shown = c.shown_frame-shown.ensures ∙ ap (λ x. shown_frame old x c.args.attr.backing) e in
     let h = mapped_page old c.args.pid c.args.page c.args.attr c.requires.linked.fit.granting c.requires.attr in
@@ -156,7 +156,7 @@ copy_page-requires-clause-own g c =
 
 pub copy_page-requires-clause-common : goal.copy_page-requires-clause-common
 copy_page-requires-clause-common g c =
-    let old : Picture = picture_of c.args.core.now in
+    let old : Picture g.M.Levels.mode = picture_of c.args.core.now in
     let e = c.entry_number-entry.ensures ∙ sym (entry-of old c.args.pid c.root_of-root.result.0 c.args.page c.root_of-root.ensures) in
     let shown = c.shown_frame-shown.ensures ∙ ap (λ x. shown_frame old x c.args.attr.backing) e in
     let h = mapped_page old c.args.pid c.args.page c.args.attr c.requires.linked.fit.granting c.requires.attr in
@@ -167,7 +167,7 @@ copy_page-requires-clause-common g c =
 
 pub copy_page-requires-clause-was : goal.copy_page-requires-clause-was
 copy_page-requires-clause-was g c =
-    let old : Picture = picture_of c.args.core.now in
+    let old : Picture g.M.Levels.mode = picture_of c.args.core.now in
     let e = c.entry_number-entry.ensures ∙ sym (entry-of old c.args.pid c.root_of-root.result.0 c.args.page c.root_of-root.ensures) in
     let shown = c.shown_frame-shown.ensures ∙ ap (λ x. shown_frame old x c.args.attr.backing) e in
     let h = mapped_page old c.args.pid c.args.page c.args.attr c.requires.linked.fit.granting c.requires.attr in
@@ -178,7 +178,7 @@ copy_page-requires-clause-was g c =
 
 pub returns-clause-own : goal.returns-clause-own
 returns-clause-own g c =
-    let old : Picture = picture_of c.args.core.now in
+    let old : Picture g.M.Levels.mode = picture_of c.args.core.now in
     let e = c.entry_number-entry.ensures ∙ sym (entry-of old c.args.pid c.root_of-root.result.0 c.args.page c.root_of-root.ensures) in
     let shown = c.shown_frame-shown.ensures ∙ ap (λ x. shown_frame old x c.args.attr.backing) e in
     let P : ℕ → Type 0 = λ x. IfOk c.copy_page.result (λ n. view (picture_of c.copy_page.new.core) c.args.pid c.args.page ≡ Some (record { attr = c.args.attr; own = Some (bytes_of old.frames x) })) in
@@ -186,7 +186,7 @@ returns-clause-own g c =
 
 pub returns-clause-bytes : goal.returns-clause-bytes
 returns-clause-bytes g c =
-    let old : Picture = picture_of c.args.core.now in
+    let old : Picture g.M.Levels.mode = picture_of c.args.core.now in
     let e = c.entry_number-entry.ensures ∙ sym (entry-of old c.args.pid c.root_of-root.result.0 c.args.page c.root_of-root.ensures) in
     let shown = c.shown_frame-shown.ensures ∙ ap (λ x. shown_frame old x c.args.attr.backing) e in
     let P : ℕ → Type 0 = λ x. IfOk c.copy_page.result (λ n. bytes_of c.copy_page.new.core.frames n.0 ≡ bytes_of old.frames x) in
@@ -198,7 +198,7 @@ on_err_same Q (Err s) q = q
 
 pub returns-clause-wanted : goal.returns-clause-wanted
 returns-clause-wanted g c =
-    let old : Picture = picture_of c.args.core.now in
+    let old : Picture g.M.Levels.mode = picture_of c.args.core.now in
     let e = c.entry_number-entry.ensures ∙ sym (entry-of old c.args.pid c.root_of-root.result.0 c.args.page c.root_of-root.ensures) in
     let shown = c.shown_frame-shown.ensures ∙ ap (λ x. shown_frame old x c.args.attr.backing) e in
     let was = entry old c.args.pid c.args.page in
@@ -216,7 +216,7 @@ returns-clause-wanted g c =
 
 pub returns-clause-calm : goal.returns-clause-calm
 returns-clause-calm g c =
-    let old : Picture = picture_of c.args.core.now in
+    let old : Picture g.M.Levels.mode = picture_of c.args.core.now in
     let e = c.entry_number-entry.ensures ∙ sym (entry-of old c.args.pid c.root_of-root.result.0 c.args.page c.root_of-root.ensures) in
     let shown = c.shown_frame-shown.ensures ∙ ap (λ x. shown_frame old x c.args.attr.backing) e in
     let was = entry old c.args.pid c.args.page in

@@ -18,7 +18,7 @@ pub returns-clause-taken : goal.returns-clause-taken
 returns-clause-taken g c =
     let took = c.in_ok-own.ensures.taken in
     let found = took.found in
-    let taken : Picture = picture_of c.take_own.new.self in
+    let taken : Picture g.M.Levels.mode = picture_of c.take_own.new.self in
     let n = c.in_ok-own.own.0 in
     let m = c.args.from.0 in
     let w = bytes_of taken.frames m in

@@ -1,4 +1,4 @@
-use Rattle.std.proofs.Common.{◌≡◌, false, inl, inr, ap, sym, ◌∙◌, subst}
+use Rattle.std.proofs.Common.{ℕ, ◌≡◌, false, inl, inr, ap, sym, ◌∙◌, subst}
 use Rattle.file_store.specs.declared.store.FileStore.{FileStore}
 use Rattle.file_store.specs.Store.{IsReadyStore}
 use Rattle.std.proofs.lemmas.Bool.{cases_Bool}
@@ -14,7 +14,7 @@ use Rattle.mapping.proofs.BroughtIn.{spaces_of, tables_of, room_of, seen_of, bar
 use Rattle.mapping.proofs.page_in.bring_home.Goals as goal
 
 -- a page at home isn't touched
-untouched_home : (c : Picture) (p : PageKey) → IsFit c → c.place p ≡ Home → c.touched p ≡ false
+untouched_home : {mode : ℕ} (c : Picture mode) (p : PageKey) → IsFit c → c.place p ≡ Home → c.touched p ≡ false
 untouched_home c p fit home = elim (cases_Bool (c.touched p)) [
   | inl touched ↦ absurd (fit.dirty.held p touched home)
   | inr clean ↦ clean

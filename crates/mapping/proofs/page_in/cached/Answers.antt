@@ -1,4 +1,4 @@
-use Rattle.std.proofs.Common.{◌≡◌, refl, sym, ◌∙◌, subst, arith}
+use Rattle.std.proofs.Common.{ℕ, ◌≡◌, refl, sym, ◌∙◌, subst, arith}
 use Rattle.file_store.specs.declared.store.FileStore.{FileStore}
 use Rattle.file_store.specs.Store.{IsReadyStore}
 use Rattle.page_cache.specs.declared.place.Place.TheVariants.{Home, Frame, Slot}

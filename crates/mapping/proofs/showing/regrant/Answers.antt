@@ -1,3 +1,4 @@
+use Rattle.std.specs.Prelude.{is_some}
 use Rattle.std.proofs.Common.{ℕ, Bool, sym, ap, ◌∙◌, subst, arith}
 use Rattle.frames.specs.FrameTable.{IsFrame}
 use Rattle.sv39_walk.specs.Entry.{frame_of}
@@ -17,7 +18,7 @@ set_full-requires-clause-root g c = c.requires.linked.fit.rooted.roots c.args.pi
 
 pub set_full-requires-clause-inside : goal.set_full-requires-clause-inside
 set_full-requires-clause-inside g c =
-    let old : Picture = picture_of c.args.core.now in
+    let old : Picture g.M.Levels.mode = picture_of c.args.core.now in
     let is = c.frame_number.ensures ∙ ap frame_of (c.entry_number-entry.ensures ∙ sym (entry-of old c.args.pid c.root_of-root.result.0 c.args.page c.root_of-root.ensures)) in
     let P : ℕ → Type 0 = λ x. IsFrame old.frames x in
     subst P (sym is) (used_inside old.frames (frame_of (entry old c.args.pid c.args.page)) c.args.core.now.sound
@@ -26,7 +27,7 @@ set_full-requires-clause-inside g c =
 
 pub frame_number-requires : goal.frame_number-requires
 frame_number-requires g c =
-    let old : Picture = picture_of c.args.core.now in
+    let old : Picture g.M.Levels.mode = picture_of c.args.core.now in
     let is = ap frame_of (c.entry_number-entry.ensures ∙ sym (entry-of old c.args.pid c.root_of-root.result.0 c.args.page c.root_of-root.ensures)) in
     let low = used_inside old.frames (frame_of (entry old c.args.pid c.args.page)) c.args.core.now.sound
     (resident_used old c.args.pid c.args.page c.args.attr c.args.core.now.sound c.requires.linked.fit (mapped_page old c.args.pid c.args.page c.args.attr c.requires.linked.fit.granting c.requires.attr)
@@ -36,7 +37,7 @@ frame_number-requires g c =
 
 pub returns-clause-enters : goal.returns-clause-enters
 returns-clause-enters g c =
-    let old : Picture = picture_of c.args.core.now in
+    let old : Picture g.M.Levels.mode = picture_of c.args.core.now in
     let sets = c.set_full.ensures.sets in
     let e = c.entry_number-entry.ensures ∙ sym (entry-of old c.args.pid c.root_of-root.result.0 c.args.page c.root_of-root.ensures) in
     let own = c.is_private.ensures ∙ ap is_private e in
@@ -51,8 +52,8 @@ returns-clause-enters g c =
 
 pub returns-clause-entry : goal.returns-clause-entry
 returns-clause-entry g c =
-    let old : Picture = picture_of c.args.core.now in
-    let new : Picture = picture_of c.set_full.new.core in
+    let old : Picture g.M.Levels.mode = picture_of c.args.core.now in
+    let new : Picture g.M.Levels.mode = picture_of c.set_full.new.core in
     let e = c.entry_number-entry.ensures ∙ sym (entry-of old c.args.pid c.root_of-root.result.0 c.args.page c.root_of-root.ensures) in
     let full = full_entry_now old new c.args.pid c.args.page c.root_of-root.result.0 c.args.attr c.frame_number.result.0 c.is_private.result c.requires.linked c.root_of-root.ensures c.requires.attr
     c.set_full.ensures.sets (beside_around c.args.core.now c.set_full.new.core c.set_full.ensures.rest) in
@@ -65,3 +66,6 @@ pub returns-clause-files : goal.returns-clause-files
 returns-clause-files g c =
     full_files (picture_of c.args.core.now) (picture_of c.set_full.new.core) c.args.pid c.args.page c.root_of-root.result.0 c.args.attr c.frame_number.result.0 c.is_private.result c.requires.linked
     c.root_of-root.ensures c.requires.attr c.set_full.ensures.sets (beside_around c.args.core.now c.set_full.new.core c.set_full.ensures.rest)
+
+pub set_full-requires-clause-user : goal.set_full-requires-clause-user
+set_full-requires-clause-user g c = ((c.requires.linked.fit.granting.user c.args.pid).user_pages c.args.page (ap is_some c.requires.attr)).1

@@ -1,4 +1,5 @@
-use Rattle.std.proofs.Common.{false, sym, ◌∙◌}
+use Rattle.std.specs.Prelude.{is_some}
+use Rattle.std.proofs.Common.{ap, false, sym, ◌∙◌}
 use Rattle.std.proofs.lemmas.Bool.{false≢true}
 use Rattle.paging.specs.Picture.{Picture, picture_of}
 use Rattle.mapping.proofs.Entering.{beside_around, full_entry_now, full_files, enters_set}
@@ -10,7 +11,7 @@ set_full-requires-clause-root g c = c.requires.linked.fit.rooted.roots c.args.pi
 
 pub set_full-requires-clause-inside : goal.set_full-requires-clause-inside
 set_full-requires-clause-inside g c =
-    let old : Picture = picture_of c.args.core.now in
+    let old : Picture g.M.Levels.mode = picture_of c.args.core.now in
     used_inside old.frames c.args.cache_frame.0 c.args.core.now.sound (behind_used old c.args.attr.backing c.args.cache_frame.0 c.args.core.now.sound c.requires.linked.fit.places c.requires.behind)
 
 pub returns-clause-enters : goal.returns-clause-enters
@@ -29,3 +30,6 @@ pub returns-clause-files : goal.returns-clause-files
 returns-clause-files g c =
     full_files (picture_of c.args.core.now) (picture_of c.set_full.new.core) c.args.pid c.args.page c.root_of-root.result.0 c.args.attr c.args.cache_frame.0 false c.requires.linked
     c.root_of-root.ensures c.requires.attr c.set_full.ensures.sets (beside_around c.args.core.now c.set_full.new.core c.set_full.ensures.rest)
+
+pub set_full-requires-clause-user : goal.set_full-requires-clause-user
+set_full-requires-clause-user g c = ((c.requires.linked.fit.granting.user c.args.pid).user_pages c.args.page (ap is_some c.requires.attr)).1

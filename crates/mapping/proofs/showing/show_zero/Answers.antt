@@ -1,3 +1,4 @@
+use Rattle.std.specs.Prelude.{is_some}
 use Rattle.std.proofs.Common.{false, refl, sym, ap, ◌∙◌, subst, arith}
 use Rattle.std.proofs.lemmas.Bool.{false≢true}
 use Rattle.vm_types.specs.declared.region.Backing.{Backing}
@@ -17,7 +18,7 @@ set_full-requires-clause-inside g c = let least = c.args.core.now.sound.least in
 
 pub returns-clause-enters : goal.returns-clause-enters
 returns-clause-enters g c =
-    let old : Picture = picture_of c.args.core.now in
+    let old : Picture g.M.Levels.mode = picture_of c.args.core.now in
     let sets = c.set_full.ensures.sets in
     enters_set c.args.core.now c.set_full.new.core c.args.pid c.args.page c.root_of-root.result.0 c.args.attr 0 false c.requires.linked c.root_of-root.ensures c.requires.attr
     sets c.set_full.ensures.rest c.set_full.ensures.not_refused
@@ -27,8 +28,8 @@ returns-clause-enters g c =
 
 pub returns-clause-entry : goal.returns-clause-entry
 returns-clause-entry g c =
-    let old : Picture = picture_of c.args.core.now in
-    let new : Picture = picture_of c.set_full.new.core in
+    let old : Picture g.M.Levels.mode = picture_of c.args.core.now in
+    let new : Picture g.M.Levels.mode = picture_of c.set_full.new.core in
     let full = full_entry_now old new c.args.pid c.args.page c.root_of-root.result.0 c.args.attr 0 false c.requires.linked c.root_of-root.ensures c.requires.attr
     c.set_full.ensures.sets (beside_around c.args.core.now c.set_full.new.core c.set_full.ensures.rest) in
     let P : Backing → Type 0 = λ b. IsFullEntry old (record { prot = c.args.attr.prot; backing = b }) 0 false (entry new c.args.pid c.args.page) in
@@ -38,3 +39,6 @@ pub returns-clause-files : goal.returns-clause-files
 returns-clause-files g c =
     full_files (picture_of c.args.core.now) (picture_of c.set_full.new.core) c.args.pid c.args.page c.root_of-root.result.0 c.args.attr 0 false c.requires.linked
     c.root_of-root.ensures c.requires.attr c.set_full.ensures.sets (beside_around c.args.core.now c.set_full.new.core c.set_full.ensures.rest)
+
+pub set_full-requires-clause-user : goal.set_full-requires-clause-user
+set_full-requires-clause-user g c = ((c.requires.linked.fit.granting.user c.args.pid).user_pages c.args.page (ap is_some c.requires.attr)).1

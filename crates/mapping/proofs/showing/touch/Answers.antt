@@ -1,3 +1,4 @@
+use Rattle.std.specs.Prelude.{is_some}
 use Rattle.std.proofs.Common.{◌≡◌, Bool, true, false, inl, inr, refl, sym, ap, ◌∙◌, subst}
 use Rattle.std.proofs.lemmas.Bool.{false≢true}
 use Rattle.std.specs.Prelude.{◌&&◌}
@@ -20,15 +21,15 @@ set_full-requires-clause-root g c = c.requires.linked.fit.rooted.roots c.args.pi
 
 pub set_full-requires-clause-inside : goal.set_full-requires-clause-inside
 set_full-requires-clause-inside g c =
-    let old : Picture = picture_of c.args.core.now in
+    let old : Picture g.M.Levels.mode = picture_of c.args.core.now in
     used_inside old.frames c.args.frame.0 c.args.core.now.sound
     (behind_used old c.args.attr.backing c.args.frame.0 c.args.core.now.sound c.requires.linked.fit.places (behind_of old c.args.attr.backing c.args.stored c.args.frame.0 c.requires.stands c.requires.cached))
 
 pub returns-clause-entry : goal.returns-clause-entry
 returns-clause-entry g c =
-    let old : Picture = picture_of c.args.core.now in
-    let mid : Picture = record old { place = place_of c.mark_dirty.new.self; touched = is_touched c.mark_dirty.new.self } in
-    let new : Picture = picture_of c.set_full.new.core in
+    let old : Picture g.M.Levels.mode = picture_of c.args.core.now in
+    let mid : Picture g.M.Levels.mode = record old { place = place_of c.mark_dirty.new.self; touched = is_touched c.mark_dirty.new.self } in
+    let new : Picture g.M.Levels.mode = picture_of c.set_full.new.core in
     let place : (p : PageKey) → mid.place p ≡ old.place p = λ p. elim (cases_page p c.args.stored) [
       | inl is ↦ ap mid.place is ∙ c.mark_dirty.ensures.placed ∙ sym (ap old.place is)
       | inr ne ↦ c.mark_dirty.ensures.others.places p ne
@@ -49,9 +50,9 @@ returns-clause-entry g c =
 
 pub returns-clause-touches : goal.returns-clause-touches
 returns-clause-touches g c =
-    let old : Picture = picture_of c.args.core.now in
-    let mid : Picture = record old { place = place_of c.mark_dirty.new.self; touched = is_touched c.mark_dirty.new.self } in
-    let new : Picture = picture_of c.set_full.new.core in
+    let old : Picture g.M.Levels.mode = picture_of c.args.core.now in
+    let mid : Picture g.M.Levels.mode = record old { place = place_of c.mark_dirty.new.self; touched = is_touched c.mark_dirty.new.self } in
+    let new : Picture g.M.Levels.mode = picture_of c.set_full.new.core in
     let place : (p : PageKey) → mid.place p ≡ old.place p = λ p. elim (cases_page p c.args.stored) [
       | inl is ↦ ap mid.place is ∙ c.mark_dirty.ensures.placed ∙ sym (ap old.place is)
       | inr ne ↦ c.mark_dirty.ensures.others.places p ne
@@ -70,9 +71,9 @@ returns-clause-touches g c =
 
 pub returns-clause-enters : goal.returns-clause-enters
 returns-clause-enters g c =
-    let old : Picture = picture_of c.args.core.now in
-    let mid : Picture = record old { place = place_of c.mark_dirty.new.self; touched = is_touched c.mark_dirty.new.self } in
-    let new : Picture = picture_of c.set_full.new.core in
+    let old : Picture g.M.Levels.mode = picture_of c.args.core.now in
+    let mid : Picture g.M.Levels.mode = record old { place = place_of c.mark_dirty.new.self; touched = is_touched c.mark_dirty.new.self } in
+    let new : Picture g.M.Levels.mode = picture_of c.set_full.new.core in
     let place : (p : PageKey) → mid.place p ≡ old.place p = λ p. elim (cases_page p c.args.stored) [
       | inl is ↦ ap mid.place is ∙ c.mark_dirty.ensures.placed ∙ sym (ap old.place is)
       | inr ne ↦ c.mark_dirty.ensures.others.places p ne
@@ -102,3 +103,6 @@ returns-clause-enters g c =
             ∙ entry_marked old mid c.args.stored c.args.frame.0 refl refl (λ q. refl) (λ q k. refl) (λ x. refl) place c.mark_dirty.ensures.touched c.mark_dirty.ensures.others.touched (λ f. refl) c.requires.cached q p;
       };
     }
+
+pub set_full-requires-clause-user : goal.set_full-requires-clause-user
+set_full-requires-clause-user g c = ((c.requires.linked.fit.granting.user c.args.pid).user_pages c.args.page (ap is_some c.requires.attr)).1

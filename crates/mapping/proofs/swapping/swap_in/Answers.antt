@@ -1,3 +1,4 @@
+use Rattle.std.specs.Prelude.{is_some}
 use Rattle.std.proofs.Common.{◌≡◌, ◌≢◌, ◌+◌, ◌*◌, ◌<◌, ◌^◌, inl, Some, get_or, sym, ap, ◌∙◌, subst, arith}
 use Rattle.frames.specs.declared.role.Role.TheVariants.{Free, Table, Private}
 use Rattle.frames.specs.FrameTable.{IsFrame, role_of, with_bytes}
@@ -28,8 +29,8 @@ use Rattle.mapping.proofs.swapping.swap_in.Goals as goal
 
 pub unreachable-requires : goal.unreachable-requires
 unreachable-requires g c =
-    let old : Picture = picture_of c.args.core.now in
-    let taken : Picture = picture_of c.take_own.new.self in
+    let old : Picture g.M.Levels.mode = picture_of c.args.core.now in
+    let taken : Picture g.M.Levels.mode = picture_of c.take_own.new.self in
     let took = c.in_ok-frame.ensures.taken in
     let here = mapped_page old c.args.pid c.args.page c.args.attr c.requires.linked.fit.granting c.requires.attr in
     let same_entry : entry taken c.args.pid c.args.page ≡ entry old c.args.pid c.args.page = entry_taken old taken c.args.pid c.args.page c.in_ok-frame.frame.0 took here c.requires.away in
@@ -39,8 +40,8 @@ unreachable-requires g c =
 
 pub get-requires-clause-in_use : goal.get-requires-clause-in_use
 get-requires-clause-in_use g c =
-    let old : Picture = picture_of c.args.core.now in
-    let taken : Picture = picture_of c.take_own.new.self in
+    let old : Picture g.M.Levels.mode = picture_of c.args.core.now in
+    let taken : Picture g.M.Levels.mode = picture_of c.take_own.new.self in
     let took = c.in_ok-frame.ensures.taken in
     let n = c.in_ok-frame.frame.0 in
     let k = c.in-Swapped.slot.0 in
@@ -56,8 +57,8 @@ get-requires-clause-in_use g c =
 
 pub returns-in-Ok-clause-moves : goal.returns-in-Ok-clause-moves
 returns-in-Ok-clause-moves g c =
-    let old : Picture = picture_of c.args.core.now in
-    let taken : Picture = picture_of c.take_own.new.self in
+    let old : Picture g.M.Levels.mode = picture_of c.args.core.now in
+    let taken : Picture g.M.Levels.mode = picture_of c.take_own.new.self in
     let took = c.in_ok-frame.ensures.taken in
     let n = c.in_ok-frame.frame.0 in
     let k = c.in-Swapped.slot.0 in
@@ -68,9 +69,9 @@ returns-in-Ok-clause-moves g c =
     let number : entry old c.args.pid c.args.page ≡ k * 1024 + 2 =
     sym same_entry ∙ entry-of taken c.args.pid r c.args.page c.root_of-root.ensures ∙ sym c.entry.ensures.entry ∙ ap number_of c.in-Swapped.is in
     let low : k < 2 ^ 32 = (let P : Entry → Type 0 = λ e. IsEntry e in subst P c.in-Swapped.is c.entry.ensures.form) in
-    let written : Picture = record taken { slots = slots_of c.get.new.self; frames = with_bytes c.take_own.new.self.frames n c.get.new.to } in
+    let written : Picture g.M.Levels.mode = record taken { slots = slots_of c.get.new.self; frames = with_bytes c.take_own.new.self.frames n c.get.new.to } in
     let changes : ChangesFrame took.found written n = changes_written took.found taken n c.args.page took.own (slots_of c.get.new.self) c.get.ensures.same c.get.new.to in
-    let set : Picture = picture_of c.set_full.new.core in
+    let set : Picture g.M.Levels.mode = picture_of c.set_full.new.core in
     let sets = c.set_full.ensures.sets in
     let beside = beside_around _ c.set_full.new.core c.set_full.ensures.rest in
     let t = slots_of c.release.new.self in
@@ -90,8 +91,8 @@ returns-in-Ok-clause-moves g c =
 
 pub returns-in-Ok-clause-others : goal.returns-in-Ok-clause-others
 returns-in-Ok-clause-others g c =
-    let old : Picture = picture_of c.args.core.now in
-    let taken : Picture = picture_of c.take_own.new.self in
+    let old : Picture g.M.Levels.mode = picture_of c.args.core.now in
+    let taken : Picture g.M.Levels.mode = picture_of c.take_own.new.self in
     let took = c.in_ok-frame.ensures.taken in
     let n = c.in_ok-frame.frame.0 in
     let k = c.in-Swapped.slot.0 in
@@ -102,9 +103,9 @@ returns-in-Ok-clause-others g c =
     let number : entry old c.args.pid c.args.page ≡ k * 1024 + 2 =
     sym same_entry ∙ entry-of taken c.args.pid r c.args.page c.root_of-root.ensures ∙ sym c.entry.ensures.entry ∙ ap number_of c.in-Swapped.is in
     let low : k < 2 ^ 32 = (let P : Entry → Type 0 = λ e. IsEntry e in subst P c.in-Swapped.is c.entry.ensures.form) in
-    let written : Picture = record taken { slots = slots_of c.get.new.self; frames = with_bytes c.take_own.new.self.frames n c.get.new.to } in
+    let written : Picture g.M.Levels.mode = record taken { slots = slots_of c.get.new.self; frames = with_bytes c.take_own.new.self.frames n c.get.new.to } in
     let changes : ChangesFrame took.found written n = changes_written took.found taken n c.args.page took.own (slots_of c.get.new.self) c.get.ensures.same c.get.new.to in
-    let set : Picture = picture_of c.set_full.new.core in
+    let set : Picture g.M.Levels.mode = picture_of c.set_full.new.core in
     let sets = c.set_full.ensures.sets in
     let beside = beside_around _ c.set_full.new.core c.set_full.ensures.rest in
     let t = slots_of c.release.new.self in
@@ -112,8 +113,8 @@ returns-in-Ok-clause-others g c =
 
 pub returns-in-Ok-clause-bare : goal.returns-in-Ok-clause-bare
 returns-in-Ok-clause-bare g c =
-    let old : Picture = picture_of c.args.core.now in
-    let taken : Picture = picture_of c.take_own.new.self in
+    let old : Picture g.M.Levels.mode = picture_of c.args.core.now in
+    let taken : Picture g.M.Levels.mode = picture_of c.take_own.new.self in
     let took = c.in_ok-frame.ensures.taken in
     let n = c.in_ok-frame.frame.0 in
     let k = c.in-Swapped.slot.0 in
@@ -124,9 +125,9 @@ returns-in-Ok-clause-bare g c =
     let number : entry old c.args.pid c.args.page ≡ k * 1024 + 2 =
     sym same_entry ∙ entry-of taken c.args.pid r c.args.page c.root_of-root.ensures ∙ sym c.entry.ensures.entry ∙ ap number_of c.in-Swapped.is in
     let low : k < 2 ^ 32 = (let P : Entry → Type 0 = λ e. IsEntry e in subst P c.in-Swapped.is c.entry.ensures.form) in
-    let written : Picture = record taken { slots = slots_of c.get.new.self; frames = with_bytes c.take_own.new.self.frames n c.get.new.to } in
+    let written : Picture g.M.Levels.mode = record taken { slots = slots_of c.get.new.self; frames = with_bytes c.take_own.new.self.frames n c.get.new.to } in
     let changes : ChangesFrame took.found written n = changes_written took.found taken n c.args.page took.own (slots_of c.get.new.self) c.get.ensures.same c.get.new.to in
-    let set : Picture = picture_of c.set_full.new.core in
+    let set : Picture g.M.Levels.mode = picture_of c.set_full.new.core in
     let sets = c.set_full.ensures.sets in
     let beside = beside_around _ c.set_full.new.core c.set_full.ensures.rest in
     let t = slots_of c.release.new.self in
@@ -134,8 +135,8 @@ returns-in-Ok-clause-bare g c =
 
 pub returns-in-Ok-clause-slotted : goal.returns-in-Ok-clause-slotted
 returns-in-Ok-clause-slotted g c =
-    let old : Picture = picture_of c.args.core.now in
-    let taken : Picture = picture_of c.take_own.new.self in
+    let old : Picture g.M.Levels.mode = picture_of c.args.core.now in
+    let taken : Picture g.M.Levels.mode = picture_of c.take_own.new.self in
     let took = c.in_ok-frame.ensures.taken in
     let n = c.in_ok-frame.frame.0 in
     let k = c.in-Swapped.slot.0 in
@@ -146,9 +147,9 @@ returns-in-Ok-clause-slotted g c =
     let number : entry old c.args.pid c.args.page ≡ k * 1024 + 2 =
     sym same_entry ∙ entry-of taken c.args.pid r c.args.page c.root_of-root.ensures ∙ sym c.entry.ensures.entry ∙ ap number_of c.in-Swapped.is in
     let low : k < 2 ^ 32 = (let P : Entry → Type 0 = λ e. IsEntry e in subst P c.in-Swapped.is c.entry.ensures.form) in
-    let written : Picture = record taken { slots = slots_of c.get.new.self; frames = with_bytes c.take_own.new.self.frames n c.get.new.to } in
+    let written : Picture g.M.Levels.mode = record taken { slots = slots_of c.get.new.self; frames = with_bytes c.take_own.new.self.frames n c.get.new.to } in
     let changes : ChangesFrame took.found written n = changes_written took.found taken n c.args.page took.own (slots_of c.get.new.self) c.get.ensures.same c.get.new.to in
-    let set : Picture = picture_of c.set_full.new.core in
+    let set : Picture g.M.Levels.mode = picture_of c.set_full.new.core in
     let sets = c.set_full.ensures.sets in
     let beside = beside_around _ c.set_full.new.core c.set_full.ensures.rest in
     let t = slots_of c.release.new.self in
@@ -156,8 +157,8 @@ returns-in-Ok-clause-slotted g c =
 
 pub returns-in-Ok-clause-files : goal.returns-in-Ok-clause-files
 returns-in-Ok-clause-files g c =
-    let old : Picture = picture_of c.args.core.now in
-    let taken : Picture = picture_of c.take_own.new.self in
+    let old : Picture g.M.Levels.mode = picture_of c.args.core.now in
+    let taken : Picture g.M.Levels.mode = picture_of c.take_own.new.self in
     let took = c.in_ok-frame.ensures.taken in
     let n = c.in_ok-frame.frame.0 in
     let k = c.in-Swapped.slot.0 in
@@ -168,9 +169,9 @@ returns-in-Ok-clause-files g c =
     let number : entry old c.args.pid c.args.page ≡ k * 1024 + 2 =
     sym same_entry ∙ entry-of taken c.args.pid r c.args.page c.root_of-root.ensures ∙ sym c.entry.ensures.entry ∙ ap number_of c.in-Swapped.is in
     let low : k < 2 ^ 32 = (let P : Entry → Type 0 = λ e. IsEntry e in subst P c.in-Swapped.is c.entry.ensures.form) in
-    let written : Picture = record taken { slots = slots_of c.get.new.self; frames = with_bytes c.take_own.new.self.frames n c.get.new.to } in
+    let written : Picture g.M.Levels.mode = record taken { slots = slots_of c.get.new.self; frames = with_bytes c.take_own.new.self.frames n c.get.new.to } in
     let changes : ChangesFrame took.found written n = changes_written took.found taken n c.args.page took.own (slots_of c.get.new.self) c.get.ensures.same c.get.new.to in
-    let set : Picture = picture_of c.set_full.new.core in
+    let set : Picture g.M.Levels.mode = picture_of c.set_full.new.core in
     let sets = c.set_full.ensures.sets in
     let beside = beside_around _ c.set_full.new.core c.set_full.ensures.rest in
     let t = slots_of c.release.new.self in
@@ -178,8 +179,8 @@ returns-in-Ok-clause-files g c =
 
 pub set_full-requires-clause-forest : goal.set_full-requires-clause-forest
 set_full-requires-clause-forest g c =
-    let old : Picture = picture_of c.args.core.now in
-    let taken : Picture = picture_of c.take_own.new.self in
+    let old : Picture g.M.Levels.mode = picture_of c.args.core.now in
+    let taken : Picture g.M.Levels.mode = picture_of c.take_own.new.self in
     let took = c.in_ok-frame.ensures.taken in
     let n = c.in_ok-frame.frame.0 in
     let k = c.in-Swapped.slot.0 in
@@ -190,14 +191,14 @@ set_full-requires-clause-forest g c =
     let number : entry old c.args.pid c.args.page ≡ k * 1024 + 2 =
     sym same_entry ∙ entry-of taken c.args.pid r c.args.page c.root_of-root.ensures ∙ sym c.entry.ensures.entry ∙ ap number_of c.in-Swapped.is in
     let low : k < 2 ^ 32 = (let P : Entry → Type 0 = λ e. IsEntry e in subst P c.in-Swapped.is c.entry.ensures.form) in
-    let written : Picture = record taken { slots = slots_of c.get.new.self; frames = with_bytes c.take_own.new.self.frames n c.get.new.to } in
+    let written : Picture g.M.Levels.mode = record taken { slots = slots_of c.get.new.self; frames = with_bytes c.take_own.new.self.frames n c.get.new.to } in
     let changes : ChangesFrame took.found written n = changes_written took.found taken n c.args.page took.own (slots_of c.get.new.self) c.get.ensures.same c.get.new.to in
     forest_mid took.found written c.args.pid c.args.page r n c.args.attr took.fit changes took.own.takes.kind_set took.own.takes.counted took.own.noted (lives_of old taken c.args.pid c.args.page n k r c.args.attr took c.requires.linked lives c.requires.attr c.requires.away number low written changes took.own.takes.kind_set took.own.takes.counted took.own.noted) (whole_of old taken c.args.pid c.args.page n k r c.args.attr took c.requires.linked lives c.requires.attr c.requires.away number low written changes took.own.takes.kind_set took.own.takes.counted took.own.noted) (at_of old taken c.args.pid c.args.page n k r c.args.attr took c.requires.linked lives c.requires.attr c.requires.away number low written changes took.own.takes.kind_set took.own.takes.counted took.own.noted)
 
 pub set_full-requires-clause-root : goal.set_full-requires-clause-root
 set_full-requires-clause-root g c =
-    let old : Picture = picture_of c.args.core.now in
-    let taken : Picture = picture_of c.take_own.new.self in
+    let old : Picture g.M.Levels.mode = picture_of c.args.core.now in
+    let taken : Picture g.M.Levels.mode = picture_of c.take_own.new.self in
     let took = c.in_ok-frame.ensures.taken in
     let n = c.in_ok-frame.frame.0 in
     let k = c.in-Swapped.slot.0 in
@@ -208,14 +209,14 @@ set_full-requires-clause-root g c =
     let number : entry old c.args.pid c.args.page ≡ k * 1024 + 2 =
     sym same_entry ∙ entry-of taken c.args.pid r c.args.page c.root_of-root.ensures ∙ sym c.entry.ensures.entry ∙ ap number_of c.in-Swapped.is in
     let low : k < 2 ^ 32 = (let P : Entry → Type 0 = λ e. IsEntry e in subst P c.in-Swapped.is c.entry.ensures.form) in
-    let written : Picture = record taken { slots = slots_of c.get.new.self; frames = with_bytes c.take_own.new.self.frames n c.get.new.to } in
+    let written : Picture g.M.Levels.mode = record taken { slots = slots_of c.get.new.self; frames = with_bytes c.take_own.new.self.frames n c.get.new.to } in
     let changes : ChangesFrame took.found written n = changes_written took.found taken n c.args.page took.own (slots_of c.get.new.self) c.get.ensures.same c.get.new.to in
     root_mid took.found written c.args.pid c.args.page r n c.args.attr took.fit changes took.own.takes.kind_set took.own.takes.counted took.own.noted (lives_of old taken c.args.pid c.args.page n k r c.args.attr took c.requires.linked lives c.requires.attr c.requires.away number low written changes took.own.takes.kind_set took.own.takes.counted took.own.noted) (whole_of old taken c.args.pid c.args.page n k r c.args.attr took c.requires.linked lives c.requires.attr c.requires.away number low written changes took.own.takes.kind_set took.own.takes.counted took.own.noted) (at_of old taken c.args.pid c.args.page n k r c.args.attr took c.requires.linked lives c.requires.attr c.requires.away number low written changes took.own.takes.kind_set took.own.takes.counted took.own.noted)
 
 pub set_full-requires-clause-whole : goal.set_full-requires-clause-whole
 set_full-requires-clause-whole g c =
-    let old : Picture = picture_of c.args.core.now in
-    let taken : Picture = picture_of c.take_own.new.self in
+    let old : Picture g.M.Levels.mode = picture_of c.args.core.now in
+    let taken : Picture g.M.Levels.mode = picture_of c.take_own.new.self in
     let took = c.in_ok-frame.ensures.taken in
     let n = c.in_ok-frame.frame.0 in
     let k = c.in-Swapped.slot.0 in
@@ -226,14 +227,14 @@ set_full-requires-clause-whole g c =
     let number : entry old c.args.pid c.args.page ≡ k * 1024 + 2 =
     sym same_entry ∙ entry-of taken c.args.pid r c.args.page c.root_of-root.ensures ∙ sym c.entry.ensures.entry ∙ ap number_of c.in-Swapped.is in
     let low : k < 2 ^ 32 = (let P : Entry → Type 0 = λ e. IsEntry e in subst P c.in-Swapped.is c.entry.ensures.form) in
-    let written : Picture = record taken { slots = slots_of c.get.new.self; frames = with_bytes c.take_own.new.self.frames n c.get.new.to } in
+    let written : Picture g.M.Levels.mode = record taken { slots = slots_of c.get.new.self; frames = with_bytes c.take_own.new.self.frames n c.get.new.to } in
     let changes : ChangesFrame took.found written n = changes_written took.found taken n c.args.page took.own (slots_of c.get.new.self) c.get.ensures.same c.get.new.to in
     whole_mid took.found written c.args.pid c.args.page r n c.args.attr took.fit changes took.own.takes.kind_set took.own.takes.counted took.own.noted (lives_of old taken c.args.pid c.args.page n k r c.args.attr took c.requires.linked lives c.requires.attr c.requires.away number low written changes took.own.takes.kind_set took.own.takes.counted took.own.noted) (whole_of old taken c.args.pid c.args.page n k r c.args.attr took c.requires.linked lives c.requires.attr c.requires.away number low written changes took.own.takes.kind_set took.own.takes.counted took.own.noted) (at_of old taken c.args.pid c.args.page n k r c.args.attr took c.requires.linked lives c.requires.attr c.requires.away number low written changes took.own.takes.kind_set took.own.takes.counted took.own.noted)
 
 pub release-requires : goal.release-requires
 release-requires g c =
-    let old : Picture = picture_of c.args.core.now in
-    let taken : Picture = picture_of c.take_own.new.self in
+    let old : Picture g.M.Levels.mode = picture_of c.args.core.now in
+    let taken : Picture g.M.Levels.mode = picture_of c.take_own.new.self in
     let took = c.in_ok-frame.ensures.taken in
     let n = c.in_ok-frame.frame.0 in
     let k = c.in-Swapped.slot.0 in
@@ -244,15 +245,15 @@ release-requires g c =
     let number : entry old c.args.pid c.args.page ≡ k * 1024 + 2 =
     sym same_entry ∙ entry-of taken c.args.pid r c.args.page c.root_of-root.ensures ∙ sym c.entry.ensures.entry ∙ ap number_of c.in-Swapped.is in
     let low : k < 2 ^ 32 = (let P : Entry → Type 0 = λ e. IsEntry e in subst P c.in-Swapped.is c.entry.ensures.form) in
-    let written : Picture = record taken { slots = slots_of c.get.new.self; frames = with_bytes c.take_own.new.self.frames n c.get.new.to } in
+    let written : Picture g.M.Levels.mode = record taken { slots = slots_of c.get.new.self; frames = with_bytes c.take_own.new.self.frames n c.get.new.to } in
     let changes : ChangesFrame took.found written n = changes_written took.found taken n c.args.page took.own (slots_of c.get.new.self) c.get.ensures.same c.get.new.to in
     slot_set old taken c.args.pid c.args.page n k r c.args.attr took c.requires.linked lives c.requires.attr c.requires.away number low written changes took.own.takes.kind_set took.own.takes.counted took.own.noted (picture_of c.set_full.new.core) c.set_full.ensures.sets (beside_around _ c.set_full.new.core c.set_full.ensures.rest)
 
 pub returns-in-Ok-clause-entry : goal.returns-in-Ok-clause-entry
 unfolding entry
 returns-in-Ok-clause-entry g c =
-    let old : Picture = picture_of c.args.core.now in
-    let taken : Picture = picture_of c.take_own.new.self in
+    let old : Picture g.M.Levels.mode = picture_of c.args.core.now in
+    let taken : Picture g.M.Levels.mode = picture_of c.take_own.new.self in
     let took = c.in_ok-frame.ensures.taken in
     let n = c.in_ok-frame.frame.0 in
     let k = c.in-Swapped.slot.0 in
@@ -263,9 +264,9 @@ returns-in-Ok-clause-entry g c =
     let number : entry old c.args.pid c.args.page ≡ k * 1024 + 2 =
     sym same_entry ∙ entry-of taken c.args.pid r c.args.page c.root_of-root.ensures ∙ sym c.entry.ensures.entry ∙ ap number_of c.in-Swapped.is in
     let low : k < 2 ^ 32 = (let P : Entry → Type 0 = λ e. IsEntry e in subst P c.in-Swapped.is c.entry.ensures.form) in
-    let written : Picture = record taken { slots = slots_of c.get.new.self; frames = with_bytes c.take_own.new.self.frames n c.get.new.to } in
+    let written : Picture g.M.Levels.mode = record taken { slots = slots_of c.get.new.self; frames = with_bytes c.take_own.new.self.frames n c.get.new.to } in
     let changes : ChangesFrame took.found written n = changes_written took.found taken n c.args.page took.own (slots_of c.get.new.self) c.get.ensures.same c.get.new.to in
-    let set : Picture = picture_of c.set_full.new.core in
+    let set : Picture g.M.Levels.mode = picture_of c.set_full.new.core in
     let sets = c.set_full.ensures.sets in
     let beside = beside_around _ c.set_full.new.core c.set_full.ensures.rest in
     let t = slots_of c.release.new.self in
@@ -278,8 +279,8 @@ returns-in-Ok-clause-sole g c =
 
 pub returns-in-Ok-clause-seen : goal.returns-in-Ok-clause-seen
 returns-in-Ok-clause-seen g c = λ model.
-    let old : Picture = picture_of c.args.core.now in
-    let taken : Picture = picture_of c.take_own.new.self in
+    let old : Picture g.M.Levels.mode = picture_of c.args.core.now in
+    let taken : Picture g.M.Levels.mode = picture_of c.take_own.new.self in
     let took = c.in_ok-frame.ensures.taken in
     let n = c.in_ok-frame.frame.0 in
     let k = c.in-Swapped.slot.0 in
@@ -290,9 +291,9 @@ returns-in-Ok-clause-seen g c = λ model.
     let number : entry old c.args.pid c.args.page ≡ k * 1024 + 2 =
     sym same_entry ∙ entry-of taken c.args.pid r c.args.page c.root_of-root.ensures ∙ sym c.entry.ensures.entry ∙ ap number_of c.in-Swapped.is in
     let low : k < 2 ^ 32 = (let P : Entry → Type 0 = λ e. IsEntry e in subst P c.in-Swapped.is c.entry.ensures.form) in
-    let written : Picture = record taken { slots = slots_of c.get.new.self; frames = with_bytes c.take_own.new.self.frames n c.get.new.to } in
+    let written : Picture g.M.Levels.mode = record taken { slots = slots_of c.get.new.self; frames = with_bytes c.take_own.new.self.frames n c.get.new.to } in
     let changes : ChangesFrame took.found written n = changes_written took.found taken n c.args.page took.own (slots_of c.get.new.self) c.get.ensures.same c.get.new.to in
-    let set : Picture = picture_of c.set_full.new.core in
+    let set : Picture g.M.Levels.mode = picture_of c.set_full.new.core in
     let sets = c.set_full.ensures.sets in
     let beside = beside_around _ c.set_full.new.core c.set_full.ensures.rest in
     let t = slots_of c.release.new.self in
@@ -323,11 +324,11 @@ returns-in-Err-clause-short g c = tt
 
 pub returns-in-Err-clause-moves : goal.returns-in-Err-clause-moves
 returns-in-Err-clause-moves g c =
-    let old : Picture = picture_of c.args.core.now in
-    let taken : Picture = picture_of c.take_own.new.self in
+    let old : Picture g.M.Levels.mode = picture_of c.args.core.now in
+    let taken : Picture g.M.Levels.mode = picture_of c.take_own.new.self in
     let took = c.in_ok-frame.ensures.taken in
     let n = c.in_ok-frame.frame.0 in
-    let new : Picture = record taken { slots = slots_of c.get.new.self; frames = c.release-in-Err.new.self } in
+    let new : Picture g.M.Levels.mode = record taken { slots = slots_of c.get.new.self; frames = c.release-in-Err.new.self } in
     let changes : ChangesFrame took.found new n = changes_spent took.found taken n c.args.page took.own (slots_of c.get.new.self) c.get.ensures.same c.get.new.to c.release-in-Err.new.self c.release-in-Err.ensures.change in
     let free : role_of c.release-in-Err.new.self n ≡ Free = c.release-in-Err.ensures.change.freed took.own.takes.counted in
     let datum : role_of c.release-in-Err.new.self n ≢ Table = λ table. (let bad : Free ≡ Table = sym free ∙ table in (cc)) in
@@ -340,11 +341,11 @@ returns-in-Err-clause-moves g c =
 
 pub returns-in-Err-clause-others : goal.returns-in-Err-clause-others
 returns-in-Err-clause-others g c =
-    let old : Picture = picture_of c.args.core.now in
-    let taken : Picture = picture_of c.take_own.new.self in
+    let old : Picture g.M.Levels.mode = picture_of c.args.core.now in
+    let taken : Picture g.M.Levels.mode = picture_of c.take_own.new.self in
     let took = c.in_ok-frame.ensures.taken in
     let n = c.in_ok-frame.frame.0 in
-    let new : Picture = record taken { slots = slots_of c.get.new.self; frames = c.release-in-Err.new.self } in
+    let new : Picture g.M.Levels.mode = record taken { slots = slots_of c.get.new.self; frames = c.release-in-Err.new.self } in
     let changes : ChangesFrame took.found new n = changes_spent took.found taken n c.args.page took.own (slots_of c.get.new.self) c.get.ensures.same c.get.new.to c.release-in-Err.new.self c.release-in-Err.ensures.change in
     let free : role_of c.release-in-Err.new.self n ≡ Free = c.release-in-Err.ensures.change.freed took.own.takes.counted in
     let datum : role_of c.release-in-Err.new.self n ≢ Table = λ table. (let bad : Free ≡ Table = sym free ∙ table in (cc)) in
@@ -353,11 +354,11 @@ returns-in-Err-clause-others g c =
 
 pub returns-in-Err-clause-bare : goal.returns-in-Err-clause-bare
 returns-in-Err-clause-bare g c =
-    let old : Picture = picture_of c.args.core.now in
-    let taken : Picture = picture_of c.take_own.new.self in
+    let old : Picture g.M.Levels.mode = picture_of c.args.core.now in
+    let taken : Picture g.M.Levels.mode = picture_of c.take_own.new.self in
     let took = c.in_ok-frame.ensures.taken in
     let n = c.in_ok-frame.frame.0 in
-    let new : Picture = record taken { slots = slots_of c.get.new.self; frames = c.release-in-Err.new.self } in
+    let new : Picture g.M.Levels.mode = record taken { slots = slots_of c.get.new.self; frames = c.release-in-Err.new.self } in
     let changes : ChangesFrame took.found new n = changes_spent took.found taken n c.args.page took.own (slots_of c.get.new.self) c.get.ensures.same c.get.new.to c.release-in-Err.new.self c.release-in-Err.ensures.change in
     let free : role_of c.release-in-Err.new.self n ≡ Free = c.release-in-Err.ensures.change.freed took.own.takes.counted in
     let datum : role_of c.release-in-Err.new.self n ≢ Table = λ table. (let bad : Free ≡ Table = sym free ∙ table in (cc)) in
@@ -366,11 +367,11 @@ returns-in-Err-clause-bare g c =
 
 pub returns-in-Err-clause-slotted : goal.returns-in-Err-clause-slotted
 returns-in-Err-clause-slotted g c =
-    let old : Picture = picture_of c.args.core.now in
-    let taken : Picture = picture_of c.take_own.new.self in
+    let old : Picture g.M.Levels.mode = picture_of c.args.core.now in
+    let taken : Picture g.M.Levels.mode = picture_of c.take_own.new.self in
     let took = c.in_ok-frame.ensures.taken in
     let n = c.in_ok-frame.frame.0 in
-    let new : Picture = record taken { slots = slots_of c.get.new.self; frames = c.release-in-Err.new.self } in
+    let new : Picture g.M.Levels.mode = record taken { slots = slots_of c.get.new.self; frames = c.release-in-Err.new.self } in
     let changes : ChangesFrame took.found new n = changes_spent took.found taken n c.args.page took.own (slots_of c.get.new.self) c.get.ensures.same c.get.new.to c.release-in-Err.new.self c.release-in-Err.ensures.change in
     let free : role_of c.release-in-Err.new.self n ≡ Free = c.release-in-Err.ensures.change.freed took.own.takes.counted in
     let datum : role_of c.release-in-Err.new.self n ≢ Table = λ table. (let bad : Free ≡ Table = sym free ∙ table in (cc)) in
@@ -379,11 +380,11 @@ returns-in-Err-clause-slotted g c =
 
 pub returns-in-Err-clause-frees : goal.returns-in-Err-clause-frees
 returns-in-Err-clause-frees g c =
-    let old : Picture = picture_of c.args.core.now in
-    let taken : Picture = picture_of c.take_own.new.self in
+    let old : Picture g.M.Levels.mode = picture_of c.args.core.now in
+    let taken : Picture g.M.Levels.mode = picture_of c.take_own.new.self in
     let took = c.in_ok-frame.ensures.taken in
     let n = c.in_ok-frame.frame.0 in
-    let new : Picture = record taken { slots = slots_of c.get.new.self; frames = c.release-in-Err.new.self } in
+    let new : Picture g.M.Levels.mode = record taken { slots = slots_of c.get.new.self; frames = c.release-in-Err.new.self } in
     let changes : ChangesFrame took.found new n = changes_spent took.found taken n c.args.page took.own (slots_of c.get.new.self) c.get.ensures.same c.get.new.to c.release-in-Err.new.self c.release-in-Err.ensures.change in
     let free : role_of c.release-in-Err.new.self n ≡ Free = c.release-in-Err.ensures.change.freed took.own.takes.counted in
     let datum : role_of c.release-in-Err.new.self n ≢ Table = λ table. (let bad : Free ≡ Table = sym free ∙ table in (cc)) in
@@ -392,11 +393,11 @@ returns-in-Err-clause-frees g c =
 
 pub returns-in-Err-clause-same : goal.returns-in-Err-clause-same
 returns-in-Err-clause-same g c =
-    let old : Picture = picture_of c.args.core.now in
-    let taken : Picture = picture_of c.take_own.new.self in
+    let old : Picture g.M.Levels.mode = picture_of c.args.core.now in
+    let taken : Picture g.M.Levels.mode = picture_of c.take_own.new.self in
     let took = c.in_ok-frame.ensures.taken in
     let n = c.in_ok-frame.frame.0 in
-    let new : Picture = record taken { slots = slots_of c.get.new.self; frames = c.release-in-Err.new.self } in
+    let new : Picture g.M.Levels.mode = record taken { slots = slots_of c.get.new.self; frames = c.release-in-Err.new.self } in
     let changes : ChangesFrame took.found new n = changes_spent took.found taken n c.args.page took.own (slots_of c.get.new.self) c.get.ensures.same c.get.new.to c.release-in-Err.new.self c.release-in-Err.ensures.change in
     let free : role_of c.release-in-Err.new.self n ≡ Free = c.release-in-Err.ensures.change.freed took.own.takes.counted in
     let datum : role_of c.release-in-Err.new.self n ≢ Table = λ table. (let bad : Free ≡ Table = sym free ∙ table in (cc)) in
@@ -405,11 +406,11 @@ returns-in-Err-clause-same g c =
 
 pub returns-in-Err-clause-seen : goal.returns-in-Err-clause-seen
 returns-in-Err-clause-seen g c = λ model.
-    let old : Picture = picture_of c.args.core.now in
-    let taken : Picture = picture_of c.take_own.new.self in
+    let old : Picture g.M.Levels.mode = picture_of c.args.core.now in
+    let taken : Picture g.M.Levels.mode = picture_of c.take_own.new.self in
     let took = c.in_ok-frame.ensures.taken in
     let n = c.in_ok-frame.frame.0 in
-    let new : Picture = record taken { slots = slots_of c.get.new.self; frames = c.release-in-Err.new.self } in
+    let new : Picture g.M.Levels.mode = record taken { slots = slots_of c.get.new.self; frames = c.release-in-Err.new.self } in
     let changes : ChangesFrame took.found new n = changes_spent took.found taken n c.args.page took.own (slots_of c.get.new.self) c.get.ensures.same c.get.new.to c.release-in-Err.new.self c.release-in-Err.ensures.change in
     let free : role_of c.release-in-Err.new.self n ≡ Free = c.release-in-Err.ensures.change.freed took.own.takes.counted in
     let datum : role_of c.release-in-Err.new.self n ≢ Table = λ table. (let bad : Free ≡ Table = sym free ∙ table in (cc)) in
@@ -418,11 +419,11 @@ returns-in-Err-clause-seen g c = λ model.
 
 pub returns-in-Err-clause-files : goal.returns-in-Err-clause-files
 returns-in-Err-clause-files g c =
-    let old : Picture = picture_of c.args.core.now in
-    let taken : Picture = picture_of c.take_own.new.self in
+    let old : Picture g.M.Levels.mode = picture_of c.args.core.now in
+    let taken : Picture g.M.Levels.mode = picture_of c.take_own.new.self in
     let took = c.in_ok-frame.ensures.taken in
     let n = c.in_ok-frame.frame.0 in
-    let new : Picture = record taken { slots = slots_of c.get.new.self; frames = c.release-in-Err.new.self } in
+    let new : Picture g.M.Levels.mode = record taken { slots = slots_of c.get.new.self; frames = c.release-in-Err.new.self } in
     let changes : ChangesFrame took.found new n = changes_spent took.found taken n c.args.page took.own (slots_of c.get.new.self) c.get.ensures.same c.get.new.to c.release-in-Err.new.self c.release-in-Err.ensures.change in
     let free : role_of c.release-in-Err.new.self n ≡ Free = c.release-in-Err.ensures.change.freed took.own.takes.counted in
     let datum : role_of c.release-in-Err.new.self n ≢ Table = λ table. (let bad : Free ≡ Table = sym free ∙ table in (cc)) in
@@ -440,3 +441,6 @@ returns-in_err-frame-clause-bare g c = λ q p h other none. c.in_err-frame.ensur
 pub returns-in_err-frame-clause-slotted : goal.returns-in_err-frame-clause-slotted
 returns-in_err-frame-clause-slotted g c =
     slotted_frees (λ p. ⊥) (IsThatPage c.args.pid c.args.page) (picture_of c.args.core.now) (picture_of c.take_own.new.self) _ c.in_err-frame.ensures.frees
+
+pub set_full-requires-clause-user : goal.set_full-requires-clause-user
+set_full-requires-clause-user g c = ((c.requires.linked.fit.granting.user c.args.pid).user_pages c.args.page (ap is_some c.requires.attr)).1

@@ -6,7 +6,7 @@ use Rattle.msync.proofs.Appending.{listed, lists_none, over_none}
 use Rattle.msync.proofs.choosing.choose.Goals as goal
 
 pub returns-in-Ok : goal.returns-in-Ok
-returns-in-Ok c =
+returns-in-Ok g c =
     let touched = of_files (is_touched c.args.cache.now) in
     let map = attr_at c.args.regions.now in
     let first = c.args.first in
@@ -18,7 +18,7 @@ returns-in-Ok c =
     )
 
 pub returns-in-Err : goal.returns-in-Err
-returns-in-Err c =
+returns-in-Err g c =
     let touched = of_files (is_touched c.args.cache.now) in
     let map = attr_at c.args.regions.now in
     let first = c.args.first in
@@ -29,7 +29,7 @@ returns-in-Err c =
     )
 
 pub returns-in-Ok-eq0 : goal.returns-in-Ok-eq0
-returns-in-Ok-eq0 c =
+returns-in-Ok-eq0 g c =
     let touched = of_files (is_touched c.args.cache.now) in
     let map = attr_at c.args.regions.now in
     let first = c.args.first in

@@ -7,14 +7,14 @@ use Rattle.msync.proofs.Walking.{walk_start, walk_on, walk_over, walk_end}
 use Rattle.msync.proofs.choosing.choose_between.Goals as goal
 
 pub loop-page-init : goal.loop-page-init
-loop-page-init c = record {
+loop-page-init g c = record {
   from = omega arith;
   to = c.requires.order;
   chosen = walk_start (of_files (is_touched c.args.cache.now)) (attr_at c.args.regions.now) c.args.first c.args.list.now;
 }
 
 pub loop-page-preserved : goal.loop-page-preserved
-loop-page-preserved c =
+loop-page-preserved g c =
     let touched = of_files (is_touched c.args.cache.now) in
     let map = attr_at c.args.regions.now in
     let run = c.in-Some.run' in
@@ -25,19 +25,19 @@ loop-page-preserved c =
     record {
       from = omega (arith, next.from, next.nonempty);
       to = omega arith;
-      chosen = walk_on touched map c.args.first c.loop-page.page stop run c.args.list.now c.loop-page.list c.choose_behind.new.list c.loop-page.count c.in_ok-count.count
+      chosen = walk_on g.M.Levels.mode touched map c.args.first c.loop-page.page stop run c.args.list.now c.loop-page.list c.choose_behind.new.list c.loop-page.count c.in_ok-count.count
           next c.loop-page.invariant.from (omega (arith, next.from, next.nonempty)) (omega arith) c.loop-page.invariant.chosen step;
     }
 
 pub returns-in_default-clause-ok : goal.returns-in_default-clause-ok
-returns-in_default-clause-ok c =
+returns-in_default-clause-ok g c =
     let touched = of_files (is_touched c.args.cache.now) in
     let map = attr_at c.args.regions.now in
     walk_end touched map c.args.first c.loop-page.page c.args.end c.args.list.now c.loop-page.list c.loop-page.count
     c.in_default.ensures.none c.loop-page.invariant.to c.loop-page.invariant.chosen
 
 pub returns-in_err-count-clause-too_many : goal.returns-in_err-count-clause-too_many
-returns-in_err-count-clause-too_many c =
+returns-in_err-count-clause-too_many g c =
     let touched = of_files (is_touched c.args.cache.now) in
     let map = attr_at c.args.regions.now in
     let run = c.in-Some.run' in
@@ -46,11 +46,11 @@ returns-in_err-count-clause-too_many c =
     let count : c.saturating_sub-pages.result ≡ stop - run.first = omega (arith, c.saturating_sub-pages.ensures) in
     let step = subst (λ (n : ℕ). Overflows (is_taken_behind touched run.attr.backing n) c.loop-page.list c.loop-page.count) count c.in_err-count.ensures.too_many in
     on_err c.from_residual.result
-    (walk_over touched map c.args.first c.loop-page.page stop c.args.end run c.args.list.now c.loop-page.list c.loop-page.count
+    (walk_over g.M.Levels.mode touched map c.args.first c.loop-page.page stop c.args.end run c.args.list.now c.loop-page.list c.loop-page.count
     next c.loop-page.invariant.from c.loop-page.invariant.to (omega arith) (omega arith) c.loop-page.invariant.chosen step)
 
 pub returns-clause-ok : goal.returns-clause-ok
-returns-clause-ok c =
+returns-clause-ok g c =
     let touched = of_files (is_touched c.args.cache.now) in
     let map = attr_at c.args.regions.now in
     let e : c.loop-page.page ≡ c.args.end = omega (arith, c.loop-page.invariant.to) in

@@ -31,7 +31,7 @@ choose-requires-clause-user g c =
     let map = attr_at c.regions-regions.result.now in
     let found = c.in-Some.ensures.found in
     let at : (page : ℕ) → (picture_of core).at a.pid page ≡ map page = λ page. ap (λ pid. (picture_of core).at pid page) (sym found.0) ∙ sym (c.regions-regions.ensures page) in
-    user_map-same ((picture_of core).at a.pid) map (λ page. sym (at page)) (c.requires.fit.granting.user a.pid)
+    user_map-same g.M.Levels.mode ((picture_of core).at a.pid) map (λ page. sym (at page)) (c.requires.fit.granting.user a.pid)
 
 pub returns-in-Async-clause-same : goal.returns-in-Async-clause-same
 returns-in-Async-clause-same g c = λ s shows.
@@ -78,3 +78,6 @@ returns-in-Sync-clause-taken g c =
     let count : c.div_ceil-count.result ≡ page_count a.len = omega (arith, c.div_ceil-count.ensures) in
     taken_of (picture_of core) map a.pid a.addr a.len c.choose.new.list c.choose.result at
     (subst (λ (n : ℕ). IsChoice (is_chosen (of_files (picture_of core).touched) map (a.addr / 4096) n) c.choose.new.list c.choose.result) count c.choose.ensures)
+
+pub choose-requires-clause-inside : goal.choose-requires-clause-inside
+choose-requires-clause-inside g c = (touched_within (picture_of c.args.core.now) c.args.core.now.store.directory c.requires.fit (λ f. refl)).page

@@ -1,8 +1,12 @@
 use Rattle.std.proofs.Common.{inl, inr}
 use Rattle.msync.specs.Choice.{chosen_of, page_at, IsAway, TakesAway}
-use Rattle.msync.proofs.Committing.{commits_under}
+use Rattle.msync.proofs.Committing.{takes_some, commits_under}
 use Rattle.paging.specs.Picture.{picture_of}
 use Rattle.msync.proofs.msyncs.msync.Goals as goal
+
+pub returns-in-Takes-clause-passes : goal.returns-in-Takes-clause-passes
+returns-in-Takes-clause-passes g c = λ s shows none.
+    absurd (takes_some s c.args.pid c.args.addr c.args.len c.args.mode (chosen_of c.rule.new.list c.in-Takes.count) (c.in-Takes.ensures.same s shows.pages) none)
 
 pub returns-in-Takes-clause-commits : goal.returns-in-Takes-clause-commits
 returns-in-Takes-clause-commits g c = λ s after shows takes.

@@ -9,7 +9,7 @@ use Rattle.msync.proofs.settling.cut_tail.Goals as goal
 
 pub returns-clause-fit : goal.returns-clause-fit
 returns-clause-fit g c =
-    let old : Picture = picture_of c.args.core.now in
+    let old : Picture g.M.Levels.mode = picture_of c.args.core.now in
     let n = c.args.frame.0 in
     let t = with_bytes old.frames n c.cut_from.new.page in
     fit_cut old (record old { frames = t }) c.args.page n c.cut_from.new.page c.requires.fit c.requires.placed refl

@@ -9,8 +9,8 @@ use Rattle.msync.proofs.settling.settle_in_frame.Goals as goal
 
 pub change_leaves-requires-clause-inside : goal.change_leaves-requires-clause-inside
 change_leaves-requires-clause-inside g c =
-    let a : Picture = picture_of c.args.core.now in
-    let b : Picture = picture_of c.cut_tail.new.core in
+    let a : Picture g.M.Levels.mode = picture_of c.args.core.now in
+    let b : Picture g.M.Levels.mode = picture_of c.cut_tail.new.core in
     let same = frames_cut a b c.args.page c.args.frame.0 _ c.requires.fit c.requires.placed c.cut_tail.ensures.cuts (same_beside c.args.core.now c.cut_tail.new.core c.cut_tail.ensures.beside) in
     let inside = c.requires.inside in
     omega (arith, same, inside)
@@ -22,8 +22,8 @@ change_leaves-requires-clause-data g c =
 
 pub returns-clause-fit : goal.returns-clause-fit
 returns-clause-fit g c =
-    let x : Picture = picture_of c.change_leaves.new.core in
-    let y : Picture = record x { place = place_of c.clean.new.self; touched = is_touched c.clean.new.self } in
+    let x : Picture g.M.Levels.mode = picture_of c.change_leaves.new.core in
+    let y : Picture g.M.Levels.mode = record x { place = place_of c.clean.new.self; touched = is_touched c.clean.new.self } in
     let beside = same_beside c.args.core.now c.cut_tail.new.core c.cut_tail.ensures.beside in
     let u : Untouches x y (File c.args.page) = record {
       frames = refl;
@@ -41,10 +41,10 @@ returns-clause-fit g c =
 
 pub returns-clause-settles : goal.returns-clause-settles
 returns-clause-settles g c =
-    let a : Picture = picture_of c.args.core.now in
-    let b : Picture = picture_of c.cut_tail.new.core in
-    let x : Picture = picture_of c.change_leaves.new.core in
-    let y : Picture = record x { place = place_of c.clean.new.self; touched = is_touched c.clean.new.self } in
+    let a : Picture g.M.Levels.mode = picture_of c.args.core.now in
+    let b : Picture g.M.Levels.mode = picture_of c.cut_tail.new.core in
+    let x : Picture g.M.Levels.mode = picture_of c.change_leaves.new.core in
+    let y : Picture g.M.Levels.mode = record x { place = place_of c.clean.new.self; touched = is_touched c.clean.new.self } in
     let beside = same_beside c.args.core.now c.cut_tail.new.core c.cut_tail.ensures.beside in
     let u : Untouches x y (File c.args.page) = record {
       frames = refl;

@@ -16,8 +16,8 @@ release-requires g c = (let one = c.requires.fit.places.slotted (File c.args.pag
 
 pub returns-clause-fit : goal.returns-clause-fit
 returns-clause-fit g c =
-    let old : Picture = picture_of c.args.core.now in
-    let new : Picture = record old { slots = slots_of c.release.new.self; place = place_of c.set_place.new.self; touched = is_touched c.set_place.new.self } in
+    let old : Picture g.M.Levels.mode = picture_of c.args.core.now in
+    let new : Picture g.M.Levels.mode = record old { slots = slots_of c.release.new.self; place = place_of c.set_place.new.self; touched = is_touched c.set_place.new.self } in
     let homes : Homes old new (File c.args.page) c.args.slot.0 = record {
       was = c.requires.placed;
       frames = refl;
@@ -35,8 +35,8 @@ returns-clause-fit g c =
 
 pub returns-clause-settles : goal.returns-clause-settles
 returns-clause-settles g c =
-    let old : Picture = picture_of c.args.core.now in
-    let new : Picture = record old { slots = slots_of c.release.new.self; place = place_of c.set_place.new.self; touched = is_touched c.set_place.new.self } in
+    let old : Picture g.M.Levels.mode = picture_of c.args.core.now in
+    let new : Picture g.M.Levels.mode = record old { slots = slots_of c.release.new.self; place = place_of c.set_place.new.self; touched = is_touched c.set_place.new.self } in
     let homes : Homes old new (File c.args.page) c.args.slot.0 = record {
       was = c.requires.placed;
       frames = refl;

@@ -1,3 +1,4 @@
+use Rattle.vm_types.specs.Limits.{top_level}
 use Rattle.std.proofs.Common.{◌≡◌, ◌%◌, refl, sym, ap, ◌∙◌, subst}
 use Rattle.std.proofs.lemmas.Bool.{false≢true}
 use Rattle.vm_types.specs.Width.{byte_count}
@@ -6,6 +7,7 @@ use Rattle.frames.specs.FrameTable.{FrameTable}
 use Rattle.page_faults.specs.Found.{Judges}
 use Rattle.page_faults.proofs.Verdicts.{grants_found, finds_judged, verdict-outside}
 use Rattle.sv39_walk.specs.Walk.{translated}
+use Rattle.page_faults.proofs.Unchanged.{same_frames}
 use Rattle.page_faults.proofs.Wanted.{one_root, root_lives}
 use Rattle.page_faults.proofs.finding.find.Goals as goal
 
@@ -28,10 +30,16 @@ returns-clause-found g c =
     let judged = subst P c.walk.ensures.same c.judge.ensures in
     finds_judged (picture_of c.args.core.now) c.args.pid c.args.addr c.args.width c.args.access c.in-Some.page c.judge.result c.in-Some.ensures.found aligned
     (λ root phys lives walked. c.in_default-walk.not-Ok phys (c.walk.ensures.walked
-    ∙ ap (λ r. translated 2 c.args.core.now.frames r c.args.addr c.args.access) (one_root c.root_of-root.result.0 root (sym c.root_of-root.ensures ∙ lives)) ∙ walked)) judged
+    ∙ ap (λ r. translated (top_level g.M.Levels.mode) c.args.core.now.frames r c.args.addr c.args.access) (one_root c.root_of-root.result.0 root (sym c.root_of-root.ensures ∙ lives)) ∙ walked)) judged
 
 pub root_of-root-requires : goal.root_of-root-requires
 root_of-root-requires g c = record { live = root_lives ((picture_of c.args.core.now).root c.args.pid) c.requires.lives }
 
 pub walk-requires-clause-root : goal.walk-requires-clause-root
 walk-requires-clause-root g c = c.requires.fit.rooted.roots c.args.pid c.root_of-root.result.0 c.root_of-root.ensures
+
+pub returns-in-Ok-clause-same : goal.returns-in-Ok-clause-same
+returns-in-Ok-clause-same g c = same_frames c.args.core.now c.walk.new.memory c.walk.ensures.same (_, _, _, _, _, _, _, _)
+
+pub returns-clause-same : goal.returns-clause-same
+returns-clause-same g c = same_frames c.args.core.now c.walk.new.memory c.walk.ensures.same (_, _, _, _, _, _, _, _)

@@ -22,13 +22,13 @@ returns-in_err-link_tables-clause-proceeds g c =
 
 pub returns-in_err-link_tables-clause-brings : goal.returns-in_err-link_tables-clause-brings
 returns-in_err-link_tables-clause-brings g c kept =
-    let old : Picture = picture_of c.args.core.now in
+    let old : Picture g.M.Levels.mode = picture_of c.args.core.now in
     let files = c.in_err-link_tables.ensures.pages.files in
     brings_none g.D.SectorDisk c.args.core.now.store.disk c.link_tables.new.core.store.disk (ShowsFile old c.args.pid c.args.page) old (picture_of c.link_tables.new.core) files.held files.files
 
 pub returns-in_err-link_tables-clause-calm : goal.returns-in_err-link_tables-clause-calm
 returns-in_err-link_tables-clause-calm g c unwanted =
-    let old : Picture = picture_of c.args.core.now in
+    let old : Picture g.M.Levels.mode = picture_of c.args.core.now in
     elim (whole_or old c.args.pid c.args.page (root_live old c.args.pid c.requires.lives)) [
       | inl whole ↦ absurd (c.in_err-link_tables.ensures.idle whole).1
       | inr lacks ↦ absurd (unwanted (ForTable lacks))
@@ -39,7 +39,7 @@ returns-in_err-link_tables-clause-read g c = inl c.in_err-link_tables.ensures.mo
 
 pub returns-in_err-link_tables-clause-stalled : goal.returns-in_err-link_tables-clause-stalled
 returns-in_err-link_tables-clause-stalled g c =
-    let old : Picture = picture_of c.args.core.now in
+    let old : Picture g.M.Levels.mode = picture_of c.args.core.now in
     let done = c.in_err-link_tables.ensures in
     let lives = root_live old c.args.pid c.requires.lives in
     elim (whole_or old c.args.pid c.args.page lives) [
@@ -69,14 +69,14 @@ returns-clause-proceeds g c =
 
 pub returns-clause-brings : goal.returns-clause-brings
 returns-clause-brings g c =
-    let old : Picture = picture_of c.args.core.now in
+    let old : Picture g.M.Levels.mode = picture_of c.args.core.now in
     let done = c.in_ok-link_tables.ensures in
     brings_back c.args.core.now c.link_tables.new.core c.args.pid c.args.page (root_live old c.args.pid c.requires.lives) done.pages (λ whole. (done.idle whole).0)
     g.D.SectorDisk g.E.SectorDisk done.moves c.grant_linked.new.core c.grant_linked.ensures.brings
 
 pub returns-clause-ready : goal.returns-clause-ready
 returns-clause-ready g c trusted =
-    let old : Picture = picture_of c.args.core.now in
+    let old : Picture g.M.Levels.mode = picture_of c.args.core.now in
     let done = c.in_ok-link_tables.ensures in
     let at = c.requires.allowed.mapped in
     let lives = root_live old c.args.pid c.requires.lives in
@@ -87,14 +87,14 @@ returns-clause-ready g c trusted =
 
 pub returns-clause-calm : goal.returns-clause-calm
 returns-clause-calm g c =
-    let old : Picture = picture_of c.args.core.now in
+    let old : Picture g.M.Levels.mode = picture_of c.args.core.now in
     let done = c.in_ok-link_tables.ensures in
     calm_back c.args.core.now c.link_tables.new.core c.args.pid c.args.page (root_live old c.args.pid c.requires.lives) done.pages (λ whole. (done.idle whole).0)
     c.grant_linked.new.core c.args.access c.grant_linked.ensures.calm
 
 pub returns-clause-read : goal.returns-clause-read
 returns-clause-read g c =
-    let old : Picture = picture_of c.args.core.now in
+    let old : Picture g.M.Levels.mode = picture_of c.args.core.now in
     let done = c.in_ok-link_tables.ensures in
     read_back c.args.core.now c.link_tables.new.core c.args.pid c.args.page (root_live old c.args.pid c.requires.lives) done.pages (λ whole. (done.idle whole).0)
     done.whole done.gives done.tables c.grant_linked.new.core.store done.moves.store c.grant_linked.ensures.read
@@ -108,7 +108,7 @@ returns-clause-counts g c =
 
 pub returns-clause-stalled : goal.returns-clause-stalled
 returns-clause-stalled g c =
-    let old : Picture = picture_of c.args.core.now in
+    let old : Picture g.M.Levels.mode = picture_of c.args.core.now in
     let done = c.in_ok-link_tables.ensures in
     stalled_back c.args.core.now c.link_tables.new.core c.args.pid c.args.page (root_live old c.args.pid c.requires.lives) done.pages (λ whole. (done.idle whole).0)
     g.D.SectorDisk g.E.SectorDisk done.moves done.whole done.gives done.tables c.grant_linked.new.core c.args.access c.grant_linked.result done.cause.0 done.cause.1 c.grant_linked.ensures.stalled

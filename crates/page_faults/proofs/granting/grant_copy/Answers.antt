@@ -22,26 +22,26 @@ cached-requires-clause-inside g c =
 
 pub returns-in_err-cached-clause-brings : goal.returns-in_err-cached-clause-brings
 returns-in_err-cached-clause-brings g c =
-    let old : Picture = picture_of c.args.core.now in
+    let old : Picture g.M.Levels.mode = picture_of c.args.core.now in
     let shows = shows_file old c.args.pid c.args.page c.args.attr (File c.args.file_page) c.requires.allowed.mapped (ap stands_on c.requires.private) c.requires.none in
     brings_wider c.args.core.now c.cached.new.core c.args.pid c.args.page (File c.args.file_page) shows g.D.SectorDisk g.E.SectorDisk c.in_err-cached.ensures.brings
 
 pub returns-in_err-cached-clause-calm : goal.returns-in_err-cached-clause-calm
 returns-in_err-cached-clause-calm g c unwanted =
-    let old : Picture = picture_of c.args.core.now in
+    let old : Picture g.M.Levels.mode = picture_of c.args.core.now in
     let shows = shows_file old c.args.pid c.args.page c.args.attr (File c.args.file_page) c.requires.allowed.mapped (ap stands_on c.requires.private) c.requires.none in
     let there = page_there old c.args.pid c.args.page Store (File c.args.file_page) shows unwanted in
     absurd (c.in_err-cached.ensures.idle there.0 there.1).1
 
 pub returns-in_err-cached-clause-read : goal.returns-in_err-cached-clause-read
 returns-in_err-cached-clause-read g c =
-    let old : Picture = picture_of c.args.core.now in
+    let old : Picture g.M.Levels.mode = picture_of c.args.core.now in
     let shows = shows_file old c.args.pid c.args.page c.args.attr (File c.args.file_page) c.requires.allowed.mapped (ap stands_on c.requires.private) c.requires.none in
     read_then c.args.core.now c.cached.new.core c.args.pid c.args.page (File c.args.file_page) shows c.cached.new.core.store c.requires.linked.fit refl c.in_err-cached.ensures.read
 
 pub returns-in_err-cached-clause-stalled : goal.returns-in_err-cached-clause-stalled
 returns-in_err-cached-clause-stalled g c =
-    let old : Picture = picture_of c.args.core.now in
+    let old : Picture g.M.Levels.mode = picture_of c.args.core.now in
     let shows = shows_file old c.args.pid c.args.page c.args.attr (File c.args.file_page) c.requires.allowed.mapped (ap stands_on c.requires.private) c.requires.none in
     let done = c.in_err-cached.ensures in
     stalled_as g.D.SectorDisk g.E.SectorDisk c.args.core.now c.cached.new.core c.args.pid c.args.page Store c.from_residual.result c.in_err-cached.field-0.0 c.from_residual.ensures.1
@@ -64,8 +64,8 @@ own_frame-requires-clause-not_shared g c = ap is_shared c.requires.private
 
 pub own_frame-requires-clause-resident : goal.own_frame-requires-clause-resident
 own_frame-requires-clause-resident g c =
-    let old : Picture = picture_of c.args.core.now in
-    let mid : Picture = picture_of c.cached.new.core in
+    let old : Picture g.M.Levels.mode = picture_of c.args.core.now in
+    let mid : Picture g.M.Levels.mode = picture_of c.cached.new.core in
     let done = c.in_ok-cached.ensures in
     none_here _ (none_same old mid c.args.pid c.args.page c.args.attr c.requires.allowed.mapped (done.proceeds.spaces.at c.args.pid c.args.page ∙ c.requires.allowed.mapped)
     (done.keeps.views c.args.pid c.args.page) c.requires.none)
@@ -80,7 +80,7 @@ returns-clause-proceeds g c =
 
 pub returns-clause-brings : goal.returns-clause-brings
 returns-clause-brings g c =
-    let old : Picture = picture_of c.args.core.now in
+    let old : Picture g.M.Levels.mode = picture_of c.args.core.now in
     let shows = shows_file old c.args.pid c.args.page c.args.attr (File c.args.file_page) c.requires.allowed.mapped (ap stands_on c.requires.private) c.requires.none in
     let done = c.in_ok-cached.ensures in
     let files = c.own_frame.ensures.files in
@@ -89,8 +89,8 @@ returns-clause-brings g c =
 
 pub returns-clause-entered : goal.returns-clause-entered
 returns-clause-entered g c =
-    let mid : Picture = picture_of c.cached.new.core in
-    let new : Picture = picture_of c.own_frame.new.core in
+    let mid : Picture g.M.Levels.mode = picture_of c.cached.new.core in
+    let new : Picture g.M.Levels.mode = picture_of c.own_frame.new.core in
     let first = c.in_ok-cached.ensures in
     let done = c.own_frame.ensures in
     let at = first.proceeds.spaces.at c.args.pid c.args.page ∙ c.requires.allowed.mapped in
@@ -102,9 +102,9 @@ returns-clause-entered g c =
 
 pub returns-clause-ready : goal.returns-clause-ready
 returns-clause-ready g c =
-    let old : Picture = picture_of c.args.core.now in
-    let mid : Picture = picture_of c.cached.new.core in
-    let new : Picture = picture_of c.own_frame.new.core in
+    let old : Picture g.M.Levels.mode = picture_of c.args.core.now in
+    let mid : Picture g.M.Levels.mode = picture_of c.cached.new.core in
+    let new : Picture g.M.Levels.mode = picture_of c.own_frame.new.core in
     let first = c.in_ok-cached.ensures in
     let done = c.own_frame.ensures in
     let at = first.proceeds.spaces.at c.args.pid c.args.page ∙ c.requires.allowed.mapped in
@@ -117,7 +117,7 @@ returns-clause-ready g c =
 
 pub returns-clause-calm : goal.returns-clause-calm
 returns-clause-calm g c =
-    let old : Picture = picture_of c.args.core.now in
+    let old : Picture g.M.Levels.mode = picture_of c.args.core.now in
     let shows = shows_file old c.args.pid c.args.page c.args.attr (File c.args.file_page) c.requires.allowed.mapped (ap stands_on c.requires.private) c.requires.none in
     let first = c.in_ok-cached.ensures in
     calm_then c.args.core.now c.cached.new.core c.args.pid c.args.page (File c.args.file_page) shows (λ n at. (first.idle n at).0) c.own_frame.new.core Store
@@ -126,7 +126,7 @@ returns-clause-calm g c =
 
 pub returns-clause-read : goal.returns-clause-read
 returns-clause-read g c =
-    let old : Picture = picture_of c.args.core.now in
+    let old : Picture g.M.Levels.mode = picture_of c.args.core.now in
     let shows = shows_file old c.args.pid c.args.page c.args.attr (File c.args.file_page) c.requires.allowed.mapped (ap stands_on c.requires.private) c.requires.none in
     read_then c.args.core.now c.cached.new.core c.args.pid c.args.page (File c.args.file_page) shows c.own_frame.new.core.store c.requires.linked.fit c.own_frame.ensures.moves.store c.in_ok-cached.ensures.read
 
@@ -138,7 +138,7 @@ returns-clause-counts g c =
 
 pub returns-clause-stalled : goal.returns-clause-stalled
 returns-clause-stalled g c =
-    let old : Picture = picture_of c.args.core.now in
+    let old : Picture g.M.Levels.mode = picture_of c.args.core.now in
     let shows = shows_file old c.args.pid c.args.page c.args.attr (File c.args.file_page) c.requires.allowed.mapped (ap stands_on c.requires.private) c.requires.none in
     let first = c.in_ok-cached.ensures in
     let done = c.own_frame.ensures in
@@ -155,12 +155,12 @@ returns-clause-others g c = λ q k other. c.own_frame.ensures.others q k other �
 
 pub returns-in_err-cached-clause-slotted : goal.returns-in_err-cached-clause-slotted
 returns-in_err-cached-clause-slotted g c =
-    let old : Picture = picture_of c.args.core.now in
+    let old : Picture g.M.Levels.mode = picture_of c.args.core.now in
     let shows = shows_file old c.args.pid c.args.page c.args.attr (File c.args.file_page) c.requires.allowed.mapped (ap stands_on c.requires.private) c.requires.none in
     slotted_brought old (picture_of c.cached.new.core) c.args.pid c.args.page (File c.args.file_page) shows c.in_err-cached.ensures.slotted
 
 pub returns-clause-slotted : goal.returns-clause-slotted
 returns-clause-slotted g c =
-    let old : Picture = picture_of c.args.core.now in
+    let old : Picture g.M.Levels.mode = picture_of c.args.core.now in
     let shows = shows_file old c.args.pid c.args.page c.args.attr (File c.args.file_page) c.requires.allowed.mapped (ap stands_on c.requires.private) c.requires.none in
     slotted_on old (picture_of c.cached.new.core) c.args.pid c.args.page (picture_of c.own_frame.new.core) (File c.args.file_page) shows c.in_ok-cached.ensures.slotted c.own_frame.ensures.slotted

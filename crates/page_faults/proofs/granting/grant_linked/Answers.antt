@@ -16,14 +16,14 @@ returns-then-is_swapped-clause-proceeds g c =
 
 pub returns-then-is_swapped-clause-brings : goal.returns-then-is_swapped-clause-brings
 returns-then-is_swapped-clause-brings g c kept =
-    let old : Picture = picture_of c.args.core.now in
+    let old : Picture g.M.Levels.mode = picture_of c.args.core.now in
     let files = c.swap_in.ensures.files in
     brings_none g.D.SectorDisk c.args.core.now.store.disk c.swap_in.new.core.store.disk (ShowsFile old c.args.pid c.args.page) old (picture_of c.swap_in.new.core) files.held files.files
 
 pub returns-then-is_swapped-clause-entered : goal.returns-then-is_swapped-clause-entered
 returns-then-is_swapped-clause-entered g c =
-    let old : Picture = picture_of c.args.core.now in
-    let new : Picture = picture_of c.swap_in.new.core in
+    let old : Picture g.M.Levels.mode = picture_of c.args.core.now in
+    let new : Picture g.M.Levels.mode = picture_of c.swap_in.new.core in
     let done = c.swap_in.ensures in
     let away = sym (ap is_swapped c.entry_at.ensures) ∙ sym c.is_swapped.ensures ∙ c.if-is_swapped.true in
     let at = c.requires.allowed.mapped in
@@ -33,8 +33,8 @@ returns-then-is_swapped-clause-entered g c =
 
 pub returns-then-is_swapped-clause-ready : goal.returns-then-is_swapped-clause-ready
 returns-then-is_swapped-clause-ready g c trusted =
-    let old : Picture = picture_of c.args.core.now in
-    let new : Picture = picture_of c.swap_in.new.core in
+    let old : Picture g.M.Levels.mode = picture_of c.args.core.now in
+    let new : Picture g.M.Levels.mode = picture_of c.swap_in.new.core in
     let done = c.swap_in.ensures in
     let away = sym (ap is_swapped c.entry_at.ensures) ∙ sym c.is_swapped.ensures ∙ c.if-is_swapped.true in
     let at = c.requires.allowed.mapped in

@@ -12,14 +12,14 @@ returns-clause-proceeds g c =
 
 pub returns-clause-brings : goal.returns-clause-brings
 returns-clause-brings g c kept =
-    let old : Picture = picture_of c.args.core.now in
+    let old : Picture g.M.Levels.mode = picture_of c.args.core.now in
     let files = c.own_frame.ensures.files in
     brings_none g.D.SectorDisk c.args.core.now.store.disk c.own_frame.new.core.store.disk (ShowsFile old c.args.pid c.args.page) old (picture_of c.own_frame.new.core) files.held files.files
 
 pub returns-clause-entered : goal.returns-clause-entered
 returns-clause-entered g c =
-    let old : Picture = picture_of c.args.core.now in
-    let new : Picture = picture_of c.own_frame.new.core in
+    let old : Picture g.M.Levels.mode = picture_of c.args.core.now in
+    let new : Picture g.M.Levels.mode = picture_of c.own_frame.new.core in
     let done = c.own_frame.ensures in
     owned_entered old new c.args.pid c.args.page c.args.attr c.args.core.now.sound done.moves.fit c.own_frame.new.core.sound
     (done.moves.spaces.at c.args.pid c.args.page ∙ c.requires.allowed.mapped) c.requires.not_shared c.requires.allowed.lets c.requires.here c.requires.in_memory done.behind done.others done.files
@@ -27,8 +27,8 @@ returns-clause-entered g c =
 
 pub returns-clause-ready : goal.returns-clause-ready
 returns-clause-ready g c =
-    let old : Picture = picture_of c.args.core.now in
-    let new : Picture = picture_of c.own_frame.new.core in
+    let old : Picture g.M.Levels.mode = picture_of c.args.core.now in
+    let new : Picture g.M.Levels.mode = picture_of c.own_frame.new.core in
     let done = c.own_frame.ensures in
     owned_ready old new c.args.pid c.args.page c.args.attr c.args.core.now.sound done.moves.fit c.own_frame.new.core.sound
     (done.moves.spaces.at c.args.pid c.args.page ∙ c.requires.allowed.mapped) c.requires.not_shared c.requires.allowed.lets c.requires.here c.requires.in_memory done.behind done.others done.files

@@ -26,7 +26,7 @@ regrant-requires-clause-resident g c = λ none. c.if-to_u64-ne0.true (c.to_u64.e
 
 pub frame_number-requires : goal.frame_number-requires
 frame_number-requires g c =
-    let old : Picture = picture_of c.args.core.now in
+    let old : Picture g.M.Levels.mode = picture_of c.args.core.now in
     let is = ap frame_of c.entry_at-entry.ensures in
     let some : entry old c.args.pid c.args.page ≢ 0 = λ none. c.if-to_u64-ne0.true (c.to_u64.ensures ∙ c.entry_at-entry.ensures ∙ none) in
     let low = used_inside old.frames (frame_of (entry old c.args.pid c.args.page)) c.args.core.now.sound
@@ -42,14 +42,14 @@ returns-then-to_u64-ne0-clause-proceeds g c =
 
 pub returns-then-to_u64-ne0-clause-brings : goal.returns-then-to_u64-ne0-clause-brings
 returns-then-to_u64-ne0-clause-brings g c kept =
-    let old : Picture = picture_of c.args.core.now in
+    let old : Picture g.M.Levels.mode = picture_of c.args.core.now in
     let files = c.regrant.ensures.files in
     brings_none g.D.SectorDisk c.args.core.now.store.disk c.regrant.new.core.store.disk (ShowsFile old c.args.pid c.args.page) old (picture_of c.regrant.new.core) files.held files.files
 
 pub returns-then-to_u64-ne0-clause-entered : goal.returns-then-to_u64-ne0-clause-entered
 returns-then-to_u64-ne0-clause-entered g c =
-    let old : Picture = picture_of c.args.core.now in
-    let new : Picture = picture_of c.regrant.new.core in
+    let old : Picture g.M.Levels.mode = picture_of c.args.core.now in
+    let new : Picture g.M.Levels.mode = picture_of c.regrant.new.core in
     let enters = c.regrant.ensures.enters in
     let P : ℕ → Type 0 = λ x. IsEntered new c.args.pid c.args.page c.args.attr c.args.access x in
     subst P (sym (c.frame_number.ensures ∙ ap frame_of c.entry_at-entry.ensures))
@@ -58,8 +58,8 @@ returns-then-to_u64-ne0-clause-entered g c =
 
 pub returns-then-to_u64-ne0-clause-ready : goal.returns-then-to_u64-ne0-clause-ready
 returns-then-to_u64-ne0-clause-ready g c =
-    let old : Picture = picture_of c.args.core.now in
-    let new : Picture = picture_of c.regrant.new.core in
+    let old : Picture g.M.Levels.mode = picture_of c.args.core.now in
+    let new : Picture g.M.Levels.mode = picture_of c.regrant.new.core in
     let enters = c.regrant.ensures.enters in
     let P : ℕ → Type 0 = λ x. IsReadyAt old new c.args.pid c.args.page c.args.attr c.args.access x in
     subst P (sym (c.frame_number.ensures ∙ ap frame_of c.entry_at-entry.ensures))
@@ -80,22 +80,22 @@ returns-in-None-clause-proceeds g c =
 
 pub returns-in-None-clause-brings : goal.returns-in-None-clause-brings
 returns-in-None-clause-brings g c kept =
-    let old : Picture = picture_of c.args.core.now in
+    let old : Picture g.M.Levels.mode = picture_of c.args.core.now in
     let files = c.show_zero.ensures.files in
     brings_none g.D.SectorDisk c.args.core.now.store.disk c.show_zero.new.core.store.disk (ShowsFile old c.args.pid c.args.page) old (picture_of c.show_zero.new.core) files.held files.files
 
 pub returns-in-None-clause-entered : goal.returns-in-None-clause-entered
 returns-in-None-clause-entered g c =
-    let old : Picture = picture_of c.args.core.now in
-    let new : Picture = picture_of c.show_zero.new.core in
+    let old : Picture g.M.Levels.mode = picture_of c.args.core.now in
+    let new : Picture g.M.Levels.mode = picture_of c.show_zero.new.core in
     let enters = c.show_zero.ensures.enters in
     (read_entered old new c.args.pid c.args.page c.args.attr c.args.access 0 _ _ _ enters.fit c.show_zero.new.core.sound c.requires.allowed.mapped
     (enters.spaces.at c.args.pid c.args.page ∙ c.requires.allowed.mapped) (record { views = enters.views; touched = c.show_zero.ensures.files.touched }) c.show_zero.ensures.entry c.requires.reads c.requires.allowed.lets)
 
 pub returns-in-None-clause-ready : goal.returns-in-None-clause-ready
 returns-in-None-clause-ready g c =
-    let old : Picture = picture_of c.args.core.now in
-    let new : Picture = picture_of c.show_zero.new.core in
+    let old : Picture g.M.Levels.mode = picture_of c.args.core.now in
+    let new : Picture g.M.Levels.mode = picture_of c.show_zero.new.core in
     let enters = c.show_zero.ensures.enters in
     (read_ready old new c.args.pid c.args.page c.args.attr c.args.access 0 _ _ _ enters.fit c.show_zero.new.core.sound c.requires.allowed.mapped
     (enters.spaces.at c.args.pid c.args.page ∙ c.requires.allowed.mapped) (record { views = enters.views; touched = c.show_zero.ensures.files.touched }) c.show_zero.ensures.entry c.requires.reads c.requires.allowed.lets)
@@ -116,14 +116,14 @@ cached-requires-clause-inside g c =
 
 pub returns-in_err-frame-in-Some-clause-brings : goal.returns-in_err-frame-in-Some-clause-brings
 returns-in_err-frame-in-Some-clause-brings g c =
-    let old : Picture = picture_of c.args.core.now in
+    let old : Picture g.M.Levels.mode = picture_of c.args.core.now in
     let none = seat_zero _ (sym c.entry_at-entry.ensures ∙ sym c.to_u64.ensures ∙ c.if-to_u64-ne0.false) in
     let shows = shows_file old c.args.pid c.args.page c.args.attr c.in-Some.stored c.requires.allowed.mapped (sym c.stands_on.ensures ∙ c.in-Some.is) none in
     brings_wider c.args.core.now c.cached.new.core c.args.pid c.args.page c.in-Some.stored shows g.D.SectorDisk g.E.SectorDisk c.in_err-frame-in-Some.ensures.brings
 
 pub returns-in_err-frame-in-Some-clause-calm : goal.returns-in_err-frame-in-Some-clause-calm
 returns-in_err-frame-in-Some-clause-calm g c unwanted =
-    let old : Picture = picture_of c.args.core.now in
+    let old : Picture g.M.Levels.mode = picture_of c.args.core.now in
     let none = seat_zero _ (sym c.entry_at-entry.ensures ∙ sym c.to_u64.ensures ∙ c.if-to_u64-ne0.false) in
     let shows = shows_file old c.args.pid c.args.page c.args.attr c.in-Some.stored c.requires.allowed.mapped (sym c.stands_on.ensures ∙ c.in-Some.is) none in
     let there = page_there old c.args.pid c.args.page c.args.access c.in-Some.stored shows unwanted in
@@ -131,14 +131,14 @@ returns-in_err-frame-in-Some-clause-calm g c unwanted =
 
 pub returns-in_err-frame-in-Some-clause-read : goal.returns-in_err-frame-in-Some-clause-read
 returns-in_err-frame-in-Some-clause-read g c =
-    let old : Picture = picture_of c.args.core.now in
+    let old : Picture g.M.Levels.mode = picture_of c.args.core.now in
     let none = seat_zero _ (sym c.entry_at-entry.ensures ∙ sym c.to_u64.ensures ∙ c.if-to_u64-ne0.false) in
     let shows = shows_file old c.args.pid c.args.page c.args.attr c.in-Some.stored c.requires.allowed.mapped (sym c.stands_on.ensures ∙ c.in-Some.is) none in
     read_then c.args.core.now c.cached.new.core c.args.pid c.args.page c.in-Some.stored shows c.cached.new.core.store c.requires.linked.fit refl c.in_err-frame-in-Some.ensures.read
 
 pub returns-in_err-frame-in-Some-clause-stalled : goal.returns-in_err-frame-in-Some-clause-stalled
 returns-in_err-frame-in-Some-clause-stalled g c =
-    let old : Picture = picture_of c.args.core.now in
+    let old : Picture g.M.Levels.mode = picture_of c.args.core.now in
     let none = seat_zero _ (sym c.entry_at-entry.ensures ∙ sym c.to_u64.ensures ∙ c.if-to_u64-ne0.false) in
     let shows = shows_file old c.args.pid c.args.page c.args.attr c.in-Some.stored c.requires.allowed.mapped (sym c.stands_on.ensures ∙ c.in-Some.is) none in
     let done = c.in_err-frame-in-Some.ensures in
@@ -176,7 +176,7 @@ returns-in_ok-frame-in-Some-clause-proceeds g c =
 
 pub returns-in_ok-frame-in-Some-clause-brings : goal.returns-in_ok-frame-in-Some-clause-brings
 returns-in_ok-frame-in-Some-clause-brings g c =
-    let old : Picture = picture_of c.args.core.now in
+    let old : Picture g.M.Levels.mode = picture_of c.args.core.now in
     let none = seat_zero _ (sym c.entry_at-entry.ensures ∙ sym c.to_u64.ensures ∙ c.if-to_u64-ne0.false) in
     let shows = shows_file old c.args.pid c.args.page c.args.attr c.in-Some.stored c.requires.allowed.mapped (sym c.stands_on.ensures ∙ c.in-Some.is) none in
     let first = c.in_ok-frame-in-Some.ensures in
@@ -187,9 +187,9 @@ returns-in_ok-frame-in-Some-clause-brings g c =
 
 pub returns-in_ok-frame-in-Some-clause-entered : goal.returns-in_ok-frame-in-Some-clause-entered
 returns-in_ok-frame-in-Some-clause-entered g c =
-    let old : Picture = picture_of c.args.core.now in
-    let mid : Picture = picture_of c.cached.new.core in
-    let new : Picture = picture_of c.show_cached.new.core in
+    let old : Picture g.M.Levels.mode = picture_of c.args.core.now in
+    let mid : Picture g.M.Levels.mode = picture_of c.cached.new.core in
+    let new : Picture g.M.Levels.mode = picture_of c.show_cached.new.core in
     let first = c.in_ok-frame-in-Some.ensures in
     let enters = c.show_cached.ensures.enters in
     read_entered old new c.args.pid c.args.page c.args.attr c.args.access c.in_ok-frame-in-Some.frame.0 _ _ _ enters.fit c.show_cached.new.core.sound c.requires.allowed.mapped
@@ -198,9 +198,9 @@ returns-in_ok-frame-in-Some-clause-entered g c =
 
 pub returns-in_ok-frame-in-Some-clause-ready : goal.returns-in_ok-frame-in-Some-clause-ready
 returns-in_ok-frame-in-Some-clause-ready g c =
-    let old : Picture = picture_of c.args.core.now in
-    let mid : Picture = picture_of c.cached.new.core in
-    let new : Picture = picture_of c.show_cached.new.core in
+    let old : Picture g.M.Levels.mode = picture_of c.args.core.now in
+    let mid : Picture g.M.Levels.mode = picture_of c.cached.new.core in
+    let new : Picture g.M.Levels.mode = picture_of c.show_cached.new.core in
     let first = c.in_ok-frame-in-Some.ensures in
     let enters = c.show_cached.ensures.enters in
     read_ready old new c.args.pid c.args.page c.args.attr c.args.access c.in_ok-frame-in-Some.frame.0 _ _ _ enters.fit c.show_cached.new.core.sound c.requires.allowed.mapped
@@ -209,7 +209,7 @@ returns-in_ok-frame-in-Some-clause-ready g c =
 
 pub returns-in_ok-frame-in-Some-clause-calm : goal.returns-in_ok-frame-in-Some-clause-calm
 returns-in_ok-frame-in-Some-clause-calm g c =
-    let old : Picture = picture_of c.args.core.now in
+    let old : Picture g.M.Levels.mode = picture_of c.args.core.now in
     let none = seat_zero _ (sym c.entry_at-entry.ensures ∙ sym c.to_u64.ensures ∙ c.if-to_u64-ne0.false) in
     let shows = shows_file old c.args.pid c.args.page c.args.attr c.in-Some.stored c.requires.allowed.mapped (sym c.stands_on.ensures ∙ c.in-Some.is) none in
     calm_then c.args.core.now c.cached.new.core c.args.pid c.args.page c.in-Some.stored shows (λ n at. (c.in_ok-frame-in-Some.ensures.idle n at).0) c.show_cached.new.core c.args.access
@@ -217,7 +217,7 @@ returns-in_ok-frame-in-Some-clause-calm g c =
 
 pub returns-in_ok-frame-in-Some-clause-read : goal.returns-in_ok-frame-in-Some-clause-read
 returns-in_ok-frame-in-Some-clause-read g c =
-    let old : Picture = picture_of c.args.core.now in
+    let old : Picture g.M.Levels.mode = picture_of c.args.core.now in
     let none = seat_zero _ (sym c.entry_at-entry.ensures ∙ sym c.to_u64.ensures ∙ c.if-to_u64-ne0.false) in
     let shows = shows_file old c.args.pid c.args.page c.args.attr c.in-Some.stored c.requires.allowed.mapped (sym c.stands_on.ensures ∙ c.in-Some.is) none in
     read_then c.args.core.now c.cached.new.core c.args.pid c.args.page c.in-Some.stored shows c.show_cached.new.core.store c.requires.linked.fit c.show_cached.ensures.enters.calm.store
@@ -250,14 +250,14 @@ returns-in-None-clause-slotted g c =
 
 pub returns-in_err-frame-in-Some-clause-slotted : goal.returns-in_err-frame-in-Some-clause-slotted
 returns-in_err-frame-in-Some-clause-slotted g c =
-    let old : Picture = picture_of c.args.core.now in
+    let old : Picture g.M.Levels.mode = picture_of c.args.core.now in
     let none = seat_zero _ (sym c.entry_at-entry.ensures ∙ sym c.to_u64.ensures ∙ c.if-to_u64-ne0.false) in
     let shows = shows_file old c.args.pid c.args.page c.args.attr c.in-Some.stored c.requires.allowed.mapped (sym c.stands_on.ensures ∙ c.in-Some.is) none in
     slotted_brought old (picture_of c.cached.new.core) c.args.pid c.args.page c.in-Some.stored shows c.in_err-frame-in-Some.ensures.slotted
 
 pub returns-in_ok-frame-in-Some-clause-slotted : goal.returns-in_ok-frame-in-Some-clause-slotted
 returns-in_ok-frame-in-Some-clause-slotted g c =
-    let old : Picture = picture_of c.args.core.now in
+    let old : Picture g.M.Levels.mode = picture_of c.args.core.now in
     let none = seat_zero _ (sym c.entry_at-entry.ensures ∙ sym c.to_u64.ensures ∙ c.if-to_u64-ne0.false) in
     let shows = shows_file old c.args.pid c.args.page c.args.attr c.in-Some.stored c.requires.allowed.mapped (sym c.stands_on.ensures ∙ c.in-Some.is) none in
     slotted_on old (picture_of c.cached.new.core) c.args.pid c.args.page (picture_of c.show_cached.new.core) c.in-Some.stored shows c.in_ok-frame-in-Some.ensures.slotted

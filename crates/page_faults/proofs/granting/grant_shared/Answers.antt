@@ -16,7 +16,7 @@ use Rattle.page_faults.proofs.granting.grant_shared.Goals as goal
 
 pub returns-clause-calm : goal.returns-clause-calm
 returns-clause-calm g c =
-    let old : Picture = picture_of c.args.core.now in
+    let old : Picture g.M.Levels.mode = picture_of c.args.core.now in
     let none = shared_none old c.args.pid c.args.page c.args.attr c.requires.linked.fit.granting c.requires.allowed.mapped
     (mapped_page old c.args.pid c.args.page c.args.attr c.requires.linked.fit.granting c.requires.allowed.mapped) c.requires.shared in
     let shows = shows_file old c.args.pid c.args.page c.args.attr c.args.stored c.requires.allowed.mapped c.requires.stands none in
@@ -29,7 +29,7 @@ cached-requires-clause-inside g c =
 
 pub returns-in_err-frame-clause-brings : goal.returns-in_err-frame-clause-brings
 returns-in_err-frame-clause-brings g c =
-    let old : Picture = picture_of c.args.core.now in
+    let old : Picture g.M.Levels.mode = picture_of c.args.core.now in
     let none = shared_none old c.args.pid c.args.page c.args.attr c.requires.linked.fit.granting c.requires.allowed.mapped
     (mapped_page old c.args.pid c.args.page c.args.attr c.requires.linked.fit.granting c.requires.allowed.mapped) c.requires.shared in
     let shows = shows_file old c.args.pid c.args.page c.args.attr c.args.stored c.requires.allowed.mapped c.requires.stands none in
@@ -37,7 +37,7 @@ returns-in_err-frame-clause-brings g c =
 
 pub returns-in_err-frame-clause-calm : goal.returns-in_err-frame-clause-calm
 returns-in_err-frame-clause-calm g c unwanted =
-    let old : Picture = picture_of c.args.core.now in
+    let old : Picture g.M.Levels.mode = picture_of c.args.core.now in
     let none = shared_none old c.args.pid c.args.page c.args.attr c.requires.linked.fit.granting c.requires.allowed.mapped
     (mapped_page old c.args.pid c.args.page c.args.attr c.requires.linked.fit.granting c.requires.allowed.mapped) c.requires.shared in
     let shows = shows_file old c.args.pid c.args.page c.args.attr c.args.stored c.requires.allowed.mapped c.requires.stands none in
@@ -46,7 +46,7 @@ returns-in_err-frame-clause-calm g c unwanted =
 
 pub returns-in_err-frame-clause-read : goal.returns-in_err-frame-clause-read
 returns-in_err-frame-clause-read g c =
-    let old : Picture = picture_of c.args.core.now in
+    let old : Picture g.M.Levels.mode = picture_of c.args.core.now in
     let none = shared_none old c.args.pid c.args.page c.args.attr c.requires.linked.fit.granting c.requires.allowed.mapped
     (mapped_page old c.args.pid c.args.page c.args.attr c.requires.linked.fit.granting c.requires.allowed.mapped) c.requires.shared in
     let shows = shows_file old c.args.pid c.args.page c.args.attr c.args.stored c.requires.allowed.mapped c.requires.stands none in
@@ -54,7 +54,7 @@ returns-in_err-frame-clause-read g c =
 
 pub returns-in_err-frame-clause-stalled : goal.returns-in_err-frame-clause-stalled
 returns-in_err-frame-clause-stalled g c =
-    let old : Picture = picture_of c.args.core.now in
+    let old : Picture g.M.Levels.mode = picture_of c.args.core.now in
     let none = shared_none old c.args.pid c.args.page c.args.attr c.requires.linked.fit.granting c.requires.allowed.mapped
     (mapped_page old c.args.pid c.args.page c.args.attr c.requires.linked.fit.granting c.requires.allowed.mapped) c.requires.shared in
     let shows = shows_file old c.args.pid c.args.page c.args.attr c.args.stored c.requires.allowed.mapped c.requires.stands none in
@@ -82,7 +82,7 @@ returns-clause-proceeds g c =
 
 pub returns-clause-brings : goal.returns-clause-brings
 returns-clause-brings g c =
-    let old : Picture = picture_of c.args.core.now in
+    let old : Picture g.M.Levels.mode = picture_of c.args.core.now in
     let none = shared_none old c.args.pid c.args.page c.args.attr c.requires.linked.fit.granting c.requires.allowed.mapped
     (mapped_page old c.args.pid c.args.page c.args.attr c.requires.linked.fit.granting c.requires.allowed.mapped) c.requires.shared in
     let shows = shows_file old c.args.pid c.args.page c.args.attr c.args.stored c.requires.allowed.mapped c.requires.stands none in
@@ -94,9 +94,9 @@ returns-clause-brings g c =
 
 pub returns-clause-ready : goal.returns-clause-ready
 returns-clause-ready g c =
-    let old : Picture = picture_of c.args.core.now in
-    let mid : Picture = picture_of c.cached.new.core in
-    let new : Picture = picture_of c.touch.new.core in
+    let old : Picture g.M.Levels.mode = picture_of c.args.core.now in
+    let mid : Picture g.M.Levels.mode = picture_of c.cached.new.core in
+    let new : Picture g.M.Levels.mode = picture_of c.touch.new.core in
     let first = c.in_ok-frame.ensures in
     let enters = c.touch.ensures.enters in
     let now = enters.spaces.at c.args.pid c.args.page ∙ first.proceeds.spaces.at c.args.pid c.args.page ∙ c.requires.allowed.mapped in
@@ -107,9 +107,9 @@ returns-clause-ready g c =
 
 pub returns-clause-entered : goal.returns-clause-entered
 returns-clause-entered g c =
-    let old : Picture = picture_of c.args.core.now in
-    let mid : Picture = picture_of c.cached.new.core in
-    let new : Picture = picture_of c.touch.new.core in
+    let old : Picture g.M.Levels.mode = picture_of c.args.core.now in
+    let mid : Picture g.M.Levels.mode = picture_of c.cached.new.core in
+    let new : Picture g.M.Levels.mode = picture_of c.touch.new.core in
     let first = c.in_ok-frame.ensures in
     let enters = c.touch.ensures.enters in
     let now = enters.spaces.at c.args.pid c.args.page ∙ first.proceeds.spaces.at c.args.pid c.args.page ∙ c.requires.allowed.mapped in
@@ -122,7 +122,7 @@ returns-clause-entered g c =
 
 pub returns-clause-read : goal.returns-clause-read
 returns-clause-read g c =
-    let old : Picture = picture_of c.args.core.now in
+    let old : Picture g.M.Levels.mode = picture_of c.args.core.now in
     let none = shared_none old c.args.pid c.args.page c.args.attr c.requires.linked.fit.granting c.requires.allowed.mapped
     (mapped_page old c.args.pid c.args.page c.args.attr c.requires.linked.fit.granting c.requires.allowed.mapped) c.requires.shared in
     let shows = shows_file old c.args.pid c.args.page c.args.attr c.args.stored c.requires.allowed.mapped c.requires.stands none in
@@ -141,7 +141,7 @@ returns-clause-others g c = λ q k other. c.touch.ensures.enters.views q k ∙ c
 
 pub returns-in_err-frame-clause-slotted : goal.returns-in_err-frame-clause-slotted
 returns-in_err-frame-clause-slotted g c =
-    let old : Picture = picture_of c.args.core.now in
+    let old : Picture g.M.Levels.mode = picture_of c.args.core.now in
     let none = shared_none old c.args.pid c.args.page c.args.attr c.requires.linked.fit.granting c.requires.allowed.mapped
     (mapped_page old c.args.pid c.args.page c.args.attr c.requires.linked.fit.granting c.requires.allowed.mapped) c.requires.shared in
     let shows = shows_file old c.args.pid c.args.page c.args.attr c.args.stored c.requires.allowed.mapped c.requires.stands none in
@@ -149,7 +149,7 @@ returns-in_err-frame-clause-slotted g c =
 
 pub returns-clause-slotted : goal.returns-clause-slotted
 returns-clause-slotted g c =
-    let old : Picture = picture_of c.args.core.now in
+    let old : Picture g.M.Levels.mode = picture_of c.args.core.now in
     let none = shared_none old c.args.pid c.args.page c.args.attr c.requires.linked.fit.granting c.requires.allowed.mapped
     (mapped_page old c.args.pid c.args.page c.args.attr c.requires.linked.fit.granting c.requires.allowed.mapped) c.requires.shared in
     let shows = shows_file old c.args.pid c.args.page c.args.attr c.args.stored c.requires.allowed.mapped c.requires.stands none in

@@ -1,87 +1,142 @@
-use Rattle.std.proofs.Common.{◌≡◌, ◌≢◌, ℕ, ◌+◌, ◌*◌, ◌/◌, ◌≤◌, ◌<◌, Some, sym, ◌∙◌, ap, arith}
-use Rattle.frames.specs.FrameTable.{FrameTable}
+use Rattle.vm_types.specs.Limits.{top_level}
+use Rattle.vm_types.proofs.Modes.{sizes}
+use Rattle.std.proofs.Common.{◌≡◌, ◌≢◌, ℕ, ◌+◌, ◌*◌, ◌/◌, ◌^◌, ◌≤◌, ◌<◌, Some, inr, sym, ap, ◌∙◌, subst, arith}
+use Rattle.std.specs.Prelude.{min, max}
 use Rattle.page_tables.specs.Tree.{IsPage, missing_of}
+use Rattle.page_tables.proofs.Ends.{missing_of-is}
 use Rattle.page_tables.proofs.Pruning.{Prunes-refl}
 use Rattle.paging.specs.Picture.{Picture, picture_of, entry}
 use Rattle.page_ranges.proofs.ClearedPages.{same_beside, clears_none}
-use Rattle.page_ranges.proofs.Gaps.{gap_low, gap_high, in_row_of, in_middle_of, one_some, lives}
-use Rattle.page_ranges.proofs.Pruned.{fit_pruned, clears_pruned, cleared_block, cleared_far}
+use Rattle.page_ranges.proofs.Gaps.{gap_none, in_span_of, step_gap, user_inside, one_some, lives}
+use Rattle.page_ranges.proofs.Linked.{past_place}
+use Rattle.page_ranges.proofs.Pruned.{fit_pruned, clears_pruned, root_pruned, cleared_block}
 use Rattle.page_ranges.proofs.clearing.clear_next.Goals as goal
-
--- the process has one root, so as much is missing from any
-of_root : (t : FrameTable) (page a b m : ℕ) → Some a ≡ Some b → m ≡ missing_of t 2 a page → missing_of t 2 b page ≡ m
-of_root t page a b m same missing = ap (λ x. missing_of t 2 x page) (sym (one_some a b same)) ∙ sym missing
 
 pub root_of-top_table-requires : goal.root_of-top_table-requires
 root_of-top_table-requires g c = record { live = lives ((picture_of c.args.core.now).root c.args.pid) c.requires.live }
 
-pub missing_tables-requires-clause-root : goal.missing_tables-requires-clause-root
-missing_tables-requires-clause-root g c = c.requires.fit.rooted.roots c.args.pid c.root_of-top_table.result.0 c.root_of-top_table.ensures
+pub last_table-missing-requires-clause-root : goal.last_table-missing-requires-clause-root
+last_table-missing-requires-clause-root g c = c.requires.fit.rooted.roots c.args.pid c.root_of-top_table.result.0 c.root_of-top_table.ensures
 
+-- the process has one root, so as much is missing from any
 pub clear_table-requires-clause-whole : goal.clear_table-requires-clause-whole
 clear_table-requires-clause-whole g c r root =
-    of_root c.args.core.now.frames c.args.start c.root_of-top_table.result.0 r c.missing_tables.result (sym c.root_of-top_table.ensures ∙ root) c.missing_tables.ensures.missing
-    ∙ c.in-0.is
+    let t = c.args.core.now.frames in
+    let is = one_some c.root_of-top_table.result.0 r (sym c.root_of-top_table.ensures ∙ root) in
+    ap (λ x. missing_of t (top_level g.M.Levels.mode) x c.args.start) (sym is) ∙ missing_of-is t (top_level g.M.Levels.mode) c.root_of-top_table.result.0 c.args.start
+    ∙ sym (ap (λ x. x.0) c.last_table-missing.ensures.last) ∙ c.if-missing-eq0.true
 
 pub prune-requires-clause-root : goal.prune-requires-clause-root
 prune-requires-clause-root g c = c.requires.fit.rooted.roots c.args.pid c.root_of-top_table.result.0 c.root_of-top_table.ensures
 
-pub returns-in-1-clause-fit : goal.returns-in-1-clause-fit
-returns-in-1-clause-fit g c =
-    let old : Picture = picture_of c.args.core.now in
-    let new : Picture = record old { frames = c.prune.new.memory } in
+pub span_end-requires : goal.span_end-requires
+span_end-requires g c = let levels = (sizes g.M.Levels.mode).levels.1 in omega (arith, c.last_table-missing.ensures.range, levels)
+
+pub returns-clause-fit : goal.returns-clause-fit
+returns-clause-fit g c =
+    let old : Picture g.M.Levels.mode = picture_of c.args.core.now in
+    let new : Picture g.M.Levels.mode = record old { frames = c.prune.new.memory } in
     fit_pruned old new c.args.pid c.root_of-top_table.result.0 _ c.requires.fit c.args.core.now.sound c.root_of-top_table.ensures c.prune.ensures.prunes (same_beside old c.prune.new.memory)
 
--- where the lowest table is missing, no page of its row has an entry
-no_row : (c : Picture) (pid r start end stop : ℕ) → c.root pid ≡ Some r → missing_of c.frames 2 r start ≢ 0 → stop ≤ end → end ≡ (start / 512 + 1) * 512
-    → (page : ℕ) → IsPage 2 page → start ≤ page → page < stop → entry c pid page ≡ 0
-no_row c pid r start end stop root some le is page h from below = gap_low c pid r start page root some (sym (in_row_of start page stop end from below le is))
+-- in the place of a missing table no page has an entry
+none_there : {mode : ℕ} (c : Picture mode) (pid r start end stop k : ℕ) → c.root pid ≡ Some r → missing_of c.frames (top_level mode) r start ≡ k → k ≢ 0
+    → stop ≤ end → end ≡ (start / 512 ^ k + 1) * 512 ^ k → (page : ℕ) → IsPage (top_level mode) page → start ≤ page → page < stop → entry c pid page ≡ 0
+none_there c pid r start end stop k root missing some le is page h from below =
+    gap_none c pid r root k start page missing some (sym (in_span_of start page stop end k from below le is))
 
--- and where the one above is missing too, none of its pages
-no_block : (c : Picture) (pid r start end stop : ℕ) → c.root pid ≡ Some r → missing_of c.frames 2 r start ≡ 2 → stop ≤ end → end ≡ (start / 262144 + 1) * 262144
-    → (page : ℕ) → IsPage 2 page → start ≤ page → page < stop → entry c pid page ≡ 0
-no_block c pid r start end stop root two le is page h from below = gap_high c pid r start page root two (sym (in_middle_of start page stop end from below le is))
-
-pub returns-in-1-clause-clears : goal.returns-in-1-clause-clears
-returns-in-1-clause-clears g c =
-    let old : Picture = picture_of c.args.core.now in
-    let new : Picture = record old { frames = c.prune.new.memory } in
-    let some : c.missing_tables.result ≢ 0 = λ e. omega (arith, c.in-1.is, e) in
-    clears_pruned old new c.args.pid c.root_of-top_table.result.0 _ c.requires.fit c.args.core.now.sound c.root_of-top_table.ensures c.prune.ensures.prunes (same_beside old c.prune.new.memory)
-    c.args.start c.min.result
-    (no_row old c.args.pid c.root_of-top_table.result.0 c.args.start c.table_end-in-1.result c.min.result c.root_of-top_table.ensures (λ e. some (c.missing_tables.ensures.missing ∙ e))
-    (omega (arith, c.min.ensures)) c.table_end-in-1.ensures)
-
-pub returns-in-1-clause-cleared : goal.returns-in-1-clause-cleared
-returns-in-1-clause-cleared g c low le cleared =
-    let old : Picture = picture_of c.args.core.now in
-    let new : Picture = record old { frames = c.prune.new.memory } in
-    let some : c.missing_tables.result ≢ 0 = λ e. omega (arith, c.in-1.is, e) in
-    let within : c.min.result ≤ c.table_end-in-1.result = omega (arith, c.min.ensures) in
-    cleared_block old new c.args.pid c.root_of-top_table.result.0 c.args.start c.requires.fit c.args.core.now.sound c.root_of-top_table.ensures c.prune.ensures.prunes
-    (same_beside old c.prune.new.memory) low c.min.result le cleared
-    (no_row old c.args.pid c.root_of-top_table.result.0 c.args.start c.table_end-in-1.result c.min.result c.root_of-top_table.ensures (λ e. some (c.missing_tables.ensures.missing ∙ e))
-    within c.table_end-in-1.ensures)
-    c.prune.ensures.pruned
-    (λ p from below. in_row_of c.args.start p c.min.result c.table_end-in-1.result from below within c.table_end-in-1.ensures)
-
-pub returns-in_default-clause-clears : goal.returns-in_default-clause-clears
-returns-in_default-clause-clears g c =
-    let old : Picture = picture_of c.args.core.now in
-    let two : c.missing_tables.result ≡ 2 = omega (arith, c.missing_tables.ensures.range) in
-    clears_none old c.args.pid c.args.start c.min-in_default.result
-    (no_block old c.args.pid c.root_of-top_table.result.0 c.args.start c.middle_end.result c.min-in_default.result c.root_of-top_table.ensures (sym c.missing_tables.ensures.missing ∙ two)
-    (omega (arith, c.min-in_default.ensures)) c.middle_end.ensures)
-
--- nothing is pruned there, so the tables are those that there were
-pub returns-in_default-clause-cleared : goal.returns-in_default-clause-cleared
-returns-in_default-clause-cleared g c low le cleared =
-    let old : Picture = picture_of c.args.core.now in
+-- nothing is given back where all tables but the root are missing
+pub returns-then-missing-top_level-clause-clears : goal.returns-then-missing-top_level-clause-clears
+returns-then-missing-top_level-clause-clears g c =
+    let old : Picture g.M.Levels.mode = picture_of c.args.core.now in
     let r = c.root_of-top_table.result.0 in
-    let two : c.missing_tables.result ≡ 2 = omega (arith, c.missing_tables.ensures.range) in
-    let both = sym c.missing_tables.ensures.missing ∙ two in
-    let within : c.min-in_default.result ≤ c.middle_end.result = omega (arith, c.min-in_default.ensures) in
-    cleared_far old old c.args.pid r c.args.start c.requires.fit c.args.core.now.sound c.root_of-top_table.ensures
-    (Prunes-refl c.args.core.now.frames 2 r c.args.start c.requires.fit.rooted.forest) (same_beside old c.args.core.now.frames) low c.min-in_default.result le cleared
-    (no_block old c.args.pid r c.args.start c.middle_end.result c.min-in_default.result c.root_of-top_table.ensures both within c.middle_end.ensures) both
-    (λ p from below. in_middle_of c.args.start p c.min-in_default.result c.middle_end.result from below within c.middle_end.ensures)
+    let missing = missing_of-is c.args.core.now.frames (top_level g.M.Levels.mode) r c.args.start ∙ sym (ap (λ x. x.0) c.last_table-missing.ensures.last) in
+    clears_none old c.args.pid c.args.start c.min-stop-2.result
+    (none_there old c.args.pid r c.args.start c.span_end.result c.min-stop-2.result c.last_table-missing.result.0 c.root_of-top_table.ensures missing c.if-missing-eq0.false
+    (omega (arith, c.min-stop-2.ensures)) c.span_end.ensures)
+
+pub returns-clause-clears : goal.returns-clause-clears
+returns-clause-clears g c =
+    let old : Picture g.M.Levels.mode = picture_of c.args.core.now in
+    let new : Picture g.M.Levels.mode = record old { frames = c.prune.new.memory } in
+    let r = c.root_of-top_table.result.0 in
+    let missing = missing_of-is c.args.core.now.frames (top_level g.M.Levels.mode) r c.args.start ∙ sym (ap (λ x. x.0) c.last_table-missing.ensures.last) in
+    clears_pruned old new c.args.pid r _ c.requires.fit c.args.core.now.sound c.root_of-top_table.ensures c.prune.ensures.prunes (same_beside old c.prune.new.memory)
+    c.args.start c.min-stop-2.result
+    (none_there old c.args.pid r c.args.start c.span_end.result c.min-stop-2.result c.last_table-missing.result.0 c.root_of-top_table.ensures missing c.if-missing-eq0.false
+    (omega (arith, c.min-stop-2.ensures)) c.span_end.ensures)
+
+pub returns-clause-cleared : goal.returns-clause-cleared
+returns-clause-cleared g c low le cleared =
+    let old : Picture g.M.Levels.mode = picture_of c.args.core.now in
+    let new : Picture g.M.Levels.mode = record old { frames = c.prune.new.memory } in
+    let r = c.root_of-top_table.result.0 in
+    let k = c.last_table-missing.result.0 in
+    let missing = missing_of-is c.args.core.now.frames (top_level g.M.Levels.mode) r c.args.start ∙ sym (ap (λ x. x.0) c.last_table-missing.ensures.last) in
+    let within : c.min-stop-2.result ≤ c.span_end.result = omega (arith, c.min-stop-2.ensures) in
+    cleared_block old new c.args.pid r c.args.start c.requires.fit c.args.core.now.sound c.root_of-top_table.ensures c.prune.ensures.prunes
+    (same_beside old c.prune.new.memory) low c.min-stop-2.result le cleared
+    (none_there old c.args.pid r c.args.start c.span_end.result c.min-stop-2.result k c.root_of-top_table.ensures missing c.if-missing-eq0.false within c.span_end.ensures)
+    c.prune.ensures.pruned (user_inside g.M.Levels.mode c.args.start c.args.end c.requires.some c.requires.high)
+    k (omega (arith, c.if-missing-eq0.false)) (inr (sym missing))
+    (λ p from below. in_span_of c.args.start p c.min-stop-2.result c.span_end.result k from below within c.span_end.ensures)
+
+pub returns-then-missing-top_level-clause-cleared : goal.returns-then-missing-top_level-clause-cleared
+returns-then-missing-top_level-clause-cleared g c low le cleared =
+    let old : Picture g.M.Levels.mode = picture_of c.args.core.now in
+    let t = c.args.core.now.frames in
+    let r = c.root_of-top_table.result.0 in
+    let k = c.last_table-missing.result.0 in
+    let missing = missing_of-is t (top_level g.M.Levels.mode) r c.args.start ∙ sym (ap (λ x. x.0) c.last_table-missing.ensures.last) in
+    let within : c.min-stop-2.result ≤ c.span_end.result = omega (arith, c.min-stop-2.ensures) in
+    cleared_block old old c.args.pid r c.args.start c.requires.fit c.args.core.now.sound c.root_of-top_table.ensures
+    (Prunes-refl t (top_level g.M.Levels.mode) r c.args.start c.requires.fit.rooted.forest) (same_beside old t) low c.min-stop-2.result le cleared
+    (none_there old c.args.pid r c.args.start c.span_end.result c.min-stop-2.result k c.root_of-top_table.ensures missing c.if-missing-eq0.false within c.span_end.ensures)
+    (root_pruned t (top_level g.M.Levels.mode) r c.args.start c.requires.fit.rooted.forest (c.requires.fit.rooted.roots c.args.pid r c.root_of-top_table.ensures).table
+    (missing ∙ c.if-missing-top_level.true ∙ c.top_level.ensures.level))
+    (user_inside g.M.Levels.mode c.args.start c.args.end c.requires.some c.requires.high)
+    k (omega (arith, c.if-missing-eq0.false)) (inr (sym missing))
+    (λ p from below. in_span_of c.args.start p c.min-stop-2.result c.span_end.result k from below within c.span_end.ensures)
+
+-- where a step ends, by what is missing on the way to the page that it begins with
+end_whole : (page end next gap m : ℕ) → m ≡ 0 → gap ≡ (page / 512 + 1) * 512 → next ≡ min end gap → next ≡ min end ((page / 512 ^ max 1 m + 1) * 512 ^ max 1 m)
+end_whole page end next gap m none past is =
+    let P : ℕ → Type 0 = λ x. next ≡ min end ((page / 512 ^ max 1 x + 1) * 512 ^ max 1 x) in
+    subst P (sym none) (is ∙ ap (min end) past)
+
+end_gap : (page end next gap m k : ℕ) → m ≡ k → k ≢ 0 → gap ≡ (page / 512 ^ k + 1) * 512 ^ k → next ≡ min end gap → next ≡ min end ((page / 512 ^ max 1 m + 1) * 512 ^ max 1 m)
+end_gap page end next gap m k same some past is =
+    let P : ℕ → Type 0 = λ x. next ≡ min end ((page / 512 ^ max 1 x + 1) * 512 ^ max 1 x) in
+    subst P (sym same) (step_gap page end next gap k some past is)
+
+pub returns-then-missing-eq0-clause-ends : goal.returns-then-missing-eq0-clause-ends
+returns-then-missing-eq0-clause-ends g c r root =
+    let t = c.args.core.now.frames in
+    let is = one_some c.root_of-top_table.result.0 r (sym c.root_of-top_table.ensures ∙ root) in
+    let missing = missing_of-is t (top_level g.M.Levels.mode) c.root_of-top_table.result.0 c.args.start ∙ sym (ap (λ x. x.0) c.last_table-missing.ensures.last) in
+    end_whole c.args.start c.args.end c.min-stop.result c.table_end.result (missing_of t (top_level g.M.Levels.mode) r c.args.start)
+    (ap (λ x. missing_of t (top_level g.M.Levels.mode) x c.args.start) (sym is) ∙ missing ∙ c.if-missing-eq0.true) c.table_end.ensures c.min-stop.ensures
+
+pub returns-clause-ends : goal.returns-clause-ends
+returns-clause-ends g c r root =
+    let t = c.args.core.now.frames in
+    let is = one_some c.root_of-top_table.result.0 r (sym c.root_of-top_table.ensures ∙ root) in
+    let missing = missing_of-is t (top_level g.M.Levels.mode) c.root_of-top_table.result.0 c.args.start ∙ sym (ap (λ x. x.0) c.last_table-missing.ensures.last) in
+    end_gap c.args.start c.args.end c.min-stop-2.result c.span_end.result (missing_of t (top_level g.M.Levels.mode) r c.args.start) c.last_table-missing.result.0
+    (ap (λ x. missing_of t (top_level g.M.Levels.mode) x c.args.start) (sym is) ∙ missing) c.if-missing-eq0.false c.span_end.ensures c.min-stop-2.ensures
+
+pub returns-then-missing-top_level-clause-ends : goal.returns-then-missing-top_level-clause-ends
+returns-then-missing-top_level-clause-ends g c r root =
+    let t = c.args.core.now.frames in
+    let is = one_some c.root_of-top_table.result.0 r (sym c.root_of-top_table.ensures ∙ root) in
+    let missing = missing_of-is t (top_level g.M.Levels.mode) c.root_of-top_table.result.0 c.args.start ∙ sym (ap (λ x. x.0) c.last_table-missing.ensures.last) in
+    end_gap c.args.start c.args.end c.min-stop-2.result c.span_end.result (missing_of t (top_level g.M.Levels.mode) r c.args.start) c.last_table-missing.result.0
+    (ap (λ x. missing_of t (top_level g.M.Levels.mode) x c.args.start) (sym is) ∙ missing) c.if-missing-eq0.false c.span_end.ensures c.min-stop-2.ensures
+
+further : (page end next gap k : ℕ) → page < end → gap ≡ (page / 512 ^ k + 1) * 512 ^ k → next ≡ min end gap → page < next
+further page end next gap k some past is = let lt = past_place page (page / 512 ^ k + 1) k (omega arith) in omega (arith, some, past, is, lt)
+
+pub returns-clause-further : goal.returns-clause-further
+returns-clause-further g c = further c.args.start c.args.end c.min-stop-2.result c.span_end.result c.last_table-missing.result.0 c.requires.some c.span_end.ensures c.min-stop-2.ensures
+
+pub returns-then-missing-top_level-clause-further : goal.returns-then-missing-top_level-clause-further
+returns-then-missing-top_level-clause-further g c = further c.args.start c.args.end c.min-stop-2.result c.span_end.result c.last_table-missing.result.0 c.requires.some c.span_end.ensures c.min-stop-2.ensures

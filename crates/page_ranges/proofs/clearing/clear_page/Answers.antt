@@ -1,3 +1,4 @@
+use Rattle.vm_types.specs.Limits.{top_level}
 use Rattle.std.proofs.Common.{◌≡◌, ℕ, ◌+◌, ◌%◌, sym, ap, ◌∙◌, subst, arith}
 use Rattle.page_tables.specs.Entry.{IsPageEntry}
 use Rattle.page_tables.proofs.Ends.{page_is_entry}
@@ -10,7 +11,7 @@ use Rattle.page_ranges.proofs.clearing.clear_page.Goals as goal
 
 pub returns-then-to_u64-eq0-clause-clears : goal.returns-then-to_u64-eq0-clause-clears
 returns-then-to_u64-eq0-clause-clears g c =
-    let old : Picture = picture_of c.args.core.now in
+    let old : Picture g.M.Levels.mode = picture_of c.args.core.now in
     clears_none old c.args.pid c.args.page (c.args.page + 1) (λ page h from below.
     let at : page ≡ c.args.page = omega (arith, from, below) in
     ap (entry old c.args.pid) at ∙ entry-of old c.args.pid c.args.root.0 c.args.page c.requires.root
@@ -23,12 +24,12 @@ pub give_back-requires-clause-form : goal.give_back-requires-clause-form
 give_back-requires-clause-form g c =
     let is = c.number_in-number.ensures c.args.root.0 c.args.page c.requires.place (ap (λ x. x % 512) (sym c.get.ensures.number)) in
     let P : ℕ → Type 0 = λ x. IsPageEntry x in
-    subst P (sym is) (page_is_entry c.args.core.now.frames 2 c.args.root.0 c.args.page c.requires.fit.rooted.forest (c.requires.fit.rooted.roots c.args.pid c.args.root.0 c.requires.root))
+    subst P (sym is) (page_is_entry c.args.core.now.frames (top_level g.M.Levels.mode) c.args.root.0 c.args.page c.requires.fit.rooted.forest (c.requires.fit.rooted.roots c.args.pid c.args.root.0 c.requires.root))
 
 pub give_back-requires-clause-lacks : goal.give_back-requires-clause-lacks
 give_back-requires-clause-lacks g c =
-    let old : Picture = picture_of c.args.core.now in
-    let mid : Picture = record old { frames = c.set_in.new.memory } in
+    let old : Picture g.M.Levels.mode = picture_of c.args.core.now in
+    let mid : Picture g.M.Levels.mode = record old { frames = c.set_in.new.memory } in
     let at = ap (λ x. x % 512) (sym c.get.ensures.number) in
     let is : c.number_in-number.result.0 ≡ entry old c.args.pid c.args.page =
     c.number_in-number.ensures c.args.root.0 c.args.page c.requires.place at ∙ sym (entry-of old c.args.pid c.args.root.0 c.args.page c.requires.root) in
@@ -38,9 +39,9 @@ give_back-requires-clause-lacks g c =
 
 pub returns-clause-clears : goal.returns-clause-clears
 returns-clause-clears g c =
-    let old : Picture = picture_of c.args.core.now in
-    let mid : Picture = record old { frames = c.set_in.new.memory } in
-    let new : Picture = picture_of c.give_back.new.core in
+    let old : Picture g.M.Levels.mode = picture_of c.args.core.now in
+    let mid : Picture g.M.Levels.mode = record old { frames = c.set_in.new.memory } in
+    let new : Picture g.M.Levels.mode = picture_of c.give_back.new.core in
     let at = ap (λ x. x % 512) (sym c.get.ensures.number) in
     let is : c.number_in-number.result.0 ≡ entry old c.args.pid c.args.page =
     c.number_in-number.ensures c.args.root.0 c.args.page c.requires.place at ∙ sym (entry-of old c.args.pid c.args.root.0 c.args.page c.requires.root) in
@@ -51,9 +52,9 @@ returns-clause-clears g c =
 
 pub returns-clause-tables : goal.returns-clause-tables
 returns-clause-tables g c =
-    let old : Picture = picture_of c.args.core.now in
-    let mid : Picture = record old { frames = c.set_in.new.memory } in
-    let new : Picture = picture_of c.give_back.new.core in
+    let old : Picture g.M.Levels.mode = picture_of c.args.core.now in
+    let mid : Picture g.M.Levels.mode = record old { frames = c.set_in.new.memory } in
+    let new : Picture g.M.Levels.mode = picture_of c.give_back.new.core in
     let at = ap (λ x. x % 512) (sym c.get.ensures.number) in
     let is : c.number_in-number.result.0 ≡ entry old c.args.pid c.args.page =
     c.number_in-number.ensures c.args.root.0 c.args.page c.requires.place at ∙ sym (entry-of old c.args.pid c.args.root.0 c.args.page c.requires.root) in
@@ -64,9 +65,9 @@ returns-clause-tables g c =
 
 pub returns-clause-places : goal.returns-clause-places
 returns-clause-places g c =
-    let old : Picture = picture_of c.args.core.now in
-    let mid : Picture = record old { frames = c.set_in.new.memory } in
-    let new : Picture = picture_of c.give_back.new.core in
+    let old : Picture g.M.Levels.mode = picture_of c.args.core.now in
+    let mid : Picture g.M.Levels.mode = record old { frames = c.set_in.new.memory } in
+    let new : Picture g.M.Levels.mode = picture_of c.give_back.new.core in
     let at = ap (λ x. x % 512) (sym c.get.ensures.number) in
     let is : c.number_in-number.result.0 ≡ entry old c.args.pid c.args.page =
     c.number_in-number.ensures c.args.root.0 c.args.page c.requires.place at ∙ sym (entry-of old c.args.pid c.args.root.0 c.args.page c.requires.root) in

@@ -6,7 +6,7 @@ use Rattle.page_ranges.proofs.clearing.clear_part.Goals as goal
 
 pub loop-page-init : goal.loop-page-init
 loop-page-init g c =
-    let old : Picture = picture_of c.args.core.now in
+    let old : Picture g.M.Levels.mode = picture_of c.args.core.now in
     let begins = c.get-page.ensures.number in
     let below = c.requires.some in
     record {
@@ -21,9 +21,9 @@ loop-page-init g c =
 
 pub loop-page-preserved : goal.loop-page-preserved
 loop-page-preserved g c =
-    let old : Picture = picture_of c.args.core.now in
-    let mid : Picture = picture_of c.loop-page.core in
-    let new : Picture = picture_of c.clear_next-page.new.core in
+    let old : Picture g.M.Levels.mode = picture_of c.args.core.now in
+    let mid : Picture g.M.Levels.mode = picture_of c.loop-page.core in
+    let new : Picture g.M.Levels.mode = picture_of c.clear_next-page.new.core in
     let k = c.loop-page.invariant in
     let begins = k.low in
     let next = c.clear_next-page.ensures in

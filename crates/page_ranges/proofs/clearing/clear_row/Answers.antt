@@ -1,3 +1,4 @@
+use Rattle.vm_types.proofs.Modes.{sizes}
 use Rattle.std.proofs.Common.{◌≤◌, inl, inr, refl, sym, ◌∙◌, arith}
 use Rattle.paging.specs.Picture.{Picture, picture_of}
 use Rattle.page_ranges.specs.Rows.{IsUnmapped}
@@ -8,7 +9,7 @@ use Rattle.page_ranges.proofs.clearing.clear_row.Goals as goal
 
 pub loop-part-init : goal.loop-part-init
 loop-part-init g c =
-    let old : Picture = picture_of c.args.core.now in
+    let old : Picture g.M.Levels.mode = picture_of c.args.core.now in
     record {
       fit = c.requires.fit;
       low = omega arith;
@@ -21,9 +22,9 @@ loop-part-init g c =
 
 pub loop-part-preserved : goal.loop-part-preserved
 loop-part-preserved g c =
-    let old : Picture = picture_of c.args.core.now in
-    let mid : Picture = picture_of c.loop-part.core in
-    let new : Picture = picture_of c.clear_part.new.core in
+    let old : Picture g.M.Levels.mode = picture_of c.args.core.now in
+    let mid : Picture g.M.Levels.mode = picture_of c.loop-part.core in
+    let new : Picture g.M.Levels.mode = picture_of c.clear_part.new.core in
     let first = c.in-Some.part.first in
     let end = c.in-Some.part.end in
     let k = c.loop-part.invariant in
@@ -74,3 +75,6 @@ returns-clause-files g c =
     let k = c.loop-part.invariant in
     files_passed (picture_of c.args.core.now) (picture_of c.loop-part.core) c.args.pid c.args.first c.args.pages c.max-page.result c.loop-part.page c.requires.fit k.fit.granting k.clears k.cleared
     c.requires.row c.max-page.ensures k.low k.high (λ page least below. sym (c.regions.ensures page) ∙ c.in_default.ensures.none page least below)
+
+pub overflow_add-end : goal.overflow_add-end
+overflow_add-end g c = omega (arith, c.requires.row, (sizes g.M.Levels.mode).most)

@@ -1,11 +1,12 @@
-use Rattle.std.proofs.Common.{◌≡◌, ℕ, ◌+◌, ◌*◌, ◌/◌, ◌<◌, ◌≤◌, refl, sym, ap, ◌∙◌, subst, arith}
+use Rattle.vm_types.specs.Limits.{top_level}
+use Rattle.std.proofs.Common.{◌≡◌, ℕ, ◌+◌, ◌*◌, ◌/◌, ◌<◌, ◌≤◌, inl, refl, sym, ap, ◌∙◌, subst, arith}
 use Rattle.page_tables.specs.Places.{IsTableOf}
 use Rattle.page_tables.specs.Tree.{page_entry}
 use Rattle.paging.specs.Picture.{Picture, picture_of}
 use Rattle.page_ranges.specs.Steps.{Clears}
 use Rattle.page_ranges.proofs.BetweenEntries.{same_table, end_from, none_between}
 use Rattle.page_ranges.proofs.ClearedPages.{same_beside, rest-refl, rest_then, tables-refl, tables_then, clears_none, clears_then}
-use Rattle.page_ranges.proofs.Gaps.{in_row_of, lives}
+use Rattle.page_ranges.proofs.Gaps.{in_row_of, user_inside, lives}
 use Rattle.page_ranges.proofs.Pruned.{fit_pruned, clears_pruned, cleared_block, cleared_still}
 use Rattle.page_ranges.proofs.clearing.clear_table.Goals as goal
 
@@ -20,11 +21,11 @@ next_entry-page-requires-clause-table g c = c.in-Ok.ensures.found.table
 
 pub loop-page-init : goal.loop-page-init
 loop-page-init g c =
-    let old : Picture = picture_of c.args.core.now in
+    let old : Picture g.M.Levels.mode = picture_of c.args.core.now in
     let begins = c.get.ensures.number in
     let next = c.next_entry-page.ensures in
-    let P : ℕ → Type 0 = λ x. (root p : ℕ) → IsTableOf old.frames root (p / 512) c.in-Ok.table.0 → x ≤ p → p < c.next_entry-page.result
-    → page_entry old.frames 2 root p ≡ 0 in
+    let P : ℕ → Type 0 = λ x. (root p : ℕ) → IsTableOf old.frames (top_level g.M.Levels.mode) root (p / 512) c.in-Ok.table.0 → x ≤ p → p < c.next_entry-page.result
+    → page_entry old.frames (top_level g.M.Levels.mode) root p ≡ 0 in
     record {
       low = omega (arith, next.from, begins);
       high = next.within;
@@ -43,7 +44,7 @@ pub clear_page-requires-clause-place : goal.clear_page-requires-clause-place
 clear_page-requires-clause-place g c =
     let k = c.loop-page.invariant in
     let same = same_table c.args.start c.loop-page.page c.args.stop k.low c.loop-page-test.true c.requires.one_table in
-    let P : ℕ → Type 0 = λ x. IsTableOf c.loop-page.core.frames c.root_of-root.result.0 x c.in-Ok.table.0 in
+    let P : ℕ → Type 0 = λ x. IsTableOf c.loop-page.core.frames (top_level g.M.Levels.mode) c.root_of-root.result.0 x c.in-Ok.table.0 in
     subst P (same ∙ ap (λ x. x / 512) (sym c.user_page.ensures)) k.place
 
 pub next_entry-page-requires-in-loop-page-clause-table : goal.next_entry-page-requires-in-loop-page-clause-table
@@ -56,9 +57,9 @@ next_entry-page-requires-in-loop-page-clause-one_table g c =
 
 pub loop-page-preserved : goal.loop-page-preserved
 loop-page-preserved g c =
-    let old : Picture = picture_of c.args.core.now in
-    let mid : Picture = picture_of c.loop-page.core in
-    let new : Picture = picture_of c.clear_page.new.core in
+    let old : Picture g.M.Levels.mode = picture_of c.args.core.now in
+    let mid : Picture g.M.Levels.mode = picture_of c.loop-page.core in
+    let new : Picture g.M.Levels.mode = picture_of c.clear_page.new.core in
     let page = c.loop-page.page in
     let k = c.loop-page.invariant in
     let low = k.low in
@@ -93,16 +94,16 @@ prune-requires-clause-root g c = c.loop-page.invariant.fit.rooted.roots c.args.p
 
 pub returns-clause-fit : goal.returns-clause-fit
 returns-clause-fit g c =
-    let mid : Picture = picture_of c.loop-page.core in
-    let new : Picture = record mid { frames = c.prune.new.memory } in
+    let mid : Picture g.M.Levels.mode = picture_of c.loop-page.core in
+    let new : Picture g.M.Levels.mode = record mid { frames = c.prune.new.memory } in
     fit_pruned mid new c.args.pid c.root_of-root.result.0 _ c.loop-page.invariant.fit c.loop-page.core.sound c.loop-page.invariant.root_is
     c.prune.ensures.prunes (same_beside mid c.prune.new.memory)
 
 pub returns-clause-clears : goal.returns-clause-clears
 returns-clause-clears g c =
-    let old : Picture = picture_of c.args.core.now in
-    let mid : Picture = picture_of c.loop-page.core in
-    let new : Picture = record mid { frames = c.prune.new.memory } in
+    let old : Picture g.M.Levels.mode = picture_of c.args.core.now in
+    let mid : Picture g.M.Levels.mode = picture_of c.loop-page.core in
+    let new : Picture g.M.Levels.mode = record mid { frames = c.prune.new.memory } in
     let end : c.loop-page.page ≡ c.args.stop = ends c.loop-page.page c.args.stop c.loop-page.invariant.high c.loop-page-test.false in
     let P : ℕ → Type 0 = λ x. Clears old mid c.args.pid c.args.start x in
     clears_then old mid new c.args.pid c.args.start c.args.stop c.args.stop c.requires.fit (omega (arith, c.requires.some)) (omega arith)
@@ -112,13 +113,18 @@ returns-clause-clears g c =
 
 pub returns-clause-cleared : goal.returns-clause-cleared
 returns-clause-cleared g c low le cleared =
-    let old : Picture = picture_of c.args.core.now in
-    let mid : Picture = picture_of c.loop-page.core in
-    let new : Picture = record mid { frames = c.prune.new.memory } in
+    let old : Picture g.M.Levels.mode = picture_of c.args.core.now in
+    let mid : Picture g.M.Levels.mode = picture_of c.loop-page.core in
+    let new : Picture g.M.Levels.mode = record mid { frames = c.prune.new.memory } in
     let end : c.loop-page.page ≡ c.args.stop = ends c.loop-page.page c.args.stop c.loop-page.invariant.high c.loop-page-test.false in
     let P : ℕ → Type 0 = λ x. Clears old mid c.args.pid c.args.start x in
     let clears : Clears old mid c.args.pid c.args.start c.args.stop = subst P end c.loop-page.invariant.clears in
     cleared_block mid new c.args.pid c.root_of-root.result.0 c.args.start c.loop-page.invariant.fit c.loop-page.core.sound c.loop-page.invariant.root_is
     c.prune.ensures.prunes (same_beside mid c.prune.new.memory) low c.args.stop le
     (cleared_still old mid c.args.pid low c.args.start c.args.stop clears c.loop-page.invariant.tables cleared) clears.gone c.prune.ensures.pruned
+    (user_inside g.M.Levels.mode c.args.start c.args.stop c.requires.some c.requires.high) 1 (omega arith) (inl refl)
     (λ p from below. in_row_of c.args.start p c.args.stop ((c.args.start / 512 + 1) * 512) from below c.requires.one_table refl)
+
+pub clear_page-requires-clause-inside : goal.clear_page-requires-clause-inside
+clear_page-requires-clause-inside g c =
+    user_inside g.M.Levels.mode c.user_page.result c.args.stop (omega (arith, c.user_page.ensures, c.loop-page-test.true)) c.requires.high

@@ -1,3 +1,4 @@
+use Rattle.vm_types.specs.Limits.{top_level}
 use Rattle.std.proofs.Common.{◌≡◌, ◌-◌, ◌/◌, ◌≤◌, Some}
 use Rattle.page_tables.specs.Places.{IsTableOf}
 use Rattle.paging.specs.Parts.{IsFit}
@@ -10,7 +11,7 @@ invariant-loop-page g l = record {
   low : l.fn.start ≤ l.page;
   high : l.page ≤ l.stop;
   fit : IsFit (picture_of l.core);
-  place : IsTableOf l.core.frames l.root.0 (l.fn.start / 512) l.table.0;
+  place : IsTableOf l.core.frames (top_level g.M.Levels.mode) l.root.0 (l.fn.start / 512) l.table.0;
   root_is : (picture_of l.core).root l.pid ≡ Some l.root.0;
   clears : Clears (picture_of l.initial.core) (picture_of l.core) l.pid l.fn.start l.page;
   tables : SameTables l.initial.core.frames l.core.frames;

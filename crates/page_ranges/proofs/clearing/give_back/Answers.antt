@@ -16,14 +16,14 @@ release-requires g c =
 
 pub returns-in-Swapped-clause-fit : goal.returns-in-Swapped-clause-fit
 returns-in-Swapped-clause-fit g c =
-    let old : Picture = picture_of c.args.core.now in
+    let old : Picture g.M.Levels.mode = picture_of c.args.core.now in
     let is = slot_of c.args.number.0 c.in-Swapped.slot.0 c.decode.result c.decode.ensures.number c.decode.ensures.form c.in-Swapped.is in
     let lacks = lacks_some old (seat c.args.number.0) (InSlot c.in-Swapped.slot.0) is c.requires.lacks in
     fit_slot old c.in-Swapped.slot.0 lacks.0 lacks.1 (slots_of c.release.new.self) c.release.ensures.releases (seat c.args.number.0) is
 
 pub returns-in-Swapped-clause-gives : goal.returns-in-Swapped-clause-gives
 returns-in-Swapped-clause-gives g c =
-    let old : Picture = picture_of c.args.core.now in
+    let old : Picture g.M.Levels.mode = picture_of c.args.core.now in
     let is = slot_of c.args.number.0 c.in-Swapped.slot.0 c.decode.result c.decode.ensures.number c.decode.ensures.form c.in-Swapped.is in
     let lacks = lacks_some old (seat c.args.number.0) (InSlot c.in-Swapped.slot.0) is c.requires.lacks in
     gives_slot old c.in-Swapped.slot.0 lacks.0 lacks.1 (slots_of c.release.new.self) c.release.ensures.releases (seat c.args.number.0) is
@@ -57,7 +57,7 @@ release-requires-2 g c =
 
 pub returns-clause-fit : goal.returns-clause-fit
 returns-clause-fit g c =
-    let old : Picture = picture_of c.args.core.now in
+    let old : Picture g.M.Levels.mode = picture_of c.args.core.now in
     let own : is_private c.args.number.0 ≡ true = sym c.is_private.ensures ∙ c.if-not-is_private.false in
     let is = frame_seat c.args.number.0 own in
     let lacks = lacks_some old (seat c.args.number.0) (InFrame (frame_of c.args.number.0)) is c.requires.lacks in
@@ -66,7 +66,7 @@ returns-clause-fit g c =
 
 pub returns-clause-gives : goal.returns-clause-gives
 returns-clause-gives g c =
-    let old : Picture = picture_of c.args.core.now in
+    let old : Picture g.M.Levels.mode = picture_of c.args.core.now in
     let own : is_private c.args.number.0 ≡ true = sym c.is_private.ensures ∙ c.if-not-is_private.false in
     let is = frame_seat c.args.number.0 own in
     let lacks = lacks_some old (seat c.args.number.0) (InFrame (frame_of c.args.number.0)) is c.requires.lacks in

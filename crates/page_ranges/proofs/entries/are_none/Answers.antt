@@ -4,7 +4,7 @@ use Rattle.page_ranges.proofs.Joined.{left, right}
 use Rattle.page_ranges.proofs.entries.are_none.Goals as goal
 
 pub returns : goal.returns
-returns c none i least below =
+returns g c none i least below =
     let joined = eqb-true _ 0 none in
     elim (cases_lt i (c.args.index + 4)) [
       | inl front ↦ c.four_at.ensures (left _ _ joined) i least front

@@ -3,7 +3,7 @@ use Rattle.std.proofs.lemmas.Bool.{cases_lt}
 use Rattle.page_ranges.proofs.entries.next_set.Goals as goal
 
 pub loop-at-preserved : goal.loop-at-preserved
-loop-at-preserved c =
+loop-at-preserved g c =
     let k = c.loop-at.invariant in
     let none = c.none_from-at.ensures in
     record {

@@ -9,6 +9,7 @@ use Rattle.paging.specs.declared.kernel.Core.{Core}
 use Rattle.paging.specs.Calls.{KeepsBesidePlaces}
 use Rattle.paging.specs.Picture.{Picture, picture_of}
 use Rattle.page_ranges.specs.Rows.{ForgetsMore, node_of, without_maps}
+use Rattle.page_ranges.proofs.Emptied.{pages_inside}
 use Rattle.page_ranges.proofs.LastName.{same_without, more_then, gone_none, gone_named, gone_forgot, forgets_all, rest_then}
 use Rattle.page_ranges.proofs.forgetting.forget_nodes.Goals.{in-Some, in_default}
 use Rattle.page_ranges.proofs.forgetting.forget_nodes.Goals as goal
@@ -25,8 +26,8 @@ node_inside t (Slot k) m inside is = let e : frame_count t + k.0 ≡ m = some_nu
 
 pub loop-node-preserved : goal.loop-node-preserved
 loop-node-preserved g c =
-    let a : Picture = picture_of c.args.core.now in
-    let b : Picture = picture_of c.loop-node.core in
+    let a : Picture g.M.Levels.mode = picture_of c.args.core.now in
+    let b : Picture g.M.Levels.mode = picture_of c.loop-node.core in
     let k = c.loop-node.invariant in
     let frames = frame_count c.loop-node.core.cache in
     elim c.match-object_at.branch [
@@ -41,10 +42,10 @@ loop-node-preserved g c =
           let new = w.forget_last.new.core in
           elim last [
             | inl same ↦ (
-                let P : Core _ _ → Type 0 = λ x. ForgetsMore a (picture_of x) c.args.pid c.args.first c.args.pages in
-                let Q : Core _ _ → Type 0 = λ x. (p : ObjectPage) (m : ℕ) → node_of (frame_count x.cache) ((picture_of x).place (Object p)) ≡ Some m → m < c.loop-node.node + 1
+                let P : Core _ _ g.row.M.Denot g.M.Levels → Type 0 = λ x. ForgetsMore a (picture_of x) c.args.pid c.args.first c.args.pages in
+                let Q : Core _ _ g.row.M.Denot g.M.Levels → Type 0 = λ x. (p : ObjectPage) (m : ℕ) → node_of (frame_count x.cache) ((picture_of x).place (Object p)) ≡ Some m → m < c.loop-node.node + 1
                 → is_named (without_maps a.at c.args.pid c.args.first c.args.pages) p.object p.page ≡ true in
-                let R : Core _ _ → Type 0 = λ x. KeepsBesidePlaces c.args.core.now x in
+                let R : Core _ _ g.row.M.Denot g.M.Levels → Type 0 = λ x. KeepsBesidePlaces c.args.core.now x in
                 rw w.core-is (record {
                   fit = w.forget_last.ensures.fit;
                   more = subst P (sym same.0) k.more;
@@ -66,8 +67,8 @@ loop-node-preserved g c =
 
 pub returns-clause-forgets : goal.returns-clause-forgets
 returns-clause-forgets g c =
-    let a : Picture = picture_of c.args.core.now in
-    let b : Picture = picture_of c.loop-node.core in
+    let a : Picture g.M.Levels.mode = picture_of c.args.core.now in
+    let b : Picture g.M.Levels.mode = picture_of c.loop-node.core in
     let k = c.loop-node.invariant in
     let t = c.args.core.now.cache in
     let count : frame_count c.loop-node.core.cache ≡ frame_count t = c.loop-node.core.node_count ∙ k.more.frames ∙ sym c.args.core.now.node_count in
@@ -75,3 +76,7 @@ returns-clause-forgets g c =
     (λ p m at. node_inside t (a.place (Object p)) m (c.frames.ensures.sound.inside (Object p)) at)
     (λ p m at below. k.gone p m (ap (λ x. node_of x (b.place (Object p))) count ∙ at)
     (let frames = c.frames.ensures.count in let slots = c.slots.ensures in let end = c.loop-node-test.false in omega (arith, below, frames, slots, end)))
+
+pub forget_last-requires-clause-bare : goal.forget_last-requires-clause-bare
+forget_last-requires-clause-bare g c page inside =
+    c.loop-node.invariant.more.entries c.args.pid page (pages_inside g.M.Levels.mode c.args.first c.args.pages page c.requires.row inside) ∙ c.requires.bare page inside

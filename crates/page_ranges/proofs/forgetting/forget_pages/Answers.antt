@@ -1,4 +1,6 @@
-use Rattle.std.proofs.Common.{◌≡◌, ◌⊎◌, ℕ, ◌+◌, ◌^◌, ◌<◌, ◌≤◌, inl, inr, true, sym, ap, ◌∙◌, subst, arith}
+use Rattle.vm_types.specs.Limits.{widest_end, top_level}
+use Rattle.vm_types.proofs.Modes.{sizes, user_pages_fit}
+use Rattle.std.proofs.Common.{◌≡◌, ◌⊎◌, ℕ, ◌+◌, ◌<◌, ◌≤◌, inl, inr, true, sym, ap, ◌∙◌, subst, arith}
 use Rattle.std.proofs.lemmas.Bool.{cases_lt, false≢true}
 use Rattle.vm_types.specs.Objects.{is_named, names}
 use Rattle.vm_types.specs.declared.object.ObjectPage.{ObjectPage}
@@ -14,7 +16,7 @@ use Rattle.page_ranges.specs.Rows.{ForgetsMore, without_maps}
 use Rattle.page_ranges.proofs.LastName.{in_row_from, named_beside, unnamed_without, same_without, more_then, looked_at, forgets_row, rest_then}
 use Rattle.page_ranges.proofs.forgetting.forget_pages.Goals as goal
 
-stays_home : (b c : Picture) (p : ObjectPage) → Forgets b c p → (q : ObjectPage) → b.place (Object q) ≡ Home → c.place (Object q) ≡ Home
+stays_home : {mode : ℕ} (b c : Picture mode) (p : ObjectPage) → Forgets b c p → (q : ObjectPage) → b.place (Object q) ≡ Home → c.place (Object q) ≡ Home
 stays_home b c p forgets q home = elim (cases_page (Object q) (Object p)) [
   | inl e ↦ ap c.place e ∙ forgets.placed
   | inr ne ↦ forgets.others (Object q) ne ∙ home
@@ -22,35 +24,35 @@ stays_home b c p forgets q home = elim (cases_page (Object q) (Object p)) [
 
 pub loop-named-preserved : goal.loop-named-preserved
 loop-named-preserved g c =
-    let a : Picture = picture_of c.args.core.now in
-    let b : Picture = picture_of c.loop-named.core in
+    let a : Picture g.M.Levels.mode = picture_of c.args.core.now in
+    let b : Picture g.M.Levels.mode = picture_of c.loop-named.core in
     let k = c.loop-named.invariant in
     let n = c.in-Some.named in
     let next = c.in-Some.ensures.some in
     let new = c.forget_there.new.core in
     let late : c.args.first ≤ n.at = (let x = k.low in let y = next.from in omega (arith, x, y)) in
     let inside = in_row_from c.args.first c.args.pages n.at late next.within in
-    let high : n.at < 2 ^ 26 = (let x = next.within in let y = c.requires.row in omega (arith, x, y)) in
+    let high : n.at < widest_end = (let x = next.within in let y = c.requires.row in let most = (sizes g.M.Levels.mode).most in omega (arith, x, y, most)) in
     let next_page = c.get-from.ensures.number in
     let low : c.args.first ≤ c.get-from.result + 1 = omega (arith, late, next_page) in
     let looked : (j : ℕ) → j < c.get-from.result + 1 → j < n.at + 1 = λ j below. omega (arith, below, next_page) in
     elim c.forget_there.ensures.there [
       | inl same ↦ (
-          let P : Core _ _ → Type 0 = λ x. ForgetsMore a (picture_of x) c.args.pid c.args.first c.args.pages in
-          let Q : Core _ _ → Type 0 = λ x. (j : ℕ) (q : ObjectPage) → c.args.first ≤ j → j < n.at + 1 → names (a.at c.args.pid j) q.object q.page ≡ true
+          let P : Core _ _ g.row.M.Denot g.M.Levels → Type 0 = λ x. ForgetsMore a (picture_of x) c.args.pid c.args.first c.args.pages in
+          let Q : Core _ _ g.row.M.Denot g.M.Levels → Type 0 = λ x. (j : ℕ) (q : ObjectPage) → c.args.first ≤ j → j < n.at + 1 → names (a.at c.args.pid j) q.object q.page ≡ true
           → ((picture_of x).place (Object q) ≡ Home) ⊎ (is_named (without_maps a.at c.args.pid c.args.first c.args.pages) q.object q.page ≡ true) in
-          let R : Core _ _ → Type 0 = λ x. KeepsBesidePlaces c.args.core.now x in
+          let R : Core _ _ g.row.M.Denot g.M.Levels → Type 0 = λ x. KeepsBesidePlaces c.args.core.now x in
           record {
             fit = c.forget_there.ensures.fit;
             low = low;
             more = subst P (sym same.0) k.more;
             gone = λ j q late' below is. subst Q (sym same.0) (looked_at a b b c.args.pid c.args.first c.args.pages c.loop-named.from n.at n.page k.gone (λ i. k.more.at c.args.pid i) next.here next.none_before (λ i home. home)
-                (inr (sym (same_without a b c.args.pid c.args.first c.args.pages n.page k.more) ∙ named_beside b.at c.args.pid c.args.first c.args.pages n.page same.1.0 n.at same.1.1 high same.1.2 same.1.3)))
+                (inr (sym (same_without a b c.args.pid c.args.first c.args.pages n.page k.more) ∙ named_beside g.M.Levels.mode b.at c.args.pid c.args.first c.args.pages n.page same.1.0 n.at same.1.1 high same.1.2 same.1.3)))
                 j q late' (looked j below) is;
             rest = subst R (sym same.0) k.rest;
           })
       | inr gone ↦ (
-          let unnamed = sym (same_without a b c.args.pid c.args.first c.args.pages n.page k.more) ∙ unnamed_without b.at c.args.pid c.args.first c.args.pages k.fit.granting.objects n.page n.at inside next.here gone.2 in
+          let unnamed = sym (same_without a b c.args.pid c.args.first c.args.pages n.page k.more) ∙ unnamed_without g.M.Levels.mode b.at c.args.pid c.args.first c.args.pages k.fit.granting.objects n.page n.at inside next.here gone.2 in
           record {
             fit = c.forget_there.ensures.fit;
             low = low;
@@ -67,7 +69,7 @@ forget_there-requires-clause-bare g c =
     let n = c.in-Some.named in
     let next = c.in-Some.ensures.some in
     let late : c.args.first ≤ n.at = (let x = k.low in let y = next.from in omega (arith, x, y)) in
-    let user : IsPage 2 n.at = (let it : n.at < 134217728 = (let x = next.within in let y = c.requires.row in omega (arith, x, y)) in it) in
+    let user : IsPage (top_level g.M.Levels.mode) n.at = (let x = next.within in let y = c.requires.row in let fits = user_pages_fit g.M.Levels.mode in omega (arith, x, y, fits)) in
     k.more.entries c.args.pid n.at user ∙ c.requires.bare n.at (in_row_from c.args.first c.args.pages n.at late next.within)
 
 pub returns-clause-forgets : goal.returns-clause-forgets
@@ -77,3 +79,6 @@ returns-clause-forgets g c =
       | inl passed ↦ k.gone j p low passed is
       | inr late ↦ absurd (false≢true (sym (c.in_default.ensures.none j p.object p.page late below) ∙ ap (λ x. names x p.object p.page) (k.more.at c.args.pid j) ∙ is))
     ])
+
+pub overflow_add-first : goal.overflow_add-first
+overflow_add-first g c = omega (arith, c.requires.row, (sizes g.M.Levels.mode).most)

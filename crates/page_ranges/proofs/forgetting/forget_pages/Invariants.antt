@@ -1,4 +1,5 @@
-use Rattle.std.proofs.Common.{◌≡◌, ◌⊎◌, true, ℕ, ◌-◌, ◌^◌, ◌<◌, ◌≤◌}
+use Rattle.vm_types.specs.Limits.{user_end}
+use Rattle.std.proofs.Common.{◌≡◌, ◌⊎◌, true, ℕ, ◌-◌, ◌<◌, ◌≤◌}
 use Rattle.vm_types.specs.Objects.{is_named, names}
 use Rattle.vm_types.specs.declared.object.ObjectPage.{ObjectPage}
 use Rattle.vm_types.specs.declared.object.PageKey.TheVariants.{Object}
@@ -20,4 +21,4 @@ invariant-loop-named g l = record {
 }
 
 abbrev pub decreases-loop-named : goal.decreases-loop-named
-decreases-loop-named g l = 2 ^ 26 - l.from
+decreases-loop-named g l = user_end g.M.Levels.mode - l.from

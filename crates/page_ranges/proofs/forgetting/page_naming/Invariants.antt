@@ -1,4 +1,5 @@
-use Rattle.std.proofs.Common.{◌≡◌, false, ℕ, ◌-◌, ◌^◌, ◌<◌, ◌≤◌}
+use Rattle.vm_types.specs.Limits.{user_end}
+use Rattle.std.proofs.Common.{◌≡◌, false, ℕ, ◌-◌, ◌<◌, ◌≤◌}
 use Rattle.vm_types.specs.Objects.{names}
 use Rattle.paging.specs.Picture.{picture_of}
 use Rattle.page_ranges.proofs.forgetting.page_naming.Given as goal
@@ -10,4 +11,4 @@ invariant-loop-run g l = record {
 }
 
 abbrev pub decreases-loop-run : goal.decreases-loop-run
-decreases-loop-run g l = 2 ^ 26 - l.from
+decreases-loop-run g l = user_end g.M.Levels.mode - l.from

@@ -1,4 +1,4 @@
-use Rattle.std.proofs.Common.{◌-◌, false, true, get_or, sym, ◌∙◌, arith}
+use Rattle.std.proofs.Common.{false, get_or, sym, ◌∙◌, arith}
 use Rattle.vm_types.specs.Limits.{named_limit}
 use Rattle.page_ranges.proofs.Marking.{least_here_at, least_on_at, least_end_at}
 use Rattle.page_ranges.proofs.numbering.first_free.Goals as goal

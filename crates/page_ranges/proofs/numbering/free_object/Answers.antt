@@ -1,4 +1,4 @@
-use Rattle.std.proofs.Common.{◌≢◌, ℕ, inl, inr, true, false, replicate, get_or, sym, ap, ◌∙◌, subst, arith}
+use Rattle.std.proofs.Common.{ℕ, inl, inr, false, get_or, sym, ◌∙◌, subst, arith}
 use Rattle.std.proofs.lemmas.List.{length-replicate}
 use Rattle.std.proofs.lemmas.Bool.{cases_eq, false≢true}
 use Rattle.vm_types.specs.Limits.{named_limit}

@@ -1,5 +1,5 @@
-use Rattle.std.proofs.Common.{◌≡◌, ◌≤◌, ◌<◌, ◌⊎◌, ℕ, ◌^◌, ◌-◌, true, false, length, get_or}
-use Rattle.vm_types.specs.Limits.{named_limit}
+use Rattle.std.proofs.Common.{◌≡◌, ◌≤◌, ◌<◌, ◌⊎◌, ℕ, ◌-◌, true, false, length, get_or}
+use Rattle.vm_types.specs.Limits.{user_end, named_limit}
 use Rattle.paging.specs.Picture.{picture_of}
 use Rattle.page_ranges.specs.Numbers.{IsUsedBetween}
 use Rattle.page_ranges.proofs.numbering.mark.Given as goal
@@ -14,4 +14,4 @@ invariant-loop-run g l = record {
 }
 
 abbrev pub decreases-loop-run : goal.decreases-loop-run
-decreases-loop-run g l = 2 ^ 26 - l.at
+decreases-loop-run g l = user_end g.M.Levels.mode - l.at

@@ -1,4 +1,6 @@
-use Rattle.std.proofs.Common.{◌≡◌, ◌≢◌, ◌+◌, ◌^◌, ℕ, inl, inr, sym, ◌∙◌, subst, arith}
+use Rattle.vm_types.proofs.Modes.{sizes}
+use Rattle.vm_types.specs.Limits.{widest_end}
+use Rattle.std.proofs.Common.{◌≡◌, ◌≢◌, ◌+◌, ℕ, inl, inr, sym, ◌∙◌, subst, arith}
 use Rattle.vm_types.specs.Objects.{Maps}
 use Rattle.paging.specs.Picture.{picture_of}
 use Rattle.page_ranges.specs.Numbers.{IsUsedBetween, IsUsedBy}
@@ -18,13 +20,13 @@ returns-then-get g c =
     let P : ℕ → ℕ → ℕ → ℕ → Type 0 = λ p from end o. IsUsedBetween (at p) from end o in
     record {
       marks =
-          marks_then (P c.in-Some.process 0 c.args.first) (P c.in-Some.process (c.args.first + c.args.pages) (2 ^ 26)) (IsUsedBy (without_maps at c.args.pid c.args.first c.args.pages) q)
+          marks_then (P c.in-Some.process 0 c.args.first) (P c.in-Some.process (c.args.first + c.args.pages) widest_end) (IsUsedBy (without_maps at c.args.pid c.args.first c.args.pages) q)
           c.args.used.now c.mark.new.used c.mark-then-get.new.used
-          (λ o u. mine_back at c.args.pid q c.args.first c.args.pages 0 c.args.first same (low_out c.args.first c.args.pages) (omega (arith, c.requires.row)) o (moved at c.in-Some.process q 0 c.args.first o is u))
-          (λ o u. mine_back at c.args.pid q c.args.first c.args.pages (c.args.first + c.args.pages) (2 ^ 26) same (high_out c.args.first c.args.pages) (omega arith) o (moved at c.in-Some.process q (c.args.first + c.args.pages) (2 ^ 26) o is u))
+          (λ o u. mine_back at c.args.pid q c.args.first c.args.pages 0 c.args.first same (low_out c.args.first c.args.pages) (omega (arith, c.requires.row, (sizes g.M.Levels.mode).most)) o (moved at c.in-Some.process q 0 c.args.first o is u))
+          (λ o u. mine_back at c.args.pid q c.args.first c.args.pages (c.args.first + c.args.pages) widest_end same (high_out c.args.first c.args.pages) (omega arith) o (moved at c.in-Some.process q (c.args.first + c.args.pages) widest_end o is u))
           (λ o u. elim (mine at c.args.pid q c.args.first c.args.pages same o u) [
             | inl a ↦ inl (moved at q c.in-Some.process 0 c.args.first o (sym is) a)
-            | inr b ↦ inr (moved at q c.in-Some.process (c.args.first + c.args.pages) (2 ^ 26) o (sym is) b)
+            | inr b ↦ inr (moved at q c.in-Some.process (c.args.first + c.args.pages) widest_end o (sym is) b)
           ])
           c.mark.ensures.marks c.mark-then-get.ensures.marks;
     }
@@ -35,7 +37,7 @@ returns-else-get g c =
     let q = c.args.number in
     let is : c.in-Some.process ≡ q = c.in-Some.ensures.found.0 in
     let other : q ≢ c.args.pid = λ e. c.if-get.false (c.get.ensures.number ∙ is ∙ e ∙ sym c.get-2.ensures.number) in
-    let R : ℕ → ℕ → Type 0 = λ o p. IsUsedBetween (at p) 0 (2 ^ 26) o in
+    let R : ℕ → ℕ → Type 0 = λ o p. IsUsedBetween (at p) 0 widest_end o in
     record {
       marks =
           marks_alike (λ o. R o c.in-Some.process) (IsUsedBy (without_maps at c.args.pid c.args.first c.args.pages) q) c.args.used.now c.mark-else-get.new.used
@@ -43,3 +45,6 @@ returns-else-get g c =
           (λ o u. subst (R o) (sym is) (theirs at c.args.pid q c.args.first c.args.pages other o u))
           c.mark-else-get.ensures.marks;
     }
+
+pub overflow_add-first : goal.overflow_add-first
+overflow_add-first g c = omega (arith, c.requires.row, (sizes g.M.Levels.mode).most)

@@ -29,8 +29,8 @@ permit_table-requires-clause-whole g c =
 
 pub returns-clause-permits : goal.returns-clause-permits
 returns-clause-permits g c =
-    let old : Picture = picture_of c.args.core.now in
-    let new : Picture = picture_of c.permit_table.new.core in
+    let old : Picture g.M.Levels.mode = picture_of c.args.core.now in
+    let new : Picture g.M.Levels.mode = picture_of c.permit_table.new.core in
     let next = c.next_linked-linked.ensures in
     let P : ℕ → Type 0 = λ x. PermitsRow old new c.args.pid x c.min-stop.result c.args.prot in
     permits_then old old new c.args.pid c.args.start c.next_linked-linked.result c.min-stop.result c.args.prot next.from

@@ -12,7 +12,7 @@ use Rattle.page_ranges.proofs.permitting.permit_page.Goals as goal
 
 pub returns-then-to_u64-eq0-clause-permits : goal.returns-then-to_u64-eq0-clause-permits
 returns-then-to_u64-eq0-clause-permits g c =
-    let old : Picture = picture_of c.args.core.now in
+    let old : Picture g.M.Levels.mode = picture_of c.args.core.now in
     permits_none old c.args.pid c.args.page (c.args.page + 1) c.args.prot (λ page h from below.
     let at : page ≡ c.args.page = omega (arith, from, below) in
     ap (entry old c.args.pid) at ∙ entry-of old c.args.pid c.args.root.0 c.args.page c.requires.root
@@ -20,7 +20,7 @@ returns-then-to_u64-eq0-clause-permits g c =
 
 pub returns-then-is_swapped-clause-permits : goal.returns-then-is_swapped-clause-permits
 returns-then-is_swapped-clause-permits g c =
-    let old : Picture = picture_of c.args.core.now in
+    let old : Picture g.M.Levels.mode = picture_of c.args.core.now in
     let is : c.number_in-number.result.0 ≡ entry old c.args.pid c.args.page =
     c.number_in-number.ensures c.args.root.0 c.args.page c.requires.place (ap (λ x. x % 512) (sym c.get.ensures.number)) ∙ sym (entry-of old c.args.pid c.args.root.0 c.args.page c.requires.root) in
     let away : is_swapped (entry old c.args.pid c.args.page) ≡ true = ap is_swapped (sym is) ∙ sym c.is_swapped.ensures ∙ c.if-is_swapped.true in
@@ -34,14 +34,14 @@ is_entry g c = c.number_in-number.ensures c.args.root.0 c.args.page c.requires.p
 
 pub takes_stores-writable-requires-clause-named : goal.takes_stores-writable-requires-clause-named
 takes_stores-writable-requires-clause-named g c =
-    let old : Picture = picture_of c.args.core.now in
+    let old : Picture g.M.Levels.mode = picture_of c.args.core.now in
     let is = c.number_in-number.ensures c.args.root.0 c.args.page c.requires.place (ap (λ x. x % 512) (sym c.get.ensures.number)) ∙ sym (entry-of old c.args.pid c.args.root.0 c.args.page c.requires.root) in
     let P : ℕ → Type 0 = λ x. IsFrame c.args.core.now.frames (frame_of x) in
     subst P (sym is) (c.requires.named c.args.page c.requires.inside (λ z. c.if-to_u64-eq0.false (c.to_u64.ensures ∙ is ∙ z)) (ap is_swapped (sym is) ∙ sym c.is_swapped.ensures ∙ c.if-is_swapped.false))
 
 pub permitted-requires-clause-frame : goal.permitted-requires-clause-frame
 permitted-requires-clause-frame g c =
-    let old : Picture = picture_of c.args.core.now in
+    let old : Picture g.M.Levels.mode = picture_of c.args.core.now in
     let is = c.number_in-number.ensures c.args.root.0 c.args.page c.requires.place (ap (λ x. x % 512) (sym c.get.ensures.number)) ∙ sym (entry-of old c.args.pid c.args.root.0 c.args.page c.requires.root) in
     let P : ℕ → Type 0 = λ x. IsFrame c.args.core.now.frames (frame_of x) in
     let inside = subst P (sym is) (c.requires.named c.args.page c.requires.inside (λ z. c.if-to_u64-eq0.false (c.to_u64.ensures ∙ is ∙ z)) (ap is_swapped (sym is) ∙ sym c.is_swapped.ensures ∙ c.if-is_swapped.false)) in
@@ -49,8 +49,8 @@ permitted-requires-clause-frame g c =
 
 pub returns-clause-rooted : goal.returns-clause-rooted
 returns-clause-rooted g c =
-    let old : Picture = picture_of c.args.core.now in
-    let new : Picture = record old { frames = c.set_in.new.memory } in
+    let old : Picture g.M.Levels.mode = picture_of c.args.core.now in
+    let new : Picture g.M.Levels.mode = record old { frames = c.set_in.new.memory } in
     rooted_permitted old new c.args.pid c.args.root.0 c.args.page (number_of c.permitted.result) c.args.prot c.requires.rooted c.requires.root
     c.requires.inside (c.set_in.ensures.sets c.args.root.0 c.args.page (c.requires.rooted.roots c.args.pid c.args.root.0 c.requires.root) c.requires.inside c.requires.place (ap (λ x. x % 512) (sym c.get.ensures.number))) (same_beside old c.set_in.new.memory)
 
@@ -74,22 +74,22 @@ becomes g c =
 
 pub returns-clause-named : goal.returns-clause-named
 returns-clause-named g c =
-    let old : Picture = picture_of c.args.core.now in
-    let new : Picture = record old { frames = c.set_in.new.memory } in
+    let old : Picture g.M.Levels.mode = picture_of c.args.core.now in
+    let new : Picture g.M.Levels.mode = record old { frames = c.set_in.new.memory } in
     named_permitted old new c.args.pid c.args.root.0 c.args.page (number_of c.permitted.result) c.args.prot c.requires.rooted c.requires.root
     c.requires.inside (c.set_in.ensures.sets c.args.root.0 c.args.page (c.requires.rooted.roots c.args.pid c.args.root.0 c.requires.root) c.requires.inside c.requires.place (ap (λ x. x % 512) (sym c.get.ensures.number))) (same_beside old c.set_in.new.memory) c.takes_stores-writable.result (some g c) (here g c) (stores g c) (becomes g c) c.requires.named
 
 pub returns-clause-permits : goal.returns-clause-permits
 returns-clause-permits g c =
-    let old : Picture = picture_of c.args.core.now in
-    let new : Picture = record old { frames = c.set_in.new.memory } in
+    let old : Picture g.M.Levels.mode = picture_of c.args.core.now in
+    let new : Picture g.M.Levels.mode = record old { frames = c.set_in.new.memory } in
     permits_set old new c.args.pid c.args.root.0 c.args.page (number_of c.permitted.result) c.args.prot c.requires.rooted c.requires.root
     c.requires.inside (c.set_in.ensures.sets c.args.root.0 c.args.page (c.requires.rooted.roots c.args.pid c.args.root.0 c.requires.root) c.requires.inside c.requires.place (ap (λ x. x % 512) (sym c.get.ensures.number))) (same_beside old c.set_in.new.memory) c.takes_stores-writable.result (some g c) (here g c) (stores g c) (becomes g c)
 
 pub returns-clause-places : goal.returns-clause-places
 returns-clause-places g c =
-    let old : Picture = picture_of c.args.core.now in
-    let new : Picture = record old { frames = c.set_in.new.memory } in
+    let old : Picture g.M.Levels.mode = picture_of c.args.core.now in
+    let new : Picture g.M.Levels.mode = record old { frames = c.set_in.new.memory } in
     places_permitted old new c.args.pid c.args.root.0 c.args.page (number_of c.permitted.result) c.args.prot c.requires.rooted c.requires.root
     c.requires.inside (c.set_in.ensures.sets c.args.root.0 c.args.page (c.requires.rooted.roots c.args.pid c.args.root.0 c.requires.root) c.requires.inside c.requires.place (ap (λ x. x % 512) (sym c.get.ensures.number))) (same_beside old c.set_in.new.memory)
 

@@ -1,3 +1,4 @@
+use Rattle.vm_types.specs.Limits.{top_level}
 use Rattle.std.proofs.Common.{◌≡◌, ℕ, ◌+◌, ◌/◌, ◌<◌, ◌≤◌, refl, sym, ap, ◌∙◌, subst, arith}
 use Rattle.paging.specs.Picture.{Picture, picture_of}
 use Rattle.page_ranges.specs.Leaves.{PermitsRow}
@@ -5,7 +6,7 @@ use Rattle.page_tables.specs.Places.{IsTableOf}
 use Rattle.page_tables.specs.Tree.{page_entry}
 use Rattle.page_ranges.proofs.BetweenEntries.{same_table, end_from, none_between}
 use Rattle.page_ranges.proofs.PermittedRows.{around-refl, around_then, permits_none, permits_then}
-use Rattle.page_ranges.proofs.Gaps.{lives}
+use Rattle.page_ranges.proofs.Gaps.{user_inside, lives}
 use Rattle.page_ranges.proofs.permitting.permit_table.Goals as goal
 
 pub root_of-root-requires : goal.root_of-root-requires
@@ -19,11 +20,11 @@ next_entry-page-requires-clause-table g c = c.in-Ok.ensures.found.table
 
 pub loop-page-init : goal.loop-page-init
 loop-page-init g c =
-    let old : Picture = picture_of c.args.core.now in
+    let old : Picture g.M.Levels.mode = picture_of c.args.core.now in
     let begins = c.get.ensures.number in
     let next = c.next_entry-page.ensures in
-    let P : ℕ → Type 0 = λ x. (root p : ℕ) → IsTableOf old.frames root (p / 512) c.in-Ok.table.0 → x ≤ p → p < c.next_entry-page.result
-    → page_entry old.frames 2 root p ≡ 0 in
+    let P : ℕ → Type 0 = λ x. (root p : ℕ) → IsTableOf old.frames (top_level g.M.Levels.mode) root (p / 512) c.in-Ok.table.0 → x ≤ p → p < c.next_entry-page.result
+    → page_entry old.frames (top_level g.M.Levels.mode) root p ≡ 0 in
     record {
       low = omega (arith, next.from, begins);
       high = next.within;
@@ -42,7 +43,7 @@ pub permit_page-requires-clause-place : goal.permit_page-requires-clause-place
 permit_page-requires-clause-place g c =
     let k = c.loop-page.invariant in
     let same = same_table c.args.start c.loop-page.page c.args.stop k.low c.loop-page-test.true c.requires.one_table in
-    let P : ℕ → Type 0 = λ x. IsTableOf c.loop-page.core.frames c.root_of-root.result.0 x c.in-Ok.table.0 in
+    let P : ℕ → Type 0 = λ x. IsTableOf c.loop-page.core.frames (top_level g.M.Levels.mode) c.root_of-root.result.0 x c.in-Ok.table.0 in
     subst P (same ∙ ap (λ x. x / 512) (sym c.user_page.ensures)) k.place
 
 pub next_entry-page-requires-in-loop-page-clause-table : goal.next_entry-page-requires-in-loop-page-clause-table
@@ -55,9 +56,9 @@ next_entry-page-requires-in-loop-page-clause-one_table g c =
 
 pub loop-page-preserved : goal.loop-page-preserved
 loop-page-preserved g c =
-    let old : Picture = picture_of c.args.core.now in
-    let mid : Picture = picture_of c.loop-page.core in
-    let new : Picture = picture_of c.permit_page.new.core in
+    let old : Picture g.M.Levels.mode = picture_of c.args.core.now in
+    let mid : Picture g.M.Levels.mode = picture_of c.loop-page.core in
+    let new : Picture g.M.Levels.mode = picture_of c.permit_page.new.core in
     let page = c.loop-page.page in
     let k = c.loop-page.invariant in
     let low = k.low in
@@ -89,8 +90,12 @@ ends page stop le ge = omega arith
 
 pub returns-clause-permits : goal.returns-clause-permits
 returns-clause-permits g c =
-    let old : Picture = picture_of c.args.core.now in
-    let mid : Picture = picture_of c.loop-page.core in
+    let old : Picture g.M.Levels.mode = picture_of c.args.core.now in
+    let mid : Picture g.M.Levels.mode = picture_of c.loop-page.core in
     let end : c.loop-page.page ≡ c.args.stop = ends c.loop-page.page c.args.stop c.loop-page.invariant.high c.loop-page-test.false in
     let P : ℕ → Type 0 = λ x. PermitsRow old mid c.args.pid c.args.start x c.args.prot in
     subst P end c.loop-page.invariant.permits
+
+pub permit_page-requires-clause-inside : goal.permit_page-requires-clause-inside
+permit_page-requires-clause-inside g c =
+    user_inside g.M.Levels.mode c.user_page.result c.args.stop (omega (arith, c.user_page.ensures, c.loop-page-test.true)) c.requires.high

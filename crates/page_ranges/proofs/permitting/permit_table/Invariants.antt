@@ -1,3 +1,4 @@
+use Rattle.vm_types.specs.Limits.{top_level}
 use Rattle.std.proofs.Common.{◌≡◌, ◌-◌, ◌/◌, ◌≤◌, Some}
 use Rattle.mapping.specs.Changes.{KeepsAround}
 use Rattle.paging.specs.Parts.{IsRootedBut}
@@ -12,7 +13,7 @@ invariant-loop-page g l = record {
   high : l.page ≤ l.stop;
   rooted : IsRootedBut (picture_of l.core) 0;
   named : NamesFrames (picture_of l.core) l.pid;
-  place : IsTableOf l.core.frames l.root.0 (l.fn.start / 512) l.table.0;
+  place : IsTableOf l.core.frames (top_level g.M.Levels.mode) l.root.0 (l.fn.start / 512) l.table.0;
   root_is : (picture_of l.core).root l.pid ≡ Some l.root.0;
   permits : PermitsRow (picture_of l.initial.core) (picture_of l.core) l.pid l.fn.start l.page l.prot;
   rest : KeepsAround l.initial.core l.core;

@@ -1,3 +1,4 @@
+use Rattle.vm_types.proofs.Modes.{sizes}
 use Rattle.std.proofs.Common.{◌≡◌, ℕ, ◌+◌, ◌<◌, ◌≤◌, ◌⊎◌, inl, inr, refl, ◌∙◌, subst, arith}
 use Rattle.std.specs.Prelude.{max}
 use Rattle.std.proofs.lemmas.Bool.{cases_lt}
@@ -19,7 +20,7 @@ ends low high end reaches (inr le) = inr (omega arith)
 
 pub loop-page-init : goal.loop-page-init
 loop-page-init g c =
-    let old : Picture = picture_of c.args.core.now in
+    let old : Picture g.M.Levels.mode = picture_of c.args.core.now in
     record {
       rooted = c.requires.fit.rooted;
       named = named_entries old c.args.pid c.args.core.now.sound c.requires.fit;
@@ -32,9 +33,9 @@ loop-page-init g c =
 
 pub loop-page-preserved : goal.loop-page-preserved
 loop-page-preserved g c =
-    let old : Picture = picture_of c.args.core.now in
-    let mid : Picture = picture_of c.loop-page.core in
-    let new : Picture = picture_of c.permit_next-page.new.core in
+    let old : Picture g.M.Levels.mode = picture_of c.args.core.now in
+    let mid : Picture g.M.Levels.mode = picture_of c.loop-page.core in
+    let new : Picture g.M.Levels.mode = picture_of c.permit_next-page.new.core in
     let k = c.loop-page.invariant in
     let low = k.low in
     let next = c.permit_next-page.ensures in
@@ -53,9 +54,9 @@ loop-page-preserved g c =
 
 pub returns-clause-fit : goal.returns-clause-fit
 returns-clause-fit g c =
-    let old : Picture = picture_of c.args.core.now in
-    let mid : Picture = picture_of c.loop-page.core in
-    let new : Picture = picture_of c.remap.new.self in
+    let old : Picture g.M.Levels.mode = picture_of c.args.core.now in
+    let mid : Picture g.M.Levels.mode = picture_of c.loop-page.core in
+    let new : Picture g.M.Levels.mode = picture_of c.remap.new.self in
     let k = c.loop-page.invariant in
     fit_reprotected old mid new c.args.pid c.args.first c.args.pages c.max-page.result c.loop-page.page c.args.prot c.requires.fit k.permits k.rooted
     c.remap.ensures.remaps (λ page. c.remap.ensures.at page ∙ c.requires.map page) c.requires.reads c.requires.row
@@ -64,9 +65,9 @@ returns-clause-fit g c =
 
 pub returns-clause-row : goal.returns-clause-row
 returns-clause-row g c =
-    let old : Picture = picture_of c.args.core.now in
-    let mid : Picture = picture_of c.loop-page.core in
-    let new : Picture = picture_of c.remap.new.self in
+    let old : Picture g.M.Levels.mode = picture_of c.args.core.now in
+    let mid : Picture g.M.Levels.mode = picture_of c.loop-page.core in
+    let new : Picture g.M.Levels.mode = picture_of c.remap.new.self in
     let k = c.loop-page.invariant in
     row_reprotected old mid new c.args.pid c.args.first c.args.pages c.max-page.result c.loop-page.page c.args.prot c.requires.fit k.permits k.rooted
     c.remap.ensures.remaps (λ page. c.remap.ensures.at page ∙ c.requires.map page) c.requires.reads c.requires.row
@@ -75,11 +76,14 @@ returns-clause-row g c =
 
 pub returns-clause-others : goal.returns-clause-others
 returns-clause-others g c =
-    let old : Picture = picture_of c.args.core.now in
-    let mid : Picture = picture_of c.loop-page.core in
-    let new : Picture = picture_of c.remap.new.self in
+    let old : Picture g.M.Levels.mode = picture_of c.args.core.now in
+    let mid : Picture g.M.Levels.mode = picture_of c.loop-page.core in
+    let new : Picture g.M.Levels.mode = picture_of c.remap.new.self in
     let k = c.loop-page.invariant in
     others_reprotected old mid new c.args.pid c.args.first c.args.pages c.max-page.result c.loop-page.page c.args.prot c.requires.fit k.permits k.rooted
     c.remap.ensures.remaps (λ page. c.remap.ensures.at page ∙ c.requires.map page) c.requires.reads c.requires.row
     (begins c.max-page.result c.args.first c.max-page.ensures) c.loop-page-test.false
     (ends c.max-page.result c.loop-page.page (c.args.first + c.args.pages) c.loop-page-test.false k.high)
+
+pub overflow_add-end : goal.overflow_add-end
+overflow_add-end g c = omega (arith, c.requires.row, (sizes g.M.Levels.mode).most)

@@ -1,8 +1,7 @@
 use Rattle.std.proofs.Common.{inl, inr, arith}
 use Rattle.std.proofs.lemmas.Bool.{cases_lt}
 use Rattle.paging.specs.Picture.{picture_of}
-use Rattle.page_ranges.proofs.Gaps.{lives}
-use Rattle.page_ranges.proofs.Linked.{no_whole, no_entry, is_whole}
+use Rattle.page_ranges.proofs.Gaps.{lives, no_whole, no_entry, is_whole}
 use Rattle.page_ranges.proofs.rows.next_linked.Goals as goal
 
 pub root_of-root-requires : goal.root_of-root-requires

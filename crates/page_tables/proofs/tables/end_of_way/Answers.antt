@@ -1,11 +1,13 @@
+use Rattle.vm_types.specs.Limits.{top_level}
 use Rattle.std.proofs.Common.{◌≡◌, ◌-◌, ◌+◌, ◌<◌, inr, sym, ap, ◌∙◌, arith}
 use Rattle.sv39_walk.specs.Entry.{entry_at}
 use Rattle.page_tables.specs.Tree.{last_table}
 use Rattle.page_tables.proofs.Ways.{last_table-zero, last_at-next, last_at-stop, not_pointer, next_table, is_pointer-leads_on}
+use Rattle.page_tables.proofs.tables.end_of_way.Given.{Over}
 use Rattle.page_tables.proofs.tables.end_of_way.Goals as goal
 
-stopped : (c : goal.In-None) → (c.loop-level.level, c.loop-level.table.0) ≡ last_table c.args.frames.now c.args.page 2 c.args.root.0
-stopped c =
+stopped : (g : Over) (c : goal.In-None g) → (c.loop-level.level, c.loop-level.table.0) ≡ last_table c.args.frames.now c.args.page (top_level g.M.Levels.mode) c.args.root.0
+stopped g c =
     let entry = c.read_entry.ensures ∙ ap (entry_at c.args.frames.now c.loop-level.table.0) c.table_index.ensures.index in
     let stops = rw entry at c.in-None.ensures in
     sym (last_at-stop c.args.frames.now c.args.page c.loop-level.level c.loop-level.table.0 c.loop-level-test.true
@@ -13,13 +15,13 @@ stopped c =
     ∙ c.loop-level.invariant.2
 
 pub returns-in-None-clause-level : goal.returns-in-None-clause-level
-returns-in-None-clause-level c = ap (λ p. p.0) (stopped c)
+returns-in-None-clause-level g c = ap (λ p. p.0) (stopped g c)
 
 pub returns-in-None-clause-table : goal.returns-in-None-clause-table
-returns-in-None-clause-table c = ap (λ p. p.1) (stopped c)
+returns-in-None-clause-table g c = ap (λ p. p.1) (stopped g c)
 
 pub loop-level-preserved : goal.loop-level-preserved
-loop-level-preserved c =
+loop-level-preserved g c =
     let t = c.args.frames.now in
     let entry = c.read_entry.ensures ∙ ap (entry_at c.args.frames.now c.loop-level.table.0) c.table_index.ensures.index in
     let leads = rw entry at c.in-Some.ensures.0 in
@@ -27,19 +29,20 @@ loop-level-preserved c =
     let pointer = is_pointer-leads_on t _ leads in
     let points = next_table t c.args.page c.loop-level.level c.loop-level.table.0 c.loop-level.invariant.1 pointer in
     let here : c.loop-level.level - 1 + 1 ≡ c.loop-level.level = omega arith in
-    let less : c.loop-level.level - 1 < 2 = omega (arith, c.loop-level.invariant.0) in (
+    let less : c.loop-level.level - 1 < top_level g.M.Levels.mode = omega (arith, c.loop-level.invariant.0) in (
       omega (arith, c.loop-level.invariant.0),
       rw next (c.requires.forest.onto_tables _ _ _ points),
       rw next (sym (last_at-next t c.args.page c.loop-level.level c.loop-level.table.0 c.loop-level-test.true pointer) ∙ c.loop-level.invariant.2),
       inr (less, rw (next, here) points),
+      omega (arith, c.loop-level.invariant.4),
     )
 
 pub returns-clause-level : goal.returns-clause-level
-returns-clause-level c =
+returns-clause-level g c =
     let zero : c.loop-level.level ≡ 0 = omega arith in
     ap (λ p. p.0) (sym (last_table-zero c.args.frames.now c.args.page c.loop-level.table.0) ∙ (rw zero at c.loop-level.invariant.2))
 
 pub returns-clause-table : goal.returns-clause-table
-returns-clause-table c =
+returns-clause-table g c =
     let zero : c.loop-level.level ≡ 0 = omega arith in
     ap (λ p. p.1) (sym (last_table-zero c.args.frames.now c.args.page c.loop-level.table.0) ∙ (rw zero at c.loop-level.invariant.2))

@@ -8,13 +8,13 @@ use Rattle.page_tables.proofs.Setting.{sets, kept_frames}
 use Rattle.page_tables.proofs.tables.set_in.Goals as goal
 
 pub returns-clause-sets : goal.returns-clause-sets
-returns-clause-sets c root page is_root small row is =
+returns-clause-sets c top root page is_root small row is =
     let t = c.args.frames.now in
     let leaf = number_of-not_pointer c.args.entry c.requires.form in
     let software : IsSoftware (number_of c.args.entry) = inr (record { entry = c.args.entry; form = c.requires.form; is = refl }) in
     let change : ChangesEntry t c.write_entry.new.frames c.args.table.0 (index_of page 0) (number_of c.args.entry) =
     rw (index_low page ∙ is, ← c.encode.ensures) c.write_entry.ensures.change in
-    sets t c.write_entry.new.frames 2 root page c.args.table.0 (number_of c.args.entry) c.requires.forest is_root
+    sets t c.write_entry.new.frames top root page c.args.table.0 (number_of c.args.entry) c.requires.forest is_root
     (row.whole page refl) (row.last page refl) software leaf change small
 
 pub returns-clause-kept : goal.returns-clause-kept

@@ -1,3 +1,4 @@
+use Rattle.vm_types.proofs.Modes.{sizes, user_pages_fit}
 use Rattle.std.proofs.Common.{◌≡◌, ◌≢◌, ℕ, inl, inr, Some, refl, sym, ap, ◌∙◌, subst, arith}
 use Rattle.frames.specs.declared.role.Role.TheVariants.{Private, Cache}
 use Rattle.vm_types.specs.declared.object.PageKey.{PageKey}
@@ -14,7 +15,7 @@ use Rattle.paging.proofs.Putting.{put_spares, fit_unput, with_slots, kept_by, ow
 use Rattle.paging.proofs.Sparing.{forgotten_spares, spares_then, past_unused}
 use Rattle.paging.proofs.evicting.send_away.Goals as goal
 
-held_there : (old new : Picture) (p : PageKey) (v k : ℕ) → old.place p ≡ Frame (record { 0 = v }) → new.place p ≡ Slot (record { 0 = k }) → new.slots.bytes k ≡ bytes_of old.frames v → held new p ≡ held old p
+held_there : {mode : ℕ} (old new : Picture mode) (p : PageKey) (v k : ℕ) → old.place p ≡ Frame (record { 0 = v }) → new.place p ≡ Slot (record { 0 = k }) → new.slots.bytes k ≡ bytes_of old.frames v → held new p ≡ held old p
 unfolding held
 held_there old new p v k at now same = ap (λ x. bytes_at new.frames new.slots x) now ∙ ap (λ b. Some b) same ∙ sym (ap (λ x. bytes_at old.frames old.slots x) at)
 
@@ -22,10 +23,10 @@ pub returns-in-Ok-clause-fit : goal.returns-in-Ok-clause-fit
 unfolding entry
 returns-in-Ok-clause-fit g c =
     let m = c.change_leaves.new.core in
-    let mid : Picture = picture_of m in
+    let mid : Picture g.M.Levels.mode = picture_of m in
     let t = slots_of c.put.new.self in
-    let put : Picture = record mid { slots = t } in
-    let new : Picture = record mid { slots = t; frames = c.release.new.self; place = place_of c.set_place.new.self; touched = is_touched c.set_place.new.self } in
+    let put : Picture g.M.Levels.mode = record mid { slots = t } in
+    let new : Picture g.M.Levels.mode = record mid { slots = t; frames = c.release.new.self; place = place_of c.set_place.new.self; touched = is_touched c.set_place.new.self } in
     let k = c.in-Ok.slot.0 in
     let puts = c.in-Ok.ensures.puts in
     let fit = c.change_leaves.ensures.fit in
@@ -49,18 +50,18 @@ returns-in-Ok-clause-fit g c =
       ];
       files = λ f. refl;
     } in
-    fit_slot put new c.args.page c.args.victim.0 k (fit_put mid put k 0 0 _ fit (with_slots mid t) puts (omega arith)) (owned_by mid t k _ fit puts) puts.counted leaves
+    fit_slot put new c.args.page c.args.victim.0 k (fit_put mid put k 0 0 _ fit (with_slots mid t) puts (omega (arith, user_pages_fit g.M.Levels.mode, (sizes g.M.Levels.mode).least))) (owned_by mid t k _ fit puts) puts.counted leaves
     (ch.beside.touched c.args.page ∙ c.requires.touched) (unnamed_of mid c.args.victim.0 c.change_leaves.ensures.clear)
 
 pub returns-in-Ok-clause-gives : goal.returns-in-Ok-clause-gives
 unfolding entry
 returns-in-Ok-clause-gives g c =
     let m = c.change_leaves.new.core in
-    let old : Picture = picture_of c.args.core.now in
-    let mid : Picture = picture_of m in
+    let old : Picture g.M.Levels.mode = picture_of c.args.core.now in
+    let mid : Picture g.M.Levels.mode = picture_of m in
     let t = slots_of c.put.new.self in
-    let put : Picture = record mid { slots = t } in
-    let new : Picture = record mid { slots = t; frames = c.release.new.self; place = place_of c.set_place.new.self; touched = is_touched c.set_place.new.self } in
+    let put : Picture g.M.Levels.mode = record mid { slots = t } in
+    let new : Picture g.M.Levels.mode = record mid { slots = t; frames = c.release.new.self; place = place_of c.set_place.new.self; touched = is_touched c.set_place.new.self } in
     let k = c.in-Ok.slot.0 in
     let puts = c.in-Ok.ensures.puts in
     let fit = c.change_leaves.ensures.fit in
@@ -88,23 +89,23 @@ returns-in-Ok-clause-gives g c =
     let first = forgotten_spares v k old mid c.requires.fit (c.requires.fit.places.cached c.args.page v c.requires.placed) ch in
     let puts_counts : (j : ℕ) → j ≢ k → IsInUse mid.slots j → t.count j ≡ mid.slots.count j = λ j ne used. (kept_by mid.slots t k _ puts j used).1 in
     let second = put_spares mid put fit (with_slots mid t) (λ j used. (kept_by mid.slots t k _ puts j used).0) v k puts.others.total puts_counts in
-    let third = left_spares put new c.args.page v (Slot (record { 0 = k })) (InSlot k) 1 (fit_put mid put k 0 0 _ fit (with_slots mid t) puts (omega arith)) leaves
+    let third = left_spares put new c.args.page v (Slot (record { 0 = k })) (InSlot k) 1 (fit_put mid put k 0 0 _ fit (with_slots mid t) puts (omega (arith, user_pages_fit g.M.Levels.mode, (sizes g.M.Levels.mode).least))) leaves
     (unnamed_of mid v c.change_leaves.ensures.clear) k (inl (held_there put new c.args.page v k was c.set_place.ensures.placed (puts.holds ∙ c.bytes.ensures))) in
     let unused : IsInUse old.slots k → ⊥ = λ used. (let P : SlotTable → Type 0 = λ s. IsInUse s k in let there = subst P (sym ch.beside.slots) used in let none = puts.was_free in omega (arith, there, none)) in
     (k, unused, spares_then v k old put new (spares_then v k old mid put first second) third)
 
 pub returns-in-Err-Device-clause-fit : goal.returns-in-Err-Device-clause-fit
 returns-in-Err-Device-clause-fit g c =
-    let mid : Picture = picture_of c.change_leaves.new.core in
+    let mid : Picture g.M.Levels.mode = picture_of c.change_leaves.new.core in
     let t = slots_of c.put.new.self in
     fit_unput mid (record mid { slots = t }) c.change_leaves.ensures.fit (with_slots mid t) c.in-Err-Device.ensures.same
 
 pub returns-in-Err-Device-clause-gives : goal.returns-in-Err-Device-clause-gives
 returns-in-Err-Device-clause-gives g c =
-    let old : Picture = picture_of c.args.core.now in
-    let mid : Picture = picture_of c.change_leaves.new.core in
+    let old : Picture g.M.Levels.mode = picture_of c.args.core.now in
+    let mid : Picture g.M.Levels.mode = picture_of c.change_leaves.new.core in
     let t = slots_of c.put.new.self in
-    let put : Picture = record mid { slots = t } in
+    let put : Picture g.M.Levels.mode = record mid { slots = t } in
     let v = c.args.victim.0 in
     let k = old.slots.total in
     let same = c.in-Err-Device.ensures.same in (

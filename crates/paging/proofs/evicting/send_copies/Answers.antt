@@ -11,9 +11,9 @@ use Rattle.paging.proofs.evicting.send_copies.Goals as goal
 
 pub hand_over-requires-clause-handing : goal.hand_over-requires-clause-handing
 hand_over-requires-clause-handing g c =
-    let old : Picture = picture_of c.args.core.now in
+    let old : Picture g.M.Levels.mode = picture_of c.args.core.now in
     let t = slots_of c.put.new.self in
-    let put : Picture = record old { slots = t } in
+    let put : Picture g.M.Levels.mode = record old { slots = t } in
     let k = c.in-Ok.slot.0 in
     let v = c.args.victim.0 in
     let page = old.page_of v in
@@ -36,10 +36,10 @@ hand_over-requires-clause-handing g c =
 
 pub returns-in-Ok-clause-gives : goal.returns-in-Ok-clause-gives
 returns-in-Ok-clause-gives g c =
-    let old : Picture = picture_of c.args.core.now in
+    let old : Picture g.M.Levels.mode = picture_of c.args.core.now in
     let t = slots_of c.put.new.self in
-    let put : Picture = record old { slots = t } in
-    let new : Picture = picture_of c.hand_over.new.core in
+    let put : Picture g.M.Levels.mode = record old { slots = t } in
+    let new : Picture g.M.Levels.mode = picture_of c.hand_over.new.core in
     let k = c.in-Ok.slot.0 in
     let v = c.args.victim.0 in
     let puts = c.in-Ok.ensures.puts in (
@@ -50,13 +50,13 @@ returns-in-Ok-clause-gives g c =
 
 pub returns-in-Err-Device-clause-fit : goal.returns-in-Err-Device-clause-fit
 returns-in-Err-Device-clause-fit g c =
-    let old : Picture = picture_of c.args.core.now in
+    let old : Picture g.M.Levels.mode = picture_of c.args.core.now in
     let t = slots_of c.put.new.self in
     fit_unput old (record old { slots = t }) c.requires.fit (with_slots old t) c.in-Err-Device.ensures.same
 
 pub returns-in-Err-Device-clause-gives : goal.returns-in-Err-Device-clause-gives
 returns-in-Err-Device-clause-gives g c =
-    let old : Picture = picture_of c.args.core.now in
+    let old : Picture g.M.Levels.mode = picture_of c.args.core.now in
     let t = slots_of c.put.new.self in
     let v = c.args.victim.0 in
     let same = c.in-Err-Device.ensures.same in (

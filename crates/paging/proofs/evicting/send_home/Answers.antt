@@ -1,4 +1,4 @@
-use Rattle.std.proofs.Common.{◌≡◌, inl, inr, None, refl, sym, ap, ◌∙◌, arith}
+use Rattle.std.proofs.Common.{ℕ, ◌≡◌, inl, inr, None, refl, sym, ap, ◌∙◌, arith}
 use Rattle.vm_types.specs.declared.object.PageKey.{PageKey}
 use Rattle.frames.specs.declared.role.Role.TheVariants.{Zero, Private, Cache}
 use Rattle.frames.specs.FrameTable.{role_of}
@@ -11,15 +11,15 @@ use Rattle.paging.proofs.Places.{cases_page}
 use Rattle.paging.proofs.Sparing.{forgotten_spares, spares_then}
 use Rattle.paging.proofs.evicting.send_home.Goals as goal
 
-gone_home : (c : Picture) (p : PageKey) → c.place p ≡ Home → held c p ≡ None
+gone_home : {mode : ℕ} (c : Picture mode) (p : PageKey) → c.place p ≡ Home → held c p ≡ None
 unfolding held
 gone_home c p home = ap (λ x. bytes_at c.frames c.slots x) home
 
 pub returns-clause-fit : goal.returns-clause-fit
 returns-clause-fit g c =
     let m = c.change_leaves.new.core in
-    let mid : Picture = picture_of m in
-    let new : Picture = record mid { frames = c.release.new.self; place = place_of c.set_place.new.self; touched = is_touched c.set_place.new.self } in
+    let mid : Picture g.M.Levels.mode = picture_of m in
+    let new : Picture g.M.Levels.mode = record mid { frames = c.release.new.self; place = place_of c.set_place.new.self; touched = is_touched c.set_place.new.self } in
     let ch = c.change_leaves.ensures.changes in
     let was = ch.beside.place c.args.page ∙ c.requires.placed in
     let cache = c.change_leaves.ensures.fit.places.cached c.args.page c.args.victim.0 was in
@@ -46,9 +46,9 @@ returns-clause-fit g c =
 pub returns-clause-spares : goal.returns-clause-spares
 returns-clause-spares g c = λ k.
     let m = c.change_leaves.new.core in
-    let old : Picture = picture_of c.args.core.now in
-    let mid : Picture = picture_of m in
-    let new : Picture = record mid { frames = c.release.new.self; place = place_of c.set_place.new.self; touched = is_touched c.set_place.new.self } in
+    let old : Picture g.M.Levels.mode = picture_of c.args.core.now in
+    let mid : Picture g.M.Levels.mode = picture_of m in
+    let new : Picture g.M.Levels.mode = record mid { frames = c.release.new.self; place = place_of c.set_place.new.self; touched = is_touched c.set_place.new.self } in
     let ch = c.change_leaves.ensures.changes in
     let was = ch.beside.place c.args.page ∙ c.requires.placed in
     let cache = c.change_leaves.ensures.fit.places.cached c.args.page c.args.victim.0 was in

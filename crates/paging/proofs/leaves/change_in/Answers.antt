@@ -1,3 +1,4 @@
+use Rattle.vm_types.proofs.Modes.{user_pages_fit}
 use Rattle.std.proofs.Common.{ℕ, inl, inr, subst, arith}
 use Rattle.std.proofs.lemmas.Bool.{cases_eq, cases_lt}
 use Rattle.paging.specs.Picture.{picture_of}
@@ -21,7 +22,7 @@ loop-page-preserved g c =
       clear = λ k less over. elim (cases_eq k c.in-Some.page) [
         | inl e ↦ (let P : ℕ → Type 0 = λ x. IsOver (picture_of d) c.args.change c.args.frame.0 c.args.pid x in done.clear (subst P e over))
         | inr ne ↦ still_clear c.args.change c.args.frame.0 c.args.pid k (picture_of b) (picture_of d) done.changes
-            (let u = next.user in let n = c.get-low.ensures.number in omega (arith, u, n, less))
+            (let u = next.user in let n = c.get-low.ensures.number in omega (arith, u, n, less, user_pages_fit g.M.Levels.mode))
             (λ was. elim (cases_lt k c.loop-page.low) [
               | inl passed ↦ kept.clear k passed was
               | inr late ↦ next.before k late (let n = c.get-low.ensures.number in omega (arith, n, less, ne)) was

@@ -1,3 +1,4 @@
+use Rattle.vm_types.specs.Limits.{top_level}
 use Rattle.std.proofs.Common.{ℕ, ◌<◌}
 use Rattle.page_tables.specs.Tree.{IsPage}
 use Rattle.paging.specs.Picture.{picture_of}
@@ -10,5 +11,5 @@ invariant-loop-pid g l = record {
   fit : IsFit (picture_of l.core);
   beside : KeepsAllButFrames l.fn.core l.core;
   changes : ChangesLeaves l.change l.frame.0 (picture_of l.fn.core) (picture_of l.core);
-  clear : (q k : ℕ) → q < l.pid → IsPage 2 k → IsOver (picture_of l.core) l.change l.frame.0 q k → ⊥;
+  clear : (q k : ℕ) → q < l.pid → IsPage (top_level g.M.Levels.mode) k → IsOver (picture_of l.core) l.change l.frame.0 q k → ⊥;
 }

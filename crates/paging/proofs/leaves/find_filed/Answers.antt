@@ -1,3 +1,4 @@
+use Rattle.vm_types.proofs.Modes.{user_pages_fit}
 use Rattle.std.proofs.Common.{[], length, sym, ◌∙◌, arith, inl, inr, ◌<◌}
 use Rattle.std.proofs.lemmas.Bool.{cases_lt}
 use Rattle.std.proofs.lemmas.List.{get_or_read}
@@ -19,7 +20,7 @@ returns-in-Some-find_over-clause-some g c =
       before = λ j low less over. elim (cases_lt j c.loop-run.from) [
         | inl passed ↦ c.loop-run.invariant.before j low passed over
         | inr late ↦ elim (cases_lt j c.in-Some.run'.first) [
-          | inl gap ↦ over_mapped (picture_of core) c.args.change c.args.frame.0 c.args.pid j c.requires.fit (let u = next.high in let n = next.nonempty in omega (arith, gap, u, n)) over (at j ∙ next.none_before j late gap)
+          | inl gap ↦ over_mapped (picture_of core) c.args.change c.args.frame.0 c.args.pid j c.requires.fit (let u = next.high in let n = next.nonempty in omega (arith, gap, u, n, user_pages_fit g.M.Levels.mode)) over (at j ∙ next.none_before j late gap)
           | inr within ↦ here.0.before j within less over
         ]
       ];
@@ -36,7 +37,7 @@ loop-run-preserved g c =
       before = λ j low less over. elim (cases_lt j c.loop-run.from) [
         | inl passed ↦ c.loop-run.invariant.before j low passed over
         | inr late ↦ elim (cases_lt j c.in-Some.run'.first) [
-          | inl gap ↦ over_mapped (picture_of core) c.args.change c.args.frame.0 c.args.pid j c.requires.fit (let u = next.high in let n = next.nonempty in omega (arith, gap, u, n)) over (at j ∙ next.none_before j late gap)
+          | inl gap ↦ over_mapped (picture_of core) c.args.change c.args.frame.0 c.args.pid j c.requires.fit (let u = next.high in let n = next.nonempty in omega (arith, gap, u, n, user_pages_fit g.M.Levels.mode)) over (at j ∙ next.none_before j late gap)
           | inr within ↦ c.in_default-find_over.ensures.none j within less over
         ]
       ];

@@ -1,3 +1,4 @@
+use Rattle.vm_types.specs.Limits.{user_end}
 use Rattle.std.proofs.Common.{ℕ, ◌-◌, ◌^◌, ◌<◌, ◌≤◌}
 use Rattle.paging.specs.Picture.{picture_of}
 use Rattle.paging.specs.Leaves.{IsOver}
@@ -10,4 +11,4 @@ invariant-loop-run g l = record {
 }
 
 abbrev pub decreases-loop-run : goal.decreases-loop-run
-decreases-loop-run g l = 2 ^ 26 - l.from
+decreases-loop-run g l = user_end g.M.Levels.mode - l.from

@@ -1,3 +1,4 @@
+use Rattle.vm_types.proofs.Modes.{user_pages_fit}
 use Rattle.std.proofs.Common.{ℕ, refl, sym, ◌∙◌, subst, arith}
 use Rattle.std.proofs.lemmas.Bool.{false≢true}
 use Rattle.paging.specs.Picture.{picture_of}
@@ -16,7 +17,7 @@ returns-then-is_over-clause-some g c = record {
   user = (let u = (c.in-Some.ensures.known.0 refl).1 in omega (arith, u, c.in-Some.ensures.found));
   over = c.is_over.ensures.over c.if-is_over.true;
   before = λ j low less over. (
-      let e = over_own (picture_of c.args.core.now) c.args.change c.args.frame.0 c.args.pid j c.requires.fit (let u = (c.in-Some.ensures.known.0 refl).1 in omega (arith, less, u, c.in-Some.ensures.found)) over c.requires.above c.requires.role in
+      let e = over_own (picture_of c.args.core.now) c.args.change c.args.frame.0 c.args.pid j c.requires.fit (let u = (c.in-Some.ensures.known.0 refl).1 in omega (arith, less, u, c.in-Some.ensures.found, user_pages_fit g.M.Levels.mode)) over c.requires.above c.requires.role in
       omega (arith, e, less, c.requires.noted, c.in-Some.ensures.found));
 }
 

@@ -1,4 +1,7 @@
-use Rattle.std.proofs.Common.{ℕ, inl, inr, None, sym, ◌∙◌, subst, arith}
+use Rattle.std.specs.Prelude.{IfSome}
+use Rattle.vm_types.proofs.Modes.{user_pages_fit}
+use Rattle.vm_types.specs.Limits.{top_level}
+use Rattle.std.proofs.Common.{ℕ, inl, inr, None, sym, ◌∙◌, subst, arith, ◌≡◌, true, Option, Some, is_some, refl}
 use Rattle.std.proofs.lemmas.Bool.{cases_eq, false≢true}
 use Rattle.std.proofs.lemmas.List.{get_or_read}
 use Rattle.page_tables.specs.Tree.{IsPage}
@@ -31,7 +34,19 @@ loop-pid-preserved g c = record {
 
 pub returns : goal.returns
 returns g c =
-    let clear : (q k : ℕ) → IsPage 2 k → IsOver (picture_of c.args.core.now) c.args.change c.args.frame.0 q k → ⊥ = λ q k h over. (
+    let clear : (q k : ℕ) → IsPage (top_level g.M.Levels.mode) k → IsOver (picture_of c.args.core.now) c.args.change c.args.frame.0 q k → ⊥ = λ q k h over. (
     let n = over_number (picture_of c.args.core.now) c.args.change c.args.frame.0 q k c.requires.fit over in
     c.loop-pid.invariant.clear q k (omega (arith, n.1, c.loop-pid-test.false)) h over) in
     (λ f. absurd (false≢true f), λ m. absurd (clear m.0 m.1 m.2 m.3))
+
+picked : (r : Option ℕ) (P : ℕ → Type 0) → IfSome r P → is_some r ≡ true → (k : ℕ) × P k
+picked None P holds some = absurd (false≢true some)
+picked (Some k) P holds some = (k, holds)
+
+pub returns-then-is_some : goal.returns-then-is_some
+returns-then-is_some g c = (
+  λ yes. (
+      let found = picked c.find_in.result _ c.find_in.ensures.some (sym c.is_some.ensures ∙ c.if-is_some.true) in
+      (c.loop-pid.pid, found.0, omega (arith, found.1.user, user_pages_fit g.M.Levels.mode), found.1.over)),
+  λ has. refl,
+)

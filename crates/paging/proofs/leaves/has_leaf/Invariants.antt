@@ -1,3 +1,4 @@
+use Rattle.vm_types.specs.Limits.{top_level}
 use Rattle.std.proofs.Common.{ℕ, ◌<◌}
 use Rattle.page_tables.specs.Tree.{IsPage}
 use Rattle.paging.specs.Picture.{picture_of}
@@ -6,5 +7,5 @@ use Rattle.paging.proofs.leaves.has_leaf.Given as goal
 
 abbrev pub invariant-loop-pid : goal.invariant-loop-pid
 invariant-loop-pid g l = record {
-  clear : (q k : ℕ) → q < l.pid → IsPage 2 k → IsOver (picture_of l.core) l.change l.frame.0 q k → ⊥;
+  clear : (q k : ℕ) → q < l.pid → IsPage (top_level g.M.Levels.mode) k → IsOver (picture_of l.core) l.change l.frame.0 q k → ⊥;
 }

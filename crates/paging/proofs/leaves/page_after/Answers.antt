@@ -8,5 +8,5 @@ if_none_is None P p = p
 if_none_is (Some x) P p = tt
 
 pub returns-in_err-offset-clause-none : goal.returns-in_err-offset-clause-none
-returns-in_err-offset-clause-none c = if_none_is c.from_residual.result _ (λ k over.
+returns-in_err-offset-clause-none g c = if_none_is c.from_residual.result _ (λ k over.
     c.in_err-offset.ensures.none (k - c.args.run.first) (over_after c.args.run c.args.first c.args.page k c.requires.first over))

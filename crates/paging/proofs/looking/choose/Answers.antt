@@ -20,26 +20,23 @@ pub returns-clause-fit : goal.returns-clause-fit
 returns-clause-fit g c =
     let v = c.victim-choice.ensures in
     let follows = both c.victim-choice.result _ _ _ v.chooses v.kept (λ n ch. ch.passes.follows) (λ p. p.follows) in
-    let same = c.core-1.given.1 (sym follows.0) in
-    subst (λ y. IsFit (picture_of y)) (sym same) v.«open»
+    v.«open»
 
 pub returns-clause-frees : goal.returns-clause-frees
 returns-clause-frees g c =
     let v = c.victim-choice.ensures in
     let follows = both c.victim-choice.result _ _ _ v.chooses v.kept (λ n ch. ch.passes.follows) (λ p. p.follows) in
-    let same = c.core-1.given.1 (sym follows.0) in
     let old = picture_of c.args.core.now in
-    let there = follows.1.frees old (frees_none old c.args.keep) in
-    let P : Option FrameNo → Type 0 = λ k. Frees old (picture_of c.victim-choice.new.view.core.now) k in
-    subst (λ y. Frees old (picture_of y) c.args.keep) (sym same) (subst P follows.1.kept there)
+    let there = follows.frees old (frees_none old c.args.keep) in
+    let P : Option FrameNo → Type 0 = λ k. Frees old (picture_of c.victim-choice.new.view) k in
+    subst P follows.kept there
 
 pub returns-clause-marks : goal.returns-clause-marks
 returns-clause-marks g c =
     let v = c.victim-choice.ensures in
     let follows = both c.victim-choice.result _ _ _ v.chooses v.kept (λ n ch. ch.passes.follows) (λ p. p.follows) in
-    let same = c.core-1.given.1 (sym follows.0) in
     let old = picture_of c.args.core.now in
-    subst (λ y. ClearsMarks old (picture_of y)) (sym same) (follows.1.marks old (marks_none old))
+    follows.marks old (marks_none old)
 
 ok_then : {T E : Type 0} (r : Result T E) (P P' : T → Type 0) → IfOk r P → ((n : T) → P n → P' n) → IfOk r P'
 ok_then (Ok n) P P' ok f = f n ok
@@ -53,28 +50,24 @@ pub returns-clause-found : goal.returns-clause-found
 returns-clause-found g c =
     let v = c.victim-choice.ensures in
     let follows = both c.victim-choice.result _ _ _ v.chooses v.kept (λ n ch. ch.passes.follows) (λ p. p.follows) in
-    let same = c.core-1.given.1 (sym follows.0) in
-    let now = picture_of c.victim-choice.new.view.core.now in
+    let now = picture_of c.victim-choice.new.view in
     ok_then c.victim-choice.result _ _ v.chooses (λ n ch. (
     let there = (ch.passes.evictable n.0).1 ch.evictable in
     let P : Option FrameNo → Type 0 = λ k. IsEvictable now k n.0 in
-    subst (λ y. IsEvictable (picture_of y) c.args.keep n.0) (sym same) (subst P follows.1.kept there)))
+    subst P follows.kept there))
 
 pub returns-clause-none : goal.returns-clause-none
 returns-clause-none g c =
     let v = c.victim-choice.ensures in
     let follows = both c.victim-choice.result _ _ _ v.chooses v.kept (λ n ch. ch.passes.follows) (λ p. p.follows) in
-    let same = c.core-1.given.1 (sym follows.0) in
-    let now = c.victim-choice.new.view.core.now in
+    let now = c.victim-choice.new.view in
     err_then c.victim-choice.result _ _ _ v.none v.kept (λ none passes n inside ev. (
     let P : Option FrameNo → Type 0 = λ k. IsEvictable (picture_of now) k n in
-    let there = subst P (sym follows.1.kept) (subst (λ y. IsEvictable (picture_of y) c.args.keep n) same ev) in
-    let here = subst (λ y. IsFrame y.frames n) same inside in
-    none n (let t = passes.total in omega (arith, t, here)) ((passes.evictable n).0 there)))
+    let there = subst P (sym follows.kept) ev in
+    none n (let t = passes.total in omega (arith, t, inside)) ((passes.evictable n).0 there)))
 
 pub returns-clause-full : goal.returns-clause-full
 returns-clause-full g c = λ full.
     let v = c.victim-choice.ensures in
     let follows = both c.victim-choice.result _ _ _ v.chooses v.kept (λ n ch. ch.passes.follows) (λ p. p.follows) in
-    let same = c.core-1.given.1 (sym follows.0) in
-    subst (λ y. IsFull y.frames) (sym same) (follows.1.full full)
+    follows.full full

@@ -12,14 +12,14 @@ pub unreachable-requires : goal.unreachable-requires
 unreachable-requires g c =
     let core = c.args.core.now in
     let below : c.args.frame.0 < length core.page_of.items = (let n = c.requires.inside in let s = core.page_count in omega (arith, n, s)) in
-    let is = c.from.ensures ∙ get_or_read core.page_of.items c.args.frame.0 _ below c.index.ensures 0 in
+    let is = get_or_read core.page_of.items c.args.frame.0 _ below c.index.ensures 0 in
     no_user (picture_of core) c.args.frame.0 c.args.slot.0 _ c.requires.handing (λ range. false≢true (c.in_default.ensures.known.1 (omega (arith, is, range.0), omega (arith, is, range.1))))
 
 pub loop-pid-init : goal.loop-pid-init
 loop-pid-init g c =
     let core = c.args.core.now in
     let below : c.args.frame.0 < length core.page_of.items = (let n = c.requires.inside in let s = core.page_count in omega (arith, n, s)) in
-    let is = c.in-Some.ensures.found ∙ c.from.ensures ∙ get_or_read core.page_of.items c.args.frame.0 _ below c.index.ensures 0 in
+    let is = c.in-Some.ensures.found ∙ get_or_read core.page_of.items c.args.frame.0 _ below c.index.ensures 0 in
     let P : ℕ → Type 0 = λ n. IsHanding (picture_of core) c.args.frame.0 c.args.slot.0 n in
     record {
       ready = c.requires.ready;

@@ -9,9 +9,9 @@ use Rattle.paging.proofs.shares.pass_share.Goals as goal
 
 pub returns-clause-spares : goal.returns-clause-spares
 returns-clause-spares g c =
-    let old : Picture = picture_of c.args.core.now in
-    let mid : Picture = picture_of c.give_share.new.core in
-    let new : Picture = record mid { slots = slots_of c.share.new.self } in
+    let old : Picture g.M.Levels.mode = picture_of c.args.core.now in
+    let mid : Picture g.M.Levels.mode = picture_of c.give_share.new.core in
+    let new : Picture g.M.Levels.mode = record mid { slots = slots_of c.share.new.self } in
     let done = c.give_share.ensures in
     let v = c.args.frame.0 in
     let another : count_of c.args.core.now.frames v ≢ 1 = (let a = c.count-alone.ensures in let b = c.if-alone.false in omega (arith, a, b)) in
@@ -21,9 +21,9 @@ returns-clause-spares g c =
 
 pub returns-clause-handing : goal.returns-clause-handing
 returns-clause-handing g c = λ left.
-    let old : Picture = picture_of c.args.core.now in
-    let mid : Picture = picture_of c.give_share.new.core in
-    let new : Picture = record mid { slots = slots_of c.share.new.self } in
+    let old : Picture g.M.Levels.mode = picture_of c.args.core.now in
+    let mid : Picture g.M.Levels.mode = picture_of c.give_share.new.core in
+    let new : Picture g.M.Levels.mode = record mid { slots = slots_of c.share.new.self } in
     let done = c.give_share.ensures in
     let v = c.args.frame.0 in
     let another : count_of c.args.core.now.frames v ≢ 1 = (let a = c.count-alone.ensures in let b = c.if-alone.false in omega (arith, a, b)) in

@@ -8,16 +8,16 @@ use Rattle.paging_tests.proofs.Reached.{dead_unmapped}
 use Rattle.paging_tests.proofs.bench.spawn.Goals as goal
 
 pub add_process-requires : goal.add_process-requires
-add_process-requires c = record {
+add_process-requires g c = record {
   dead = ap (λ roots. root_in roots.items c.first_process-pid.result) c.take_table.ensures.rest.roots ∙ c.requires.none c.first_process-pid.result;
 }
 
 pub remap-requires : goal.remap-requires
-remap-requires c = record { live = ap is_some c.add_process.ensures.spawns.lives }
+remap-requires g c = record { live = ap is_some c.add_process.ensures.spawns.lives }
 
 pub returns-clause-alone : goal.returns-clause-alone
-returns-clause-alone c =
-    let new : Picture = picture_of c.remap.new.self in
+returns-clause-alone g c =
+    let new : Picture g.M.Levels.mode = picture_of c.remap.new.self in
     let pid = c.first_process-pid.result in
     let one = c.first_process-pid.ensures in
     let L : ℕ → Type 0 = λ p. is_some (new.root p) ≡ true in
@@ -30,16 +30,16 @@ returns-clause-alone c =
     }
 
 pub returns-clause-fit : goal.returns-clause-fit
-returns-clause-fit c =
-    let old : Picture = picture_of c.args.core.now in
-    let mid : Picture = picture_of c.take_table.new.self in
-    let made : Picture = picture_of c.add_process.new.self in
-    let new : Picture = picture_of c.remap.new.self in
+returns-clause-fit g c =
+    let old : Picture g.M.Levels.mode = picture_of c.args.core.now in
+    let mid : Picture g.M.Levels.mode = picture_of c.take_table.new.self in
+    let made : Picture g.M.Levels.mode = picture_of c.add_process.new.self in
+    let new : Picture g.M.Levels.mode = picture_of c.remap.new.self in
     let pid = c.first_process-pid.result in
     let root = c.in_ok-root.root.0 in
     let took = c.in_ok-root.ensures.taken in
     let spawns = c.add_process.ensures.spawns in
-    let alone = returns-clause-alone c in
+    let alone = returns-clause-alone g c in
     fit_mapped made new pid c.args.regions.now (fit_started old mid made pid root took spawns) c.remap.ensures.remaps c.remap.ensures.at
     c.requires.user c.requires.readable (objects_mapped new.at alone.pages (λ q page ne. dead_unmapped c.remap.new.self q page (alone.others q ne)))
     (λ page h. bare_started old mid made pid root took spawns page) spawns.unmapped

@@ -5,12 +5,12 @@ use Rattle.paging_tests.proofs.Reached.{open_held, fit_stored}
 use Rattle.paging_tests.proofs.bench.store.Goals as goal
 
 pub frame_of-frame-requires : goal.frame_of-frame-requires
-frame_of-frame-requires c =
+frame_of-frame-requires g c =
     let placed = c.in-Ok.ensures.placed in
     (open_held (picture_of c.access.new.core) c.in-Some.pid (c.args.addr / 4096) placed.seen.attr.backing (c.in-Ok.place.0 / 4096) placed.usable).inside
 
 pub returns-in-Ok-clause-sound : goal.returns-in-Ok-clause-sound
-returns-in-Ok-clause-sound c =
+returns-in-Ok-clause-sound g c =
     let a = c.args in
     let mid = c.access.new.core in
     let placed = c.in-Ok.ensures.placed in

@@ -8,7 +8,7 @@ use Rattle.paging_tests.proofs.objects.forget_away.Goals as goal
 
 pub forget-requires-clause-bare : goal.forget-requires-clause-bare
 forget-requires-clause-bare g c pid k h named =
-    let now : Picture = picture_of c.go_all.new.core in
+    let now : Picture g.M.Levels.mode = picture_of c.go_all.new.core in
     let spaces = c.go_all.ensures.spaces in
     let here : names (now.at 1 64) 0 0 ≡ true = ap (λ x. names x 0 0) (spaces.at 1 64 ∙ c.requires.alone.pages 64) in
     let page : c.expect-page.result ≡ 64 = subst (λ (o : Option ℕ). IfSome o (λ p. p ≡ 64)) c.expect-page.ensures c.new.ensures.found in

@@ -2,10 +2,10 @@ use Rattle.std.proofs.Common.{◌≡◌, ◌+◌, ◌++◌, ◌∷◌, [], ◌<�
 use Rattle.std.proofs.lemmas.List.{take_more, take_more_set}
 use Rattle.vm_types.specs.declared.command.Command.{Command}
 use Rattle.vm_types.specs.declared.reply.Reply.{Reply}
-use Rattle.paging.specs.Picture.{picture_of}
 use Rattle.machine.specs.Chain.{Caused}
 use Rattle.machine.specs.Counts.{Counts}
 use Rattle.machine.proofs.Counts.{counts}
+use Rattle.machine.proofs.Face.{readable}
 use Rattle.machine.proofs.Runs.{all_ran, caused_more, ran_more, room_then, RanSoFar}
 use Rattle.machine.proofs.machine.Machine.run.Goals as goal
 
@@ -27,7 +27,7 @@ loop-i-preserved g c =
       lengths = length-set _ _ _ ∙ inv.lengths;
       kept = λ k. inv.kept (c.step.ensures.kept k);
       swap_kept = λ k. inv.swap_kept (c.step.ensures.swap_kept k);
-      room = room_then (picture_of c.args.self.now.core) (picture_of c.loop-i.self.core) (picture_of c.step.new.self.core) inv.room c.step.ensures.room;
+      room = room_then c.args.self.now c.loop-i.self c.step.new.self inv.room c.step.ensures.room;
       caused =
           let old = c.args.self.now in
           subst (λ (zs : List Reply). Caused g.D.SectorDisk g.E.SectorDisk old zs c.step.new.self) (sym ys)
@@ -35,7 +35,7 @@ loop-i-preserved g c =
       ran = λ s shows keeps swap_keeps.
           let old = c.args.self.now in
           let one = ran_more g.D.SectorDisk g.E.SectorDisk old c.loop-i.self c.step.new.self s (take i commands) (take i replies) x r (inv.ran s shows (c.step.ensures.kept keeps) (c.step.ensures.swap_kept swap_keeps))
-          (λ u at. c.step.ensures.meets u at (record { files = λ _. keeps; slots = λ _. swap_keeps })) in
+          (λ u at. c.step.ensures.meets u at (readable g.D.SectorDisk g.E.SectorDisk c.step.new.self u x keeps swap_keeps)) in
           subst (λ (zs : List Command). RanSoFar g.D.SectorDisk g.E.SectorDisk old c.step.new.self s zs (take (i + 1) (set replies i r))) (sym xs)
           (subst (λ (zs : List Reply). RanSoFar g.D.SectorDisk g.E.SectorDisk old c.step.new.self s (take i commands ++ x ∷ []) zs) (sym ys) one);
     }

@@ -4,8 +4,8 @@ use Rattle.mapped_memory.proofs.Keeping.{data_leaf, kept_data}
 use Rattle.mapped_memory.proofs.memory.Memory.bytes_mut.Goals as goal
 
 pub invariant_of-self-lent : goal.invariant_of-self-lent
-invariant_of-self-lent c = λ w.
+invariant_of-self-lent g c = λ w.
     let t = c.self.inside.frames in
     let n = c.args.n.0 in
-    kept_data t (with_bytes t n w) n c.self.inside.buffer c.forget_table.new.buffer c.forget_table.ensures
-    (λ other. data_leaf t (with_bytes t n w) n (with_bytes-others t n w) other other) c.self.invariant
+    kept_data g.M.Levels.mode t (with_bytes t n w) n c.self.inside.buffer c.forget_table.new.buffer c.forget_table.ensures
+    (λ other. data_leaf t (with_bytes t n w) n (with_bytes-others t n w) other other g.M.Levels.mode) c.self.invariant

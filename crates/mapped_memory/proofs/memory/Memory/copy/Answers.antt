@@ -6,10 +6,10 @@ use Rattle.mapped_memory.proofs.Keeping.{data_leaf, kept_data}
 use Rattle.mapped_memory.proofs.memory.Memory.copy.Goals as goal
 
 pub invariant_of-self : goal.invariant_of-self
-invariant_of-self c =
+invariant_of-self g c =
     let t = c.self.inside.frames in
     let n = c.args.to.0 in
     let w = bytes_of t c.args.from.0 in
-    subst (λ (x : FrameTable). LinesAreLeaves x c.forget_table.new.buffer) (sym c.copy.ensures.copied)
-    (kept_data t (with_bytes t n w) n c.self.inside.buffer c.forget_table.new.buffer c.forget_table.ensures
-    (λ other. data_leaf t (with_bytes t n w) n (with_bytes-others t n w) other other) c.self.invariant)
+    subst (λ (x : FrameTable). LinesAreLeaves g.M.Levels.mode x c.forget_table.new.buffer) (sym c.copy.ensures.copied)
+    (kept_data g.M.Levels.mode t (with_bytes t n w) n c.self.inside.buffer c.forget_table.new.buffer c.forget_table.ensures
+    (λ other. data_leaf t (with_bytes t n w) n (with_bytes-others t n w) other other g.M.Levels.mode) c.self.invariant)

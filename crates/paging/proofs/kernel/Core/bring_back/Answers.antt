@@ -19,7 +19,7 @@ use Rattle.paging.proofs.kernel.Core.bring_back.Goals as goal
 
 pub returns-in-Ok-get-clause-brought : goal.returns-in-Ok-get-clause-brought
 returns-in-Ok-get-clause-brought g c =
-    let mid : Picture = picture_of c.obtain.new.core in
+    let mid : Picture g.M.Levels.mode = picture_of c.obtain.new.core in
     let takes = c.in-Ok.ensures.taken in
     let frees = c.obtain.ensures.frees in
     let fit = c.obtain.ensures.fit in
@@ -55,7 +55,7 @@ returns-in-Ok-get-clause-fit g c =
     fit_brought brought.found _ c.args.page c.in-Ok.frame.0 brought.fit brought.brings
 
 -- what is left of memory where the read failed
-abbrev emptied : (g : Over) (c : goal.After-self-in-Err-1 g) → Picture
+abbrev emptied : (g : Over) (c : goal.After-self-in-Err-1 g) → Picture g.M.Levels.mode
 emptied g c = record (picture_of c.obtain.new.core) { slots = slots_of c.get.new.self; frames = c.release-in-Err.new.self }
 
 spent : (g : Over) (c : goal.After-self-in-Err-1 g) → ChangesFrame (picture_of c.obtain.new.core) (emptied g c) c.in-Ok.frame.0

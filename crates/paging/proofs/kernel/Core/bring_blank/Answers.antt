@@ -14,7 +14,7 @@ use Rattle.paging.proofs.kernel.Core.bring_blank.Goals as goal
 
 pub returns-clause-brought : goal.returns-clause-brought
 returns-clause-brought g c =
-    let mid : Picture = picture_of c.obtain.new.core in
+    let mid : Picture g.M.Levels.mode = picture_of c.obtain.new.core in
     let takes = c.in-Ok.ensures.taken in
     let frees = c.obtain.ensures.frees in
     let home = frees.home (Object c.args.page) c.requires.home in

@@ -20,7 +20,7 @@ use Rattle.paging.proofs.kernel.Core.bring_in.Goals as goal
 
 pub returns-in-Ok-read_page-clause-brought : goal.returns-in-Ok-read_page-clause-brought
 returns-in-Ok-read_page-clause-brought g c =
-    let mid : Picture = picture_of c.obtain.new.core in
+    let mid : Picture g.M.Levels.mode = picture_of c.obtain.new.core in
     let takes = c.in-Ok.ensures.taken in
     let frees = c.obtain.ensures.frees in
     let home = frees.home (File c.args.page) c.requires.home in
@@ -55,7 +55,7 @@ returns-in-Ok-read_page-clause-fit g c =
     fit_brought brought.found _ (File c.args.page) c.in-Ok.frame.0 brought.fit brought.brings
 
 -- what is left of memory where the read failed
-abbrev emptied : (g : Over) (c : goal.After-self-in-Err-1 g) → Picture
+abbrev emptied : (g : Over) (c : goal.After-self-in-Err-1 g) → Picture g.M.Levels.mode
 emptied g c = record (picture_of c.obtain.new.core) { files = files_of c.read_page.new.self; frames = c.release.new.self }
 
 spent : (g : Over) (c : goal.After-self-in-Err-1 g) → ChangesFrame (picture_of c.obtain.new.core) (emptied g c) c.in-Ok.frame.0

@@ -19,9 +19,9 @@ release-requires g c =
 
 pub returns-clause-fit : goal.returns-clause-fit
 returns-clause-fit g c =
-    let old : Picture = picture_of c.args.self.now in
-    let mid : Picture = record old { place = place_of c.clean.new.self; touched = is_touched c.clean.new.self } in
-    let new : Picture = record old { frames = c.release.new.self; place = place_of c.set_place.new.self; touched = is_touched c.set_place.new.self } in
+    let old : Picture g.M.Levels.mode = picture_of c.args.self.now in
+    let mid : Picture g.M.Levels.mode = record old { place = place_of c.clean.new.self; touched = is_touched c.clean.new.self } in
+    let new : Picture g.M.Levels.mode = record old { frames = c.release.new.self; place = place_of c.set_place.new.self; touched = is_touched c.set_place.new.self } in
     let key = Object c.args.page in
     let n = c.args.frame.0 in
     let cache = c.requires.fit.places.cached key n c.requires.placed in
@@ -58,9 +58,9 @@ returns-clause-fit g c =
 
 pub returns-clause-forgets : goal.returns-clause-forgets
 returns-clause-forgets g c =
-    let old : Picture = picture_of c.args.self.now in
-    let mid : Picture = record old { place = place_of c.clean.new.self; touched = is_touched c.clean.new.self } in
-    let new : Picture = record old { frames = c.release.new.self; place = place_of c.set_place.new.self; touched = is_touched c.set_place.new.self } in
+    let old : Picture g.M.Levels.mode = picture_of c.args.self.now in
+    let mid : Picture g.M.Levels.mode = record old { place = place_of c.clean.new.self; touched = is_touched c.clean.new.self } in
+    let new : Picture g.M.Levels.mode = record old { frames = c.release.new.self; place = place_of c.set_place.new.self; touched = is_touched c.set_place.new.self } in
     let key = Object c.args.page in
     let n = c.args.frame.0 in
     let cache = c.requires.fit.places.cached key n c.requires.placed in

@@ -12,8 +12,8 @@ release-requires g c = (let one = c.requires.fit.places.slotted (Object c.args.p
 
 pub returns-clause-fit : goal.returns-clause-fit
 returns-clause-fit g c =
-    let old : Picture = picture_of c.args.self.now in
-    let new : Picture = record old { slots = slots_of c.release.new.self; place = place_of c.set_place.new.self; touched = is_touched c.set_place.new.self } in
+    let old : Picture g.M.Levels.mode = picture_of c.args.self.now in
+    let new : Picture g.M.Levels.mode = record old { slots = slots_of c.release.new.self; place = place_of c.set_place.new.self; touched = is_touched c.set_place.new.self } in
     let homes : Homes old new (Object c.args.page) c.args.slot.0 = record {
       was = c.requires.placed;
       frames = refl;
@@ -31,8 +31,8 @@ returns-clause-fit g c =
 
 pub returns-clause-forgets : goal.returns-clause-forgets
 returns-clause-forgets g c =
-    let old : Picture = picture_of c.args.self.now in
-    let new : Picture = record old { slots = slots_of c.release.new.self; place = place_of c.set_place.new.self; touched = is_touched c.set_place.new.self } in
+    let old : Picture g.M.Levels.mode = picture_of c.args.self.now in
+    let new : Picture g.M.Levels.mode = record old { slots = slots_of c.release.new.self; place = place_of c.set_place.new.self; touched = is_touched c.set_place.new.self } in
     let homes : Homes old new (Object c.args.page) c.args.slot.0 = record {
       was = c.requires.placed;
       frames = refl;

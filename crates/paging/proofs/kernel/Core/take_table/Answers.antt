@@ -1,3 +1,4 @@
+use Rattle.vm_types.specs.declared.mode.Levels as Levels
 use Rattle.std.proofs.Common.{ℕ, Option, refl, Some, None, ap, inl, inr, ◌⊎◌, ◌≡◌}
 use Rattle.frames.specs.FrameTable.{FrameTable, IsFull}
 use Rattle.paging.specs.Picture.{Picture, picture_of}
@@ -19,18 +20,18 @@ returns-clause-taken g c = record {
 }
 
 -- why a frame was given up, if one was
-needed_of : {D E : Type 0} (old found : Core D E) → IsFull old.frames ⊎ (found ≡ old) → IsFull old.frames ⊎ (picture_of found ≡ picture_of old)
+needed_of : {M : Type 0} {m : Levels.Ghosts M} → {D E : Type 0} (old found : Core D E M m) → IsFull old.frames ⊎ (found ≡ old) → IsFull old.frames ⊎ (picture_of found ≡ picture_of old)
 needed_of old found (inl full) = inl full
 needed_of old found (inr same) = inr (ap picture_of same)
 
-same_beside : (c : Picture) (t : FrameTable) → SameBeside c (record c { frames = t })
+same_beside : {mode : ℕ} (c : Picture mode) (t : FrameTable) → SameBeside c (record c { frames = t })
 same_beside c t = record { slots = refl; root = λ q. refl; at = λ q k. refl; page_of = λ n. refl; place = λ p. refl; touched = λ p. refl; files = λ f. refl }
 
 pub returns-clause-gives : goal.returns-clause-gives
 returns-clause-gives g c =
     let old = picture_of c.args.self.now in
     let found = picture_of c.obtain.new.core in
-    let new : Picture = record found { frames = c.take_table.new.memory } in
+    let new : Picture g.M.Levels.mode = record found { frames = c.take_table.new.memory } in
     let needed = needed_of c.args.self.now c.obtain.new.core c.obtain.ensures.needed in
     let adds = c.in-Ok.ensures.taken in
     let gives = frame_taken old found None c.in_ok-obtain.field-0.0 c.in-Ok.table.0 c.obtain.ensures.frees c.in_ok-obtain.ensures.gives needed adds.takes.inside adds.takes.was_free in
@@ -40,7 +41,7 @@ pub returns-clause-only : goal.returns-clause-only
 returns-clause-only g c =
     let old = picture_of c.args.self.now in
     let found = picture_of c.obtain.new.core in
-    let new : Picture = record found { frames = c.take_table.new.memory } in
+    let new : Picture g.M.Levels.mode = record found { frames = c.take_table.new.memory } in
     let needed = needed_of c.args.self.now c.obtain.new.core c.obtain.ensures.needed in
     let adds = c.in-Ok.ensures.taken in
     let gives = frame_taken old found None c.in_ok-obtain.field-0.0 c.in-Ok.table.0 c.obtain.ensures.frees c.in_ok-obtain.ensures.gives needed adds.takes.inside adds.takes.was_free in

@@ -3,6 +3,6 @@ use Rattle.regions.proofs.SearchLemmas.{is_covered-gap}
 use Rattle.regions.proofs.table.Regions.covers.Goals as goal
 
 pub returns : goal.returns
-returns c =
+returns g c =
     ap (λ (n : ℕ). leb (c.args.first + c.args.pages) n) c.gap_from.ensures.gap
-    ∙ sym (is_covered-gap c.args.self.now c.args.first c.args.pages c.gap_from.ensures.maximal)
+    ∙ sym (is_covered-gap g.M.Levels.mode c.args.self.now c.args.first c.args.pages c.gap_from.ensures.maximal)

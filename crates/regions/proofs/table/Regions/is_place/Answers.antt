@@ -2,18 +2,18 @@ use Rattle.std.proofs.Common.{inl, inr, sym, ◌∙◌, arith}
 use Rattle.regions.specs.RunList.{attr_at}
 use Rattle.regions.proofs.SearchLemmas.{is_place-clear, is_place-not}
 use Rattle.regions.proofs.table.Regions.is_place.Goals as goal
-use Rattle.regions.proofs.table.Regions.is_place.Goals.{then-first-lt-USER_START-via-then-first-lt-USER_START, then-first-lt-USER_START-via-else-first-lt-USER_START+then-first-gt-USER_END, then-first-lt-USER_START-via-else-first-lt-USER_START+else-first-gt-USER_END+then-pages-first}
+use Rattle.regions.proofs.table.Regions.is_place.Goals.{then-first-lt-USER_START-via-then-first-lt-USER_START, then-first-lt-USER_START-via-else-first-lt-USER_START+then-first-end, then-first-lt-USER_START-via-else-first-lt-USER_START+else-first-end+then-pages-end}
 
 pub returns-then-first-lt-USER_START : goal.returns-then-first-lt-USER_START
-returns-then-first-lt-USER_START c =
-    sym (is_place-not (attr_at c.args.self.now) c.args.pages c.args.first
+returns-then-first-lt-USER_START g c =
+    sym (is_place-not g.M.Levels.mode (attr_at c.args.self.now) c.args.pages c.args.first
     (elim c.then-first-lt-USER_START.branch [
       | then-first-lt-USER_START-via-then-first-lt-USER_START w ↦ inl (omega arith)
-      | then-first-lt-USER_START-via-else-first-lt-USER_START+then-first-gt-USER_END w ↦ inr (omega arith)
-      | then-first-lt-USER_START-via-else-first-lt-USER_START+else-first-gt-USER_END+then-pages-first w ↦ inr (omega arith)
+      | then-first-lt-USER_START-via-else-first-lt-USER_START+then-first-end w ↦ inr (omega arith)
+      | then-first-lt-USER_START-via-else-first-lt-USER_START+else-first-end+then-pages-end w ↦ inr (omega arith)
     ]))
 
 pub returns : goal.returns
-returns c =
+returns g c =
     c.is_clear.ensures.clear
-    ∙ sym (is_place-clear c.args.self.now c.args.pages c.args.first c.is_clear.ensures.maximal c.requires (omega arith) (omega arith))
+    ∙ sym (is_place-clear g.M.Levels.mode c.args.self.now c.args.pages c.args.first c.is_clear.ensures.maximal c.requires (omega arith) (omega arith))

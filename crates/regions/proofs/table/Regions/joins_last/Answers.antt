@@ -5,13 +5,13 @@ use Rattle.regions.proofs.PushLemmas.{joins_last-is, last_run, unused}
 use Rattle.regions.proofs.table.Regions.joins_last.Goals as goal
 
 pub joins-requires : goal.joins-requires
-joins-requires c =
+joins-requires g c =
     let few : c.self.inside.len ≤ 256 = c.self.invariant.0 in
     let room : length c.self.inside.runs ≡ 256 = c.self.invariant.1 in
-    last_run c.self.inside.runs c.self.inside.len unused (omega arith) (omega arith) c.self.invariant.2
+    last_run g.M.Levels.mode c.self.inside.runs c.self.inside.len unused (omega arith) (omega arith) c.self.invariant.2
 
 pub returns : goal.returns
-returns c =
+returns g c =
     let few : c.self.inside.len ≤ 256 = c.self.invariant.0 in
     let room : length c.self.inside.runs ≡ 256 = c.self.invariant.1 in
     c.joins.ensures

@@ -5,11 +5,11 @@ use Rattle.regions.proofs.WalkLemmas.{IsNextOrNone, first_part-is, next_none, ne
 use Rattle.regions.proofs.table.Regions.next_run.Goals as goal
 
 pub returns-clause-none : goal.returns-clause-none
-returns-clause-none c =
-    next_none (attr_at c.args.self.now) c.args.page c.first_part.result
-    (subst (λ (o : Option Run). IsNextOrNone (attr_at c.args.self.now) c.args.page o) (sym c.first_part.ensures.part) (first_part-is 16 c.args.page c.args.self.now c.first_part.ensures.maximal))
+returns-clause-none g c =
+    next_none g.M.Levels.mode (attr_at c.args.self.now) c.args.page c.first_part.result
+    (subst (λ (o : Option Run). IsNextOrNone g.M.Levels.mode (attr_at c.args.self.now) c.args.page o) (sym c.first_part.ensures.part) (first_part-is g.M.Levels.mode 16 c.args.page c.args.self.now c.first_part.ensures.maximal))
 
 pub returns-clause-some : goal.returns-clause-some
-returns-clause-some c =
-    next_some (attr_at c.args.self.now) c.args.page c.first_part.result
-    (subst (λ (o : Option Run). IsNextOrNone (attr_at c.args.self.now) c.args.page o) (sym c.first_part.ensures.part) (first_part-is 16 c.args.page c.args.self.now c.first_part.ensures.maximal))
+returns-clause-some g c =
+    next_some g.M.Levels.mode (attr_at c.args.self.now) c.args.page c.first_part.result
+    (subst (λ (o : Option Run). IsNextOrNone g.M.Levels.mode (attr_at c.args.self.now) c.args.page o) (sym c.first_part.ensures.part) (first_part-is g.M.Levels.mode 16 c.args.page c.args.self.now c.first_part.ensures.maximal))

@@ -1,3 +1,4 @@
+use Rattle.vm_types.specs.Limits.{user_end}
 use Rattle.std.proofs.Common.{◌≡◌, ◌/◌, ◌≤◌, ◌+◌, ◌^◌, true, sym, ◌∙◌, arith}
 use Rattle.vm_types.specs.Placement.{is_place, lowest_place, placed}
 use Rattle.regions.specs.RunList.{attr_at}
@@ -6,23 +7,23 @@ use Rattle.regions.proofs.table.Regions.place.Goals as goal
 use Rattle.regions.proofs.table.Regions.place.Goals.{else-address-ne0-via-then-address-ne0+else-is_place, else-address-ne0-via-else-address-ne0}
 
 pub returns-then-is_place : goal.returns-then-is_place
-returns-then-is_place c =
-    let e : is_place (attr_at c.args.self.now) c.args.pages (c.args.address / 4096) ≡ true = sym c.is_place.ensures ∙ c.if-is_place.true in
-    let place : IsPlace (attr_at c.args.self.now) c.args.pages (c.args.address / 4096) = is_place-is (attr_at c.args.self.now) c.args.pages (c.args.address / 4096) e in
+returns-then-is_place g c =
+    let e : is_place g.M.Levels.mode (attr_at c.args.self.now) c.args.pages (c.args.address / 4096) ≡ true = sym c.is_place.ensures ∙ c.if-is_place.true in
+    let place : IsPlace g.M.Levels.mode (attr_at c.args.self.now) c.args.pages (c.args.address / 4096) = is_place-is g.M.Levels.mode (attr_at c.args.self.now) c.args.pages (c.args.address / 4096) e in
     let low : 16 ≤ c.args.address / 4096 = place.low in
-    let high : c.args.address / 4096 + c.args.pages ≤ 2 ^ 26 = place.high in
+    let high : c.args.address / 4096 + c.args.pages ≤ user_end g.M.Levels.mode = place.high in
     some_from c.new.result (c.args.address / 4096) c.new.ensures.found (c.new.ensures.known.1 (low, omega arith))
-    ∙ sym (placed-hint (attr_at c.args.self.now) c.args.address c.args.pages c.if-address-ne0.true e)
+    ∙ sym (placed-hint g.M.Levels.mode (attr_at c.args.self.now) c.args.address c.args.pages c.if-address-ne0.true e)
 
 pub returns : goal.returns
-returns c =
-    let gap : placed (attr_at c.args.self.now) c.args.address c.args.pages ≡ lowest_place (attr_at c.args.self.now) c.args.pages =
+returns g c =
+    let gap : placed g.M.Levels.mode (attr_at c.args.self.now) c.args.address c.args.pages ≡ lowest_place g.M.Levels.mode (attr_at c.args.self.now) c.args.pages =
     elim c.else-address-ne0.branch [
       | else-address-ne0-via-then-address-ne0+else-is_place w ↦
-          placed-taken (attr_at c.args.self.now) c.args.address c.args.pages w.if-address-ne0.true (sym w.is_place.ensures ∙ w.if-is_place.false)
+          placed-taken g.M.Levels.mode (attr_at c.args.self.now) c.args.address c.args.pages w.if-address-ne0.true (sym w.is_place.ensures ∙ w.if-is_place.false)
       | else-address-ne0-via-else-address-ne0 w ↦
-          placed-zero (attr_at c.args.self.now) c.args.address c.args.pages w.if-address-ne0.false
+          placed-zero g.M.Levels.mode (attr_at c.args.self.now) c.args.address c.args.pages w.if-address-ne0.false
     ] in
     c.lowest_gap.ensures.place
-    ∙ sym (lowest_place-gap c.args.self.now c.args.pages c.lowest_gap.ensures.maximal c.requires)
+    ∙ sym (lowest_place-gap g.M.Levels.mode c.args.self.now c.args.pages c.lowest_gap.ensures.maximal c.requires)
     ∙ sym gap

@@ -13,7 +13,7 @@ behind_them : (old now : List Run) (next : Run) → old ≡ now → end_of 16 no
 behind_them old now next e h = subst (λ (l : List Run). end_of 16 l ≤ next.first) (sym e) h
 
 pub invariant_of-self : goal.invariant_of-self
-invariant_of-self c =
+invariant_of-self g c =
     let runs : List Run = c.self.inside.runs in
     let few : c.self.inside.len ≤ 256 = c.self.invariant.0 in
     let room : length c.self.inside.runs ≡ 256 = c.self.invariant.1 in
@@ -22,13 +22,13 @@ invariant_of-self c =
     let some : 0 < c.self.inside.len = some_last c.self.inside.runs c.self.inside.len c.args.next goes_on in (
       few,
       length-set c.self.inside.runs (c.self.inside.len - 1) (merged (get_or c.self.inside.runs (c.self.inside.len - 1) unused) c.args.next) ∙ room,
-      subst (λ (l : List Run). IsMaximal 16 l)
+      subst (λ (l : List Run). IsMaximal g.M.Levels.mode 16 l)
           (sym (merged_last c.self.inside.runs c.self.inside.len unused c.args.next some (omega arith) goes_on))
-          (maximal-pushed 16 (take c.self.inside.len c.self.inside.runs) c.args.next c.self.invariant.2 (behind_them _ _ c.args.next c.self.view_is c.requires.behind) c.requires.run),
+          (maximal-pushed g.M.Levels.mode 16 (take c.self.inside.len c.self.inside.runs) c.args.next c.self.invariant.2 (behind_them _ _ c.args.next c.self.view_is c.requires.behind) c.requires.run),
     )
 
 pub returns-then-joins_last-clause-ok : goal.returns-then-joins_last-clause-ok
-returns-then-joins_last-clause-ok c =
+returns-then-joins_last-clause-ok g c =
     let few : c.self.inside.len ≤ 256 = c.self.invariant.0 in
     let room : length c.self.inside.runs ≡ 256 = c.self.invariant.1 in
     let goes_on : joins_last (take c.self.inside.len c.self.inside.runs) c.args.next ≡ true =
@@ -38,7 +38,7 @@ returns-then-joins_last-clause-ok c =
     ∙ ap (λ (l : List Run). pushed l c.args.next) c.self.view_is
 
 pub returns-then-self-eq-RUNS-clause-err : goal.returns-then-self-eq-RUNS-clause-err
-returns-then-self-eq-RUNS-clause-err c =
+returns-then-self-eq-RUNS-clause-err g c =
     let room : length c.self.inside.runs ≡ 256 = c.self.invariant.1 in
     let full : length (take c.self.inside.len c.self.inside.runs) ≡ c.self.inside.len = length-take-le c.self.inside.len c.self.inside.runs (omega arith) in
     let seen : length (take c.self.inside.len c.self.inside.runs) ≡ length c.args.self.now = ap (λ (l : List Run). length l) c.self.view_is in
@@ -47,7 +47,7 @@ returns-then-self-eq-RUNS-clause-err c =
     omega arith
 
 pub invariant_of-self-2 : goal.invariant_of-self-2
-invariant_of-self-2 c =
+invariant_of-self-2 g c =
     let few : c.self.inside.len ≤ 256 = c.self.invariant.0 in
     let room : length c.self.inside.runs ≡ 256 = c.self.invariant.1 in
     let ends : joins_last (take c.self.inside.len c.self.inside.runs) c.args.next ≡ false =
@@ -57,12 +57,12 @@ invariant_of-self-2 c =
     ∙ added_at c.self.inside.runs c.self.inside.len c.args.next (omega arith) ends in (
       omega arith,
       length-set c.self.inside.runs c.self.inside.len c.args.next ∙ room,
-      subst (λ (l : List Run). IsMaximal 16 l) (sym more)
-          (maximal-pushed 16 (take c.self.inside.len c.self.inside.runs) c.args.next c.self.invariant.2 (behind_them _ _ c.args.next c.self.view_is c.requires.behind) c.requires.run),
+      subst (λ (l : List Run). IsMaximal g.M.Levels.mode 16 l) (sym more)
+          (maximal-pushed g.M.Levels.mode 16 (take c.self.inside.len c.self.inside.runs) c.args.next c.self.invariant.2 (behind_them _ _ c.args.next c.self.view_is c.requires.behind) c.requires.run),
     )
 
 pub returns-clause-ok : goal.returns-clause-ok
-returns-clause-ok c =
+returns-clause-ok g c =
     let few : c.self.inside.len ≤ 256 = c.self.invariant.0 in
     let room : length c.self.inside.runs ≡ 256 = c.self.invariant.1 in
     let ends : joins_last (take c.self.inside.len c.self.inside.runs) c.args.next ≡ false =

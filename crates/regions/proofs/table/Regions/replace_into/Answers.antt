@@ -1,3 +1,4 @@
+use Rattle.vm_types.proofs.Modes.{sizes}
 use Rattle.std.proofs.Common.{◌≡◌, ◌<◌, ◌≤◌, List, length, sym, ◌∙◌, ap, subst, arith}
 use Rattle.vm_types.specs.Rows.{replaced}
 use Rattle.vm_types.specs.Runs.{run_count}
@@ -10,77 +11,80 @@ use Rattle.regions.proofs.WalkLemmas.{user_map}
 use Rattle.regions.proofs.table.Regions.replace_into.Goals as goal
 
 pub returns-in_err-paste-clause-too_many : goal.returns-in_err-paste-clause-too_many
-returns-in_err-paste-clause-too_many c =
-    let run : IsRun (row_run c.args.first c.args.pages c.args.attr) = run_of_row c.args.first c.args.pages c.args.attr c.requires.some c.requires.low c.requires.high c.requires.file_pages in
-    on_err c.from_residual.result (256 < run_count (replaced (attr_at c.args.self.now) c.args.first c.args.pages c.args.attr))
-    (many_replaced_front c.args.self.now c.args.first c.args.pages c.args.attr c.as_slice.ensures.maximal run
+returns-in_err-paste-clause-too_many g c =
+    let run : IsRun g.M.Levels.mode (row_run c.args.first c.args.pages c.args.attr) = run_of_row g.M.Levels.mode c.args.first c.args.pages c.args.attr c.requires.some c.requires.low c.requires.high c.requires.file_pages in
+    on_err c.from_residual.result (256 < run_count g.M.Levels.mode (replaced (attr_at c.args.self.now) c.args.first c.args.pages c.args.attr))
+    (many_replaced_front g.M.Levels.mode c.args.self.now c.args.first c.args.pages c.args.attr c.as_slice.ensures.maximal run
     (rw (c.clear.ensures.none, c.as_slice.ensures.runs) at c.in_err-paste.ensures.err))
 
 pub returns-in_err-paste-clause-user_before : goal.returns-in_err-paste-clause-user_before
-returns-in_err-paste-clause-user_before c = user_map c.args.self.now c.as_slice.ensures.maximal
+returns-in_err-paste-clause-user_before g c = user_map g.M.Levels.mode c.args.self.now c.as_slice.ensures.maximal
 
 pub push-requires-clause-run : goal.push-requires-clause-run
-push-requires-clause-run c =
-    run_of_row c.args.first c.args.pages c.args.attr c.requires.some c.requires.low c.requires.high c.requires.file_pages
+push-requires-clause-run g c =
+    run_of_row g.M.Levels.mode c.args.first c.args.pages c.args.attr c.requires.some c.requires.low c.requires.high c.requires.file_pages
 
 pub push-requires-clause-behind : goal.push-requires-clause-behind
-push-requires-clause-behind c =
-    let run : IsRun (row_run c.args.first c.args.pages c.args.attr) = run_of_row c.args.first c.args.pages c.args.attr c.requires.some c.requires.low c.requires.high c.requires.file_pages in
+push-requires-clause-behind g c =
+    let run : IsRun g.M.Levels.mode (row_run c.args.first c.args.pages c.args.attr) = run_of_row g.M.Levels.mode c.args.first c.args.pages c.args.attr c.requires.some c.requires.low c.requires.high c.requires.file_pages in
     rw (c.in_ok-paste.ensures.ok, c.clear.ensures.none, c.as_slice.ensures.runs)
-    (replaced_behind c.args.self.now c.as_slice.ensures.maximal (row_run c.args.first c.args.pages c.args.attr) run)
+    (replaced_behind g.M.Levels.mode c.args.self.now c.as_slice.ensures.maximal (row_run c.args.first c.args.pages c.args.attr) run)
 
 pub returns-in_err-push-clause-too_many : goal.returns-in_err-push-clause-too_many
-returns-in_err-push-clause-too_many c =
-    let run : IsRun (row_run c.args.first c.args.pages c.args.attr) = run_of_row c.args.first c.args.pages c.args.attr c.requires.some c.requires.low c.requires.high c.requires.file_pages in
-    on_err c.from_residual-in_err-push.result (256 < run_count (replaced (attr_at c.args.self.now) c.args.first c.args.pages c.args.attr))
-    (many_replaced_middle c.args.self.now c.args.first c.args.pages c.args.attr c.as_slice.ensures.maximal run
+returns-in_err-push-clause-too_many g c =
+    let run : IsRun g.M.Levels.mode (row_run c.args.first c.args.pages c.args.attr) = run_of_row g.M.Levels.mode c.args.first c.args.pages c.args.attr c.requires.some c.requires.low c.requires.high c.requires.file_pages in
+    on_err c.from_residual-in_err-push.result (256 < run_count g.M.Levels.mode (replaced (attr_at c.args.self.now) c.args.first c.args.pages c.args.attr))
+    (many_replaced_middle g.M.Levels.mode c.args.self.now c.args.first c.args.pages c.args.attr c.as_slice.ensures.maximal run
     (rw (c.in_ok-paste.ensures.ok, c.clear.ensures.none, c.as_slice.ensures.runs) at c.in_err-push.ensures.err))
 
 pub returns-in_err-push-clause-user_before : goal.returns-in_err-push-clause-user_before
-returns-in_err-push-clause-user_before c = user_map c.args.self.now c.as_slice.ensures.maximal
+returns-in_err-push-clause-user_before g c = user_map g.M.Levels.mode c.args.self.now c.as_slice.ensures.maximal
 
 pub paste-requires-2-clause-behind : goal.paste-requires-2-clause-behind
-paste-requires-2-clause-behind c =
-    let run : IsRun (row_run c.args.first c.args.pages c.args.attr) = run_of_row c.args.first c.args.pages c.args.attr c.requires.some c.requires.low c.requires.high c.requires.file_pages in
+paste-requires-2-clause-behind g c =
+    let run : IsRun g.M.Levels.mode (row_run c.args.first c.args.pages c.args.attr) = run_of_row g.M.Levels.mode c.args.first c.args.pages c.args.attr c.requires.some c.requires.low c.requires.high c.requires.file_pages in
     rw (c.in_ok-push.ensures.ok, c.in_ok-paste.ensures.ok, c.clear.ensures.none, c.as_slice.ensures.runs)
-    (replaced_end c.args.self.now c.as_slice.ensures.maximal (row_run c.args.first c.args.pages c.args.attr) run)
+    (replaced_end g.M.Levels.mode c.args.self.now c.as_slice.ensures.maximal (row_run c.args.first c.args.pages c.args.attr) run)
 
 pub returns-in_err-paste-2-clause-too_many : goal.returns-in_err-paste-2-clause-too_many
-returns-in_err-paste-2-clause-too_many c =
-    let run : IsRun (row_run c.args.first c.args.pages c.args.attr) = run_of_row c.args.first c.args.pages c.args.attr c.requires.some c.requires.low c.requires.high c.requires.file_pages in
-    on_err c.from_residual-in_err-paste-2.result (256 < run_count (replaced (attr_at c.args.self.now) c.args.first c.args.pages c.args.attr))
-    (many_replaced c.args.self.now c.args.first c.args.pages c.args.attr c.as_slice.ensures.maximal run
+returns-in_err-paste-2-clause-too_many g c =
+    let run : IsRun g.M.Levels.mode (row_run c.args.first c.args.pages c.args.attr) = run_of_row g.M.Levels.mode c.args.first c.args.pages c.args.attr c.requires.some c.requires.low c.requires.high c.requires.file_pages in
+    on_err c.from_residual-in_err-paste-2.result (256 < run_count g.M.Levels.mode (replaced (attr_at c.args.self.now) c.args.first c.args.pages c.args.attr))
+    (many_replaced g.M.Levels.mode c.args.self.now c.args.first c.args.pages c.args.attr c.as_slice.ensures.maximal run
     (rw (c.in_ok-push.ensures.ok, c.in_ok-paste.ensures.ok, c.clear.ensures.none, c.as_slice.ensures.runs, c.as_slice-2.ensures.runs) at c.in_err-paste-2.ensures.err))
 
 pub returns-in_err-paste-2-clause-user_before : goal.returns-in_err-paste-2-clause-user_before
-returns-in_err-paste-2-clause-user_before c = user_map c.args.self.now c.as_slice.ensures.maximal
+returns-in_err-paste-2-clause-user_before g c = user_map g.M.Levels.mode c.args.self.now c.as_slice.ensures.maximal
 
 pub returns-clause-ok : goal.returns-clause-ok
-returns-clause-ok c = λ page.
-    let run : IsRun (row_run c.args.first c.args.pages c.args.attr) = run_of_row c.args.first c.args.pages c.args.attr c.requires.some c.requires.low c.requires.high c.requires.file_pages in
+returns-clause-ok g c = λ page.
+    let run : IsRun g.M.Levels.mode (row_run c.args.first c.args.pages c.args.attr) = run_of_row g.M.Levels.mode c.args.first c.args.pages c.args.attr c.requires.some c.requires.low c.requires.high c.requires.file_pages in
     let list : c.paste-2.new.self ≡ list_replaced c.args.self.now (row_run c.args.first c.args.pages c.args.attr) =
     rw (c.in_ok-push.ensures.ok, c.in_ok-paste.ensures.ok, c.clear.ensures.none, c.as_slice.ensures.runs, c.as_slice-2.ensures.runs) at c.in_ok-paste-2.ensures.ok in
     ap (λ (l : List Run). attr_at l page) list
-    ∙ replaced_at c.args.self.now c.as_slice.ensures.maximal (row_run c.args.first c.args.pages c.args.attr) run page
+    ∙ replaced_at g.M.Levels.mode c.args.self.now c.as_slice.ensures.maximal (row_run c.args.first c.args.pages c.args.attr) run page
 
 pub returns-clause-few : goal.returns-clause-few
-returns-clause-few c =
-    let run : IsRun (row_run c.args.first c.args.pages c.args.attr) = run_of_row c.args.first c.args.pages c.args.attr c.requires.some c.requires.low c.requires.high c.requires.file_pages in
+returns-clause-few g c =
+    let run : IsRun g.M.Levels.mode (row_run c.args.first c.args.pages c.args.attr) = run_of_row g.M.Levels.mode c.args.first c.args.pages c.args.attr c.requires.some c.requires.low c.requires.high c.requires.file_pages in
     let list : c.paste-2.new.self ≡ list_replaced c.args.self.now (row_run c.args.first c.args.pages c.args.attr) =
     rw (c.in_ok-push.ensures.ok, c.in_ok-paste.ensures.ok, c.clear.ensures.none, c.as_slice.ensures.runs, c.as_slice-2.ensures.runs) at c.in_ok-paste-2.ensures.ok in
-    let count : run_count (replaced (attr_at c.args.self.now) c.args.first c.args.pages c.args.attr) ≡ length (list_replaced c.args.self.now (row_run c.args.first c.args.pages c.args.attr)) =
-    count_replaced c.args.self.now c.args.first c.args.pages c.args.attr c.as_slice.ensures.maximal run in
+    let count : run_count g.M.Levels.mode (replaced (attr_at c.args.self.now) c.args.first c.args.pages c.args.attr) ≡ length (list_replaced c.args.self.now (row_run c.args.first c.args.pages c.args.attr)) =
+    count_replaced g.M.Levels.mode c.args.self.now c.args.first c.args.pages c.args.attr c.as_slice.ensures.maximal run in
     let same : length c.paste-2.new.self ≡ length (list_replaced c.args.self.now (row_run c.args.first c.args.pages c.args.attr)) = ap (λ (l : List Run). length l) list in
     let few : length c.paste-2.new.self ≤ 256 = c.in_ok-paste-2.ensures.few in
     omega arith
 
 pub returns-clause-user_after : goal.returns-clause-user_after
-returns-clause-user_after c =
-    let run : IsRun (row_run c.args.first c.args.pages c.args.attr) = run_of_row c.args.first c.args.pages c.args.attr c.requires.some c.requires.low c.requires.high c.requires.file_pages in
+returns-clause-user_after g c =
+    let run : IsRun g.M.Levels.mode (row_run c.args.first c.args.pages c.args.attr) = run_of_row g.M.Levels.mode c.args.first c.args.pages c.args.attr c.requires.some c.requires.low c.requires.high c.requires.file_pages in
     let list : c.paste-2.new.self ≡ list_replaced c.args.self.now (row_run c.args.first c.args.pages c.args.attr) =
     rw (c.in_ok-push.ensures.ok, c.in_ok-paste.ensures.ok, c.clear.ensures.none, c.as_slice.ensures.runs, c.as_slice-2.ensures.runs) at c.in_ok-paste-2.ensures.ok in
-    user_map c.paste-2.new.self
-    (subst (λ (l : List Run). IsMaximal 16 l) (sym list) (replaced_is c.args.self.now c.as_slice.ensures.maximal (row_run c.args.first c.args.pages c.args.attr) run).maximal)
+    user_map g.M.Levels.mode c.paste-2.new.self
+    (subst (λ (l : List Run). IsMaximal g.M.Levels.mode 16 l) (sym list) (replaced_is g.M.Levels.mode c.args.self.now c.as_slice.ensures.maximal (row_run c.args.first c.args.pages c.args.attr) run).maximal)
 
 pub returns-clause-user_before : goal.returns-clause-user_before
-returns-clause-user_before c = user_map c.args.self.now c.as_slice.ensures.maximal
+returns-clause-user_before g c = user_map g.M.Levels.mode c.args.self.now c.as_slice.ensures.maximal
+
+pub overflow_add-run : goal.overflow_add-run
+overflow_add-run g c = omega (arith, c.requires.high, (sizes g.M.Levels.mode).most)

@@ -1,0 +1,117 @@
+-- What the words on machines say, whatever the mode.
+use Rattle.std.proofs.Common.{◌+◌, ◌≡◌, ◌≤◌, ◌<◌, true, false, is_some, refl, ap}
+use Rattle.disk_model.specs.Moments.{LeavesNow, LeavesOnly}
+use Rattle.disk_model.specs.declared.sector_disk.SectorDisk.{Ghosts}
+use Rattle.calls.specs.Idle.{is_idle, names_store, names_swap, refused_count}
+use Rattle.vm_types.specs.declared.command.Command.{Command}
+use Rattle.vm_types.specs.declared.refusal.Errno.TheVariants.{EIO}
+use Rattle.vm_types.specs.declared.refusal.Stall.TheVariants.{SwapDevice, StoreDevice}
+use Rattle.vm_types.specs.declared.reply.Reply.{Reply}
+use Rattle.vm_types.specs.declared.reply.Reply.TheVariants.{Refused, Stalled}
+use Rattle.vm_types.specs.Run.{Step}
+use Rattle.vm_types.specs.Stalls.{Causes}
+use Rattle.vm_types.specs.State.{State}
+use Rattle.mode_machine.specs.Machine.{MayStand, HoldsIn, StandsForSome}
+use Rattle.machine.specs.declared.machine.Machine.{Machine}
+use Rattle.machine.specs.declared.machine.Machine.TheVariants.{Sv39, Sv48}
+use Rattle.machine.specs.Machine.{store_of, swap_of, halted_of, past_of, refused_of, mode_of, bits_of, KeepsRoom, IsCaused, Shows, Meets, IsReadable}
+
+module _ {D E : Type 0} (g : Ghosts D) (h : Ghosts E) where
+  -- what came to pass between two machines
+  abbrev pub causes : Machine D E → Machine D E → Causes
+  causes old new = record {
+    store = g.failures (store_of old) < g.failures (store_of new);
+    swap = h.failures (swap_of old) < h.failures (swap_of new);
+    refused = refused_of new ≡ refused_of old + 1;
+  }
+
+  -- a machine in a state
+  pub record IsShown (m : Machine D E) (s : State) : Type 0 where
+    pub running : is_some s.ends ≡ halted_of m
+    pub past : past_of m ≡ s.past
+    pub same_mode : s.mode ≡ bits_of (mode_of m)
+    pub stands : g.keeps_model (store_of m)
+        → LeavesNow g (store_of m) (StandsForSome (g.sector_count (store_of m)) s.files (MayStand s))
+
+  pub shown : (m : Machine D E) (s : State) → Shows g h m s → IsShown m s
+  shown (Sv39 m) s shows = record { running = shows.running; past = shows.past; same_mode = shows.pages.same_mode; stands = shows.stands }
+  shown (Sv48 m) s shows = record { running = shows.running; past = shows.past; same_mode = shows.pages.same_mode; stands = shows.stands }
+
+  -- of two devices that keep their models every command may read
+  pub readable : (m : Machine D E) (s : State) (command : Command) → g.keeps_model (store_of m) → h.keeps_model (swap_of m) → IsReadable g h m s command
+  readable (Sv39 m) s command keeps swap_keeps = record { files = λ _. keeps; slots = λ _. swap_keeps }
+  readable (Sv48 m) s command keeps swap_keeps = record { files = λ _. keeps; slots = λ _. swap_keeps }
+
+  -- a command that was carried out
+  pub record IsMet (old new : Machine D E) (s t : State) (command : Command) (reply : Reply) : Type 0 where
+    pub step : Step (causes old new) s command reply t
+    pub shows : Shows g h new t
+    pub room : KeepsRoom old new
+    pub size : g.sector_count (store_of new) ≡ g.sector_count (store_of old)
+    pub swap_size : h.sector_count (swap_of new) ≡ h.sector_count (swap_of old)
+    pub kept : g.keeps_model (store_of new) → g.keeps_model (store_of old)
+    pub swap_kept : h.keeps_model (swap_of new) → h.keeps_model (swap_of old)
+    pub idle : is_idle s command reply ≡ true → (store_of new ≡ store_of old) × (swap_of new ≡ swap_of old)
+    pub moments : g.keeps_model (store_of new)
+        → LeavesOnly g (store_of old) (store_of new) (StandsForSome (g.sector_count (store_of old)) s.files (HoldsIn s command reply))
+
+  pub face : (old new : Machine D E) (s t : State) (command : Command) (reply : Reply) → Meets g h old new s t command reply → IsMet old new s t command reply
+  face (Sv39 old) (Sv39 new) s t command reply meets = record {
+    step = meets.step;
+    shows = meets.shows;
+    room = record { frames = meets.room.frames; slots = meets.room.slots; mode = refl };
+    size = meets.size;
+    swap_size = meets.swap_size;
+    kept = meets.kept;
+    swap_kept = meets.swap_kept;
+    idle = λ e. let keeps = meets.idle e in (ap (λ store. store.disk) keeps.store, ap (λ pages. pages.disk) keeps.pages);
+    moments = meets.moments;
+  }
+  face (Sv48 old) (Sv48 new) s t command reply meets = record {
+    step = meets.step;
+    shows = meets.shows;
+    room = record { frames = meets.room.frames; slots = meets.room.slots; mode = refl };
+    size = meets.size;
+    swap_size = meets.swap_size;
+    kept = meets.kept;
+    swap_kept = meets.swap_kept;
+    idle = λ e. let keeps = meets.idle e in (ap (λ store. store.disk) keeps.store, ap (λ pages. pages.disk) keeps.pages);
+    moments = meets.moments;
+  }
+  face (Sv39 old) (Sv48 new) s t command reply meets = absurd meets
+  face (Sv48 old) (Sv39 new) s t command reply meets = absurd meets
+
+  -- what a reply comes from
+  pub record HasCause (old new : Machine D E) (reply : Reply) : Type 0 where
+    pub later : g.failures (store_of old) ≤ g.failures (store_of new)
+    pub swap_later : h.failures (swap_of old) ≤ h.failures (swap_of new)
+    pub calm : names_store reply ≡ false → g.failures (store_of new) ≡ g.failures (store_of old)
+    pub swap_calm : names_swap reply ≡ false → h.failures (swap_of new) ≡ h.failures (swap_of old)
+    pub counted : refused_of new ≡ refused_of old + refused_count reply
+    pub failed : reply ≡ Refused EIO → g.failures (store_of old) < g.failures (store_of new)
+    pub stalled : reply ≡ Stalled StoreDevice → g.failures (store_of old) < g.failures (store_of new)
+    pub swap_stalled : reply ≡ Stalled SwapDevice → h.failures (swap_of old) < h.failures (swap_of new)
+
+  pub cause_of : (old new : Machine D E) (reply : Reply) → IsCaused g h old new reply → HasCause old new reply
+  cause_of (Sv39 old) (Sv39 new) reply is = record {
+    later = is.later;
+    swap_later = is.swap_later;
+    calm = is.calm;
+    swap_calm = is.swap_calm;
+    counted = is.counted;
+    failed = is.failed;
+    stalled = λ e. (is.stalled StoreDevice e).1;
+    swap_stalled = λ e. (is.stalled SwapDevice e).2;
+  }
+  cause_of (Sv48 old) (Sv48 new) reply is = record {
+    later = is.later;
+    swap_later = is.swap_later;
+    calm = is.calm;
+    swap_calm = is.swap_calm;
+    counted = is.counted;
+    failed = is.failed;
+    stalled = λ e. (is.stalled StoreDevice e).1;
+    swap_stalled = λ e. (is.stalled SwapDevice e).2;
+  }
+  cause_of (Sv39 old) (Sv48 new) reply is = absurd is
+  cause_of (Sv48 old) (Sv39 new) reply is = absurd is

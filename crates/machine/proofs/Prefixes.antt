@@ -1,0 +1,184 @@
+-- The prefixes of the msyncs, command after command.
+use Rattle.std.proofs.Common.{ℕ, zero, suc, ◌+◌, ◌≡◌, ◌≤◌, ◌⊎◌, inl, inr, Bool, true, false, if◌then◌else◌, List, [], ◌∷◌, Some, None, refl, sym, ap, ◌∙◌, arith, add-one, add-zero}
+use Rattle.vm_types.specs.declared.command.Command.{Command}
+use Rattle.vm_types.specs.declared.command.Command.TheVariants.{Spawn, Fork, Exit, Mmap, Munmap, Mprotect, Dontneed, Msync, Load, Store, Fetch, PastFaults}
+use Rattle.vm_types.specs.declared.refusal.Errno.TheVariants.{EIO}
+use Rattle.vm_types.specs.declared.reply.Reply.{Reply}
+use Rattle.vm_types.specs.declared.reply.Reply.TheVariants.{Refused, Halted}
+use Rattle.vm_types.specs.Msync.{Ruling, Refuses, Passes, Takes, msync_ruling}
+use Rattle.vm_types.specs.Prefix.{Event, is_msync, is_done, may_have_taken, after_event, after_msyncs, this_or_further, acknowledged, IsPrefixHolding}
+use Rattle.vm_types.specs.Run.{Step, Answers, Fails, Stalls, Stays}
+use Rattle.vm_types.specs.Stalls.{Causes}
+use Rattle.vm_types.specs.State.{State, IsRunning}
+use Rattle.vm_types.specs.Step.{outcome, msync_outcome, ruling, takes, commits}
+use Rattle.vm_types.specs.View.{Pages}
+use Rattle.mode_machine.proofs.Steps.{outcome_keeps, commit_takes}
+use Rattle.machine.specs.Chain.{event}
+
+pub step_files : (causes : Causes) (s : State) (command : Command) (reply : Reply) (t : State) → Step causes s command reply t → t.files ≡ s.files
+step_files causes s command reply t (Answers run r e) = ap (λ (x : State). x.files) e ∙ (outcome_keeps s command).files
+step_files causes s command reply t (Fails after run c cause r e) = ap (λ (x : State). x.files) e
+step_files causes s command reply t (Stalls stall run may r e) = ap (λ (x : State). x.files) e
+step_files causes s command reply t (Stays ends is r e) = ap (λ (x : State). x.files) e
+
+either_way : (b : Bool) (d : Pages) → (if b then d else d) ≡ d
+either_way true d = refl
+either_way false d = refl
+
+-- what a command that returned made durable is what its event says
+msync_event : (s : State) (r : Ruling) (reply : Reply) (d : Pages) → reply ≡ (msync_outcome s r).reply → (if may_have_taken reply then takes s r d else d) ≡ takes s r d
+msync_event s (Refuses errno) reply d e = either_way (may_have_taken reply) d
+msync_event s Passes reply d e = either_way (may_have_taken reply) d
+msync_event s (Takes pid first count) reply d e = rw e refl
+
+answered_event : (s : State) (command : Command) (reply : Reply) (d : Pages) → reply ≡ (outcome s command).reply
+    → after_event (event s command reply) d ≡ takes s (ruling s command) d
+answered_event s (Fork pid) reply d e = either_way (may_have_taken reply) d
+answered_event s (Exit pid) reply d e = either_way (may_have_taken reply) d
+answered_event s (Fetch pid addr) reply d e = either_way (may_have_taken reply) d
+answered_event s Spawn reply d e = either_way (may_have_taken reply) d
+answered_event s (Mmap pid addr len prot source placing) reply d e = either_way (may_have_taken reply) d
+answered_event s (Munmap pid addr len) reply d e = either_way (may_have_taken reply) d
+answered_event s (Mprotect pid addr len prot) reply d e = either_way (may_have_taken reply) d
+answered_event s (Dontneed pid addr len) reply d e = either_way (may_have_taken reply) d
+answered_event s PastFaults reply d e = either_way (may_have_taken reply) d
+answered_event s (Msync pid addr len mode) reply d e = msync_event s (msync_ruling s pid addr len mode) reply d e
+answered_event s (Load pid addr width) reply d e = either_way (may_have_taken reply) d
+answered_event s (Store pid addr value) reply d e = either_way (may_have_taken reply) d
+
+-- The commit of the command failed: what it leaves is before it or after it.
+pub record Failed (s : State) (command : Command) (reply : Reply) (t : State) : Type 0 where
+  pub after : Pages
+  pub commit : commits s command ≡ Some after
+  pub answer : reply ≡ Refused EIO
+  pub ends : t.ends ≡ Some (s.durable ∷ after ∷ [])
+
+-- a step from a running state goes on running, or fails
+pub goes_on_or_fails : (causes : Causes) (s : State) (command : Command) (reply : Reply) (t : State) → Step causes s command reply t → IsRunning s
+    → (IsRunning t × (t.durable ≡ after_event (event s command reply) s.durable)) ⊎ Failed s command reply t
+goes_on_or_fails causes s command reply t (Answers run r e) h =
+    let kept = outcome_keeps s command in
+    inl (
+      ap (λ (x : State). x.ends) e ∙ kept.ends ∙ h,
+      ap (λ (x : State). x.durable) e ∙ kept.durable_is ∙ sym (answered_event s command reply s.durable r),
+    )
+goes_on_or_fails causes s command reply t (Fails after run c cause r e) h =
+    inr (record { after = after; commit = c; answer = r; ends = ap (λ (x : State). x.ends) e })
+goes_on_or_fails causes s command reply t (Stalls stall run may r e) h =
+    inl (
+      ap (λ (x : State). x.ends) e ∙ h,
+      ap (λ (x : State). x.durable) e ∙ sym (ap (λ (p : Reply). after_event (event s command p) s.durable) r),
+    )
+goes_on_or_fails causes s command reply t (Stays ends is r e) h = absurd (let k : Some ends ≡ None = sym is ∙ h in cc)
+
+-- a step from a halted state does nothing
+pub halted_stays : (causes : Causes) (s : State) (command : Command) (reply : Reply) (t : State) (ends : List Pages) → Step causes s command reply t → s.ends ≡ Some ends
+    → (reply ≡ Halted) × (t ≡ s)
+halted_stays causes s command reply t ends (Answers run r e) h = absurd (let k : Some ends ≡ None = sym h ∙ run in cc)
+halted_stays causes s command reply t ends (Fails after run c cause r e) h = absurd (let k : Some ends ≡ None = sym h ∙ run in cc)
+halted_stays causes s command reply t ends (Stalls stall run may r e) h = absurd (let k : Some ends ≡ None = sym h ∙ run in cc)
+halted_stays causes s command reply t ends (Stays others is r e) h = (r, e)
+
+-- what a failed commit may leave is what its event says
+pub failed_event : (s : State) (command : Command) (reply : Reply) (t : State) (f : Failed s command reply t)
+    → f.after ≡ after_event (event s command reply) s.durable
+failed_event s command reply t f =
+    commit_takes s (ruling s command) f.after f.commit ∙ sym (ap (λ (p : Reply). after_event (event s command p) s.durable) f.answer)
+
+-- prefixes
+weight : Command → ℕ
+weight command = if is_msync command then 1 else 0
+
+pub after_zero : (d : Pages) (events : List Event) → after_msyncs d events 0 ≡ d
+after_zero d [] = refl
+after_zero d (e ∷ es) = refl
+
+not_msync : (s : State) (command : Command) (reply : Reply) (d : Pages) → is_msync command ≡ false → after_event (event s command reply) d ≡ d
+not_msync s (Fork pid) reply d e = either_way (may_have_taken reply) d
+not_msync s (Exit pid) reply d e = either_way (may_have_taken reply) d
+not_msync s (Fetch pid addr) reply d e = either_way (may_have_taken reply) d
+not_msync s Spawn reply d e = either_way (may_have_taken reply) d
+not_msync s (Mmap pid addr len prot source placing) reply d e = either_way (may_have_taken reply) d
+not_msync s (Munmap pid addr len) reply d e = either_way (may_have_taken reply) d
+not_msync s (Mprotect pid addr len prot) reply d e = either_way (may_have_taken reply) d
+not_msync s (Dontneed pid addr len) reply d e = either_way (may_have_taken reply) d
+not_msync s PastFaults reply d e = either_way (may_have_taken reply) d
+not_msync s (Msync pid addr len mode) reply d e = cc
+not_msync s (Load pid addr width) reply d e = either_way (may_have_taken reply) d
+not_msync s (Store pid addr value) reply d e = either_way (may_have_taken reply) d
+
+-- one more msync in front
+one_more : (s : State) (command : Command) (reply : Reply) (d : Pages) (events : List Event) (i : ℕ)
+    → after_msyncs (after_event (event s command reply) d) events i ≡ after_msyncs d (event s command reply ∷ events) (i + weight command)
+unfolding weight
+one_more s command reply d events i =
+    elim (is_msync command) as (λ (b : Bool). is_msync command ≡ b
+    → after_msyncs (after_event (event s command reply) d) events i ≡ after_msyncs d (event s command reply ∷ events) (i + (if b then 1 else 0))) [
+      | true ↦ λ e. rw add-one (rw e refl)
+      | false ↦ λ e. rw add-zero (elim i as (λ (j : ℕ). after_msyncs (after_event (event s command reply) d) events j ≡ after_msyncs d (event s command reply ∷ events) j) [
+        | zero ↦ after_zero _ events ∙ not_msync s command reply d e
+        | suc j ↦ ap (λ (x : Pages). after_msyncs x events (suc j)) (not_msync s command reply d e) ∙ rw e refl
+      ])
+    ] refl
+
+further : (e : Event) (a i : ℕ) → a ≤ i → this_or_further e a ≤ i + 1
+further e zero i h = elim (is_done e.reply) as (λ (b : Bool). (if b then 1 else 0) ≤ i + 1) [ true ↦ omega arith | false ↦ omega arith ]
+further e (suc a) i h = omega arith
+
+more_acknowledged : (s : State) (command : Command) (reply : Reply) (events : List Event) (k i : ℕ) → acknowledged events k ≤ i
+    → acknowledged (event s command reply ∷ events) (suc k) ≤ i + weight command
+unfolding weight
+more_acknowledged s command reply events k i h =
+    elim (is_msync command) as (λ (b : Bool). (if b then this_or_further (event s command reply) (acknowledged events k) else acknowledged events k) ≤ i + (if b then 1 else 0)) [
+      | true ↦ further (event s command reply) (acknowledged events k) i h
+      | false ↦ omega arith
+    ]
+
+none_acknowledged : (events : List Event) → acknowledged events 0 ≡ 0
+none_acknowledged [] = refl
+none_acknowledged (e ∷ es) = refl
+
+pub prefix_here : (d : Pages) (events : List Event) (pages : Pages) → pages ≡ d → IsPrefixHolding d events 0 pages
+prefix_here d events pages e = record { i = 0; holds = omega (arith, none_acknowledged events); same = e ∙ sym (after_zero d events) }
+
+pub prefix_more : (s : State) (command : Command) (reply : Reply) (d : Pages) (events : List Event) (k : ℕ) (pages : Pages)
+    → IsPrefixHolding (after_event (event s command reply) d) events k pages → IsPrefixHolding d (event s command reply ∷ events) (suc k) pages
+prefix_more s command reply d events k pages p = record {
+  i = p.i + weight command;
+  holds = more_acknowledged s command reply events k p.i p.holds;
+  same = p.same ∙ one_more s command reply d events p.i;
+}
+
+pub prefix_from_start : (d : Pages) (events : List Event) (k : ℕ) (pages : Pages) → IsPrefixHolding d events k pages → IsPrefixHolding d events 0 pages
+prefix_from_start d events k pages p = record { i = p.i; holds = omega (arith, none_acknowledged events); same = p.same }
+
+-- what stands at a moment of a command
+pub prefix_during : (s : State) (command : Command) (reply : Reply) (d : Pages) (events : List Event) (pages : Pages)
+    → pages ≡ after_event (event s command reply) d → IsPrefixHolding d (event s command reply ∷ events) 0 pages
+prefix_during s command reply d events pages e =
+    prefix_from_start d (event s command reply ∷ events) 1 pages (prefix_more s command reply d events 0 pages (prefix_here (after_event (event s command reply) d) events pages e))
+
+-- after a failed commit nothing is acknowledged
+pub failed_before : (s : State) (command : Command) (reply : Reply) (events : List Event) (k : ℕ) (pages : Pages) → reply ≡ Refused EIO → acknowledged events k ≡ 0
+    → pages ≡ s.durable → IsPrefixHolding s.durable (event s command reply ∷ events) (suc k) pages
+failed_before s command reply events k pages r none e = record {
+  i = 0;
+  holds = elim (is_msync command) as (λ (b : Bool). (if b then this_or_further (event s command reply) (acknowledged events k) else acknowledged events k) ≤ 0) [
+    | true ↦ rw none (rw r (omega arith))
+    | false ↦ omega (arith, none)
+  ];
+  same = e;
+}
+
+pub failed_after : (s : State) (command : Command) (reply : Reply) (events : List Event) (k : ℕ) (pages : Pages) → acknowledged events k ≡ 0
+    → pages ≡ after_event (event s command reply) s.durable → IsPrefixHolding s.durable (event s command reply ∷ events) (suc k) pages
+failed_after s command reply events k pages none e =
+    prefix_more s command reply s.durable events k pages (record { i = 0; holds = omega (arith, none); same = e ∙ sym (after_zero _ events) })
+
+pub halted_event : (s : State) (command : Command) (reply : Reply) (events : List Event) (k : ℕ) → reply ≡ Halted → acknowledged events k ≡ 0
+    → acknowledged (event s command reply ∷ events) (suc k) ≡ 0
+halted_event s command reply events k r none =
+    elim (is_msync command) as (λ (b : Bool). (if b then this_or_further (event s command reply) (acknowledged events k) else acknowledged events k) ≡ 0) [
+      | true ↦ rw none (rw r refl)
+      | false ↦ none
+    ]

@@ -1,0 +1,167 @@
+-- What a boot leaves, from what the store's opening says.
+use Rattle.vm_types.specs.declared.mode.Levels as Levels
+use Rattle.std.proofs.Common.{ℕ, ◌≡◌, ◌⊎◌, inl, inr, ⊎_elim, false, List, Some, None, is_some, [], refl, sym, ap, ◌∙◌, subst}
+use Rattle.std.specs.Option.{option_map}
+use Rattle.disk_model.specs.Moments.{LeavesNow, LeavesOnly}
+use Rattle.disk_model.specs.Stop.{Image, MayLeave}
+use Rattle.disk_model.specs.declared.sector_disk.SectorDisk.{Ghosts}
+use Rattle.disk_model.proofs.Moments.{started}
+use Rattle.file_store.specs.Standing.{StandsFor, StandsAs, IsBadLayout, file_info, standing_page}
+use Rattle.file_store.specs.Store.{IsReadyStore}
+use Rattle.file_store.specs.Store as Stores
+use Rattle.file_store.specs.declared.faults.OpenFault.{OpenFault}
+use Rattle.file_store.specs.declared.faults.OpenFault.TheVariants.{Device as StoreDevice, BadLayout as StoreLayout, BadJournal as StoreJournal}
+use Rattle.file_store.specs.declared.store.FileStore.{FileStore}
+use Rattle.page_cache.specs.declared.place.Place.TheVariants.{Home}
+use Rattle.vm_types.specs.declared.object.PageKey.{PageKey}
+use Rattle.vm_types.specs.declared.object.PageKey.TheVariants.{File, Object}
+use Rattle.paging.specs.Calls.{IsStart}
+use Rattle.paging.specs.Picture.{Picture, picture_of, view, held}
+use Rattle.paging.specs.Shows.{ShowsPages}
+use Rattle.sync_journal.specs.Standing.{IsBadJournal}
+use Rattle.vm_types.specs.State.{State}
+use Rattle.mode_machine.specs.declared.boot.BootFault.TheVariants.{Frames, Slots, BadLayout, BadJournal}
+use Rattle.mode_machine.specs.declared.machine.ModeMachine.{ModeMachine}
+use Rattle.mode_machine.specs.Boot.{Boots}
+use Rattle.mode_machine.specs.Fault.{boot_fault}
+
+pub was_layout : (fault : OpenFault) → boot_fault fault ≡ BadLayout → fault ≡ StoreLayout
+was_layout StoreDevice e = cc
+was_layout StoreLayout e = refl
+was_layout StoreJournal e = cc
+
+pub was_journal : (fault : OpenFault) → boot_fault fault ≡ BadJournal → fault ≡ StoreJournal
+was_journal StoreDevice e = cc
+was_journal StoreLayout e = cc
+was_journal StoreJournal e = refl
+
+-- once the store is opened, the sizes were fine
+pub sized : (fault : OpenFault) → (boot_fault fault ≡ Frames) ⊎ (boot_fault fault ≡ Slots) → ⊥
+sized StoreDevice (inl e) = cc
+sized StoreDevice (inr e) = cc
+sized StoreLayout (inl e) = cc
+sized StoreLayout (inr e) = cc
+sized StoreJournal (inl e) = cc
+sized StoreJournal (inr e) = cc
+
+-- a bad store is no failed device
+pub no_device : (fault : OpenFault) → (boot_fault fault ≡ BadLayout) ⊎ (boot_fault fault ≡ BadJournal) → fault ≡ StoreDevice → ⊥
+no_device StoreDevice (inl e) same = cc
+no_device StoreDevice (inr e) same = cc
+no_device StoreLayout e same = cc
+no_device StoreJournal e same = cc
+
+module _ {D : Type 0} (g : Ghosts D) where
+  -- what the opening of a store says
+  pub record IsOpened (entry : D) (store : FileStore D) : Type 0 where
+    pub ready : IsReadyStore g store
+    pub size : g.sector_count store.disk ≡ g.sector_count entry
+    pub layout : g.keeps_model store.disk → IsBadLayout (g.sector_count entry) (g.content entry) → ⊥
+    pub journal : g.keeps_model store.disk → IsBadJournal (g.sector_count entry) (g.content entry) → ⊥
+    pub leaves : g.keeps_model store.disk → LeavesNow g store.disk (StandsAs (g.sector_count entry) (g.content entry))
+
+  -- no time passed, and nothing is unsynced
+  pub unmoved : (d : D) → ((c : Image) → g.left_since d (g.moment d) c → MayLeave (g.content d) (g.unsynced d) c)
+      → ((k : ℕ) → g.unsynced d k → ⊥) → (first : Image) → StandsAs (g.sector_count d) first (g.content d)
+      → LeavesOnly g d d (StandsAs (g.sector_count d) first)
+  unmoved d only_now synced first stands =
+      started g d (StandsAs (g.sector_count d) first) only_now
+      (λ c may.
+      let same : c ≡ g.content d = λ i k. ⊎_elim (λ u. absurd (synced k u)) (λ (e : c k ≡ g.content d k). e) (may.kept k) i in
+      subst (StandsAs (g.sector_count d) first) (sym same) stands)
+
+  -- the image at entry stands for its own files and pages
+  at_entry : (entry : D) (store : FileStore D) → IsOpened entry store → g.keeps_model store.disk
+      → StandsFor (g.sector_count entry) (file_info (g.content entry)) (standing_page (g.content entry)) (g.content entry)
+  at_entry entry store opened keeps = record {
+    layout = opened.layout keeps;
+    journal = opened.journal keeps;
+    facts = λ f. refl;
+    same = λ f k is. refl;
+  }
+
+  -- and so does the device as it was opened
+  at_opened : (entry : D) (store : FileStore D) → IsOpened entry store → g.keeps_model store.disk
+      → StandsFor (g.sector_count entry) (file_info (g.content entry)) (standing_page (g.content entry)) (g.content store.disk)
+  at_opened entry store opened keeps =
+      opened.leaves keeps (g.content store.disk) (record { kept = λ k. inr refl }) _ _ (at_entry entry store opened keeps)
+
+  -- the directory is that of the image at entry
+  pub same_files : (entry : D) (store : FileStore D) → IsOpened entry store → g.keeps_model store.disk
+      → (f : ℕ) → Stores.files_of store f ≡ file_info (g.content entry) f
+  same_files entry store opened keeps f =
+      ap (option_map (λ e. e.info)) ((opened.ready.at_rest keeps).directory f) ∙ (at_opened entry store opened keeps).facts f
+
+-- a page that isn't mapped is no page
+unmapped : {mode : ℕ} (c : Picture mode) (pid page : ℕ) → c.at pid page ≡ None → view c pid page ≡ None
+unfolding view
+unmapped c pid page none = rw none refl
+
+-- what is at home is not in memory
+at_home : {mode : ℕ} (c : Picture mode) (p : PageKey) (bytes : List ℕ) → c.place p ≡ Home → held c p ≡ Some bytes → ⊥
+unfolding held
+at_home c p bytes home is = let never : None ≡ Some bytes = sym (rw home refl) ∙ is in cc
+
+module _ {M : Type 0} {levels : Levels.Ghosts M} {D E : Type 0} (g : Ghosts D) (h : Ghosts E) where
+  -- the state that a machine starts in over an image
+  abbrev start : ModeMachine D E M levels → Image → State
+  start m image = record {
+    mode = levels.mode;
+    live = λ pid. false;
+    views = λ pid page. None;
+    files = Stores.files_of m.core.store;
+    volatile = standing_page image;
+    durable = standing_page image;
+    touched = λ file page. false;
+    objects = λ object page. None;
+    past = [];
+    ends = None;
+  }
+
+  stands_at_start : (entry : D) (m : ModeMachine D E M levels) → IsOpened g entry m.core.store → g.keeps_model m.core.store.disk
+      → StandsFor (g.sector_count entry) (Stores.files_of m.core.store) (standing_page (g.content entry)) (g.content entry)
+  stands_at_start entry m opened keeps = record {
+    layout = opened.layout keeps;
+    journal = opened.journal keeps;
+    facts = λ f. sym (same_files g entry m.core.store opened keeps f);
+    same = λ f k is. refl;
+  }
+
+  starts_so : (image : Image) (m : ModeMachine D E M levels) (frames slots : ℕ) → IsStart m.core frames slots → ShowsPages (picture_of m.core) (start m image)
+  starts_so image m frames slots fresh = record {
+    live = λ pid. sym (ap is_some (fresh.none pid));
+    views = λ pid page. sym (unmapped (picture_of m.core) pid page (rw (fresh.none pid) refl));
+    files = λ f. refl;
+    touched = λ p. sym (fresh.untouched (File p));
+    objects = λ p. sym (rw (fresh.untouched (Object p)) refl);
+    blank = λ p bytes untouched e. absurd (at_home (picture_of m.core) (Object p) bytes (fresh.at_home (Object p)) e);
+    held = λ p bytes e. absurd (at_home (picture_of m.core) (File p) bytes (fresh.at_home (File p)) e);
+    same_mode = refl;
+    clean = λ p e inside. refl;
+  }
+
+  pub boots : (entry : D) (m : ModeMachine D E M levels) (frames slots : ℕ) → m.halted ≡ false → m.past ≡ [] → IsOpened g entry m.core.store → IsStart m.core frames slots → Boots g h entry m
+  boots entry m frames slots goes bare opened fresh = record {
+    state = start m (g.content entry);
+    shows = record {
+      pages = starts_so (g.content entry) m frames slots fresh;
+      running = sym goes;
+      past = bare;
+      stands = λ keeps c may. (
+        standing_page (g.content entry),
+        refl,
+        subst (λ (n : ℕ). StandsFor n (Stores.files_of m.core.store) (standing_page (g.content entry)) c) (sym opened.size)
+            (opened.leaves keeps c may (Stores.files_of m.core.store) (standing_page (g.content entry)) (stands_at_start entry m opened keeps)),
+      );
+    };
+    start = record {
+      live = λ pid. refl;
+      views = λ pid page. refl;
+      same = λ file page. refl;
+      touched = λ file page. refl;
+      objects = λ object page. refl;
+      past = refl;
+      running = refl;
+    };
+    stands = λ keeps. stands_at_start entry m opened keeps;
+  }

@@ -1,0 +1,40 @@
+-- What a load, a store and a fetch ask for, and when they change nothing; what a spawn and a fork take of memory; and which entries
+-- other calls leave.
+use Rattle.vm_types.specs.declared.mode.Levels as Levels
+use Rattle.std.specs.Prelude.{◌≡◌, ◌/◌, ◌%◌}
+use Rattle.page_faults.specs.Outcome.{IsWalked}
+use Rattle.msync.specs.Settling.{LosesDirtyOnly}
+use Rattle.page_ranges.specs.Steps.{KeepsEntriesOfOthers}
+use Rattle.paging.specs.Picture.{picture_of}
+use Rattle.paging.specs.declared.kernel.Core.{Core}
+use Rattle.calls.specs.Accesses.{AsksFor, WritesNumber}
+use Rattle.calls.specs.Processes.{ForkTakes, SpawnTakes}
+use Rattle.vm_types.specs.declared.access.Access.TheVariants as Access
+use Rattle.vm_types.specs.declared.command.Command.{Command}
+use Rattle.vm_types.specs.declared.command.Command.TheVariants.{Spawn, Fork, Exit, Mmap, Munmap, Mprotect, Dontneed, Msync, Load, Store, Fetch, PastFaults}
+use Rattle.vm_types.specs.declared.number.Phys.{Phys}
+use Rattle.vm_types.specs.declared.reply.Reply.{Reply}
+use Rattle.vm_types.specs.declared.reply.Reply.TheVariants.{Done}
+use Rattle.vm_types.specs.declared.width.Width.TheVariants.{Four}
+
+module _ {M : Type 0} {levels : Levels.Ghosts M} {D E : Type 0} where
+  -- An access asks for no more than it wants. Where the tables grant it nothing changes, but the number that a store writes. A spawn
+  -- and a fork take frames for tables alone, and give others up only for that. An exit and a call on a range leave the entries of
+  -- other processes, and of an msync no entry loses more than D.
+  abbrev pub Accesses : Core D E M levels → Core D E M levels → Command → Reply → Type 0
+  Accesses old new (Load pid addr width) reply =
+      AsksFor old new pid addr Access.Load reply × ((place : Phys) → IsWalked (picture_of old) pid addr width Access.Load place → new ≡ old)
+  Accesses old new (Fetch pid addr) reply =
+      AsksFor old new pid addr Access.Fetch reply × ((place : Phys) → IsWalked (picture_of old) pid addr Four Access.Fetch place → new ≡ old)
+  Accesses old new (Store pid addr stored) reply =
+      AsksFor old new pid addr Access.Store reply × ((place : Phys) → IsWalked (picture_of old) pid addr stored.width Access.Store place
+      → reply ≡ Done → WritesNumber old new (place.0 / 4096) (addr % 4096) stored)
+  Accesses old new Spawn reply = SpawnTakes (picture_of old) (picture_of new) reply
+  Accesses old new (Fork pid) reply = ForkTakes (picture_of old) (picture_of new) pid reply
+  Accesses old new (Exit pid) reply = KeepsEntriesOfOthers (picture_of old) (picture_of new) pid
+  Accesses old new (Mmap pid addr len prot source placing) reply = KeepsEntriesOfOthers (picture_of old) (picture_of new) pid
+  Accesses old new (Munmap pid addr len) reply = KeepsEntriesOfOthers (picture_of old) (picture_of new) pid
+  Accesses old new (Mprotect pid addr len prot) reply = KeepsEntriesOfOthers (picture_of old) (picture_of new) pid
+  Accesses old new (Dontneed pid addr len) reply = KeepsEntriesOfOthers (picture_of old) (picture_of new) pid
+  Accesses old new (Msync pid addr len mode) reply = LosesDirtyOnly (picture_of old) (picture_of new)
+  Accesses old new PastFaults reply = Unit {0}

@@ -1,0 +1,5 @@
+pub mod Accesses
+pub mod Boot
+pub mod Fault
+pub mod Machine
+pub mod Tidy

@@ -1,0 +1,173 @@
+//! The machine of one mode: commands in, replies out, over a store that survives stops.
+ghost use Rattle.std.specs.Prelude.{◌≡◌, ◌≤◌, ◌<◌, is_some, true};
+ghost use Rattle.vm_types.specs.State.{State, IsRunning};
+ghost use Rattle.mode_machine.specs.Machine.{IsCaused, IsSoundMachine, IsReadable, Shows, Meets};
+ghost use Rattle.mapping.specs.Changes.{KeepsRoom};
+ghost use Rattle.paging.specs.Parts.{IsFit};
+ghost use Rattle.paging.specs.Picture.{picture_of, is_live};
+ghost use Rattle.vm_types.specs.Replies.{reply_of, told};
+ghost use Rattle.vm_types.specs.Step.{noted_fault};
+ghost use Rattle.vm_types.specs.declared.refusal.Fault.{Fault};
+ghost use Rattle.mode_machine.specs.Tidy.{IsTidy};
+
+use crate::fault_log::FaultLog;
+use calls::{RegionRoom, SyncRoom};
+use disk_model::SectorDisk;
+use paging::Core;
+use vm_types::{Answer, Command, History, Levels, Reply};
+
+/// A machine over a store device `D` and a swap device `E`, whose processes have address spaces of the mode `M`, made by `boot`.
+///
+/// Its replies are those of the flat model in `vm_types`, and what a stop leaves in the store is what some of its
+/// msyncs left, in order and each taken whole (Park, Kelly and Shen, Failure-Atomic msync, EuroSys 2013).
+#[derive(Drop)]
+pub struct ModeMachine<D, E, M: Levels> {
+    pub(crate) core: Core<D, E, M>,
+    /// Whether an msync failed.
+    pub(crate) halted: bool,
+    /// The last faults of accesses.
+    pub(crate) past: FaultLog,
+    /// Where msyncs keep their pages.
+    pub(crate) sync_room: SyncRoom,
+    /// Where calls put the regions that a process gets.
+    pub(crate) region_room: RegionRoom<M>,
+}
+
+impl<D: SectorDisk, E: SectorDisk, M: Levels> ModeMachine<D, E, M> {
+    /// The store's device.
+    pub fn store(&self) -> &D
+        ensures { result.now ≡ self.now.core.store.disk }
+    {
+        self.core.store.disk()
+    }
+
+    /// The store's device, given back. What was stored and not made durable is lost.
+    pub fn into_store(self) -> D
+    where
+        E: Drop,
+        ensures { result ≡ self.core.store.disk }
+    {
+        self.core.store.into_disk()
+    }
+
+    /// Whether an msync returned `EIO`: every command then returns `Halted`, and none otherwise.
+    pub fn is_halted(&self) -> bool
+        ensures halted { result ≡ self.now.halted }
+        ensures ends { (s : State) → Shows D.SectorDisk E.SectorDisk self.now s → result ≡ is_some s.ends }
+    {
+        self.halted
+    }
+
+    /// Carries out one command, as `step` does, and returns the reply in the few bytes that all but a history take. `None` where
+    /// the reply is the history, which `history` returns. It takes no memory of the host.
+    pub fn carry_out(&mut self, command: Command) -> Option<Answer>
+        requires sound { IsSoundMachine D.SectorDisk E.SectorDisk self.old }
+        ensures sound { IsSoundMachine D.SectorDisk E.SectorDisk self.new }
+        ensures kept { D.keeps_model self.new.core.store.disk → D.keeps_model self.old.core.store.disk }
+        ensures swap_kept { E.keeps_model self.new.core.swap.pages.disk → E.keeps_model self.old.core.swap.pages.disk }
+        ensures room { KeepsRoom (picture_of self.old.core) (picture_of self.new.core) }
+        ensures caused { IsCaused D.SectorDisk E.SectorDisk self.old self.new (told self.new.past result) }
+        ensures meets { (s : State) → Shows D.SectorDisk E.SectorDisk self.old s → IsReadable D.SectorDisk E.SectorDisk self.new s command
+            → (t : State) × Meets D.SectorDisk E.SectorDisk self.old self.new s t command (told self.new.past result) }
+    {
+        if self.halted {
+            return Some(Answer::Halted);
+        }
+        let core = &mut self.core;
+        let room = &mut self.region_room;
+        match command {
+            Command::Spawn => Some(calls::spawn(core)),
+            Command::Fork { pid } => Some(calls::fork(core, pid)),
+            Command::Exit { pid } => Some(calls::exit(core, pid)),
+            Command::Mmap {
+                pid,
+                addr,
+                len,
+                prot,
+                source,
+                placing,
+            } => Some(calls::mmap(core, room, pid, addr, len, prot, source, placing)),
+            Command::Munmap { pid, addr, len } => Some(calls::munmap(core, room, pid, addr, len)),
+            Command::Mprotect {
+                pid,
+                addr,
+                len,
+                prot,
+            } => Some(calls::mprotect(core, room, pid, addr, len, prot)),
+            Command::Msync {
+                pid,
+                addr,
+                len,
+                mode,
+            } => Some(self.msync(pid, addr, len, mode)),
+            Command::Dontneed { pid, addr, len } => Some(calls::dontneed(core, pid, addr, len)),
+            Command::Load { pid, addr, width } => {
+                let answer = calls::load(core, pid, addr, width);
+                Some(self.noted(pid, answer))
+            }
+            Command::Store { pid, addr, stored } => {
+                let answer = calls::store(core, pid, addr, stored);
+                Some(self.noted(pid, answer))
+            }
+            Command::Fetch { pid, addr } => {
+                let answer = calls::fetch(core, pid, addr);
+                Some(self.noted(pid, answer))
+            }
+            Command::PastFaults => None,
+        }
+    }
+
+    /// How many accesses have found the translation of their page kept from an earlier one (RISC-V Privileged Specification,
+    /// "Supervisor Memory-Management Fence Instruction"); it stays at its greatest value. No clause speaks of it.
+    pub fn hits(&self) -> u64 {
+        self.core.frames.hits()
+    }
+
+    /// The last faults of accesses, oldest first, each with its process: 16 at most.
+    pub fn history(&self) -> History
+        ensures { result ≡ self.now.past }
+    {
+        self.past.history()
+    }
+
+    /// Carries out one command. It takes no memory of the host. A command that would succeed may stall, and then has
+    /// changed nothing that a process or a file shows: `NoFrames` only where memory has fewer frames than the tables of the
+    /// state after it and three more, `NoSwap` only where there are fewer slots than pages that processes have of their own,
+    /// touched file pages and stored pages of shared anonymous memory, `SwapDevice` and `StoreDevice` only where that device
+    /// failed in this call. Where the store fails in an msync it returns `EIO`, only where the device failed in this call, and
+    /// the machine halts: from then on every command returns `Halted`.
+    pub fn step(&mut self, command: Command) -> Reply
+        requires sound { IsSoundMachine D.SectorDisk E.SectorDisk self.old }
+        ensures sound { IsSoundMachine D.SectorDisk E.SectorDisk self.new }
+        ensures kept { D.keeps_model self.new.core.store.disk → D.keeps_model self.old.core.store.disk }
+        ensures swap_kept { E.keeps_model self.new.core.swap.pages.disk → E.keeps_model self.old.core.swap.pages.disk }
+        ensures room { KeepsRoom (picture_of self.old.core) (picture_of self.new.core) }
+        ensures caused { IsCaused D.SectorDisk E.SectorDisk self.old self.new result }
+        ensures meets { (s : State) → Shows D.SectorDisk E.SectorDisk self.old s → IsReadable D.SectorDisk E.SectorDisk self.new s command
+            → (t : State) × Meets D.SectorDisk E.SectorDisk self.old self.new s t command result }
+        // No bytes are kept of shared anonymous memory that no process has.
+        ensures tidy { (s : State) → Shows D.SectorDisk E.SectorDisk self.new s → IsRunning s → IsTidy s }
+    {
+        match self.carry_out(command) {
+            Some(answer) => answer.reply(),
+            None => Reply::Past(self.past.history()),
+        }
+    }
+
+    /// What an access of a process returned. The fault of one that faulted is kept.
+    fn noted(&mut self, pid: u64, answer: Answer) -> Answer
+        requires fit { IsFit (picture_of self.old.core) }
+        ensures answer { result ≡ answer }
+        ensures core { self.new.core ≡ self.old.core }
+        ensures halted { self.new.halted ≡ self.old.halted }
+        ensures past { ((fault : Fault) → answer ≡ Answer.Faulted fault → is_live (picture_of self.old.core) pid ≡ true)
+            → self.new.past ≡ noted_fault pid (reply_of answer) self.old.past }
+    {
+        if let Answer::Faulted(fault) = answer {
+            if let Some(pid) = self.core.live(pid) {
+                self.past.note(pid, fault);
+            }
+        }
+        answer
+    }
+}
