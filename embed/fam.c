@@ -1,227 +1,235 @@
+/* Images: opening, closing, mapping, facts. */
 #define _GNU_SOURCE
-#include "fam.h"
-#include "famsync.h"
+#include "internal.h"
 #include <errno.h>
 #include <fcntl.h>
-#include <linux/userfaultfd.h>
-#include <signal.h>
 #include <stdlib.h>
 #include <string.h>
 #include <sys/file.h>
-#include <sys/ioctl.h>
 #include <sys/mman.h>
 #include <sys/stat.h>
-#include <sys/syscall.h>
 #include <unistd.h>
 
-enum { PAGE = 4096, FILES = 64, MOST = 1023 };
+/* Turns */
 
-/* A written page is one that was stored to since it was mapped or last made durable: its byte in `written` is 1. */
-struct mapping { unsigned char *at; size_t pages; unsigned char *written; };
-static struct mapping mapped[FILES];
-static struct { int fd; unsigned char *bytes; size_t sectors; struct famsync_handle handle; } image = {.fd = -1};
-static struct famsync_plan scratch, plan;
-
-static int fail(int number) {
-  errno = number;
-  return -1;
+int enter(struct fam_image *image) {
+  if (is_forked(image)) return FAM_FORKED;
+  pthread_mutex_lock(&image->lock);
+  return image->halted ? leave(image, FAM_HALTED) : FAM_OK;
 }
 
-/* The image: device calls */
-
-/* Makes the calls of the plan in their order; writes of neighbours, whose rows are neighbours too, in one. */
-static int carry_out(void) {
-  for (size_t i = 0; i < plan.used;) {
-    size_t first = i++;
-    if (plan.calls[first].kind == FAMSYNC_SYNC) {
-      if (fdatasync(image.fd) != 0) return famsync_failed(&image.handle), EIO;
-      continue;
-    }
-    while (i < plan.used && plan.calls[i].kind == FAMSYNC_WRITE && plan.calls[i].sector == plan.calls[first].sector + (i - first)) i++;
-    ssize_t bytes = (ssize_t)(512 * (i - first));
-    if (pwrite(image.fd, plan.rows[first], (size_t)bytes, (off_t)(512 * plan.calls[first].sector)) != bytes)
-      return famsync_failed(&image.handle), EIO;
-  }
-  return famsync_done(&image.handle) == FAMSYNC_OK ? 0 : EIO;
+int leave(struct fam_image *image, int result) {
+  pthread_mutex_unlock(&image->lock);
+  return result;
 }
 
-static int errno_of(uint32_t answer) {
-  switch (answer) {
-    case FAMSYNC_OK: return 0;
-    case FAMSYNC_TURN: return EIO;
-    case FAMSYNC_READ_ONLY: return EROFS;
-    case FAMSYNC_NO_ROOM: return ENOSPC;
-    case FAMSYNC_BAD_PAGES: return EINVAL;
-    default: return EBADF;
-  }
+/* Memory of zeros that takes room only where it is touched, or NULL. */
+static void *new_memory(size_t length) {
+  void *at = mmap(NULL, length, PROT_READ | PROT_WRITE, MAP_PRIVATE | MAP_ANONYMOUS | MAP_NORESERVE, -1, 0);
+  return at == MAP_FAILED ? NULL : at;
 }
 
-/* What the file holds is synced first: a plan begins on an image of which nothing is unsynced. */
-static int open_image(int fd) {
+static void drop_memory(const void *at, size_t length) {
+  if (at != NULL) munmap((void *)(uintptr_t)at, length);
+}
+
+/* Opening */
+
+static int check_flags(unsigned flags) {
+  unsigned trackers = flags & (FAM_TRACK_SCAN | FAM_TRACK_SIGNAL | FAM_TRACK_CALLER), all = 2 * FAM_LAZY - 1;
+  return (flags & ~all) != 0 || (trackers & (trackers - 1)) != 0 ? EINVAL : FAM_OK;
+}
+
+static int lock_file(int fd, unsigned flags) {
+  int kind = (flags & FAM_RDONLY) != 0 ? LOCK_SH : LOCK_EX;
+  if (flock(fd, kind | ((flags & FAM_NOWAIT) != 0 ? LOCK_NB : 0)) == 0) return FAM_OK;
+  return errno == EWOULDBLOCK ? FAM_BUSY : errno;
+}
+
+/* The one byte more is for a file of no bytes, which cannot be mapped. */
+static size_t mapped_bytes(const struct fam_image *image) { return SECTOR * image->sectors + 1; }
+
+/* What the file holds is synced first: a plan begins on an image of which nothing is unsynced, and a reader gives out nothing
+   that a power cut could take back. */
+static int map_host_file(struct fam_image *image) {
   struct stat st;
-  if (fstat(fd, &st) != 0 || fsync(fd) != 0) return EIO;
-  size_t sectors = (size_t)st.st_size / 512;
-  unsigned char *bytes = mmap(NULL, 512 * sectors + 1, PROT_READ, MAP_SHARED, fd, 0);
+  if (fstat(image->fd, &st) != 0) return errno;
+  if (!S_ISREG(st.st_mode)) return FAM_NOT_IMAGE;
+  if (fsync(image->fd) != 0) return FAM_DEVICE;
+  image->sectors = (size_t)st.st_size / SECTOR;
+  void *bytes = mmap(NULL, mapped_bytes(image), PROT_READ, MAP_SHARED, image->fd, 0);
   if (bytes == MAP_FAILED) return ENOMEM;
-  image.fd = fd, image.bytes = bytes, image.sectors = sectors;
-  uint32_t answer = famsync_open(&image.handle, bytes, sectors, scratch.calls, scratch.rows, &plan.used, plan.calls, plan.rows);
-  return answer == FAMSYNC_OK ? carry_out() : errno_of(answer);
+  image->bytes = bytes;
+  return FAM_OK;
 }
 
-/* Written pages: two trackers */
-
-/* PAGEMAP_SCAN of Linux 6.7 and later, with a userfaultfd that protects asynchronously; for older headers. */
-struct region { uint64_t start, end, categories; };
-struct scan { uint64_t size, flags, start, end, walk_end, vec, vec_len, max_pages, inverted, mask, anyof, returned; };
-#define SCAN _IOWR('f', 16, struct scan)
-enum { WRITTEN = 2, PROTECT_MATCHING = 1, CHECK_ASYNC = 2, WP_UNPOPULATED = 1 << 13, WP_ASYNC = 1 << 15, USER_MODE_ONLY = 1 };
-static int faults = -1, pagemap = -1;
-static struct sigaction older;
-static int signals;
-
-static int begin_scans(void) {
-  const char *wanted = getenv("FAM_TRACKER");
-  if (wanted != NULL && strcmp(wanted, "signal") == 0) return -1;
-  faults = (int)syscall(SYS_userfaultfd, O_CLOEXEC | USER_MODE_ONLY);
-  pagemap = open("/proc/self/pagemap", O_RDONLY | O_CLOEXEC);
-  struct uffdio_api api = {.api = UFFD_API, .features = WP_ASYNC | WP_UNPOPULATED};
-  struct scan none = {.size = sizeof none};
-  if (faults >= 0 && pagemap >= 0 && ioctl(faults, UFFDIO_API, &api) == 0 && ioctl(pagemap, SCAN, &none) >= 0) return 0;
-  if (faults >= 0) close(faults);
-  if (pagemap >= 0) close(pagemap);
-  faults = pagemap = -1;
-  return -1;
-}
-
-/* The first store to a page that is not written: all such pages are read-only. */
-static void on_fault(int number, siginfo_t *info, void *context) {
-  unsigned char *at = info->si_addr;
-  (void)context;
-  for (int f = 0; f < FILES; f++) {
-    struct mapping *m = &mapped[f];
-    if (m->at == NULL || at < m->at || at >= m->at + m->pages * PAGE) continue;
-    size_t k = (size_t)(at - m->at) / PAGE;
-    m->written[k] = 1;
-    if (mprotect(m->at + k * PAGE, PAGE, PROT_READ | PROT_WRITE) == 0) return;
+static int result_of(uint32_t answer) {
+  switch (answer) {
+    case FAMSYNC_OK: return FAM_OK;
+    case FAMSYNC_BAD_JOURNAL: return FAM_BAD_JOURNAL;
+    case FAMSYNC_NO_ROOM: return ENOMEM;
+    default: return FAM_NOT_IMAGE;
   }
-  sigaction(number, &older, NULL); /* none of ours: the access is made again under the older handler */
 }
 
-static int begin_tracking(void) {
-  if (begin_scans() == 0) return 0;
-  struct sigaction act = {.sa_sigaction = on_fault, .sa_flags = SA_SIGINFO};
-  signals = 1;
-  return sigaction(SIGSEGV, &act, &older);
+/* Carries out the journal. A reader makes no call of the plan: it reads through the open journal, and commits nothing. */
+static int recover(struct fam_image *image) {
+  struct famsync_plan *scratch = image->scratch, *plan = image->plan;
+  uint32_t answer = famsync_open(&image->handle, image->bytes, image->sectors, scratch->calls, scratch->rows, &plan->used, plan->calls, plan->rows);
+  if (answer != FAMSYNC_OK || image->read_only) return result_of(answer);
+  image->stat.recovered = journal_pages(image);
+  return carry_out(image);
 }
 
-static int track(struct mapping *m) {
-  if (signals) return mprotect(m->at, m->pages * PAGE, PROT_READ);
-  struct uffdio_register all = {.range = {(uint64_t)m->at, m->pages * PAGE}, .mode = UFFDIO_REGISTER_MODE_WP};
-  struct uffdio_writeprotect protect = {.range = all.range, .mode = UFFDIO_WRITEPROTECT_MODE_WP};
-  return ioctl(faults, UFFDIO_REGISTER, &all) != 0 ? -1 : ioctl(faults, UFFDIO_WRITEPROTECT, &protect);
+static int read_image(struct fam_image *image) {
+  int result = map_host_file(image);
+  if (result == FAM_OK) result = recover(image);
+  if (result != FAM_OK) return result;
+  image->stat.pages = home_pages(image->sectors);
+  read_directory(image);
+  return FAM_OK;
 }
 
-/* Notes the pages written since the last look, and begins anew. With signals they are noted already. */
-static int look(struct mapping *m) {
-  struct region found[256];
-  uint64_t from = (uint64_t)m->at, end = from + m->pages * PAGE;
-  if (signals) return mprotect(m->at, m->pages * PAGE, PROT_READ);
-  while (from < end) {
-    struct scan scan = {.size = sizeof scan, .flags = PROTECT_MATCHING | CHECK_ASYNC, .start = from, .end = end,
-                        .vec = (uint64_t)found, .vec_len = 256, .mask = WRITTEN, .returned = WRITTEN};
-    int n = ioctl(pagemap, SCAN, &scan);
-    if (n < 0) return -1;
-    for (int i = 0; i < n; i++)
-      for (uint64_t at = found[i].start; at < found[i].end; at += PAGE) m->written[(at - (uint64_t)m->at) / PAGE] = 1;
-    from = scan.walk_end;
+static struct fam_image *new_image(void) {
+  struct fam_image *image = calloc(1, sizeof *image);
+  if (image == NULL) return NULL;
+  image->fd = image->faults = image->pagemap = -1;
+  image->scratch = new_memory(sizeof *image->scratch);
+  image->plan = new_memory(sizeof *image->plan);
+  pthread_mutex_init(&image->lock, NULL);
+  return image;
+}
+
+static int open_image(struct fam_image *image, const char *path, unsigned flags) {
+  if (image->scratch == NULL || image->plan == NULL) return ENOMEM;
+  int result = this_generation(&image->generation);
+  if (result != FAM_OK) return result;
+  image->read_only = (flags & FAM_RDONLY) != 0;
+  image->fd = open(path, (image->read_only ? O_RDONLY : O_RDWR) | O_CLOEXEC);
+  if (image->fd < 0) return errno;
+  result = lock_file(image->fd, flags);
+  if (result == FAM_OK) result = read_image(image);
+  return result == FAM_OK ? begin_tracking(image, flags) : result;
+}
+
+int fam_open(fam_image **to, const char *path, unsigned flags) {
+  *to = NULL;
+  int result = check_flags(flags);
+  if (result != FAM_OK) return result;
+  struct fam_image *image = new_image();
+  if (image == NULL) return ENOMEM;
+  result = open_image(image, path, flags);
+  if (result == FAM_OK) *to = image;
+  else fam_close(image);
+  return result;
+}
+
+/* Closing */
+
+static void drop_mapping(struct mapping *mapping) {
+  remove_region(mapping);
+  drop_memory(mapping->at, mapping->pages * PAGE);
+  drop_memory(mapping->marks, mapping->pages);
+  *mapping = (struct mapping){0};
+}
+
+/* A child has not inherited the mapped files: something else may be mapped there. */
+static void forget_mapping(struct mapping *mapping) { drop_memory(mapping->marks, mapping->pages); }
+
+int fam_close(fam_image *image) {
+  if (image == NULL) return FAM_OK;
+  int forked = image->generation != 0 && is_forked(image);
+  for (int f = 0; f < FAM_FILES; f++) {
+    if (image->mappings[f].at == NULL) continue;
+    if (forked) forget_mapping(&image->mappings[f]);
+    else drop_mapping(&image->mappings[f]);
   }
-  return 0;
+  end_tracking(image);
+  drop_memory(image->bytes, mapped_bytes(image));
+  drop_memory(image->scratch, sizeof *image->scratch);
+  drop_memory(image->plan, sizeof *image->plan);
+  if (image->fd >= 0 && !forked) flock(image->fd, LOCK_UN); /* a child that still has the descriptor would hold the lock */
+  if (image->fd >= 0) close(image->fd);
+  if (!forked) pthread_mutex_destroy(&image->lock);
+  free(image);
+  return forked ? FAM_FORKED : FAM_OK;
 }
 
-/* The calls */
+/* Mapping */
 
-int fam_open(const char *path) {
-  if (image.fd >= 0) return fail(EBUSY);
-  int fd = open(path, O_RDWR | O_CLOEXEC);
-  if (fd < 0) return -1;
-  if (flock(fd, LOCK_EX | LOCK_NB) != 0) return close(fd), fail(EBUSY);
-  image.fd = fd;
-  int number = open_image(fd);
-  if (number == 0 && begin_tracking() != 0) number = errno;
-  if (number != 0) return fam_close(), fail(number);
-  return 0;
+static int file_of(struct fam_image *image, unsigned file) {
+  return file < FAM_FILES && image->files[file].present ? FAM_OK : fail(image, FAM_NO_FILE, "file %u", file);
 }
 
-/* Reads a file's pages into new memory. */
-static int load(struct mapping *m, uint8_t file) {
-  for (size_t k = 0; k < m->pages; k++) {
-    uint32_t answer = famsync_read(&image.handle, image.bytes, image.sectors, scratch.calls, scratch.rows, file, (uint32_t)k, m->at + k * PAGE);
-    if (answer != FAMSYNC_OK) return errno_of(answer);
-  }
-  return 0;
+/* A child does not inherit the memory: its pages would be neither tracked nor, where they are read late, read there. */
+static int map_at(struct mapping *mapping, void *wanted) {
+  int place = wanted == NULL ? 0 : MAP_FIXED_NOREPLACE;
+  void *at = mmap(wanted, mapping->pages * PAGE, PROT_READ | PROT_WRITE, MAP_PRIVATE | MAP_ANONYMOUS | MAP_NORESERVE | place, -1, 0);
+  if (at == MAP_FAILED) return errno;
+  mapping->at = at;
+  if (wanted != NULL && at != wanted) return EEXIST; /* kernels before 4.17 */
+  return madvise(at, mapping->pages * PAGE, MADV_DONTFORK) == 0 ? FAM_OK : errno;
 }
 
-void *fam_map(uint8_t file, size_t *len) {
-  uint32_t length;
-  uint32_t answer = file < FILES ? famsync_length(&image.handle, image.bytes, image.sectors, scratch.calls, scratch.rows, file, &length) : FAMSYNC_BAD_PAGES;
-  if (answer != FAMSYNC_OK) return errno = answer == FAMSYNC_BAD_PAGES ? ENOENT : errno_of(answer), NULL;
-  *len = length;
-  if (mapped[file].at != NULL) return mapped[file].at;
-  size_t pages = length == 0 ? 1 : ((size_t)length + PAGE - 1) / PAGE;
-  struct mapping m = {.pages = pages};
-  m.at = mmap(NULL, pages * PAGE, PROT_READ | PROT_WRITE, MAP_PRIVATE | MAP_ANONYMOUS, -1, 0);
-  m.written = mmap(NULL, pages, PROT_READ | PROT_WRITE, MAP_PRIVATE | MAP_ANONYMOUS, -1, 0);
-  if (m.at == MAP_FAILED || m.written == MAP_FAILED) return errno = ENOMEM, NULL;
-  int number = length == 0 ? 0 : load(&m, file);
-  if (number != 0) return errno = number, NULL;
-  if (track(&m) != 0) return NULL;
-  mapped[file] = m;
-  return m.at;
+static int new_mapping(struct fam_image *image, unsigned file, void *wanted) {
+  struct mapping *mapping = &image->mappings[file];
+  *mapping = (struct mapping){.image = image, .file = image->files[file], .pages = ((size_t)image->files[file].length + PAGE - 1) / PAGE};
+  mapping->marks = new_memory(mapping->pages);
+  int result = mapping->marks == NULL ? ENOMEM : map_at(mapping, wanted);
+  if (result == FAM_OK) result = load(mapping);
+  if (result == EIO) result = FAM_DEVICE;
+  if (result == FAM_OK) result = add_region(mapping);
+  if (result == FAM_OK) return FAM_OK;
+  drop_mapping(mapping);
+  return fail(image, result, "mapping file %u", file);
 }
 
-/* Gathers the written pages from `from` to `to`: how many, or -1 where they are over 1,023. */
-static int gather(const unsigned char *from, const unsigned char *to, struct famsync_page *pages, struct famsync_bytes *bytes) {
-  int n = 0;
-  for (int f = 0; f < FILES; f++) {
-    struct mapping *m = &mapped[f];
-    if (m->at == NULL) continue;
-    if (look(m) != 0) return -1;
-    for (size_t k = 0; k < m->pages; k++) {
-      unsigned char *at = m->at + k * PAGE;
-      if (!m->written[k] || at + PAGE <= from || at >= to) continue;
-      if (n == MOST) return fail(E2BIG);
-      pages[n] = (struct famsync_page){(uint8_t)f, (uint32_t)k};
-      bytes[n++] = (struct famsync_bytes){at};
-    }
-  }
-  return n;
+static int map_file(struct fam_image *image, unsigned file, void *wanted) {
+  struct mapping *mapping = &image->mappings[file];
+  if ((uintptr_t)wanted % PAGE != 0) return fail(image, EINVAL, "%p is not the beginning of a page", wanted);
+  if (image->files[file].length == 0) return FAM_OK;
+  if (mapping->at == NULL) return new_mapping(image, file, wanted);
+  return wanted == NULL || wanted == mapping->at ? FAM_OK : fail(image, EEXIST, "file %u is mapped at %p", file, (void *)mapping->at);
 }
 
-/* With signals the pages that stay written are read-only after a look, so that their next store faults again. */
-int fam_msync(void *addr, size_t len) {
-  struct famsync_page pages[MOST];
-  struct famsync_bytes bytes[MOST];
-  if (image.fd < 0) return fail(EBADF);
-  const unsigned char *from = addr, *to = addr == NULL ? (unsigned char *)UINTPTR_MAX : from + len;
-  int n = gather(from, to, pages, bytes);
-  if (n <= 0) return n;
-  uint32_t answer = famsync_commit(&image.handle, image.bytes, image.sectors, scratch.calls, scratch.rows, &plan.used, plan.calls, plan.rows, pages, (size_t)n, bytes, (size_t)n);
-  int number = answer == FAMSYNC_OK ? carry_out() : errno_of(answer);
-  for (int i = 0; i < n && number == 0; i++) mapped[pages[i].file].written[pages[i].page] = 0;
-  return number == 0 ? 0 : fail(number);
+int fam_map(fam_image *image, unsigned file, void *wanted, void **at, size_t *length) {
+  int result = enter(image);
+  if (result != FAM_OK) return result;
+  result = file_of(image, file);
+  if (result == FAM_OK) result = map_file(image, file, wanted);
+  if (result == FAM_OK) *at = image->mappings[file].at;
+  if (result == FAM_OK && length != NULL) *length = image->files[file].length;
+  return leave(image, result);
 }
 
-void fam_close(void) {
-  for (int f = 0; f < FILES; f++) {
-    if (mapped[f].at == NULL) continue;
-    munmap(mapped[f].at, mapped[f].pages * PAGE);
-    munmap(mapped[f].written, mapped[f].pages);
-    mapped[f] = (struct mapping){0};
-  }
-  if (signals) sigaction(SIGSEGV, &older, NULL), signals = 0;
-  if (faults >= 0) close(faults), faults = -1;
-  if (pagemap >= 0) close(pagemap), pagemap = -1;
-  if (image.bytes != NULL) munmap(image.bytes, 512 * image.sectors + 1), image.bytes = NULL;
-  if (image.fd >= 0) close(image.fd), image.fd = -1;
-  image.handle.state = FAMSYNC_CLOSED;
+int fam_unmap(fam_image *image, unsigned file) {
+  int result = enter(image);
+  if (result != FAM_OK) return result;
+  if (file >= FAM_FILES || image->mappings[file].at == NULL) return leave(image, fail(image, FAM_NO_FILE, "file %u", file));
+  drop_mapping(&image->mappings[file]);
+  return leave(image, FAM_OK);
+}
+
+int fam_length(fam_image *image, unsigned file, size_t *length) {
+  int result = enter(image);
+  if (result != FAM_OK) return result;
+  result = file_of(image, file);
+  if (result == FAM_OK) *length = image->files[file].length;
+  return leave(image, result);
+}
+
+/* Facts */
+
+int fam_stat(fam_image *image, struct fam_stat *to) {
+  static const char *const names[] = {"none", "scan", "signal", "caller"};
+  int result = enter(image);
+  if (result != FAM_OK) return result;
+  if (to->size < sizeof *to) return leave(image, fail(image, EINVAL, "size %zu", to->size));
+  size_t size = to->size;
+  *to = image->stat;
+  to->size = size;
+  to->most_pages = FAM_MOST_PAGES;
+  to->tracker = names[image->tracker];
+  to->lazy = (uint32_t)image->lazy;
+  return leave(image, FAM_OK);
 }

@@ -1,0 +1,589 @@
+/* check FOLDER: tries every call of fam.h on images that it makes in FOLDER, with each tracker that the system has. */
+#define _GNU_SOURCE
+#include "fam.h"
+#include <errno.h>
+#include <fcntl.h>
+#include <pthread.h>
+#include <setjmp.h>
+#include <signal.h>
+#include <stdio.h>
+#include <stdlib.h>
+#include <string.h>
+#include <sys/mman.h>
+#include <sys/resource.h>
+#include <sys/wait.h>
+#include <unistd.h>
+
+enum { PAGE = FAM_PAGE };
+static int checks;
+
+static void check_that(int holds, const char *what, int line) {
+  checks++;
+  if (!holds) fprintf(stderr, "check.c:%d: not so: %s\n", line, what), exit(1);
+}
+#define CHECK(condition) check_that((condition) != 0, #condition, __LINE__)
+
+static void check_result(int wanted, int result, const char *call, int line) {
+  checks++;
+  if (result != wanted) fprintf(stderr, "check.c:%d: %s returned %d (%s: %s)\n", line, call, result, fam_name(result), fam_strerror(result)), exit(1);
+}
+#define RETURNS(wanted, call) check_result(wanted, call, #call, __LINE__)
+#define DONE(call) RETURNS(FAM_OK, call)
+
+/* What most tests use: an image of three files, 8 pages, a page and a bit, and a read-only page of 'r'. */
+static unsigned flags; /* of the tracker that is tried, and FAM_LAZY */
+static const char *path = "check.img";
+static fam_image *image;
+static unsigned char *a, *b;
+
+static void make_image(uint32_t pages) {
+  static char r[PAGE];
+  memset(r, 'r', sizeof r);
+  struct fam_file files[] = {{PAGE * pages, 0, NULL}, {PAGE + 904, 0, NULL}, {PAGE, FAM_FILE_READ_ONLY, r}, {0, 0, NULL}};
+  unlink(path);
+  DONE(fam_format(path, 0600, files, 4));
+}
+
+static void write_at(off_t offset, const void *bytes, size_t length) {
+  int fd = open(path, O_RDWR);
+  CHECK(pwrite(fd, bytes, length, offset) == (ssize_t)length);
+  close(fd);
+}
+
+static unsigned char *mapped(unsigned file) {
+  void *at;
+  DONE(fam_map(image, file, NULL, &at, NULL));
+  return at;
+}
+
+static void open_and_map(void) {
+  DONE(fam_open(&image, path, flags));
+  a = mapped(0), b = mapped(1);
+}
+
+static void open_again(void) {
+  DONE(fam_close(image));
+  open_and_map();
+}
+
+static void begin(void) {
+  make_image(8);
+  open_and_map();
+}
+
+static void store(unsigned char *at, unsigned char value) {
+  *(volatile unsigned char *)at = value;
+  if ((flags & FAM_TRACK_CALLER) != 0) DONE(fam_dirty(image, at, 1));
+}
+
+static size_t committed(void) {
+  size_t taken = 99;
+  DONE(fam_commit(image, NULL, 0, &taken));
+  return taken;
+}
+
+static size_t written(void) {
+  size_t pages = 99;
+  DONE(fam_written(image, NULL, 0, &pages));
+  return pages;
+}
+
+static int tracks_by(unsigned tracker) {
+  struct fam_stat stat = {.size = sizeof stat};
+  DONE(fam_stat(image, &stat));
+  return strcmp(stat.tracker, tracker == FAM_TRACK_SCAN ? "scan" : tracker == FAM_TRACK_SIGNAL ? "signal" : "caller") == 0;
+}
+
+/* Commits */
+
+static void commits_are_durable(void) {
+  begin();
+  CHECK(committed() == 0);
+  store(a, 1), store(a + 7 * PAGE + 5, 2), store(b + PAGE + 903, 3), store(b + PAGE + 904, 4);
+  CHECK(written() == 3 && committed() == 3 && committed() == 0);
+  store(a, 5);
+  CHECK(written() == 1);
+  open_again();
+  CHECK(a[0] == 1 && a[7 * PAGE + 5] == 2 && b[PAGE + 903] == 3 && b[PAGE + 904] == 0);
+  CHECK(committed() == 0);
+  DONE(fam_close(image));
+}
+
+static void commits_follow_one_another(void) {
+  begin();
+  for (int i = 1; i <= 50; i++) {
+    for (int k = i % 3; k < 8; k += 1 + i % 4) store(a + k * PAGE + i, (unsigned char)(i + k));
+    DONE(fam_msync(image, i % 2 ? NULL : a, i % 2 ? 0 : 8 * PAGE));
+  }
+  unsigned char kept[8 * PAGE];
+  memcpy(kept, a, sizeof kept);
+  open_again();
+  CHECK(memcmp(kept, a, sizeof kept) == 0);
+  DONE(fam_close(image));
+}
+
+static void ranges_choose_pages(void) {
+  begin();
+  for (int k = 0; k < 8; k++) store(a + k * PAGE, 1);
+  store(b, 1);
+  struct fam_range ranges[] = {{a + PAGE - 1, 2}, {a + PAGE, 1}, {b + 100, 10}, {a + 5 * PAGE, 0}, {NULL, PAGE}, {a + 7 * PAGE, SIZE_MAX}};
+  size_t pages;
+  DONE(fam_written(image, ranges, 5, &pages));
+  CHECK(pages == 3);
+  DONE(fam_commit(image, ranges, 5, &pages));
+  CHECK(pages == 3 && written() == 6);
+  DONE(fam_written(image, ranges + 5, 1, &pages));
+  CHECK(pages == 1);
+  RETURNS(EINVAL, fam_commit(image, NULL, 1, NULL));
+  open_again();
+  for (int k = 0; k < 8; k++) CHECK(a[k * PAGE] == (k < 2));
+  CHECK(b[0] == 1);
+  DONE(fam_close(image));
+}
+
+static void too_many_pages_are_refused_and_not_for_good(void) {
+  make_image(1030);
+  open_and_map();
+  for (int k = 0; k < 1030; k++) store(a + k * PAGE, 1);
+  RETURNS(FAM_TOO_MANY, fam_commit(image, NULL, 0, NULL));
+  CHECK(strstr(fam_errmsg(image), "1023") != NULL && written() == 1030);
+  struct fam_range parts[] = {{a, 1023 * PAGE}, {a + 1023 * PAGE, 7 * PAGE}};
+  size_t taken;
+  DONE(fam_commit(image, parts, 1, &taken));
+  CHECK(taken == 1023);
+  DONE(fam_commit(image, parts + 1, 1, &taken));
+  CHECK(taken == 7);
+  for (int k = 0; k < 1030; k++) store(a + k * PAGE, 2);
+  RETURNS(FAM_TOO_MANY, fam_commit(image, NULL, 0, NULL));
+  DONE(fam_rollback(image, NULL, 0));
+  store(a + 3 * PAGE, 3);
+  CHECK(committed() == 1);
+  open_again();
+  for (int k = 0; k < 1030; k++) CHECK(a[k * PAGE] == (k == 3 ? 3 : 1));
+  DONE(fam_close(image));
+}
+
+static void a_roll_back_shows_what_is_durable(void) {
+  begin();
+  for (int k = 0; k < 8; k++) store(a + k * PAGE, 1);
+  store(b + PAGE, 1);
+  CHECK(committed() == 9);
+  store(a, 2);
+  CHECK(committed() == 1);
+  for (int k = 0; k < 8; k++) store(a + k * PAGE, 3);
+  store(b + PAGE + 10, 3), store(b + PAGE + 904, 3);
+  struct fam_range first = {a, 2 * PAGE};
+  DONE(fam_rollback(image, &first, 1));
+  CHECK(a[0] == 2 && a[PAGE] == 1 && a[2 * PAGE] == 3 && written() == 7);
+  DONE(fam_rollback(image, NULL, 0));
+  for (int k = 1; k < 8; k++) CHECK(a[k * PAGE] == 1);
+  CHECK(b[PAGE] == 1 && b[PAGE + 10] == 0 && b[PAGE + 904] == 0 && written() == 0 && committed() == 0);
+  store(a + PAGE, 4);
+  CHECK(committed() == 1);
+  open_again();
+  CHECK(a[0] == 2 && a[PAGE] == 4 && a[2 * PAGE] == 1);
+  DONE(fam_close(image));
+}
+
+/* Mapping */
+
+static void a_mapping_has_its_file(void) {
+  void *at, *there = mmap(NULL, 16 * PAGE, PROT_NONE, MAP_PRIVATE | MAP_ANONYMOUS, -1, 0);
+  size_t length = 1;
+  begin();
+  DONE(fam_length(image, 1, &length));
+  CHECK(length == PAGE + 904);
+  RETURNS(FAM_NO_FILE, fam_map(image, 4, NULL, &at, NULL));
+  RETURNS(FAM_NO_FILE, fam_length(image, 64, &length));
+  DONE(fam_map(image, 3, NULL, &at, &length));
+  CHECK(at == NULL && length == 0);
+  DONE(fam_map(image, 0, a, &at, &length));
+  CHECK(at == a && length == 8 * PAGE);
+  RETURNS(EEXIST, fam_map(image, 0, a + PAGE, &at, &length));
+  RETURNS(EINVAL, fam_map(image, 2, a + 1, &at, NULL));
+  RETURNS(EEXIST, fam_map(image, 2, there, &at, NULL));
+  munmap(there, 16 * PAGE);
+  DONE(fam_map(image, 2, there, &at, NULL));
+  CHECK(at == there && *(unsigned char *)at == 'r' && ((unsigned char *)at)[PAGE - 1] == 'r');
+  RETURNS(FAM_READ_ONLY, fam_dirty(image, at, 1));
+  DONE(fam_unmap(image, 2));
+  RETURNS(FAM_NO_FILE, fam_unmap(image, 2));
+  DONE(fam_close(image));
+  DONE(fam_close(NULL));
+}
+
+static void a_new_mapping_reads_the_open_journal(void) {
+  begin();
+  for (int k = 0; k < 8; k++) store(a + k * PAGE, 1);
+  CHECK(committed() == 8);
+  store(a + 2 * PAGE, 2), store(b + PAGE, 2);
+  CHECK(committed() == 2);
+  store(a, 9);
+  DONE(fam_unmap(image, 0));
+  a = mapped(0);
+  for (int k = 0; k < 8; k++) CHECK(a[k * PAGE] == (k == 2 ? 2 : 1));
+  CHECK(b[PAGE] == 2 && written() == 0);
+  DONE(fam_close(image));
+}
+
+/* The format leaves open what the home of a last page holds past the file's end. */
+static void bytes_past_the_end_read_as_zeros(void) {
+  char garbage[PAGE];
+  memset(garbage, 'g', sizeof garbage);
+  make_image(8);
+  write_at(512 * 8195 + 9 * PAGE, garbage, PAGE);
+  open_and_map();
+  CHECK(b[PAGE + 903] == 'g' && b[PAGE + 904] == 0 && b[2 * PAGE - 1] == 0);
+  store(b + PAGE + 904, 1);
+  DONE(fam_rollback(image, NULL, 0));
+  CHECK(b[PAGE + 903] == 'g' && b[PAGE + 904] == 0 && committed() == 0);
+  DONE(fam_close(image));
+}
+
+static void bytes_outside_of_mappings_are_refused(void) {
+  begin();
+  RETURNS(FAM_BAD_RANGE, fam_dirty(image, &checks, 1));
+  RETURNS(FAM_BAD_RANGE, fam_dirty(image, a + 7 * PAGE, PAGE + 1));
+  RETURNS(FAM_BAD_RANGE, fam_touch(image, a, SIZE_MAX));
+  DONE(fam_dirty(image, a + 7 * PAGE, PAGE));
+  DONE(fam_dirty(image, a, 0));
+  DONE(fam_touch(image, a, 8 * PAGE));
+  CHECK(written() == 1);
+  DONE(fam_close(image));
+}
+
+static void system_calls_reach_mapped_memory(void) {
+  int pipes[2];
+  begin();
+  CHECK(pipe(pipes) == 0 && write(pipes[1], "abcdefgh", 8) == 8);
+  ssize_t stored = read(pipes[0], a + 3 * PAGE, 2);
+  if (tracks_by(FAM_TRACK_SIGNAL) || (flags & FAM_LAZY) != 0) CHECK(stored == -1 && errno == EFAULT);
+  if (tracks_by(FAM_TRACK_SIGNAL) || tracks_by(FAM_TRACK_CALLER)) DONE(fam_dirty(image, a + 3 * PAGE, 6));
+  DONE(fam_touch(image, a + 3 * PAGE, 2));
+  if (stored < 0) stored = read(pipes[0], a + 3 * PAGE, 2);
+  CHECK(stored == 2 && memcmp(a + 3 * PAGE, "ab", 2) == 0 && committed() == 1);
+  if ((flags & FAM_LAZY) != 0) CHECK(write(pipes[1], b, 2) == -1 && errno == EFAULT);
+  DONE(fam_touch(image, b, 2));
+  CHECK(write(pipes[1], b, 2) == 2 && written() == 0);
+  open_again();
+  CHECK(memcmp(a + 3 * PAGE, "ab", 2) == 0);
+  DONE(fam_close(image));
+  close(pipes[0]), close(pipes[1]);
+}
+
+/* Several images, openings and processes */
+
+static void two_images_are_apart(void) {
+  const char *first = path;
+  begin();
+  fam_image *kept = image;
+  unsigned char *kept_a = a;
+  path = "other.img";
+  begin();
+  store(a, 7);
+  CHECK(written() == 1);
+  fam_image *other = image;
+  image = kept;
+  store(kept_a, 6);
+  size_t pages;
+  DONE(fam_commit(kept, NULL, 0, &pages));
+  CHECK(pages == 1);
+  RETURNS(FAM_BAD_RANGE, fam_dirty(kept, a, 1));
+  DONE(fam_close(kept));
+  image = other;
+  CHECK(committed() == 1);
+  open_again();
+  CHECK(a[0] == 7);
+  DONE(fam_close(image));
+  path = first;
+  open_and_map();
+  CHECK(a[0] == 6);
+  DONE(fam_close(image));
+}
+
+static size_t resident(void) {
+  size_t all, here = 0;
+  FILE *facts = fopen("/proc/self/statm", "r");
+  CHECK(facts != NULL && fscanf(facts, "%zu %zu", &all, &here) == 2);
+  fclose(facts);
+  return here;
+}
+
+static void readers_stand_beside_each_other(void) {
+  begin();
+  store(a, 1), store(b + PAGE, 2);
+  CHECK(committed() == 2);
+  fam_image *other;
+  RETURNS(FAM_BUSY, fam_open(&other, path, FAM_NOWAIT | FAM_RDONLY));
+  DONE(fam_close(image)); /* with an open journal */
+  unsigned lazy = flags & FAM_LAZY;
+  DONE(fam_open(&image, path, FAM_RDONLY | lazy));
+  DONE(fam_open(&other, path, FAM_RDONLY | FAM_NOWAIT | lazy));
+  a = mapped(0), b = mapped(1);
+  CHECK(a[0] == 1 && a[PAGE] == 0 && b[PAGE] == 2 && mapped(2)[5] == 'r');
+  RETURNS(FAM_READ_ONLY, fam_commit(image, NULL, 0, NULL));
+  RETURNS(FAM_READ_ONLY, fam_dirty(image, a, 1));
+  struct fam_stat stat = {.size = sizeof stat};
+  DONE(fam_stat(other, &stat));
+  CHECK(strcmp(stat.tracker, "none") == 0 && stat.recovered == 0 && stat.written_bytes == 0);
+  DONE(fam_close(other));
+  RETURNS(FAM_BUSY, fam_open(&other, path, FAM_NOWAIT));
+  CHECK(other == NULL);
+  DONE(fam_close(image));
+  DONE(fam_open(&image, path, 0));
+  DONE(fam_stat(image, &stat));
+  CHECK(stat.recovered == 2 && stat.written_bytes == 2 * PAGE + 512 && stat.syncs == 2);
+  DONE(fam_close(image));
+}
+
+static sigjmp_buf elsewhere;
+static volatile int seen;
+
+static void on_other_fault(int number) {
+  seen = number;
+  siglongjmp(elsewhere, 1);
+}
+
+/* The memory is not a child's, and each call is refused there; none takes the parent's marks. */
+static int in_child(void) {
+  seen = 0;
+  if (sigsetjmp(elsewhere, 1) == 0) return *(volatile unsigned char *)a == 1 ? 2 : 3;
+  if (seen != SIGSEGV) return 4;
+  size_t n;
+  void *at;
+  struct fam_stat stat = {.size = sizeof stat};
+  struct fam_range all = {a, 1};
+  int refused = fam_commit(image, NULL, 0, NULL) == FAM_FORKED && fam_msync(image, a, 1) == FAM_FORKED && fam_written(image, &all, 1, &n) == FAM_FORKED
+    && fam_rollback(image, NULL, 0) == FAM_FORKED && fam_dirty(image, a, 1) == FAM_FORKED && fam_touch(image, a, 1) == FAM_FORKED
+    && fam_map(image, 0, NULL, &at, NULL) == FAM_FORKED && fam_unmap(image, 0) == FAM_FORKED && fam_length(image, 0, &n) == FAM_FORKED
+    && fam_stat(image, &stat) == FAM_FORKED;
+  return refused ? 0 : 1;
+}
+
+static int status_of(pid_t child) {
+  int status;
+  return waitpid(child, &status, 0) == child && WIFEXITED(status) ? WEXITSTATUS(status) : -1;
+}
+
+static void a_child_takes_nothing_from_its_parent(void) {
+  int to_child[2];
+  char c;
+  begin();
+  store(a, 1);
+  CHECK(committed() == 1 && pipe(to_child) == 0);
+  pid_t child = fork();
+  if (child == 0) _exit(read(to_child[0], &c, 1) != 1 ? 2 : in_child());
+  store(a, 2);
+  CHECK(write(to_child[1], "x", 1) == 1 && status_of(child) == 0);
+  CHECK(committed() == 1);
+  open_again();
+  CHECK(a[0] == 2);
+  DONE(fam_close(image));
+  close(to_child[0]), close(to_child[1]);
+}
+
+/* A child that lives on does not keep the parent's image locked; it may open images, and close what it inherited. */
+static void a_child_has_images_of_its_own(void) {
+  int to_child[2];
+  char c;
+  begin();
+  CHECK(pipe(to_child) == 0);
+  pid_t child = fork();
+  if (child == 0) {
+    fam_image *inherited = image;
+    if (read(to_child[0], &c, 1) != 1) _exit(2);
+    open_and_map();
+    store(a, 8);
+    if (committed() != 1 || fam_commit(inherited, NULL, 0, NULL) != FAM_FORKED || fam_close(inherited) != FAM_FORKED) _exit(3);
+    _exit(fam_close(image) == FAM_OK ? 0 : 4);
+  }
+  DONE(fam_close(image));
+  DONE(fam_open(&image, path, flags | FAM_NOWAIT));
+  DONE(fam_close(image));
+  CHECK(write(to_child[1], "x", 1) == 1 && status_of(child) == 0);
+  open_and_map();
+  CHECK(a[0] == 8);
+  DONE(fam_close(image));
+  close(to_child[0]), close(to_child[1]);
+}
+
+/* Threads */
+
+enum { STORED_PAGES = 64 };
+static volatile int stored_all;
+
+static void *store_on(void *rounds) {
+  for (unsigned long n = 1; n < (unsigned long)(uintptr_t)rounds; n++) {
+    unsigned char *at = a + n % STORED_PAGES * PAGE;
+    *(volatile unsigned long *)at = n;
+    if ((flags & FAM_TRACK_CALLER) != 0) fam_dirty(image, at, sizeof n);
+  }
+  stored_all = 1;
+  return NULL;
+}
+
+static void stores_during_commits_are_not_lost(void) {
+  static unsigned char kept[STORED_PAGES * PAGE];
+  for (unsigned long round = 0; round < 20; round++) {
+    pthread_t thread;
+    make_image(STORED_PAGES);
+    open_and_map();
+    stored_all = 0;
+    CHECK(pthread_create(&thread, NULL, store_on, (void *)(uintptr_t)(20000 + 7919 * round)) == 0);
+    while (!stored_all) DONE(fam_commit(image, NULL, 0, NULL));
+    pthread_join(thread, NULL);
+    committed();
+    memcpy(kept, a, sizeof kept);
+    open_again();
+    for (int k = 0; k < STORED_PAGES; k++) CHECK(memcmp(kept + k * PAGE, a + k * PAGE, PAGE) == 0);
+    DONE(fam_close(image));
+  }
+}
+
+/* Faults */
+
+/* on_other_fault is installed before any image is opened. */
+static void other_faults_are_passed_on(void) {
+  void *closed = mmap(NULL, PAGE, PROT_NONE, MAP_PRIVATE | MAP_ANONYMOUS, -1, 0);
+  begin();
+  for (int i = 0; i < 2; i++) {
+    seen = 0;
+    if (sigsetjmp(elsewhere, 1) == 0) *(volatile char *)closed = 1;
+    CHECK(seen == SIGSEGV);
+    store(a + i * PAGE, 1);
+    CHECK(committed() == 1);
+  }
+  seen = 0;
+  if (sigsetjmp(elsewhere, 1) == 0) *(volatile unsigned char *)mapped(2) = 1;
+  CHECK(seen == SIGSEGV);
+  munmap(closed, PAGE);
+  DONE(fam_close(image));
+}
+
+static void a_failing_device_halts(void) {
+  struct rlimit kept, small = {PAGE, RLIM_INFINITY};
+  begin();
+  store(a, 1);
+  CHECK(committed() == 1);
+  store(a + PAGE, 1);
+  CHECK(getrlimit(RLIMIT_FSIZE, &kept) == 0);
+  small.rlim_max = kept.rlim_max;
+  CHECK(setrlimit(RLIMIT_FSIZE, &small) == 0);
+  RETURNS(FAM_DEVICE, fam_commit(image, NULL, 0, NULL));
+  CHECK(setrlimit(RLIMIT_FSIZE, &kept) == 0);
+  CHECK(strstr(fam_errmsg(image), "pwrite of 4096 bytes at sector 8195") != NULL);
+  RETURNS(FAM_HALTED, fam_commit(image, NULL, 0, NULL));
+  RETURNS(FAM_HALTED, fam_rollback(image, NULL, 0));
+  open_again();
+  CHECK(a[0] == 1 && a[PAGE] == 0);
+  DONE(fam_close(image));
+}
+
+static void pages_are_read_late(void) {
+  enum { PAGES = 16384 };
+  if ((flags & FAM_LAZY) == 0) return;
+  make_image(PAGES);
+  DONE(fam_open(&image, path, flags));
+  size_t before = resident();
+  a = mapped(0);
+  CHECK(a[0] == 0 && a[(PAGES - 1) * PAGE] == 0 && resident() - before < PAGES / 16);
+  struct fam_stat stat = {.size = sizeof stat};
+  DONE(fam_stat(image, &stat));
+  CHECK(stat.lazy == 1);
+  store(a + 5000 * PAGE, 1), store(a + 5001 * PAGE, 1);
+  CHECK(committed() == 2);
+  for (int k = 4990; k < 5010; k++) CHECK(a[k * PAGE] == (k == 5000 || k == 5001));
+  store(a + 5002 * PAGE, 1);
+  DONE(fam_rollback(image, NULL, 0));
+  CHECK(a[5002 * PAGE] == 0 && committed() == 0);
+  open_again();
+  for (int k = 4990; k < 5010; k++) CHECK(a[k * PAGE] == (k == 5000 || k == 5001));
+  DONE(fam_close(image));
+}
+
+/* What no tracker changes */
+
+static void what_is_no_image_is_refused(void) {
+  static const char *const name = "none.img";
+  unlink(name);
+  RETURNS(ENOENT, fam_open(&image, name, 0));
+  int fd = open(name, O_RDWR | O_CREAT, 0600);
+  RETURNS(FAM_NOT_IMAGE, fam_open(&image, name, 0));
+  for (int i = 0; i < 9000; i++) CHECK(write(fd, "no image", 8) == 8);
+  RETURNS(FAM_NOT_IMAGE, fam_open(&image, name, 0));
+  RETURNS(FAM_NOT_IMAGE, fam_open(&image, ".", FAM_RDONLY));
+  CHECK(image == NULL);
+  RETURNS(EINVAL, fam_open(&image, path, 64));
+  RETURNS(EINVAL, fam_open(&image, path, FAM_TRACK_SCAN | FAM_TRACK_CALLER));
+  close(fd);
+}
+
+static void a_bad_journal_is_refused(void) {
+  char gate[512];
+  for (int i = 0; i < 512; i += 8) memcpy(gate + i, "GATEOPEN", 8);
+  make_image(8);
+  write_at(1024, gate, sizeof gate);
+  write_at(1536, "\377\377\0\0", 4);
+  RETURNS(FAM_BAD_JOURNAL, fam_open(&image, path, 0));
+  RETURNS(FAM_BAD_JOURNAL, fam_open(&image, path, FAM_RDONLY));
+}
+
+static void bad_files_are_not_formatted(void) {
+  struct fam_file files[65] = {{1, 0, NULL}};
+  unlink(path);
+  RETURNS(EINVAL, fam_format(path, 0600, files, 65));
+  files[0].flags = 2;
+  RETURNS(EINVAL, fam_format(path, 0600, files, 1));
+  CHECK(access(path, F_OK) != 0);
+  files[0].flags = 0;
+  DONE(fam_format(path, 0600, files, 64));
+  RETURNS(EEXIST, fam_format(path, 0600, files, 1));
+  RETURNS(ENOENT, fam_format("no/such", 0600, files, 1));
+}
+
+static void results_have_words(void) {
+  CHECK(fam_version() == FAM_VERSION_NUMBER);
+  CHECK(strcmp(fam_name(FAM_OK), "FAM_OK") == 0 && strcmp(fam_name(EIO), "errno") == 0 && strcmp(fam_name(-5), "unknown") == 0);
+  for (int result = FAM_FORKED; result <= FAM_NOT_IMAGE; result++)
+    CHECK(strncmp(fam_name(result), "FAM_", 4) == 0 && strcmp(fam_strerror(result), "unknown result") != 0);
+  CHECK(strcmp(fam_strerror(EBUSY), "Device or resource busy") == 0 && strcmp(fam_strerror(99999), "unknown errno value") == 0);
+  begin();
+  CHECK(strcmp(fam_errmsg(image), "") == 0);
+  struct fam_stat stat = {.size = 8};
+  RETURNS(EINVAL, fam_stat(image, &stat));
+  stat.size = sizeof stat;
+  DONE(fam_stat(image, &stat));
+  CHECK(stat.files == 4 && stat.pages == 11 && stat.most_pages == 1023);
+  DONE(fam_close(image));
+}
+
+static void (*const with_each_tracker[])(void) = {
+  commits_are_durable, commits_follow_one_another, ranges_choose_pages, too_many_pages_are_refused_and_not_for_good,
+  a_roll_back_shows_what_is_durable, a_mapping_has_its_file, a_new_mapping_reads_the_open_journal,
+  bytes_past_the_end_read_as_zeros, bytes_outside_of_mappings_are_refused, system_calls_reach_mapped_memory,
+  two_images_are_apart, readers_stand_beside_each_other, a_child_takes_nothing_from_its_parent,
+  a_child_has_images_of_its_own, stores_during_commits_are_not_lost, other_faults_are_passed_on,
+  a_failing_device_halts, pages_are_read_late};
+static void (*const once[])(void) = {what_is_no_image_is_refused, a_bad_journal_is_refused, bad_files_are_not_formatted, results_have_words};
+
+int main(int argc, char **argv) {
+  static const struct { unsigned flags; const char *name; } trackers[] = {
+    {FAM_TRACK_SCAN, "scan"}, {FAM_TRACK_SIGNAL, "signal"}, {FAM_TRACK_CALLER, "caller"},
+    {FAM_TRACK_SCAN | FAM_LAZY, "scan, lazy"}, {FAM_TRACK_CALLER | FAM_LAZY, "caller, lazy"}};
+  if (argc != 2 || chdir(argv[1]) != 0) return 2;
+  signal(SIGSEGV, on_other_fault), signal(SIGXFSZ, SIG_IGN);
+  for (size_t i = 0; i < sizeof once / sizeof *once; i++) once[i]();
+  for (size_t t = 0; t < sizeof trackers / sizeof *trackers; t++) {
+    flags = trackers[t].flags;
+    make_image(8);
+    if (fam_open(&image, path, flags) == FAM_NO_TRACKER) {
+      printf("check: tracker %s: the system has none\n", trackers[t].name);
+      continue;
+    }
+    DONE(fam_close(image));
+    for (size_t i = 0; i < sizeof with_each_tracker / sizeof *with_each_tracker; i++) with_each_tracker[i]();
+    printf("check: tracker %s: passed\n", trackers[t].name);
+  }
+  printf("check: %d checks passed\n", checks);
+  return 0;
+}

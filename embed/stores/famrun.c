@@ -1,0 +1,152 @@
+/* famrun: runs a program on an image of libfam in place of its one data file. The work is done by famrun.so (bridge.c), which stands beside
+   this program and is preloaded; here are its options, what has to be so before it can begin, and clear words where it is not. */
+#define _GNU_SOURCE
+#include "fam.h"
+#include <errno.h>
+#include <fcntl.h>
+#include <limits.h>
+#include <stdio.h>
+#include <stdlib.h>
+#include <string.h>
+#include <sys/mman.h>
+#include <sys/stat.h>
+#include <unistd.h>
+
+static const char usage[] =
+  "usage: famrun [-v] [-c every|fsync|part] [-m LENGTH [-i]] IMAGE DATAFILE -- COMMAND [ARGUMENT...]\n"
+  "\n"
+  "Runs COMMAND, whose reads, writes and mappings of DATAFILE go to IMAGE. What COMMAND syncs becomes durable all at once:\n"
+  "after a crash or a power cut IMAGE holds what one of its syncs left, the last one that returned or a later one.\n"
+  "DATAFILE stays empty; it is made where it is missing, for its name and its locks.\n"
+  "\n"
+  "  -m LENGTH  makes IMAGE where it is missing, for a data file of at most LENGTH bytes (K, M, G: times 1,024). COMMAND may map no\n"
+  "             more than that: LMDB's map size, Kyoto Cabinet's msiz and Tokyo Cabinet's xmsiz (64M unless they are set)\n"
+  "  -i         takes the bytes of DATAFILE into the image that -m makes, and keeps the file as DATAFILE.before\n"
+  "  -c every   each msync, fsync and fdatasync is a commit (the default; for gdbm, and where nothing is known)\n"
+  "  -c fsync   fsync and fdatasync alone: for a program that makes both of each sync, as Kyoto and Tokyo Cabinet\n"
+  "  -c part    not an msync of the whole mapping: for LMDB with MDB_WRITEMAP, which syncs its root page after it\n"
+  "  -v         says at the end how many commits there were\n"
+  "\n"
+  "A commit takes at most 1,023 pages of 4,096 bytes; a larger one fails with E2BIG. COMMAND has to be linked dynamically. Its exit status is\n"
+  "famrun's; 2 is a wrong word here, 125 another failure of famrun, 126 and 127 a COMMAND that cannot be run or is not there.\n";
+
+struct options { const char *commit_at, *image, *data; uint32_t length; int is_verbose, is_import; char **command; };
+
+/* Says what failed and ends the program with status 125. */
+_Noreturn static void quit(const char *what, const char *why) {
+  fprintf(stderr, "famrun: %s: %s\n", what, why);
+  exit(125);
+}
+
+/* Says how the program is called and ends it with status 2. */
+_Noreturn static void misused(void) {
+  fputs(usage, stderr);
+  exit(2);
+}
+
+/* A number of bytes under 2^32, as 4096, 64K, 16M, 1G. */
+static uint32_t length_of(const char *text) {
+  char *end;
+  errno = 0;
+  unsigned long long number = strtoull(text, &end, 10);
+  int shift = *end == 'K' ? 10 : *end == 'M' ? 20 : *end == 'G' ? 30 : 0;
+  if (end == text || *text == '-' || errno != 0 || end[shift != 0] != 0 || number == 0 || number > UINT32_MAX >> shift) quit(text, "no length of 1 byte to 4 GiB less 1");
+  return (uint32_t)(number << shift);
+}
+
+static struct options options_of(int count, char **words) {
+  struct options found = {.commit_at = "every"};
+  for (int letter; (letter = getopt(count, words, "+c:im:v")) != -1;) {
+    if (letter == 'c') found.commit_at = optarg;
+    else if (letter == 'i') found.is_import = 1;
+    else if (letter == 'm') found.length = length_of(optarg);
+    else if (letter == 'v') found.is_verbose = 1;
+    else misused();
+  }
+  if (strcmp(found.commit_at, "every") != 0 && strcmp(found.commit_at, "fsync") != 0 && strcmp(found.commit_at, "part") != 0) misused();
+  if (found.is_import && found.length == 0) misused();
+  if (count - optind < 4 || strcmp(words[optind + 2], "--") != 0) misused();
+  found.image = words[optind], found.data = words[optind + 1], found.command = words + optind + 3;
+  return found;
+}
+
+/* Makes the image of a data file that may grow to `most` bytes and has `length` of them now, those at `bytes`; NULL: none. */
+static void format(const char *path, uint32_t most, uint64_t length, const void *bytes) {
+  unsigned char page[FAM_PAGE] = {0};
+  memcpy(page, &length, sizeof length);
+  struct fam_file files[2] = {{.length = most, .content = bytes}, {.length = FAM_PAGE, .content = page}};
+  int result = fam_format(path, 0644, files, 2);
+  if (result != FAM_OK) quit(path, fam_strerror(result));
+}
+
+/* Makes the image of the bytes that the data file has, with zeros after them. Only then the file gets its other name. */
+static void import(const struct options *options) {
+  char before[PATH_MAX];
+  struct stat st;
+  int fd = open(options->data, O_RDONLY | O_CLOEXEC);
+  if (fd < 0 || fstat(fd, &st) != 0) quit(options->data, strerror(errno));
+  if (st.st_size > options->length) quit(options->data, "has more bytes than -m says");
+  if (snprintf(before, sizeof before, "%s.before", options->data) >= (int)sizeof before) quit(options->data, strerror(ENAMETOOLONG));
+  if (access(before, F_OK) == 0) quit(before, strerror(EEXIST));
+  unsigned char *bytes = mmap(NULL, options->length, PROT_READ, MAP_PRIVATE | MAP_ANONYMOUS | MAP_NORESERVE, -1, 0);
+  if (bytes == MAP_FAILED) quit(options->data, strerror(errno));
+  if (st.st_size > 0 && mmap(bytes, (size_t)st.st_size, PROT_READ, MAP_PRIVATE | MAP_FIXED, fd, 0) == MAP_FAILED) quit(options->data, strerror(errno));
+  format(options->image, options->length, (uint64_t)st.st_size, bytes);
+  if (rename(options->data, before) != 0) quit(before, strerror(errno));
+  munmap(bytes, options->length);
+  close(fd);
+}
+
+/* Makes the image where it is missing. */
+static void make_image(const struct options *options) {
+  if (access(options->image, F_OK) == 0) return;
+  if (options->length == 0) quit(options->image, "there is no image; -m LENGTH makes one");
+  if (options->is_import) import(options);
+  else format(options->image, options->length, 0, NULL);
+}
+
+/* Makes the data file where it is missing. One with bytes is not the image's: they would be hidden, and taken for lost. */
+static void make_data_file(const char *path) {
+  struct stat st;
+  int fd = open(path, O_RDWR | O_CREAT | O_CLOEXEC, 0644);
+  if (fd < 0 || fstat(fd, &st) != 0) quit(path, strerror(errno));
+  close(fd);
+  if (!S_ISREG(st.st_mode)) quit(path, "no regular file");
+  if (st.st_size != 0) quit(path, "has bytes of its own; under famrun the image has them and this file is empty. -m LENGTH -i takes them into a new image; else move it away first");
+}
+
+/* A word of the environment that is an absolute path. */
+static void set_path(const char *name, const char *path) {
+  char absolute[PATH_MAX];
+  if (realpath(path, absolute) == NULL) quit(path, strerror(errno));
+  setenv(name, absolute, 1);
+}
+
+/* famrun.so, which stands beside this program, before what is preloaded already. */
+static void preload(void) {
+  char path[PATH_MAX + 16], list[2 * PATH_MAX];
+  ssize_t length = readlink("/proc/self/exe", path, PATH_MAX);
+  if (length <= 0) quit("/proc/self/exe", strerror(errno));
+  path[length] = 0;
+  strcpy(strrchr(path, '/'), "/famrun.so");
+  if (access(path, R_OK) != 0) quit(path, strerror(errno));
+  const char *others = getenv("LD_PRELOAD");
+  if (snprintf(list, sizeof list, "%s%s%s", path, others == NULL ? "" : ":", others == NULL ? "" : others) >= (int)sizeof list) quit("LD_PRELOAD", "is too long");
+  setenv("LD_PRELOAD", list, 1);
+}
+
+int main(int count, char **words) {
+  struct options options = options_of(count, words);
+  make_image(&options);
+  make_data_file(options.data);
+  set_path("FAM_IMAGE", options.image);
+  set_path("FAM_FILE", options.data);
+  setenv("FAM_COMMIT_AT", options.commit_at, 1);
+  if (options.is_verbose) setenv("FAM_VERBOSE", "1", 1);
+  else unsetenv("FAM_VERBOSE");
+  preload();
+  execvp(options.command[0], options.command);
+  int number = errno;
+  fprintf(stderr, "famrun: %s: %s\n", options.command[0], strerror(number));
+  return number == ENOENT ? 127 : 126;
+}

@@ -1,0 +1,263 @@
+/* How pages are read when they are first touched, and how stores are noted. */
+#define _GNU_SOURCE
+#include "internal.h"
+#include <errno.h>
+#include <fcntl.h>
+#include <linux/userfaultfd.h>
+#include <signal.h>
+#include <string.h>
+#include <sys/ioctl.h>
+#include <sys/mman.h>
+#include <sys/syscall.h>
+#include <unistd.h>
+
+/* PAGEMAP_SCAN of Linux 6.7 and later, and the features of userfaultfd that go with it, for older headers. */
+struct scanned { uint64_t start, end, categories; };
+struct scan { uint64_t size, flags, start, end, walk_end, vec, vec_len, max_pages, inverted, mask, anyof, returned; };
+#define SCAN _IOWR('f', 16, struct scan)
+enum { IS_WRITTEN = 1 << 1, IS_PRESENT = 1 << 3, IS_SWAPPED = 1 << 4, PROTECT_MATCHING = 1, CHECK_ASYNC = 2 };
+enum { WP_UNPOPULATED = 1 << 13, WP_ASYNC = 1 << 15, SIGBUS_ON_MISSING = 1 << 7, USER_MODE_ONLY = 1 };
+
+static unsigned char *page_at(const struct mapping *mapping, size_t k) { return mapping->at + k * PAGE; }
+
+/* Pages that are read when they are first touched.
+
+   The durable bytes of a page lie in its home for as long as it was not read: `load` reads each page that the journal holds,
+   and a page gets into the journal by a commit alone, which takes pages that were read. So its home is never written while the
+   image is open: a late home is that of a page of the journal. No other program writes it, since the image is locked. A read
+   of the home at any moment gives the same bytes, and one after the page was stored to never comes, since UFFDIO_COPY leaves a
+   page alone that is there. A host file that is cut meanwhile fails the copy, and the fault is passed on as that of any mapped
+   file that was cut. */
+enum { AROUND = 16 };
+
+/* Reads the pages from `first` on that follow each other unread, up to `end`: how many, or 0 and errno. */
+static size_t copy_homes(const struct mapping *mapping, size_t first, size_t end) {
+  uint64_t mode = mapping->image->tracker == TRACKER_SCAN ? UFFDIO_COPY_MODE_WP : 0;
+  const unsigned char *from = mapping->image->bytes + home_offset(mapping->file.first_home + (uint32_t)first);
+  struct uffdio_copy copy = {.dst = (uintptr_t)page_at(mapping, first), .src = (uintptr_t)from, .len = (end - first) * PAGE, .mode = mode};
+  if (ioctl(mapping->image->faults, UFFDIO_COPY, &copy) == 0) return end - first;
+  if (copy.copy > 0) return (size_t)copy.copy / PAGE;
+  if (copy.copy < 0) errno = (int)-copy.copy;
+  return 0;
+}
+
+/* EAGAIN: the process's memory was being changed; again. */
+int fill_missing(const struct span *span) {
+  if (!span->mapping->image->lazy) return FAM_OK;
+  for (size_t k = span->first; k < span->end;) {
+    size_t read = copy_homes(span->mapping, k, span->end);
+    if (read > 0) k += read;
+    else if (errno == EEXIST) k++;
+    else if (errno != EAGAIN) return errno == ENOMEM ? ENOMEM : EIO;
+  }
+  return FAM_OK;
+}
+
+static int fill_around(const struct mapping *mapping, size_t k) {
+  size_t end = (k / AROUND + 1) * AROUND;
+  if (end > mapping->pages) end = mapping->pages;
+  return copy_homes(mapping, k, end) > 0 || errno == EEXIST || errno == EAGAIN;
+}
+
+/* Signals */
+
+static struct sigaction before_store, before_missing;
+
+/* Does what would be done without us. By default the access is made again, and ends the process. */
+static void pass_on(const struct sigaction *before, int number, siginfo_t *info, void *context) {
+  if ((before->sa_flags & SA_SIGINFO) != 0) {
+    before->sa_sigaction(number, info, context);
+  } else if (before->sa_handler != SIG_DFL && before->sa_handler != SIG_IGN) {
+    before->sa_handler(number);
+  } else {
+    signal(number, SIG_DFL);
+    if (info->si_code <= 0) raise(number); /* another process sent it, so it does not come again by itself */
+  }
+}
+
+/* The pages are opened first and marked then. A commit takes the marks, closes the pages and copies them, in this order; so a
+   store that follows this comes before the close, and the mark that is set here stays for the next commit, or it faults again.
+   Were the mark set first, a commit could take it, copy the page, and let the store through after that with no mark. Each page
+   that is open alone is a mapping of the kernel, of which there are some 65,000; then all of the file is opened. */
+int open_pages(const struct span *span) {
+  struct span all = {span->mapping, 0, span->mapping->pages}, opened = *span;
+  if (span->mapping->image->tracker == TRACKER_SIGNAL) {
+    if (mprotect(page_at(span->mapping, opened.first), (opened.end - opened.first) * PAGE, PROT_READ | PROT_WRITE) != 0) {
+      opened = all;
+      if (mprotect(span->mapping->at, all.end * PAGE, PROT_READ | PROT_WRITE) != 0) return errno;
+    }
+  }
+  for (size_t k = opened.first; k < opened.end; k++) add_mark(&span->mapping->marks[k], WRITTEN);
+  return FAM_OK;
+}
+
+/* The first store to a page that is not written. */
+static void on_store(int number, siginfo_t *info, void *context) {
+  int kept = errno;
+  struct mapping *mapping = info->si_code == SEGV_ACCERR ? mapping_at(info->si_addr) : NULL;
+  int ours = mapping != NULL && mapping->image->tracker == TRACKER_SIGNAL && !mapping->file.read_only;
+  size_t k = ours ? (size_t)((unsigned char *)info->si_addr - mapping->at) / PAGE : 0;
+  if (!ours || open_pages(&(struct span){mapping, k, k + 1}) != FAM_OK) pass_on(&before_store, number, info, context);
+  errno = kept;
+}
+
+static void on_missing(int number, siginfo_t *info, void *context) {
+  int kept = errno;
+  struct mapping *mapping = info->si_code == BUS_ADRERR ? mapping_at(info->si_addr) : NULL;
+  int ours = mapping != NULL && mapping->image->lazy;
+  if (!ours || !fill_around(mapping, (size_t)((unsigned char *)info->si_addr - mapping->at) / PAGE)) pass_on(&before_missing, number, info, context);
+  errno = kept;
+}
+
+static int installed_store = ENOSYS, installed_missing = ENOSYS;
+
+static int install(int number, void (*handler)(int, siginfo_t *, void *), struct sigaction *before) {
+  struct sigaction ours = {.sa_sigaction = handler, .sa_flags = SA_SIGINFO | SA_ONSTACK};
+  return sigaction(number, &ours, before) == 0 ? FAM_OK : errno;
+}
+
+static void install_store(void) { installed_store = install(SIGSEGV, on_store, &before_store); }
+static void install_missing(void) { installed_missing = install(SIGBUS, on_missing, &before_missing); }
+
+/* Choosing */
+
+static int open_faults(uint64_t features) {
+  int fd = (int)syscall(SYS_userfaultfd, O_CLOEXEC | USER_MODE_ONLY);
+  struct uffdio_api api = {.api = UFFD_API, .features = features};
+  if (fd >= 0 && ioctl(fd, UFFDIO_API, &api) == 0) return fd;
+  if (fd >= 0) close(fd);
+  return -1;
+}
+
+static int begin_scans(struct fam_image *image, uint64_t features) {
+  struct scan none = {.size = sizeof none};
+  image->faults = open_faults(WP_ASYNC | WP_UNPOPULATED | features);
+  image->pagemap = open("/proc/self/pagemap", O_RDONLY | O_CLOEXEC);
+  if (image->faults >= 0 && image->pagemap >= 0 && ioctl(image->pagemap, SCAN, &none) >= 0) return FAM_OK;
+  end_tracking(image);
+  return FAM_NO_TRACKER;
+}
+
+static int begin_signals(void) {
+  static pthread_once_t once = PTHREAD_ONCE_INIT;
+  pthread_once(&once, install_store);
+  return installed_store;
+}
+
+static int begin_laziness(void) {
+  static pthread_once_t once = PTHREAD_ONCE_INIT;
+  pthread_once(&once, install_missing);
+  return installed_missing;
+}
+
+static int begin_caller(struct fam_image *image, enum tracker tracker) {
+  image->tracker = tracker;
+  if (image->lazy) image->faults = open_faults(SIGBUS_ON_MISSING);
+  if (image->faults < 0) image->lazy = 0;
+  return FAM_OK;
+}
+
+int begin_tracking(struct fam_image *image, unsigned flags) {
+  image->lazy = (flags & FAM_LAZY) != 0 && begin_laziness() == FAM_OK;
+  if (image->read_only) return begin_caller(image, TRACKER_NONE);
+  if ((flags & FAM_TRACK_CALLER) != 0) return begin_caller(image, TRACKER_CALLER);
+  if ((flags & FAM_TRACK_SIGNAL) == 0 && begin_scans(image, image->lazy ? SIGBUS_ON_MISSING : 0) == FAM_OK) {
+    image->tracker = TRACKER_SCAN;
+    return FAM_OK;
+  }
+  if ((flags & FAM_TRACK_SCAN) != 0) return FAM_NO_TRACKER;
+  image->tracker = TRACKER_SIGNAL;
+  image->lazy = 0;
+  return begin_signals();
+}
+
+void end_tracking(struct fam_image *image) {
+  if (image->faults >= 0) close(image->faults);
+  if (image->pagemap >= 0) close(image->pagemap);
+  image->faults = image->pagemap = -1;
+}
+
+/* Reading a mapping */
+
+static int register_faults(struct mapping *mapping, uint64_t mode) {
+  struct uffdio_register all = {.range = {(uintptr_t)mapping->at, mapping->pages * PAGE}, .mode = mode};
+  return ioctl(mapping->image->faults, UFFDIO_REGISTER, &all) == 0 ? FAM_OK : errno;
+}
+
+static int protect(struct mapping *mapping) {
+  struct uffdio_writeprotect all = {.range = {(uintptr_t)mapping->at, mapping->pages * PAGE}, .mode = UFFDIO_WRITEPROTECT_MODE_WP};
+  return ioctl(mapping->image->faults, UFFDIO_WRITEPROTECT, &all) == 0 ? FAM_OK : errno;
+}
+
+static int put_page(struct mapping *mapping, size_t k) {
+  unsigned char bytes[PAGE];
+  copy_durable(mapping, k, bytes);
+  if (!mapping->image->lazy) return memcpy(page_at(mapping, k), bytes, PAGE), FAM_OK;
+  uint64_t mode = mapping->image->tracker == TRACKER_SCAN ? UFFDIO_COPY_MODE_WP : 0;
+  struct uffdio_copy copy = {.dst = (uintptr_t)page_at(mapping, k), .src = (uintptr_t)bytes, .len = PAGE, .mode = mode};
+  while (ioctl(mapping->image->faults, UFFDIO_COPY, &copy) != 0)
+    if (errno != EAGAIN) return errno == EEXIST ? FAM_OK : errno;
+  return FAM_OK;
+}
+
+/* Reads the pages whose bytes are not those of their homes: the pages of the journal, and a last page that zeros end. */
+static int put_others(struct mapping *mapping) {
+  uint32_t first = mapping->file.first_home, count = journal_pages(mapping->image);
+  int number = mapping->file.length % PAGE == 0 ? FAM_OK : put_page(mapping, mapping->pages - 1);
+  for (uint32_t i = 0; i < count && number == FAM_OK; i++) {
+    uint32_t home = journal_home(mapping->image, i);
+    if (home >= first && home - first < mapping->pages) number = put_page(mapping, home - first);
+  }
+  return number;
+}
+
+/* Large pages take fewer faults now, and fewer entries to look through in each scan. The first store to one splits it. */
+static int read_homes(struct mapping *mapping) {
+  madvise(mapping->at, mapping->pages * PAGE, MADV_HUGEPAGE);
+  return read_all(mapping->image->fd, mapping->at, mapping->pages * PAGE, home_offset(mapping->file.first_home)) == FAM_OK ? FAM_OK : EIO;
+}
+
+int load(struct mapping *mapping) {
+  struct fam_image *image = mapping->image;
+  uint64_t write_mode = image->tracker == TRACKER_SCAN ? UFFDIO_REGISTER_MODE_WP : 0;
+  int number = image->lazy ? register_faults(mapping, UFFDIO_REGISTER_MODE_MISSING | write_mode) : read_homes(mapping);
+  if (number == FAM_OK) number = put_others(mapping);
+  if (number == FAM_OK && !image->lazy && image->tracker == TRACKER_SCAN) {
+    number = register_faults(mapping, write_mode);
+    if (number == FAM_OK) number = protect(mapping);
+  }
+  int closed = image->tracker == TRACKER_SIGNAL || image->read_only || mapping->file.read_only;
+  if (number == FAM_OK && closed && mprotect(mapping->at, mapping->pages * PAGE, PROT_READ) != 0) number = errno;
+  return number;
+}
+
+/* Noting stores */
+
+/* Marks the pages that the kernel says were stored to since the last look, and begins anew. A page that was not read yet has
+   no protection, as a written one, but is neither present nor swapped. Where all pages were read the kernel is not asked for
+   that, which takes it twice as long. */
+static int look(const struct span *span, unsigned char mark) {
+  struct mapping *mapping = span->mapping;
+  struct scanned found[128];
+  struct scan scan = {.size = sizeof scan, .flags = PROTECT_MATCHING | CHECK_ASYNC, .walk_end = (uintptr_t)page_at(mapping, span->first),
+                      .end = (uintptr_t)page_at(mapping, span->end), .vec = (uintptr_t)found, .vec_len = sizeof found / sizeof *found,
+                      .mask = IS_WRITTEN, .anyof = mapping->image->lazy ? IS_PRESENT | IS_SWAPPED : 0, .returned = IS_WRITTEN};
+  while (scan.walk_end < scan.end) {
+    scan.start = scan.walk_end;
+    int count = ioctl(mapping->image->pagemap, SCAN, &scan);
+    if (count < 0) return errno;
+    for (int i = 0; i < count; i++)
+      for (uint64_t at = found[i].start; at < found[i].end; at += PAGE) add_mark(&mapping->marks[(at - (uintptr_t)mapping->at) / PAGE], mark);
+  }
+  return FAM_OK;
+}
+
+int note_written(const struct span *span) { return span->mapping->image->tracker == TRACKER_SCAN ? look(span, WRITTEN) : FAM_OK; }
+
+/* A scan has protected the pages already. */
+int seal(const struct span *span) {
+  if (span->mapping->image->tracker != TRACKER_SIGNAL) return FAM_OK;
+  return mprotect(page_at(span->mapping, span->first), (span->end - span->first) * PAGE, PROT_READ) == 0 ? FAM_OK : errno;
+}
+
+int forget_stores(const struct span *span) { return span->mapping->image->tracker == TRACKER_SCAN ? look(span, 0) : seal(span); }
