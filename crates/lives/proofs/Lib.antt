@@ -1,0 +1,5 @@
+pub mod Agreeing
+pub mod Lives
+pub mod Flat
+pub mod NewStores
+pub mod Samples

@@ -1,0 +1,143 @@
+-- What lives leave.
+use Rattle.std.proofs.Common.{ℕ, ◌≡◌, ◌≤◌, inl, inr, ⊎_elim, List, [], ◌∷◌, ◌++◌, length, refl, sym, ◌∙◌, subst, arith}
+use Rattle.disk_model.specs.Moments.{LeavesOnly}
+use Rattle.disk_model.specs.Stop.{Image, MayLeave}
+use Rattle.disk_model.specs.declared.sector_disk.SectorDisk.{Ghosts}
+use Rattle.file_store.specs.Standing.{StandsAs, StandsFor}
+use Rattle.vm_types.specs.declared.command.Command.{Command}
+use Rattle.vm_types.specs.declared.reply.Reply.{Reply}
+use Rattle.vm_types.specs.Files.{Files}
+use Rattle.vm_types.specs.Prefix.{Event, acknowledged, after_msyncs, IsPrefixHolding}
+use Rattle.vm_types.specs.State.{State}
+use Rattle.vm_types.specs.View.{Pages}
+use Rattle.machine.specs.Boot.{Boots}
+use Rattle.machine.specs.Chain.{Chain, Runs, after}
+use Rattle.mode_machine.specs.Machine.{StandsForSome}
+use Rattle.machine.specs.Machine.{store_of}
+use Rattle.machine.specs.declared.machine.Machine.{Machine}
+use Rattle.lives.specs.Lives.{Life, IsLeftBy, StopsEarly, StopsLater, Lives, LeftInLives, HoldsLives, RanSince}
+use Rattle.lives.proofs.Agreeing.{agree_msyncs, same_files, same_pages, stands_for_same}
+
+module _ {D E : Type 0} (g : Ghosts D) (h : Ghosts E) where
+  stops_early : (sectors : ℕ) (files : Files) (before : Pages) (life : Life) (first last : Image) → StandsFor sectors files before first
+      → StopsEarly g h sectors first life last → StandsForSome sectors files (IsPrefixHolding before life.events life.answered) last
+  stops_early sectors files before life first last stands l =
+      let still : StandsAs sectors first last =
+      subst (λ n. StandsAs n first last) l.opens.size
+      (subst (λ held. StandsAs (g.sector_count l.old) held last) l.opens.held (l.opens.stands.each last l.left)) in
+      let holds : acknowledged life.events life.answered ≤ 0 = subst (λ (es : List Event). acknowledged es life.answered ≤ 0) (sym l.none) (omega arith) in
+      let same : before ≡ after_msyncs before life.events 0 = subst (λ (es : List Event). before ≡ after_msyncs before es 0) (sym l.none) refl in
+      (before, record { i = 0; holds = holds; same = same }, still files before stands)
+
+  stops_later : (sectors : ℕ) (files : Files) (before : Pages) (life : Life) (first last : Image) → StandsFor sectors files before first
+      → StopsLater g h sectors first life last → StandsForSome sectors files (IsPrefixHolding before life.events life.answered) last
+  stops_later sectors files before life first last stands l =
+      let s = l.boots.state in
+      let events = l.runs.events in
+      let booted : StandsFor sectors s.files s.durable first =
+      subst (λ (n : ℕ). StandsFor n s.files s.durable first) l.size
+      (subst (λ (held : Image). StandsFor (g.sector_count l.store) s.files s.durable held) l.held (l.boots.stands l.kept)) in
+      let left : StandsForSome sectors s.files (IsPrefixHolding s.durable events life.answered) last =
+      subst (λ (n : ℕ). StandsForSome n s.files (IsPrefixHolding s.durable events life.answered) last) (l.same_size ∙ l.size)
+      (l.runs.prefixes l.boots.start.running l.keeps life.answered last l.left) in
+      let i = left.1.i in
+      let is : StandsFor sectors s.files (after_msyncs s.durable events i) last =
+      subst (λ (pages : Pages). StandsFor sectors s.files pages last) left.1.same left.2 in
+      let agree = agree_msyncs files events i s.durable before (same_pages sectors s.files files s.durable before first booted stands) in
+      let moved : StandsFor sectors files (after_msyncs before events i) last =
+      stands_for_same sectors s.files files (after_msyncs s.durable events i) (after_msyncs before events i) last
+      (same_files sectors s.files files s.durable before first booted stands) agree is in
+      let holds : IsPrefixHolding before events life.answered (after_msyncs before events i) = record { i = i; holds = left.1.holds; same = refl } in
+      (after_msyncs before events i, subst (λ (es : List Event). IsPrefixHolding before es life.answered (after_msyncs before events i)) (sym l.events) holds, moved)
+
+  -- one life
+  pub one_life : (sectors : ℕ) (files : Files) (before : Pages) (life : Life) (first last : Image) → StandsFor sectors files before first
+      → Lives g h sectors first life last → StandsForSome sectors files (IsPrefixHolding before life.events life.answered) last
+  one_life sectors files before life first last stands lived =
+      ⊎_elim (λ l. stops_early sectors files before life first last stands l) (λ l. stops_later sectors files before life first last stands l) lived
+
+  -- any number of them
+  pub lives_leave : (sectors : ℕ) (files : Files) (before : Pages) (lives : List Life) (first last : Image) → StandsFor sectors files before first
+      → LeftInLives g h sectors lives first last → StandsForSome sectors files (IsLeftBy before lives) last
+  lives_leave sectors files before [] first last stands row = (before, refl, subst (StandsFor sectors files before) (sym row) stands)
+  lives_leave sectors files before (life ∷ lives) first last stands row =
+      let one = one_life sectors files before life first row.0 stands row.1 in
+      let rest = lives_leave sectors files one.0 lives row.0 last one.2 row.2 in
+      (rest.0, (one.0, one.1, rest.1), rest.2)
+
+  -- one more
+  pub more_lives : (sectors : ℕ) (lives : List Life) (life : Life) (first image last : Image) → LeftInLives g h sectors lives first image
+      → Lives g h sectors image life last → LeftInLives g h sectors (lives ++ life ∷ []) first last
+  more_lives sectors [] life first image last row lived = (last, subst (λ (i : Image). Lives g h sectors i life last) row lived, refl)
+  more_lives sectors (one ∷ lives) life first image last row lived = (row.0, row.1, more_lives sectors lives life row.0 image last row.2 lived)
+
+  pub goes_on : (files : Files) (before : Pages) (lives : List Life) (life : Life) (store new : D) → HoldsLives g h files before lives store
+      → g.sector_count new ≡ g.sector_count store → Lives g h (g.sector_count store) (g.content store) life (g.content new)
+      → HoldsLives g h files before (lives ++ life ∷ []) new
+  goes_on files before lives life store new holds size lived = record {
+    first = holds.first;
+    stands = subst (λ (n : ℕ). StandsFor n files before holds.first) (sym size) holds.stands;
+    lived = subst (λ (n : ℕ). LeftInLives g h n (lives ++ life ∷ []) holds.first (g.content new)) (sym size)
+        (more_lives (g.sector_count store) lives life holds.first (g.content store) (g.content new) holds.lived lived);
+  }
+
+  -- what a device holds
+  pub still_stands : (files : Files) (before : Pages) (lives : List Life) (store : D) → HoldsLives g h files before lives store
+      → StandsForSome (g.sector_count store) files (IsLeftBy before lives) (g.content store)
+  still_stands files before lives store holds = lives_leave (g.sector_count store) files before lives holds.first (g.content store) holds.stands holds.lived
+
+  -- a start that a stop ends
+  pub early_life : (store new : D) → g.keeps_model new → ((k : ℕ) → g.unsynced store k → ⊥) → LeavesOnly g store new (StandsAs (g.sector_count store) (g.content store))
+      → (image : Image) → g.left_since new (g.moment store) image
+      → Lives g h (g.sector_count store) (g.content store) (record { events = []; answered = 0 }) image
+  early_life store new keeps synced stands image left =
+      inl (record { old = store; new = new; opens = record { size = refl; held = refl; synced = synced; keeps = keeps; stands = stands }; left = left; none = refl })
+
+  -- the machine after all commands
+  at_end : (old : Machine D E) (s : State) (commands : List Command) (replies : List Reply) (events : List Event) (new : Machine D E) (t : State)
+      → (c : Chain g h old s commands replies events new t) → after g h old s commands replies events new t c (length commands) ≡ new
+  at_end old s [] [] [] new t c = sym c.0
+  at_end old s (x ∷ xs) (r ∷ rs) (e ∷ es) new t c = at_end c.0 c.1 xs rs es new t c.4
+  at_end old s [] [] (e ∷ es) new t c = absurd c
+  at_end old s [] (r ∷ rs) es new t c = absurd c
+  at_end old s (x ∷ xs) [] es new t c = absurd c
+  at_end old s (x ∷ xs) (r ∷ rs) [] new t c = absurd c
+
+  -- a run
+  pub ran : ((d : D) (t : ℕ) (image : Image) → g.keeps_model d → t ≤ g.moment d → MayLeave (g.content d) (g.unsynced d) image → g.left_since d t image)
+      → (store : D) (old new : Machine D E) (commands : List Command) (replies : List Reply) → g.keeps_model (store_of old) → g.keeps_model (store_of new)
+      → g.sector_count (store_of old) ≡ g.sector_count store
+      → (((k : ℕ) → g.unsynced store k → ⊥) → LeavesOnly g store (store_of old) (StandsAs (g.sector_count store) (g.content store)))
+      → (boots : Boots g h store old) → Runs g h old new commands replies boots.state → RanSince g h store new commands replies
+  ran counts_now store old new commands replies kept keeps size stands boots runs =
+      let later : (k : ℕ) (image : Image)
+      → g.left_since (store_of new) (g.moment (store_of (after g h old boots.state commands replies runs.events new runs.last runs.chain k))) image
+      → Lives g h (g.sector_count store) (g.content store) (record { events = runs.events; answered = k }) image =
+      λ k image left. inr (record {
+        store = store;
+        size = refl;
+        held = refl;
+        old = old;
+        same_size = size;
+        kept = kept;
+        boots = boots;
+        new = new;
+        keeps = keeps;
+        commands = commands;
+        replies = replies;
+        runs = runs;
+        events = refl;
+        left = left;
+      }) in
+      let disk = store_of new in
+      record {
+        old = old;
+        boots = boots;
+        runs = runs;
+        early = λ synced. early_life store (store_of old) kept synced (stands synced);
+        later = later;
+        handed_on = later (length commands) (g.content disk)
+            (subst (λ (m : Machine D E). g.left_since disk (g.moment (store_of m)) (g.content disk))
+            (sym (at_end old boots.state commands replies runs.events new runs.last runs.chain))
+            (counts_now disk (g.moment disk) (g.content disk) keeps (omega arith) (record { kept = λ k. inr refl })));
+      }

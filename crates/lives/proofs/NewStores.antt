@@ -1,0 +1,43 @@
+-- The stores that `format` and an upgrade make.
+use Rattle.std.proofs.Common.{ℕ, ◌≡◌, ◌⊎◌, ⊎_elim, inl, inr, List, Option, refl}
+use Rattle.std.proofs.lemmas.Bool.{cases_Bool}
+use Rattle.std.proofs.lemmas.Slice.Eq.{bytes_eq-Decides}
+use Rattle.std.specs.Str.{bytes_eq}
+use Rattle.disk_model.specs.Stop.{Image}
+use Rattle.file_store.specs.declared.sources.FileSource.{FileSource}
+use Rattle.file_store.specs.Format.{IsStoreOf, IsStoreIfMarked}
+use Rattle.file_store.specs.Layout.{mark}
+use Rattle.file_store.specs.Standing.{IsBadLayout, OldStandsFor, StandsFor, standing_page}
+use Rattle.file_store.specs.Standing.IsBadLayoutIn.{Unmarked}
+use Rattle.file_store.specs.Upgrade.{IsUpgradeOf, IsUpgradeIfMarked}
+use Rattle.vm_types.specs.Files.{Files}
+use Rattle.vm_types.specs.View.{Pages}
+use Rattle.lives.specs.Formatted.{StandsForSources}
+
+pub stands_for_sources : {R : Type 0} (remaining : R → Option (List ℕ)) (sectors : ℕ) (sources : List (FileSource R)) (image : Image)
+    → IsStoreOf remaining sectors sources image → StandsForSources remaining sectors sources image
+stands_for_sources remaining sectors sources image store = (
+  standing_page image,
+  λ f k source page at inside told. store.pages f k source page at inside told,
+  record { layout = store.layout; journal = store.journal; facts = store.facts; same = λ f k inside. refl },
+)
+
+-- an image without the mark is no store
+none_or : (P : Type 0) (sectors : ℕ) (image : Image) → (image 0 ≡ mark → P) → IsBadLayout sectors image ⊎ P
+none_or P sectors image marked =
+    let decides = bytes_eq-Decides (image 0) mark in
+    ⊎_elim (λ is. inr (marked (decides.0 is))) (λ is. inl (Unmarked (λ same. let other = decides.1 same in cc))) (cases_Bool (bytes_eq (image 0) mark))
+
+pub stopped_format : {R : Type 0} (remaining : R → Option (List ℕ)) (sectors : ℕ) (sources : List (FileSource R)) (image : Image)
+    → IsStoreIfMarked remaining sectors sources image → IsBadLayout sectors image ⊎ StandsForSources remaining sectors sources image
+stopped_format remaining sectors sources image made =
+    none_or (StandsForSources remaining sectors sources image) sectors image (λ marked. stands_for_sources remaining sectors sources image (made marked))
+
+pub upgrade_stands : (old_sectors sectors : ℕ) (files : Files) (pages : Pages) (old image : Image) → OldStandsFor old_sectors files pages old
+    → IsUpgradeOf old_sectors sectors old image → StandsFor sectors files pages image
+upgrade_stands old_sectors sectors files pages old image stood made = made.stands files pages stood
+
+pub stopped_upgrade : (old_sectors sectors : ℕ) (files : Files) (pages : Pages) (old image : Image) → OldStandsFor old_sectors files pages old
+    → IsUpgradeIfMarked old_sectors sectors old image → IsBadLayout sectors image ⊎ StandsFor sectors files pages image
+stopped_upgrade old_sectors sectors files pages old image stood made =
+    none_or (StandsFor sectors files pages image) sectors image (λ marked. upgrade_stands old_sectors sectors files pages old image stood (made marked))

@@ -1,0 +1,12 @@
+use Rattle.std.proofs.Common.{refl}
+use Rattle.lives.proofs.NewStores.{upgrade_stands, stopped_upgrade}
+use Rattle.lives.proofs.laws.upgraded_store.Goals as goal
+
+pub returns-clause-stood : goal.returns-clause-stood
+returns-clause-stood g = λ sectors old layout journal. record { layout = layout; journal = journal; facts = λ f. refl; same = λ f k inside. refl }
+
+pub returns-clause-made : goal.returns-clause-made
+returns-clause-made g = upgrade_stands
+
+pub returns-clause-stopped : goal.returns-clause-stopped
+returns-clause-stopped g = stopped_upgrade

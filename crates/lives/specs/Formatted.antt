@@ -1,0 +1,26 @@
+-- The store that `format` makes, as an image that stands for files.
+use Rattle.std.specs.Prelude.{ℕ, ◌*◌, ◌<◌, ◌≡◌, List, Option, Some, slice_get}
+use Rattle.disk_model.specs.Stop.{Image}
+use Rattle.disk_model.specs.declared.sector_disk.SectorDisk.{Ghosts}
+use Rattle.file_store.specs.declared.sources.FileSource.{FileSource}
+use Rattle.file_store.specs.Format.{page_given, files_given, IsStoreOf}
+use Rattle.vm_types.specs.View.{Pages}
+use Rattle.mode_machine.specs.Machine.{StandsForSome}
+use Rattle.lives.specs.Lives.{Life, LeftInLives}
+
+module _ {R : Type 0} (remaining : R → Option (List ℕ)) where
+  -- each page of each file is the one that its source tells, where it tells its bytes
+  abbrev pub AreSourcesBytes : List (FileSource R) → Pages → Type 0
+  AreSourcesBytes sources pages = (f k : ℕ) (source : FileSource R) (page : List ℕ) → slice_get sources f ≡ Some source → 4096 * k < source.length
+      → page_given remaining source k ≡ Some page → pages f k ≡ page
+
+  -- the image stands for the files of the sources, with their bytes
+  abbrev pub StandsForSources : ℕ → List (FileSource R) → Image → Type 0
+  StandsForSources sectors sources image = StandsForSome sectors (files_given sources) (AreSourcesBytes sources) image
+
+  -- `format` made a store of these sources on so many sectors, and this image is what lives of it left.
+  pub record IsFormattedStore {D E : Type 0} (g : Ghosts D) (h : Ghosts E) (sectors : ℕ) (sources : List (FileSource R)) (lives : List Life)
+      (image : Image) : Type 0 where
+    pub first : Image
+    pub made : IsStoreOf remaining sectors sources first
+    pub lived : LeftInLives g h sectors lives first image

@@ -1,0 +1,4 @@
+pub mod Flat
+pub mod Formatted
+pub mod Lives
+pub mod Upgraded

@@ -1,0 +1,129 @@
+//! Laws of stores and of their lives. The functions do nothing: each one's contract is the law.
+ghost use Rattle.std.specs.Prelude.{◌≡◌, ◌⊎◌, ◌↔◌, true, ℕ, List, [], ◌∷◌, ◌++◌, Option};
+ghost use Rattle.disk_model.specs.Stop.{Image};
+ghost use Rattle.sync_journal.specs.Layout.{layout_1};
+ghost use Rattle.sync_journal.specs.Standing.{IsBadJournal, IsBadJournalIn};
+ghost use Rattle.file_store.specs.Format.{IsStoreOf, IsStoreIfMarked, files_given};
+ghost use Rattle.file_store.specs.Standing.{IsBadLayout, IsBadOldLayout, IsPageOf, OldStandsFor, StandsFor, file_info, standing_page_in};
+ghost use Rattle.file_store.specs.Upgrade.{IsUpgradeOf, IsUpgradeIfMarked};
+ghost use Rattle.file_store.specs.declared.sources.FileSource.{FileSource};
+ghost use Rattle.vm_types.specs.declared.command.Command.{Command};
+ghost use Rattle.vm_types.specs.declared.reply.Reply.{Reply};
+ghost use Rattle.vm_types.specs.Files.{Files};
+ghost use Rattle.vm_types.specs.Prefix.{Event, is_msync, is_done, after_event};
+ghost use Rattle.vm_types.specs.Run.{Run};
+ghost use Rattle.vm_types.specs.State.{State};
+ghost use Rattle.vm_types.specs.View.{Pages};
+ghost use Rattle.mode_machine.specs.Machine.{StandsForSome};
+ghost use Rattle.machine.specs.Boot.{Boots};
+ghost use Rattle.machine.specs.Chain.{Chain};
+ghost use Rattle.machine.specs.Machine.{store_of, swap_of};
+ghost use Rattle.machine.specs.declared.config.Config.{Config};
+ghost use Rattle.machine.specs.declared.machine.Machine.{Machine};
+ghost use Rattle.runner.specs.declared.engine.RunEnd.{RunEnd};
+ghost use Rattle.runner.specs.Starting.{RunsOn};
+ghost use Rattle.runner.specs.Trace.{RunsTrace, Streams};
+ghost use Rattle.lives.specs.Flat.{causes_in};
+ghost use Rattle.lives.specs.Formatted.{AreSourcesBytes, StandsForSources, IsFormattedStore};
+ghost use Rattle.lives.specs.Lives.{HoldsLives, IsAtFirst, Life, Lives, IsLeftBy, LeftInLives, RanSince, stopped_in_first, stopped_in_second};
+ghost use Rattle.lives.specs.Upgraded.{IsUpgradedStore};
+
+use disk_model::SectorDisk;
+use std::io::Read;
+
+/// A new store stands for the bytes of its sources: its layout and its journal are good, its files are those of the sources,
+/// and each page of them is the one that the source told. What a stop leaves while it is made is no store, so that every
+/// opening and boot returns `BadLayout`, or all of it.
+pub fn new_store<R: Read>(_reader: &R)
+    ensures made { (sectors : ℕ) (sources : List (FileSource R)) (image : Image) → IsStoreOf R.remaining sectors sources image
+        → StandsForSources R.remaining sectors sources image }
+    ensures stopped { (sectors : ℕ) (sources : List (FileSource R)) (image : Image) → IsStoreIfMarked R.remaining sectors sources image
+        → IsBadLayout sectors image ⊎ StandsForSources R.remaining sectors sources image }
+{}
+
+/// A store that an upgrade made stands for what the one of layout 1 stood for, which is something wherever that has a good
+/// layout and a good journal. What a stop leaves while it is made is no store, or all of it.
+pub fn upgraded_store()
+    ensures stood { (sectors : ℕ) (old : Image) → (IsBadOldLayout sectors old → ⊥) → (IsBadJournalIn layout_1 sectors old → ⊥)
+        → OldStandsFor sectors (file_info old) (standing_page_in layout_1 old) old }
+    ensures made { (old_sectors sectors : ℕ) (files : Files) (pages : Pages) (old image : Image) → OldStandsFor old_sectors files pages old
+        → IsUpgradeOf old_sectors sectors old image → StandsFor sectors files pages image }
+    ensures stopped { (old_sectors sectors : ℕ) (files : Files) (pages : Pages) (old image : Image) → OldStandsFor old_sectors files pages old
+        → IsUpgradeIfMarked old_sectors sectors old image → IsBadLayout sectors image ⊎ StandsFor sectors files pages image }
+{}
+
+/// What any number of lives leave of a store that stood for these files: the files that the first image stood for, with what
+/// a first part of each life's msyncs made durable, each whole, and all that were acknowledged.
+pub fn lives_in_a_row<D: SectorDisk, E: SectorDisk>(_store: &D, _swap: &E)
+    ensures { (sectors : ℕ) (files : Files) (before : Pages) (lives : List Life) (first last : Image) → StandsFor sectors files before first
+        → LeftInLives D.SectorDisk E.SectorDisk sectors lives first last → StandsForSome sectors files (IsLeftBy before lives) last }
+{}
+
+/// Lives go on: what one more life leaves of a device that holds what lives left is what all of them left.
+pub fn one_more_life<D: SectorDisk, E: SectorDisk>(_store: &D, _swap: &E)
+    ensures { (files : Files) (before : Pages) (lives : List Life) (life : Life) (store new : D) → HoldsLives D.SectorDisk E.SectorDisk files before lives store
+        → D.sector_count new ≡ D.sector_count store → Lives D.SectorDisk E.SectorDisk (D.sector_count store) (D.content store) life (D.content new)
+        → HoldsLives D.SectorDisk E.SectorDisk files before (lives ++ life ∷ []) new }
+{}
+
+/// What lives leave of a store that `format` made begins with the bytes of the sources.
+pub fn formatted_lives<R: Read, D: SectorDisk, E: SectorDisk>(_reader: &R, _store: &D, _swap: &E)
+    ensures { (sectors : ℕ) (sources : List (FileSource R)) (lives : List Life) (image : Image)
+        → IsFormattedStore R.remaining D.SectorDisk E.SectorDisk sectors sources lives image
+        → (before : Pages) × AreSourcesBytes R.remaining sources before × StandsForSome sectors (files_given sources) (IsLeftBy before lives) image }
+{}
+
+/// What lives leave of a store that an upgrade made begins with what the store of layout 1 stood for.
+pub fn upgraded_lives<D: SectorDisk, E: SectorDisk>(_store: &D, _swap: &E)
+    ensures { (sectors : ℕ) (files : Files) (before : Pages) (lives : List Life) (image : Image)
+        → IsUpgradedStore D.SectorDisk E.SectorDisk sectors files before lives image → StandsForSome sectors files (IsLeftBy before lives) image }
+{}
+
+/// What lives left of a store has a good layout and a good journal, so that no boot and no opening of it returns `BadLayout` or
+/// `BadJournal`, which come only of a bad one.
+pub fn lives_boot<D: SectorDisk, E: SectorDisk>(_store: &D, _swap: &E)
+    ensures layout { (files : Files) (before : Pages) (lives : List Life) (store : D) → HoldsLives D.SectorDisk E.SectorDisk files before lives store
+        → IsBadLayout (D.sector_count store) (D.content store) → ⊥ }
+    ensures journal { (files : Files) (before : Pages) (lives : List Life) (store : D) → HoldsLives D.SectorDisk E.SectorDisk files before lives store
+        → IsBadJournal (D.sector_count store) (D.content store) → ⊥ }
+{}
+
+/// A machine that boots on what lives left shows the files that they left: all mappings see these bytes at first.
+pub fn boot_after_lives<D: SectorDisk, E: SectorDisk>(_store: &D, _swap: &E)
+    ensures { (files : Files) (before : Pages) (lives : List Life) (store : D) (m : Machine D E)
+        → HoldsLives D.SectorDisk E.SectorDisk files before lives store → D.keeps_model (store_of m)
+        → (boots : Boots D.SectorDisk E.SectorDisk store m) → (pages : Pages) × IsLeftBy before lives pages × IsAtFirst files pages boots.state }
+{}
+
+/// An image stands for one content: its files, and each page of them.
+pub fn one_content()
+    ensures files { (sectors : ℕ) (these those : Files) (p q : Pages) (image : Image) → StandsFor sectors these p image → StandsFor sectors those q image
+        → (f : ℕ) → these f ≡ those f }
+    ensures pages { (sectors : ℕ) (these those : Files) (p q : Pages) (image : Image) → StandsFor sectors these p image → StandsFor sectors those q image
+        → (f k : ℕ) → IsPageOf those f k → p f k ≡ q f k }
+{}
+
+/// Two lives with an msync each. Where the first acknowledged its own and the second was stopped in its own, both count, or the first
+/// alone; where the first was stopped in its own, not acknowledged, and the second acknowledged its own, both count, or the second alone.
+pub fn two_lives()
+    ensures second { (before pages : Pages) (a b : Event) → is_msync a.command ≡ true → is_done a.reply ≡ true → is_msync b.command ≡ true
+        → (IsLeftBy before (stopped_in_second a b) pages ↔ ((pages ≡ after_event a before) ⊎ (pages ≡ after_event b (after_event a before)))) }
+    ensures first { (before pages : Pages) (a b : Event) → is_msync a.command ≡ true → is_msync b.command ≡ true → is_done b.reply ≡ true
+        → (IsLeftBy before (stopped_in_first a b) pages ↔ ((pages ≡ after_event b before) ⊎ (pages ≡ after_event b (after_event a before)))) }
+{}
+
+/// A trace that was run on a store by `runner::run_on` is a life of it, wherever a stop comes: that of the commands of the lines that
+/// ran, with their replies.
+pub fn trace_life<D: SectorDisk, E: SectorDisk>(_store: &D, _swap: &E)
+    ensures { (config : Config) (store : D) (swap : E) (end : RunEnd) (new : Machine D E) (before after : Streams)
+        → (on : RunsOn D.SectorDisk E.SectorDisk config store swap end new before after) → D.keeps_model (store_of new) → E.keeps_model (swap_of new)
+        → (trace : RunsTrace D.SectorDisk E.SectorDisk end on.old new before after on.boots.state)
+        × RanSince D.SectorDisk E.SectorDisk store new trace.commands trace.replies }
+{}
+
+/// What a machine replies to a list of commands is a run of the flat model.
+pub fn flat_run<D: SectorDisk, E: SectorDisk>(_store: &D, _swap: &E)
+    ensures { (old : Machine D E) (s : State) (commands : List Command) (replies : List Reply) (events : List Event) (new : Machine D E) (t : State)
+        → (chain : Chain D.SectorDisk E.SectorDisk old s commands replies events new t)
+        → Run (causes_in D.SectorDisk E.SectorDisk old s commands replies events new t chain) 0 s commands replies t }
+{}

@@ -1,0 +1,39 @@
+//! One life of a store.
+ghost use Rattle.std.specs.Prelude.{◌≡◌, ℕ, List, IfOk, IfErr, length};
+ghost use Rattle.machine.specs.Machine.{IsSoundMachine, store_of, swap_of};
+ghost use Rattle.vm_types.specs.Files.{Files};
+ghost use Rattle.vm_types.specs.View.{Pages};
+ghost use Rattle.lives.specs.Lives.{Life, HoldsLives, RanSince, FailedSince};
+
+use disk_model::SectorDisk;
+use machine::{BootFault, Config, Machine};
+use std::alloc::Global;
+use vm_types::{Command, Reply};
+
+/// Boots a machine on a store as a stop left it, and has it carry out commands: with whatever stop comes meanwhile, that is a life.
+/// On what lives left of a store, and on one that has had none, it never returns `BadLayout` or `BadJournal`.
+pub fn live<D: SectorDisk, E: SectorDisk + Drop>(
+    alloc: Global,
+    config: Config,
+    store: D,
+    swap: E,
+    commands: &[Command],
+    replies: &mut [Reply],
+) -> Result<Machine<D, E>, (BootFault, D)>
+    requires lengths { length replies.old ≡ length commands.now }
+    ensures sound { IfOk result (λ m. IsSoundMachine D.SectorDisk E.SectorDisk m) }
+    ensures lived { IfOk result (λ m. D.keeps_model (store_of m) → E.keeps_model (swap_of m)
+        → RanSince D.SectorDisk E.SectorDisk store m commands.now replies.new) }
+    ensures failed { IfErr result (λ e. D.keeps_model e.1 → ((k : ℕ) → D.unsynced store k → ⊥) → FailedSince D.SectorDisk E.SectorDisk store e.1) }
+    ensures good_layout { IfErr result (λ e. D.keeps_model e.1 → (files : Files) (before : Pages) (lives : List Life)
+        → HoldsLives D.SectorDisk E.SectorDisk files before lives store → e.0 ≡ BootFault.BadLayout → ⊥) }
+    ensures good_journal { IfErr result (λ e. D.keeps_model e.1 → (files : Files) (before : Pages) (lives : List Life)
+        → HoldsLives D.SectorDisk E.SectorDisk files before lives store → e.0 ≡ BootFault.BadJournal → ⊥) }
+{
+    let mut machine = match Machine::boot(alloc, config, store, swap) {
+        Ok(machine) => machine,
+        Err(fault) => return Err(fault),
+    };
+    machine.run(commands, replies);
+    Ok(machine)
+}
