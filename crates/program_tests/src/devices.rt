@@ -5,9 +5,10 @@ use programs::{ProgramFault, report};
 use std::fs::OpenOptions;
 use std::io::{self, Read};
 use std::test::Fail;
-use test_steps::Program::{Format, Run};
-use test_steps::Step::{self, Does, Removes};
-use test_steps::{carry_out, path, ran_over, same, same_number};
+use test_steps::FileStep::IsMissing;
+use test_steps::Program::{Cat, Format, Run};
+use test_steps::Step::{self, Does, Fails, File, Removes};
+use test_steps::{NEW, UNMADE, carry_out, path, ran_over, same, same_number};
 
 /// Gives some lines, cuts a file before it is read again, so that the device in it fails from there on, and gives the other lines.
 #[derive(Drop)]
@@ -106,6 +107,57 @@ fn failing_devices_have_their_replies(rt: HostRuntime) -> Result<(), Fail> {
         carry_out(&rt, "cuts", &[Removes(&["@image", "@swap"])])?;
     }
     Ok(())
+}
+
+/// A file of the kernel that may be written but not synced: the first call of a device in it fails.
+const UNSYNCED: &str = "/proc/self/comm";
+
+/// An image that can't be synced is the device's fault, and nothing is made after it; of a SWAP it is the file's.
+const FAILS_AT_FIRST: [Step<'static>; 10] = [
+    Fails(
+        Format,
+        &["new", UNSYNCED, "zero:1"],
+        "pagefmt: format 1 DEVICE\n",
+    ),
+    Fails(Cat, &[UNSYNCED, "0"], "pagecat: open 1 DEVICE\n"),
+    Fails(Run, &[UNSYNCED, UNMADE], "pagerun: boot 4 DEVICE\n"),
+    File(UNMADE, IsMissing),
+    Fails(
+        Format,
+        &["upgrade", UNSYNCED, "@image"],
+        "pagefmt: upgrade 1 OLDDEVICE\n",
+    ),
+    File("@image", IsMissing),
+    NEW,
+    Fails(
+        Format,
+        &["upgrade", "@image", UNSYNCED],
+        "pagefmt: upgrade 4 NEWDEVICE\n",
+    ),
+    Fails(
+        Run,
+        &["@image", UNSYNCED],
+        "pagerun: cannot open /proc/self/comm\n",
+    ),
+    Removes(&["@image"]),
+];
+
+#[test]
+fn an_image_that_cannot_be_synced_is_the_fault_of_the_device(rt: HostRuntime) -> Result<(), Fail> {
+    // Another system may have no such file.
+    if has_unsynced(&rt) {
+        carry_out(&rt, "unsynced", &FAILS_AT_FIRST)?;
+    }
+    Ok(())
+}
+
+/// Whether that file is there, may be written, and can't be synced.
+fn has_unsynced(rt: &HostRuntime) -> bool {
+    let opened = OpenOptions::new().read(true).write(true).open(rt, UNSYNCED);
+    match opened {
+        Ok(file) => file.sync_all().is_err(),
+        Err(_) => false,
+    }
 }
 
 /// Why no machine starts, as it is told.

@@ -1,5 +1,6 @@
 //! The files that a program works on, as devices.
-ghost use Rattle.std.specs.Prelude.{ℕ, IfOk};
+ghost use Rattle.std.specs.Prelude.{◌≡◌, ◌⊎◌, ℕ, IfOk, IfErr};
+ghost use Rattle.programs.specs.Faults.{IsUnopened};
 
 use crate::faults::ProgramFault;
 use disk_model::{FileContents, FileDisk, SectorDisk};
@@ -20,32 +21,55 @@ pub(crate) enum Access {
 
 /// The device in the file of that path, which is lengthened with zeros to so many bytes where it is shorter. No other
 /// program of ours has the file until the device is dropped.
+///
+/// # Errors
+///
+/// `CannotOpen` where the file can't be had so, and `unsynced` where it then can't be synced.
 pub(crate) fn open_disk<'a, C: FileContents, R: Files<File = File>>(
     rt: &R,
     path: &'a str,
     access: Access,
     length: u64,
+    unsynced: ProgramFault<'a>,
 ) -> Result<FileDisk<C>, ProgramFault<'a>>
     ensures kept { IfOk result (λ disk. ⟦<FileDisk<C> as SectorDisk>⟧.keeps_model disk) }
     ensures synced { IfOk result (λ disk. (k : ℕ) → ⟦<FileDisk<C> as SectorDisk>⟧.unsynced disk k → ⊥) }
+    ensures told { IfErr result (λ fault. IsUnopened path.now fault ⊎ (fault ≡ unsynced.entry)) }
 {
-    match open_lengthened::<C, R>(rt, path, access, length) {
-        Ok(disk) => Ok(disk),
-        Err(_) => Err(ProgramFault::CannotOpen(path)),
-    }
+    let file = open_lengthened(rt, path, access, length)?;
+    synced_disk::<C>(file, unsynced)
 }
 
-/// The device in the file of that path, of which nothing is written where it may only be read.
+/// The device in the file of that path, of which nothing is written where it may only be read. The faults are those of
+/// `open_disk`: a file that can't be synced is not tried again.
 pub(crate) fn open_disk_to_show<'a, C: FileContents, R: Files<File = File>>(
     rt: &R,
     path: &'a str,
+    unsynced: ProgramFault<'a>,
 ) -> Result<FileDisk<C>, ProgramFault<'a>>
     ensures kept { IfOk result (λ disk. ⟦<FileDisk<C> as SectorDisk>⟧.keeps_model disk) }
     ensures synced { IfOk result (λ disk. (k : ℕ) → ⟦<FileDisk<C> as SectorDisk>⟧.unsynced disk k → ⊥) }
+    ensures told { IfErr result (λ fault. IsUnopened path.now fault ⊎ (fault ≡ unsynced.entry)) }
 {
-    match open_lengthened::<C, R>(rt, path, Access::Write, 0) {
+    match open_alone(rt, path, Access::Write) {
+        Ok(file) => synced_disk::<C>(file, unsynced),
+        Err(_) => open_disk::<C, R>(rt, path, Access::Read, 0, unsynced),
+    }
+}
+
+/// The device in a file, which is synced first, as a call of the device: where that fails the fault is the device's, and is
+/// the one that is given.
+pub(crate) fn synced_disk<'a, C: FileContents>(
+    file: File,
+    unsynced: ProgramFault<'a>,
+) -> Result<FileDisk<C>, ProgramFault<'a>>
+    ensures kept { IfOk result (λ disk. ⟦<FileDisk<C> as SectorDisk>⟧.keeps_model disk) }
+    ensures synced { IfOk result (λ disk. (k : ℕ) → ⟦<FileDisk<C> as SectorDisk>⟧.unsynced disk k → ⊥) }
+    ensures told { IfErr result (λ fault. fault ≡ unsynced.entry) }
+{
+    match FileDisk::<C>::new(file) {
         Ok(disk) => Ok(disk),
-        Err(_) => open_disk::<C, R>(rt, path, Access::Read, 0),
+        Err(_) => Err(unsynced),
     }
 }
 
@@ -95,28 +119,38 @@ fn open_regular<R: Files<File = File>>(rt: &R, path: &str, access: Access) -> io
     options.open(rt, path)
 }
 
-fn open_lengthened<C: FileContents, R: Files<File = File>>(
+/// The regular file of that path, under a lock and lengthened with zeros to so many bytes where it is shorter.
+fn open_lengthened<'a, R: Files<File = File>>(
+    rt: &R,
+    path: &'a str,
+    access: Access,
+    length: u64,
+) -> Result<File, ProgramFault<'a>>
+    ensures told { IfErr result (IsUnopened path.now) }
+{
+    match opened_lengthened(rt, path, access, length) {
+        Ok(file) => Ok(file),
+        Err(_) => Err(ProgramFault::CannotOpen(path)),
+    }
+}
+
+fn opened_lengthened<R: Files<File = File>>(
     rt: &R,
     path: &str,
     access: Access,
     length: u64,
-) -> io::Result<FileDisk<C>>
-    ensures kept { IfOk result (λ disk. ⟦<FileDisk<C> as SectorDisk>⟧.keeps_model disk) }
-    ensures synced { IfOk result (λ disk. (k : ℕ) → ⟦<FileDisk<C> as SectorDisk>⟧.unsynced disk k → ⊥) }
-{
+) -> io::Result<File> {
     let file = open_alone(rt, path, access)?;
-    disk_in::<C>(file, length)
+    lengthen(&file, length)?;
+    Ok(file)
 }
 
-/// The device in a file, which is lengthened with zeros to so many bytes where it is shorter.
-pub(crate) fn disk_in<C: FileContents>(file: File, length: u64) -> io::Result<FileDisk<C>>
-    ensures kept { IfOk result (λ disk. ⟦<FileDisk<C> as SectorDisk>⟧.keeps_model disk) }
-    ensures synced { IfOk result (λ disk. (k : ℕ) → ⟦<FileDisk<C> as SectorDisk>⟧.unsynced disk k → ⊥) }
-{
+/// Lengthens a file with zeros to so many bytes where it is shorter.
+pub(crate) fn lengthen(file: &File, length: u64) -> io::Result<()> {
     if file.metadata()?.len() < length {
         file.set_len(length)?;
     }
-    FileDisk::<C>::new(file)
+    Ok(())
 }
 
 /// What the first 512 bytes of an image are, 64 times over.

@@ -1,8 +1,9 @@
 //! The program that makes images.
-ghost use Rattle.std.specs.Prelude.{◌≡◌, ◌≤◌, ℕ, IfOk};
+ghost use Rattle.std.specs.Prelude.{◌≡◌, ◌≤◌, ◌⊎◌, ℕ, IfOk, IfErr};
+ghost use Rattle.programs.specs.Faults.{IsUnopened};
 
 use crate::faults::{ProgramFault, report};
-use crate::files::{Access, disk_in, has_mark, open_alone};
+use crate::files::{Access, has_mark, lengthen, open_alone, synced_disk};
 use crate::places::held_places;
 use crate::sources::open_sources;
 use crate::upgrading::upgrade_image;
@@ -23,8 +24,10 @@ const MAX_FILES: usize = 64;
 /// or synced keeps its bytes and its length, or is unmade again; only a file that another program locks first is left to it.
 ///
 /// `pagefmt upgrade OLD NEW`: makes NEW where it is missing, lengthens it so that it has as many home pages as OLD, an image of
-/// layout 1, and makes a store on it that stands for what OLD stands for. OLD is only read. Where the upgrade is refused
-/// NEW is as it was, or unmade again.
+/// layout 1, and makes a store on it that stands for what OLD stands for. OLD is only read. Where the upgrade is refused, or
+/// NEW can't be synced at first, NEW is as it was, or unmade again.
+///
+/// An image that can't be synced at first is the fault of its device, and one that can't be had is not opened.
 ///
 /// Returns the exit status: 0 done; 1 a fault; 2 other words. For 1 and 2 one line on `errors` says why.
 pub fn pagefmt<R: Files<File = File> + AllocGlobal, I: Read, O: Write, X: Write>(
@@ -154,31 +157,34 @@ fn unmarked_disk<'a, C: FileContents>(
     ensures kept { IfOk result (λ disk. ⟦<FileDisk<C> as SectorDisk>⟧.keeps_model disk) }
     ensures synced { IfOk result (λ disk. (k : ℕ) → ⟦<FileDisk<C> as SectorDisk>⟧.unsynced disk k → ⊥) }
 {
+    const FAILED: ProgramFault<'static> = ProgramFault::Format(FormatFault::Device);
     match has_mark(file) {
-        Ok(false) => {}
-        Ok(true) => return Err(ProgramFault::Format(FormatFault::Formatted)),
-        Err(_) => return Err(ProgramFault::Format(FormatFault::Device)),
+        Ok(false) => lengthened_disk::<C>(path, file, length, FAILED),
+        Ok(true) => Err(ProgramFault::Format(FormatFault::Formatted)),
+        Err(_) => Err(FAILED),
     }
-    lengthened_disk::<C>(path, file, length)
 }
 
 /// The device in a file, which is lengthened with zeros to so many bytes where it is shorter. The device has a handle of its
 /// own.
+///
+/// # Errors
+///
+/// `CannotOpen` where the file can't be lengthened or gets no second handle, and `unsynced` where it then can't be synced.
 pub(crate) fn lengthened_disk<'a, C: FileContents>(
     path: &'a str,
     file: &File,
     length: u64,
+    unsynced: ProgramFault<'a>,
 ) -> Result<FileDisk<C>, ProgramFault<'a>>
     ensures kept { IfOk result (λ disk. ⟦<FileDisk<C> as SectorDisk>⟧.keeps_model disk) }
     ensures synced { IfOk result (λ disk. (k : ℕ) → ⟦<FileDisk<C> as SectorDisk>⟧.unsynced disk k → ⊥) }
+    ensures told { IfErr result (λ fault. IsUnopened path.now fault ⊎ (fault ≡ unsynced.entry)) }
 {
-    let Ok(own) = file.try_clone() else {
+    let (Ok(own), Ok(())) = (file.try_clone(), lengthen(file, length)) else {
         return Err(ProgramFault::CannotOpen(path));
     };
-    match disk_in::<C>(own, length) {
-        Ok(disk) => Ok(disk),
-        Err(_) => Err(ProgramFault::CannotOpen(path)),
-    }
+    synced_disk::<C>(own, unsynced)
 }
 
 /// Takes back what this run did to the file of that path, which was not formatted. Where the system fails in that too, an

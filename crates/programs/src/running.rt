@@ -8,7 +8,7 @@ use crate::files::{Access, open_disk};
 use crate::places::held_places;
 use crate::words::run_words;
 use disk_model::{FileContents, SectorDisk, Unknown};
-use machine::Machine;
+use machine::{BootFault, Machine};
 use runner::{RunEnd, run_on};
 use std::fs::{File, Files};
 use std::io::{Read, Write};
@@ -51,9 +51,11 @@ fn run_image<
 {
     let words = run_words(rt.alloc(), words)?;
     let _places = held_places(rt)?;
-    let store = open_disk::<C, R>(rt, words.image, Access::Write, 0)?;
+    let unsynced = ProgramFault::Boot(BootFault::Device);
+    let store = open_disk::<C, R>(rt, words.image, Access::Write, 0, unsynced)?;
+    let unsynced = ProgramFault::CannotOpen(words.swap);
     let length = swap_bytes(words.config.slots);
-    let swap = open_disk::<K, R>(rt, words.swap, Access::Make, length)?;
+    let swap = open_disk::<K, R>(rt, words.swap, Access::Make, length, unsynced)?;
     match run_on(rt.alloc(), words.config, store, swap, reader, writer) {
         Ok((end, machine)) => status_of(end, &machine),
         Err((fault, _)) => Err(ProgramFault::Boot(fault)),

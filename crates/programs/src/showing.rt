@@ -51,7 +51,8 @@ fn show_file<'a, C: FileContents, R: Files<File = File> + AllocGlobal, O: Write>
 {
     let words = cat_words(rt.alloc(), words)?;
     let _places = held_places(rt)?;
-    let disk = open_disk_to_show::<C, R>(rt, words.image)?;
+    let unsynced = ProgramFault::Open(OpenFault::Device);
+    let disk = open_disk_to_show::<C, R>(rt, words.image, unsynced)?;
     match show(disk, words.file, writer) {
         Ok(_) => Ok(0),
         Err((fault, _)) => Err(told(fault, words.file)),

@@ -6,7 +6,7 @@ use crate::files::{Access, open_disk};
 use crate::formatting::{image_file, lengthened_disk, set_back};
 use crate::places::held_places;
 use crate::words::UpgradeWords;
-use disk_model::{FileContents, FileDisk, SECTOR_BYTES, SectorDisk};
+use disk_model::{FileContents, SECTOR_BYTES, SectorDisk};
 use file_store::{UpgradeFault, upgrade};
 use std::fs::{File, Files};
 use sync_journal::{FIRST_HOME, PAGE_SECTORS, old_home_count};
@@ -21,34 +21,29 @@ pub(crate) fn upgrade_image<
     ensures { IfOk result (λ status. status ≡ 0) }
 {
     let _places = held_places(rt)?;
-    let mut old = open_disk::<C, R>(rt, words.old, Access::Read, 0)?;
+    let unsynced = ProgramFault::Upgrade(UpgradeFault::OldDevice);
+    let mut old = open_disk::<C, R>(rt, words.old, Access::Read, 0, unsynced)?;
     let (file, former) = match image_file(rt, words.new) {
         Ok(opened) => opened,
         Err(_) => return Err(ProgramFault::CannotOpen(words.new)),
     };
     let length = upgraded_bytes(old.sectors());
-    match upgrade_into::<C, K>(&mut old, words.new, &file, length) {
+    let unsynced = ProgramFault::Upgrade(UpgradeFault::NewDevice);
+    let mut new = match lengthened_disk::<K>(words.new, &file, length, unsynced) {
+        Ok(new) => new,
+        Err(fault) => {
+            set_back(rt, words.new, &file, former);
+            return Err(fault);
+        }
+    };
+    match upgrade(&mut old, &mut new) {
         Ok(()) => Ok(0),
         Err(fault) => {
-            if is_unwritten(&fault) {
+            if is_unwritten(fault) {
                 set_back(rt, words.new, &file, former);
             }
-            Err(fault)
+            Err(ProgramFault::Upgrade(fault))
         }
-    }
-}
-
-/// The same into a file, which is lengthened first.
-fn upgrade_into<'a, C: FileContents, K: FileContents>(
-    old: &mut FileDisk<C>,
-    path: &'a str,
-    file: &File,
-    length: u64,
-) -> Result<(), ProgramFault<'a>> {
-    let mut new = lengthened_disk::<K>(path, file, length)?;
-    match upgrade(old, &mut new) {
-        Ok(()) => Ok(()),
-        Err(fault) => Err(ProgramFault::Upgrade(fault)),
     }
 }
 
@@ -58,9 +53,6 @@ fn upgraded_bytes(sectors: u64) -> u64 {
 }
 
 /// Whether nothing was written: the fault is no device's.
-fn is_unwritten(fault: &ProgramFault<'_>) -> bool {
-    !matches!(
-        fault,
-        ProgramFault::Upgrade(UpgradeFault::OldDevice | UpgradeFault::NewDevice)
-    )
+fn is_unwritten(fault: UpgradeFault) -> bool {
+    !matches!(fault, UpgradeFault::OldDevice | UpgradeFault::NewDevice)
 }
