@@ -76,7 +76,9 @@ fn commit_good<D: SectorDisk>(
     requires ready { IsReadyStore D.SectorDisk store.old }
     requires pages { ArePages (files_of store.old) pages.now }
     requires bytes { length bytes.now ≡ length pages.now }
+    ensures size { D.sector_count store.new.disk ≡ D.sector_count store.old.disk }
     ensures kept { D.keeps_model store.new.disk → D.keeps_model store.old.disk }
+    ensures calm { OnOk result (D.failures store.new.disk ≡ D.failures store.old.disk) }
     ensures fault { IfErr result (λ fault. (fault ≡ BatchFault.Device) × (D.failures store.old.disk < D.failures store.new.disk)) }
     ensures files { files_of store.new ≡ files_of store.old }
     ensures ready { OnOk result (IsReadyStore D.SectorDisk store.new) }
@@ -108,6 +110,7 @@ pub fn commit_pages<D: SectorDisk>(
 ) -> Result<(), BatchFault>
     requires ready { IsReadyStore D.SectorDisk store.old }
     requires bytes { length bytes.now ≡ length pages.now }
+    ensures size { D.sector_count store.new.disk ≡ D.sector_count store.old.disk }
     ensures kept { D.keeps_model store.new.disk → D.keeps_model store.old.disk }
     ensures files { files_of store.new ≡ files_of store.old }
     ensures ready { OnOk result (IsReadyStore D.SectorDisk store.new) }
@@ -127,7 +130,10 @@ pub fn commit_pages<D: SectorDisk>(
     ensures written { OnOk result (HasReadOnly (files_of store.old) pages.now → ⊥) }
     ensures bad_pages { IfErr result (λ fault. fault ≡ BatchFault.BadPages → ArePages (files_of store.old) pages.now → ⊥) }
     ensures read_only { IfErr result (λ fault. fault ≡ BatchFault.ReadOnly → ArePages (files_of store.old) pages.now × HasReadOnly (files_of store.old) pages.now) }
+
+    // Device is the fault exactly where the device failed.
     ensures cause { IfErr result (λ fault. fault ≡ BatchFault.Device → D.failures store.old.disk < D.failures store.new.disk) }
+    ensures calm { OnOk result (D.failures store.new.disk ≡ D.failures store.old.disk) }
     ensures unchanged { IfErr result (λ fault. fault ≢ BatchFault.Device → store.new ≡ store.old) }
 {
     match check_pages(store, pages) {

@@ -1,12 +1,12 @@
 -- What an access asks for.
 use Rattle.vm_types.specs.declared.mode.Levels as Levels
-use Rattle.std.proofs.Common.{ℕ, ◌≡◌, ◌⊎◌, ◌/◌, true, false, Some, is_some, List, Result, Ok, Err, sym, ap, ◌∙◌, subst}
+use Rattle.std.proofs.Common.{ℕ, ◌≡◌, ◌≢◌, ◌⊎◌, ◌/◌, true, false, Some, is_some, List, Result, Ok, Err, sym, ap, ◌∙◌, subst}
 use Rattle.disk_model.specs.declared.sector_disk.SectorDisk.{Ghosts}
 use Rattle.page_faults.specs.declared.refusal.AccessRefusal.{AccessRefusal}
 use Rattle.page_faults.specs.declared.refusal.AccessRefusal.TheVariants as Refusal
 use Rattle.page_faults.specs.Outcome.{IsRefusal}
 use Rattle.frames.specs.FrameTable.{bytes_of, with_bytes}
-use Rattle.page_faults.specs.Wants.{Wants, ReadsHome, ShowsFile}
+use Rattle.page_faults.specs.Wants.{Wants, ReadsHome, RefusesAccess, ShowsFile}
 use Rattle.paging.specs.declared.kernel.Core.{Core}
 use Rattle.mapping.specs.Changes.{KeepsAround, KeepsSlotted, IsThatPage}
 use Rattle.paging.specs.Picture.{Picture, picture_of, is_live}
@@ -28,7 +28,14 @@ module _ {M : Type 0} {m : Levels.Ghosts M} {D E : Type 0} (old new : Core D E M
     (slots : (Wants (picture_of old) pid (addr / 4096) access → ⊥) → new.swap ≡ old.swap)
     (slotted : KeepsSlotted (ShowsFile (picture_of old) pid (addr / 4096)) (IsThatPage pid (addr / 4096)) (picture_of old) (picture_of new)) where
   pub asks_unstalled : (reply : Reply) → ((stall : Stall) → reply ≡ Stalled stall → ⊥) → AsksFor old new pid addr access reply
-  asks_unstalled reply none = record { wanted = λ stall e. absurd (none stall e); home = λ e. absurd (none StoreDevice e); read = read; slots = slots; slotted = slotted }
+  asks_unstalled reply none = record {
+    wanted = λ stall e. absurd (none stall e);
+    refused = λ stall e. absurd (none stall e);
+    home = λ e. absurd (none StoreDevice e);
+    read = read;
+    slots = slots;
+    slotted = slotted;
+  }
 
   -- an access without a place
   pub asks_refused : (g : Ghosts D) (h : Ghosts E) (width : Width) (refusal : AccessRefusal) → IsRefusal g h old new pid addr width access refusal
@@ -36,6 +43,9 @@ module _ {M : Type 0} {m : Levels.Ghosts M} {D E : Type 0} (old new : Core D E M
   asks_refused g h width (Refusal.Fault fault) is = asks_unstalled (Faulted fault) (no_stall fault)
   asks_refused g h width (Refusal.Stall stall) is = record {
     wanted = λ other e. is.stalled.wanted;
+    refused = λ other e. (
+        let P : Stall → Type 0 = λ x. x ≢ StoreDevice → RefusesAccess (picture_of new) pid (addr / 4096) access x in
+        subst P (same_stall stall other e) is.stalled.refused);
     home = λ e. is.stalled.home (same_stall stall StoreDevice e);
     read = read;
     slots = slots;

@@ -12,6 +12,7 @@ pub mod Planning
 pub mod Protects
 pub mod Reading
 pub mod Refusals
+pub mod Returning
 pub mod Room
 pub mod Short
 pub mod Shown

@@ -3,6 +3,7 @@ use Rattle.std.proofs.Common.{ℕ, ◌≡◌, Option, None, subst}
 use Rattle.frames.specs.FrameTable.{IsFull}
 use Rattle.lifecycle.specs.Changes.{ForksEntries, StallsToFork, TakesRoot, TakesTables}
 use Rattle.paging.specs.Ages.{GivesForTables, KeepsRoles}
+use Rattle.paging.specs.Calls.{Refuses}
 use Rattle.paging.specs.Picture.{Picture}
 use Rattle.vm_types.specs.declared.refusal.Errno.{Errno}
 use Rattle.vm_types.specs.declared.refusal.Stall.{Stall}
@@ -25,6 +26,9 @@ stall_no_process stall pid e = cc
 one_process : (a b : ℕ) → Process a ≡ Process b → a ≡ b
 one_process a b e = cc
 
+one_stall : (a b : Stall) → Stalled a ≡ Stalled b → a ≡ b
+one_stall a b e = cc
+
 module _ {mode : ℕ} (old new : Picture mode) where
   pub spawn_refused_takes : (errno : Errno) → SpawnTakes old new (Refused errno)
   spawn_refused_takes errno = record {
@@ -33,6 +37,7 @@ module _ {mode : ℕ} (old new : Picture mode) where
     tried = λ stall e. absurd (refused_no_stall errno stall e);
     still = λ stall e. absurd (refused_no_stall errno stall e);
     full = λ stall e. absurd (refused_no_stall errno stall e);
+    refuses = λ stall e. absurd (refused_no_stall errno stall e);
   }
 
   pub spawned_takes : (pid : ℕ) → (n : ℕ) × TakesRoot old new pid n → GivesForTables old new None → SpawnTakes old new (Process pid)
@@ -42,16 +47,18 @@ module _ {mode : ℕ} (old new : Picture mode) where
     tried = λ stall e. absurd (process_no_stall pid stall e);
     still = λ stall e. absurd (process_no_stall pid stall e);
     full = λ stall e. absurd (process_no_stall pid stall e);
+    refuses = λ stall e. absurd (process_no_stall pid stall e);
   }
 
   pub spawn_stalled_takes : (stall : Stall) → (tried : Option ℕ) × GivesForTables old new tried → KeepsRoles old new → IsFull new.frames
-      → SpawnTakes old new (Stalled stall)
-  spawn_stalled_takes stall tried still full = record {
+      → Refuses new None stall → SpawnTakes old new (Stalled stall)
+  spawn_stalled_takes stall tried still full refuses = record {
     root = λ pid e. absurd (stall_no_process stall pid e);
     gives = λ pid e. absurd (stall_no_process stall pid e);
     tried = λ other e. tried;
     still = λ other e. still;
     full = λ other e. full;
+    refuses = λ other e. subst (λ (x : Stall). Refuses new None x) (one_stall stall other e) refuses;
   }
 
   pub fork_refused_takes : (number : ℕ) (errno : Errno) → ForkTakes old new number (Refused errno)
@@ -72,11 +79,11 @@ module _ {mode : ℕ} (old new : Picture mode) where
           stalls = λ stall e. absurd (process_no_stall child stall e);
         }
 
-    pub fork_stalled_takes : (stall : Stall) → StallsToFork old new parent child → ForkTakes old new number (Stalled stall)
+    pub fork_stalled_takes : (stall : Stall) → StallsToFork old new parent child stall → ForkTakes old new number (Stalled stall)
     fork_stalled_takes stall stalls =
-        let stopped : StallsToFork old new number child = subst (λ (p : ℕ). StallsToFork old new p child) same stalls in
+        let stopped : StallsToFork old new number child stall = subst (λ (p : ℕ). StallsToFork old new p child stall) same stalls in
         record {
           entries = λ other e. absurd (stall_no_process stall other e);
           tables = λ other e. absurd (stall_no_process stall other e);
-          stalls = λ other e. (child, stopped);
+          stalls = λ other e. (child, subst (λ (x : Stall). StallsToFork old new number child x) (one_stall stall other e) stopped);
         }

@@ -1,7 +1,7 @@
 -- munmap of the flat model in a state that memory shows.
 use Rattle.vm_types.specs.declared.mode.Levels as Levels
 use Rattle.vm_types.specs.Limits.{user_end}
-use Rattle.std.proofs.Common.{ℕ, ◌+◌, ◌-◌, ◌/◌, ◌%◌, ◌≡◌, ◌≢◌, ◌<◌, ◌≤◌, ◌^◌, ◌==◌, ◌||◌, not, Bool, true, false, min, if◌then◌else◌, nat_lt, List, [], ◌∷◌, Option, Some, None, IsSome, option_map, inl, inr, ◌⊎◌, refl, sym, ap, ◌∙◌, subst, arith, eq-eqb, ne_eqb}
+use Rattle.std.proofs.Common.{ℕ, ◌+◌, ◌-◌, ◌/◌, ◌%◌, ◌≡◌, ◌≢◌, ◌<◌, ◌≤◌, ◌==◌, ◌||◌, not, Bool, true, false, min, if◌then◌else◌, nat_lt, List, [], ◌∷◌, Option, Some, None, IsSome, option_map, inl, inr, ◌⊎◌, refl, sym, ap, ◌∙◌, subst, arith, eq-eqb, ne_eqb}
 use Rattle.std.proofs.lemmas.Bool.{cases_eq}
 use Rattle.std.proofs.lemmas.Bool.Decides.{nat_tests}
 use Rattle.disk_model.specs.declared.sector_disk.SectorDisk.{Ghosts}
@@ -104,7 +104,7 @@ module _ (mode : ℕ) (first pages start count : ℕ) (from : start ≡ min firs
             ] refl
       ] refl
 
-  clipped : (old : Picture mode) (pid : ℕ) → IsUserMap mode (old.at pid) → without_maps old.at pid first pages ≡ without_maps old.at pid start count
+  pub clipped : (old : Picture mode) (pid : ℕ) → IsUserMap mode (old.at pid) → without_maps old.at pid first pages ≡ without_maps old.at pid start count
   clipped old pid user = λ t q page. (ap (λ (o : Option Attr). if q == pid then o else old.at q page) (clipped_page old pid page user)) t
 
   unmapped_page : (old : Picture mode) (pid : ℕ) (map : ℕ → Option Attr) (page : ℕ) → IsUserMap mode (old.at pid)

@@ -1,10 +1,10 @@
 -- What an access returns where it has no place, and what it asks for.
 use Rattle.vm_types.specs.declared.mode.Levels as Levels
-use Rattle.std.specs.Prelude.{ℕ, ◌≡◌, ◌⊎◌, ◌/◌}
+use Rattle.std.specs.Prelude.{ℕ, ◌≡◌, ◌≢◌, ◌⊎◌, ◌/◌}
 use Rattle.page_faults.specs.declared.refusal.AccessRefusal.{AccessRefusal}
 use Rattle.page_faults.specs.declared.refusal.AccessRefusal.TheVariants as Refusal
 use Rattle.frames.specs.FrameTable.{bytes_of, with_bytes}
-use Rattle.page_faults.specs.Wants.{Wants, ReadsHome, ShowsFile}
+use Rattle.page_faults.specs.Wants.{Wants, ReadsHome, RefusesAccess, ShowsFile}
 use Rattle.paging.specs.declared.kernel.Core.{Core}
 use Rattle.mapping.specs.Changes.{KeepsAround, KeepsSlotted, IsThatPage}
 use Rattle.paging.specs.Picture.{picture_of}
@@ -23,11 +23,12 @@ answer_of (Refusal.Fault fault) = Faulted fault
 answer_of (Refusal.Stall stall) = Stalled stall
 
 module _ {M : Type 0} {m : Levels.Ghosts M} {D E : Type 0} where
-  -- What an access that returns this asks for: it stalls only where a frame is wanted, and for the store's device only where
-  -- its page is to be read from its home; the store is read there alone, slots are asked for and read only where a frame is wanted, and
-  -- no other page comes back from one.
+  -- What an access that returns this asks for: it stalls only where a frame is wanted, and for want of frames or slots only where none
+  -- could be given up but the one that it copies, and for the store's device only where its page is to be read from its home; the store is
+  -- read there alone, slots are asked for and read only where a frame is wanted, and no other page comes back from one.
   pub record AsksFor (old new : Core D E M m) (pid addr : ℕ) (access : Access) (reply : Reply) : Type 0 where
     pub wanted : (stall : Stall) → reply ≡ Reply.Stalled stall → Wants (picture_of old) pid (addr / 4096) access
+    pub refused : (stall : Stall) → reply ≡ Reply.Stalled stall → stall ≢ StoreDevice → RefusesAccess (picture_of new) pid (addr / 4096) access stall
     pub home : reply ≡ Reply.Stalled StoreDevice → ReadsHome (picture_of old) pid (addr / 4096)
     pub read : (new.store ≡ old.store) ⊎ ReadsHome (picture_of old) pid (addr / 4096)
     pub slots : (Wants (picture_of old) pid (addr / 4096) access → ⊥) → new.swap ≡ old.swap

@@ -4,4 +4,5 @@ pub mod Idle
 pub mod Mappings
 pub mod Processes
 pub mod Protections
+pub mod Ranges
 pub mod Space

@@ -3,11 +3,12 @@ ghost use Rattle.std.specs.Prelude.{◌≡◌, true};
 ghost use Rattle.vm_types.specs.Replies.{reply_of};
 ghost use Rattle.vm_types.specs.declared.command.Command.TheVariants.{Dontneed};
 ghost use Rattle.mapping.specs.Changes.{KeepsRoom};
-ghost use Rattle.page_ranges.specs.Steps.{KeepsDevices, KeepsEntriesOfOthers};
+ghost use Rattle.page_ranges.specs.Steps.{KeepsDevices};
 ghost use Rattle.msync.specs.Shows.{IsSoundCore};
 ghost use Rattle.paging.specs.Picture.{picture_of};
 ghost use Rattle.calls.specs.Calls.{Carries, IsCaused};
 ghost use Rattle.calls.specs.Idle.{is_denial};
+ghost use Rattle.calls.specs.Ranges.{TakesNothing};
 
 use crate::space::PAGE;
 use disk_model::SectorDisk;
@@ -20,6 +21,7 @@ use vm_types::{Answer, Errno, Levels};
 ///
 /// In this order: `ESRCH` where there is no such process, `EINVAL` where the address is no multiple of the page size; a
 /// length of 0 is done with; `ENOMEM` where a page isn't mapped. A refused call changes nothing, also over a hole.
+#[tactic(auto, using(crate::proofs::Returning::takes_none))]
 pub fn dontneed<D: SectorDisk, E: SectorDisk, M: Levels>(
     core: &mut Core<D, E, M>,
     pid: u64,
@@ -30,7 +32,7 @@ pub fn dontneed<D: SectorDisk, E: SectorDisk, M: Levels>(
     ensures sound { IsSoundCore D.SectorDisk E.SectorDisk core.new }
     ensures comes { Carries D.SectorDisk E.SectorDisk core.old core.new (Dontneed pid addr len) (reply_of result) }
     ensures devices { KeepsDevices core.old core.new }
-    ensures others { KeepsEntriesOfOthers (picture_of core.old) (picture_of core.new) pid }
+    ensures takes { TakesNothing (picture_of core.old) (picture_of core.new) pid 0 0 }
     ensures denied { is_denial (reply_of result) ≡ true → core.new ≡ core.old }
     ensures room { KeepsRoom (picture_of core.old) (picture_of core.new) }
     ensures caused { IsCaused D.SectorDisk E.SectorDisk core.old core.new (reply_of result) }

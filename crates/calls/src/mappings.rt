@@ -13,12 +13,13 @@ ghost use Rattle.vm_types.specs.declared.command.Command.TheVariants.{Mmap};
 ghost use Rattle.vm_types.specs.declared.command.MapSource.TheVariants.{Common};
 ghost use Rattle.mapping.specs.Changes.{KeepsRoom};
 ghost use Rattle.page_ranges.specs.Rows.{without_maps};
-ghost use Rattle.page_ranges.specs.Steps.{KeepsDevices, KeepsEntriesOfOthers};
+ghost use Rattle.page_ranges.specs.Steps.{KeepsDevices};
 ghost use Rattle.msync.specs.Shows.{IsSoundCore};
 ghost use Rattle.paging.specs.Picture.{picture_of};
 ghost use Rattle.paging.specs.Parts.{IsFit};
 ghost use Rattle.calls.specs.Calls.{Carries, IsCaused};
 ghost use Rattle.calls.specs.Idle.{is_denial};
+ghost use Rattle.calls.specs.Ranges.{TakesNothing, first_mapped};
 ghost use Rattle.calls.specs.Mappings.{mmap_asked_checks, file_checks, place_checks, IsAsked, MapsPages, IsNumbered, FitsFile, attr_there};
 ghost use Rattle.calls.specs.Space.{space_of};
 
@@ -277,6 +278,7 @@ fn planned<D, E, M: Levels>(
 /// file; `EACCES` where stores to a file that may only be read are asked for; `EOVERFLOW` where the mapping would pass the
 /// last page that a file can have; `ENOMEM` where there is no place for it; `EEXIST` where a page of the place is mapped
 /// and may not be replaced; `ENOMEM` where more than 256 runs would result. A refused call changes nothing.
+#[tactic(auto, using(crate::proofs::Returning::takes_none))]
 pub fn mmap<D: SectorDisk, E: SectorDisk, M: Levels>(
     core: &mut Core<D, E, M>,
     room: &mut RegionRoom<M>,
@@ -291,7 +293,7 @@ pub fn mmap<D: SectorDisk, E: SectorDisk, M: Levels>(
     ensures sound { IsSoundCore D.SectorDisk E.SectorDisk core.new }
     ensures comes { Carries D.SectorDisk E.SectorDisk core.old core.new (Mmap pid addr len prot source placing) (reply_of result) }
     ensures devices { KeepsDevices core.old core.new }
-    ensures others { KeepsEntriesOfOthers (picture_of core.old) (picture_of core.new) pid }
+    ensures takes { TakesNothing (picture_of core.old) (picture_of core.new) pid (first_mapped (reply_of result)) (page_count len) }
     ensures denied { is_denial (reply_of result) ≡ true → core.new ≡ core.old }
     ensures room { KeepsRoom (picture_of core.old) (picture_of core.new) }
     ensures caused { IsCaused D.SectorDisk E.SectorDisk core.old core.new (reply_of result) }

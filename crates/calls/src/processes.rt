@@ -1,15 +1,17 @@
 //! Processes that come and go.
 ghost use Rattle.std.specs.Prelude.{◌≡◌, true};
+ghost use Rattle.vm_types.specs.Limits.{user_end};
 ghost use Rattle.vm_types.specs.Replies.{reply_of};
 ghost use Rattle.vm_types.specs.declared.command.Command.TheVariants.{Spawn, Fork, Exit};
 ghost use Rattle.mapping.specs.Changes.{KeepsRoom};
-ghost use Rattle.page_ranges.specs.Steps.{KeepsDevices, KeepsEntriesOfOthers};
+ghost use Rattle.page_ranges.specs.Steps.{KeepsDevices};
 ghost use Rattle.msync.specs.Shows.{IsSoundCore};
 ghost use Rattle.paging.specs.Calls.{UsesDevice};
 ghost use Rattle.paging.specs.Picture.{picture_of};
 ghost use Rattle.calls.specs.Processes.{ForkTakes, SpawnTakes};
 ghost use Rattle.calls.specs.Calls.{Carries, IsCaused};
 ghost use Rattle.calls.specs.Idle.{is_denial};
+ghost use Rattle.calls.specs.Ranges.{TakesNothing};
 
 use disk_model::SectorDisk;
 use lifecycle::free_pid;
@@ -73,12 +75,13 @@ pub fn fork<D: SectorDisk, E: SectorDisk, M: Levels>(core: &mut Core<D, E, M>, p
 /// objects what another process has.
 ///
 /// `ESRCH` where there is no such process.
+#[tactic(auto, using(crate::proofs::Returning::takes_none))]
 pub fn exit<D: SectorDisk, E: SectorDisk, M: Levels>(core: &mut Core<D, E, M>, pid: u64) -> Answer
     requires sound { IsSoundCore D.SectorDisk E.SectorDisk core.old }
     ensures sound { IsSoundCore D.SectorDisk E.SectorDisk core.new }
     ensures comes { Carries D.SectorDisk E.SectorDisk core.old core.new (Exit pid) (reply_of result) }
     ensures devices { KeepsDevices core.old core.new }
-    ensures others { KeepsEntriesOfOthers (picture_of core.old) (picture_of core.new) pid }
+    ensures takes { TakesNothing (picture_of core.old) (picture_of core.new) pid 0 (user_end M.mode) }
     ensures denied { is_denial (reply_of result) ≡ true → core.new ≡ core.old }
     ensures room { KeepsRoom (picture_of core.old) (picture_of core.new) }
     ensures caused { IsCaused D.SectorDisk E.SectorDisk core.old core.new (reply_of result) }

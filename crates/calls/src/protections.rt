@@ -7,11 +7,12 @@ ghost use Rattle.vm_types.specs.Counting.{any_below};
 ghost use Rattle.vm_types.specs.Ranges.{denies_stores, is_guarded, is_guarded_page};
 ghost use Rattle.vm_types.specs.declared.command.Command.TheVariants.{Mprotect};
 ghost use Rattle.mapping.specs.Changes.{KeepsRoom};
-ghost use Rattle.page_ranges.specs.Steps.{KeepsDevices, KeepsEntriesOfOthers};
+ghost use Rattle.page_ranges.specs.Steps.{KeepsDevices};
 ghost use Rattle.msync.specs.Shows.{IsSoundCore};
 ghost use Rattle.paging.specs.Picture.{picture_of};
 ghost use Rattle.calls.specs.Calls.{Carries, IsCaused};
 ghost use Rattle.calls.specs.Idle.{is_denial};
+ghost use Rattle.calls.specs.Ranges.{TakesNothing};
 ghost use Rattle.calls.specs.Protections.{permit_checks, IsPermitted};
 ghost use Rattle.calls.specs.Space.{space_of};
 
@@ -107,6 +108,7 @@ fn permitted<D: SectorDisk, M: Levels>(
 /// In this order: `ESRCH` where there is no such process, `EINVAL` where the address is no multiple of the page size; a
 /// length of 0 is done with; `ENOMEM` where a page isn't mapped, `EACCES` where stores to a file that may only be read
 /// are asked for, `ENOMEM` where more than 256 runs would result. A refused call changes nothing, also over a hole.
+#[tactic(auto, using(crate::proofs::Returning::takes_none))]
 pub fn mprotect<D: SectorDisk, E: SectorDisk, M: Levels>(
     core: &mut Core<D, E, M>,
     room: &mut RegionRoom<M>,
@@ -119,7 +121,7 @@ pub fn mprotect<D: SectorDisk, E: SectorDisk, M: Levels>(
     ensures sound { IsSoundCore D.SectorDisk E.SectorDisk core.new }
     ensures comes { Carries D.SectorDisk E.SectorDisk core.old core.new (Mprotect pid addr len prot) (reply_of result) }
     ensures devices { KeepsDevices core.old core.new }
-    ensures others { KeepsEntriesOfOthers (picture_of core.old) (picture_of core.new) pid }
+    ensures takes { TakesNothing (picture_of core.old) (picture_of core.new) pid 0 0 }
     ensures swap { core.new.swap ≡ core.old.swap }
     ensures denied { is_denial (reply_of result) ≡ true → core.new ≡ core.old }
     ensures room { KeepsRoom (picture_of core.old) (picture_of core.new) }

@@ -1,13 +1,15 @@
 //! munmap.
-ghost use Rattle.std.specs.Prelude.{◌≡◌, true};
+ghost use Rattle.std.specs.Prelude.{◌≡◌, ◌/◌, true};
+ghost use Rattle.vm_types.specs.Checks.{page_count};
 ghost use Rattle.vm_types.specs.Replies.{reply_of};
 ghost use Rattle.vm_types.specs.declared.command.Command.TheVariants.{Munmap};
 ghost use Rattle.mapping.specs.Changes.{KeepsRoom};
-ghost use Rattle.page_ranges.specs.Steps.{KeepsDevices, KeepsEntriesOfOthers};
+ghost use Rattle.page_ranges.specs.Steps.{KeepsDevices};
 ghost use Rattle.msync.specs.Shows.{IsSoundCore};
 ghost use Rattle.paging.specs.Picture.{picture_of};
 ghost use Rattle.calls.specs.Calls.{Carries, IsCaused};
 ghost use Rattle.calls.specs.Idle.{is_denial};
+ghost use Rattle.calls.specs.Ranges.{TakesNothing};
 
 use crate::region_room::RegionRoom;
 use crate::space::PAGE;
@@ -21,6 +23,7 @@ use vm_types::{Answer, Errno, Levels, TooManyRuns};
 ///
 /// In this order: `ESRCH` where there is no such process, `EINVAL` where the length is 0 or the address is no multiple of
 /// the page size, `ENOMEM` where more than 256 runs would result. A refused call changes nothing.
+#[tactic(auto, using(crate::proofs::Returning::takes_none))]
 pub fn munmap<D: SectorDisk, E: SectorDisk, M: Levels>(
     core: &mut Core<D, E, M>,
     room: &mut RegionRoom<M>,
@@ -32,7 +35,7 @@ pub fn munmap<D: SectorDisk, E: SectorDisk, M: Levels>(
     ensures sound { IsSoundCore D.SectorDisk E.SectorDisk core.new }
     ensures comes { Carries D.SectorDisk E.SectorDisk core.old core.new (Munmap pid addr len) (reply_of result) }
     ensures devices { KeepsDevices core.old core.new }
-    ensures others { KeepsEntriesOfOthers (picture_of core.old) (picture_of core.new) pid }
+    ensures takes { TakesNothing (picture_of core.old) (picture_of core.new) pid (addr / 4096) (page_count len) }
     ensures denied { is_denial (reply_of result) ≡ true → core.new ≡ core.old }
     ensures room { KeepsRoom (picture_of core.old) (picture_of core.new) }
     ensures caused { IsCaused D.SectorDisk E.SectorDisk core.old core.new (reply_of result) }

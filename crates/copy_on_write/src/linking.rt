@@ -8,7 +8,7 @@ ghost use Rattle.swap.specs.Slots.{IsReady};
 ghost use Rattle.paging.specs.Seats.{seat};
 ghost use Rattle.paging.specs.Picture.{picture_of, entry, is_live};
 ghost use Rattle.paging.specs.Parts.{IsFit};
-ghost use Rattle.paging.specs.Calls.{KeepsPages};
+ghost use Rattle.paging.specs.Calls.{KeepsPages, Refuses};
 ghost use Rattle.paging.specs.Stalls.{HasStallCause};
 ghost use Rattle.paging.specs.Capacity.{IsShort};
 ghost use Rattle.paging.specs.Ages.{GivesForTables};
@@ -54,6 +54,7 @@ pub fn link_copies<D, E: SectorDisk, M: Levels>(
     ensures tried { OnErr result ((tried : Option ℕ) × GivesForTables (picture_of core.old) (picture_of core.new) tried) }
     ensures tables { LinksCopies (picture_of core.old) (picture_of core.new) parent child }
     ensures full { OnErr result (IsFull core.new.frames) }
+    ensures refuses { IfErr result (Refuses (picture_of core.new) None) }
     ensures no_copy { (n : ℕ) → role_of core.new.frames n ≡ Private → role_of core.old.frames n ≡ Private }
     ensures short { IfErr result (IsShort (picture_of core.new)) }
     ensures cause { HasStallCause E.SectorDisk core.old core.new result }
@@ -93,6 +94,7 @@ fn link_run<D, E: SectorDisk, M: Levels>(
     ensures tried { OnErr result ((tried : Option ℕ) × GivesForTables (picture_of core.old) (picture_of core.new) tried) }
     ensures tables { LinksCopies (picture_of core.old) (picture_of core.new) parent child }
     ensures full { OnErr result (IsFull core.new.frames) }
+    ensures refuses { IfErr result (Refuses (picture_of core.new) None) }
     ensures no_copy { (n : ℕ) → role_of core.new.frames n ≡ Private → role_of core.old.frames n ≡ Private }
     ensures short { IfErr result (IsShort (picture_of core.new)) }
     ensures cause { HasStallCause E.SectorDisk core.old core.new result }
@@ -134,6 +136,7 @@ fn link_next<D, E: SectorDisk, M: Levels>(
     ensures tried { OnErr result ((tried : Option ℕ) × GivesForTables (picture_of core.old) (picture_of core.new) tried) }
     ensures tables { LinksCopies (picture_of core.old) (picture_of core.new) parent child }
     ensures full { OnErr result (IsFull core.new.frames) }
+    ensures refuses { IfErr result (Refuses (picture_of core.new) None) }
     ensures no_copy { (n : ℕ) → role_of core.new.frames n ≡ Private → role_of core.old.frames n ≡ Private }
     ensures short { IfErr result (IsShort (picture_of core.new)) }
     ensures cause { HasStallCause E.SectorDisk core.old core.new result }

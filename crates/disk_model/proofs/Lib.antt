@@ -1,3 +1,4 @@
+pub mod Naming
 pub mod Moments
 pub mod Pages
 pub mod Pieces

@@ -1,8 +1,8 @@
 -- How runs of device calls go on.
 use Rattle.std.proofs.Common.{inl, inr, ⊎_elim, ◌≡◌, ◌⊎◌, ◌≤◌, ◌+◌, ℕ, refl, sym, ap, subst, ◌∙◌, arith}
 use Rattle.std.proofs.lemmas.Bool.{cases_eq, cases_lt}
-use Rattle.disk_model.specs.Stop.{Image, MayLeave, ChangesOnly, ChangesPage, IsOfPage, Elapses}
-use Rattle.disk_model.specs.Moments.{Nothing, Touches, LeavesNow, LeavesOnly}
+use Rattle.disk_model.specs.Stop.{Image, MayLeave, ChangesOnly, ChangesPage, IsOfPage, Elapses, Names, NamesOnce}
+use Rattle.disk_model.specs.Moments.{Nothing, Touches, LeavesNow, LeavesOnly, AsksOnly}
 use Rattle.disk_model.specs.declared.sector_disk.SectorDisk.{Ghosts}
 
 -- a sector is of a page or not
@@ -151,3 +151,25 @@ module _ {D : Type 0} (g : Ghosts D) where
     kept = λ k. ⊎_elim (λ u. inl (⊎_elim (λ o. o) (λ none. absurd none) (run.unsynced k u)))
         (λ e. ⊎_elim (λ none. absurd none) (λ same. inr (e ∙ same)) (run.content k)) (may.kept k);
   })
+
+  -- no call at all, or one that names no sector
+  pub asks_none : (W : ℕ → Type 0) (old new : D) → ((k : ℕ) → g.asked new k ≡ g.asked old k) → AsksOnly g W old new
+  asks_none W old new same = record { others = λ k. inr (same k) }
+
+  -- a call that names sectors of W
+  pub asks_named : (W V : ℕ → Type 0) (old new : D) → ((k : ℕ) → V k → W k) → Names V (g.asked old) (g.asked new) → AsksOnly g W old new
+  asks_named W V old new inside names = record { others = λ k. ⊎_elim (λ v. inl (inside k v)) (λ e. inr e) (names.others k) }
+
+  -- calls that named sectors of W once at most
+  pub asks_once : (W V : ℕ → Type 0) (old new : D) → ((k : ℕ) → V k → W k) → NamesOnce V (g.asked old) (g.asked new) → AsksOnly g W old new
+  asks_once W V old new inside once = record { others = λ k. ⊎_elim (λ e. inr e) (λ v. inl (inside k v.0)) (once.each k) }
+
+  -- of more sectors
+  pub asks_wider : (W V : ℕ → Type 0) (old new : D) → ((k : ℕ) → W k → V k) → AsksOnly g W old new → AsksOnly g V old new
+  asks_wider W V old new more asks = record { others = λ k. ⊎_elim (λ w. inl (more k w)) (λ e. inr e) (asks.others k) }
+
+  -- some calls, and then some more
+  pub asks_then : (W : ℕ → Type 0) (old mid new : D) → AsksOnly g W old mid → AsksOnly g W mid new → AsksOnly g W old new
+  asks_then W old mid new first second = record {
+    others = λ k. ⊎_elim (λ w. inl w) (λ e. ⊎_elim (λ w. inl w) (λ e'. inr (e ∙ e')) (first.others k)) (second.others k);
+  }

@@ -38,6 +38,11 @@ abbrev pub failed_calls : List Note → ℕ
 failed_calls [] = 0
 failed_calls (call ∷ earlier) = if succeeded call then failed_calls earlier else failed_calls earlier + 1
 
+-- how often calls have named sector k
+abbrev pub times_called : List Note → ℕ → ℕ
+times_called [] k = 0
+times_called (call ∷ earlier) k = if concerns call k then times_called earlier k + 1 else times_called earlier k
+
 abbrev pub is_unsynced : List Note → ℕ → Bool
 is_unsynced [] k = false
 is_unsynced (call ∷ earlier) k =

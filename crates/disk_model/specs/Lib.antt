@@ -2,6 +2,7 @@ pub mod Sectors
 pub mod Stop
 pub mod Moments
 pub mod Note
+pub mod Asked
 pub mod Plan
 pub mod SimDisk
 pub mod FileRecord

@@ -1,4 +1,4 @@
--- What a stop at some moment of a run of calls might have left, for any device.
+-- What a stop at some moment of a run of calls might have left, and which sectors the calls named, for any device.
 use Rattle.std.specs.Prelude.{ℕ, ◌≡◌, ◌⊎◌, ◌≤◌}
 use Rattle.disk_model.specs.Stop.{Image, MayLeave}
 use Rattle.disk_model.specs.declared.sector_disk.SectorDisk.{Ghosts}
@@ -26,3 +26,7 @@ module _ {D : Type 0} (g : Ghosts D) where
     pub each : (c : Image) → g.left_since new (g.moment old) c → P c
     -- for a run that began earlier
     pub before : (t : ℕ) (c : Image) → t ≤ g.moment old → g.left_since new t c → g.left_since old t c ⊎ P c
+
+  -- From old to new no call named a sector but those of W.
+  pub record AsksOnly (W : ℕ → Type 0) (old new : D) : Type 0 where
+    pub others : (k : ℕ) → W k ⊎ (g.asked new k ≡ g.asked old k)

@@ -2,6 +2,7 @@
 use Rattle.std.specs.Prelude.{◌≡◌, ◌⊎◌, ◌≤◌, ℕ, zero, suc, Bool, false, ◌||◌, if◌then◌else◌, IsTrue, List, [], ◌∷◌, length, replicate, slice_index_or, Option, None}
 use Rattle.std.proofs.Common.{⊎_elim, arith}
 use Rattle.disk_model.specs.Note.{Note}
+use Rattle.disk_model.specs.Asked.{times_named}
 use Rattle.disk_model.specs.Plan.{is_at, one_more, failures_after, first_listed}
 use Rattle.disk_model.specs.Sectors.{sector_bytes}
 use Rattle.disk_model.specs.Stop.{Image, MayLeave}
@@ -31,6 +32,9 @@ syncs_made d = d.syncs
 
 abbrev pub failures_of : SimDisk → ℕ
 failures_of d = d.failures.number
+
+abbrev pub asked_of : SimDisk → ℕ → ℕ
+asked_of d = times_named d.asked
 
 abbrev pub last_synced : SimDisk → Image
 last_synced d = row d.synced.items
@@ -105,7 +109,7 @@ after_writes (suc n) c = after_write (after_writes n c)
 abbrev pub left_by_write : Counts → List ℕ → List ℕ
 left_by_write c bytes = if write_fails_next c then replicate sector_bytes 238 else bytes
 
--- no call was made yet, no fault is armed, and nothing is unsynced
+-- no call was made yet and no sector named, no fault is armed, and nothing is unsynced
 pub record IsFresh (d : SimDisk) : Type 0 where
   pub no_calls : d.calls ≡ 0
   pub no_writes : d.writes ≡ 0
@@ -114,6 +118,7 @@ pub record IsFresh (d : SimDisk) : Type 0 where
   pub no_stop : d.stop ≡ None
   pub no_fail : d.fail ≡ None
   pub no_failures : d.failures.number ≡ 0
+  pub none_asked : (k : ℕ) → asked_of d k ≡ 0
   pub no_past : d.past.notes ≡ []
   pub all_synced : (k : ℕ) → IsUnsynced d k → ⊥
   pub as_synced : (k : ℕ) → last_synced d k ≡ sector_of d k

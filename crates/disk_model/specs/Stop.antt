@@ -33,3 +33,12 @@ pub record HasCause {T E : Type 0} (before now : ℕ) (result : Result T E) : Ty
   pub later : before ≤ now
   pub failed : IsErr result → before < now
   pub calm : OnOk result (now ≡ before)
+
+-- From before to now calls named each sector of W once more, and no other.
+pub record Names (W : ℕ → Type 0) (before now : ℕ → ℕ) : Type 0 where
+  pub named : (k : ℕ) → W k → now k ≡ before k + 1
+  pub others : (k : ℕ) → W k ⊎ (now k ≡ before k)
+
+-- From before to now calls named no sector but those of W, and each of them once at most.
+pub record NamesOnce (W : ℕ → Type 0) (before now : ℕ → ℕ) : Type 0 where
+  pub each : (k : ℕ) → (now k ≡ before k) ⊎ (W k × (now k ≡ before k + 1))

@@ -1,8 +1,8 @@
 //! A device in a file of the operating system.
-ghost use Rattle.std.specs.Prelude.{◌≡◌, ◌<◌, ◌*◌, ◌^◌, ℕ, List, [], is_ok, IfOk};
+ghost use Rattle.std.specs.Prelude.{◌≡◌, ◌<◌, ◌*◌, ◌^◌, ℕ, List, [], true, false, is_ok, IfOk};
 ghost use Rattle.disk_model.specs.Sectors.{sector_bytes};
 ghost use Rattle.disk_model.specs.Unknown.{unknown_bytes};
-ghost use Rattle.disk_model.specs.FileRecord.{is_lost};
+ghost use Rattle.disk_model.specs.FileRecord.{is_lost, is_unsynced};
 
 use crate::ghost_data::Log;
 use crate::sim_disk::parts;
@@ -55,10 +55,13 @@ pub struct FileDisk<C: FileContents = Unknown> {
     file: File,
     count: u64,
     lost: bool,
+    /// Nothing was written since the last sync, which succeeded.
+    is_clean: bool,
     calls: Log,
     contents: PhantomData<C>,
     ghost within: { count * sector_bytes < 2 ^ 64 },
     ghost lost_by_calls: { lost ≡ is_lost calls.notes },
+    ghost clean_by_calls: { is_clean ≡ true → (k : ℕ) → is_unsynced calls.notes k ≡ false },
 }
 
 /// What a call returns that the system carried out, or didn't.
@@ -88,6 +91,7 @@ impl<C: FileContents> FileDisk<C> {
             file,
             count,
             lost: false,
+            is_clean: true,
             calls: Log::new(),
             contents: PhantomData,
         })
@@ -96,7 +100,7 @@ impl<C: FileContents> FileDisk<C> {
 
 impl<C: FileContents> SectorDisk for FileDisk<C> {
     ghost use Rattle.std.specs.Prelude.{length};
-    ghost use Rattle.disk_model.specs.FileRecord.{held, Unsynced, LeftAfter, IsHonest, failed_calls, counts_present, only_present};
+    ghost use Rattle.disk_model.specs.FileRecord.{held, Unsynced, LeftAfter, IsHonest, failed_calls, times_called, counts_present, only_present};
 
     ghost sector_count = { λ d. d.count };
 
@@ -109,6 +113,8 @@ impl<C: FileContents> SectorDisk for FileDisk<C> {
     ghost left_since = { λ d. LeftAfter C.at_first C.after_fault d.calls.notes };
 
     ghost failures = { λ d. failed_calls d.calls.notes };
+
+    ghost asked = { λ d. times_called d.calls.notes };
 
     ghost keeps_model = { λ d. IsHonest C.at_first C.after_fault d.calls.notes };
 
@@ -128,6 +134,7 @@ impl<C: FileContents> SectorDisk for FileDisk<C> {
 
     fn write(&mut self, n: u64, from: &[u8; SECTOR_BYTES]) -> Result<(), DiskFault> {
         let done = self.file.write_all_at(from, n * SECTOR).is_ok();
+        self.is_clean = false;
         self.calls.note(&[WRITE, n], &[*from], &[done]);
         answer(done)
     }
@@ -140,15 +147,17 @@ impl<C: FileContents> SectorDisk for FileDisk<C> {
 
     fn write_page(&mut self, n: u64, from: &[u8; 4096]) -> Result<(), DiskFault> {
         let done = self.file.write_all_at(from, n * SECTOR).is_ok();
+        self.is_clean = false;
         self.calls.note(&[WRITE, n], parts(from), &[done]);
         answer(done)
     }
 
-    /// By `fdatasync`, as the file's length never changes. After a failed sync all later ones fail: the system may then take
-    /// pages for written that are not.
+    /// By `fdatasync`, as the file's length never changes; where nothing was written since the last sync, the system is not
+    /// asked. After a failed sync all later ones fail: the system may then take pages for written that are not.
     fn sync(&mut self) -> Result<(), DiskFault> {
-        let done = !self.lost && self.file.sync_data().is_ok();
+        let done = !self.lost && (self.is_clean || self.file.sync_data().is_ok());
         self.lost = !done;
+        self.is_clean = done;
         self.calls.note(&[SYNC, 0], &[], &[done]);
         answer(done)
     }

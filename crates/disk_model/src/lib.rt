@@ -5,11 +5,13 @@
 //! any moment.
 #![tactic(auto)]
 
+mod asking;
 mod file_disk;
 mod ghost_data;
 mod sector_disk;
 mod sim_disk;
 
+pub use asking::Asked;
 pub use file_disk::{FileContents, FileDisk, Unknown};
 pub use ghost_data::{Count, Log};
 pub use sector_disk::{DiskFault, SECTOR_BYTES, SectorDisk};

@@ -1,6 +1,6 @@
 //! A row of sectors that can be read, written and synced.
 ghost use Rattle.std.specs.Prelude.{◌≡◌, ◌⊎◌, ◌<◌, ◌≤◌, ◌+◌, ◌^◌, ℕ, List, OnOk, OnErr};
-ghost use Rattle.disk_model.specs.Stop.{Image, MayLeave, ChangesOnly, ChangesPage, IsOfPage, Elapses, HasCause};
+ghost use Rattle.disk_model.specs.Stop.{Image, MayLeave, ChangesOnly, ChangesPage, IsOfPage, Elapses, HasCause, Names};
 ghost use Rattle.disk_model.specs.Sectors.{part_of};
 
 use std::fmt;
@@ -48,6 +48,9 @@ pub trait SectorDisk {
     /// How often the device has failed.
     ghost failures: { Self → ℕ };
 
+    /// How often calls have named each sector, whether they failed or not.
+    ghost asked: { Self → ℕ → ℕ };
+
     /// The device has kept the model so far.
     ghost keeps_model: { Self → Type 0 };
 
@@ -61,6 +64,7 @@ pub trait SectorDisk {
         ensures size { sector_count self.new ≡ sector_count self.old }
         ensures kept { keeps_model self.new → keeps_model self.old }
         ensures cause { HasCause (failures self.old) (failures self.new) result }
+        ensures asks { Names (λ k. k ≡ n) (asked self.old) (asked self.new) }
         ensures gives { keeps_model self.new → OnOk result (to.new ≡ content self.old n) }
         ensures same { keeps_model self.new → content self.new ≡ content self.old }
         ensures unsynced { keeps_model self.new → (k : ℕ) → unsynced self.new k → unsynced self.old k }
@@ -74,6 +78,7 @@ pub trait SectorDisk {
         ensures size { sector_count self.new ≡ sector_count self.old }
         ensures kept { keeps_model self.new → keeps_model self.old }
         ensures cause { HasCause (failures self.old) (failures self.new) result }
+        ensures asks { Names (IsOfPage n) (asked self.old) (asked self.new) }
         ensures gives { keeps_model self.new → OnOk result ((i : ℕ) → i < 8 → part_of to.new i ≡ content self.old (n + i)) }
         ensures same { keeps_model self.new → content self.new ≡ content self.old }
         ensures unsynced { keeps_model self.new → (k : ℕ) → unsynced self.new k → unsynced self.old k }
@@ -86,6 +91,7 @@ pub trait SectorDisk {
         ensures size { sector_count self.new ≡ sector_count self.old }
         ensures kept { keeps_model self.new → keeps_model self.old }
         ensures cause { HasCause (failures self.old) (failures self.new) result }
+        ensures asks { Names (λ k. k ≡ n) (asked self.old) (asked self.new) }
         ensures written { keeps_model self.new → OnOk result (content self.new n ≡ from.now) }
         ensures others { keeps_model self.new → ChangesOnly n (content self.old) (content self.new) }
         ensures unsynced { keeps_model self.new → (k : ℕ) → unsynced self.new k → unsynced self.old k ⊎ (k ≡ n) }
@@ -101,6 +107,7 @@ pub trait SectorDisk {
         ensures size { sector_count self.new ≡ sector_count self.old }
         ensures kept { keeps_model self.new → keeps_model self.old }
         ensures cause { HasCause (failures self.old) (failures self.new) result }
+        ensures asks { Names (IsOfPage n) (asked self.old) (asked self.new) }
         ensures written { keeps_model self.new → OnOk result ((i : ℕ) → i < 8 → content self.new (n + i) ≡ part_of from.now i) }
         ensures others { keeps_model self.new → ChangesPage n (content self.old) (content self.new) }
         ensures unsynced { keeps_model self.new → (k : ℕ) → unsynced self.new k → unsynced self.old k ⊎ IsOfPage n k }
@@ -113,6 +120,7 @@ pub trait SectorDisk {
         ensures size { sector_count self.new ≡ sector_count self.old }
         ensures kept { keeps_model self.new → keeps_model self.old }
         ensures cause { HasCause (failures self.old) (failures self.new) result }
+        ensures asks { (k : ℕ) → asked self.new k ≡ asked self.old k }
         ensures same { keeps_model self.new → content self.new ≡ content self.old }
         ensures synced { keeps_model self.new → OnOk result ((k : ℕ) → unsynced self.new k → ⊥) }
         ensures unsynced { keeps_model self.new → (k : ℕ) → unsynced self.new k → unsynced self.old k }

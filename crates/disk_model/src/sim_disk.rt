@@ -1,10 +1,11 @@
 //! A device in memory whose failures and stops are chosen.
 ghost use Rattle.std.specs.Prelude.{◌≡◌, ◌⊎◌, ◌<◌, ◌≤◌, ◌+◌, ◌^◌, ℕ, [], slice_index_or, replicate, length, is_err, IfOk, OnOk, OnErr};
 ghost use Rattle.std.proofs.Common.{inl};
-ghost use Rattle.disk_model.specs.Stop.{MayLeave, ChangesOnly, ChangesPage, IsOfPage, Elapses, HasCause};
+ghost use Rattle.disk_model.specs.Stop.{MayLeave, ChangesOnly, ChangesPage, IsOfPage, Elapses, HasCause, Names};
 ghost use Rattle.disk_model.specs.Sectors.{sector_bytes, part_of};
 ghost use Rattle.disk_model.specs.Plan.{is_at, failures_after, first_listed};
 
+use crate::asking::Asked;
 use crate::ghost_data::{Count, Log};
 use crate::{DiskFault, SECTOR_BYTES, SectorDisk};
 use std::alloc::{AllocError, Global};
@@ -26,6 +27,7 @@ pub struct SimDisk {
     writes: u64,
     syncs: u64,
     failures: Count,
+    asked: Asked,
     /// The sectors and marks before each write and sync.
     past: Log,
     ghost synced_length: { length synced.items ≡ length sectors.items },
@@ -96,7 +98,7 @@ fn listed_or<'a>(
 }
 
 impl SimDisk {
-    ghost use Rattle.disk_model.specs.SimDisk.{row, sector_of, IsUnsynced, sectors_in, calls_made, writes_made, syncs_made, IsFresh, left_at};
+    ghost use Rattle.disk_model.specs.SimDisk.{row, sector_of, IsUnsynced, sectors_in, calls_made, writes_made, syncs_made, IsFresh, left_at, last_synced, moment_of, LeftSince, failures_of, counts_of, fails_next, after_read};
 
     /// A device of this many sectors of zeros, all of them synced.
     ///
@@ -120,6 +122,7 @@ impl SimDisk {
             writes: 0,
             syncs: 0,
             failures: Count::new(),
+            asked: Asked::new(),
             past: Log::new(),
         })
     }
@@ -195,6 +198,7 @@ impl SimDisk {
             writes: 0,
             syncs: 0,
             failures: Count::new(),
+            asked: Asked::new(),
             past: Log::new(),
         })
     }
@@ -218,10 +222,34 @@ impl SimDisk {
         }
         Ok(image)
     }
+
+    // A read that is a call, or a part of one.
+    fn get(&mut self, n: u64, to: &mut [u8; SECTOR_BYTES]) -> Result<(), DiskFault>
+        requires { n < sectors_in self.old }
+        ensures size { sectors_in self.new ≡ sectors_in self.old }
+        ensures cause { HasCause (failures_of self.old) (failures_of self.new) result }
+        ensures gives { OnOk result (to.new ≡ sector_of self.old n) }
+        ensures same { sector_of self.new ≡ sector_of self.old }
+        ensures unsynced { (k : ℕ) → IsUnsynced self.new k → IsUnsynced self.old k }
+        ensures still { (k : ℕ) → IsUnsynced self.old k → IsUnsynced self.new k }
+        ensures time { Elapses (moment_of self.old) (moment_of self.new) (LeftSince self.old) (LeftSince self.new) (sector_of self.new) (IsUnsynced self.new) }
+        ensures last { last_synced self.new ≡ last_synced self.old }
+        ensures fails { is_err result ≡ fails_next (counts_of self.old) }
+        ensures counted { counts_of self.new ≡ after_read (counts_of self.old) }
+        ensures asked { self.new.asked ≡ self.old.asked }
+    {
+        self.calls = self.calls.saturating_add(1);
+        answer(
+            self.stopped || is_at(self.fail, self.calls),
+            &mut self.failures,
+        )?;
+        *to = self.sectors[n as usize];
+        Ok(())
+    }
 }
 
 impl SectorDisk for SimDisk {
-    ghost use Rattle.disk_model.specs.SimDisk.{sectors_in, sector_of, last_synced, IsUnsynced, moment_of, LeftSince, only_present, failures_of, counts_of, fails_next, write_fails_next, after_read, after_sync, after_write, after_reads, after_writes, left_by_write};
+    ghost use Rattle.disk_model.specs.SimDisk.{sectors_in, sector_of, last_synced, IsUnsynced, moment_of, LeftSince, only_present, failures_of, asked_of, counts_of, fails_next, write_fails_next, after_read, after_sync, after_write, after_reads, after_writes, left_by_write};
 
     ghost sector_count = { sectors_in };
 
@@ -234,6 +262,8 @@ impl SectorDisk for SimDisk {
     ghost left_since = { LeftSince };
 
     ghost failures = { failures_of };
+
+    ghost asked = { asked_of };
 
     ghost keeps_model = { λ _. Unit {0} };
 
@@ -249,6 +279,7 @@ impl SectorDisk for SimDisk {
         requires { n < sectors_in self.old }
         ensures size { sectors_in self.new ≡ sectors_in self.old }
         ensures cause { HasCause (failures_of self.old) (failures_of self.new) result }
+        ensures asks { Names (λ k. k ≡ n) (asked_of self.old) (asked_of self.new) }
         ensures gives { OnOk result (to.new ≡ sector_of self.old n) }
         ensures same { sector_of self.new ≡ sector_of self.old }
         ensures unsynced { (k : ℕ) → IsUnsynced self.new k → IsUnsynced self.old k }
@@ -258,19 +289,15 @@ impl SectorDisk for SimDisk {
         ensures fails { is_err result ≡ fails_next (counts_of self.old) }
         ensures counted { counts_of self.new ≡ after_read (counts_of self.old) }
     {
-        self.calls = self.calls.saturating_add(1);
-        answer(
-            self.stopped || is_at(self.fail, self.calls),
-            &mut self.failures,
-        )?;
-        *to = self.sectors[n as usize];
-        Ok(())
+        self.asked.sector(n);
+        self.get(n, to)
     }
 
     fn write(&mut self, n: u64, from: &[u8; SECTOR_BYTES]) -> Result<(), DiskFault>
         requires { n < sectors_in self.old }
         ensures size { sectors_in self.new ≡ sectors_in self.old }
         ensures cause { HasCause (failures_of self.old) (failures_of self.new) result }
+        ensures asks { Names (λ k. k ≡ n) (asked_of self.old) (asked_of self.new) }
         ensures written { OnOk result (sector_of self.new n ≡ from.now) }
         ensures leaves { sector_of self.new n ≡ left_by_write (counts_of self.old) from.now }
         ensures others { ChangesOnly n (sector_of self.old) (sector_of self.new) }
@@ -282,6 +309,7 @@ impl SectorDisk for SimDisk {
         ensures fails { is_err result ≡ write_fails_next (counts_of self.old) }
         ensures counted { counts_of self.new ≡ after_write (counts_of self.old) }
     {
+        self.asked.sector(n);
         self.past.note(&[], &self.sectors, &self.unsynced);
         self.calls = self.calls.saturating_add(1);
         self.writes = self.writes.saturating_add(1);
@@ -302,6 +330,7 @@ impl SectorDisk for SimDisk {
         requires fits { n < 2 ^ 60 }
         ensures size { sectors_in self.new ≡ sectors_in self.old }
         ensures cause { HasCause (failures_of self.old) (failures_of self.new) result }
+        ensures asks { Names (IsOfPage n) (asked_of self.old) (asked_of self.new) }
         ensures gives { OnOk result ((i : ℕ) → i < 8 → part_of to.new i ≡ sector_of self.old (n + i)) }
         ensures same { sector_of self.new ≡ sector_of self.old }
         ensures unsynced { (k : ℕ) → IsUnsynced self.new k → IsUnsynced self.old k }
@@ -310,9 +339,10 @@ impl SectorDisk for SimDisk {
         ensures last { last_synced self.new ≡ last_synced self.old }
         ensures counted { counts_of self.new ≡ after_reads 8 (counts_of self.old) }
     {
+        self.asked.page(n);
         let mut sector = [0; SECTOR_BYTES];
         for i in 0..8 {
-            self.read(n + i as u64, &mut sector)?;
+            self.get(n + i as u64, &mut sector)?;
             let at = 512 * i;
             to[at..at + 512].copy_from_slice(&sector);
         }
@@ -325,6 +355,7 @@ impl SectorDisk for SimDisk {
         requires fits { n < 2 ^ 60 }
         ensures size { sectors_in self.new ≡ sectors_in self.old }
         ensures cause { HasCause (failures_of self.old) (failures_of self.new) result }
+        ensures asks { Names (IsOfPage n) (asked_of self.old) (asked_of self.new) }
         ensures written { OnOk result ((i : ℕ) → i < 8 → sector_of self.new (n + i) ≡ part_of from.now i) }
         ensures each { (i : ℕ) → i < 8 → sector_of self.new (n + i) ≡ left_by_write (after_writes i (counts_of self.old)) (part_of from.now i) }
         ensures others { ChangesPage n (sector_of self.old) (sector_of self.new) }
@@ -347,6 +378,7 @@ impl SectorDisk for SimDisk {
     fn sync(&mut self) -> Result<(), DiskFault>
         ensures size { sectors_in self.new ≡ sectors_in self.old }
         ensures cause { HasCause (failures_of self.old) (failures_of self.new) result }
+        ensures asks { (k : ℕ) → asked_of self.new k ≡ asked_of self.old k }
         ensures same { sector_of self.new ≡ sector_of self.old }
         ensures synced { OnOk result ((k : ℕ) → IsUnsynced self.new k → ⊥) }
         ensures unsynced { (k : ℕ) → IsUnsynced self.new k → IsUnsynced self.old k }

@@ -12,7 +12,7 @@ ghost use Rattle.file_store.specs.Standing.{IsPageOf, StandsFor, IsBadLayout, fi
 ghost use Rattle.famsync.specs.Codes.{done, out_of_turn, bad_layout, bad_journal, bad_pages, read_only, no_room, closed, ready, pending};
 ghost use Rattle.sync_plans.specs.Pages.{lent_page};
 ghost use Rattle.sync_plans.specs.Plans.{row, AreCalls, image_after, Unsynced, StopLeaves};
-ghost use Rattle.sync_plans.specs.Requests.{IsStore, HasBadJournal, AreWritable, AreReadOnly};
+ghost use Rattle.sync_plans.specs.Requests.{IsStore, HasBadJournal, IsClosed, KeepsOutside, AreWritable, AreReadOnly};
 
 use crate::codes::{BAD_PAGES, CLOSED, OK, PENDING, READY, TURN, number};
 use crate::handle::Handle;
@@ -36,6 +36,8 @@ pub extern "C" fn famsync_open(
     ensures synced { (n : ℕ) → Unsynced calls.new used.new n → ⊥ }
     ensures any_moment { (files : ℕ → Option FileInfo) (pages : ℕ → ℕ → List ℕ) → StandsFor (length image.now) files pages (row image.now)
         → (left : Image) → StopLeaves calls.new rows.new (row image.now) used.new left → StandsFor (length image.now) files pages left }
+    ensures closed { result ≡ done → IsClosed (image_after calls.new rows.new (row image.now) used.new) }
+    ensures outside { KeepsOutside (length image.now) (row image.now) (image_after calls.new rows.new (row image.now) used.new) }
     ensures state { result ≡ done → handle.new.state ≡ pending }
     ensures nothing { result ≢ done → (used.new ≡ 0) × (handle.new.state ≡ closed) }
     ensures store { result ≡ done → IsStore (length image.now) (row image.now) }
@@ -86,6 +88,7 @@ pub extern "C" fn famsync_commit(
     ensures ok { result ≡ done → (files : ℕ → Option FileInfo) (before after : ℕ → ℕ → List ℕ)
         → StandsFor (length image.now) files before (row image.now) → Changes files pages.now (lent_page bytes.now) before after
         → StandsFor (length image.now) files after (image_after calls.new rows.new (row image.now) used.new) }
+    ensures outside { KeepsOutside (length image.now) (row image.now) (image_after calls.new rows.new (row image.now) used.new) }
     ensures state { result ≡ done → (handle.old.state ≡ ready) × (handle.new.state ≡ pending) }
     ensures nothing { result ≢ done → (used.new ≡ 0) × (handle.new ≡ handle.old) }
     ensures store { result ≡ done → IsStore (length image.now) (row image.now) }

@@ -5,6 +5,8 @@ pub mod Rests
 pub mod Images
 pub mod Homes
 pub mod Openings
+pub mod Outside
+pub mod Asking
 pub mod Causes
 pub mod Changed
 pub mod Lists

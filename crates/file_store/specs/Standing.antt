@@ -1,11 +1,11 @@
 -- The files that an image of a store stands for. The format is our own.
-use Rattle.std.specs.Prelude.{ℕ, ◌+◌, ◌*◌, ◌<◌, ◌≡◌, ◌≢◌, List, [], take, Option, Some, None}
+use Rattle.std.specs.Prelude.{ℕ, ◌+◌, ◌*◌, ◌<◌, ◌≡◌, ◌≢◌, ◌⊎◌, List, [], take, Option, Some, None}
 use Rattle.vm_types.specs.Limits.{file_limit, file_page_limit}
 use Rattle.std.specs.Option.{option_map}
 use Rattle.vm_types.specs.declared.file.FileInfo.{FileInfo}
 use Rattle.disk_model.specs.Stop.{Image}
-use Rattle.sync_journal.specs.Layout.{Layout, layout_1, layout_2, home_count_in}
-use Rattle.sync_journal.specs.Standing.{standing_in, IsBadJournalIn}
+use Rattle.sync_journal.specs.Layout.{Layout, layout_1, layout_2, home_count_in, gate_sector}
+use Rattle.sync_journal.specs.Standing.{standing_in, IsBadJournalIn, IsAskedIn}
 use Rattle.disk_model.specs.Sectors.{joined}
 use Rattle.file_store.specs.declared.directory.Entry.{Entry}
 use Rattle.file_store.specs.Layout.{mark, old_mark, page_count, bytes_inside, trimmed}
@@ -16,6 +16,14 @@ pub data IsBadLayoutIn (places : Layout) (mark : List ℕ) (sectors : ℕ) (imag
   TooSmall : sectors < places.homes → IsBadLayoutIn places mark sectors image
   Unmarked : image 0 ≢ mark → IsBadLayoutIn places mark sectors image
   BadDirectory : IsBadDirectory (home_count_in places sectors) (image 1) → IsBadLayoutIn places mark sectors image
+
+-- the layout mark and the directory
+abbrev pub IsHeadSector : ℕ → Type 0
+IsHeadSector k = k < gate_sector
+
+-- what an opening of this image asks for: the mark, the directory, and what a recovery asks for
+abbrev pub IsAskedToOpen : Image → ℕ → Type 0
+IsAskedToOpen image k = IsHeadSector k ⊎ IsAskedIn image k
 
 -- the directory's entry of file f
 abbrev pub directory_entry : Image → ℕ → Option Entry

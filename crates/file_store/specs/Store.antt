@@ -3,10 +3,10 @@ use Rattle.std.specs.Prelude.{ℕ, ◌+◌, ◌*◌, ◌^◌, ◌<◌, ◌≤◌
 use Rattle.std.specs.Option.{option_map}
 use Rattle.vm_types.specs.declared.file.FileInfo.{FileInfo}
 use Rattle.disk_model.specs.declared.sector_disk.SectorDisk.{Ghosts}
-use Rattle.sync_journal.specs.Layout.{home_count, IsOutside, first_home_sector}
+use Rattle.sync_journal.specs.Layout.{home_count, IsPageSector, IsOutside, first_home_sector}
 use Rattle.sync_journal.specs.Commit.{HomesStandAs, IsQuiet, IsAtRest as IsJournalAtRest}
 use Rattle.sync_journal.specs.Journal.{live_homes}
-use Rattle.sync_journal.specs.Map.{AreHomes}
+use Rattle.sync_journal.specs.Map.{AreHomes, place_of}
 use Rattle.file_store.specs.declared.directory.Entry.{Entry}
 use Rattle.file_store.specs.declared.directory.Directory.{Directory}
 use Rattle.file_store.specs.declared.store.FileStore.{FileStore}
@@ -16,7 +16,7 @@ use Rattle.file_store.specs.Directory.{IsSoundDirectory}
 use Rattle.file_store.specs.Standing.{directory_entry, IsBadLayout}
 use Rattle.disk_model.specs.Stop.{Image}
 use Rattle.disk_model.specs.Moments.{LeavesNow}
-use Rattle.sync_journal.specs.Standing.{IsBadJournal, standing}
+use Rattle.sync_journal.specs.Standing.{IsBadJournal, standing, place_or_home}
 use Rattle.disk_model.specs.Sectors.{part_of}
 
 -- the entry of file f
@@ -68,6 +68,11 @@ home_in (Some e) k = e.first + k
 -- the home page of a page
 unfoldable pub home_of : Directory → FilePage → ℕ
 home_of directory p = home_in (entry_of directory p.file) p.page
+
+module _ {D : Type 0} where
+  -- one of the eight sectors in which this page stands: in the body where the journal is live with it, otherwise in its home
+  abbrev pub IsSectorOf : FileStore D → FilePage → ℕ → Type 0
+  IsSectorOf store p k = IsPageSector (place_or_home (home_of store.directory p) (place_of (live_homes store.journal) (home_of store.directory p))) k
 
 module _ {D : Type 0} (g : Ghosts D) where
   -- What opening leaves: the device at rest with this directory, and what stood for its homes.

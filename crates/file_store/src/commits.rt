@@ -2,10 +2,10 @@
 ghost use Rattle.std.specs.Prelude.{◌≡◌, ◌<◌, ◌≤◌, ℕ, List, Option, OnOk, IsErrOf, length, slice_get, slice_index};
 ghost use Rattle.vm_types.specs.declared.file.FileInfo.{FileInfo};
 ghost use Rattle.vm_types.specs.declared.file.FilePage.{FilePage};
-ghost use Rattle.disk_model.specs.Moments.{LeavesOnly, LeavesNow, Touches};
+ghost use Rattle.disk_model.specs.Moments.{LeavesOnly, LeavesNow, Touches, AsksOnly};
 ghost use Rattle.sync_journal.specs.Layout.{IsCommitted, page_limit};
 ghost use Rattle.sync_journal.specs.Journal.{live_homes};
-ghost use Rattle.sync_journal.specs.Commit.{HomesStandAs};
+ghost use Rattle.sync_journal.specs.Commit.{HomesStandAs, AsksInTwo};
 ghost use Rattle.sync_journal.specs.Source.{HasCauses, Asks};
 ghost use Rattle.file_store.specs.Standing.{StandsFor};
 ghost use Rattle.file_store.specs.Store.{files_of, home_of, IsEntryPage, IsReadyStore, PutsHomes, PutsHomesOrNone};
@@ -38,6 +38,10 @@ impl<D: SectorDisk> FileStore<D> {
         ensures size { D.sector_count self.new.disk ≡ D.sector_count self.old.disk }
         ensures kept { D.keeps_model self.new.disk → D.keeps_model self.old.disk }
         ensures asks { Asks S.PageSource source.old source.new }
+        // The device is asked for the gate, the journal, and the homes of the commit before alone.
+        ensures asks_device { AsksOnly D.SectorDisk (IsCommitted (live_homes self.old.journal)) self.old.disk self.new.disk }
+        // And for no sector more often than it takes.
+        ensures once { AsksInTwo D.SectorDisk (live_homes self.old.journal) (length pages.now) self.old.disk self.new.disk }
         ensures causes { HasCauses (D.failures self.old.disk) (D.failures self.new.disk) (S.failures source.old) (S.failures source.new) result }
         // No sector is written but the gate, the journal, and the homes of the commit before.
         ensures touches { D.keeps_model self.new.disk → Touches D.SectorDisk (IsCommitted (live_homes self.old.journal)) self.old.disk self.new.disk }

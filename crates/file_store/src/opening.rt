@@ -1,12 +1,14 @@
 //! A store found on a device.
-ghost use Rattle.std.specs.Prelude.{◌≡◌, ◌<◌, ◌≤◌, ℕ, IfOk, IfErr, OnOk, OnErr, IsErrOf};
+ghost use Rattle.std.specs.Prelude.{◌≡◌, ◌<◌, ◌≤◌, ℕ, [], false, IfOk, IfErr, OnOk, OnErr, IsErrOf};
 ghost use Rattle.disk_model.specs.Stop.{Image};
-ghost use Rattle.disk_model.specs.Moments.{Touches, Nothing, LeavesOnly, LeavesNow};
+ghost use Rattle.disk_model.specs.Moments.{Touches, AsksOnly, Nothing, LeavesOnly, LeavesNow};
+ghost use Rattle.sync_journal.specs.Gate.{is_open};
+ghost use Rattle.sync_journal.specs.Journal.{live_homes};
 ghost use Rattle.sync_journal.specs.Standing.{IsBadJournal};
-ghost use Rattle.sync_journal.specs.Layout.{home_count_in};
+ghost use Rattle.sync_journal.specs.Layout.{home_count_in, IsRecovered};
 ghost use Rattle.sync_journal.specs.Commit.{HomesStandAs, KeepsHomes};
 ghost use Rattle.file_store.specs.Directory.{IsSoundDirectory};
-ghost use Rattle.file_store.specs.Standing.{IsBadLayoutIn, IsBadLayout, StandsAs, AreBounded, directory_entry};
+ghost use Rattle.file_store.specs.Standing.{IsBadLayoutIn, IsBadLayout, IsHeadSector, IsAskedToOpen, StandsAs, AreBounded, directory_entry};
 ghost use Rattle.file_store.specs.Stops.{LeftInARow};
 ghost use Rattle.file_store.specs.Versions.{layout_of, mark_of};
 ghost use Rattle.file_store.specs.Store.{IsReadyStore, IsMounted, entry_of, files_of};
@@ -38,6 +40,14 @@ impl<D: SectorDisk> FileStore<D> {
         ensures later { IfOk result (λ store. D.failures disk ≤ D.failures store.disk) }
         ensures calm { IfOk result (λ store. D.failures store.disk ≡ D.failures disk) }
         ensures synced { IfOk result (λ store. D.keeps_model store.disk → (k : ℕ) → D.unsynced store.disk k → ⊥) }
+        // The gate is closed: nothing stands in the journal alone.
+        ensures closed { IfOk result (λ store. live_homes store.journal ≡ []) }
+
+        // No sector is asked for but the mark, the directory, the gate and, where it is open, the map, the body and the homes that
+        // the map names. The gate and homes alone are written, and nothing where the gate is closed.
+        ensures asks { IfOk result (λ store. D.keeps_model store.disk → AsksOnly D.SectorDisk (IsAskedToOpen (D.content disk)) disk store.disk) }
+        ensures touches { IfOk result (λ store. D.keeps_model store.disk → Touches D.SectorDisk (IsRecovered (D.sector_count disk)) disk store.disk) }
+        ensures closed_unwritten { IfOk result (λ store. D.keeps_model store.disk → is_open (D.content disk) ≡ false → Touches D.SectorDisk Nothing disk store.disk) }
 
         // The image is that of a store.
         ensures good_layout { IfOk result (λ store. D.keeps_model store.disk → IsBadLayout (D.sector_count disk) (D.content disk) → ⊥) }
@@ -57,6 +67,9 @@ impl<D: SectorDisk> FileStore<D> {
         ensures err_size { IfErr result (λ e. D.sector_count e.1 ≡ D.sector_count disk) }
         ensures err_kept { IfErr result (λ e. D.keeps_model e.1 → D.keeps_model disk) }
         ensures err_later { IfErr result (λ e. D.failures disk ≤ D.failures e.1) }
+        ensures err_asks { IfErr result (λ e. D.keeps_model e.1 → AsksOnly D.SectorDisk (IsAskedToOpen (D.content disk)) disk e.1) }
+        ensures err_touches { IfErr result (λ e. D.keeps_model e.1 → Touches D.SectorDisk (IsRecovered (D.sector_count disk)) disk e.1) }
+        ensures err_closed_unwritten { IfErr result (λ e. D.keeps_model e.1 → is_open (D.content disk) ≡ false → Touches D.SectorDisk Nothing disk e.1) }
         ensures device { IfErr result (λ e. e.0 ≡ OpenFault.Device → D.failures disk < D.failures e.1) }
         ensures err_calm { IfErr result (λ e. (e.0 ≡ OpenFault.Device → ⊥) → D.failures e.1 ≡ D.failures disk) }
         ensures bad_layout { IfErr result (λ e. D.keeps_model e.1 → e.0 ≡ OpenFault.BadLayout → IsBadLayout (D.sector_count disk) (D.content disk)) }
@@ -101,6 +114,9 @@ fn mount<D: SectorDisk>(disk: &mut D) -> Result<Directory, OpenFault>
     ensures bad_layout { D.keeps_model disk.new → IsErrOf result OpenFault.BadLayout → IsBadLayout (D.sector_count disk.old) (D.content disk.old) }
     ensures bad_journal { D.keeps_model disk.new → IsErrOf result OpenFault.BadJournal → IsBadJournal (D.sector_count disk.old) (D.content disk.old) × (IsBadLayout (D.sector_count disk.old) (D.content disk.old) → ⊥) }
     ensures unwritten { D.keeps_model disk.new → OnErr result ((IsErrOf result OpenFault.Device → ⊥) → Touches D.SectorDisk Nothing disk.old disk.new) }
+    ensures asks { D.keeps_model disk.new → AsksOnly D.SectorDisk (IsAskedToOpen (D.content disk.old)) disk.old disk.new }
+    ensures touches { D.keeps_model disk.new → Touches D.SectorDisk (IsRecovered (D.sector_count disk.old)) disk.old disk.new }
+    ensures closed_unwritten { D.keeps_model disk.new → is_open (D.content disk.old) ≡ false → Touches D.SectorDisk Nothing disk.old disk.new }
     ensures any_moment { D.keeps_model disk.new → ((k : ℕ) → D.unsynced disk.old k → ⊥) → KeepsHomes D.SectorDisk disk.old disk.new }
 {
     let mut sector = [0; SECTOR_BYTES];
@@ -119,6 +135,7 @@ pub(crate) fn read_layout<D: SectorDisk>(
     ensures kept { D.keeps_model disk.new → D.keeps_model disk.old }
     ensures later { D.failures disk.old ≤ D.failures disk.new }
     ensures touches { D.keeps_model disk.new → Touches D.SectorDisk Nothing disk.old disk.new }
+    ensures asks { AsksOnly D.SectorDisk IsHeadSector disk.old disk.new }
     ensures room { OnOk result ((layout_of version).homes ≤ D.sector_count disk.old) }
     ensures sound { IfOk result (λ directory. IsSoundDirectory (home_count_in (layout_of version) (D.sector_count disk.old)) (entry_of directory)) }
     ensures entries { D.keeps_model disk.new → IfOk result (λ directory. (f : ℕ) → entry_of directory f ≡ directory_entry (D.content disk.old) f) }

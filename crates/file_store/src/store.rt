@@ -2,9 +2,9 @@
 ghost use Rattle.std.specs.Prelude.{◌≡◌, ◌<◌, ◌≤◌, ℕ, IsSome, OnOk};
 ghost use Rattle.vm_types.specs.Limits.{file_limit};
 ghost use Rattle.disk_model.specs.Stop.{HasCause};
-ghost use Rattle.disk_model.specs.Moments.{Touches, Nothing};
+ghost use Rattle.disk_model.specs.Moments.{Touches, AsksOnly, Nothing};
 ghost use Rattle.file_store.specs.Standing.{standing_page, IsPageOf};
-ghost use Rattle.file_store.specs.Store.{files_of, IsReadyStore};
+ghost use Rattle.file_store.specs.Store.{files_of, IsReadyStore, IsSectorOf};
 
 use crate::directory::Directory;
 use crate::pages::trim;
@@ -60,6 +60,7 @@ impl<D: SectorDisk> FileStore<D> {
         ensures size { D.sector_count self.new.disk ≡ D.sector_count self.old.disk }
         ensures kept { D.keeps_model self.new.disk → D.keeps_model self.old.disk }
         ensures cause { HasCause (D.failures self.old.disk) (D.failures self.new.disk) result }
+        ensures asks { AsksOnly D.SectorDisk (IsSectorOf self.old page) self.old.disk self.new.disk }
         ensures files { self.new.directory ≡ self.old.directory }
         ensures ready { IsReadyStore D.SectorDisk self.new }
         ensures touches { D.keeps_model self.new.disk → Touches D.SectorDisk Nothing self.old.disk self.new.disk }

@@ -1,9 +1,10 @@
 //! A device for a store of few homes, which takes no more memory than these need.
 ghost use Rattle.std.specs.Prelude.{◌≡◌, ◌<◌, ◌≤◌, ◌+◌, IfSome};
 ghost use Rattle.disk_model.specs.Stop.{HasCause};
+ghost use Rattle.disk_model.specs.Asked.{times_named};
 ghost use Rattle.disk_model.specs.SimDisk.{sectors_in, sector_of, IsUnsynced, moment_of, LeftSince, failures_of};
 
-use disk_model::{DiskFault, SectorDisk, SimDisk};
+use disk_model::{Asked, DiskFault, SectorDisk, SimDisk};
 use std::alloc::{AllocError, Global};
 
 /// The sector of the gate, and those at which the journal's body and the homes begin.
@@ -24,6 +25,7 @@ pub(crate) struct ShortDisk {
     sectors: u64,
     /// Where the homes begin in memory.
     first_home: u64,
+    asked: Asked,
 }
 
 impl ShortDisk {
@@ -36,6 +38,7 @@ impl ShortDisk {
             disk: SimDisk::new(alloc, first_home.saturating_add(homes))?,
             sectors: homes.saturating_add(FIRST_HOME),
             first_home,
+            asked: Asked::new(),
         })
     }
 
@@ -55,6 +58,7 @@ impl ShortDisk {
             disk: self.disk.left(alloc, chosen.as_slice())?,
             sectors: self.sectors,
             first_home: self.first_home,
+            asked: Asked::new(),
         })
     }
 
@@ -87,6 +91,7 @@ impl ShortDisk {
     /// A call that fails.
     fn fail(&mut self) -> Result<(), DiskFault>
         ensures size { self.new.sectors ≡ self.old.sectors }
+        ensures asked { self.new.asked ≡ self.old.asked }
         ensures cause { HasCause (failures_of self.old.disk) (failures_of self.new.disk) result }
     {
         self.disk.fail_at(self.disk.calls().saturating_add(1));
@@ -108,6 +113,8 @@ impl SectorDisk for ShortDisk {
 
     ghost failures = { λ d. failures_of d.disk };
 
+    ghost asked = { λ d. times_named d.asked };
+
     ghost keeps_model = { λ _. ⊥ };
 
     ghost counts_now = { λ d t c kept le now. absurd kept };
@@ -119,6 +126,7 @@ impl SectorDisk for ShortDisk {
     }
 
     fn read(&mut self, n: u64, to: &mut [u8; 512]) -> Result<(), DiskFault> {
+        self.asked.sector(n);
         match self.place(n, 1) {
             Some(at) => self.disk.read(at, to),
             None => self.fail(),
@@ -126,6 +134,7 @@ impl SectorDisk for ShortDisk {
     }
 
     fn write(&mut self, n: u64, from: &[u8; 512]) -> Result<(), DiskFault> {
+        self.asked.sector(n);
         match self.place(n, 1) {
             Some(at) => self.disk.write(at, from),
             None => self.fail(),
@@ -133,6 +142,7 @@ impl SectorDisk for ShortDisk {
     }
 
     fn read_page(&mut self, n: u64, to: &mut [u8; 4096]) -> Result<(), DiskFault> {
+        self.asked.page(n);
         match self.place(n, 8) {
             Some(at) => self.disk.read_page(at, to),
             None => self.fail(),
@@ -140,6 +150,7 @@ impl SectorDisk for ShortDisk {
     }
 
     fn write_page(&mut self, n: u64, from: &[u8; 4096]) -> Result<(), DiskFault> {
+        self.asked.page(n);
         match self.place(n, 8) {
             Some(at) => self.disk.write_page(at, from),
             None => self.fail(),

@@ -38,7 +38,7 @@ use Rattle.page_ranges.proofs.Emptied.{row_out}
 use Rattle.page_ranges.proofs.Named.{named-imp}
 use Rattle.page_ranges.specs.Rows.{KeepsNamed, RemapsRow, without_maps}
 use Rattle.page_ranges.specs.Steps.{KeepsDevices, KeepsEntriesOfOthers, ReturnsTables, LosesSlots, IsMappedBeside, IsWithoutTables}
-use Rattle.lifecycle.specs.Changes.{RemovesProcess, FreesTables, TakesNoCopy}
+use Rattle.lifecycle.specs.Changes.{RemovesProcess, FreesTables, TakesNoFrame}
 use Rattle.lifecycle.proofs.Keeping.{live_same}
 
 -- a way ends at the root whose entry is no pointer
@@ -143,6 +143,16 @@ module _ {mode : ℕ} (old new : Picture mode) (pid r : ℕ) (fit : IsFit old) (
     files = exits.files;
   }
 
+-- a process went of which no table but its root was left
+pub none_taken_ended : {mode : ℕ} (first old new : Picture mode) (pid r : ℕ) → Exits old new pid r → TakesNoFrame first.frames old.frames → TakesNoFrame first.frames new.frames
+none_taken_ended first old new pid r exits before n = elim (cases_eq n r) [
+  | inl is ↦ inr (ap (role_of new.frames) is ∙ exits.free)
+  | inr ne ↦ elim (before n) [
+    | inl same ↦ inl (exits.frames.roles n ne ∙ same)
+    | inr free ↦ inr (exits.frames.roles n ne ∙ free)
+  ]
+]
+
 -- what exit leaves
 module _ {mode : ℕ} where
   pub record IsEnded (old new : Picture mode) (pid : ℕ) : Type 0 where
@@ -151,7 +161,6 @@ module _ {mode : ℕ} where
     pub others : KeepsEntriesOfOthers old new pid
     pub tables : FreesTables old new pid
     pub slots : LosesSlots old new pid 0 (user_end mode)
-    pub copies : TakesNoCopy old.frames new.frames
     pub files : KeepsNamed (without_maps old.at pid 0 (user_end mode)) old new
 
 -- All pages of a process were cleared, and then it was removed.
@@ -243,10 +252,6 @@ module _ {mode : ℕ} (first old new : Picture mode) (pid r : ℕ) (begun : IsFi
           kept = λ k none no_object. ap (λ t. t.count k) exits.slots ∙ slots.kept k none no_object;
           bytes = (let P : SlotTable → Type 0 = λ t. (k : ℕ) → 0 < t.count k → t.bytes k ≡ first.slots.bytes k in subst P (sym exits.slots) slots.bytes);
         };
-        copies = λ n e. elim (cases_eq n r) [
-          | inl is ↦ absurd (let bad : Free ≡ Private = sym exits.free ∙ ap (role_of new.frames) (sym is) ∙ e in (cc))
-          | inr ne ↦ returned.copies n (sym (role_same n ne) ∙ e)
-        ];
         files = record {
           touched = λ p lasting. exits.touched p ∙ keeps.touched p lasting;
           place = λ p lasting. exits.place p ∙ keeps.place p lasting;

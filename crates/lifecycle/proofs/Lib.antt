@@ -1,4 +1,5 @@
 pub mod Keeping
+pub mod Returned
 pub mod FreeNumbers
 pub mod Starting
 pub mod Ending

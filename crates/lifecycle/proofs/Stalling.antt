@@ -1,29 +1,31 @@
 -- A fork that stalls: what it took of memory is given back.
-use Rattle.vm_types.specs.Limits.{top_level}
+use Rattle.vm_types.specs.Limits.{top_level, user_end}
 use Rattle.std.proofs.Common.{◌≡◌, ◌≢◌, ℕ, zero, suc, inl, inr, ◌⊎◌, ◌+◌, Option, Some, None, refl, sym, ap, ◌∙◌, subst, arith}
 use Rattle.std.proofs.lemmas.Bool.{cases_eq}
 use Rattle.vm_types.specs.declared.object.PageKey.{PageKey}
+use Rattle.vm_types.specs.declared.object.PageKey.TheVariants.{Object}
+use Rattle.vm_types.specs.declared.refusal.Stall.{Stall}
 use Rattle.frames.specs.declared.role.Role.{Role}
 use Rattle.frames.specs.declared.role.Role.TheVariants.{Free, Zero, Table, Private, Cache}
 use Rattle.frames.specs.FrameTable.{role_of, count_of, IsCountFor, IsFull, IsSound}
 use Rattle.page_tables.specs.Tree.{IsPage, IsTable}
-use Rattle.paging.specs.Seats.{InFrame, seat, holders_at, off}
+use Rattle.paging.specs.Seats.{InFrame, InSlot, seat, holders_at, off}
 use Rattle.paging.specs.Picture.{Picture, entry, page_in}
 use Rattle.paging.specs.Parts.{IsFit, nowhere}
-use Rattle.paging.specs.Calls.{Frees}
+use Rattle.paging.specs.Calls.{Frees, Refuses}
 use Rattle.paging.specs.Ages.{GivesForTables, KeepsRoles}
 use Rattle.paging.proofs.Seats.{holders_none, off-none}
 use Rattle.paging.proofs.Start.{seat-none}
 use Rattle.mapping.specs.Changes.{KeepsRoom, IsTableOnWay}
 use Rattle.mapping.proofs.Forms.{used_inside}
-use Rattle.page_ranges.specs.Steps.{KeepsEntriesOfOthers}
+use Rattle.page_ranges.specs.Steps.{KeepsEntriesOfOthers, LosesSlots}
 use Rattle.copy_on_write.specs.Steps.{HasCopy, LacksTableForCopy}
 use Rattle.lifecycle.specs.Changes.{FreesTables, StallsToFork}
 
 -- no frame was to be had for the root
-pub stalls_first : {mode : ℕ} (old new : Picture mode) (parent child : ℕ) → old.root child ≡ None → IsFit new → Frees old new None
-    → (tried : Option ℕ) × GivesForTables old new tried → KeepsRoles old new → IsFull new.frames → StallsToFork old new parent child
-stalls_first old new parent child dead fit frees gives still full =
+pub stalls_first : {mode : ℕ} (old new : Picture mode) (parent child : ℕ) (stall : Stall) → old.root child ≡ None → IsFit new → Frees old new None
+    → (tried : Option ℕ) × GivesForTables old new tried → KeepsRoles old new → IsFull new.frames → Refuses new None stall → StallsToFork old new parent child stall
+stalls_first old new parent child stall dead fit frees gives still full refuses =
     let was_table : (n : ℕ) → IsTable new.frames n → IsTable old.frames n = λ n table. (
     let low = table.inside in
     let count = frees.count in
@@ -35,10 +37,15 @@ stalls_first old new parent child dead fit frees gives still full =
       gives = gives.1;
       linked = λ n table. inl (was_table n table);
       full = full;
+      refuses = refuses;
       lacking = inl (frees.pages.root child ∙ dead);
       roles = λ n. inl refl;
       tables = was_table;
       entries = λ q page ne h. refl;
+      places = λ p. refl;
+      touched = λ p. refl;
+      slots = refl;
+      shares = λ k. refl;
     }
 
 private_or : (r : Role) → (r ≡ Private) ⊎ (r ≢ Private)
@@ -51,7 +58,7 @@ private_or Cache = inr (λ e. (cc))
 -- A process without entries went, and its tables with it.
 module _ {mode : ℕ} (old new : Picture mode) (pid : ℕ) (fit : IsFit old) (fit' : IsFit new) (sound : IsSound old.frames) (sound' : IsSound new.frames) (tables : FreesTables old new pid)
     (others : KeepsEntriesOfOthers old new pid) (bare : (page : ℕ) → IsPage (top_level mode) page → entry old pid page ≡ 0) (place : (p : PageKey) → new.place p ≡ old.place p)
-    (room : KeepsRoom old new) where
+    (touched : (p : PageKey) → new.touched p ≡ old.touched p) (slots : LosesSlots old new pid 0 (user_end mode)) (room : KeepsRoom old new) where
   -- a frame of own copies has a sharer, which is another process
   private_left : (n : ℕ) → role_of old.frames n ≡ Private → role_of new.frames n ≡ Private
   private_left n is = elim (private_or (role_of new.frames n)) [
@@ -101,6 +108,18 @@ module _ {mode : ℕ} (old new : Picture mode) (pid : ℕ) (fit : IsFit old) (fi
     | inr freed ↦ freed.1
   ]
 
+  -- no slot was its own, and each that held a page of a file or an object does so
+  shares_left : (k : ℕ) → new.slots.count k ≡ old.slots.count k
+  shares_left k = elim (cases_eq (old.slots.count k) 0) [
+    | inl none ↦ (let fewer = slots.fewer k in omega (arith, none, fewer))
+    | inr some ↦ elim (fit.places.used k (omega (arith, some))) [
+      | inl own ↦ slots.kept k
+          (λ page h low below there. (let bad : None ≡ Some (InSlot k) = sym (ap seat (bare page h) ∙ seat-none) ∙ there in (cc)))
+          (λ p. own.1 (Object p))
+      | inr here ↦ fit'.places.slotted here.0 k (place here.0 ∙ here.1) ∙ sym (fit.places.slotted here.0 k here.1)
+    ]
+  ]
+
   -- Its tables were made since memory was as it was first, to no avail.
   module _ (first : Picture mode) (parent : ℕ)
       (linked : (n : ℕ) → IsTable old.frames n
@@ -117,16 +136,21 @@ module _ {mode : ℕ} (old new : Picture mode) (pid : ℕ) (fit : IsFit old) (fi
       ]))
     ]
 
-    pub stalls_later : (tried : Option ℕ) → GivesForTables first old tried → IsFull old.frames → LacksTableForCopy old parent pid → StallsToFork first new parent pid
-    stalls_later tried gives full lacks = record {
+    pub stalls_later : (tried : Option ℕ) → GivesForTables first old tried → IsFull old.frames → LacksTableForCopy old parent pid → (stall : Stall) → Refuses old None stall → StallsToFork first new parent pid stall
+    stalls_later tried gives full lacks stall refuses = record {
       asked = old;
       fit = fit;
       tried = tried;
       gives = gives;
       linked = linked;
       full = full;
+      refuses = refuses;
       lacking = inr lacks;
       roles = roles_left;
       tables = table_first;
       entries = λ q page ne h. others q page h ne;
+      places = place;
+      touched = touched;
+      slots = room.slots;
+      shares = shares_left;
     }

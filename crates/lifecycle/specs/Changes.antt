@@ -3,6 +3,7 @@ use Rattle.std.specs.Prelude.{◌≡◌, ◌≢◌, ℕ, ◌+◌, ◌<◌, ◌�
 use Rattle.vm_types.specs.Limits.{top_level}
 use Rattle.vm_types.specs.View.{View}
 use Rattle.vm_types.specs.Capacity.{tables_of}
+use Rattle.vm_types.specs.declared.object.PageKey.{PageKey}
 use Rattle.vm_types.specs.declared.refusal.Stall.{Stall}
 use Rattle.vm_types.specs.declared.refusal.Stall.TheVariants.{NoFrames, NoSwap, SwapDevice, StoreDevice}
 use Rattle.frames.specs.declared.role.Role.TheVariants.{Free, Table, Private}
@@ -11,6 +12,7 @@ use Rattle.sv39_walk.specs.Entry.{is_valid, can_write}
 use Rattle.page_tables.specs.Tree.{IsPage, IsTable, IsOnWay, missing_of}
 use Rattle.paging.specs.Seats.{seat, is_private}
 use Rattle.paging.specs.Picture.{Picture, is_live, is_data, entry, view}
+use Rattle.paging.specs.Calls.{Refuses}
 use Rattle.paging.specs.Capacity.{tables_over, copies_over, touched_file, stored_object}
 use Rattle.paging.specs.Shows.{KeepsFiles}
 use Rattle.paging.specs.Parts.{IsFit}
@@ -56,6 +58,10 @@ module _ {mode : ℕ} where
 -- no frame came to hold a page of a process's own
 abbrev pub TakesNoCopy : FrameTable → FrameTable → Type 0
 TakesNoCopy old new = (n : ℕ) → role_of new n ≡ Private → role_of old n ≡ Private
+
+-- no frame is taken: each has the use that it had, or is free
+abbrev pub TakesNoFrame : FrameTable → FrameTable → Type 0
+TakesNoFrame old new = (n : ℕ) → (role_of new n ≡ role_of old n) ⊎ (role_of new n ≡ Free)
 
 -- The tables of a process are free, its root and those below it, and every other table stays one. No free frame is used.
 module _ {mode : ℕ} where
@@ -104,22 +110,31 @@ module _ {mode : ℕ} where
         → IsTable old.frames n ⊎ ((new.root child ≡ Some n) ⊎ ((page : ℕ) × HasCopy old parent page × IsTableOnWay new child page n))
     pub needed : IsFull new.frames ⊎ ((n : ℕ) → is_data (role_of old.frames n) ≡ true → role_of new.frames n ≡ role_of old.frames n)
 
--- Why and how a fork stalled, by memory as it was when a frame was refused: no frame was free, and the child had no root or lacked a
--- table on the way to a page of which the parent has a copy of its own. Until then frames became the child's tables alone, and some
--- were given up for that. Since then those tables came to be free, and nothing else changed.
+-- Why and how a fork stalled, by memory as it was when a frame was refused.
 module _ {mode : ℕ} where
-  pub record StallsToFork (old new : Picture mode) (parent child : ℕ) : Type 0 where
+  pub record StallsToFork (old new : Picture mode) (parent child : ℕ) (stall : Stall) : Type 0 where
     pub asked : Picture mode
     pub fit : IsFit asked
+    -- until then frames became the child's tables alone, and some were given up for that
     pub tried : Option ℕ
     pub gives : GivesForTables old asked tried
     pub linked : (n : ℕ) → IsTable asked.frames n
         → IsTable old.frames n ⊎ ((asked.root child ≡ Some n) ⊎ ((page : ℕ) × HasCopy old parent page × IsTableOnWay asked child page n))
-    pub full : IsFull asked.frames
+    -- the child had no root, or lacked a table on the way to a page of which the parent has a copy of its own
     pub lacking : (asked.root child ≡ None) ⊎ LacksTableForCopy asked parent child
+    -- no frame was free, and none was to be had, whatever page it holds
+    pub full : IsFull asked.frames
+    pub refuses : Refuses asked None stall
+    -- since then those tables came to be free, and no other frame has another use
     pub roles : (n : ℕ) → (role_of new.frames n ≡ role_of asked.frames n) ⊎ ((role_of new.frames n ≡ Free) × IsTable asked.frames n)
     pub tables : (n : ℕ) → IsTable new.frames n → IsTable old.frames n
+    -- no other process has another entry, no page of a file or an object came, went, or became touched or clean
     pub entries : (q page : ℕ) → q ≢ child → IsPage (top_level mode) page → entry new q page ≡ entry asked q page
+    pub places : (p : PageKey) → new.place p ≡ asked.place p
+    pub touched : (p : PageKey) → new.touched p ≡ asked.touched p
+    -- and slots are as many, and as many share each
+    pub slots : new.slots.total ≡ asked.slots.total
+    pub shares : (k : ℕ) → new.slots.count k ≡ asked.slots.count k
 
 -- a page of any process but one that had no entry has none
 module _ {mode : ℕ} where

@@ -6,7 +6,7 @@ ghost use Rattle.paging.specs.Parts.{IsFit};
 ghost use Rattle.page_ranges.specs.Rows.{KeepsNamed, without_maps};
 ghost use Rattle.mapping.specs.Changes.{KeepsRoom};
 ghost use Rattle.page_ranges.specs.Steps.{KeepsDevices, KeepsEntriesOfOthers, LosesSlots};
-ghost use Rattle.lifecycle.specs.Changes.{RemovesProcess, FreesTables, TakesNoCopy};
+ghost use Rattle.lifecycle.specs.Changes.{RemovesProcess, FreesTables, TakesNoFrame};
 
 use page_ranges::{clear_row, forget_row};
 use paging::Core;
@@ -23,7 +23,7 @@ pub fn exit<D, E, M: Levels>(core: &mut Core<D, E, M>, pid: Pid)
     ensures others { KeepsEntriesOfOthers (picture_of core.old) (picture_of core.new) pid }
     ensures tables { FreesTables (picture_of core.old) (picture_of core.new) pid }
     ensures slots { LosesSlots (picture_of core.old) (picture_of core.new) pid 0 (user_end M.mode) }
-    ensures copies { TakesNoCopy core.old.frames core.new.frames }
+    ensures frames { TakesNoFrame core.old.frames core.new.frames }
     ensures files { KeepsNamed (without_maps (picture_of core.old).at pid 0 (user_end M.mode)) (picture_of core.old) (picture_of core.new) }
     ensures room { KeepsRoom (picture_of core.old) (picture_of core.new) }
     ensures devices { KeepsDevices core.old core.new }

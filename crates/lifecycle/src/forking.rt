@@ -40,7 +40,7 @@ pub fn fork<D, E: SectorDisk, M: Levels>(
     ensures shared { OnOk result (SharesCopies (picture_of core.new) parent child) }
     ensures entries { OnOk result (ForksEntries (picture_of core.old) (picture_of core.new) parent child) }
     ensures takes { OnOk result (TakesTables (picture_of core.old) (picture_of core.new) parent child) }
-    ensures stalls { OnErr result (StallsToFork (picture_of core.old) (picture_of core.new) parent child) }
+    ensures stalls { IfErr result (StallsToFork (picture_of core.old) (picture_of core.new) parent child) }
     ensures bare { KeepsBareOfOthers (picture_of core.old) (picture_of core.new) child }
     ensures tables { OnOk result (KeepsTables (picture_of core.old) (picture_of core.new)) }
     ensures files { KeepsFiles (picture_of core.old) (picture_of core.new) }

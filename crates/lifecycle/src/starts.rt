@@ -3,7 +3,7 @@ ghost use Rattle.std.specs.Prelude.{◌≡◌, ℕ, false, Option, None, OnOk, O
 ghost use Rattle.swap.specs.Slots.{IsReady};
 ghost use Rattle.paging.specs.Picture.{picture_of, is_live};
 ghost use Rattle.paging.specs.Parts.{IsFit};
-ghost use Rattle.paging.specs.Calls.{Frees, UsesDevice};
+ghost use Rattle.paging.specs.Calls.{Frees, Refuses, UsesDevice};
 ghost use Rattle.paging.specs.Stalls.{HasStallCause};
 ghost use Rattle.paging.specs.Capacity.{IsShort};
 ghost use Rattle.paging.specs.Ages.{GivesForTables, KeepsRoles};
@@ -34,6 +34,7 @@ pub fn spawn<D, E: SectorDisk, M: Levels>(core: &mut Core<D, E, M>, pid: Pid) ->
     ensures tried { OnErr result ((tried : Option ℕ) × GivesForTables (picture_of core.old) (picture_of core.new) tried) }
     ensures still { OnErr result (KeepsRoles (picture_of core.old) (picture_of core.new)) }
     ensures full { OnErr result (IsFull core.new.frames) }
+    ensures refuses { IfErr result (Refuses (picture_of core.new) None) }
     ensures frees { OnErr result (Frees (picture_of core.old) (picture_of core.new) None) }
     ensures bare { KeepsBare (picture_of core.old) (picture_of core.new) }
     ensures copies { TakesNoCopy core.old.frames core.new.frames }

@@ -16,6 +16,3 @@ pub use laws::{
     one_content, one_more_life, trace_life, two_lives, upgraded_lives, upgraded_store,
 };
 pub use life::live;
-
-#[cfg(test)]
-mod tests;

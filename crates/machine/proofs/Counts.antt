@@ -11,7 +11,7 @@ use Rattle.vm_types.specs.declared.reply.Reply.TheVariants.{Process, Address, Do
 use Rattle.calls.specs.Idle.{names_store, names_swap, refused_count}
 use Rattle.machine.specs.Chain.{Caused}
 use Rattle.machine.specs.Counts.{failed_count, swap_failed_count, Counts}
-use Rattle.machine.specs.Machine.{store_of, swap_of, IsCaused}
+use Rattle.machine.specs.Machine.{store_of, swap_of}
 use Rattle.machine.proofs.Face.{HasCause, cause_of}
 use Rattle.machine.specs.declared.machine.Machine.{Machine}
 

@@ -9,6 +9,8 @@ use Rattle.vm_types.specs.declared.mode.Mode.TheVariants as Modes
 use Rattle.vm_types.specs.declared.reply.Reply.{Reply}
 use Rattle.vm_types.specs.History.{Past}
 use Rattle.vm_types.specs.State.{State}
+use Rattle.mode_machine.specs.Accesses as ModeAccesses
+use Rattle.mode_machine.specs.Boot as ModeBoot
 use Rattle.mode_machine.specs.Machine as OfMode
 use Rattle.machine.specs.declared.machine.Machine.{Machine}
 use Rattle.machine.specs.declared.machine.Machine.TheVariants.{Sv39, Sv48}
@@ -63,6 +65,26 @@ module _ {D E : Type 0} where
     pub frames : frames_of new ≡ frames_of old
     pub slots : slots_of new ≡ slots_of old
     pub mode : mode_of new ≡ mode_of old
+
+  -- What the command asks for, and what it leaves.
+  abbrev pub Accesses : Machine D E → Machine D E → Command → Reply → Type 0
+  Accesses (Sv39 old) (Sv39 new) command reply = ModeAccesses.Accesses old.core new.core command reply
+  Accesses (Sv48 old) (Sv48 new) command reply = ModeAccesses.Accesses old.core new.core command reply
+  Accesses (Sv39 old) (Sv48 new) command reply = ⊥
+  Accesses (Sv48 old) (Sv39 new) command reply = ⊥
+
+  -- A command that was not carried out leaves memory and both devices as they were.
+  abbrev pub KeepsIfDenied : Machine D E → Machine D E → Command → Reply → Type 0
+  KeepsIfDenied (Sv39 old) (Sv39 new) command reply = OfMode.KeepsIfDenied old new command reply
+  KeepsIfDenied (Sv48 old) (Sv48 new) command reply = OfMode.KeepsIfDenied old new command reply
+  KeepsIfDenied (Sv39 old) (Sv48 new) command reply = ⊥
+  KeepsIfDenied (Sv48 old) (Sv39 new) command reply = ⊥
+
+  -- Memory as a boot leaves it: no frame is taken but the zero page, no slot, there is no process, every page of a file or an object is
+  -- at home and untouched, and no request for a frame was refused.
+  abbrev pub IsEmpty : Machine D E → Type 0
+  IsEmpty (Sv39 m) = ModeBoot.IsEmpty m
+  IsEmpty (Sv48 m) = ModeBoot.IsEmpty m
 
 module _ {D E : Type 0} (g : Ghosts D) (h : Ghosts E) where
   -- whatever the devices do: what the reply names came to pass between the two machines

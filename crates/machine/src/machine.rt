@@ -1,16 +1,12 @@
 //! The machine: commands in, replies out, over a store that survives stops.
-ghost use Rattle.std.specs.Prelude.{◌≡◌, ◌≤◌, ◌<◌, ◌⊎◌, ℕ, IfOk, IfErr, OnOk, length, is_some};
-ghost use Rattle.disk_model.specs.Moments.{Touches, Nothing, LeavesOnly};
-ghost use Rattle.disk_model.specs.Stop.{Image};
-ghost use Rattle.file_store.specs.Standing.{StandsAs, IsBadLayout};
-ghost use Rattle.sync_journal.specs.Standing.{IsBadJournal};
+ghost use Rattle.std.specs.Prelude.{◌≡◌, IfOk, IfErr, length, is_some};
 ghost use Rattle.vm_types.specs.Replies.{told};
 ghost use Rattle.vm_types.specs.State.{State, IsRunning};
 ghost use Rattle.mode_machine.specs.Tidy.{IsTidy};
-ghost use Rattle.machine.specs.Boot.{HasBadFrames, HasBadSlots, HasRoom, Boots};
+ghost use Rattle.machine.specs.Boot.{BootAccepts, BootLeaves, BootRefuses, Boots, HasRoom};
 ghost use Rattle.machine.specs.Chain.{Caused, Runs};
 ghost use Rattle.machine.specs.Counts.{Counts};
-ghost use Rattle.machine.specs.Machine.{store_of, swap_of, halted_of, past_of, KeepsRoom, IsCaused, IsSoundMachine, IsReadable, Shows, Meets};
+ghost use Rattle.machine.specs.Machine.{store_of, swap_of, halted_of, past_of, Accesses, KeepsIfDenied, KeepsRoom, IsCaused, IsSoundMachine, IsReadable, Shows, Meets};
 
 use crate::config::Config;
 use disk_model::SectorDisk;
@@ -73,6 +69,8 @@ impl<D: SectorDisk, E: SectorDisk> Machine<D, E> {
         ensures swap_kept { E.keeps_model (swap_of self.new) → E.keeps_model (swap_of self.old) }
         ensures room { KeepsRoom self.old self.new }
         ensures caused { IsCaused D.SectorDisk E.SectorDisk self.old self.new (told (past_of self.new) result) }
+        ensures accesses { Accesses self.old self.new command (told (past_of self.new) result) }
+        ensures denied { KeepsIfDenied self.old self.new command (told (past_of self.new) result) }
         ensures meets { (s : State) → Shows D.SectorDisk E.SectorDisk self.old s → IsReadable D.SectorDisk E.SectorDisk self.new s command
             → (t : State) × Meets D.SectorDisk E.SectorDisk self.old self.new s t command (told (past_of self.new) result) }
     {
@@ -114,6 +112,8 @@ impl<D: SectorDisk, E: SectorDisk> Machine<D, E> {
         ensures swap_kept { E.keeps_model (swap_of self.new) → E.keeps_model (swap_of self.old) }
         ensures room { KeepsRoom self.old self.new }
         ensures caused { IsCaused D.SectorDisk E.SectorDisk self.old self.new result }
+        ensures accesses { Accesses self.old self.new command result }
+        ensures denied { KeepsIfDenied self.old self.new command result }
         ensures meets { (s : State) → Shows D.SectorDisk E.SectorDisk self.old s → IsReadable D.SectorDisk E.SectorDisk self.new s command
             → (t : State) × Meets D.SectorDisk E.SectorDisk self.old self.new s t command result }
         // No bytes are kept of shared anonymous memory that no process has.
@@ -164,42 +164,10 @@ impl<D: SectorDisk, E: SectorDisk + Drop> Machine<D, E> {
         ensures room { IfOk result (λ m. HasRoom m config) }
         // The swap device is as it came.
         ensures swap { IfOk result (λ m. swap_of m ≡ swap) }
-        ensures size { IfOk result (λ m. D.sector_count (store_of m) ≡ D.sector_count store) }
-        ensures kept { IfOk result (λ m. D.keeps_model (store_of m) → D.keeps_model store) }
-        ensures later { IfOk result (λ m. D.failures store ≤ D.failures (store_of m)) }
-        ensures calm { IfOk result (λ m. D.failures (store_of m) ≡ D.failures store) }
-        ensures frames { OnOk result (HasBadFrames config → ⊥) }
-        ensures slots { OnOk result (HasBadSlots config (E.sector_count swap) → ⊥) }
-        ensures layout { IfOk result (λ m. D.keeps_model (store_of m) → IsBadLayout (D.sector_count store) (D.content store) → ⊥) }
-        ensures journal { IfOk result (λ m. D.keeps_model (store_of m) → IsBadJournal (D.sector_count store) (D.content store) → ⊥) }
-
-        // Where the store came without unsynced writes, a stop at any moment of the call leaves what stood before it, and what
-        // stood before any earlier stop.
-        ensures any_moment { IfOk result (λ m. D.keeps_model (store_of m) → ((k : ℕ) → D.unsynced store k → ⊥)
-            → LeavesOnly D.SectorDisk store (store_of m) (StandsAs (D.sector_count store) (D.content store))) }
-        ensures in_a_row { IfOk result (λ m. D.keeps_model (store_of m) → ((k : ℕ) → D.unsynced store k → ⊥) → (first : Image) → StandsAs (D.sector_count store) first (D.content store)
-            → LeavesOnly D.SectorDisk store (store_of m) (StandsAs (D.sector_count store) first)) }
-        ensures err_moment { IfErr result (λ e. D.keeps_model e.1 → ((k : ℕ) → D.unsynced store k → ⊥)
-            → LeavesOnly D.SectorDisk store e.1 (StandsAs (D.sector_count store) (D.content store))) }
-        ensures err_in_a_row { IfErr result (λ e. D.keeps_model e.1 → ((k : ℕ) → D.unsynced store k → ⊥) → (first : Image) → StandsAs (D.sector_count store) first (D.content store)
-            → LeavesOnly D.SectorDisk store e.1 (StandsAs (D.sector_count store) first)) }
-
-        ensures err_size { IfErr result (λ e. D.sector_count e.1 ≡ D.sector_count store) }
-        ensures err_kept { IfErr result (λ e. D.keeps_model e.1 → D.keeps_model store) }
-        ensures err_later { IfErr result (λ e. D.failures store ≤ D.failures e.1) }
-        ensures bad_frames { IfErr result (λ e. e.0 ≡ BootFault.Frames → HasBadFrames config) }
-        ensures only_frames { IfErr result (λ e. HasBadFrames config → e.0 ≡ BootFault.Frames) }
-        ensures bad_slots { IfErr result (λ e. e.0 ≡ BootFault.Slots → HasBadSlots config (E.sector_count swap)) }
-        ensures only_slots { IfErr result (λ e. (HasBadFrames config → ⊥) → HasBadSlots config (E.sector_count swap) → e.0 ≡ BootFault.Slots) }
-        ensures device { IfErr result (λ e. e.0 ≡ BootFault.Device → D.failures store < D.failures e.1) }
-        ensures err_calm { IfErr result (λ e. (e.0 ≡ BootFault.Device → ⊥) → D.failures e.1 ≡ D.failures store) }
-        ensures bad_layout { IfErr result (λ e. D.keeps_model e.1 → e.0 ≡ BootFault.BadLayout → IsBadLayout (D.sector_count store) (D.content store)) }
-        ensures bad_journal { IfErr result (λ e. D.keeps_model e.1 → e.0 ≡ BootFault.BadJournal → IsBadJournal (D.sector_count store) (D.content store)) }
-        // A bad layout is reported before a bad journal.
-        ensures layout_first { IfErr result (λ e. D.keeps_model e.1 → e.0 ≡ BootFault.BadJournal → IsBadLayout (D.sector_count store) (D.content store) → ⊥) }
-        // Nothing was asked of the store, or nothing written to it.
-        ensures unasked { IfErr result (λ e. (e.0 ≡ BootFault.Frames) ⊎ (e.0 ≡ BootFault.Slots) → e.1 ≡ store) }
-        ensures unwritten { IfErr result (λ e. D.keeps_model e.1 → (e.0 ≡ BootFault.BadLayout) ⊎ (e.0 ≡ BootFault.BadJournal) → Touches D.SectorDisk Nothing store e.1) }
+        ensures accepts { IfOk result (λ m. BootAccepts D.SectorDisk config (E.sector_count swap) store (store_of m)) }
+        ensures moments { IfOk result (λ m. BootLeaves D.SectorDisk store (store_of m)) }
+        ensures refuses { IfErr result (λ e. BootRefuses D.SectorDisk config (E.sector_count swap) store e.0 e.1) }
+        ensures err_moments { IfErr result (λ e. BootLeaves D.SectorDisk store e.1) }
     {
         let sizes = Sizes {
             frames: config.frames,

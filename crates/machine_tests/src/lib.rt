@@ -5,3 +5,5 @@
 mod example;
 #[cfg(test)]
 mod machines;
+#[cfg(test)]
+mod store_lives;

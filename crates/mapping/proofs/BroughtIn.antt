@@ -1,6 +1,6 @@
 -- A file page brought into a frame, or left where it was where the read failed.
 use Rattle.vm_types.specs.declared.mode.Levels as Levels
-use Rattle.std.proofs.Common.{◌≡◌, ℕ, false, inl, inr, ◌⊎◌, Option, Some, None, Result, Ok, Err, refl, sym, ap, ◌∙◌, subst, arith}
+use Rattle.std.proofs.Common.{◌≡◌, ◌≢◌, ℕ, false, inl, inr, ◌⊎◌, Option, Some, None, Result, Ok, Err, refl, sym, ap, ◌∙◌, subst, arith}
 use Rattle.std.specs.Prelude.{IfOk, IfErr, OnErr}
 use Rattle.vm_types.specs.declared.file.FilePage.{FilePage}
 use Rattle.vm_types.specs.declared.object.ObjectPage.{ObjectPage}
@@ -210,6 +210,11 @@ module _ {M : Type 0} {m : Levels.Ghosts M} {D : Type 0} (g : Ghosts D) where
     pub never_store : (Q : Type 0) (old new : Core D E M m) (r : Result FrameNo Stall) → HasStallCause h old new r → IfErr r (λ stall. stall ≡ StoreDevice → Q)
     never_store Q old new (Ok n) c = tt
     never_store Q old new (Err s) c = λ is. absurd (no_store old new s c is)
+
+-- a reason for which a frame was refused is one too where the store's device has no part in it
+pub refused_but : (P : Stall → Type 0) (r : Result FrameNo Stall) → IfErr r P → IfErr r (λ stall. stall ≢ StoreDevice → P stall)
+refused_but P (Ok n) refuses = tt
+refused_but P (Err s) refuses = λ other. refuses
 
 pub err_always : (Q : Stall → Type 0) (r : Result FrameNo Stall) → ((s : Stall) → Q s) → IfErr r Q
 err_always Q (Ok n) q = tt

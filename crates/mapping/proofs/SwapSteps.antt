@@ -1,8 +1,9 @@
 -- A page's own copy read from its slot into a frame.
 use Rattle.vm_types.specs.Limits.{top_level}
-use Rattle.std.proofs.Common.{◌≡◌, ◌≢◌, ℕ, inl, inr, ◌+◌, ◌*◌, ◌<◌, ◌^◌, true, false, List, Option, Some, None, refl, sym, ap, ◌∙◌, subst, arith}
+use Rattle.std.proofs.Common.{◌≡◌, ◌≢◌, ℕ, inl, inr, ◌+◌, ◌*◌, ◌<◌, ◌^◌, true, false, List, Option, Some, refl, sym, ap, ◌∙◌, subst, arith}
 use Rattle.std.proofs.lemmas.Bool.{cases_eq, cases_Bool, false≢true}
 use Rattle.vm_types.specs.declared.object.PageKey.{PageKey}
+use Rattle.vm_types.specs.declared.number.FrameNo.{FrameNo}
 use Rattle.vm_types.specs.declared.number.SlotNo.{SlotNo}
 use Rattle.vm_types.specs.declared.region.Attr.{Attr}
 use Rattle.frames.specs.declared.role.Role.TheVariants.{Table, Private}
@@ -126,7 +127,7 @@ module _ {mode : ℕ} (old new : Picture mode) (k x d : ℕ) (s : Seat) (fit : I
   held_given p = ap (λ y. bytes_at new.frames new.slots y) (same.place p) ∙ place_bytes p (old.place p) refl
 
 -- a page in a slot keeps its entry while a frame is taken
-pub entry_taken : {mode : ℕ} (old taken : Picture mode) (pid page n : ℕ) (obtains : ObtainsOwn old taken None n page) → IsPage (top_level mode) page → is_swapped (entry old pid page) ≡ true → entry taken pid page ≡ entry old pid page
+pub entry_taken : {mode : ℕ} {keep : Option FrameNo} (old taken : Picture mode) (pid page n : ℕ) (obtains : ObtainsOwn old taken keep n page) → IsPage (top_level mode) page → is_swapped (entry old pid page) ≡ true → entry taken pid page ≡ entry old pid page
 entry_taken old taken pid page n obtains h away =
     entries_changed obtains.found taken n obtains.fit (changes_taken obtains.found taken n page obtains.own) (λ t. (let bad : Private ≡ Table = sym obtains.own.takes.kind_set ∙ t in (cc))) pid page
     ∙ obtains.frees.entries pid page h (inr (inl away))

@@ -1,8 +1,9 @@
 -- What a page's own copy leaves that was read from its slot.
 use Rattle.vm_types.specs.Limits.{top_level}
-use Rattle.std.proofs.Common.{◌≡◌, ◌≢◌, ℕ, inl, inr, ◌+◌, ◌*◌, ◌<◌, ◌^◌, true, false, Some, None, refl, sym, ap, ◌∙◌, subst}
+use Rattle.std.proofs.Common.{◌≡◌, ◌≢◌, ℕ, inl, inr, ◌+◌, ◌*◌, ◌<◌, ◌^◌, true, false, Option, Some, refl, sym, ap, ◌∙◌, subst}
 use Rattle.std.specs.Prelude.{option_map}
 use Rattle.vm_types.specs.declared.object.PageKey.{PageKey}
+use Rattle.vm_types.specs.declared.number.FrameNo.{FrameNo}
 use Rattle.vm_types.specs.declared.region.Attr.{Attr}
 use Rattle.vm_types.specs.Verdict.{is_past_end}
 use Rattle.frames.specs.declared.role.Role.TheVariants.{Private}
@@ -43,7 +44,7 @@ slots_aside : {mode : ℕ} (c : Picture mode) (t : SlotTable) (q p : ℕ) → en
 unfolding entry
 slots_aside c t q p = refl
 
-module _ {mode : ℕ} (old taken : Picture mode) (pid page n k r : ℕ) (a : Attr) (obtains : ObtainsOwn old taken None n page) (linked : IsLinked old pid page) (lives : old.root pid ≡ Some r)
+module _ {mode : ℕ} {keep : Option FrameNo} (old taken : Picture mode) (pid page n k r : ℕ) (a : Attr) (obtains : ObtainsOwn old taken keep n page) (linked : IsLinked old pid page) (lives : old.root pid ≡ Some r)
     (at : old.at pid page ≡ Some a) (away : is_swapped (entry old pid page) ≡ true) (number : entry old pid page ≡ k * 1024 + 2) (low : k < 2 ^ 32)
     (written : Picture mode) (changes : ChangesFrame obtains.found written n) (role : role_of written.frames n ≡ Private) (one : count_of written.frames n ≡ 1) (noted : written.page_of n ≡ page) where
   abbrev found : Picture mode
@@ -100,14 +101,14 @@ module _ {mode : ℕ} (old taken : Picture mode) (pid page n k r : ℕ) (a : Att
       fit_in = fit_slot_released set new k 0 fit_moved' owned (with_slots set t) releases
 
       pub spaces_in : KeepsSpaces old (record set { slots = t })
-      spaces_in = spaces_then old found new (spaces_freed old found None obtains.frees) (record { root = λ q. beside.root q ∙ changes.root q; at = λ q p. beside.at q p ∙ changes.at q p })
+      spaces_in = spaces_then old found new (spaces_freed old found keep obtains.frees) (record { root = λ q. beside.root q ∙ changes.root q; at = λ q p. beside.at q p ∙ changes.at q p })
 
       pub tables_in : KeepsTables old (record set { slots = t })
-      tables_in = tables_then old found new obtains.frees.pages.root (tables_freed old found None obtains.frees)
+      tables_in = tables_then old found new obtains.frees.pages.root (tables_freed old found keep obtains.frees)
           (tables_same found new (λ q x p e. settled_missing found written pid page r n a obtains.fit changes role one noted lives_of whole_of at_of set sets beside not_shared inside q x p e))
 
       pub room_in : KeepsRoom old (record set { slots = t })
-      room_in = room_then old found new (room_freed old found None obtains.frees) (record {
+      room_in = room_then old found new (room_freed old found keep obtains.frees) (record {
         frames = settled_room found written pid page r n a obtains.fit changes role one noted lives_of whole_of at_of set sets beside not_shared inside;
         slots = releases.others.total ∙ ap (λ s. s.total) beside.slots ∙ ap (λ s. s.total) changes.slots;
       })
@@ -125,7 +126,7 @@ module _ {mode : ℕ} (old taken : Picture mode) (pid page n k r : ℕ) (a : Att
           ∙ obtains.frees.entries q p h (inl none) ∙ none
 
       pub slotted_in : KeepsSlotted (λ p. ⊥) (IsThatPage pid page) old (record set { slots = t })
-      slotted_in = slotted_then (λ p. ⊥) (IsThatPage pid page) old found new (slotted_frees (λ p. ⊥) (IsThatPage pid page) old found None obtains.frees)
+      slotted_in = slotted_then (λ p. ⊥) (IsThatPage pid page) old found new (slotted_frees (λ p. ⊥) (IsThatPage pid page) old found keep obtains.frees)
           (slotted_but (λ p. ⊥) found new pid page (λ p. beside.place p ∙ changes.place p) (λ q p h other.
           slots_aside set t q p
           ∙ settled_others found written pid page r n a obtains.fit changes role one noted lives_of whole_of at_of set sets beside not_shared inside q p h other))

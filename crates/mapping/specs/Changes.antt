@@ -1,6 +1,6 @@
 -- What the calls on one page's entry need and leave.
 use Rattle.vm_types.specs.declared.mode.Levels as Levels
-use Rattle.std.specs.Prelude.{Bool, ◌&&◌, ◌==◌, ◌≡◌, ◌≢◌, ℕ, ◌≤◌, ◌⊎◌, true, if◌then◌else◌, List, Some, None}
+use Rattle.std.specs.Prelude.{Bool, ◌&&◌, ◌==◌, ◌≡◌, ◌≢◌, ℕ, ◌≤◌, ◌⊎◌, true, if◌then◌else◌, List, Option, Some, None}
 use Rattle.vm_types.specs.Limits.{top_level}
 use Rattle.vm_types.specs.declared.object.PageKey.{PageKey}
 use Rattle.vm_types.specs.declared.object.PageKey.TheVariants.{File, Object}
@@ -122,6 +122,11 @@ module _ {mode : ℕ} where
 module _ {mode : ℕ} where
   abbrev pub shown_frame : Picture mode → ℕ → Backing → ℕ
   shown_frame c e backing = if is_private e then frame_of e else frame_behind c backing
+
+-- the frame that is kept while a frame is asked for that a page is copied into: the one whose bytes the page shows
+module _ {mode : ℕ} where
+  abbrev pub copied_frame : Picture mode → ℕ → ℕ → Attr → Option FrameNo
+  copied_frame c pid page attr = Some (record { 0 = shown_frame c (entry c pid page) attr.backing })
 
 -- the bytes that a page shows, where they are in memory
 module _ {mode : ℕ} where

@@ -7,7 +7,7 @@ ghost use Rattle.page_tables.specs.Tree.{missing_of};
 ghost use Rattle.swap.specs.Slots.{IsReady};
 ghost use Rattle.paging.specs.Picture.{picture_of};
 ghost use Rattle.paging.specs.Parts.{IsFit, IsMapped};
-ghost use Rattle.paging.specs.Calls.{KeepsPages};
+ghost use Rattle.paging.specs.Calls.{KeepsPages, Refuses};
 ghost use Rattle.paging.specs.Stalls.{HasStallCause};
 ghost use Rattle.paging.specs.Capacity.{IsShort};
 ghost use Rattle.paging.specs.Ages.{GivesForTables};
@@ -55,6 +55,7 @@ pub fn link_tables<D, E: SectorDisk, M: Levels>(
     ensures tables { LinksTables (picture_of core.old) (picture_of core.new) pid page }
     ensures full { OnErr result (IsFull core.new.frames) }
     ensures idle { IsWhole (picture_of core.old) pid page → (core.new ≡ core.old) × OnErr result ⊥ }
+    ensures refuses { IfErr result (Refuses (picture_of core.new) None) }
     ensures short { IfErr result (IsShort (picture_of core.new)) }
     ensures cause { HasStallCause E.SectorDisk core.old core.new result }
 {
@@ -88,6 +89,7 @@ fn link_one<D, E: SectorDisk, M: Levels>(
     ensures tried { OnErr result ((tried : Option ℕ) × GivesForTables (picture_of core.old) (picture_of core.new) tried) }
     ensures tables { LinksTables (picture_of core.old) (picture_of core.new) pid page }
     ensures full { OnErr result (IsFull core.new.frames) }
+    ensures refuses { IfErr result (Refuses (picture_of core.new) None) }
     ensures short { IfErr result (IsShort (picture_of core.new)) }
     ensures cause { HasStallCause E.SectorDisk core.old core.new result }
 {

@@ -1,5 +1,5 @@
 //! Frames of a process's own.
-ghost use Rattle.std.specs.Prelude.{◌≡◌, ◌≢◌, ℕ, ◌<◌, ◌^◌, None, Some, true, false, IfOk, IfErr, OnErr};
+ghost use Rattle.std.specs.Prelude.{◌≡◌, ◌≢◌, ℕ, ◌<◌, ◌^◌, Some, true, false, IfOk, IfErr, OnErr};
 ghost use Rattle.vm_types.specs.Permission.{can_write};
 ghost use Rattle.vm_types.specs.Verdict.{is_past_end};
 ghost use Rattle.frames.specs.declared.role.Role.TheVariants.{Free, Table};
@@ -8,13 +8,13 @@ ghost use Rattle.sv39_walk.specs.Entry.{frame_of};
 ghost use Rattle.swap.specs.Slots.{IsReady};
 ghost use Rattle.paging.specs.Picture.{picture_of, entry, is_private, is_swapped, view};
 ghost use Rattle.paging.specs.Parts.{IsFit, is_shared, IsBehind};
-ghost use Rattle.paging.specs.Calls.{Frees, KeepsRest, UsesDevice};
+ghost use Rattle.paging.specs.Calls.{Frees, KeepsRest, Refuses, UsesDevice};
 ghost use Rattle.paging.specs.Stalls.{HasStallCause};
 ghost use Rattle.paging.specs.Capacity.{IsShort};
 ghost use Rattle.paging.specs.Shows.{KeepsFiles};
 ghost use Rattle.page_tables.specs.Leaves.{IsEntryOver};
 ghost use Rattle.page_cache.specs.declared.place.Place.TheVariants.{Frame};
-ghost use Rattle.mapping.specs.Changes.{IsLinked, KeepsViews, KeepsOtherViews, KeepsOtherBare, KeepsSlotted, IsCalm, IsThatPage, Moves, TakesCopy, is_sole, frame_of_place, shown_frame, shown_bytes};
+ghost use Rattle.mapping.specs.Changes.{IsLinked, KeepsViews, KeepsOtherViews, KeepsOtherBare, KeepsSlotted, IsCalm, IsThatPage, Moves, TakesCopy, is_sole, frame_of_place, shown_frame, shown_bytes, copied_frame};
 
 use crate::linking::root_of;
 use crate::showing::{ZERO_PAGE, regrant, set_full};
@@ -30,7 +30,8 @@ use vm_types::{Attr, Backing, FrameNo, Levels, PageKey, Pid, Stall, Vpn};
 /// private frame, that is the one. What the page shows is in memory.
 ///
 /// # Errors
-/// As `obtain`, where a frame is wanted and none is to be had. Then the page is seen as before.
+/// As `obtain`, where a frame is wanted and none is to be had: the frame that is copied isn't given up for it. Then the page is seen
+/// as before.
 pub fn own_frame<D, E: SectorDisk, M: Levels>(
     core: &mut Core<D, E, M>,
     pid: Pid,
@@ -57,11 +58,12 @@ pub fn own_frame<D, E: SectorDisk, M: Levels>(
     ensures others { KeepsOtherViews (picture_of core.old) (picture_of core.new) pid page }
     ensures bare { KeepsOtherBare (picture_of core.old) (picture_of core.new) pid page }
     ensures slotted { KeepsSlotted (λ p. ⊥) (IsThatPage pid page) (picture_of core.old) (picture_of core.new) }
-    ensures frees { OnErr result (Frees (picture_of core.old) (picture_of core.new) None) }
+    ensures frees { OnErr result (Frees (picture_of core.old) (picture_of core.new) (copied_frame (picture_of core.old) pid page attr)) }
     ensures same { OnErr result (KeepsViews (picture_of core.old) (picture_of core.new)) }
     ensures files { KeepsFiles (picture_of core.old) (picture_of core.new) }
     ensures wanted { OnErr result (is_sole (picture_of core.old) (entry (picture_of core.old) pid page) ≡ false) }
     ensures calm { is_sole (picture_of core.old) (entry (picture_of core.old) pid page) ≡ true → IsCalm core.old core.new pid page }
+    ensures refuses { IfErr result (Refuses (picture_of core.new) (copied_frame (picture_of core.old) pid page attr)) }
     ensures short { IfErr result (IsShort (picture_of core.new)) }
     ensures cause { HasStallCause E.SectorDisk core.old core.new result }
 {
@@ -105,9 +107,10 @@ fn copy_page<D, E: SectorDisk, M: Levels>(
     ensures others { KeepsOtherViews (picture_of core.old) (picture_of core.new) pid page }
     ensures bare { KeepsOtherBare (picture_of core.old) (picture_of core.new) pid page }
     ensures slotted { KeepsSlotted (λ p. ⊥) (IsThatPage pid page) (picture_of core.old) (picture_of core.new) }
-    ensures frees { OnErr result (Frees (picture_of core.old) (picture_of core.new) None) }
+    ensures frees { OnErr result (Frees (picture_of core.old) (picture_of core.new) (Some shown)) }
     ensures same { OnErr result (KeepsViews (picture_of core.old) (picture_of core.new)) }
     ensures files { KeepsFiles (picture_of core.old) (picture_of core.new) }
+    ensures refuses { IfErr result (Refuses (picture_of core.new) (Some shown)) }
     ensures short { IfErr result (IsShort (picture_of core.new)) }
     ensures cause { HasStallCause E.SectorDisk core.old core.new result }
 {
@@ -166,6 +169,7 @@ fn take_copy<D, E: SectorDisk, M: Levels>(
     ensures swap { IsReady E.SectorDisk core.new.swap }
     ensures rest { KeepsRest core.old core.new }
     ensures device { UsesDevice E.SectorDisk core.old.swap.pages.disk core.new.swap.pages.disk }
+    ensures refuses { IfErr result (Refuses (picture_of core.new) (Some from)) }
     ensures short { IfErr result (IsShort (picture_of core.new)) }
     ensures cause { HasStallCause E.SectorDisk core.old core.new result }
 {

@@ -1,5 +1,5 @@
 //! Pages of files and objects brought into memory.
-ghost use Rattle.std.specs.Prelude.{◌≡◌, ◌⊎◌, None, IfOk, IfErr, OnErr};
+ghost use Rattle.std.specs.Prelude.{◌≡◌, ◌≢◌, ◌⊎◌, None, IfOk, IfErr, OnErr};
 ghost use Rattle.vm_types.specs.declared.number.FrameNo.{FrameNo};
 ghost use Rattle.vm_types.specs.declared.refusal.Stall.TheVariants as Stall;
 ghost use Rattle.file_store.specs.Store.{IsReadyStore};
@@ -7,7 +7,7 @@ ghost use Rattle.swap.specs.Slots.{IsReady};
 ghost use Rattle.page_cache.specs.declared.place.Place.TheVariants.{Home, Frame};
 ghost use Rattle.paging.specs.Picture.{picture_of};
 ghost use Rattle.paging.specs.Parts.{IsFit, IsPageFor};
-ghost use Rattle.paging.specs.Calls.{Frees};
+ghost use Rattle.paging.specs.Calls.{Frees, Refuses};
 ghost use Rattle.paging.specs.Capacity.{IsShort};
 ghost use Rattle.paging.specs.Stalls.{HasReadCause};
 ghost use Rattle.mapping.specs.Changes.{KeepsBare, KeepsSeen, KeepsSlotted};
@@ -43,6 +43,7 @@ pub fn cached<D: SectorDisk, E: SectorDisk, M: Levels>(
     ensures frees { OnErr result (Frees (picture_of core.old) (picture_of core.new) None) }
     ensures home { IfErr result (λ stall. stall ≡ Stall.StoreDevice → IsInStore (picture_of core.old) page) }
     ensures read { (core.new.store ≡ core.old.store) ⊎ IsInStore (picture_of core.old) page }
+    ensures refuses { IfErr result (λ stall. stall ≢ Stall.StoreDevice → Refuses (picture_of core.new) None stall) }
     ensures short { IfErr result (IsShort (picture_of core.new)) }
     ensures cause { HasReadCause D.SectorDisk E.SectorDisk core.old core.new result }
 {
@@ -72,6 +73,7 @@ fn bring_home<D: SectorDisk, E: SectorDisk, M: Levels>(
     ensures frees { OnErr result (Frees (picture_of core.old) (picture_of core.new) None) }
     ensures home { IfErr result (λ stall. stall ≡ Stall.StoreDevice → IsInStore (picture_of core.old) page) }
     ensures read { (core.new.store ≡ core.old.store) ⊎ IsInStore (picture_of core.old) page }
+    ensures refuses { IfErr result (λ stall. stall ≢ Stall.StoreDevice → Refuses (picture_of core.new) None stall) }
     ensures short { IfErr result (IsShort (picture_of core.new)) }
     ensures cause { HasReadCause D.SectorDisk E.SectorDisk core.old core.new result }
 {

@@ -3,7 +3,7 @@ ghost use Rattle.std.specs.Prelude.{◌≡◌, None, Some, true, IfOk, IfErr, On
 ghost use Rattle.frames.specs.FrameTable.{count_of};
 ghost use Rattle.swap.specs.Slots.{IsReady};
 ghost use Rattle.paging.specs.Picture.{picture_of, entry, is_swapped};
-ghost use Rattle.paging.specs.Calls.{Frees};
+ghost use Rattle.paging.specs.Calls.{Frees, Refuses};
 ghost use Rattle.paging.specs.Stalls.{HasStallCause};
 ghost use Rattle.paging.specs.Capacity.{IsShort};
 ghost use Rattle.paging.specs.Shows.{KeepsFiles};
@@ -43,6 +43,7 @@ pub fn swap_in<D, E: SectorDisk, M: Levels>(
     ensures same { OnErr result (KeepsViews (picture_of core.old) (picture_of core.new)) }
     ensures seen { E.keeps_model core.new.swap.pages.disk → KeepsViews (picture_of core.old) (picture_of core.new) }
     ensures files { KeepsFiles (picture_of core.old) (picture_of core.new) }
+    ensures refuses { IfErr result (Refuses (picture_of core.new) None) }
     ensures short { IfErr result (IsShort (picture_of core.new)) }
     ensures cause { HasStallCause E.SectorDisk core.old core.new result }
 {

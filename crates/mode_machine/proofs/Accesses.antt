@@ -1,6 +1,6 @@
 -- Accesses, whose faults are kept.
 use Rattle.vm_types.specs.declared.mode.Levels as Levels
-use Rattle.std.proofs.Common.{ℕ, ◌≡◌, Bool, true, false, if◌then◌else◌, List, refl, sym, ◌∙◌, subst}
+use Rattle.std.proofs.Common.{ℕ, ◌≡◌, ◌≢◌, Bool, true, false, not, if◌then◌else◌, List, refl, sym, ap, ◌∙◌, subst}
 use Rattle.disk_model.specs.declared.sector_disk.SectorDisk.{Ghosts}
 use Rattle.paging.specs.Calls.{UsesDevice}
 use Rattle.paging.specs.Reading.{ReadsStore}
@@ -9,11 +9,11 @@ use Rattle.paging.specs.declared.kernel.Core.{Core}
 use Rattle.mapping.specs.Changes.{KeepsRoom}
 use Rattle.page_ranges.specs.Steps.{KeepsDevices}
 use Rattle.calls.specs.Calls as Calls
-use Rattle.calls.specs.Idle.{is_idle}
+use Rattle.calls.specs.Idle.{is_denial, is_idle}
 use Rattle.vm_types.specs.declared.access.StoredValue.{StoredValue}
 use Rattle.vm_types.specs.declared.command.Command.{Command}
 use Rattle.vm_types.specs.declared.refusal.Errno.{Errno}
-use Rattle.vm_types.specs.declared.refusal.Errno.TheVariants.{ESRCH}
+use Rattle.vm_types.specs.declared.refusal.Errno.TheVariants.{EIO, ESRCH, EBADF, EAGAIN, ENOMEM, EACCES, EEXIST, EINVAL, ENOSPC, EOVERFLOW}
 use Rattle.vm_types.specs.declared.refusal.Fault.{Fault}
 use Rattle.vm_types.specs.declared.region.Backing.{Backing}
 use Rattle.vm_types.specs.declared.region.Backing.TheVariants.{Anon, Private, Shared, Common}
@@ -25,12 +25,12 @@ use Rattle.vm_types.specs.declared.width.Width.{Width}
 use Rattle.vm_types.specs.Access.{with_shown_bytes}
 use Rattle.vm_types.specs.History.{Past}
 use Rattle.vm_types.specs.Replies.{reply_of}
+use Rattle.vm_types.specs.Prefix.{is_io_error}
 use Rattle.vm_types.specs.State.{State}
 use Rattle.vm_types.specs.Step.{Outcome, outcome, answers, load_outcome, store_outcome, fetch_outcome, past_after, ruling, takes}
 use Rattle.vm_types.specs.Verdict.{Verdict, Fine, Faults}
 use Rattle.vm_types.specs.View.{View}
-use Rattle.mode_machine.specs.Accesses.{Accesses}
-use Rattle.mode_machine.specs.Machine.{Shows, Meets, IsReadable}
+use Rattle.mode_machine.specs.Machine.{KeepsIfDenied, Shows, Meets, IsReadable}
 use Rattle.mode_machine.specs.declared.machine.ModeMachine.{ModeMachine}
 use Rattle.mode_machine.proofs.Flat.{OnlyNow, carried, shows_core, is_running}
 
@@ -44,6 +44,22 @@ refused_so (Answers.Faulted fault) errno e = absurd (let never : Faulted fault �
 refused_so (Answers.Refused other) errno e = let same : Refused other ≡ Refused errno = e in cc
 refused_so (Answers.Stalled stall) errno e = absurd (let never : Stalled stall ≡ Refused errno = e in cc)
 refused_so Answers.Halted errno e = absurd (let never : Halted ≡ Refused errno = e in cc)
+
+not_failed : (errno : Errno) → errno ≢ EIO → is_io_error errno ≡ false
+not_failed EIO other = absurd (other refl)
+not_failed ESRCH other = refl
+not_failed EBADF other = refl
+not_failed EAGAIN other = refl
+not_failed ENOMEM other = refl
+not_failed EACCES other = refl
+not_failed EEXIST other = refl
+not_failed EINVAL other = refl
+not_failed ENOSPC other = refl
+not_failed EOVERFLOW other = refl
+
+-- a refusal, but for a failure of the store, tells that the command was not begun
+is_denied : (reply : Reply) (errno : Errno) → reply ≡ Refused errno → errno ≢ EIO → is_denial reply ≡ true
+is_denied reply errno is other = ap is_denial is ∙ ap not (not_failed errno other)
 
 pub load_live : (s : State) (addr pid : ℕ) (width : Width) (v : Verdict) → (load_outcome s addr width v).state.live pid ≡ s.live pid
 load_live s addr pid width (Faults code) = refl
@@ -88,12 +104,12 @@ module _ {M : Type 0} {levels : Levels.Ghosts M} {D E : Type 0} (g : Ghosts D) (
   pub accessed : (only_now : OnlyNow g) (old new : ModeMachine D E M levels) (core : Core D E M levels) (s : State) (command : Command) (reply result : Reply) (pid : ℕ)
       → Shows g h old s → old.halted ≡ false → takes s (ruling s command) s.durable ≡ s.durable
       → ReadsStore g old.core.store core.store → UsesDevice h old.core.swap.pages.disk core.swap.pages.disk → (is_idle s command reply ≡ true → KeepsDevices old.core core)
-      → KeepsRoom (picture_of old.core) (picture_of core) → Accesses old.core core command reply → Calls.Carries g h old.core core command reply → IsReadable g h new s command
+      → KeepsRoom (picture_of old.core) (picture_of core) → Calls.Carries g h old.core core command reply → IsReadable g h new s command
       → ((fault : Fault) → (outcome s command).reply ≡ Faulted fault → (outcome s command).state.live pid ≡ true)
       → result ≡ reply → new.core ≡ core → new.halted ≡ old.halted
       → (((fault : Fault) → reply ≡ Faulted fault → is_live (picture_of core) pid ≡ true) → new.past ≡ past_after command reply old.past)
       → (t : State) × Meets g h old new s t command result
-  accessed only_now old new core s command reply result pid shows run none reads device idle room asks carries honest living same core_is halted_is noted =
+  accessed only_now old new core s command reply result pid shows run none reads device idle room carries honest living same core_is halted_is noted =
       let readable : IsReadable g h (record { core = core; halted = old.halted; past = past_after command reply old.past; sync_room = tt; region_room = tt }) s command = record {
         files = λ r. subst (λ (k : Core D E M levels). g.keeps_model k.store.disk) core_is (honest.files r);
         slots = λ r. subst (λ (k : Core D E M levels). h.keeps_model k.swap.pages.disk) core_is (honest.slots r);
@@ -102,4 +118,14 @@ module _ {M : Type 0} {levels : Levels.Ghosts M} {D E : Type 0} (g : Ghosts D) (
       let past : new.past ≡ past_after command reply old.past = noted (lives old.core core s command reply pid comes living) in
       subst (λ (r : Reply). (t : State) × Meets g h old new s t command r) (sym same)
       (subst (λ (m : ModeMachine D E M levels). (t : State) × Meets g h old m s t command reply) (machine_is new core old.halted (past_after command reply old.past) core_is halted_is past)
-      (carried g h only_now old core old.halted (past_after command reply old.past) s command reply shows run run none refl reads device idle room asks carries readable))
+      (carried g h only_now old core old.halted (past_after command reply old.past) s command reply shows run run none refl reads device idle room carries readable))
+
+module _ {M : Type 0} {levels : Levels.Ghosts M} {D E : Type 0} where
+  -- what a call says of a machine that runs
+  pub keeps_denied : (old new : ModeMachine D E M levels) (command : Command) (reply : Reply) → old.halted ≡ false → (is_denial reply ≡ true → new.core ≡ old.core)
+      → KeepsIfDenied old new command reply
+  keeps_denied old new command reply run denied = record {
+    refused = λ errno is other. denied (is_denied reply errno is other);
+    faulted = λ _ fault is. denied (ap is_denial is);
+    halted = λ stopped. absurd (let never : false ≡ true = sym run ∙ stopped in cc);
+  }

@@ -1,11 +1,11 @@
 -- What a boot leaves, from what the store's opening says.
 use Rattle.vm_types.specs.declared.mode.Levels as Levels
-use Rattle.std.proofs.Common.{ℕ, ◌≡◌, ◌⊎◌, inl, inr, ⊎_elim, false, List, Some, None, is_some, [], refl, sym, ap, ◌∙◌, subst}
+use Rattle.std.proofs.Common.{ℕ, ◌*◌, ◌≡◌, ◌<◌, ◌≤◌, ◌⊎◌, inl, inr, ⊎_elim, false, List, Some, None, is_some, [], refl, sym, ap, ◌∙◌, subst, arith}
 use Rattle.std.specs.Option.{option_map}
-use Rattle.disk_model.specs.Moments.{LeavesNow, LeavesOnly}
+use Rattle.disk_model.specs.Moments.{LeavesNow, LeavesOnly, Touches, Nothing}
 use Rattle.disk_model.specs.Stop.{Image, MayLeave}
 use Rattle.disk_model.specs.declared.sector_disk.SectorDisk.{Ghosts}
-use Rattle.disk_model.proofs.Moments.{started}
+use Rattle.disk_model.proofs.Moments.{started, stays}
 use Rattle.file_store.specs.Standing.{StandsFor, StandsAs, IsBadLayout, file_info, standing_page}
 use Rattle.file_store.specs.Store.{IsReadyStore}
 use Rattle.file_store.specs.Store as Stores
@@ -18,11 +18,15 @@ use Rattle.vm_types.specs.declared.object.PageKey.TheVariants.{File, Object}
 use Rattle.paging.specs.Calls.{IsStart}
 use Rattle.paging.specs.Picture.{Picture, picture_of, view, held}
 use Rattle.paging.specs.Shows.{ShowsPages}
+use Rattle.sync_journal.specs.Commit.{HomesStandAs}
+use Rattle.sync_journal.specs.Layout.{IsOutside}
 use Rattle.sync_journal.specs.Standing.{IsBadJournal}
+use Rattle.swap.specs.Slots.{slots_of}
 use Rattle.vm_types.specs.State.{State}
-use Rattle.mode_machine.specs.declared.boot.BootFault.TheVariants.{Frames, Slots, BadLayout, BadJournal}
+use Rattle.mode_machine.specs.declared.boot.BootFault.TheVariants.{Frames, Slots, OutOfMemory, Device, BadLayout, BadJournal}
+use Rattle.mode_machine.specs.declared.boot.Sizes.{Sizes}
 use Rattle.mode_machine.specs.declared.machine.ModeMachine.{ModeMachine}
-use Rattle.mode_machine.specs.Boot.{Boots}
+use Rattle.mode_machine.specs.Boot.{HasBadFrames, HasBadSlots, BootAccepts, BootLeaves, BootRefuses, Boots}
 use Rattle.mode_machine.specs.Fault.{boot_fault}
 
 pub was_layout : (fault : OpenFault) → boot_fault fault ≡ BadLayout → fault ≡ StoreLayout
@@ -34,6 +38,11 @@ pub was_journal : (fault : OpenFault) → boot_fault fault ≡ BadJournal → fa
 was_journal StoreDevice e = cc
 was_journal StoreLayout e = cc
 was_journal StoreJournal e = refl
+
+was_device : (fault : OpenFault) → boot_fault fault ≡ Device → fault ≡ StoreDevice
+was_device StoreDevice e = refl
+was_device StoreLayout e = cc
+was_device StoreJournal e = cc
 
 -- once the store is opened, the sizes were fine
 pub sized : (fault : OpenFault) → (boot_fault fault ≡ Frames) ⊎ (boot_fault fault ≡ Slots) → ⊥
@@ -51,6 +60,13 @@ no_device StoreDevice (inr e) same = cc
 no_device StoreLayout e same = cc
 no_device StoreJournal e same = cc
 
+-- sizes that pass the tests are fine
+pub fine_frames : (sizes : Sizes) → 8 ≤ sizes.frames → sizes.frames ≤ 65536 → HasBadFrames sizes → ⊥
+fine_frames sizes least most bad = ⊎_elim (λ few. omega (arith, few, least)) (λ many. omega (arith, many, most)) bad
+
+pub fine_slots : (sizes : Sizes) (n slots sectors : ℕ) → sizes.slots ≤ 65536 → slots ≡ sizes.slots → sectors ≡ n → 8 * slots ≤ sectors → HasBadSlots sizes n → ⊥
+fine_slots sizes n slots sectors most same all room bad = ⊎_elim (λ many. omega (arith, many, most)) (λ short. omega (arith, short, same, all, room)) bad
+
 module _ {D : Type 0} (g : Ghosts D) where
   -- what the opening of a store says
   pub record IsOpened (entry : D) (store : FileStore D) : Type 0 where
@@ -59,6 +75,11 @@ module _ {D : Type 0} (g : Ghosts D) where
     pub layout : g.keeps_model store.disk → IsBadLayout (g.sector_count entry) (g.content entry) → ⊥
     pub journal : g.keeps_model store.disk → IsBadJournal (g.sector_count entry) (g.content entry) → ⊥
     pub leaves : g.keeps_model store.disk → LeavesNow g store.disk (StandsAs (g.sector_count entry) (g.content entry))
+    pub homes : g.keeps_model store.disk → LeavesNow g store.disk (HomesStandAs (g.sector_count entry) (g.content entry))
+    pub kept : g.keeps_model store.disk → g.keeps_model entry
+    pub later : g.failures entry ≤ g.failures store.disk
+    pub calm : g.failures store.disk ≡ g.failures entry
+    pub moments : BootLeaves g entry store.disk
 
   -- no time passed, and nothing is unsynced
   pub unmoved : (d : D) → ((c : Image) → g.left_since d (g.moment d) c → MayLeave (g.content d) (g.unsynced d) c)
@@ -69,6 +90,128 @@ module _ {D : Type 0} (g : Ghosts D) where
       (λ c may.
       let same : c ≡ g.content d = λ i k. ⊎_elim (λ u. absurd (synced k u)) (λ (e : c k ≡ g.content d k). e) (may.kept k) i in
       subst (StandsAs (g.sector_count d) first) (sym same) stands)
+
+  -- what a stop leaves of a device that was not asked
+  pub still : (d : D) → (g.keeps_model d → (c : Image) → g.left_since d (g.moment d) c → MayLeave (g.content d) (g.unsynced d) c) → BootLeaves g d d
+  still d only_now = record {
+    any_moment = λ keeps synced. unmoved d (only_now keeps) synced (g.content d) (λ files pages stands. stands);
+    in_a_row = λ keeps synced first stands. unmoved d (only_now keeps) synced first stands;
+  }
+
+  -- too few frames, or too many
+  pub refuses_frames : (sizes : Sizes) (n : ℕ) (store : D) → HasBadFrames sizes → BootRefuses g sizes n store Frames store
+  refuses_frames sizes n store bad = record {
+    bad_frames = λ _. bad;
+    only_frames = λ _. refl;
+    bad_slots = λ e. absurd (let never : Frames ≡ Slots = e in cc);
+    only_slots = λ fine _. absurd (fine bad);
+    device = λ e. absurd (let never : Frames ≡ Device = e in cc);
+    err_calm = λ _. refl;
+    bad_layout = λ _ e. absurd (let never : Frames ≡ BadLayout = e in cc);
+    bad_journal = λ _ e. absurd (let never : Frames ≡ BadJournal = e in cc);
+    layout_first = λ _ e _. (let never : Frames ≡ BadJournal = e in cc);
+    unasked = λ _. refl;
+    unwritten = λ _ _. stays g Nothing store;
+    outside = λ _ _ k _. refl;
+    err_size = refl;
+    err_kept = λ keeps. keeps;
+    err_later = omega arith;
+  }
+
+  -- too many slots
+  pub refuses_slots : (sizes : Sizes) (n : ℕ) (store : D) → (HasBadFrames sizes → ⊥) → HasBadSlots sizes n → BootRefuses g sizes n store Slots store
+  refuses_slots sizes n store fine bad = record {
+    bad_frames = λ e. absurd (let never : Slots ≡ Frames = e in cc);
+    only_frames = λ few. absurd (fine few);
+    bad_slots = λ _. bad;
+    only_slots = λ _ _. refl;
+    device = λ e. absurd (let never : Slots ≡ Device = e in cc);
+    err_calm = λ _. refl;
+    bad_layout = λ _ e. absurd (let never : Slots ≡ BadLayout = e in cc);
+    bad_journal = λ _ e. absurd (let never : Slots ≡ BadJournal = e in cc);
+    layout_first = λ _ e _. (let never : Slots ≡ BadJournal = e in cc);
+    unasked = λ _. refl;
+    unwritten = λ _ _. stays g Nothing store;
+    outside = λ _ _ k _. refl;
+    err_size = refl;
+    err_kept = λ keeps. keeps;
+    err_later = omega arith;
+  }
+
+  -- what an opening leaves outside the homes
+  same_outside : (entry : D) (store : FileStore D) → IsOpened entry store → g.keeps_model store.disk
+      → (k : ℕ) → IsOutside (g.sector_count entry) k → g.content store.disk k ≡ g.content entry k
+  same_outside entry store opened keeps = (opened.homes keeps (g.content store.disk) (record { kept = λ k. inr refl })).outside
+
+  -- a store that was opened, of which a machine is made
+  pub accepts : (sizes : Sizes) (n : ℕ) (entry : D) (store : FileStore D) → (HasBadFrames sizes → ⊥) → (HasBadSlots sizes n → ⊥) → IsOpened entry store
+      → BootAccepts g sizes n entry store.disk
+  accepts sizes n entry store frames slots opened = record {
+    frames = frames;
+    slots = slots;
+    layout = opened.layout;
+    journal = opened.journal;
+    size = opened.size;
+    kept = opened.kept;
+    later = opened.later;
+    calm = opened.calm;
+    outside = same_outside entry store opened;
+  }
+
+  -- or not, for want of memory
+  pub refuses_memory : (sizes : Sizes) (n : ℕ) (entry : D) (store : FileStore D) → (HasBadFrames sizes → ⊥) → (HasBadSlots sizes n → ⊥) → IsOpened entry store
+      → BootRefuses g sizes n entry OutOfMemory store.disk
+  refuses_memory sizes n entry store frames slots opened = record {
+    bad_frames = λ e. absurd (let never : OutOfMemory ≡ Frames = e in cc);
+    only_frames = λ few. absurd (frames few);
+    bad_slots = λ e. absurd (let never : OutOfMemory ≡ Slots = e in cc);
+    only_slots = λ _ many. absurd (slots many);
+    device = λ e. absurd (let never : OutOfMemory ≡ Device = e in cc);
+    err_calm = λ _. opened.calm;
+    bad_layout = λ _ e. absurd (let never : OutOfMemory ≡ BadLayout = e in cc);
+    bad_journal = λ _ e. absurd (let never : OutOfMemory ≡ BadJournal = e in cc);
+    layout_first = λ _ e _. (let never : OutOfMemory ≡ BadJournal = e in cc);
+    unasked = λ either. absurd (⊎_elim (λ e. (let never : OutOfMemory ≡ Frames = e in cc)) (λ e. (let never : OutOfMemory ≡ Slots = e in cc)) either);
+    unwritten = λ _ either. absurd (⊎_elim (λ e. (let never : OutOfMemory ≡ BadLayout = e in cc)) (λ e. (let never : OutOfMemory ≡ BadJournal = e in cc)) either);
+    outside = λ keeps _. same_outside entry store opened keeps;
+    err_size = opened.size;
+    err_kept = opened.kept;
+    err_later = opened.later;
+  }
+
+  -- what the opening of a store says that gives up
+  pub record IsUnopened (entry : D) (fault : OpenFault) (left : D) : Type 0 where
+    pub size : g.sector_count left ≡ g.sector_count entry
+    pub kept : g.keeps_model left → g.keeps_model entry
+    pub later : g.failures entry ≤ g.failures left
+    pub device : fault ≡ StoreDevice → g.failures entry < g.failures left
+    pub calm : (fault ≡ StoreDevice → ⊥) → g.failures left ≡ g.failures entry
+    pub layout : g.keeps_model left → fault ≡ StoreLayout → IsBadLayout (g.sector_count entry) (g.content entry)
+    pub journal : g.keeps_model left → fault ≡ StoreJournal → IsBadJournal (g.sector_count entry) (g.content entry)
+    pub first : g.keeps_model left → fault ≡ StoreJournal → IsBadLayout (g.sector_count entry) (g.content entry) → ⊥
+    pub unwritten : g.keeps_model left → (fault ≡ StoreDevice → ⊥) → Touches g Nothing entry left
+
+  -- a store that can't be opened
+  pub refuses_store : (sizes : Sizes) (n : ℕ) (entry : D) (fault : OpenFault) (left : D) → (HasBadFrames sizes → ⊥) → (HasBadSlots sizes n → ⊥) → IsUnopened entry fault left
+      → BootRefuses g sizes n entry (boot_fault fault) left
+  refuses_store sizes n entry fault left frames slots unopened = record {
+    bad_frames = λ e. absurd (sized fault (inl e));
+    only_frames = λ few. absurd (frames few);
+    bad_slots = λ e. absurd (sized fault (inr e));
+    only_slots = λ _ many. absurd (slots many);
+    device = λ e. unopened.device (was_device fault e);
+    err_calm = λ other. unopened.calm (λ e. other (ap boot_fault e));
+    bad_layout = λ keeps e. unopened.layout keeps (was_layout fault e);
+    bad_journal = λ keeps e. unopened.journal keeps (was_journal fault e);
+    layout_first = λ keeps e. unopened.first keeps (was_journal fault e);
+    unasked = λ either. absurd (sized fault either);
+    unwritten = λ keeps either. unopened.unwritten keeps (no_device fault either);
+    outside = λ keeps other k _. ⊎_elim (λ none. absurd none) (λ (e : g.content left k ≡ g.content entry k). e)
+        ((unopened.unwritten keeps (λ e. other (ap boot_fault e))).content k);
+    err_size = unopened.size;
+    err_kept = unopened.kept;
+    err_later = unopened.later;
+  }
 
   -- the image at entry stands for its own files and pages
   at_entry : (entry : D) (store : FileStore D) → IsOpened entry store → g.keeps_model store.disk
@@ -154,6 +297,8 @@ module _ {M : Type 0} {levels : Levels.Ghosts M} {D E : Type 0} (g : Ghosts D) (
             (opened.leaves keeps c may (Stores.files_of m.core.store) (standing_page (g.content entry)) (stands_at_start entry m opened keeps)),
       );
     };
+    fresh = subst (λ (n : ℕ). IsStart m.core n (slots_of m.core.swap).total) (sym fresh.fresh.frames)
+        (subst (λ (n : ℕ). IsStart m.core frames n) (sym fresh.slots_free.total) fresh);
     start = record {
       live = λ pid. refl;
       views = λ pid page. refl;

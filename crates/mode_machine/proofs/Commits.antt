@@ -19,7 +19,6 @@ use Rattle.calls.specs.Calls as Calls
 use Rattle.calls.specs.Idle.{is_denial, is_idle}
 use Rattle.msync.specs.Shows as Syncing
 use Rattle.msync.specs.Core.{KeepsMemory, GivesBack, Commits, Acknowledged, Failed, Unread}
-use Rattle.msync.specs.Settling.{LosesDirtyOnly}
 use Rattle.vm_types.specs.declared.command.Command.{Command}
 use Rattle.vm_types.specs.declared.command.Command.TheVariants.{Msync}
 use Rattle.vm_types.specs.declared.command.MsyncMode.{MsyncMode}
@@ -153,10 +152,10 @@ module _ {M : Type 0} {levels : Levels.Ghosts M} {D E : Type 0} (g : Ghosts D) (
   -- the commit was made
   commit_done : (old : ModeMachine D E M levels) (core : Core D E M levels) (s : State) (pid addr len : ℕ) (mode : MsyncMode) (reply : Reply) (after : Pages)
       → Shows g h old s → IsRunning s → KeepsRoom (picture_of old.core) (picture_of core) → UsesDevice h old.core.swap.pages.disk core.swap.pages.disk → commits s (Msync pid addr len mode) ≡ Some after
-      → LosesDirtyOnly (picture_of old.core) (picture_of core) → (back : GivesBack g h old.core core pid addr len) → Commits g h (GivesBack g h old.core core pid addr len) old.core core s after (Msync pid addr len mode) reply → reply ≡ Done
+      → (back : GivesBack g h old.core core pid addr len) → Commits g h (GivesBack g h old.core core pid addr len) old.core core s after (Msync pid addr len mode) reply → reply ≡ Done
       → Syncing.Shows g core (outcome s (Msync pid addr len mode)).state
       → (t : State) × Meets g h old (record { core = core; halted = false; past = old.past; sync_room = tt; region_room = tt }) s t (Msync pid addr len mode) reply
-  commit_done old core s pid addr len mode reply after shows run room device commit loses back made done now =
+  commit_done old core s pid addr len mode reply after shows run room device commit back made done now =
       let x = Msync pid addr len mode in
       let new : ModeMachine D E M levels = record { core = core; halted = false; past = old.past; sync_room = tt; region_room = tt } in
       let n = g.sector_count old.core.store.disk in
@@ -173,7 +172,6 @@ module _ {M : Type 0} {levels : Levels.Ghosts M} {D E : Type 0} (g : Ghosts D) (
         };
         capacity = λ stall e. absurd (done_no_stall stall (sym done ∙ e));
         room = room;
-        accesses = loses;
         size = made.size;
         swap_size = device.size;
         kept = made.kept;
@@ -188,10 +186,10 @@ module _ {M : Type 0} {levels : Levels.Ghosts M} {D E : Type 0} (g : Ghosts D) (
   -- the store failed in it
   commit_failed : (counts_now : CountsNow g) (old : ModeMachine D E M levels) (core : Core D E M levels) (s : State) (pid addr len : ℕ) (mode : MsyncMode) (reply : Reply) (after : Pages)
       → Shows g h old s → IsRunning s → KeepsRoom (picture_of old.core) (picture_of core) → UsesDevice h old.core.swap.pages.disk core.swap.pages.disk → commits s (Msync pid addr len mode) ≡ Some after
-      → LosesDirtyOnly (picture_of old.core) (picture_of core) → (back : GivesBack g h old.core core pid addr len) → Commits g h (GivesBack g h old.core core pid addr len) old.core core s after (Msync pid addr len mode) reply → reply ≡ Refused EIO
+      → (back : GivesBack g h old.core core pid addr len) → Commits g h (GivesBack g h old.core core pid addr len) old.core core s after (Msync pid addr len mode) reply → reply ≡ Refused EIO
       → g.failures old.core.store.disk < g.failures core.store.disk → KeepsMemory old.core core
       → (t : State) × Meets g h old (record { core = core; halted = true; past = old.past; sync_room = tt; region_room = tt }) s t (Msync pid addr len mode) reply
-  commit_failed counts_now old core s pid addr len mode reply after shows run room device commit loses back made failed grew memory =
+  commit_failed counts_now old core s pid addr len mode reply after shows run room device commit back made failed grew memory =
       let x = Msync pid addr len mode in
       let new : ModeMachine D E M levels = record { core = core; halted = true; past = old.past; sync_room = tt; region_room = tt } in
       let n = g.sector_count old.core.store.disk in
@@ -221,7 +219,6 @@ module _ {M : Type 0} {levels : Levels.Ghosts M} {D E : Type 0} (g : Ghosts D) (
         };
         capacity = λ stall e. absurd (refused_no_stall EIO stall (sym failed ∙ e));
         room = room;
-        accesses = loses;
         size = made.size;
         swap_size = device.size;
         kept = made.kept;
@@ -236,12 +233,11 @@ module _ {M : Type 0} {levels : Levels.Ghosts M} {D E : Type 0} (g : Ghosts D) (
   -- a slot couldn't be read
   commit_unread : (old : ModeMachine D E M levels) (core : Core D E M levels) (s : State) (pid addr len : ℕ) (mode : MsyncMode) (reply : Reply) (after : Pages)
       → Shows g h old s → IsRunning s → KeepsRoom (picture_of old.core) (picture_of core) → UsesDevice h old.core.swap.pages.disk core.swap.pages.disk → commits s (Msync pid addr len mode) ≡ Some after
-      → LosesDirtyOnly (picture_of old.core) (picture_of core)
       → Commits g h (GivesBack g h old.core core pid addr len) old.core core s after (Msync pid addr len mode) reply → reply ≡ Stalled SwapDevice
       → h.failures old.core.swap.pages.disk < h.failures core.swap.pages.disk → Syncing.Shows g core s
       → (g.keeps_model core.store.disk → LeavesOnly g old.core.store.disk core.store.disk (StandsFor (g.sector_count old.core.store.disk) s.files s.durable))
       → (t : State) × Meets g h old (record { core = core; halted = false; past = old.past; sync_room = tt; region_room = tt }) s t (Msync pid addr len mode) reply
-  commit_unread old core s pid addr len mode reply after shows run room device commit loses made stalled grew now only =
+  commit_unread old core s pid addr len mode reply after shows run room device commit made stalled grew now only =
       let x = Msync pid addr len mode in
       let new : ModeMachine D E M levels = record { core = core; halted = false; past = old.past; sync_room = tt; region_room = tt } in
       let n = g.sector_count old.core.store.disk in
@@ -260,7 +256,6 @@ module _ {M : Type 0} {levels : Levels.Ghosts M} {D E : Type 0} (g : Ghosts D) (
         };
         capacity = λ stall e. subst (Calls.FallsShort (frame_count core.frames) (slots_of core.swap).total s x) (stall_is stall (sym stalled ∙ e)) tt;
         room = room;
-        accesses = loses;
         size = made.size;
         swap_size = device.size;
         kept = made.kept;
@@ -278,7 +273,6 @@ module _ {M : Type 0} {levels : Levels.Ghosts M} {D E : Type 0} (g : Ghosts D) (
     pub commits_so : (after : Pages) → commits s (Msync pid addr len mode) ≡ Some after
         → Commits g h (GivesBack g h old core pid addr len) old core s after (Msync pid addr len mode) reply
     pub back : (after : Pages) → commits s (Msync pid addr len mode) ≡ Some after → GivesBack g h old core pid addr len
-    pub loses : LosesDirtyOnly (picture_of old) (picture_of core)
 
   -- returning EIO, it halts the machine
   pub msync_halts : (counts_now : CountsNow g) (old : ModeMachine D E M levels) (core : Core D E M levels) (s : State) (pid addr len : ℕ) (mode : MsyncMode) (reply : Reply)
@@ -294,7 +288,7 @@ module _ {M : Type 0} {levels : Levels.Ghosts M} {D E : Type 0} (g : Ghosts D) (
       let made = told.commits_so some.0 some.1 in
       elim made.end as (λ _. (t : State) × Meets g h old (record { core = core; halted = true; past = old.past; sync_room = tt; region_room = tt }) s t x reply) [
         | Acknowledged done pages now sound ↦ absurd (let never : Done ≡ Refused EIO = sym done ∙ e in cc)
-        | Failed failed grew memory ↦ commit_failed counts_now old core s pid addr len mode reply some.0 shows run room device some.1 told.loses (told.back some.0 some.1) made e grew memory
+        | Failed failed grew memory ↦ commit_failed counts_now old core s pid addr len mode reply some.0 shows run room device some.1 (told.back some.0 some.1) made e grew memory
         | Unread stalled grew memory now sound only ↦ absurd (let never : Stalled SwapDevice ≡ Refused EIO = sym stalled ∙ e in cc)
       ])
       (none_or_some (commits s x))
@@ -314,13 +308,13 @@ module _ {M : Type 0} {levels : Levels.Ghosts M} {D E : Type 0} (g : Ghosts D) (
       let pages : ShowsPages (picture_of core) (outcome s x).state =
       subst (λ (t : State). ShowsPages (picture_of core) t) (sym stays.0) (subst (λ (o : Core D E M levels). ShowsPages (picture_of o) s) (sym same) shows.pages) in
       let keeps : KeepsDevices old.core core = keeps_all g h old.core core same in
-      answered g h only_now old core false old.past s x reply shows live refl stays.1 refl (unread g old.core.store core.store keeps.store) device (λ _. keeps) room told.loses (Calls.Does (told.passes none).0 pages))
+      answered g h only_now old core false old.past s x reply shows live refl stays.1 refl (unread g old.core.store core.store keeps.store) device (λ _. keeps) room (Calls.Does (told.passes none).0 pages))
       (λ (some : (after : Pages) × (commits s x ≡ Some after)).
       let made = told.commits_so some.0 some.1 in
       elim made.end as (λ _. (t : State) × Meets g h old (record { core = core; halted = false; past = old.past; sync_room = tt; region_room = tt }) s t x reply) [
-        | Acknowledged done pages now sound ↦ commit_done old core s pid addr len mode reply some.0 shows run room device some.1 told.loses (told.back some.0 some.1) made done (now (told.back some.0 some.1))
+        | Acknowledged done pages now sound ↦ commit_done old core s pid addr len mode reply some.0 shows run room device some.1 (told.back some.0 some.1) made done (now (told.back some.0 some.1))
         | Failed failed grew memory ↦ absurd (otherwise failed)
-        | Unread stalled grew memory now sound only ↦ commit_unread old core s pid addr len mode reply some.0 shows run room device some.1 told.loses made stalled grew now only
+        | Unread stalled grew memory now sound only ↦ commit_unread old core s pid addr len mode reply some.0 shows run room device some.1 made stalled grew now only
       ])
       (none_or_some (commits s x))
 

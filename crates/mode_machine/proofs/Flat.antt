@@ -1,6 +1,6 @@
 -- Commands that write nothing to the store.
 use Rattle.vm_types.specs.declared.mode.Levels as Levels
-use Rattle.std.proofs.Common.{ℕ, ◌≡◌, inl, Bool, true, false, List, Option, Some, None, is_some, refl, sym, ap, ◌∙◌, subst, inr, ⊎_elim, arith}
+use Rattle.std.proofs.Common.{ℕ, ◌/◌, ◌≡◌, inl, Bool, true, false, List, Option, Some, None, is_some, refl, sym, ap, ◌∙◌, subst, inr, ⊎_elim, arith}
 use Rattle.disk_model.specs.Moments.{LeavesNow, LeavesOnly, Touches, Nothing}
 use Rattle.disk_model.specs.Stop.{Image, MayLeave}
 use Rattle.disk_model.specs.declared.sector_disk.SectorDisk.{Ghosts}
@@ -18,6 +18,8 @@ use Rattle.mapping.specs.Changes.{KeepsRoom}
 use Rattle.page_ranges.specs.Steps.{KeepsDevices}
 use Rattle.page_faults.proofs.Slotted.{slotted_same}
 use Rattle.msync.specs.Shows as Syncing
+use Rattle.msync.proofs.SettledPages.{settles_nothing}
+use Rattle.calls.proofs.Returning.{takes_none}
 use Rattle.calls.specs.Accesses.{AsksFor}
 use Rattle.calls.specs.Calls as Calls
 use Rattle.calls.specs.Idle.{is_idle}
@@ -29,7 +31,9 @@ use Rattle.vm_types.specs.declared.refusal.Stall.{Stall}
 use Rattle.vm_types.specs.declared.refusal.Stall.TheVariants.{StoreDevice}
 use Rattle.vm_types.specs.declared.reply.Reply.{Reply}
 use Rattle.vm_types.specs.declared.reply.Reply.TheVariants.{Done, Halted}
+use Rattle.vm_types.specs.Checks.{page_count}
 use Rattle.vm_types.specs.Files.{Files}
+use Rattle.vm_types.specs.Limits.{user_end}
 use Rattle.vm_types.specs.History.{Past}
 use Rattle.vm_types.specs.Run.{Answers, Stalls, Stays}
 use Rattle.vm_types.specs.Stalls.{MayStall}
@@ -61,10 +65,10 @@ same_stall : (stall other : Stall) → Reply.Stalled stall ≡ Reply.Stalled oth
 same_stall stall other e = cc
 
 halted_asks : {M : Type 0} {levels : Levels.Ghosts M} {D E : Type 0} (c : Core D E M levels) (pid addr : ℕ) (access : Access) → AsksFor c c pid addr access Halted
-halted_asks c pid addr access = record { wanted = λ stall e. absurd (no_stall stall e); home = λ e. absurd (no_stall StoreDevice e); read = inl refl; slots = λ none. refl; slotted = slotted_same _ _ (picture_of c) }
+halted_asks c pid addr access = record { wanted = λ stall e. absurd (no_stall stall e); refused = λ stall e. absurd (no_stall stall e); home = λ e. absurd (no_stall StoreDevice e); read = inl refl; slots = λ none. refl; slotted = slotted_same _ _ (picture_of c) }
 
 module _ {M : Type 0} {levels : Levels.Ghosts M} where
-  halted_accesses : {D E : Type 0} (c : Core D E M levels) (command : Command) → Accesses c c command Halted
+  pub halted_accesses : {D E : Type 0} (c : Core D E M levels) (command : Command) → Accesses c c command Halted
   halted_accesses c (Load pid addr width) = (halted_asks c pid addr Kinds.Load, λ place walked. refl)
   halted_accesses c (Fetch pid addr) = (halted_asks c pid addr Kinds.Fetch, λ place walked. refl)
   halted_accesses c (Store pid addr stored) = (halted_asks c pid addr Kinds.Store, λ place walked done. absurd (let never : Halted ≡ Done = done in cc))
@@ -74,19 +78,20 @@ module _ {M : Type 0} {levels : Levels.Ghosts M} where
     tried = λ stall e. absurd (no_stall stall e);
     still = λ stall e. absurd (no_stall stall e);
     full = λ stall e. absurd (no_stall stall e);
+    refuses = λ stall e. absurd (no_stall stall e);
   }
   halted_accesses c (Fork pid) = record {
     entries = λ child e. absurd (no_process child e);
     tables = λ child e. absurd (no_process child e);
     stalls = λ stall e. absurd (no_stall stall e);
   }
-  halted_accesses c (Exit pid) = λ q page h ne. refl
-  halted_accesses c (Mmap pid addr len prot source placing) = λ q page h ne. refl
-  halted_accesses c (Munmap pid addr len) = λ q page h ne. refl
-  halted_accesses c (Mprotect pid addr len prot) = λ q page h ne. refl
-  halted_accesses c (Dontneed pid addr len) = λ q page h ne. refl
-  halted_accesses c (Msync pid addr len mode) = λ q page h. inl refl
-  halted_accesses c PastFaults = tt
+  halted_accesses c (Exit pid) = takes_none (picture_of c) pid 0 (user_end levels.mode)
+  halted_accesses c (Mmap pid addr len prot source placing) = takes_none (picture_of c) pid 0 (page_count len)
+  halted_accesses c (Munmap pid addr len) = takes_none (picture_of c) pid (addr / 4096) (page_count len)
+  halted_accesses c (Mprotect pid addr len prot) = takes_none (picture_of c) pid 0 0
+  halted_accesses c (Dontneed pid addr len) = takes_none (picture_of c) pid 0 0
+  halted_accesses c (Msync pid addr len mode) = settles_nothing (picture_of c)
+  halted_accesses c PastFaults = refl
 
 module _ {D : Type 0} (g : Ghosts D) where
   abbrev pub OnlyNow : Type 0
@@ -162,7 +167,7 @@ module _ {M : Type 0} {levels : Levels.Ghosts M} {D E : Type 0} (g : Ghosts D) (
   -- the state after it, where the store was only read
   module _ (only_now : OnlyNow g) (old : ModeMachine D E M levels) (core : Core D E M levels) (past : Past) (s : State) (command : Command) (reply : Reply)
       (shows : Shows g h old s) (run : old.halted ≡ false) (reads : ReadsStore g old.core.store core.store) (device : UsesDevice h old.core.swap.pages.disk core.swap.pages.disk)
-      (kept_past : past ≡ past_after command reply old.past) (idle : is_idle s command reply ≡ true → KeepsDevices old.core core) (room : KeepsRoom (picture_of old.core) (picture_of core)) (accesses : Accesses old.core core command reply) where
+      (kept_past : past ≡ past_after command reply old.past) (idle : is_idle s command reply ≡ true → KeepsDevices old.core core) (room : KeepsRoom (picture_of old.core) (picture_of core)) where
     abbrev new : ModeMachine D E M levels
     new = record { core = core; halted = false; past = past; sync_room = tt; region_room = tt }
 
@@ -198,7 +203,6 @@ module _ {M : Type 0} {levels : Levels.Ghosts M} {D E : Type 0} (g : Ghosts D) (
           };
           capacity = λ stall e. absurd (never_stalls s command stall (sym answer ∙ e));
           room = room;
-          accesses = accesses;
           size = reads.size;
           swap_size = device.size;
           kept = reads.kept;
@@ -222,7 +226,6 @@ module _ {M : Type 0} {levels : Levels.Ghosts M} {D E : Type 0} (g : Ghosts D) (
           };
           capacity = λ other e. subst (Calls.FallsShort (frame_count core.frames) (slots_of core.swap).total s command) (same_stall stall other (sym answer ∙ e)) short;
           room = room;
-          accesses = accesses;
           size = reads.size;
           swap_size = device.size;
           kept = reads.kept;
@@ -252,21 +255,21 @@ module _ {M : Type 0} {levels : Levels.Ghosts M} {D E : Type 0} (g : Ghosts D) (
   pub answered : (only_now : OnlyNow g) (old : ModeMachine D E M levels) (core : Core D E M levels) (halted : Bool) (past : Past) (s : State) (command : Command) (reply : Reply)
       → Shows g h old s → old.halted ≡ false → halted ≡ false → takes s (ruling s command) s.durable ≡ s.durable
       → past ≡ past_after command reply old.past → ReadsStore g old.core.store core.store → UsesDevice h old.core.swap.pages.disk core.swap.pages.disk
-      → (is_idle s command reply ≡ true → KeepsDevices old.core core) → KeepsRoom (picture_of old.core) (picture_of core) → Accesses old.core core command reply → Calls.Comes g h old.core core s command reply
+      → (is_idle s command reply ≡ true → KeepsDevices old.core core) → KeepsRoom (picture_of old.core) (picture_of core) → Calls.Comes g h old.core core s command reply
       → (t : State) × Meets g h old (record { core = core; halted = halted; past = past; sync_room = tt; region_room = tt }) s t command reply
-  answered only_now old core halted past s command reply shows run goes_on none kept_past reads device idle room accesses comes =
+  answered only_now old core halted past s command reply shows run goes_on none kept_past reads device idle room comes =
       subst (λ (b : Bool). (t : State) × Meets g h old (record { core = core; halted = b; past = past; sync_room = tt; region_room = tt }) s t command reply) (sym goes_on)
-      (read_meets only_now old core past s command reply shows run reads device kept_past idle room accesses none comes)
+      (read_meets only_now old core past s command reply shows run reads device kept_past idle room none comes)
 
   -- what a call says of a machine that runs
   pub carried : (only_now : OnlyNow g) (old : ModeMachine D E M levels) (core : Core D E M levels) (halted : Bool) (past : Past) (s : State) (command : Command) (reply : Reply)
       → Shows g h old s → old.halted ≡ false → halted ≡ false → takes s (ruling s command) s.durable ≡ s.durable
       → past ≡ past_after command reply old.past → ReadsStore g old.core.store core.store → UsesDevice h old.core.swap.pages.disk core.swap.pages.disk
-      → (is_idle s command reply ≡ true → KeepsDevices old.core core) → KeepsRoom (picture_of old.core) (picture_of core) → Accesses old.core core command reply → Calls.Carries g h old.core core command reply
+      → (is_idle s command reply ≡ true → KeepsDevices old.core core) → KeepsRoom (picture_of old.core) (picture_of core) → Calls.Carries g h old.core core command reply
       → IsReadable g h (record { core = core; halted = halted; past = past; sync_room = tt; region_room = tt }) s command
       → (t : State) × Meets g h old (record { core = core; halted = halted; past = past; sync_room = tt; region_room = tt }) s t command reply
-  carried only_now old core halted past s command reply shows run goes_on none kept_past reads device idle room accesses carries readable =
-      answered only_now old core halted past s command reply shows run goes_on none kept_past reads device idle room accesses
+  carried only_now old core halted past s command reply shows run goes_on none kept_past reads device idle room carries readable =
+      answered only_now old core halted past s command reply shows run goes_on none kept_past reads device idle room
       (carries s (shows_core old s shows (is_running old s shows run)) readable.files readable.slots)
 
   pub stays_halted : (only_now : OnlyNow g) (old : ModeMachine D E M levels) (s : State) (command : Command) → Shows g h old s → old.halted ≡ true
@@ -279,7 +282,6 @@ module _ {M : Type 0} {levels : Levels.Ghosts M} {D E : Type 0} (g : Ghosts D) (
         shows = shows;
         capacity = λ stall e. absurd (no_stall stall e);
         room = record { frames = refl; slots = refl };
-        accesses = halted_accesses old.core command;
         size = refl;
         swap_size = refl;
         kept = λ k. k;

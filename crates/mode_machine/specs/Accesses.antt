@@ -1,14 +1,16 @@
--- What a load, a store and a fetch ask for, and when they change nothing; what a spawn and a fork take of memory; and which entries
--- other calls leave.
+-- What a load, a store and a fetch ask for, and when they change nothing; what a spawn and a fork take of memory; that other
+-- calls take none, and which pages and entries they leave; and that the history is told without any change.
 use Rattle.vm_types.specs.declared.mode.Levels as Levels
 use Rattle.std.specs.Prelude.{◌≡◌, ◌/◌, ◌%◌}
 use Rattle.page_faults.specs.Outcome.{IsWalked}
-use Rattle.msync.specs.Settling.{LosesDirtyOnly}
-use Rattle.page_ranges.specs.Steps.{KeepsEntriesOfOthers}
+use Rattle.msync.specs.Settling.{SettlesMemory}
 use Rattle.paging.specs.Picture.{picture_of}
 use Rattle.paging.specs.declared.kernel.Core.{Core}
 use Rattle.calls.specs.Accesses.{AsksFor, WritesNumber}
 use Rattle.calls.specs.Processes.{ForkTakes, SpawnTakes}
+use Rattle.calls.specs.Ranges.{TakesNothing, first_mapped}
+use Rattle.vm_types.specs.Checks.{page_count}
+use Rattle.vm_types.specs.Limits.{user_end}
 use Rattle.vm_types.specs.declared.access.Access.TheVariants as Access
 use Rattle.vm_types.specs.declared.command.Command.{Command}
 use Rattle.vm_types.specs.declared.command.Command.TheVariants.{Spawn, Fork, Exit, Mmap, Munmap, Mprotect, Dontneed, Msync, Load, Store, Fetch, PastFaults}
@@ -19,8 +21,8 @@ use Rattle.vm_types.specs.declared.width.Width.TheVariants.{Four}
 
 module _ {M : Type 0} {levels : Levels.Ghosts M} {D E : Type 0} where
   -- An access asks for no more than it wants. Where the tables grant it nothing changes, but the number that a store writes. A spawn
-  -- and a fork take frames for tables alone, and give others up only for that. An exit and a call on a range leave the entries of
-  -- other processes, and of an msync no entry loses more than D.
+  -- and a fork take frames for tables alone, and give others up only for that. An exit and a call on a range take no frame
+  -- and drop no page; an msync takes none either, and of its entries none loses more than D. Telling the history changes nothing.
   abbrev pub Accesses : Core D E M levels → Core D E M levels → Command → Reply → Type 0
   Accesses old new (Load pid addr width) reply =
       AsksFor old new pid addr Access.Load reply × ((place : Phys) → IsWalked (picture_of old) pid addr width Access.Load place → new ≡ old)
@@ -31,10 +33,10 @@ module _ {M : Type 0} {levels : Levels.Ghosts M} {D E : Type 0} where
       → reply ≡ Done → WritesNumber old new (place.0 / 4096) (addr % 4096) stored)
   Accesses old new Spawn reply = SpawnTakes (picture_of old) (picture_of new) reply
   Accesses old new (Fork pid) reply = ForkTakes (picture_of old) (picture_of new) pid reply
-  Accesses old new (Exit pid) reply = KeepsEntriesOfOthers (picture_of old) (picture_of new) pid
-  Accesses old new (Mmap pid addr len prot source placing) reply = KeepsEntriesOfOthers (picture_of old) (picture_of new) pid
-  Accesses old new (Munmap pid addr len) reply = KeepsEntriesOfOthers (picture_of old) (picture_of new) pid
-  Accesses old new (Mprotect pid addr len prot) reply = KeepsEntriesOfOthers (picture_of old) (picture_of new) pid
-  Accesses old new (Dontneed pid addr len) reply = KeepsEntriesOfOthers (picture_of old) (picture_of new) pid
-  Accesses old new (Msync pid addr len mode) reply = LosesDirtyOnly (picture_of old) (picture_of new)
-  Accesses old new PastFaults reply = Unit {0}
+  Accesses old new (Exit pid) reply = TakesNothing (picture_of old) (picture_of new) pid 0 (user_end levels.mode)
+  Accesses old new (Mmap pid addr len prot source placing) reply = TakesNothing (picture_of old) (picture_of new) pid (first_mapped reply) (page_count len)
+  Accesses old new (Munmap pid addr len) reply = TakesNothing (picture_of old) (picture_of new) pid (addr / 4096) (page_count len)
+  Accesses old new (Mprotect pid addr len prot) reply = TakesNothing (picture_of old) (picture_of new) pid 0 0
+  Accesses old new (Dontneed pid addr len) reply = TakesNothing (picture_of old) (picture_of new) pid 0 0
+  Accesses old new (Msync pid addr len mode) reply = SettlesMemory (picture_of old) (picture_of new)
+  Accesses old new PastFaults reply = new ≡ old

@@ -1,16 +1,23 @@
 -- What a boot leaves, and when it gives up.
 use Rattle.vm_types.specs.declared.mode.Levels as Levels
-use Rattle.std.specs.Prelude.{ℕ, ◌*◌, ◌^◌, ◌≡◌, ◌<◌, ◌⊎◌, false, None, []}
+use Rattle.std.specs.Prelude.{ℕ, ◌*◌, ◌^◌, ◌≡◌, ◌<◌, ◌≤◌, ◌⊎◌, false, None, []}
+use Rattle.disk_model.specs.Moments.{Touches, Nothing, LeavesOnly}
+use Rattle.disk_model.specs.Stop.{Image}
 use Rattle.disk_model.specs.declared.sector_disk.SectorDisk.{Ghosts}
-use Rattle.file_store.specs.Standing.{StandsFor}
+use Rattle.sync_journal.specs.Layout.{IsOutside}
+use Rattle.sync_journal.specs.Standing.{IsBadJournal}
+use Rattle.file_store.specs.Standing.{StandsFor, StandsAs, IsBadLayout}
 use Rattle.frames.specs.FrameTable.{frame_count}
 use Rattle.swap.specs.Slots.{slots_of}
+use Rattle.paging.specs.Calls.{IsStart}
 use Rattle.vm_types.specs.State.{State, IsRunning}
+use Rattle.mode_machine.specs.declared.boot.BootFault.{BootFault}
+use Rattle.mode_machine.specs.declared.boot.BootFault.TheVariants.{Frames, Slots, Device, BadLayout, BadJournal}
 use Rattle.mode_machine.specs.declared.boot.Sizes.{Sizes}
 use Rattle.mode_machine.specs.declared.machine.ModeMachine.{ModeMachine}
 use Rattle.mode_machine.specs.Machine.{Shows}
 
--- 8 to 65,536 frames
+-- fewer than 8 frames, or more than 65,536
 abbrev pub HasBadFrames : Sizes → Type 0
 HasBadFrames sizes = (sizes.frames < 8) ⊎ (2 ^ 16 < sizes.frames)
 
@@ -34,10 +41,86 @@ pub record IsBootState (s : State) : Type 0 where
   pub past : s.past ≡ []
   pub running : IsRunning s
 
+-- Memory as a boot leaves it, with as many frames and slots as it has: all frames are free but the zero page, and all slots, there is
+-- no process, every page of a file or an object is at home and untouched, and no request for a frame was refused.
+module _ {M : Type 0} {levels : Levels.Ghosts M} {D E : Type 0} where
+  abbrev pub IsEmpty : ModeMachine D E M levels → Type 0
+  IsEmpty m = IsStart m.core (frame_count m.core.frames) (slots_of m.core.swap).total
+
 module _ {M : Type 0} {levels : Levels.Ghosts M} {D E : Type 0} (g : Ghosts D) (h : Ghosts E) where
-  -- The machine starts in a state whose files are those that the image at entry stood for.
+  -- The machine starts in a state whose files are those that the image at entry stood for, with nothing in memory.
   pub record Boots (store : D) (m : ModeMachine D E M levels) : Type 0 where
+    -- the state that it starts in
     pub state : State
+    -- its memory shows that state, and so does every image that a stop may leave
     pub shows : Shows g h m state
+    -- no process, nothing stored to files, no objects, no faults
     pub start : IsBootState state
+    -- no frame and no slot is taken
+    pub fresh : IsEmpty m
+    -- the image at entry stood for these files, with these bytes
     pub stands : g.keeps_model m.core.store.disk → StandsFor (g.sector_count store) state.files state.durable (g.content store)
+
+module _ {D : Type 0} (g : Ghosts D) where
+  -- What a boot that starts a machine was given, and what it leaves of the store's device, which is the new one then.
+  pub record BootAccepts (sizes : Sizes) (swap_sectors : ℕ) (store new : D) : Type 0 where
+    -- there are neither too few frames nor too many
+    pub frames : HasBadFrames sizes → ⊥
+    -- there are not too many slots, and the swap device has room for them
+    pub slots : HasBadSlots sizes swap_sectors → ⊥
+    -- the image has the layout of a store
+    pub layout : g.keeps_model new → IsBadLayout (g.sector_count store) (g.content store) → ⊥
+    -- its journal is closed, or open with a map that some commit writes
+    pub journal : g.keeps_model new → IsBadJournal (g.sector_count store) (g.content store) → ⊥
+    -- the device has as many sectors as it had
+    pub size : g.sector_count new ≡ g.sector_count store
+    -- if it keeps the disk model still, it did before
+    pub kept : g.keeps_model new → g.keeps_model store
+    -- no failure of it is forgotten
+    pub later : g.failures store ≤ g.failures new
+    -- and it did not fail
+    pub calm : g.failures new ≡ g.failures store
+    -- the mark, the directory and what lies after the last home are as they were
+    pub outside : g.keeps_model new → (k : ℕ) → IsOutside (g.sector_count store) k → g.content new k ≡ g.content store k
+
+  -- Why a boot gives up with this fault, and what it leaves of the store's device, which is the new one then.
+  pub record BootRefuses (sizes : Sizes) (swap_sectors : ℕ) (store : D) (fault : BootFault) (new : D) : Type 0 where
+    -- `Frames` comes only where the frames are too few or too many
+    pub bad_frames : fault ≡ Frames → HasBadFrames sizes
+    -- and always there
+    pub only_frames : HasBadFrames sizes → fault ≡ Frames
+    -- `Slots` comes only where the slots are too many
+    pub bad_slots : fault ≡ Slots → HasBadSlots sizes swap_sectors
+    -- and always there, unless the frames are bad
+    pub only_slots : (HasBadFrames sizes → ⊥) → HasBadSlots sizes swap_sectors → fault ≡ Slots
+    -- `Device` comes only where the store's device failed
+    pub device : fault ≡ Device → g.failures store < g.failures new
+    -- with any other fault it did not fail
+    pub err_calm : (fault ≡ Device → ⊥) → g.failures new ≡ g.failures store
+    -- `BadLayout` comes only where the image has no layout of a store
+    pub bad_layout : g.keeps_model new → fault ≡ BadLayout → IsBadLayout (g.sector_count store) (g.content store)
+    -- `BadJournal` comes only where its journal is open with a map that no commit writes
+    pub bad_journal : g.keeps_model new → fault ≡ BadJournal → IsBadJournal (g.sector_count store) (g.content store)
+    -- a bad layout is reported before a bad journal
+    pub layout_first : g.keeps_model new → fault ≡ BadJournal → IsBadLayout (g.sector_count store) (g.content store) → ⊥
+    -- for sizes nothing was asked of the device
+    pub unasked : (fault ≡ Frames) ⊎ (fault ≡ Slots) → new ≡ store
+    -- for a bad image nothing was written to it
+    pub unwritten : g.keeps_model new → (fault ≡ BadLayout) ⊎ (fault ≡ BadJournal) → Touches g Nothing store new
+    -- unless it failed, the mark, the directory and what lies after the last home are as they were
+    pub outside : g.keeps_model new → (fault ≡ Device → ⊥) → (k : ℕ) → IsOutside (g.sector_count store) k → g.content new k ≡ g.content store k
+    -- the device has as many sectors as it had
+    pub err_size : g.sector_count new ≡ g.sector_count store
+    -- if it keeps the disk model still, it did before
+    pub err_kept : g.keeps_model new → g.keeps_model store
+    -- no failure of it is forgotten
+    pub err_later : g.failures store ≤ g.failures new
+
+  -- What a stop leaves at any moment of a boot, whether it starts a machine or gives up, where the store came without unsynced writes.
+  pub record BootLeaves (store new : D) : Type 0 where
+    -- it stands for what the store did
+    pub any_moment : g.keeps_model new → ((k : ℕ) → g.unsynced store k → ⊥)
+        → LeavesOnly g store new (StandsAs (g.sector_count store) (g.content store))
+    -- and for what stood before any earlier stop, where the store was left by one
+    pub in_a_row : g.keeps_model new → ((k : ℕ) → g.unsynced store k → ⊥) → (first : Image) → StandsAs (g.sector_count store) first (g.content store)
+        → LeavesOnly g store new (StandsAs (g.sector_count store) first)

@@ -1,6 +1,6 @@
 -- How a machine is a state of the flat model, stops included.
 use Rattle.vm_types.specs.declared.mode.Levels as Levels
-use Rattle.std.specs.Prelude.{ℕ, ◌≡◌, ◌⊎◌, true, false, List, [], ◌∷◌, Option, Some, None, is_some}
+use Rattle.std.specs.Prelude.{ℕ, ◌≡◌, ◌≢◌, ◌⊎◌, true, false, List, [], ◌∷◌, Option, Some, None, is_some}
 use Rattle.disk_model.specs.Moments.{LeavesNow, LeavesOnly}
 use Rattle.disk_model.specs.Stop.{Image}
 use Rattle.disk_model.specs.declared.sector_disk.SectorDisk.{Ghosts}
@@ -15,17 +15,19 @@ use Rattle.msync.specs.Shows.{IsSoundCore}
 use Rattle.calls.specs.Calls as Calls
 use Rattle.calls.specs.Idle.{is_idle}
 use Rattle.vm_types.specs.declared.command.Command.{Command}
+use Rattle.vm_types.specs.declared.refusal.Errno.{Errno}
+use Rattle.vm_types.specs.declared.refusal.Errno.TheVariants.{EIO}
+use Rattle.vm_types.specs.declared.refusal.Fault.{Fault}
 use Rattle.vm_types.specs.declared.refusal.Stall.{Stall}
 use Rattle.vm_types.specs.declared.reply.Reply.{Reply}
-use Rattle.vm_types.specs.declared.reply.Reply.TheVariants.{Stalled}
+use Rattle.vm_types.specs.declared.reply.Reply.TheVariants.{Faulted, Refused, Stalled}
 use Rattle.vm_types.specs.Files.{Files}
-use Rattle.vm_types.specs.Prefix.{may_have_taken}
+use Rattle.vm_types.specs.Prefix.{is_msync, may_have_taken}
 use Rattle.vm_types.specs.Run.{Step}
 use Rattle.vm_types.specs.Stalls.{Causes, reads_files, reads_swap}
 use Rattle.vm_types.specs.State.{State, IsRunning}
 use Rattle.vm_types.specs.Step.{ruling, takes}
 use Rattle.vm_types.specs.View.{Pages}
-use Rattle.mode_machine.specs.Accesses.{Accesses}
 use Rattle.mode_machine.specs.declared.machine.ModeMachine.{ModeMachine}
 
 -- one of a list of contents
@@ -49,6 +51,16 @@ HoldsIn s command reply pages =
 -- the image stands for contents of which P holds
 abbrev pub StandsForSome : ℕ → Files → (Pages → Type 0) → Image → Type 0
 StandsForSome sectors files P image = (pages : Pages) × P pages × StandsFor sectors files pages image
+
+module _ {M : Type 0} {levels : Levels.Ghosts M} {D E : Type 0} where
+  -- A command that was not carried out leaves memory and both devices as they were.
+  pub record KeepsIfDenied (old new : ModeMachine D E M levels) (command : Command) (reply : Reply) : Type 0 where
+    -- a call that was refused; EIO alone comes of an msync that was begun
+    pub refused : (errno : Errno) → reply ≡ Refused errno → errno ≢ EIO → new.core ≡ old.core
+    -- an access that faulted: the history alone notes it (no msync faults)
+    pub faulted : is_msync command ≡ false → (fault : Fault) → reply ≡ Faulted fault → new.core ≡ old.core
+    -- any command of a halted machine, which leaves its history, too
+    pub halted : old.halted ≡ true → new ≡ old
 
 module _ {M : Type 0} {levels : Levels.Ghosts M} {D E : Type 0} (g : Ghosts D) (h : Ghosts E) where
   -- whatever the devices do: what the reply names came to pass between the two machines
@@ -79,7 +91,6 @@ module _ {M : Type 0} {levels : Levels.Ghosts M} {D E : Type 0} (g : Ghosts D) (
     pub shows : Shows new t
     pub capacity : (stall : Stall) → reply ≡ Stalled stall → Calls.FallsShort (frame_count new.core.frames) (slots_of new.core.swap).total s command stall
     pub room : KeepsRoom (picture_of old.core) (picture_of new.core)
-    pub accesses : Accesses old.core new.core command reply
     pub size : g.sector_count new.core.store.disk ≡ g.sector_count old.core.store.disk
     pub swap_size : h.sector_count new.core.swap.pages.disk ≡ h.sector_count old.core.swap.pages.disk
     pub kept : g.keeps_model new.core.store.disk → g.keeps_model old.core.store.disk

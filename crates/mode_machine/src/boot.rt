@@ -1,11 +1,7 @@
 //! Starting a machine.
-ghost use Rattle.std.specs.Prelude.{◌≡◌, ◌<◌, ◌≤◌, ◌⊎◌, ℕ, IfOk, IfErr, OnOk};
-ghost use Rattle.disk_model.specs.Moments.{Touches, Nothing, LeavesOnly};
-ghost use Rattle.disk_model.specs.Stop.{Image};
-ghost use Rattle.file_store.specs.Standing.{StandsAs, IsBadLayout};
-ghost use Rattle.sync_journal.specs.Standing.{IsBadJournal};
+ghost use Rattle.std.specs.Prelude.{◌≡◌, IfOk, IfErr};
 ghost use Rattle.mode_machine.specs.Machine.{IsSoundMachine};
-ghost use Rattle.mode_machine.specs.Boot.{HasBadFrames, HasBadSlots, HasRoom, Boots};
+ghost use Rattle.mode_machine.specs.Boot.{BootAccepts, BootLeaves, BootRefuses, Boots, HasRoom};
 ghost use Rattle.mode_machine.specs.Fault.{fault_number, boot_fault};
 
 use crate::fault_log::FaultLog;
@@ -100,42 +96,10 @@ impl<D: SectorDisk, E: SectorDisk + Drop, M: Levels> ModeMachine<D, E, M> {
         ensures room { IfOk result (λ m. HasRoom m sizes) }
         // The swap device is as it came.
         ensures swap { IfOk result (λ m. m.core.swap.pages.disk ≡ swap) }
-        ensures size { IfOk result (λ m. D.sector_count m.core.store.disk ≡ D.sector_count store) }
-        ensures kept { IfOk result (λ m. D.keeps_model m.core.store.disk → D.keeps_model store) }
-        ensures later { IfOk result (λ m. D.failures store ≤ D.failures m.core.store.disk) }
-        ensures calm { IfOk result (λ m. D.failures m.core.store.disk ≡ D.failures store) }
-        ensures frames { OnOk result (HasBadFrames sizes → ⊥) }
-        ensures slots { OnOk result (HasBadSlots sizes (E.sector_count swap) → ⊥) }
-        ensures layout { IfOk result (λ m. D.keeps_model m.core.store.disk → IsBadLayout (D.sector_count store) (D.content store) → ⊥) }
-        ensures journal { IfOk result (λ m. D.keeps_model m.core.store.disk → IsBadJournal (D.sector_count store) (D.content store) → ⊥) }
-
-        // Where the store came without unsynced writes, a stop at any moment of the call leaves what stood before it, and what
-        // stood before any earlier stop.
-        ensures any_moment { IfOk result (λ m. D.keeps_model m.core.store.disk → ((k : ℕ) → D.unsynced store k → ⊥)
-            → LeavesOnly D.SectorDisk store m.core.store.disk (StandsAs (D.sector_count store) (D.content store))) }
-        ensures in_a_row { IfOk result (λ m. D.keeps_model m.core.store.disk → ((k : ℕ) → D.unsynced store k → ⊥) → (first : Image) → StandsAs (D.sector_count store) first (D.content store)
-            → LeavesOnly D.SectorDisk store m.core.store.disk (StandsAs (D.sector_count store) first)) }
-        ensures err_moment { IfErr result (λ e. D.keeps_model e.1 → ((k : ℕ) → D.unsynced store k → ⊥)
-            → LeavesOnly D.SectorDisk store e.1 (StandsAs (D.sector_count store) (D.content store))) }
-        ensures err_in_a_row { IfErr result (λ e. D.keeps_model e.1 → ((k : ℕ) → D.unsynced store k → ⊥) → (first : Image) → StandsAs (D.sector_count store) first (D.content store)
-            → LeavesOnly D.SectorDisk store e.1 (StandsAs (D.sector_count store) first)) }
-
-        ensures err_size { IfErr result (λ e. D.sector_count e.1 ≡ D.sector_count store) }
-        ensures err_kept { IfErr result (λ e. D.keeps_model e.1 → D.keeps_model store) }
-        ensures err_later { IfErr result (λ e. D.failures store ≤ D.failures e.1) }
-        ensures bad_frames { IfErr result (λ e. e.0 ≡ BootFault.Frames → HasBadFrames sizes) }
-        ensures only_frames { IfErr result (λ e. HasBadFrames sizes → e.0 ≡ BootFault.Frames) }
-        ensures bad_slots { IfErr result (λ e. e.0 ≡ BootFault.Slots → HasBadSlots sizes (E.sector_count swap)) }
-        ensures only_slots { IfErr result (λ e. (HasBadFrames sizes → ⊥) → HasBadSlots sizes (E.sector_count swap) → e.0 ≡ BootFault.Slots) }
-        ensures device { IfErr result (λ e. e.0 ≡ BootFault.Device → D.failures store < D.failures e.1) }
-        ensures err_calm { IfErr result (λ e. (e.0 ≡ BootFault.Device → ⊥) → D.failures e.1 ≡ D.failures store) }
-        ensures bad_layout { IfErr result (λ e. D.keeps_model e.1 → e.0 ≡ BootFault.BadLayout → IsBadLayout (D.sector_count store) (D.content store)) }
-        ensures bad_journal { IfErr result (λ e. D.keeps_model e.1 → e.0 ≡ BootFault.BadJournal → IsBadJournal (D.sector_count store) (D.content store)) }
-        // A bad layout is reported before a bad journal.
-        ensures layout_first { IfErr result (λ e. D.keeps_model e.1 → e.0 ≡ BootFault.BadJournal → IsBadLayout (D.sector_count store) (D.content store) → ⊥) }
-        // Nothing was asked of the store, or nothing written to it.
-        ensures unasked { IfErr result (λ e. (e.0 ≡ BootFault.Frames) ⊎ (e.0 ≡ BootFault.Slots) → e.1 ≡ store) }
-        ensures unwritten { IfErr result (λ e. D.keeps_model e.1 → (e.0 ≡ BootFault.BadLayout) ⊎ (e.0 ≡ BootFault.BadJournal) → Touches D.SectorDisk Nothing store e.1) }
+        ensures accepts { IfOk result (λ m. BootAccepts D.SectorDisk sizes (E.sector_count swap) store m.core.store.disk) }
+        ensures moments { IfOk result (λ m. BootLeaves D.SectorDisk store m.core.store.disk) }
+        ensures refuses { IfErr result (λ e. BootRefuses D.SectorDisk sizes (E.sector_count swap) store e.0 e.1) }
+        ensures err_moments { IfErr result (λ e. BootLeaves D.SectorDisk store e.1) }
     {
         if sizes.frames < MIN_FRAMES || sizes.frames > MAX_FRAMES {
             return Err((BootFault::Frames, store));

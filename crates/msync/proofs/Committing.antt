@@ -51,7 +51,7 @@ use Rattle.msync.specs.declared.chosen.Spot.{Spot}
 use Rattle.msync.specs.Choice.{page_at, Lists, TakesSame, IsListed, IsAway}
 use Rattle.msync.specs.Core.{KeepsMemory, IsEnd, Acknowledged, Failed, Unread, Commits}
 use Rattle.msync.specs.Spots.{spot_at, place_at, bytes_there, IsSlotted, HasSlot, AreSpots, HasSpots}
-use Rattle.msync.specs.Settling.{settled_place, settled_in, Settles, LosesDirtyOnly, ComesHome, SettlesPlaces}
+use Rattle.msync.specs.Settling.{settled_place, settled_in, Settles, LosesDirtyOnly, ComesHome, SettlesMemory, SettlesPlaces}
 use Rattle.msync.specs.Shows.{IsSoundCore, Shows}
 use Rattle.msync.proofs.SettledPages.{one_file, held_spot, cases_listed}
 
@@ -289,7 +289,7 @@ module _ {mode : ℕ} (c new : Picture mode) (chosen : Chosen) (list : List Spot
   placed_at i less = (spots.spots i (omega (arith, less, spots.count))).placed
 
   -- of all entries only leaves over the pages that were taken lost D
-  pub entries_synced : LosesDirtyOnly c new
+  entries_synced : LosesDirtyOnly c new
   entries_synced pid page h = elim (settles.entries pid page h) [
     | inl same ↦ inl same
     | inr lost ↦ (
@@ -318,7 +318,7 @@ module _ {mode : ℕ} (c new : Picture mode) (chosen : Chosen) (list : List Spot
   place_synced p (Slotted k) was now touched clean = inr (record { slot = k; was = was; touched = touched; now = now; clean = clean })
 
   -- and every file page that wasn't in a slot lies where it lay
-  pub places_synced : SettlesPlaces c new
+  places_synced : SettlesPlaces c new
   places_synced p = elim (cases_listed list (length list) p) [
     | inr none ↦ inl (settles.elsewhere p none)
     | inl found ↦ (
@@ -330,6 +330,9 @@ module _ {mode : ℕ} (c new : Picture mode) (chosen : Chosen) (list : List Spot
           | inr home ↦ inr (x.page, refl, home)
         ]))
   ]
+
+  pub memory_synced : SettlesMemory c new
+  memory_synced = record { roles = settles.roles; entries = entries_synced; places = places_synced }
 
 slot_of : {mode : ℕ} (c : Picture mode) (p : PageKey) (at : Residence) → c.place p ≡ place_at at → IsSlotted at → (k : SlotNo) × (c.place p ≡ Slot k)
 slot_of c p (Framed n) placed is = absurd is

@@ -2,7 +2,7 @@
 use Rattle.std.proofs.Common.{ℕ, inl, ap}
 use Rattle.vm_types.specs.declared.file.FilePage.{FilePage}
 use Rattle.vm_types.specs.declared.object.PageKey.TheVariants.{File}
-use Rattle.frames.specs.FrameTable.{frame_count}
+use Rattle.frames.specs.FrameTable.{frame_count, role_of}
 use Rattle.paging.specs.Picture.{Picture}
 use Rattle.paging.specs.Parts.{IsFit}
 use Rattle.paging.proofs.Homing.{Homes, same, views, held_else, held_none}
@@ -12,6 +12,7 @@ use Rattle.msync.specs.Spots.{slotted_at}
 pub settles_homed : {mode : ℕ} (old new : Picture mode) (page : FilePage) (k : ℕ) → IsFit old → Homes old new (File page) k → SettlesOne old new (slotted_at page (record { 0 = k }))
 settles_homed old new page k fit homes = record {
   frames = ap frame_count homes.frames;
+  roles = λ m. ap (λ t. role_of t m) homes.frames;
   slots = homes.slots.others.total;
   root = homes.root;
   views = views old new (File page) k fit homes;

@@ -91,6 +91,7 @@ module _ {mode : ℕ} (a b x y : Picture mode) (page : FilePage) (n : ℕ) (w : 
 
   pub settles_framed : SettlesOne a y (framed_at page (record { 0 = n }))
   settles_framed = record {
+    roles = λ m. ap (λ t. role_of t m) u.frames ∙ changes.roles m ∙ ap (λ t. role_of t m) is;
     frames = ap frame_count u.frames ∙ changes.frames ∙ frames_cut a b page n w fit_a placed is beside;
     slots = ap (λ t. t.total) u.slots ∙ ap (λ t. t.total) changes.beside.slots ∙ ap (λ t. t.total) beside.slots;
     root = λ q. u.root q ∙ changes.beside.root q ∙ beside.root q;

@@ -23,7 +23,7 @@ use Rattle.msync.specs.declared.chosen.Residence.{Residence}
 use Rattle.msync.specs.declared.chosen.Residence.TheVariants.{Framed, Slotted}
 use Rattle.msync.specs.declared.chosen.Spot.{Spot}
 use Rattle.msync.specs.Spots.{spot_at, place_at, bytes_there, IsThere, IsSpot, AreSpots}
-use Rattle.msync.specs.Settling.{KeepsBesidePages, LosesDirty, ClearsLeaf, IsFrameIn, settled_place, settled_in, settled_bytes, SettlesOne, Settles}
+use Rattle.msync.specs.Settling.{KeepsBesidePages, LosesDirty, ClearsLeaf, IsFrameIn, settled_place, settled_in, settled_bytes, SettlesOne, Settles, SettlesMemory}
 
 lost_clean : (e e' : ℕ) → LosesDirty e e' → is_dirty e' ≡ false
 lost_clean e e' lost =
@@ -33,10 +33,19 @@ lost_clean e e' lost =
 pub one_file : (p q : FilePage) → File p ≡ File q → p ≡ q
 one_file p q e = (cc)
 
+-- nothing changed
+pub settles_nothing : {mode : ℕ} (c : Picture mode) → SettlesMemory c c
+settles_nothing c = record {
+  roles = λ n. refl;
+  entries = λ pid page h. inl refl;
+  places = λ p. inl refl;
+}
+
 -- no page at all
 pub settles_none : {mode : ℕ} (c : Picture mode) (list : List Spot) → Settles c c list 0
 settles_none c list = record {
   frames = refl;
+  roles = λ n. refl;
   slots = refl;
   root = λ q. refl;
   views = λ q p. refl;
@@ -120,6 +129,7 @@ module _ {mode : ℕ} (a b : Picture mode) (list : List Spot) (i : ℕ) (spots :
     pub settles_more : Settles a c list (i + 1)
     settles_more = record {
       frames = one.frames ∙ settles.frames;
+      roles = λ m. one.roles m ∙ settles.roles m;
       slots = one.slots ∙ settles.slots;
       root = λ q. one.root q ∙ settles.root q;
       views = λ q p. one.views q p ∙ settles.views q p;

@@ -13,6 +13,7 @@ use Rattle.page_tables.specs.Tree.{IsPage}
 use Rattle.page_cache.specs.declared.place.Place.{Place}
 use Rattle.page_cache.specs.declared.place.Place.TheVariants.{Home, Frame, Slot}
 use Rattle.paging.specs.declared.kernel.Core.{Core}
+use Rattle.paging.specs.Ages.{KeepsRoles}
 use Rattle.paging.specs.Picture.{Picture, entry, view, held, is_private}
 use Rattle.msync.specs.declared.chosen.Residence.{Residence}
 use Rattle.msync.specs.declared.chosen.Residence.TheVariants.{Framed, Slotted}
@@ -59,6 +60,7 @@ module _ {mode : ℕ} where
 module _ {mode : ℕ} where
   pub record SettlesOne (old new : Picture mode) (spot : Spot) : Type 0 where
     pub frames : frame_count new.frames ≡ frame_count old.frames
+    pub roles : KeepsRoles old new
     pub slots : new.slots.total ≡ old.slots.total
     pub root : (pid : ℕ) → new.root pid ≡ old.root pid
     pub views : (pid page : ℕ) → view new pid page ≡ view old pid page
@@ -80,6 +82,7 @@ IsFrameIn list n = (i : ℕ) × (i < length list) × ((spot_at list i).at ≡ Fr
 module _ {mode : ℕ} where
   pub record Settles (old new : Picture mode) (list : List Spot) (n : ℕ) : Type 0 where
     pub frames : frame_count new.frames ≡ frame_count old.frames
+    pub roles : KeepsRoles old new
     pub slots : new.slots.total ≡ old.slots.total
     pub root : (pid : ℕ) → new.root pid ≡ old.root pid
     pub views : (pid page : ℕ) → view new pid page ≡ view old pid page
@@ -121,3 +124,13 @@ module _ {mode : ℕ} where
 module _ {mode : ℕ} where
   abbrev pub SettlesPlaces : Picture mode → Picture mode → Type 0
   SettlesPlaces old new = (p : PageKey) → (new.place p ≡ old.place p) ⊎ ((f : FilePage) × (p ≡ File f) × ComesHome old new f)
+
+-- What an msync leaves of memory, whatever it returns.
+module _ {mode : ℕ} where
+  pub record SettlesMemory (old new : Picture mode) : Type 0 where
+    -- each frame has the use that it had: none is taken, and none given back
+    pub roles : KeepsRoles old new
+    -- no entry lost more than D, and that only over a file page that was made durable
+    pub entries : LosesDirtyOnly old new
+    -- no page of a file or an object came or went, but for file pages that were made durable from slots
+    pub places : SettlesPlaces old new

@@ -21,7 +21,7 @@ ghost use Rattle.msync.specs.Core.{Commits, GivesBack};
 ghost use Rattle.msync.specs.Shows.{IsSoundCore, Shows};
 ghost use Rattle.msync.specs.Choice.{chosen_of, IsListed, TakesSame, TakesAway, IsAway, page_at};
 ghost use Rattle.msync.specs.Spots.{HasSpots, IsSpot, bytes_there};
-ghost use Rattle.msync.specs.Settling.{LosesDirtyOnly, SettlesPlaces};
+ghost use Rattle.msync.specs.Settling.{SettlesMemory};
 
 use crate::choosing::rule;
 use crate::chosen::{Residence, Ruling, Spot};
@@ -48,6 +48,7 @@ use vm_types::{Answer, Errno, FilePage, Levels, MSYNC_PAGES, MsyncMode, PageKey,
 ///
 /// What becomes durable of a page in a slot is what was put there as long as the swap device keeps its model. Its time is that of
 /// the touched pages times the runs of all processes, however long they are.
+#[tactic(auto, using(crate::proofs::SettledPages::settles_nothing))]
 pub fn msync<D: SectorDisk, E: SectorDisk, M: Levels>(
     core: &mut Core<D, E, M>,
     room: &mut SyncRoom,
@@ -76,8 +77,7 @@ pub fn msync<D: SectorDisk, E: SectorDisk, M: Levels>(
     ensures still { ((stall : Stall) → result ≢ Answer.Stalled stall) → E.failures core.new.swap.pages.disk ≡ E.failures core.old.swap.pages.disk }
     ensures away { (core.new.swap ≡ core.old.swap) ⊎ TakesAway (picture_of core.old) pid addr len }
     ensures refused { core.new.refused ≡ core.old.refused }
-    ensures entries { LosesDirtyOnly (picture_of core.old) (picture_of core.new) }
-    ensures places { SettlesPlaces (picture_of core.old) (picture_of core.new) }
+    ensures memory { SettlesMemory (picture_of core.old) (picture_of core.new) }
     ensures unasked { (errno : Errno) → result ≡ Answer.Refused errno → errno ≢ EIO → core.new ≡ core.old }
 {
     let list = room.pages.list();
@@ -116,8 +116,7 @@ fn commit<D: SectorDisk, E: SectorDisk, M: Levels>(
     ensures still { ((stall : Stall) → result ≢ Answer.Stalled stall) → E.failures core.new.swap.pages.disk ≡ E.failures core.old.swap.pages.disk }
     ensures away { (core.new.swap ≡ core.old.swap) ⊎ IsAway (picture_of core.old) (chosen_of list.now count) }
     ensures refused { core.new.refused ≡ core.old.refused }
-    ensures entries { LosesDirtyOnly (picture_of core.old) (picture_of core.new) }
-    ensures places { SettlesPlaces (picture_of core.old) (picture_of core.new) }
+    ensures memory { SettlesMemory (picture_of core.old) (picture_of core.new) }
     ensures answers { (errno : Errno) → result ≡ Answer.Refused errno → errno ≡ EIO }
 {
     let list = &list[..count];

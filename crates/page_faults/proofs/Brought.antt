@@ -1,7 +1,7 @@
 -- An access goes on after the file page of its page was brought into a frame.
 use Rattle.vm_types.specs.declared.mode.Levels as Levels
 use Rattle.vm_types.specs.Limits.{top_level}
-use Rattle.std.proofs.Common.{◌≡◌, ◌≤◌, ℕ, false, inl, inr, ◌⊎◌, None, Result, Ok, Err, refl, sym, ◌∙◌, subst, arith}
+use Rattle.std.proofs.Common.{◌≡◌, ◌≢◌, ◌≤◌, ℕ, false, inl, inr, ◌⊎◌, None, Result, Ok, Err, refl, sym, ◌∙◌, subst, arith}
 use Rattle.std.specs.Prelude.{IfErr}
 use Rattle.vm_types.specs.declared.access.Access.{Access}
 use Rattle.vm_types.specs.declared.object.PageKey.{PageKey}
@@ -15,7 +15,7 @@ use Rattle.page_cache.specs.declared.place.Place.TheVariants.{Frame}
 use Rattle.paging.specs.declared.kernel.Core.{Core}
 use Rattle.paging.specs.Picture.{Picture, picture_of, held}
 use Rattle.paging.specs.Parts.{IsFit}
-use Rattle.paging.specs.Calls.{UsesDevice}
+use Rattle.paging.specs.Calls.{Frees, Refuses, UsesDevice}
 use Rattle.paging.specs.Stalls.{HasStallCause, ReadCause}
 use Rattle.paging.specs.Capacity.{IsShort}
 use Rattle.paging.specs.Shows.{KeepsFiles}
@@ -24,6 +24,7 @@ use Rattle.mapping.specs.Files.{BringsPages, BringsFiles, IsInStore}
 use Rattle.mapping.proofs.Steps.{seen_then}
 use Rattle.page_faults.specs.Outcome.{IsStalled}
 use Rattle.page_faults.specs.Wants.{ShowsFile, Wants, ReadsHome}
+use Rattle.page_faults.proofs.Keeping.{nowhere_keeps}
 use Rattle.page_faults.proofs.Steps.{brings_after, brings_then, cause_then, no_store}
 use Rattle.page_faults.proofs.Wanted.{page_there, there_or, reads_home}
 
@@ -86,11 +87,13 @@ module _ {M : Type 0} {m : Levels.Ghosts M} {D E : Type 0} (old mid : Core D E M
 
     -- it wasn't brought
     pub stalled_away : (access : Access) (stall : Stall) → IsFit (picture_of old) → KeepsSeen (picture_of old) (picture_of mid) → ((n : FrameNo) → (picture_of old).place p ≡ Frame n → ⊥)
-        → ReadCause g h old mid stall → IsShort (picture_of mid) stall → (stall ≡ StoreDevice → IsInStore (picture_of old) p) → IsStalled g h old mid pid page access stall
-    stalled_away access stall fit keeps never cause short home = record {
+        → ReadCause g h old mid stall → IsShort (picture_of mid) stall → (stall ≡ StoreDevice → IsInStore (picture_of old) p) → KeepsSpaces (picture_of old) (picture_of mid) → Frees (picture_of old) (picture_of mid) None
+        → (stall ≢ StoreDevice → Refuses (picture_of mid) None stall) → IsStalled g h old mid pid page access stall
+    stalled_away access stall fit keeps never cause short home spaces frees refuses = record {
       keeps = keeps;
       cause = cause;
       short = short;
+      refused = λ other. record { keep = None; keeps = nowhere_keeps (picture_of old) (picture_of mid) pid page access p shows spaces.at keeps frees never; refuses = refuses other };
       wanted = (elim (there_or (picture_of old) pid page access p shows) [
         | inl there ↦ absurd (never there.0 there.1)
         | inr away ↦ away
@@ -107,6 +110,7 @@ module _ {M : Type 0} {m : Levels.Ghosts M} {D E : Type 0} (old mid : Core D E M
       keeps = seen_then (picture_of old) (picture_of mid) (picture_of new) keeps stalled.keeps;
       cause = cause_then g h old mid new s swap_calm same calm stalled.cause;
       short = stalled.short;
+      refused = stalled.refused;
       wanted = wants_then idle access stalled.wanted;
       home = λ is. absurd (no_store h mid new s cause is);
     }

@@ -1,6 +1,7 @@
 -- A page whose entry was set, or that came back from its slot, grants what its region lets be done.
 use Rattle.vm_types.specs.declared.mode.Levels as Levels
-use Rattle.std.proofs.Common.{◌≡◌, ◌≢◌, ℕ, Bool, true, false, Some, Result, Ok, Err, refl, subst}
+use Rattle.vm_types.specs.Limits.{top_level}
+use Rattle.std.proofs.Common.{◌≡◌, ◌≢◌, ℕ, Bool, true, false, Some, None, Result, Ok, Err, refl, subst}
 use Rattle.std.specs.Prelude.{IfOk, IfErr, OnErr}
 use Rattle.vm_types.specs.declared.access.Access.{Access}
 use Rattle.vm_types.specs.declared.access.Access.TheVariants.{Load, Store, Fetch}
@@ -11,12 +12,14 @@ use Rattle.vm_types.specs.Verdict.{lets}
 use Rattle.disk_model.specs.declared.sector_disk.SectorDisk.{Ghosts}
 use Rattle.frames.specs.FrameTable.{bytes_of, count_of, IsSound}
 use Rattle.paging.specs.declared.kernel.Core.{Core}
-use Rattle.paging.specs.Picture.{Picture, picture_of, entry, is_swapped}
+use Rattle.paging.specs.Picture.{Picture, picture_of, entry, is_private, is_swapped}
 use Rattle.paging.specs.Parts.{IsFit, is_shared}
+use Rattle.paging.specs.Calls.{Frees, Refuses}
 use Rattle.paging.specs.Stalls.{HasStallCause}
 use Rattle.paging.specs.Capacity.{IsShort}
 use Rattle.paging.specs.Shows.{KeepsFiles}
 use Rattle.page_tables.specs.Leaves.{IsEntryOver}
+use Rattle.page_tables.specs.Tree.{IsPage}
 use Rattle.mapping.specs.Leaves.{IsFullEntry}
 use Rattle.mapping.specs.Changes.{KeepsSeen, KeepsViews}
 use Rattle.mapping.proofs.BroughtIn.{cause_of}
@@ -27,6 +30,7 @@ use Rattle.page_faults.specs.Granted.{IsEntered, IsReadyAt}
 use Rattle.page_faults.specs.Outcome.{IsStalled, seen_at}
 use Rattle.page_faults.specs.Shown.{AreShown}
 use Rattle.page_faults.specs.Wants.{ForSlot}
+use Rattle.page_faults.proofs.Keeping.{away_keeps}
 use Rattle.page_faults.proofs.Opening.{reads_too}
 use Rattle.page_faults.proofs.Ready.{shown_there}
 use Rattle.page_faults.proofs.Settled.{readable, ready_read, entered_read, entered_store, entered_ready, ready_own, owned_entry, ready_after}
@@ -96,12 +100,14 @@ module _ {mode : ℕ} (old new : Picture mode) (pid page : ℕ) (a : Attr) (acce
 -- or stayed there
 module _ {M : Type 0} {m : Levels.Ghosts M} {D E : Type 0} (g : Ghosts D) (h : Ghosts E) (old new : Core D E M m) (pid page : ℕ) (access : Access) where
   pub swapped_stalled : (r : Result FrameNo Stall) → new.store ≡ old.store → KeepsFiles (picture_of old) (picture_of new) → OnErr r (KeepsViews (picture_of old) (picture_of new))
-      → is_swapped (entry (picture_of old) pid page) ≡ true → HasStallCause h old new r → IfErr r (IsShort (picture_of new)) → IfErr r (IsStalled g h old new pid page access)
-  swapped_stalled (Ok n) same files views away cause short = tt
-  swapped_stalled (Err s) same files views away cause short = record {
+      → IsPage (top_level m.mode) page → is_private (entry (picture_of old) pid page) ≡ false → is_swapped (entry (picture_of old) pid page) ≡ true → OnErr r (Frees (picture_of old) (picture_of new) None)
+      → HasStallCause h old new r → IfErr r (IsShort (picture_of new)) → IfErr r (Refuses (picture_of new) None) → IfErr r (IsStalled g h old new pid page access)
+  swapped_stalled (Ok n) same files views inside common away frees cause short refuses = tt
+  swapped_stalled (Err s) same files views inside common away frees cause short refuses = record {
     keeps = record { views = views; touched = files.touched };
     cause = cause_of g h old new s same cause;
     short = short;
+    refused = λ other. record { keep = None; keeps = away_keeps (picture_of old) (picture_of new) pid page access inside common away frees; refuses = refuses };
     wanted = ForSlot away;
     home = λ is. absurd (no_store h old new s cause is);
   }

@@ -9,6 +9,7 @@ pub mod Settled
 pub mod Steps
 pub mod Wanted
 pub mod Slotted
+pub mod Keeping
 pub mod Linked
 pub mod Brought
 pub mod Owned

@@ -22,7 +22,7 @@ use Rattle.paging.specs.declared.kernel.Core.{Core}
 use Rattle.paging.specs.Ages.{GivesForTables}
 use Rattle.paging.specs.Seats.{is_swapped}
 use Rattle.paging.specs.Picture.{Picture, picture_of, entry}
-use Rattle.paging.specs.Calls.{KeepsPages}
+use Rattle.paging.specs.Calls.{KeepsPages, Refuses}
 use Rattle.paging.specs.Stalls.{StallCause}
 use Rattle.paging.specs.Capacity.{IsShort}
 use Rattle.paging.proofs.Entries.{entry-of}
@@ -35,6 +35,7 @@ use Rattle.page_faults.specs.Found.{IsOpenTo}
 use Rattle.page_faults.specs.Granted.{IsReadyAt}
 use Rattle.page_faults.specs.Outcome.{IsStalled}
 use Rattle.page_faults.specs.Wants.{LacksTable, ShowsFile, Wants, ForTable, ReadsHome}
+use Rattle.page_faults.proofs.Keeping.{unlinked_keeps}
 use Rattle.page_faults.proofs.Settled.{ready_after}
 use Rattle.page_faults.proofs.Steps.{keeps_seen, brings_after, cause_then, ok_then, stall_then, no_store}
 use Rattle.page_faults.proofs.Wanted.{whole_or, shows_back}
@@ -134,6 +135,7 @@ module _ {M : Type 0} {m : Levels.Ghosts M} {D E : Type 0} (old mid : Core D E M
       keeps = seen_then (picture_of old) (picture_of mid) (picture_of new) (keeps_seen (picture_of old) (picture_of mid) pages) stalled.keeps;
       cause = cause_then g h old mid new stall swap_calm same (ap (λ s. g.failures s.disk) moves.store) stalled.cause;
       short = stalled.short;
+      refused = stalled.refused;
       wanted = wants_back access stalled.wanted;
       home = λ device. home_back linked gives tables (stalled.home device);
     }
@@ -144,12 +146,13 @@ module _ {M : Type 0} {m : Levels.Ghosts M} {D E : Type 0} (old mid : Core D E M
         stall_then (IsStalled g h mid new pid page access) (IsStalled g h old new pid page access) r (λ s. one_stalled linked gives tables new access s same swap_calm) stalled
 
     -- no frame was had for a table
-    pub stalled_tables : (access : Access) (stall : Stall) → StallCause h old mid stall → IsShort (picture_of mid) stall → LacksTable (picture_of old) pid page
-        → IsStalled g h old mid pid page access stall
-    stalled_tables access stall cause short lacks = record {
+    pub stalled_tables : (access : Access) (stall : Stall) → StallCause h old mid stall → IsShort (picture_of mid) stall → Refuses (picture_of mid) None stall → (IsWhole (picture_of mid) pid page → ⊥)
+        → LacksTable (picture_of old) pid page → IsStalled g h old mid pid page access stall
+    stalled_tables access stall cause short refuses never lacks = record {
       keeps = keeps_seen (picture_of old) (picture_of mid) pages;
       cause = cause_of g h old mid stall moves.store cause;
       short = short;
+      refused = λ other. record { keep = None; keeps = unlinked_keeps (picture_of mid) pid page access never; refuses = refuses };
       wanted = ForTable lacks;
       home = λ is. absurd (no_store h old mid stall cause is);
     }

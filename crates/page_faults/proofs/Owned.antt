@@ -12,15 +12,17 @@ use Rattle.frames.specs.FrameTable.{bytes_of, IsSound}
 use Rattle.paging.specs.declared.kernel.Core.{Core}
 use Rattle.paging.specs.Picture.{Picture, picture_of, entry, is_private, is_swapped}
 use Rattle.paging.specs.Parts.{IsFit, IsBehind, is_shared}
+use Rattle.paging.specs.Calls.{Frees, Refuses}
 use Rattle.paging.specs.Stalls.{HasStallCause}
 use Rattle.paging.specs.Capacity.{IsShort}
 use Rattle.paging.specs.Shows.{KeepsFiles}
 use Rattle.page_tables.specs.Leaves.{IsEntryOver}
-use Rattle.mapping.specs.Changes.{IsCalm, KeepsViews, KeepsOtherViews, is_sole, shown_bytes}
+use Rattle.mapping.specs.Changes.{IsCalm, IsLinked, KeepsViews, KeepsOtherViews, Moves, copied_frame, is_sole, shown_bytes}
 use Rattle.mapping.proofs.BroughtIn.{cause_of}
 use Rattle.page_faults.specs.Granted.{IsEntered, IsReadyAt}
 use Rattle.page_faults.specs.Outcome.{IsStalled}
 use Rattle.page_faults.specs.Wants.{Wants, ForStore}
+use Rattle.page_faults.proofs.Keeping.{copy_keeps}
 use Rattle.page_faults.proofs.Opening.{reads_too}
 use Rattle.page_faults.proofs.Settled.{entered_store, entered_ready, ready_own, owned_entry, copy_shown}
 use Rattle.page_faults.proofs.Steps.{ok_from, no_store}
@@ -59,14 +61,22 @@ module _ {M : Type 0} {m : Levels.Ghosts M} {D E : Type 0} (old new : Core D E M
   owned_calm calm none = calm (sole_there (picture_of old) pid page a was alone none)
 
   module _ (g : Ghosts D) (h : Ghosts E) where
-    pub owned_stalled : (r : Result FrameNo Stall) → new.store ≡ old.store → KeepsFiles (picture_of old) (picture_of new) → OnErr r (KeepsViews (picture_of old) (picture_of new))
-        → OnErr r (is_sole (picture_of old) (entry (picture_of old) pid page) ≡ false) → HasStallCause h old new r → IfErr r (IsShort (picture_of new))
-        → IfErr r (IsStalled g h old new pid page Store)
-    owned_stalled (Ok n) same files views several cause short = tt
-    owned_stalled (Err s) same files views several cause short = record {
+    pub owned_stalled : (r : Result FrameNo Stall) → IsLinked (picture_of old) pid page → is_swapped (entry (picture_of old) pid page) ≡ false
+        → (is_private (entry (picture_of old) pid page) ≡ false → (n : ℕ) × IsBehind (picture_of old) a.backing n)
+        → ((n : ℕ) → is_private (entry (picture_of old) pid page) ≡ false → IsBehind (picture_of old) a.backing n → IsBehind (picture_of new) a.backing n × (bytes_of new.frames n ≡ bytes_of old.frames n))
+        → Moves h old new → KeepsFiles (picture_of old) (picture_of new) → OnErr r (KeepsViews (picture_of old) (picture_of new))
+        → OnErr r (Frees (picture_of old) (picture_of new) (copied_frame (picture_of old) pid page a)) → OnErr r (is_sole (picture_of old) (entry (picture_of old) pid page) ≡ false) → HasStallCause h old new r
+        → IfErr r (IsShort (picture_of new)) → IfErr r (Refuses (picture_of new) (copied_frame (picture_of old) pid page a)) → IfErr r (IsStalled g h old new pid page Store)
+    owned_stalled (Ok n) linked here memory stays moves files views frees several cause short refuses = tt
+    owned_stalled (Err s) linked here memory stays moves files views frees several cause short refuses = record {
       keeps = record { views = views; touched = files.touched };
-      cause = cause_of g h old new s same cause;
+      cause = cause_of g h old new s moves.store cause;
       short = short;
+      refused = λ other. record {
+        keep = copied_frame (picture_of old) pid page a;
+        keeps = copy_keeps (picture_of old) (picture_of new) pid page a linked was alone here memory stays moves.fit moves.spaces moves.tables views frees;
+        refuses = refuses;
+      };
       wanted = ForStore a refl was alone several;
       home = λ is. absurd (no_store h old new s cause is);
     }

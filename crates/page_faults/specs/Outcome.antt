@@ -29,7 +29,7 @@ use Rattle.mapping.specs.Changes.{KeepsSeen}
 use Rattle.page_faults.specs.declared.refusal.AccessRefusal.{AccessRefusal}
 use Rattle.page_faults.specs.declared.refusal.AccessRefusal.TheVariants as Refusal
 use Rattle.page_faults.specs.Shown.{AreShown, IsSoleOwner}
-use Rattle.page_faults.specs.Wants.{Wants, ReadsHome}
+use Rattle.page_faults.specs.Wants.{Wants, ReadsHome, RefusesAccess}
 
 -- what the flat model says of the access
 module _ {mode : ℕ} where
@@ -127,11 +127,13 @@ module _ {mode : ℕ} where
 module _ {M : Type 0} {m : Levels.Ghosts M} {D : Type 0} (g : Ghosts D) where
   module _ {E : Type 0} (h : Ghosts E) where
     -- A stall of an access to a page: no process sees a change. A frame was wanted, and memory or slots are short of what processes see,
-    -- or the device that is named failed. The store device fails an access only to a page that is to be read from its home.
+    -- and no frame could be given up but the one that it copies, or the device that is named failed. The store device fails an access
+    -- only to a page that is to be read from its home.
     pub record IsStalled (old new : Core D E M m) (pid page : ℕ) (access : Access) (stall : Stall) : Type 0 where
       pub keeps : KeepsSeen (picture_of old) (picture_of new)
       pub cause : ReadCause g h old new stall
       pub short : IsShort (picture_of new) stall
+      pub refused : stall ≢ StoreDevice → RefusesAccess (picture_of new) pid page access stall
       pub wanted : Wants (picture_of old) pid page access
       pub home : stall ≡ StoreDevice → ReadsHome (picture_of old) pid page
 

@@ -1,5 +1,5 @@
--- When an access to a page wants a frame, or its file page from the store.
-use Rattle.std.specs.Prelude.{◌≡◌, ◌≢◌, ◌⊎◌, ℕ, true, false, Some, None}
+-- When an access to a page wants a frame, and which one it keeps meanwhile, or its file page from the store.
+use Rattle.std.specs.Prelude.{◌≡◌, ◌≢◌, ◌⊎◌, ℕ, true, false, Option, Some, None}
 use Rattle.vm_types.specs.Limits.{top_level}
 use Rattle.vm_types.specs.declared.access.Access.{Access}
 use Rattle.vm_types.specs.declared.access.Access.TheVariants.{Store}
@@ -7,6 +7,7 @@ use Rattle.vm_types.specs.declared.file.FilePage.{FilePage}
 use Rattle.vm_types.specs.declared.object.PageKey.{PageKey}
 use Rattle.vm_types.specs.declared.object.PageKey.TheVariants.{File}
 use Rattle.vm_types.specs.declared.number.FrameNo.{FrameNo}
+use Rattle.vm_types.specs.declared.refusal.Stall.{Stall}
 use Rattle.vm_types.specs.declared.region.Attr.{Attr}
 use Rattle.vm_types.specs.declared.region.Backing.{Backing}
 use Rattle.vm_types.specs.Attributes.{stands_on}
@@ -14,10 +15,11 @@ use Rattle.frames.specs.FrameTable.{IsFull}
 use Rattle.page_tables.specs.Tree.{missing_of}
 use Rattle.page_cache.specs.declared.place.Place.TheVariants.{Home, Frame}
 use Rattle.paging.specs.Ages.{GivesForTables}
-use Rattle.paging.specs.Seats.{seat, is_swapped}
+use Rattle.paging.specs.Calls.{Refuses}
+use Rattle.paging.specs.Seats.{InFrame, seat, is_swapped}
 use Rattle.paging.specs.Picture.{Picture, entry}
-use Rattle.paging.specs.Parts.{is_shared}
-use Rattle.mapping.specs.Changes.{is_sole, LinksTables}
+use Rattle.paging.specs.Parts.{IsBehind, is_shared}
+use Rattle.mapping.specs.Changes.{IsWhole, is_sole, LinksTables}
 
 -- a table is missing on the way to a page of a process
 module _ {mode : ℕ} where
@@ -47,6 +49,35 @@ module _ {mode : ℕ} where
     ForFile : (p : PageKey) → ShowsFile c pid page p → ((n : FrameNo) → c.place p ≢ Frame n) → Wants c pid page access
     ForStore : (attr : Attr) → access ≡ Store → c.at pid page ≡ Some attr → is_shared attr.backing ≡ false
         → is_sole c (entry c pid page) ≡ false → Wants c pid page access
+
+-- frame n holds what a page with that entry shows: its own copy, or what stands behind it, where it has none in a frame or in a slot
+module _ {mode : ℕ} where
+  abbrev pub HoldsShown : Picture mode → ℕ → Backing → ℕ → Type 0
+  HoldsShown c e backing n = (seat e ≡ Some (InFrame n)) ⊎ ((seat e ≡ None) × IsBehind c backing n)
+
+-- An access is a store that is to copy frame n, which holds what its page shows: the page isn't shared, and no table is missing on its way.
+module _ {mode : ℕ} where
+  pub record Copies (c : Picture mode) (pid page : ℕ) (access : Access) (n : FrameNo) : Type 0 where
+    pub attr : Attr
+    pub stores : access ≡ Store
+    pub mapped : c.at pid page ≡ Some attr
+    pub not_shared : is_shared attr.backing ≡ false
+    pub whole : IsWhole c pid page
+    pub shown : HoldsShown c (entry c pid page) attr.backing n.0
+
+-- The frame that isn't given up for an access to a page: the one that it is to copy, or else none.
+module _ {mode : ℕ} where
+  abbrev pub KeepsOwnFrame : Picture mode → ℕ → ℕ → Access → Option FrameNo → Type 0
+  KeepsOwnFrame c pid page access None = (n : FrameNo) → Copies c pid page access n → ⊥
+  KeepsOwnFrame c pid page access (Some n) = Copies c pid page access n
+
+-- Why an access to a page was refused a frame, by memory as it is left: of all frames but the one that it keeps none could be given up.
+-- Nothing is said where the swap device failed.
+module _ {mode : ℕ} where
+  pub record RefusesAccess (c : Picture mode) (pid page : ℕ) (access : Access) (stall : Stall) : Type 0 where
+    pub keep : Option FrameNo
+    pub keeps : KeepsOwnFrame c pid page access keep
+    pub refuses : Refuses c keep stall
 
 -- Tables are missing on a page's way, and no frame is free once they are made: those frames, the tables on this way alone, may
 -- be had by giving up one that holds the file page.

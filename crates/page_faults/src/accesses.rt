@@ -30,9 +30,9 @@ use vm_types::{Access, Levels, Phys, Pid, Width};
 /// # Errors
 /// `Fault` exactly where the access faults; then nothing changes. `Stall` only where the access is fine and a frame is wanted:
 /// for a table on the page's way, for its own copy in a slot, for its file page, or for a copy of its own that a store is to reach.
-/// `NoFrames` and `NoSwap` where that frame was refused, since memory or slots are short of what the processes have; `SwapDevice`
-/// where the swap device failed; `StoreDevice` where the store device failed as the file page was read from its home. Then no process
-/// and no file sees a change.
+/// `NoFrames` and `NoSwap` where that frame was refused, since memory or slots are short of what the processes have: none could be
+/// given up but the one that a store copies. `SwapDevice` where the swap device failed; `StoreDevice` where the store device failed as
+/// the file page was read from its home. Then no process and no file sees a change.
 pub fn access<D: SectorDisk, E: SectorDisk, M: Levels>(
     core: &mut Core<D, E, M>,
     pid: Pid,

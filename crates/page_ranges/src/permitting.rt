@@ -4,6 +4,7 @@ ghost use Rattle.vm_types.specs.Limits.{top_level, user_end, table_entries};
 ghost use Rattle.vm_types.specs.Rows.{protected};
 ghost use Rattle.frames.specs.FrameTable.{IsFrame};
 ghost use Rattle.sv39_walk.specs.Entry.{frame_of};
+ghost use Rattle.page_tables.specs.Change.{KeepsFrames};
 ghost use Rattle.page_tables.specs.Tree.{IsPage};
 ghost use Rattle.page_tables.specs.Places.{IsTableOf};
 ghost use Rattle.regions.specs.Permission.{ReadsToo};
@@ -48,6 +49,7 @@ pub fn reprotect<D, E, M: Levels>(
     ensures fit { IsFit (picture_of core.new) }
     ensures row { ReprotectsRow (picture_of core.old) (picture_of core.new) pid first pages prot }
     ensures others { KeepsEntriesOfOthers (picture_of core.old) (picture_of core.new) pid }
+    ensures frames { KeepsFrames core.old.frames core.new.frames }
     ensures store { core.new.store ≡ core.old.store }
     ensures swap { core.new.swap ≡ core.old.swap }
     ensures roots { core.new.roots ≡ core.old.roots }

@@ -94,6 +94,15 @@ module _ {mode : ℕ} (old found new : Picture mode) (n : ℕ) (fit : IsFit foun
   entries_same : (pid page : ℕ) → entry new pid page ≡ entry found pid page
   entries_same = entries_kept found new 0 fit.rooted adds.entries beside.root
 
+  pub gives_table : GivesFrame old new n
+  gives_table = record {
+    roles = roles_but;
+    entries = λ pid page h. (
+        let P : ℕ → Type 0 = λ e. Ages (λ m. (m ≡ n) × (is_data (role_of old.frames m) ≡ true)) (entry old pid page) e in
+        subst P (sym (entries_same pid page)) (gives.entries pid page h));
+    pointers = λ a i m points. (same_taken found.frames new.frames n fit.rooted.forest adds.takes).forth a i m (gives.pointers a i m points);
+  }
+
   given_table : (m : ℕ) → (m ≡ n) × (is_data (role_of old.frames m) ≡ true) → IsGiven old new None m
   given_table m given = (given.1, inl (ap is_data (ap (role_of new.frames) given.0 ∙ adds.takes.kind_set)))
 
@@ -132,7 +141,7 @@ module _ {mode : ℕ} (old found new : Picture mode) (n : ℕ) (fit : IsFit foun
         let P : ℕ → Type 0 = λ e. Ages (IsGiven old new None) (entry old pid page) e in
         subst P (sym (entries_same pid page))
         (ages_map (λ m. (m ≡ n) × (is_data (role_of old.frames m) ≡ true)) (IsGiven old new None) (entry old pid page) (entry found pid page) given_table (gives.entries pid page h)));
-    pointers = λ a i m points. (same_taken found.frames new.frames n fit.rooted.forest adds.takes).forth a i m (gives.pointers a i m points);
+    pointers = gives_table.pointers;
     needed = elim needed [
       | inl full ↦ inl (full_table full)
       | inr same ↦ inr (none_table same)

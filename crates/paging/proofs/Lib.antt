@@ -38,6 +38,7 @@ pub mod Mapping
 pub mod Exiting
 pub mod Aging
 pub mod Giving
+pub mod Asking
 pub mod Homing
 pub mod Cleaning
 pub mod Forgotten

@@ -30,6 +30,11 @@ module _ {mode : ℕ} where
         → Ages (λ n. (n ≡ v) × (is_data (role_of old.frames n) ≡ true)) (entry old pid page) (entry new pid page)
     pub pointers : (n i m : ℕ) → Points old.frames n i m → Points new.frames n i m
 
+-- A frame was wanted: it was free, or none was, and it may have been given up, or was tried.
+module _ {mode : ℕ} where
+  abbrev pub WantsFrame : Picture mode → Picture mode → ℕ → Type 0
+  WantsFrame old new v = GivesFrame old new v × (IsFull old.frames ⊎ (role_of old.frames v ≡ Free))
+
 -- a frame held a page, and holds none now, or is the one that was tried last
 module _ {mode : ℕ} where
   abbrev pub IsGiven : Picture mode → Picture mode → Option ℕ → ℕ → Type 0

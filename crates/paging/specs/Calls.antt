@@ -7,6 +7,7 @@ use Rattle.vm_types.specs.declared.number.FrameNo.{FrameNo}
 use Rattle.vm_types.specs.declared.refusal.Stall.{Stall}
 use Rattle.vm_types.specs.declared.refusal.Stall.TheVariants.{NoFrames, NoSwap, SwapDevice, StoreDevice}
 use Rattle.disk_model.specs.declared.sector_disk.SectorDisk.{Ghosts}
+use Rattle.disk_model.specs.Moments.{AsksOnly, Nothing}
 use Rattle.frames.specs.declared.role.Role.TheVariants.{Free, Table, Private}
 use Rattle.frames.specs.FrameTable.{FrameTable, frame_count, bytes_of, role_of, count_of, IsFrame, IsFresh, IsFull}
 use Rattle.page_cache.specs.CacheTable.{slot_count}
@@ -20,6 +21,7 @@ use Rattle.paging.specs.Picture.{Picture, picture_of, view, entry, is_swapped, i
 use Rattle.paging.specs.Parts.{IsFit}
 use Rattle.paging.specs.Shows.{KeepsFiles}
 use Rattle.paging.specs.Steps.{SameBeside, TakesOwn, BringsIn}
+use Rattle.paging.specs.Ages.{GivesFrame}
 use Rattle.page_tables.specs.Change.{AddsTable}
 
 -- so many frames, all free but the zero page, so many free slots, no process, and every page of a file or an object at home and untouched
@@ -83,12 +85,14 @@ module _ {mode : ℕ} where
     pub kept_count : (n : ℕ) → IsToKeep keep n → count_of new.frames n ≡ count_of old.frames n
     pub kept_bytes : (n : ℕ) → IsToKeep keep n → role_of old.frames n ≢ Table → bytes_of new.frames n ≡ bytes_of old.frames n
 
--- a frame was obtained, and taken for one page
+-- A frame was obtained, and taken for one page. No other frame was given up for it, and none at all where one was free.
 module _ {mode : ℕ} where
   pub record ObtainsOwn (old new : Picture mode) (keep : Option FrameNo) (n page : ℕ) : Type 0 where
     pub found : Picture mode
     pub fit : IsFit found
     pub frees : Frees old found keep
+    pub gives : GivesFrame old found n
+    pub needed : IsFull old.frames ⊎ (found ≡ old)
     pub own : TakesOwn found new n page
 
 -- a frame was obtained, and taken for a table that is in no tree
@@ -101,12 +105,15 @@ module _ {mode : ℕ} where
     pub beside : SameBeside found new
     pub zero_page : role_of found.frames 0 ≢ Table
 
--- a frame was obtained, and a page of a file or an object brought into it
+-- A frame was obtained, and a page of a file or an object brought into it. No other frame was given up for it, and none at all
+-- where one was free.
 module _ {mode : ℕ} where
   pub record ObtainsCached (old new : Picture mode) (page : PageKey) (n : ℕ) : Type 0 where
     pub found : Picture mode
     pub fit : IsFit found
     pub frees : Frees old found None
+    pub gives : GivesFrame old found n
+    pub needed : IsFull old.frames ⊎ (found ≡ old)
     pub brings : BringsIn found new page n
 
 -- why no frame was to be had, by what memory is as it is left
@@ -155,6 +162,32 @@ module _ {M : Type 0} {m : Levels.Ghosts M} {D E : Type 0} where
     pub cache : new.cache ≡ old.cache
     pub page_of : new.page_of ≡ old.page_of
     pub refused : new.refused ≡ old.refused
+
+module _ {M : Type 0} {m : Levels.Ghosts M} {D E : Type 0} (h : Ghosts E) where
+  -- A frame was to be given up that needs a slot, and for that swap was asked.
+  pub record GivesToSwap (old new : Core D E M m) (keep : Option FrameNo) (also : ℕ → Type 0) : Type 0 where
+    -- which frame: it holds a page, and isn't the one to keep
+    pub frame : ℕ
+    pub spareable : IsSpareable (picture_of old) keep frame
+    -- it needs a slot, and one was free
+    pub needs : NeedsSlot (picture_of old) frame
+    pub room : Slots.IsFull (picture_of old).slots → ⊥
+    -- no other frame was given up
+    pub alone : GivesFrame (picture_of old) (picture_of new) frame
+    -- swap's device was asked for no sector but those of free slots, and those that the call asks for anyway
+    pub asks : AsksOnly h (λ k. Slots.IsSectorOfFreeSlot (picture_of old).slots k ⊎ also k) old.swap.pages.disk new.swap.pages.disk
+
+  -- swap is as it was, unless such a frame was to be given up
+  abbrev pub AsksSwap : Core D E M m → Core D E M m → Option FrameNo → Type 0
+  AsksSwap old new keep = (new.swap ≡ old.swap) ⊎ GivesToSwap old new keep Nothing
+
+  -- swap's device was asked for no sector but these, unless such a frame was to be given up
+  abbrev pub AsksSwapAlso : Core D E M m → Core D E M m → Option FrameNo → (ℕ → Type 0) → Type 0
+  AsksSwapAlso old new keep also = AsksOnly h also old.swap.pages.disk new.swap.pages.disk ⊎ GivesToSwap old new keep also
+
+  -- swap's device was asked for no sector but those of one slot, and these
+  abbrev pub AsksOneSlot : Core D E M m → Core D E M m → (ℕ → Type 0) → Type 0
+  AsksOneSlot old new also = (slot : ℕ) × AsksOnly h (λ k. Slots.IsSectorOfSlot slot k ⊎ also k) old.swap.pages.disk new.swap.pages.disk
 
 module _ {E : Type 0} (g : Ghosts E) where
   -- a device that was read and written

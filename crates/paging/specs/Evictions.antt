@@ -82,6 +82,7 @@ module _ {M : Type 0} {m : Levels.Ghosts M} {D E : Type 0} where
   pub record Looked (old new : Core D E M m) : Type 0 where
     pub store : new.store ≡ old.store
     pub swap : new.swap ≡ old.swap
+    pub cache : new.cache ≡ old.cache
     pub roots : new.roots ≡ old.roots
     pub regions : new.regions ≡ old.regions
     pub refused : new.refused ≡ old.refused

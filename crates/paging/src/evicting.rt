@@ -1,14 +1,15 @@
 //! A frame given up: its own copies go to a slot, its page of a file or an object to a slot or home.
-ghost use Rattle.std.specs.Prelude.{◌≡◌, ℕ, true, false, IfErr, OnOk, OnErr};
+ghost use Rattle.std.specs.Prelude.{◌≡◌, ℕ, ◌⊎◌, true, false, IfErr, OnOk, OnErr};
+ghost use Rattle.disk_model.specs.Moments.{AsksOnly, Nothing};
 ghost use Rattle.frames.specs.declared.role.Role.TheVariants as Roles;
 ghost use Rattle.frames.specs.FrameTable.{IsFrame, role_of};
 ghost use Rattle.page_cache.specs.declared.place.Place.TheVariants.{Frame};
-ghost use Rattle.swap.specs.Slots.{slots_of, IsReady, IsFull};
+ghost use Rattle.swap.specs.Slots.{slots_of, IsReady, IsFull, IsSectorOfFreeSlot};
 ghost use Rattle.vm_types.specs.declared.refusal.Stall.TheVariants as Stalls;
 ghost use Rattle.paging.specs.Picture.{picture_of, is_data};
 ghost use Rattle.paging.specs.Parts.{IsFit};
 ghost use Rattle.paging.specs.Ages.{KeepsRoles};
-ghost use Rattle.paging.specs.Calls.{NeedsSlot, UsesDevice};
+ghost use Rattle.paging.specs.Calls.{NeedsSlot, AsksOneSlot, UsesDevice};
 ghost use Rattle.paging.specs.Stalls.{HasStallCause};
 ghost use Rattle.paging.specs.Evictions.{Spares, GivesUp, KeepsPlain};
 
@@ -58,6 +59,8 @@ fn send_away<D, E: SectorDisk, M: Levels>(
     ensures free { OnOk result (role_of core.new.frames victim.0 ≡ Roles.Free) }
     ensures still { OnErr result (KeepsRoles (picture_of core.old) (picture_of core.new)) }
     ensures plain { KeepsPlain core.old core.new }
+    ensures asks { AsksOnly E.SectorDisk (IsSectorOfFreeSlot (slots_of core.old.swap)) core.old.swap.pages.disk core.new.swap.pages.disk }
+    ensures one { OnOk result (AsksOneSlot E.SectorDisk core.old core.new Nothing) }
     ensures device { UsesDevice E.SectorDisk core.old.swap.pages.disk core.new.swap.pages.disk }
     ensures fault { IfErr result (λ s. s ≡ Stalls.SwapDevice) }
     ensures cause { HasStallCause E.SectorDisk core.old core.new result }
@@ -93,6 +96,8 @@ fn send_copies<D, E: SectorDisk, M: Levels>(
     ensures free { OnOk result (role_of core.new.frames victim.0 ≡ Roles.Free) }
     ensures still { OnErr result (KeepsRoles (picture_of core.old) (picture_of core.new)) }
     ensures plain { KeepsPlain core.old core.new }
+    ensures asks { AsksOnly E.SectorDisk (IsSectorOfFreeSlot (slots_of core.old.swap)) core.old.swap.pages.disk core.new.swap.pages.disk }
+    ensures one { OnOk result (AsksOneSlot E.SectorDisk core.old core.new Nothing) }
     ensures device { UsesDevice E.SectorDisk core.old.swap.pages.disk core.new.swap.pages.disk }
     ensures fault { IfErr result (λ s. s ≡ Stalls.SwapDevice) }
     ensures cause { HasStallCause E.SectorDisk core.old core.new result }
@@ -120,12 +125,15 @@ pub(crate) fn evict<D, E: SectorDisk, M: Levels>(
     requires inside { IsFrame core.old.frames victim.0 }
     requires datum { is_data (role_of core.old.frames victim.0) ≡ true }
     requires room { NeedsSlot (picture_of core.old) victim.0 → IsFull (slots_of core.old.swap) → ⊥ }
+    ensures asked { (core.new.swap ≡ core.old.swap) ⊎ NeedsSlot (picture_of core.old) victim.0 }
     ensures fit { IsFit (picture_of core.new) }
     ensures swap { IsReady E.SectorDisk core.new.swap }
     ensures gives { GivesUp victim.0 (picture_of core.old) (picture_of core.new) }
     ensures free { OnOk result (role_of core.new.frames victim.0 ≡ Roles.Free) }
     ensures still { OnErr result (KeepsRoles (picture_of core.old) (picture_of core.new)) }
     ensures plain { KeepsPlain core.old core.new }
+    ensures asks { AsksOnly E.SectorDisk (IsSectorOfFreeSlot (slots_of core.old.swap)) core.old.swap.pages.disk core.new.swap.pages.disk }
+    ensures one { OnOk result (AsksOneSlot E.SectorDisk core.old core.new Nothing) }
     ensures device { UsesDevice E.SectorDisk core.old.swap.pages.disk core.new.swap.pages.disk }
     ensures fault { IfErr result (λ s. s ≡ Stalls.SwapDevice) }
     ensures cause { HasStallCause E.SectorDisk core.old core.new result }

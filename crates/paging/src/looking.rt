@@ -46,9 +46,9 @@ impl<D, E, M: Levels> FrameView for Core<D, E, M> {
         change_leaves(self, FrameNo(n), Change::ClearAccessed);
     }
 
-    ghost stays = { λ c. record { kept = refl; marks = λ s f. f; full = λ f. f; frees = λ s f. f; looked = record { store = refl; swap = refl; roots = refl; regions = refl; refused = refl } } };
+    ghost stays = { λ c. record { kept = refl; marks = λ s f. f; full = λ f. f; frees = λ s f. f; looked = record { store = refl; swap = refl; cache = refl; roots = refl; regions = refl; refused = refl } } };
 
-    ghost goes_on = { λ a b c p q. record { kept = q.kept ∙ p.kept; marks = λ s f. q.marks s (p.marks s f); full = λ f. q.full (p.full f); frees = λ s f. q.frees s (p.frees s f); looked = record { store = q.looked.store ∙ p.looked.store; swap = q.looked.swap ∙ p.looked.swap; roots = q.looked.roots ∙ p.looked.roots; regions = q.looked.regions ∙ p.looked.regions; refused = q.looked.refused ∙ p.looked.refused } } };
+    ghost goes_on = { λ a b c p q. record { kept = q.kept ∙ p.kept; marks = λ s f. q.marks s (p.marks s f); full = λ f. q.full (p.full f); frees = λ s f. q.frees s (p.frees s f); looked = record { store = q.looked.store ∙ p.looked.store; swap = q.looked.swap ∙ p.looked.swap; cache = q.looked.cache ∙ p.looked.cache; roots = q.looked.roots ∙ p.looked.roots; regions = q.looked.regions ∙ p.looked.regions; refused = q.looked.refused ∙ p.looked.refused } } };
 }
 
 /// Whether the frame holds a page and isn't to be kept.

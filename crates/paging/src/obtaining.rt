@@ -1,15 +1,16 @@
 //! A frame for a page.
+ghost use Rattle.disk_model.specs.Moments.{Nothing};
 ghost use Rattle.frames.specs.FrameTable.{IsFrame, IsFull};
 ghost use Rattle.paging.specs.Ages.{GivesFrame, KeepsRoles};
 ghost use Rattle.paging.specs.Calls.{IsSpareable};
 ghost use Rattle.paging.specs.Shows.{ShowsPages};
 ghost use Rattle.vm_types.specs.State.{State};
-ghost use Rattle.std.specs.Prelude.{true, false, ℕ, ◌≡◌, ◌+◌, ◌⊎◌, IsErr, IfOk, IfErr, OnErr};
+ghost use Rattle.std.specs.Prelude.{true, false, ℕ, ◌≡◌, ◌+◌, ◌⊎◌, IsErr, IfOk, IfErr, OnOk, OnErr};
 ghost use Rattle.swap.specs.Slots.{IsReady};
 ghost use Rattle.paging.specs.Picture.{picture_of};
 ghost use Rattle.paging.specs.Parts.{IsFit};
 ghost use Rattle.paging.specs.Capacity.{IsShort};
-ghost use Rattle.paging.specs.Calls.{IsFreeFrame, Frees, KeepsRest, Refuses, UsesDevice};
+ghost use Rattle.paging.specs.Calls.{IsFreeFrame, Frees, KeepsRest, Refuses, AsksSwap, AsksOneSlot, UsesDevice};
 ghost use Rattle.paging.specs.Stalls.{HasStallCause};
 
 use crate::evicting::evict;
@@ -36,6 +37,8 @@ pub fn obtain<D, E: SectorDisk, M: Levels>(
     ensures frees { Frees (picture_of core.old) (picture_of core.new) keep }
     ensures shows { (s : State) → ShowsPages (picture_of core.old) s → ShowsPages (picture_of core.new) s }
     ensures rest { KeepsRest core.old core.new }
+    ensures asked { AsksSwap E.SectorDisk core.old core.new keep }
+    ensures one { OnOk result (AsksOneSlot E.SectorDisk core.old core.new Nothing) }
     ensures device { UsesDevice E.SectorDisk core.old.swap.pages.disk core.new.swap.pages.disk }
     ensures free { IfOk result (λ n. IsFreeFrame core.new.frames n.0) }
     ensures gives { IfOk result (λ n. GivesFrame (picture_of core.old) (picture_of core.new) n.0) }
@@ -69,6 +72,8 @@ fn give_up<D, E: SectorDisk, M: Levels>(
     ensures swap { IsReady E.SectorDisk core.new.swap }
     ensures frees { Frees (picture_of core.old) (picture_of core.new) keep }
     ensures rest { KeepsRest core.old core.new }
+    ensures asked { AsksSwap E.SectorDisk core.old core.new keep }
+    ensures one { OnOk result (AsksOneSlot E.SectorDisk core.old core.new Nothing) }
     ensures device { UsesDevice E.SectorDisk core.old.swap.pages.disk core.new.swap.pages.disk }
     ensures free { IfOk result (λ n. IsFreeFrame core.new.frames n.0) }
     ensures gives { IfOk result (λ n. GivesFrame (picture_of core.old) (picture_of core.new) n.0) }

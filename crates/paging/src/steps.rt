@@ -1,19 +1,20 @@
 //! What the calls above do to memory, a step at a time.
 ghost use Rattle.std.specs.Prelude.{◌≡◌, ◌≢◌, ℕ, true, Option, None, IfOk, IfErr, OnOk, OnErr};
+ghost use Rattle.disk_model.specs.Moments.{AsksOnly, Nothing};
 ghost use Rattle.vm_types.specs.declared.object.PageKey.TheVariants.{File, Object};
 ghost use Rattle.vm_types.specs.Objects.{is_named};
 ghost use Rattle.vm_types.specs.View.{zero_page};
 ghost use Rattle.file_store.specs.Standing.{IsPageOf};
-ghost use Rattle.file_store.specs.Store.{IsReadyStore};
+ghost use Rattle.file_store.specs.Store.{IsReadyStore, IsSectorOf};
 ghost use Rattle.frames.specs.FrameTable.{bytes_of, IsFull};
 ghost use Rattle.page_cache.specs.declared.place.Place.TheVariants.{Home, Slot};
-ghost use Rattle.swap.specs.Slots.{IsReady};
+ghost use Rattle.swap.specs.Slots.{IsReady, IsSectorOfSlot};
 ghost use Rattle.vm_types.specs.declared.refusal.Stall.TheVariants as Stalls;
 ghost use Rattle.paging.specs.Picture.{picture_of};
 ghost use Rattle.paging.specs.Parts.{IsFit};
 ghost use Rattle.paging.specs.Capacity.{IsShort};
-ghost use Rattle.paging.specs.Ages.{GivesForTables, KeepsRoles, KeepsRolesBut};
-ghost use Rattle.paging.specs.Calls.{Frees, KeepsRest, KeepsBesideFiles, Refuses, UsesDevice, ObtainsOwn, ObtainsTable, ObtainsCached};
+ghost use Rattle.paging.specs.Ages.{GivesForTables, WantsFrame, KeepsRoles, KeepsRolesBut};
+ghost use Rattle.paging.specs.Calls.{Frees, KeepsRest, KeepsBesideFiles, Refuses, AsksSwap, AsksSwapAlso, AsksOneSlot, UsesDevice, ObtainsOwn, ObtainsTable, ObtainsCached};
 ghost use Rattle.paging.specs.Stalls.{HasStallCause, HasReadCause};
 ghost use Rattle.paging.specs.Reading.{ReadsStore, IsRead};
 
@@ -37,8 +38,11 @@ impl<D, E: SectorDisk, M: Levels> Core<D, E, M> {
         ensures taken { IfOk result (λ n. ObtainsOwn (picture_of self.old) (picture_of self.new) keep n.0 page) }
         ensures fit { OnErr result (IsFit (picture_of self.new)) }
         ensures frees { OnErr result (Frees (picture_of self.old) (picture_of self.new) keep) }
+        ensures tried { OnErr result ((v : ℕ) × WantsFrame (picture_of self.old) (picture_of self.new) v) }
         ensures swap { IsReady E.SectorDisk self.new.swap }
         ensures rest { KeepsRest self.old self.new }
+        ensures asked { AsksSwap E.SectorDisk self.old self.new keep }
+        ensures one { OnOk result (AsksOneSlot E.SectorDisk self.old self.new Nothing) }
         ensures device { UsesDevice E.SectorDisk self.old.swap.pages.disk self.new.swap.pages.disk }
         ensures refuses { IfErr result (Refuses (picture_of self.new) keep) }
         ensures short { IfErr result (IsShort (picture_of self.new)) }
@@ -71,6 +75,8 @@ impl<D, E: SectorDisk, M: Levels> Core<D, E, M> {
         ensures frees { OnErr result (Frees (picture_of self.old) (picture_of self.new) None) }
         ensures swap { IsReady E.SectorDisk self.new.swap }
         ensures rest { KeepsRest self.old self.new }
+        ensures asked { AsksSwap E.SectorDisk self.old self.new None }
+        ensures one { OnOk result (AsksOneSlot E.SectorDisk self.old self.new Nothing) }
         ensures device { UsesDevice E.SectorDisk self.old.swap.pages.disk self.new.swap.pages.disk }
         ensures refuses { IfErr result (Refuses (picture_of self.new) None) }
         ensures short { IfErr result (IsShort (picture_of self.new)) }
@@ -96,8 +102,11 @@ impl<D, E: SectorDisk, M: Levels> Core<D, E, M> {
         ensures same { E.keeps_model self.new.swap.pages.disk → IfOk result (λ n. bytes_of self.new.frames n.0 ≡ (picture_of self.old).slots.bytes slot.0) }
         ensures fit { IsFit (picture_of self.new) }
         ensures frees { OnErr result (Frees (picture_of self.old) (picture_of self.new) None) }
+        ensures tried { OnErr result ((v : ℕ) × WantsFrame (picture_of self.old) (picture_of self.new) v) }
         ensures swap { IsReady E.SectorDisk self.new.swap }
         ensures rest { KeepsRest self.old self.new }
+        ensures asked { AsksSwapAlso E.SectorDisk self.old self.new None (IsSectorOfSlot slot.0) }
+        ensures one { OnOk result (AsksOneSlot E.SectorDisk self.old self.new (IsSectorOfSlot slot.0)) }
         ensures device { UsesDevice E.SectorDisk self.old.swap.pages.disk self.new.swap.pages.disk }
         ensures refuses { IfErr result (Refuses (picture_of self.new) None) }
         ensures short { IfErr result (IsShort (picture_of self.new)) }
@@ -134,8 +143,11 @@ impl<D, E: SectorDisk, M: Levels> Core<D, E, M> {
         ensures blank { IfOk result (λ n. bytes_of self.new.frames n.0 ≡ zero_page) }
         ensures fit { IsFit (picture_of self.new) }
         ensures frees { OnErr result (Frees (picture_of self.old) (picture_of self.new) None) }
+        ensures tried { OnErr result ((v : ℕ) × WantsFrame (picture_of self.old) (picture_of self.new) v) }
         ensures swap { IsReady E.SectorDisk self.new.swap }
         ensures rest { KeepsRest self.old self.new }
+        ensures asked { AsksSwap E.SectorDisk self.old self.new None }
+        ensures one { OnOk result (AsksOneSlot E.SectorDisk self.old self.new Nothing) }
         ensures device { UsesDevice E.SectorDisk self.old.swap.pages.disk self.new.swap.pages.disk }
         ensures refuses { IfErr result (Refuses (picture_of self.new) None) }
         ensures short { IfErr result (IsShort (picture_of self.new)) }
@@ -167,10 +179,14 @@ impl<D: SectorDisk, E: SectorDisk, M: Levels> Core<D, E, M> {
         ensures read { IfOk result (λ n. IsRead D.SectorDisk self.old.store.disk self.new.store.disk page (bytes_of self.new.frames n.0)) }
         ensures fit { IsFit (picture_of self.new) }
         ensures frees { OnErr result (Frees (picture_of self.old) (picture_of self.new) None) }
+        ensures tried { OnErr result ((v : ℕ) × WantsFrame (picture_of self.old) (picture_of self.new) v) }
         ensures store { IsReadyStore D.SectorDisk self.new.store }
         ensures swap { IsReady E.SectorDisk self.new.swap }
         ensures rest { KeepsBesideFiles self.old self.new }
+        ensures asks { AsksOnly D.SectorDisk (IsSectorOf self.old.store page) self.old.store.disk self.new.store.disk }
         ensures reads { ReadsStore D.SectorDisk self.old.store self.new.store }
+        ensures asked { AsksSwap E.SectorDisk self.old self.new None }
+        ensures one { OnOk result (AsksOneSlot E.SectorDisk self.old self.new Nothing) }
         ensures device { UsesDevice E.SectorDisk self.old.swap.pages.disk self.new.swap.pages.disk }
         ensures refuses { IfErr result (λ stall. stall ≢ Stalls.StoreDevice → Refuses (picture_of self.new) None stall) }
         ensures unread { IfErr result (λ stall. stall ≢ Stalls.StoreDevice → self.new.store ≡ self.old.store) }

@@ -1,10 +1,10 @@
 //! A device that stops where it is told to.
 ghost use Rattle.std.specs.Prelude.{◌≡◌, ◌⊎◌, ◌<◌, ◌≤◌, ◌+◌, ◌^◌, ℕ, Some, None, is_err, is_some, IfOk, OnOk, OnErr, false};
 ghost use Rattle.std.proofs.Common.{inl};
-ghost use Rattle.disk_model.specs.Stop.{MayLeave, ChangesOnly, ChangesPage, IsOfPage, Elapses, HasCause};
+ghost use Rattle.disk_model.specs.Stop.{MayLeave, ChangesOnly, ChangesPage, IsOfPage, Elapses, HasCause, Names};
 ghost use Rattle.disk_model.specs.Sectors.{part_of};
 ghost use Rattle.disk_model.specs.Plan.{is_at};
-ghost use Rattle.disk_model.specs.SimDisk.{sectors_in, sector_of, IsUnsynced, moment_of, LeftSince, only_present, failures_of, counts_of};
+ghost use Rattle.disk_model.specs.SimDisk.{sectors_in, sector_of, IsUnsynced, moment_of, LeftSince, only_present, failures_of, asked_of, counts_of};
 
 use disk_model::{DiskFault, SectorDisk, SimDisk, parts};
 use std::alloc::{AllocError, Global};
@@ -134,6 +134,8 @@ impl SectorDisk for StoppingDisk {
 
     ghost failures = { λ d. failures_of d.disk };
 
+    ghost asked = { λ d. asked_of d.disk };
+
     ghost keeps_model = { λ _. Unit {0} };
 
     ghost counts_now = { λ d t c kept le now. inl now };
@@ -148,6 +150,7 @@ impl SectorDisk for StoppingDisk {
         requires { n < sectors_in self.old.disk }
         ensures size { sectors_in self.new.disk ≡ sectors_in self.old.disk }
         ensures cause { HasCause (failures_of self.old.disk) (failures_of self.new.disk) result }
+        ensures asks { Names (λ k. k ≡ n) (asked_of self.old.disk) (asked_of self.new.disk) }
         ensures gives { OnOk result (to.new ≡ sector_of self.old.disk n) }
         ensures same { sector_of self.new.disk ≡ sector_of self.old.disk }
         ensures unsynced { (k : ℕ) → IsUnsynced self.new.disk k → IsUnsynced self.old.disk k }
@@ -165,6 +168,7 @@ impl SectorDisk for StoppingDisk {
         requires fits { n < 2 ^ 60 }
         ensures size { sectors_in self.new.disk ≡ sectors_in self.old.disk }
         ensures cause { HasCause (failures_of self.old.disk) (failures_of self.new.disk) result }
+        ensures asks { Names (IsOfPage n) (asked_of self.old.disk) (asked_of self.new.disk) }
         ensures gives { OnOk result ((i : ℕ) → i < 8 → part_of to.new i ≡ sector_of self.old.disk (n + i)) }
         ensures same { sector_of self.new.disk ≡ sector_of self.old.disk }
         ensures unsynced { (k : ℕ) → IsUnsynced self.new.disk k → IsUnsynced self.old.disk k }
@@ -180,6 +184,7 @@ impl SectorDisk for StoppingDisk {
         requires { n < sectors_in self.old.disk }
         ensures size { sectors_in self.new.disk ≡ sectors_in self.old.disk }
         ensures cause { HasCause (failures_of self.old.disk) (failures_of self.new.disk) result }
+        ensures asks { Names (λ k. k ≡ n) (asked_of self.old.disk) (asked_of self.new.disk) }
         ensures written { OnOk result (sector_of self.new.disk n ≡ from.now) }
         ensures others { ChangesOnly n (sector_of self.old.disk) (sector_of self.new.disk) }
         ensures unsynced { (k : ℕ) → IsUnsynced self.new.disk k → IsUnsynced self.old.disk k ⊎ (k ≡ n) }
@@ -199,6 +204,7 @@ impl SectorDisk for StoppingDisk {
         requires fits { n < 2 ^ 60 }
         ensures size { sectors_in self.new.disk ≡ sectors_in self.old.disk }
         ensures cause { HasCause (failures_of self.old.disk) (failures_of self.new.disk) result }
+        ensures asks { Names (IsOfPage n) (asked_of self.old.disk) (asked_of self.new.disk) }
         ensures written { OnOk result ((i : ℕ) → i < 8 → sector_of self.new.disk (n + i) ≡ part_of from.now i) }
         ensures others { ChangesPage n (sector_of self.old.disk) (sector_of self.new.disk) }
         ensures unsynced { (k : ℕ) → IsUnsynced self.new.disk k → IsUnsynced self.old.disk k ⊎ IsOfPage n k }
@@ -218,6 +224,7 @@ impl SectorDisk for StoppingDisk {
     fn sync(&mut self) -> Result<(), DiskFault>
         ensures size { sectors_in self.new.disk ≡ sectors_in self.old.disk }
         ensures cause { HasCause (failures_of self.old.disk) (failures_of self.new.disk) result }
+        ensures asks { (k : ℕ) → asked_of self.new.disk k ≡ asked_of self.old.disk k }
         ensures same { sector_of self.new.disk ≡ sector_of self.old.disk }
         ensures synced { OnOk result ((k : ℕ) → IsUnsynced self.new.disk k → ⊥) }
         ensures unsynced { (k : ℕ) → IsUnsynced self.new.disk k → IsUnsynced self.old.disk k }

@@ -1,6 +1,7 @@
 -- Slots of swap.
 use Rattle.std.specs.Prelude.{◌≡◌, ◌≢◌, ℕ, ◌+◌, ◌*◌, ◌<◌, ◌≤◌, ◌==◌, List, [], Option, Some, None, length}
 use Rattle.vm_types.specs.Counting.{count_below}
+use Rattle.disk_model.specs.Stop.{IsOfPage}
 use Rattle.disk_model.specs.declared.sector_disk.SectorDisk.{Ghosts}
 use Rattle.swap.specs.Counts.{count_at}
 use Rattle.swap.specs.Written.{written_in, IsAsWritten}
@@ -35,6 +36,14 @@ IsFull t = (n : ℕ) → n < t.total → IsInUse t n
 -- how many slots are free
 abbrev pub free_slots : SlotTable → ℕ
 free_slots t = count_below (λ n. t.count n == 0) t.total
+
+-- one of the eight sectors of slot n
+abbrev pub IsSectorOfSlot : ℕ → ℕ → Type 0
+IsSectorOfSlot n k = IsOfPage (8 * n) k
+
+-- a sector of a slot that is free
+abbrev pub IsSectorOfFreeSlot : SlotTable → ℕ → Type 0
+IsSectorOfFreeSlot t k = (n : ℕ) × (n < t.total) × (t.count n ≡ 0) × IsSectorOfSlot n k
 
 -- what is true of slots at all times: at most 65,536 of them, each with at most 64 shares, and none past the last
 pub record AreSoundSlots (t : SlotTable) : Type 0 where

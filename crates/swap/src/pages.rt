@@ -1,6 +1,7 @@
 //! Pages of eight sectors on a device, and what was written to them.
 ghost use Rattle.std.specs.Prelude.{◌≡◌, ◌≢◌, ◌≤◌, ◌+◌, ◌*◌, ℕ, List, [], Some, OnOk};
-ghost use Rattle.disk_model.specs.Stop.{HasCause, ChangesPage};
+ghost use Rattle.disk_model.specs.Stop.{HasCause, ChangesPage, IsOfPage};
+ghost use Rattle.disk_model.specs.Moments.{AsksOnly};
 ghost use Rattle.swap.specs.Written.{written_in, IsAsWritten};
 
 use disk_model::{DiskFault, Log, SectorDisk, parts};
@@ -35,6 +36,7 @@ impl<D: SectorDisk> Pages<D> {
         ensures size { D.sector_count self.new.disk ≡ D.sector_count self.old.disk }
         ensures kept { D.keeps_model self.new.disk → D.keeps_model self.old.disk }
         ensures cause { HasCause (D.failures self.old.disk) (D.failures self.new.disk) result }
+        ensures asks { AsksOnly D.SectorDisk (IsOfPage (8 * n)) self.old.disk self.new.disk }
         ensures written { OnOk result (written_in self.new.written.notes n ≡ Some page.now) }
         ensures others { (m : ℕ) → m ≢ n → written_in self.new.written.notes m ≡ written_in self.old.written.notes m }
         ensures sectors { D.keeps_model self.new.disk → ChangesPage (8 * n) (D.content self.old.disk) (D.content self.new.disk) }
@@ -53,6 +55,7 @@ impl<D: SectorDisk> Pages<D> {
         ensures size { D.sector_count self.new.disk ≡ D.sector_count self.old.disk }
         ensures kept { D.keeps_model self.new.disk → D.keeps_model self.old.disk }
         ensures cause { HasCause (D.failures self.old.disk) (D.failures self.new.disk) result }
+        ensures asks { AsksOnly D.SectorDisk (IsOfPage (8 * n)) self.old.disk self.new.disk }
         ensures gives { D.keeps_model self.new.disk → OnOk result ((w : List ℕ) → written_in self.old.written.notes n ≡ Some w → to.new ≡ w) }
         ensures unchanged { D.keeps_model self.new.disk → D.content self.new.disk ≡ D.content self.old.disk }
         ensures same { self.new.written ≡ self.old.written }

@@ -46,8 +46,9 @@ impl From<DiskFault> for PutFault {
 
 impl<D: SectorDisk> Swap<D> {
     ghost use Rattle.disk_model.specs.Stop.{HasCause, ChangesPage};
+    ghost use Rattle.disk_model.specs.Moments.{AsksOnly};
     ghost use Rattle.swap.specs.declared.slots.PutFault.TheVariants as PutFault;
-    ghost use Rattle.swap.specs.Slots.{slots_of, IsReady, IsInUse, IsFull, IsFresh, AreSoundSlots, Same, Puts};
+    ghost use Rattle.swap.specs.Slots.{slots_of, IsReady, IsInUse, IsFull, IsFresh, AreSoundSlots, Same, Puts, IsSectorOfSlot, IsSectorOfFreeSlot};
 
     /// The first `slots` slots of a device, at most 65,536, all of them free. No later call takes memory of the host.
     ///
@@ -83,6 +84,8 @@ impl<D: SectorDisk> Swap<D> {
         ensures same { OnErr result (Same (slots_of self.old) (slots_of self.new)) }
         ensures full { IsErrOf result PutFault.Full ↔ IsFull (slots_of self.old) }
         ensures unasked { IsErrOf result PutFault.Full → self.new.pages ≡ self.old.pages }
+        ensures asks { IfOk result (λ n. AsksOnly D.SectorDisk (IsSectorOfSlot n.0) self.old.pages.disk self.new.pages.disk) }
+        ensures asks_free { AsksOnly D.SectorDisk (IsSectorOfFreeSlot (slots_of self.old)) self.old.pages.disk self.new.pages.disk }
         ensures device { IsErrOf result PutFault.Device → D.failures self.old.pages.disk < D.failures self.new.pages.disk }
         ensures later { D.failures self.old.pages.disk ≤ D.failures self.new.pages.disk }
         ensures calm { OnOk result (D.failures self.new.pages.disk ≡ D.failures self.old.pages.disk) }
@@ -114,6 +117,7 @@ impl<D: SectorDisk> Swap<D> {
         ensures gives { D.keeps_model self.new.pages.disk → OnOk result (to.new ≡ (slots_of self.old).bytes n.0) }
         ensures same { slots_of self.new ≡ slots_of self.old }
         ensures cause { HasCause (D.failures self.old.pages.disk) (D.failures self.new.pages.disk) result }
+        ensures asks { AsksOnly D.SectorDisk (IsSectorOfSlot n.0) self.old.pages.disk self.new.pages.disk }
         ensures unchanged { D.keeps_model self.new.pages.disk → D.content self.new.pages.disk ≡ D.content self.old.pages.disk }
         ensures size { D.sector_count self.new.pages.disk ≡ D.sector_count self.old.pages.disk }
         ensures kept { D.keeps_model self.new.pages.disk → D.keeps_model self.old.pages.disk }

@@ -1,3 +1,4 @@
+pub mod Asking
 pub mod Changes
 pub mod Copies
 pub mod Gates

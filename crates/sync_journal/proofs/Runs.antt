@@ -1,11 +1,15 @@
 -- How runs of device calls go on.
-use Rattle.std.proofs.Common.{◌≡◌, ◌⊎◌, ◌≤◌, ℕ, List, ◌∙◌, inl, inr, ⊎_elim, arith}
+use Rattle.std.proofs.Common.{◌≡◌, ◌⊎◌, ◌≤◌, ◌<◌, ◌+◌, ℕ, List, get_or, ◌∙◌, inl, inr, ⊎_elim, arith}
 use Rattle.disk_model.specs.Moments.{Touches, Nothing}
 use Rattle.disk_model.specs.Stop.{ChangesOnly, ChangesPage, IsOfPage, Elapses}
 use Rattle.disk_model.proofs.Moments.{wider, then, after_write, after_page, after_none}
 use Rattle.disk_model.specs.declared.sector_disk.SectorDisk.{Ghosts}
-use Rattle.sync_journal.specs.Layout.{IsGate, IsJournalSector, IsReplayed, IsPublished, IsCommitted, IsRecovered}
+use Rattle.sync_journal.specs.Layout.{IsGate, IsJournalSector, IsReplayed, IsPublished, IsCommitted, IsRecovered, home_count, home_sector}
+use Rattle.sync_journal.specs.Map.{AreHomes}
 use Rattle.sync_journal.specs.Runs.{Runs}
+
+home_ends : (count h k : ℕ) → h < count → k < home_sector h + 8 → k < home_sector count
+home_ends count h k below inside = omega arith
 
 module _ {D : Type 0} (g : Ghosts D) where
   -- one run after another
@@ -90,5 +94,6 @@ module _ {D : Type 0} (g : Ghosts D) where
   pub read_only : (W : ℕ → Type 0) (old new : D) → Touches g Nothing old new → Touches g W old new
   read_only W old new = wider g Nothing W old new (λ k none. absurd none)
 
-  pub replayed : (homes : List ℕ) (old new : D) → Touches g (IsReplayed homes) old new → Touches g IsRecovered old new
-  replayed homes old new = wider g (IsReplayed homes) IsRecovered old new (λ k. ⊎_elim (λ gate. inl gate) (λ at_home. inr (omega (arith, at_home.2.0))))
+  pub replayed : (sectors : ℕ) (homes : List ℕ) (old new : D) → AreHomes (home_count sectors) homes → Touches g (IsReplayed homes) old new → Touches g (IsRecovered sectors) old new
+  replayed sectors homes old new are = wider g (IsReplayed homes) (IsRecovered sectors) old new (λ k. ⊎_elim (λ gate. inl gate)
+      (λ at_home. (let inside = are.inside at_home.0 at_home.1 in inr (omega (arith, at_home.2.0), home_ends (home_count sectors) (get_or homes at_home.0 0) k inside at_home.2.1))))

@@ -1,10 +1,10 @@
 -- What a commit and a recovery leave, at every moment and at their end.
 -- All or nothing over all pages at once: failure-atomic msync (Park, Kelly and Shen, EuroSys 2013).
 use Rattle.std.specs.Prelude.{ℕ, ◌≡◌, ◌⊎◌, false, List, [], ◌∷◌, Option, Some, None}
-use Rattle.disk_model.specs.Stop.{Image}
+use Rattle.disk_model.specs.Stop.{Image, NamesOnce}
 use Rattle.disk_model.specs.Moments.{LeavesNow, LeavesOnly}
 use Rattle.disk_model.specs.declared.sector_disk.SectorDisk.{Ghosts}
-use Rattle.sync_journal.specs.Layout.{IsJournalSector, IsOutside}
+use Rattle.sync_journal.specs.Layout.{IsJournalSector, IsOutside, IsFinished, IsOpened}
 use Rattle.sync_journal.specs.Gate.{is_open}
 use Rattle.sync_journal.specs.Map.{place_of}
 use Rattle.sync_journal.specs.Standing.{standing, StandsFor, IsOpenFor, IsBadJournal}
@@ -61,3 +61,10 @@ module _ {D : Type 0} (g : Ghosts D) where
     pub stands : StandsFor pages (g.content new)
     pub outside : (k : ℕ) → IsOutside sectors k → g.content new k ≡ content k
     pub left : LeavesNow g new (IsKept sectors content (StandsFor pages))
+
+  -- A commit of so many pages over these live homes asks once at most for the gate and for each sector that it copies from
+  -- and to, and then once at most for the gate, the map and each sector of as many pages of the body.
+  pub record AsksInTwo (live : List ℕ) (pages : ℕ) (old new : D) : Type 0 where
+    pub between : ℕ → ℕ
+    pub copies : NamesOnce (IsFinished live) (g.asked old) between
+    pub opens : NamesOnce (IsOpened pages) between (g.asked new)

@@ -87,6 +87,26 @@ IsGate k = k ≡ gate_sector
 abbrev pub IsReplayed : List ℕ → ℕ → Type 0
 IsReplayed homes k = IsGate k ⊎ IsHomeSector homes k
 
+-- a sector of the first n pages of the body
+abbrev pub IsBodySector : ℕ → ℕ → Type 0
+IsBodySector n k = (first_body_sector ≤ k) × (k < body_sector n)
+
+-- a sector of the map, or of the first n pages of the body
+abbrev pub IsStaged : ℕ → ℕ → Type 0
+IsStaged n k = (map_sector ≤ k) × (k < body_sector n)
+
+-- the gate, a sector of the map, or of the first n pages of the body
+abbrev pub IsOpened : ℕ → ℕ → Type 0
+IsOpened n k = (gate_sector ≤ k) × (k < body_sector n)
+
+-- a sector of the first n pages of the body, or of the homes that they are copied to
+abbrev pub IsCopied : List ℕ → ℕ → ℕ → Type 0
+IsCopied homes n k = IsBodySector n k ⊎ ((j : ℕ) × (j < n) × IsPageSector (home_sector (slice_index homes j)) k)
+
+-- the gate, and what is copied from and to where the journal is live with these homes
+abbrev pub IsFinished : List ℕ → ℕ → Type 0
+IsFinished homes k = IsGate k ⊎ IsCopied homes (length homes) k
+
 -- journal map and body
 abbrev pub IsJournalSector : ℕ → Type 0
 IsJournalSector k = (map_sector ≤ k) × (k < first_home_sector)
@@ -99,9 +119,9 @@ IsPublished k = IsGate k ⊎ IsJournalSector k
 abbrev pub IsCommitted : List ℕ → ℕ → Type 0
 IsCommitted homes k = IsPublished k ⊎ IsHomeSector homes k
 
--- what a recovery writes: the gate, and homes
-abbrev pub IsRecovered : ℕ → Type 0
-IsRecovered k = IsGate k ⊎ (first_home_sector ≤ k)
+-- what a recovery of a device of so many sectors writes: the gate, and homes
+abbrev pub IsRecovered : ℕ → ℕ → Type 0
+IsRecovered sectors k = IsGate k ⊎ ((first_home_sector ≤ k) × (k < home_sector (home_count sectors)))
 
 -- the layout mark, the directory, and what lies behind the last home page
 abbrev pub IsOutside : ℕ → ℕ → Type 0

@@ -1,8 +1,8 @@
 -- What an image stands for: its home pages, but for those that an open journal holds. The format is our own.
-use Rattle.std.specs.Prelude.{ℕ, ◌+◌, ◌<◌, ◌≡◌, Bool, true, List, length, slice_index, Option, Some, None, if◌then◌else◌}
+use Rattle.std.specs.Prelude.{ℕ, ◌+◌, ◌<◌, ◌≡◌, ◌⊎◌, Bool, true, List, length, slice_index, Option, Some, None, if◌then◌else◌}
 use Rattle.disk_model.specs.Sectors.{part_of, joined}
 use Rattle.disk_model.specs.Stop.{Image}
-use Rattle.sync_journal.specs.Layout.{Layout, layout_2, map_sector, body_at, home_at, home_count_in, body_sector, home_sector}
+use Rattle.sync_journal.specs.Layout.{Layout, layout_2, map_sector, body_at, home_at, home_count_in, body_sector, home_sector, IsGate, IsStaged, IsPageSector}
 use Rattle.sync_journal.specs.Gate.{is_open}
 use Rattle.sync_journal.specs.Map.{count_in, home_in, place_among, IsBadMap}
 
@@ -62,3 +62,12 @@ AreCopied homes n old new = (j i : ℕ) → j < n → i < 8 → new (home_sector
 -- The body holds the first n of these pages.
 abbrev pub HoldsPages : ℕ → (ℕ → List ℕ) → Image → Type 0
 HoldsPages n pages image = (j i : ℕ) → j < n → i < 8 → image (body_sector j + i) ≡ part_of (pages j) i
+
+-- a sector of a home that the map of this image names
+abbrev pub IsNamedHome : Image → ℕ → Type 0
+IsNamedHome image k = (j : ℕ) × (j < count_in (map_of image)) × IsPageSector (home_sector (home_in (map_of image) j)) k
+
+-- what a recovery of this image asks for: the gate and, where it is open, the map, the pages of the body
+-- and the homes that the map names
+abbrev pub IsAskedIn : Image → ℕ → Type 0
+IsAskedIn image k = IsGate k ⊎ ((is_open image ≡ true) × (IsStaged (count_in (map_of image)) k ⊎ IsNamedHome image k))

@@ -1,13 +1,13 @@
 //! Pages made durable all at once.
 ghost use Rattle.std.specs.Prelude.{◌≡◌, ◌<◌, ◌≤◌, ◌⊎◌, ◌+◌, ℕ, [], length, IfSome, OnOk, IsErr, IsErrOf};
-ghost use Rattle.disk_model.specs.Stop.{Image, HasCause};
-ghost use Rattle.disk_model.specs.Moments.{LeavesOnly, Touches, Nothing};
-ghost use Rattle.sync_journal.specs.Layout.{gate_sector, home_count, home_sector, IsCommitted, IsOutside, IsReplayed, first_home_sector, page_limit};
+ghost use Rattle.disk_model.specs.Stop.{Image, HasCause, NamesOnce};
+ghost use Rattle.disk_model.specs.Moments.{LeavesOnly, Touches, AsksOnly, Nothing};
+ghost use Rattle.sync_journal.specs.Layout.{gate_sector, home_count, home_sector, IsCommitted, IsFinished, IsPageSector, IsOutside, IsReplayed, first_home_sector, page_limit};
 ghost use Rattle.sync_journal.specs.Gate.{closed_gate};
 ghost use Rattle.sync_journal.specs.Map.{AreHomes, map_bytes, place_of};
 ghost use Rattle.sync_journal.specs.Standing.{standing, place_or_home, map_of};
 ghost use Rattle.disk_model.specs.Sectors.{joined};
-ghost use Rattle.sync_journal.specs.Commit.{changed, StandsForEither, KeepsHomes, IsKept, IsAtRest, IsSettled};
+ghost use Rattle.sync_journal.specs.Commit.{changed, StandsForEither, KeepsHomes, IsKept, IsAtRest, IsSettled, AsksInTwo};
 ghost use Rattle.sync_journal.specs.Journal.{live_homes};
 ghost use Rattle.sync_journal.specs.Runs.{Runs};
 ghost use Rattle.sync_journal.specs.Source.{Asks, HasCauses};
@@ -60,6 +60,10 @@ impl Journal {
         ensures size { D.sector_count disk.new ≡ D.sector_count disk.old }
         ensures kept { D.keeps_model disk.new → D.keeps_model disk.old }
         ensures asks { Asks S.PageSource source.old source.new }
+        // The device is asked for the gate, the journal, and the homes of the commit before alone.
+        ensures asks_device { AsksOnly D.SectorDisk (IsCommitted (live_homes self.old)) disk.old disk.new }
+        // And for no sector more often than it takes.
+        ensures once { AsksInTwo D.SectorDisk (live_homes self.old) (length homes.now) disk.old disk.new }
         ensures causes { HasCauses (D.failures disk.old) (D.failures disk.new) (S.failures source.old) (S.failures source.new) result }
 
         // Every image of a stop at any moment of the call stands for the pages before or after.
@@ -106,6 +110,8 @@ impl Journal {
         ensures size { D.sector_count disk.new ≡ D.sector_count disk.old }
         ensures kept { D.keeps_model disk.new → D.keeps_model disk.old }
         ensures cause { HasCause (D.failures disk.old) (D.failures disk.new) result }
+        // No sector is asked for but the eight in which that page stands.
+        ensures asks { AsksOnly D.SectorDisk (IsPageSector (place_or_home home (place_of (live_homes self.now) home))) disk.old disk.new }
         ensures touches { D.keeps_model disk.new → Touches D.SectorDisk Nothing disk.old disk.new }
         ensures rest { D.keeps_model disk.new → IsAtRest D.SectorDisk (live_homes self.now) disk.new }
         ensures page { D.keeps_model disk.new → OnOk result (to.new ≡ joined (standing (D.content disk.old) home) 8) }
@@ -130,6 +136,7 @@ impl Journal {
         requires live { AreHomes (home_count (D.sector_count disk.old)) (live_homes self.old) }
         requires rest { D.keeps_model disk.old → IsAtRest D.SectorDisk (live_homes self.old) disk.old }
         ensures run { Runs D.SectorDisk (IsReplayed (live_homes self.old)) disk.old disk.new }
+        ensures asks { NamesOnce (IsFinished (live_homes self.old)) (D.asked disk.old) (D.asked disk.new) }
         ensures failed { IsErr result → D.failures disk.old < D.failures disk.new }
         ensures calm { OnOk result (D.failures disk.new ≡ D.failures disk.old) }
         ensures not_live { OnOk result (live_homes self.new ≡ []) }

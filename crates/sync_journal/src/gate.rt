@@ -1,5 +1,6 @@
 //! The gate of the journal: one sector, written and synced by itself.
 ghost use Rattle.std.specs.Prelude.{◌≡◌, ◌<◌, ◌≤◌, ℕ, true, false, List, OnOk, IsErr};
+ghost use Rattle.disk_model.specs.Stop.{NamesOnce};
 ghost use Rattle.sync_journal.specs.Layout.{gate_sector, IsGate, first_home_sector};
 ghost use Rattle.sync_journal.specs.Gate.{open_sector, closed_sector, is_open_sector, is_open};
 ghost use Rattle.sync_journal.specs.Runs.{Runs};
@@ -35,6 +36,7 @@ pub(crate) fn is_open_gate(sector: &[u8; 512]) -> bool
 pub(crate) fn open_gate<D: SectorDisk>(disk: &mut D) -> Result<(), DiskFault>
     requires { first_home_sector ≤ D.sector_count disk.old }
     ensures run { Runs D.SectorDisk IsGate disk.old disk.new }
+    ensures asks { NamesOnce IsGate (D.asked disk.old) (D.asked disk.new) }
     ensures failed { IsErr result → D.failures disk.old < D.failures disk.new }
     ensures calm { OnOk result (D.failures disk.new ≡ D.failures disk.old) }
     ensures opened { D.keeps_model disk.new → OnOk result (is_open (D.content disk.new) ≡ true) }
@@ -47,6 +49,7 @@ pub(crate) fn open_gate<D: SectorDisk>(disk: &mut D) -> Result<(), DiskFault>
 pub(crate) fn close_gate<D: SectorDisk>(disk: &mut D) -> Result<(), DiskFault>
     requires { first_home_sector ≤ D.sector_count disk.old }
     ensures run { Runs D.SectorDisk IsGate disk.old disk.new }
+    ensures asks { NamesOnce IsGate (D.asked disk.old) (D.asked disk.new) }
     ensures failed { IsErr result → D.failures disk.old < D.failures disk.new }
     ensures calm { OnOk result (D.failures disk.new ≡ D.failures disk.old) }
     ensures zeros { D.keeps_model disk.new → OnOk result (D.content disk.new gate_sector ≡ closed_sector) }
@@ -59,6 +62,7 @@ pub(crate) fn close_gate<D: SectorDisk>(disk: &mut D) -> Result<(), DiskFault>
 fn write_gate<D: SectorDisk>(disk: &mut D, gate: &[u8; 512]) -> Result<(), DiskFault>
     requires { first_home_sector ≤ D.sector_count disk.old }
     ensures run { Runs D.SectorDisk IsGate disk.old disk.new }
+    ensures asks { NamesOnce IsGate (D.asked disk.old) (D.asked disk.new) }
     ensures failed { IsErr result → D.failures disk.old < D.failures disk.new }
     ensures calm { OnOk result (D.failures disk.new ≡ D.failures disk.old) }
     ensures written { D.keeps_model disk.new → OnOk result (D.content disk.new gate_sector ≡ gate.now) }

@@ -1,6 +1,7 @@
 //! The pages of an open journal, copied to their homes.
 ghost use Rattle.std.specs.Prelude.{◌≡◌, ◌<◌, ◌≤◌, ℕ, [], length, OnOk, IsErr};
-ghost use Rattle.sync_journal.specs.Layout.{gate_sector, home_count, IsHomeSector, IsReplayed, first_home_sector};
+ghost use Rattle.disk_model.specs.Stop.{NamesOnce};
+ghost use Rattle.sync_journal.specs.Layout.{gate_sector, home_count, IsHomeSector, IsReplayed, IsCopied, IsFinished, first_home_sector};
 ghost use Rattle.sync_journal.specs.Gate.{closed_sector};
 ghost use Rattle.sync_journal.specs.Map.{AreHomes};
 ghost use Rattle.sync_journal.specs.Standing.{IsOpenFor, AreCopied, standing};
@@ -19,6 +20,7 @@ pub(crate) fn replay<D: SectorDisk>(disk: &mut D, homes: &[u32]) -> Result<(), D
     requires opened { D.keeps_model disk.old → IsOpenFor homes.now (D.content disk.old) }
     requires synced { D.keeps_model disk.old → (k : ℕ) → D.unsynced disk.old k → ⊥ }
     ensures run { Runs D.SectorDisk (IsReplayed homes.now) disk.old disk.new }
+    ensures asks { NamesOnce (IsFinished homes.now) (D.asked disk.old) (D.asked disk.new) }
     ensures failed { IsErr result → D.failures disk.old < D.failures disk.new }
     ensures calm { OnOk result (D.failures disk.new ≡ D.failures disk.old) }
     ensures any_moment { D.keeps_model disk.new → KeepsHomes D.SectorDisk disk.old disk.new }
@@ -35,6 +37,7 @@ pub(crate) fn replay<D: SectorDisk>(disk: &mut D, homes: &[u32]) -> Result<(), D
 fn copy_homes<D: SectorDisk>(disk: &mut D, homes: &[u32]) -> Result<(), DiskFault>
     requires { AreHomes (home_count (D.sector_count disk.old)) homes.now }
     ensures run { Runs D.SectorDisk (IsHomeSector homes.now) disk.old disk.new }
+    ensures asks { NamesOnce (IsCopied homes.now (length homes.now)) (D.asked disk.old) (D.asked disk.new) }
     ensures failed { IsErr result → D.failures disk.old < D.failures disk.new }
     ensures calm { OnOk result (D.failures disk.new ≡ D.failures disk.old) }
     ensures copied { D.keeps_model disk.new → OnOk result (AreCopied homes.now (length homes.now) (D.content disk.old) (D.content disk.new)) }
@@ -47,6 +50,7 @@ fn copy_homes<D: SectorDisk>(disk: &mut D, homes: &[u32]) -> Result<(), DiskFaul
 fn copy_each<D: SectorDisk>(disk: &mut D, homes: &[u32]) -> Result<(), DiskFault>
     requires { AreHomes (home_count (D.sector_count disk.old)) homes.now }
     ensures run { Runs D.SectorDisk (IsHomeSector homes.now) disk.old disk.new }
+    ensures asks { NamesOnce (IsCopied homes.now (length homes.now)) (D.asked disk.old) (D.asked disk.new) }
     ensures failed { IsErr result → D.failures disk.old < D.failures disk.new }
     ensures calm { OnOk result (D.failures disk.new ≡ D.failures disk.old) }
     ensures copied { D.keeps_model disk.new → OnOk result (AreCopied homes.now (length homes.now) (D.content disk.old) (D.content disk.new)) }

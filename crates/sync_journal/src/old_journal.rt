@@ -1,9 +1,9 @@
 //! The journal of a store of layout 1, which is only read.
 ghost use Rattle.std.specs.Prelude.{◌≡◌, ◌<◌, ◌≤◌, ◌+◌, ◌⊎◌, ℕ, IfOk, OnOk, IsErrOf, take};
 ghost use Rattle.disk_model.specs.Stop.{HasCause};
-ghost use Rattle.disk_model.specs.Moments.{Touches, Nothing};
+ghost use Rattle.disk_model.specs.Moments.{Touches, AsksOnly, Nothing};
 ghost use Rattle.disk_model.specs.Sectors.{joined};
-ghost use Rattle.sync_journal.specs.Layout.{layout_1, home_at, home_count_in};
+ghost use Rattle.sync_journal.specs.Layout.{layout_1, home_at, home_count_in, IsPageSector};
 ghost use Rattle.sync_journal.specs.Map.{place_of};
 ghost use Rattle.sync_journal.specs.Runs.{Runs};
 ghost use Rattle.sync_journal.specs.Standing.{standing_in, place_or_home_in, IsBadJournalIn};
@@ -86,6 +86,7 @@ impl OldJournal {
         ensures size { D.sector_count disk.new ≡ D.sector_count disk.old }
         ensures kept { D.keeps_model disk.new → D.keeps_model disk.old }
         ensures cause { HasCause (D.failures disk.old) (D.failures disk.new) result }
+        ensures asks { AsksOnly D.SectorDisk (IsPageSector (place_or_home_in layout_1 home (place_of (old_homes self.now) home))) disk.old disk.new }
         ensures touches { D.keeps_model disk.new → Touches D.SectorDisk Nothing disk.old disk.new }
         ensures page { D.keeps_model disk.new → OnOk result (to.new ≡ joined (standing_in layout_1 (D.content disk.old) home) 8) }
     {

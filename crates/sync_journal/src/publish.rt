@@ -1,7 +1,8 @@
 //! Pages that stand in the journal once the gate is open.
 ghost use Rattle.std.specs.Prelude.{◌≡◌, ◌<◌, ◌⊎◌, ℕ, [], length, OnOk, IsErrOf};
 ghost use Rattle.disk_model.specs.Moments.{LeavesOnly, Touches};
-ghost use Rattle.sync_journal.specs.Layout.{gate_sector, home_count, IsPublished, IsOutside};
+ghost use Rattle.disk_model.specs.Stop.{NamesOnce};
+ghost use Rattle.sync_journal.specs.Layout.{gate_sector, home_count, IsPublished, IsOpened, IsOutside};
 ghost use Rattle.sync_journal.specs.Map.{AreHomes, map_bytes};
 ghost use Rattle.sync_journal.specs.Standing.{standing, map_of};
 ghost use Rattle.sync_journal.specs.Commit.{changed, StandsForEither, KeepsHomes, IsKept, IsQuiet, IsLive, IsSettled};
@@ -27,6 +28,7 @@ pub(crate) fn publish<D: SectorDisk, S: PageSource>(
 
     ensures size { D.sector_count disk.new ≡ D.sector_count disk.old }
     ensures kept { D.keeps_model disk.new → D.keeps_model disk.old }
+    ensures asks_device { NamesOnce (IsOpened (length homes.now)) (D.asked disk.old) (D.asked disk.new) }
     ensures asks { Asks S.PageSource source.old source.new }
     ensures causes { HasCauses (D.failures disk.old) (D.failures disk.new) (S.failures source.old) (S.failures source.new) result }
 

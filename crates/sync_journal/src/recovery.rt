@@ -1,12 +1,12 @@
 //! A store after a stop.
 ghost use Rattle.std.specs.Prelude.{◌≡◌, ◌<◌, ◌≤◌, ℕ, false, [], OnOk, IsErrOf};
 ghost use Rattle.disk_model.specs.Stop.{Image};
-ghost use Rattle.disk_model.specs.Moments.{LeavesOnly, Touches, Nothing};
+ghost use Rattle.disk_model.specs.Moments.{LeavesOnly, Touches, AsksOnly, Nothing};
 ghost use Rattle.sync_journal.specs.Layout.{gate_sector, IsRecovered, first_home_sector};
 ghost use Rattle.sync_journal.specs.Gate.{is_open, closed_gate};
 ghost use Rattle.sync_journal.specs.Runs.{Runs};
 ghost use Rattle.sync_journal.specs.Recovery.{Finds, GivesHomes};
-ghost use Rattle.sync_journal.specs.Standing.{IsBadJournal, standing};
+ghost use Rattle.sync_journal.specs.Standing.{IsBadJournal, IsAskedIn, standing};
 ghost use Rattle.sync_journal.specs.Commit.{HomesStandAs, KeepsHomes, IsSettled};
 ghost use Rattle.sync_journal.specs.Stops.{LeftInARow};
 
@@ -31,6 +31,7 @@ pub fn recover<D: SectorDisk>(disk: &mut D) -> Result<(), RecoverFault>
     ensures size { D.sector_count disk.new ≡ D.sector_count disk.old }
     ensures kept { D.keeps_model disk.new → D.keeps_model disk.old }
     ensures later { D.failures disk.old ≤ D.failures disk.new }
+    ensures asks { D.keeps_model disk.new → AsksOnly D.SectorDisk (IsAskedIn (D.content disk.old)) disk.old disk.new }
     ensures device { IsErrOf result RecoverFault.Device → D.failures disk.old < D.failures disk.new }
     ensures calm { OnOk result (D.failures disk.new ≡ D.failures disk.old) }
     ensures still { IsErrOf result RecoverFault.BadJournal → D.failures disk.new ≡ D.failures disk.old }
@@ -47,7 +48,7 @@ pub fn recover<D: SectorDisk>(disk: &mut D) -> Result<(), RecoverFault>
     ensures bad_unwritten { D.keeps_model disk.new → IsBadJournal (D.sector_count disk.old) (D.content disk.old) → Touches D.SectorDisk Nothing disk.old disk.new }
     ensures closed_unwritten { D.keeps_model disk.new → is_open (D.content disk.old) ≡ false → Touches D.SectorDisk Nothing disk.old disk.new }
 
-    ensures touches { D.keeps_model disk.new → Touches D.SectorDisk IsRecovered disk.old disk.new }
+    ensures touches { D.keeps_model disk.new → Touches D.SectorDisk (IsRecovered (D.sector_count disk.old)) disk.old disk.new }
 
     // Where nothing is unsynced, as after a stop, every image of a stop at any moment of the call stands for the same pages.
     ensures any_moment { D.keeps_model disk.new → ((k : ℕ) → D.unsynced disk.old k → ⊥) → KeepsHomes D.SectorDisk disk.old disk.new }
@@ -75,6 +76,7 @@ fn recover_synced<D: SectorDisk>(disk: &mut D) -> Result<(), RecoverFault>
     ensures size { D.sector_count disk.new ≡ D.sector_count disk.old }
     ensures kept { D.keeps_model disk.new → D.keeps_model disk.old }
     ensures later { D.failures disk.old ≤ D.failures disk.new }
+    ensures asks { D.keeps_model disk.new → AsksOnly D.SectorDisk (IsAskedIn (D.content disk.old)) disk.old disk.new }
     ensures device { IsErrOf result RecoverFault.Device → D.failures disk.old < D.failures disk.new }
     ensures calm { OnOk result (D.failures disk.new ≡ D.failures disk.old) }
     ensures still { IsErrOf result RecoverFault.BadJournal → D.failures disk.new ≡ D.failures disk.old }
@@ -90,7 +92,7 @@ fn recover_synced<D: SectorDisk>(disk: &mut D) -> Result<(), RecoverFault>
 
     ensures bad_unwritten { D.keeps_model disk.new → IsBadJournal (D.sector_count disk.old) (D.content disk.old) → Touches D.SectorDisk Nothing disk.old disk.new }
     ensures closed_unwritten { D.keeps_model disk.new → is_open (D.content disk.old) ≡ false → Touches D.SectorDisk Nothing disk.old disk.new }
-    ensures touches { D.keeps_model disk.new → Touches D.SectorDisk IsRecovered disk.old disk.new }
+    ensures touches { D.keeps_model disk.new → Touches D.SectorDisk (IsRecovered (D.sector_count disk.old)) disk.old disk.new }
 {
     let mut homes = [0; PAGE_LIMIT];
     let Some(count) = find_open(disk, &mut homes)? else {
@@ -108,6 +110,7 @@ fn find_open<D: SectorDisk>(
 ) -> Result<Option<usize>, RecoverFault>
     requires { first_home_sector ≤ D.sector_count disk.old }
     ensures run { Runs D.SectorDisk Nothing disk.old disk.new }
+    ensures asks { D.keeps_model disk.new → AsksOnly D.SectorDisk (IsAskedIn (D.content disk.old)) disk.old disk.new }
     ensures device { IsErrOf result RecoverFault.Device → D.failures disk.old < D.failures disk.new }
     ensures calm { OnOk result (D.failures disk.new ≡ D.failures disk.old) }
     ensures still { IsErrOf result RecoverFault.BadJournal → D.failures disk.new ≡ D.failures disk.old }

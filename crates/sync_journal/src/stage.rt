@@ -1,6 +1,7 @@
 //! Pages and map of a commit, written to the journal before the gate is opened.
 ghost use Rattle.std.specs.Prelude.{◌≡◌, ◌<◌, ◌≤◌, ℕ, length, OnOk};
-ghost use Rattle.sync_journal.specs.Layout.{IsJournalSector, first_home_sector, page_limit};
+ghost use Rattle.disk_model.specs.Stop.{NamesOnce};
+ghost use Rattle.sync_journal.specs.Layout.{IsJournalSector, IsBodySector, IsStaged, first_home_sector, page_limit};
 ghost use Rattle.sync_journal.specs.Map.{map_bytes};
 ghost use Rattle.sync_journal.specs.Standing.{map_of, HoldsPages};
 ghost use Rattle.sync_journal.specs.Runs.{Runs};
@@ -23,6 +24,7 @@ pub(crate) fn stage<D: SectorDisk, S: PageSource>(
     requires few { length homes.now ≤ page_limit }
     requires gives { (i : ℕ) → i < length homes.now → S.gives source.old i }
     ensures run { Runs D.SectorDisk IsJournalSector disk.old disk.new }
+    ensures asks_device { NamesOnce (IsStaged (length homes.now)) (D.asked disk.old) (D.asked disk.new) }
     ensures asks { Asks S.PageSource source.old source.new }
     ensures causes { HasCauses (D.failures disk.old) (D.failures disk.new) (S.failures source.old) (S.failures source.new) result }
     ensures body { D.keeps_model disk.new → S.keeps_model source.new → OnOk result (HoldsPages (length homes.now) (S.pages source.old) (D.content disk.new)) }
@@ -45,6 +47,7 @@ fn write_body<D: SectorDisk, S: PageSource>(
     requires few { count ≤ page_limit }
     requires gives { (i : ℕ) → i < count → S.gives source.old i }
     ensures run { Runs D.SectorDisk IsJournalSector disk.old disk.new }
+    ensures asks_device { NamesOnce (IsBodySector count) (D.asked disk.old) (D.asked disk.new) }
     ensures asks { Asks S.PageSource source.old source.new }
     ensures causes { HasCauses (D.failures disk.old) (D.failures disk.new) (S.failures source.old) (S.failures source.new) result }
     ensures body { D.keeps_model disk.new → S.keeps_model source.new → OnOk result (HoldsPages count (S.pages source.old) (D.content disk.new)) }

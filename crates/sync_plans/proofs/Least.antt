@@ -1,12 +1,12 @@
 -- Sectors below all those that are written.
-use Rattle.std.proofs.Common.{ℕ, ◌+◌, ◌<◌, ◌≤◌, ◌≡◌, ◌≢◌, suc, false, if◌then◌else◌, List, [], Some, slice_get, length, ⊎_elim, refl, sym, ap, subst, ◌∙◌, arith, eq-eqb, ne_eqb}
+use Rattle.std.proofs.Common.{ℕ, ◌+◌, ◌<◌, ◌≤◌, ◌≡◌, ◌≢◌, false, if◌then◌else◌, List, [], Some, slice_get, length, ⊎_elim, refl, sym, ap, subst, ◌∙◌, arith, eq-eqb, ne_eqb}
 use Rattle.std.proofs.lemmas.Bool.{cases_eq}
 use Rattle.std.proofs.lemmas.List.{get_or-set_same, get_or-set_other, length-set}
 use Rattle.std.proofs.lemmas.Option.{same_Some, slice_get-get_or}
-use Rattle.std.proofs.Math.ListN.{get_or, set}
+use Rattle.std.proofs.Math.ListN.{set}
 use Rattle.disk_model.specs.Stop.{Image}
 use Rattle.sync_plans.specs.declared.call.Call.{Call}
-use Rattle.sync_plans.specs.Plans.{row, writes_to, IsCall, AreCalls, image_after}
+use Rattle.sync_plans.specs.Plans.{writes_to, IsCall, AreCalls, image_after}
 use Rattle.sync_plans.specs.Device.{Lists}
 use Rattle.sync_plans.proofs.Growth.{alike_image, image_now}
 

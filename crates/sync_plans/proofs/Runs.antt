@@ -1,16 +1,23 @@
 -- A store that is opened, and then committed to.
-use Rattle.std.proofs.Common.{ℕ, ◌≡◌, List, Option, inl, inr, refl, ap, ◌∙◌}
+use Rattle.std.proofs.Common.{ℕ, ◌≡◌, List, [], Option, inl, inr, ⊎_elim, refl, ap, subst, ◌∙◌, arith}
 use Rattle.std.proofs.Math.Path.{fun_ext}
 use Rattle.std.specs.Option.{option_map}
 use Rattle.sync_journal.specs.Standing.{IsBadJournal}
+use Rattle.sync_journal.specs.Commit.{IsAtRest as IsJournalAtRest}
+use Rattle.sync_journal.specs.Journal.{live_homes}
 use Rattle.file_store.specs.declared.store.FileStore.{FileStore}
-use Rattle.file_store.specs.Store.{files_of, IsAtRest}
+use Rattle.file_store.specs.Store.{files_of, IsAtRest, PutsHomesOrNone}
+use Rattle.file_store.specs.declared.directory.Directory.{Directory}
+use Rattle.disk_model.specs.Stop.{Image}
 use Rattle.disk_model.specs.Moments.{LeavesOnly, LeavesNow}
 use Rattle.disk_model.specs.declared.sector_disk.SectorDisk.{Ghosts}
 use Rattle.disk_model.proofs.Moments.{weaker, joined}
 use Rattle.vm_types.specs.declared.file.FileInfo.{FileInfo}
+use Rattle.vm_types.specs.declared.file.FilePage.{FilePage}
 use Rattle.file_store.specs.Standing.{StandsFor, StandsAs, IsBadLayout, file_info, standing_page}
 use Rattle.file_store.specs.Commit.{StandsForEither}
+use Rattle.file_store.proofs.Images.{bad_layout_moves, stands_for_itself}
+use Rattle.sync_plans.specs.Requests.{IsClosed, KeepsOutside, HasLayout}
 
 module _ {D : Type 0} (g : Ghosts D) (sectors : ℕ) (files : ℕ → Option FileInfo) (before : ℕ → ℕ → List ℕ) (old mid : D) (left : LeavesNow g old (StandsFor sectors files before)) where
   was : StandsFor sectors files before (g.content old)
@@ -29,6 +36,26 @@ module _ {D : Type 0} (g : Ghosts D) (sectors : ℕ) (files : ℕ → Option Fil
       → LeavesOnly g mid new (StandsForEither sectors files before after) → LeavesOnly g old new (StandsForEither sectors files before after)
   then_committed after new first second = joined g old mid new (StandsForEither sectors files before after)
       (weaker g old mid (StandsFor sectors files before) (StandsForEither sectors files before after) (λ image s. inl s) (while_opening first)) second
+
+-- an open store with nothing in its journal has a closed gate
+pub is_closed : {D : Type 0} (g : Ghosts D) (store : FileStore D) → live_homes store.journal ≡ [] → IsAtRest g store → IsClosed (g.content store.disk)
+is_closed g store none rest = (subst (λ homes. IsJournalAtRest g homes store.disk) none rest.journal).closed
+
+-- The layout is good at every moment of an opening and of a commit.
+module _ {D : Type 0} (g : Ghosts D) (sectors : ℕ) (directory : Directory) (list : List FilePage) (given : ℕ → List ℕ) (old mid new : D)
+    (layout : IsBadLayout sectors (g.content old) → ⊥) (journal : IsBadJournal sectors (g.content old) → ⊥) where
+  of_file : (image : Image) → StandsAs sectors (g.content old) image → HasLayout sectors image
+  of_file image stands = (stands (file_info (g.content old)) (standing_page (g.content old)) (stands_for_itself sectors (g.content old) layout journal)).layout
+
+  moved : (image : Image) → HasLayout sectors (g.content mid) → KeepsOutside sectors (g.content mid) image → HasLayout sectors image
+  moved image good kept bad = good (bad_layout_moves sectors image (g.content mid) (kept 0 (inl (omega arith))) (kept 1 (inl (omega arith))) bad)
+
+  pub laid_out : LeavesOnly g old mid (StandsAs sectors (g.content old)) → LeavesNow g mid (StandsAs sectors (g.content old))
+      → LeavesOnly g mid new (PutsHomesOrNone sectors directory list given (g.content mid)) → LeavesOnly g old new (HasLayout sectors)
+  laid_out opening now run = joined g old mid new (HasLayout sectors) (weaker g old mid (StandsAs sectors (g.content old)) (HasLayout sectors) of_file opening)
+      (let good = of_file (g.content mid) (now (g.content mid) (record { kept = λ k. inr refl })) in
+      weaker g mid new (PutsHomesOrNone sectors directory list given (g.content mid)) (HasLayout sectors)
+      (λ image. ⊎_elim (λ kept. moved image good kept.outside) (λ puts. moved image good puts.outside)) run)
 
 -- an open store has the files of the image that it was opened on
 pub same_files : {D : Type 0} (g : Ghosts D) (disk : D) (store : FileStore D) → (IsBadLayout (g.sector_count disk) (g.content disk) → ⊥) → (IsBadJournal (g.sector_count disk) (g.content disk) → ⊥)

@@ -1,11 +1,11 @@
 //! A device that lists its writes and syncs, for the caller to carry out.
-ghost use Rattle.std.specs.Prelude.{◌≡◌, ◌<◌, ◌≤◌, ◌+◌, ℕ, List, length, true, false, IsErr, slice_get};
-ghost use Rattle.disk_model.specs.Stop.{HasCause};
+ghost use Rattle.std.specs.Prelude.{◌≡◌, ◌<◌, ◌≤◌, ◌+◌, ◌⊎◌, ℕ, List, length, true, false, OnOk, IsErr, slice_get};
+ghost use Rattle.disk_model.specs.Stop.{HasCause, ChangesOnly, Elapses};
 ghost use Rattle.sync_plans.specs.Plans.{row, IsCall, AreCalls, image_after, Unsynced};
 ghost use Rattle.sync_plans.specs.Device.{Lists};
 
 use crate::call::{Call, ROOM};
-use disk_model::{Count, DiskFault, SECTOR_BYTES, SectorDisk, parts};
+use disk_model::{Asked, Count, DiskFault, SECTOR_BYTES, SectorDisk, parts};
 
 const WRITE: u64 = 1;
 
@@ -24,6 +24,7 @@ pub(crate) struct PlanDisk<'a> {
     /// A call found no room.
     pub full: bool,
     pub failures: Count,
+    asked: Asked,
     ghost long: { length calls.now ≡ 16384 },
     ghost rows_long: { length rows.now ≡ 16384 },
     ghost within: { used ≤ 16384 },
@@ -34,6 +35,8 @@ pub(crate) struct PlanDisk<'a> {
 }
 
 impl<'a> PlanDisk<'a> {
+    ghost use Rattle.sync_plans.specs.PlanDisk.{content_of, unsynced_in, moment_of, left_in};
+
     pub(crate) fn new(
         image: &'a [[u8; 512]],
         calls: &'a mut [Call; ROOM],
@@ -50,6 +53,7 @@ impl<'a> PlanDisk<'a> {
             least: u64::MAX,
             full: false,
             failures: Count::new(),
+            asked: Asked::new(),
         }
     }
 
@@ -57,6 +61,7 @@ impl<'a> PlanDisk<'a> {
     fn list(&mut self, call: Call, bytes: &[u8; 512]) -> Result<(), DiskFault>
         requires { IsCall (length self.old.image.now) call }
         ensures image { self.new.image.now ≡ self.old.image.now }
+        ensures asked { self.new.asked ≡ self.old.asked }
         ensures cause { HasCause self.old.failures.number self.new.failures.number result }
         ensures kept { self.new.full ≡ false → self.old.full ≡ false }
         ensures ok { self.new.full ≡ false → IsErr result → ⊥ }
@@ -72,6 +77,29 @@ impl<'a> PlanDisk<'a> {
         self.rows[self.used] = *bytes;
         self.used += 1;
         Ok(())
+    }
+
+    // A write that is a call, or a part of one.
+    fn put(&mut self, n: u64, from: &[u8; SECTOR_BYTES]) -> Result<(), DiskFault>
+        requires { n < length self.old.image.now }
+        ensures asked { self.new.asked ≡ self.old.asked }
+        ensures size { length self.new.image.now ≡ length self.old.image.now }
+        ensures kept { self.new.full ≡ false → self.old.full ≡ false }
+        ensures cause { HasCause self.old.failures.number self.new.failures.number result }
+        ensures written { self.new.full ≡ false → OnOk result (content_of self.new n ≡ from.now) }
+        ensures others { self.new.full ≡ false → ChangesOnly n (content_of self.old) (content_of self.new) }
+        ensures unsynced { self.new.full ≡ false → (k : ℕ) → unsynced_in self.new k → unsynced_in self.old k ⊎ (k ≡ n) }
+        ensures marked { self.new.full ≡ false → unsynced_in self.new n }
+        ensures still { self.new.full ≡ false → (k : ℕ) → unsynced_in self.old k → unsynced_in self.new k }
+        ensures time { self.new.full ≡ false → Elapses (moment_of self.old) (moment_of self.new) (left_in self.old) (left_in self.new) (content_of self.new) (unsynced_in self.new) }
+    {
+        self.list(
+            Call {
+                kind: WRITE,
+                sector: n,
+            },
+            from,
+        )
     }
 
     /// A sector of which no listed write is below, nor this call.
@@ -117,6 +145,7 @@ impl<'a> PlanDisk<'a> {
 }
 
 impl SectorDisk for PlanDisk<'_> {
+    ghost use Rattle.disk_model.specs.Asked.{times_named};
     ghost use Rattle.sync_plans.specs.PlanDisk.{content_of, unsynced_in, moment_of, left_in};
     ghost use Rattle.sync_plans.specs.Device.{counts_present, only_present};
 
@@ -132,6 +161,8 @@ impl SectorDisk for PlanDisk<'_> {
 
     ghost failures = { λ d. d.failures.number };
 
+    ghost asked = { λ d. times_named d.asked };
+
     ghost keeps_model = { λ d. d.full ≡ false };
 
     ghost counts_now = { λ d t c kept le now. counts_present d.calls.now d.rows.now (row d.image.now) d.used t c le now };
@@ -143,21 +174,18 @@ impl SectorDisk for PlanDisk<'_> {
     }
 
     fn read(&mut self, n: u64, to: &mut [u8; SECTOR_BYTES]) -> Result<(), DiskFault> {
+        self.asked.sector(n);
         *to = self.held(n);
         Ok(())
     }
 
     fn write(&mut self, n: u64, from: &[u8; SECTOR_BYTES]) -> Result<(), DiskFault> {
-        self.list(
-            Call {
-                kind: WRITE,
-                sector: n,
-            },
-            from,
-        )
+        self.asked.sector(n);
+        self.put(n, from)
     }
 
     fn read_page(&mut self, n: u64, to: &mut [u8; 4096]) -> Result<(), DiskFault> {
+        self.asked.page(n);
         for i in 0..8 {
             let sector = self.held(n + i as u64);
             let at = 512 * i;
@@ -167,8 +195,9 @@ impl SectorDisk for PlanDisk<'_> {
     }
 
     fn write_page(&mut self, n: u64, from: &[u8; 4096]) -> Result<(), DiskFault> {
+        self.asked.page(n);
         for (i, sector) in parts(from).iter().enumerate() {
-            self.write(n + i as u64, sector)?;
+            self.put(n + i as u64, sector)?;
         }
         Ok(())
     }

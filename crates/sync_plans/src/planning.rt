@@ -6,7 +6,7 @@ ghost use Rattle.file_store.specs.Commit.{ArePages, Changes, StandsForEither};
 ghost use Rattle.file_store.specs.Standing.{IsPageOf, StandsFor, IsBadLayout, file_info};
 ghost use Rattle.sync_plans.specs.Pages.{lent_page};
 ghost use Rattle.sync_plans.specs.Plans.{row, AreCalls, image_after, Unsynced, StopLeaves};
-ghost use Rattle.sync_plans.specs.Requests.{IsStore, HasBadJournal, AreWritable, AreReadOnly};
+ghost use Rattle.sync_plans.specs.Requests.{IsStore, HasBadJournal, IsClosed, KeepsOutside, AreWritable, AreReadOnly};
 
 use crate::call::{Call, ROOM};
 use crate::lent_pages::PageBytes;
@@ -34,6 +34,7 @@ pub fn plan_commit(
     ensures ok { IfOk result (λ used. (files : ℕ → Option FileInfo) (before after : ℕ → ℕ → List ℕ)
         → StandsFor (length image.now) files before (row image.now) → Changes files pages.now (lent_page bytes.now) before after
         → StandsFor (length image.now) files after (image_after calls.new rows.new (row image.now) used)) }
+    ensures outside { IfOk result (λ used. KeepsOutside (length image.now) (row image.now) (image_after calls.new rows.new (row image.now) used)) }
     ensures store { OnOk result (IsStore (length image.now) (row image.now)) }
     ensures writable { OnOk result (AreWritable (row image.now) pages.now) }
     ensures no_room { IfErr result (λ refusal. refusal ≡ Refusal.Device → AreCalls (length image.now) calls.new 16384) }
@@ -68,6 +69,8 @@ pub fn plan_open(
     ensures any_moment { IfOk result (λ used. (files : ℕ → Option FileInfo) (pages : ℕ → ℕ → List ℕ)
         → StandsFor (length image.now) files pages (row image.now)
         → (left : Image) → StopLeaves calls.new rows.new (row image.now) used left → StandsFor (length image.now) files pages left) }
+    ensures closed { IfOk result (λ used. IsClosed (image_after calls.new rows.new (row image.now) used)) }
+    ensures outside { IfOk result (λ used. KeepsOutside (length image.now) (row image.now) (image_after calls.new rows.new (row image.now) used)) }
     ensures store { OnOk result (IsStore (length image.now) (row image.now)) }
     ensures no_room { IfErr result (λ refusal. refusal ≡ Refusal.Device → AreCalls (length image.now) calls.new 16384) }
     ensures layout { IfErr result (λ refusal. refusal ≡ Refusal.BadLayout → IsBadLayout (length image.now) (row image.now)) }

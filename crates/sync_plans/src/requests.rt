@@ -5,7 +5,7 @@ ghost use Rattle.disk_model.specs.Moments.{LeavesOnly, LeavesNow};
 ghost use Rattle.file_store.specs.Commit.{ArePages, Changes, StandsForEither};
 ghost use Rattle.file_store.specs.Standing.{IsPageOf, StandsFor, IsBadLayout, file_info};
 ghost use Rattle.sync_plans.specs.Pages.{lent_page};
-ghost use Rattle.sync_plans.specs.Requests.{IsStore, HasBadJournal, AreWritable, AreReadOnly};
+ghost use Rattle.sync_plans.specs.Requests.{IsStore, HasLayout, HasBadJournal, IsClosed, KeepsOutside, AreWritable, AreReadOnly};
 
 use crate::lent_pages::{LentPages, PageBytes};
 use batches::{BadBatch, check_page, check_pages};
@@ -59,6 +59,8 @@ pub(crate) fn open<D: SectorDisk + Drop>(disk: D) -> (D, Result<(), Refusal>)
     ensures any_moment { D.keeps_model result.0 → (files : ℕ → Option FileInfo) (before : ℕ → ℕ → List ℕ)
         → LeavesNow D.SectorDisk disk (StandsFor (D.sector_count disk) files before)
         → LeavesOnly D.SectorDisk disk result.0 (StandsForEither (D.sector_count disk) files before before) }
+    ensures closed { D.keeps_model result.0 → OnOk result.1 (IsClosed (D.content result.0)) }
+    ensures outside { D.keeps_model result.0 → OnOk result.1 (KeepsOutside (D.sector_count disk) (D.content disk) (D.content result.0)) }
     ensures store { D.keeps_model result.0 → OnOk result.1 (IsStore (D.sector_count disk) (D.content disk)) }
     ensures layout { D.keeps_model result.0 → IfErr result.1 (λ refusal. refusal ≡ Refusal.BadLayout → IsBadLayout (D.sector_count disk) (D.content disk)) }
     ensures journal { D.keeps_model result.0 → IfErr result.1 (λ refusal. refusal ≡ Refusal.BadJournal → HasBadJournal (D.sector_count disk) (D.content disk)) }
@@ -139,6 +141,9 @@ pub(crate) fn commit<D: SectorDisk + Drop>(
     ensures ok { D.keeps_model result.0 → (files : ℕ → Option FileInfo) (before after : ℕ → ℕ → List ℕ)
         → LeavesNow D.SectorDisk disk (StandsFor (D.sector_count disk) files before) → Changes files pages.now (lent_page bytes.now) before after
         → OnOk result.1 (LeavesNow D.SectorDisk result.0 (StandsFor (D.sector_count disk) files after)) }
+    // Every image of a stop at any moment of the call has the layout of a store.
+    ensures layout_moment { D.keeps_model result.0 → OnOk result.1 (LeavesOnly D.SectorDisk disk result.0 (HasLayout (D.sector_count disk))) }
+    ensures outside { D.keeps_model result.0 → OnOk result.1 (KeepsOutside (D.sector_count disk) (D.content disk) (D.content result.0)) }
     ensures store { D.keeps_model result.0 → OnOk result.1 (IsStore (D.sector_count disk) (D.content disk)) }
     ensures writable { D.keeps_model result.0 → OnOk result.1 (AreWritable (D.content disk) pages.now) }
     ensures layout { D.keeps_model result.0 → IfErr result.1 (λ refusal. refusal ≡ Refusal.BadLayout → IsBadLayout (D.sector_count disk) (D.content disk)) }

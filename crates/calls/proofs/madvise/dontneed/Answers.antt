@@ -8,6 +8,8 @@ use Rattle.vm_types.specs.declared.region.Attr.{Attr}
 use Rattle.calls.proofs.Uncopied.{covered_within, refused_hole, gives_up}
 use Rattle.calls.proofs.Calls.{found_lives}
 use Rattle.calls.proofs.Room.{room_same, sound_kept}
+use Rattle.calls.specs.Ranges.{TakesNothing}
+use Rattle.calls.proofs.Returning.{takes_cleared}
 use Rattle.calls.proofs.madvise.dontneed.Goals as goal
 
 pub clear_row-requires-clause-row : goal.clear_row-requires-clause-row
@@ -51,3 +53,9 @@ pub returns-clause-sound : goal.returns-clause-sound
 returns-clause-sound g c =
     sound_kept c.args.core.now c.clear_row.new.core (room_same c.args.core.now c.clear_row.new.core c.clear_row.ensures.rest.cache) g.D.SectorDisk g.E.SectorDisk
     c.clear_row.ensures.rest.store c.clear_row.ensures.rest.pages c.clear_row.ensures.fit c.requires.sound
+
+pub returns-clause-takes : goal.returns-clause-takes
+returns-clause-takes g c =
+    let cleared = c.clear_row.ensures in
+    subst (λ (p : ℕ). TakesNothing (picture_of c.args.core.now) (picture_of c.clear_row.new.core) p 0 0) c.in-Some.ensures.found.0
+    (takes_cleared c.args.core.now c.clear_row.new.core c.in-Some.pid 0 0 c.requires.sound.fit cleared.fit cleared.rest.roots cleared.tables cleared.rest.cache cleared.others)

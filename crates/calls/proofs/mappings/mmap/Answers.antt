@@ -1,5 +1,5 @@
 use Rattle.vm_types.proofs.Modes.{sizes}
-use Rattle.std.proofs.Common.{ℕ, ◌≡◌, Option, Some, subst, arith}
+use Rattle.std.proofs.Common.{ℕ, ◌*◌, ◌/◌, ◌≡◌, Option, Some, subst, arith}
 use Rattle.regions.specs.RunList.{attr_at}
 use Rattle.page_ranges.specs.Rows.{without_maps, KeepsNamed, RemapsRow}
 use Rattle.paging.specs.Picture.{picture_of}
@@ -14,6 +14,8 @@ use Rattle.calls.proofs.Calls.{found_lives}
 use Rattle.calls.proofs.Numbers.{nobody_has, lives_below}
 use Rattle.calls.proofs.NewObject.{new_unused, objects_mapped}
 use Rattle.calls.proofs.Room.{sound_kept}
+use Rattle.calls.specs.Ranges.{TakesNothing}
+use Rattle.calls.proofs.Returning.{takes_remapped}
 use Rattle.calls.proofs.mappings.mmap.Goals as goal
 
 pub returns-in-Some-refusal-clause-comes : goal.returns-in-Some-refusal-clause-comes
@@ -82,3 +84,19 @@ pub returns-in-Ok-clause-sound : goal.returns-in-Ok-clause-sound
 returns-in-Ok-clause-sound g c =
     sound_kept c.args.core.now c.remap.new.core (record { frames = c.remap.ensures.frames; slots = c.remap.ensures.slots.total }) g.D.SectorDisk g.E.SectorDisk
     c.remap.ensures.devices.store c.remap.ensures.devices.pages c.remap.ensures.fit c.requires.sound
+
+pub returns-in-Ok-clause-takes : goal.returns-in-Ok-clause-takes
+returns-in-Ok-clause-takes g c =
+    let a = c.args in
+    let old = picture_of a.core.now in
+    let new = picture_of c.remap.new.core in
+    let pid = c.in-Some.pid in
+    let first = c.in-Ok.first in
+    let pages = c.div_ceil-pages.result in
+    let count : pages ≡ page_count a.len = omega (arith, c.div_ceil-pages.ensures) in
+    let place : first ≡ first * 4096 / 4096 = omega arith in
+    let done = c.remap.ensures in
+    subst (λ (p : ℕ). TakesNothing old new p (first * 4096 / 4096) (page_count a.len)) c.in-Some.ensures.found.0
+    (subst (λ (n : ℕ). TakesNothing old new pid n (page_count a.len)) place
+    (subst (λ (n : ℕ). TakesNothing old new pid first n) count
+    (takes_remapped a.core.now c.remap.new.core pid first pages c.requires.sound.fit done.fit done.roots done.tables done.files done.others)))

@@ -1,11 +1,13 @@
 use Rattle.vm_types.specs.Limits.{user_end}
-use Rattle.std.proofs.Common.{ℕ, ◌^◌, subst}
+use Rattle.std.proofs.Common.{ℕ, subst}
 use Rattle.lifecycle.specs.Changes.{RemovesProcess}
 use Rattle.page_ranges.specs.Rows.{KeepsNamed, without_maps}
 use Rattle.paging.specs.Picture.{picture_of}
 use Rattle.calls.proofs.Calls.{found_lives}
 use Rattle.calls.proofs.Living.{exits}
 use Rattle.calls.proofs.Room.{sound_kept}
+use Rattle.calls.specs.Ranges.{TakesNothing}
+use Rattle.calls.proofs.Returning.{takes_named}
 use Rattle.calls.proofs.processes.exit.Goals as goal
 
 pub returns-clause-comes : goal.returns-clause-comes
@@ -20,3 +22,11 @@ pub returns-clause-sound : goal.returns-clause-sound
 returns-clause-sound g c =
     sound_kept c.args.core.now c.exit.new.core c.exit.ensures.room g.D.SectorDisk g.E.SectorDisk
     c.exit.ensures.devices.store c.exit.ensures.devices.pages c.exit.ensures.fit c.requires.sound
+
+pub returns-clause-takes : goal.returns-clause-takes
+returns-clause-takes g c =
+    let old = picture_of c.args.core.now in
+    let new = picture_of c.exit.new.core in
+    let end = user_end g.M.Levels.mode in
+    subst (λ (p : ℕ). TakesNothing old new p 0 end) c.in-Some.ensures.found.0
+    (takes_named old new c.in-Some.pid 0 end c.exit.ensures.frames c.exit.ensures.files c.exit.ensures.others)

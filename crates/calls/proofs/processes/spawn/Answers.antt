@@ -32,4 +32,4 @@ returns-in-Ok-clause-takes g c =
 pub returns-in-Err-clause-takes : goal.returns-in-Err-clause-takes
 returns-in-Err-clause-takes g c =
     let said = c.in-Err.ensures in
-    spawn_stalled_takes (picture_of c.args.core.now) (picture_of c.spawn.new.core) c.in-Err.stall said.tried said.still said.full
+    spawn_stalled_takes (picture_of c.args.core.now) (picture_of c.spawn.new.core) c.in-Err.stall said.tried said.still said.full said.refuses

@@ -11,6 +11,8 @@ use Rattle.vm_types.specs.Rows.{protected}
 use Rattle.calls.proofs.Protects.{refuses, protects, protected_map}
 use Rattle.calls.proofs.Calls.{found_lives}
 use Rattle.calls.proofs.Room.{room_same, sound_kept}
+use Rattle.calls.specs.Ranges.{TakesNothing}
+use Rattle.calls.proofs.Returning.{takes_rewritten}
 use Rattle.calls.proofs.protections.mprotect.Goals as goal
 
 pub reprotect-requires-clause-reads : goal.reprotect-requires-clause-reads
@@ -57,3 +59,9 @@ pub returns-in-Ok-clause-sound : goal.returns-in-Ok-clause-sound
 returns-in-Ok-clause-sound g c =
     sound_kept c.args.core.now c.reprotect.new.core (room_same c.args.core.now c.reprotect.new.core c.reprotect.ensures.cache) g.D.SectorDisk g.E.SectorDisk
     c.reprotect.ensures.store (ap (λ (s : Swap _). s.pages) c.reprotect.ensures.swap) c.reprotect.ensures.fit c.requires.sound
+
+pub returns-in-Ok-clause-takes : goal.returns-in-Ok-clause-takes
+returns-in-Ok-clause-takes g c =
+    let done = c.reprotect.ensures in
+    subst (λ (p : ℕ). TakesNothing (picture_of c.args.core.now) (picture_of c.reprotect.new.core) p 0 0) c.in-Some.ensures.found.0
+    (takes_rewritten c.args.core.now c.reprotect.new.core c.in-Some.pid 0 0 done.frames done.cache done.others)

@@ -1,5 +1,4 @@
-use Rattle.vm_types.specs.Limits.{user_end}
-use Rattle.std.proofs.Common.{ℕ, ◌+◌, ◌-◌, ◌/◌, ◌%◌, ◌≡◌, ◌≢◌, ◌<◌, ◌≤◌, ◌^◌, min, ap, ◌∙◌, subst, arith}
+use Rattle.std.proofs.Common.{ℕ, ◌+◌, ◌-◌, ◌/◌, ◌%◌, ◌≡◌, ◌≢◌, ◌<◌, ◌≤◌, min, sym, ap, ◌∙◌, subst, arith}
 use Rattle.regions.specs.RunList.{attr_at}
 use Rattle.regions.proofs.PermissionLemmas.{reads_removed, reads_same}
 use Rattle.page_ranges.specs.Rows.{without_maps, KeepsNamed, RemapsRow}
@@ -7,9 +6,12 @@ use Rattle.paging.specs.Picture.{picture_of}
 use Rattle.vm_types.specs.Checks.{page_count}
 use Rattle.vm_types.specs.Rows.{removed}
 use Rattle.vm_types.specs.Runs.{run_count}
-use Rattle.calls.proofs.Unmapped.{objects_unmapped, others_stay, refused_many, unmaps}
+use Rattle.calls.proofs.Unmapped.{clipped, objects_unmapped, others_stay, refused_many, unmaps}
 use Rattle.calls.proofs.Calls.{found_lives}
 use Rattle.calls.proofs.Room.{sound_kept}
+use Rattle.vm_types.specs.Objects.{Maps}
+use Rattle.calls.specs.Ranges.{TakesNothing}
+use Rattle.calls.proofs.Returning.{takes_remapped}
 use Rattle.calls.proofs.unmapping.munmap.Goals as goal
 
 pub remap-requires-clause-others : goal.remap-requires-clause-others
@@ -79,3 +81,24 @@ pub returns-in-Ok-clause-sound : goal.returns-in-Ok-clause-sound
 returns-in-Ok-clause-sound g c =
     sound_kept c.args.core.now c.remap.new.core (record { frames = c.remap.ensures.frames; slots = c.remap.ensures.slots.total }) g.D.SectorDisk g.E.SectorDisk
     c.remap.ensures.devices.store c.remap.ensures.devices.pages c.remap.ensures.fit c.requires.sound
+
+pub returns-in-Ok-clause-takes : goal.returns-in-Ok-clause-takes
+returns-in-Ok-clause-takes g c =
+    let a = c.args in
+    let old = picture_of a.core.now in
+    let new = picture_of c.remap.new.core in
+    let pid = c.in-Some.pid in
+    let first = a.addr / 4096 in
+    let pages = c.div_ceil-pages.result in
+    let start = c.min-start.result in
+    let count : pages ≡ page_count a.len = omega (arith, c.div_ceil-pages.ensures) in
+    let done = c.remap.ensures in
+    let row : without_maps old.at pid first pages ≡ without_maps old.at pid start (c.min-end.result - start) =
+    clipped g.M.Levels.mode first pages start (c.min-end.result - start)
+    (c.min-start.ensures ∙ ap (λ (n : ℕ). min first n) c.user_end-stop.ensures.end)
+    (ap (λ (n : ℕ). n - start) (c.min-end.ensures ∙ ap (λ (n : ℕ). min (first + pages) n) c.user_end-stop.ensures.end))
+    old pid (c.requires.sound.fit.granting.user pid) in
+    subst (λ (p : ℕ). TakesNothing old new p first (page_count a.len)) c.in-Some.ensures.found.0
+    (subst (λ (n : ℕ). TakesNothing old new pid first n) count
+    (takes_remapped a.core.now c.remap.new.core pid first pages c.requires.sound.fit done.fit done.roots done.tables
+    (subst (λ (maps : Maps). KeepsNamed maps old new) (sym row) done.files) done.others))

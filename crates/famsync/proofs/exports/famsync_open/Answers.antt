@@ -1,9 +1,13 @@
-use Rattle.std.proofs.Common.{length, sym, subst}
+use Rattle.std.proofs.Common.{length, sym, subst, arith}
 use Rattle.disk_model.specs.Stop.{Image}
 use Rattle.file_store.specs.Standing.{StandsFor}
 use Rattle.sync_plans.specs.Plans.{row}
-use Rattle.sync_plans.proofs.Theorem.{nothing_listed}
+use Rattle.sync_plans.proofs.Theorem.{fewer, nothing_listed}
 use Rattle.famsync.proofs.exports.famsync_open.Goals as goal
+
+-- so that a plan of fewer calls is refused where it leaves the gate open
+pub returns-in-Ok-clause-any_moment : goal.returns-in-Ok-clause-any_moment
+returns-in-Ok-clause-any_moment c = λ files pages stands left stop. c.in-Ok.ensures.any_moment files pages stands left (fewer (omega arith) stop)
 
 pub returns-in-Err-clause-any_moment : goal.returns-in-Err-clause-any_moment
 returns-in-Err-clause-any_moment c = λ files pages stands left stop.

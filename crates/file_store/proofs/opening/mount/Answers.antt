@@ -1,12 +1,16 @@
 use Rattle.std.proofs.Common.{ℕ, List, Err, ⊎_elim, inl, sym, ap, subst, ◌∙◌, arith}
 use Rattle.disk_model.specs.Stop.{Image}
-use Rattle.disk_model.specs.Moments.{Nothing}
+use Rattle.disk_model.specs.Moments.{Nothing, Touches}
 use Rattle.disk_model.proofs.Moments.{then}
+use Rattle.sync_journal.specs.Layout.{IsRecovered}
+use Rattle.sync_journal.specs.Gate.{is_open}
 use Rattle.sync_journal.specs.Standing.{IsBadJournal}
+use Rattle.sync_journal.proofs.Runs.{read_only}
 use Rattle.sync_journal.proofs.Recoveries.{while_reading, settled_since}
 use Rattle.file_store.specs.Directory.{entry_in}
 use Rattle.file_store.specs.declared.faults.OpenFault.TheVariants.{BadLayout}
 use Rattle.file_store.specs.Faults.{open_fault}
+use Rattle.file_store.proofs.Asking.{head_asks, opening_asks}
 use Rattle.file_store.proofs.Causes.{journal_from, fault_cases, on_err, is_this, same_Err}
 use Rattle.file_store.proofs.Openings.{content_is, recovery_leaves}
 use Rattle.file_store.proofs.opening.mount.Goals as goal
@@ -78,3 +82,54 @@ returns-clause-ok g c =
       stands = λ k. (settled_since g.D.SectorDisk c.args.disk.now c.read_layout.new.disk c.recover.new.disk
           (layout.touches (c.recover.ensures.kept k)) layout.size (c.in_ok-recover.ensures.ok k)).left;
     }
+
+pub returns-in_err-recover-clause-asks : goal.returns-in_err-recover-clause-asks
+returns-in_err-recover-clause-asks g c = λ k.
+    let layout = c.in_ok-directory.ensures in
+    let same = content_is g.D.SectorDisk c.args.disk.now c.read_layout.new.disk (layout.touches (c.recover.ensures.kept k)) in
+    opening_asks g.D.SectorDisk (g.D.SectorDisk.content c.args.disk.now) c.args.disk.now c.read_layout.new.disk c.recover.new.disk same layout.asks (c.recover.ensures.asks k)
+
+pub returns-in_err-recover-clause-touches : goal.returns-in_err-recover-clause-touches
+returns-in_err-recover-clause-touches g c = λ k.
+    let layout = c.in_ok-directory.ensures in
+    let W : ℕ → Type 0 = IsRecovered (g.D.SectorDisk.sector_count c.args.disk.now) in
+    then g.D.SectorDisk W c.args.disk.now c.read_layout.new.disk c.recover.new.disk
+    (read_only g.D.SectorDisk W c.args.disk.now c.read_layout.new.disk (layout.touches (c.recover.ensures.kept k)))
+    (subst (λ (s : ℕ). Touches g.D.SectorDisk (IsRecovered s) c.read_layout.new.disk c.recover.new.disk) layout.size (c.recover.ensures.touches k))
+
+pub returns-in_err-recover-clause-closed_unwritten : goal.returns-in_err-recover-clause-closed_unwritten
+returns-in_err-recover-clause-closed_unwritten g c = λ k closed.
+    let layout = c.in_ok-directory.ensures in
+    let reads = layout.touches (c.recover.ensures.kept k) in
+    let same = content_is g.D.SectorDisk c.args.disk.now c.read_layout.new.disk reads in
+    then g.D.SectorDisk Nothing c.args.disk.now c.read_layout.new.disk c.recover.new.disk reads
+    (c.recover.ensures.closed_unwritten k (ap (λ (image : Image). is_open image) same ∙ closed))
+
+pub returns-clause-asks : goal.returns-clause-asks
+returns-clause-asks g c = λ k.
+    let layout = c.in_ok-directory.ensures in
+    let same = content_is g.D.SectorDisk c.args.disk.now c.read_layout.new.disk (layout.touches (c.recover.ensures.kept k)) in
+    opening_asks g.D.SectorDisk (g.D.SectorDisk.content c.args.disk.now) c.args.disk.now c.read_layout.new.disk c.recover.new.disk same layout.asks (c.recover.ensures.asks k)
+
+pub returns-clause-touches : goal.returns-clause-touches
+returns-clause-touches g c = λ k.
+    let layout = c.in_ok-directory.ensures in
+    let W : ℕ → Type 0 = IsRecovered (g.D.SectorDisk.sector_count c.args.disk.now) in
+    then g.D.SectorDisk W c.args.disk.now c.read_layout.new.disk c.recover.new.disk
+    (read_only g.D.SectorDisk W c.args.disk.now c.read_layout.new.disk (layout.touches (c.recover.ensures.kept k)))
+    (subst (λ (s : ℕ). Touches g.D.SectorDisk (IsRecovered s) c.read_layout.new.disk c.recover.new.disk) layout.size (c.recover.ensures.touches k))
+
+pub returns-clause-closed_unwritten : goal.returns-clause-closed_unwritten
+returns-clause-closed_unwritten g c = λ k closed.
+    let layout = c.in_ok-directory.ensures in
+    let reads = layout.touches (c.recover.ensures.kept k) in
+    let same = content_is g.D.SectorDisk c.args.disk.now c.read_layout.new.disk reads in
+    then g.D.SectorDisk Nothing c.args.disk.now c.read_layout.new.disk c.recover.new.disk reads
+    (c.recover.ensures.closed_unwritten k (ap (λ (image : Image). is_open image) same ∙ closed))
+
+pub returns-in_err-directory-clause-asks : goal.returns-in_err-directory-clause-asks
+returns-in_err-directory-clause-asks g c = λ k. head_asks g.D.SectorDisk (g.D.SectorDisk.content c.args.disk.now) c.args.disk.now c.read_layout.new.disk c.read_layout.ensures.asks
+
+pub returns-in_err-directory-clause-touches : goal.returns-in_err-directory-clause-touches
+returns-in_err-directory-clause-touches g c = λ k.
+    read_only g.D.SectorDisk (IsRecovered (g.D.SectorDisk.sector_count c.args.disk.now)) c.args.disk.now c.read_layout.new.disk (c.read_layout.ensures.touches k)

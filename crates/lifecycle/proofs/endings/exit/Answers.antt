@@ -1,7 +1,7 @@
 use Rattle.vm_types.proofs.Modes.{user_pages_fit}
 use Rattle.vm_types.specs.declared.mode.Levels as Levels
 use Rattle.vm_types.specs.Limits.{user_end, top_level}
-use Rattle.std.proofs.Common.{◌≡◌, ◌+◌, ◌≤◌, ◌^◌, ℕ, true, ap, ◌∙◌, subst, arith}
+use Rattle.std.proofs.Common.{◌≡◌, ◌+◌, ◌≤◌, ℕ, true, ap, ◌∙◌, subst, arith}
 use Rattle.std.specs.Prelude.{is_some}
 use Rattle.vm_types.specs.declared.object.PageKey.{PageKey}
 use Rattle.vm_types.specs.Rows.{in_row}
@@ -13,7 +13,8 @@ use Rattle.page_ranges.proofs.Emptied.{row_parts}
 use Rattle.page_ranges.specs.Rows.{RemapsRow, ForgetsRow}
 use Rattle.page_ranges.proofs.Forgotten.{row_forgot, others_forgot, tables_forgot, slots_forgot, none_left_forgot, files_forgot}
 use Rattle.page_ranges.specs.Steps.{KeepsBesideMemory, IsWithoutTables, ReturnsSlots, LosesSlots}
-use Rattle.lifecycle.proofs.Ending.{spare_root, ended}
+use Rattle.lifecycle.proofs.Ending.{spare_root, ended, none_taken_ended}
+use Rattle.lifecycle.proofs.Returned.{none_taken, still_framed}
 use Rattle.lifecycle.proofs.endings.exit.Goals as goal
 
 module _ (mode : ℕ) where
@@ -131,22 +132,20 @@ returns-clause-slots g c =
     (tables_forgot first cleared old c.args.pid 0 (user_end g.M.Levels.mode) row forgets place c.clear_row.ensures.tables) (subst (λ (n : ℕ). IsWithoutTables old c.args.pid 0 n) sum (none_left_forgot first cleared old c.args.pid 0 (user_end g.M.Levels.mode) row forgets place none_left))
     (subst (λ (n : ℕ). LosesSlots first old c.args.pid 0 n) sum (slots_forgot first cleared old c.args.pid 0 (user_end g.M.Levels.mode) row forgets place slots)) (files_forgot first cleared old c.args.pid 0 (user_end g.M.Levels.mode) row forgets place c.clear_row.ensures.files) c.remove_process.ensures.exits.1).slots
 
-pub returns-clause-copies : goal.returns-clause-copies
-returns-clause-copies g c =
+pub returns-clause-frames : goal.returns-clause-frames
+returns-clause-frames g c =
     let first = picture_of c.args.core.now in
     let cleared = picture_of c.clear_row.new.core in
     let old = picture_of c.forget_row.new.core in
     let same = c.user_end-end.ensures.end in
     let row = subst (λ (n : ℕ). RemapsRow first cleared c.args.pid 0 n (first.at c.args.pid)) same c.clear_row.ensures.row in
     let forgets = subst (λ (n : ℕ). ForgetsRow cleared old c.args.pid 0 n) same c.forget_row.ensures.forgets in
-    let none_left = subst (λ (n : ℕ). IsWithoutTables cleared c.args.pid 0 (0 + n)) same c.clear_row.ensures.none_left in
-    let slots = subst (λ (n : ℕ). ReturnsSlots first cleared c.args.pid 0 (0 + n)) same c.clear_row.ensures.slots in
-    let sum : 0 + user_end g.M.Levels.mode ≡ user_end g.M.Levels.mode = omega arith in
     let place = same_places c.args.core.now c.clear_row.new.core c.clear_row.ensures.rest in
-    (ended first old (picture_of c.remove_process.new.self) c.args.pid c.remove_process.ensures.exits.0
-    c.requires.fit c.forget_row.ensures.fit (row_forgot first cleared old c.args.pid 0 (user_end g.M.Levels.mode) row forgets place (λ page e. pages_inside g.M.Levels.mode 0 (user_end g.M.Levels.mode) page (omega arith) e)) (others_forgot first cleared old c.args.pid 0 (user_end g.M.Levels.mode) row forgets place c.clear_row.ensures.others)
-    (tables_forgot first cleared old c.args.pid 0 (user_end g.M.Levels.mode) row forgets place c.clear_row.ensures.tables) (subst (λ (n : ℕ). IsWithoutTables old c.args.pid 0 n) sum (none_left_forgot first cleared old c.args.pid 0 (user_end g.M.Levels.mode) row forgets place none_left))
-    (subst (λ (n : ℕ). LosesSlots first old c.args.pid 0 n) sum (slots_forgot first cleared old c.args.pid 0 (user_end g.M.Levels.mode) row forgets place slots)) (files_forgot first cleared old c.args.pid 0 (user_end g.M.Levels.mode) row forgets place c.clear_row.ensures.files) c.remove_process.ensures.exits.1).copies
+    let returned = tables_forgot first cleared old c.args.pid 0 (user_end g.M.Levels.mode) row forgets place c.clear_row.ensures.tables in
+    let files = files_forgot first cleared old c.args.pid 0 (user_end g.M.Levels.mode) row forgets place c.clear_row.ensures.files in
+    none_taken_ended first old (picture_of c.remove_process.new.self) c.args.pid c.remove_process.ensures.exits.0 c.remove_process.ensures.exits.1
+    (none_taken first old c.args.pid c.requires.fit c.forget_row.ensures.fit c.args.core.now.sound c.forget_row.new.core.sound
+    (λ q. forgets.root q ∙ row.root q) returned (still_framed first old _ files))
 
 pub returns-clause-files : goal.returns-clause-files
 returns-clause-files g c =

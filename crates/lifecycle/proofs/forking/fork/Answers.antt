@@ -5,7 +5,6 @@ use Rattle.std.proofs.lemmas.Bool.{false≢true}
 use Rattle.vm_types.specs.declared.object.PageKey.{PageKey}
 use Rattle.frames.specs.FrameTable.{frame_count, role_of}
 use Rattle.page_cache.specs.CacheTable.{place_of}
-use Rattle.regions.proofs.ResultLemmas.{on_err}
 use Rattle.swap.specs.declared.slots.Swap.{Swap}
 use Rattle.swap.specs.declared.pages.Pages.{Pages}
 use Rattle.swap.specs.Slots.{slots_of}
@@ -18,6 +17,7 @@ use Rattle.lifecycle.specs.Changes.{IsShortToFork, StallsToFork}
 use Rattle.lifecycle.proofs.Unchanged.{parent_root, files_unchanged, places_unchanged}
 use Rattle.lifecycle.proofs.Keeping.{dead_root, live_same, files_then}
 use Rattle.lifecycle.proofs.Ending.{ready_ended}
+use Rattle.lifecycle.proofs.Returned.{no_copy_taken}
 use Rattle.lifecycle.proofs.Shortage.{short_before}
 use Rattle.lifecycle.proofs.Copying.{readied, short_readied, unmade, copied, copies_shared, bare_shared, tables_kept, as_stall}
 use Rattle.lifecycle.proofs.Taking.{gives_mapped, tables_mid, entries_forked, tables_taken}
@@ -166,8 +166,9 @@ returns-in_err-spawn-clause-stalls g c =
     let old : Picture g.M.Levels.mode = picture_of c.args.core.now in
     let new : Picture g.M.Levels.mode = picture_of c.spawn.new.core in
     let done = c.in_err-spawn.ensures in
-    on_err c.from_residual.result (StallsToFork old new c.args.parent c.args.child)
-    (stalls_first old new c.args.parent c.args.child (dead_root (old.root c.args.child) c.requires.dead) done.fit done.frees done.tried done.still done.full)
+    as_stall c.from_residual.result (StallsToFork old new c.args.parent c.args.child) c.in_err-spawn.field-0.0 c.from_residual.ensures.1
+    (stalls_first old new c.args.parent c.args.child c.in_err-spawn.field-0.0 (dead_root (old.root c.args.child) c.requires.dead) done.fit done.frees done.tried done.still done.full
+    done.refuses)
 
 pub returns-in-Err-clause-stalls : goal.returns-in-Err-clause-stalls
 returns-in-Err-clause-stalls g c =
@@ -186,11 +187,16 @@ returns-in-Err-clause-stalls g c =
     let apart : c.args.parent ≢ c.args.child = λ is. false≢true (sym c.requires.dead ∙ ap (is_live old) (sym is) ∙ c.requires.live) in
     let parent_lives : is_live mid c.args.parent ≡ true =
     ap (λ o. is_some o) (roots c.args.parent) ∙ ap (λ o. is_some o) (maps.root c.args.parent) ∙ first.ok.others_live c.args.parent apart ∙ c.requires.live in
+    let alone : (page : ℕ) → mid.at c.args.child page ≡ mid.at c.args.parent page =
+    λ page. done.moves.spaces.at c.args.child page ∙ maps.same page ∙ sym (done.moves.spaces.at c.args.parent page) in
+    let root = parent_root mid c.args.parent parent_lives in
     stalls_later mid new c.args.child done.moves.fit c.exit.ensures.fit c.link_copies.new.core.sound c.exit.new.core.sound c.exit.ensures.tables c.exit.ensures.others
-    (λ page h. done.bare c.args.child page h (maps.bare page h)) (places_unchanged mid (picture_of c.exit.new.core) c.args.parent c.args.child (parent_root mid c.args.parent parent_lives).0 apart (parent_root mid c.args.parent parent_lives).1 done.moves.fit c.exit.ensures.fit
-    (λ page. done.moves.spaces.at c.args.child page ∙ c.map_alike.ensures.mapped.same page ∙ sym (done.moves.spaces.at c.args.parent page)) c.exit.ensures.files) c.exit.ensures.room old c.args.parent
+    (λ page h. done.bare c.args.child page h (maps.bare page h))
+    (places_unchanged mid new c.args.parent c.args.child root.0 apart root.1 done.moves.fit c.exit.ensures.fit alone c.exit.ensures.files)
+    (files_unchanged mid new c.args.parent c.args.child root.0 apart root.1 done.moves.fit c.exit.ensures.fit alone c.exit.ensures.files).touched
+    c.exit.ensures.slots c.exit.ensures.room old c.args.parent
     (tables_mid old spawned mapped mid c.args.parent c.args.child first.taken.0 first.gives first.taken.1 frames places maps roots done.tables)
-    done.tried.0 (gives_then old mapped mid done.tried.0 gives done.tried.1) done.full done.lacks
+    done.tried.0 (gives_then old mapped mid done.tried.0 gives done.tried.1) done.full done.lacks c.in-Err.stall done.refuses
 
 pub returns-clause-entries : goal.returns-clause-entries
 returns-clause-entries g c =
@@ -241,5 +247,5 @@ returns-in-Err-clause-bare g c q page h ne none =
 
 pub returns-in-Err-clause-copies : goal.returns-in-Err-clause-copies
 returns-in-Err-clause-copies g c n is =
-    let mapped = c.in-Err.ensures.no_copy n (c.exit.ensures.copies n is) in
+    let mapped = c.in-Err.ensures.no_copy n (no_copy_taken c.link_copies.new.core.frames c.exit.new.core.frames c.exit.ensures.frames n is) in
     c.in_ok-spawn.ensures.copies n (sym (ap (λ t. role_of t n) c.map_alike.ensures.rest.frames) ∙ mapped)

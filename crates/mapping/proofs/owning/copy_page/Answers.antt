@@ -1,5 +1,5 @@
 use Rattle.std.specs.Prelude.{is_some}
-use Rattle.std.proofs.Common.{◌≡◌, None, inl, refl, sym, ap, ◌∙◌, subst}
+use Rattle.std.proofs.Common.{◌≡◌, inl, refl, sym, ap, ◌∙◌, subst}
 use Rattle.std.specs.Prelude.{IsTrue}
 use Rattle.std.proofs.lemmas.Bool.{false≢true}
 use Rattle.frames.specs.declared.role.Role.{Role}
@@ -7,8 +7,7 @@ use Rattle.frames.specs.declared.role.Role.TheVariants.{Free, Private}
 use Rattle.frames.specs.FrameTable.{is_handed_out}
 use Rattle.swap.specs.declared.slots.Swap.{Swap}
 use Rattle.swap.specs.Slots.{IsReady}
-use Rattle.regions.proofs.ResultLemmas.{on_err}
-use Rattle.paging.specs.Calls.{Frees, UsesDevice}
+use Rattle.paging.specs.Calls.{UsesDevice}
 use Rattle.paging.specs.Picture.{Picture, picture_of, is_private}
 use Rattle.paging.specs.Steps.{SameBeside}
 use Rattle.paging.proofs.Granting.{past_end-same}
@@ -18,7 +17,7 @@ use Rattle.mapping.proofs.OwnSteps.{behind_freed, shown_used, shown_datum, lives
 use Rattle.mapping.proofs.Forms.{used_inside}
 use Rattle.mapping.proofs.Settling.{forest_mid, root_mid, whole_mid}
 use Rattle.mapping.proofs.Slotted.{slotted_frees}
-use Rattle.mapping.proofs.Steps.{same_with, frees_any, moves_freed}
+use Rattle.mapping.proofs.Steps.{same_with, moves_freed}
 use Rattle.mapping.proofs.owning.copy_page.Goals as goal
 
 pub take_copy-requires-clause-source : goal.take_copy-requires-clause-source
@@ -415,12 +414,6 @@ pub returns-in_err-own-clause-moves : goal.returns-in_err-own-clause-moves
 returns-in_err-own-clause-moves g c =
     let done = c.in_err-own.ensures in
     moves_freed g.E.SectorDisk c.args.core.now c.take_copy.new.core _ done.fit done.swap done.frees done.rest done.device
-
-pub returns-in_err-own-clause-frees : goal.returns-in_err-own-clause-frees
-returns-in_err-own-clause-frees g c =
-    let old = picture_of c.args.core.now in
-    let new = picture_of c.take_copy.new.core in
-    on_err c.from_residual.result (Frees old new None) (frees_any old new _ c.in_err-own.ensures.frees)
 
 pub returns-in_err-own-clause-bare : goal.returns-in_err-own-clause-bare
 returns-in_err-own-clause-bare g c = λ q p h other none. c.in_err-own.ensures.frees.entries q p h (inl none) ∙ none

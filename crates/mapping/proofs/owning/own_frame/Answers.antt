@@ -1,11 +1,12 @@
 use Rattle.std.proofs.Common.{◌≡◌, ◌≢◌, ℕ, Bool, true, false, Some, Result, Ok, Err, inl, inr, get_or, sym, ap, ◌∙◌, subst, arith}
-use Rattle.std.specs.Prelude.{IfOk, OnErr}
+use Rattle.std.specs.Prelude.{IfOk, IfErr, OnErr}
 use Rattle.std.proofs.lemmas.Bool.{cases_Bool, false≢true}
 use Rattle.frames.specs.declared.role.Role.TheVariants.{Free, Table, Private}
 use Rattle.frames.specs.FrameTable.{bytes_of, count_of}
 use Rattle.sv39_walk.specs.Entry.{frame_of}
 use Rattle.paging.specs.Picture.{Picture, picture_of, entry, is_private, view}
 use Rattle.paging.specs.Parts.{IsBehind}
+use Rattle.paging.specs.Calls.{Frees, Refuses}
 use Rattle.paging.proofs.Entries.{entry-of}
 use Rattle.page_tables.specs.Leaves.{IsEntryOver}
 use Rattle.mapping.specs.Leaves.{IsFullEntry}
@@ -231,3 +232,19 @@ returns-clause-calm g c =
       | inr common ↦ common_when old was common
     ] in
     λ sole. absurd (false≢true (sym not_sole ∙ sole))
+
+pub returns-clause-frees : goal.returns-clause-frees
+returns-clause-frees g c =
+    let old : Picture g.M.Levels.mode = picture_of c.args.core.now in
+    let e = c.entry_number-entry.ensures ∙ sym (entry-of old c.args.pid c.root_of-root.result.0 c.args.page c.root_of-root.ensures) in
+    let shown = c.shown_frame-shown.ensures ∙ ap (λ x. shown_frame old x c.args.attr.backing) e in
+    let P : ℕ → Type 0 = λ x. OnErr c.copy_page.result (Frees old (picture_of c.copy_page.new.core) (Some (record { 0 = x }))) in
+    subst P shown c.copy_page.ensures.frees
+
+pub returns-clause-refuses : goal.returns-clause-refuses
+returns-clause-refuses g c =
+    let old : Picture g.M.Levels.mode = picture_of c.args.core.now in
+    let e = c.entry_number-entry.ensures ∙ sym (entry-of old c.args.pid c.root_of-root.result.0 c.args.page c.root_of-root.ensures) in
+    let shown = c.shown_frame-shown.ensures ∙ ap (λ x. shown_frame old x c.args.attr.backing) e in
+    let P : ℕ → Type 0 = λ x. IfErr c.copy_page.result (Refuses (picture_of c.copy_page.new.core) (Some (record { 0 = x }))) in
+    subst P shown c.copy_page.ensures.refuses

@@ -10,7 +10,7 @@ use Rattle.vm_types.specs.declared.object.PageKey.TheVariants.{File, Object}
 use Rattle.std.specs.Prelude.{IfOk}
 use Rattle.mapping.specs.Changes.{KeepsSlotted}
 use Rattle.mapping.specs.Files.{BringsPages}
-use Rattle.mapping.proofs.BroughtIn.{spaces_of, tables_of, room_of, seen_of, bare_of, slotted_of, placed_of, reads_none, brings_home_of, brings_blank_of, causes_of, never_store, err_always}
+use Rattle.mapping.proofs.BroughtIn.{spaces_of, tables_of, room_of, seen_of, bare_of, slotted_of, placed_of, reads_none, brings_home_of, brings_blank_of, causes_of, never_store, err_always, refused_but}
 use Rattle.mapping.proofs.page_in.bring_home.Goals as goal
 
 -- a page at home isn't touched
@@ -111,3 +111,6 @@ returns-in-Object-clause-home g c = never_store g.D.SectorDisk g.E.SectorDisk _ 
 
 pub returns-in-Object-clause-cause : goal.returns-in-Object-clause-cause
 returns-in-Object-clause-cause g c = causes_of g.D.SectorDisk g.E.SectorDisk c.args.core.now c.bring_blank.new.self c.bring_blank.result c.bring_blank.ensures.rest.store c.bring_blank.ensures.cause
+
+pub returns-in-Object-clause-refuses : goal.returns-in-Object-clause-refuses
+returns-in-Object-clause-refuses g c = refused_but _ c.bring_blank.result c.bring_blank.ensures.refuses

@@ -3,7 +3,7 @@ use Rattle.file_store.specs.declared.store.FileStore.{FileStore}
 use Rattle.file_store.specs.Store.{IsReadyStore}
 use Rattle.page_cache.specs.declared.place.Place.TheVariants.{Home, Frame, Slot}
 use Rattle.paging.specs.Picture.{picture_of}
-use Rattle.mapping.proofs.BroughtIn.{spaces_of, tables_of, room_of, seen_of, bare_of, slotted_of, placed_of, reads_none, brings_none, brings_slot_of, causes_of, never_store}
+use Rattle.mapping.proofs.BroughtIn.{spaces_of, tables_of, room_of, seen_of, bare_of, slotted_of, placed_of, reads_none, brings_none, brings_slot_of, causes_of, never_store, refused_but}
 use Rattle.mapping.proofs.Slotted.{slotted_same}
 use Rattle.mapping.proofs.Steps.{device_none}
 use Rattle.mapping.proofs.page_in.cached.Goals as goal
@@ -71,3 +71,6 @@ returns-in-Frame-clause-slotted g c = slotted_same _ _ (picture_of c.args.core.n
 
 pub returns-in-Frame-clause-brings : goal.returns-in-Frame-clause-brings
 returns-in-Frame-clause-brings g c = λ kept. brings_none g.D.SectorDisk c.args.core.now.store.disk c.args.core.now.store.disk _ (picture_of c.args.core.now)
+
+pub returns-in-Slot-clause-refuses : goal.returns-in-Slot-clause-refuses
+returns-in-Slot-clause-refuses g c = refused_but _ c.bring_back.result c.bring_back.ensures.refuses

@@ -1,5 +1,5 @@
 use Rattle.std.specs.Prelude.{is_some}
-use Rattle.std.proofs.Common.{◌≡◌, ◌≢◌, ◌+◌, ◌*◌, ◌<◌, ◌^◌, inl, Some, get_or, sym, ap, ◌∙◌, subst, arith}
+use Rattle.std.proofs.Common.{◌≡◌, ◌≢◌, ◌+◌, ◌*◌, ◌<◌, ◌^◌, inl, Some, None, get_or, sym, ap, ◌∙◌, subst, arith}
 use Rattle.frames.specs.declared.role.Role.TheVariants.{Free, Table, Private}
 use Rattle.frames.specs.FrameTable.{IsFrame, role_of, with_bytes}
 use Rattle.swap.specs.Slots.{SlotTable, IsInUse, slots_of}
@@ -13,6 +13,7 @@ use Rattle.mapping.proofs.Entering.{beside_around}
 use Rattle.mapping.proofs.Forms.{mapped_page}
 use Rattle.mapping.proofs.SwapSteps.{swapped_form, entry_taken, changes_written, changes_spent, full_count, ready_released}
 use Rattle.paging.specs.Calls.{UsesDevice}
+use Rattle.regions.proofs.ResultLemmas.{on_err}
 use Rattle.paging.specs.Capacity.{IsShort}
 use Rattle.swap.specs.declared.slots.Swap.{Swap}
 use Rattle.swap.specs.declared.pages.Pages.{Pages}
@@ -24,7 +25,7 @@ use Rattle.mapping.specs.Changes.{IsThatPage}
 use Rattle.mapping.proofs.Slotted.{slotted_frees}
 use Rattle.mapping.proofs.SwappedIn.{lives_of, whole_of, at_of, slot_set, slot_used, fit_in, spaces_in, tables_in, room_in, others_in, bare_in, slotted_in, files_in, seen_in, entry_in}
 use Rattle.mapping.proofs.Settling.{forest_mid, root_mid, whole_mid}
-use Rattle.mapping.proofs.Steps.{moves_freed, device_then}
+use Rattle.mapping.proofs.Steps.{frees_any, moves_freed, device_then}
 use Rattle.mapping.proofs.swapping.swap_in.Goals as goal
 
 pub unreachable-requires : goal.unreachable-requires
@@ -332,7 +333,7 @@ returns-in-Err-clause-moves g c =
     let changes : ChangesFrame took.found new n = changes_spent took.found taken n c.args.page took.own (slots_of c.get.new.self) c.get.ensures.same c.get.new.to c.release-in-Err.new.self c.release-in-Err.ensures.change in
     let free : role_of c.release-in-Err.new.self n ≡ Free = c.release-in-Err.ensures.change.freed took.own.takes.counted in
     let datum : role_of c.release-in-Err.new.self n ≢ Table = λ table. (let bad : Free ≡ Table = sym free ∙ table in (cc)) in
-    let frees = frees_then old took.found new _ took.frees (frees_spent took.found new n took.fit changes free) in
+    let frees = frees_then old took.found new None (frees_any old took.found _ took.frees) (frees_spent took.found new n took.fit changes free) in
     let done = c.in_ok-frame.ensures in
     moves_freed g.E.SectorDisk c.args.core.now _ _ (fit_spent took.found new n took.fit changes datum free) c.get.ensures.ready frees
     (record { store = done.rest.store; roots = done.rest.roots; regions = done.rest.regions })
@@ -349,7 +350,7 @@ returns-in-Err-clause-others g c =
     let changes : ChangesFrame took.found new n = changes_spent took.found taken n c.args.page took.own (slots_of c.get.new.self) c.get.ensures.same c.get.new.to c.release-in-Err.new.self c.release-in-Err.ensures.change in
     let free : role_of c.release-in-Err.new.self n ≡ Free = c.release-in-Err.ensures.change.freed took.own.takes.counted in
     let datum : role_of c.release-in-Err.new.self n ≢ Table = λ table. (let bad : Free ≡ Table = sym free ∙ table in (cc)) in
-    let frees = frees_then old took.found new _ took.frees (frees_spent took.found new n took.fit changes free) in
+    let frees = frees_then old took.found new None (frees_any old took.found _ took.frees) (frees_spent took.found new n took.fit changes free) in
     λ q p other. frees.pages.views q p
 
 pub returns-in-Err-clause-bare : goal.returns-in-Err-clause-bare
@@ -362,7 +363,7 @@ returns-in-Err-clause-bare g c =
     let changes : ChangesFrame took.found new n = changes_spent took.found taken n c.args.page took.own (slots_of c.get.new.self) c.get.ensures.same c.get.new.to c.release-in-Err.new.self c.release-in-Err.ensures.change in
     let free : role_of c.release-in-Err.new.self n ≡ Free = c.release-in-Err.ensures.change.freed took.own.takes.counted in
     let datum : role_of c.release-in-Err.new.self n ≢ Table = λ table. (let bad : Free ≡ Table = sym free ∙ table in (cc)) in
-    let frees = frees_then old took.found new _ took.frees (frees_spent took.found new n took.fit changes free) in
+    let frees = frees_then old took.found new None (frees_any old took.found _ took.frees) (frees_spent took.found new n took.fit changes free) in
     λ q p h other none. frees.entries q p h (inl none) ∙ none
 
 pub returns-in-Err-clause-slotted : goal.returns-in-Err-clause-slotted
@@ -375,7 +376,7 @@ returns-in-Err-clause-slotted g c =
     let changes : ChangesFrame took.found new n = changes_spent took.found taken n c.args.page took.own (slots_of c.get.new.self) c.get.ensures.same c.get.new.to c.release-in-Err.new.self c.release-in-Err.ensures.change in
     let free : role_of c.release-in-Err.new.self n ≡ Free = c.release-in-Err.ensures.change.freed took.own.takes.counted in
     let datum : role_of c.release-in-Err.new.self n ≢ Table = λ table. (let bad : Free ≡ Table = sym free ∙ table in (cc)) in
-    let frees = frees_then old took.found new _ took.frees (frees_spent took.found new n took.fit changes free) in
+    let frees = frees_then old took.found new None (frees_any old took.found _ took.frees) (frees_spent took.found new n took.fit changes free) in
     slotted_frees (λ p. ⊥) (IsThatPage c.args.pid c.args.page) old new _ frees
 
 pub returns-in-Err-clause-frees : goal.returns-in-Err-clause-frees
@@ -388,7 +389,7 @@ returns-in-Err-clause-frees g c =
     let changes : ChangesFrame took.found new n = changes_spent took.found taken n c.args.page took.own (slots_of c.get.new.self) c.get.ensures.same c.get.new.to c.release-in-Err.new.self c.release-in-Err.ensures.change in
     let free : role_of c.release-in-Err.new.self n ≡ Free = c.release-in-Err.ensures.change.freed took.own.takes.counted in
     let datum : role_of c.release-in-Err.new.self n ≢ Table = λ table. (let bad : Free ≡ Table = sym free ∙ table in (cc)) in
-    let frees = frees_then old took.found new _ took.frees (frees_spent took.found new n took.fit changes free) in
+    let frees = frees_then old took.found new None (frees_any old took.found _ took.frees) (frees_spent took.found new n took.fit changes free) in
     frees
 
 pub returns-in-Err-clause-same : goal.returns-in-Err-clause-same
@@ -401,7 +402,7 @@ returns-in-Err-clause-same g c =
     let changes : ChangesFrame took.found new n = changes_spent took.found taken n c.args.page took.own (slots_of c.get.new.self) c.get.ensures.same c.get.new.to c.release-in-Err.new.self c.release-in-Err.ensures.change in
     let free : role_of c.release-in-Err.new.self n ≡ Free = c.release-in-Err.ensures.change.freed took.own.takes.counted in
     let datum : role_of c.release-in-Err.new.self n ≢ Table = λ table. (let bad : Free ≡ Table = sym free ∙ table in (cc)) in
-    let frees = frees_then old took.found new _ took.frees (frees_spent took.found new n took.fit changes free) in
+    let frees = frees_then old took.found new None (frees_any old took.found _ took.frees) (frees_spent took.found new n took.fit changes free) in
     frees.pages.views
 
 pub returns-in-Err-clause-seen : goal.returns-in-Err-clause-seen
@@ -414,7 +415,7 @@ returns-in-Err-clause-seen g c = λ model.
     let changes : ChangesFrame took.found new n = changes_spent took.found taken n c.args.page took.own (slots_of c.get.new.self) c.get.ensures.same c.get.new.to c.release-in-Err.new.self c.release-in-Err.ensures.change in
     let free : role_of c.release-in-Err.new.self n ≡ Free = c.release-in-Err.ensures.change.freed took.own.takes.counted in
     let datum : role_of c.release-in-Err.new.self n ≢ Table = λ table. (let bad : Free ≡ Table = sym free ∙ table in (cc)) in
-    let frees = frees_then old took.found new _ took.frees (frees_spent took.found new n took.fit changes free) in
+    let frees = frees_then old took.found new None (frees_any old took.found _ took.frees) (frees_spent took.found new n took.fit changes free) in
     frees.pages.views
 
 pub returns-in-Err-clause-files : goal.returns-in-Err-clause-files
@@ -427,13 +428,17 @@ returns-in-Err-clause-files g c =
     let changes : ChangesFrame took.found new n = changes_spent took.found taken n c.args.page took.own (slots_of c.get.new.self) c.get.ensures.same c.get.new.to c.release-in-Err.new.self c.release-in-Err.ensures.change in
     let free : role_of c.release-in-Err.new.self n ≡ Free = c.release-in-Err.ensures.change.freed took.own.takes.counted in
     let datum : role_of c.release-in-Err.new.self n ≢ Table = λ table. (let bad : Free ≡ Table = sym free ∙ table in (cc)) in
-    let frees = frees_then old took.found new _ took.frees (frees_spent took.found new n took.fit changes free) in
+    let frees = frees_then old took.found new None (frees_any old took.found _ took.frees) (frees_spent took.found new n took.fit changes free) in
     frees.pages.files
 
 pub returns-in_err-frame-clause-moves : goal.returns-in_err-frame-clause-moves
 returns-in_err-frame-clause-moves g c =
     let done = c.in_err-frame.ensures in
     moves_freed g.E.SectorDisk c.args.core.now c.take_own.new.self _ done.fit done.swap done.frees done.rest done.device
+
+pub returns-in_err-frame-clause-frees : goal.returns-in_err-frame-clause-frees
+returns-in_err-frame-clause-frees g c =
+    on_err c.from_residual.result _ (frees_any (picture_of c.args.core.now) (picture_of c.take_own.new.self) _ c.in_err-frame.ensures.frees)
 
 pub returns-in_err-frame-clause-bare : goal.returns-in_err-frame-clause-bare
 returns-in_err-frame-clause-bare g c = λ q p h other none. c.in_err-frame.ensures.frees.entries q p h (inl none) ∙ none

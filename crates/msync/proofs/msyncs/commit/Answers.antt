@@ -11,7 +11,7 @@ use Rattle.vm_types.specs.declared.refusal.Stall.TheVariants.{SwapDevice}
 use Rattle.paging.specs.Picture.{picture_of, entry}
 use Rattle.msync.specs.Choice.{chosen_of, IsAway}
 use Rattle.msync.specs.Spots.{HasSlot}
-use Rattle.msync.proofs.Committing.{fits, are_pages, are_spots, front_lists, changes, synced_shows, entries_synced, places_synced, away_of, err_is, device_failed, source_failed, fit_store, spots_store, shows_store, settles_store, commit_done, commit_failed, commit_unread, StoreCommits}
+use Rattle.msync.proofs.Committing.{fits, are_pages, are_spots, front_lists, changes, synced_shows, memory_synced, away_of, err_is, device_failed, source_failed, fit_store, spots_store, shows_store, settles_store, commit_done, commit_failed, commit_unread, StoreCommits}
 use Rattle.msync.proofs.SettledPages.{ready_shared}
 use Rattle.msync.proofs.msyncs.commit.Goals as goal
 
@@ -78,6 +78,19 @@ returns-in-Ok-clause-commits g c = λ s after pid addr len mode shows takes same
       fit = c.settle.ensures.fit;
     })
 
+pub returns-in-Ok-clause-ready : goal.returns-in-Ok-clause-ready
+returns-in-Ok-clause-ready g c = λ other.
+    let new = c.settle.new.core in
+    let beside = c.settle.ensures.beside in
+    let reads = c.in-Ok.ensures.asks.follows.2 in
+    let source = c.commit.new.source.swap.now in
+    let R : FileStore g.row.D.Denot → Type 0 = λ x. IsReadyStore g.D.SectorDisk x in
+    record {
+      ready = subst R (sym beside.store) c.in-Ok.ensures.ready;
+      swap = ready_shared g.E.SectorDisk source new.swap (reads.ready c.requires.sound.swap) beside.pages c.settle.ensures.settles.slots;
+      fit = c.settle.ensures.fit;
+    }
+
 pub returns-in-Ok-clause-away : goal.returns-in-Ok-clause-away
 returns-in-Ok-clause-away g c =
     let old = c.args.core.now in
@@ -95,29 +108,15 @@ returns-in-Ok-clause-away g c =
       | inr has ↦ inr (away_of (picture_of old) ch list (fits (picture_of old) ch c.requires.listed) spots has)
     ]
 
-pub returns-in-Ok-clause-entries : goal.returns-in-Ok-clause-entries
-returns-in-Ok-clause-entries g c =
+pub returns-in-Ok-clause-memory : goal.returns-in-Ok-clause-memory
+returns-in-Ok-clause-memory g c =
     let old = c.args.core.now in
     let ch = chosen_of c.args.list.now c.args.count in
     let front = take ch.count ch.list in
     let list = take (length front) c.fill_spots.new.spots in
-    let spots = c.fill_spots.ensures in
     let reads = c.in-Ok.ensures.asks.follows.2 in
     let source = c.commit.new.source.swap.now in
-    entries_synced (picture_of old) (picture_of c.settle.new.core) ch list c.requires.sound.fit c.requires.listed spots
-    (settles_store (picture_of old) (picture_of c.settle.new.core) (slots_of old.swap) (slots_of source) old.store.directory c.commit.new.self.directory list (length list)
-    reads.slots c.in-Ok.ensures.files c.settle.ensures.settles)
-
-pub returns-in-Ok-clause-places : goal.returns-in-Ok-clause-places
-returns-in-Ok-clause-places g c =
-    let old = c.args.core.now in
-    let ch = chosen_of c.args.list.now c.args.count in
-    let front = take ch.count ch.list in
-    let list = take (length front) c.fill_spots.new.spots in
-    let spots = c.fill_spots.ensures in
-    let reads = c.in-Ok.ensures.asks.follows.2 in
-    let source = c.commit.new.source.swap.now in
-    places_synced (picture_of old) (picture_of c.settle.new.core) ch list c.requires.sound.fit c.requires.listed spots
+    memory_synced (picture_of old) (picture_of c.settle.new.core) ch list c.requires.sound.fit c.requires.listed c.fill_spots.ensures
     (settles_store (picture_of old) (picture_of c.settle.new.core) (slots_of old.swap) (slots_of source) old.store.directory c.commit.new.self.directory list (length list)
     reads.slots c.in-Ok.ensures.files c.settle.ensures.settles)
 
@@ -142,9 +141,9 @@ returns-in-Err-Device-clause-away g c =
       | inr has ↦ inr (away_of (picture_of old) ch list (fits (picture_of old) ch c.requires.listed) spots has)
     ]
 
-pub returns-in-Err-Device-clause-entries : goal.returns-in-Err-Device-clause-entries
+pub returns-in-Err-Device-clause-memory : goal.returns-in-Err-Device-clause-memory
 unfolding entry
-returns-in-Err-Device-clause-entries g c = λ pid page h. inl refl
+returns-in-Err-Device-clause-memory g c = record { roles = λ n. refl; entries = λ pid page h. inl refl; places = λ p. inl refl }
 
 pub returns-in-Err-Device-clause-commits : goal.returns-in-Err-Device-clause-commits
 returns-in-Err-Device-clause-commits g c = λ s after pid addr len mode shows takes same.
@@ -192,9 +191,9 @@ returns-in-Err-Source-clause-away g c =
       | inr has ↦ inr (away_of (picture_of old) ch list (fits (picture_of old) ch c.requires.listed) spots has)
     ]
 
-pub returns-in-Err-Source-clause-entries : goal.returns-in-Err-Source-clause-entries
+pub returns-in-Err-Source-clause-memory : goal.returns-in-Err-Source-clause-memory
 unfolding entry
-returns-in-Err-Source-clause-entries g c = λ pid page h. inl refl
+returns-in-Err-Source-clause-memory g c = record { roles = λ n. refl; entries = λ pid page h. inl refl; places = λ p. inl refl }
 
 pub returns-in-Err-Source-clause-commits : goal.returns-in-Err-Source-clause-commits
 returns-in-Err-Source-clause-commits g c = λ s after pid addr len mode shows takes same.

@@ -46,7 +46,7 @@ returns-in_err-link_tables-clause-stalled g c =
       | inl whole ↦ absurd (done.idle whole).1
       | inr lacks ↦ stalled_as g.D.SectorDisk g.E.SectorDisk c.args.core.now c.link_tables.new.core c.args.pid c.args.page c.args.access c.from_residual.result c.in_err-link_tables.field-0.0 c.from_residual.ensures.1
           (stalled_tables c.args.core.now c.link_tables.new.core c.args.pid c.args.page lives done.pages (λ whole. (done.idle whole).0) g.D.SectorDisk g.E.SectorDisk done.moves
-          c.args.access c.in_err-link_tables.field-0.0 done.cause done.short lacks)
+          c.args.access c.in_err-link_tables.field-0.0 done.cause done.short done.refuses done.wanted lacks)
     ]
 
 pub grant_linked-requires-clause-linked : goal.grant_linked-requires-clause-linked

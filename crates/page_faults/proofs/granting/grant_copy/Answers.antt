@@ -46,7 +46,7 @@ returns-in_err-cached-clause-stalled g c =
     let done = c.in_err-cached.ensures in
     stalled_as g.D.SectorDisk g.E.SectorDisk c.args.core.now c.cached.new.core c.args.pid c.args.page Store c.from_residual.result c.in_err-cached.field-0.0 c.from_residual.ensures.1
     (stalled_away c.args.core.now c.cached.new.core c.args.pid c.args.page (File c.args.file_page) shows g.D.SectorDisk g.E.SectorDisk Store c.in_err-cached.field-0.0 c.requires.linked.fit done.keeps
-    (λ n at. (done.idle n at).1) done.cause done.short done.home)
+    (λ n at. (done.idle n at).1) done.cause done.short done.home done.proceeds.spaces done.frees done.refuses)
 
 pub own_frame-requires-clause-linked : goal.own_frame-requires-clause-linked
 own_frame-requires-clause-linked g c =
@@ -140,12 +140,17 @@ pub returns-clause-stalled : goal.returns-clause-stalled
 returns-clause-stalled g c =
     let old : Picture g.M.Levels.mode = picture_of c.args.core.now in
     let shows = shows_file old c.args.pid c.args.page c.args.attr (File c.args.file_page) c.requires.allowed.mapped (ap stands_on c.requires.private) c.requires.none in
+    let mid : Picture g.M.Levels.mode = picture_of c.cached.new.core in
     let first = c.in_ok-cached.ensures in
     let done = c.own_frame.ensures in
+    let at = first.proceeds.spaces.at c.args.pid c.args.page ∙ c.requires.allowed.mapped in
     stalled_on c.args.core.now c.cached.new.core c.args.pid c.args.page (File c.args.file_page) shows g.D.SectorDisk g.E.SectorDisk c.own_frame.new.core Store c.own_frame.result
     (λ n at. (first.idle n at).0) first.keeps first.cause.2 first.cause.0 first.cause.1 done.cause
-    (owned_stalled c.cached.new.core c.own_frame.new.core c.args.pid c.args.page c.args.attr (first.proceeds.spaces.at c.args.pid c.args.page ∙ c.requires.allowed.mapped)
-    (ap is_shared c.requires.private) g.D.SectorDisk g.E.SectorDisk c.own_frame.result done.moves.store done.files done.same done.wanted done.cause done.short)
+    (owned_stalled c.cached.new.core c.own_frame.new.core c.args.pid c.args.page c.args.attr at (ap is_shared c.requires.private) g.D.SectorDisk g.E.SectorDisk c.own_frame.result
+    (linked_then old mid c.args.pid c.args.page first.proceeds.fit first.proceeds.spaces first.proceeds.tables c.requires.linked)
+    (none_here _ (none_same old mid c.args.pid c.args.page c.args.attr c.requires.allowed.mapped at (first.keeps.views c.args.pid c.args.page) c.requires.none))
+    (λ common. (c.in_ok-cached.field-0.0, behind_of mid c.args.attr.backing (File c.args.file_page) c.in_ok-cached.field-0.0 (ap stands_on c.requires.private) first.placed))
+    done.behind done.moves done.files done.same done.frees done.wanted done.cause done.short done.refuses)
 
 pub returns-in_err-cached-clause-others : goal.returns-in_err-cached-clause-others
 returns-in_err-cached-clause-others g c = λ q k other. c.in_err-cached.ensures.keeps.views q k

@@ -55,9 +55,14 @@ returns-then-is_swapped-clause-counts g c =
 
 pub returns-then-is_swapped-clause-stalled : goal.returns-then-is_swapped-clause-stalled
 returns-then-is_swapped-clause-stalled g c =
+    let old : Picture g.M.Levels.mode = picture_of c.args.core.now in
     let done = c.swap_in.ensures in
+    let away = sym (ap is_swapped c.entry_at.ensures) ∙ sym c.is_swapped.ensures ∙ c.if-is_swapped.true in
+    let at = c.requires.allowed.mapped in
+    let inside = mapped_page old c.args.pid c.args.page c.args.attr c.requires.linked.fit.granting at in
+    let page = swapped_page old c.args.pid c.args.page c.args.attr c.requires.linked.fit inside at away in
     swapped_stalled g.D.SectorDisk g.E.SectorDisk c.args.core.now c.swap_in.new.core c.args.pid c.args.page c.args.access c.swap_in.result done.moves.store done.files done.same
-    (sym (ap is_swapped c.entry_at.ensures) ∙ sym c.is_swapped.ensures ∙ c.if-is_swapped.true) done.cause done.short
+    inside page.common away done.frees done.cause done.short done.refuses
 
 pub returns-in-Store-clause-calm : goal.returns-in-Store-clause-calm
 returns-in-Store-clause-calm g c =

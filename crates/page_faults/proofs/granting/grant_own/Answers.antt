@@ -49,7 +49,7 @@ pub returns-clause-stalled : goal.returns-clause-stalled
 returns-clause-stalled g c =
     let done = c.own_frame.ensures in
     owned_stalled c.args.core.now c.own_frame.new.core c.args.pid c.args.page c.args.attr c.requires.allowed.mapped c.requires.not_shared g.D.SectorDisk g.E.SectorDisk
-    c.own_frame.result done.moves.store done.files done.same done.wanted done.cause done.short
+    c.own_frame.result c.requires.linked c.requires.here c.requires.in_memory done.behind done.moves done.files done.same done.frees done.wanted done.cause done.short done.refuses
 
 pub returns-clause-slotted : goal.returns-clause-slotted
 returns-clause-slotted g c =

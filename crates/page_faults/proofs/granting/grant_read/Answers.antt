@@ -144,7 +144,7 @@ returns-in_err-frame-in-Some-clause-stalled g c =
     let done = c.in_err-frame-in-Some.ensures in
     stalled_as g.D.SectorDisk g.E.SectorDisk c.args.core.now c.cached.new.core c.args.pid c.args.page c.args.access c.from_residual.result c.in_err-frame-in-Some.field-0.0 c.from_residual.ensures.1
     (stalled_away c.args.core.now c.cached.new.core c.args.pid c.args.page c.in-Some.stored shows g.D.SectorDisk g.E.SectorDisk c.args.access c.in_err-frame-in-Some.field-0.0 c.requires.linked.fit done.keeps
-    (λ n at. (done.idle n at).1) done.cause done.short done.home)
+    (λ n at. (done.idle n at).1) done.cause done.short done.home done.proceeds.spaces done.frees done.refuses)
 
 pub show_cached-requires-clause-linked : goal.show_cached-requires-clause-linked
 show_cached-requires-clause-linked g c =

@@ -61,7 +61,7 @@ returns-in_err-frame-clause-stalled g c =
     let done = c.in_err-frame.ensures in
     stalled_as g.D.SectorDisk g.E.SectorDisk c.args.core.now c.cached.new.core c.args.pid c.args.page Store c.from_residual.result c.in_err-frame.field-0.0 c.from_residual.ensures.1
     (stalled_away c.args.core.now c.cached.new.core c.args.pid c.args.page c.args.stored shows g.D.SectorDisk g.E.SectorDisk Store c.in_err-frame.field-0.0 c.requires.linked.fit done.keeps
-    (λ n at. (done.idle n at).1) done.cause done.short done.home)
+    (λ n at. (done.idle n at).1) done.cause done.short done.home done.proceeds.spaces done.frees done.refuses)
 
 pub touch-requires-clause-linked : goal.touch-requires-clause-linked
 touch-requires-clause-linked g c =

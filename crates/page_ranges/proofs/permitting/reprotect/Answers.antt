@@ -1,7 +1,9 @@
 use Rattle.vm_types.proofs.Modes.{sizes}
-use Rattle.std.proofs.Common.{◌≡◌, ℕ, ◌+◌, ◌<◌, ◌≤◌, ◌⊎◌, inl, inr, refl, ◌∙◌, subst, arith}
+use Rattle.std.proofs.Common.{◌≡◌, ℕ, ◌+◌, ◌<◌, ◌≤◌, ◌⊎◌, inl, inr, refl, sym, ◌∙◌, subst, arith}
 use Rattle.std.specs.Prelude.{max}
 use Rattle.std.proofs.lemmas.Bool.{cases_lt}
+use Rattle.frames.specs.FrameTable.{FrameTable}
+use Rattle.page_tables.specs.Change.{KeepsFrames}
 use Rattle.paging.specs.Picture.{Picture, picture_of}
 use Rattle.page_ranges.specs.Leaves.{PermitsRow}
 use Rattle.page_ranges.proofs.PermittedRows.{around-refl, around_then, permits_none, permits_then, named_entries}
@@ -84,6 +86,10 @@ returns-clause-others g c =
     c.remap.ensures.remaps (λ page. c.remap.ensures.at page ∙ c.requires.map page) c.requires.reads c.requires.row
     (begins c.max-page.result c.args.first c.max-page.ensures) c.loop-page-test.false
     (ends c.max-page.result c.loop-page.page (c.args.first + c.args.pages) c.loop-page-test.false k.high)
+
+pub returns-clause-frames : goal.returns-clause-frames
+returns-clause-frames g c =
+    subst (λ (t : FrameTable). KeepsFrames c.args.core.now.frames t) (sym c.remap.ensures.rest.frames) c.loop-page.invariant.permits.memory
 
 pub overflow_add-end : goal.overflow_add-end
 overflow_add-end g c = omega (arith, c.requires.row, (sizes g.M.Levels.mode).most)

@@ -8,6 +8,7 @@ use Rattle.page_cache.specs.declared.place.Place.TheVariants.{Frame, Slot}
 use Rattle.page_cache.specs.CacheTable.{place_of, is_touched}
 use Rattle.paging.specs.Seats.{InSlot}
 use Rattle.paging.specs.Picture.{Picture, picture_of, entry, held, bytes_at, is_data}
+use Rattle.paging.proofs.Asking.{asks_put, one_put}
 use Rattle.paging.proofs.Leaving.{Leaves, fit_slot, left_spares, unnamed_of}
 use Rattle.paging.proofs.Places.{cases_page}
 use Rattle.paging.proofs.Puts.{fit_put}
@@ -140,3 +141,12 @@ pub returns-in-Ok-clause-free : goal.returns-in-Ok-clause-free
 returns-in-Ok-clause-free g c =
     let cache = c.change_leaves.ensures.fit.places.cached c.args.page c.args.victim.0 (c.change_leaves.ensures.changes.beside.place c.args.page ∙ c.requires.placed) in
     c.release.ensures.alone (λ own. (let bad : Private ≡ Cache = sym own ∙ cache in (cc)))
+
+pub returns-in-Ok-clause-asks : goal.returns-in-Ok-clause-asks
+returns-in-Ok-clause-asks g c = asks_put g.E.SectorDisk c.args.core.now.swap c.change_leaves.new.core.swap c.put.new.self c.put.new.self c.change_leaves.ensures.beside.swap refl c.put.ensures.asks_free
+
+pub returns-in-Err-Device-clause-asks : goal.returns-in-Err-Device-clause-asks
+returns-in-Err-Device-clause-asks g c = asks_put g.E.SectorDisk c.args.core.now.swap c.change_leaves.new.core.swap c.put.new.self c.put.new.self c.change_leaves.ensures.beside.swap refl c.put.ensures.asks_free
+
+pub returns-in-Ok-clause-one : goal.returns-in-Ok-clause-one
+returns-in-Ok-clause-one g c = one_put g.E.SectorDisk c.args.core.now.swap c.change_leaves.new.core.swap c.put.new.self c.put.new.self c.in-Ok.slot.0 c.change_leaves.ensures.beside.swap refl c.in-Ok.ensures.asks

@@ -4,6 +4,7 @@ use Rattle.frames.specs.FrameTable.{IsCountFor, count_of}
 use Rattle.swap.specs.Slots.{slots_of}
 use Rattle.paging.specs.Seats.{InFrame}
 use Rattle.paging.specs.Picture.{Picture, picture_of}
+use Rattle.paging.proofs.Asking.{asks_put, one_put}
 use Rattle.paging.proofs.Puts.{fit_put, put_noted}
 use Rattle.paging.proofs.Putting.{put_spares, fit_unput, with_slots, kept_by, owned_by}
 use Rattle.paging.proofs.Sparing.{spares_then, past_unused}
@@ -64,3 +65,9 @@ returns-in-Err-Device-clause-gives g c =
       past_unused c.args.core.now.swap,
       put_spares old (record old { slots = t }) c.requires.fit (with_slots old t) (λ j used. same.bytes j used) v old.slots.total same.total (λ j ne used. same.counts j),
     )
+
+pub returns-in-Ok-clause-asks : goal.returns-in-Ok-clause-asks
+returns-in-Ok-clause-asks g c = asks_put g.E.SectorDisk c.args.core.now.swap c.args.core.now.swap c.put.new.self c.hand_over.new.core.swap refl c.hand_over.ensures.pages c.put.ensures.asks_free
+
+pub returns-in-Ok-clause-one : goal.returns-in-Ok-clause-one
+returns-in-Ok-clause-one g c = one_put g.E.SectorDisk c.args.core.now.swap c.args.core.now.swap c.put.new.self c.hand_over.new.core.swap c.in-Ok.slot.0 refl c.hand_over.ensures.pages c.in-Ok.ensures.asks

@@ -1,6 +1,7 @@
 use Rattle.std.proofs.Common.{ℕ, arith}
 use Rattle.paging.specs.Picture.{picture_of}
 use Rattle.paging.specs.Ages.{GivesFrame}
+use Rattle.paging.proofs.Asking.{asked_tried, one_tried}
 use Rattle.paging.proofs.Giving.{on_err_same, frame_given}
 use Rattle.paging.proofs.Sparing.{frees_then, gives_frees}
 use Rattle.paging.proofs.Refusing.{inside_of, above_of, all_need, no_slot_free}
@@ -61,3 +62,14 @@ returns-in_err-evict-in-Ok-clause-tried g c =
     let new = picture_of c.evict.new.core in
     let gives = frame_given old (picture_of c.choose-choice.new.core) new c.in-Ok.victim.0 c.choose-choice.ensures.marks c.evict.ensures.gives c.in-Ok.ensures.found.0.0 in
     on_err_same ((v : ℕ) × GivesFrame old new v) c.from_residual.result (c.in-Ok.victim.0, gives)
+
+pub returns-in_err-evict-in-Ok-clause-asked : goal.returns-in_err-evict-in-Ok-clause-asked
+returns-in_err-evict-in-Ok-clause-asked g c = asked_tried g.E.SectorDisk c.args.core.now c.choose-choice.new.core _ c.args.keep c.in-Ok.victim.0
+    c.choose-choice.ensures.marks c.choose-choice.ensures.looked c.in-Ok.ensures.found c.evict.ensures.gives c.evict.ensures.asks c.evict.ensures.asked
+
+pub returns-in_ok-evict-in-Ok-clause-asked : goal.returns-in_ok-evict-in-Ok-clause-asked
+returns-in_ok-evict-in-Ok-clause-asked g c = asked_tried g.E.SectorDisk c.args.core.now c.choose-choice.new.core _ c.args.keep c.in-Ok.victim.0
+    c.choose-choice.ensures.marks c.choose-choice.ensures.looked c.in-Ok.ensures.found c.evict.ensures.gives c.evict.ensures.asks c.evict.ensures.asked
+
+pub returns-in_ok-evict-in-Ok-clause-one : goal.returns-in_ok-evict-in-Ok-clause-one
+returns-in_ok-evict-in-Ok-clause-one g c = one_tried g.E.SectorDisk c.args.core.now c.choose-choice.new.core c.evict.new.core c.choose-choice.ensures.looked.swap c.in_ok-evict-in-Ok.ensures.one

@@ -1,7 +1,9 @@
+use Rattle.std.proofs.Common.{refl}
 use Rattle.std.specs.declared.result.Result.{Result}
 use Rattle.std.specs.declared.result.Result.TheVariants.{Ok, Err}
 use Rattle.std.specs.Prelude.{IfErr}
 use Rattle.paging.specs.Picture.{picture_of}
+use Rattle.paging.proofs.Asking.{asks_same}
 use Rattle.paging.proofs.Shown.{shows_kept}
 use Rattle.paging.proofs.Stalls.{short_of}
 use Rattle.paging.proofs.obtaining.obtain.Goals as goal
@@ -18,3 +20,6 @@ returns-in-None-clause-short g c =
     let done = c.give_up-obtained.ensures in
     let new = picture_of c.give_up-obtained.new.core in
     err_weaker c.give_up-obtained.result _ _ done.refuses (λ stall refuses. short_of new done.fit c.give_up-obtained.new.core.sound c.give_up-obtained.new.core.bounded.each c.args.keep stall refuses)
+
+pub returns-in-Some-clause-one : goal.returns-in-Some-clause-one
+returns-in-Some-clause-one g c = (0, asks_same g.E.SectorDisk _ c.args.core.now.swap c.args.core.now.swap refl)

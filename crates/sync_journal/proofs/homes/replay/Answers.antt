@@ -1,5 +1,7 @@
-use Rattle.std.proofs.Common.{inl, inr}
-use Rattle.sync_journal.specs.Layout.{IsGate, IsHomeSector, IsReplayed}
+use Rattle.std.proofs.Common.{length, inl, inr}
+use Rattle.disk_model.proofs.Naming.{once_wider}
+use Rattle.sync_journal.specs.Layout.{IsGate, IsHomeSector, IsReplayed, IsCopied, IsFinished}
+use Rattle.sync_journal.proofs.Asking.{finish_asks}
 use Rattle.sync_journal.proofs.Runs.{one_more, of_more}
 use Rattle.sync_journal.proofs.Replays.{while_copying, while_closing, settled, on_ok_both}
 use Rattle.sync_journal.proofs.homes.replay.Goals as goal
@@ -39,3 +41,13 @@ returns-clause-settled g c = λ keeps.
     (λ image left. g.met.D.SectorDisk.only_now c.args.disk.now image before left)
     c.requires.homes (c.requires.opened before) (c.requires.synced before) (c.copy_homes.ensures.run.touches mid)
     (c.in_ok-copy_homes.ensures.copied mid) (c.in_ok-copy_homes.ensures.synced mid) (c.close_gate.ensures.run.touches keeps))
+
+pub returns-in_err-copy_homes-clause-asks : goal.returns-in_err-copy_homes-clause-asks
+returns-in_err-copy_homes-clause-asks g c =
+    once_wider (IsCopied c.args.homes.now (length c.args.homes.now)) (IsFinished c.args.homes.now) (g.D.SectorDisk.asked c.args.disk.now) (g.D.SectorDisk.asked c.copy_homes.new.disk)
+    (λ k copied. inr copied) c.copy_homes.ensures.asks
+
+pub returns-clause-asks : goal.returns-clause-asks
+returns-clause-asks g c =
+    finish_asks (g.D.SectorDisk.asked c.args.disk.now) (g.D.SectorDisk.asked c.copy_homes.new.disk) (g.D.SectorDisk.asked c.close_gate.new.disk)
+    c.args.homes.now c.requires.homes.few c.copy_homes.ensures.asks c.close_gate.ensures.asks

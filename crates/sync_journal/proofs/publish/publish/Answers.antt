@@ -1,6 +1,8 @@
-use Rattle.std.proofs.Common.{◌∙◌, inr}
+use Rattle.std.proofs.Common.{length, ◌∙◌, inr, arith}
 use Rattle.disk_model.proofs.Moments.{wider}
-use Rattle.sync_journal.specs.Layout.{IsJournalSector, IsPublished}
+use Rattle.disk_model.proofs.Naming.{once_wider}
+use Rattle.sync_journal.specs.Layout.{IsJournalSector, IsPublished, IsStaged, IsOpened}
+use Rattle.sync_journal.proofs.Asking.{publish_asks}
 use Rattle.sync_journal.proofs.Runs.{published}
 use Rattle.sync_journal.proofs.Phases.{while_staging, while_staging_either, staged_settled, while_opening, opened_settled, opened_live, opened_outside, gate_leaves_map}
 use Rattle.sync_journal.proofs.publish.publish.Goals as goal
@@ -87,3 +89,14 @@ returns-clause-touches g c = λ keeps.
 pub returns-clause-map : goal.returns-clause-map
 returns-clause-map g c = λ keeps.
     gate_leaves_map g.D.SectorDisk c.stage.new.disk c.open_gate.new.disk (c.open_gate.ensures.run.touches keeps) ∙ c.in_ok-stage.ensures.map (c.open_gate.ensures.run.kept keeps)
+
+pub returns-in_err-stage-clause-asks_device : goal.returns-in_err-stage-clause-asks_device
+returns-in_err-stage-clause-asks_device g c =
+    once_wider (IsStaged (length c.args.homes.now)) (IsOpened (length c.args.homes.now)) (g.D.SectorDisk.asked c.args.disk.now) (g.D.SectorDisk.asked c.stage.new.disk)
+    (λ k inside. (omega (arith, inside.0), inside.1)) c.stage.ensures.asks_device
+
+pub returns-in_err-open_gate-clause-asks_device : goal.returns-in_err-open_gate-clause-asks_device
+returns-in_err-open_gate-clause-asks_device g c = publish_asks (g.D.SectorDisk.asked c.args.disk.now) (g.D.SectorDisk.asked c.stage.new.disk) (g.D.SectorDisk.asked c.open_gate.new.disk) (length c.args.homes.now) c.stage.ensures.asks_device c.open_gate.ensures.asks
+
+pub returns-clause-asks_device : goal.returns-clause-asks_device
+returns-clause-asks_device g c = publish_asks (g.D.SectorDisk.asked c.args.disk.now) (g.D.SectorDisk.asked c.stage.new.disk) (g.D.SectorDisk.asked c.open_gate.new.disk) (length c.args.homes.now) c.stage.ensures.asks_device c.open_gate.ensures.asks

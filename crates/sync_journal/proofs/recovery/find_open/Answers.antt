@@ -4,6 +4,7 @@ use Rattle.sync_journal.specs.Layout.{home_count}
 use Rattle.sync_journal.specs.Gate.{is_open_sector}
 use Rattle.sync_journal.specs.Map.{IsBadMap}
 use Rattle.sync_journal.specs.Standing.{map_of}
+use Rattle.sync_journal.proofs.Asking.{gate_asks, map_asks}
 use Rattle.sync_journal.proofs.recovery.find_open.Goals as goal
 
 pub returns-in-None-clause-finds : goal.returns-in-None-clause-finds
@@ -19,3 +20,27 @@ returns-in-None-clause-finds g c = λ keeps.
           (subst (λ m. IsBadMap (length c.args.homes.now) (home_count (g.D.SectorDisk.sector_count c.args.disk.now)) m) map
           (subst (λ n. IsBadMap (length c.args.homes.now) n c.read_page.new.to) count c.in-None.ensures));
     }
+
+pub returns-in_err-read-clause-asks : goal.returns-in_err-read-clause-asks
+returns-in_err-read-clause-asks g c = λ keeps. gate_asks g.D.SectorDisk (g.D.SectorDisk.content c.args.disk.now) c.args.disk.now c.read.new.self c.read.ensures.asks
+
+pub returns-then-not-is_open_gate-clause-asks : goal.returns-then-not-is_open_gate-clause-asks
+returns-then-not-is_open_gate-clause-asks g c = λ keeps. gate_asks g.D.SectorDisk (g.D.SectorDisk.content c.args.disk.now) c.args.disk.now c.read.new.self c.read.ensures.asks
+
+pub returns-in_err-read_page-clause-asks : goal.returns-in_err-read_page-clause-asks
+returns-in_err-read_page-clause-asks g c = λ keeps.
+    map_asks g.D.SectorDisk (g.D.SectorDisk.content c.args.disk.now) c.args.disk.now c.read.new.self c.read_page.new.disk
+    (ap is_open_sector (sym (c.in_ok-read.ensures.gives (c.read_page.ensures.kept keeps))) ∙ sym c.is_open_gate.ensures ∙ c.if-not-is_open_gate.false)
+    c.read.ensures.asks c.read_page.ensures.asks
+
+pub returns-in-Some-clause-asks : goal.returns-in-Some-clause-asks
+returns-in-Some-clause-asks g c = λ keeps.
+    map_asks g.D.SectorDisk (g.D.SectorDisk.content c.args.disk.now) c.args.disk.now c.read.new.self c.read_page.new.disk
+    (ap is_open_sector (sym (c.in_ok-read.ensures.gives (c.read_page.ensures.kept keeps))) ∙ sym c.is_open_gate.ensures ∙ c.if-not-is_open_gate.false)
+    c.read.ensures.asks c.read_page.ensures.asks
+
+pub returns-in-None-clause-asks : goal.returns-in-None-clause-asks
+returns-in-None-clause-asks g c = λ keeps.
+    map_asks g.D.SectorDisk (g.D.SectorDisk.content c.args.disk.now) c.args.disk.now c.read.new.self c.read_page.new.disk
+    (ap is_open_sector (sym (c.in_ok-read.ensures.gives (c.read_page.ensures.kept keeps))) ∙ sym c.is_open_gate.ensures ∙ c.if-not-is_open_gate.false)
+    c.read.ensures.asks c.read_page.ensures.asks

@@ -1,8 +1,9 @@
-use Rattle.std.proofs.Common.{ap, ◌∙◌}
+use Rattle.std.proofs.Common.{ap, subst, ◌∙◌}
 use Rattle.disk_model.specs.Stop.{Image}
 use Rattle.sync_journal.specs.Gate.{is_open}
-use Rattle.disk_model.specs.Moments.{Nothing}
-use Rattle.disk_model.proofs.Moments.{after_none, then}
+use Rattle.disk_model.specs.Moments.{Nothing, Touches, AsksOnly}
+use Rattle.disk_model.proofs.Moments.{after_none, then, asks_none, asks_then}
+use Rattle.sync_journal.specs.Standing.{IsAskedIn}
 use Rattle.sync_journal.specs.Layout.{IsRecovered}
 use Rattle.sync_journal.proofs.Recoveries.{while_reading, while_replaying, bad_since, bad_still, since_first}
 use Rattle.sync_journal.proofs.recovery.recover.Goals as goal
@@ -75,9 +76,10 @@ returns-clause-touches g c = λ keeps.
     let d = g.D.SectorDisk in
     let s = c.sync.ensures in
     let still = c.recover_synced.ensures.kept keeps in
-    then d IsRecovered c.args.disk.now c.sync.new.self c.recover_synced.new.disk
-    (after_none d IsRecovered c.args.disk.now c.sync.new.self (s.same still) (s.unsynced still) (s.time still))
-    (c.recover_synced.ensures.touches keeps)
+    let sectors = d.sector_count c.args.disk.now in
+    then d (IsRecovered sectors) c.args.disk.now c.sync.new.self c.recover_synced.new.disk
+    (after_none d (IsRecovered sectors) c.args.disk.now c.sync.new.self (s.same still) (s.unsynced still) (s.time still))
+    (subst (λ n. Touches d (IsRecovered n) c.sync.new.self c.recover_synced.new.disk) s.size (c.recover_synced.ensures.touches keeps))
 
 pub returns-clause-closed_unwritten : goal.returns-clause-closed_unwritten
 returns-clause-closed_unwritten g c = λ keeps closed.
@@ -87,3 +89,15 @@ returns-clause-closed_unwritten g c = λ keeps closed.
     then d Nothing c.args.disk.now c.sync.new.self c.recover_synced.new.disk
     (after_none d Nothing c.args.disk.now c.sync.new.self (s.same still) (s.unsynced still) (s.time still))
     (c.recover_synced.ensures.closed_unwritten keeps (ap (λ (image : Image). is_open image) (s.same still) ∙ closed))
+
+pub returns-in_err-sync-clause-asks : goal.returns-in_err-sync-clause-asks
+returns-in_err-sync-clause-asks g c = λ keeps. asks_none g.D.SectorDisk (IsAskedIn (g.D.SectorDisk.content c.args.disk.now)) c.args.disk.now c.sync.new.self c.sync.ensures.asks
+
+pub returns-clause-asks : goal.returns-clause-asks
+returns-clause-asks g c = λ keeps.
+    let d = g.D.SectorDisk in
+    let s = c.sync.ensures in
+    let still = c.recover_synced.ensures.kept keeps in
+    let asked = IsAskedIn (d.content c.args.disk.now) in
+    asks_then d asked c.args.disk.now c.sync.new.self c.recover_synced.new.disk (asks_none d asked c.args.disk.now c.sync.new.self s.asks)
+    (subst (λ (image : Image). AsksOnly d (IsAskedIn image) c.sync.new.self c.recover_synced.new.disk) (s.same still) (c.recover_synced.ensures.asks keeps))

@@ -2,9 +2,10 @@ use Rattle.std.proofs.Common.{ℕ, Option, Ok, take, sym, subst, arith}
 use Rattle.std.proofs.lemmas.List.{length-take-le}
 use Rattle.sync_journal.specs.Layout.{home_count}
 use Rattle.sync_journal.specs.Map.{AreHomes}
-use Rattle.sync_journal.specs.Recovery.{GivesHomes}
+use Rattle.sync_journal.specs.Recovery.{GivesHomes, Finds}
 use Rattle.disk_model.proofs.Moments.{then}
 use Rattle.sync_journal.specs.Layout.{IsRecovered}
+use Rattle.sync_journal.proofs.Asking.{replay_asks}
 use Rattle.sync_journal.proofs.Runs.{read_only, replayed}
 use Rattle.sync_journal.proofs.Recoveries.{while_reading, while_replaying, settled_since}
 use Rattle.sync_journal.proofs.recovery.recover_synced.Goals as goal
@@ -59,12 +60,34 @@ returns-in_err-count-clause-any_moment g c = λ keeps.
 
 pub returns-in_err-replay-clause-touches : goal.returns-in_err-replay-clause-touches
 returns-in_err-replay-clause-touches g c = λ keeps.
-    then g.D.SectorDisk IsRecovered c.args.disk.now c.find_open.new.disk c.replay.new.disk
-    (read_only g.D.SectorDisk IsRecovered c.args.disk.now c.find_open.new.disk (c.find_open.ensures.run.touches (c.replay.ensures.run.kept keeps)))
-    (replayed g.D.SectorDisk _ c.find_open.new.disk c.replay.new.disk (c.replay.ensures.run.touches keeps))
+    let d = g.D.SectorDisk in
+    let sectors = d.sector_count c.args.disk.now in
+    let found = subst (λ (o : Option ℕ). GivesHomes sectors c.find_open.new.homes (Ok o)) c.in-Some.is c.in_ok-count.ensures.gives in
+    then d (IsRecovered sectors) c.args.disk.now c.find_open.new.disk c.replay.new.disk
+    (read_only d (IsRecovered sectors) c.args.disk.now c.find_open.new.disk (c.find_open.ensures.run.touches (c.replay.ensures.run.kept keeps)))
+    (replayed d sectors (take c.in-Some.count c.find_open.new.homes) c.find_open.new.disk c.replay.new.disk found.1 (c.replay.ensures.run.touches keeps))
 
 pub returns-clause-touches : goal.returns-clause-touches
 returns-clause-touches g c = λ keeps.
-    then g.D.SectorDisk IsRecovered c.args.disk.now c.find_open.new.disk c.replay.new.disk
-    (read_only g.D.SectorDisk IsRecovered c.args.disk.now c.find_open.new.disk (c.find_open.ensures.run.touches (c.replay.ensures.run.kept keeps)))
-    (replayed g.D.SectorDisk _ c.find_open.new.disk c.replay.new.disk (c.replay.ensures.run.touches keeps))
+    let d = g.D.SectorDisk in
+    let sectors = d.sector_count c.args.disk.now in
+    let found = subst (λ (o : Option ℕ). GivesHomes sectors c.find_open.new.homes (Ok o)) c.in-Some.is c.in_ok-count.ensures.gives in
+    then d (IsRecovered sectors) c.args.disk.now c.find_open.new.disk c.replay.new.disk
+    (read_only d (IsRecovered sectors) c.args.disk.now c.find_open.new.disk (c.find_open.ensures.run.touches (c.replay.ensures.run.kept keeps)))
+    (replayed d sectors (take c.in-Some.count c.find_open.new.homes) c.find_open.new.disk c.replay.new.disk found.1 (c.replay.ensures.run.touches keeps))
+
+pub returns-in_err-replay-clause-asks : goal.returns-in_err-replay-clause-asks
+returns-in_err-replay-clause-asks g c = λ keeps.
+    let image = g.D.SectorDisk.content c.args.disk.now in
+    let before = c.replay.ensures.run.kept keeps in
+    let finds = subst (λ (o : Option ℕ). Finds (g.D.SectorDisk.sector_count c.args.disk.now) image c.find_open.new.homes (Ok o)) c.in-Some.is (c.in_ok-count.ensures.finds before) in
+    replay_asks g.D.SectorDisk image (take c.in-Some.count c.find_open.new.homes) c.args.disk.now c.find_open.new.disk c.replay.new.disk
+    finds (c.find_open.ensures.asks before) c.replay.ensures.asks
+
+pub returns-clause-asks : goal.returns-clause-asks
+returns-clause-asks g c = λ keeps.
+    let image = g.D.SectorDisk.content c.args.disk.now in
+    let before = c.replay.ensures.run.kept keeps in
+    let finds = subst (λ (o : Option ℕ). Finds (g.D.SectorDisk.sector_count c.args.disk.now) image c.find_open.new.homes (Ok o)) c.in-Some.is (c.in_ok-count.ensures.finds before) in
+    replay_asks g.D.SectorDisk image (take c.in-Some.count c.find_open.new.homes) c.args.disk.now c.find_open.new.disk c.replay.new.disk
+    finds (c.find_open.ensures.asks before) c.replay.ensures.asks

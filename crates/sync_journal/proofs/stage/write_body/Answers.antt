@@ -1,11 +1,29 @@
 use Rattle.std.proofs.Common.{rules, ◌≡◌, ◌+◌, ⊎_elim, sym, ap, subst, ◌∙◌, arith}
 use Rattle.std.proofs.lemmas.Bool.{cases_eq}
-use Rattle.sync_journal.specs.Layout.{body_sector, IsJournalSector, IsPageSector}
+use Rattle.sync_journal.specs.Layout.{body_sector, IsJournalSector, IsBodySector, IsPageSector}
 use Rattle.sync_journal.specs.Source.{Asks}
 use Rattle.disk_model.specs.Sectors.{part_of}
 use Rattle.sync_journal.specs.Runs.{Runs}
+use Rattle.disk_model.proofs.Naming.{once_wider}
+use Rattle.sync_journal.proofs.Asking.{body_asks}
 use Rattle.sync_journal.proofs.Runs.{one_more, of_more}
 use Rattle.sync_journal.proofs.stage.write_body.Goals as goal
+
+pub returns-in_err-page-clause-asks_device : goal.returns-in_err-page-clause-asks_device
+returns-in_err-page-clause-asks_device g c =
+    once_wider (IsBodySector c.loop-j.j) (IsBodySector c.args.count) (g.D.SectorDisk.asked c.args.disk.now) (g.D.SectorDisk.asked c.loop-j.disk)
+    (λ k inside. (inside.0, omega (arith, inside.1, c.loop-j-test.true))) c.loop-j.invariant.6
+
+pub returns-in_err-write_page-clause-asks_device : goal.returns-in_err-write_page-clause-asks_device
+returns-in_err-write_page-clause-asks_device g c =
+    once_wider (IsBodySector (c.loop-j.j + 1)) (IsBodySector c.args.count) (g.D.SectorDisk.asked c.args.disk.now) (g.D.SectorDisk.asked c.write_page.new.disk)
+    (λ k inside. (inside.0, omega (arith, inside.1, c.loop-j-test.true)))
+    (body_asks (g.D.SectorDisk.asked c.args.disk.now) (g.D.SectorDisk.asked c.loop-j.disk) (g.D.SectorDisk.asked c.write_page.new.disk) c.loop-j.j c.loop-j.invariant.6 c.write_page.ensures.asks)
+
+pub returns-clause-asks_device : goal.returns-clause-asks_device
+returns-clause-asks_device g c =
+    once_wider (IsBodySector c.loop-j.j) (IsBodySector c.args.count) (g.D.SectorDisk.asked c.args.disk.now) (g.D.SectorDisk.asked c.loop-j.disk)
+    (λ k inside. (inside.0, omega (arith, inside.1))) c.loop-j.invariant.6
 
 pub loop-j-preserved : goal.loop-j-preserved
 loop-j-preserved g c =
@@ -29,4 +47,5 @@ loop-j-preserved g c =
           (cases_eq j n),
       c.in_ok-write_page.ensures.calm ∙ inv.4,
       c.in_ok-page.ensures.cause.calm ∙ inv.5,
+      body_asks (g.D.SectorDisk.asked c.args.disk.now) (g.D.SectorDisk.asked c.loop-j.disk) (g.D.SectorDisk.asked c.write_page.new.disk) n inv.6 w.asks,
     )

@@ -1,11 +1,8 @@
-use Rattle.std.proofs.Common.{ℕ, List, ◌≡◌, Option, OnOk, IfOk, IfErr}
-use Rattle.disk_model.specs.Stop.{Image}
-use Rattle.file_store.specs.Standing.{IsPageOf, IsBadLayout, file_info}
-use Rattle.sync_plans.specs.Plans.{row}
-use Rattle.sync_plans.specs.declared.requests.Refusal.{Refusal}
-use Rattle.sync_plans.specs.declared.requests.Refusal.TheVariants.{BadLayout, BadJournal, BadPages}
+use Rattle.std.proofs.Common.{◌≡◌, OnOk, IfOk, IfErr}
+use Rattle.file_store.specs.Standing.{IsBadLayout, file_info}
+use Rattle.sync_plans.specs.declared.requests.Refusal.TheVariants.{BadLayout, BadJournal}
 use Rattle.sync_plans.specs.Requests.{IsStore, HasBadJournal}
-use Rattle.sync_plans.proofs.Theorem.{stands_now, as_given}
+use Rattle.sync_plans.proofs.Theorem.{as_given}
 use Rattle.sync_plans.proofs.planning.file_facts.Goals as goal
 
 pub returns-clause-store : goal.returns-clause-store

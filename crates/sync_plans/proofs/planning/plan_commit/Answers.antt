@@ -1,12 +1,11 @@
-use Rattle.std.proofs.Common.{ℕ, List, ◌≡◌, ◌∙◌, IsTrue, Option, length, refl, ap, sym, subst, ⊎_elim, arith}
-use Rattle.vm_types.specs.declared.file.FileInfo.{FileInfo}
+use Rattle.std.proofs.Common.{ℕ, ◌∙◌, IsTrue, length, ap, sym, subst, arith}
 use Rattle.disk_model.specs.Stop.{Image}
-use Rattle.file_store.specs.Standing.{IsPageOf, IsBadLayout, file_info}
+use Rattle.file_store.specs.Standing.{IsBadLayout, file_info}
 use Rattle.file_store.specs.Commit.{ArePages}
-use Rattle.sync_plans.specs.Plans.{row, AreCalls}
-use Rattle.sync_plans.specs.Requests.{IsStore, HasBadJournal, AreWritable, AreReadOnly}
+use Rattle.sync_plans.specs.Plans.{row, AreCalls, image_after}
+use Rattle.sync_plans.specs.Requests.{IsStore, HasBadJournal, KeepsOutside, AreWritable, AreReadOnly}
 use Rattle.sync_plans.proofs.Growth.{alike_unsynced}
-use Rattle.sync_plans.proofs.Theorem.{stands_now, stops_leave, stands_then, as_given}
+use Rattle.sync_plans.proofs.Theorem.{stands_now, stops_leave, stands_then, same_end, as_given}
 use Rattle.sync_plans.proofs.planning.plan_commit.Goals as goal
 
 pub returns-in-Ok-clause-all : goal.returns-in-Ok-clause-all
@@ -52,6 +51,19 @@ returns-in-Ok-clause-ok c = λ files before after stands changes.
     stands_then d0.calls.now d.calls.now c.copy_to.new.calls d0.rows.now d.rows.now c.copy_to.new.rows c.args.image.now d0.image.now d.image.now d0.used d.used
     files before after c.new-disk.ensures.image c.new-disk.ensures.used stands run.before c.copy_to.ensures.calls c.copy_to.ensures.rows
     (rw c.in-Ok.is at (c.commit-disk.ensures.ok c.if-disk.false files before after now changes))
+
+pub returns-in-Ok-clause-outside : goal.returns-in-Ok-clause-outside
+returns-in-Ok-clause-outside c =
+    let d0 = c.new-disk.result in
+    let d = c.commit-disk.result.0 in
+    let image = row c.args.image.now in
+    let store = as_given d0.calls.now d0.rows.now c.args.image.now d0.image.now d0.used (λ sectors first. IsStore sectors first) c.new-disk.ensures.image c.new-disk.ensures.used (rw c.in-Ok.is at (c.commit-disk.ensures.store c.if-disk.false)) in
+    let moments = (rw c.in-Ok.is at (c.commit-disk.ensures.layout_moment c.if-disk.false)).before in
+    let same = same_end d0.calls.now d.calls.now c.copy_to.new.calls d0.rows.now d.rows.now c.copy_to.new.rows c.args.image.now d0.image.now d.image.now d0.used d.used
+    c.new-disk.ensures.image c.new-disk.ensures.used store.layout moments c.copy_to.ensures.calls c.copy_to.ensures.rows in
+    let kept = as_given d0.calls.now d0.rows.now c.args.image.now d0.image.now d0.used (λ sectors first. KeepsOutside sectors first (image_after d.calls.now d.rows.now (row d.image.now) d.used)) c.new-disk.ensures.image c.new-disk.ensures.used
+    (rw c.in-Ok.is at (c.commit-disk.ensures.outside c.if-disk.false)) in
+    subst (λ (i : Image). KeepsOutside (length c.args.image.now) image i) (sym same) kept
 
 pub returns-in-Ok-clause-store : goal.returns-in-Ok-clause-store
 returns-in-Ok-clause-store c =

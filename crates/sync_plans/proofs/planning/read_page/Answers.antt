@@ -1,8 +1,5 @@
-use Rattle.std.proofs.Common.{ℕ, List, ◌≡◌, Option, OnOk, IfOk, IfErr}
-use Rattle.disk_model.specs.Stop.{Image}
+use Rattle.std.proofs.Common.{◌≡◌, OnOk, IfErr}
 use Rattle.file_store.specs.Standing.{IsPageOf, IsBadLayout, file_info}
-use Rattle.sync_plans.specs.Plans.{row}
-use Rattle.sync_plans.specs.declared.requests.Refusal.{Refusal}
 use Rattle.sync_plans.specs.declared.requests.Refusal.TheVariants.{BadLayout, BadJournal, BadPages}
 use Rattle.sync_plans.specs.Requests.{IsStore, HasBadJournal}
 use Rattle.sync_plans.proofs.Theorem.{stands_now, as_given}

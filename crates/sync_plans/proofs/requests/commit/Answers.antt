@@ -1,10 +1,14 @@
-use Rattle.std.proofs.Common.{ℕ, Option, inl, inr, sym, subst}
+use Rattle.std.proofs.Common.{ℕ, Option, inr, refl, sym, subst, ◌∙◌}
 use Rattle.vm_types.specs.declared.file.FileInfo.{FileInfo}
 use Rattle.disk_model.specs.Moments.{LeavesOnly, LeavesNow}
 use Rattle.file_store.specs.Standing.{StandsFor}
 use Rattle.file_store.specs.Commit.{ArePages, StandsForEither}
 use Rattle.batches.specs.Pages.{HasReadOnly}
-use Rattle.sync_plans.proofs.Runs.{when_open, then_committed, same_files}
+use Rattle.sync_journal.specs.Layout.{IsOutside}
+use Rattle.file_store.specs.Store.{PutsHomesOrNone}
+use Rattle.sync_plans.specs.Pages.{lent_page}
+use Rattle.sync_plans.specs.Requests.{KeepsOutside, HasLayout}
+use Rattle.sync_plans.proofs.Runs.{when_open, then_committed, laid_out, same_files}
 use Rattle.sync_plans.proofs.requests.commit.Goals as goal
 
 pub returns-in-Ok-commit-clause-any_moment : goal.returns-in-Ok-commit-clause-any_moment
@@ -33,6 +37,30 @@ returns-in-Ok-commit-clause-ok g c = λ k files before after left changes.
     (subst (λ (s : ℕ). LeavesNow g.D.SectorDisk c.in-Ok.store.disk (StandsFor s files before)) (sym size) opened) changes in
     subst (λ d. LeavesNow g.D.SectorDisk d (StandsFor sectors files after)) (sym e)
     (subst (λ (s : ℕ). LeavesNow g.D.SectorDisk c.commit.new.self.disk (StandsFor s files after)) size now)
+
+pub returns-in-Ok-commit-clause-layout_moment : goal.returns-in-Ok-commit-clause-layout_moment
+returns-in-Ok-commit-clause-layout_moment g c = λ k.
+    let k2 = subst g.D.SectorDisk.keeps_model c.into_disk-in-Ok-commit.ensures k in
+    let k1 = c.commit.ensures.kept k2 in
+    let disk = c.args.disk in
+    let mid = c.in-Ok.store.disk in
+    let new = c.commit.new.self.disk in
+    let sectors = g.D.SectorDisk.sector_count disk in
+    let given = lent_page c.args.bytes.now in
+    let run = subst (λ (s : ℕ). LeavesOnly g.D.SectorDisk mid new (PutsHomesOrNone s c.in-Ok.store.directory c.args.pages.now given (g.D.SectorDisk.content mid)))
+    c.in-Ok.ensures.size (c.commit.ensures.homes_moment k2 tt) in
+    subst (λ d. LeavesOnly g.D.SectorDisk disk d (HasLayout sectors)) (sym c.into_disk-in-Ok-commit.ensures)
+    (laid_out g.D.SectorDisk sectors c.in-Ok.store.directory c.args.pages.now given disk mid new (c.in-Ok.ensures.good_layout k1) (c.in-Ok.ensures.good_journal k1)
+    (c.in-Ok.ensures.any_moment k1 (c.requires.synced (c.in-Ok.ensures.kept k1))) (c.in-Ok.ensures.now k1) run)
+
+pub returns-in-Ok-commit-clause-outside : goal.returns-in-Ok-commit-clause-outside
+returns-in-Ok-commit-clause-outside g c = λ k.
+    let k2 = subst g.D.SectorDisk.keeps_model c.into_disk-in-Ok-commit.ensures k in
+    let k1 = c.commit.ensures.kept k2 in
+    let opened = c.in-Ok.ensures.homes k1 (g.D.SectorDisk.content c.in-Ok.store.disk) (record { kept = λ n. inr refl }) in
+    let done = c.in-Ok-commit.ensures.homes k2 tt (g.D.SectorDisk.content c.commit.new.self.disk) (record { kept = λ n. inr refl }) in
+    subst (λ d. KeepsOutside (g.D.SectorDisk.sector_count c.args.disk) (g.D.SectorDisk.content c.args.disk) (g.D.SectorDisk.content d)) (sym c.into_disk-in-Ok-commit.ensures)
+    (λ n out. done.outside n (subst (λ (s : ℕ). IsOutside s n) (sym c.in-Ok.ensures.size) out) ∙ opened.outside n out)
 
 pub returns-in-Ok-commit-clause-store : goal.returns-in-Ok-commit-clause-store
 returns-in-Ok-commit-clause-store g c = λ k. let k1 = c.commit.ensures.kept (subst g.D.SectorDisk.keeps_model c.into_disk-in-Ok-commit.ensures k) in record { layout = c.in-Ok.ensures.good_layout k1; journal = c.in-Ok.ensures.good_journal k1 }

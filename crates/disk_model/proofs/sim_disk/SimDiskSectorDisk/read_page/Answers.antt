@@ -1,46 +1,56 @@
 use Rattle.std.proofs.Common.{◌≡◌, ◌<◌, ◌+◌, ◌*◌, ◌-◌, length, ⊎_elim, sym, ap, subst, ◌∙◌, arith, rules}
 use Rattle.std.proofs.lemmas.Bool.{cases_eq}
 use borrow.Rule.Slice.PartMut.{put_mid}
-use Rattle.disk_model.specs.Stop.{Image}
+use Rattle.disk_model.specs.Stop.{Image, Names, IsOfPage}
 use Rattle.disk_model.specs.Sectors.{part_of}
+use Rattle.disk_model.specs.Asked.{times_named}
 use Rattle.disk_model.specs.SimDisk.{sector_of, IsUnsynced, moment_of, LeftSince, counts_of, after_reads}
 use Rattle.disk_model.proofs.Pages.{more_time, carried_by_read, put_here, put_there, length_put}
 use Rattle.disk_model.proofs.Counts.{last_read, next_read}
 use Rattle.disk_model.proofs.sim_disk.SimDiskSectorDisk.read_page.Goals as goal
 
-pub returns-in_err-read-clause-time : goal.returns-in_err-read-clause-time
-returns-in_err-read-clause-time c =
+pub returns-in_err-get-clause-time : goal.returns-in_err-get-clause-time
+returns-in_err-get-clause-time c =
     let old = c.args.self.now in
     let mid = c.loop-i.self in
-    let new = c.read.new.self in
+    let new = c.get.new.self in
     more_time (moment_of old) (moment_of mid) (moment_of new) (LeftSince old) (LeftSince mid) (LeftSince new) (sector_of mid) (sector_of new) (IsUnsynced mid) (IsUnsynced new)
-    c.loop-i.invariant.time c.read.ensures.time (carried_by_read (sector_of mid) (sector_of new) (IsUnsynced mid) (IsUnsynced new) c.read.ensures.same c.read.ensures.still)
+    c.loop-i.invariant.time c.get.ensures.time (carried_by_read (sector_of mid) (sector_of new) (IsUnsynced mid) (IsUnsynced new) c.get.ensures.same c.get.ensures.still)
 
-pub returns-in_err-read-clause-counted : goal.returns-in_err-read-clause-counted
-returns-in_err-read-clause-counted c =
-    c.read.ensures.counted ∙ sym (last_read 8 c.loop-i.i (counts_of c.loop-i.self) c.loop-i-test.true (sym c.in_err-read.ensures.fails)) ∙ sym c.loop-i.invariant.counted
+pub returns-in_err-get-clause-counted : goal.returns-in_err-get-clause-counted
+returns-in_err-get-clause-counted c =
+    c.get.ensures.counted ∙ sym (last_read 8 c.loop-i.i (counts_of c.loop-i.self) c.loop-i-test.true (sym c.in_err-get.ensures.fails)) ∙ sym c.loop-i.invariant.counted
+
+pub returns-in_err-get-clause-asks : goal.returns-in_err-get-clause-asks
+returns-in_err-get-clause-asks c =
+    subst (λ asked. Names (IsOfPage c.args.n) (times_named c.args.self.now.asked) (times_named asked)) (sym (c.get.ensures.asked ∙ c.loop-i.invariant.asked)) c.page.ensures
+
+pub returns-clause-asks : goal.returns-clause-asks
+returns-clause-asks c =
+    subst (λ asked. Names (IsOfPage c.args.n) (times_named c.args.self.now.asked) (times_named asked)) (sym c.loop-i.invariant.asked) c.page.ensures
 
 pub loop-i-preserved : goal.loop-i-preserved
 loop-i-preserved c =
     let old = c.args.self.now in
     let mid = c.loop-i.self in
-    let new = c.read.new.self in
-    let r = c.read.ensures in
+    let new = c.get.new.self in
+    let r = c.get.ensures in
     let inv = c.loop-i.invariant in
     let i = c.loop-i.i in
     let k = 512 * i + 512 - 512 * i in
     let put = c.copy_from_slice.new.self in
-    let sector : length c.read.new.to ≡ 512 = search rules in
-    let after : put ≡ c.read.new.to = c.copy_from_slice.ensures.after in
+    let sector : length c.get.new.to ≡ 512 = search rules in
+    let after : put ≡ c.get.new.to = c.copy_from_slice.ensures.after in
     let long : length put ≡ 512 = ap length after ∙ sector in
     let below : i < 8 = c.loop-i-test.true in
-    let given : c.read.new.to ≡ sector_of mid (c.args.n + i) = c.in_ok-read.ensures.gives in
+    let given : c.get.new.to ≡ sector_of mid (c.args.n + i) = c.in_ok-get.ensures.gives in
     record {
+      asked = r.asked ∙ inv.asked;
       size = r.size ∙ inv.size;
       long = length_put c.loop-i.to put (512 * i) k (omega (arith, inv.long, below)) (omega (arith, long)) ∙ inv.long;
       sector = sector;
-      calm = c.in_ok-read.ensures.cause.calm ∙ inv.calm;
-      counted = inv.counted ∙ next_read 8 i (counts_of mid) below (sym c.in_ok-read.ensures.fails) ∙ ap (after_reads (8 - (i + 1))) (sym r.counted);
+      calm = c.in_ok-get.ensures.cause.calm ∙ inv.calm;
+      counted = inv.counted ∙ next_read 8 i (counts_of mid) below (sym c.in_ok-get.ensures.fails) ∙ ap (after_reads (8 - (i + 1))) (sym r.counted);
       last = r.last ∙ inv.last;
       gives = λ j less. ⊎_elim
           (λ here. subst (λ m. part_of (put_mid (512 * i) k c.loop-i.to put) m ≡ sector_of old (c.args.n + m)) (sym here)

@@ -6,6 +6,7 @@ use Rattle.disk_model.proofs.sim_disk.SimDiskSectorDisk.read_page.Given as goal
 
 abbrev pub invariant-loop-i : goal.invariant-loop-i
 invariant-loop-i l = record {
+  asked : l.self.asked ≡ l.initial.self.asked;
   size : sectors_in l.self ≡ sectors_in l.initial.self;
   long : length l.to ≡ 4096;
   sector : length l.sector ≡ 512;

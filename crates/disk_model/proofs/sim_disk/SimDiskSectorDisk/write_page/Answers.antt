@@ -1,7 +1,8 @@
 use Rattle.std.proofs.Common.{◌≡◌, ◌+◌, ⊎_elim, sym, ap, subst, ◌∙◌, arith, rules, if◌then◌else◌, replicate}
 use Rattle.std.proofs.lemmas.Bool.{cases_eq, false≢true}
 use Rattle.disk_model.specs.Sectors.{part_of}
-use Rattle.disk_model.specs.SimDisk.{Counts, sector_of, counts_of, after_write, after_writes, left_by_write}
+use Rattle.disk_model.specs.SimDisk.{Counts, sector_of, asked_of, counts_of, after_write, after_writes, left_by_write}
+use Rattle.disk_model.proofs.Naming.{names_next}
 use Rattle.disk_model.proofs.Counts.{one_write}
 use Rattle.disk_model.proofs.sim_disk.SimDiskSectorDisk.write_page.Goals as goal
 use Rattle.disk_model.proofs.sim_disk.SimDiskSectorDisk.write_page.Goals.{then-is_err, else-is_err}
@@ -16,6 +17,7 @@ loop-i-preserved c =
     let i = c.loop-i.i in
     let here : sector_of new (c.args.n + i) ≡ left_by_write (counts_of mid) (part_of c.args.from.now i) = w.leaves ∙ ap (left_by_write (counts_of mid)) (c.parts-sector-items.ensures.each i (let len = c.parts-sector-items.ensures.len in omega (arith, c.loop-i-test.true, len))) in
     record {
+      asks = names_next c.args.n i (asked_of old) (asked_of mid) (asked_of new) inv.asks w.asks;
       size = search rules;
       later = search rules;
       caused = search rules;

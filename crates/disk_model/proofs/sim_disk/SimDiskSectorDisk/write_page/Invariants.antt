@@ -1,11 +1,13 @@
 use Rattle.std.proofs.Common.{◌≡◌, ◌⊎◌, ◌≤◌, ◌<◌, ◌+◌, ℕ, true, false}
-use Rattle.disk_model.specs.Stop.{IsOfPage, ChangesPage, Elapses}
+use Rattle.disk_model.specs.Stop.{IsOfPage, ChangesPage, Elapses, Names}
 use Rattle.disk_model.specs.Sectors.{part_of}
-use Rattle.disk_model.specs.SimDisk.{sectors_in, sector_of, IsUnsynced, moment_of, LeftSince, failures_of, last_synced, counts_of, after_writes, left_by_write}
+use Rattle.disk_model.specs.SimDisk.{sectors_in, sector_of, IsUnsynced, moment_of, LeftSince, failures_of, asked_of, last_synced, counts_of, after_writes, left_by_write}
+use Rattle.disk_model.proofs.Naming.{IsAmong}
 use Rattle.disk_model.proofs.sim_disk.SimDiskSectorDisk.write_page.Given as goal
 
 abbrev pub invariant-loop-i : goal.invariant-loop-i
 invariant-loop-i l = record {
+  asks : Names (IsAmong l.n l.i) (asked_of l.initial.self) (asked_of l.self);
   size : sectors_in l.self ≡ sectors_in l.initial.self;
   later : failures_of l.initial.self ≤ failures_of l.self;
   caused : l.failed ≡ true → failures_of l.initial.self < failures_of l.self;

@@ -1,9 +1,11 @@
-use Rattle.std.proofs.Common.{◌≡◌, length, take, arith, rules}
+use Rattle.std.proofs.Common.{◌≡◌, ℕ, length, take, subst, arith, rules}
+use Rattle.std.proofs.lemmas.List.{length-take-le}
 use Rattle.std.proofs.lemmas.Result.{on_ok_weaker}
 use Rattle.disk_model.proofs.Moments.{weaker}
+use Rattle.sync_journal.specs.Journal.{live_homes}
 use Rattle.sync_journal.specs.Standing.{standing}
 use Rattle.sync_journal.specs.Standing.{StandsFor as HomesStandFor}
-use Rattle.sync_journal.specs.Commit.{IsKept, changed}
+use Rattle.sync_journal.specs.Commit.{IsKept, changed, AsksInTwo}
 use Rattle.sync_journal.specs.Commit.{StandsForEither as HomesStandForEither}
 use Rattle.file_store.specs.Layout.{trimmed}
 use Rattle.file_store.specs.Standing.{StandsFor}
@@ -134,3 +136,10 @@ returns-clause-homes_moment g c = λ k ks.
 
 pub returns-clause-source_homes : goal.returns-clause-source_homes
 returns-clause-source_homes g c = λ k is. (c.commit.ensures.source k is).left
+
+pub returns-clause-once : goal.returns-clause-once
+returns-clause-once g c =
+    let few = c.requires.pages.few in
+    let long = c.fill_homes.ensures.long in
+    subst (λ (n : ℕ). AsksInTwo g.D.SectorDisk (live_homes c.args.self.now.journal) n c.args.self.now.disk c.commit.new.disk)
+    (length-take-le (length c.args.pages.now) c.fill_homes.new.homes (omega (arith, few, long))) c.commit.ensures.once

@@ -2,6 +2,7 @@ use Rattle.std.proofs.Common.{◌<◌, sym, ap, subst, ◌∙◌}
 use Rattle.sync_journal.specs.Layout.{home_count}
 use Rattle.sync_journal.specs.Standing.{standing}
 use Rattle.disk_model.specs.Sectors.{joined}
+use Rattle.file_store.proofs.Asking.{page_asks}
 use Rattle.file_store.proofs.Homes.{entry_page, home_inside, home_of-entry}
 use Rattle.file_store.proofs.Images.{page_read}
 use Rattle.file_store.proofs.store.FileStore.read_page.Goals as goal
@@ -27,3 +28,9 @@ returns-clause-page g c = λ k.
     page_read image c.args.page.file c.args.page.page c.in-Some.entry c.bytes_inside.result c.read.new.to c.trim.new.page
     (sym (rest.directory c.args.page.file) ∙ in_directory) c.bytes_inside.ensures.inside
     (c.in_ok-read.ensures.page k ∙ ap (λ h. joined (standing image h) 8) home) c.trim.ensures
+
+pub returns-in_err-read-clause-asks : goal.returns-in_err-read-clause-asks
+returns-in_err-read-clause-asks g c = page_asks g.D.SectorDisk c.args.self.now c.args.page c.home_of.result c.read.new.disk c.home_of.ensures c.read.ensures.asks
+
+pub returns-clause-asks : goal.returns-clause-asks
+returns-clause-asks g c = page_asks g.D.SectorDisk c.args.self.now c.args.page c.home_of.result c.read.new.disk c.home_of.ensures c.read.ensures.asks

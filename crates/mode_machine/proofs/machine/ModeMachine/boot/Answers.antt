@@ -1,34 +1,111 @@
-use Rattle.std.proofs.Common.{◌≡◌, ◌⊎◌, refl, sym, ◌∙◌, subst}
-use Rattle.mode_machine.proofs.Boots.{was_layout, was_journal, sized, no_device, unmoved, boots, IsOpened}
-use Rattle.mode_machine.specs.declared.boot.BootFault.{BootFault}
-use Rattle.mode_machine.specs.declared.boot.BootFault.TheVariants.{Frames, Slots, BadLayout, BadJournal}
+use Rattle.std.proofs.Common.{inl, inr, ⊎_elim, refl, sym, subst, arith}
+use Rattle.mode_machine.proofs.Boots.{fine_frames, fine_slots, still, boots, accepts, refuses_frames, refuses_slots, refuses_memory, refuses_store, IsOpened, IsUnopened}
+use Rattle.mode_machine.specs.Boot.{HasBadSlots}
 use Rattle.mode_machine.proofs.machine.ModeMachine.boot.Goals as goal
+use Rattle.mode_machine.proofs.machine.ModeMachine.boot.Goals.{then-sizes-gt-MAX_SLOTS-via-then-sizes-gt-MAX_SLOTS, then-sizes-gt-MAX_SLOTS-via-else-sizes-gt-MAX_SLOTS+then-from-sectors}
 
-pub returns-then-sizes-lt-MIN_FRAMES-clause-err_moment : goal.returns-then-sizes-lt-MIN_FRAMES-clause-err_moment
-returns-then-sizes-lt-MIN_FRAMES-clause-err_moment g c = λ keeps synced.
-    unmoved g.D.SectorDisk c.args.store (λ i left. g.met.D.SectorDisk.only_now c.args.store i keeps left) synced
-    (g.D.SectorDisk.content c.args.store) (λ files pages stands. stands)
+pub returns-then-sizes-lt-MIN_FRAMES-clause-refuses : goal.returns-then-sizes-lt-MIN_FRAMES-clause-refuses
+returns-then-sizes-lt-MIN_FRAMES-clause-refuses g c =
+    refuses_frames g.D.SectorDisk c.args.sizes _ c.args.store (⊎_elim (λ few. inl few) (λ many. inr (omega (arith, many.1))) c.then-sizes-lt-MIN_FRAMES.either)
 
-pub returns-then-sizes-lt-MIN_FRAMES-clause-err_in_a_row : goal.returns-then-sizes-lt-MIN_FRAMES-clause-err_in_a_row
-returns-then-sizes-lt-MIN_FRAMES-clause-err_in_a_row g c = λ keeps synced.
-    unmoved g.D.SectorDisk c.args.store (λ i left. g.met.D.SectorDisk.only_now c.args.store i keeps left) synced
+pub returns-then-sizes-lt-MIN_FRAMES-clause-err_moments : goal.returns-then-sizes-lt-MIN_FRAMES-clause-err_moments
+returns-then-sizes-lt-MIN_FRAMES-clause-err_moments g c = still g.D.SectorDisk c.args.store (λ keeps i left. g.met.D.SectorDisk.only_now c.args.store i keeps left)
 
-pub returns-then-sizes-gt-MAX_SLOTS-clause-err_moment : goal.returns-then-sizes-gt-MAX_SLOTS-clause-err_moment
-returns-then-sizes-gt-MAX_SLOTS-clause-err_moment g c = λ keeps synced.
-    unmoved g.D.SectorDisk c.args.store (λ i left. g.met.D.SectorDisk.only_now c.args.store i keeps left) synced
-    (g.D.SectorDisk.content c.args.store) (λ files pages stands. stands)
+pub returns-then-sizes-gt-MAX_SLOTS-clause-refuses : goal.returns-then-sizes-gt-MAX_SLOTS-clause-refuses
+returns-then-sizes-gt-MAX_SLOTS-clause-refuses g c =
+    let bad : HasBadSlots c.args.sizes (g.E.SectorDisk.sector_count c.args.swap) = elim c.then-sizes-gt-MAX_SLOTS.branch [
+      | then-sizes-gt-MAX_SLOTS-via-then-sizes-gt-MAX_SLOTS w ↦ inl w.if-sizes-gt-MAX_SLOTS.true
+      | then-sizes-gt-MAX_SLOTS-via-else-sizes-gt-MAX_SLOTS+then-from-sectors w ↦ inr (rw (sym w.from.ensures, sym w.sectors.ensures) w.if-from-sectors.true)
+    ] in
+    refuses_slots g.D.SectorDisk c.args.sizes _ c.args.store (fine_frames c.args.sizes c.if-sizes-lt-MIN_FRAMES.false c.if-sizes-gt-MAX_FRAMES.false) bad
 
-pub returns-then-sizes-gt-MAX_SLOTS-clause-err_in_a_row : goal.returns-then-sizes-gt-MAX_SLOTS-clause-err_in_a_row
-returns-then-sizes-gt-MAX_SLOTS-clause-err_in_a_row g c = λ keeps synced.
-    unmoved g.D.SectorDisk c.args.store (λ i left. g.met.D.SectorDisk.only_now c.args.store i keeps left) synced
+pub returns-then-sizes-gt-MAX_SLOTS-clause-err_moments : goal.returns-then-sizes-gt-MAX_SLOTS-clause-err_moments
+returns-then-sizes-gt-MAX_SLOTS-clause-err_moments g c = still g.D.SectorDisk c.args.store (λ keeps i left. g.met.D.SectorDisk.only_now c.args.store i keeps left)
 
-pub returns-in-Err-clause-bad_layout : goal.returns-in-Err-clause-bad_layout
-returns-in-Err-clause-bad_layout g c = λ keeps e.
-    c.in-Err.ensures.bad_layout keeps (was_layout c.in-Err.fault (sym c.from-in-Err.ensures ∙ e))
+pub returns-in-Err-clause-refuses : goal.returns-in-Err-clause-refuses
+returns-in-Err-clause-refuses g c =
+    let e = c.in-Err.ensures in
+    let unopened : IsUnopened g.D.SectorDisk c.args.store c.in-Err.fault c.in-Err.disk = record {
+      size = e.err_size;
+      kept = e.err_kept;
+      later = e.err_later;
+      device = e.device;
+      calm = e.err_calm;
+      layout = e.bad_layout;
+      journal = e.bad_journal;
+      first = e.layout_first;
+      unwritten = e.unwritten;
+    } in
+    rw c.from-in-Err.ensures (refuses_store g.D.SectorDisk c.args.sizes _ c.args.store c.in-Err.fault c.in-Err.disk (fine_frames c.args.sizes c.if-sizes-lt-MIN_FRAMES.false c.if-sizes-gt-MAX_FRAMES.false)
+    (fine_slots c.args.sizes _ _ _ c.if-sizes-gt-MAX_SLOTS.false c.from.ensures c.sectors.ensures c.if-from-sectors.false) unopened)
 
-pub returns-in-Err-clause-bad_journal : goal.returns-in-Err-clause-bad_journal
-returns-in-Err-clause-bad_journal g c = λ keeps e.
-    c.in-Err.ensures.bad_journal keeps (was_journal c.in-Err.fault (sym c.from-in-Err.ensures ∙ e))
+pub returns-in-Err-clause-err_moments : goal.returns-in-Err-clause-err_moments
+returns-in-Err-clause-err_moments g c = record { any_moment = c.in-Err.ensures.err_moment; in_a_row = c.in-Err.ensures.err_in_a_row }
+
+pub returns-in_default-clause-refuses : goal.returns-in_default-clause-refuses
+returns-in_default-clause-refuses g c =
+    let e = c.in-Ok.ensures in
+    let opened : IsOpened g.D.SectorDisk c.args.store c.in-Ok.store = record {
+      ready = e.ready;
+      size = e.size;
+      layout = e.good_layout;
+      journal = e.good_journal;
+      leaves = e.now;
+      homes = e.homes;
+      kept = e.kept;
+      later = e.later;
+      calm = e.calm;
+      moments = record { any_moment = e.any_moment; in_a_row = e.in_a_row };
+    } in
+    rw c.into_disk.ensures (refuses_memory g.D.SectorDisk c.args.sizes _ c.args.store c.in-Ok.store (fine_frames c.args.sizes c.if-sizes-lt-MIN_FRAMES.false c.if-sizes-gt-MAX_FRAMES.false)
+    (fine_slots c.args.sizes _ _ _ c.if-sizes-gt-MAX_SLOTS.false c.from.ensures c.sectors.ensures c.if-from-sectors.false) opened)
+
+pub returns-in_default-clause-err_moments : goal.returns-in_default-clause-err_moments
+returns-in_default-clause-err_moments g c = rw c.into_disk.ensures (record { any_moment = c.in-Ok.ensures.any_moment; in_a_row = c.in-Ok.ensures.in_a_row })
+
+pub returns-in_default-new-clause-refuses : goal.returns-in_default-new-clause-refuses
+returns-in_default-new-clause-refuses g c =
+    let e = c.in-Ok.ensures in
+    let opened : IsOpened g.D.SectorDisk c.args.store c.in-Ok.store = record {
+      ready = e.ready;
+      size = e.size;
+      layout = e.good_layout;
+      journal = e.good_journal;
+      leaves = e.now;
+      homes = e.homes;
+      kept = e.kept;
+      later = e.later;
+      calm = e.calm;
+      moments = record { any_moment = e.any_moment; in_a_row = e.in_a_row };
+    } in
+    rw c.into_disk-in_default-new.ensures (refuses_memory g.D.SectorDisk c.args.sizes _ c.args.store c.in-Ok.store (fine_frames c.args.sizes c.if-sizes-lt-MIN_FRAMES.false c.if-sizes-gt-MAX_FRAMES.false)
+    (fine_slots c.args.sizes _ _ _ c.if-sizes-gt-MAX_SLOTS.false c.from.ensures c.sectors.ensures c.if-from-sectors.false) opened)
+
+pub returns-in_default-new-clause-err_moments : goal.returns-in_default-new-clause-err_moments
+returns-in_default-new-clause-err_moments g c =
+    rw c.into_disk-in_default-new.ensures (record { any_moment = c.in-Ok.ensures.any_moment; in_a_row = c.in-Ok.ensures.in_a_row })
+
+pub returns-in-Err-new-clause-refuses : goal.returns-in-Err-new-clause-refuses
+returns-in-Err-new-clause-refuses g c =
+    let e = c.in-Ok.ensures in
+    let opened : IsOpened g.D.SectorDisk c.args.store c.in-Ok.store = record {
+      ready = e.ready;
+      size = e.size;
+      layout = e.good_layout;
+      journal = e.good_journal;
+      leaves = e.now;
+      homes = e.homes;
+      kept = e.kept;
+      later = e.later;
+      calm = e.calm;
+      moments = record { any_moment = e.any_moment; in_a_row = e.in_a_row };
+    } in
+    rw (c.into_disk-in-Err-new.ensures, c.in-Err-new.ensures.err) (refuses_memory g.D.SectorDisk c.args.sizes _ c.args.store c.in-Ok.store (fine_frames c.args.sizes c.if-sizes-lt-MIN_FRAMES.false c.if-sizes-gt-MAX_FRAMES.false)
+    (fine_slots c.args.sizes _ _ _ c.if-sizes-gt-MAX_SLOTS.false c.from.ensures c.sectors.ensures c.if-from-sectors.false) opened)
+
+pub returns-in-Err-new-clause-err_moments : goal.returns-in-Err-new-clause-err_moments
+returns-in-Err-new-clause-err_moments g c =
+    rw (c.into_disk-in-Err-new.ensures, c.in-Err-new.ensures.err) (record { any_moment = c.in-Ok.ensures.any_moment; in_a_row = c.in-Ok.ensures.in_a_row })
 
 pub returns-in-Ok-new-3-clause-boots : goal.returns-in-Ok-new-3-clause-boots
 returns-in-Ok-new-3-clause-boots g c =
@@ -39,45 +116,33 @@ returns-in-Ok-new-3-clause-boots g c =
       layout = e.good_layout;
       journal = e.good_journal;
       leaves = e.now;
+      homes = e.homes;
+      kept = e.kept;
+      later = e.later;
+      calm = e.calm;
+      moments = record { any_moment = e.any_moment; in_a_row = e.in_a_row };
     } in
     let made = c.in-Ok-new-3.ensures in
     boots g.D.SectorDisk g.E.SectorDisk c.args.store _ c.args.sizes.frames c.args.sizes.slots refl c.in-Ok-new.ensures
     (subst (λ store. IsOpened g.D.SectorDisk c.args.store store) (sym made.store) opened) made.start
 
-pub returns-in-Ok-new-3-clause-layout : goal.returns-in-Ok-new-3-clause-layout
-returns-in-Ok-new-3-clause-layout g c = λ keeps bad.
-    c.in-Ok.ensures.good_layout (rw (sym c.in-Ok-new-3.ensures.store) keeps) bad
+pub returns-in-Ok-new-3-clause-accepts : goal.returns-in-Ok-new-3-clause-accepts
+returns-in-Ok-new-3-clause-accepts g c =
+    let e = c.in-Ok.ensures in
+    let opened : IsOpened g.D.SectorDisk c.args.store c.in-Ok.store = record {
+      ready = e.ready;
+      size = e.size;
+      layout = e.good_layout;
+      journal = e.good_journal;
+      leaves = e.now;
+      homes = e.homes;
+      kept = e.kept;
+      later = e.later;
+      calm = e.calm;
+      moments = record { any_moment = e.any_moment; in_a_row = e.in_a_row };
+    } in
+    rw c.in-Ok-new-3.ensures.store (accepts g.D.SectorDisk c.args.sizes _ c.args.store c.in-Ok.store (fine_frames c.args.sizes c.if-sizes-lt-MIN_FRAMES.false c.if-sizes-gt-MAX_FRAMES.false)
+    (fine_slots c.args.sizes _ _ _ c.if-sizes-gt-MAX_SLOTS.false c.from.ensures c.sectors.ensures c.if-from-sectors.false) opened)
 
-pub returns-in-Err-clause-layout_first : goal.returns-in-Err-clause-layout_first
-returns-in-Err-clause-layout_first g c = λ keeps e bad.
-    c.in-Err.ensures.layout_first keeps (was_journal c.in-Err.fault (sym c.from-in-Err.ensures ∙ e)) bad
-
-pub returns-in-Err-clause-unasked : goal.returns-in-Err-clause-unasked
-returns-in-Err-clause-unasked g c = λ either.
-    absurd (sized c.in-Err.fault (subst (λ (boot : BootFault). (boot ≡ Frames) ⊎ (boot ≡ Slots)) c.from-in-Err.ensures either))
-
-pub returns-in-Err-clause-unwritten : goal.returns-in-Err-clause-unwritten
-returns-in-Err-clause-unwritten g c = λ keeps either.
-    c.in-Err.ensures.unwritten keeps
-    (no_device c.in-Err.fault (subst (λ (boot : BootFault). (boot ≡ BadLayout) ⊎ (boot ≡ BadJournal)) c.from-in-Err.ensures either))
-
-pub returns-in-Ok-new-3-clause-journal : goal.returns-in-Ok-new-3-clause-journal
-returns-in-Ok-new-3-clause-journal g c = λ keeps bad.
-    c.in-Ok.ensures.good_journal (rw (sym c.in-Ok-new-3.ensures.store) keeps) bad
-
-pub returns-in-Ok-new-3-clause-in_a_row : goal.returns-in-Ok-new-3-clause-in_a_row
-returns-in-Ok-new-3-clause-in_a_row g c = λ keeps synced first stands.
-    rw c.in-Ok-new-3.ensures.store (c.in-Ok.ensures.in_a_row (rw (sym c.in-Ok-new-3.ensures.store) keeps) synced first stands)
-
-pub returns-in_default-clause-err_in_a_row : goal.returns-in_default-clause-err_in_a_row
-returns-in_default-clause-err_in_a_row g c = λ keeps synced first stands.
-    rw c.into_disk.ensures (c.in-Ok.ensures.in_a_row (rw c.into_disk.ensures at keeps) synced first stands)
-
-pub returns-in-Err-new-clause-err_in_a_row : goal.returns-in-Err-new-clause-err_in_a_row
-returns-in-Err-new-clause-err_in_a_row g c = λ keeps synced first stands.
-    rw (c.into_disk-in-Err-new.ensures, c.in-Err-new.ensures.err)
-    (c.in-Ok.ensures.in_a_row (rw (c.into_disk-in-Err-new.ensures, c.in-Err-new.ensures.err) at keeps) synced first stands)
-
-pub returns-in_default-new-clause-err_in_a_row : goal.returns-in_default-new-clause-err_in_a_row
-returns-in_default-new-clause-err_in_a_row g c = λ keeps synced first stands.
-    rw c.into_disk-in_default-new.ensures (c.in-Ok.ensures.in_a_row (rw c.into_disk-in_default-new.ensures at keeps) synced first stands)
+pub returns-in-Ok-new-3-clause-moments : goal.returns-in-Ok-new-3-clause-moments
+returns-in-Ok-new-3-clause-moments g c = rw c.in-Ok-new-3.ensures.store (record { any_moment = c.in-Ok.ensures.any_moment; in_a_row = c.in-Ok.ensures.in_a_row })

@@ -33,6 +33,8 @@ returns-clause-meets g c = λ s shows readable.
       passes = said.passes s core_shows;
       commits_so = λ after. said.commits s after core_shows;
       back = λ after commit away. readable.slots (ap Rattle.std.specs.Option.is_some commit);
-      loses = said.entries;
     })
     (λ e. ap reply_of (is e)) (λ e r. is_not e (refused_so c.msync-answer.result EIO r))
+
+pub returns-clause-denied : goal.returns-clause-denied
+returns-clause-denied g c = λ errno is other. c.msync-answer.ensures.unasked errno (refused_so c.msync-answer.result errno is) other

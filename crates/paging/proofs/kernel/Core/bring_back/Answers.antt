@@ -1,13 +1,16 @@
-use Rattle.std.proofs.Common.{◌≡◌, inl, inr, refl, sym, ap, ◌∙◌, subst, arith}
+use Rattle.std.proofs.Common.{◌≡◌, inl, ℕ, inr, None, refl, sym, ap, ◌∙◌, subst, arith}
 use Rattle.vm_types.specs.declared.object.PageKey.{PageKey}
-use Rattle.frames.specs.declared.role.Role.TheVariants.{Free, Private, Cache}
+use Rattle.frames.specs.declared.role.Role.TheVariants.{Free, Table, Private, Cache}
 use Rattle.frames.specs.FrameTable.{role_of}
 use Rattle.frames.proofs.FrameLemmas.{with_bytes-same}
-use Rattle.swap.specs.Slots.{slots_of}
+use Rattle.swap.specs.Slots.{slots_of, IsSectorOfSlot}
 use Rattle.page_cache.specs.declared.place.Place.TheVariants.{Home, Frame, Slot}
 use Rattle.page_cache.specs.CacheTable.{is_touched}
 use Rattle.paging.specs.Picture.{Picture, picture_of}
 use Rattle.paging.specs.Capacity.{IsShort}
+use Rattle.paging.specs.Ages.{WantsFrame}
+use Rattle.paging.proofs.Asking.{needed_of, asks_between, also_taken, also_asked, one_also, gives_taken, wants_tried, wants_taken}
+use Rattle.paging.proofs.Giving.{on_err_same, frame_taken}
 use Rattle.paging.proofs.BroughtIn.{frames_written, fit_brought}
 use Rattle.paging.proofs.Places.{cases_page}
 use Rattle.paging.proofs.Returning.{leaves_slot, frames_spent, frees_spent}
@@ -22,12 +25,15 @@ returns-in-Ok-get-clause-brought g c =
     let mid : Picture g.M.Levels.mode = picture_of c.obtain.new.core in
     let takes = c.in-Ok.ensures.taken in
     let frees = c.obtain.ensures.frees in
+    let needed = needed_of c.args.self.now c.obtain.new.core c.obtain.ensures.needed in
     let fit = c.obtain.ensures.fit in
     let there = frees.slotted c.args.page c.args.slot.0 c.requires.there in
     record {
       found = mid;
       fit = fit;
       frees = frees;
+      gives = frame_taken (picture_of c.args.self.now) mid None c.in_ok-obtain.field-0.0 c.in-Ok.frame.0 frees c.in_ok-obtain.ensures.gives needed takes.inside takes.was_free;
+      needed = needed;
       brings = record {
         slots = leaves_slot mid _ c.args.page c.args.slot.0 (slots_of c.get.new.self) there c.get.ensures.same c.release.ensures.releases (fit.places.slotted c.args.page c.args.slot.0 there);
         frames = frames_written c.obtain.new.core.frames c.take.new.self c.in-Ok.frame.0 c.get.new.to takes;
@@ -114,3 +120,38 @@ returns-in-Ok-get-clause-same g c = λ keeps.
     with_bytes-same c.take.new.self c.in-Ok.frame.0 c.get.new.to (let taken = c.in-Ok.ensures.taken in let e = taken.others.frames in let inside = taken.inside in omega (arith, e, inside))
     ∙ c.in-Ok-get.ensures.gives (subst P c.release.ensures.pages keeps)
     ∙ (c.obtain.ensures.frees.slots c.args.slot.0 (omega (arith, was))).0
+
+pub returns-in-Ok-get-clause-asked : goal.returns-in-Ok-get-clause-asked
+returns-in-Ok-get-clause-asked g c =
+    let takes = c.in-Ok.ensures.taken in
+    also_taken g.E.SectorDisk c.args.self.now c.obtain.new.core _ None c.in-Ok.frame.0 (IsSectorOfSlot c.args.slot.0) c.obtain.ensures.needed c.obtain.ensures.frees takes.inside takes.was_free
+    (gives_taken (picture_of c.args.self.now) (picture_of c.obtain.new.core) _ c.in-Ok.frame.0 c.obtain.ensures.fit (frames_written c.obtain.new.core.frames c.take.new.self c.in-Ok.frame.0 c.get.new.to takes) takes.was_free
+    (λ t. (let bad : Cache ≡ Table = sym takes.kind_set ∙ t in (cc))) (λ pid. refl))
+    (asks_between g.E.SectorDisk (IsSectorOfSlot c.args.slot.0) c.obtain.new.core.swap c.obtain.new.core.swap c.get.new.self c.release.new.self refl c.release.ensures.pages c.get.ensures.asks) c.obtain.ensures.asked
+
+pub returns-in-Ok-get-clause-one : goal.returns-in-Ok-get-clause-one
+returns-in-Ok-get-clause-one g c = one_also g.E.SectorDisk c.args.self.now c.obtain.new.core c.release.new.self (IsSectorOfSlot c.args.slot.0) c.in_ok-obtain.ensures.one (asks_between g.E.SectorDisk (IsSectorOfSlot c.args.slot.0) c.obtain.new.core.swap c.obtain.new.core.swap c.get.new.self c.release.new.self refl c.release.ensures.pages c.get.ensures.asks)
+
+pub returns-in-Err-clause-asked : goal.returns-in-Err-clause-asked
+returns-in-Err-clause-asked g c =
+    let takes = c.in-Ok.ensures.taken in
+    also_taken g.E.SectorDisk c.args.self.now c.obtain.new.core _ None c.in-Ok.frame.0 (IsSectorOfSlot c.args.slot.0) c.obtain.ensures.needed c.obtain.ensures.frees takes.inside takes.was_free
+    (gives_taken (picture_of c.args.self.now) (picture_of c.obtain.new.core) _ c.in-Ok.frame.0 c.obtain.ensures.fit (spent g c).frames takes.was_free (λ t. (let bad = sym (freed g c) ∙ t in (cc))) (λ pid. refl))
+    c.get.ensures.asks c.obtain.ensures.asked
+
+pub returns-in_err-obtain-clause-asked : goal.returns-in_err-obtain-clause-asked
+returns-in_err-obtain-clause-asked g c = also_asked g.E.SectorDisk c.args.self.now c.obtain.new.core None (IsSectorOfSlot c.args.slot.0) c.obtain.ensures.asked
+
+pub returns-in_err-obtain-clause-tried : goal.returns-in_err-obtain-clause-tried
+returns-in_err-obtain-clause-tried g c =
+    on_err_same ((v : ℕ) × WantsFrame (picture_of c.args.self.now) (picture_of c.obtain.new.core) v) c.from_residual.result
+    (wants_tried c.args.self.now c.obtain.new.core c.obtain.ensures.needed c.in_err-obtain.ensures.full c.in_err-obtain.ensures.tried)
+
+pub returns-in-Err-clause-tried : goal.returns-in-Err-clause-tried
+returns-in-Err-clause-tried g c =
+    let old = picture_of c.args.self.now in
+    let found = picture_of c.obtain.new.core in
+    let takes = c.in-Ok.ensures.taken in
+    let gives = frame_taken old found None c.in_ok-obtain.field-0.0 c.in-Ok.frame.0 c.obtain.ensures.frees c.in_ok-obtain.ensures.gives (needed_of c.args.self.now c.obtain.new.core c.obtain.ensures.needed) takes.inside takes.was_free in
+    wants_taken c.args.self.now c.obtain.new.core _ c.in-Ok.frame.0 c.obtain.ensures.needed takes.was_free
+    (gives_taken old found _ c.in-Ok.frame.0 c.obtain.ensures.fit (spent g c).frames takes.was_free (λ t. (let bad = sym (freed g c) ∙ t in (cc))) (λ pid. refl) gives)

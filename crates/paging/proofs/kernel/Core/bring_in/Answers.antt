@@ -1,14 +1,17 @@
-use Rattle.std.proofs.Common.{◌≡◌, inl, inr, refl, sym, ap, ◌∙◌, subst}
+use Rattle.std.proofs.Common.{◌≡◌, inl, inr, None, refl, sym, ap, ◌∙◌, subst, ℕ}
 use Rattle.std.specs.Option.{option_map}
 use Rattle.vm_types.specs.declared.object.PageKey.{PageKey}
 use Rattle.vm_types.specs.declared.object.PageKey.TheVariants.{File}
 use Rattle.file_store.specs.Store.{entry_of, files_of}
-use Rattle.frames.specs.declared.role.Role.TheVariants.{Free, Private, Cache}
+use Rattle.frames.specs.declared.role.Role.TheVariants.{Free, Table, Private, Cache}
 use Rattle.frames.specs.FrameTable.{role_of}
 use Rattle.page_cache.specs.declared.place.Place.TheVariants.{Home, Frame}
 use Rattle.page_cache.specs.CacheTable.{is_touched}
 use Rattle.paging.specs.Picture.{Picture, picture_of}
 use Rattle.paging.specs.Capacity.{IsShort}
+use Rattle.paging.specs.Ages.{WantsFrame}
+use Rattle.paging.proofs.Asking.{needed_of, asked_taken, gives_taken, asks_store, unasked_store, wants_tried, wants_taken}
+use Rattle.paging.proofs.Giving.{on_err_same, frame_taken}
 use Rattle.paging.proofs.BroughtIn.{frames_written, fit_brought}
 use Rattle.paging.proofs.Places.{cases_page}
 use Rattle.paging.proofs.Returning.{leaves_none, frames_spent, frees_spent}
@@ -23,11 +26,14 @@ returns-in-Ok-read_page-clause-brought g c =
     let mid : Picture g.M.Levels.mode = picture_of c.obtain.new.core in
     let takes = c.in-Ok.ensures.taken in
     let frees = c.obtain.ensures.frees in
+    let needed = needed_of c.args.self.now c.obtain.new.core c.obtain.ensures.needed in
     let home = frees.home (File c.args.page) c.requires.home in
     record {
       found = mid;
       fit = c.obtain.ensures.fit;
       frees = frees;
+      gives = frame_taken (picture_of c.args.self.now) mid None c.in_ok-obtain.field-0.0 c.in-Ok.frame.0 frees c.in_ok-obtain.ensures.gives needed takes.inside takes.was_free;
+      needed = needed;
       brings = record {
         slots = leaves_none mid _ (File c.args.page) home refl;
         frames = frames_written c.obtain.new.core.frames c.take.new.self c.in-Ok.frame.0 c.read_page.new.to takes;
@@ -98,3 +104,44 @@ pub set_place-requires-clause-free : goal.set_place-requires-clause-free
 set_place-requires-clause-free g c = λ p ne at.
     let cache = c.obtain.ensures.fit.places.cached p c.in-Ok.frame.0 at in
     let bad : Free ≡ Cache = sym c.in-Ok.ensures.taken.was_free ∙ cache in (cc)
+
+pub returns-in-Ok-read_page-clause-asked : goal.returns-in-Ok-read_page-clause-asked
+returns-in-Ok-read_page-clause-asked g c =
+    let takes = c.in-Ok.ensures.taken in
+    asked_taken g.E.SectorDisk c.args.self.now c.obtain.new.core _ None c.in-Ok.frame.0 c.obtain.ensures.needed c.obtain.ensures.frees takes.inside takes.was_free refl
+    (gives_taken (picture_of c.args.self.now) (picture_of c.obtain.new.core) _ c.in-Ok.frame.0 c.obtain.ensures.fit (frames_written c.obtain.new.core.frames c.take.new.self c.in-Ok.frame.0 c.read_page.new.to takes) takes.was_free
+    (λ t. (let bad : Cache ≡ Table = sym takes.kind_set ∙ t in (cc))) (λ pid. refl))
+    c.obtain.ensures.asked
+
+pub returns-in-Err-clause-asked : goal.returns-in-Err-clause-asked
+returns-in-Err-clause-asked g c =
+    let takes = c.in-Ok.ensures.taken in
+    asked_taken g.E.SectorDisk c.args.self.now c.obtain.new.core _ None c.in-Ok.frame.0 c.obtain.ensures.needed c.obtain.ensures.frees takes.inside takes.was_free refl
+    (gives_taken (picture_of c.args.self.now) (picture_of c.obtain.new.core) _ c.in-Ok.frame.0 c.obtain.ensures.fit (spent g c).frames takes.was_free (λ t. (let bad = sym (freed g c) ∙ t in (cc))) (λ pid. refl))
+    c.obtain.ensures.asked
+
+pub returns-in-Ok-read_page-clause-one : goal.returns-in-Ok-read_page-clause-one
+returns-in-Ok-read_page-clause-one g c = c.in_ok-obtain.ensures.one
+
+pub returns-in-Ok-read_page-clause-asks : goal.returns-in-Ok-read_page-clause-asks
+returns-in-Ok-read_page-clause-asks g c = asks_store g.D.SectorDisk c.args.page c.args.self.now.store c.obtain.new.core.store c.read_page.new.self c.obtain.ensures.rest.store c.read_page.ensures.asks
+
+pub returns-in-Err-clause-asks : goal.returns-in-Err-clause-asks
+returns-in-Err-clause-asks g c = asks_store g.D.SectorDisk c.args.page c.args.self.now.store c.obtain.new.core.store c.read_page.new.self c.obtain.ensures.rest.store c.read_page.ensures.asks
+
+pub returns-in_err-obtain-clause-asks : goal.returns-in_err-obtain-clause-asks
+returns-in_err-obtain-clause-asks g c = unasked_store g.D.SectorDisk c.args.page c.args.self.now.store c.obtain.new.core.store c.obtain.ensures.rest.store
+
+pub returns-in_err-obtain-clause-tried : goal.returns-in_err-obtain-clause-tried
+returns-in_err-obtain-clause-tried g c =
+    on_err_same ((v : ℕ) × WantsFrame (picture_of c.args.self.now) (picture_of c.obtain.new.core) v) c.from_residual.result
+    (wants_tried c.args.self.now c.obtain.new.core c.obtain.ensures.needed c.in_err-obtain.ensures.full c.in_err-obtain.ensures.tried)
+
+pub returns-in-Err-clause-tried : goal.returns-in-Err-clause-tried
+returns-in-Err-clause-tried g c =
+    let old = picture_of c.args.self.now in
+    let found = picture_of c.obtain.new.core in
+    let takes = c.in-Ok.ensures.taken in
+    let gives = frame_taken old found None c.in_ok-obtain.field-0.0 c.in-Ok.frame.0 c.obtain.ensures.frees c.in_ok-obtain.ensures.gives (needed_of c.args.self.now c.obtain.new.core c.obtain.ensures.needed) takes.inside takes.was_free in
+    wants_taken c.args.self.now c.obtain.new.core _ c.in-Ok.frame.0 c.obtain.ensures.needed takes.was_free
+    (gives_taken old found _ c.in-Ok.frame.0 c.obtain.ensures.fit (spent g c).frames takes.was_free (λ t. (let bad = sym (freed g c) ∙ t in (cc))) (λ pid. refl) gives)

@@ -5,7 +5,8 @@ use Rattle.paging.specs.Picture.{Picture, picture_of}
 use Rattle.paging.specs.Ages.{GivesForTables}
 use Rattle.paging.specs.Steps.{SameBeside}
 use Rattle.paging.specs.declared.kernel.Core.{Core}
-use Rattle.paging.proofs.Giving.{on_err_same, frame_taken, roles_but, table_given, tables_tried}
+use Rattle.paging.proofs.Asking.{needed_of, asked_taken}
+use Rattle.paging.proofs.Giving.{on_err_same, frame_taken, roles_but, gives_table, table_given, tables_tried}
 use Rattle.paging.proofs.Returning.{zero_no_table}
 use Rattle.paging.proofs.kernel.Core.take_table.Goals as goal
 
@@ -18,11 +19,6 @@ returns-clause-taken g c = record {
   beside = record { slots = refl; root = λ q. refl; at = λ q k. refl; page_of = λ n. refl; place = λ p. refl; touched = λ p. refl; files = λ f. refl };
   zero_page = zero_no_table (picture_of c.args.self.now) (picture_of c.obtain.new.core) c.args.self.now.sound c.obtain.ensures.frees;
 }
-
--- why a frame was given up, if one was
-needed_of : {M : Type 0} {m : Levels.Ghosts M} → {D E : Type 0} (old found : Core D E M m) → IsFull old.frames ⊎ (found ≡ old) → IsFull old.frames ⊎ (picture_of found ≡ picture_of old)
-needed_of old found (inl full) = inl full
-needed_of old found (inr same) = inr (ap picture_of same)
 
 same_beside : {mode : ℕ} (c : Picture mode) (t : FrameTable) → SameBeside c (record c { frames = t })
 same_beside c t = record { slots = refl; root = λ q. refl; at = λ q k. refl; page_of = λ n. refl; place = λ p. refl; touched = λ p. refl; files = λ f. refl }
@@ -54,3 +50,15 @@ returns-in_err-obtain-clause-tried g c =
     let failed = c.in_err-obtain.ensures in
     let gives = tables_tried old new None failed.tried.0 c.obtain.ensures.frees failed.tried.1 failed.still failed.full in
     on_err_same ((tried : Option ℕ) × GivesForTables old new tried) c.from_residual.result (Some failed.tried.0, gives)
+
+pub returns-clause-asked : goal.returns-clause-asked
+returns-clause-asked g c =
+    let old = picture_of c.args.self.now in
+    let found = picture_of c.obtain.new.core in
+    let new : Picture g.M.Levels.mode = record found { frames = c.take_table.new.memory } in
+    let adds = c.in-Ok.ensures.taken in
+    asked_taken g.E.SectorDisk c.args.self.now c.obtain.new.core _ None c.in-Ok.table.0 c.obtain.ensures.needed c.obtain.ensures.frees adds.takes.inside adds.takes.was_free refl
+    (gives_table old found new c.in-Ok.table.0 c.obtain.ensures.fit c.obtain.ensures.frees adds (same_beside found c.take_table.new.memory)) c.obtain.ensures.asked
+
+pub returns-clause-one : goal.returns-clause-one
+returns-clause-one g c = c.in_ok-obtain.ensures.one

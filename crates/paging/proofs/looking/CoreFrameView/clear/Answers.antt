@@ -17,5 +17,5 @@ returns-clause-follows g c =
       frees = λ s f. subst (λ k. Frees s new k) (sym done.beside.keep) (frees_then s old new v.keep f (changes_frees ClearAccessed c.args.n old new v.keep c.requires.open done.changes (λ e. (let a = done.above in omega (arith, a, e))) c.requires.evictable.0.1));
       marks = λ s f. marks_then s old new c.args.n f done.changes;
       full = λ full n inside free. full n (let k = done.changes.frames in omega (arith, k, inside)) (sym (done.changes.roles n) ∙ free);
-      looked = record { store = done.beside.store; swap = done.beside.swap; roots = done.beside.roots; regions = done.beside.regions; refused = done.beside.refused };
+      looked = record { store = done.beside.store; swap = done.beside.swap; cache = done.beside.cache; roots = done.beside.roots; regions = done.beside.regions; refused = done.beside.refused };
     }

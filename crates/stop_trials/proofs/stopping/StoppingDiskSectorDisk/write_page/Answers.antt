@@ -1,7 +1,8 @@
 use Rattle.std.proofs.Common.{◌≡◌, ◌+◌, ◌<◌, true, false, is_err, ⊎_elim, sym, ap, subst, ◌∙◌, arith, rules}
 use Rattle.std.proofs.lemmas.Bool.{cases_eq}
 use Rattle.disk_model.specs.Sectors.{part_of}
-use Rattle.disk_model.specs.SimDisk.{sector_of, failures_of}
+use Rattle.disk_model.specs.SimDisk.{sector_of, failures_of, asked_of}
+use Rattle.disk_model.proofs.Naming.{names_next}
 use Rattle.stop_trials.specs.declared.stopping.Event.TheVariants.{Write}
 use Rattle.stop_trials.specs.Stopping.{plan_of, after_event}
 use Rattle.stop_trials.proofs.Writes.{when_ok, ran_before, one_write}
@@ -23,6 +24,7 @@ loop-i-preserved c =
     when_ok c.write.result _ w.written (sym told ∙ calm)
     ∙ c.parts-sector-items.ensures.each i (let len = c.parts-sector-items.ensures.len in omega (arith, c.loop-i-test.true, len)) in
     record {
+      asks = names_next c.args.n i (asked_of c.args.self.now.disk) (asked_of mid.disk) (asked_of new.disk) inv.asks w.asks;
       size = search rules;
       later = search rules;
       caused = λ failed. let more : failures_of mid.disk < failures_of new.disk = w.cause.failed (sym told ∙ failed) in omega (arith, more, inv.later);

@@ -1,12 +1,14 @@
 use Rattle.std.proofs.Common.{◌≡◌, ◌⊎◌, ◌≤◌, ◌<◌, ◌+◌, ℕ, true, false, is_some}
-use Rattle.disk_model.specs.Stop.{IsOfPage, ChangesPage, Elapses}
+use Rattle.disk_model.specs.Stop.{IsOfPage, ChangesPage, Elapses, Names}
 use Rattle.disk_model.specs.Sectors.{part_of}
-use Rattle.disk_model.specs.SimDisk.{sectors_in, sector_of, IsUnsynced, moment_of, LeftSince, failures_of}
+use Rattle.disk_model.specs.SimDisk.{sectors_in, sector_of, IsUnsynced, moment_of, LeftSince, failures_of, asked_of}
+use Rattle.disk_model.proofs.Naming.{IsAmong}
 use Rattle.stop_trials.specs.Stopping.{plan_of, after_writes}
 use Rattle.stop_trials.proofs.stopping.StoppingDiskSectorDisk.write_page.Given as goal
 
 abbrev pub invariant-loop-i : goal.invariant-loop-i
 invariant-loop-i l = record {
+  asks : Names (IsAmong l.n l.i) (asked_of l.initial.self.disk) (asked_of l.self.disk);
   size : sectors_in l.self.disk ≡ sectors_in l.initial.self.disk;
   later : failures_of l.initial.self.disk ≤ failures_of l.self.disk;
   caused : l.failed ≡ true → failures_of l.initial.self.disk < failures_of l.self.disk;

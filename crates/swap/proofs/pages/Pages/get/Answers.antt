@@ -1,6 +1,8 @@
 use Rattle.std.proofs.Common.{◌≡◌, ◌+◌, ◌*◌, ◌<◌, ℕ, subst}
 use Rattle.std.proofs.lemmas.Result.{on_ok_weaker}
 use Rattle.disk_model.specs.Sectors.{part_of}
+use Rattle.disk_model.specs.Stop.{IsOfPage}
+use Rattle.disk_model.proofs.Moments.{asks_named}
 use Rattle.swap.proofs.Written.{gives_written}
 use Rattle.swap.proofs.pages.Pages.get.Goals as goal
 
@@ -10,3 +12,8 @@ returns-clause-gives g c k =
     on_ok_weaker c.read_page.result
     (λ read. gives_written g.D.SectorDisk c.args.n c.args.self.now.disk c.args.self.now.written.notes c.read_page.new.to c.read_page.array_long c.requires.as_written (c.read_page.ensures.kept k) (subst P c.from.ensures read))
     (c.read_page.ensures.gives k)
+
+pub returns-clause-asks : goal.returns-clause-asks
+returns-clause-asks g c =
+    asks_named g.D.SectorDisk (IsOfPage (8 * c.args.n)) (IsOfPage (8 * c.from.result)) c.args.self.now.disk c.read_page.new.self
+    (λ k inside. subst (λ n. IsOfPage (8 * n) k) c.from.ensures inside) c.read_page.ensures.asks

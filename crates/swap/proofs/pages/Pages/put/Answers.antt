@@ -1,7 +1,8 @@
 use Rattle.std.proofs.Common.{◌≡◌, ◌<◌, ◌+◌, ◌*◌, ℕ, List, [], ◌∷◌, refl, sym, subst, ◌∙◌, Some}
 use Rattle.disk_model.specs.Note.{Note}
-use Rattle.disk_model.specs.Stop.{ChangesPage}
+use Rattle.disk_model.specs.Stop.{ChangesPage, IsOfPage}
 use Rattle.disk_model.specs.Sectors.{part_of}
+use Rattle.disk_model.proofs.Moments.{asks_named}
 use Rattle.swap.specs.Written.{written_in, IsAsWritten}
 use Rattle.swap.proofs.Written.{rows_make, written_lost, written_new, noted-here}
 use Rattle.swap.proofs.pages.Pages.put.Goals as goal
@@ -50,3 +51,13 @@ pub returns-in_err-write_page-clause-sectors : goal.returns-in_err-write_page-cl
 returns-in_err-write_page-clause-sectors g c =
     let W : ℕ → Type 0 = λ x. g.D.SectorDisk.keeps_model c.write_page.new.self → ChangesPage (8 * x) (g.D.SectorDisk.content c.args.self.now.disk) (g.D.SectorDisk.content c.write_page.new.self) in
     subst W c.from-2.ensures c.write_page.ensures.others
+
+pub returns-clause-asks : goal.returns-clause-asks
+returns-clause-asks g c =
+    asks_named g.D.SectorDisk (IsOfPage (8 * c.args.n)) (IsOfPage (8 * c.from-2.result)) c.args.self.now.disk c.write_page.new.self
+    (λ k inside. subst (λ n. IsOfPage (8 * n) k) c.from-2.ensures inside) c.write_page.ensures.asks
+
+pub returns-in_err-write_page-clause-asks : goal.returns-in_err-write_page-clause-asks
+returns-in_err-write_page-clause-asks g c =
+    asks_named g.D.SectorDisk (IsOfPage (8 * c.args.n)) (IsOfPage (8 * c.from-2.result)) c.args.self.now.disk c.write_page.new.self
+    (λ k inside. subst (λ n. IsOfPage (8 * n) k) c.from-2.ensures inside) c.write_page.ensures.asks

@@ -1,6 +1,7 @@
-use Rattle.std.proofs.Common.{[], arith}
+use Rattle.std.proofs.Common.{[], refl, arith}
 use Rattle.disk_model.proofs.Moments.{stays}
-use Rattle.sync_journal.specs.Layout.{IsJournalSector}
+use Rattle.disk_model.proofs.Naming.{once_none}
+use Rattle.sync_journal.specs.Layout.{IsJournalSector, IsFinished}
 use Rattle.sync_journal.specs.Journal.{live_homes}
 use Rattle.sync_journal.proofs.Phases.{while_staging, staged_settled}
 use Rattle.sync_journal.proofs.Rests.{rest_quiet, none_live}
@@ -19,3 +20,6 @@ returns-else-self-gt0-clause-settled g c = λ keeps.
     (λ image left. g.met.D.SectorDisk.only_now c.args.disk.now image keeps left) c.requires.live
     (rest_quiet g.D.SectorDisk (live_homes c.args.self.now) c.args.disk.now (none_live c.args.self.now (omega (arith, c.if-self-gt0.false))) (c.requires.rest keeps))
     (stays g.D.SectorDisk IsJournalSector c.args.disk.now)
+
+pub returns-else-self-gt0-clause-asks : goal.returns-else-self-gt0-clause-asks
+returns-else-self-gt0-clause-asks g c = once_none (IsFinished (live_homes c.args.self.now)) (g.D.SectorDisk.asked c.args.disk.now) (g.D.SectorDisk.asked c.args.disk.now) (λ k. refl)

@@ -1,5 +1,9 @@
-use Rattle.std.proofs.Common.{◌∙◌}
+use Rattle.std.proofs.Common.{subst, ◌∙◌}
 use Rattle.std.proofs.lemmas.Result.{on_ok_weaker}
+use Rattle.disk_model.proofs.Moments.{asks_named}
+use Rattle.sync_journal.specs.Layout.{IsPageSector}
+use Rattle.sync_journal.specs.Map.{place_of}
+use Rattle.sync_journal.specs.Standing.{place_or_home}
 use Rattle.sync_journal.specs.Journal.{live_homes}
 use Rattle.sync_journal.proofs.Rests.{page_stands, rest_read}
 use Rattle.sync_journal.proofs.journal.Journal.read.Goals as goal
@@ -13,3 +17,8 @@ returns-clause-page g c = λ keeps. on_ok_weaker c.read_page.result
 pub returns-clause-rest : goal.returns-clause-rest
 returns-clause-rest g c = λ keeps. rest_read g.D.SectorDisk (live_homes c.args.self.now) c.args.disk.now c.read_page.new.disk (c.read_page.ensures.touches keeps)
     (c.requires.rest (c.read_page.ensures.kept keeps))
+
+pub returns-clause-asks : goal.returns-clause-asks
+returns-clause-asks g c =
+    asks_named g.D.SectorDisk (IsPageSector (place_or_home c.args.home (place_of (live_homes c.args.self.now) c.args.home))) (IsPageSector c.stands_at.result) c.args.disk.now c.read_page.new.disk
+    (λ k inside. subst (λ first. IsPageSector first k) c.stands_at.ensures.at inside) c.read_page.ensures.asks

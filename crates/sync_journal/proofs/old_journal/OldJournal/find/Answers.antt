@@ -1,7 +1,7 @@
-use Rattle.std.proofs.Common.{◌≡◌, false, length, take, sym, ap, subst, ◌∙◌, arith}
+use Rattle.std.proofs.Common.{◌≡◌, length, take, sym, ap, subst, ◌∙◌, arith}
 use Rattle.disk_model.specs.Stop.{Image}
 use Rattle.sync_journal.specs.Layout.{layout_1, map_sector, home_count_in}
-use Rattle.sync_journal.specs.Gate.{is_open, is_open_sector}
+use Rattle.sync_journal.specs.Gate.{is_open_sector}
 use Rattle.sync_journal.specs.Map.{IsBadMap}
 use Rattle.sync_journal.proofs.Maps.{one_sector}
 use Rattle.sync_journal.proofs.OldJournals.{closed_at, open_at, open_read, good_read}

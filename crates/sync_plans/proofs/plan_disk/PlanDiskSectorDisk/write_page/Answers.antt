@@ -1,5 +1,7 @@
 use Rattle.std.proofs.Common.{◌≡◌, ◌<◌, ◌+◌, ⊎_elim, inr, sym, subst, ◌∙◌, arith}
 use Rattle.std.proofs.lemmas.Bool.{cases_eq}
+use Rattle.disk_model.specs.Stop.{Names, IsOfPage}
+use Rattle.disk_model.specs.Asked.{times_named}
 use Rattle.disk_model.specs.Sectors.{part_of}
 use Rattle.disk_model.proofs.Pages.{more_time, carried}
 use Rattle.sync_plans.specs.PlanDisk.{content_of, unsynced_in, moment_of, left_in}
@@ -9,19 +11,20 @@ pub loop-i-preserved : goal.loop-i-preserved
 loop-i-preserved c =
     let old = c.args.self.now in
     let mid = c.loop-i.self in
-    let new = c.write.new.self in
-    let w = c.write.ensures in
+    let new = c.put.new.self in
+    let w = c.put.ensures in
     let inv = c.loop-i.invariant in
     let i = c.loop-i.i in
     let at = c.args.n + i in
     let below : i < 8 = let len = c.parts-sector-items.ensures.len in omega (arith, c.loop-i-test.true, len) in
     record {
+      asked = w.asked ∙ inv.asked;
       size = w.size ∙ inv.size;
       kept = λ k. inv.kept (w.kept k);
-      calm = c.in_ok-write.ensures.cause.calm ∙ inv.calm;
+      calm = c.in_ok-put.ensures.cause.calm ∙ inv.calm;
       written = λ k j less. ⊎_elim
           (λ same. subst (λ m. content_of new (c.args.n + m) ≡ part_of c.args.from.now m) (sym same)
-          (c.in_ok-write.ensures.written k ∙ c.parts-sector-items.ensures.each i (let len = c.parts-sector-items.ensures.len in omega (arith, c.loop-i-test.true, len))))
+          (c.in_ok-put.ensures.written k ∙ c.parts-sector-items.ensures.each i (let len = c.parts-sector-items.ensures.len in omega (arith, c.loop-i-test.true, len))))
           (λ other. (w.others k).others (c.args.n + j) (λ e. other (omega (arith, e))) ∙ inv.written (w.kept k) j (omega (arith, less, other)))
           (cases_eq j i);
       others = λ k. record { others = λ m out. (w.others k).others m (λ e. out (omega (arith, e), omega (arith, e, below))) ∙ (inv.others (w.kept k)).others m out };
@@ -32,3 +35,11 @@ loop-i-preserved c =
       time = λ k. more_time (moment_of old) (moment_of mid) (moment_of new) (left_in old) (left_in mid) (left_in new) (content_of mid) (content_of new) (unsynced_in mid) (unsynced_in new)
           (inv.time (w.kept k)) (w.time k) (carried at (content_of mid) (content_of new) (unsynced_in mid) (unsynced_in new) (w.others k) (w.still k) (w.marked k));
     }
+
+pub returns-in_err-put-clause-asks : goal.returns-in_err-put-clause-asks
+returns-in_err-put-clause-asks c =
+    subst (λ asked. Names (IsOfPage c.args.n) (times_named c.args.self.now.asked) (times_named asked)) (sym (c.put.ensures.asked ∙ c.loop-i.invariant.asked)) c.page.ensures
+
+pub returns-clause-asks : goal.returns-clause-asks
+returns-clause-asks c =
+    subst (λ asked. Names (IsOfPage c.args.n) (times_named c.args.self.now.asked) (times_named asked)) (sym c.loop-i.invariant.asked) c.page.ensures

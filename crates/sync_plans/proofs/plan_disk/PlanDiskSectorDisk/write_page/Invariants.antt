@@ -6,6 +6,7 @@ use Rattle.sync_plans.proofs.plan_disk.PlanDiskSectorDisk.write_page.Given as go
 
 abbrev pub invariant-loop-i : goal.invariant-loop-i
 invariant-loop-i l = record {
+  asked : l.self.asked ≡ l.initial.self.asked;
   size : length l.self.image.now ≡ length l.initial.self.image.now;
   kept : l.self.full ≡ false → l.initial.self.full ≡ false;
   calm : l.self.failures.number ≡ l.initial.self.failures.number;

@@ -1,7 +1,7 @@
 use Rattle.std.proofs.Common.{refl}
 use Rattle.sync_plans.specs.Plans.{row}
 use Rattle.sync_plans.proofs.Growth.{time, changes, unsynced_by, still_unsynced}
-use Rattle.sync_plans.proofs.plan_disk.PlanDiskSectorDisk.write.Goals as goal
+use Rattle.sync_plans.proofs.plan_disk.PlanDisk.put.Goals as goal
 
 pub returns-clause-others : goal.returns-clause-others
 returns-clause-others c = λ k. rw c.list.ensures.image (changes (row c.args.self.now.image.now) (c.list.ensures.lists k) c.args.n refl)

@@ -1,10 +1,10 @@
 //! Two lives of a store on a device in memory, the second of which is stopped in the gate of its msync.
-use crate::{
+use disk_model::{SectorDisk, SimDisk};
+use file_store::{FileSource, format};
+use lives::{
     boot_after_lives, flat_run, formatted_lives, live, lives_boot, lives_in_a_row, new_store,
     one_content, one_more_life, trace_life, two_lives, upgraded_lives, upgraded_store,
 };
-use disk_model::{SectorDisk, SimDisk};
-use file_store::{FileSource, format};
 use machine::Config;
 use std::alloc::Global;
 use std::fmt::Debug;
