@@ -4,6 +4,7 @@ use Rattle.std.proofs.Common.{ℕ, ◌≡◌, ◌≢◌, ◌⊎◌, ◌/◌, tru
 use Rattle.disk_model.specs.declared.sector_disk.SectorDisk.{Ghosts}
 use Rattle.page_faults.specs.declared.refusal.AccessRefusal.{AccessRefusal}
 use Rattle.page_faults.specs.declared.refusal.AccessRefusal.TheVariants as Refusal
+use Rattle.page_faults.specs.Asking.{AsksForPage}
 use Rattle.page_faults.specs.Outcome.{IsRefusal}
 use Rattle.frames.specs.FrameTable.{bytes_of, with_bytes}
 use Rattle.page_faults.specs.Wants.{Wants, ReadsHome, RefusesAccess, ShowsFile}
@@ -24,10 +25,10 @@ use Rattle.vm_types.specs.Width.{byte_count}
 use Rattle.calls.specs.Accesses.{answer_of, AsksFor, WritesNumber}
 use Rattle.calls.proofs.Refusals.{no_stall, same_stall}
 
-module _ {M : Type 0} {m : Levels.Ghosts M} {D E : Type 0} (old new : Core D E M m) (pid addr : ℕ) (access : Access) (read : (new.store ≡ old.store) ⊎ ReadsHome (picture_of old) pid (addr / 4096))
+module _ {M : Type 0} {m : Levels.Ghosts M} {D E : Type 0} (g : Ghosts D) (h : Ghosts E) (old new : Core D E M m) (pid addr : ℕ) (access : Access) (read : (new.store ≡ old.store) ⊎ ReadsHome (picture_of old) pid (addr / 4096))
     (slots : (Wants (picture_of old) pid (addr / 4096) access → ⊥) → new.swap ≡ old.swap)
-    (slotted : KeepsSlotted (ShowsFile (picture_of old) pid (addr / 4096)) (IsThatPage pid (addr / 4096)) (picture_of old) (picture_of new)) where
-  pub asks_unstalled : (reply : Reply) → ((stall : Stall) → reply ≡ Stalled stall → ⊥) → AsksFor old new pid addr access reply
+    (slotted : KeepsSlotted (ShowsFile (picture_of old) pid (addr / 4096)) (IsThatPage pid (addr / 4096)) (picture_of old) (picture_of new)) (sectors : AsksForPage g h old new pid (addr / 4096)) where
+  pub asks_unstalled : (reply : Reply) → ((stall : Stall) → reply ≡ Stalled stall → ⊥) → AsksFor g h old new pid addr access reply
   asks_unstalled reply none = record {
     wanted = λ stall e. absurd (none stall e);
     refused = λ stall e. absurd (none stall e);
@@ -35,13 +36,14 @@ module _ {M : Type 0} {m : Levels.Ghosts M} {D E : Type 0} (old new : Core D E M
     read = read;
     slots = slots;
     slotted = slotted;
+    sectors = sectors;
   }
 
   -- an access without a place
-  pub asks_refused : (g : Ghosts D) (h : Ghosts E) (width : Width) (refusal : AccessRefusal) → IsRefusal g h old new pid addr width access refusal
-      → AsksFor old new pid addr access (reply_of (answer_of refusal))
-  asks_refused g h width (Refusal.Fault fault) is = asks_unstalled (Faulted fault) (no_stall fault)
-  asks_refused g h width (Refusal.Stall stall) is = record {
+  pub asks_refused : (width : Width) (refusal : AccessRefusal) → IsRefusal g h old new pid addr width access refusal
+      → AsksFor g h old new pid addr access (reply_of (answer_of refusal))
+  asks_refused width (Refusal.Fault fault) is = asks_unstalled (Faulted fault) (no_stall fault)
+  asks_refused width (Refusal.Stall stall) is = record {
     wanted = λ other e. is.stalled.wanted;
     refused = λ other e. (
         let P : Stall → Type 0 = λ x. x ≢ StoreDevice → RefusesAccess (picture_of new) pid (addr / 4096) access x in
@@ -50,6 +52,7 @@ module _ {M : Type 0} {m : Levels.Ghosts M} {D E : Type 0} (old new : Core D E M
     read = read;
     slots = slots;
     slotted = slotted;
+    sectors = sectors;
   }
 
 -- the tables of no process grant nothing

@@ -77,6 +77,9 @@ module _ (mode : ℕ) (first pages start count : ℕ) (from : start ≡ min firs
   in_both : (page : ℕ) → in_row start count page ≡ true → in_row first pages page ≡ true
   in_both page e = grind (arith, nat_tests)
 
+  pub beside_part : (page : ℕ) → in_row first pages page ≡ false → in_row start count page ≡ false
+  beside_part page out = grind (arith, nat_tests)
+
   past_end : (page : ℕ) → in_row start count page ≡ false → in_row first pages page ≡ true → user_end mode ≤ page
   past_end page out e = grind (arith, nat_tests)
 

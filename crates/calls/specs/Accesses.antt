@@ -1,8 +1,10 @@
 -- What an access returns where it has no place, and what it asks for.
 use Rattle.vm_types.specs.declared.mode.Levels as Levels
 use Rattle.std.specs.Prelude.{ℕ, ◌≡◌, ◌≢◌, ◌⊎◌, ◌/◌}
+use Rattle.disk_model.specs.declared.sector_disk.SectorDisk.{Ghosts}
 use Rattle.page_faults.specs.declared.refusal.AccessRefusal.{AccessRefusal}
 use Rattle.page_faults.specs.declared.refusal.AccessRefusal.TheVariants as Refusal
+use Rattle.page_faults.specs.Asking.{AsksForPage}
 use Rattle.frames.specs.FrameTable.{bytes_of, with_bytes}
 use Rattle.page_faults.specs.Wants.{Wants, ReadsHome, RefusesAccess, ShowsFile}
 use Rattle.paging.specs.declared.kernel.Core.{Core}
@@ -22,7 +24,7 @@ abbrev pub answer_of : AccessRefusal → Answer
 answer_of (Refusal.Fault fault) = Faulted fault
 answer_of (Refusal.Stall stall) = Stalled stall
 
-module _ {M : Type 0} {m : Levels.Ghosts M} {D E : Type 0} where
+module _ {M : Type 0} {m : Levels.Ghosts M} {D E : Type 0} (g : Ghosts D) (h : Ghosts E) where
   -- What an access that returns this asks for: it stalls only where a frame is wanted, and for want of frames or slots only where none
   -- could be given up but the one that it copies, and for the store's device only where its page is to be read from its home; the store is
   -- read there alone, slots are asked for and read only where a frame is wanted, and no other page comes back from one.
@@ -33,7 +35,10 @@ module _ {M : Type 0} {m : Levels.Ghosts M} {D E : Type 0} where
     pub read : (new.store ≡ old.store) ⊎ ReadsHome (picture_of old) pid (addr / 4096)
     pub slots : (Wants (picture_of old) pid (addr / 4096) access → ⊥) → new.swap ≡ old.swap
     pub slotted : KeepsSlotted (ShowsFile (picture_of old) pid (addr / 4096)) (IsThatPage pid (addr / 4096)) (picture_of old) (picture_of new)
+    -- the devices are asked for sectors of this page, and swap for those of free slots where a frame may be given up that needs one
+    pub sectors : AsksForPage g h old new pid (addr / 4096)
 
+module _ {M : Type 0} {m : Levels.Ghosts M} {D E : Type 0} where
   -- a number was written into frame n from that byte of it on, and nothing else changed
   pub record WritesNumber (old new : Core D E M m) (n offset : ℕ) (stored : StoredValue) : Type 0 where
     pub frames : new.frames ≡ with_bytes old.frames n (with_number (bytes_of old.frames n) offset (byte_count stored.width) stored.value)

@@ -1,10 +1,13 @@
 -- What an exit and the calls on a range leave of memory: they give back and take nothing.
-use Rattle.std.specs.Prelude.{ℕ, ◌≡◌, ◌⊎◌, ◌/◌}
+use Rattle.std.specs.Prelude.{ℕ, ◌≡◌, ◌⊎◌, ◌/◌, false}
 use Rattle.lifecycle.specs.Changes.{TakesNoFrame}
 use Rattle.page_cache.specs.declared.place.Place.TheVariants.{Home}
 use Rattle.page_ranges.specs.Rows.{IsLasting, without_maps}
 use Rattle.page_ranges.specs.Steps.{KeepsEntriesOfOthers}
-use Rattle.paging.specs.Picture.{Picture}
+use Rattle.page_tables.specs.Tree.{IsPage}
+use Rattle.paging.specs.Picture.{Picture, entry}
+use Rattle.vm_types.specs.Limits.{top_level}
+use Rattle.vm_types.specs.Rows.{in_row}
 use Rattle.vm_types.specs.declared.object.ObjectPage.{ObjectPage}
 use Rattle.vm_types.specs.declared.object.PageKey.{PageKey}
 use Rattle.vm_types.specs.declared.object.PageKey.TheVariants.{Object}
@@ -36,3 +39,9 @@ module _ {mode : ℕ} where
     pub gone : (p : ObjectPage) → (new.place (Object p) ≡ old.place (Object p)) ⊎ (new.place (Object p) ≡ Home)
     -- each page of every other process has the entry that it had
     pub others : KeepsEntriesOfOthers old new pid
+
+-- each page of the process but the `pages` pages from `first` on has the entry that it had
+module _ {mode : ℕ} where
+  abbrev pub KeepsEntriesBeside : Picture mode → Picture mode → ℕ → ℕ → ℕ → Type 0
+  KeepsEntriesBeside old new pid first pages =
+      (page : ℕ) → IsPage (top_level mode) page → in_row first pages page ≡ false → entry new pid page ≡ entry old pid page

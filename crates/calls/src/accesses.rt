@@ -83,7 +83,7 @@ fn read<D: SectorDisk, E: SectorDisk, M: Levels>(
     ensures device { UsesDevice E.SectorDisk core.old.swap.pages.disk core.new.swap.pages.disk }
     ensures denied { is_denial (reply_of result) ≡ true → core.new ≡ core.old }
     ensures walked { (place : Phys) → IsWalked (picture_of core.old) pid addr width kind place → core.new ≡ core.old }
-    ensures asks { AsksFor core.old core.new pid addr kind (reply_of result) }
+    ensures asks { AsksFor D.SectorDisk E.SectorDisk core.old core.new pid addr kind (reply_of result) }
     ensures others { KeepsOtherViews (picture_of core.old) (picture_of core.new) pid (addr / 4096) }
     ensures room { KeepsRoom (picture_of core.old) (picture_of core.new) }
     ensures caused { IsCaused D.SectorDisk E.SectorDisk core.old core.new (reply_of result) }
@@ -124,7 +124,7 @@ pub fn load<D: SectorDisk, E: SectorDisk, M: Levels>(
     ensures device { UsesDevice E.SectorDisk core.old.swap.pages.disk core.new.swap.pages.disk }
     ensures denied { is_denial (reply_of result) ≡ true → core.new ≡ core.old }
     ensures walked { (place : Phys) → IsWalked (picture_of core.old) pid addr width Access.Load place → core.new ≡ core.old }
-    ensures asks { AsksFor core.old core.new pid addr Access.Load (reply_of result) }
+    ensures asks { AsksFor D.SectorDisk E.SectorDisk core.old core.new pid addr Access.Load (reply_of result) }
     ensures others { KeepsOtherViews (picture_of core.old) (picture_of core.new) pid (addr / 4096) }
     ensures room { KeepsRoom (picture_of core.old) (picture_of core.new) }
     ensures caused { IsCaused D.SectorDisk E.SectorDisk core.old core.new (reply_of result) }
@@ -147,7 +147,7 @@ pub fn fetch<D: SectorDisk, E: SectorDisk, M: Levels>(
     ensures device { UsesDevice E.SectorDisk core.old.swap.pages.disk core.new.swap.pages.disk }
     ensures denied { is_denial (reply_of result) ≡ true → core.new ≡ core.old }
     ensures walked { (place : Phys) → IsWalked (picture_of core.old) pid addr Four Access.Fetch place → core.new ≡ core.old }
-    ensures asks { AsksFor core.old core.new pid addr Access.Fetch (reply_of result) }
+    ensures asks { AsksFor D.SectorDisk E.SectorDisk core.old core.new pid addr Access.Fetch (reply_of result) }
     ensures others { KeepsOtherViews (picture_of core.old) (picture_of core.new) pid (addr / 4096) }
     ensures room { KeepsRoom (picture_of core.old) (picture_of core.new) }
     ensures caused { IsCaused D.SectorDisk E.SectorDisk core.old core.new (reply_of result) }
@@ -172,7 +172,7 @@ pub fn store<D: SectorDisk, E: SectorDisk, M: Levels>(
     ensures device { UsesDevice E.SectorDisk core.old.swap.pages.disk core.new.swap.pages.disk }
     ensures denied { is_denial (reply_of result) ≡ true → core.new ≡ core.old }
     ensures walked { (place : Phys) → IsWalked (picture_of core.old) pid addr stored.width Access.Store place → WritesNumber core.old core.new (place.0 / 4096) (addr % 4096) stored }
-    ensures asks { AsksFor core.old core.new pid addr Access.Store (reply_of result) }
+    ensures asks { AsksFor D.SectorDisk E.SectorDisk core.old core.new pid addr Access.Store (reply_of result) }
     ensures others { KeepsOtherViews (picture_of core.old) (picture_of core.new) pid (addr / 4096) }
     ensures room { KeepsRoom (picture_of core.old) (picture_of core.new) }
     ensures caused { IsCaused D.SectorDisk E.SectorDisk core.old core.new (reply_of result) }

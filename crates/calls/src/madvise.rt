@@ -1,5 +1,6 @@
 //! madvise with MADV_DONTNEED.
-ghost use Rattle.std.specs.Prelude.{◌≡◌, true};
+ghost use Rattle.std.specs.Prelude.{◌≡◌, ◌/◌, true};
+ghost use Rattle.vm_types.specs.Checks.{page_count};
 ghost use Rattle.vm_types.specs.Replies.{reply_of};
 ghost use Rattle.vm_types.specs.declared.command.Command.TheVariants.{Dontneed};
 ghost use Rattle.mapping.specs.Changes.{KeepsRoom};
@@ -8,7 +9,7 @@ ghost use Rattle.msync.specs.Shows.{IsSoundCore};
 ghost use Rattle.paging.specs.Picture.{picture_of};
 ghost use Rattle.calls.specs.Calls.{Carries, IsCaused};
 ghost use Rattle.calls.specs.Idle.{is_denial};
-ghost use Rattle.calls.specs.Ranges.{TakesNothing};
+ghost use Rattle.calls.specs.Ranges.{KeepsEntriesBeside, TakesNothing};
 
 use crate::space::PAGE;
 use disk_model::SectorDisk;
@@ -33,6 +34,7 @@ pub fn dontneed<D: SectorDisk, E: SectorDisk, M: Levels>(
     ensures comes { Carries D.SectorDisk E.SectorDisk core.old core.new (Dontneed pid addr len) (reply_of result) }
     ensures devices { KeepsDevices core.old core.new }
     ensures takes { TakesNothing (picture_of core.old) (picture_of core.new) pid 0 0 }
+    ensures beside { KeepsEntriesBeside (picture_of core.old) (picture_of core.new) pid (addr / 4096) (page_count len) }
     ensures denied { is_denial (reply_of result) ≡ true → core.new ≡ core.old }
     ensures room { KeepsRoom (picture_of core.old) (picture_of core.new) }
     ensures caused { IsCaused D.SectorDisk E.SectorDisk core.old core.new (reply_of result) }

@@ -19,7 +19,7 @@ ghost use Rattle.paging.specs.Picture.{picture_of};
 ghost use Rattle.paging.specs.Parts.{IsFit};
 ghost use Rattle.calls.specs.Calls.{Carries, IsCaused};
 ghost use Rattle.calls.specs.Idle.{is_denial};
-ghost use Rattle.calls.specs.Ranges.{TakesNothing, first_mapped};
+ghost use Rattle.calls.specs.Ranges.{KeepsEntriesBeside, TakesNothing, first_mapped};
 ghost use Rattle.calls.specs.Mappings.{mmap_asked_checks, file_checks, place_checks, IsAsked, MapsPages, IsNumbered, FitsFile, attr_there};
 ghost use Rattle.calls.specs.Space.{space_of};
 
@@ -294,6 +294,7 @@ pub fn mmap<D: SectorDisk, E: SectorDisk, M: Levels>(
     ensures comes { Carries D.SectorDisk E.SectorDisk core.old core.new (Mmap pid addr len prot source placing) (reply_of result) }
     ensures devices { KeepsDevices core.old core.new }
     ensures takes { TakesNothing (picture_of core.old) (picture_of core.new) pid (first_mapped (reply_of result)) (page_count len) }
+    ensures beside { KeepsEntriesBeside (picture_of core.old) (picture_of core.new) pid (first_mapped (reply_of result)) (page_count len) }
     ensures denied { is_denial (reply_of result) ≡ true → core.new ≡ core.old }
     ensures room { KeepsRoom (picture_of core.old) (picture_of core.new) }
     ensures caused { IsCaused D.SectorDisk E.SectorDisk core.old core.new (reply_of result) }

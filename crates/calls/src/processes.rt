@@ -1,8 +1,10 @@
 //! Processes that come and go.
-ghost use Rattle.std.specs.Prelude.{◌≡◌, true};
+ghost use Rattle.std.specs.Prelude.{◌≡◌, true, None};
+ghost use Rattle.disk_model.specs.Moments.{Nothing};
 ghost use Rattle.vm_types.specs.Limits.{user_end};
 ghost use Rattle.vm_types.specs.Replies.{reply_of};
 ghost use Rattle.vm_types.specs.declared.command.Command.TheVariants.{Spawn, Fork, Exit};
+ghost use Rattle.mapping.specs.Asking.{AsksSlots};
 ghost use Rattle.mapping.specs.Changes.{KeepsRoom};
 ghost use Rattle.page_ranges.specs.Steps.{KeepsDevices};
 ghost use Rattle.msync.specs.Shows.{IsSoundCore};
@@ -30,6 +32,7 @@ pub fn spawn<D: SectorDisk, E: SectorDisk, M: Levels>(core: &mut Core<D, E, M>) 
     ensures takes { SpawnTakes (picture_of core.old) (picture_of core.new) (reply_of result) }
     ensures store { core.new.store ≡ core.old.store }
     ensures device { UsesDevice E.SectorDisk core.old.swap.pages.disk core.new.swap.pages.disk }
+    ensures asks { AsksSlots E.SectorDisk core.old core.new None Nothing }
     ensures denied { is_denial (reply_of result) ≡ true → core.new ≡ core.old }
     ensures room { KeepsRoom (picture_of core.old) (picture_of core.new) }
     ensures caused { IsCaused D.SectorDisk E.SectorDisk core.old core.new (reply_of result) }
@@ -55,6 +58,7 @@ pub fn fork<D: SectorDisk, E: SectorDisk, M: Levels>(core: &mut Core<D, E, M>, p
     ensures takes { ForkTakes (picture_of core.old) (picture_of core.new) pid (reply_of result) }
     ensures store { core.new.store ≡ core.old.store }
     ensures device { UsesDevice E.SectorDisk core.old.swap.pages.disk core.new.swap.pages.disk }
+    ensures asks { AsksSlots E.SectorDisk core.old core.new None Nothing }
     ensures denied { is_denial (reply_of result) ≡ true → core.new ≡ core.old }
     ensures room { KeepsRoom (picture_of core.old) (picture_of core.new) }
     ensures caused { IsCaused D.SectorDisk E.SectorDisk core.old core.new (reply_of result) }

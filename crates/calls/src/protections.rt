@@ -1,8 +1,8 @@
 //! mprotect.
-ghost use Rattle.std.specs.Prelude.{◌≡◌, ◌+◌, ◌<◌, ◌^◌, Some, OnOk, IfErr, true};
+ghost use Rattle.std.specs.Prelude.{◌≡◌, ◌+◌, ◌/◌, ◌<◌, ◌^◌, Some, OnOk, IfErr, true};
 ghost use Rattle.file_store.specs.Store.{files_of};
 ghost use Rattle.vm_types.specs.Replies.{reply_of};
-ghost use Rattle.vm_types.specs.Checks.{first_of};
+ghost use Rattle.vm_types.specs.Checks.{first_of, page_count};
 ghost use Rattle.vm_types.specs.Counting.{any_below};
 ghost use Rattle.vm_types.specs.Ranges.{denies_stores, is_guarded, is_guarded_page};
 ghost use Rattle.vm_types.specs.declared.command.Command.TheVariants.{Mprotect};
@@ -12,7 +12,7 @@ ghost use Rattle.msync.specs.Shows.{IsSoundCore};
 ghost use Rattle.paging.specs.Picture.{picture_of};
 ghost use Rattle.calls.specs.Calls.{Carries, IsCaused};
 ghost use Rattle.calls.specs.Idle.{is_denial};
-ghost use Rattle.calls.specs.Ranges.{TakesNothing};
+ghost use Rattle.calls.specs.Ranges.{KeepsEntriesBeside, TakesNothing};
 ghost use Rattle.calls.specs.Protections.{permit_checks, IsPermitted};
 ghost use Rattle.calls.specs.Space.{space_of};
 
@@ -122,6 +122,7 @@ pub fn mprotect<D: SectorDisk, E: SectorDisk, M: Levels>(
     ensures comes { Carries D.SectorDisk E.SectorDisk core.old core.new (Mprotect pid addr len prot) (reply_of result) }
     ensures devices { KeepsDevices core.old core.new }
     ensures takes { TakesNothing (picture_of core.old) (picture_of core.new) pid 0 0 }
+    ensures beside { KeepsEntriesBeside (picture_of core.old) (picture_of core.new) pid (addr / 4096) (page_count len) }
     ensures swap { core.new.swap ≡ core.old.swap }
     ensures denied { is_denial (reply_of result) ≡ true → core.new ≡ core.old }
     ensures room { KeepsRoom (picture_of core.old) (picture_of core.new) }

@@ -1,6 +1,7 @@
 //! The child's tables.
 ghost use Rattle.std.specs.Prelude.{◌≡◌, ◌≢◌, ℕ, ◌+◌, ◌*◌, ◌/◌, ◌<◌, ◌≤◌, ◌^◌, true, false, Option, None, OnOk, OnErr, IfOk, IfErr, IfSome, IfNone};
 ghost use Rattle.vm_types.specs.Limits.{user_end, table_entries};
+ghost use Rattle.disk_model.specs.Moments.{Nothing};
 ghost use Rattle.frames.specs.declared.role.Role.TheVariants.{Private};
 ghost use Rattle.frames.specs.FrameTable.{role_of, IsFull};
 ghost use Rattle.page_tables.specs.Entry.{number_of, IsEntry};
@@ -13,6 +14,7 @@ ghost use Rattle.paging.specs.Stalls.{HasStallCause};
 ghost use Rattle.paging.specs.Capacity.{IsShort};
 ghost use Rattle.paging.specs.Ages.{GivesForTables};
 ghost use Rattle.mapping.specs.Changes.{IsWhole, KeepsBare, Moves};
+ghost use Rattle.mapping.specs.Asking.{AsksNoNew, AsksSlots};
 ghost use Rattle.page_ranges.specs.Steps.{IsStepEnd};
 ghost use Rattle.copy_on_write.specs.Steps.{HasCopy, HasTables, HasTablesFrom, LacksTableForCopy, LinksCopies, IsMappedRow};
 
@@ -53,6 +55,8 @@ pub fn link_copies<D, E: SectorDisk, M: Levels>(
     ensures gives { OnOk result (GivesForTables (picture_of core.old) (picture_of core.new) None) }
     ensures tried { OnErr result ((tried : Option ℕ) × GivesForTables (picture_of core.old) (picture_of core.new) tried) }
     ensures tables { LinksCopies (picture_of core.old) (picture_of core.new) parent child }
+    ensures asks { AsksSlots E.SectorDisk core.old core.new None Nothing }
+    ensures asks_later { AsksNoNew (picture_of core.old) (picture_of core.new) None Nothing }
     ensures full { OnErr result (IsFull core.new.frames) }
     ensures refuses { IfErr result (Refuses (picture_of core.new) None) }
     ensures no_copy { (n : ℕ) → role_of core.new.frames n ≡ Private → role_of core.old.frames n ≡ Private }
@@ -93,6 +97,8 @@ fn link_run<D, E: SectorDisk, M: Levels>(
     ensures gives { OnOk result (GivesForTables (picture_of core.old) (picture_of core.new) None) }
     ensures tried { OnErr result ((tried : Option ℕ) × GivesForTables (picture_of core.old) (picture_of core.new) tried) }
     ensures tables { LinksCopies (picture_of core.old) (picture_of core.new) parent child }
+    ensures asks { AsksSlots E.SectorDisk core.old core.new None Nothing }
+    ensures asks_later { AsksNoNew (picture_of core.old) (picture_of core.new) None Nothing }
     ensures full { OnErr result (IsFull core.new.frames) }
     ensures refuses { IfErr result (Refuses (picture_of core.new) None) }
     ensures no_copy { (n : ℕ) → role_of core.new.frames n ≡ Private → role_of core.old.frames n ≡ Private }
@@ -135,6 +141,8 @@ fn link_next<D, E: SectorDisk, M: Levels>(
     ensures gives { OnOk result (GivesForTables (picture_of core.old) (picture_of core.new) None) }
     ensures tried { OnErr result ((tried : Option ℕ) × GivesForTables (picture_of core.old) (picture_of core.new) tried) }
     ensures tables { LinksCopies (picture_of core.old) (picture_of core.new) parent child }
+    ensures asks { AsksSlots E.SectorDisk core.old core.new None Nothing }
+    ensures asks_later { AsksNoNew (picture_of core.old) (picture_of core.new) None Nothing }
     ensures full { OnErr result (IsFull core.new.frames) }
     ensures refuses { IfErr result (Refuses (picture_of core.new) None) }
     ensures no_copy { (n : ℕ) → role_of core.new.frames n ≡ Private → role_of core.old.frames n ≡ Private }

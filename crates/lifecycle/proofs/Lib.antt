@@ -9,3 +9,4 @@ pub mod Copying
 pub mod Taking
 pub mod Stalling
 pub mod Unchanged
+pub mod Asking

@@ -1,5 +1,6 @@
 //! A process that is a copy of another.
 ghost use Rattle.std.specs.Prelude.{◌≡◌, ◌≢◌, ℕ, true, false, None, OnOk, OnErr, IfErr};
+ghost use Rattle.disk_model.specs.Moments.{Nothing};
 ghost use Rattle.swap.specs.Slots.{IsReady};
 ghost use Rattle.paging.specs.Picture.{picture_of, is_live, view};
 ghost use Rattle.paging.specs.Parts.{IsFit};
@@ -7,6 +8,7 @@ ghost use Rattle.paging.specs.Calls.{KeepsBesideProcesses, UsesDevice};
 ghost use Rattle.paging.specs.Stalls.{HasStallCause};
 ghost use Rattle.paging.specs.Shows.{KeepsFiles};
 ghost use Rattle.mapping.specs.Changes.{KeepsRoom, KeepsTables};
+ghost use Rattle.mapping.specs.Asking.{AsksSlots};
 ghost use Rattle.lifecycle.specs.Changes.{AddsProcess, KeepsProcesses, KeepsBareOfOthers, MapsAlike, SharesCopies, ForksEntries, TakesTables, StallsToFork, TakesNoCopy, IsShortToFork};
 
 use crate::{exit, spawn};
@@ -41,6 +43,7 @@ pub fn fork<D, E: SectorDisk, M: Levels>(
     ensures entries { OnOk result (ForksEntries (picture_of core.old) (picture_of core.new) parent child) }
     ensures takes { OnOk result (TakesTables (picture_of core.old) (picture_of core.new) parent child) }
     ensures stalls { IfErr result (StallsToFork (picture_of core.old) (picture_of core.new) parent child) }
+    ensures asks { AsksSlots E.SectorDisk core.old core.new None Nothing }
     ensures bare { KeepsBareOfOthers (picture_of core.old) (picture_of core.new) child }
     ensures tables { OnOk result (KeepsTables (picture_of core.old) (picture_of core.new)) }
     ensures files { KeepsFiles (picture_of core.old) (picture_of core.new) }

@@ -1,5 +1,6 @@
 //! A process comes.
 ghost use Rattle.std.specs.Prelude.{◌≡◌, ℕ, false, Option, None, OnOk, OnErr, IfErr};
+ghost use Rattle.disk_model.specs.Moments.{Nothing};
 ghost use Rattle.swap.specs.Slots.{IsReady};
 ghost use Rattle.paging.specs.Picture.{picture_of, is_live};
 ghost use Rattle.paging.specs.Parts.{IsFit};
@@ -10,6 +11,7 @@ ghost use Rattle.paging.specs.Ages.{GivesForTables, KeepsRoles};
 ghost use Rattle.frames.specs.FrameTable.{IsFull};
 ghost use Rattle.paging.specs.Shows.{KeepsFiles};
 ghost use Rattle.mapping.specs.Changes.{KeepsBare, KeepsRoom};
+ghost use Rattle.mapping.specs.Asking.{AsksNoNew, AsksSlots};
 ghost use Rattle.lifecycle.specs.Changes.{AddsProcess, KeepsProcesses, TakesRoot, TakesNoCopy};
 
 use disk_model::SectorDisk;
@@ -33,6 +35,8 @@ pub fn spawn<D, E: SectorDisk, M: Levels>(core: &mut Core<D, E, M>, pid: Pid) ->
     ensures gives { OnOk result (GivesForTables (picture_of core.old) (picture_of core.new) None) }
     ensures tried { OnErr result ((tried : Option ℕ) × GivesForTables (picture_of core.old) (picture_of core.new) tried) }
     ensures still { OnErr result (KeepsRoles (picture_of core.old) (picture_of core.new)) }
+    ensures asks { AsksSlots E.SectorDisk core.old core.new None Nothing }
+    ensures asks_later { AsksNoNew (picture_of core.old) (picture_of core.new) None Nothing }
     ensures full { OnErr result (IsFull core.new.frames) }
     ensures refuses { IfErr result (Refuses (picture_of core.new) None) }
     ensures frees { OnErr result (Frees (picture_of core.old) (picture_of core.new) None) }

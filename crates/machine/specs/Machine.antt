@@ -66,13 +66,6 @@ module _ {D E : Type 0} where
     pub slots : slots_of new ≡ slots_of old
     pub mode : mode_of new ≡ mode_of old
 
-  -- What the command asks for, and what it leaves.
-  abbrev pub Accesses : Machine D E → Machine D E → Command → Reply → Type 0
-  Accesses (Sv39 old) (Sv39 new) command reply = ModeAccesses.Accesses old.core new.core command reply
-  Accesses (Sv48 old) (Sv48 new) command reply = ModeAccesses.Accesses old.core new.core command reply
-  Accesses (Sv39 old) (Sv48 new) command reply = ⊥
-  Accesses (Sv48 old) (Sv39 new) command reply = ⊥
-
   -- A command that was not carried out leaves memory and both devices as they were.
   abbrev pub KeepsIfDenied : Machine D E → Machine D E → Command → Reply → Type 0
   KeepsIfDenied (Sv39 old) (Sv39 new) command reply = OfMode.KeepsIfDenied old new command reply
@@ -87,6 +80,13 @@ module _ {D E : Type 0} where
   IsEmpty (Sv48 m) = ModeBoot.IsEmpty m
 
 module _ {D E : Type 0} (g : Ghosts D) (h : Ghosts E) where
+  -- What the command asks for, the sectors of the devices included, and what it leaves.
+  abbrev pub Accesses : Machine D E → Machine D E → Command → Reply → Type 0
+  Accesses (Sv39 old) (Sv39 new) command reply = ModeAccesses.Accesses g h old.core new.core command reply
+  Accesses (Sv48 old) (Sv48 new) command reply = ModeAccesses.Accesses g h old.core new.core command reply
+  Accesses (Sv39 old) (Sv48 new) command reply = ⊥
+  Accesses (Sv48 old) (Sv39 new) command reply = ⊥
+
   -- whatever the devices do: what the reply names came to pass between the two machines
   abbrev pub IsCaused : Machine D E → Machine D E → Reply → Type 0
   IsCaused (Sv39 old) (Sv39 new) reply = OfMode.IsCaused g h old new reply

@@ -69,7 +69,7 @@ impl<D: SectorDisk, E: SectorDisk> Machine<D, E> {
         ensures swap_kept { E.keeps_model (swap_of self.new) → E.keeps_model (swap_of self.old) }
         ensures room { KeepsRoom self.old self.new }
         ensures caused { IsCaused D.SectorDisk E.SectorDisk self.old self.new (told (past_of self.new) result) }
-        ensures accesses { Accesses self.old self.new command (told (past_of self.new) result) }
+        ensures accesses { Accesses D.SectorDisk E.SectorDisk self.old self.new command (told (past_of self.new) result) }
         ensures denied { KeepsIfDenied self.old self.new command (told (past_of self.new) result) }
         ensures meets { (s : State) → Shows D.SectorDisk E.SectorDisk self.old s → IsReadable D.SectorDisk E.SectorDisk self.new s command
             → (t : State) × Meets D.SectorDisk E.SectorDisk self.old self.new s t command (told (past_of self.new) result) }
@@ -112,7 +112,7 @@ impl<D: SectorDisk, E: SectorDisk> Machine<D, E> {
         ensures swap_kept { E.keeps_model (swap_of self.new) → E.keeps_model (swap_of self.old) }
         ensures room { KeepsRoom self.old self.new }
         ensures caused { IsCaused D.SectorDisk E.SectorDisk self.old self.new result }
-        ensures accesses { Accesses self.old self.new command result }
+        ensures accesses { Accesses D.SectorDisk E.SectorDisk self.old self.new command result }
         ensures denied { KeepsIfDenied self.old self.new command result }
         ensures meets { (s : State) → Shows D.SectorDisk E.SectorDisk self.old s → IsReadable D.SectorDisk E.SectorDisk self.new s command
             → (t : State) × Meets D.SectorDisk E.SectorDisk self.old self.new s t command result }

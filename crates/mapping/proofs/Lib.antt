@@ -11,3 +11,5 @@ pub mod SwappedIn
 pub mod OwnSteps
 pub mod Staying
 pub mod Spawning
+pub mod Asking
+pub mod AskedIn

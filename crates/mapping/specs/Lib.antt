@@ -1,3 +1,4 @@
 pub mod Leaves
 pub mod Changes
 pub mod Files
+pub mod Asking

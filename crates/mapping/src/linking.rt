@@ -1,6 +1,7 @@
 //! The tables on the way to a page.
 ghost use Rattle.std.specs.Prelude.{ℕ, ◌≡◌, ◌≢◌, ◌+◌, Option, None, Some, IfErr, OnOk, OnErr};
 ghost use Rattle.vm_types.specs.Limits.{top_level};
+ghost use Rattle.disk_model.specs.Moments.{Nothing};
 ghost use Rattle.frames.specs.declared.role.Role.TheVariants.{Private};
 ghost use Rattle.frames.specs.FrameTable.{role_of, IsFull};
 ghost use Rattle.page_tables.specs.Tree.{missing_of};
@@ -12,6 +13,7 @@ ghost use Rattle.paging.specs.Stalls.{HasStallCause};
 ghost use Rattle.paging.specs.Capacity.{IsShort};
 ghost use Rattle.paging.specs.Ages.{GivesForTables};
 ghost use Rattle.mapping.specs.Changes.{IsWhole, KeepsBare, KeepsSlotted, LinksTables, Moves};
+ghost use Rattle.mapping.specs.Asking.{AsksNoNew, AsksSlots};
 
 use disk_model::SectorDisk;
 use mapped_memory::{link_table, missing_tables};
@@ -53,6 +55,8 @@ pub fn link_tables<D, E: SectorDisk, M: Levels>(
     ensures gives { OnOk result (GivesForTables (picture_of core.old) (picture_of core.new) None) }
     ensures tried { OnErr result ((tried : Option ℕ) × GivesForTables (picture_of core.old) (picture_of core.new) tried) }
     ensures tables { LinksTables (picture_of core.old) (picture_of core.new) pid page }
+    ensures asks { AsksSlots E.SectorDisk core.old core.new None Nothing }
+    ensures asks_later { AsksNoNew (picture_of core.old) (picture_of core.new) None Nothing }
     ensures full { OnErr result (IsFull core.new.frames) }
     ensures idle { IsWhole (picture_of core.old) pid page → (core.new ≡ core.old) × OnErr result ⊥ }
     ensures refuses { IfErr result (Refuses (picture_of core.new) None) }
@@ -88,6 +92,8 @@ fn link_one<D, E: SectorDisk, M: Levels>(
     ensures gives { OnOk result (GivesForTables (picture_of core.old) (picture_of core.new) None) }
     ensures tried { OnErr result ((tried : Option ℕ) × GivesForTables (picture_of core.old) (picture_of core.new) tried) }
     ensures tables { LinksTables (picture_of core.old) (picture_of core.new) pid page }
+    ensures asks { AsksSlots E.SectorDisk core.old core.new None Nothing }
+    ensures asks_later { AsksNoNew (picture_of core.old) (picture_of core.new) None Nothing }
     ensures full { OnErr result (IsFull core.new.frames) }
     ensures refuses { IfErr result (Refuses (picture_of core.new) None) }
     ensures short { IfErr result (IsShort (picture_of core.new)) }

@@ -1,5 +1,6 @@
 //! Frames of a process's own.
 ghost use Rattle.std.specs.Prelude.{◌≡◌, ◌≢◌, ℕ, ◌<◌, ◌^◌, Some, true, false, IfOk, IfErr, OnErr};
+ghost use Rattle.disk_model.specs.Moments.{Nothing};
 ghost use Rattle.vm_types.specs.Permission.{can_write};
 ghost use Rattle.vm_types.specs.Verdict.{is_past_end};
 ghost use Rattle.frames.specs.declared.role.Role.TheVariants.{Free, Table};
@@ -14,6 +15,7 @@ ghost use Rattle.paging.specs.Capacity.{IsShort};
 ghost use Rattle.paging.specs.Shows.{KeepsFiles};
 ghost use Rattle.page_tables.specs.Leaves.{IsEntryOver};
 ghost use Rattle.page_cache.specs.declared.place.Place.TheVariants.{Frame};
+ghost use Rattle.mapping.specs.Asking.{AsksSlots};
 ghost use Rattle.mapping.specs.Changes.{IsLinked, KeepsViews, KeepsOtherViews, KeepsOtherBare, KeepsSlotted, IsCalm, IsThatPage, Moves, TakesCopy, is_sole, frame_of_place, shown_frame, shown_bytes, copied_frame};
 
 use crate::linking::root_of;
@@ -63,6 +65,7 @@ pub fn own_frame<D, E: SectorDisk, M: Levels>(
     ensures files { KeepsFiles (picture_of core.old) (picture_of core.new) }
     ensures wanted { OnErr result (is_sole (picture_of core.old) (entry (picture_of core.old) pid page) ≡ false) }
     ensures calm { is_sole (picture_of core.old) (entry (picture_of core.old) pid page) ≡ true → IsCalm core.old core.new pid page }
+    ensures asks { AsksSlots E.SectorDisk core.old core.new (copied_frame (picture_of core.old) pid page attr) Nothing }
     ensures refuses { IfErr result (Refuses (picture_of core.new) (copied_frame (picture_of core.old) pid page attr)) }
     ensures short { IfErr result (IsShort (picture_of core.new)) }
     ensures cause { HasStallCause E.SectorDisk core.old core.new result }
@@ -110,6 +113,7 @@ fn copy_page<D, E: SectorDisk, M: Levels>(
     ensures frees { OnErr result (Frees (picture_of core.old) (picture_of core.new) (Some shown)) }
     ensures same { OnErr result (KeepsViews (picture_of core.old) (picture_of core.new)) }
     ensures files { KeepsFiles (picture_of core.old) (picture_of core.new) }
+    ensures asks { AsksSlots E.SectorDisk core.old core.new (Some shown) Nothing }
     ensures refuses { IfErr result (Refuses (picture_of core.new) (Some shown)) }
     ensures short { IfErr result (IsShort (picture_of core.new)) }
     ensures cause { HasStallCause E.SectorDisk core.old core.new result }
@@ -169,6 +173,7 @@ fn take_copy<D, E: SectorDisk, M: Levels>(
     ensures swap { IsReady E.SectorDisk core.new.swap }
     ensures rest { KeepsRest core.old core.new }
     ensures device { UsesDevice E.SectorDisk core.old.swap.pages.disk core.new.swap.pages.disk }
+    ensures asks { AsksSlots E.SectorDisk core.old core.new (Some from) Nothing }
     ensures refuses { IfErr result (Refuses (picture_of core.new) (Some from)) }
     ensures short { IfErr result (IsShort (picture_of core.new)) }
     ensures cause { HasStallCause E.SectorDisk core.old core.new result }

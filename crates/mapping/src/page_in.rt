@@ -1,5 +1,6 @@
 //! Pages of files and objects brought into memory.
-ghost use Rattle.std.specs.Prelude.{◌≡◌, ◌≢◌, ◌⊎◌, None, IfOk, IfErr, OnErr};
+ghost use Rattle.std.specs.Prelude.{◌≡◌, ◌≢◌, ◌⊎◌, None, Some, IfOk, IfErr, OnErr};
+ghost use Rattle.disk_model.specs.Moments.{AsksOnly};
 ghost use Rattle.vm_types.specs.declared.number.FrameNo.{FrameNo};
 ghost use Rattle.vm_types.specs.declared.refusal.Stall.TheVariants as Stall;
 ghost use Rattle.file_store.specs.Store.{IsReadyStore};
@@ -10,6 +11,7 @@ ghost use Rattle.paging.specs.Parts.{IsFit, IsPageFor};
 ghost use Rattle.paging.specs.Calls.{Frees, Refuses};
 ghost use Rattle.paging.specs.Capacity.{IsShort};
 ghost use Rattle.paging.specs.Stalls.{HasReadCause};
+ghost use Rattle.mapping.specs.Asking.{AsksSlots, AsksNoNew, IsSectorOfPage, IsSectorOfFile};
 ghost use Rattle.mapping.specs.Changes.{KeepsBare, KeepsSeen, KeepsSlotted};
 ghost use Rattle.mapping.specs.Files.{Proceeds, BringsFiles, IsInStore};
 
@@ -43,6 +45,9 @@ pub fn cached<D: SectorDisk, E: SectorDisk, M: Levels>(
     ensures frees { OnErr result (Frees (picture_of core.old) (picture_of core.new) None) }
     ensures home { IfErr result (λ stall. stall ≡ Stall.StoreDevice → IsInStore (picture_of core.old) page) }
     ensures read { (core.new.store ≡ core.old.store) ⊎ IsInStore (picture_of core.old) page }
+    ensures asks { AsksSlots E.SectorDisk core.old core.new None (IsSectorOfPage (picture_of core.old) page) }
+    ensures asks_store { AsksOnly D.SectorDisk (IsSectorOfFile core.old.store page) core.old.store.disk core.new.store.disk }
+    ensures asks_later { IfOk result (λ n. AsksNoNew (picture_of core.old) (picture_of core.new) (Some n) (IsSectorOfPage (picture_of core.old) page)) }
     ensures refuses { IfErr result (λ stall. stall ≢ Stall.StoreDevice → Refuses (picture_of core.new) None stall) }
     ensures short { IfErr result (IsShort (picture_of core.new)) }
     ensures cause { HasReadCause D.SectorDisk E.SectorDisk core.old core.new result }
@@ -73,6 +78,9 @@ fn bring_home<D: SectorDisk, E: SectorDisk, M: Levels>(
     ensures frees { OnErr result (Frees (picture_of core.old) (picture_of core.new) None) }
     ensures home { IfErr result (λ stall. stall ≡ Stall.StoreDevice → IsInStore (picture_of core.old) page) }
     ensures read { (core.new.store ≡ core.old.store) ⊎ IsInStore (picture_of core.old) page }
+    ensures asks { AsksSlots E.SectorDisk core.old core.new None (IsSectorOfPage (picture_of core.old) page) }
+    ensures asks_store { AsksOnly D.SectorDisk (IsSectorOfFile core.old.store page) core.old.store.disk core.new.store.disk }
+    ensures asks_later { IfOk result (λ n. AsksNoNew (picture_of core.old) (picture_of core.new) (Some n) (IsSectorOfPage (picture_of core.old) page)) }
     ensures refuses { IfErr result (λ stall. stall ≢ Stall.StoreDevice → Refuses (picture_of core.new) None stall) }
     ensures short { IfErr result (IsShort (picture_of core.new)) }
     ensures cause { HasReadCause D.SectorDisk E.SectorDisk core.old core.new result }

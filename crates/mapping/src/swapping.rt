@@ -8,6 +8,7 @@ ghost use Rattle.paging.specs.Stalls.{HasStallCause};
 ghost use Rattle.paging.specs.Capacity.{IsShort};
 ghost use Rattle.paging.specs.Shows.{KeepsFiles};
 ghost use Rattle.mapping.specs.Leaves.{IsFullEntry};
+ghost use Rattle.mapping.specs.Asking.{AsksSlots, IsSectorOfCopy};
 ghost use Rattle.mapping.specs.Changes.{IsLinked, KeepsViews, KeepsOtherViews, KeepsOtherBare, KeepsSlotted, IsThatPage, Moves};
 
 use crate::linking::root_of;
@@ -43,6 +44,7 @@ pub fn swap_in<D, E: SectorDisk, M: Levels>(
     ensures same { OnErr result (KeepsViews (picture_of core.old) (picture_of core.new)) }
     ensures seen { E.keeps_model core.new.swap.pages.disk → KeepsViews (picture_of core.old) (picture_of core.new) }
     ensures files { KeepsFiles (picture_of core.old) (picture_of core.new) }
+    ensures asks { AsksSlots E.SectorDisk core.old core.new None (IsSectorOfCopy (picture_of core.old) pid page) }
     ensures refuses { IfErr result (Refuses (picture_of core.new) None) }
     ensures short { IfErr result (IsShort (picture_of core.new)) }
     ensures cause { HasStallCause E.SectorDisk core.old core.new result }

@@ -2,16 +2,17 @@
 use Rattle.vm_types.specs.declared.mode.Levels as Levels
 use Rattle.std.proofs.Common.{ℕ, ◌*◌, ◌≡◌, ◌<◌, ◌≤◌, ◌⊎◌, inl, inr, ⊎_elim, false, List, Some, None, is_some, [], refl, sym, ap, ◌∙◌, subst, arith}
 use Rattle.std.specs.Option.{option_map}
-use Rattle.disk_model.specs.Moments.{LeavesNow, LeavesOnly, Touches, Nothing}
+use Rattle.disk_model.specs.Moments.{LeavesNow, LeavesOnly, Touches, AsksOnly, Nothing}
 use Rattle.disk_model.specs.Stop.{Image, MayLeave}
 use Rattle.disk_model.specs.declared.sector_disk.SectorDisk.{Ghosts}
-use Rattle.disk_model.proofs.Moments.{started, stays}
-use Rattle.file_store.specs.Standing.{StandsFor, StandsAs, IsBadLayout, file_info, standing_page}
+use Rattle.disk_model.proofs.Moments.{started, stays, asks_none}
+use Rattle.file_store.specs.Standing.{StandsFor, StandsAs, IsBadLayout, IsAskedToOpen, file_info, standing_page}
 use Rattle.file_store.specs.Store.{IsReadyStore}
 use Rattle.file_store.specs.Store as Stores
 use Rattle.file_store.specs.declared.faults.OpenFault.{OpenFault}
 use Rattle.file_store.specs.declared.faults.OpenFault.TheVariants.{Device as StoreDevice, BadLayout as StoreLayout, BadJournal as StoreJournal}
 use Rattle.file_store.specs.declared.store.FileStore.{FileStore}
+use Rattle.file_store.proofs.Outside.{left_outside}
 use Rattle.page_cache.specs.declared.place.Place.TheVariants.{Home}
 use Rattle.vm_types.specs.declared.object.PageKey.{PageKey}
 use Rattle.vm_types.specs.declared.object.PageKey.TheVariants.{File, Object}
@@ -19,7 +20,7 @@ use Rattle.paging.specs.Calls.{IsStart}
 use Rattle.paging.specs.Picture.{Picture, picture_of, view, held}
 use Rattle.paging.specs.Shows.{ShowsPages}
 use Rattle.sync_journal.specs.Commit.{HomesStandAs}
-use Rattle.sync_journal.specs.Layout.{IsOutside}
+use Rattle.sync_journal.specs.Layout.{IsOutside, IsRecovered}
 use Rattle.sync_journal.specs.Standing.{IsBadJournal}
 use Rattle.swap.specs.Slots.{slots_of}
 use Rattle.vm_types.specs.State.{State}
@@ -79,6 +80,7 @@ module _ {D : Type 0} (g : Ghosts D) where
     pub kept : g.keeps_model store.disk → g.keeps_model entry
     pub later : g.failures entry ≤ g.failures store.disk
     pub calm : g.failures store.disk ≡ g.failures entry
+    pub asks : g.keeps_model store.disk → AsksOnly g (IsAskedToOpen (g.content entry)) entry store.disk
     pub moments : BootLeaves g entry store.disk
 
   -- no time passed, and nothing is unsynced
@@ -112,7 +114,8 @@ module _ {D : Type 0} (g : Ghosts D) where
     layout_first = λ _ e _. (let never : Frames ≡ BadJournal = e in cc);
     unasked = λ _. refl;
     unwritten = λ _ _. stays g Nothing store;
-    outside = λ _ _ k _. refl;
+    asks = λ _. asks_none g _ store store (λ k. refl);
+    outside = λ _ k _. refl;
     err_size = refl;
     err_kept = λ keeps. keeps;
     err_later = omega arith;
@@ -132,7 +135,8 @@ module _ {D : Type 0} (g : Ghosts D) where
     layout_first = λ _ e _. (let never : Slots ≡ BadJournal = e in cc);
     unasked = λ _. refl;
     unwritten = λ _ _. stays g Nothing store;
-    outside = λ _ _ k _. refl;
+    asks = λ _. asks_none g _ store store (λ k. refl);
+    outside = λ _ k _. refl;
     err_size = refl;
     err_kept = λ keeps. keeps;
     err_later = omega arith;
@@ -155,6 +159,7 @@ module _ {D : Type 0} (g : Ghosts D) where
     kept = opened.kept;
     later = opened.later;
     calm = opened.calm;
+    asks = opened.asks;
     outside = same_outside entry store opened;
   }
 
@@ -173,7 +178,8 @@ module _ {D : Type 0} (g : Ghosts D) where
     layout_first = λ _ e _. (let never : OutOfMemory ≡ BadJournal = e in cc);
     unasked = λ either. absurd (⊎_elim (λ e. (let never : OutOfMemory ≡ Frames = e in cc)) (λ e. (let never : OutOfMemory ≡ Slots = e in cc)) either);
     unwritten = λ _ either. absurd (⊎_elim (λ e. (let never : OutOfMemory ≡ BadLayout = e in cc)) (λ e. (let never : OutOfMemory ≡ BadJournal = e in cc)) either);
-    outside = λ keeps _. same_outside entry store opened keeps;
+    asks = opened.asks;
+    outside = same_outside entry store opened;
     err_size = opened.size;
     err_kept = opened.kept;
     err_later = opened.later;
@@ -190,6 +196,8 @@ module _ {D : Type 0} (g : Ghosts D) where
     pub journal : g.keeps_model left → fault ≡ StoreJournal → IsBadJournal (g.sector_count entry) (g.content entry)
     pub first : g.keeps_model left → fault ≡ StoreJournal → IsBadLayout (g.sector_count entry) (g.content entry) → ⊥
     pub unwritten : g.keeps_model left → (fault ≡ StoreDevice → ⊥) → Touches g Nothing entry left
+    pub asks : g.keeps_model left → AsksOnly g (IsAskedToOpen (g.content entry)) entry left
+    pub touches : g.keeps_model left → Touches g (IsRecovered (g.sector_count entry)) entry left
 
   -- a store that can't be opened
   pub refuses_store : (sizes : Sizes) (n : ℕ) (entry : D) (fault : OpenFault) (left : D) → (HasBadFrames sizes → ⊥) → (HasBadSlots sizes n → ⊥) → IsUnopened entry fault left
@@ -206,8 +214,8 @@ module _ {D : Type 0} (g : Ghosts D) where
     layout_first = λ keeps e. unopened.first keeps (was_journal fault e);
     unasked = λ either. absurd (sized fault either);
     unwritten = λ keeps either. unopened.unwritten keeps (no_device fault either);
-    outside = λ keeps other k _. ⊎_elim (λ none. absurd none) (λ (e : g.content left k ≡ g.content entry k). e)
-        ((unopened.unwritten keeps (λ e. other (ap boot_fault e))).content k);
+    asks = unopened.asks;
+    outside = λ keeps. left_outside g (g.sector_count entry) entry left (unopened.touches keeps);
     err_size = unopened.size;
     err_kept = unopened.kept;
     err_later = unopened.later;

@@ -4,7 +4,7 @@ use Rattle.std.proofs.Common.{ℕ, ◌/◌, ◌≡◌, inl, Bool, true, false, L
 use Rattle.disk_model.specs.Moments.{LeavesNow, LeavesOnly, Touches, Nothing}
 use Rattle.disk_model.specs.Stop.{Image, MayLeave}
 use Rattle.disk_model.specs.declared.sector_disk.SectorDisk.{Ghosts}
-use Rattle.disk_model.proofs.Moments.{stays, started, goes_on, still_leaves}
+use Rattle.disk_model.proofs.Moments.{stays, started, goes_on, still_leaves, asks_none}
 use Rattle.file_store.specs.Standing.{StandsFor}
 use Rattle.file_store.specs.declared.store.FileStore.{FileStore}
 use Rattle.frames.specs.FrameTable.{frame_count}
@@ -14,8 +14,10 @@ use Rattle.paging.specs.Reading.{ReadsStore}
 use Rattle.paging.specs.Picture.{Picture, picture_of}
 use Rattle.paging.specs.Shows.{ShowsPages}
 use Rattle.paging.specs.declared.kernel.Core.{Core}
+use Rattle.mapping.proofs.Asking.{asks_slots_same}
 use Rattle.mapping.specs.Changes.{KeepsRoom}
 use Rattle.page_ranges.specs.Steps.{KeepsDevices}
+use Rattle.page_faults.proofs.Asking.{asks_same}
 use Rattle.page_faults.proofs.Slotted.{slotted_same}
 use Rattle.msync.specs.Shows as Syncing
 use Rattle.msync.proofs.SettledPages.{settles_nothing}
@@ -64,33 +66,47 @@ no_process pid e = cc
 same_stall : (stall other : Stall) → Reply.Stalled stall ≡ Reply.Stalled other → stall ≡ other
 same_stall stall other e = cc
 
-halted_asks : {M : Type 0} {levels : Levels.Ghosts M} {D E : Type 0} (c : Core D E M levels) (pid addr : ℕ) (access : Access) → AsksFor c c pid addr access Halted
-halted_asks c pid addr access = record { wanted = λ stall e. absurd (no_stall stall e); refused = λ stall e. absurd (no_stall stall e); home = λ e. absurd (no_stall StoreDevice e); read = inl refl; slots = λ none. refl; slotted = slotted_same _ _ (picture_of c) }
+halted_asks : {M : Type 0} {levels : Levels.Ghosts M} {D E : Type 0} (g : Ghosts D) (h : Ghosts E) (c : Core D E M levels) (pid addr : ℕ) (access : Access) → AsksFor g h c c pid addr access Halted
+halted_asks g h c pid addr access = record { wanted = λ stall e. absurd (no_stall stall e); refused = λ stall e. absurd (no_stall stall e); home = λ e. absurd (no_stall StoreDevice e); read = inl refl; slots = λ none. refl; slotted = slotted_same _ _ (picture_of c); sectors = asks_same g h c c pid (addr / 4096) refl refl }
 
-module _ {M : Type 0} {levels : Levels.Ghosts M} where
-  pub halted_accesses : {D E : Type 0} (c : Core D E M levels) (command : Command) → Accesses c c command Halted
-  halted_accesses c (Load pid addr width) = (halted_asks c pid addr Kinds.Load, λ place walked. refl)
-  halted_accesses c (Fetch pid addr) = (halted_asks c pid addr Kinds.Fetch, λ place walked. refl)
-  halted_accesses c (Store pid addr stored) = (halted_asks c pid addr Kinds.Store, λ place walked done. absurd (let never : Halted ≡ Done = done in cc))
-  halted_accesses c Spawn = record {
-    root = λ pid e. absurd (no_process pid e);
-    gives = λ pid e. absurd (no_process pid e);
-    tried = λ stall e. absurd (no_stall stall e);
-    still = λ stall e. absurd (no_stall stall e);
-    full = λ stall e. absurd (no_stall stall e);
-    refuses = λ stall e. absurd (no_stall stall e);
-  }
-  halted_accesses c (Fork pid) = record {
-    entries = λ child e. absurd (no_process child e);
-    tables = λ child e. absurd (no_process child e);
-    stalls = λ stall e. absurd (no_stall stall e);
-  }
+module _ {M : Type 0} {levels : Levels.Ghosts M} {D E : Type 0} (g : Ghosts D) (h : Ghosts E) where
+  pub halted_accesses : (c : Core D E M levels) (command : Command) → Accesses g h c c command Halted
+  halted_accesses c (Load pid addr width) = (halted_asks g h c pid addr Kinds.Load, λ place walked. refl)
+  halted_accesses c (Fetch pid addr) = (halted_asks g h c pid addr Kinds.Fetch, λ place walked. refl)
+  halted_accesses c (Store pid addr stored) = (halted_asks g h c pid addr Kinds.Store, λ place walked done. absurd (let never : Halted ≡ Done = done in cc))
+  halted_accesses c Spawn = (
+    record {
+      root = λ pid e. absurd (no_process pid e);
+      gives = λ pid e. absurd (no_process pid e);
+      tried = λ stall e. absurd (no_stall stall e);
+      still = λ stall e. absurd (no_stall stall e);
+      full = λ stall e. absurd (no_stall stall e);
+      refuses = λ stall e. absurd (no_stall stall e);
+    },
+    refl,
+    asks_slots_same h c c None Nothing refl,
+  )
+  halted_accesses c (Fork pid) = (
+    record {
+      entries = λ child e. absurd (no_process child e);
+      tables = λ child e. absurd (no_process child e);
+      stalls = λ stall e. absurd (no_stall stall e);
+    },
+    refl,
+    asks_slots_same h c c None Nothing refl,
+  )
   halted_accesses c (Exit pid) = takes_none (picture_of c) pid 0 (user_end levels.mode)
-  halted_accesses c (Mmap pid addr len prot source placing) = takes_none (picture_of c) pid 0 (page_count len)
-  halted_accesses c (Munmap pid addr len) = takes_none (picture_of c) pid (addr / 4096) (page_count len)
-  halted_accesses c (Mprotect pid addr len prot) = takes_none (picture_of c) pid 0 0
-  halted_accesses c (Dontneed pid addr len) = takes_none (picture_of c) pid 0 0
-  halted_accesses c (Msync pid addr len mode) = settles_nothing (picture_of c)
+  halted_accesses c (Mmap pid addr len prot source placing) = (takes_none (picture_of c) pid 0 (page_count len), λ page user out. refl)
+  halted_accesses c (Munmap pid addr len) = (takes_none (picture_of c) pid (addr / 4096) (page_count len), λ page user out. refl)
+  halted_accesses c (Mprotect pid addr len prot) = (takes_none (picture_of c) pid 0 0, λ page user out. refl)
+  halted_accesses c (Dontneed pid addr len) = (takes_none (picture_of c) pid 0 0, λ page user out. refl)
+  halted_accesses c (Msync pid addr len mode) = (
+    settles_nothing (picture_of c),
+    record {
+      store = asks_none g _ c.store.disk c.store.disk (λ k. refl);
+      swap = asks_none h _ c.swap.pages.disk c.swap.pages.disk (λ k. refl);
+    },
+  )
   halted_accesses c PastFaults = refl
 
 module _ {D : Type 0} (g : Ghosts D) where

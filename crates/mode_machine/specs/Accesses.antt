@@ -1,14 +1,19 @@
 -- What a load, a store and a fetch ask for, and when they change nothing; what a spawn and a fork take of memory; that other
--- calls take none, and which pages and entries they leave; and that the history is told without any change.
+-- calls take none, and which pages and entries they leave; which sectors of the two devices each of them asks for that asks any;
+-- and that the history is told without any change.
 use Rattle.vm_types.specs.declared.mode.Levels as Levels
-use Rattle.std.specs.Prelude.{◌≡◌, ◌/◌, ◌%◌}
+use Rattle.std.specs.Prelude.{◌≡◌, ◌/◌, ◌%◌, None}
+use Rattle.disk_model.specs.declared.sector_disk.SectorDisk.{Ghosts}
+use Rattle.disk_model.specs.Moments.{Nothing}
+use Rattle.mapping.specs.Asking.{AsksSlots}
 use Rattle.page_faults.specs.Outcome.{IsWalked}
+use Rattle.msync.specs.Asking.{AsksToCommit}
 use Rattle.msync.specs.Settling.{SettlesMemory}
 use Rattle.paging.specs.Picture.{picture_of}
 use Rattle.paging.specs.declared.kernel.Core.{Core}
 use Rattle.calls.specs.Accesses.{AsksFor, WritesNumber}
 use Rattle.calls.specs.Processes.{ForkTakes, SpawnTakes}
-use Rattle.calls.specs.Ranges.{TakesNothing, first_mapped}
+use Rattle.calls.specs.Ranges.{KeepsEntriesBeside, TakesNothing, first_mapped}
 use Rattle.vm_types.specs.Checks.{page_count}
 use Rattle.vm_types.specs.Limits.{user_end}
 use Rattle.vm_types.specs.declared.access.Access.TheVariants as Access
@@ -19,24 +24,33 @@ use Rattle.vm_types.specs.declared.reply.Reply.{Reply}
 use Rattle.vm_types.specs.declared.reply.Reply.TheVariants.{Done}
 use Rattle.vm_types.specs.declared.width.Width.TheVariants.{Four}
 
-module _ {M : Type 0} {levels : Levels.Ghosts M} {D E : Type 0} where
-  -- An access asks for no more than it wants. Where the tables grant it nothing changes, but the number that a store writes. A spawn
-  -- and a fork take frames for tables alone, and give others up only for that. An exit and a call on a range take no frame
-  -- and drop no page; an msync takes none either, and of its entries none loses more than D. Telling the history changes nothing.
+module _ {M : Type 0} {levels : Levels.Ghosts M} {D E : Type 0} (g : Ghosts D) (h : Ghosts E) where
+  -- An access asks for no more than it wants, and the devices for sectors of its page and of free slots alone. Where the tables grant
+  -- it nothing changes, but the number that a store writes. A spawn and a fork take frames for tables alone, and give others up only
+  -- for that; they ask swap for free slots alone, and the store for nothing. An exit and a call on a range take no frame and drop no
+  -- page, and a call on a range changes no entry beside it. An msync takes no frame either, and of its entries none loses more than
+  -- D; it asks swap for slots of the pages that it takes alone, and the store for what a commit writes. Telling the history changes
+  -- nothing.
   abbrev pub Accesses : Core D E M levels → Core D E M levels → Command → Reply → Type 0
   Accesses old new (Load pid addr width) reply =
-      AsksFor old new pid addr Access.Load reply × ((place : Phys) → IsWalked (picture_of old) pid addr width Access.Load place → new ≡ old)
+      AsksFor g h old new pid addr Access.Load reply × ((place : Phys) → IsWalked (picture_of old) pid addr width Access.Load place → new ≡ old)
   Accesses old new (Fetch pid addr) reply =
-      AsksFor old new pid addr Access.Fetch reply × ((place : Phys) → IsWalked (picture_of old) pid addr Four Access.Fetch place → new ≡ old)
+      AsksFor g h old new pid addr Access.Fetch reply × ((place : Phys) → IsWalked (picture_of old) pid addr Four Access.Fetch place → new ≡ old)
   Accesses old new (Store pid addr stored) reply =
-      AsksFor old new pid addr Access.Store reply × ((place : Phys) → IsWalked (picture_of old) pid addr stored.width Access.Store place
+      AsksFor g h old new pid addr Access.Store reply × ((place : Phys) → IsWalked (picture_of old) pid addr stored.width Access.Store place
       → reply ≡ Done → WritesNumber old new (place.0 / 4096) (addr % 4096) stored)
-  Accesses old new Spawn reply = SpawnTakes (picture_of old) (picture_of new) reply
-  Accesses old new (Fork pid) reply = ForkTakes (picture_of old) (picture_of new) pid reply
+  Accesses old new Spawn reply = SpawnTakes (picture_of old) (picture_of new) reply × (new.store ≡ old.store) × AsksSlots h old new None Nothing
+  Accesses old new (Fork pid) reply = ForkTakes (picture_of old) (picture_of new) pid reply × (new.store ≡ old.store) × AsksSlots h old new None Nothing
   Accesses old new (Exit pid) reply = TakesNothing (picture_of old) (picture_of new) pid 0 (user_end levels.mode)
-  Accesses old new (Mmap pid addr len prot source placing) reply = TakesNothing (picture_of old) (picture_of new) pid (first_mapped reply) (page_count len)
-  Accesses old new (Munmap pid addr len) reply = TakesNothing (picture_of old) (picture_of new) pid (addr / 4096) (page_count len)
-  Accesses old new (Mprotect pid addr len prot) reply = TakesNothing (picture_of old) (picture_of new) pid 0 0
-  Accesses old new (Dontneed pid addr len) reply = TakesNothing (picture_of old) (picture_of new) pid 0 0
-  Accesses old new (Msync pid addr len mode) reply = SettlesMemory (picture_of old) (picture_of new)
+  Accesses old new (Mmap pid addr len prot source placing) reply =
+      TakesNothing (picture_of old) (picture_of new) pid (first_mapped reply) (page_count len)
+      × KeepsEntriesBeside (picture_of old) (picture_of new) pid (first_mapped reply) (page_count len)
+  Accesses old new (Munmap pid addr len) reply =
+      TakesNothing (picture_of old) (picture_of new) pid (addr / 4096) (page_count len)
+      × KeepsEntriesBeside (picture_of old) (picture_of new) pid (addr / 4096) (page_count len)
+  Accesses old new (Mprotect pid addr len prot) reply =
+      TakesNothing (picture_of old) (picture_of new) pid 0 0 × KeepsEntriesBeside (picture_of old) (picture_of new) pid (addr / 4096) (page_count len)
+  Accesses old new (Dontneed pid addr len) reply =
+      TakesNothing (picture_of old) (picture_of new) pid 0 0 × KeepsEntriesBeside (picture_of old) (picture_of new) pid (addr / 4096) (page_count len)
+  Accesses old new (Msync pid addr len mode) reply = SettlesMemory (picture_of old) (picture_of new) × AsksToCommit g h old new pid addr len
   Accesses old new PastFaults reply = new ≡ old

@@ -1,12 +1,12 @@
 -- What a boot leaves, and when it gives up.
 use Rattle.vm_types.specs.declared.mode.Levels as Levels
 use Rattle.std.specs.Prelude.{ℕ, ◌*◌, ◌^◌, ◌≡◌, ◌<◌, ◌≤◌, ◌⊎◌, false, None, []}
-use Rattle.disk_model.specs.Moments.{Touches, Nothing, LeavesOnly}
+use Rattle.disk_model.specs.Moments.{Touches, AsksOnly, Nothing, LeavesOnly}
 use Rattle.disk_model.specs.Stop.{Image}
 use Rattle.disk_model.specs.declared.sector_disk.SectorDisk.{Ghosts}
 use Rattle.sync_journal.specs.Layout.{IsOutside}
 use Rattle.sync_journal.specs.Standing.{IsBadJournal}
-use Rattle.file_store.specs.Standing.{StandsFor, StandsAs, IsBadLayout}
+use Rattle.file_store.specs.Standing.{StandsFor, StandsAs, IsBadLayout, IsAskedToOpen}
 use Rattle.frames.specs.FrameTable.{frame_count}
 use Rattle.swap.specs.Slots.{slots_of}
 use Rattle.paging.specs.Calls.{IsStart}
@@ -80,6 +80,8 @@ module _ {D : Type 0} (g : Ghosts D) where
     pub later : g.failures store ≤ g.failures new
     -- and it did not fail
     pub calm : g.failures new ≡ g.failures store
+    -- no sector was asked for but the mark, the directory, the gate and, where it is open, the map, the body and the homes that the map names
+    pub asks : g.keeps_model new → AsksOnly g (IsAskedToOpen (g.content store)) store new
     -- the mark, the directory and what lies after the last home are as they were
     pub outside : g.keeps_model new → (k : ℕ) → IsOutside (g.sector_count store) k → g.content new k ≡ g.content store k
 
@@ -107,8 +109,10 @@ module _ {D : Type 0} (g : Ghosts D) where
     pub unasked : (fault ≡ Frames) ⊎ (fault ≡ Slots) → new ≡ store
     -- for a bad image nothing was written to it
     pub unwritten : g.keeps_model new → (fault ≡ BadLayout) ⊎ (fault ≡ BadJournal) → Touches g Nothing store new
-    -- unless it failed, the mark, the directory and what lies after the last home are as they were
-    pub outside : g.keeps_model new → (fault ≡ Device → ⊥) → (k : ℕ) → IsOutside (g.sector_count store) k → g.content new k ≡ g.content store k
+    -- no sector was asked for but the mark, the directory, the gate and, where it is open, the map, the body and the homes that the map names
+    pub asks : g.keeps_model new → AsksOnly g (IsAskedToOpen (g.content store)) store new
+    -- the mark, the directory and what lies after the last home are as they were
+    pub outside : g.keeps_model new → (k : ℕ) → IsOutside (g.sector_count store) k → g.content new k ≡ g.content store k
     -- the device has as many sectors as it had
     pub err_size : g.sector_count new ≡ g.sector_count store
     -- if it keeps the disk model still, it did before

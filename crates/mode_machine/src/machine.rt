@@ -68,7 +68,7 @@ impl<D: SectorDisk, E: SectorDisk, M: Levels> ModeMachine<D, E, M> {
         ensures swap_kept { E.keeps_model self.new.core.swap.pages.disk → E.keeps_model self.old.core.swap.pages.disk }
         ensures room { KeepsRoom (picture_of self.old.core) (picture_of self.new.core) }
         ensures caused { IsCaused D.SectorDisk E.SectorDisk self.old self.new (told self.new.past result) }
-        ensures accesses { Accesses self.old.core self.new.core command (told self.new.past result) }
+        ensures accesses { Accesses D.SectorDisk E.SectorDisk self.old.core self.new.core command (told self.new.past result) }
         ensures denied { KeepsIfDenied self.old self.new command (told self.new.past result) }
         ensures meets { (s : State) → Shows D.SectorDisk E.SectorDisk self.old s → IsReadable D.SectorDisk E.SectorDisk self.new s command
             → (t : State) × Meets D.SectorDisk E.SectorDisk self.old self.new s t command (told self.new.past result) }
@@ -146,7 +146,7 @@ impl<D: SectorDisk, E: SectorDisk, M: Levels> ModeMachine<D, E, M> {
         ensures swap_kept { E.keeps_model self.new.core.swap.pages.disk → E.keeps_model self.old.core.swap.pages.disk }
         ensures room { KeepsRoom (picture_of self.old.core) (picture_of self.new.core) }
         ensures caused { IsCaused D.SectorDisk E.SectorDisk self.old self.new result }
-        ensures accesses { Accesses self.old.core self.new.core command result }
+        ensures accesses { Accesses D.SectorDisk E.SectorDisk self.old.core self.new.core command result }
         ensures denied { KeepsIfDenied self.old self.new command result }
         ensures meets { (s : State) → Shows D.SectorDisk E.SectorDisk self.old s → IsReadable D.SectorDisk E.SectorDisk self.new s command
             → (t : State) × Meets D.SectorDisk E.SectorDisk self.old self.new s t command result }

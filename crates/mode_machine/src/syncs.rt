@@ -1,5 +1,6 @@
 //! msync: pages made durable through the store.
 ghost use Rattle.std.specs.Prelude.{◌≡◌, ◌≢◌, false};
+ghost use Rattle.msync.specs.Asking.{AsksToCommit};
 ghost use Rattle.msync.specs.Settling.{SettlesMemory};
 ghost use Rattle.mapping.specs.Changes.{KeepsRoom};
 ghost use Rattle.paging.specs.Picture.{picture_of};
@@ -28,6 +29,7 @@ impl<D: SectorDisk, E: SectorDisk, M: Levels> ModeMachine<D, E, M> {
         ensures caused { IsCaused D.SectorDisk E.SectorDisk self.old self.new (reply_of result) }
         ensures denied { (errno : Errno) → reply_of result ≡ Refused errno → errno ≢ EIO → self.new.core ≡ self.old.core }
         ensures memory { SettlesMemory (picture_of self.old.core) (picture_of self.new.core) }
+        ensures asks { AsksToCommit D.SectorDisk E.SectorDisk self.old.core self.new.core pid addr len }
         ensures meets { (s : State) → Shows D.SectorDisk E.SectorDisk self.old s → IsReadable D.SectorDisk E.SectorDisk self.new s (Msync pid addr len mode)
             → (t : State) × Meets D.SectorDisk E.SectorDisk self.old self.new s t (Msync pid addr len mode) (reply_of result) }
     {

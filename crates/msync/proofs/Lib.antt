@@ -9,3 +9,4 @@ pub mod Homing
 pub mod Settled
 pub mod SettledPages
 pub mod Committing
+pub mod Asking

@@ -4,3 +4,4 @@ pub mod Reads
 pub mod Settling
 pub mod Shows
 pub mod Core
+pub mod Asking

@@ -4,10 +4,11 @@ use Rattle.vm_types.specs.declared.file.FilePage.{FilePage}
 use Rattle.vm_types.specs.declared.object.PageKey.TheVariants.{File}
 use Rattle.vm_types.specs.declared.number.FrameNo.{FrameNo}
 use Rattle.vm_types.specs.declared.number.SlotNo.{SlotNo}
+use Rattle.disk_model.specs.Moments.{AsksOnly}
 use Rattle.disk_model.specs.declared.sector_disk.SectorDisk.{Ghosts}
 use Rattle.frames.specs.FrameTable.{FrameTable, bytes_of, IsFrame}
 use Rattle.swap.specs.declared.slots.Swap.{Swap}
-use Rattle.swap.specs.Slots.{SlotTable, slots_of, IsInUse, IsReady}
+use Rattle.swap.specs.Slots.{SlotTable, slots_of, IsInUse, IsReady, IsSectorOfSlot}
 use Rattle.page_cache.specs.declared.place.Place.{Place}
 use Rattle.page_cache.specs.declared.place.Place.TheVariants.{Frame, Slot}
 use Rattle.paging.specs.Picture.{Picture}
@@ -48,6 +49,15 @@ IsSlotted (Slotted k) = Unit {0}
 abbrev pub HasSlot : List Spot → Type 0
 HasSlot list = (i : ℕ) × (i < length list) × IsSlotted (spot_at list i).at
 
+-- a sector of that slot
+abbrev pub IsSectorThere : Residence → ℕ → Type 0
+IsSectorThere (Framed n) k = ⊥
+IsSectorThere (Slotted s) k = IsSectorOfSlot s.0 k
+
+-- a sector of a slot that a page of the list lies in
+abbrev pub IsSectorOfSpots : List Spot → ℕ → Type 0
+IsSectorOfSpots list k = (i : ℕ) × (i < length list) × IsSectorThere (spot_at list i).at k
+
 -- the file page lies there
 module _ {mode : ℕ} where
   pub record IsSpot (c : Picture mode) (spot : Spot) : Type 0 where
@@ -69,11 +79,13 @@ module _ {mode : ℕ} where
     pub whole : (i : ℕ) → i < length pages → length (bytes_there c.frames c.slots (spot_at list i).at) ≡ 4096
 
 module _ {E : Type 0} (h : Ghosts E) where
-  -- Slots were read: what they hold, and who has them, is as it was. Without a cause the device was not asked.
-  pub record ReadsSwap (cause : Type 0) (old new : Swap E) : Type 0 where
+  -- Slots of pages of the list were read: what slots hold, and who has them, is as it was. The device was asked for no other slot, and not
+  -- at all where no page of the list lies in one.
+  pub record ReadsSwap (list : List Spot) (old new : Swap E) : Type 0 where
     pub ready : IsReady h old → IsReady h new
     pub slots : slots_of new ≡ slots_of old
     pub size : h.sector_count new.pages.disk ≡ h.sector_count old.pages.disk
     pub kept : h.keeps_model new.pages.disk → h.keeps_model old.pages.disk
     pub later : h.failures old.pages.disk ≤ h.failures new.pages.disk
-    pub only : (new ≡ old) ⊎ cause
+    pub only : (new ≡ old) ⊎ HasSlot list
+    pub asks : AsksOnly h (IsSectorOfSpots list) old.pages.disk new.pages.disk

@@ -12,12 +12,16 @@ ghost use Rattle.vm_types.specs.declared.refusal.Stall.{Stall};
 ghost use Rattle.vm_types.specs.declared.refusal.Stall.TheVariants.{SwapDevice};
 ghost use Rattle.vm_types.specs.declared.command.MsyncMode.{MsyncMode as Mode};
 ghost use Rattle.vm_types.specs.declared.object.PageKey.TheVariants.{File};
+ghost use Rattle.disk_model.specs.Moments.{AsksOnly};
+ghost use Rattle.sync_journal.specs.Journal.{live_homes};
+ghost use Rattle.sync_journal.specs.Layout.{IsCommitted};
 ghost use Rattle.frames.specs.FrameTable.{frame_count};
 ghost use Rattle.swap.specs.Slots.{slots_of, IsReady};
 ghost use Rattle.paging.specs.Picture.{picture_of};
 ghost use Rattle.paging.specs.Parts.{IsFit};
 ghost use Rattle.paging.specs.Calls.{UsesDevice};
 ghost use Rattle.msync.specs.Core.{Commits, GivesBack};
+ghost use Rattle.msync.specs.Asking.{AsksToCommit, IsSectorListed};
 ghost use Rattle.msync.specs.Shows.{IsSoundCore, Shows};
 ghost use Rattle.msync.specs.Choice.{chosen_of, IsListed, TakesSame, TakesAway, IsAway, page_at};
 ghost use Rattle.msync.specs.Spots.{HasSpots, IsSpot, bytes_there};
@@ -38,7 +42,7 @@ use vm_types::{Answer, Errno, FilePage, Levels, MSYNC_PAGES, MsyncMode, PageKey,
 /// msync, EuroSys 2013): the file pages, stored to and not made durable since, that stand behind the shared pages which hold
 /// the `len` bytes from `addr` on. They are touched no more, bytes past a file's end become zero, and no process's entry
 /// says D of them. One that lay in a slot is at home then. Where there is none, and where the call is asynchronous, no device is
-/// asked.
+/// asked; else the store for its journal and the homes of the commit before alone, and swap for the slots of those pages alone.
 ///
 /// `ESRCH` where no such process lives, `EINVAL` where `addr` is no multiple of 4,096, `ENOMEM` where a page of the range
 /// isn't mapped, `ENOSPC` where there are more than 1,023 such pages; nothing is changed then. `EIO` comes exactly where the
@@ -68,6 +72,7 @@ pub fn msync<D: SectorDisk, E: SectorDisk, M: Levels>(
     ensures size { D.sector_count core.new.store.disk ≡ D.sector_count core.old.store.disk }
     ensures swap { IsReady E.SectorDisk core.new.swap }
     ensures device { UsesDevice E.SectorDisk core.old.swap.pages.disk core.new.swap.pages.disk }
+    ensures asks { AsksToCommit D.SectorDisk E.SectorDisk core.old core.new pid addr len }
     ensures frames { frame_count core.new.frames ≡ frame_count core.old.frames }
     ensures slots { (slots_of core.new.swap).total ≡ (slots_of core.old.swap).total }
     ensures later { D.failures core.old.store.disk ≤ D.failures core.new.store.disk }
@@ -107,6 +112,8 @@ fn commit<D: SectorDisk, E: SectorDisk, M: Levels>(
     ensures size { D.sector_count core.new.store.disk ≡ D.sector_count core.old.store.disk }
     ensures swap { IsReady E.SectorDisk core.new.swap }
     ensures device { UsesDevice E.SectorDisk core.old.swap.pages.disk core.new.swap.pages.disk }
+    ensures asks_store { AsksOnly D.SectorDisk (IsCommitted (live_homes core.old.store.journal)) core.old.store.disk core.new.store.disk }
+    ensures asks_slots { AsksOnly E.SectorDisk (IsSectorListed (picture_of core.old) (chosen_of list.now count)) core.old.swap.pages.disk core.new.swap.pages.disk }
     ensures frames { frame_count core.new.frames ≡ frame_count core.old.frames }
     ensures slots { (slots_of core.new.swap).total ≡ (slots_of core.old.swap).total }
     ensures later { D.failures core.old.store.disk ≤ D.failures core.new.store.disk }

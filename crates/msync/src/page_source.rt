@@ -21,8 +21,8 @@ pub(crate) struct TouchedPages<'f, 'a, E, M: Levels> {
 }
 
 impl<E: SectorDisk, M: Levels> PageSource for TouchedPages<'_, '_, E, M> {
-    ghost use Rattle.msync.specs.Spots.{spot_at, bytes_there, IsThere, HasSlot, ReadsSwap};
-    ghost use Rattle.msync.specs.Reads.{same_then};
+    ghost use Rattle.msync.specs.Spots.{spot_at, bytes_there, IsThere, HasSlot, IsSectorOfSpots, ReadsSwap};
+    ghost use Rattle.msync.specs.Reads.{same_then, asks_nothing, asks_more};
 
     ghost pages = { λ s i. bytes_there s.frames.now (slots_of s.swap.now) (spot_at s.spots.now i).at };
 
@@ -32,8 +32,9 @@ impl<E: SectorDisk, M: Levels> PageSource for TouchedPages<'_, '_, E, M> {
 
     ghost keeps_model = { λ s. HasSlot s.spots.now → E.keeps_model s.swap.now.pages.disk };
 
-    ghost follows = { λ a b. (b.swap.ghost_name ≡ a.swap.ghost_name) × (b.spots.now ≡ a.spots.now) × ReadsSwap E.SectorDisk (HasSlot a.spots.now) a.swap.now b.swap.now };
+    ghost follows = { λ a b. (b.swap.ghost_name ≡ a.swap.ghost_name) × (b.spots.now ≡ a.spots.now) × ReadsSwap E.SectorDisk a.spots.now a.swap.now b.swap.now };
 
+    #[tactic(auto, using(crate::proofs::Asking::asks_spot))]
     fn page(&mut self, i: usize, to: &mut [u8; 4096]) -> Result<(), SourceFault> {
         match self.spots[i].at {
             Residence::Framed(frame) => {
@@ -47,7 +48,7 @@ impl<E: SectorDisk, M: Levels> PageSource for TouchedPages<'_, '_, E, M> {
         }
     }
 
-    ghost stays = { λ s. (refl, refl, record { ready = λ r. r; slots = refl; size = refl; kept = λ k. k; later = le_refl (E.failures s.swap.now.pages.disk); only = inl refl }) };
+    ghost stays = { λ s. (refl, refl, record { ready = λ r. r; slots = refl; size = refl; kept = λ k. k; later = le_refl (E.failures s.swap.now.pages.disk); only = inl refl; asks = asks_nothing (IsSectorOfSpots s.spots.now) s.swap.now.pages.disk }) };
 
     ghost goes_on = { λ a b c p q. (
       q.0 ∙ p.0,
@@ -59,6 +60,8 @@ impl<E: SectorDisk, M: Levels> PageSource for TouchedPages<'_, '_, E, M> {
         kept = λ k. p.2.kept (q.2.kept k);
         later = le_trans p.2.later q.2.later;
         only = same_then (HasSlot a.spots.now) (HasSlot b.spots.now) a.swap.now b.swap.now c.swap.now (λ has. subst (λ list. HasSlot list) p.1 has) p.2.only q.2.only;
+        asks = asks_more (IsSectorOfSpots b.spots.now) (IsSectorOfSpots a.spots.now) a.swap.now.pages.disk b.swap.now.pages.disk c.swap.now.pages.disk
+            (λ k is. subst (λ list. IsSectorOfSpots list k) p.1 is) p.2.asks q.2.asks;
       },
     ) };
 }

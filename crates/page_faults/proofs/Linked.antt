@@ -60,7 +60,7 @@ zero_here = none_here 0 (seat_zero 0 refl)
 
 -- a page on whose way a table is missing has no entry
 module _ {mode : ℕ} where
-  lacks_none : (c : Picture mode) (pid page : ℕ) → LacksTable c pid page → entry c pid page ≡ 0
+  pub lacks_none : (c : Picture mode) (pid page : ℕ) → LacksTable c pid page → entry c pid page ≡ 0
   lacks_none c pid page lacks = entry-of c pid lacks.root page lacks.lives ∙ page_entry-missing c.frames (top_level mode) lacks.root page lacks.missing
 
 module _ {M : Type 0} {m : Levels.Ghosts M} {D E : Type 0} (old mid : Core D E M m) (pid page : ℕ) (lives : (r : ℕ) × ((picture_of old).root pid ≡ Some r)) (pages : KeepsPages (picture_of old) (picture_of mid))

@@ -3,3 +3,4 @@ pub mod Wants
 pub mod Outcome
 pub mod Found
 pub mod Granted
+pub mod Asking

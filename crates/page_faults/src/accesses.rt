@@ -10,6 +10,7 @@ ghost use Rattle.mapping.specs.Changes.{IsCalm, IsThatPage, KeepsOtherViews, Kee
 ghost use Rattle.mapping.specs.Files.{Proceeds, BringsFiles};
 ghost use Rattle.page_faults.specs.Wants.{Wants, ReadsHome, ShowsFile};
 ghost use Rattle.page_faults.specs.Outcome.{IsPlaced, Grants, IsRefusal, IsWalked};
+ghost use Rattle.page_faults.specs.Asking.{AsksForPage};
 
 use crate::faults::fault;
 use crate::finding::{Finding, PAGE, find, keep_line};
@@ -26,6 +27,8 @@ use vm_types::{Access, Levels, Phys, Pid, Width};
 /// of the shared page of a file or an object, which is touched now: the caller writes the bytes. Where the walk returns a place already nothing changes;
 /// where no frame is wanted none is asked for, and nothing but the page's own entry changes. A frame that is wanted may be had by
 /// giving up another, which nobody sees. The store is read only for the page's own file page, where that is at home.
+/// Of the store no sector is asked for but those of that page, and of swap none but those of the slot that the page lies in, and of
+/// free slots where a frame that may be given up holds what has to go into one.
 ///
 /// # Errors
 /// `Fault` exactly where the access faults; then nothing changes. `Stall` only where the access is fine and a frame is wanted:
@@ -54,6 +57,7 @@ pub fn access<D: SectorDisk, E: SectorDisk, M: Levels>(
     ensures walked { (place : Phys) → IsWalked (picture_of core.old) pid addr width access place → (core.new ≡ core.old) × (result ≡ Ok place) }
     ensures calm { (Wants (picture_of core.old) pid (addr / 4096) access → ⊥) → IsCalm core.old core.new pid (addr / 4096) }
     ensures read { (core.new.store ≡ core.old.store) ⊎ ReadsHome (picture_of core.old) pid (addr / 4096) }
+    ensures asks { AsksForPage D.SectorDisk E.SectorDisk core.old core.new pid (addr / 4096) }
     ensures counts { OnOk result (CountsNothing D.SectorDisk E.SectorDisk core.old core.new) }
     ensures refusal { IfErr result (IsRefusal D.SectorDisk E.SectorDisk core.old core.new pid addr width access) }
 {

@@ -15,6 +15,7 @@ ghost use Rattle.page_faults.specs.Wants.{Wants, ReadsHome, ShowsFile};
 ghost use Rattle.page_faults.specs.Found.{IsOpenTo};
 ghost use Rattle.page_faults.specs.Outcome.{IsStalled};
 ghost use Rattle.page_faults.specs.Granted.{IsEntered, IsReadyAt};
+ghost use Rattle.page_faults.specs.Asking.{AsksForPage};
 
 use crate::processes::entry_at;
 use disk_model::SectorDisk;
@@ -51,6 +52,7 @@ pub(crate) fn grant<D: SectorDisk, E: SectorDisk, M: Levels>(
     ensures slotted { KeepsSlotted (ShowsFile (picture_of core.old) pid page) (IsThatPage pid page) (picture_of core.old) (picture_of core.new) }
     ensures calm { (Wants (picture_of core.old) pid page access → ⊥) → IsCalm core.old core.new pid page }
     ensures read { (core.new.store ≡ core.old.store) ⊎ ReadsHome (picture_of core.old) pid page }
+    ensures asks { AsksForPage D.SectorDisk E.SectorDisk core.old core.new pid page }
     ensures counts { OnOk result (CountsNothing D.SectorDisk E.SectorDisk core.old core.new) }
     ensures stalled { IfErr result (IsStalled D.SectorDisk E.SectorDisk core.old core.new pid page access) }
 {
@@ -79,6 +81,7 @@ fn grant_linked<D: SectorDisk, E: SectorDisk, M: Levels>(
     ensures slotted { KeepsSlotted (ShowsFile (picture_of core.old) pid page) (IsThatPage pid page) (picture_of core.old) (picture_of core.new) }
     ensures calm { (Wants (picture_of core.old) pid page access → ⊥) → IsCalm core.old core.new pid page }
     ensures read { (core.new.store ≡ core.old.store) ⊎ ReadsHome (picture_of core.old) pid page }
+    ensures asks { AsksForPage D.SectorDisk E.SectorDisk core.old core.new pid page }
     ensures counts { OnOk result (CountsNothing D.SectorDisk E.SectorDisk core.old core.new) }
     ensures stalled { IfErr result (IsStalled D.SectorDisk E.SectorDisk core.old core.new pid page access) }
 {
@@ -113,6 +116,7 @@ fn grant_read<D: SectorDisk, E: SectorDisk, M: Levels>(
     ensures slotted { KeepsSlotted (ShowsFile (picture_of core.old) pid page) (IsThatPage pid page) (picture_of core.old) (picture_of core.new) }
     ensures calm { (Wants (picture_of core.old) pid page access → ⊥) → IsCalm core.old core.new pid page }
     ensures read { (core.new.store ≡ core.old.store) ⊎ ReadsHome (picture_of core.old) pid page }
+    ensures asks { AsksForPage D.SectorDisk E.SectorDisk core.old core.new pid page }
     ensures counts { OnOk result (CountsNothing D.SectorDisk E.SectorDisk core.old core.new) }
     ensures stalled { IfErr result (IsStalled D.SectorDisk E.SectorDisk core.old core.new pid page access) }
 {
@@ -154,6 +158,7 @@ fn grant_store<D: SectorDisk, E: SectorDisk, M: Levels>(
     ensures slotted { KeepsSlotted (ShowsFile (picture_of core.old) pid page) (IsThatPage pid page) (picture_of core.old) (picture_of core.new) }
     ensures calm { (Wants (picture_of core.old) pid page Access.Store → ⊥) → IsCalm core.old core.new pid page }
     ensures read { (core.new.store ≡ core.old.store) ⊎ ReadsHome (picture_of core.old) pid page }
+    ensures asks { AsksForPage D.SectorDisk E.SectorDisk core.old core.new pid page }
     ensures counts { OnOk result (CountsNothing D.SectorDisk E.SectorDisk core.old core.new) }
     ensures stalled { IfErr result (IsStalled D.SectorDisk E.SectorDisk core.old core.new pid page Access.Store) }
 {
@@ -197,6 +202,7 @@ fn grant_own<D: SectorDisk, E: SectorDisk, M: Levels>(
     ensures slotted { KeepsSlotted (ShowsFile (picture_of core.old) pid page) (IsThatPage pid page) (picture_of core.old) (picture_of core.new) }
     ensures calm { (Wants (picture_of core.old) pid page Access.Store → ⊥) → IsCalm core.old core.new pid page }
     ensures read { (core.new.store ≡ core.old.store) ⊎ ReadsHome (picture_of core.old) pid page }
+    ensures asks { AsksForPage D.SectorDisk E.SectorDisk core.old core.new pid page }
     ensures counts { OnOk result (CountsNothing D.SectorDisk E.SectorDisk core.old core.new) }
     ensures stalled { IfErr result (IsStalled D.SectorDisk E.SectorDisk core.old core.new pid page Access.Store) }
 {
@@ -225,6 +231,7 @@ fn grant_copy<D: SectorDisk, E: SectorDisk, M: Levels>(
     ensures slotted { KeepsSlotted (ShowsFile (picture_of core.old) pid page) (IsThatPage pid page) (picture_of core.old) (picture_of core.new) }
     ensures calm { (Wants (picture_of core.old) pid page Access.Store → ⊥) → IsCalm core.old core.new pid page }
     ensures read { (core.new.store ≡ core.old.store) ⊎ ReadsHome (picture_of core.old) pid page }
+    ensures asks { AsksForPage D.SectorDisk E.SectorDisk core.old core.new pid page }
     ensures counts { OnOk result (CountsNothing D.SectorDisk E.SectorDisk core.old core.new) }
     ensures stalled { IfErr result (IsStalled D.SectorDisk E.SectorDisk core.old core.new pid page Access.Store) }
 {
@@ -254,6 +261,7 @@ fn grant_shared<D: SectorDisk, E: SectorDisk, M: Levels>(
     ensures slotted { KeepsSlotted (ShowsFile (picture_of core.old) pid page) (IsThatPage pid page) (picture_of core.old) (picture_of core.new) }
     ensures calm { (Wants (picture_of core.old) pid page Access.Store → ⊥) → IsCalm core.old core.new pid page }
     ensures read { (core.new.store ≡ core.old.store) ⊎ ReadsHome (picture_of core.old) pid page }
+    ensures asks { AsksForPage D.SectorDisk E.SectorDisk core.old core.new pid page }
     ensures counts { OnOk result (CountsNothing D.SectorDisk E.SectorDisk core.old core.new) }
     ensures stalled { IfErr result (IsStalled D.SectorDisk E.SectorDisk core.old core.new pid page Access.Store) }
 {

@@ -1,6 +1,8 @@
 use Rattle.std.proofs.Common.{ℕ, ◌≡◌, ◌⊎◌, inl, true, false, is_some, ◌/◌, ◌%◌, List, refl, sym, ap, ◌∙◌, subst}
+use Rattle.page_faults.specs.Asking.{AsksForPage}
 use Rattle.page_faults.specs.Outcome.{Grants, IsReadyToStore, IsOpenToStore, IsRefusal, IsWalked}
 use Rattle.page_faults.specs.Wants.{Wants, ReadsHome, ShowsFile}
+use Rattle.page_faults.proofs.Asking.{asks_same}
 use Rattle.page_faults.proofs.Slotted.{slotted_same}
 use Rattle.mapping.specs.Changes.{KeepsOtherViews, KeepsSlotted, IsThatPage}
 use Rattle.paging.specs.Picture.{picture_of, is_live}
@@ -103,12 +105,13 @@ returns-in-Ok-clause-asks g c =
     let mid = picture_of c.access.new.core in
     let placed = c.in-Ok.ensures.placed in
     let slotted = subst (λ (p : ℕ). KeepsSlotted (ShowsFile old p (a.addr / 4096)) (IsThatPage p (a.addr / 4096)) old mid) c.in-Some.ensures.found.0 c.access.ensures.slotted in
+    let sectors = subst (λ (p : ℕ). AsksForPage g.D.SectorDisk g.E.SectorDisk a.core.now c.access.new.core p (a.addr / 4096)) c.in-Some.ensures.found.0 c.access.ensures.asks in
     let usable = subst (λ (k : ℕ). IsOpenToStore mid c.in-Some.pid (a.addr / 4096) placed.seen.attr.backing k) (sym c.frame_of-frame.ensures) placed.usable in
-    asks_unstalled a.core.now _ a.pid a.addr Accesses.Store read slots
+    asks_unstalled g.D.SectorDisk g.E.SectorDisk a.core.now _ a.pid a.addr Accesses.Store read slots
     (slotted_stored old mid _ c.in-Some.pid (a.addr / 4096) placed.seen.attr.backing c.frame_of-frame.result.0 c.write_number.new.page
     (ShowsFile old a.pid (a.addr / 4096)) (IsThatPage a.pid (a.addr / 4096)) c.access.ensures.proceeds.fit usable refl
     (record { slots = refl; root = λ q. refl; at = λ q k. refl; page_of = λ m. refl; place = λ p. refl; touched = λ p. refl; files = λ f. refl }) slotted)
-    Done (λ stall e. cc)
+    (record { store = sectors.store; swap = sectors.swap }) Done (λ stall e. cc)
 
 pub returns-in-Err-clause-comes : goal.returns-in-Err-clause-comes
 returns-in-Err-clause-comes g c = λ s shows keeps swaps.
@@ -147,9 +150,9 @@ returns-in-Err-clause-walked g c place walked =
 pub returns-in-Err-clause-asks : goal.returns-in-Err-clause-asks
 returns-in-Err-clause-asks g c =
     let a = c.args in
-    subst (λ (r : Answer). AsksFor a.core.now c.access.new.core a.pid a.addr Accesses.Store (reply_of r)) (sym c.refused.ensures)
-    (subst (λ (p : ℕ). AsksFor a.core.now c.access.new.core p a.addr Accesses.Store (reply_of (answer_of c.in-Err.refusal))) c.in-Some.ensures.found.0
-    (asks_refused a.core.now c.access.new.core c.in-Some.pid a.addr Accesses.Store c.access.ensures.read (λ none. (c.access.ensures.calm none).swap) c.access.ensures.slotted g.D.SectorDisk g.E.SectorDisk
+    subst (λ (r : Answer). AsksFor g.D.SectorDisk g.E.SectorDisk a.core.now c.access.new.core a.pid a.addr Accesses.Store (reply_of r)) (sym c.refused.ensures)
+    (subst (λ (p : ℕ). AsksFor g.D.SectorDisk g.E.SectorDisk a.core.now c.access.new.core p a.addr Accesses.Store (reply_of (answer_of c.in-Err.refusal))) c.in-Some.ensures.found.0
+    (asks_refused g.D.SectorDisk g.E.SectorDisk a.core.now c.access.new.core c.in-Some.pid a.addr Accesses.Store c.access.ensures.read (λ none. (c.access.ensures.calm none).swap) c.access.ensures.slotted c.access.ensures.asks
     a.stored.width c.in-Err.refusal c.in-Err.ensures.refusal))
 
 pub returns-in-Err-clause-caused : goal.returns-in-Err-clause-caused
@@ -166,7 +169,7 @@ returns-in_default-clause-walked g c place walked =
 
 pub returns-in_default-clause-asks : goal.returns-in_default-clause-asks
 returns-in_default-clause-asks g c =
-    asks_unstalled c.args.core.now c.args.core.now c.args.pid c.args.addr Accesses.Store (inl refl) (λ none. refl) (slotted_same _ _ (picture_of c.args.core.now)) (Refused ESRCH) (λ stall e. cc)
+    asks_unstalled g.D.SectorDisk g.E.SectorDisk c.args.core.now c.args.core.now c.args.pid c.args.addr Accesses.Store (inl refl) (λ none. refl) (slotted_same _ _ (picture_of c.args.core.now)) (asks_same g.D.SectorDisk g.E.SectorDisk c.args.core.now c.args.core.now c.args.pid (c.args.addr / 4096) refl refl) (Refused ESRCH) (λ stall e. cc)
 
 pub returns-in_default-clause-others : goal.returns-in_default-clause-others
 returns-in_default-clause-others g c = λ q k other. refl

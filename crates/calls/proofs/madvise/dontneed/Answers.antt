@@ -8,7 +8,7 @@ use Rattle.vm_types.specs.declared.region.Attr.{Attr}
 use Rattle.calls.proofs.Uncopied.{covered_within, refused_hole, gives_up}
 use Rattle.calls.proofs.Calls.{found_lives}
 use Rattle.calls.proofs.Room.{room_same, sound_kept}
-use Rattle.calls.specs.Ranges.{TakesNothing}
+use Rattle.calls.specs.Ranges.{KeepsEntriesBeside, TakesNothing}
 use Rattle.calls.proofs.Returning.{takes_cleared}
 use Rattle.calls.proofs.madvise.dontneed.Goals as goal
 
@@ -59,3 +59,12 @@ returns-clause-takes g c =
     let cleared = c.clear_row.ensures in
     subst (λ (p : ℕ). TakesNothing (picture_of c.args.core.now) (picture_of c.clear_row.new.core) p 0 0) c.in-Some.ensures.found.0
     (takes_cleared c.args.core.now c.clear_row.new.core c.in-Some.pid 0 0 c.requires.sound.fit cleared.fit cleared.rest.roots cleared.tables cleared.rest.cache cleared.others)
+
+pub returns-clause-beside : goal.returns-clause-beside
+returns-clause-beside g c =
+    let a = c.args in
+    let old = picture_of a.core.now in
+    let new = picture_of c.clear_row.new.core in
+    let count : c.div_ceil-pages.result ≡ page_count a.len = omega (arith, c.div_ceil-pages.ensures) in
+    subst (λ (p : ℕ). KeepsEntriesBeside old new p (a.addr / 4096) (page_count a.len)) c.in-Some.ensures.found.0
+    (subst (λ (n : ℕ). KeepsEntriesBeside old new c.in-Some.pid (a.addr / 4096) n) count c.clear_row.ensures.row.kept)

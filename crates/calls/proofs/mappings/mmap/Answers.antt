@@ -14,7 +14,7 @@ use Rattle.calls.proofs.Calls.{found_lives}
 use Rattle.calls.proofs.Numbers.{nobody_has, lives_below}
 use Rattle.calls.proofs.NewObject.{new_unused, objects_mapped}
 use Rattle.calls.proofs.Room.{sound_kept}
-use Rattle.calls.specs.Ranges.{TakesNothing}
+use Rattle.calls.specs.Ranges.{KeepsEntriesBeside, TakesNothing}
 use Rattle.calls.proofs.Returning.{takes_remapped}
 use Rattle.calls.proofs.mappings.mmap.Goals as goal
 
@@ -100,3 +100,15 @@ returns-in-Ok-clause-takes g c =
     (subst (λ (n : ℕ). TakesNothing old new pid n (page_count a.len)) place
     (subst (λ (n : ℕ). TakesNothing old new pid first n) count
     (takes_remapped a.core.now c.remap.new.core pid first pages c.requires.sound.fit done.fit done.roots done.tables done.files done.others)))
+
+pub returns-in-Ok-clause-beside : goal.returns-in-Ok-clause-beside
+returns-in-Ok-clause-beside g c =
+    let a = c.args in
+    let old = picture_of a.core.now in
+    let new = picture_of c.remap.new.core in
+    let first = c.in-Ok.first in
+    let count : c.div_ceil-pages.result ≡ page_count a.len = omega (arith, c.div_ceil-pages.ensures) in
+    let place : first ≡ first * 4096 / 4096 = omega arith in
+    subst (λ (p : ℕ). KeepsEntriesBeside old new p (first * 4096 / 4096) (page_count a.len)) c.in-Some.ensures.found.0
+    (subst (λ (n : ℕ). KeepsEntriesBeside old new c.in-Some.pid n (page_count a.len)) place
+    (subst (λ (n : ℕ). KeepsEntriesBeside old new c.in-Some.pid first n) count c.remap.ensures.row.kept))

@@ -1,4 +1,6 @@
-use Rattle.std.proofs.Common.{ℕ, subst}
+use Rattle.std.proofs.Common.{ℕ, None, refl, subst}
+use Rattle.disk_model.specs.Moments.{Nothing}
+use Rattle.mapping.proofs.Asking.{asks_slots_same}
 use Rattle.lifecycle.specs.Changes.{AddsProcess, IsShortToFork}
 use Rattle.paging.specs.Picture.{picture_of, view}
 use Rattle.vm_types.specs.declared.refusal.Errno.TheVariants.{ESRCH, EAGAIN}
@@ -48,3 +50,9 @@ pub returns-in-Err-clause-takes : goal.returns-in-Err-clause-takes
 returns-in-Err-clause-takes g c =
     fork_stalled_takes (picture_of c.args.core.now) (picture_of c.fork.new.core) c.in-Some.parent c.args.pid c.in-Some.ensures.found.0
     c.in-Some-free_pid.child c.in-Err.stall c.in-Err.ensures.stalls
+
+pub returns-in_default-clause-asks : goal.returns-in_default-clause-asks
+returns-in_default-clause-asks g c = asks_slots_same g.E.SectorDisk c.args.core.now c.args.core.now None Nothing refl
+
+pub returns-in_default-free_pid-clause-asks : goal.returns-in_default-free_pid-clause-asks
+returns-in_default-free_pid-clause-asks g c = asks_slots_same g.E.SectorDisk c.args.core.now c.args.core.now None Nothing refl

@@ -1,3 +1,6 @@
+use Rattle.std.proofs.Common.{None, refl}
+use Rattle.disk_model.specs.Moments.{Nothing}
+use Rattle.mapping.proofs.Asking.{asks_slots_same}
 use Rattle.paging.specs.Picture.{picture_of}
 use Rattle.vm_types.specs.declared.refusal.Errno.TheVariants.{EAGAIN}
 use Rattle.calls.proofs.Taking.{spawn_refused_takes, spawned_takes, spawn_stalled_takes}
@@ -33,3 +36,6 @@ pub returns-in-Err-clause-takes : goal.returns-in-Err-clause-takes
 returns-in-Err-clause-takes g c =
     let said = c.in-Err.ensures in
     spawn_stalled_takes (picture_of c.args.core.now) (picture_of c.spawn.new.core) c.in-Err.stall said.tried said.still said.full said.refuses
+
+pub returns-in_default-clause-asks : goal.returns-in_default-clause-asks
+returns-in_default-clause-asks g c = asks_slots_same g.E.SectorDisk c.args.core.now c.args.core.now None Nothing refl

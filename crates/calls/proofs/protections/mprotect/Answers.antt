@@ -11,7 +11,7 @@ use Rattle.vm_types.specs.Rows.{protected}
 use Rattle.calls.proofs.Protects.{refuses, protects, protected_map}
 use Rattle.calls.proofs.Calls.{found_lives}
 use Rattle.calls.proofs.Room.{room_same, sound_kept}
-use Rattle.calls.specs.Ranges.{TakesNothing}
+use Rattle.calls.specs.Ranges.{KeepsEntriesBeside, TakesNothing}
 use Rattle.calls.proofs.Returning.{takes_rewritten}
 use Rattle.calls.proofs.protections.mprotect.Goals as goal
 
@@ -65,3 +65,12 @@ returns-in-Ok-clause-takes g c =
     let done = c.reprotect.ensures in
     subst (λ (p : ℕ). TakesNothing (picture_of c.args.core.now) (picture_of c.reprotect.new.core) p 0 0) c.in-Some.ensures.found.0
     (takes_rewritten c.args.core.now c.reprotect.new.core c.in-Some.pid 0 0 done.frames done.cache done.others)
+
+pub returns-in-Ok-clause-beside : goal.returns-in-Ok-clause-beside
+returns-in-Ok-clause-beside g c =
+    let a = c.args in
+    let old = picture_of a.core.now in
+    let new = picture_of c.reprotect.new.core in
+    let count : c.div_ceil-pages.result ≡ page_count a.len = omega (arith, c.div_ceil-pages.ensures) in
+    subst (λ (p : ℕ). KeepsEntriesBeside old new p (a.addr / 4096) (page_count a.len)) c.in-Some.ensures.found.0
+    (subst (λ (n : ℕ). KeepsEntriesBeside old new c.in-Some.pid (a.addr / 4096) n) count c.reprotect.ensures.row.kept)

@@ -6,11 +6,11 @@ use Rattle.paging.specs.Picture.{picture_of}
 use Rattle.vm_types.specs.Checks.{page_count}
 use Rattle.vm_types.specs.Rows.{removed}
 use Rattle.vm_types.specs.Runs.{run_count}
-use Rattle.calls.proofs.Unmapped.{clipped, objects_unmapped, others_stay, refused_many, unmaps}
+use Rattle.calls.proofs.Unmapped.{beside_part, clipped, objects_unmapped, others_stay, refused_many, unmaps}
 use Rattle.calls.proofs.Calls.{found_lives}
 use Rattle.calls.proofs.Room.{sound_kept}
 use Rattle.vm_types.specs.Objects.{Maps}
-use Rattle.calls.specs.Ranges.{TakesNothing}
+use Rattle.calls.specs.Ranges.{KeepsEntriesBeside, TakesNothing}
 use Rattle.calls.proofs.Returning.{takes_remapped}
 use Rattle.calls.proofs.unmapping.munmap.Goals as goal
 
@@ -102,3 +102,19 @@ returns-in-Ok-clause-takes g c =
     (subst (λ (n : ℕ). TakesNothing old new pid first n) count
     (takes_remapped a.core.now c.remap.new.core pid first pages c.requires.sound.fit done.fit done.roots done.tables
     (subst (λ (maps : Maps). KeepsNamed maps old new) (sym row) done.files) done.others))
+
+pub returns-in-Ok-clause-beside : goal.returns-in-Ok-clause-beside
+returns-in-Ok-clause-beside g c =
+    let a = c.args in
+    let old = picture_of a.core.now in
+    let new = picture_of c.remap.new.core in
+    let first = a.addr / 4096 in
+    let pages = c.div_ceil-pages.result in
+    let start = c.min-start.result in
+    let count : pages ≡ page_count a.len = omega (arith, c.div_ceil-pages.ensures) in
+    let outside = beside_part g.M.Levels.mode first pages start (c.min-end.result - start)
+    (c.min-start.ensures ∙ ap (λ (n : ℕ). min first n) c.user_end-stop.ensures.end)
+    (ap (λ (n : ℕ). n - start) (c.min-end.ensures ∙ ap (λ (n : ℕ). min (first + pages) n) c.user_end-stop.ensures.end)) in
+    subst (λ (p : ℕ). KeepsEntriesBeside old new p first (page_count a.len)) c.in-Some.ensures.found.0
+    (subst (λ (n : ℕ). KeepsEntriesBeside old new c.in-Some.pid first n) count
+    (λ page user out. c.remap.ensures.row.kept page user (outside page out)))

@@ -1,10 +1,12 @@
 use Rattle.std.proofs.Common.{ℕ, inl, Option, None, sym, refl, ◌∙◌, subst}
+use Rattle.disk_model.specs.Moments.{Nothing}
 use Rattle.regions.specs.RunList.{attr_at}
 use Rattle.paging.specs.Picture.{picture_of}
 use Rattle.paging.specs.Ages.{GivesForTables}
 use Rattle.paging.proofs.Aging.{gives_same, gives_then}
 use Rattle.paging.proofs.Shown.{keeps_then}
 use Rattle.mapping.proofs.Steps.{moves_none, moves_then, bare_then, stall_then, cause_as}
+use Rattle.mapping.proofs.Asking.{no_new_same, no_new_then, asks_slots_same, asks_slots_then}
 use Rattle.page_ranges.proofs.Emptied.{low_zero}
 use Rattle.copy_on_write.specs.Steps.{HasTables, HasTablesFrom, IsMappedRow, LacksTableForCopy}
 use Rattle.copy_on_write.proofs.Linked.{on_err, still_there, both_rows, unmapped_wants, all_rows, lacks_before, none_wanted, links_then}
@@ -25,6 +27,8 @@ loop-run-init g c =
       no_copy = λ n is. is;
       not_refused = refl;
       swap_calm = refl;
+      asks = asks_slots_same g.E.SectorDisk c.args.core.now c.args.core.now None Nothing refl;
+      asks_later = no_new_same old None Nothing;
     }
 
 pub loop-run-preserved : goal.loop-run-preserved
@@ -56,6 +60,8 @@ loop-run-preserved g c =
       no_copy = λ n is. k.no_copy n (step.no_copy n is);
       not_refused = step.cause.0 ∙ k.not_refused;
       swap_calm = step.cause.1 ∙ k.swap_calm;
+      asks = asks_slots_then g.E.SectorDisk first mid last None Nothing Nothing k.asks k.asks_later step.asks (λ n none. absurd none);
+      asks_later = no_new_then (picture_of first) (picture_of mid) (picture_of last) None Nothing Nothing k.asks_later step.asks_later (λ n none. absurd none);
     }
 
 pub link_run-requires-clause-mapped : goal.link_run-requires-clause-mapped
@@ -119,3 +125,12 @@ returns-in_err-link_run-clause-cause g c =
     let k = c.loop-run.invariant in
     cause_as g.E.SectorDisk c.args.core.now c.link_run.new.core c.from_residual.result c.in_err-link_run.field-0.0 c.from_residual.ensures.1
     (stall_then g.E.SectorDisk c.args.core.now c.loop-run.core c.link_run.new.core c.in_err-link_run.field-0.0 k.not_refused k.swap_calm c.in_err-link_run.ensures.cause)
+
+pub returns-in_err-link_run-clause-asks : goal.returns-in_err-link_run-clause-asks
+returns-in_err-link_run-clause-asks g c =
+    let k = c.loop-run.invariant in
+    asks_slots_then g.E.SectorDisk c.args.core.now c.loop-run.core c.link_run.new.core None Nothing Nothing k.asks k.asks_later c.in_err-link_run.ensures.asks (λ n none. absurd none)
+
+pub returns-in_err-link_run-clause-asks_later : goal.returns-in_err-link_run-clause-asks_later
+returns-in_err-link_run-clause-asks_later g c =
+    no_new_then (picture_of c.args.core.now) (picture_of c.loop-run.core) (picture_of c.link_run.new.core) None Nothing Nothing c.loop-run.invariant.asks_later c.in_err-link_run.ensures.asks_later (λ n none. absurd none)

@@ -1,9 +1,11 @@
 use Rattle.vm_types.specs.Limits.{top_level}
-use Rattle.std.proofs.Common.{Option, sym, ◌∙◌, subst, arith}
+use Rattle.std.proofs.Common.{Option, None, refl, sym, ◌∙◌, subst, arith}
 use Rattle.std.specs.Prelude.{IsSome}
+use Rattle.disk_model.specs.Moments.{Nothing}
 use Rattle.page_tables.specs.Tree.{missing_of}
 use Rattle.vm_types.specs.declared.region.Attr.{Attr}
 use Rattle.paging.specs.Picture.{picture_of}
+use Rattle.mapping.proofs.Asking.{no_new_same, asks_slots_same}
 use Rattle.page_ranges.proofs.Gaps.{in_row_of, step_gap}
 use Rattle.copy_on_write.specs.Steps.{LacksTableForCopy}
 use Rattle.copy_on_write.proofs.Copies.{copied_mapped}
@@ -52,3 +54,15 @@ returns-in_err-link_tables-clause-lacks g c =
     let page = c.in-Some-first_copy.copied in
     on_err c.from_residual.result (LacksTableForCopy new c.args.parent c.args.child)
     (page, copy_stays old new c.args.parent page c.requires.fit.granting done.pages c.in-Some-first_copy.ensures.some, done.wanted)
+
+pub returns-in-Some-clause-asks : goal.returns-in-Some-clause-asks
+returns-in-Some-clause-asks g c = asks_slots_same g.E.SectorDisk c.args.core.now c.args.core.now None Nothing refl
+
+pub returns-in-Some-clause-asks_later : goal.returns-in-Some-clause-asks_later
+returns-in-Some-clause-asks_later g c = no_new_same (picture_of c.args.core.now) None Nothing
+
+pub returns-in_default-first_copy-clause-asks : goal.returns-in_default-first_copy-clause-asks
+returns-in_default-first_copy-clause-asks g c = asks_slots_same g.E.SectorDisk c.args.core.now c.args.core.now None Nothing refl
+
+pub returns-in_default-first_copy-clause-asks_later : goal.returns-in_default-first_copy-clause-asks_later
+returns-in_default-first_copy-clause-asks_later g c = no_new_same (picture_of c.args.core.now) None Nothing

@@ -22,6 +22,7 @@ use Rattle.lifecycle.proofs.Shortage.{short_before}
 use Rattle.lifecycle.proofs.Copying.{readied, short_readied, unmade, copied, copies_shared, bare_shared, tables_kept, as_stall}
 use Rattle.lifecycle.proofs.Taking.{gives_mapped, tables_mid, entries_forked, tables_taken}
 use Rattle.lifecycle.proofs.Stalling.{stalls_first, stalls_later}
+use Rattle.lifecycle.proofs.Asking.{asks_forked}
 use Rattle.lifecycle.proofs.forking.fork.Goals as goal
 
 pub returns-in_err-spawn-clause-short : goal.returns-in_err-spawn-clause-short
@@ -249,3 +250,15 @@ pub returns-in-Err-clause-copies : goal.returns-in-Err-clause-copies
 returns-in-Err-clause-copies g c n is =
     let mapped = c.in-Err.ensures.no_copy n (no_copy_taken c.link_copies.new.core.frames c.exit.new.core.frames c.exit.ensures.frames n is) in
     c.in_ok-spawn.ensures.copies n (sym (ap (λ t. role_of t n) c.map_alike.ensures.rest.frames) ∙ mapped)
+
+pub returns-in-Err-clause-asks : goal.returns-in-Err-clause-asks
+returns-in-Err-clause-asks g c =
+    let first = c.in_ok-spawn.ensures in
+    asks_forked g.E.SectorDisk c.args.core.now c.spawn.new.core c.map_alike.new.core c.link_copies.new.core c.exit.new.core first.asks first.asks_later c.map_alike.ensures.rest
+    c.in-Err.ensures.asks c.exit.ensures.devices.pages
+
+pub returns-clause-asks : goal.returns-clause-asks
+returns-clause-asks g c =
+    let first = c.in_ok-spawn.ensures in
+    asks_forked g.E.SectorDisk c.args.core.now c.spawn.new.core c.map_alike.new.core c.link_copies.new.core c.share_pages.new.core first.asks first.asks_later c.map_alike.ensures.rest
+    c.in_default.ensures.asks c.share_pages.ensures.rest.pages

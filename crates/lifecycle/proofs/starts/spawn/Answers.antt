@@ -1,11 +1,14 @@
-use Rattle.std.proofs.Common.{ap, ◌∙◌}
+use Rattle.std.proofs.Common.{None, ap, ◌∙◌}
+use Rattle.disk_model.specs.Moments.{Nothing}
 use Rattle.regions.proofs.ResultLemmas.{on_err}
 use Rattle.paging.specs.Picture.{Picture, picture_of, root_in}
 use Rattle.mapping.proofs.Spawning.{fit_started}
 use Rattle.mapping.proofs.Steps.{bare_freed, room_freed}
+use Rattle.mapping.proofs.Asking.{no_new_frees, asks_swap}
 use Rattle.lifecycle.specs.Changes.{KeepsProcesses}
 use Rattle.lifecycle.proofs.Keeping.{dead_root, pages_kept, no_copy_freed}
 use Rattle.lifecycle.proofs.Starting.{process_added, root_taken, root_given, bare_kept, no_copy, files_kept, room_kept}
+use Rattle.lifecycle.proofs.Asking.{asks_process, no_new_spawned}
 use Rattle.lifecycle.proofs.starts.spawn.Goals as goal
 
 pub add_process-requires : goal.add_process-requires
@@ -55,6 +58,16 @@ returns-clause-room g c =
     room_kept (picture_of c.args.core.now) (picture_of c.take_table.new.self) (picture_of c.add_process.new.self) c.args.pid c.in_ok-root.root.0
     c.in_ok-root.ensures.taken c.add_process.ensures.spawns
 
+pub returns-clause-asks : goal.returns-clause-asks
+returns-clause-asks g c =
+    asks_process g.E.SectorDisk c.args.core.now c.take_table.new.self c.add_process.new.self c.add_process.ensures.rest
+    (asks_swap g.E.SectorDisk c.args.core.now c.take_table.new.self None Nothing c.in_ok-root.ensures.asked)
+
+pub returns-clause-asks_later : goal.returns-clause-asks_later
+returns-clause-asks_later g c =
+    no_new_spawned (picture_of c.args.core.now) (picture_of c.take_table.new.self) (picture_of c.add_process.new.self) c.args.pid c.in_ok-root.root.0 c.requires.fit
+    c.in_ok-root.ensures.taken c.add_process.ensures.spawns
+
 pub returns-in_err-root-clause-err : goal.returns-in_err-root-clause-err
 returns-in_err-root-clause-err g c =
     let old : Picture g.M.Levels.mode = picture_of c.args.core.now in
@@ -72,3 +85,9 @@ returns-in_err-root-clause-files g c = c.in_err-root.ensures.frees.pages.files
 
 pub returns-in_err-root-clause-room : goal.returns-in_err-root-clause-room
 returns-in_err-root-clause-room g c = room_freed (picture_of c.args.core.now) (picture_of c.take_table.new.self) _ c.in_err-root.ensures.frees
+
+pub returns-in_err-root-clause-asks : goal.returns-in_err-root-clause-asks
+returns-in_err-root-clause-asks g c = asks_swap g.E.SectorDisk c.args.core.now c.take_table.new.self None Nothing c.in_err-root.ensures.asked
+
+pub returns-in_err-root-clause-asks_later : goal.returns-in_err-root-clause-asks_later
+returns-in_err-root-clause-asks_later g c = no_new_frees (picture_of c.args.core.now) (picture_of c.take_table.new.self) None c.in_err-root.ensures.frees c.requires.fit

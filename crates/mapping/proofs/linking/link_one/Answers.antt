@@ -1,4 +1,5 @@
-use Rattle.std.proofs.Common.{◌≡◌, inl, inr, sym, ◌∙◌}
+use Rattle.std.proofs.Common.{◌≡◌, inl, inr, None, sym, ◌∙◌}
+use Rattle.disk_model.specs.Moments.{Nothing}
 use Rattle.frames.specs.declared.role.Role.TheVariants.{Free, Private}
 use Rattle.regions.proofs.ResultLemmas.{on_err}
 use Rattle.paging.specs.Picture.{Picture, picture_of}
@@ -7,6 +8,7 @@ use Rattle.mapping.proofs.Steps.{same_with, moves_freed, bare_freed}
 use Rattle.mapping.proofs.Slotted.{slotted_frees}
 use Rattle.mapping.proofs.TablesLinked.{pages_linked, bare_linked, slotted_linked, tables_linked, spaces_linked, room_linked, fit_after, no_copy_linked, missing_taken}
 use Rattle.mapping.proofs.TablesGiven.{still_wanted, links_none, gives_linked, links_linked}
+use Rattle.mapping.proofs.Asking.{no_new_frees, no_new_linked, asks_swap}
 use Rattle.mapping.proofs.linking.link_one.Goals as goal
 
 pub link_table-requires-clause-root : goal.link_table-requires-clause-root
@@ -83,6 +85,15 @@ returns-clause-tables g c =
     links_linked (picture_of c.args.core.now) taken (record taken { frames = c.link_table.new.memory }) c.args.pid c.args.root.0 c.args.page c.in_ok-table.table.0 c.in_ok-table.ensures.taken c.requires.lives
     c.link_table.ensures.links (same_with taken c.link_table.new.memory) c.in_ok-table.ensures.gives c.in_ok-table.ensures.only
 
+pub returns-clause-asks : goal.returns-clause-asks
+returns-clause-asks g c = asks_swap g.E.SectorDisk c.args.core.now c.take_table.new.self None Nothing c.in_ok-table.ensures.asked
+
+pub returns-clause-asks_later : goal.returns-clause-asks_later
+returns-clause-asks_later g c =
+    let taken : Picture g.M.Levels.mode = picture_of c.take_table.new.self in
+    no_new_linked (picture_of c.args.core.now) taken c.in_ok-table.table.0 c.requires.fit c.in_ok-table.ensures.taken (record taken { frames = c.link_table.new.memory })
+    c.link_table.ensures.links.kept (same_with taken c.link_table.new.memory)
+
 pub returns-in_err-table-clause-moves : goal.returns-in_err-table-clause-moves
 returns-in_err-table-clause-moves g c =
     let done = c.in_err-table.ensures in
@@ -111,3 +122,9 @@ pub returns-in_err-table-clause-tables : goal.returns-in_err-table-clause-tables
 returns-in_err-table-clause-tables g c =
     let done = c.in_err-table.ensures in
     links_none (picture_of c.args.core.now) (picture_of c.take_table.new.self) c.args.pid c.args.page done.frees.count done.still
+
+pub returns-in_err-table-clause-asks : goal.returns-in_err-table-clause-asks
+returns-in_err-table-clause-asks g c = asks_swap g.E.SectorDisk c.args.core.now c.take_table.new.self None Nothing c.in_err-table.ensures.asked
+
+pub returns-in_err-table-clause-asks_later : goal.returns-in_err-table-clause-asks_later
+returns-in_err-table-clause-asks_later g c = no_new_frees (picture_of c.args.core.now) (picture_of c.take_table.new.self) None c.in_err-table.ensures.frees c.requires.fit

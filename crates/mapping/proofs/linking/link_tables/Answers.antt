@@ -1,6 +1,7 @@
 use Rattle.std.proofs.Common.{ℕ, inl, Option, None, refl, sym, ◌∙◌, subst, arith}
 use Rattle.std.specs.Prelude.{IsSome}
 use Rattle.vm_types.specs.declared.region.Attr.{Attr}
+use Rattle.disk_model.specs.Moments.{Nothing}
 use Rattle.regions.proofs.ResultLemmas.{on_err}
 use Rattle.paging.specs.Ages.{GivesForTables}
 use Rattle.paging.specs.Picture.{Picture, picture_of}
@@ -9,6 +10,7 @@ use Rattle.mapping.proofs.Slotted.{slotted_then, slotted_same}
 use Rattle.mapping.proofs.Steps.{moves_none, moves_then, bare_then, stall_then, cause_as}
 use Rattle.paging.proofs.Aging.{gives_same, gives_then}
 use Rattle.mapping.proofs.TablesGiven.{links_then}
+use Rattle.mapping.proofs.Asking.{no_new_same, no_new_then, asks_slots_same, asks_slots_then}
 use Rattle.mapping.proofs.linking.link_tables.Goals as goal
 
 pub missing_tables-requires-clause-root : goal.missing_tables-requires-clause-root
@@ -29,6 +31,8 @@ loop-pid-init g c = (
   λ n table. inl table,
   slotted_same (λ p. ⊥) (λ q p. ⊥) (picture_of c.args.core.now) (picture_of c.args.core.now) (λ p. refl) (λ q p h. refl),
   refl,
+  asks_slots_same g.E.SectorDisk c.args.core.now c.args.core.now None Nothing refl,
+  no_new_same (picture_of c.args.core.now) None Nothing,
 )
 
 pub loop-pid-preserved : goal.loop-pid-preserved
@@ -52,6 +56,8 @@ loop-pid-preserved g c =
       links_then (picture_of first) (picture_of mid) (picture_of last) c.args.pid c.args.page None (step.moves.spaces.root c.args.pid) step.gives k.10 step.tables,
       slotted_then (λ p. ⊥) (λ q p. ⊥) (picture_of first) (picture_of mid) (picture_of last) k.11 step.slotted,
       step.cause.1 ∙ k.12,
+      asks_slots_then g.E.SectorDisk first mid last None Nothing Nothing k.13 k.14 step.asks (λ n none. absurd none),
+      no_new_then (picture_of first) (picture_of mid) (picture_of last) None Nothing Nothing k.14 step.asks_later (λ n none. absurd none),
     )
 
 pub returns-in_err-link_one-clause-tried : goal.returns-in_err-link_one-clause-tried
@@ -79,3 +85,12 @@ returns-in_err-link_one-clause-cause g c =
     let k = c.loop-pid.invariant in
     cause_as g.E.SectorDisk c.args.core.now c.link_one.new.core c.from_residual.result c.in_err-link_one.field-0.0 c.from_residual.ensures.1
     (stall_then g.E.SectorDisk c.args.core.now c.loop-pid.core c.link_one.new.core c.in_err-link_one.field-0.0 k.3 k.12 c.in_err-link_one.ensures.cause)
+
+pub returns-in_err-link_one-clause-asks : goal.returns-in_err-link_one-clause-asks
+returns-in_err-link_one-clause-asks g c =
+    let k = c.loop-pid.invariant in
+    asks_slots_then g.E.SectorDisk c.args.core.now c.loop-pid.core c.link_one.new.core None Nothing Nothing k.13 k.14 c.in_err-link_one.ensures.asks (λ n none. absurd none)
+
+pub returns-in_err-link_one-clause-asks_later : goal.returns-in_err-link_one-clause-asks_later
+returns-in_err-link_one-clause-asks_later g c =
+    no_new_then (picture_of c.args.core.now) (picture_of c.loop-pid.core) (picture_of c.link_one.new.core) None Nothing Nothing c.loop-pid.invariant.14 c.in_err-link_one.ensures.asks_later (λ n none. absurd none)

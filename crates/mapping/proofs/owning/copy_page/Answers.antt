@@ -1,7 +1,8 @@
 use Rattle.std.specs.Prelude.{is_some}
-use Rattle.std.proofs.Common.{◌≡◌, inl, refl, sym, ap, ◌∙◌, subst}
+use Rattle.std.proofs.Common.{◌≡◌, Some, inl, refl, sym, ap, ◌∙◌, subst}
 use Rattle.std.specs.Prelude.{IsTrue}
 use Rattle.std.proofs.lemmas.Bool.{false≢true}
+use Rattle.disk_model.specs.Moments.{Nothing}
 use Rattle.frames.specs.declared.role.Role.{Role}
 use Rattle.frames.specs.declared.role.Role.TheVariants.{Free, Private}
 use Rattle.frames.specs.FrameTable.{is_handed_out}
@@ -12,6 +13,7 @@ use Rattle.paging.specs.Picture.{Picture, picture_of, is_private}
 use Rattle.paging.specs.Steps.{SameBeside}
 use Rattle.paging.proofs.Granting.{past_end-same}
 use Rattle.mapping.specs.Changes.{IsThatPage}
+use Rattle.mapping.proofs.Asking.{asks_slots_kept}
 use Rattle.mapping.proofs.Entering.{beside_around}
 use Rattle.mapping.proofs.OwnSteps.{behind_freed, shown_used, shown_datum, lives_found, whole_found, at_found, spaces_set, tables_set, room_set, others_set, bare_set, slotted_set, files_set, bytes_set, own_set, entry_set, count_set, fit_first, behind_first, role_shared, fit_shared, spaces_shared, tables_shared, room_shared, others_shared, bare_shared, slotted_shared, files_shared, bytes_shared, own_shared, entry_shared, count_shared}
 use Rattle.mapping.proofs.Forms.{used_inside}
@@ -431,3 +433,11 @@ returns-in_err-own-clause-behind g c = λ x not_own behind.
 
 pub set_full-requires-clause-user : goal.set_full-requires-clause-user
 set_full-requires-clause-user g c = ((c.requires.linked.fit.granting.user c.args.pid).user_pages c.args.page (ap is_some c.requires.attr)).1
+
+pub returns-then-is_private-clause-asks : goal.returns-then-is_private-clause-asks
+returns-then-is_private-clause-asks g c =
+    asks_slots_kept g.E.SectorDisk c.args.core.now c.take_copy.new.core c.set_full.new.core (Some c.args.shown) Nothing (ap (λ (s : Swap _). s.pages) c.set_full.ensures.rest.swap) c.in_ok-own.ensures.asks
+
+pub returns-else-is_private-clause-asks : goal.returns-else-is_private-clause-asks
+returns-else-is_private-clause-asks g c =
+    asks_slots_kept g.E.SectorDisk c.args.core.now c.take_copy.new.core c.set_full.new.core (Some c.args.shown) Nothing (ap (λ (s : Swap _). s.pages) c.set_full.ensures.rest.swap) c.in_ok-own.ensures.asks

@@ -1,6 +1,7 @@
 use Rattle.std.proofs.Common.{◌≡◌, ◌≢◌, ℕ, Bool, true, false, Some, Result, Ok, Err, inl, inr, get_or, sym, ap, ◌∙◌, subst, arith}
 use Rattle.std.specs.Prelude.{IfOk, IfErr, OnErr}
 use Rattle.std.proofs.lemmas.Bool.{cases_Bool, false≢true}
+use Rattle.disk_model.specs.Moments.{Nothing}
 use Rattle.frames.specs.declared.role.Role.TheVariants.{Free, Table, Private}
 use Rattle.frames.specs.FrameTable.{bytes_of, count_of}
 use Rattle.sv39_walk.specs.Entry.{frame_of}
@@ -10,7 +11,9 @@ use Rattle.paging.specs.Calls.{Frees, Refuses}
 use Rattle.paging.proofs.Entries.{entry-of}
 use Rattle.page_tables.specs.Leaves.{IsEntryOver}
 use Rattle.mapping.specs.Leaves.{IsFullEntry}
-use Rattle.mapping.specs.Changes.{shown_frame, is_sole}
+use Rattle.mapping.specs.Asking.{AsksSlots}
+use Rattle.mapping.specs.Changes.{shown_frame, copied_frame, is_sole}
+use Rattle.mapping.proofs.Asking.{asks_slots_same}
 use Rattle.mapping.proofs.Forms.{mapped_page, used_inside, own_role, seat_zero, none_common}
 use Rattle.mapping.proofs.OwnSteps.{shown_used, shown_own, shown_behind, common_when, several_when, full_own, own_view}
 use Rattle.mapping.proofs.Slotted.{slotted_calm}
@@ -248,3 +251,14 @@ returns-clause-refuses g c =
     let shown = c.shown_frame-shown.ensures ∙ ap (λ x. shown_frame old x c.args.attr.backing) e in
     let P : ℕ → Type 0 = λ x. IfErr c.copy_page.result (Refuses (picture_of c.copy_page.new.core) (Some (record { 0 = x }))) in
     subst P shown c.copy_page.ensures.refuses
+
+pub returns-then-count-eq1-clause-asks : goal.returns-then-count-eq1-clause-asks
+returns-then-count-eq1-clause-asks g c = asks_slots_same g.E.SectorDisk c.args.core.now c.regrant.new.core (copied_frame (picture_of c.args.core.now) c.args.pid c.args.page c.args.attr) Nothing c.regrant.ensures.enters.calm.swap
+
+pub returns-clause-asks : goal.returns-clause-asks
+returns-clause-asks g c =
+    let old : Picture g.M.Levels.mode = picture_of c.args.core.now in
+    let e = c.entry_number-entry.ensures ∙ sym (entry-of old c.args.pid c.root_of-root.result.0 c.args.page c.root_of-root.ensures) in
+    let shown = c.shown_frame-shown.ensures ∙ ap (λ x. shown_frame old x c.args.attr.backing) e in
+    let P : ℕ → Type 0 = λ x. AsksSlots g.E.SectorDisk c.args.core.now c.copy_page.new.core (Some (record { 0 = x })) Nothing in
+    subst P shown c.copy_page.ensures.asks

@@ -1,8 +1,10 @@
-use Rattle.std.proofs.Common.{◌≢◌, refl, sym, ap, ◌∙◌, subst, arith}
+use Rattle.std.proofs.Common.{◌≢◌, Some, refl, sym, ap, ◌∙◌, subst, arith}
+use Rattle.disk_model.specs.Moments.{Nothing}
 use Rattle.frames.specs.FrameTable.{FrameTable, IsFrame, bytes_of, role_of, count_of}
 use Rattle.frames.proofs.FrameLemmas.{with_bytes-others, with_bytes-same}
 use Rattle.paging.specs.Picture.{Picture, picture_of}
 use Rattle.paging.specs.Steps.{ChangesFrame}
+use Rattle.mapping.proofs.Asking.{asks_swap}
 use Rattle.mapping.proofs.SwapSteps.{own_written}
 use Rattle.mapping.proofs.owning.take_copy.Goals as goal
 
@@ -46,3 +48,9 @@ returns-clause-taken g c =
       noted = took.own.noted;
       copied = ap (λ t. bytes_of t n) c.fill.ensures ∙ with_bytes-same taken.frames n w inside ∙ took.own.takes.others.bytes m apart ∙ took.frees.kept_bytes m refl c.requires.datum;
     }
+
+pub returns-clause-asks : goal.returns-clause-asks
+returns-clause-asks g c = asks_swap g.E.SectorDisk c.args.core.now c.take_own.new.self (Some c.args.from) Nothing c.in_ok-own.ensures.asked
+
+pub returns-in_err-own-clause-asks : goal.returns-in_err-own-clause-asks
+returns-in_err-own-clause-asks g c = asks_swap g.E.SectorDisk c.args.core.now c.take_own.new.self (Some c.args.from) Nothing c.in_err-own.ensures.asked

@@ -1,15 +1,20 @@
-use Rattle.std.proofs.Common.{ℕ, ◌≡◌, false, inl, inr, ap, sym, ◌∙◌, subst}
+use Rattle.std.proofs.Common.{ℕ, ◌≡◌, ◌≢◌, false, inl, inr, Some, None, ap, sym, ◌∙◌, subst}
 use Rattle.file_store.specs.declared.store.FileStore.{FileStore}
-use Rattle.file_store.specs.Store.{IsReadyStore}
+use Rattle.file_store.specs.Store.{IsReadyStore, IsSectorOf}
 use Rattle.std.proofs.lemmas.Bool.{cases_Bool}
-use Rattle.page_cache.specs.declared.place.Place.TheVariants.{Home, Frame, Slot}
+use Rattle.page_cache.specs.declared.place.Place.TheVariants.{Home, Frame}
 use Rattle.paging.specs.Picture.{Picture, picture_of}
 use Rattle.paging.specs.Parts.{IsFit}
+use Rattle.vm_types.specs.declared.number.FrameNo.{FrameNo}
 use Rattle.vm_types.specs.declared.object.PageKey.{PageKey}
 use Rattle.vm_types.specs.declared.object.PageKey.TheVariants.{File, Object}
 use Rattle.std.specs.Prelude.{IfOk}
+use Rattle.disk_model.proofs.Moments.{asks_wider}
+use Rattle.mapping.specs.Asking.{AsksNoNew, IsSectorOfPage, IsSectorOfFile}
 use Rattle.mapping.specs.Changes.{KeepsSlotted}
 use Rattle.mapping.specs.Files.{BringsPages}
+use Rattle.mapping.proofs.Asking.{asks_swap}
+use Rattle.mapping.proofs.AskedIn.{store_same, no_new_of}
 use Rattle.mapping.proofs.BroughtIn.{spaces_of, tables_of, room_of, seen_of, bare_of, slotted_of, placed_of, reads_none, brings_home_of, brings_blank_of, causes_of, never_store, err_always, refused_but}
 use Rattle.mapping.proofs.page_in.bring_home.Goals as goal
 
@@ -19,6 +24,9 @@ untouched_home c p fit home = elim (cases_Bool (c.touched p)) [
   | inl touched ↦ absurd (fit.dirty.held p touched home)
   | inr clean ↦ clean
 ]
+
+no_frame : (k : FrameNo) → Home ≢ Frame k
+no_frame k e = (cc)
 
 pub returns-in-File-clause-proceeds : goal.returns-in-File-clause-proceeds
 returns-in-File-clause-proceeds g c =
@@ -114,3 +122,29 @@ returns-in-Object-clause-cause g c = causes_of g.D.SectorDisk g.E.SectorDisk c.a
 
 pub returns-in-Object-clause-refuses : goal.returns-in-Object-clause-refuses
 returns-in-Object-clause-refuses g c = refused_but _ c.bring_blank.result c.bring_blank.ensures.refuses
+
+pub returns-in-File-clause-asks : goal.returns-in-File-clause-asks
+returns-in-File-clause-asks g c = asks_swap g.E.SectorDisk c.args.core.now c.bring_in.new.self None (IsSectorOfPage (picture_of c.args.core.now) c.args.page) c.bring_in.ensures.asked
+
+pub returns-in-File-clause-asks_store : goal.returns-in-File-clause-asks_store
+returns-in-File-clause-asks_store g c =
+    asks_wider g.D.SectorDisk (IsSectorOf c.args.core.now.store c.in-File.page) (IsSectorOfFile c.args.core.now.store c.args.page) c.args.core.now.store.disk c.bring_in.new.self.store.disk (λ k is. (c.in-File.page, c.in-File.is, is))
+    c.bring_in.ensures.asks
+
+pub returns-in-File-clause-asks_later : goal.returns-in-File-clause-asks_later
+returns-in-File-clause-asks_later g c =
+    let old = picture_of c.args.core.now in
+    let P : PageKey → Type 0 = λ x. IfOk c.bring_in.result (λ n. AsksNoNew old (picture_of c.bring_in.new.self) (Some n) (IsSectorOfPage old x)) in
+    subst P (sym c.in-File.is) (no_new_of old (picture_of c.bring_in.new.self) (File c.in-File.page) c.requires.fit (λ k at. no_frame k (sym c.requires.home ∙ ap old.place c.in-File.is ∙ at)) c.bring_in.result c.bring_in.ensures.brought)
+
+pub returns-in-Object-clause-asks : goal.returns-in-Object-clause-asks
+returns-in-Object-clause-asks g c = asks_swap g.E.SectorDisk c.args.core.now c.bring_blank.new.self None (IsSectorOfPage (picture_of c.args.core.now) c.args.page) c.bring_blank.ensures.asked
+
+pub returns-in-Object-clause-asks_store : goal.returns-in-Object-clause-asks_store
+returns-in-Object-clause-asks_store g c = store_same g.D.SectorDisk (IsSectorOfFile c.args.core.now.store c.args.page) c.args.core.now.store c.bring_blank.new.self.store c.bring_blank.ensures.rest.store
+
+pub returns-in-Object-clause-asks_later : goal.returns-in-Object-clause-asks_later
+returns-in-Object-clause-asks_later g c =
+    let old = picture_of c.args.core.now in
+    let P : PageKey → Type 0 = λ x. IfOk c.bring_blank.result (λ n. AsksNoNew old (picture_of c.bring_blank.new.self) (Some n) (IsSectorOfPage old x)) in
+    subst P (sym c.in-Object.is) (no_new_of old (picture_of c.bring_blank.new.self) (Object c.in-Object.page) c.requires.fit (λ k at. no_frame k (sym c.requires.home ∙ ap old.place c.in-Object.is ∙ at)) c.bring_blank.result c.bring_blank.ensures.brought)

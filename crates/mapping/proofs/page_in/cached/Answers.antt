@@ -1,8 +1,14 @@
-use Rattle.std.proofs.Common.{ℕ, ◌≡◌, refl, sym, ◌∙◌, subst, arith}
+use Rattle.std.proofs.Common.{ℕ, ◌≡◌, ◌≢◌, inl, Some, None, refl, sym, ◌∙◌, subst, arith}
 use Rattle.file_store.specs.declared.store.FileStore.{FileStore}
 use Rattle.file_store.specs.Store.{IsReadyStore}
 use Rattle.page_cache.specs.declared.place.Place.TheVariants.{Home, Frame, Slot}
+use Rattle.swap.specs.Slots.{IsSectorOfSlot}
+use Rattle.vm_types.specs.declared.number.FrameNo.{FrameNo}
+use Rattle.vm_types.specs.declared.number.SlotNo.{SlotNo}
 use Rattle.paging.specs.Picture.{picture_of}
+use Rattle.mapping.specs.Asking.{IsSectorOfPage, IsSectorOfFile}
+use Rattle.mapping.proofs.Asking.{no_new_same, asks_slots_same, asks_slots_wider, asks_swap_also}
+use Rattle.mapping.proofs.AskedIn.{store_same, no_new_of}
 use Rattle.mapping.proofs.BroughtIn.{spaces_of, tables_of, room_of, seen_of, bare_of, slotted_of, placed_of, reads_none, brings_none, brings_slot_of, causes_of, never_store, refused_but}
 use Rattle.mapping.proofs.Slotted.{slotted_same}
 use Rattle.mapping.proofs.Steps.{device_none}
@@ -74,3 +80,29 @@ returns-in-Frame-clause-brings g c = λ kept. brings_none g.D.SectorDisk c.args.
 
 pub returns-in-Slot-clause-refuses : goal.returns-in-Slot-clause-refuses
 returns-in-Slot-clause-refuses g c = refused_but _ c.bring_back.result c.bring_back.ensures.refuses
+
+pub returns-in-Slot-clause-asks : goal.returns-in-Slot-clause-asks
+returns-in-Slot-clause-asks g c =
+    let old = c.args.core.now in
+    let new = c.bring_back.new.self in
+    let here : ℕ → Type 0 = IsSectorOfSlot c.in-Slot.slot.0 in
+    asks_slots_wider g.E.SectorDisk old new None here (IsSectorOfPage (picture_of old) c.args.page) (λ k is. inl (c.in-Slot.slot, sym c.place.ensures ∙ c.in-Slot.is, is)) (asks_swap_also g.E.SectorDisk old new None here c.bring_back.ensures.asked)
+
+pub returns-in-Slot-clause-asks_store : goal.returns-in-Slot-clause-asks_store
+returns-in-Slot-clause-asks_store g c = store_same g.D.SectorDisk (IsSectorOfFile c.args.core.now.store c.args.page) c.args.core.now.store c.bring_back.new.self.store c.bring_back.ensures.rest.store
+
+no_frame : (slot : SlotNo) (k : FrameNo) → Slot slot ≢ Frame k
+no_frame slot k e = (cc)
+
+pub returns-in-Slot-clause-asks_later : goal.returns-in-Slot-clause-asks_later
+returns-in-Slot-clause-asks_later g c =
+    no_new_of (picture_of c.args.core.now) (picture_of c.bring_back.new.self) c.args.page c.requires.fit (λ k at. no_frame c.in-Slot.slot k (sym (sym c.place.ensures ∙ c.in-Slot.is) ∙ at)) c.bring_back.result c.bring_back.ensures.brought
+
+pub returns-in-Frame-clause-asks : goal.returns-in-Frame-clause-asks
+returns-in-Frame-clause-asks g c = asks_slots_same g.E.SectorDisk c.args.core.now c.args.core.now None (IsSectorOfPage (picture_of c.args.core.now) c.args.page) refl
+
+pub returns-in-Frame-clause-asks_store : goal.returns-in-Frame-clause-asks_store
+returns-in-Frame-clause-asks_store g c = store_same g.D.SectorDisk (IsSectorOfFile c.args.core.now.store c.args.page) c.args.core.now.store c.args.core.now.store refl
+
+pub returns-in-Frame-clause-asks_later : goal.returns-in-Frame-clause-asks_later
+returns-in-Frame-clause-asks_later g c = no_new_same (picture_of c.args.core.now) (Some c.in-Frame.frame) (IsSectorOfPage (picture_of c.args.core.now) c.args.page)

@@ -1,17 +1,19 @@
 use Rattle.std.specs.Prelude.{is_some}
-use Rattle.std.proofs.Common.{◌≡◌, ◌≢◌, ◌+◌, ◌*◌, ◌<◌, ◌^◌, inl, Some, None, get_or, sym, ap, ◌∙◌, subst, arith}
+use Rattle.std.proofs.Common.{◌≡◌, ◌≢◌, ℕ, ◌+◌, ◌*◌, ◌<◌, ◌^◌, inl, Some, None, get_or, refl, sym, ap, ◌∙◌, subst, arith}
 use Rattle.frames.specs.declared.role.Role.TheVariants.{Free, Table, Private}
 use Rattle.frames.specs.FrameTable.{IsFrame, role_of, with_bytes}
 use Rattle.swap.specs.Slots.{SlotTable, IsInUse, slots_of}
 use Rattle.page_tables.specs.declared.forms.Entry.{Entry}
 use Rattle.page_tables.specs.Entry.{number_of, IsEntry}
+use Rattle.paging.specs.Seats.{seat}
 use Rattle.paging.specs.Picture.{Picture, picture_of, entry, is_swapped}
 use Rattle.paging.specs.Steps.{ChangesFrame}
+use Rattle.paging.proofs.Asking.{asks_between}
 use Rattle.paging.proofs.Entries.{entry-of}
 use Rattle.paging.proofs.Taking.{changes_taken, trees_changed}
 use Rattle.mapping.proofs.Entering.{beside_around}
 use Rattle.mapping.proofs.Forms.{mapped_page}
-use Rattle.mapping.proofs.SwapSteps.{swapped_form, entry_taken, changes_written, changes_spent, full_count, ready_released}
+use Rattle.mapping.proofs.SwapSteps.{swapped_form, away_seat, entry_taken, changes_written, changes_spent, full_count, ready_released}
 use Rattle.paging.specs.Calls.{UsesDevice}
 use Rattle.regions.proofs.ResultLemmas.{on_err}
 use Rattle.paging.specs.Capacity.{IsShort}
@@ -21,7 +23,10 @@ use Rattle.frames.proofs.FrameLemmas.{with_bytes-same}
 use Rattle.paging.proofs.Taking.{fit_spent}
 use Rattle.paging.proofs.Returning.{frees_spent}
 use Rattle.paging.proofs.Sparing.{frees_then}
+use Rattle.mapping.specs.Asking.{MayAsk, IsSectorOfCopy}
 use Rattle.mapping.specs.Changes.{IsThatPage}
+use Rattle.mapping.proofs.Asking.{asks_swap}
+use Rattle.mapping.proofs.AskedIn.{asks_read}
 use Rattle.mapping.proofs.Slotted.{slotted_frees}
 use Rattle.mapping.proofs.SwappedIn.{lives_of, whole_of, at_of, slot_set, slot_used, fit_in, spaces_in, tables_in, room_in, others_in, bare_in, slotted_in, files_in, seen_in, entry_in}
 use Rattle.mapping.proofs.Settling.{forest_mid, root_mid, whole_mid}
@@ -449,3 +454,41 @@ returns-in_err-frame-clause-slotted g c =
 
 pub set_full-requires-clause-user : goal.set_full-requires-clause-user
 set_full-requires-clause-user g c = ((c.requires.linked.fit.granting.user c.args.pid).user_pages c.args.page (ap is_some c.requires.attr)).1
+
+pub returns-in-Ok-clause-asks : goal.returns-in-Ok-clause-asks
+returns-in-Ok-clause-asks g c =
+    let old : Picture g.M.Levels.mode = picture_of c.args.core.now in
+    let taken : Picture g.M.Levels.mode = picture_of c.take_own.new.self in
+    let took = c.in_ok-frame.ensures.taken in
+    let n = c.in_ok-frame.frame.0 in
+    let k = c.in-Swapped.slot.0 in
+    let r = c.root_of-root.result.0 in
+    let here = mapped_page old c.args.pid c.args.page c.args.attr c.requires.linked.fit.granting c.requires.attr in
+    let same_entry : entry taken c.args.pid c.args.page ≡ entry old c.args.pid c.args.page = entry_taken old taken c.args.pid c.args.page n took here c.requires.away in
+    let number : entry old c.args.pid c.args.page ≡ k * 1024 + 2 =
+    sym same_entry ∙ entry-of taken c.args.pid r c.args.page c.root_of-root.ensures ∙ sym c.entry.ensures.entry ∙ ap number_of c.in-Swapped.is in
+    let low : k < 2 ^ 32 = (let P : Entry → Type 0 = λ e. IsEntry e in subst P c.in-Swapped.is c.entry.ensures.form) in
+    let also : ℕ → Type 0 = λ j. IsSectorOfCopy old c.args.pid c.args.page j in
+    let read = asks_read g.E.SectorDisk c.args.core.now c.take_own.new.self c.get.new.self None also k (λ j is. (k, ap seat number ∙ away_seat k low, is)) c.in_ok-frame.ensures.asked c.get.ensures.asks in
+    asks_between g.E.SectorDisk (MayAsk old None also) c.args.core.now.swap c.args.core.now.swap c.get.new.self c.release.new.self refl (c.release.ensures.pages ∙ ap (λ (s : Swap _). s.pages) c.set_full.ensures.rest.swap) read
+
+pub returns-in-Err-clause-asks : goal.returns-in-Err-clause-asks
+returns-in-Err-clause-asks g c =
+    let old : Picture g.M.Levels.mode = picture_of c.args.core.now in
+    let taken : Picture g.M.Levels.mode = picture_of c.take_own.new.self in
+    let took = c.in_ok-frame.ensures.taken in
+    let n = c.in_ok-frame.frame.0 in
+    let k = c.in-Swapped.slot.0 in
+    let r = c.root_of-root.result.0 in
+    let here = mapped_page old c.args.pid c.args.page c.args.attr c.requires.linked.fit.granting c.requires.attr in
+    let same_entry : entry taken c.args.pid c.args.page ≡ entry old c.args.pid c.args.page = entry_taken old taken c.args.pid c.args.page n took here c.requires.away in
+    let number : entry old c.args.pid c.args.page ≡ k * 1024 + 2 =
+    sym same_entry ∙ entry-of taken c.args.pid r c.args.page c.root_of-root.ensures ∙ sym c.entry.ensures.entry ∙ ap number_of c.in-Swapped.is in
+    let low : k < 2 ^ 32 = (let P : Entry → Type 0 = λ e. IsEntry e in subst P c.in-Swapped.is c.entry.ensures.form) in
+    let also : ℕ → Type 0 = λ j. IsSectorOfCopy old c.args.pid c.args.page j in
+    let read = asks_read g.E.SectorDisk c.args.core.now c.take_own.new.self c.get.new.self None also k (λ j is. (k, ap seat number ∙ away_seat k low, is)) c.in_ok-frame.ensures.asked c.get.ensures.asks in
+    read
+
+pub returns-in_err-frame-clause-asks : goal.returns-in_err-frame-clause-asks
+returns-in_err-frame-clause-asks g c =
+    asks_swap g.E.SectorDisk c.args.core.now c.take_own.new.self None (IsSectorOfCopy (picture_of c.args.core.now) c.args.pid c.args.page) c.in_err-frame.ensures.asked

@@ -1,17 +1,21 @@
 use Rattle.std.proofs.Common.{inl, inr, length, take, refl, sym, ◌∙◌, subst}
-use Rattle.disk_model.specs.Moments.{LeavesNow}
+use Rattle.disk_model.specs.Moments.{LeavesNow, AsksOnly}
 use Rattle.file_store.specs.declared.store.FileStore.{FileStore}
 use Rattle.file_store.specs.Standing.{StandsFor}
 use Rattle.file_store.specs.Store.{IsReadyStore}
 use Rattle.swap.specs.Slots.{slots_of}
 use Rattle.swap.specs.declared.pages.Pages.{Pages as Swap_pages}
+use Rattle.sync_journal.specs.Journal.{live_homes}
+use Rattle.sync_journal.specs.Layout.{IsCommitted}
 use Rattle.sync_journal.specs.declared.faults.CommitFault.TheVariants.{Source}
 use Rattle.vm_types.specs.Msync.{committed}
 use Rattle.vm_types.specs.declared.refusal.Stall.TheVariants.{SwapDevice}
 use Rattle.paging.specs.Picture.{picture_of, entry}
+use Rattle.msync.specs.Asking.{IsSectorListed}
 use Rattle.msync.specs.Choice.{chosen_of, IsAway}
 use Rattle.msync.specs.Spots.{HasSlot}
 use Rattle.msync.proofs.Committing.{fits, are_pages, are_spots, front_lists, changes, synced_shows, memory_synced, away_of, err_is, device_failed, source_failed, fit_store, spots_store, shows_store, settles_store, commit_done, commit_failed, commit_unread, StoreCommits}
+use Rattle.msync.proofs.Asking.{asks_listed}
 use Rattle.msync.proofs.SettledPages.{ready_shared}
 use Rattle.msync.proofs.msyncs.commit.Goals as goal
 
@@ -241,3 +245,35 @@ returns-in-Err-Source-clause-ready g c = λ other.
 
 pub returns-in-Err-Source-clause-still : goal.returns-in-Err-Source-clause-still
 returns-in-Err-Source-clause-still g c = λ none. absurd (none SwapDevice refl)
+
+pub returns-in-Ok-clause-asks_store : goal.returns-in-Ok-clause-asks_store
+returns-in-Ok-clause-asks_store g c =
+    let old = c.args.core.now in
+    let P : FileStore g.row.D.Denot → Type 0 = λ x. AsksOnly g.D.SectorDisk (IsCommitted (live_homes old.store.journal)) old.store.disk x.disk in
+    subst P (sym c.settle.ensures.beside.store) c.in-Ok.ensures.asks_device
+
+pub returns-in-Ok-clause-asks_slots : goal.returns-in-Ok-clause-asks_slots
+returns-in-Ok-clause-asks_slots g c =
+    let old = c.args.core.now in
+    let ch = chosen_of c.args.list.now c.args.count in
+    let list = take (length (take ch.count ch.list)) c.fill_spots.new.spots in
+    let source = c.commit.new.source.swap.now in
+    let P : Swap_pages g.row.E.Denot → Type 0 = λ x. AsksOnly g.E.SectorDisk (IsSectorListed (picture_of old) ch) old.swap.pages.disk x.disk in
+    subst P (sym c.settle.ensures.beside.pages)
+    (asks_listed g.E.SectorDisk (picture_of old) ch list old.swap.pages.disk source.pages.disk (fits (picture_of old) ch c.requires.listed) c.fill_spots.ensures c.in-Ok.ensures.asks.follows.2.asks)
+
+pub returns-in-Err-Device-clause-asks_slots : goal.returns-in-Err-Device-clause-asks_slots
+returns-in-Err-Device-clause-asks_slots g c =
+    let old = c.args.core.now in
+    let ch = chosen_of c.args.list.now c.args.count in
+    let list = take (length (take ch.count ch.list)) c.fill_spots.new.spots in
+    let source = c.commit.new.source.swap.now in
+    asks_listed g.E.SectorDisk (picture_of old) ch list old.swap.pages.disk source.pages.disk (fits (picture_of old) ch c.requires.listed) c.fill_spots.ensures c.in-Err-Device.ensures.asks.follows.2.asks
+
+pub returns-in-Err-Source-clause-asks_slots : goal.returns-in-Err-Source-clause-asks_slots
+returns-in-Err-Source-clause-asks_slots g c =
+    let old = c.args.core.now in
+    let ch = chosen_of c.args.list.now c.args.count in
+    let list = take (length (take ch.count ch.list)) c.fill_spots.new.spots in
+    let source = c.commit.new.source.swap.now in
+    asks_listed g.E.SectorDisk (picture_of old) ch list old.swap.pages.disk source.pages.disk (fits (picture_of old) ch c.requires.listed) c.fill_spots.ensures c.in-Err-Source.ensures.asks.follows.2.asks

@@ -1,5 +1,6 @@
 use Rattle.std.proofs.Common.{inl, inr}
 use Rattle.msync.specs.Choice.{chosen_of, page_at, IsAway, TakesAway}
+use Rattle.msync.proofs.Asking.{asks_taken}
 use Rattle.msync.proofs.Committing.{takes_some, commits_under}
 use Rattle.paging.specs.Picture.{picture_of}
 use Rattle.msync.proofs.msyncs.msync.Goals as goal
@@ -22,6 +23,14 @@ returns-in-Takes-clause-away g c = elim c.commit.ensures.away [
   | inl same ↦ inl same
   | inr a ↦ inr (record { page = page_at c.rule.new.list a.number; slot = a.slot; taken = c.in-Takes.ensures.taken a.number a.below; placed = a.placed })
 ]
+
+pub returns-in-Takes-clause-asks : goal.returns-in-Takes-clause-asks
+returns-in-Takes-clause-asks g c =
+    let old = c.args.core.now in
+    record {
+      store = c.commit.ensures.asks_store;
+      swap = asks_taken g.E.SectorDisk (picture_of old) c.args.pid c.args.addr c.args.len c.rule.new.list c.in-Takes.count old.swap.pages.disk c.commit.new.core.swap.pages.disk c.in-Takes.ensures.taken c.commit.ensures.asks_slots;
+    }
 
 pub returns-in-Takes-clause-unasked : goal.returns-in-Takes-clause-unasked
 returns-in-Takes-clause-unasked g c = λ errno is other. absurd (other (c.commit.ensures.answers errno is))

@@ -7,9 +7,11 @@ use Rattle.paging.specs.Picture.{Picture, picture_of, entry, is_swapped}
 use Rattle.mapping.specs.Changes.{IsCalm, IsThatPage, KeepsOtherViews, KeepsSlotted}
 use Rattle.mapping.specs.Files.{BringsFiles, Proceeds}
 use Rattle.mapping.proofs.Steps.{moves_none}
+use Rattle.page_faults.specs.Asking.{AsksForPage}
 use Rattle.page_faults.specs.Granted.{IsEntered, IsReadyAt}
 use Rattle.page_faults.specs.Outcome.{seen_at, IsPlaced, Grants, IsStalled}
 use Rattle.page_faults.specs.Wants.{Wants, ReadsHome, ShowsFile}
+use Rattle.page_faults.proofs.Asking.{asks_same}
 use Rattle.page_faults.proofs.Slotted.{slotted_same}
 use Rattle.page_faults.proofs.Steps.{proceeds_moves, brings_none}
 use Rattle.page_faults.proofs.Verdicts.{placed_made, grants_made, page_user}
@@ -263,3 +265,28 @@ keep_line-requires-clause-lives g c =
 pub keep_line-requires-clause-user : goal.keep_line-requires-clause-user
 keep_line-requires-clause-user g c =
     (page_user (picture_of c.args.core.now) c.args.pid c.in-Page.page c.in-Page.attr c.requires.fit c.in-Page.ensures.found.allowed.mapped).1
+
+pub returns-in-Place-clause-asks : goal.returns-in-Place-clause-asks
+returns-in-Place-clause-asks g c =
+    let P : Core g.row.D.Denot g.row.E.Denot g.row.M.Denot g.M.Levels → Type 0 = λ m. AsksForPage g.D.SectorDisk g.E.SectorDisk c.args.core.now m c.args.pid (c.args.addr / 4096) in
+    subst P (sym c.find.ensures.same) (asks_same g.D.SectorDisk g.E.SectorDisk c.args.core.now c.args.core.now c.args.pid (c.args.addr / 4096) refl refl)
+
+pub returns-in-Fault-clause-asks : goal.returns-in-Fault-clause-asks
+returns-in-Fault-clause-asks g c =
+    let P : Core g.row.D.Denot g.row.E.Denot g.row.M.Denot g.M.Levels → Type 0 = λ m. AsksForPage g.D.SectorDisk g.E.SectorDisk c.args.core.now m c.args.pid (c.args.addr / 4096) in
+    subst P (sym c.find.ensures.same) (asks_same g.D.SectorDisk g.E.SectorDisk c.args.core.now c.args.core.now c.args.pid (c.args.addr / 4096) refl refl)
+
+pub returns-in_err-frame-in-Page-clause-asks : goal.returns-in_err-frame-in-Page-clause-asks
+returns-in_err-frame-in-Page-clause-asks g c =
+    let M : Core g.row.D.Denot g.row.E.Denot g.row.M.Denot g.M.Levels → Type 0 = λ m. AsksForPage g.D.SectorDisk g.E.SectorDisk m c.grant.new.core c.args.pid c.in-Page.page in
+    let asks = subst M c.find.ensures.same c.grant.ensures.asks in
+    let P : ℕ → Type 0 = λ x. AsksForPage g.D.SectorDisk g.E.SectorDisk c.args.core.now c.grant.new.core c.args.pid x in
+    subst P c.in-Page.ensures.found.page_is asks
+
+pub returns-in_ok-frame-in-Page-clause-asks : goal.returns-in_ok-frame-in-Page-clause-asks
+returns-in_ok-frame-in-Page-clause-asks g c =
+    let N : Core g.row.D.Denot g.row.E.Denot g.row.M.Denot g.M.Levels → Type 0 = λ m. AsksForPage g.D.SectorDisk g.E.SectorDisk c.args.core.now m c.args.pid (c.args.addr / 4096) in
+    let M : Core g.row.D.Denot g.row.E.Denot g.row.M.Denot g.M.Levels → Type 0 = λ m. AsksForPage g.D.SectorDisk g.E.SectorDisk m c.grant.new.core c.args.pid c.in-Page.page in
+    let asks = subst M c.find.ensures.same c.grant.ensures.asks in
+    let P : ℕ → Type 0 = λ x. AsksForPage g.D.SectorDisk g.E.SectorDisk c.args.core.now c.grant.new.core c.args.pid x in
+    subst N (sym c.keep_line.ensures) (subst P c.in-Page.ensures.found.page_is asks)

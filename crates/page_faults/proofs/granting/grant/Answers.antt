@@ -1,9 +1,11 @@
-use Rattle.std.proofs.Common.{inl, inr, Option, refl, sym, ap, ◌∙◌, subst}
+use Rattle.std.proofs.Common.{inl, inr, Option, None, refl, sym, ap, ◌∙◌, subst}
 use Rattle.std.specs.Prelude.{IsSome}
 use Rattle.vm_types.specs.declared.region.Attr.{Attr}
+use Rattle.disk_model.specs.Moments.{Nothing}
 use Rattle.paging.specs.Picture.{Picture, picture_of}
 use Rattle.mapping.proofs.Forms.{mapped_page}
 use Rattle.page_faults.specs.Wants.{ForTable, ShowsFile}
+use Rattle.page_faults.proofs.Asking.{asks_less, asks_back}
 use Rattle.page_faults.proofs.Linked.{open_still, calm_back, read_back, away_back, ready_back, brings_back, stalled_back, stalled_tables}
 use Rattle.page_faults.proofs.Slotted.{slotted_none, slotted_back}
 use Rattle.page_faults.proofs.Steps.{proceeds_moves, proceeds_after, brings_none, on_ok_then, counts_then}
@@ -127,3 +129,16 @@ pub returns-clause-slotted : goal.returns-clause-slotted
 returns-clause-slotted g c =
     let done = c.in_ok-link_tables.ensures in
     slotted_back (picture_of c.args.core.now) (picture_of c.link_tables.new.core) c.args.pid c.args.page (picture_of c.grant_linked.new.core) done.pages done.slotted c.grant_linked.ensures.slotted
+
+pub returns-in_err-link_tables-clause-asks : goal.returns-in_err-link_tables-clause-asks
+returns-in_err-link_tables-clause-asks g c =
+    let done = c.in_err-link_tables.ensures in
+    asks_less g.D.SectorDisk g.E.SectorDisk c.args.core.now c.link_tables.new.core c.args.pid c.args.page None Nothing done.moves.store (λ k none. absurd none) done.asks
+
+pub returns-clause-asks : goal.returns-clause-asks
+returns-clause-asks g c =
+    let old : Picture g.M.Levels.mode = picture_of c.args.core.now in
+    let done = c.in_ok-link_tables.ensures in
+    asks_back g.D.SectorDisk g.E.SectorDisk c.args.core.now c.link_tables.new.core c.grant_linked.new.core c.args.pid c.args.page c.requires.fit (root_live old c.args.pid c.requires.lives)
+    (mapped_page old c.args.pid c.args.page c.args.attr c.requires.fit.granting c.requires.allowed.mapped) (λ whole. (done.idle whole).0) done.moves done.pages done.bare done.slotted
+    done.asks_later done.asks c.grant_linked.ensures.asks

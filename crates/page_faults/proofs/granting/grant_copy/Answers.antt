@@ -4,8 +4,10 @@ use Rattle.vm_types.specs.declared.object.PageKey.TheVariants.{File}
 use Rattle.vm_types.specs.Attributes.{stands_on}
 use Rattle.paging.specs.Picture.{Picture, picture_of}
 use Rattle.paging.specs.Parts.{is_shared}
+use Rattle.mapping.specs.Changes.{copied_frame}
 use Rattle.mapping.proofs.Forms.{none_here, behind_of}
 use Rattle.page_faults.specs.Granted.{IsReadyAt}
+use Rattle.page_faults.proofs.Asking.{asks_brought, asks_copied, copies_cached}
 use Rattle.page_faults.proofs.Brought.{linked_then, read_then, calm_then, brings_wider, brings_on, stalled_away, stalled_on}
 use Rattle.page_faults.proofs.Linked.{open_still}
 use Rattle.page_faults.proofs.Owned.{owned_ready, owned_entered, owned_calm, owned_stalled}
@@ -169,3 +171,21 @@ returns-clause-slotted g c =
     let old : Picture g.M.Levels.mode = picture_of c.args.core.now in
     let shows = shows_file old c.args.pid c.args.page c.args.attr (File c.args.file_page) c.requires.allowed.mapped (ap stands_on c.requires.private) c.requires.none in
     slotted_on old (picture_of c.cached.new.core) c.args.pid c.args.page (picture_of c.own_frame.new.core) (File c.args.file_page) shows c.in_ok-cached.ensures.slotted c.own_frame.ensures.slotted
+
+pub returns-in_err-cached-clause-asks : goal.returns-in_err-cached-clause-asks
+returns-in_err-cached-clause-asks g c =
+    let old : Picture g.M.Levels.mode = picture_of c.args.core.now in
+    let shows = shows_file old c.args.pid c.args.page c.args.attr (File c.args.file_page) c.requires.allowed.mapped (ap stands_on c.requires.private) c.requires.none in
+    asks_brought g.D.SectorDisk g.E.SectorDisk c.args.core.now c.cached.new.core c.args.pid c.args.page (File c.args.file_page) shows c.in_err-cached.ensures.asks c.in_err-cached.ensures.asks_store
+
+pub returns-clause-asks : goal.returns-clause-asks
+returns-clause-asks g c =
+    let old : Picture g.M.Levels.mode = picture_of c.args.core.now in
+    let mid : Picture g.M.Levels.mode = picture_of c.cached.new.core in
+    let shows = shows_file old c.args.pid c.args.page c.args.attr (File c.args.file_page) c.requires.allowed.mapped (ap stands_on c.requires.private) c.requires.none in
+    let first = c.in_ok-cached.ensures in
+    let none = none_same old mid c.args.pid c.args.page c.args.attr c.requires.allowed.mapped (first.proceeds.spaces.at c.args.pid c.args.page ∙ c.requires.allowed.mapped)
+    (first.keeps.views c.args.pid c.args.page) c.requires.none in
+    asks_copied g.D.SectorDisk g.E.SectorDisk c.args.core.now c.cached.new.core c.args.pid c.args.page (File c.args.file_page) shows first.asks first.asks_store c.own_frame.new.core c.in_ok-cached.field-0
+    (copied_frame mid c.args.pid c.args.page c.args.attr) (copies_cached mid c.args.pid c.args.page c.args.attr c.args.file_page c.in_ok-cached.field-0 c.requires.private none first.placed)
+    first.asks_later c.own_frame.ensures.moves.store c.own_frame.ensures.asks

@@ -1,10 +1,12 @@
-use Rattle.std.proofs.Common.{inl, sym, ap, ◌∙◌, subst}
+use Rattle.std.proofs.Common.{inl, None, sym, ap, ◌∙◌, subst}
 use Rattle.vm_types.specs.declared.access.Access.{Access}
 use Rattle.paging.specs.Picture.{Picture, picture_of, is_swapped}
+use Rattle.mapping.specs.Asking.{IsSectorOfCopy}
 use Rattle.mapping.specs.Changes.{IsCalm}
 use Rattle.mapping.proofs.Forms.{mapped_page}
 use Rattle.mapping.proofs.SwapSteps.{swapped_page}
 use Rattle.page_faults.specs.Wants.{Wants, ForSlot, ShowsFile}
+use Rattle.page_faults.proofs.Asking.{asks_less}
 use Rattle.page_faults.proofs.Entered.{swapped_entered, swapped_ready, swapped_stalled}
 use Rattle.page_faults.proofs.Slotted.{slotted_own}
 use Rattle.page_faults.proofs.Steps.{proceeds_moves, brings_none, counts_done}
@@ -72,3 +74,8 @@ returns-in-Store-clause-calm g c =
 pub returns-then-is_swapped-clause-slotted : goal.returns-then-is_swapped-clause-slotted
 returns-then-is_swapped-clause-slotted g c =
     slotted_own (picture_of c.args.core.now) (picture_of c.swap_in.new.core) c.args.pid c.args.page c.swap_in.ensures.slotted
+
+pub returns-then-is_swapped-clause-asks : goal.returns-then-is_swapped-clause-asks
+returns-then-is_swapped-clause-asks g c =
+    asks_less g.D.SectorDisk g.E.SectorDisk c.args.core.now c.swap_in.new.core c.args.pid c.args.page None (IsSectorOfCopy (picture_of c.args.core.now) c.args.pid c.args.page)
+    c.swap_in.ensures.moves.store (λ k is. inl is) c.swap_in.ensures.asks

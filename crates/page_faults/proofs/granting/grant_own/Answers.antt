@@ -1,6 +1,9 @@
 use Rattle.std.proofs.Common.{inl, ◌∙◌}
+use Rattle.disk_model.specs.Moments.{Nothing}
 use Rattle.paging.specs.Picture.{Picture, picture_of}
+use Rattle.mapping.specs.Changes.{copied_frame}
 use Rattle.page_faults.specs.Wants.{ShowsFile}
+use Rattle.page_faults.proofs.Asking.{asks_less}
 use Rattle.page_faults.proofs.Steps.{proceeds_moves, brings_none, counts_done}
 use Rattle.page_faults.proofs.Slotted.{slotted_own}
 use Rattle.page_faults.proofs.Owned.{owned_ready, owned_entered, owned_calm, owned_stalled}
@@ -54,3 +57,8 @@ returns-clause-stalled g c =
 pub returns-clause-slotted : goal.returns-clause-slotted
 returns-clause-slotted g c =
     slotted_own (picture_of c.args.core.now) (picture_of c.own_frame.new.core) c.args.pid c.args.page c.own_frame.ensures.slotted
+
+pub returns-clause-asks : goal.returns-clause-asks
+returns-clause-asks g c =
+    asks_less g.D.SectorDisk g.E.SectorDisk c.args.core.now c.own_frame.new.core c.args.pid c.args.page (copied_frame (picture_of c.args.core.now) c.args.pid c.args.page c.args.attr) Nothing
+    c.own_frame.ensures.moves.store (λ k none. absurd none) c.own_frame.ensures.asks

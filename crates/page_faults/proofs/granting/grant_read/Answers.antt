@@ -5,6 +5,7 @@ use Rattle.mapping.proofs.Forms.{mapped_page, used_inside, resident_used, seat_z
 use Rattle.mapping.proofs.Steps.{moves_entered, seen_then}
 use Rattle.page_faults.specs.Granted.{IsEntered, IsReadyAt}
 use Rattle.page_faults.specs.Wants.{ShowsFile}
+use Rattle.page_faults.proofs.Asking.{asks_calm, asks_brought, asks_still}
 use Rattle.page_faults.proofs.Brought.{linked_then, read_then, calm_then, brings_wider, brings_on, stalled_away}
 use Rattle.page_faults.proofs.Entered.{read_ready, read_entered}
 use Rattle.page_faults.proofs.Linked.{open_still}
@@ -262,3 +263,28 @@ returns-in_ok-frame-in-Some-clause-slotted g c =
     let shows = shows_file old c.args.pid c.args.page c.args.attr c.in-Some.stored c.requires.allowed.mapped (sym c.stands_on.ensures ∙ c.in-Some.is) none in
     slotted_on old (picture_of c.cached.new.core) c.args.pid c.args.page (picture_of c.show_cached.new.core) c.in-Some.stored shows c.in_ok-frame-in-Some.ensures.slotted
     (slotted_calm (λ p. ⊥) c.cached.new.core c.show_cached.new.core c.args.pid c.args.page c.show_cached.ensures.enters.calm)
+
+pub returns-then-to_u64-ne0-clause-asks : goal.returns-then-to_u64-ne0-clause-asks
+returns-then-to_u64-ne0-clause-asks g c =
+    asks_calm g.D.SectorDisk g.E.SectorDisk c.args.core.now c.regrant.new.core c.args.pid c.args.page c.regrant.ensures.enters.calm
+
+pub returns-in-None-clause-asks : goal.returns-in-None-clause-asks
+returns-in-None-clause-asks g c =
+    asks_calm g.D.SectorDisk g.E.SectorDisk c.args.core.now c.show_zero.new.core c.args.pid c.args.page c.show_zero.ensures.enters.calm
+
+pub returns-in_err-frame-in-Some-clause-asks : goal.returns-in_err-frame-in-Some-clause-asks
+returns-in_err-frame-in-Some-clause-asks g c =
+    let old : Picture g.M.Levels.mode = picture_of c.args.core.now in
+    let none = seat_zero _ (sym c.entry_at-entry.ensures ∙ sym c.to_u64.ensures ∙ c.if-to_u64-ne0.false) in
+    let shows = shows_file old c.args.pid c.args.page c.args.attr c.in-Some.stored c.requires.allowed.mapped (sym c.stands_on.ensures ∙ c.in-Some.is) none in
+    let done = c.in_err-frame-in-Some.ensures in
+    asks_brought g.D.SectorDisk g.E.SectorDisk c.args.core.now c.cached.new.core c.args.pid c.args.page c.in-Some.stored shows done.asks done.asks_store
+
+pub returns-in_ok-frame-in-Some-clause-asks : goal.returns-in_ok-frame-in-Some-clause-asks
+returns-in_ok-frame-in-Some-clause-asks g c =
+    let old : Picture g.M.Levels.mode = picture_of c.args.core.now in
+    let none = seat_zero _ (sym c.entry_at-entry.ensures ∙ sym c.to_u64.ensures ∙ c.if-to_u64-ne0.false) in
+    let shows = shows_file old c.args.pid c.args.page c.args.attr c.in-Some.stored c.requires.allowed.mapped (sym c.stands_on.ensures ∙ c.in-Some.is) none in
+    let first = c.in_ok-frame-in-Some.ensures in
+    let calm = c.show_cached.ensures.enters.calm in
+    asks_still g.D.SectorDisk g.E.SectorDisk c.args.core.now c.cached.new.core c.args.pid c.args.page c.in-Some.stored shows first.asks first.asks_store c.show_cached.new.core calm.store calm.swap

@@ -4,6 +4,7 @@ use Rattle.swap.specs.Slots.{slots_of}
 use Rattle.paging.specs.Picture.{Picture, picture_of}
 use Rattle.mapping.proofs.Forms.{mapped_page, shared_none}
 use Rattle.mapping.proofs.Steps.{moves_entered}
+use Rattle.page_faults.proofs.Asking.{asks_brought, asks_still}
 use Rattle.page_faults.proofs.Brought.{linked_then, read_then, calm_then, brings_wider, brings_on, stalled_away}
 use Rattle.page_faults.proofs.Linked.{open_still}
 use Rattle.page_faults.proofs.Opening.{reads_too}
@@ -155,3 +156,21 @@ returns-clause-slotted g c =
     let shows = shows_file old c.args.pid c.args.page c.args.attr c.args.stored c.requires.allowed.mapped c.requires.stands none in
     slotted_on old (picture_of c.cached.new.core) c.args.pid c.args.page (picture_of c.touch.new.core) c.args.stored shows c.in_ok-frame.ensures.slotted
     (slotted_calm (λ p. ⊥) c.cached.new.core c.touch.new.core c.args.pid c.args.page c.touch.ensures.enters.calm)
+
+pub returns-in_err-frame-clause-asks : goal.returns-in_err-frame-clause-asks
+returns-in_err-frame-clause-asks g c =
+    let old : Picture g.M.Levels.mode = picture_of c.args.core.now in
+    let none = shared_none old c.args.pid c.args.page c.args.attr c.requires.linked.fit.granting c.requires.allowed.mapped
+    (mapped_page old c.args.pid c.args.page c.args.attr c.requires.linked.fit.granting c.requires.allowed.mapped) c.requires.shared in
+    let shows = shows_file old c.args.pid c.args.page c.args.attr c.args.stored c.requires.allowed.mapped c.requires.stands none in
+    asks_brought g.D.SectorDisk g.E.SectorDisk c.args.core.now c.cached.new.core c.args.pid c.args.page c.args.stored shows c.in_err-frame.ensures.asks c.in_err-frame.ensures.asks_store
+
+pub returns-clause-asks : goal.returns-clause-asks
+returns-clause-asks g c =
+    let old : Picture g.M.Levels.mode = picture_of c.args.core.now in
+    let none = shared_none old c.args.pid c.args.page c.args.attr c.requires.linked.fit.granting c.requires.allowed.mapped
+    (mapped_page old c.args.pid c.args.page c.args.attr c.requires.linked.fit.granting c.requires.allowed.mapped) c.requires.shared in
+    let shows = shows_file old c.args.pid c.args.page c.args.attr c.args.stored c.requires.allowed.mapped c.requires.stands none in
+    let calm = c.touch.ensures.enters.calm in
+    let first = c.in_ok-frame.ensures in
+    asks_still g.D.SectorDisk g.E.SectorDisk c.args.core.now c.cached.new.core c.args.pid c.args.page c.args.stored shows first.asks first.asks_store c.touch.new.core calm.store calm.swap

@@ -18,6 +18,7 @@ returns-clause-booted g c = record {
   journal = c.in-Ok.ensures.accepts.journal;
   opening = c.in-Ok.ensures.moments.any_moment;
   in_a_row = c.in-Ok.ensures.moments.in_a_row;
+  asks = c.in-Ok.ensures.accepts.asks;
   outside = c.in-Ok.ensures.accepts.outside;
   caused = c.run-end.ensures.caused;
   runs = c.run-end.ensures.runs;

@@ -35,6 +35,8 @@ returns-in-Err-clause-refuses g c =
       journal = e.bad_journal;
       first = e.layout_first;
       unwritten = e.unwritten;
+      asks = e.err_asks;
+      touches = e.err_touches;
     } in
     rw c.from-in-Err.ensures (refuses_store g.D.SectorDisk c.args.sizes _ c.args.store c.in-Err.fault c.in-Err.disk (fine_frames c.args.sizes c.if-sizes-lt-MIN_FRAMES.false c.if-sizes-gt-MAX_FRAMES.false)
     (fine_slots c.args.sizes _ _ _ c.if-sizes-gt-MAX_SLOTS.false c.from.ensures c.sectors.ensures c.if-from-sectors.false) unopened)
@@ -55,6 +57,7 @@ returns-in_default-clause-refuses g c =
       kept = e.kept;
       later = e.later;
       calm = e.calm;
+      asks = e.asks;
       moments = record { any_moment = e.any_moment; in_a_row = e.in_a_row };
     } in
     rw c.into_disk.ensures (refuses_memory g.D.SectorDisk c.args.sizes _ c.args.store c.in-Ok.store (fine_frames c.args.sizes c.if-sizes-lt-MIN_FRAMES.false c.if-sizes-gt-MAX_FRAMES.false)
@@ -76,6 +79,7 @@ returns-in_default-new-clause-refuses g c =
       kept = e.kept;
       later = e.later;
       calm = e.calm;
+      asks = e.asks;
       moments = record { any_moment = e.any_moment; in_a_row = e.in_a_row };
     } in
     rw c.into_disk-in_default-new.ensures (refuses_memory g.D.SectorDisk c.args.sizes _ c.args.store c.in-Ok.store (fine_frames c.args.sizes c.if-sizes-lt-MIN_FRAMES.false c.if-sizes-gt-MAX_FRAMES.false)
@@ -98,6 +102,7 @@ returns-in-Err-new-clause-refuses g c =
       kept = e.kept;
       later = e.later;
       calm = e.calm;
+      asks = e.asks;
       moments = record { any_moment = e.any_moment; in_a_row = e.in_a_row };
     } in
     rw (c.into_disk-in-Err-new.ensures, c.in-Err-new.ensures.err) (refuses_memory g.D.SectorDisk c.args.sizes _ c.args.store c.in-Ok.store (fine_frames c.args.sizes c.if-sizes-lt-MIN_FRAMES.false c.if-sizes-gt-MAX_FRAMES.false)
@@ -120,6 +125,7 @@ returns-in-Ok-new-3-clause-boots g c =
       kept = e.kept;
       later = e.later;
       calm = e.calm;
+      asks = e.asks;
       moments = record { any_moment = e.any_moment; in_a_row = e.in_a_row };
     } in
     let made = c.in-Ok-new-3.ensures in
@@ -139,6 +145,7 @@ returns-in-Ok-new-3-clause-accepts g c =
       kept = e.kept;
       later = e.later;
       calm = e.calm;
+      asks = e.asks;
       moments = record { any_moment = e.any_moment; in_a_row = e.in_a_row };
     } in
     rw c.in-Ok-new-3.ensures.store (accepts g.D.SectorDisk c.args.sizes _ c.args.store c.in-Ok.store (fine_frames c.args.sizes c.if-sizes-lt-MIN_FRAMES.false c.if-sizes-gt-MAX_FRAMES.false)

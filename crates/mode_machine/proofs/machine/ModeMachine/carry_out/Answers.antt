@@ -107,6 +107,27 @@ returns-in-Store-clause-accesses g c = rw c.in-Store.is (rw c.noted-in-Store.ens
 pub returns-in-Fetch-clause-accesses : goal.returns-in-Fetch-clause-accesses
 returns-in-Fetch-clause-accesses g c = rw c.in-Fetch.is (rw c.noted-in-Fetch.ensures.core (rw c.noted-in-Fetch.ensures.answer (c.fetch-answer.ensures.asks, c.fetch-answer.ensures.walked)))
 
+pub returns-in-Spawn-clause-accesses : goal.returns-in-Spawn-clause-accesses
+returns-in-Spawn-clause-accesses g c = rw c.in-Spawn.is (c.spawn.ensures.takes, c.spawn.ensures.store, c.spawn.ensures.asks)
+
+pub returns-in-Fork-clause-accesses : goal.returns-in-Fork-clause-accesses
+returns-in-Fork-clause-accesses g c = rw c.in-Fork.is (c.fork.ensures.takes, c.fork.ensures.store, c.fork.ensures.asks)
+
+pub returns-in-Mmap-clause-accesses : goal.returns-in-Mmap-clause-accesses
+returns-in-Mmap-clause-accesses g c = rw c.in-Mmap.is (c.mmap.ensures.takes, c.mmap.ensures.beside)
+
+pub returns-in-Munmap-clause-accesses : goal.returns-in-Munmap-clause-accesses
+returns-in-Munmap-clause-accesses g c = rw c.in-Munmap.is (c.munmap.ensures.takes, c.munmap.ensures.beside)
+
+pub returns-in-Mprotect-clause-accesses : goal.returns-in-Mprotect-clause-accesses
+returns-in-Mprotect-clause-accesses g c = rw c.in-Mprotect.is (c.mprotect.ensures.takes, c.mprotect.ensures.beside)
+
+pub returns-in-Dontneed-clause-accesses : goal.returns-in-Dontneed-clause-accesses
+returns-in-Dontneed-clause-accesses g c = rw c.in-Dontneed.is (c.dontneed.ensures.takes, c.dontneed.ensures.beside)
+
+pub returns-in-Msync-clause-accesses : goal.returns-in-Msync-clause-accesses
+returns-in-Msync-clause-accesses g c = rw c.in-Msync.is (c.msync.ensures.memory, c.msync.ensures.asks)
+
 pub returns-in-Spawn-clause-denied : goal.returns-in-Spawn-clause-denied
 returns-in-Spawn-clause-denied g c = keeps_denied c.args.self.now _ _ _ c.if-self.false c.spawn.ensures.denied
 

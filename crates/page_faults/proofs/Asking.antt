@@ -1,0 +1,208 @@
+-- Which sectors an access asks for, from step to step.
+use Rattle.vm_types.specs.declared.mode.Levels as Levels
+use Rattle.vm_types.specs.Limits.{top_level}
+use Rattle.std.proofs.Common.{◌≡◌, ◌≢◌, ◌<◌, ℕ, true, inl, inr, ◌⊎◌, Option, Some, None, refl, sym, ap, ◌∙◌, subst, arith}
+use Rattle.std.proofs.lemmas.Bool.{cases_Bool, cases_lt}
+use Rattle.vm_types.specs.declared.file.FilePage.{FilePage}
+use Rattle.vm_types.specs.declared.number.FrameNo.{FrameNo}
+use Rattle.vm_types.specs.declared.number.SlotNo.{SlotNo}
+use Rattle.vm_types.specs.declared.object.PageKey.{PageKey}
+use Rattle.vm_types.specs.declared.object.PageKey.TheVariants.{File}
+use Rattle.vm_types.specs.declared.region.Attr.{Attr}
+use Rattle.vm_types.specs.declared.region.Backing.TheVariants.{Private}
+use Rattle.disk_model.specs.declared.sector_disk.SectorDisk.{Ghosts}
+use Rattle.disk_model.specs.Moments.{AsksOnly, Nothing}
+use Rattle.disk_model.proofs.Moments.{asks_none, asks_wider}
+use Rattle.file_store.specs.declared.store.FileStore.{FileStore}
+use Rattle.file_store.specs.Store.{IsSectorOf}
+use Rattle.swap.specs.declared.slots.Swap.{Swap}
+use Rattle.swap.proofs.Stack.{inside_of}
+use Rattle.page_tables.specs.Tree.{IsPage}
+use Rattle.page_cache.specs.declared.place.Place.{Place}
+use Rattle.page_cache.specs.declared.place.Place.TheVariants.{Home, Frame, Slot}
+use Rattle.paging.specs.declared.kernel.Core.{Core}
+use Rattle.paging.specs.Seats.{InFrame, InSlot, seat, is_private, is_swapped}
+use Rattle.paging.specs.Picture.{Picture, picture_of, entry, is_data, IsOwned}
+use Rattle.paging.specs.Parts.{IsFit}
+use Rattle.paging.specs.Calls.{KeepsPages}
+use Rattle.paging.specs.Shows.{KeepsFiles}
+use Rattle.paging.proofs.Seats.{holders_none}
+use Rattle.mapping.specs.Asking.{HasSwappable, MayAsk, AsksNoNew, AsksSlots, IsSectorOfFile, IsSectorOfPage}
+use Rattle.mapping.specs.Changes.{IsWhole, IsCalm, KeepsBare, KeepsSlotted, Moves, copied_frame, frame_behind, frame_of_place}
+use Rattle.mapping.proofs.Asking.{asks_slots_any, asks_slots_kept, asks_slots_same, asks_slots_then, asks_slots_wider}
+use Rattle.mapping.proofs.Forms.{none_common, seat_common, seat_own, seat_zero}
+use Rattle.mapping.proofs.OwnSteps.{shown_common}
+use Rattle.page_faults.specs.Asking.{IsSectorOfItsSlot, AsksForPage}
+use Rattle.page_faults.specs.Wants.{LacksTable, ShowsFile}
+use Rattle.page_faults.proofs.Linked.{lacks_none}
+use Rattle.page_faults.proofs.Steps.{keeps_seen}
+use Rattle.page_faults.proofs.Wanted.{whole_or, shows_back}
+
+-- an entry that names a slot as the seat of its page is one of a page that lies in a slot
+away_of : (e k : ℕ) → seat e ≡ Some (InSlot k) → is_swapped e ≡ true
+away_of e k there = elim (cases_Bool (is_swapped e)) [
+  | inl away ↦ away
+  | inr here ↦ elim (cases_Bool (is_private e)) [
+    | inl own ↦ (let bad : Some (InFrame _) ≡ Some (InSlot k) = sym (seat_own e own) ∙ there in (cc))
+    | inr common ↦ (let bad : None ≡ Some (InSlot k) = sym (seat_common e common here) ∙ there in (cc))
+  ]
+]
+
+one_slot : (j k : SlotNo) → Slot j ≡ Slot k → j ≡ k
+one_slot j k same = (cc)
+
+-- more sectors may have come
+no_new_wider : {mode : ℕ} (old new : Picture mode) (keep : Option FrameNo) (also : ℕ → Type 0) → AsksNoNew old new keep Nothing → AsksNoNew old new keep also
+no_new_wider old new keep also none = record {
+  slots = λ k is. elim (none.slots k is) [
+    | inl was ↦ inl was
+    | inr no_sector ↦ absurd no_sector
+  ];
+  frames = none.frames;
+}
+
+-- A page of a file or an object that lies in a slot lay there, or in a frame that had to be given up for that, and the slot was free.
+module _ {mode : ℕ} (old new : Picture mode) (fit : IsFit old) (now : IsFit new) (files : KeepsFiles old new) (slotted : KeepsSlotted (λ p. ⊥) (λ q p. ⊥) old new) (p : PageKey) (s : SlotNo)
+    (there : new.place p ≡ Slot s) where
+  stays : (q : PageKey) (k : SlotNo) → old.place q ≡ Slot k → new.place q ≡ Slot k
+  stays q k at = elim (slotted.file_pages q k at) [
+    | inl none ↦ absurd none
+    | inr still ↦ still
+  ]
+
+  -- no own copy lay in the slot
+  unseated : IsOwned old (InSlot s.0) → ⊥
+  unseated owned =
+      let pages = fit.counted.0 in
+      let named : (q : ℕ) → seat (entry old q (pages s.0)) ≢ Some (InSlot s.0) = λ q at. (
+      let h = fit.counted.1.pages (InSlot s.0) owned in
+      elim (slotted.copies q (pages s.0) h (away_of (entry old q (pages s.0)) s.0 at)) [
+        | inl none ↦ none
+        | inr same ↦ (now.counted.1.named q (pages s.0) (InSlot s.0) h (ap seat same ∙ at)).1 p there
+      ]) in
+      let count = fit.counted.1.counts (InSlot s.0) owned in
+      let none = holders_none (entry old) (pages s.0) (InSlot s.0) named in
+      let some = owned.0 in
+      omega (arith, count, none, some)
+
+  was_free : (n : FrameNo) → old.place p ≡ Frame n → old.slots.count s.0 ≡ 0
+  was_free n at = elim (cases_lt 0 (old.slots.count s.0)) [
+    | inl some ↦ absurd (elim (fit.places.used s.0 some) [
+      | inl owned ↦ unseated owned
+      | inr other ↦ (
+          let q = other.0 in
+          let same : q ≡ p = now.places.apart q p (stays q s other.1 ∙ sym there) (λ home. (let bad : Home ≡ Slot s = sym home ∙ stays q s other.1 in (cc))) in
+          let bad : Frame n ≡ Slot s = sym at ∙ ap old.place (sym same) ∙ other.1 in
+          (cc))
+    ])
+    | inr none ↦ omega (arith, none)
+  ]
+
+  lay_by : (place : Place) → old.place p ≡ place → (old.place p ≡ Slot s) ⊎ (HasSwappable old None × (old.slots.count s.0 ≡ 0))
+  lay_by Home at = absurd (fit.dirty.held p (sym (files.touched p) ∙ now.dirty.slotted p s.0 there) at)
+  lay_by (Slot k) at = inl (at ∙ ap (λ (j : SlotNo). Slot j) (one_slot k s (sym (stays p k at) ∙ there)))
+  lay_by (Frame n) at =
+      inr (
+        (n.0, (ap is_data (fit.places.cached p n.0 at), λ none. none), inr (p, at, sym (files.touched p) ∙ now.dirty.slotted p s.0 there)),
+        was_free n at,
+      )
+
+  lay : (old.place p ≡ Slot s) ⊎ (HasSwappable old None × (old.slots.count s.0 ≡ 0))
+  lay = lay_by (old.place p) refl
+
+module _ {M : Type 0} {m : Levels.Ghosts M} {D E : Type 0} (g : Ghosts D) (h : Ghosts E) where
+  -- the store wasn't asked, and swap for less
+  pub asks_less : (old new : Core D E M m) (pid page : ℕ) (keep : Option FrameNo) (few : ℕ → Type 0) → new.store ≡ old.store → ((k : ℕ) → few k → IsSectorOfItsSlot (picture_of old) pid page k)
+      → AsksSlots h old new keep few → AsksForPage g h old new pid page
+  asks_less old new pid page keep few same less asks = record {
+    store = asks_none g _ old.store.disk new.store.disk (λ k. ap (λ (s : FileStore D). g.asked s.disk k) same);
+    swap = asks_slots_wider h old new None few (IsSectorOfItsSlot (picture_of old) pid page) (λ k is. inl (less k is)) (asks_slots_any h old new keep few asks);
+  }
+
+  -- neither device was asked
+  pub asks_same : (old new : Core D E M m) (pid page : ℕ) → new.store ≡ old.store → new.swap ≡ old.swap → AsksForPage g h old new pid page
+  asks_same old new pid page store swap = asks_less old new pid page None Nothing store (λ k none. absurd none) (asks_slots_same h old new None Nothing swap)
+
+  pub asks_calm : (old new : Core D E M m) (pid page : ℕ) → IsCalm old new pid page → AsksForPage g h old new pid page
+  asks_calm old new pid page calm = asks_same old new pid page calm.store calm.swap
+
+  module _ (old mid : Core D E M m) (pid page : ℕ) (p : PageKey) (shows : ShowsFile (picture_of old) pid page p) (swap : AsksSlots h old mid None (IsSectorOfPage (picture_of old) p))
+      (store : AsksOnly g (IsSectorOfFile old.store p) old.store.disk mid.store.disk) where
+    of_file : (k : ℕ) → IsSectorOfFile old.store p k → (f : FilePage) × ShowsFile (picture_of old) pid page (File f) × IsSectorOf old.store f k
+    of_file k is = (is.0, (let P : PageKey → Type 0 = λ x. ShowsFile (picture_of old) pid page x in subst P is.1 shows), is.2)
+
+    file_asked : (new : Core D E M m) → new.store ≡ mid.store
+        → AsksOnly g (λ k. (f : FilePage) × ShowsFile (picture_of old) pid page (File f) × IsSectorOf old.store f k) old.store.disk new.store.disk
+    file_asked new same =
+        let P : FileStore D → Type 0 = λ s. AsksOnly g (IsSectorOfFile old.store p) old.store.disk s.disk in
+        asks_wider g (IsSectorOfFile old.store p) _ old.store.disk new.store.disk of_file (subst P (sym same) store)
+
+    slot_asked : (new : Core D E M m) → AsksSlots h old new None (IsSectorOfPage (picture_of old) p) → AsksSlots h old new None (IsSectorOfItsSlot (picture_of old) pid page)
+    slot_asked new = asks_slots_wider h old new None (IsSectorOfPage (picture_of old) p) (IsSectorOfItsSlot (picture_of old) pid page) (λ k is. inl (inr (p, shows, is)))
+
+    -- the page of a file or an object that the page shows was brought into a frame
+    pub asks_brought : AsksForPage g h old mid pid page
+    asks_brought = record { store = file_asked mid refl; swap = slot_asked mid swap }
+
+    -- and then neither device was asked
+    pub asks_still : (new : Core D E M m) → new.store ≡ mid.store → new.swap ≡ mid.swap → AsksForPage g h old new pid page
+    asks_still new same kept = record { store = file_asked new same; swap = slot_asked new (asks_slots_kept h old mid new None (IsSectorOfPage (picture_of old) p) (ap (λ (s : Swap E). s.pages) kept) swap) }
+
+    -- or a frame was taken that it is copied into
+    pub asks_copied : (new : Core D E M m) (n : FrameNo) (keep : Option FrameNo) → keep ≡ Some n → AsksNoNew (picture_of old) (picture_of mid) (Some n) (IsSectorOfPage (picture_of old) p)
+        → new.store ≡ mid.store → AsksSlots h mid new keep Nothing → AsksForPage g h old new pid page
+    asks_copied new n keep is none same more =
+        let P : Option FrameNo → Type 0 = λ o. AsksSlots h mid new o Nothing in
+        record {
+          store = file_asked new same;
+          swap = slot_asked new (asks_slots_then h old mid new (Some n) (IsSectorOfPage (picture_of old) p) Nothing swap none (subst P is more) (λ k no_sector. absurd no_sector));
+        }
+
+  -- tables were linked before
+  module _ (old mid new : Core D E M m) (pid page : ℕ) (fit : IsFit (picture_of old)) (lives : (r : ℕ) × ((picture_of old).root pid ≡ Some r)) (inside : IsPage (top_level m.mode) page)
+      (idle : IsWhole (picture_of old) pid page → mid ≡ old) (moves : Moves h old mid) (pages : KeepsPages (picture_of old) (picture_of mid)) (bare : KeepsBare (picture_of old) (picture_of mid))
+      (slotted : KeepsSlotted (λ p. ⊥) (λ q p. ⊥) (picture_of old) (picture_of mid)) where
+    shown_before : (p : PageKey) → ShowsFile (picture_of mid) pid page p → ShowsFile (picture_of old) pid page p
+    shown_before p = shows_back (picture_of old) (picture_of mid) pid page p pages.at (keeps_seen (picture_of old) (picture_of mid) pages)
+
+    below : (p : PageKey) (s : SlotNo) → (picture_of mid).place p ≡ Slot s → s.0 < (picture_of old).slots.total
+    below p s there =
+        let one = moves.fit.places.slotted p s.0 there in
+        let room = moves.room.slots in
+        let low = inside_of mid.swap.counts s.0 (omega (arith, one)) in
+        omega (arith, room, low)
+
+    lacking : LacksTable (picture_of old) pid page → (k : ℕ) → IsSectorOfItsSlot (picture_of mid) pid page k → MayAsk (picture_of old) None (IsSectorOfItsSlot (picture_of old) pid page) k
+    lacking lacks k (inl copy) =
+        absurd (let bad : None ≡ Some (InSlot copy.0) = sym (seat_zero (entry (picture_of mid) pid page) (bare pid page inside (lacks_none (picture_of old) pid page lacks))) ∙ copy.1 in (cc))
+    lacking lacks k (inr shown) =
+        let p = shown.0 in
+        let s = shown.2.0 in
+        elim (lay (picture_of old) (picture_of mid) fit moves.fit pages.files slotted p s shown.2.1) [
+          | inl was ↦ inl (inr (p, shown_before p shown.1, (s, was, shown.2.2)))
+          | inr free ↦ inr (free.0, (s.0, below p s shown.2.1, free.1, shown.2.2))
+        ]
+
+    its_before : (k : ℕ) → IsSectorOfItsSlot (picture_of mid) pid page k → MayAsk (picture_of old) None (IsSectorOfItsSlot (picture_of old) pid page) k
+    its_before k is = elim (whole_or (picture_of old) pid page lives) [
+      | inl whole ↦ inl (let P : Core D E M m → Type 0 = λ c. IsSectorOfItsSlot (picture_of c) pid page k in subst P (idle whole) is)
+      | inr lacks ↦ lacking lacks k is
+    ]
+
+    pub asks_back : AsksNoNew (picture_of old) (picture_of mid) None Nothing → AsksSlots h old mid None Nothing → AsksForPage g h mid new pid page → AsksForPage g h old new pid page
+    asks_back none first asks =
+        let its = IsSectorOfItsSlot (picture_of old) pid page in
+        let W : FileStore D → ℕ → Type 0 = λ s k. (f : FilePage) × ShowsFile (picture_of old) pid page (File f) × IsSectorOf s f k in
+        let P : FileStore D → Type 0 = λ s. AsksOnly g (W s) s.disk new.store.disk in
+        record {
+          store = subst P moves.store (asks_wider g _ (W mid.store) mid.store.disk new.store.disk (λ k is. (is.0, shown_before (File is.0) is.1, is.2)) asks.store);
+          swap = asks_slots_then h old mid new None its (IsSectorOfItsSlot (picture_of mid) pid page) (asks_slots_wider h old mid None Nothing its (λ k no_sector. absurd no_sector) first)
+              (no_new_wider (picture_of old) (picture_of mid) None its none) asks.swap its_before;
+        }
+
+-- the frame that is kept for a copy of a file page that lies in a frame is that one
+pub copies_cached : {mode : ℕ} (c : Picture mode) (pid page : ℕ) (a : Attr) (f : FilePage) (n : FrameNo) → a.backing ≡ Private f → seat (entry c pid page) ≡ None → c.place (File f) ≡ Frame n
+    → copied_frame c pid page a ≡ Some n
+copies_cached c pid page a f n is none there =
+    ap (λ (x : ℕ). Some (record { 0 = x }))
+    (shown_common c (entry c pid page) a.backing (none_common (entry c pid page) none) ∙ ap (frame_behind c) is ∙ ap frame_of_place there)
