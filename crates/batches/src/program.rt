@@ -1,5 +1,5 @@
 //! The program that makes batches durable.
-ghost use Rattle.std.specs.Prelude.{◌≤◌};
+ghost use Rattle.std.specs.Prelude.{◌≡◌, ◌≤◌, IfErr};
 
 use crate::serving::{ServeEnd, serve};
 use disk_model::{DiskFault, FileDisk, Unknown};
@@ -34,7 +34,8 @@ enum ProgramFault {
     Served(ServeEnd),
 }
 
-/// `pagesync IMAGE`: opens and locks an image, and carries out the requests of `reader`, whose replies go to `writer`.
+/// `pagesync IMAGE`: opens and locks an image, and carries out the requests of `reader`, whose replies go to `writer`. An image
+/// that can't be synced at first is the fault of its device.
 ///
 /// Returns the exit status: 0 where the input ended between two batches; 1 a fault; 2 other words. For 1 and 2 one line on
 /// `errors` says why.
@@ -70,9 +71,7 @@ fn run<R: Files<File = File> + AllocGlobal, I: Read + Drop, O: Write>(
     let Ok(file) = open_alone(rt, image.as_str()) else {
         return Err(ProgramFault::CannotOpen);
     };
-    let Ok(disk) = FileDisk::<Unknown>::new(file) else {
-        return Err(ProgramFault::CannotOpen);
-    };
+    let disk = synced_disk(file)?;
     let mut store = match FileStore::open(disk) {
         Ok(store) => store,
         Err((fault, _)) => return Err(unopened(fault)),
@@ -112,6 +111,16 @@ fn open_alone<R: Files<File = File>>(rt: &R, path: &str) -> io::Result<File> {
     let file = OpenOptions::new().read(true).write(true).open(rt, path)?;
     file.try_lock()?;
     Ok(file)
+}
+
+/// The device in a file, which is synced first, as a call of the device: where that fails the fault is the device's.
+fn synced_disk(file: File) -> Result<FileDisk<Unknown>, ProgramFault>
+    ensures told { IfErr result (λ fault. fault ≡ ProgramFault.Device) }
+{
+    match FileDisk::<Unknown>::new(file) {
+        Ok(disk) => Ok(disk),
+        Err(_) => Err(ProgramFault::Device),
+    }
 }
 
 /// Why the program gives up where the store could not be opened.
