@@ -122,6 +122,19 @@ static void commits_follow_one_another(void) {
   DONE(fam_close(image));
 }
 
+/* A home is written by the commit after that of its page, when the page in memory may have later stores, which no commit took. */
+static void homes_have_what_was_committed(void) {
+  begin();
+  store(a, 1), store(b + PAGE, 2);
+  CHECK(committed() == 2);
+  store(a, 3), store(b + PAGE, 4), store(a + PAGE, 5);
+  DONE(fam_msync(image, a + PAGE, 1));
+  CHECK(written() == 2);
+  open_again();
+  CHECK(a[0] == 1 && b[PAGE] == 2 && a[PAGE] == 5);
+  DONE(fam_close(image));
+}
+
 static void ranges_choose_pages(void) {
   begin();
   for (int k = 0; k < 8; k++) store(a + k * PAGE, 1);
@@ -558,8 +571,8 @@ static void results_have_words(void) {
 }
 
 static void (*const with_each_tracker[])(void) = {
-  commits_are_durable, commits_follow_one_another, ranges_choose_pages, too_many_pages_are_refused_and_not_for_good,
-  a_roll_back_shows_what_is_durable, a_mapping_has_its_file, a_new_mapping_reads_the_open_journal,
+  commits_are_durable, commits_follow_one_another, homes_have_what_was_committed, ranges_choose_pages,
+  too_many_pages_are_refused_and_not_for_good, a_roll_back_shows_what_is_durable, a_mapping_has_its_file, a_new_mapping_reads_the_open_journal,
   bytes_past_the_end_read_as_zeros, bytes_outside_of_mappings_are_refused, system_calls_reach_mapped_memory,
   two_images_are_apart, readers_stand_beside_each_other, a_child_takes_nothing_from_its_parent,
   a_child_has_images_of_its_own, stores_during_commits_are_not_lost, other_faults_are_passed_on,

@@ -1,4 +1,4 @@
-/* cuts FOLDER COMMITS: power cuts and failing calls within fam_commit. The pwrite, fdatasync and fsync that the library calls
+/* cuts FOLDER COMMITS: power cuts and failing calls within fam_commit. The pwrite, pwritev, fdatasync and fsync that the library calls
    are those of this program, so that it is the library's own calls that are looked at, in their order. Before each call of
    each commit four power cuts are simulated, which leave the sectors that were not synced as they were, as they became, or
    each of them one of these, cut in its midst or of any bytes. Each image that is left is opened, and has to hold the files as
@@ -7,10 +7,12 @@
 #include "fam.h"
 #include <errno.h>
 #include <fcntl.h>
+#include <stdint.h>
 #include <stdio.h>
 #include <stdlib.h>
 #include <string.h>
 #include <sys/syscall.h>
+#include <sys/uio.h>
 #include <unistd.h>
 
 enum { PAGE = FAM_PAGE, SECTOR = 512, PAGES = 12, BYTES = SECTOR * 8195 + PAGE * PAGES, SECTORS = BYTES / SECTOR, FILLINGS = 4 };
@@ -75,13 +77,18 @@ static int fails(void) {
   return 1;
 }
 
-ssize_t pwrite(int fd, const void *from, size_t bytes, off_t at) {
-  if (fd != watched) return syscall(SYS_pwrite64, fd, from, bytes, at);
-  if (fails()) return -1;
-  memcpy(cached + at, from, bytes);
-  memset(unsynced + at / SECTOR, 1, bytes / SECTOR);
-  return syscall(SYS_pwrite64, fd, from, bytes, at);
+ssize_t pwritev(int fd, const struct iovec *parts, int count, off_t at) {
+  ssize_t made = 0;
+  if (fd == watched && fails()) return -1;
+  for (const struct iovec *part = parts; part < parts + count; at += (off_t)part++->iov_len) {
+    if (fd == watched) memcpy(cached + at, part->iov_base, part->iov_len), memset(unsynced + at / SECTOR, 1, part->iov_len / SECTOR);
+    if (syscall(SYS_pwrite64, fd, part->iov_base, part->iov_len, at) != (ssize_t)part->iov_len) die("pwrite");
+    made += (ssize_t)part->iov_len;
+  }
+  return made;
 }
+
+ssize_t pwrite(int fd, const void *from, size_t bytes, off_t at) { return pwritev(fd, &(struct iovec){(void *)(uintptr_t)from, bytes}, 1, at); }
 
 int fdatasync(int fd) {
   if (fd != watched) return 0; /* what is left of an image has only to be read */

@@ -20,11 +20,17 @@ enum {
 enum { FAMSYNC_CLOSED = 0, FAMSYNC_READY = 1, FAMSYNC_PENDING = 2 };
 struct famsync_handle { uint32_t state; };
 
-/* Of kind FAMSYNC_WRITE: write row k of the plan, if this is its call k, to this sector of 512 bytes. */
-enum { FAMSYNC_WRITE = 1, FAMSYNC_SYNC = 2, FAMSYNC_ROOM = 16384 };
-struct famsync_call { uint64_t kind, sector; };
+/* Call k of a plan, of kind
+     FAMSYNC_WRITE: write row k of the plan to `sector`, which has 512 bytes;
+     FAMSYNC_SYNC: sync;
+     FAMSYNC_LENT: write page `from` of those that famsync_commit was given to the eight sectors from `sector` on;
+     FAMSYNC_COPY: write to them what the eight sectors from `from` on of the image hold. No call of the plan before this one
+     writes there, so the image as it was lent and the file have the same bytes. */
+enum { FAMSYNC_WRITE = 1, FAMSYNC_SYNC = 2, FAMSYNC_LENT = 3, FAMSYNC_COPY = 4, FAMSYNC_ROOM = 16384 };
+struct famsync_call { uint64_t kind, sector, from; };
 
-/* The first `used` calls are to be made. With its rows a plan is eight megabytes: put none on a stack. */
+/* The first `used` calls are to be made. With its rows a plan is nine megabytes: put none on a stack. The row of a call of another
+   kind than FAMSYNC_WRITE is not written to. */
 struct famsync_plan {
   size_t used;
   struct famsync_call calls[FAMSYNC_ROOM];
@@ -37,7 +43,8 @@ struct famsync_bytes { const unsigned char *at; };
 
 /* `image` is `sectors` sectors, what the file holds; `scratch_calls` and `scratch_rows` are room to work in, FAMSYNC_ROOM
    calls and FAMSYNC_ROOM rows of 512 bytes, as are `calls` and `rows`. After the result 0 the caller makes the first *used
-   calls in their order, and then calls famsync_done, or famsync_failed where one failed. */
+   calls in their order, and then calls famsync_done, or famsync_failed where one failed. Until then the pages of a commit
+   stay where they are, since calls name them; of one that is stored to meanwhile any mix may become durable. */
 uint32_t famsync_open(struct famsync_handle *handle, const void *image, size_t sectors, struct famsync_call *scratch_calls,
                       void *scratch_rows, size_t *used, struct famsync_call *calls, void *rows);
 uint32_t famsync_commit(struct famsync_handle *handle, const void *image, size_t sectors, struct famsync_call *scratch_calls,

@@ -4,11 +4,11 @@ stand for the files before or after, and at the end for those after."""
 import ctypes as c, random, sys
 from images import HOMES, new_image
 ROOM, LENGTHS = 16384, [20000, 9000, 1]
-WRITE, SYNC = 1, 2
+WRITE, SYNC, LENT, COPY = 1, 2, 3, 4
 
 
 class Call(c.Structure):
-    _fields_ = [("kind", c.c_uint64), ("sector", c.c_uint64)]
+    _fields_ = [("kind", c.c_uint64), ("sector", c.c_uint64), ("from_", c.c_uint64)]
 
 
 class Plan(c.Structure):
@@ -28,17 +28,26 @@ library, scratch, plan = c.CDLL(sys.argv[1]), Plan(), Plan()
 
 def carried_out(image, calls):
     image = bytearray(image)
-    for kind, sector, row in calls:
-        if kind == WRITE:
-            image[512 * sector : 512 * sector + 512] = row
-    return bytes(image)
+    for sector, bytes in calls:
+        if sector is not None:
+            image[512 * sector : 512 * sector + len(bytes)] = bytes
+    return image
 
 
-def asked(name, state, image, *rest):
+def bytes_of(k, image, data):
+    """The bytes that call k of the plan writes, from where it says that they lie."""
+    call, at = plan.calls[k], 512 * plan.calls[k].from_
+    return bytes(plan.rows[k]) if call.kind == WRITE else data[call.from_] if call.kind == LENT else image[at : at + 4096]
+
+
+def asked(name, state, image, data=(), *rest):
+    """The answer and the calls of the plan: sector and bytes of each, or None of a sync."""
     lent, handle, used = (c.c_ubyte * len(image)).from_buffer_copy(image), c.c_uint32(state), c.c_size_t(0)
     answer = getattr(library, name)(c.byref(handle), lent, c.c_size_t(len(image) // 512), scratch.calls, scratch.rows, c.byref(used), plan.calls, plan.rows, *rest)
     assert bytes(lent) == image, "the image was written"
-    return answer, [(plan.calls[i].kind, plan.calls[i].sector, bytes(plan.rows[i])) for i in range(used.value)]
+    assert all(WRITE <= plan.calls[k].kind <= COPY for k in range(used.value)), "a call of no kind"
+    kinds.update(plan.calls[k].kind for k in range(used.value))
+    return answer, [(None, b"") if plan.calls[k].kind == SYNC else (plan.calls[k].sector, bytes_of(k, image, data)) for k in range(used.value)]
 
 
 def homes(image):
@@ -49,7 +58,7 @@ def homes(image):
 def committed(image, pages, data):
     count = len(pages)
     kept = [c.create_string_buffer(d, 4096) for d in data]
-    return asked("famsync_commit", 1, image, (Page * count)(*[Page(f, k) for f, k in pages]), c.c_size_t(count),
+    return asked("famsync_commit", 1, image, data, (Page * count)(*[Page(f, k) for f, k in pages]), c.c_size_t(count),
                  (Bytes * count)(*[Bytes(c.addressof(b)) for b in kept]), c.c_size_t(count))
 
 
@@ -66,25 +75,28 @@ def torn(pending, synced):
 
 def stops(image, calls, before, after):
     synced, pending, bad, tried = bytearray(image), {}, 0, 0
-    for kind, sector, row in calls + [(0, 0, b"")]:
+    for k in range(len(calls) + 1):
         for _ in range(2):
             found, tried = homes(torn(pending, synced)), tried + 1
-            bad += found not in ((after,) if kind == 0 else (before, after))
-        if kind == WRITE:
-            pending.setdefault(sector, []).append(row)
-        elif kind == SYNC:
-            synced, pending = bytearray(carried_out(synced, [(WRITE, s, rows[-1]) for s, rows in pending.items()])), {}
+            bad += found not in ((after,) if k == len(calls) else (before, after))
+        sector, written = calls[k] if k < len(calls) else (0, b"")
+        for at in range(0, len(written), 512):
+            pending.setdefault(sector + at // 512, []).append(written[at : at + 512])
+        if sector is None:
+            synced, pending = carried_out(synced, [(s, rows[-1]) for s, rows in pending.items()]), {}
     return bad + (pending != {}), tried
 
 
 random.seed(1)
+kinds = set()
 image, bad, tried, places = new_image(LENGTHS), 0, 0, [(f, k) for f, n in enumerate(LENGTHS) for k in range((n + 4095) // 4096)]
 for _ in range(int(sys.argv[2])):
     pages = random.sample(places, random.randint(1, len(places)))
     answer, calls = committed(image, pages, [random.randbytes(4096) for _ in pages])
     assert answer == 0, answer
-    following = carried_out(image, calls)
+    following = bytes(carried_out(image, calls))
     wrong, more = stops(image, calls, homes(image), homes(following))
     bad, tried, image = bad + wrong, tried + more, following
+assert len(kinds) == 4, f"calls of the kinds {kinds} alone"
 print(f"stops {tried} in {sys.argv[2]} commits: {bad} bad")
 sys.exit(bad > 0)

@@ -75,9 +75,9 @@ static void pass_on(const struct sigaction *before, int number, siginfo_t *info,
   }
 }
 
-/* The pages are opened first and marked then. A commit takes the marks, closes the pages and copies them, in this order; so a
+/* The pages are opened first and marked then. A commit takes the marks, closes the pages and writes them, in this order; so a
    store that follows this comes before the close, and the mark that is set here stays for the next commit, or it faults again.
-   Were the mark set first, a commit could take it, copy the page, and let the store through after that with no mark. Each page
+   Were the mark set first, a commit could take it, write the page, and let the store through after that with no mark. Each page
    that is open alone is a mapping of the kernel, of which there are some 65,000; then all of the file is opened. */
 int open_pages(const struct span *span) {
   struct span all = {span->mapping, 0, span->mapping->pages}, opened = *span;

@@ -1,17 +1,18 @@
 //! What C programs call. `image` is what the file holds, a sector a row, and is never written here. After the result 0 of
 //! `famsync_open` or `famsync_commit` the first `used` of `calls`, the plan, have to be made of the file, in their order, and
 //! then `famsync_done` is called, or `famsync_failed` where one of them failed. After any other result there is nothing to
-//! do. `scratch_calls` and `scratch_rows` are room to work in: nothing is said of what they hold.
+//! do. `Call` of `sync_plans` says what each call is: some name a page of the commit, which stays as it is until they are
+//! made. `scratch_calls` and `scratch_rows` are room to work in: nothing is said of what they hold.
 //!
 //! `StopLeaves` in the `Plans` of `sync_plans` says what a stop leaves of an image. The numbers that are returned stand in `codes`.
-ghost use Rattle.std.specs.Prelude.{◌≡◌, ◌≢◌, ◌≤◌, ◌<◌, ◌↔◌, ℕ, List, Option, Some, None, length};
+ghost use Rattle.std.specs.Prelude.{◌≡◌, ◌≢◌, ◌≤◌, ◌<◌, ◌↔◌, ℕ, List, [], Option, Some, None, length};
 ghost use Rattle.vm_types.specs.declared.file.FileInfo.{FileInfo};
 ghost use Rattle.disk_model.specs.Stop.{Image};
 ghost use Rattle.file_store.specs.Commit.{ArePages, Changes, StandsForEither};
 ghost use Rattle.file_store.specs.Standing.{IsPageOf, StandsFor, IsBadLayout, file_info};
 ghost use Rattle.famsync.specs.Codes.{done, out_of_turn, bad_layout, bad_journal, bad_pages, read_only, no_room, closed, ready, pending};
 ghost use Rattle.sync_plans.specs.Pages.{lent_page};
-ghost use Rattle.sync_plans.specs.Plans.{row, AreCalls, image_after, Unsynced, StopLeaves};
+ghost use Rattle.sync_plans.specs.Plans.{row, AreCalls, AreSources, image_after, Unsynced, StopLeaves};
 ghost use Rattle.sync_plans.specs.Requests.{IsStore, HasBadJournal, IsClosed, KeepsOutside, AreWritable, AreReadOnly};
 
 use crate::codes::{BAD_PAGES, CLOSED, OK, PENDING, READY, TURN, number};
@@ -33,11 +34,12 @@ pub extern "C" fn famsync_open(
 ) -> u32
     ensures few { used.new ≤ 16384 }
     ensures all { AreCalls (length image.now) calls.new used.new }
+    ensures sources { AreSources (lent_page []) calls.new used.new }
     ensures synced { (n : ℕ) → Unsynced calls.new used.new n → ⊥ }
     ensures any_moment { (files : ℕ → Option FileInfo) (pages : ℕ → ℕ → List ℕ) → StandsFor (length image.now) files pages (row image.now)
-        → (left : Image) → StopLeaves calls.new rows.new (row image.now) used.new left → StandsFor (length image.now) files pages left }
-    ensures closed { result ≡ done → IsClosed (image_after calls.new rows.new (row image.now) used.new) }
-    ensures outside { KeepsOutside (length image.now) (row image.now) (image_after calls.new rows.new (row image.now) used.new) }
+        → (left : Image) → StopLeaves calls.new rows.new (lent_page []) (row image.now) used.new left → StandsFor (length image.now) files pages left }
+    ensures closed { result ≡ done → IsClosed (image_after calls.new rows.new (lent_page []) (row image.now) used.new) }
+    ensures outside { KeepsOutside (length image.now) (row image.now) (image_after calls.new rows.new (lent_page []) (row image.now) used.new) }
     ensures state { result ≡ done → handle.new.state ≡ pending }
     ensures nothing { result ≢ done → (used.new ≡ 0) × (handle.new.state ≡ closed) }
     ensures store { result ≡ done → IsStore (length image.now) (row image.now) }
@@ -81,14 +83,15 @@ pub extern "C" fn famsync_commit(
 ) -> u32
     ensures few { used.new ≤ 16384 }
     ensures all { AreCalls (length image.now) calls.new used.new }
+    ensures sources { AreSources (lent_page bytes.now) calls.new used.new }
     ensures synced { (n : ℕ) → Unsynced calls.new used.new n → ⊥ }
     ensures any_moment { (files : ℕ → Option FileInfo) (before after : ℕ → ℕ → List ℕ)
         → StandsFor (length image.now) files before (row image.now) → Changes files pages.now (lent_page bytes.now) before after
-        → (left : Image) → StopLeaves calls.new rows.new (row image.now) used.new left → StandsForEither (length image.now) files before after left }
+        → (left : Image) → StopLeaves calls.new rows.new (lent_page bytes.now) (row image.now) used.new left → StandsForEither (length image.now) files before after left }
     ensures ok { result ≡ done → (files : ℕ → Option FileInfo) (before after : ℕ → ℕ → List ℕ)
         → StandsFor (length image.now) files before (row image.now) → Changes files pages.now (lent_page bytes.now) before after
-        → StandsFor (length image.now) files after (image_after calls.new rows.new (row image.now) used.new) }
-    ensures outside { KeepsOutside (length image.now) (row image.now) (image_after calls.new rows.new (row image.now) used.new) }
+        → StandsFor (length image.now) files after (image_after calls.new rows.new (lent_page bytes.now) (row image.now) used.new) }
+    ensures outside { KeepsOutside (length image.now) (row image.now) (image_after calls.new rows.new (lent_page bytes.now) (row image.now) used.new) }
     ensures state { result ≡ done → (handle.old.state ≡ ready) × (handle.new.state ≡ pending) }
     ensures nothing { result ≢ done → (used.new ≡ 0) × (handle.new ≡ handle.old) }
     ensures store { result ≡ done → IsStore (length image.now) (row image.now) }

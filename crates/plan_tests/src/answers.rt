@@ -88,7 +88,7 @@ fn the_largest_plan_has_room(rt: HostRuntime) -> Result<(), Fail> {
     }
     let bytes = Vec::from_elem(rt.alloc(), [9; 4096], 1023)?;
     let lent = lent_of(rt.alloc(), bytes.as_slice())?;
-    for calls in [8195, 16382] {
+    for calls in [1034, 2060] {
         let image = rows_of(rt.alloc(), &disk)?;
         let answer = client.commit(image.as_slice(), pages.as_slice(), lent.as_slice());
         assert_eq!(rt; answer, Ok(calls));

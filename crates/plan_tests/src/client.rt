@@ -3,7 +3,7 @@ use disk_model::{SectorDisk, SimDisk};
 use file_store::{FileSource, format};
 use std::alloc::{AllocError, Global};
 use std::test::Fail;
-use sync_plans::{Call, PageBytes, ROOM, Refusal, file_facts, plan_commit, plan_open, read_page};
+use sync_plans::{Call, PageBytes, ROOM, Refusal, file_facts, plan_commit, plan_open};
 use vm_types::{FileInfo, FilePage};
 
 /// A page of the image, and how many of its bytes lie inside its file.
@@ -84,20 +84,28 @@ pub(crate) fn lent_of<'a>(
     Ok(lent)
 }
 
-/// A plan, in vectors since its rows are eight megabytes.
+/// A plan, in vectors since its rows are eight megabytes, and the pages that were lent for it.
 #[derive(Drop)]
 pub(crate) struct Plan {
     pub(crate) used: usize,
     pub(crate) calls: Vec<Call>,
     rows: Vec<[u8; 512]>,
+    lent: Vec<[u8; 4096]>,
 }
+
+const NO_CALL: Call = Call {
+    kind: 0,
+    sector: 0,
+    from: 0,
+};
 
 /// A plan of no call.
 fn blank(alloc: Global) -> Result<Plan, AllocError> {
     Ok(Plan {
         used: 0,
-        calls: Vec::from_elem(alloc, Call { kind: 0, sector: 0 }, ROOM)?,
+        calls: Vec::from_elem(alloc, NO_CALL, ROOM)?,
         rows: Vec::from_elem(alloc, [0; 512], ROOM)?,
+        lent: Vec::new(alloc),
     })
 }
 
@@ -113,10 +121,37 @@ pub(crate) fn carry_out(
         match call.kind {
             1 if call.sector < disk.sectors() => disk.write(call.sector, row)?,
             2 => disk.sync()?,
+            3 => match plan.lent.get(call.from as usize) {
+                Some(page) => write_page(disk, call.sector, page)?,
+                None => return Err(Fail::new("a call of a page that is not lent")),
+            },
+            4 => {
+                let page = read_page(disk, call.from)?;
+                write_page(disk, call.sector, &page)?;
+            }
             _ => return Err(Fail::new("a call of no kind, or of no sector")),
         }
     }
     Ok(())
+}
+
+/// Writes the eight sectors from `n` on.
+fn write_page(disk: &mut SimDisk, n: u64, page: &[u8; 4096]) -> Result<(), Fail> {
+    if n >= 0x10_0000 || n + 8 > disk.sectors() {
+        return Err(Fail::new("a call of sectors that are not there"));
+    }
+    disk.write_page(n, page)?;
+    Ok(())
+}
+
+/// Reads the eight sectors from `n` on.
+fn read_page(disk: &mut SimDisk, n: u64) -> Result<[u8; 4096], Fail> {
+    let mut page = [0; 4096];
+    if n >= 0x10_0000 || n + 8 > disk.sectors() {
+        return Err(Fail::new("a source that is not there"));
+    }
+    disk.read_page(n, &mut page)?;
+    Ok(page)
 }
 
 /// Room for plans.
@@ -160,7 +195,7 @@ impl Client {
         pages: &[FilePage],
         bytes: &[PageBytes<'_>],
     ) -> Result<usize, Refusal> {
-        if pages.len() != bytes.len() {
+        if pages.len() != bytes.len() || self.lend(bytes).is_err() {
             return Err(Refusal::Device);
         }
         let Some(scratch_calls) = self.scratch.calls.as_mut_array() else {
@@ -187,6 +222,15 @@ impl Client {
         Ok(self.plan.used)
     }
 
+    /// Keeps the pages that are lent for a plan.
+    fn lend(&mut self, bytes: &[PageBytes<'_>]) -> Result<(), AllocError> {
+        self.plan.lent.clear();
+        for page in bytes {
+            self.plan.lent.push(*page.at)?;
+        }
+        Ok(())
+    }
+
     /// Reads a page.
     pub(crate) fn read(
         &mut self,
@@ -200,7 +244,7 @@ impl Client {
         let Some(rows) = self.scratch.rows.as_mut_array() else {
             return Err(Refusal::Device);
         };
-        read_page(image, calls, rows, page, to)
+        sync_plans::read_page(image, calls, rows, page, to)
     }
 
     /// The facts of a file.

@@ -1,95 +1,211 @@
 -- Plans that grow by a call.
-use Rattle.std.proofs.Common.{ℕ, zero, suc, ◌+◌, ◌<◌, ◌≤◌, ◌≡◌, ◌⊎◌, Bool, true, false, ◌||◌, ◌==◌, if◌then◌else◌, IsTrue, List, Some, slice_get, length, inl, inr, ⊎_elim, refl, sym, subst, ◌∙◌, arith, eq-eqb, ne_eqb}
-use Rattle.std.proofs.lemmas.Bool.{cases_eq, cases_lt}
+use Rattle.std.proofs.Common.{ℕ, zero, suc, ◌+◌, ◌<◌, ◌≤◌, ◌≡◌, ◌≢◌, ◌⊎◌, Bool, true, false, ◌&&◌, ◌||◌, ◌==◌, if◌then◌else◌, IsTrue, List, Option, Some, None, slice_get, length, inl, inr, ⊎_elim, refl, sym, ap, subst, ◌∙◌, arith, eq-eqb, ne_eqb}
+use Rattle.std.specs.Prelude.{ltb}
+use Rattle.std.proofs.lemmas.Bool.{cases_eq, cases_lt, cases_Bool, false≢true, lt-ltb, le-leb, lt-leb}
 use Rattle.std.proofs.lemmas.Option.{slice_get-get_or}
 use Rattle.std.proofs.Math.ListN.{get_or}
 use Rattle.std.proofs.Math.Path.{fun_ext}
-use Rattle.disk_model.specs.Stop.{Image, MayLeave, ChangesOnly, Elapses}
+use Rattle.disk_model.specs.Sectors.{part_of}
+use Rattle.disk_model.specs.Stop.{Image, MayLeave, ChangesOnly, ChangesPage, IsOfPage, Elapses}
 use Rattle.sync_plans.specs.declared.call.Call.{Call}
-use Rattle.sync_plans.specs.Plans.{row, writes_to, is_sync, is_unsynced, Unsynced, image_after}
-use Rattle.sync_plans.specs.Device.{LeftSince, Lists}
+use Rattle.sync_plans.specs.Plans.{row, is_of_page, writes_to, page_bytes, bytes_in, is_sync, is_unsynced, Unsynced, image_after, is_written}
+use Rattle.sync_plans.specs.Device.{LeftSince, Lists, NamesPage}
 
-module _ (calls : List Call) (rows : List (List ℕ)) (first : Image) where
-  pub written : (m k n : ℕ) (d : Call) → m ≡ suc k → k < length calls → (get_or calls k d).kind ≡ 1 → n ≡ (get_or calls k d).sector
-      → image_after calls rows first m n ≡ row rows k
-  written m k n d e inside writes here = rw (e, slice_get-get_or calls k d inside, eq-eqb (get_or calls k d).kind 1 writes, eq-eqb n (get_or calls k d).sector here) refl
+-- sectors of a page
+pub in_page : (first n : ℕ) → IsOfPage first n → is_of_page first n ≡ true
+in_page first n is = ap (λ (b : Bool). b && ltb n (first + 8)) (le-leb first n is.0) ∙ lt-ltb n (first + 8) is.1
 
-  pub passed : (m k n : ℕ) (d : Call) → m ≡ suc k → k < length calls → (((get_or calls k d).kind ≡ 1) × (n ≡ (get_or calls k d).sector) → ⊥)
-      → image_after calls rows first m n ≡ image_after calls rows first k n
-  passed m k n d e inside other = ⊎_elim
-      (λ writes. rw (e, slice_get-get_or calls k d inside, eq-eqb (get_or calls k d).kind 1 writes, ne_eqb n (get_or calls k d).sector (λ here. other (writes, here))) refl)
-      (λ reads. rw (e, slice_get-get_or calls k d inside, ne_eqb (get_or calls k d).kind 1 reads) refl)
-      (cases_eq (get_or calls k d).kind 1)
+pub out_of_page : (first n : ℕ) → (IsOfPage first n → ⊥) → is_of_page first n ≡ false
+out_of_page first n not = ⊎_elim
+    (λ before. ap (λ (b : Bool). b && ltb n (first + 8)) (lt-leb first n before))
+    (λ from. ⊎_elim (λ below. absurd (not (from, below)))
+    (λ behind. ap (λ (b : Bool). b && ltb n (first + 8)) (le-leb first n from) ∙ lt-leb (suc n) (first + 8) (omega (arith, behind)))
+    (cases_lt n (first + 8)))
+    (cases_lt n first)
+
+is_or_not : (first n : ℕ) → IsOfPage first n ⊎ (IsOfPage first n → ⊥)
+is_or_not first n = ⊎_elim (λ before. inr (λ is. omega (arith, before, is.0)))
+    (λ from. ⊎_elim (λ below. inl (from, below)) (λ behind. inr (λ is. omega (arith, behind, is.1))) (cases_lt n (first + 8)))
+    (cases_lt n first)
+
+pub of_page : (first n : ℕ) → IsTrue (is_of_page first n) → IsOfPage first n
+of_page first n is = ⊎_elim (λ here. here) (λ not. absurd (false≢true (sym (out_of_page first n not) ∙ is))) (is_or_not first n)
+
+-- a call of another kind than 1 writes to the sectors of its page, if to any
+pub page_writes : (call : Call) (n : ℕ) → 3 ≤ call.kind → writes_to (Some call) n ≡ is_of_page call.sector n
+page_writes call n page = rw (ne_eqb call.kind 1 (λ one. omega (arith, one, page)), le-leb 3 call.kind page) refl
+
+pub page_written_to : (call : Call) (n : ℕ) → call.kind ≢ 1 → writes_to (Some call) n ≡ true → (3 ≤ call.kind) × IsOfPage call.sector n
+page_written_to call n other writes = ⊎_elim
+    (λ less. let no : writes_to (Some call) n ≡ false = rw (ne_eqb call.kind 1 other, lt-leb 3 call.kind less) refl in absurd (false≢true (sym no ∙ writes)))
+    (λ page. (page, of_page call.sector n (sym (page_writes call n page) ∙ writes)))
+    (cases_lt call.kind 3)
+
+pub not_written : (call : Call) (n : ℕ) → n < call.sector → writes_to (Some call) n ≡ false
+not_written call n before = ⊎_elim
+    (λ one. rw (eq-eqb call.kind 1 one) (ne_eqb n call.sector (λ here. omega (arith, here, before))))
+    (λ other. elim (cases_Bool (writes_to (Some call) n)) [
+      | inl writes ↦ let to = page_written_to call n other writes in absurd (let from = to.1.0 in omega (arith, before, from))
+      | inr not ↦ not
+    ])
+    (cases_eq call.kind 1)
+
+pub sync_writes_none : (call : Call) (n : ℕ) → call.kind ≡ 2 → writes_to (Some call) n ≡ false
+sync_writes_none call n syncs = rw syncs refl
+
+-- the call at a place of the list
+pub writes_here : (calls : List Call) (k n : ℕ) (d : Call) → k < length calls → writes_to (slice_get calls k) n ≡ writes_to (Some (get_or calls k d)) n
+writes_here calls k n d inside = ap (λ (o : Option Call). writes_to o n) (slice_get-get_or calls k d inside)
+
+module _ (calls : List Call) (rows : List (List ℕ)) (pages : ℕ → List ℕ) (first : Image) where
+  abbrev branch : ℕ → ℕ → Bool → List ℕ
+  branch k n b = if b then bytes_in rows pages first k (slice_get calls k) n else image_after calls rows pages first k n
+
+  pub written : (m k n : ℕ) → m ≡ suc k → writes_to (slice_get calls k) n ≡ true → image_after calls rows pages first m n ≡ bytes_in rows pages first k (slice_get calls k) n
+  written m k n e writes = ap (λ (j : ℕ). image_after calls rows pages first j n) e ∙ ap (branch k n) writes
+
+  pub passed : (m k n : ℕ) → m ≡ suc k → writes_to (slice_get calls k) n ≡ false → image_after calls rows pages first m n ≡ image_after calls rows pages first k n
+  passed m k n e other = ap (λ (j : ℕ). image_after calls rows pages first j n) e ∙ ap (branch k n) other
+
+  pub untouched : (m n : ℕ) → is_written calls 0 m n ≡ false → image_after calls rows pages first m n ≡ first n
+  untouched zero n away = refl
+  untouched (suc m) n away = elim (cases_Bool (writes_to (slice_get calls (0 + m)) n)) [
+    | inl here ↦ absurd (false≢true (sym away ∙ rw here refl))
+    | inr other ↦ let z : 0 + m ≡ m = omega arith in passed (suc m) m n refl (rw z at other) ∙ untouched m n (rw other at away)
+  ]
 
 -- plans with the same first calls
-module _ (calls calls' : List Call) (rows rows' : List (List ℕ)) (first : Image) (used : ℕ) (same_calls : (k : ℕ) → k < used → slice_get calls' k ≡ slice_get calls k) (same_rows : (k : ℕ) → k < used → row rows' k ≡ row rows k) where
-  pub alike_image : (k n : ℕ) → k ≤ used → image_after calls' rows' first k n ≡ image_after calls rows first k n
-  alike_image zero n le = refl
-  alike_image (suc k) n le = rw (same_calls k (omega (arith, le)), same_rows k (omega (arith, le)), alike_image k n (omega (arith, le))) refl
-
+module _ (calls calls' : List Call) (used : ℕ) (same_calls : (k : ℕ) → k < used → slice_get calls' k ≡ slice_get calls k) where
   pub alike_unsynced : (k n : ℕ) → k ≤ used → is_unsynced calls' k n ≡ is_unsynced calls k n
   alike_unsynced zero n le = refl
   alike_unsynced (suc k) n le = rw (same_calls k (omega (arith, le)), alike_unsynced k n (omega (arith, le))) refl
 
-  pub alike_leaves : (k : ℕ) (c : Image) → k ≤ used → MayLeave (image_after calls' rows' first k) (Unsynced calls' k) c → MayLeave (image_after calls rows first k) (Unsynced calls k) c
-  alike_leaves k c le may = record { kept = λ n. ⊎_elim (λ u. inl (subst IsTrue (alike_unsynced k n le) u)) (λ e. inr (e ∙ alike_image k n le)) (may.kept n) }
+  pub alike_written : (k n : ℕ) → k ≤ used → is_written calls' 0 k n ≡ is_written calls 0 k n
+  alike_written zero n le = refl
+  alike_written (suc k) n le = let z : 0 + k ≡ k = omega arith in rw (z, same_calls k (omega (arith, le)), alike_written k n (omega (arith, le))) refl
 
-  pub alike_left : (k : ℕ) (c : Image) → k ≤ used → MayLeave (image_after calls rows first k) (Unsynced calls k) c → MayLeave (image_after calls' rows' first k) (Unsynced calls' k) c
-  alike_left k c le may = record { kept = λ n. ⊎_elim (λ u. inl (subst IsTrue (sym (alike_unsynced k n le)) u)) (λ e. inr (e ∙ sym (alike_image k n le))) (may.kept n) }
+  module _ (rows rows' : List (List ℕ)) (pages : ℕ → List ℕ) (first : Image)
+      (same_rows : (k : ℕ) (call : Call) → k < used → slice_get calls k ≡ Some call → call.kind ≡ 1 → row rows' k ≡ row rows k) where
+    same_bytes : (k n : ℕ) (call : Option Call) → k < used → slice_get calls k ≡ call → bytes_in rows' pages first k call n ≡ bytes_in rows pages first k call n
+    same_bytes k n None lt is = refl
+    same_bytes k n (Some call) lt is = ⊎_elim
+        (λ one. rw (eq-eqb call.kind 1 one) (same_rows k call lt is one))
+        (λ other. rw (ne_eqb call.kind 1 other) refl)
+        (cases_eq call.kind 1)
+
+    pub alike_image : (k n : ℕ) → k ≤ used → image_after calls' rows' pages first k n ≡ image_after calls rows pages first k n
+    alike_image zero n le = refl
+    alike_image (suc k) n le = rw (same_calls k (omega (arith, le)), alike_image k n (omega (arith, le)))
+        (ap (λ (bytes : List ℕ). if writes_to (slice_get calls k) n then bytes else image_after calls rows pages first k n)
+        (same_bytes k n (slice_get calls k) (omega (arith, le)) refl))
+
+    pub alike_leaves : (k : ℕ) (c : Image) → k ≤ used → MayLeave (image_after calls' rows' pages first k) (Unsynced calls' k) c → MayLeave (image_after calls rows pages first k) (Unsynced calls k) c
+    alike_leaves k c le may = record { kept = λ n. ⊎_elim (λ u. inl (subst IsTrue (alike_unsynced k n le) u)) (λ e. inr (e ∙ alike_image k n le)) (may.kept n) }
+
+    pub alike_left : (k : ℕ) (c : Image) → k ≤ used → MayLeave (image_after calls rows pages first k) (Unsynced calls k) c → MayLeave (image_after calls' rows' pages first k) (Unsynced calls' k) c
+    alike_left k c le may = record { kept = λ n. ⊎_elim (λ u. inl (subst IsTrue (sym (alike_unsynced k n le)) u)) (λ e. inr (e ∙ sym (alike_image k n le))) (may.kept n) }
 
 -- a call more
-module _ {calls calls' : List Call} {rows rows' : List (List ℕ)} {used used' : ℕ} {call : Call} {bytes : List ℕ} (first : Image) (lists : Lists calls calls' rows rows' used used' call bytes) where
-  same_image : (k n : ℕ) → k ≤ used → image_after calls' rows' first k n ≡ image_after calls rows first k n
-  same_image = alike_image calls calls' rows rows' first used lists.calls_before lists.rows_before
+module _ {calls calls' : List Call} {rows rows' : List (List ℕ)} {used used' : ℕ} {call : Call} {bytes : List ℕ} (pages : ℕ → List ℕ) (first : Image) (lists : Lists calls calls' rows rows' used used' call bytes) where
+  same_rows : (k : ℕ) (c : Call) → k < used → slice_get calls k ≡ Some c → c.kind ≡ 1 → row rows' k ≡ row rows k
+  same_rows k c lt is one = lists.rows_before k lt
+
+  same_image : (k n : ℕ) → k ≤ used → image_after calls' rows' pages first k n ≡ image_after calls rows pages first k n
+  same_image = alike_image calls calls' used lists.calls_before rows rows' pages first same_rows
 
   same_unsynced : (k n : ℕ) → k ≤ used → is_unsynced calls' k n ≡ is_unsynced calls k n
-  same_unsynced = alike_unsynced calls calls' rows rows' first used lists.calls_before lists.rows_before
+  same_unsynced = alike_unsynced calls calls' used lists.calls_before
 
-  may_before : (k : ℕ) (c : Image) → k ≤ used → MayLeave (image_after calls' rows' first k) (Unsynced calls' k) c → MayLeave (image_after calls rows first k) (Unsynced calls k) c
-  may_before = alike_leaves calls calls' rows rows' first used lists.calls_before lists.rows_before
+  may_before : (k : ℕ) (c : Image) → k ≤ used → MayLeave (image_after calls' rows' pages first k) (Unsynced calls' k) c → MayLeave (image_after calls rows pages first k) (Unsynced calls k) c
+  may_before = alike_leaves calls calls' used lists.calls_before rows rows' pages first same_rows
 
-  may_after : (k : ℕ) (c : Image) → k ≤ used → MayLeave (image_after calls rows first k) (Unsynced calls k) c → MayLeave (image_after calls' rows' first k) (Unsynced calls' k) c
-  may_after = alike_left calls calls' rows rows' first used lists.calls_before lists.rows_before
+  may_after : (k : ℕ) (c : Image) → k ≤ used → MayLeave (image_after calls rows pages first k) (Unsynced calls k) c → MayLeave (image_after calls' rows' pages first k) (Unsynced calls' k) c
+  may_after = alike_left calls calls' used lists.calls_before rows rows' pages first same_rows
 
-  pub image_now : (n : ℕ) → image_after calls' rows' first used' n ≡ (if writes_to (Some call) n then bytes else image_after calls rows first used n)
-  image_now n = rw (lists.more, lists.call_here, lists.row_here, same_image used n (omega arith)) refl
+  image_now : (n : ℕ) → image_after calls' rows' pages first used' n ≡ (if writes_to (Some call) n then bytes_in rows' pages first used (Some call) n else image_after calls rows pages first used n)
+  image_now n = rw (lists.more, lists.call_here, same_image used n (omega arith)) refl
 
-  pub unsynced_now : (n : ℕ) → is_unsynced calls' used' n ≡ (if is_sync (Some call) then false else (writes_to (Some call) n || is_unsynced calls used n))
+  unsynced_now : (n : ℕ) → is_unsynced calls' used' n ≡ (if is_sync (Some call) then false else (writes_to (Some call) n || is_unsynced calls used n))
   unsynced_now n = rw (lists.more, lists.call_here, same_unsynced used n (omega arith)) refl
 
-  pub time : Elapses (used + 1) (used' + 1) (LeftSince calls rows first used) (LeftSince calls' rows' first used') (image_after calls' rows' first used') (Unsynced calls' used')
+  pub time : Elapses (used + 2) (used' + 2) (LeftSince calls rows pages first used) (LeftSince calls' rows' pages first used') (image_after calls' rows' pages first used') (Unsynced calls' used')
   time = record {
     later = omega (arith, lists.more);
-    nothing_else = λ t c le left. ⊎_elim (λ named. inl (inl named))
-        (λ had. ⊎_elim (λ now. inr (subst (λ (k : ℕ). MayLeave (image_after calls' rows' first k) (Unsynced calls' k) c) (omega (arith, now, had.2, lists.more)) had.3))
-        (λ early. inl (inr (had.0, had.1, early, may_before had.0 c early had.3))) (cases_lt used had.0))
+    nothing_else = λ t c le left. ⊎_elim (λ named. inl (inl named)) (⊎_elim (λ named. inl (inr (inl named)))
+        (λ had. ⊎_elim (λ now. inr (subst (λ (k : ℕ). MayLeave (image_after calls' rows' pages first k) (Unsynced calls' k) c) (omega (arith, now, had.2, lists.more)) had.3))
+        (λ early. inl (inr (inr (had.0, had.1, early, may_before had.0 c early had.3)))) (cases_lt used had.0)))
         left;
-    keeps = λ t c le left. ⊎_elim (λ named. inl named)
-        (λ had. inr (had.0, had.1, omega (arith, had.2, lists.more), may_after had.0 c had.2 had.3)) left;
+    keeps = λ t c le left. ⊎_elim (λ named. inl named) (⊎_elim (λ named. inr (inl named))
+        (λ had. inr (inr (had.0, had.1, omega (arith, had.2, lists.more), may_after had.0 c had.2 had.3)))) left;
   }
 
+  or_true : (a b : Bool) → IsTrue b → IsTrue (a || b)
+  or_true true b is = refl
+  or_true false b is = is
+
   -- a write
-  module _ (n : ℕ) (writes : call ≡ record { kind = 1; sector = n }) where
-    image_written : (k : ℕ) → image_after calls' rows' first used' k ≡ (if k == n then bytes else image_after calls rows first used k)
-    image_written k = image_now k ∙ rw writes refl
+  module _ (n : ℕ) (writes : call ≡ record { kind = 1; sector = n; from = 0 }) where
+    row_now : row rows' used ≡ bytes
+    row_now = lists.row_here (ap (λ (c : Call). c.kind) writes)
+
+    image_written : (k : ℕ) → image_after calls' rows' pages first used' k ≡ (if k == n then bytes else image_after calls rows pages first used k)
+    image_written k = image_now k ∙ rw (writes, row_now) refl
 
     unsynced_written : (k : ℕ) → is_unsynced calls' used' k ≡ ((k == n) || is_unsynced calls used k)
     unsynced_written k = unsynced_now k ∙ rw writes refl
 
-    pub changes : ChangesOnly n (image_after calls rows first used) (image_after calls' rows' first used')
+    pub written_here : image_after calls' rows' pages first used' n ≡ bytes
+    written_here = image_written n ∙ rw (eq-eqb n n refl) refl
+
+    pub marked_here : Unsynced calls' used' n
+    marked_here = unsynced_written n ∙ rw (eq-eqb n n refl) refl
+
+    pub changes : ChangesOnly n (image_after calls rows pages first used) (image_after calls' rows' pages first used')
     changes = record { others = λ k ne. image_written k ∙ rw (ne_eqb k n ne) refl }
 
     pub unsynced_by : (k : ℕ) → Unsynced calls' used' k → Unsynced calls used k ⊎ (k ≡ n)
     unsynced_by k u = ⊎_elim (λ e. inr e) (λ ne. inl (subst IsTrue (unsynced_written k ∙ rw (ne_eqb k n ne) refl) u)) (cases_eq k n)
 
-    or_true : (a b : Bool) → IsTrue b → IsTrue (a || b)
-    or_true true b is = refl
-    or_true false b is = is
-
     pub still_unsynced : (k : ℕ) → Unsynced calls used k → Unsynced calls' used' k
     still_unsynced k u = subst IsTrue (sym (unsynced_written k)) (or_true (k == n) (is_unsynced calls used k) u)
 
+  -- a write of a page whose bytes are named
+  module _ (page : List ℕ) (names : NamesPage pages first call.sector page call) where
+    image_paged : (k : ℕ) → image_after calls' rows' pages first used' k ≡ (if is_of_page call.sector k then page_bytes pages first call k else image_after calls rows pages first used k)
+    image_paged k = image_now k
+        ∙ ap (λ (b : Bool). if b then bytes_in rows' pages first used (Some call) k else image_after calls rows pages first used k) (page_writes call k names.kind.0)
+        ∙ ap (λ (b : Bool). if is_of_page call.sector k then (if b then row rows' used else page_bytes pages first call k) else image_after calls rows pages first used k)
+        (ne_eqb call.kind 1 (λ one. let from = names.kind.0 in omega (arith, one, from)))
+
+    unsynced_paged : (k : ℕ) → is_unsynced calls' used' k ≡ (is_of_page call.sector k || is_unsynced calls used k)
+    unsynced_paged k = unsynced_now k
+        ∙ ap (λ (b : Bool). if b then false else (writes_to (Some call) k || is_unsynced calls used k)) (ne_eqb call.kind 2 (λ two. let from = names.kind.0 in omega (arith, two, from)))
+        ∙ ap (λ (b : Bool). b || is_unsynced calls used k) (page_writes call k names.kind.0)
+
+    pub page_written : (i : ℕ) → i < 8 → image_after calls' rows' pages first used' (call.sector + i) ≡ part_of page i
+    page_written i lt = image_paged (call.sector + i)
+        ∙ ap (λ (b : Bool). if b then page_bytes pages first call (call.sector + i) else image_after calls rows pages first used (call.sector + i))
+        (in_page call.sector (call.sector + i) (omega arith, omega (arith, lt)))
+        ∙ names.bytes i lt
+
+    pub page_changes : ChangesPage call.sector (image_after calls rows pages first used) (image_after calls' rows' pages first used')
+    page_changes = record {
+      others = λ k out. image_paged k
+          ∙ ap (λ (b : Bool). if b then page_bytes pages first call k else image_after calls rows pages first used k) (out_of_page call.sector k out);
+    }
+
+    pub page_unsynced_by : (k : ℕ) → Unsynced calls' used' k → Unsynced calls used k ⊎ IsOfPage call.sector k
+    page_unsynced_by k u = ⊎_elim (λ is. inr is)
+        (λ out. inl (subst IsTrue (unsynced_paged k ∙ ap (λ (b : Bool). b || is_unsynced calls used k) (out_of_page call.sector k out)) u))
+        (is_or_not call.sector k)
+
+    pub page_marked : (k : ℕ) → IsOfPage call.sector k → Unsynced calls' used' k
+    page_marked k is = unsynced_paged k ∙ ap (λ (b : Bool). b || is_unsynced calls used k) (in_page call.sector k is)
+
+    pub page_still : (k : ℕ) → Unsynced calls used k → Unsynced calls' used' k
+    page_still k u = subst IsTrue (sym (unsynced_paged k)) (or_true (is_of_page call.sector k) (is_unsynced calls used k) u)
+
   -- a sync
-  module _ (syncs : call ≡ record { kind = 2; sector = 0 }) where
-    pub same_now : image_after calls' rows' first used' ≡ image_after calls rows first used
+  module _ (syncs : call ≡ record { kind = 2; sector = 0; from = 0 }) where
+    pub same_now : image_after calls' rows' pages first used' ≡ image_after calls rows pages first used
     same_now = fun_ext (λ k. image_now k ∙ rw syncs refl)

@@ -1,6 +1,8 @@
 -- From what the store says of a plan as a device to what stops of the calls leave.
-use Rattle.std.proofs.Common.{ℕ, zero, suc, ◌+◌, if◌then◌else◌, ◌<◌, ◌≤◌, ◌≡◌, ◌≢◌, ◌⊎◌, Bool, true, false, ◌||◌, IsTrue, List, [], ◌∷◌, Option, slice_get, length, inl, inr, ⊎_elim, refl, sym, ap, subst, ◌∙◌, arith}
-use Rattle.std.proofs.lemmas.Bool.{cases_Bool, false≢true}
+use Rattle.std.proofs.Common.{ℕ, zero, suc, ◌+◌, if◌then◌else◌, ◌<◌, ◌≤◌, ◌≡◌, ◌≢◌, ◌⊎◌, Bool, true, false, ◌||◌, IsTrue, List, [], ◌∷◌, Option, Some, slice_get, length, inl, inr, ⊎_elim, refl, sym, ap, subst, ◌∙◌, arith}
+use Rattle.std.proofs.lemmas.Bool.{cases_Bool, cases_lt, false≢true}
+use Rattle.std.proofs.lemmas.Option.{slice_get_past, slice_get-get_or}
+use Rattle.std.proofs.Math.ListN.{get_or}
 use Rattle.std.proofs.Math.Path.{fun_ext}
 use Rattle.vm_types.specs.declared.file.FileInfo.{FileInfo}
 use Rattle.disk_model.specs.Stop.{Image, MayLeave}
@@ -8,16 +10,18 @@ use Rattle.file_store.specs.Layout.{mark}
 use Rattle.file_store.specs.Standing.{StandsFor, Unmarked}
 use Rattle.file_store.specs.Commit.{StandsForEither}
 use Rattle.sync_plans.specs.declared.call.Call.{Call}
-use Rattle.sync_plans.specs.Plans.{row, is_written, writes_to, is_sync, is_unsynced, Unsynced, image_after, StopLeaves, After, Within}
+use Rattle.sync_plans.specs.declared.lent_pages.PageBytes.{PageBytes}
+use Rattle.sync_plans.specs.Pages.{bytes_or_none, lent_page}
+use Rattle.sync_plans.specs.Plans.{row, bytes_in, is_written, writes_to, is_sync, is_unsynced, Unsynced, image_after, StopLeaves, After, Within}
 use Rattle.sync_plans.specs.Device.{label, LeftSince}
 use Rattle.sync_plans.specs.Requests.{HasLayout}
 use Rattle.sync_plans.proofs.Growth.{alike_leaves, alike_image}
 
 -- nothing is left but what was there
-pub nothing_done : (calls : List Call) (rows : List (List ℕ)) (first : Image) (used : ℕ) (c : Image) → used ≡ 0
-    → MayLeave (image_after calls rows first used) (Unsynced calls used) c → c ≡ first
-nothing_done calls rows first used c e may = fun_ext (λ n. ⊎_elim (λ u. absurd (false≢true u)) (λ same. same)
-    ((subst (λ (k : ℕ). MayLeave (image_after calls rows first k) (Unsynced calls k) c) e may).kept n))
+pub nothing_done : (calls : List Call) (rows : List (List ℕ)) (pages : ℕ → List ℕ) (first : Image) (used : ℕ) (c : Image) → used ≡ 0
+    → MayLeave (image_after calls rows pages first used) (Unsynced calls used) c → c ≡ first
+nothing_done calls rows pages first used c e may = fun_ext (λ n. ⊎_elim (λ u. absurd (false≢true u)) (λ same. same)
+    ((subst (λ (k : ℕ). MayLeave (image_after calls rows pages first k) (Unsynced calls k) c) e may).kept n))
 
 -- what a stop in the midst of writes leaves is what some stop after them does
 or_left : (a b : Bool) → IsTrue a → IsTrue (a || b)
@@ -28,11 +32,11 @@ or_right : (a b : Bool) → IsTrue b → IsTrue (a || b)
 or_right true b is = refl
 or_right false b is = is
 
-module _ (calls : List Call) (rows : List (List ℕ)) (first : Image) (k : ℕ) where
+module _ (calls : List Call) (rows : List (List ℕ)) (pages : ℕ → List ℕ) (first : Image) (k : ℕ) where
   next_unsynced : (m n : ℕ) → is_sync (slice_get calls (k + m)) ≡ false → is_unsynced calls (k + suc m) n ≡ (writes_to (slice_get calls (k + m)) n || is_unsynced calls (k + m) n)
   next_unsynced m n other = let e : k + suc m ≡ suc (k + m) = omega arith in rw (e, other) refl
 
-  next_image : (m n : ℕ) → image_after calls rows first (k + suc m) n ≡ (if writes_to (slice_get calls (k + m)) n then row rows (k + m) else image_after calls rows first (k + m) n)
+  next_image : (m n : ℕ) → image_after calls rows pages first (k + suc m) n ≡ (if writes_to (slice_get calls (k + m)) n then bytes_in rows pages first (k + m) (slice_get calls (k + m)) n else image_after calls rows pages first (k + m) n)
   next_image m n = let e : k + suc m ≡ suc (k + m) = omega arith in rw e refl
 
   still : (m n : ℕ) → ((j : ℕ) → j < m → is_sync (slice_get calls (k + j)) ≡ false) → Unsynced calls k n → Unsynced calls (k + m) n
@@ -48,29 +52,29 @@ module _ (calls : List Call) (rows : List (List ℕ)) (first : Image) (k : ℕ) 
         (written_unsynced m n (λ j lt. writes j (omega (arith, lt))) (rw away at w))
   ])
 
-  unwritten : (m n : ℕ) → is_written calls k m n ≡ false → image_after calls rows first (k + m) n ≡ image_after calls rows first k n
+  pub unwritten : (m n : ℕ) → is_written calls k m n ≡ false → image_after calls rows pages first (k + m) n ≡ image_after calls rows pages first k n
   unwritten zero n away = let e : k + zero ≡ k = omega arith in rw e refl
   unwritten (suc m) n away = elim (cases_Bool (writes_to (slice_get calls (k + m)) n)) [
     | inl here ↦ absurd (false≢true (sym away ∙ rw here refl))
     | inr other ↦ next_image m n ∙ rw other (unwritten m n (rw other at away))
   ]
 
-pub between : (calls : List Call) (rows : List (List ℕ)) (first : Image) (used : ℕ) (c : Image) → StopLeaves calls rows first used c
-    → (k : ℕ) × (k ≤ used) × MayLeave (image_after calls rows first k) (Unsynced calls k) c
-between calls rows first used c (After k le may) = (k, le, may)
-between calls rows first used c (Within k m le writes may) = (
+pub between : (calls : List Call) (rows : List (List ℕ)) (pages : ℕ → List ℕ) (first : Image) (used : ℕ) (c : Image) → StopLeaves calls rows pages first used c
+    → (k : ℕ) × (k ≤ used) × MayLeave (image_after calls rows pages first k) (Unsynced calls k) c
+between calls rows pages first used c (After k le may) = (k, le, may)
+between calls rows pages first used c (Within k m le writes may) = (
   k + m,
   le,
   record {
     kept = λ n. elim (cases_Bool (is_written calls k m n)) [
-      | inl here ↦ inl (written_unsynced calls rows first k m n writes here)
-      | inr away ↦ ⊎_elim (⊎_elim (λ u. inl (still calls rows first k m n writes u)) (λ w. absurd (false≢true (sym away ∙ w))))
-          (λ e. inr (e ∙ sym (unwritten calls rows first k m n away))) (may.kept n)
+      | inl here ↦ inl (written_unsynced calls rows pages first k m n writes here)
+      | inr away ↦ ⊎_elim (⊎_elim (λ u. inl (still calls rows pages first k m n writes u)) (λ w. absurd (false≢true (sym away ∙ w))))
+          (λ e. inr (e ∙ sym (unwritten calls rows pages first k m n away))) (may.kept n)
     ];
   },
 )
 
--- a name of an image is no image of a store
+-- a name is no image of a store
 is_none : List ℕ → Bool
 is_none [] = true
 is_none (b ∷ bytes) = false
@@ -82,75 +86,108 @@ unmarked e = false≢true (sym (ap is_none e))
 no_layout : (sectors : ℕ) (image : Image) → HasLayout sectors image → image 0 ≡ [] → ⊥
 no_layout sectors image good blank = good (Unmarked (λ e. unmarked (sym blank ∙ e)))
 
+same_label : (one other : Image) → label one ≡ label other → one ≡ other
+same_label one other e = fun_ext (λ n. ap (λ (f : Image). f (suc n)) e)
+
 -- two states of a plan began alike
-same_first : (calls0 calls : List Call) (rows0 rows : List (List ℕ)) (first0 first : Image) (used0 used sectors : ℕ) → used0 ≡ 0 → HasLayout sectors first0
-    → (LeftSince calls rows first used 0 (label first) → LeftSince calls0 rows0 first0 used0 0 (label first) ⊎ HasLayout sectors (label first))
-    → first ≡ first0
-same_first calls0 calls rows0 rows first0 first used0 used sectors e good was = ⊎_elim
-    (⊎_elim (λ named. fun_ext (λ n. ap (λ (f : Image). f (suc n)) named.1))
-    (λ had. absurd (no_layout sectors first0 good
-    (sym (ap (λ (f : Image). f 0) (nothing_done calls0 rows0 first0 had.0 (label first) (omega (arith, had.2, e)) had.3))))))
-    (λ kept. absurd (no_layout sectors (label first) kept refl))
-    (was (inl (refl, refl)))
+module _ (calls0 calls : List Call) (rows0 rows : List (List ℕ)) (pages0 pages : ℕ → List ℕ) (first0 first : Image) (used0 used sectors : ℕ) (none : used0 ≡ 0) (good : HasLayout sectors first0)
+    (run : (t : ℕ) (c : Image) → t ≤ used0 + 2 → LeftSince calls rows pages first used t c → LeftSince calls0 rows0 pages0 first0 used0 t c ⊎ HasLayout sectors c) where
+  no_name : (c : Image) → c 0 ≡ [] → (k : ℕ) → k ≤ used0 → MayLeave (image_after calls0 rows0 pages0 first0 k) (Unsynced calls0 k) c → ⊥
+  no_name c blank k le may = no_layout sectors first0 good (sym (ap (λ (f : Image). f 0) (nothing_done calls0 rows0 pages0 first0 k c (omega (arith, le, none)) may)) ∙ blank)
+
+  pub same_first : first ≡ first0
+  same_first = ⊎_elim
+      (⊎_elim (λ named. same_label first first0 named.1) (⊎_elim (λ named. absurd (omega (arith, named.0)))
+      (λ had. absurd (no_name (label first) refl had.0 had.2 had.3))))
+      (λ kept. absurd (no_layout sectors (label first) kept refl))
+      (run 0 (label first) (omega arith) (inl (refl, refl)))
+
+  pub same_pages : pages ≡ pages0
+  same_pages = ⊎_elim
+      (⊎_elim (λ named. absurd (omega (arith, named.0))) (⊎_elim (λ named. same_label pages pages0 named.1)
+      (λ had. absurd (no_name (label pages) refl had.0 had.2 had.3))))
+      (λ kept. absurd (no_layout sectors (label pages) kept refl))
+      (run 1 (label pages) (omega arith) (inr (inl (refl, refl))))
 
 -- A plan that was made as a device at `image0`, a store at every moment, and copied.
-module _ (calls0 calls calls' : List Call) (rows0 rows rows' image image0 image1 : List (List ℕ)) (used0 used : ℕ)
-    (given : image0 ≡ image) (none : used0 ≡ 0) (good : HasLayout (length image) (row image))
-    (run : (t : ℕ) (c : Image) → t ≤ used0 + 1 → LeftSince calls rows (row image1) used t c
-    → LeftSince calls0 rows0 (row image0) used0 t c ⊎ HasLayout (length image0) c)
-    (same_calls : (k : ℕ) → k < used → slice_get calls' k ≡ slice_get calls k) (same_rows : (k : ℕ) → k < used → row rows' k ≡ row rows k) where
-  began : row image ≡ row image1
-  began = sym (same_first calls0 calls rows0 rows (row image0) (row image1) used0 used (length image0) none
-      (subst (λ (xs : List (List ℕ)). HasLayout (length xs) (row xs)) (sym given) good) (run 0 (label (row image1)) (omega arith)) ∙ ap row given)
+module _ (calls0 calls calls' : List Call) (rows0 rows rows' image image0 image1 : List (List ℕ)) (pages pages0 pages1 : ℕ → List ℕ) (used0 used : ℕ)
+    (given : image0 ≡ image) (lent : pages0 ≡ pages) (none : used0 ≡ 0) (good : HasLayout (length image) (row image))
+    (run : (t : ℕ) (c : Image) → t ≤ used0 + 2 → LeftSince calls rows pages1 (row image1) used t c
+    → LeftSince calls0 rows0 pages0 (row image0) used0 t c ⊎ HasLayout (length image0) c) where
+  good0 : HasLayout (length image0) (row image0)
+  good0 = subst (λ (xs : List (List ℕ)). HasLayout (length xs) (row xs)) (sym given) good
 
-  pub same_end : image_after calls' rows' (row image) used ≡ image_after calls rows (row image1) used
-  same_end = fun_ext (λ n. alike_image calls calls' rows rows' (row image) used same_calls same_rows used n (omega arith)) ∙ ap (λ (first : Image). image_after calls rows first used) began
+  began : row image ≡ row image1
+  began = sym (same_first calls0 calls rows0 rows pages0 pages1 (row image0) (row image1) used0 used (length image0) none good0 run ∙ ap row given)
+
+  pub began_pages : pages ≡ pages1
+  began_pages = sym (same_pages calls0 calls rows0 rows pages0 pages1 (row image0) (row image1) used0 used (length image0) none good0 run ∙ lent)
+
+  module _ (same_calls : (k : ℕ) → k < used → slice_get calls' k ≡ slice_get calls k)
+      (same_rows : (k : ℕ) (call : Call) → k < used → slice_get calls k ≡ Some call → call.kind ≡ 1 → row rows' k ≡ row rows k) where
+    pub same_end : image_after calls' rows' pages (row image) used ≡ image_after calls rows pages1 (row image1) used
+    same_end = fun_ext (λ n. alike_image calls calls' used same_calls rows rows' pages (row image) same_rows used n (omega arith))
+        ∙ ap (λ (first : Image). image_after calls rows pages first used) began ∙ ap (λ (p : ℕ → List ℕ). image_after calls rows p (row image1) used) began_pages
 
 -- A plan that was made as a device at `image0`, and copied.
-module _ (calls0 calls calls' : List Call) (rows0 rows rows' image image0 image1 : List (List ℕ)) (used0 used : ℕ)
-    (files : ℕ → Option FileInfo) (before after : ℕ → ℕ → List ℕ) (given : image0 ≡ image) (none : used0 ≡ 0)
+module _ (calls0 calls calls' : List Call) (rows0 rows rows' image image0 image1 : List (List ℕ)) (pages pages0 pages1 : ℕ → List ℕ) (used0 used : ℕ)
+    (files : ℕ → Option FileInfo) (before after : ℕ → ℕ → List ℕ) (given : image0 ≡ image) (lent : pages0 ≡ pages) (none : used0 ≡ 0)
     (stands : StandsFor (length image) files before (row image)) where
   stands0 : StandsFor (length image0) files before (row image0)
   stands0 = subst (λ (xs : List (List ℕ)). StandsFor (length xs) files before (row xs)) (sym given) stands
 
-  pub stands_now : (c : Image) → MayLeave (image_after calls0 rows0 (row image0) used0) (Unsynced calls0 used0) c → StandsFor (length image0) files before c
-  stands_now c may = subst (λ (i : Image). StandsFor (length image0) files before i) (sym (nothing_done calls0 rows0 (row image0) used0 c none may)) stands0
+  pub stands_now : (c : Image) → MayLeave (image_after calls0 rows0 pages0 (row image0) used0) (Unsynced calls0 used0) c → StandsFor (length image0) files before c
+  stands_now c may = subst (λ (i : Image). StandsFor (length image0) files before i) (sym (nothing_done calls0 rows0 pages0 (row image0) used0 c none may)) stands0
 
-  module _ (run : (t : ℕ) (c : Image) → t ≤ used0 + 1 → LeftSince calls rows (row image1) used t c
-      → LeftSince calls0 rows0 (row image0) used0 t c ⊎ StandsForEither (length image0) files before after c)
-      (same_calls : (k : ℕ) → k < used → slice_get calls' k ≡ slice_get calls k) (same_rows : (k : ℕ) → k < used → row rows' k ≡ row rows k) where
-    pub layouts : (t : ℕ) (c : Image) → t ≤ used0 + 1 → LeftSince calls rows (row image1) used t c
-        → LeftSince calls0 rows0 (row image0) used0 t c ⊎ HasLayout (length image0) c
+  module _ (run : (t : ℕ) (c : Image) → t ≤ used0 + 2 → LeftSince calls rows pages1 (row image1) used t c
+      → LeftSince calls0 rows0 pages0 (row image0) used0 t c ⊎ StandsForEither (length image0) files before after c)
+      (same_calls : (k : ℕ) → k < used → slice_get calls' k ≡ slice_get calls k)
+      (same_rows : (k : ℕ) (call : Call) → k < used → slice_get calls k ≡ Some call → call.kind ≡ 1 → row rows' k ≡ row rows k) where
+    pub layouts : (t : ℕ) (c : Image) → t ≤ used0 + 2 → LeftSince calls rows pages1 (row image1) used t c
+        → LeftSince calls0 rows0 pages0 (row image0) used0 t c ⊎ HasLayout (length image0) c
     layouts t c le left = ⊎_elim inl (⊎_elim (λ s. inr s.layout) (λ s. inr s.layout)) (run t c le left)
 
     began_so : row image ≡ row image1
-    began_so = began calls0 calls calls' rows0 rows rows' image image0 image1 used0 used given none stands.layout layouts same_calls same_rows
+    began_so = began calls0 calls calls' rows0 rows rows' image image0 image1 pages pages0 pages1 used0 used given lent none stands.layout layouts
 
-    pub stops_leave : ((c : Image) → LeftSince calls rows (row image1) used (used0 + 1) c → StandsForEither (length image0) files before after c)
-        → (c : Image) → StopLeaves calls' rows' (row image) used c → StandsForEither (length image) files before after c
+    lent_so : pages ≡ pages1
+    lent_so = began_pages calls0 calls calls' rows0 rows rows' image image0 image1 pages pages0 pages1 used0 used given lent none stands.layout layouts
+
+    pub stops_leave : ((c : Image) → LeftSince calls rows pages1 (row image1) used (used0 + 2) c → StandsForEither (length image0) files before after c)
+        → (c : Image) → StopLeaves calls' rows' pages (row image) used c → StandsForEither (length image) files before after c
     stops_leave each c stop =
-        let at = between calls' rows' (row image) used c stop in
-        let may = alike_leaves calls calls' rows rows' (row image) used same_calls same_rows at.0 c at.1 at.2 in
+        let at = between calls' rows' pages (row image) used c stop in
+        let may = alike_leaves calls calls' used same_calls rows rows' pages (row image) same_rows at.0 c at.1 at.2 in
+        let may1 = subst (λ (first : Image). MayLeave (image_after calls rows pages first at.0) (Unsynced calls at.0) c) began_so may in
         subst (λ (xs : List (List ℕ)). StandsForEither (length xs) files before after c) given
-        (each c (inr (at.0, omega (arith, none), at.1, subst (λ (first : Image). MayLeave (image_after calls rows first at.0) (Unsynced calls at.0) c) began_so may)))
+        (each c (inr (inr (at.0, omega (arith, none), at.1, subst (λ (p : ℕ → List ℕ). MayLeave (image_after calls rows p (row image1) at.0) (Unsynced calls at.0) c) lent_so may1))))
 
-    pub stands_then : ((c : Image) → MayLeave (image_after calls rows (row image1) used) (Unsynced calls used) c → StandsFor (length image0) files after c)
-        → StandsFor (length image) files after (image_after calls' rows' (row image) used)
-    stands_then now = subst (λ (xs : List (List ℕ)). StandsFor (length xs) files after (image_after calls' rows' (row image) used)) given
-        (subst (λ (i : Image). StandsFor (length image0) files after i) (sym (same_end calls0 calls calls' rows0 rows rows' image image0 image1 used0 used given none stands.layout layouts same_calls same_rows))
-        (now (image_after calls rows (row image1) used) (record { kept = λ n. inr refl })))
+    pub stands_then : ((c : Image) → MayLeave (image_after calls rows pages1 (row image1) used) (Unsynced calls used) c → StandsFor (length image0) files after c)
+        → StandsFor (length image) files after (image_after calls' rows' pages (row image) used)
+    stands_then now = subst (λ (xs : List (List ℕ)). StandsFor (length xs) files after (image_after calls' rows' pages (row image) used)) given
+        (subst (λ (i : Image). StandsFor (length image0) files after i) (sym (same_end calls0 calls calls' rows0 rows rows' image image0 image1 pages pages0 pages1 used0 used given lent none stands.layout layouts same_calls same_rows))
+        (now (image_after calls rows pages1 (row image1) used) (record { kept = λ n. inr refl })))
 
 -- before the first call a plan says of the image what the caller's says
-pub as_given : (calls : List Call) (rows image image0 : List (List ℕ)) (used0 : ℕ) (P : ℕ → Image → Type 0) → image0 ≡ image → used0 ≡ 0
-    → P (length image0) (image_after calls rows (row image0) used0) → P (length image) (row image)
-as_given calls rows image image0 used0 P given none was = subst (λ (xs : List (List ℕ)). P (length xs) (row xs)) given
-    (subst (λ (i : Image). P (length image0) i) (fun_ext (λ n. ap (λ (k : ℕ). image_after calls rows (row image0) k n) none)) was)
+pub as_given : (calls : List Call) (rows image image0 : List (List ℕ)) (pages : ℕ → List ℕ) (used0 : ℕ) (P : ℕ → Image → Type 0) → image0 ≡ image → used0 ≡ 0
+    → P (length image0) (image_after calls rows pages (row image0) used0) → P (length image) (row image)
+as_given calls rows image image0 pages used0 P given none was = subst (λ (xs : List (List ℕ)). P (length xs) (row xs)) given
+    (subst (λ (i : Image). P (length image0) i) (fun_ext (λ n. ap (λ (k : ℕ). image_after calls rows pages (row image0) k n) none)) was)
 
 -- a stop within some of the calls is one within more of them
-pub fewer : {calls : List Call} {rows : List (List ℕ)} {first : Image} {m n : ℕ} {c : Image} → m ≤ n → StopLeaves calls rows first m c → StopLeaves calls rows first n c
+pub fewer : {calls : List Call} {rows : List (List ℕ)} {pages : ℕ → List ℕ} {first : Image} {m n : ℕ} {c : Image} → m ≤ n → StopLeaves calls rows pages first m c → StopLeaves calls rows pages first n c
 fewer le (After k within may) = After k (omega (arith, within, le)) may
 fewer le (Within k j within writes may) = Within k j (omega (arith, within, le)) writes may
 
 -- where nothing is to be done, the image stays
-pub nothing_listed : (calls : List Call) (rows : List (List ℕ)) (first : Image) (c : Image) → StopLeaves calls rows first 0 c → c ≡ first
-nothing_listed calls rows first c stop = let at = between calls rows first 0 c stop in nothing_done calls rows first at.0 c (omega (arith, at.1)) at.2
+pub nothing_listed : (calls : List Call) (rows : List (List ℕ)) (pages : ℕ → List ℕ) (first : Image) (c : Image) → StopLeaves calls rows pages first 0 c → c ≡ first
+nothing_listed calls rows pages first c stop = let at = between calls rows pages first 0 c stop in nothing_done calls rows pages first at.0 c (omega (arith, at.1)) at.2
+
+-- a page of bytes is one of the list
+pub is_lent : (list : List PageBytes) (i : ℕ) → length (lent_page list i) ≡ 4096 → i < length list
+is_lent list i long = ⊎_elim (λ inside. inside)
+    (λ past. absurd (let blank : length (lent_page list i) ≡ 0 = ap (λ (o : Option PageBytes). length (bytes_or_none o)) (slice_get_past list i past) in omega (arith, long, blank)))
+    (cases_lt i (length list))
+
+pub lent_here : (list : List PageBytes) (i : ℕ) (d : PageBytes) → i < length list → lent_page list i ≡ (get_or list i d).at.now
+lent_here list i d inside = ap bytes_or_none (slice_get-get_or list i d inside)

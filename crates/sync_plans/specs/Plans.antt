@@ -1,6 +1,8 @@
 -- A plan: calls to be made of a device, one after the other. What the device holds after some of them, and what a stop may
--- leave of it. Call k of kind 1 writes row k to its sector, one of kind 2 syncs.
-use Rattle.std.specs.Prelude.{ℕ, zero, suc, ◌+◌, ◌<◌, ◌≤◌, ◌≡◌, ◌≢◌, ◌⊎◌, Bool, false, ◌&&◌, ◌||◌, ◌==◌, if◌then◌else◌, IsTrue, List, [], Option, Some, None, slice_get, slice_index_or}
+-- leave of it. Call k of kind 1 writes row k to its sector, one of kind 2 syncs. One of kind 3 writes page `from` of those that
+-- are lent to the eight sectors from its own on, and one of kind 4 what the eight sectors from `from` on of the image hold.
+use Rattle.std.specs.Prelude.{ℕ, zero, suc, ◌+◌, ◌-◌, ◌<◌, ◌≤◌, ◌≡◌, ◌⊎◌, Bool, false, leb, ltb, ◌&&◌, ◌||◌, ◌==◌, if◌then◌else◌, IsTrue, List, [], Option, Some, None, length, slice_get, slice_index_or}
+use Rattle.disk_model.specs.Sectors.{part_of}
 use Rattle.disk_model.specs.Stop.{Image, MayLeave}
 use Rattle.sync_plans.specs.declared.call.Call.{Call}
 
@@ -8,17 +10,33 @@ use Rattle.sync_plans.specs.declared.call.Call.{Call}
 abbrev pub row : List (List ℕ) → Image
 row sectors n = slice_index_or sectors n []
 
+-- sector n is one of the eight from `first` on
+abbrev pub is_of_page : ℕ → ℕ → Bool
+is_of_page first n = leb first n && ltb n (first + 8)
+
 abbrev pub writes_to : Option Call → ℕ → Bool
 writes_to None n = false
-writes_to (Some call) n = (call.kind == 1) && (n == call.sector)
+writes_to (Some call) n = if call.kind == 1 then (n == call.sector) else (leb 3 call.kind && is_of_page call.sector n)
+
+-- what a call of kind 3 or 4 writes to sector n
+abbrev pub page_bytes : (ℕ → List ℕ) → Image → Call → ℕ → List ℕ
+page_bytes pages first call n = if call.kind == 3 then part_of (pages call.from) (n - call.sector) else first (call.from + (n - call.sector))
+
+-- what call k writes to sector n, in a plan of these rows, with these pages lent, for a device that held `first`
+abbrev pub bytes_in : List (List ℕ) → (ℕ → List ℕ) → Image → ℕ → Option Call → ℕ → List ℕ
+bytes_in rows pages first k None n = []
+bytes_in rows pages first k (Some call) n = if call.kind == 1 then row rows k else page_bytes pages first call n
 
 abbrev pub is_sync : Option Call → Bool
 is_sync None = false
 is_sync (Some call) = call.kind == 2
 
--- a write of one of so many sectors, or a sync
-abbrev pub IsCall : ℕ → Call → Type 0
-IsCall sectors call = (call.kind ≡ 1 → call.sector < sectors) × (call.kind ≢ 1 → call.kind ≡ 2)
+-- a write of one of so many sectors or of a page of them, or a sync
+pub record IsCall (sectors : ℕ) (call : Call) : Type 0 where
+  pub kind : (1 ≤ call.kind) × (call.kind ≤ 4)
+  pub sector : call.kind ≡ 1 → call.sector < sectors
+  pub page : 3 ≤ call.kind → call.sector + 8 ≤ sectors
+  pub copied : call.kind ≡ 4 → call.from + 8 ≤ sectors
 
 -- the first `used` calls are such
 abbrev pub AreCalls : ℕ → List Call → ℕ → Type 0
@@ -33,20 +51,26 @@ abbrev pub Unsynced : List Call → ℕ → ℕ → Type 0
 Unsynced calls k n = IsTrue (is_unsynced calls k n)
 
 -- what a device that held `first` holds after the first k calls
-abbrev pub image_after : List Call → List (List ℕ) → Image → ℕ → Image
-image_after calls rows first zero n = first n
-image_after calls rows first (suc k) n = if writes_to (slice_get calls k) n then row rows k else image_after calls rows first k n
+abbrev pub image_after : List Call → List (List ℕ) → (ℕ → List ℕ) → Image → ℕ → Image
+image_after calls rows pages first zero n = first n
+image_after calls rows pages first (suc k) n = if writes_to (slice_get calls k) n then bytes_in rows pages first k (slice_get calls k) n else image_after calls rows pages first k n
 
 -- sector n is written by one of the m calls from call k on
 abbrev pub is_written : List Call → ℕ → ℕ → ℕ → Bool
 is_written calls k zero n = false
 is_written calls k (suc m) n = writes_to (slice_get calls (k + m)) n || is_written calls k m n
 
+-- Each of the first `used` calls that names where its bytes lie finds them there when it is made: a page that is named is lent,
+-- and of the sectors of the image that are named none was written by a call before, so that the device still holds these bytes.
+pub record AreSources (pages : ℕ → List ℕ) (calls : List Call) (used : ℕ) : Type 0 where
+  pub lent : (k : ℕ) (call : Call) → k < used → slice_get calls k ≡ Some call → call.kind ≡ 3 → length (pages call.from) ≡ 4096
+  pub unwritten : (k : ℕ) (call : Call) → k < used → slice_get calls k ≡ Some call → call.kind ≡ 4 → (i : ℕ) → i < 8 → is_written calls 0 k (call.from + i) ≡ false
+
 -- What a stop may leave of a device that held `first`, with nothing unsynced, and of which the first `used` calls are
 -- made in their order: after k of them any bytes in each sector written since the last sync, and all others as they are
 -- then, which is also what a stop in the midst of a sync leaves; in the midst of m of them that are made together, none of
 -- them a sync, also any bytes in the sectors that they write.
-pub data StopLeaves (calls : List Call) (rows : List (List ℕ)) (first : Image) (used : ℕ) (image : Image) : Type 0 where
-  After : (k : ℕ) → k ≤ used → MayLeave (image_after calls rows first k) (Unsynced calls k) image → StopLeaves calls rows first used image
+pub data StopLeaves (calls : List Call) (rows : List (List ℕ)) (pages : ℕ → List ℕ) (first : Image) (used : ℕ) (image : Image) : Type 0 where
+  After : (k : ℕ) → k ≤ used → MayLeave (image_after calls rows pages first k) (Unsynced calls k) image → StopLeaves calls rows pages first used image
   Within : (k m : ℕ) → k + m ≤ used → ((j : ℕ) → j < m → is_sync (slice_get calls (k + j)) ≡ false)
-      → MayLeave (image_after calls rows first k) (λ n. Unsynced calls k n ⊎ IsTrue (is_written calls k m n)) image → StopLeaves calls rows first used image
+      → MayLeave (image_after calls rows pages first k) (λ n. Unsynced calls k n ⊎ IsTrue (is_written calls k m n)) image → StopLeaves calls rows pages first used image

@@ -1,12 +1,18 @@
 //! The calls of a plan.
 
-/// How many calls a plan has room for. A commit of 1,023 pages after one of 1,023 pages takes 16,382.
+/// How many calls a plan has room for. A commit of 1,023 pages after one of 1,023 pages takes 16,382 at most.
 pub const ROOM: usize = 16384;
 
-/// A call to be made of a device: of kind 1 it writes the row of its own number to this sector, of kind 2 it syncs.
+/// A call to be made of a device. Call `k` of a plan, of this kind:
+///
+/// - 1 writes row `k` of the plan to `sector`.
+/// - 2 syncs.
+/// - 3 writes page `from` of those that the caller lent to the eight sectors from `sector` on.
+/// - 4 writes to them what the eight sectors from `from` on hold in the image.
 #[repr(C)]
 #[derive(Clone, Copy)]
 pub struct Call {
     pub kind: u64,
     pub sector: u64,
+    pub from: u64,
 }

@@ -1,26 +1,39 @@
 //! A device that lists its writes and syncs, for the caller to carry out.
-ghost use Rattle.std.specs.Prelude.{◌≡◌, ◌<◌, ◌≤◌, ◌+◌, ◌⊎◌, ℕ, List, length, true, false, OnOk, IsErr, slice_get};
-ghost use Rattle.disk_model.specs.Stop.{HasCause, ChangesOnly, Elapses};
-ghost use Rattle.sync_plans.specs.Plans.{row, IsCall, AreCalls, image_after, Unsynced};
-ghost use Rattle.sync_plans.specs.Device.{Lists};
+ghost use Rattle.std.specs.Prelude.{◌≡◌, ◌≢◌, ◌<◌, ◌≤◌, ◌+◌, ◌^◌, ◌⊎◌, ℕ, List, length, true, false, Some, IfSome, IsTrue, OnOk, IsErr, slice_get};
+ghost use Rattle.disk_model.specs.Sectors.{part_of};
+ghost use Rattle.disk_model.specs.Stop.{HasCause, ChangesOnly, ChangesPage, IsOfPage, Elapses};
+ghost use Rattle.sync_plans.specs.Pages.{lent_page};
+ghost use Rattle.sync_plans.specs.Plans.{row, writes_to, bytes_in, is_written, IsCall, AreCalls, AreSources};
+ghost use Rattle.sync_plans.specs.Device.{Lists, NamesPage};
 
 use crate::call::{Call, ROOM};
+use crate::lent_pages::PageBytes;
 use disk_model::{Asked, Count, DiskFault, SECTOR_BYTES, SectorDisk, parts};
 
 const WRITE: u64 = 1;
 
 const SYNC: u64 = 2;
 
+const LENT: u64 = 3;
+
+const COPY: u64 = 4;
+
 /// A device that holds `image` until the listed calls are made. Nothing is written to the image.
 #[derive(Drop)]
 pub(crate) struct PlanDisk<'a> {
     pub image: &'a [[u8; 512]],
+    /// The pages that calls may name.
+    pub lent: &'a [PageBytes<'a>],
     pub calls: &'a mut [Call],
     pub rows: &'a mut [[u8; 512]],
     /// How many calls are listed.
     pub used: usize,
     /// No listed write is of a sector below this one.
     pub least: u64,
+    /// The first sector of the page that was read last.
+    read: u64,
+    /// The lent page that is looked for next.
+    next: usize,
     /// A call found no room.
     pub full: bool,
     pub failures: Count,
@@ -29,28 +42,74 @@ pub(crate) struct PlanDisk<'a> {
     ghost rows_long: { length rows.now ≡ 16384 },
     ghost within: { used ≤ 16384 },
     ghost all: { AreCalls (length image.now) calls.now used },
+    ghost sources: { AreSources (lent_page lent.now) calls.now used },
     ghost filled: { full ≡ true → used ≡ 16384 },
     ghost calm: { full ≡ false → failures.number ≡ 0 },
-    ghost below: { (n : ℕ) → n < least → image_after calls.now rows.now (row image.now) used n ≡ row image.now n },
+    ghost below: { (n : ℕ) → n < least → is_written calls.now 0 used n ≡ false },
+}
+
+/// Whether a call writes to sector `n`.
+fn writes(call: Call, n: u64) -> bool
+    ensures { result ≡ writes_to (Some call) n }
+{
+    if call.kind == WRITE {
+        n == call.sector
+    } else {
+        call.kind >= LENT && call.sector <= n && n - call.sector < 8
+    }
+}
+
+/// Which sector of its page a call writes to sector `n`.
+fn place(call: Call, n: u64) -> usize
+    requires here { writes_to (Some call) n ≡ true }
+    requires page { call.kind ≢ 1 }
+    ensures kind { 3 ≤ call.kind }
+    ensures inside { result < 8 }
+    ensures at { n ≡ call.sector + result }
+{
+    (n - call.sector) as usize
+}
+
+/// The lent page that is looked for after this call.
+fn next_after(next: usize, call: Call) -> usize {
+    if call.kind == LENT {
+        next.saturating_add(1)
+    } else {
+        next
+    }
+}
+
+/// Keeps the row of a call that has one.
+fn keep_row(to: &mut [u8; 512], call: Call, bytes: &[u8; 512])
+    ensures { call.kind ≡ 1 → to.new ≡ bytes.now }
+{
+    if call.kind == WRITE {
+        *to = *bytes;
+    }
 }
 
 impl<'a> PlanDisk<'a> {
-    ghost use Rattle.sync_plans.specs.PlanDisk.{content_of, unsynced_in, moment_of, left_in};
+    ghost use Rattle.sync_plans.specs.PlanDisk.{pages_of, content_of, unsynced_in, moment_of, left_in};
 
     pub(crate) fn new(
         image: &'a [[u8; 512]],
+        lent: &'a [PageBytes<'a>],
         calls: &'a mut [Call; ROOM],
         rows: &'a mut [[u8; 512]; ROOM],
     ) -> PlanDisk<'a>
         ensures image { result.image.now ≡ image.now }
+        ensures lent { result.lent.now ≡ lent.now }
         ensures used { result.used ≡ 0 }
     {
         PlanDisk {
             image,
+            lent,
             calls,
             rows,
             used: 0,
             least: u64::MAX,
+            read: u64::MAX,
+            next: 0,
             full: false,
             failures: Count::new(),
             asked: Asked::new(),
@@ -59,8 +118,11 @@ impl<'a> PlanDisk<'a> {
 
     /// Lists a call.
     fn list(&mut self, call: Call, bytes: &[u8; 512]) -> Result<(), DiskFault>
-        requires { IsCall (length self.old.image.now) call }
+        requires call { IsCall (length self.old.image.now) call }
+        requires lent { call.kind ≡ 3 → length (pages_of self.old call.from) ≡ 4096 }
+        requires unwritten { call.kind ≡ 4 → call.from + 8 ≤ self.old.least }
         ensures image { self.new.image.now ≡ self.old.image.now }
+        ensures lent { self.new.lent.now ≡ self.old.lent.now }
         ensures asked { self.new.asked ≡ self.old.asked }
         ensures cause { HasCause self.old.failures.number self.new.failures.number result }
         ensures kept { self.new.full ≡ false → self.old.full ≡ false }
@@ -74,7 +136,8 @@ impl<'a> PlanDisk<'a> {
         }
         self.least = self.least_with(call);
         self.calls[self.used] = call;
-        self.rows[self.used] = *bytes;
+        let rows = &mut *self.rows;
+        keep_row(&mut rows[self.used], call, bytes);
         self.used += 1;
         Ok(())
     }
@@ -97,56 +160,174 @@ impl<'a> PlanDisk<'a> {
             Call {
                 kind: WRITE,
                 sector: n,
+                from: 0,
             },
             from,
         )
     }
 
+    // A write of a page by a call that names where its bytes lie.
+    fn put_page(&mut self, call: Call, from: &[u8; 4096]) -> Result<(), DiskFault>
+        requires call { IsCall (length self.old.image.now) call }
+        requires names { NamesPage (pages_of self.old) (row self.old.image.now) call.sector from.now call }
+        requires lent { call.kind ≡ 3 → length (pages_of self.old call.from) ≡ 4096 }
+        requires unwritten { call.kind ≡ 4 → call.from + 8 ≤ self.old.least }
+        ensures asked { self.new.asked ≡ self.old.asked }
+        ensures size { length self.new.image.now ≡ length self.old.image.now }
+        ensures kept { self.new.full ≡ false → self.old.full ≡ false }
+        ensures cause { HasCause self.old.failures.number self.new.failures.number result }
+        ensures written { self.new.full ≡ false → OnOk result ((i : ℕ) → i < 8 → content_of self.new (call.sector + i) ≡ part_of from.now i) }
+        ensures others { self.new.full ≡ false → ChangesPage call.sector (content_of self.old) (content_of self.new) }
+        ensures unsynced { self.new.full ≡ false → (k : ℕ) → unsynced_in self.new k → unsynced_in self.old k ⊎ IsOfPage call.sector k }
+        ensures marked { self.new.full ≡ false → (k : ℕ) → IsOfPage call.sector k → unsynced_in self.new k }
+        ensures still { self.new.full ≡ false → (k : ℕ) → unsynced_in self.old k → unsynced_in self.new k }
+        ensures time { self.new.full ≡ false → Elapses (moment_of self.old) (moment_of self.new) (left_in self.old) (left_in self.new) (content_of self.new) (unsynced_in self.new) }
+    {
+        self.next = next_after(self.next, call);
+        self.list(call, &parts(from)[0])
+    }
+
+    // A write of a page sector by sector, each with a row.
+    fn put_sectors(&mut self, n: u64, from: &[u8; 4096]) -> Result<(), DiskFault>
+        requires room { n + 8 ≤ length self.old.image.now }
+        requires fits { n < 2 ^ 60 }
+        ensures asked { self.new.asked ≡ self.old.asked }
+        ensures size { length self.new.image.now ≡ length self.old.image.now }
+        ensures kept { self.new.full ≡ false → self.old.full ≡ false }
+        ensures cause { HasCause self.old.failures.number self.new.failures.number result }
+        ensures written { self.new.full ≡ false → OnOk result ((i : ℕ) → i < 8 → content_of self.new (n + i) ≡ part_of from.now i) }
+        ensures others { self.new.full ≡ false → ChangesPage n (content_of self.old) (content_of self.new) }
+        ensures unsynced { self.new.full ≡ false → (k : ℕ) → unsynced_in self.new k → unsynced_in self.old k ⊎ IsOfPage n k }
+        ensures marked { self.new.full ≡ false → (k : ℕ) → IsOfPage n k → unsynced_in self.new k }
+        ensures still { self.new.full ≡ false → (k : ℕ) → unsynced_in self.old k → unsynced_in self.new k }
+        ensures time { self.new.full ≡ false → Elapses (moment_of self.old) (moment_of self.new) (left_in self.old) (left_in self.new) (content_of self.new) (unsynced_in self.new) }
+    {
+        for (i, sector) in parts(from).iter().enumerate() {
+            self.put(n + i as u64, sector)?;
+        }
+        self.next = self.next.saturating_add(1);
+        Ok(())
+    }
+
     /// A sector of which no listed write is below, nor this call.
     fn least_with(&self, call: Call) -> u64
         ensures below { result ≤ self.now.least }
-        ensures written { call.kind ≡ 1 → result ≤ call.sector }
+        ensures written { (n : ℕ) → n < result → writes_to (Some call) n ≡ false }
     {
-        if call.kind == WRITE {
-            self.least.min(call.sector)
-        } else {
+        if call.kind == SYNC {
             self.least
+        } else {
+            self.least.min(call.sector)
         }
+    }
+
+    /// A call that writes this page to the sectors from `n` on, and names where its bytes lie. What was read last is looked
+    /// at first: a page that is copied comes from the image, where no store of the caller changes it.
+    fn named(&self, n: u64, page: &[u8; 4096]) -> Option<Call>
+        requires { n + 8 ≤ length self.now.image.now }
+        ensures call { IfSome result (λ call. IsCall (length self.now.image.now) call) }
+        ensures sector { IfSome result (λ call. call.sector ≡ n) }
+        ensures sources { IfSome result (λ call. NamesPage (pages_of self.now) (row self.now.image.now) n page.now call) }
+        ensures lent { IfSome result (λ call. call.kind ≡ 3 → length (pages_of self.now call.from) ≡ 4096) }
+        ensures unwritten { IfSome result (λ call. call.kind ≡ 4 → call.from + 8 ≤ self.now.least) }
+    {
+        if self.holds(self.read, page) {
+            return Some(Call {
+                kind: COPY,
+                sector: n,
+                from: self.read,
+            });
+        }
+        if self.next < self.lent.len() && *self.lent[self.next].at == *page {
+            return Some(Call {
+                kind: LENT,
+                sector: n,
+                from: self.next as u64,
+            });
+        }
+        None
+    }
+
+    /// Whether the image has this page in the sectors from `at` on, all of them below each that is written.
+    fn holds(&self, at: u64, page: &[u8; 4096]) -> bool
+        ensures below { IsTrue result → at + 8 ≤ self.now.least }
+        ensures inside { IsTrue result → at + 8 ≤ length self.now.image.now }
+        ensures here { IsTrue result → (i : ℕ) → i < 8 → row self.now.image.now (at + i) ≡ part_of page.now i }
+    {
+        let end = self.least.min(self.image.len() as u64);
+        if end < 8 || at > end - 8 {
+            return false;
+        }
+        for (i, sector) in parts(page).iter().enumerate() {
+            if self.image[at as usize + i] != *sector {
+                return false;
+            }
+        }
+        true
     }
 
     /// What sector `n` holds once the listed calls are made.
-    fn held(&self, n: u64) -> [u8; 512]
+    fn held(&self, n: u64) -> &[u8; 512]
         requires { n < length self.now.image.now }
-        ensures { result ≡ image_after self.now.calls.now self.now.rows.now (row self.now.image.now) self.now.used n }
+        ensures { result.now ≡ content_of self.now n }
     {
         if n < self.least {
-            return self.image[n as usize];
+            return &self.image[n as usize];
         }
         for i in 0..self.used {
-            let call = self.calls[self.used - 1 - i];
-            if call.kind == WRITE && n == call.sector {
-                return self.rows[self.used - 1 - i];
+            if writes(self.calls[self.used - 1 - i], n) {
+                return self.bytes(self.used - 1 - i, n);
             }
         }
-        self.image[n as usize]
+        &self.image[n as usize]
     }
 
-    /// Copies the listed calls to the front of these lists.
+    /// What a call of the list writes to sector `n`.
+    fn bytes(&self, k: usize, n: u64) -> &[u8; 512]
+        requires listed { k < self.now.used }
+        requires here { writes_to (slice_get self.now.calls.now k) n ≡ true }
+        ensures { result.now ≡ bytes_in self.now.rows.now (pages_of self.now) (row self.now.image.now) k (slice_get self.now.calls.now k) n }
+    {
+        let call = self.listed(k);
+        if call.kind == WRITE {
+            let rows = &*self.rows;
+            return &rows[k];
+        }
+        let i = place(call, n);
+        if call.kind == LENT {
+            return &parts(self.lent[call.from as usize].at)[i];
+        }
+        &self.image[call.from as usize + i]
+    }
+
+    /// A call of the list.
+    fn listed(&self, k: usize) -> Call
+        requires { k < self.now.used }
+        ensures here { slice_get self.now.calls.now k ≡ Some result }
+        ensures lent { result.kind ≡ 3 → result.from < length self.now.lent.now }
+        ensures copied { 3 < result.kind → result.from + 8 ≤ length self.now.image.now }
+    {
+        self.calls[k]
+    }
+
+    /// Copies the listed calls to the front of these lists, with the rows that they write.
     pub(crate) fn copy_to(&self, calls: &mut [Call; ROOM], rows: &mut [[u8; 512]; ROOM])
         ensures calls { (k : ℕ) → k < self.now.used → slice_get calls.new k ≡ slice_get self.now.calls.now k }
-        ensures rows { (k : ℕ) → k < self.now.used → row rows.new k ≡ row self.now.rows.now k }
+        ensures rows { (k : ℕ) (call : Call) → k < self.now.used → slice_get self.now.calls.now k ≡ Some call → call.kind ≡ 1 → row rows.new k ≡ row self.now.rows.now k }
         ensures all { AreCalls (length self.now.image.now) calls.new self.now.used }
+        ensures sources { AreSources (pages_of self.now) calls.new self.now.used }
     {
+        let listed = &*self.rows;
         for i in 0..self.used {
             calls[i] = self.calls[i];
-            rows[i] = self.rows[i];
+            keep_row(&mut rows[i], self.calls[i], &listed[i]);
         }
     }
 }
 
 impl SectorDisk for PlanDisk<'_> {
     ghost use Rattle.disk_model.specs.Asked.{times_named};
-    ghost use Rattle.sync_plans.specs.PlanDisk.{content_of, unsynced_in, moment_of, left_in};
+    ghost use Rattle.sync_plans.specs.PlanDisk.{pages_of, content_of, unsynced_in, moment_of, left_in};
     ghost use Rattle.sync_plans.specs.Device.{counts_present, only_present};
 
     ghost sector_count = { λ d. length d.image.now };
@@ -165,9 +346,9 @@ impl SectorDisk for PlanDisk<'_> {
 
     ghost keeps_model = { λ d. d.full ≡ false };
 
-    ghost counts_now = { λ d t c kept le now. counts_present d.calls.now d.rows.now (row d.image.now) d.used t c le now };
+    ghost counts_now = { λ d t c kept le now. counts_present d.calls.now d.rows.now (pages_of d) (row d.image.now) d.used t c le now };
 
-    ghost only_now = { λ d c kept left. only_present d.calls.now d.rows.now (row d.image.now) d.used c left };
+    ghost only_now = { λ d c kept left. only_present d.calls.now d.rows.now (pages_of d) (row d.image.now) d.used c left };
 
     fn sectors(&self) -> u64 {
         self.image.len() as u64
@@ -175,7 +356,7 @@ impl SectorDisk for PlanDisk<'_> {
 
     fn read(&mut self, n: u64, to: &mut [u8; SECTOR_BYTES]) -> Result<(), DiskFault> {
         self.asked.sector(n);
-        *to = self.held(n);
+        *to = *self.held(n);
         Ok(())
     }
 
@@ -186,20 +367,21 @@ impl SectorDisk for PlanDisk<'_> {
 
     fn read_page(&mut self, n: u64, to: &mut [u8; 4096]) -> Result<(), DiskFault> {
         self.asked.page(n);
+        self.read = n;
         for i in 0..8 {
             let sector = self.held(n + i as u64);
             let at = 512 * i;
-            to[at..at + 512].copy_from_slice(&sector);
+            to[at..at + 512].copy_from_slice(sector);
         }
         Ok(())
     }
 
     fn write_page(&mut self, n: u64, from: &[u8; 4096]) -> Result<(), DiskFault> {
         self.asked.page(n);
-        for (i, sector) in parts(from).iter().enumerate() {
-            self.put(n + i as u64, sector)?;
+        match self.named(n, from) {
+            Some(call) => self.put_page(call, from),
+            None => self.put_sectors(n, from),
         }
-        Ok(())
     }
 
     /// The first call of a plan is no sync: nothing is unsynced before it.
@@ -211,6 +393,7 @@ impl SectorDisk for PlanDisk<'_> {
             Call {
                 kind: SYNC,
                 sector: 0,
+                from: 0,
             },
             &[0; SECTOR_BYTES],
         )

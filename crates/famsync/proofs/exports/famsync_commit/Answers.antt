@@ -1,6 +1,7 @@
 use Rattle.std.proofs.Common.{length, inl, sym, subst}
 use Rattle.disk_model.specs.Stop.{Image}
 use Rattle.file_store.specs.Standing.{StandsFor}
+use Rattle.sync_plans.specs.Pages.{lent_page}
 use Rattle.sync_plans.specs.Plans.{row}
 use Rattle.sync_plans.proofs.Theorem.{nothing_listed}
 use Rattle.famsync.proofs.exports.famsync_commit.Goals as goal
@@ -8,17 +9,17 @@ use Rattle.famsync.proofs.exports.famsync_commit.Goals as goal
 pub returns-then-handle-ne-READY-clause-any_moment : goal.returns-then-handle-ne-READY-clause-any_moment
 returns-then-handle-ne-READY-clause-any_moment c = λ files before after stands changes left stop.
     inl (subst (λ (i : Image). StandsFor (length c.args.image.now) files before i)
-    (sym (nothing_listed c.args.calls.now c.args.rows.now (row c.args.image.now) left stop)) stands)
+    (sym (nothing_listed c.args.calls.now c.args.rows.now (lent_page c.args.bytes.now) (row c.args.image.now) left stop)) stands)
 
 pub returns-then-pages-bytes-clause-any_moment : goal.returns-then-pages-bytes-clause-any_moment
 returns-then-pages-bytes-clause-any_moment c = λ files before after stands changes left stop.
     inl (subst (λ (i : Image). StandsFor (length c.args.image.now) files before i)
-    (sym (nothing_listed c.args.calls.now c.args.rows.now (row c.args.image.now) left stop)) stands)
+    (sym (nothing_listed c.args.calls.now c.args.rows.now (lent_page c.args.bytes.now) (row c.args.image.now) left stop)) stands)
 
 pub returns-in-Err-clause-any_moment : goal.returns-in-Err-clause-any_moment
 returns-in-Err-clause-any_moment c = λ files before after stands changes left stop.
     inl (subst (λ (i : Image). StandsFor (length c.args.image.now) files before i)
-    (sym (nothing_listed c.plan_commit-planned.new.calls c.plan_commit-planned.new.rows (row c.args.image.now) left stop)) stands)
+    (sym (nothing_listed c.plan_commit-planned.new.calls c.plan_commit-planned.new.rows (lent_page c.args.bytes.now) (row c.args.image.now) left stop)) stands)
 
 pub returns-in-Err-clause-layout : goal.returns-in-Err-clause-layout
 returns-in-Err-clause-layout c = λ is. c.in-Err.ensures.layout (c.number.ensures.layout is)

@@ -1,6 +1,7 @@
-use Rattle.std.proofs.Common.{length, sym, subst, arith}
+use Rattle.std.proofs.Common.{[], length, sym, subst, arith}
 use Rattle.disk_model.specs.Stop.{Image}
 use Rattle.file_store.specs.Standing.{StandsFor}
+use Rattle.sync_plans.specs.Pages.{lent_page}
 use Rattle.sync_plans.specs.Plans.{row}
 use Rattle.sync_plans.proofs.Theorem.{fewer, nothing_listed}
 use Rattle.famsync.proofs.exports.famsync_open.Goals as goal
@@ -12,7 +13,7 @@ returns-in-Ok-clause-any_moment c = λ files pages stands left stop. c.in-Ok.ens
 pub returns-in-Err-clause-any_moment : goal.returns-in-Err-clause-any_moment
 returns-in-Err-clause-any_moment c = λ files pages stands left stop.
     subst (λ (i : Image). StandsFor (length c.args.image.now) files pages i)
-    (sym (nothing_listed c.plan_open.new.calls c.plan_open.new.rows (row c.args.image.now) left stop)) stands
+    (sym (nothing_listed c.plan_open.new.calls c.plan_open.new.rows (lent_page []) (row c.args.image.now) left stop)) stands
 
 pub returns-in-Err-clause-layout : goal.returns-in-Err-clause-layout
 returns-in-Err-clause-layout c = λ is. c.in-Err.ensures.layout (c.number.ensures.layout is)

@@ -1,7 +1,9 @@
-use Rattle.std.proofs.Common.{◌≡◌, OnOk, IfErr}
+use Rattle.std.proofs.Common.{[], ap, ◌≡◌, OnOk, IfErr}
 use Rattle.file_store.specs.Standing.{IsPageOf, IsBadLayout, file_info}
 use Rattle.sync_plans.specs.declared.requests.Refusal.TheVariants.{BadLayout, BadJournal, BadPages}
 use Rattle.sync_plans.specs.Requests.{IsStore, HasBadJournal}
+use Rattle.sync_plans.specs.Pages.{lent_page}
+use Rattle.sync_plans.specs.PlanDisk.{pages_of}
 use Rattle.sync_plans.proofs.Theorem.{stands_now, as_given}
 use Rattle.sync_plans.proofs.planning.read_page.Goals as goal
 
@@ -10,25 +12,25 @@ returns-clause-page c = λ files pages stands inside.
     let d0 = c.new-disk.result in
     let d = c.read-disk.result.0 in
     c.read-disk.ensures.page c.if-disk.false files pages
-    (stands_now d0.calls.now d.calls.now d.calls.now d0.rows.now d.rows.now d.rows.now c.args.image.now d0.image.now d.image.now d0.used d.used
-    files pages pages c.new-disk.ensures.image c.new-disk.ensures.used stands) inside
+    (stands_now d0.calls.now d.calls.now d.calls.now d0.rows.now d.rows.now d.rows.now c.args.image.now d0.image.now d.image.now (lent_page []) (pages_of d0) (pages_of d) d0.used d.used
+    files pages pages c.new-disk.ensures.image (ap lent_page c.new-disk.ensures.lent) c.new-disk.ensures.used stands) inside
 
 pub returns-clause-store : goal.returns-clause-store
 returns-clause-store c = let d0 = c.new-disk.result in
-    as_given d0.calls.now d0.rows.now c.args.image.now d0.image.now d0.used (λ sectors image. OnOk c.read-disk.result.1 (IsStore sectors image)) c.new-disk.ensures.image c.new-disk.ensures.used (c.read-disk.ensures.store c.if-disk.false)
+    as_given d0.calls.now d0.rows.now c.args.image.now d0.image.now (pages_of d0) d0.used (λ sectors image. OnOk c.read-disk.result.1 (IsStore sectors image)) c.new-disk.ensures.image c.new-disk.ensures.used (c.read-disk.ensures.store c.if-disk.false)
 
 pub returns-clause-layout : goal.returns-clause-layout
 returns-clause-layout c = let d0 = c.new-disk.result in
-    as_given d0.calls.now d0.rows.now c.args.image.now d0.image.now d0.used (λ sectors image. IfErr c.read-disk.result.1 (λ refusal. refusal ≡ BadLayout → IsBadLayout sectors image)) c.new-disk.ensures.image c.new-disk.ensures.used (c.read-disk.ensures.layout c.if-disk.false)
+    as_given d0.calls.now d0.rows.now c.args.image.now d0.image.now (pages_of d0) d0.used (λ sectors image. IfErr c.read-disk.result.1 (λ refusal. refusal ≡ BadLayout → IsBadLayout sectors image)) c.new-disk.ensures.image c.new-disk.ensures.used (c.read-disk.ensures.layout c.if-disk.false)
 
 pub returns-clause-journal : goal.returns-clause-journal
 returns-clause-journal c = let d0 = c.new-disk.result in
-    as_given d0.calls.now d0.rows.now c.args.image.now d0.image.now d0.used (λ sectors image. IfErr c.read-disk.result.1 (λ refusal. refusal ≡ BadJournal → HasBadJournal sectors image)) c.new-disk.ensures.image c.new-disk.ensures.used (c.read-disk.ensures.journal c.if-disk.false)
+    as_given d0.calls.now d0.rows.now c.args.image.now d0.image.now (pages_of d0) d0.used (λ sectors image. IfErr c.read-disk.result.1 (λ refusal. refusal ≡ BadJournal → HasBadJournal sectors image)) c.new-disk.ensures.image c.new-disk.ensures.used (c.read-disk.ensures.journal c.if-disk.false)
 
 pub returns-clause-inside : goal.returns-clause-inside
 returns-clause-inside c = let d0 = c.new-disk.result in
-    as_given d0.calls.now d0.rows.now c.args.image.now d0.image.now d0.used (λ sectors image. OnOk c.read-disk.result.1 (IsPageOf (file_info image) c.args.page.file c.args.page.page)) c.new-disk.ensures.image c.new-disk.ensures.used (c.read-disk.ensures.inside c.if-disk.false)
+    as_given d0.calls.now d0.rows.now c.args.image.now d0.image.now (pages_of d0) d0.used (λ sectors image. OnOk c.read-disk.result.1 (IsPageOf (file_info image) c.args.page.file c.args.page.page)) c.new-disk.ensures.image c.new-disk.ensures.used (c.read-disk.ensures.inside c.if-disk.false)
 
 pub returns-clause-pages : goal.returns-clause-pages
 returns-clause-pages c = let d0 = c.new-disk.result in
-    as_given d0.calls.now d0.rows.now c.args.image.now d0.image.now d0.used (λ sectors image. IfErr c.read-disk.result.1 (λ refusal. refusal ≡ BadPages → IsPageOf (file_info image) c.args.page.file c.args.page.page → ⊥)) c.new-disk.ensures.image c.new-disk.ensures.used (c.read-disk.ensures.pages c.if-disk.false)
+    as_given d0.calls.now d0.rows.now c.args.image.now d0.image.now (pages_of d0) d0.used (λ sectors image. IfErr c.read-disk.result.1 (λ refusal. refusal ≡ BadPages → IsPageOf (file_info image) c.args.page.file c.args.page.page → ⊥)) c.new-disk.ensures.image c.new-disk.ensures.used (c.read-disk.ensures.pages c.if-disk.false)

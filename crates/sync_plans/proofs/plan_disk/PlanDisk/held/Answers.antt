@@ -1,25 +1,31 @@
 use Rattle.std.proofs.Common.{sym, ◌∙◌, arith, ◌≡◌, ◌<◌, suc, ◌-◌, ◌+◌, length}
+use Rattle.sync_plans.specs.PlanDisk.{pages_of}
 use Rattle.sync_plans.specs.Plans.{row}
-use Rattle.sync_plans.proofs.Growth.{written, passed}
+use Rattle.sync_plans.proofs.Growth.{writes_here, written, passed, untouched}
 use Rattle.sync_plans.proofs.plan_disk.PlanDisk.held.Goals as goal
-use Rattle.sync_plans.proofs.plan_disk.PlanDisk.held.Goals.{else-call-eq-WRITE-via-then-call-eq-WRITE+else-n-call, else-call-eq-WRITE-via-else-call-eq-WRITE}
 
-pub returns-then-n-call : goal.returns-then-n-call
-returns-then-n-call c =
+pub returns-then-n-self : goal.returns-then-n-self
+returns-then-n-self c = let s = c.args.self.now in sym (untouched s.calls.now s.rows.now (pages_of s) (row s.image.now) s.used c.args.n (s.below c.args.n c.if-n-self.true))
+
+pub bytes-requires-clause-here : goal.bytes-requires-clause-here
+bytes-requires-clause-here c =
+    let s = c.args.self.now in
+    let inside : s.used - 1 - c.loop-i.i < length s.calls.now = omega (arith, c.loop-i-test.true, s.within, s.long) in
+    writes_here s.calls.now (s.used - 1 - c.loop-i.i) c.args.n (record { kind = 0; sector = 0; from = 0 }) inside ∙ sym c.writes.ensures ∙ c.if-writes.true
+
+pub returns-then-writes : goal.returns-then-writes
+returns-then-writes c =
     let s = c.args.self.now in
     let e : s.used - c.loop-i.i ≡ suc (s.used - 1 - c.loop-i.i) = omega (arith, c.loop-i-test.true) in
     let inside : s.used - 1 - c.loop-i.i < length s.calls.now = omega (arith, c.loop-i-test.true, s.within, s.long) in
-    sym (c.loop-i.invariant ∙ written s.calls.now s.rows.now (row s.image.now) (s.used - c.loop-i.i) (s.used - 1 - c.loop-i.i) c.args.n
-    (record { kind = 0; sector = 0 }) e inside c.if-call-eq-WRITE.true c.if-n-call.true)
+    c.bytes.ensures ∙ sym (c.loop-i.invariant ∙ written s.calls.now s.rows.now (pages_of s) (row s.image.now) (s.used - c.loop-i.i) (s.used - 1 - c.loop-i.i) c.args.n e
+    (writes_here s.calls.now (s.used - 1 - c.loop-i.i) c.args.n (record { kind = 0; sector = 0; from = 0 }) inside ∙ sym c.writes.ensures ∙ c.if-writes.true))
 
 pub loop-i-preserved : goal.loop-i-preserved
 loop-i-preserved c =
     let s = c.args.self.now in
     let e : s.used - c.loop-i.i ≡ suc (s.used - (c.loop-i.i + 1)) = omega (arith, c.loop-i-test.true) in
     let back : s.used - (c.loop-i.i + 1) ≡ s.used - 1 - c.loop-i.i = omega arith in
-    let inside : s.used - (c.loop-i.i + 1) < length s.calls.now = omega (arith, c.loop-i-test.true, s.within, s.long) in
-    c.loop-i.invariant ∙ passed s.calls.now s.rows.now (row s.image.now) (s.used - c.loop-i.i) (s.used - (c.loop-i.i + 1)) c.args.n
-    (record { kind = 0; sector = 0 }) e inside (rw back (elim c.else-call-eq-WRITE.branch [
-      | else-call-eq-WRITE-via-then-call-eq-WRITE+else-n-call w ↦ λ both. w.if-n-call.false both.1
-      | else-call-eq-WRITE-via-else-call-eq-WRITE w ↦ λ both. w.if-call-eq-WRITE.false both.0
-    ]))
+    let inside : s.used - 1 - c.loop-i.i < length s.calls.now = omega (arith, c.loop-i-test.true, s.within, s.long) in
+    c.loop-i.invariant ∙ passed s.calls.now s.rows.now (pages_of s) (row s.image.now) (s.used - c.loop-i.i) (s.used - (c.loop-i.i + 1)) c.args.n e
+    (rw back (writes_here s.calls.now (s.used - 1 - c.loop-i.i) c.args.n (record { kind = 0; sector = 0; from = 0 }) inside ∙ sym c.writes.ensures ∙ c.if-writes.false))

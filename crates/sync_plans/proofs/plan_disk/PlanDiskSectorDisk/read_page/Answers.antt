@@ -13,11 +13,11 @@ loop-i-preserved c =
     let i = c.loop-i.i in
     let k = 512 * i + 512 - 512 * i in
     let put = c.copy_from_slice.new.self in
-    let sector : length c.held-sector.result ≡ 512 = search rules in
-    let after : put ≡ c.held-sector.result = c.copy_from_slice.ensures.after in
+    let sector : length c.held-sector.result.now ≡ 512 = search rules in
+    let after : put ≡ c.held-sector.result.now = c.copy_from_slice.ensures.after in
     let long : length put ≡ 512 = ap length after ∙ sector in
     let below : i < 8 = c.loop-i-test.true in
-    let given : c.held-sector.result ≡ content_of d (c.args.n + i) = c.held-sector.ensures in
+    let given : c.held-sector.result.now ≡ content_of d (c.args.n + i) = c.held-sector.ensures in
     record {
       long = length_put c.loop-i.to put (512 * i) k (omega (arith, inv.long, below)) (omega (arith, long)) ∙ inv.long;
       gives = λ j less. ⊎_elim

@@ -1,10 +1,11 @@
 use Rattle.std.proofs.Common.{refl}
+use Rattle.sync_plans.specs.PlanDisk.{pages_of}
 use Rattle.sync_plans.specs.Plans.{row}
 use Rattle.sync_plans.proofs.Growth.{time, same_now}
 use Rattle.sync_plans.proofs.plan_disk.PlanDiskSectorDisk.sync.Goals as goal
 
 pub returns-clause-same : goal.returns-clause-same
-returns-clause-same c = λ k. rw c.list.ensures.image (same_now (row c.args.self.now.image.now) (c.list.ensures.lists k) refl)
+returns-clause-same c = λ k. rw (c.list.ensures.image, c.list.ensures.lent) (same_now (pages_of c.args.self.now) (row c.args.self.now.image.now) (c.list.ensures.lists k) refl)
 
 pub returns-clause-time : goal.returns-clause-time
-returns-clause-time c = λ k. rw c.list.ensures.image (time (row c.args.self.now.image.now) (c.list.ensures.lists k))
+returns-clause-time c = λ k. rw (c.list.ensures.image, c.list.ensures.lent) (time (pages_of c.args.self.now) (row c.args.self.now.image.now) (c.list.ensures.lists k))

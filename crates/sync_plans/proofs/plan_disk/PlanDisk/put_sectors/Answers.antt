@@ -1,11 +1,9 @@
 use Rattle.std.proofs.Common.{◌≡◌, ◌<◌, ◌+◌, ⊎_elim, inr, sym, subst, ◌∙◌, arith}
 use Rattle.std.proofs.lemmas.Bool.{cases_eq}
-use Rattle.disk_model.specs.Stop.{Names, IsOfPage}
-use Rattle.disk_model.specs.Asked.{times_named}
 use Rattle.disk_model.specs.Sectors.{part_of}
 use Rattle.disk_model.proofs.Pages.{more_time, carried}
 use Rattle.sync_plans.specs.PlanDisk.{content_of, unsynced_in, moment_of, left_in}
-use Rattle.sync_plans.proofs.plan_disk.PlanDiskSectorDisk.write_page.Goals as goal
+use Rattle.sync_plans.proofs.plan_disk.PlanDisk.put_sectors.Goals as goal
 
 pub loop-i-preserved : goal.loop-i-preserved
 loop-i-preserved c =
@@ -35,11 +33,3 @@ loop-i-preserved c =
       time = λ k. more_time (moment_of old) (moment_of mid) (moment_of new) (left_in old) (left_in mid) (left_in new) (content_of mid) (content_of new) (unsynced_in mid) (unsynced_in new)
           (inv.time (w.kept k)) (w.time k) (carried at (content_of mid) (content_of new) (unsynced_in mid) (unsynced_in new) (w.others k) (w.still k) (w.marked k));
     }
-
-pub returns-in_err-put-clause-asks : goal.returns-in_err-put-clause-asks
-returns-in_err-put-clause-asks c =
-    subst (λ asked. Names (IsOfPage c.args.n) (times_named c.args.self.now.asked) (times_named asked)) (sym (c.put.ensures.asked ∙ c.loop-i.invariant.asked)) c.page.ensures
-
-pub returns-clause-asks : goal.returns-clause-asks
-returns-clause-asks c =
-    subst (λ asked. Names (IsOfPage c.args.n) (times_named c.args.self.now.asked) (times_named asked)) (sym c.loop-i.invariant.asked) c.page.ensures

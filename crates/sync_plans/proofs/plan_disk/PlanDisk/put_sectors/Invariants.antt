@@ -2,7 +2,7 @@ use Rattle.std.proofs.Common.{◌≡◌, ◌⊎◌, ◌≤◌, ◌<◌, ◌+◌,
 use Rattle.disk_model.specs.Stop.{IsOfPage, ChangesPage, Elapses}
 use Rattle.disk_model.specs.Sectors.{part_of}
 use Rattle.sync_plans.specs.PlanDisk.{content_of, unsynced_in, moment_of, left_in}
-use Rattle.sync_plans.proofs.plan_disk.PlanDiskSectorDisk.write_page.Given as goal
+use Rattle.sync_plans.proofs.plan_disk.PlanDisk.put_sectors.Given as goal
 
 abbrev pub invariant-loop-i : goal.invariant-loop-i
 invariant-loop-i l = record {

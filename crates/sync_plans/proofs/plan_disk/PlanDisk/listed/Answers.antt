@@ -1,0 +1,17 @@
+use Rattle.std.proofs.Common.{◌<◌, arith, length}
+use Rattle.std.proofs.lemmas.Option.{slice_get-get_or}
+use Rattle.sync_plans.proofs.Theorem.{is_lent}
+use Rattle.sync_plans.proofs.plan_disk.PlanDisk.listed.Goals as goal
+
+pub returns-clause-lent : goal.returns-clause-lent
+returns-clause-lent c = λ three.
+    let s = c.args.self.now in
+    let inside : c.args.k < length s.calls.now = omega (arith, c.requires, s.within, s.long) in
+    is_lent s.lent.now _ (s.sources.lent c.args.k _ c.requires (slice_get-get_or s.calls.now c.args.k (record { kind = 0; sector = 0; from = 0 }) inside) three)
+
+pub returns-clause-copied : goal.returns-clause-copied
+returns-clause-copied c = λ more.
+    let s = c.args.self.now in
+    let inside : c.args.k < length s.calls.now = omega (arith, c.requires, s.within, s.long) in
+    let is = s.all c.args.k _ c.requires (slice_get-get_or s.calls.now c.args.k (record { kind = 0; sector = 0; from = 0 }) inside) in
+    is.copied (let most = is.kind.1 in omega (arith, most, more))

@@ -1,0 +1,21 @@
+use Rattle.std.proofs.Common.{ℕ, List, ◌≡◌, ◌+◌, ◌-◌, ◌∙◌, length, ap, arith, refl}
+use Rattle.std.specs.Cmp.Lexicographic.{same_text}
+use Rattle.disk_model.specs.Sectors.{part_of}
+use Rattle.sync_plans.specs.PlanDisk.{pages_of}
+use Rattle.sync_plans.proofs.Theorem.{lent_here}
+use Rattle.sync_plans.proofs.plan_disk.PlanDisk.named.Goals as goal
+
+pub returns-then-eq-clause-sources : goal.returns-then-eq-clause-sources
+returns-then-eq-clause-sources c =
+    let s = c.args.self.now in
+    let same : pages_of s s.next ≡ c.args.page.now = lent_here s.lent.now s.next _ c.if-self.true ∙ same_text _ c.args.page.now c.if-eq.ensures in
+    record {
+      kind = (omega arith, omega arith);
+      sector = refl;
+      bytes = λ i lt. let e : c.args.n + i - c.args.n ≡ i = omega arith in rw e (ap (λ (page : List ℕ). part_of page i) same);
+    }
+
+pub returns-then-eq-clause-lent : goal.returns-then-eq-clause-lent
+returns-then-eq-clause-lent c = λ _.
+    let s = c.args.self.now in
+    ap length (lent_here s.lent.now s.next _ c.if-self.true ∙ same_text _ c.args.page.now c.if-eq.ensures) ∙ c.told-page
