@@ -166,6 +166,28 @@ module _ {D E : Type 0} (g : Ghosts D) (h : Ghosts E) where
       let first = p open_line begun in
       breaks_later old mid new bytes more open_line first (q first.rest first.kept)
 
+  -- A whole line with its newline, by what the newline does where the line is held. The line may stand in the buffer, or in the
+  -- bytes behind an empty buffer.
+  pub goes_on_by_line : (old new : Machine D E) (kept line cleared pending more bytes : List ℕ) (held held_then : Option (List ℕ))
+      → HasNoNewline bytes → line ≡ take 257 (kept ++ bytes) → cleared ≡ []
+      → GoesOn g h (stage old line pending held) (stage new [] more held_then) (10 ∷ [])
+      → GoesOn g h (stage old kept pending held) (stage new cleared more held_then) (bytes ++ 10 ∷ [])
+  goes_on_by_line old new kept line cleared pending more bytes held held_then unbroken is none ended =
+      let P : List ℕ → Type 0 = λ k. GoesOn g h (stage old kept pending held) (stage new k more held_then) (bytes ++ 10 ∷ []) in
+      subst P (sym none)
+      (GoesOn-trans (stage old kept pending held) (stage old line pending held) (stage new [] more held_then) bytes (10 ∷ [])
+      (goes_on_by_bytes old kept pending held bytes line unbroken is) ended)
+
+  pub breaks_in_line : (old new : Machine D E) (kept line cleared pending more bytes : List ℕ) (held held_then : Option (List ℕ))
+      → HasNoNewline bytes → line ≡ take 257 (kept ++ bytes) → cleared ≡ []
+      → BreaksOff g h (stage old line pending held) (stage new [] more held_then) (10 ∷ [])
+      → BreaksOff g h (stage old kept pending held) (stage new cleared more held_then) (bytes ++ 10 ∷ [])
+  breaks_in_line old new kept line cleared pending more bytes held held_then unbroken is none ended =
+      let P : List ℕ → Type 0 = λ k. BreaksOff g h (stage old kept pending held) (stage new k more held_then) (bytes ++ 10 ∷ []) in
+      subst P (sym none)
+      (breaks_after (stage old kept pending held) (stage old line pending held) (stage new [] more held_then) bytes (10 ∷ [])
+      (goes_on_by_bytes old kept pending held bytes line unbroken is) ended)
+
   -- the bytes after a break stay unread
   pub breaks_before : (old new : Stage D E) (bytes more : List ℕ) → BreaksOff g h old new bytes → BreaksOff g h old new (bytes ++ more)
   breaks_before old new bytes more p open_line begun =

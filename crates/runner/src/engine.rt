@@ -16,7 +16,7 @@ use disk_model::SectorDisk;
 use machine::Machine;
 use memchr::memchr;
 use std::io::{ErrorKind, Read, Write};
-use trace_lang::{bad_line_text, parse_line};
+use trace_lang::{MAX_LINE_BYTES, bad_line_text, parse_line};
 
 // The most bytes of one read: 32 KiB.
 const READ_BYTES: usize = 32768;
@@ -71,7 +71,7 @@ fn answer<D: SectorDisk, E: SectorDisk>(
 
 // Runs the line that a newline has ended, and writes the output out where it is full.
 fn end_line<W: Write, D: SectorDisk, E: SectorDisk>(
-    line: &mut LineBuffer,
+    line: &[u8],
     output: &mut OutputBuffer,
     writer: &mut W,
     machine: &mut Machine<D, E>,
@@ -81,13 +81,12 @@ fn end_line<W: Write, D: SectorDisk, E: SectorDisk>(
     ensures room { OnOk result (length output.new < 32768) }
     ensures sound { IsSoundMachine D.SectorDisk E.SectorDisk machine.new }
     ensures reads { MatchResult result
-        (λ _. GoesOn D.SectorDisk E.SectorDisk (stage machine.old line.old output.old (W.contents writer.old))
-        (stage machine.new line.new output.new (W.contents writer.new)) (10 ∷ []))
-        (λ _. BreaksOff D.SectorDisk E.SectorDisk (stage machine.old line.old output.old (W.contents writer.old))
-        (stage machine.new line.new output.new (W.contents writer.new)) (10 ∷ [])) }
+        (λ _. GoesOn D.SectorDisk E.SectorDisk (stage machine.old line.now output.old (W.contents writer.old))
+        (stage machine.new [] output.new (W.contents writer.new)) (10 ∷ []))
+        (λ _. BreaksOff D.SectorDisk E.SectorDisk (stage machine.old line.now output.old (W.contents writer.old))
+        (stage machine.new [] output.new (W.contents writer.new)) (10 ∷ [])) }
 {
-    answer(line.as_slice(), output, machine);
-    line.clear();
+    answer(line, output, machine);
     if output.is_full() {
         return output.write_out(writer);
     }
@@ -103,7 +102,8 @@ fn newline_in(bytes: &[u8]) -> Option<usize>
     memchr(b'\n', bytes)
 }
 
-// Goes on by bytes that end the open line, and by the newline behind them.
+// Goes on by bytes that end the open line, and by the newline behind them. A line that stands whole in them is run where it
+// stands.
 fn run_line<W: Write, D: SectorDisk, E: SectorDisk>(
     bytes: &[u8],
     line: &mut LineBuffer,
@@ -122,8 +122,13 @@ fn run_line<W: Write, D: SectorDisk, E: SectorDisk>(
         (λ _. BreaksOff D.SectorDisk E.SectorDisk (stage machine.old line.old output.old (W.contents writer.old))
         (stage machine.new line.new output.new (W.contents writer.new)) (bytes.now ++ 10 ∷ [])) }
 {
+    if line.is_empty() && bytes.len() <= MAX_LINE_BYTES {
+        return end_line(bytes, output, writer, machine);
+    }
     line.extend(bytes);
-    end_line(line, output, writer, machine)
+    let ended = end_line(line.as_slice(), output, writer, machine);
+    line.clear();
+    ended
 }
 
 // Goes on by a piece of the trace.

@@ -1,11 +1,13 @@
 -- Hexadecimal digits, by the number of them and without leading zeros.
-use Rattle.std.proofs.Common.{◌≡◌, ℕ, zero, suc, ◌+◌, ◌-◌, ◌*◌, ◌/◌, ◌%◌, ◌<◌, ◌≤◌, ◌^◌, ◌⊎◌, inl, inr, true, false, eqb, eqb-true, List, [], ◌∷◌, ◌++◌, take, drop, set, length, refl, sym, ◌∙◌, ap, lit<, append_assoc, if◌then◌else◌, arith}
+use Rattle.std.proofs.Common.{◌≡◌, ℕ, zero, suc, ◌+◌, ◌-◌, ◌*◌, ◌/◌, ◌%◌, ◌<◌, ◌≤◌, ◌^◌, ◌⊎◌, inl, inr, Bool, true, false, ◌&&◌, T, eqb, eqb-true, eqb→eq, eq-zero-or-pos, get_or, List, [], ◌∷◌, ◌++◌, take, drop, set, length, refl, sym, ◌∙◌, ap, lit<, append_assoc, if◌then◌else◌, arith}
+use lib.Ieee.Fits.{and_l, and_r}
 use Rattle.std.proofs.Math.Nat.{one-le-pow, pow-le-pow_right, pow-succ'}
 use Rattle.std.proofs.lemmas.Nat.{pow-add}
 use Rattle.std.proofs.Math.Seq.{take-set-lt}
-use Rattle.std.proofs.lemmas.List.{append-nil, drop-set, length-take-le, take-append-drop, take-take}
+use Rattle.std.proofs.lemmas.List.{append-nil, drop-set, length-set, length-take-le, take-append-drop, take-take}
 use Rattle.std.specs.Fmt.{digits, digits_onto, digit_glyph}
 use Rattle.trace_lang.specs.Texts.{hex_digits}
+use Rattle.trace_lang.specs.declared.output.TheConstants.{PAIRS}
 
 power_up : (k : ℕ) → 2 ^ (4 * suc k) ≡ 2 ^ (4 * k) * 16
 power_up k = let e : 4 * suc k ≡ 4 * k + 4 = omega arith in ap (λ x. 2 ^ x) e ∙ pow-add 2 (4 * k) 4
@@ -64,6 +66,31 @@ next_digit out at last end rest glyph whole low high room e h =
     ∙ sym (append_assoc front (digit_glyph false (rest % 16) ∷ []) (drop (last + 1) (take end out)))
     ∙ ap (λ k. hex_digits k rest ++ drop (last + 1) (take end out)) (sym more)
     ∙ h
+
+-- two more digits in front of those written so far
+pub next_pair : (out : List ℕ) (at last end rest high low : ℕ) (whole : List ℕ) → at ≤ last → last + 1 < end → end ≤ length out
+    → low ≡ digit_glyph false (rest % 16) → high ≡ digit_glyph false (rest / 16 % 16)
+    → hex_digits (last + 1 + 1 - at) rest ++ drop (last + 1 + 1) (take end out) ≡ whole
+    → hex_digits (last - at) (rest / 16 / 16) ++ drop last (take end (set (set out (last + 1) low) last high)) ≡ whole
+next_pair out at last end rest high low whole front inside room el eh h =
+    next_digit (set out (last + 1) low) at last end (rest / 16) high whole front (omega arith) (omega (arith, length-set out (last + 1) low, room)) eh
+    (next_digit out at (last + 1) end rest low whole (omega arith) inside room el h)
+
+abbrev are_pairs : ℕ → Bool
+are_pairs zero = true
+are_pairs (suc p) = (eqb (get_or PAIRS (p * 2) 0) (digit_glyph false (p / 16)) && eqb (get_or PAIRS (p * 2 + 1) 0) (digit_glyph false (p % 16))) && are_pairs p
+
+pairs_below : (n p : ℕ) → T (are_pairs n) → p < n → (get_or PAIRS (p * 2) 0 ≡ digit_glyph false (p / 16)) × (get_or PAIRS (p * 2 + 1) 0 ≡ digit_glyph false (p % 16))
+pairs_below zero p t h = absurd (omega arith)
+pairs_below (suc n) p t h =
+    elim (eq-zero-or-pos (n - p)) [
+      | inl z ↦ let e : p ≡ n = omega arith in let a = and_l _ (are_pairs n) t in rw e (eqb→eq _ _ (and_l _ _ a), eqb→eq _ _ (and_r _ _ a))
+      | inr g ↦ pairs_below n p (and_r _ (are_pairs n) t) (omega arith)
+    ]
+
+-- the table holds the two digits of each byte
+pub PAIRS_at : (p : ℕ) → p < 256 → (get_or PAIRS (p * 2) 0 ≡ digit_glyph false (p / 16)) × (get_or PAIRS (p * 2 + 1) 0 ≡ digit_glyph false (p % 16))
+PAIRS_at p h = pairs_below 256 p tt h
 
 -- what was written stands behind what stood before
 pub all_digits : (out before : List ℕ) (at end rest : ℕ) (whole : List ℕ) → at ≤ end → take at out ≡ before

@@ -4,5 +4,6 @@ mod Places
 mod Spaces
 mod OneName
 mod OneCommand
+mod Cuts
 pub mod Lines
 mod Nothing

@@ -15,7 +15,7 @@ use Rattle.vm_types.specs.declared.command.Placing.{Placing}
 use Rattle.vm_types.specs.declared.permission.Prot.{Prot}
 use Rattle.vm_types.specs.declared.width.Width.{Width}
 
-abbrev form_name : Command → Name
+abbrev pub form_name : Command → Name
 form_name Spawn = name.Spawn
 form_name (Fork pid) = name.Fork
 form_name (Exit pid) = name.Exit
@@ -29,11 +29,11 @@ form_name (Store pid addr stored) = name.Store
 form_name (Fetch pid addr) = name.Fetch
 form_name PastFaults = name.Faults
 
-abbrev first : List (List ℕ) → List ℕ
+abbrev pub first : List (List ℕ) → List ℕ
 first words = get_or words 0 []
 
 -- a form begins with its command's name
-begins : (ws : List (List ℕ)) (command : Command) → IsForm ws command → first ws ≡ name_text (form_name command)
+pub begins : (ws : List (List ℕ)) (command : Command) → IsForm ws command → first ws ≡ name_text (form_name command)
 begins ws Spawn h = ap first h
 begins ws (Fork pid) h = ap first h.1
 begins ws (Exit pid) h = ap first h.1
@@ -62,7 +62,7 @@ at_name ws r (Fetch pid addr) h only = only pid addr h
 at_name ws r PastFaults h only = only h
 
 -- what was read of a form of the name, where it is the one command of that form
-stands : (n : Name) (ws : List (List ℕ)) (r : Option Command) → first ws ≡ name_text n → IfSome r (λ command. IsForm ws command) → OnlyOf n ws r → StandsFor ws r
+pub stands : (n : Name) (ws : List (List ℕ)) (r : Option Command) → first ws ≡ name_text n → IfSome r (λ command. IsForm ws command) → OnlyOf n ws r → StandsFor ws r
 stands n ws r e found only = record {
   found = found;
   only = λ command h.
@@ -80,7 +80,7 @@ moved : (ws xs : List (List ℕ)) (r : Option Command) → ws ≡ xs → StandsF
 moved ws xs r e h = let P : List (List ℕ) → Type 0 = λ t. StandsFor t r in subst P (sym e) h
 
 -- P of a word of one account from that of the other
-at_word : (P : List ℕ → Type 0) (k : ℕ) {xs ys : List (List ℕ)} → xs ≡ ys → P (get_or ys k []) → P (get_or xs k [])
+pub at_word : (P : List ℕ → Type 0) (k : ℕ) {xs ys : List (List ℕ)} → xs ≡ ys → P (get_or ys k []) → P (get_or xs k [])
 at_word P k e h = subst P (sym (ap (λ ws. get_or ws k []) e)) h
 
 pub fork_stands : (ws : List (List ℕ)) (p : List ℕ) (r : Option Command) → ws ≡ codes "fork" ∷ p ∷ [] → IfSome r (λ command. IsForm (codes "fork" ∷ p ∷ []) command)

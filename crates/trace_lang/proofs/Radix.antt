@@ -1,5 +1,6 @@
 -- Numerals digit by digit.
-use Rattle.std.proofs.Common.{◌≡◌, ℕ, zero, suc, ◌+◌, ◌*◌, ◌<◌, ◌≤◌, List, [], ◌∷◌, length, get_or, take, Bool, false, ◌==◌, sym, ◌∙◌, ap, subst, arith}
+use Rattle.std.proofs.Common.{◌≡◌, ℕ, zero, suc, ◌+◌, ◌*◌, ◌<◌, ◌≤◌, ◌^◌, List, [], ◌∷◌, length, get_or, take, Bool, false, ◌==◌, Option, None, SomeIff, sym, ◌∙◌, ap, subst, arith}
+use Rattle.std.proofs.lemmas.Nat.{pow-add}
 use Rattle.std.specs.Char.{digit_value}
 use Rattle.std.specs.Str.Parse.{AllDigits, digits_value}
 use Rattle.std.proofs.lemmas.Int.Digits.{digits_value_more}
@@ -34,6 +35,10 @@ next_value radix ds i n factor byte digit added more l en ef eb ed ea em =
     ∙ ap (λ x. n * radix + x) (ea ∙ ed ∙ ap digit_value eb)
     ∙ ap (λ v. v * radix + digit_value (get_or ds i 0)) en ∙ sym (digits_value_more radix ds i l)
 
+-- a number of one more decimal digit
+pub next_small : (i n digit : ℕ) → n < 10 ^ i → digit < 10 → n * 10 + digit < 10 ^ (i + 1)
+next_small i n digit h l = omega (arith, pow-add 10 i 1, h, l)
+
 -- one more digit past the limit shows that the numeral is
 pub digit_past : (n radix factor d digit added most limit : ℕ) → n * radix + d ≤ most → most < limit → factor ≡ radix
     → added ≡ digit → digit ≡ d → (n * factor + added < limit → ⊥) → ⊥
@@ -44,3 +49,7 @@ digit_past n radix factor d digit added most limit h small ef ea ed past =
 pub not_empty : (n : ℕ) (test : Bool) → test ≡ (n == 0) → test ≡ false → 0 < n
 not_empty zero test e f = cc
 not_empty (suc n) test e f = omega arith
+
+-- nothing was read where the digits write no number
+pub none_reads : {A : Type 0} (value : ℕ) (read : Option ℕ) → read ≡ None → (A → ⊥) → SomeIff read A value
+none_reads {A} value read e no_value = let P : Option ℕ → Type 0 = λ r. SomeIff r A value in subst P (sym e) no_value

@@ -15,7 +15,7 @@ use Rattle.vm_types.specs.declared.command.Placing.TheVariants.{Hint, Fixed, NoR
 other_byte : (b : ℕ) → b ≢ 32 → eqb b 32 ≡ false
 other_byte b h = elim (eqb b 32) as (λ v. eqb b 32 ≡ v → v ≡ false) [ true ↦ (λ e. absurd (h (eqb-true b 32 e))) | false ↦ (λ e. refl) ] refl
 
-no_space-cons : (b : ℕ) (word : List ℕ) → b ≢ 32 → HasNoSpace word → HasNoSpace (b ∷ word)
+pub no_space-cons : (b : ℕ) (word : List ℕ) → b ≢ 32 → HasNoSpace word → HasNoSpace (b ∷ word)
 no_space-cons b word h all zero d l = h
 no_space-cons b word h all (suc k) d l = all k d (omega arith)
 
@@ -42,7 +42,7 @@ no_space-words_of (b ∷ bs) =
 pub words_joined : (line : List ℕ) → IsWords line (words_of line)
 words_joined line = record { joined = sym (join_with_byte-slice_split 32 line); each = no_space-words_of line }
 
-no_cut : (word : List ℕ) → HasNoSpace word → All (λ b. eqb b 32 ≡ false) word
+pub no_cut : (word : List ℕ) → HasNoSpace word → All (λ b. eqb b 32 ≡ false) word
 no_cut word h k d l = other_byte (get_or word k d) (h k d l)
 
 split-join : (word : List ℕ) (words : List (List ℕ)) → All HasNoSpace (word ∷ words) → words_of (join_with_byte 32 (word ∷ words)) ≡ word ∷ words
@@ -104,9 +104,3 @@ pub command_of_words : (line : List ℕ) (words : List (List ℕ)) (command : Co
 command_of_words line words command short e form =
     let P : List (List ℕ) → Type 0 = λ w. IsForm w command in
     record { short = short; words = words_of line; parted = words_joined line; form = subst P e form }
-
-pub too_many_words : (line : List ℕ) (command : Command) → 9 < length (words_of line) → IsCommand line command → ⊥
-too_many_words line command many h =
-    let e = ap length (same_words line command h) in
-    let few = (form_words h.words command h.form).1 in
-    omega (arith, e, few)

@@ -35,7 +35,8 @@ fn exit_of(process: &[u8]) -> Option<Command>
 }
 
 /// A load, by the words behind its name.
-fn load_of(process: &[u8], address: &[u8], bytes: &[u8]) -> Option<Command>
+#[inline(always)]
+pub(crate) fn load_of(process: &[u8], address: &[u8], bytes: &[u8]) -> Option<Command>
     ensures found { IfSome result (λ command. IsForm (codes "load" ∷ process.now ∷ address.now ∷ bytes.now ∷ []) command) }
     ensures only { (pid addr : ℕ) (width : Width) → IsNumber process.now pid → IsNumber address.now addr → IsWidth bytes.now width → result ≡ Some (Command.Load pid addr width) }
 {
@@ -46,7 +47,13 @@ fn load_of(process: &[u8], address: &[u8], bytes: &[u8]) -> Option<Command>
 }
 
 /// A store, by the words behind its name.
-fn store_of(process: &[u8], address: &[u8], bytes: &[u8], value: &[u8]) -> Option<Command>
+#[inline(always)]
+pub(crate) fn store_of(
+    process: &[u8],
+    address: &[u8],
+    bytes: &[u8],
+    value: &[u8],
+) -> Option<Command>
     ensures found { IfSome result (λ command. IsForm (codes "store" ∷ process.now ∷ address.now ∷ bytes.now ∷ value.now ∷ []) command) }
     ensures only { (pid addr : ℕ) (stored : StoredValue) → IsNumber process.now pid → IsNumber address.now addr → IsWidth bytes.now stored.width
         → IsNumber value.now stored.value → stored.value < 2 ^ (8 * byte_count stored.width) → result ≡ Some (Command.Store pid addr stored) }
@@ -59,7 +66,8 @@ fn store_of(process: &[u8], address: &[u8], bytes: &[u8], value: &[u8]) -> Optio
 }
 
 /// A fetch, by the words behind its name.
-fn fetch_of(process: &[u8], address: &[u8]) -> Option<Command>
+#[inline(always)]
+pub(crate) fn fetch_of(process: &[u8], address: &[u8]) -> Option<Command>
     ensures found { IfSome result (λ command. IsForm (codes "fetch" ∷ process.now ∷ address.now ∷ []) command) }
     ensures only { (pid addr : ℕ) → IsNumber process.now pid → IsNumber address.now addr → result ≡ Some (Command.Fetch pid addr) }
 {

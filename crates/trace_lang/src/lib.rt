@@ -1,6 +1,7 @@
 //! The language of traces: which command a line stands for, and which text a reply is.
 #![tactic(auto)]
 
+mod accesses;
 mod arguments;
 mod forms;
 mod names;

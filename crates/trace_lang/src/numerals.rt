@@ -1,11 +1,12 @@
 //! Numbers and widths as lines write them.
-ghost use Rattle.std.specs.Prelude.{◌≡◌, ℕ, ◌+◌, ◌<◌, ◌≤◌, ◌^◌, ◌*◌, SomeIff, IfSome, IfNone};
+ghost use Rattle.std.specs.Prelude.{◌≡◌, ℕ, ◌+◌, ◌<◌, ◌≤◌, ◌^◌, ◌*◌, length, SomeIff, IfSome, IfNone};
 ghost use Rattle.std.specs.Str.Parse.{IsNumeral, digits_value};
 ghost use Rattle.trace_lang.specs.Grammar.{IsNumber, IsWidth};
 ghost use Rattle.vm_types.specs.Width.{byte_count};
 ghost use Rattle.vm_types.specs.declared.access.StoredValue.{StoredValue};
 ghost use Rattle.vm_types.specs.declared.width.Width.{Width};
 
+use fast_float::parse_u64;
 use vm_types::{StoredValue, Width};
 
 /// The number that digits write in a radix, 2 to 36; `None` exactly where there is no digit, a byte is no digit of the radix,
@@ -43,9 +44,51 @@ fn with_digit(value: u64, radix: u64, digit: u64) -> Option<u64>
     shifted.checked_add(digit)
 }
 
+/// The number that at most seven decimal digits write, for which there is always room.
+fn short_decimal(digits: &[u8]) -> Option<u64>
+    requires { length digits.now < 8 }
+    ensures { SomeIff result (IsNumeral 10 digits.now × (digits_value 10 digits.now < 2 ^ 64)) (digits_value 10 digits.now) }
+{
+    if digits.is_empty() {
+        return None;
+    }
+    let mut value: u64 = 0;
+    for byte in digits {
+        let digit = char::from(*byte).to_digit(10)?;
+        value = value * 10 + u64::from(digit);
+    }
+    Some(value)
+}
+
+/// The number that more decimal digits write. (It stays out of the way of short ones, which it would hold up.)
+#[inline(never)]
+fn long_decimal(digits: &[u8]) -> Option<u64>
+    requires { 0 < length digits.now }
+    ensures { SomeIff result (IsNumeral 10 digits.now × (digits_value 10 digits.now < 2 ^ 64)) (digits_value 10 digits.now) }
+{
+    // `parse_u64` takes a plus in front, which is no part of a number here.
+    if digits[0] == b'+' {
+        return None;
+    }
+    parse_u64(digits).ok()
+}
+
+/// The number that decimal digits write; `None` exactly where there is no digit, a byte is no digit, or the number is 2^64 or
+/// more.
+fn decimal_of(digits: &[u8]) -> Option<u64>
+    ensures { SomeIff result (IsNumeral 10 digits.now × (digits_value 10 digits.now < 2 ^ 64)) (digits_value 10 digits.now) }
+{
+    match digits.len() {
+        0..=7 => short_decimal(digits),
+        8..=19 => long_decimal(digits),
+        // with so many, `parse_u64` counts in 128 bits
+        _ => value_of(digits, 10),
+    }
+}
+
 /// The number that a word writes: one decimal digit or more, or `0x` and one hexadecimal digit of either case or more;
 /// leading zeros change nothing. `None` exactly where the word writes none, or one of 2^64 or more.
-#[inline(always)]
+#[inline(never)]
 pub fn parse_number(text: &[u8]) -> Option<u64>
     ensures found { IfSome result (λ n. IsNumber text.now n) }
     ensures none { IfNone result ((n : ℕ) → IsNumber text.now n → ⊥) }
@@ -54,20 +97,40 @@ pub fn parse_number(text: &[u8]) -> Option<u64>
 {
     match text {
         [b'0', b'x', digits @ ..] => value_of(digits, 16),
-        digits => value_of(digits, 10),
+        digits => decimal_of(digits),
+    }
+}
+
+/// The width that one decimal digit writes as a number of bytes; `None` exactly where it writes none.
+#[inline(always)]
+fn digit_width(digit: u8) -> Option<Width>
+    ensures found { IfSome result (λ width. digit ≡ 48 + byte_count width) }
+    ensures only { (width : Width) → digit ≡ 48 + byte_count width → result ≡ Some width }
+{
+    match digit {
+        b'1' => Some(Width::One),
+        b'2' => Some(Width::Two),
+        b'4' => Some(Width::Four),
+        b'8' => Some(Width::Eight),
+        _ => None,
     }
 }
 
 /// The width that a word writes as a number of bytes; `None` exactly where it writes none.
+#[inline(always)]
 pub(crate) fn width_of(text: &[u8]) -> Option<Width>
     ensures found { IfSome result (λ width. IsWidth text.now width) }
     ensures only { (width : Width) → IsWidth text.now width → result ≡ Some width }
 {
+    if let [digit] = text {
+        return digit_width(*digit);
+    }
     let bytes = parse_number(text)?;
     Width::from_bytes(bytes)
 }
 
 /// The value of a width that a word writes; `None` exactly where it writes none, or one that doesn't fit the width.
+#[inline(always)]
 pub(crate) fn stored_of(width: Width, text: &[u8]) -> Option<StoredValue>
     ensures found { IfSome result (λ stored. (stored.width ≡ width) × IsNumber text.now stored.value × (stored.value < 2 ^ (8 * byte_count width))) }
     ensures only { (stored : StoredValue) → stored.width ≡ width → IsNumber text.now stored.value → stored.value < 2 ^ (8 * byte_count width) → result ≡ Some stored }

@@ -1,10 +1,13 @@
 //! Reads a line of a trace.
 ghost use Rattle.std.specs.Prelude.{◌≡◌, IfOk, OnErr};
 ghost use Rattle.trace_lang.specs.Grammar.{IsCommand};
+ghost use Rattle.trace_lang.specs.Names.{StandsFor};
+ghost use Rattle.trace_lang.specs.Words.{words_of};
 ghost use Rattle.vm_types.specs.declared.command.Command.{Command};
 
+use crate::accesses::{fetch_in, load_in, store_in};
 use crate::forms::command_of;
-use crate::words::split_words;
+use crate::words::{MAX_WORDS, split_words};
 use vm_types::Command;
 
 /// The most bytes of a line that stands for a command.
@@ -13,6 +16,33 @@ pub const MAX_LINE_BYTES: usize = 256;
 /// The line is in no form.
 #[derive(Clone, Copy, Debug, PartialEq, Eq)]
 pub struct BadLine;
+
+/// The command that all words of a line stand for.
+#[inline(never)]
+fn split_in(line: &[u8]) -> Option<Command>
+    ensures { StandsFor (words_of line.now) result }
+{
+    let mut words: [&[u8]; MAX_WORDS] = [&[]; MAX_WORDS];
+    let count = split_words(line, &mut words)?;
+    command_of(&words[..count])
+}
+
+/// The command that a line stands for, by its words.
+#[inline(never)]
+fn command_in(line: &[u8]) -> Option<Command>
+    ensures { StandsFor (words_of line.now) result }
+{
+    if let [b'l', b'o', b'a', b'd', b' ', rest @ ..] = line {
+        return load_in(rest);
+    }
+    if let [b's', b't', b'o', b'r', b'e', b' ', rest @ ..] = line {
+        return store_in(rest);
+    }
+    if let [b'f', b'e', b't', b'c', b'h', b' ', rest @ ..] = line {
+        return fetch_in(rest);
+    }
+    split_in(line)
+}
 
 /// The command that a line without its newline stands for. An `Err` exactly where it stands for none: its words
 /// aren't parted by single spaces, they are in no form, a number is 2^64 or more, or the line is over 256 bytes.
@@ -25,8 +55,5 @@ pub fn parse_line(line: &[u8]) -> Result<Command, BadLine>
     if line.len() > MAX_LINE_BYTES {
         return Err(BadLine);
     }
-    let Some(found) = split_words(line) else {
-        return Err(BadLine);
-    };
-    command_of(&found.words[..found.count]).ok_or(BadLine)
+    command_in(line).ok_or(BadLine)
 }

@@ -1,14 +1,10 @@
-use Rattle.std.proofs.Common.{◌≡◌, ℕ, ◌<◌, ◌^◌, List, Option, None, SomeIff, length, sym, ◌∙◌, ap, subst}
+use Rattle.std.proofs.Common.{ℕ, ◌<◌, ◌^◌, List, length, sym, ◌∙◌, ap, subst}
 use Rattle.std.specs.Char.{digit_value}
 use Rattle.std.specs.Str.Parse.{AllDigits, digits_value}
 use Rattle.std.proofs.lemmas.Int.Digits.{digits_more}
 use Rattle.std.proofs.lemmas.List.{take_all}
-use Rattle.trace_lang.proofs.Radix.{not_empty, digit_below, value_so_far, next_value, digit_past}
+use Rattle.trace_lang.proofs.Radix.{not_empty, none_reads, digit_below, value_so_far, next_value, digit_past}
 use Rattle.trace_lang.proofs.numerals.value_of.Goals as goal
-
--- nothing was read where the digits write no number
-none_reads : {A : Type 0} (value : ℕ) (read : Option ℕ) → read ≡ None → (A → ⊥) → SomeIff read A value
-none_reads {A} value read e no_value = let P : Option ℕ → Type 0 = λ r. SomeIff r A value in subst P (sym e) no_value
 
 pub returns-in_err-digit : goal.returns-in_err-digit
 returns-in_err-digit c = none_reads _ _ c.from_residual.ensures (λ h.

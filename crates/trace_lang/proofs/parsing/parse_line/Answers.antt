@@ -1,7 +1,8 @@
-use Rattle.std.proofs.Common.{◌≡◌, Option, Some, None, Result, Ok, Err, IfSome, IfOk, OnErr, ok_or, sym, ◌∙◌, ap, subst, arith}
+use Rattle.std.proofs.Common.{◌≡◌, Option, Some, None, Result, Ok, Err, IfSome, IfOk, OnErr, ok_or, refl, sym, ◌∙◌, ap, subst, arith}
 use Rattle.vm_types.specs.declared.command.Command.{Command}
 use Rattle.trace_lang.specs.Grammar.{IsCommand}
-use Rattle.trace_lang.proofs.Spaces.{form_of_line, command_of_words, too_many_words}
+use Rattle.trace_lang.specs.Words.{words_of}
+use Rattle.trace_lang.proofs.Spaces.{form_of_line, command_of_words}
 use Rattle.trace_lang.proofs.parsing.parse_line.Goals as goal
 
 found_ok : {A E : Type 0} (P Q : A → Type 0) (r : Option A) (e : E) → ((x : A) → P x → Q x) → IfSome r P → IfOk (ok_or r e) Q
@@ -12,24 +13,18 @@ none_ok : {A E : Type 0} (P : A → Type 0) (r : Result A E) → ((x : A) → P 
 none_ok P (Ok x) only = tt
 none_ok P (Err e) only = λ x h. let same = only x h in cc
 
-pub returns-in_default-clause-none : goal.returns-in_default-clause-none
-returns-in_default-clause-none c = λ command h. too_many_words _ command c.in_default.ensures.none h
-
-pub returns-in_default-clause-only : goal.returns-in_default-clause-only
-returns-in_default-clause-only c = λ command h. absurd (too_many_words _ command c.in_default.ensures.none h)
-
 pub returns-clause-found : goal.returns-clause-found
 returns-clause-found c =
     let line = c.args.line.now in
     let P : Result Command _ → Type 0 = λ r. IfOk r (λ command. IsCommand line command) in
     subst P (sym c.ok_or.ensures.value)
-    (found_ok _ (λ command. IsCommand line command) c.command_of.result _ (λ command form. command_of_words line _ command (omega arith) c.in-Some.ensures.found.1 form) c.command_of.ensures.found)
+    (found_ok _ (λ command. IsCommand line command) c.command_in.result _ (λ command form. command_of_words line (words_of line) command (omega arith) refl form) c.command_in.ensures.found)
 
 pub returns-clause-only : goal.returns-clause-only
 returns-clause-only c = λ command h.
-    c.ok_or.ensures.value ∙ ap (λ r. ok_or r _) (c.command_of.ensures.only command (form_of_line _ _ command c.in-Some.ensures.found.1 h))
+    c.ok_or.ensures.value ∙ ap (λ r. ok_or r _) (c.command_in.ensures.only command (form_of_line c.args.line.now _ command refl h))
 
 pub returns-clause-none : goal.returns-clause-none
 returns-clause-none c =
     none_ok (λ command. IsCommand c.args.line.now command) c.ok_or.result (λ command h.
-    c.ok_or.ensures.value ∙ ap (λ r. ok_or r _) (c.command_of.ensures.only command (form_of_line _ _ command c.in-Some.ensures.found.1 h)))
+    c.ok_or.ensures.value ∙ ap (λ r. ok_or r _) (c.command_in.ensures.only command (form_of_line c.args.line.now _ command refl h)))

@@ -1,0 +1,10 @@
+use Rattle.std.proofs.Common.{◌≡◌, ◌<◌, ◌^◌, take}
+use Rattle.std.specs.Str.Parse.{AllDigits, digits_value}
+use Rattle.trace_lang.proofs.numerals.short_decimal.Given as goal
+
+abbrev pub invariant-loop-byte : goal.invariant-loop-byte
+invariant-loop-byte l = record {
+  digits : AllDigits 10 (take l.byte-index l.digits);
+  value : l.value ≡ digits_value 10 (take l.byte-index l.digits);
+  small : l.value < 10 ^ l.byte-index;
+}
