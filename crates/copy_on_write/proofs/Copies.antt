@@ -6,24 +6,30 @@ use Rattle.std.proofs.lemmas.Bool.{cases_Bool, false≢true}
 use Rattle.vm_types.specs.declared.number.FrameNo.{FrameNo}
 use Rattle.vm_types.specs.declared.number.SlotNo.{SlotNo}
 use Rattle.vm_types.specs.declared.region.Attr.{Attr}
+use Rattle.frames.specs.FrameTable.{FrameTable}
 use Rattle.sv39_walk.specs.Entry.{is_valid, has_bit, frame_of}
 use Rattle.page_tables.specs.declared.forms.Entry.{Entry}
 use Rattle.page_tables.specs.declared.forms.Entry.TheVariants.{Leaf, Swapped, Parked}
 use Rattle.page_tables.specs.declared.forms.Entry.TheVariants as Entries
 use Rattle.page_tables.specs.Entry.{number_of, IsEntry}
 use Rattle.page_tables.specs.Tree.{IsPage}
+use Rattle.mapped_memory.specs.Notes.{NamesNoMore}
 use Rattle.paging.specs.Seats.{Seat, InFrame, InSlot, seat, is_private, is_swapped}
 use Rattle.paging.specs.Picture.{Picture, entry}
 use Rattle.paging.specs.Parts.{IsEntryFor, Nothing, Resident, Away, IsGranting, IsMapped}
 use Rattle.paging.proofs.Start.{seat-none, no_bit}
 use Rattle.page_tables.proofs.Bits.{parked_private, parked_framed}
-use Rattle.mapping.proofs.Forms.{seat_own, seat_common}
+use Rattle.mapping.proofs.Forms.{seat_own, seat_common, seat_away}
 use Rattle.mapping.proofs.SwapSteps.{away_seat}
 use Rattle.page_ranges.proofs.Returning.{not_away, no_seat}
 
 -- an entry that names a frame as the process's own names a seat
 pub own_some : (e : ℕ) → is_private e ≡ true → seat e ≢ None
 own_some e own none = let bad : Some (InFrame (frame_of e)) ≡ None = sym (seat_own e own) ∙ none in (cc)
+
+-- and so does that of a page in a slot
+pub away_some : (e : ℕ) → is_private e ≡ false → is_swapped e ≡ true → seat e ≢ None
+away_some e common away none = let bad : Some (InSlot (frame_of e)) ≡ None = sym (seat_away e common away) ∙ none in (cc)
 
 pub seat_some : (o : Option Seat) (y : Seat) → o ≡ Some y → o ≢ None
 seat_some o y is none = let bad : None ≡ Some y = sym none ∙ is in (cc)
@@ -94,3 +100,7 @@ copied_for c attr e (Away a is away) some = let P : Option Attr → Type 0 = λ 
 
 pub copied_mapped : {mode : ℕ} (c : Picture mode) (pid page : ℕ) → IsGranting c → IsPage (top_level mode) page → seat (entry c pid page) ≢ None → IsMapped c pid page
 copied_mapped c pid page granting h some = copied_for c (c.at pid page) (entry c pid page) (granting.entries pid page h) some
+
+-- a number that names a seat names no frame in common
+pub seat_names : (mode : ℕ) (t : FrameTable) (table index e : ℕ) → seat e ≢ None → NamesNoMore mode t table index e
+seat_names mode t table index e has some here common = absurd (has (seat_common e common here))

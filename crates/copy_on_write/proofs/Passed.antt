@@ -1,14 +1,16 @@
 -- Places of a table that are passed over.
 use Rattle.vm_types.specs.Limits.{top_level}
-use Rattle.std.proofs.Common.{◌≡◌, ◌≢◌, ℕ, inr, Some, ◌+◌, ◌*◌, ◌/◌, ◌<◌, ◌≤◌, sym, ap, ◌∙◌, subst, arith}
+use Rattle.std.proofs.Common.{◌≡◌, ◌≢◌, ℕ, inr, true, Some, ◌+◌, ◌*◌, ◌/◌, ◌%◌, ◌<◌, ◌≤◌, sym, ap, ◌∙◌, subst, arith}
 use Rattle.page_tables.specs.Places.{IsTableOf}
 use Rattle.page_tables.specs.Tree.{IsPage, page_entry}
 use Rattle.paging.specs.Seats.{seat}
-use Rattle.paging.specs.Picture.{Picture, entry}
+use Rattle.paging.specs.Picture.{Picture, entry, is_live}
 use Rattle.paging.specs.Parts.{IsFit}
 use Rattle.paging.proofs.Entries.{entry-of}
 use Rattle.paging.proofs.Start.{seat-none}
-use Rattle.copy_on_write.specs.Shares.{SharesRow}
+use Rattle.page_ranges.proofs.BetweenEntries.{place_at, row_at}
+use Rattle.copy_on_write.specs.Shares.{IsTableFor, SharesRow}
+use Rattle.copy_on_write.proofs.Live.{live_root}
 use Rattle.copy_on_write.proofs.SharedRows.{shares_none, shares_then}
 
 pub same_table : (start page stop : ℕ) → start ≤ page → page < stop → stop ≤ (start / 512 + 1) * 512 → page / 512 ≡ start / 512
@@ -34,3 +36,15 @@ shares_passed a b parent child low mid high fit apart le le' same bare passed on
     (shares_none b parent child mid high (λ p. at child p ∙ same p ∙ sym (at parent p))
     (λ p h from below. one.others child p h (inr (inr from)) ∙ bare p h (omega (arith, le, from)))
     (λ p h from below. ap seat (passed p from below) ∙ seat-none))
+
+-- the table of a row is that of each of its pages
+pub in_row : {mode : ℕ} (c : Picture mode) (pid n first index : ℕ) → first % 512 ≡ 0 → index < 512 → IsTableFor c pid (first / 512) n → IsTableFor c pid ((first + index) / 512) n
+in_row c pid n first index begins below place = let P : ℕ → Type 0 = λ x. IsTableFor c pid x n in subst P (row_at first index begins below) place
+
+-- and the number at its place is its entry
+pub number_in_row : {mode : ℕ} (c : Picture mode) (pid n first index e : ℕ) → is_live c pid ≡ true → first % 512 ≡ 0 → index < 512 → IsTableFor c pid (first / 512) n
+    → ((root page : ℕ) → IsTableOf c.frames (top_level mode) root (page / 512) n → page % 512 ≡ index → e ≡ page_entry c.frames (top_level mode) root page)
+    → e ≡ entry c pid (first + index)
+number_in_row c pid n first index e live begins below place reads =
+    let r = live_root (c.root pid) live in
+    reads r.0 (first + index) (in_row c pid n first index begins below place r.0 r.1) (place_at first index begins below) ∙ sym (entry-of c pid r.0 (first + index) r.1)

@@ -4,7 +4,6 @@ ghost use Rattle.vm_types.specs.Limits.{user_end, table_entries};
 ghost use Rattle.disk_model.specs.Moments.{Nothing};
 ghost use Rattle.frames.specs.declared.role.Role.TheVariants.{Private};
 ghost use Rattle.frames.specs.FrameTable.{role_of, IsFull};
-ghost use Rattle.page_tables.specs.Entry.{number_of, IsEntry};
 ghost use Rattle.swap.specs.Slots.{IsReady};
 ghost use Rattle.paging.specs.Seats.{seat};
 ghost use Rattle.paging.specs.Picture.{picture_of, entry, is_live};
@@ -22,9 +21,8 @@ use disk_model::SectorDisk;
 use mapped_memory::{number_in, table_of};
 use mapping::{link_tables, root_of};
 use page_ranges::{gap_end, next_entry, table_end, user_page};
-use page_tables::{Entry, decode};
 use paging::Core;
-use sv39_walk::TABLE_ENTRIES;
+use sv39_walk::{Pte, TABLE_ENTRIES};
 use vm_types::{Levels, Pid, Stall, USER_START, Vpn};
 
 /// Makes for the child, whose pages are mapped as the parent's, every table that is missing on the way to a page of which the
@@ -178,7 +176,7 @@ fn first_copy<D, E, M: Levels>(core: &Core<D, E, M>, pid: Pid, start: Vpn, stop:
     let mut page = start.get();
     while page < stop {
         let index = (page % TABLE_ENTRIES) as usize;
-        if is_own(decode(number_in(&core.frames, table, index))) {
+        if is_own(number_in(&core.frames, table, index)) {
             return Some(user_page::<M>(page));
         }
         page = next_entry(&core.frames, table, page + 1, stop);
@@ -188,15 +186,9 @@ fn first_copy<D, E, M: Levels>(core: &Core<D, E, M>, pid: Pid, start: Vpn, stop:
 
 /// Whether a page's entry names a copy of the process's own: a frame, by the bit that is the software's (RISC-V Privileged
 /// Specification, "Sv39 page table entry", RSW), or a slot.
-pub(crate) fn is_own(entry: Entry) -> bool
-    requires form { IsEntry entry }
-    ensures own { result ≡ true → seat (number_of entry) ≢ None }
-    ensures other { result ≡ false → seat (number_of entry) ≡ None }
+pub(crate) fn is_own(number: Pte) -> bool
+    ensures own { result ≡ true → seat number.0 ≢ None }
+    ensures other { result ≡ false → seat number.0 ≡ None }
 {
-    match entry {
-        Entry::Leaf(leaf) => leaf.is_private(),
-        Entry::Parked(_, private) => private,
-        Entry::Swapped(_) => true,
-        Entry::None => false,
-    }
+    number.is_private() || number.is_swapped()
 }

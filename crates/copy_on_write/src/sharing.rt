@@ -1,7 +1,8 @@
 //! The parent's own pages, given to the child.
-ghost use Rattle.std.specs.Prelude.{◌≡◌, ◌≢◌, ℕ, ◌+◌, ◌*◌, ◌/◌, ◌<◌, ◌≤◌, true, IfSome, IfNone};
+ghost use Rattle.std.specs.Prelude.{◌≡◌, ◌≢◌, ℕ, ◌+◌, ◌*◌, ◌/◌, ◌%◌, ◌<◌, ◌≤◌, true, None, IfSome, IfNone};
 ghost use Rattle.vm_types.specs.Limits.{top_level, user_start, user_end, table_entries};
 ghost use Rattle.page_tables.specs.Tree.{IsPage};
+ghost use Rattle.paging.specs.Seats.{seat};
 ghost use Rattle.paging.specs.Picture.{picture_of, entry, is_live};
 ghost use Rattle.paging.specs.Parts.{IsFit};
 ghost use Rattle.mapping.specs.Changes.{IsWhole};
@@ -10,13 +11,13 @@ ghost use Rattle.copy_on_write.specs.Steps.{HasTables, IsMappedRow};
 ghost use Rattle.copy_on_write.specs.Shares.{SharesRow, IsTableFor};
 
 use crate::linking::is_own;
-use crate::withdrawing::{add_share, withdraw_write};
+use crate::withdrawing::{Tables, add_share, withdraw_write};
 use mapped_memory::{number_in, set_in, table_of};
 use mapping::root_of;
-use page_ranges::{gap_end, next_entry, table_end, user_page};
+use page_ranges::{gap_end, next_place, table_end, table_start, user_page};
 use page_tables::decode;
 use paging::Core;
-use sv39_walk::TABLE_ENTRIES;
+use sv39_walk::Pte;
 use vm_types::{FrameNo, Levels, Pid, USER_START, Vpn};
 
 /// Gives the child, whose pages are mapped as the parent's and have no entry, a share of each page of which the parent has a
@@ -140,10 +141,12 @@ fn share_table<D, E, M: Levels>(
     let Some(to) = table_for(core, child, start) else {
         return;
     };
-    let mut page = next_entry(&core.frames, from, start.get(), stop);
-    while page < stop {
-        share_page(core, parent, child, from, to, user_page::<M>(page));
-        page = next_entry(&core.frames, from, page + 1, stop);
+    let first = table_start(start);
+    let tables = Tables { from, to, first };
+    let end = (stop - first) as usize;
+    let mut index = (start.get() - first) as usize;
+    while index < end {
+        index = share_at(core, parent, child, tables, index, end);
     }
 }
 
@@ -161,37 +164,78 @@ fn table_for<D, E, M: Levels>(core: &Core<D, E, M>, pid: Pid, page: Vpn) -> Opti
     }
 }
 
-/// Gives the child a share of one page, if the parent has a copy of its own of it. Its entry stands in table `from` of the
-/// parent, and in table `to` of the child.
+/// Gives the child a share of the page at place `index` of the two tables, if the parent has a copy of its own of it. The result is
+/// the next place, and before `end`, at which the parent may have an entry.
+fn share_at<D, E, M: Levels>(
+    core: &mut Core<D, E, M>,
+    parent: Pid,
+    child: Pid,
+    tables: Tables,
+    index: usize,
+    end: usize,
+) -> usize
+    requires fit { IsFit (picture_of core.old) }
+    requires parent { is_live (picture_of core.old) parent ≡ true }
+    requires child { is_live (picture_of core.old) child ≡ true }
+    requires apart { parent ≢ child }
+    requires same { (p : ℕ) → (picture_of core.old).at child p ≡ (picture_of core.old).at parent p }
+    requires bare { (p : ℕ) → IsPage (top_level M.mode) p → tables.first + index ≤ p → entry (picture_of core.old) child p ≡ 0 }
+    requires from { IsTableFor (picture_of core.old) parent (tables.first / table_entries) tables.from.0 }
+    requires to { IsTableFor (picture_of core.old) child (tables.first / table_entries) tables.to.0 }
+    requires begins { tables.first % table_entries ≡ 0 }
+    requires below { index < end }
+    requires in_table { end ≤ table_entries }
+    requires high { tables.first + end ≤ user_end M.mode }
+    ensures fit { IsFit (picture_of core.new) }
+    ensures further { index < result }
+    ensures within { result ≤ end }
+    ensures shares { SharesRow (picture_of core.old) (picture_of core.new) parent child (tables.first + index) (tables.first + result) }
+    ensures places { (q row n : ℕ) → IsTableFor (picture_of core.old) q row n → IsTableFor (picture_of core.new) q row n }
+    ensures rest { KeepsBesideMemory core.old core.new }
+    ensures refused { core.new.refused ≡ core.old.refused }
+{
+    let number = number_in(&core.frames, tables.from, index);
+    if is_own(number) {
+        share_page(core, parent, child, tables, index, number);
+        return index + 1;
+    }
+    if number.to_u64() == 0 {
+        return next_place(&core.frames, tables.from, index, end);
+    }
+    index + 1
+}
+
+/// Gives the child a share of the page at place `index` of the two tables, of which the parent has a copy of its own, and whose
+/// entry of the parent's is that number.
 fn share_page<D, E, M: Levels>(
     core: &mut Core<D, E, M>,
     parent: Pid,
     child: Pid,
-    from: FrameNo,
-    to: FrameNo,
-    page: Vpn,
+    tables: Tables,
+    index: usize,
+    number: Pte,
 )
     requires fit { IsFit (picture_of core.old) }
     requires parent { is_live (picture_of core.old) parent ≡ true }
     requires child { is_live (picture_of core.old) child ≡ true }
     requires apart { parent ≢ child }
     requires same { (p : ℕ) → (picture_of core.old).at child p ≡ (picture_of core.old).at parent p }
-    requires bare { entry (picture_of core.old) child page ≡ 0 }
-    requires from { IsTableFor (picture_of core.old) parent (page / table_entries) from.0 }
-    requires to { IsTableFor (picture_of core.old) child (page / table_entries) to.0 }
-    requires user { page < user_end M.mode }
+    requires bare { entry (picture_of core.old) child (tables.first + index) ≡ 0 }
+    requires from { IsTableFor (picture_of core.old) parent (tables.first / table_entries) tables.from.0 }
+    requires to { IsTableFor (picture_of core.old) child (tables.first / table_entries) tables.to.0 }
+    requires begins { tables.first % table_entries ≡ 0 }
+    requires in_table { index < table_entries }
+    requires user { tables.first + index < user_end M.mode }
+    requires number { number.0 ≡ entry (picture_of core.old) parent (tables.first + index) }
+    requires own { seat number.0 ≢ None }
     ensures fit { IsFit (picture_of core.new) }
-    ensures shares { SharesRow (picture_of core.old) (picture_of core.new) parent child page (page + 1) }
+    ensures shares { SharesRow (picture_of core.old) (picture_of core.new) parent child (tables.first + index) (tables.first + index + 1) }
     ensures places { (q row n : ℕ) → IsTableFor (picture_of core.old) q row n → IsTableFor (picture_of core.new) q row n }
     ensures rest { KeepsBesideMemory core.old core.new }
     ensures refused { core.new.refused ≡ core.old.refused }
 {
-    let index = (page.get() % TABLE_ENTRIES) as usize;
-    let before = decode(number_in(&core.frames, from, index));
-    if !is_own(before) {
-        return;
-    }
-    let shared = withdraw_write(core, parent, from, page, before);
+    let before = decode(number);
+    let shared = withdraw_write(core, parent, tables, index, before);
     add_share(core, shared);
-    set_in(&mut core.frames, to, index, shared);
+    set_in(&mut core.frames, tables.to, index, shared);
 }

@@ -1,5 +1,5 @@
 //! A page of a process's own that is about to be shared.
-ghost use Rattle.std.specs.Prelude.{◌≡◌, ◌≢◌, ℕ, ◌/◌, ◌<◌, ◌^◌, true, Some, None, IfSome, IfNone};
+ghost use Rattle.std.specs.Prelude.{◌≡◌, ◌≢◌, ℕ, ◌+◌, ◌/◌, ◌%◌, ◌<◌, ◌^◌, true, Some, None, IfSome, IfNone};
 ghost use Rattle.vm_types.specs.Limits.{table_entries, user_end};
 ghost use Rattle.sv39_walk.specs.Entry.{is_valid, frame_of};
 ghost use Rattle.page_tables.specs.Entry.{number_of, IsEntry};
@@ -12,30 +12,39 @@ ghost use Rattle.copy_on_write.specs.Shares.{IsTableFor, MayShare, RaisesSeat, W
 use mapped_memory::set_in;
 use page_tables::Entry;
 use paging::Core;
-use sv39_walk::TABLE_ENTRIES;
-use vm_types::{FrameNo, Levels, Pid, Vpn};
+use vm_types::{FrameNo, Levels, Pid};
 
-/// Lets no store through to a page of which a live process has a copy of its own, and returns the page's entry. What holds the
-/// copy may be shared then, and the next store is noticed (fork(2), copy-on-write). The page's entry stands in that table of
-/// the process, and is `before` so far; it is written only where it has W.
+/// The tables of a parent and of its child in which the entries of the same 512 pages stand; the first of these pages.
+#[derive(Clone, Copy)]
+pub(crate) struct Tables {
+    pub(crate) from: FrameNo,
+    pub(crate) to: FrameNo,
+    pub(crate) first: u64,
+}
+
+/// Lets no store through to a page of which the parent has a copy of its own, and returns the page's entry. What holds the copy
+/// may be shared then, and the next store is noticed (fork(2), copy-on-write). The page's entry stands at place `index` of the
+/// parent's table, and is `before` so far; it is written only where it has W.
 pub(crate) fn withdraw_write<D, E, M: Levels>(
     core: &mut Core<D, E, M>,
-    pid: Pid,
-    table: FrameNo,
-    page: Vpn,
+    parent: Pid,
+    tables: Tables,
+    index: usize,
     before: Entry,
 ) -> Entry
     requires fit { IsFit (picture_of core.old) }
-    requires live { is_live (picture_of core.old) pid ≡ true }
-    requires place { IsTableFor (picture_of core.old) pid (page / table_entries) table.0 }
+    requires live { is_live (picture_of core.old) parent ≡ true }
+    requires place { IsTableFor (picture_of core.old) parent (tables.first / table_entries) tables.from.0 }
+    requires begins { tables.first % table_entries ≡ 0 }
+    requires in_table { index < table_entries }
     requires form { IsEntry before }
-    requires before { number_of before ≡ entry (picture_of core.old) pid page }
-    requires own { seat (entry (picture_of core.old) pid page) ≢ None }
-    requires user { page < user_end M.mode }
+    requires before { number_of before ≡ entry (picture_of core.old) parent (tables.first + index) }
+    requires own { seat (entry (picture_of core.old) parent (tables.first + index)) ≢ None }
+    requires user { tables.first + index < user_end M.mode }
     ensures fit { IsFit (picture_of core.new) }
     ensures form { IsEntry result }
     ensures own { seat (number_of result) ≢ None }
-    ensures withdrawn { Withdraws (picture_of core.old) (picture_of core.new) pid page (number_of result) }
+    ensures withdrawn { Withdraws (picture_of core.old) (picture_of core.new) parent (tables.first + index) (number_of result) }
     ensures places { (q row n : ℕ) → IsTableFor (picture_of core.old) q row n → IsTableFor (picture_of core.new) q row n }
     ensures rest { KeepsBesideMemory core.old core.new }
     ensures refused { core.new.refused ≡ core.old.refused }
@@ -43,8 +52,7 @@ pub(crate) fn withdraw_write<D, E, M: Levels>(
     let Some(after) = without_write(before) else {
         return before;
     };
-    let index = (page.get() % TABLE_ENTRIES) as usize;
-    set_in(&mut core.frames, table, index, after);
+    set_in(&mut core.frames, tables.from, index, after);
     after
 }
 

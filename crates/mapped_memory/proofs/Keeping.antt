@@ -21,7 +21,8 @@ use Rattle.page_tables.proofs.Setting.{entry_at-bytes}
 use Rattle.walk_buffer.specs.declared.buffer.TranslationBuffer.{TranslationBuffer}
 use Rattle.walk_buffer.specs.Lines.{line_at, place_of}
 use Rattle.mapped_memory.specs.Kept.{IsLeafOf, LinesAreLeaves}
-use Rattle.mapped_memory.proofs.Leaves.{nonzero, is_page, root_table, is_entry, of_entry}
+use Rattle.mapped_memory.specs.Notes.{IsNumberOf}
+use Rattle.mapped_memory.proofs.Leaves.{as_leaf, as_number, is_page, root_table, is_entry, of_entry}
 
 -- the same way, over tables still, to the same entry
 carried : (mode : ℕ) (old new : FrameTable) (root page leaf : ℕ) (l : IsLeafOf mode old root page leaf) → frame_count new ≡ frame_count old → IsUnlinked new root
@@ -84,14 +85,27 @@ module _ (old new : FrameTable) (n : ℕ) (same : SameButFor n old new) (idle : 
         target = ap frame_of (sym entry) ∙ p.target;
       }
 
+  -- each number that is there stays
+  pub number_stays : (mode root page number : ℕ) → IsNumberOf mode old root page number → IsNumberOf mode new root page number
+  number_stays mode root page number l =
+      let ne : l.lowest ≢ n = apart l.lowest (index_of page 0) (index_of-lt page 0) l.table (λ z. l.some (sym l.here ∙ z)) in
+      record {
+        lowest = l.lowest;
+        inside = l.inside;
+        unlinked = λ a i p. l.unlinked a i (points_back a i root p);
+        way = way_forth old new points_stay (top_level mode) root page (top_level mode) l.lowest l.way;
+        table = table_stays l.lowest ne l.table;
+        here = entry_at-bytes old new l.lowest (index_of page 0) (same.bytes l.lowest ne) ∙ l.here;
+        some = l.some;
+      }
+
+  -- and so does each leaf
   pub leaf_stays : (mode root page leaf : ℕ) → IsLeafOf mode old root page leaf → IsLeafOf mode new root page leaf
   leaf_stays mode root page leaf l =
-      let some : entry_at old l.lowest (index_of page 0) ≢ 0 = λ z. nonzero leaf l.valid (sym l.here ∙ z) in
-      let ne : l.lowest ≢ n = apart l.lowest (index_of page 0) (index_of-lt page 0) l.table some in
-      carried mode old new root page leaf l same.frames (λ a i p. l.unlinked a i (points_back a i root p)) (stays_on mode old new root page leaf l points_stay)
-      (table_stays l.lowest ne l.table) (entry_at-bytes old new l.lowest (index_of page 0) (same.bytes l.lowest ne))
+      let T : ℕ → Type 0 = λ n. frame_of leaf < n in
+      as_leaf mode new root page leaf (number_stays mode root page leaf (as_number mode old root page leaf l)) l.valid (subst T (sym same.frames) l.target)
 
-free_is_no_table : (r : Role) → r ≡ Free → r ≢ Table
+pub free_is_no_table : (r : Role) → r ≡ Free → r ≢ Table
 free_is_no_table r e f = let bad : Free ≡ Table = sym e ∙ f in (cc)
 
 -- a frame changed that is no table, before or afterwards
@@ -107,16 +121,18 @@ taken_leaf old new n kind takes =
     leaf_stays old new n takes.others (λ i h table. absurd (free_is_no_table (role_of old n) takes.was_free table.role))
     (empty_not_linking new n (zeros_empty new n takes.zeros))
 
--- a frame of data that was given back
+-- a frame of data that was given back is no table
+pub released_role : (old new : FrameTable) (n : ℕ) → Releases old new n → role_of old n ≢ Table → role_of new n ≢ Table
+released_role old new n releases other = elim (cases_eq (count_of old n) 1) [
+  | inl one ↦ free_is_no_table (role_of new n) (releases.freed one)
+  | inr more ↦ (
+      let shared : 1 < count_of old n = omega (arith, releases.lowered, more) in
+      λ e. other (ap (λ rs. get_or rs n Free) (sym (releases.role_kept shared)) ∙ e))
+]
+
 pub released_leaf : (old new : FrameTable) (n : ℕ) → Releases old new n → role_of old n ≢ Table
     → (mode root page leaf : ℕ) → IsLeafOf mode old root page leaf → IsLeafOf mode new root page leaf
-released_leaf old new n releases other =
-    data_leaf old new n releases.others other (elim (cases_eq (count_of old n) 1) [
-      | inl one ↦ free_is_no_table (role_of new n) (releases.freed one)
-      | inr more ↦ (
-          let shared : 1 < count_of old n = omega (arith, releases.lowered, more) in
-          λ e. other (ap (λ rs. get_or rs n Free) (sym (releases.role_kept shared)) ∙ e))
-    ])
+released_leaf old new n releases other = data_leaf old new n releases.others other (released_role old new n releases other)
 
 -- a table without entries that was given back
 pub dropped_leaf : (old new : FrameTable) (n : ℕ) → SameButFor n old new → IsSpare old n → role_of new n ≡ Free
@@ -124,26 +140,26 @@ pub dropped_leaf : (old new : FrameTable) (n : ℕ) → SameButFor n old new →
 dropped_leaf old new n same spare gone =
     leaf_stays old new n same (λ i h table. spare.empty i h) (λ i m p. free_is_no_table (role_of new n) gone p.table.role)
 
--- pointers of tables on a way stay, so the way does
-way_along : (old new : FrameTable) (top r p : ℕ) → ((x d i k : ℕ) → Way old top r p d x → Points old x i k → Points new x i k)
+-- pointers on a way stay, so the way does
+pub way_along : (old new : FrameTable) (top r p : ℕ) → ((x d k : ℕ) → Way old top r p d x → Points old x (index_of p (top - d)) k → Points new x (index_of p (top - d)) k)
     → (d n : ℕ) → Way old top r p d n → Way new top r p d n
 way_along old new top r p points zero n w = w
-way_along old new top r p points (suc d) n w = (w.0, way_along old new top r p points d w.0 w.1, points w.0 d _ n w.1 w.2)
+way_along old new top r p points (suc d) n w = (w.0, way_along old new top r p points d w.0 w.1, points w.0 d n w.1 w.2)
+
+pub is_table : (old new : FrameTable) (n : ℕ) → frame_count new ≡ frame_count old → new.roles ≡ old.roles → IsTable old n → IsTable new n
+is_table old new n frames roles table = record { inside = rw frames table.inside; role = ap (λ rs. get_or rs n Free) roles ∙ table.role }
 
 -- A change in the tree of one root: the leaves of other roots hang on tables that are not in it.
 module _ (mode : ℕ) (old new : FrameTable) (root : ℕ) (forest : IsForest old) (is_root : IsRoot (top_level mode) old root) where
-  not_below : (r p e : ℕ) → (l : IsLeafOf mode old r p e) → r ≢ root → (x d : ℕ) → Way old (top_level mode) r p d x → (q d' : ℕ) → Way old (top_level mode) root q d' x → ⊥
-  not_below r p e l ne x d w q d' w' = ne (only_way old (top_level mode) forest r p root q l.unlinked is_root.unlinked d d' x w w').1
+  pub not_below : (r p : ℕ) → IsUnlinked old r → r ≢ root → (x d : ℕ) → Way old (top_level mode) r p d x → (q d' : ℕ) → Way old (top_level mode) root q d' x → ⊥
+  not_below r p unlinked ne x d w q d' w' = ne (only_way old (top_level mode) forest r p root q unlinked is_root.unlinked d d' x w w').1
 
-  is_table : (n : ℕ) → frame_count new ≡ frame_count old → new.roles ≡ old.roles → IsTable old n → IsTable new n
-  is_table n frames roles table = record { inside = rw frames table.inside; role = ap (λ rs. get_or rs n Free) roles ∙ table.role }
-
-  not_last : (r p e q : ℕ) → (l : IsLeafOf mode old r p e) → r ≢ root → l.lowest ≢ (last_table old q (top_level mode) root).1
-  not_last r p e q l ne same =
+  pub not_last : (r p : ℕ) → IsUnlinked old r → r ≢ root → (x d : ℕ) → Way old (top_level mode) r p d x → (q : ℕ) → x ≢ (last_table old q (top_level mode) root).1
+  not_last r p unlinked ne x d w q same =
       let end = ends old (top_level mode) root q forest is_root.table in
-      let d : ℕ = top_level mode - (last_table old q (top_level mode) root).0 in
-      let W : ℕ → Type 0 = λ x. Way old (top_level mode) root q d x in
-      not_below r p e l ne l.lowest (top_level mode) l.way q d (subst W (sym same) end.way)
+      let d' : ℕ = top_level mode - (last_table old q (top_level mode) root).0 in
+      let W : ℕ → Type 0 = λ z. Way old (top_level mode) root q d' z in
+      not_below r p unlinked ne x d w q d' (subst W (sym same) end.way)
 
   -- the entry of a page was set
   pub set_leaf : (q number : ℕ) → SetsEntry old new (top_level mode) root q number → (r p e : ℕ) → IsLeafOf mode old r p e → (r ≢ root) ⊎ (p ≢ q) → IsLeafOf mode new r p e
@@ -155,8 +171,8 @@ module _ (mode : ℕ) (old new : FrameTable) (root : ℕ) (forest : IsForest old
         of_entry mode new r p e sets.forest (sets.roots r here) l.inside (sets.entries r p here (is_page mode p l.inside) other ∙ is_entry mode old r p e l)
         l.valid (subst T (sym sets.kept.frames) l.target))
     | inr ne ↦ carried mode old new r p e l sets.kept.frames ((sets.unlinked r).0 l.unlinked) (stays_on mode old new r p e l (λ a i b. (sets.pointers a i b).0))
-        (is_table l.lowest sets.kept.frames sets.kept.roles l.table)
-        (sets.others l.lowest (index_of p 0) (index_of-lt p 0) (inl (not_last r p e q l ne)))
+        (is_table old new l.lowest sets.kept.frames sets.kept.roles l.table)
+        (sets.others l.lowest (index_of p 0) (index_of-lt p 0) (inl (not_last r p l.unlinked ne l.lowest (top_level mode) l.way q)))
   ]
 
   -- a table was linked
@@ -178,8 +194,8 @@ module _ (mode : ℕ) (old new : FrameTable) (root : ℕ) (forest : IsForest old
         let B : ℕ → Type 0 = λ x. Points old a i x in
         (links.pointers a i b (λ z. spare.unlinked a i (subst B z points))).0 points in
         carried mode old new r p e l links.kept.frames ((links.unlinked r ne).0 l.unlinked) (stays_on mode old new r p e l forth)
-        (is_table l.lowest links.kept.frames links.kept.roles l.table)
-        (links.others l.lowest (index_of p 0) (index_of-lt p 0) (not_last r p e q l other)))
+        (is_table old new l.lowest links.kept.frames links.kept.roles l.table)
+        (links.others l.lowest (index_of p 0) (index_of-lt p 0) (not_last r p l.unlinked other l.lowest (top_level mode) l.way q)))
   ]
 
   -- tables without entries were released
@@ -194,16 +210,17 @@ module _ (mode : ℕ) (old new : FrameTable) (root : ℕ) (forest : IsForest old
     | inr ne ↦ (
         let stays : (x d : ℕ) → Way old (top_level mode) r p d x → IsTable old x → IsTable new x = λ x d w table. elim (prunes.gone x table) [
           | inl there ↦ there
-          | inr gone ↦ absurd (not_below r p e l ne x d w q (suc gone.1.0) gone.1.2)
+          | inr gone ↦ absurd (not_below r p l.unlinked ne x d w q (suc gone.1.0) gone.1.2)
         ] in
         let entries : (x d : ℕ) → Way old (top_level mode) r p d x → IsTable new x → (i : ℕ) → i < 512 → entry_at new x i ≡ entry_at old x i = λ x d w table.
         elim (prunes.others x table) [
-          | inl on ↦ absurd (not_below r p e l ne x d w q _ on.2)
+          | inl on ↦ absurd (not_below r p l.unlinked ne x d w q _ on.2)
           | inr same ↦ same
         ] in
-        let points : (x d i k : ℕ) → Way old (top_level mode) r p d x → Points old x i k → Points new x i k = λ x d i k w old_points.
+        let points : (x d k : ℕ) → Way old (top_level mode) r p d x → Points old x (index_of p (top_level mode - d)) k → Points new x (index_of p (top_level mode - d)) k =
+        λ x d k w old_points.
         let table = stays x d w old_points.table in
-        let entry = entries x d w table i old_points.index in
+        let entry = entries x d w table _ old_points.index in
         record { table = table; index = old_points.index; pointer = ap is_pointer entry ∙ old_points.pointer; target = ap frame_of entry ∙ old_points.target } in
         let way : (d n : ℕ) → Way old (top_level mode) r p d n → Way new (top_level mode) r p d n = λ d n w. way_along old new (top_level mode) r p points d n w in
         let lowest = stays l.lowest (top_level mode) l.way l.table in

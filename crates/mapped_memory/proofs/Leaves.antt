@@ -1,7 +1,7 @@
 -- What a line is to the tables: the leaf of its page, at which the walk ends.
-use Rattle.std.proofs.Common.{◌≡◌, ◌≢◌, ℕ, zero, suc, ◌+◌, ◌-◌, ◌<◌, inl, inr, true, false, refl, sym, ap, ◌∙◌, subst, arith}
+use Rattle.std.proofs.Common.{◌≡◌, ◌≢◌, ℕ, zero, suc, ◌+◌, ◌-◌, ◌<◌, true, false, refl, sym, ap, ◌∙◌, subst, arith}
 use Rattle.std.specs.Prelude.{Bool, ◌&&◌, nat_lt}
-use Rattle.std.proofs.lemmas.Bool.{cases_eq, false≢true}
+use Rattle.std.proofs.lemmas.Bool.{false≢true}
 use Rattle.std.proofs.lemmas.Bool.Decides.{nat_tests}
 use Rattle.vm_types.specs.Limits.{top_level, user_end}
 use Rattle.vm_types.proofs.Modes.{user_pages_fit}
@@ -9,13 +9,13 @@ use Rattle.frames.specs.FrameTable.{FrameTable, frame_count}
 use Rattle.sv39_walk.specs.Entry.{has_bit, is_valid, entry_at, frame_of}
 use Rattle.sv39_walk.specs.Walk.{index_of, leads_on, last_of}
 use Rattle.sv39_walk.proofs.Way.{last_of-zero, last_of-next}
-use Rattle.page_tables.specs.Tree.{IsTable, IsPage, Points, IsForest, IsRoot, Way, last_table, missing_of, page_entry}
-use Rattle.page_tables.proofs.Ways.{ends, last_table-zero}
-use Rattle.page_tables.proofs.Ends.{last_from_way, missing_of-is, last_entry-is, page_entry-whole, page_entry-missing}
+use Rattle.page_tables.specs.Tree.{IsTable, IsPage, Points, IsForest, IsRoot, Way, page_entry}
 use Rattle.vm_types.specs.declared.access.Access.{Access}
 use Rattle.walk_buffer.specs.declared.buffer.TranslationBuffer.{TranslationBuffer}
 use Rattle.walk_buffer.specs.Lines.{IsCoherent, IsLine, lets}
 use Rattle.mapped_memory.specs.Kept.{LinesAreLeaves, IsLeafOf}
+use Rattle.mapped_memory.specs.Notes.{IsNumberOf}
+use Rattle.mapped_memory.proofs.Numbers.{is_number, of_number}
 
 invalid_zero : is_valid 0 ≡ false
 unfolding has_bit
@@ -52,15 +52,35 @@ walk_from_way t top root page (suc d) n level e w table =
     ∙ last_of-next t page (suc level) w.0 (omega arith) (leads t w.0 (index_of page (suc level)) n step table.inside)
     ∙ ap (λ k. last_of t page k (frame_of (entry_at t w.0 (index_of page (suc level))))) less ∙ ap (last_of t page level) step.target
 
-module _ (mode : ℕ) (t : FrameTable) (root page leaf : ℕ) (l : IsLeafOf mode t root page leaf) where
-  last : last_table t page (top_level mode) root ≡ (0, l.lowest)
-  last = last_from_way t (top_level mode) root page (top_level mode) l.lowest 0 (omega arith) l.way ∙ last_table-zero t page l.lowest
+-- a leaf is a number whose form and target are known
+pub as_number : (mode : ℕ) (t : FrameTable) (root page leaf : ℕ) → IsLeafOf mode t root page leaf → IsNumberOf mode t root page leaf
+as_number mode t root page leaf l = record {
+  lowest = l.lowest;
+  inside = l.inside;
+  unlinked = l.unlinked;
+  way = l.way;
+  table = l.table;
+  here = l.here;
+  some = nonzero leaf l.valid;
+}
 
+pub as_leaf : (mode : ℕ) (t : FrameTable) (root page leaf : ℕ) → IsNumberOf mode t root page leaf → is_valid leaf ≡ true → frame_of leaf < frame_count t
+    → IsLeafOf mode t root page leaf
+as_leaf mode t root page leaf l valid target = record {
+  lowest = l.lowest;
+  inside = l.inside;
+  unlinked = l.unlinked;
+  way = l.way;
+  table = l.table;
+  here = l.here;
+  valid = valid;
+  target = target;
+}
+
+module _ (mode : ℕ) (t : FrameTable) (root page leaf : ℕ) (l : IsLeafOf mode t root page leaf) where
   -- the leaf is what the tree says of the page
   pub is_entry : page_entry t (top_level mode) root page ≡ leaf
-  is_entry =
-      let whole : missing_of t (top_level mode) root page ≡ 0 = missing_of-is t (top_level mode) root page ∙ ap (λ z. z.0) last in
-      page_entry-whole t (top_level mode) root page whole ∙ last_entry-is t (top_level mode) root page ∙ ap (λ z. entry_at t z.1 (index_of page z.0)) last ∙ l.here
+  is_entry = is_number mode t root page leaf (as_number mode t root page leaf l)
 
   -- and the walk ends there
   pub is_line : IsLine mode t root page leaf
@@ -75,25 +95,7 @@ module _ (mode : ℕ) (t : FrameTable) (root page leaf : ℕ) (l : IsLeafOf mode
 pub of_entry : (mode : ℕ) (t : FrameTable) (root page leaf : ℕ) → IsForest t → IsRoot (top_level mode) t root → page < user_end mode
     → page_entry t (top_level mode) root page ≡ leaf → is_valid leaf ≡ true → frame_of leaf < frame_count t → IsLeafOf mode t root page leaf
 of_entry mode t root page leaf forest is_root small is valid target =
-    let whole : missing_of t (top_level mode) root page ≡ 0 = elim (cases_eq (missing_of t (top_level mode) root page) 0) [
-      | inl none ↦ none
-      | inr ne ↦ absurd (nonzero leaf valid (sym is ∙ page_entry-missing t (top_level mode) root page ne))
-    ] in
-    let n : ℕ = (last_table t page (top_level mode) root).1 in
-    let level : (last_table t page (top_level mode) root).0 ≡ 0 = sym (missing_of-is t (top_level mode) root page) ∙ whole in
-    let end = ends t (top_level mode) root page forest is_root.table in
-    let W : ℕ → Type 0 = λ k. Way t (top_level mode) root page k n in
-    let all : top_level mode - (last_table t page (top_level mode) root).0 ≡ top_level mode = omega (arith, level) in
-    record {
-      lowest = n;
-      inside = small;
-      unlinked = is_root.unlinked;
-      way = subst W all end.way;
-      table = end.table;
-      here = sym (page_entry-whole t (top_level mode) root page whole ∙ last_entry-is t (top_level mode) root page ∙ ap (λ k. entry_at t n (index_of page k)) level) ∙ is;
-      valid = valid;
-      target = target;
-    }
+    as_leaf mode t root page leaf (of_number mode t root page leaf forest is_root small is (nonzero leaf valid)) valid target
 
 -- so what is kept says what the tables say
 pub coherent : (mode : ℕ) (t : FrameTable) (b : TranslationBuffer) → LinesAreLeaves mode t b → IsCoherent mode t b

@@ -1,2 +1,5 @@
 pub mod Leaves
+pub mod Numbers
 pub mod Keeping
+pub mod Noting
+pub mod Walks

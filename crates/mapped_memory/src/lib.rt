@@ -3,12 +3,14 @@
 #![tactic(auto)]
 
 mod memory;
+mod notes;
 mod trees;
 mod walking;
 
 pub use memory::Memory;
+pub use notes::{forget_pages, is_kind, kinds_over, page_over};
 pub use trees::{
-    entry, entry_number, last_table, link_table, missing_tables, number_in, prune, set, set_in,
-    table_of, take_table,
+    entry, entry_number, last_table, link_table, missing_tables, number_in, prune, set, set_at,
+    set_in, table_of, take_table,
 };
-pub use walking::{keep, walk};
+pub use walking::{WalkEnd, keep_at, walk, walk_page};

@@ -1,34 +1,38 @@
 //! Frames, and the lines that say what their tables say.
-ghost use Rattle.std.specs.Prelude.{ℕ, ◌≡◌, ◌≢◌, ◌+◌, ◌<◌, ◌≤◌, ◌↔◌, Some, IfOk, IfSome, IsNone, OnErr, IsErr, IsTrue};
+ghost use Rattle.std.specs.Prelude.{ℕ, ◌≡◌, ◌≢◌, ◌+◌, ◌<◌, ◌≤◌, ◌↔◌, Some, IfOk, IfSome, IsNone, OnErr, IsErr, IsTrue, true};
 ghost use Rattle.frames.specs.declared.role.Role.TheVariants.{Table};
 ghost use Rattle.frames.specs.FrameTable.{IsFrame, role_of};
 ghost use Rattle.walk_buffer.specs.Lines.{line_at};
 
+use crate::notes::Notes;
 use frames::{Frames, Role};
 use std::alloc::{AllocError, Global};
 use std::marker::{Model, PhantomData};
 use vm_types::{FrameNo, Levels, NoFree};
 use walk_buffer::TranslationBuffer;
 
-/// Physical memory of 8 to 65,536 frames, as `Frames`, whose page tables are those of the mode, and a buffer of translations. In contracts it is the bytes, the role and
-/// the share count of each frame: no call but `hits` tells what the buffer has.
+/// Physical memory of 8 to 65,536 frames, as `Frames`, whose page tables are those of the mode, with a buffer of translations, and for each frame a
+/// note of 16 bytes that says which pages may name it. In contracts it is the bytes, the role and the share count of each frame: no call but `hits`
+/// tells what the buffer has, and none but `kinds_over` and `page_over` what is noted.
 #[derive(Drop)]
 pub struct Memory<M: Levels> {
     pub(crate) frames: Frames,
     pub(crate) buffer: TranslationBuffer,
     pub(crate) hits: u64,
+    pub(crate) notes: Notes,
     pub(crate) levels: PhantomData<M>,
 }
 
 impl<M: Levels> Model for Memory<M> {
     ghost use Rattle.frames.specs.FrameTable.{FrameTable};
     ghost use Rattle.mapped_memory.specs.Kept.{LinesAreLeaves};
+    ghost use Rattle.mapped_memory.specs.Notes.{AreNoted};
 
     ghost Value = { FrameTable };
 
     ghost view = { λ m. m.frames };
 
-    ghost invariant = { λ m. LinesAreLeaves M.mode m.frames m.buffer };
+    ghost invariant = { λ m. LinesAreLeaves M.mode m.frames m.buffer × AreNoted M.mode m.frames m.notes };
 }
 
 impl<M: Levels> Memory<M> {
@@ -45,7 +49,9 @@ impl<M: Levels> Memory<M> {
         ensures fresh { IfOk result (λ memory. IsFresh memory count) }
         ensures sound { IfOk result IsSound }
     {
+        let notes = Notes::new(alloc, count)?;
         Ok(Memory {
+            notes,
             frames: Frames::new(alloc, count)?,
             buffer: TranslationBuffer::new(),
             hits: 0,
@@ -97,7 +103,7 @@ impl<M: Levels> Memory<M> {
         ensures* writes_back { sem 𝓛 (LendsFrame M.row M.Levels self.entry n.0 result) }
         ensures value { result.now ≡ bytes_of self.old n.0 }
     {
-        forget_table(&self.frames, &mut self.buffer, n);
+        forget_table(&self.frames, &mut self.buffer, &mut self.notes, n);
         self.frames.bytes_mut(n)
     }
 
@@ -108,7 +114,7 @@ impl<M: Levels> Memory<M> {
         ensures copied { self.new ≡ with_bytes self.old to.0 (bytes_of self.old from.0) }
         ensures sound { IsSound self.new }
     {
-        forget_table(&self.frames, &mut self.buffer, to);
+        forget_table(&self.frames, &mut self.buffer, &mut self.notes, to);
         self.frames.copy(from, to);
     }
 
@@ -153,7 +159,7 @@ impl<M: Levels> Memory<M> {
         ensures alone { role_of self.old n.0 ≢ Private → role_of self.new n.0 ≡ Free }
         ensures sound { IsSound self.new }
     {
-        forget_table(&self.frames, &mut self.buffer, n);
+        forget_table(&self.frames, &mut self.buffer, &mut self.notes, n);
         self.frames.release(n);
     }
 
@@ -168,13 +174,16 @@ impl<M: Levels> Memory<M> {
     }
 }
 
-// Drops all lines before frame `n` is changed, if it is a table, since nothing says then which hang on it.
-fn forget_table(frames: &Frames, buffer: &mut TranslationBuffer, n: FrameNo)
+// Drops all lines before frame `n` is changed, if it is a table, since nothing says then which hang on it; and no note is sure any more.
+fn forget_table(frames: &Frames, buffer: &mut TranslationBuffer, notes: &mut Notes, n: FrameNo)
     requires { IsFrame frames.now n.0 }
-    ensures { (root page leaf : ℕ) → line_at buffer.new root page ≡ Some leaf
+    ensures lines { (root page leaf : ℕ) → line_at buffer.new root page ≡ Some leaf
         → (line_at buffer.old root page ≡ Some leaf) × (role_of frames.now n.0 ≢ Table) }
+    ensures each { notes.new.each ≡ notes.old.each }
+    ensures whole { notes.new.whole ≡ true → (notes.old.whole ≡ true) × (role_of frames.now n.0 ≢ Table) }
 {
     if frames.role(n) == Role::Table {
         *buffer = TranslationBuffer::new();
+        notes.whole = false;
     }
 }

@@ -1,17 +1,20 @@
 //! The calls of `page_tables`, over memory with a buffer.
 ghost use Rattle.std.specs.Prelude.{ℕ, ◌≡◌, ◌≢◌, ◌/◌, ◌%◌, ◌≤◌, IfErr, ◌<◌, ◌↔◌, IsErr, IfOk, OnErr};
 ghost use Rattle.vm_types.specs.Limits.{top_level, table_entries, user_end};
-ghost use Rattle.frames.specs.FrameTable.{IsFull, IsSound};
+ghost use Rattle.frames.specs.FrameTable.{FrameTable, IsFull, IsSound};
 ghost use Rattle.page_tables.specs.Entry.{number_of, IsEntry};
 ghost use Rattle.page_tables.specs.Tree.{IsPage, IsTable, IsForest, IsRoot, IsSpare, last_table, missing_of, page_entry};
 ghost use Rattle.page_tables.specs.Places.{IsTableOf};
+ghost use Rattle.mapped_memory.specs.Kept.{LinesAreLeaves};
+ghost use Rattle.mapped_memory.specs.Notes.{AreNoted, NamesNoMore};
 ghost use Rattle.page_tables.specs.Change.{KeepsFrames, AddsTable, SetsEntry, LinksTable, Prunes, IsPruned};
 
 use crate::memory::Memory;
+use crate::notes::Notes;
 use page_tables::Entry;
-use sv39_walk::Pte;
+use sv39_walk::{Pte, TABLE_ENTRIES};
 use vm_types::{FrameNo, Levels, NoFree, Vpn};
-use walk_buffer::PLACES;
+use walk_buffer::{PLACES, TranslationBuffer};
 
 /// A table of zeros that is in no tree, to be linked or to begin a tree in which nothing stands. All trees stay as they are.
 ///
@@ -57,7 +60,7 @@ pub fn missing_tables<M: Levels>(memory: &Memory<M>, root: FrameNo, page: Vpn) -
 }
 
 /// Makes `entry` what the tree of `root` says of a user page of the mode, to which no table is missing. No other page's entry changes, in
-/// this tree or in another. The page's line is dropped.
+/// this tree or in another. The page's line is dropped, and the page is noted.
 pub fn set<M: Levels>(memory: &mut Memory<M>, root: FrameNo, page: Vpn, entry: Entry)
     requires forest { IsForest memory.old }
     requires root { IsRoot (top_level M.mode) memory.old root.0 }
@@ -68,7 +71,46 @@ pub fn set<M: Levels>(memory: &mut Memory<M>, root: FrameNo, page: Vpn, entry: E
     ensures sound { IsSound memory.new }
 {
     page_tables::set::<M>(&mut memory.frames, root, page, entry);
-    memory.buffer.drop_page(root, page);
+    after_set(&mut memory.buffer, &mut memory.notes, root, page, entry);
+}
+
+/// The same where the lowest table on the page's way is known.
+pub fn set_at<M: Levels>(
+    memory: &mut Memory<M>,
+    root: FrameNo,
+    page: Vpn,
+    table: FrameNo,
+    entry: Entry,
+)
+    requires forest { IsForest memory.old }
+    requires root { IsRoot (top_level M.mode) memory.old root.0 }
+    requires user { page < user_end M.mode }
+    requires table { IsTableOf memory.old (top_level M.mode) root.0 (page / table_entries) table.0 }
+    requires form { IsEntry entry }
+    ensures sets { SetsEntry memory.old memory.new (top_level M.mode) root.0 page (number_of entry) }
+    ensures sound { IsSound memory.new }
+{
+    let index = (page.get() % TABLE_ENTRIES) as usize;
+    page_tables::set_in(&mut memory.frames, table, index, entry);
+    after_set(&mut memory.buffer, &mut memory.notes, root, page, entry);
+}
+
+// What else changes when a page's entry is set: the page's line is dropped, and the page is noted.
+fn after_set(
+    buffer: &mut TranslationBuffer,
+    notes: &mut Notes,
+    root: FrameNo,
+    page: Vpn,
+    entry: Entry,
+)
+    requires { IsEntry entry }
+    ensures lines { (mode : ℕ) (before after : FrameTable) → IsForest before → IsRoot (top_level mode) before root.0 → SetsEntry before after (top_level mode) root.0 page (number_of entry)
+        → LinesAreLeaves mode before buffer.old → LinesAreLeaves mode after buffer.new }
+    ensures notes { (mode : ℕ) (before after : FrameTable) → IsForest before → IsRoot (top_level mode) before root.0 → SetsEntry before after (top_level mode) root.0 page (number_of entry)
+        → AreNoted mode before notes.old → AreNoted mode after notes.new }
+{
+    buffer.drop_page(root, page);
+    notes.add(root, page, entry);
 }
 
 /// Puts a table of zeros, which no tree has, in the highest missing place on the way to a page.
@@ -129,8 +171,8 @@ pub fn number_in<M: Levels>(memory: &Memory<M>, table: FrameNo, index: usize) ->
     page_tables::number_in(&memory.frames, table, index)
 }
 
-/// Makes `entry` what stands at place `index` of a lowest table: that of the page there, and of no other page. That page's
-/// line is dropped, with whatever line has its place.
+/// Makes `entry` what stands at place `index` of a lowest table: that of the page there, and of no other page. It names no frame, is a process's
+/// own, or names the frame that is named there already. That page's line is dropped, with whatever line has its place.
 pub fn set_in<M: Levels>(memory: &mut Memory<M>, table: FrameNo, index: usize, entry: Entry)
     requires forest { IsForest memory.old }
     requires table { IsTable memory.old table.0 }
@@ -138,6 +180,7 @@ pub fn set_in<M: Levels>(memory: &mut Memory<M>, table: FrameNo, index: usize, e
     requires form { IsEntry entry }
     requires placed { (root page : ℕ) × IsRoot (top_level M.mode) memory.old root × IsPage (top_level M.mode) page × IsTableOf memory.old (top_level M.mode) root (page / table_entries) table.0
         × (page % table_entries ≡ index) }
+    requires names { NamesNoMore M.mode memory.old table.0 index (number_of entry) }
     ensures sets { (root page : ℕ) → IsRoot (top_level M.mode) memory.old root → IsPage (top_level M.mode) page → IsTableOf memory.old (top_level M.mode) root (page / table_entries) table.0
         → page % table_entries ≡ index → SetsEntry memory.old memory.new (top_level M.mode) root page (number_of entry) }
     ensures kept { KeepsFrames memory.old memory.new }

@@ -24,19 +24,19 @@ use Rattle.mapping.specs.Asking.{HasSwappable, MayAsk, AsksNoNew, AsksSlots}
 -- what a call may ask for, by the steps of it
 module _ {mode : ℕ} where
   -- a frame that may be given up though one is kept may be where none is
-  pub swappable_any : (c : Picture mode) (keep : Option FrameNo) → HasSwappable c keep → HasSwappable c None
+  swappable_any : (c : Picture mode) (keep : Option FrameNo) → HasSwappable c keep → HasSwappable c None
   swappable_any c keep has = (has.0, (has.1.0, λ none. none), has.2)
 
-  pub may_wider : (c : Picture mode) (keep : Option FrameNo) (also more : ℕ → Type 0) → ((k : ℕ) → also k → MayAsk c keep more k) → (k : ℕ) → MayAsk c keep also k → MayAsk c keep more k
+  may_wider : (c : Picture mode) (keep : Option FrameNo) (also more : ℕ → Type 0) → ((k : ℕ) → also k → MayAsk c keep more k) → (k : ℕ) → MayAsk c keep also k → MayAsk c keep more k
   may_wider c keep also more wider k (inl is) = wider k is
   may_wider c keep also more wider k (inr free) = inr free
 
-  pub may_any : (c : Picture mode) (keep : Option FrameNo) (also : ℕ → Type 0) (k : ℕ) → MayAsk c keep also k → MayAsk c None also k
+  may_any : (c : Picture mode) (keep : Option FrameNo) (also : ℕ → Type 0) (k : ℕ) → MayAsk c keep also k → MayAsk c None also k
   may_any c keep also k (inl is) = inl is
   may_any c keep also k (inr free) = inr (swappable_any c keep free.0, free.1)
 
   -- what a later call may ask for, where the one before left no new sector, and what it asks for besides the earlier might have asked for
-  pub may_before : (old new : Picture mode) (keep : Option FrameNo) (also more : ℕ → Type 0) → AsksNoNew old new keep more → ((k : ℕ) → also k → MayAsk old None more k)
+  may_before : (old new : Picture mode) (keep : Option FrameNo) (also more : ℕ → Type 0) → AsksNoNew old new keep more → ((k : ℕ) → also k → MayAsk old None more k)
       → (k : ℕ) → MayAsk new keep also k → MayAsk old None more k
   may_before old new keep also more still wider k (inl is) = wider k is
   may_before old new keep also more still wider k (inr free) = elim (still.slots k free.1) [

@@ -23,8 +23,9 @@ use Rattle.paging.specs.Stalls.{StallCause, HasStallCause, ReadCause, HasReadCau
 use Rattle.paging.specs.Reading.{ReadsStore, IsRead}
 use Rattle.paging.proofs.BroughtIn.{fit_brought, trees_brought, entries_brought, views_brought, held_else, held_here}
 use Rattle.paging.proofs.Places.{cases_page}
-use Rattle.mapping.specs.Changes.{KeepsSpaces, KeepsTables, KeepsRoom, KeepsSeen, KeepsBare, KeepsSlotted}
+use Rattle.mapping.specs.Changes.{KeepsSpaces, KeepsTables, KeepsRows, KeepsRoom, KeepsSeen, KeepsBare, KeepsSlotted}
 use Rattle.mapping.specs.Files.{IsBrought, Stays, Leaves, Comes, Blank, BringsPages}
+use Rattle.mapping.proofs.Rows.{rows_then, rows_freed, rows_trees}
 use Rattle.mapping.proofs.Slotted.{slotted_then, slotted_frees}
 use Rattle.mapping.proofs.Steps.{spaces_then, room_then, seen_then, tables_then, bare_then, tables_same, spaces_freed, room_freed, seen_freed, tables_freed, bare_freed}
 
@@ -39,6 +40,10 @@ module _ {mode : ℕ} (old new : Picture mode) (page : PageKey) (n : ℕ) (obtai
   tables_came : KeepsTables old new
   tables_came = tables_then old found new obtains.frees.pages.root (tables_freed old found _ obtains.frees)
       (tables_same found new (λ pid r p e. (trees_brought found new page n obtains.fit obtains.brings).missing r p (obtains.fit.rooted.roots pid r e)))
+
+  rows_came : KeepsRows old new
+  rows_came = rows_then old found new obtains.frees.pages.root (rows_freed old found _ obtains.fit obtains.frees)
+      (rows_trees found new obtains.fit (trees_brought found new page n obtains.fit obtains.brings))
 
   room_came : KeepsRoom old new
   room_came = room_then old found new (room_freed old found _ obtains.frees) (record { frames = obtains.brings.frames.frames; slots = obtains.brings.slots.total })
@@ -74,6 +79,10 @@ module _ {mode : ℕ} (old new : Picture mode) (page : PageKey) where
   pub tables_of : (r : Result FrameNo Stall) → IfOk r (λ n. ObtainsCached old new page n.0) → OnErr r (Frees old new None) → KeepsTables old new
   tables_of (Ok n) obtains frees = tables_came old new page n.0 obtains
   tables_of (Err s) obtains frees = tables_freed old new None frees
+
+  pub rows_of : (r : Result FrameNo Stall) → IfOk r (λ n. ObtainsCached old new page n.0) → IsFit new → OnErr r (Frees old new None) → KeepsRows old new
+  rows_of (Ok n) obtains fit frees = rows_came old new page n.0 obtains
+  rows_of (Err s) obtains fit frees = rows_freed old new None fit frees
 
   pub room_of : (r : Result FrameNo Stall) → IfOk r (λ n. ObtainsCached old new page n.0) → OnErr r (Frees old new None) → KeepsRoom old new
   room_of (Ok n) obtains frees = room_came old new page n.0 obtains

@@ -27,6 +27,7 @@ use Rattle.paging.proofs.TableSteps.{sets_page, rooted_set}
 use Rattle.mapping.specs.Leaves.{IsFullEntry}
 use Rattle.mapping.specs.Changes.{IsLinked, Enters, KeepsAround, KeepsTables, KeepsViews}
 use Rattle.mapping.proofs.Forms.{full_entry, full_dirty_sound, mapped_page}
+use Rattle.mapping.proofs.Rows.{rows_set}
 use Rattle.mapping.proofs.Steps.{tables_same}
 
 -- what a call leaves that changes frames and the count of refused requests alone
@@ -91,6 +92,7 @@ module _ {M : Type 0} {m : Levels.Ghosts M} {D E : Type 0} where
         fit = full_fit o n pid page r a frame private linked lives at sets beside same alone behind inside;
         spaces = record { root = beside.root; at = beside.at };
         tables = full_tables o n pid page r a frame private linked lives at sets beside;
+        rows = rows_set o n linked.fit r page sets.0 sets.2;
         views = full_views o n pid page r a frame private linked lives at sets beside same;
         calm = record {
           store = rest.store;

@@ -29,8 +29,9 @@ use Rattle.paging.proofs.Handed.{release_spares, same}
 use Rattle.paging.proofs.Sparing.{missing_ends}
 use Rattle.page_tables.specs.Leaves.{IsEntryOver}
 use Rattle.mapping.specs.Leaves.{IsFullEntry}
-use Rattle.mapping.specs.Changes.{IsLinked, KeepsSpaces, KeepsTables, KeepsRoom, KeepsOtherViews, KeepsOtherBare, KeepsSlotted, IsThatPage, TakesCopy, frame_of_place, frame_behind, shown_frame, is_sole}
+use Rattle.mapping.specs.Changes.{IsLinked, KeepsSpaces, KeepsTables, KeepsRows, KeepsRoom, KeepsOtherViews, KeepsOtherBare, KeepsSlotted, IsThatPage, TakesCopy, frame_of_place, frame_behind, shown_frame, is_sole}
 use Rattle.mapping.proofs.Forms.{mapped_page, behind_used, behind_datum, own_role, seat_own, seat_common}
+use Rattle.mapping.proofs.Rows.{rows_then, rows_ends, rows_freed, rows_changed, rows_settled}
 use Rattle.mapping.proofs.Settling.{settled_first, settled_moved, settled_others, settled_views, settled_view, settled_held, settled_missing, settled_room, settled_full, settled_bytes, settled_count}
 use Rattle.mapping.proofs.Slotted.{slotted_then, slotted_frees, slotted_but, slotted_same}
 use Rattle.mapping.proofs.Steps.{spaces_then, spaces_freed, room_then, room_freed, tables_then, tables_freed, tables_same}
@@ -155,6 +156,12 @@ module _ {mode : ℕ} (old : Picture mode) (pid page m : ℕ) (a : Attr) (sound 
     pub at_found : found.at pid page ≡ Some a
     at_found = copy.frees.pages.at pid page ∙ at
 
+    datum_mid : role_of mid.frames n ≢ Table
+    datum_mid t = let bad : Private ≡ Table = sym copy.role ∙ t in (cc)
+
+    pub rows_mid : KeepsRows old mid
+    rows_mid = rows_then old found mid copy.frees.pages.root (rows_freed old found _ copy.fit copy.frees) (rows_changed found mid n copy.fit copy.changes datum_mid)
+
     kept_role : role_of found.frames m ≡ role_of old.frames m
     kept_role = copy.frees.kept_role m refl
 
@@ -169,6 +176,9 @@ module _ {mode : ℕ} (old : Picture mode) (pid page m : ℕ) (a : Attr) (sound 
       pub tables_set : KeepsTables old set
       tables_set = tables_then old found set copy.frees.pages.root (tables_freed old found _ copy.frees)
           (tables_same found set (settled_missing found mid pid page r n a copy.fit copy.changes copy.role copy.count copy.noted lives_found whole_found at_found set sets beside alone inside))
+
+      pub rows_own : KeepsRows old set
+      rows_own = rows_then old found set copy.frees.pages.root (rows_freed old found _ copy.fit copy.frees) (rows_settled found mid n copy.fit copy.changes datum_mid set r page sets.0 sets.2)
 
       pub room_set : KeepsRoom old set
       room_set = room_then old found set (room_freed old found _ copy.frees) (record {
@@ -253,6 +263,9 @@ module _ {mode : ℕ} (old : Picture mode) (pid page m : ℕ) (a : Attr) (sound 
 
           pub tables_shared : KeepsTables old new
           tables_shared = tables_then old set new spaces_set.root tables_set (tables_same set new (λ q x p e. missing_ends set new x p ((release_spares set new m 0 fit_moved' role_shared releases beside').ends q x p e)))
+
+          pub rows_shared : KeepsRows old new
+          rows_shared = rows_then old set new spaces_set.root rows_own (rows_ends set new fit_shared beside'.root (release_spares set new m 0 fit_moved' role_shared releases beside').ends)
 
           pub room_shared : KeepsRoom old new
           room_shared = room_then old set new room_set (record { frames = releases.others.frames; slots = ap (λ s. s.total) beside'.slots })

@@ -46,9 +46,6 @@ module _ {mode : ℕ} (found mid : Picture mode) (pid page r n : ℕ) (a : Attr)
   missing_mid : (x p : ℕ) → IsRoot (top_level mode) found.frames x → missing_of mid.frames (top_level mode) x p ≡ missing_of found.frames (top_level mode) x p
   missing_mid = (trees_changed found mid n fit changes datum).missing
 
-  pub whole_mid : missing_of mid.frames (top_level mode) r page ≡ 0
-  whole_mid = missing_mid r page (fit.rooted.roots pid r lives) ∙ whole
-
   pub entry_mid : (q p : ℕ) → entry mid q p ≡ entry found q p
   entry_mid = entries_changed found mid n fit changes datum
 

@@ -6,7 +6,7 @@ use Rattle.vm_types.specs.declared.object.PageKey.{PageKey}
 use Rattle.vm_types.specs.declared.number.FrameNo.{FrameNo}
 use Rattle.vm_types.specs.declared.region.Attr.{Attr}
 use Rattle.vm_types.specs.Verdict.{is_past_end}
-use Rattle.frames.specs.declared.role.Role.TheVariants.{Private}
+use Rattle.frames.specs.declared.role.Role.TheVariants.{Table, Private}
 use Rattle.frames.specs.FrameTable.{bytes_of, role_of, count_of}
 use Rattle.swap.specs.Slots.{SlotTable, IsInUse, Releases}
 use Rattle.page_tables.specs.Tree.{IsPage, missing_of}
@@ -21,8 +21,9 @@ use Rattle.paging.proofs.Putting.{with_slots}
 use Rattle.paging.proofs.SlotReleased.{fit_slot_released}
 use Rattle.paging.proofs.Ways.{by_page}
 use Rattle.mapping.specs.Leaves.{IsFullEntry}
-use Rattle.mapping.specs.Changes.{IsLinked, KeepsSpaces, KeepsTables, KeepsRoom, KeepsViews, KeepsOtherViews, KeepsOtherBare, KeepsSlotted, IsThatPage}
+use Rattle.mapping.specs.Changes.{IsLinked, KeepsSpaces, KeepsTables, KeepsRows, KeepsRoom, KeepsViews, KeepsOtherViews, KeepsOtherBare, KeepsSlotted, IsThatPage}
 use Rattle.mapping.proofs.Forms.{mapped_page}
+use Rattle.mapping.proofs.Rows.{rows_then, rows_freed, rows_changed, rows_settled}
 use Rattle.mapping.proofs.Settling.{settled_moved, settled_owned, settled_others, settled_views, settled_view, settled_held, settled_missing, settled_room, settled_full}
 use Rattle.mapping.proofs.Slotted.{slotted_then, slotted_frees, slotted_but}
 use Rattle.mapping.proofs.Steps.{spaces_then, spaces_freed, room_then, room_freed, tables_then, tables_freed, tables_same}
@@ -80,6 +81,12 @@ module _ {mode : ℕ} {keep : Option FrameNo} (old taken : Picture mode) (pid pa
   inside : is_past_end found.files a.backing ≡ false
   inside = (swapped_page found pid page a obtains.fit here at_of (ap is_swapped entry_found ∙ away)).inside
 
+  datum : role_of written.frames n ≢ Table
+  datum t = let bad : Private ≡ Table = sym role ∙ t in (cc)
+
+  pub rows_written : KeepsRows old written
+  rows_written = rows_then old found written obtains.frees.pages.root (rows_freed old found keep obtains.fit obtains.frees) (rows_changed found written n obtains.fit changes datum)
+
   apart : InSlot k ≢ InFrame n
   apart e = (cc)
 
@@ -106,6 +113,9 @@ module _ {mode : ℕ} {keep : Option FrameNo} (old taken : Picture mode) (pid pa
       pub tables_in : KeepsTables old (record set { slots = t })
       tables_in = tables_then old found new obtains.frees.pages.root (tables_freed old found keep obtains.frees)
           (tables_same found new (λ q x p e. settled_missing found written pid page r n a obtains.fit changes role one noted lives_of whole_of at_of set sets beside not_shared inside q x p e))
+
+      pub rows_in : KeepsRows old (record set { slots = t })
+      rows_in = rows_then old found set obtains.frees.pages.root (rows_freed old found keep obtains.fit obtains.frees) (rows_settled found written n obtains.fit changes datum set r page sets.0 sets.2)
 
       pub room_in : KeepsRoom old (record set { slots = t })
       room_in = room_then old found new (room_freed old found keep obtains.frees) (record {

@@ -1,7 +1,7 @@
 -- What the calls on one page's entry need and leave.
 use Rattle.vm_types.specs.declared.mode.Levels as Levels
-use Rattle.std.specs.Prelude.{Bool, ◌&&◌, ◌==◌, ◌≡◌, ◌≢◌, ℕ, ◌≤◌, ◌⊎◌, true, if◌then◌else◌, List, Option, Some, None}
-use Rattle.vm_types.specs.Limits.{top_level}
+use Rattle.std.specs.Prelude.{Bool, ◌&&◌, ◌==◌, ◌≡◌, ◌≢◌, ℕ, ◌≤◌, ◌/◌, ◌⊎◌, true, if◌then◌else◌, List, Option, Some, None}
+use Rattle.vm_types.specs.Limits.{top_level, table_entries}
 use Rattle.vm_types.specs.declared.object.PageKey.{PageKey}
 use Rattle.vm_types.specs.declared.object.PageKey.TheVariants.{File, Object}
 use Rattle.vm_types.specs.declared.number.FrameNo.{FrameNo}
@@ -14,6 +14,7 @@ use Rattle.frames.specs.declared.role.Role.TheVariants as Role
 use Rattle.frames.specs.FrameTable.{frame_count, bytes_of, role_of, count_of, IsFrame}
 use Rattle.sv39_walk.specs.Entry.{frame_of}
 use Rattle.page_tables.specs.Tree.{IsPage, IsTable, IsBelowRoot, missing_of}
+use Rattle.page_tables.specs.Places.{IsTableOf}
 use Rattle.page_tables.specs.Change.{KeepsFrames}
 use Rattle.page_cache.specs.declared.place.Place.{Place}
 use Rattle.page_cache.specs.declared.place.Place.TheVariants.{Home, Frame, Slot}
@@ -23,6 +24,7 @@ use Rattle.paging.specs.Picture.{Picture, picture_of, entry, is_private, is_swap
 use Rattle.paging.specs.Parts.{IsFit}
 use Rattle.paging.specs.Calls.{Frees, UsesDevice}
 use Rattle.paging.specs.Steps.{ChangesFrame}
+use Rattle.mapping.specs.declared.spot.Spot.{Spot}
 
 -- no table is missing on the way to a page of a process
 module _ {mode : ℕ} where
@@ -35,6 +37,18 @@ module _ {mode : ℕ} where
     pub fit : IsFit c
     pub lives : c.root pid ≢ None
     pub whole : IsWhole c pid page
+
+-- the page's entry stands in that table of the tree of that root, which is its process's
+module _ {mode : ℕ} where
+  pub record StandsAt (c : Picture mode) (spot : Spot) : Type 0 where
+    pub linked : IsLinked c spot.pid spot.page
+    pub root : c.root spot.pid ≡ Some spot.root.0
+    pub table : IsTableOf c.frames (top_level mode) spot.root.0 (spot.page / table_entries) spot.table.0
+
+-- where the entries of a row stand in the tree of a process, they still do
+module _ {mode : ℕ} where
+  abbrev pub KeepsRows : Picture mode → Picture mode → Type 0
+  KeepsRows old new = (pid r row n : ℕ) → old.root pid ≡ Some r → IsTableOf old.frames (top_level mode) r row n → IsTableOf new.frames (top_level mode) r row n
 
 -- no table came to be missing
 module _ {mode : ℕ} where
@@ -171,6 +185,7 @@ module _ {M : Type 0} {m : Levels.Ghosts M} {D E : Type 0} where
     pub fit : IsFit (picture_of new)
     pub spaces : KeepsSpaces (picture_of old) (picture_of new)
     pub tables : KeepsTables (picture_of old) (picture_of new)
+    pub rows : KeepsRows (picture_of old) (picture_of new)
     pub views : KeepsViews (picture_of old) (picture_of new)
     pub calm : IsCalm old new pid page
 

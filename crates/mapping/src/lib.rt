@@ -9,10 +9,12 @@ mod linking;
 mod owning;
 mod page_in;
 mod showing;
+mod spot;
 mod swapping;
 
 pub use linking::{link_tables, root_of};
 pub use owning::own_frame;
 pub use page_in::cached;
 pub use showing::{ZERO_PAGE, regrant, show_cached, show_zero, touch};
+pub use spot::{Spot, number_at};
 pub use swapping::swap_in;

@@ -1,10 +1,11 @@
 //! The tables on the way to a page.
-ghost use Rattle.std.specs.Prelude.{ℕ, ◌≡◌, ◌≢◌, ◌+◌, Option, None, Some, IfErr, OnOk, OnErr};
-ghost use Rattle.vm_types.specs.Limits.{top_level};
+ghost use Rattle.std.specs.Prelude.{ℕ, ◌≡◌, ◌≢◌, ◌+◌, ◌/◌, Option, None, Some, IfOk, IfErr, OnOk, OnErr};
+ghost use Rattle.vm_types.specs.Limits.{top_level, table_entries};
 ghost use Rattle.disk_model.specs.Moments.{Nothing};
 ghost use Rattle.frames.specs.declared.role.Role.TheVariants.{Private};
 ghost use Rattle.frames.specs.FrameTable.{role_of, IsFull};
 ghost use Rattle.page_tables.specs.Tree.{missing_of};
+ghost use Rattle.page_tables.specs.Places.{IsTableOf};
 ghost use Rattle.swap.specs.Slots.{IsReady};
 ghost use Rattle.paging.specs.Picture.{picture_of};
 ghost use Rattle.paging.specs.Parts.{IsFit, IsMapped};
@@ -16,7 +17,7 @@ ghost use Rattle.mapping.specs.Changes.{IsWhole, KeepsBare, KeepsSlotted, LinksT
 ghost use Rattle.mapping.specs.Asking.{AsksNoNew, AsksSlots};
 
 use disk_model::SectorDisk;
-use mapped_memory::{link_table, missing_tables};
+use mapped_memory::{link_table, table_of};
 use paging::Core;
 use vm_types::{FrameNo, Levels, Pid, Stall, Vpn};
 
@@ -31,8 +32,8 @@ pub fn root_of<D, E, M: Levels>(core: &Core<D, E, M>, pid: Pid) -> FrameNo
     }
 }
 
-/// Makes the tables that are missing on the way to a mapped page of a live process. No process sees a change (RISC-V Privileged
-/// Specification, "Virtual Address Translation Process").
+/// Makes the tables that are missing on the way to a mapped page of a live process, and returns the lowest. No process sees a change
+/// (RISC-V Privileged Specification, "Virtual Address Translation Process").
 ///
 /// # Errors
 /// As `obtain`, where a table is missing and no frame is to be had for it. The tables that were made stay.
@@ -40,7 +41,7 @@ pub fn link_tables<D, E: SectorDisk, M: Levels>(
     core: &mut Core<D, E, M>,
     pid: Pid,
     page: Vpn,
-) -> Result<(), Stall>
+) -> Result<FrameNo, Stall>
     requires fit { IsFit (picture_of core.old) }
     requires swap { IsReady E.SectorDisk core.old.swap }
     requires live { (picture_of core.old).root pid ≢ None }
@@ -51,6 +52,7 @@ pub fn link_tables<D, E: SectorDisk, M: Levels>(
     ensures bare { KeepsBare (picture_of core.old) (picture_of core.new) }
     ensures slotted { KeepsSlotted (λ p. ⊥) (λ q p. ⊥) (picture_of core.old) (picture_of core.new) }
     ensures whole { OnOk result (IsWhole (picture_of core.new) pid page) }
+    ensures table { IfOk result (λ n. (root : ℕ) → (picture_of core.new).root pid ≡ Some root → IsTableOf core.new.frames (top_level M.mode) root (page / table_entries) n.0) }
     ensures wanted { OnErr result (IsWhole (picture_of core.new) pid page → ⊥) }
     ensures gives { OnOk result (GivesForTables (picture_of core.old) (picture_of core.new) None) }
     ensures tried { OnErr result ((tried : Option ℕ) × GivesForTables (picture_of core.old) (picture_of core.new) tried) }
@@ -64,10 +66,12 @@ pub fn link_tables<D, E: SectorDisk, M: Levels>(
     ensures cause { HasStallCause E.SectorDisk core.old core.new result }
 {
     let root = root_of(core, pid);
-    while missing_tables(&core.frames, root, page) > 0 {
-        link_one(core, pid, root, page)?;
+    loop {
+        match table_of(&core.frames, root, page) {
+            Ok(table) => return Ok(table),
+            Err(_) => link_one(core, pid, root, page)?,
+        }
     }
-    Ok(())
 }
 
 // Links a table in the highest missing place on the way to a mapped page.

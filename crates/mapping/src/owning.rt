@@ -16,16 +16,16 @@ ghost use Rattle.paging.specs.Shows.{KeepsFiles};
 ghost use Rattle.page_tables.specs.Leaves.{IsEntryOver};
 ghost use Rattle.page_cache.specs.declared.place.Place.TheVariants.{Frame};
 ghost use Rattle.mapping.specs.Asking.{AsksSlots};
-ghost use Rattle.mapping.specs.Changes.{IsLinked, KeepsViews, KeepsOtherViews, KeepsOtherBare, KeepsSlotted, IsCalm, IsThatPage, Moves, TakesCopy, is_sole, frame_of_place, shown_frame, shown_bytes, copied_frame};
+ghost use Rattle.mapping.specs.Changes.{StandsAt, KeepsViews, KeepsOtherViews, KeepsOtherBare, KeepsRows, KeepsSlotted, IsCalm, IsThatPage, Moves, TakesCopy, is_sole, frame_of_place, shown_frame, shown_bytes, copied_frame};
 
-use crate::linking::root_of;
 use crate::showing::{ZERO_PAGE, regrant, set_full};
+use crate::spot::{Spot, number_at};
 use disk_model::SectorDisk;
-use mapped_memory::{Memory, entry_number};
+use mapped_memory::Memory;
 use page_cache::Place;
 use paging::Core;
 use sv39_walk::Pte;
-use vm_types::{Attr, Backing, FrameNo, Levels, PageKey, Pid, Stall, Vpn};
+use vm_types::{Attr, Backing, FrameNo, Levels, PageKey, Stall, Vpn};
 
 /// Gives a page that may be written, and that isn't shared, a frame of its own that shows the same bytes and allows
 /// stores, by W and D (RISC-V Privileged Specification, "Sv39 page table entry"). Where it is the only one to have its
@@ -36,80 +36,79 @@ use vm_types::{Attr, Backing, FrameNo, Levels, PageKey, Pid, Stall, Vpn};
 /// as before.
 pub fn own_frame<D, E: SectorDisk, M: Levels>(
     core: &mut Core<D, E, M>,
-    pid: Pid,
-    page: Vpn,
+    spot: &Spot,
     attr: Attr,
 ) -> Result<FrameNo, Stall>
-    requires linked { IsLinked (picture_of core.old) pid page }
+    requires spot { StandsAt (picture_of core.old) spot.now }
     requires swap { IsReady E.SectorDisk core.old.swap }
-    requires attr { (picture_of core.old).at pid page ≡ Some attr }
+    requires attr { (picture_of core.old).at spot.now.pid spot.now.page ≡ Some attr }
     requires writable { can_write attr.prot ≡ true }
     requires not_shared { is_shared attr.backing ≡ false }
     requires inside { is_past_end (picture_of core.old).files attr.backing ≡ false }
-    requires resident { is_swapped (entry (picture_of core.old) pid page) ≡ false }
-    requires in_memory { is_private (entry (picture_of core.old) pid page) ≡ false
+    requires resident { is_swapped (entry (picture_of core.old) spot.now.pid spot.now.page) ≡ false }
+    requires in_memory { is_private (entry (picture_of core.old) spot.now.pid spot.now.page) ≡ false
         → (n : ℕ) × IsBehind (picture_of core.old) attr.backing n }
     ensures moves { Moves E.SectorDisk core.old core.new }
-    ensures own { IfOk result (λ n. view (picture_of core.new) pid page
-        ≡ Some (record { attr = attr; own = Some (shown_bytes (picture_of core.old) pid page attr) })) }
-    ensures bytes { IfOk result (λ n. bytes_of core.new.frames n.0 ≡ shown_bytes (picture_of core.old) pid page attr) }
-    ensures entry { IfOk result (λ n. IsEntryOver (entry (picture_of core.new) pid page) attr.prot n.0 true true true) }
+    ensures own { IfOk result (λ n. view (picture_of core.new) spot.now.pid spot.now.page
+        ≡ Some (record { attr = attr; own = Some (shown_bytes (picture_of core.old) spot.now.pid spot.now.page attr) })) }
+    ensures bytes { IfOk result (λ n. bytes_of core.new.frames n.0 ≡ shown_bytes (picture_of core.old) spot.now.pid spot.now.page attr) }
+    ensures entry { IfOk result (λ n. IsEntryOver (entry (picture_of core.new) spot.now.pid spot.now.page) attr.prot n.0 true true true) }
     ensures sole { IfOk result (λ n. count_of core.new.frames n.0 ≡ 1) }
-    ensures behind { (n : ℕ) → is_private (entry (picture_of core.old) pid page) ≡ false → IsBehind (picture_of core.old) attr.backing n
+    ensures behind { (n : ℕ) → is_private (entry (picture_of core.old) spot.now.pid spot.now.page) ≡ false → IsBehind (picture_of core.old) attr.backing n
         → IsBehind (picture_of core.new) attr.backing n × (bytes_of core.new.frames n ≡ bytes_of core.old.frames n) }
-    ensures others { KeepsOtherViews (picture_of core.old) (picture_of core.new) pid page }
-    ensures bare { KeepsOtherBare (picture_of core.old) (picture_of core.new) pid page }
-    ensures slotted { KeepsSlotted (λ p. ⊥) (IsThatPage pid page) (picture_of core.old) (picture_of core.new) }
-    ensures frees { OnErr result (Frees (picture_of core.old) (picture_of core.new) (copied_frame (picture_of core.old) pid page attr)) }
+    ensures others { KeepsOtherViews (picture_of core.old) (picture_of core.new) spot.now.pid spot.now.page }
+    ensures bare { KeepsOtherBare (picture_of core.old) (picture_of core.new) spot.now.pid spot.now.page }
+    ensures rows { KeepsRows (picture_of core.old) (picture_of core.new) }
+    ensures slotted { KeepsSlotted (λ p. ⊥) (IsThatPage spot.now.pid spot.now.page) (picture_of core.old) (picture_of core.new) }
+    ensures frees { OnErr result (Frees (picture_of core.old) (picture_of core.new) (copied_frame (picture_of core.old) spot.now.pid spot.now.page attr)) }
     ensures same { OnErr result (KeepsViews (picture_of core.old) (picture_of core.new)) }
     ensures files { KeepsFiles (picture_of core.old) (picture_of core.new) }
-    ensures wanted { OnErr result (is_sole (picture_of core.old) (entry (picture_of core.old) pid page) ≡ false) }
-    ensures calm { is_sole (picture_of core.old) (entry (picture_of core.old) pid page) ≡ true → IsCalm core.old core.new pid page }
-    ensures asks { AsksSlots E.SectorDisk core.old core.new (copied_frame (picture_of core.old) pid page attr) Nothing }
-    ensures refuses { IfErr result (Refuses (picture_of core.new) (copied_frame (picture_of core.old) pid page attr)) }
+    ensures wanted { OnErr result (is_sole (picture_of core.old) (entry (picture_of core.old) spot.now.pid spot.now.page) ≡ false) }
+    ensures calm { is_sole (picture_of core.old) (entry (picture_of core.old) spot.now.pid spot.now.page) ≡ true → IsCalm core.old core.new spot.now.pid spot.now.page }
+    ensures asks { AsksSlots E.SectorDisk core.old core.new (copied_frame (picture_of core.old) spot.now.pid spot.now.page attr) Nothing }
+    ensures refuses { IfErr result (Refuses (picture_of core.new) (copied_frame (picture_of core.old) spot.now.pid spot.now.page attr)) }
     ensures short { IfErr result (IsShort (picture_of core.new)) }
     ensures cause { HasStallCause E.SectorDisk core.old core.new result }
 {
-    let root = root_of(core, pid);
-    let entry = entry_number(&core.frames, root, page);
-    let shown = shown_frame(core, entry, attr.backing);
-    if entry.is_private() && core.frames.count(shown) == 1 {
-        regrant(core, pid, page, attr);
+    let was = number_at(core, spot);
+    let shown = shown_frame(core, was, attr.backing);
+    if was.is_private() && core.frames.count(shown) == 1 {
+        regrant(core, spot, attr);
         return Ok(shown);
     }
-    copy_page(core, pid, page, attr, entry, shown)
+    copy_page(core, spot, attr, was, shown)
 }
 
 // Gives such a page, of which its process hasn't its frame alone, a copy of what it shows, in a frame of its own.
 fn copy_page<D, E: SectorDisk, M: Levels>(
     core: &mut Core<D, E, M>,
-    pid: Pid,
-    page: Vpn,
+    spot: &Spot,
     attr: Attr,
     was: Pte,
     shown: FrameNo,
 ) -> Result<FrameNo, Stall>
-    requires linked { IsLinked (picture_of core.old) pid page }
+    requires spot { StandsAt (picture_of core.old) spot.now }
     requires swap { IsReady E.SectorDisk core.old.swap }
-    requires attr { (picture_of core.old).at pid page ≡ Some attr }
+    requires attr { (picture_of core.old).at spot.now.pid spot.now.page ≡ Some attr }
     requires writable { can_write attr.prot ≡ true }
     requires not_shared { is_shared attr.backing ≡ false }
     requires inside { is_past_end (picture_of core.old).files attr.backing ≡ false }
-    requires resident { is_swapped (entry (picture_of core.old) pid page) ≡ false }
-    requires was { was.0 ≡ entry (picture_of core.old) pid page }
-    requires own { is_private (entry (picture_of core.old) pid page) ≡ true → frame_of (entry (picture_of core.old) pid page) ≡ shown.0 }
-    requires common { is_private (entry (picture_of core.old) pid page) ≡ false → IsBehind (picture_of core.old) attr.backing shown.0 }
+    requires resident { is_swapped (entry (picture_of core.old) spot.now.pid spot.now.page) ≡ false }
+    requires was { was.0 ≡ entry (picture_of core.old) spot.now.pid spot.now.page }
+    requires own { is_private (entry (picture_of core.old) spot.now.pid spot.now.page) ≡ true → frame_of (entry (picture_of core.old) spot.now.pid spot.now.page) ≡ shown.0 }
+    requires common { is_private (entry (picture_of core.old) spot.now.pid spot.now.page) ≡ false → IsBehind (picture_of core.old) attr.backing shown.0 }
     ensures moves { Moves E.SectorDisk core.old core.new }
-    ensures own { IfOk result (λ n. view (picture_of core.new) pid page
+    ensures own { IfOk result (λ n. view (picture_of core.new) spot.now.pid spot.now.page
         ≡ Some (record { attr = attr; own = Some (bytes_of core.old.frames shown.0) })) }
     ensures bytes { IfOk result (λ n. bytes_of core.new.frames n.0 ≡ bytes_of core.old.frames shown.0) }
-    ensures entry { IfOk result (λ n. IsEntryOver (entry (picture_of core.new) pid page) attr.prot n.0 true true true) }
+    ensures entry { IfOk result (λ n. IsEntryOver (entry (picture_of core.new) spot.now.pid spot.now.page) attr.prot n.0 true true true) }
     ensures sole { IfOk result (λ n. count_of core.new.frames n.0 ≡ 1) }
-    ensures behind { (n : ℕ) → is_private (entry (picture_of core.old) pid page) ≡ false → IsBehind (picture_of core.old) attr.backing n
+    ensures behind { (n : ℕ) → is_private (entry (picture_of core.old) spot.now.pid spot.now.page) ≡ false → IsBehind (picture_of core.old) attr.backing n
         → IsBehind (picture_of core.new) attr.backing n × (bytes_of core.new.frames n ≡ bytes_of core.old.frames n) }
-    ensures others { KeepsOtherViews (picture_of core.old) (picture_of core.new) pid page }
-    ensures bare { KeepsOtherBare (picture_of core.old) (picture_of core.new) pid page }
-    ensures slotted { KeepsSlotted (λ p. ⊥) (IsThatPage pid page) (picture_of core.old) (picture_of core.new) }
+    ensures others { KeepsOtherViews (picture_of core.old) (picture_of core.new) spot.now.pid spot.now.page }
+    ensures bare { KeepsOtherBare (picture_of core.old) (picture_of core.new) spot.now.pid spot.now.page }
+    ensures rows { KeepsRows (picture_of core.old) (picture_of core.new) }
+    ensures slotted { KeepsSlotted (λ p. ⊥) (IsThatPage spot.now.pid spot.now.page) (picture_of core.old) (picture_of core.new) }
     ensures frees { OnErr result (Frees (picture_of core.old) (picture_of core.new) (Some shown)) }
     ensures same { OnErr result (KeepsViews (picture_of core.old) (picture_of core.new)) }
     ensures files { KeepsFiles (picture_of core.old) (picture_of core.new) }
@@ -118,9 +117,8 @@ fn copy_page<D, E: SectorDisk, M: Levels>(
     ensures short { IfErr result (IsShort (picture_of core.new)) }
     ensures cause { HasStallCause E.SectorDisk core.old core.new result }
 {
-    let root = root_of(core, pid);
-    let own = take_copy(core, shown, page)?;
-    set_full(core, root, page, attr, own, true);
+    let own = take_copy(core, shown, spot.page)?;
+    set_full(core, spot, attr, own, true);
     if was.is_private() {
         core.frames.release(shown);
     }

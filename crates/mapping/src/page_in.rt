@@ -12,7 +12,7 @@ ghost use Rattle.paging.specs.Calls.{Frees, Refuses};
 ghost use Rattle.paging.specs.Capacity.{IsShort};
 ghost use Rattle.paging.specs.Stalls.{HasReadCause};
 ghost use Rattle.mapping.specs.Asking.{AsksSlots, AsksNoNew, IsSectorOfPage, IsSectorOfFile};
-ghost use Rattle.mapping.specs.Changes.{KeepsBare, KeepsSeen, KeepsSlotted};
+ghost use Rattle.mapping.specs.Changes.{KeepsBare, KeepsRows, KeepsSeen, KeepsSlotted};
 ghost use Rattle.mapping.specs.Files.{Proceeds, BringsFiles, IsInStore};
 
 use disk_model::SectorDisk;
@@ -39,6 +39,7 @@ pub fn cached<D: SectorDisk, E: SectorDisk, M: Levels>(
     ensures brings { BringsFiles D.SectorDisk E.SectorDisk (λ p. p ≡ page) core.old core.new }
     ensures keeps { KeepsSeen (picture_of core.old) (picture_of core.new) }
     ensures bare { KeepsBare (picture_of core.old) (picture_of core.new) }
+    ensures rows { KeepsRows (picture_of core.old) (picture_of core.new) }
     ensures slotted { KeepsSlotted (λ p. p ≡ page) (λ q p. ⊥) (picture_of core.old) (picture_of core.new) }
     ensures placed { IfOk result (λ n. (picture_of core.new).place page ≡ Frame n) }
     ensures idle { (n : FrameNo) → (picture_of core.old).place page ≡ Frame n → (core.new ≡ core.old) × OnErr result ⊥ }
@@ -54,12 +55,48 @@ pub fn cached<D: SectorDisk, E: SectorDisk, M: Levels>(
 {
     match core.cache.place(page) {
         Place::Frame(frame) => Ok(frame),
+        place => bring(core, page, place),
+    }
+}
+
+// The same of a page that lies in no frame, but at that place. (never inlined: a page that lies in a frame is not to pay for it)
+#[inline(never)]
+fn bring<D: SectorDisk, E: SectorDisk, M: Levels>(
+    core: &mut Core<D, E, M>,
+    page: PageKey,
+    place: Place,
+) -> Result<FrameNo, Stall>
+    requires fit { IsFit (picture_of core.old) }
+    requires store { IsReadyStore D.SectorDisk core.old.store }
+    requires swap { IsReady E.SectorDisk core.old.swap }
+    requires inside { IsPageFor (picture_of core.old) page }
+    requires place { (picture_of core.old).place page ≡ place }
+    requires away { (n : FrameNo) → place ≢ Frame n }
+    ensures proceeds { Proceeds D.SectorDisk E.SectorDisk core.old core.new }
+    ensures brings { BringsFiles D.SectorDisk E.SectorDisk (λ p. p ≡ page) core.old core.new }
+    ensures keeps { KeepsSeen (picture_of core.old) (picture_of core.new) }
+    ensures bare { KeepsBare (picture_of core.old) (picture_of core.new) }
+    ensures rows { KeepsRows (picture_of core.old) (picture_of core.new) }
+    ensures slotted { KeepsSlotted (λ p. p ≡ page) (λ q p. ⊥) (picture_of core.old) (picture_of core.new) }
+    ensures placed { IfOk result (λ n. (picture_of core.new).place page ≡ Frame n) }
+    ensures frees { OnErr result (Frees (picture_of core.old) (picture_of core.new) None) }
+    ensures home { IfErr result (λ stall. stall ≡ Stall.StoreDevice → IsInStore (picture_of core.old) page) }
+    ensures read { (core.new.store ≡ core.old.store) ⊎ IsInStore (picture_of core.old) page }
+    ensures asks { AsksSlots E.SectorDisk core.old core.new None (IsSectorOfPage (picture_of core.old) page) }
+    ensures asks_store { AsksOnly D.SectorDisk (IsSectorOfFile core.old.store page) core.old.store.disk core.new.store.disk }
+    ensures asks_later { IfOk result (λ n. AsksNoNew (picture_of core.old) (picture_of core.new) (Some n) (IsSectorOfPage (picture_of core.old) page)) }
+    ensures refuses { IfErr result (λ stall. stall ≢ Stall.StoreDevice → Refuses (picture_of core.new) None stall) }
+    ensures short { IfErr result (IsShort (picture_of core.new)) }
+    ensures cause { HasReadCause D.SectorDisk E.SectorDisk core.old core.new result }
+{
+    match place {
+        Place::Frame(_) => unreachable!(),
         Place::Home => bring_home(core, page),
         Place::Slot(slot) => core.bring_back(page, slot),
     }
 }
 
-/// The same of a page that is at home.
+// Of a page that is at home.
 fn bring_home<D: SectorDisk, E: SectorDisk, M: Levels>(
     core: &mut Core<D, E, M>,
     page: PageKey,
@@ -73,6 +110,7 @@ fn bring_home<D: SectorDisk, E: SectorDisk, M: Levels>(
     ensures brings { BringsFiles D.SectorDisk E.SectorDisk (λ p. p ≡ page) core.old core.new }
     ensures keeps { KeepsSeen (picture_of core.old) (picture_of core.new) }
     ensures bare { KeepsBare (picture_of core.old) (picture_of core.new) }
+    ensures rows { KeepsRows (picture_of core.old) (picture_of core.new) }
     ensures slotted { KeepsSlotted (λ p. p ≡ page) (λ q p. ⊥) (picture_of core.old) (picture_of core.new) }
     ensures placed { IfOk result (λ n. (picture_of core.new).place page ≡ Frame n) }
     ensures frees { OnErr result (Frees (picture_of core.old) (picture_of core.new) None) }

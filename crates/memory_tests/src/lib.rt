@@ -6,6 +6,8 @@ mod bench;
 #[cfg(test)]
 mod hands;
 #[cfg(test)]
+mod notes;
+#[cfg(test)]
 mod places;
 #[cfg(test)]
 mod runs;

@@ -5,7 +5,7 @@ ghost use Rattle.vm_types.specs.Attributes.{backing_fits};
 use crate::bench::equal;
 use regions::Regions;
 use std::process::Abort;
-use vm_types::{Attr, Backing, FilePage, Levels, Prot, Sv39, Sv48, TooManyRuns, Vpn};
+use vm_types::{Attr, Backing, FilePage, Levels, PageKey, Prot, Sv39, Sv48, TooManyRuns, Vpn};
 
 /// What is done with a row of pages; what is mapped are zeros, or shared pages of file 0 from one on.
 #[derive(Clone, Copy)]
@@ -129,6 +129,12 @@ fn a_map_tells_what_its_pages_are(rt: HostRuntime) {
     equal(&rt, copy.at(page), Some(third));
     let next = copy.next_run(0x21).expect(&rt, "a mapped page");
     equal(&rt, (next.first, next.end), (0x21, 0x25));
+    let key = PageKey::File(FilePage { file: 0, page: 2 });
+    equal(
+        &rt,
+        [copy.first_on(0x10, key), copy.first_on(0x23, key)],
+        [Some(page), None],
+    );
 }
 
 // The first address that Sv39 has no page for, and the last page of Sv48.

@@ -1,5 +1,5 @@
 //! Frames and page tables behind a buffer: what stands in a table, which walks find a line, and where all of them lead.
-ghost use Rattle.std.specs.Prelude.{◌≡◌, ◌<◌, IfOk};
+ghost use Rattle.std.specs.Prelude.{ℕ, ◌≡◌, ◌<◌, IfOk};
 ghost use Rattle.vm_types.specs.Limits.{top_level, user_end};
 ghost use Rattle.page_tables.specs.Change.{AddsTable};
 ghost use Rattle.page_tables.specs.Entry.{IsEntry};
@@ -9,8 +9,8 @@ use crate::bench::equal;
 use bitflags::Flags;
 use frames::Role;
 use mapped_memory::{
-    Memory, entry, entry_number, keep, link_table, missing_tables, number_in, prune, set, set_in,
-    table_of, take_table, walk,
+    Memory, entry, entry_number, keep_at, link_table, missing_tables, number_in, prune, set,
+    set_in, table_of, take_table, walk,
 };
 use page_tables::{Entry, Grant, entry_over};
 use std::alloc::{AllocError, Global};
@@ -41,18 +41,24 @@ struct Tree<M: Levels> {
     page: Vpn,
 }
 
-fn new_table<M: Levels>(rt: &impl Abort, memory: &mut Memory<M>) -> FrameNo
+pub(crate) fn new_table<M: Levels>(rt: &impl Abort, memory: &mut Memory<M>) -> FrameNo
     requires { IsForest memory.old }
     ensures { AddsTable memory.old memory.new (top_level M.mode) result.0 }
 {
     take_table(memory).expect(rt, "a free frame")
 }
 
-fn add_table<M: Levels>(rt: &impl Abort, memory: &mut Memory<M>, root: FrameNo, page: Vpn)
+pub(crate) fn add_table<M: Levels>(
+    rt: &impl Abort,
+    memory: &mut Memory<M>,
+    root: FrameNo,
+    page: Vpn,
+)
     requires forest { IsForest memory.old }
     requires root { IsRoot (top_level M.mode) memory.old root.0 }
     ensures forest { IsForest memory.new }
     ensures root { IsRoot (top_level M.mode) memory.new root.0 }
+    ensures others { (r : ℕ) → IsRoot (top_level M.mode) memory.old r → IsRoot (top_level M.mode) memory.new r }
 {
     let table = new_table(rt, memory);
     assert!(rt; missing_tables(memory, root, page) != 0);
@@ -156,7 +162,8 @@ fn tables_are_given_back<M: Levels>(rt: &impl Abort, alloc: Global) -> Result<()
     let mut tree = plant_tree::<M>(rt, alloc)?;
     assert!(rt; missing_tables(&tree.memory, tree.root, tree.page) == 0);
     set(&mut tree.memory, tree.root, tree.page, checked(rt, FIFTH));
-    keep(&mut tree.memory, tree.root, tree.page, Access::Load);
+    let table = table_of(&tree.memory, tree.root, tree.page).expect(rt, "a lowest table");
+    keep_at(&mut tree.memory, tree.root, tree.page, table, Access::Load);
     walk_twice(rt, &mut tree.memory, tree.root, Ok(21383), 2);
     clear(rt, &mut tree.memory, tree.root, tree.page);
     walk_twice(rt, &mut tree.memory, tree.root, NOWHERE, 2);

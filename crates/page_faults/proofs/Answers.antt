@@ -6,7 +6,7 @@ use Rattle.vm_types.specs.declared.access.Access.{Access}
 use Rattle.vm_types.specs.declared.number.Phys.{Phys}
 use Rattle.sv39_walk.specs.declared.translation.WalkFault.{WalkFault}
 use Rattle.sv39_walk.specs.declared.translation.WalkFault.TheVariants.{Invalid, Reserved, TooDeep, Outside, Misaligned, Denied, NotAccessed, NotDirty}
-use Rattle.sv39_walk.specs.Entry.{has_bit, is_valid, is_user, is_accessed, is_dirty, is_reserved, is_leaf, frame_of, grants}
+use Rattle.sv39_walk.specs.Entry.{is_valid, is_user, is_accessed, is_dirty, is_reserved, is_leaf, frame_of, grants}
 use Rattle.sv39_walk.specs.Walk.{page_of, frame_in, is_store, answer_of}
 use Rattle.page_faults.specs.Granted.{Opens}
 
@@ -101,8 +101,3 @@ answer-places count addr access e phys h =
       inside = rw (← own) (frame_below (frame_in 0 e (page_of addr)) count j.0);
       place = same_number phys _ (sym j.1) ∙ ap (λ x. x * 4096 + addr % 4096) own;
     }
-
--- nothing is no place
-pub answer-nothing : (count addr : ℕ) (access : Access) (level : ℕ) → answer_of count addr access level 0 ≡ Err Invalid
-unfolding answer_of has_bit
-answer-nothing count addr access level = refl

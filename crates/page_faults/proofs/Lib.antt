@@ -1,6 +1,5 @@
 pub mod Answers
 pub mod Unchanged
-pub mod Walks
 pub mod Opening
 pub mod Pages
 pub mod Ready

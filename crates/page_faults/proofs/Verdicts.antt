@@ -12,6 +12,7 @@ use Rattle.vm_types.specs.declared.region.Attr.{Attr}
 use Rattle.vm_types.specs.declared.region.Backing.{Backing}
 use Rattle.vm_types.specs.declared.region.Backing.TheVariants.{Anon, Private, Shared, Common}
 use Rattle.vm_types.specs.declared.width.Width.{Width}
+use Rattle.vm_types.specs.declared.refusal.Code.{Code}
 use Rattle.vm_types.specs.declared.refusal.Code.TheVariants.{SegvMaperr, SegvAccerr, BusAdrerr}
 use Rattle.vm_types.specs.Attributes.{stands_on}
 use Rattle.vm_types.specs.Files.{Files}
@@ -26,14 +27,14 @@ use Rattle.paging.specs.Picture.{Picture, is_live, entry, own_in, view}
 use Rattle.paging.specs.Parts.{IsFit, IsEntryFor, Nothing, Resident, Away, IsLeafFor, is_shared}
 use Rattle.paging.proofs.Entries.{entry-of}
 use Rattle.paging.proofs.Moves.{view-none}
-use Rattle.page_faults.specs.declared.finding.Finding.{Finding}
-use Rattle.page_faults.specs.Found.{IsOpenTo, Judges, Finds, IsUnwalked}
+use Rattle.page_faults.specs.declared.finding.Way.{Way}
+use Rattle.page_faults.specs.Found.{IsOpenTo, IsWayTo, IsFineAt, IsUnwalked}
 use Rattle.mapping.specs.Changes.{KeepsSeen}
 use Rattle.page_faults.specs.Shown.{AreShown}
 use Rattle.page_faults.specs.Outcome.{verdict_of, seen_at, Owns, IsReadyToStore, IsReadyFor, IsOpenToStore, IsOpenFor, IsPlaced, Grants}
 use Rattle.page_faults.specs.Granted.{Opens, IsEntered, IsReadyAt}
 use Rattle.page_faults.proofs.Answers.{Places, answer-ok, answer-places}
-use Rattle.page_faults.proofs.Walks.{translated-entry}
+use Rattle.mapped_memory.proofs.Walks.{translated-entry}
 use Rattle.page_faults.proofs.Ready.{valid_zero, valid_some, valid_here, resident, shown_there, view-mapped, reads, touches, owns}
 
 -- user pages alone are mapped
@@ -240,22 +241,21 @@ module _ {mode : ℕ} where
       ]
 
 -- what is known of a page by region and file says what the access finds
-pub finds_judged : {mode : ℕ} (c : Picture mode) (pid addr : ℕ) (width : Width) (access : Access) (page : ℕ) (found : Finding) → page ≡ addr / 4096 → addr % byte_count width ≡ 0
-    → IsUnwalked c pid addr access → Judges c pid page access found → Finds c pid addr width access found
-finds_judged c pid addr width access page (Finding.Place phys) is aligned unwalked judges = absurd judges
-finds_judged c pid addr width access page (Finding.Page found attr) is aligned unwalked judges =
-    let there : found ≡ addr / 4096 = judges.0 ∙ is in
-    let P : ℕ → Type 0 = λ x. IsOpenTo c pid x access attr in
-    let allowed = subst P (sym judges.0) judges.1 in
-    record {
-      page_is = there;
-      allowed = allowed;
-      fine = verdict-aligned c pid addr width access aligned ∙ ap (λ k. page_verdict c.files (view c pid k) access) (sym there)
-          ∙ verdict-fine c pid found access attr allowed.mapped allowed.lets allowed.inside;
-      unwalked = unwalked;
-    }
-finds_judged c pid addr width access page (Finding.Fault code) is aligned unwalked judges =
-    verdict-aligned c pid addr width access aligned ∙ ap (λ k. page_verdict c.files (view c pid k) access) (sym is) ∙ judges
+module _ {mode : ℕ} (c : Picture mode) (pid addr : ℕ) (width : Width) (access : Access) (page : ℕ) (is : page ≡ addr / 4096) (aligned : addr % byte_count width ≡ 0) where
+  by_page : verdict_of c pid addr width access ≡ page_verdict c.files (view c pid page) access
+  by_page = verdict-aligned c pid addr width access aligned ∙ ap (λ k. page_verdict c.files (view c pid k) access) (sym is)
+
+  pub finds_fine : (attr : Attr) (way : Way) → IsUnwalked c pid addr access → IsWayTo c pid page way → IsOpenTo c pid page access attr → IsFineAt c pid addr width access page attr way
+  finds_fine attr way unwalked walked allowed = record {
+    page_is = is;
+    allowed = allowed;
+    fine = by_page ∙ verdict-fine c pid page access attr allowed.mapped allowed.lets allowed.inside;
+    unwalked = unwalked;
+    walked = walked;
+  }
+
+  pub finds_fault : (code : Code) → page_verdict c.files (view c pid page) access ≡ Faults code → verdict_of c pid addr width access ≡ Faults code
+  finds_fault code faults = by_page ∙ faults
 
 -- an address of no user page
 pub verdict-outside : {mode : ℕ} (c : Picture mode) (pid addr : ℕ) (width : Width) (access : Access) → IsFit c → addr % byte_count width ≡ 0

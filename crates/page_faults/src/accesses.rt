@@ -13,7 +13,7 @@ ghost use Rattle.page_faults.specs.Outcome.{IsPlaced, Grants, IsRefusal, IsWalke
 ghost use Rattle.page_faults.specs.Asking.{AsksForPage};
 
 use crate::faults::fault;
-use crate::finding::{Finding, PAGE, find, keep_line};
+use crate::finding::{Finding, find, keep_line, place_in};
 use crate::granting::grant;
 use crate::refusal::AccessRefusal;
 use disk_model::SectorDisk;
@@ -64,10 +64,10 @@ pub fn access<D: SectorDisk, E: SectorDisk, M: Levels>(
     match find(core, pid, addr, width, access) {
         Finding::Place(place) => Ok(place),
         Finding::Fault(code) => Err(AccessRefusal::Fault(fault(access, code, addr))),
-        Finding::Page(page, attr) => {
-            let frame = grant(core, pid, page, attr, access)?;
-            keep_line(core, pid, page, access);
-            Ok(Phys(u64::from(frame.0) * PAGE + addr % PAGE))
+        Finding::Page(page, attr, way) => {
+            let frame = grant(core, pid, page, attr, way, access)?;
+            keep_line(core, pid, page, way, access);
+            Ok(place_in(frame, addr))
         }
     }
 }

@@ -5,12 +5,14 @@ pub mod BetweenEntries
 pub mod Sharing
 pub mod Returning
 pub mod ClearedPages
+pub mod ClearedPlaces
 pub mod Pruned
 pub mod Emptied
 pub mod Passed
 pub mod NewRegions
 pub mod LeafEntries
 pub mod PermittedRows
+pub mod StillNamed
 pub mod Reprotected
 pub mod Forgotten
 pub mod Named

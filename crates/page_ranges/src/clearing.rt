@@ -1,5 +1,5 @@
 //! Pages without entries.
-ghost use Rattle.std.specs.Prelude.{◌≡◌, ℕ, ◌+◌, ◌*◌, ◌/◌, ◌<◌, ◌≤◌, ◌^◌, true};
+ghost use Rattle.std.specs.Prelude.{◌≡◌, ℕ, ◌+◌, ◌*◌, ◌/◌, ◌%◌, ◌<◌, ◌≤◌, ◌^◌, true};
 ghost use Rattle.vm_types.specs.Limits.{top_level, user_end, table_entries};
 ghost use Rattle.page_tables.specs.Entry.{IsPageEntry};
 ghost use Rattle.page_tables.specs.Places.{IsTableOf};
@@ -12,13 +12,13 @@ ghost use Rattle.mapping.specs.Changes.{IsWhole};
 ghost use Rattle.page_ranges.specs.Rows.{RemapsRow};
 ghost use Rattle.page_ranges.specs.Steps.{KeepsBesideMemory, KeepsEntriesOfOthers, SameTables, ReturnsTables, ReturnsSlots, Clears, IsWithoutTables, IsCleared, LacksHolder, ReturnsSeat, IsStepEnd};
 
-use crate::entries::next_entry;
-use crate::rows::{next_part, span_end, table_end, user_page};
+use crate::entries::next_place;
+use crate::rows::{TableRow, next_part, span_end, table_end, table_start, user_page};
 use mapped_memory::{last_table, number_in, prune, set_in, table_of};
 use mapping::root_of;
 use page_tables::{Entry, decode};
 use paging::Core;
-use sv39_walk::{Pte, TABLE_ENTRIES};
+use sv39_walk::Pte;
 use vm_types::{FrameNo, Levels, Pid, USER_START, Vpn};
 
 /// Takes the entries of the `pages` pages from `first` on out of the tables of a live process, with the own copies that
@@ -115,41 +115,49 @@ fn clear_table<D, E, M: Levels>(core: &mut Core<D, E, M>, pid: Pid, start: Vpn, 
     let Ok(table) = table_of(&core.frames, root, start) else {
         unreachable!();
     };
-    let mut page = next_entry(&core.frames, table, start.get(), stop);
-    while page < stop {
-        clear_page(core, pid, root, table, user_page::<M>(page));
-        page = next_entry(&core.frames, table, page + 1, stop);
+    let first = table_start(start);
+    let row = TableRow { root, table, first };
+    let end = (stop - first) as usize;
+    let mut index = (start.get() - first) as usize;
+    while index < end {
+        index = clear_at(core, pid, row, index, end);
     }
     prune(&mut core.frames, root, start);
 }
 
-/// Takes the entry of a page out, to which no table is missing, and gives back the share of the frame or the slot that it names
-/// as the process's own. The table may be without entries then. Where the page has none, nothing is written.
-fn clear_page<D, E, M: Levels>(
+/// Takes the entry at place `index` of a table out, and gives back the share of the frame or the slot that it names as the
+/// process's own. Where the place has none, nothing is written. The result is the next place, and before `end`, that may have
+/// one. The table may be without entries then.
+fn clear_at<D, E, M: Levels>(
     core: &mut Core<D, E, M>,
     pid: Pid,
-    root: FrameNo,
-    table: FrameNo,
-    page: Vpn,
-)
+    row: TableRow,
+    index: usize,
+    end: usize,
+) -> usize
     requires fit { IsFit (picture_of core.old) }
-    requires root { (picture_of core.old).root pid ≡ Some root.0 }
-    requires inside { IsPage (top_level M.mode) page }
-    requires place { IsTableOf core.old.frames (top_level M.mode) root.0 (page / table_entries) table.0 }
+    requires root { (picture_of core.old).root pid ≡ Some row.root.0 }
+    requires place { IsTableOf core.old.frames (top_level M.mode) row.root.0 (row.first / table_entries) row.table.0 }
+    requires begins { row.first % table_entries ≡ 0 }
+    requires below { index < end }
+    requires in_table { end ≤ table_entries }
+    requires high { row.first + end ≤ user_end M.mode }
     ensures fit { IsFit (picture_of core.new) }
-    ensures clears { Clears (picture_of core.old) (picture_of core.new) pid page (page + 1) }
+    ensures further { index < result }
+    ensures within { result ≤ end }
+    ensures clears { Clears (picture_of core.old) (picture_of core.new) pid (row.first + index) (row.first + result) }
     ensures tables { SameTables core.old.frames core.new.frames }
-    ensures places { (row n : ℕ) → IsTableOf core.old.frames (top_level M.mode) root.0 row n → IsTableOf core.new.frames (top_level M.mode) root.0 row n }
+    ensures places { (n m : ℕ) → IsTableOf core.old.frames (top_level M.mode) row.root.0 n m → IsTableOf core.new.frames (top_level M.mode) row.root.0 n m }
     ensures rest { KeepsBesideMemory core.old core.new }
     ensures refused { core.new.refused ≡ core.old.refused }
 {
-    let index = (page.get() % TABLE_ENTRIES) as usize;
-    let number = number_in(&core.frames, table, index);
+    let number = number_in(&core.frames, row.table, index);
     if number.to_u64() == 0 {
-        return;
+        return next_place(&core.frames, row.table, index, end);
     }
-    set_in(&mut core.frames, table, index, Entry::None);
+    set_in(&mut core.frames, row.table, index, Entry::None);
     give_back(core, number);
+    index + 1
 }
 
 /// Gives back the share of the frame or the slot that an entry named as its process's own, where it named one. The entry is
@@ -162,12 +170,11 @@ fn give_back<D, E, M: Levels>(core: &mut Core<D, E, M>, number: Pte)
     ensures rest { KeepsBesideMemory core.old core.new }
     ensures refused { core.new.refused ≡ core.old.refused }
 {
+    if number.is_private() {
+        core.frames.release(number.frame_number());
+        return;
+    }
     if let Entry::Swapped(slot) = decode(number) {
         core.swap.release(slot);
-        return;
     }
-    if !number.is_private() {
-        return;
-    }
-    core.frames.release(number.frame_number());
 }

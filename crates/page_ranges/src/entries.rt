@@ -28,6 +28,20 @@ pub fn next_entry<M: Levels>(memory: &Memory<M>, table: FrameNo, page: u64, stop
     next_set(memory, table, page, stop)
 }
 
+/// The first place from `index` on, and before `end`, of that lowest table at which an entry stands; `end` where none does. The
+/// places are looked at many at a time.
+pub fn next_place<M: Levels>(memory: &Memory<M>, table: FrameNo, index: usize, end: usize) -> usize
+    requires table { IsTable memory.now table.0 }
+    requires order { index ≤ end }
+    requires in_table { end ≤ table_entries }
+    ensures from { index ≤ result }
+    ensures within { result ≤ end }
+    ensures passed { (root p : ℕ) → IsTableOf memory.now (top_level M.mode) root (p / table_entries) table.0 → index ≤ p % table_entries → p % table_entries < result → page_entry memory.now (top_level M.mode) root p ≡ 0 }
+    ensures found { (root p : ℕ) → IsTableOf memory.now (top_level M.mode) root (p / table_entries) table.0 → p % table_entries ≡ result → result < end → page_entry memory.now (top_level M.mode) root p ≢ 0 }
+{
+    next_set(memory, table, index as u64, end as u64) as usize
+}
+
 /// The first number from `first` on, and before `stop`, at whose place of a table an entry stands; `stop` where none does. The
 /// place of a number is its remainder by 512: in a lowest table the numbers are pages, and in one above it those of the tables
 /// below.

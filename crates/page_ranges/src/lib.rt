@@ -13,9 +13,9 @@ mod remapping;
 mod rows;
 
 pub use clearing::clear_row;
-pub use entries::next_entry;
+pub use entries::{next_entry, next_place};
 pub use forgetting::forget_row;
 pub use numbering::free_object;
 pub use permitting::reprotect;
 pub use remapping::remap;
-pub use rows::{gap_end, table_end, user_page};
+pub use rows::{gap_end, table_end, table_start, user_page};

@@ -24,6 +24,14 @@ pub(crate) struct Part {
     pub(crate) end: u64,
 }
 
+/// A row of 512 pages whose entries stand in one lowest table of the tree of `root`. It begins with the page `first`.
+#[derive(Clone, Copy)]
+pub(crate) struct TableRow {
+    pub(crate) root: FrameNo,
+    pub(crate) table: FrameNo,
+    pub(crate) first: u64,
+}
+
 /// The user page of that number, from 16 up to, not including, the end of the mode's user pages.
 pub fn user_page<M: Levels>(number: u64) -> Vpn
     requires low { user_start ≤ number }
@@ -34,6 +42,13 @@ pub fn user_page<M: Levels>(number: u64) -> Vpn
         unreachable!();
     };
     page
+}
+
+/// The first page of the same lowest table; it can lie before the user pages.
+pub fn table_start(page: Vpn) -> u64
+    ensures { result ≡ page / table_entries * table_entries }
+{
+    page.get() / TABLE_ENTRIES * TABLE_ENTRIES
 }
 
 /// The first page past those of the same lowest table; it can lie one past the user pages.

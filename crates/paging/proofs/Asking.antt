@@ -3,7 +3,6 @@ use Rattle.vm_types.specs.declared.mode.Levels as Levels
 use Rattle.vm_types.specs.Limits.{top_level}
 use Rattle.std.proofs.Common.{◌≡◌, ◌≢◌, ℕ, ◌⊎◌, inl, inr, true, Option, refl, sym, ap, ◌∙◌, subst, arith}
 use Rattle.std.proofs.lemmas.Bool.{cases_eq}
-use Rattle.vm_types.specs.declared.object.PageKey.{PageKey}
 use Rattle.vm_types.specs.declared.number.FrameNo.{FrameNo}
 use Rattle.disk_model.specs.declared.sector_disk.SectorDisk.{Ghosts}
 use Rattle.disk_model.specs.Moments.{AsksOnly, Nothing}
@@ -18,13 +17,12 @@ use Rattle.swap.specs.declared.pages.Pages.{Pages}
 use Rattle.swap.specs.Slots.{slots_of, IsSectorOfSlot, IsSectorOfFreeSlot}
 use Rattle.swap.specs.Slots as Slots
 use Rattle.page_cache.specs.CacheTable.{place_of, is_touched}
-use Rattle.page_tables.specs.Tree.{IsPage}
 use Rattle.page_tables.proofs.Data.{KeepsTrees, data_changed}
 use Rattle.paging.specs.declared.kernel.Core.{Core}
 use Rattle.paging.specs.Picture.{Picture, picture_of, entry, is_data}
 use Rattle.paging.specs.Parts.{IsFit}
 use Rattle.paging.specs.Ages.{Ages, GivesFrame, WantsFrame}
-use Rattle.paging.specs.Calls.{Frees, NeedsSlot, IsSpareable, GivesToSwap, AsksSwap, AsksSwapAlso, AsksOneSlot}
+use Rattle.paging.specs.Calls.{Frees, NeedsSlot, GivesToSwap, AsksSwap, AsksSwapAlso, AsksOneSlot}
 use Rattle.paging.specs.Evictions.{IsEvictable, ClearsMarks, Looked, GivesUp}
 use Rattle.paging.proofs.Entries.{entries_kept}
 use Rattle.paging.proofs.Giving.{frame_given}

@@ -1,6 +1,6 @@
 -- A page of a file or an object that lay in a slot is at home and touched no more, and its slot is free.
 use Rattle.vm_types.specs.Limits.{top_level}
-use Rattle.std.proofs.Common.{◌≡◌, ◌≢◌, ℕ, inl, inr, ◌<◌, true, false, Some, None, refl, sym, ap, ◌∙◌, subst, arith}
+use Rattle.std.proofs.Common.{◌≡◌, ◌≢◌, ℕ, inl, inr, ◌<◌, false, Some, None, refl, sym, ap, ◌∙◌, subst, arith}
 use Rattle.std.proofs.lemmas.Bool.{false≢true}
 use Rattle.vm_types.specs.declared.object.PageKey.{PageKey}
 use Rattle.frames.specs.FrameTable.{role_of, bytes_of, count_of}

@@ -2,7 +2,7 @@
 use Rattle.vm_types.specs.declared.mode.Levels as Levels
 use Rattle.vm_types.proofs.Modes.{user_pages_fit}
 use Rattle.vm_types.specs.Limits.{user_end, top_level}
-use Rattle.std.proofs.Common.{◌≡◌, ◌≢◌, ℕ, inl, inr, ◌⊎◌, ◌+◌, ◌-◌, ◌^◌, ◌<◌, ◌≤◌, true, false, List, [], Option, Some, None, get_or, refl, sym, ap, ◌∙◌, subst, arith}
+use Rattle.std.proofs.Common.{◌≡◌, ◌≢◌, ℕ, inl, inr, ◌⊎◌, ◌+◌, ◌-◌, ◌<◌, ◌≤◌, true, false, List, [], Option, Some, None, get_or, refl, sym, ap, ◌∙◌, subst, arith, ne_eqb}
 use Rattle.std.specs.Prelude.{IsSome, IfNone, is_some}
 use Rattle.std.proofs.lemmas.Bool.{cases_eq, cases_Bool, false≢true}
 use Rattle.std.proofs.lemmas.Option.{same_Some}
@@ -12,8 +12,8 @@ use Rattle.vm_types.specs.declared.region.Attr.{Attr}
 use Rattle.vm_types.specs.declared.region.Backing.{Backing}
 use Rattle.vm_types.specs.declared.region.Backing.TheVariants as Backings
 use Rattle.vm_types.specs.declared.object.PageKey.TheVariants.{File, Object}
-use Rattle.vm_types.specs.Attributes.{backing_after, attr_after, stands_on}
-use Rattle.frames.specs.declared.role.Role.TheVariants.{Free, Table, Private, Cache}
+use Rattle.vm_types.specs.Attributes.{backing_after, stands_on}
+use Rattle.frames.specs.declared.role.Role.TheVariants.{Free, Zero, Table, Private, Cache}
 use Rattle.frames.specs.FrameTable.{FrameTable, role_of}
 use Rattle.sv39_walk.specs.Entry.{is_valid, is_dirty, is_pointer, frame_of, entry_at}
 use Rattle.sv39_walk.specs.Walk.{index_of}
@@ -22,18 +22,21 @@ use Rattle.page_tables.specs.Tree.{IsPage, IsTable, IsForest, missing_of, last_t
 use Rattle.page_tables.proofs.Ends.{way_forth, last_is, page_entry-missing}
 use Rattle.page_tables.proofs.Ways.{ends, index_of-lt}
 use Rattle.regions.specs.declared.run.Run.{Run}
-use Rattle.regions.specs.RunList.{attr_at, IsNextRun}
+use Rattle.regions.specs.RunList.{attr_at}
+use Rattle.regions.specs.Search.{StandsOn}
 use Rattle.page_cache.specs.declared.place.Place.TheVariants.{Home, Frame}
 use Rattle.paging.specs.declared.leaves.Change.{Change}
 use Rattle.paging.specs.declared.leaves.Change.TheVariants.{Forget, ClearAccessed, ClearDirty}
 use Rattle.paging.specs.Seats.{Seat, InFrame, InSlot, seat, is_private}
 use Rattle.paging.specs.declared.kernel.Core.{Core}
 use Rattle.paging.specs.Picture.{Picture, picture_of, attr_where, root_in, number_of_frame, entry, bytes_in, IsOwned, count_in, page_in}
-use Rattle.paging.specs.Parts.{IsEntryFor, IsResident, IsBehind, IsFit, nowhere}
+use Rattle.mapped_memory.specs.Notes.{Names}
+use Rattle.mapped_memory.proofs.Numbers.{is_number, of_number}
+use Rattle.paging.specs.Parts.{IsEntryFor, IsResident, IsBehind, IsFit, AsRoot, OnWay, nowhere}
 use Rattle.paging.specs.Steps.{SameBeside, SetsPage}
 use Rattle.paging.specs.declared.leaves.Held.{Held}
 use Rattle.paging.specs.declared.leaves.Held.TheVariants.{Own, Filed}
-use Rattle.paging.specs.Leaves.{concerns, IsOver, IsChanged, ChangesLeaves, Holds, KeepsAllButFrames, IsPageOver, IsRunOf, key_after}
+use Rattle.paging.specs.Leaves.{concerns, IsOver, IsChanged, ChangesLeaves, Holds, KeepsAllButFrames, AreKinds, IsPageOver, key_after}
 use Rattle.paging.proofs.Bits.{some_framed, resident_of, changed_once, seat_changed, for_changed, valid_zero, leaf_accessed}
 use Rattle.paging.proofs.Entries.{entry-of}
 use Rattle.paging.proofs.Granting.{entry_for-same, granting_changed}
@@ -42,7 +45,7 @@ use Rattle.paging.proofs.Places.{places_same, dirty_changed}
 use Rattle.paging.proofs.Seats.{counted_same}
 use Rattle.paging.proofs.Start.{entry-dead}
 use Rattle.paging.proofs.TableSteps.{sets_page, rooted_set}
-use Rattle.paging.proofs.Ways.{by_page}
+use Rattle.paging.proofs.Ways.{by_page, begins_table}
 use Rattle.std.specs.Prelude.{option_map}
 
 -- where an entry was set, each way ends where it ended
@@ -186,23 +189,12 @@ over_after run first p k is over = let x = number_after run.attr.backing (k - ru
 pub one_after : (p : PageKey) (n m : ℕ) → key_after p n ≡ key_after p m → n ≡ m
 one_after p n m e = let same : offset_of p + n ≡ offset_of p + m = sym (offset_after p n) ∙ ap offset_of e ∙ offset_after p m in omega (arith, same)
 
--- an entry over the frame of a page of a file or an object, within a run, is over the run's page for it
-pub over_in_run : {mode : ℕ} (c : Picture mode) (change : Change) (n pid k : ℕ) (run : Run) (p : PageKey) → IsFit c → 0 < n → c.place p ≡ Frame (record { 0 = n }) → IsRunOf c pid run → run.first ≤ k → k < run.end
-    → IsOver c change n pid k → IsPageOver run p k
-over_in_run {mode = mode} c change n pid k run p fit above at of low high over = record {
-  from = low;
-  below = high;
-  is = over_backed c change n pid k fit (let small = of.high in omega (arith, small, user_pages_fit mode)) over p (attr_after run.attr (k - run.first)) above at (of.mapped k low high);
-}
-
--- the next run of a process's regions
-pub run_of : {mode : ℕ} (c : Picture mode) (pid : ℕ) (runs : List Run) (page : ℕ) (run : Run) → ((k : ℕ) → c.at pid k ≡ attr_at runs k) → IsNextRun mode (attr_at runs) page run → IsRunOf c pid run
-run_of c pid runs page run at next = record {
-  low = next.low;
-  nonempty = next.nonempty;
-  high = next.high;
-  mapped = λ k low high. at k ∙ next.mapped k low high;
-}
+-- a page of a process with an entry over the frame of a page of a file or an object stands on that
+pub over_stands : {mode : ℕ} (c : Picture mode) (change : Change) (n pid k : ℕ) (runs : List Run) (p : PageKey) → IsFit c → 0 < n → c.place p ≡ Frame (record { 0 = n }) → ((j : ℕ) → c.at pid j ≡ attr_at runs j)
+    → IsPage (top_level mode) k → IsOver c change n pid k → StandsOn (attr_at runs) p k
+over_stands c change n pid k runs p fit above placed at h over =
+    let res = over_resident c change n pid k fit h over in
+    record { attr = res.0; mapped = sym (at k) ∙ res.1; on = over_backed c change n pid k fit h over p res.0 above placed res.1 }
 
 at_where : (r : Option ℕ) (runs : List Run) (page root : ℕ) → r ≡ Some root → attr_where r runs page ≡ attr_at runs page
 at_where r runs page root is = ap (λ x. attr_where x runs page) is
@@ -375,3 +367,41 @@ module _ {M : Type 0} {m : Levels.Ghosts M} {D E : Type 0} where
     looks = g.looks ∙ f.looks;
     refused = g.refused ∙ f.refused;
   }
+
+-- A page with an entry over the frame of a page of a file or an object is one that names it.
+module _ {mode : ℕ} (c : Picture mode) (change : Change) (n pid r k : ℕ) (fit : IsFit c) (root : c.root pid ≡ Some r) (h : IsPage (top_level mode) k) where
+  pub over_names : role_of c.frames n ≡ Cache → IsOver c change n pid k → Names mode c.frames r k n
+  over_names cache over =
+      let f = some_framed change (entry c pid k) over.concerned in
+      let u = over_user c change n pid k fit h over in
+      record {
+        number = entry c pid k;
+        is = of_number mode c.frames r k (entry c pid k) fit.rooted.forest (fit.rooted.roots pid r root) u.1 (sym (entry-of c pid r k root)) f.0;
+        framed = f.1;
+        common = over_common c change n pid k fit h over cache;
+        frame = over.frame;
+      }
+
+-- and a page that names a frame is a process's, with an entry over it
+pub names_over : {mode : ℕ} (c : Picture mode) (n r k : ℕ) → IsFit c → role_of c.frames 0 ≡ Zero → Names mode c.frames r k n → (pid : ℕ) × IsOver c Forget n pid k
+names_over {mode = mode} c n r k fit zero_role names =
+    let l = names.is in
+    let table : IsTable c.frames r = begins_table c.frames (top_level mode) r k (top_level mode) l.lowest l.table l.way in
+    let over : (pid : ℕ) → c.root pid ≡ Some r → IsOver c Forget n pid k = λ pid root.
+    let e : entry c pid k ≡ names.number = entry-of c pid r k root ∙ is_number mode c.frames r k names.number l in
+    record { concerned = rw (e, ne_eqb names.number 0 l.some, names.framed) refl; frame = ap frame_of e ∙ names.frame } in
+    elim (fit.rooted.used r table) [
+      | inl none ↦ (
+          let role : role_of c.frames 0 ≡ Table = ap (role_of c.frames) (sym none) ∙ table.role in
+          let bad : Zero ≡ Table = sym zero_role ∙ role in (cc))
+      | inr used ↦ elim used [
+        | AsRoot pid root ↦ (pid, over pid root)
+        | OnWay pid x page root mapped below ↦ absurd (l.unlinked below.2.0 _ below.2.2)
+      ]
+    ]
+
+pub kinds_kept : {mode : ℕ} (change : Change) (n kinds : ℕ) (old new : Picture mode) → ChangesLeaves change n old new → AreKinds old change n kinds → AreKinds new change n kinds
+kinds_kept change n kinds old new changes are = λ pid r page root h over. elim (changes.entries pid page h) [
+  | inl same ↦ are pid r page (sym (changes.beside.root pid) ∙ root) h (record { concerned = ap (concerns change) (sym same) ∙ over.concerned; frame = ap frame_of (sym same) ∙ over.frame })
+  | inr was ↦ are pid r page (sym (changes.beside.root pid) ∙ root) h was.0
+]

@@ -1,6 +1,6 @@
 -- The shares of a private frame, passed on to a slot one after the other.
 use Rattle.vm_types.specs.Limits.{user_end, top_level}
-use Rattle.std.proofs.Common.{◌≡◌, ◌≢◌, ℕ, ◌+◌, ◌^◌, ◌<◌, ◌≤◌, true, inl, inr, ◌⊎◌, Option, Some, None, is_some, refl, sym, ap, ◌∙◌, subst, arith}
+use Rattle.std.proofs.Common.{◌≡◌, ◌≢◌, ℕ, ◌+◌, ◌<◌, ◌≤◌, true, inl, inr, ◌⊎◌, Option, Some, None, is_some, refl, sym, ap, ◌∙◌, subst, arith}
 use Rattle.vm_types.specs.declared.region.Attr.{Attr}
 use Rattle.frames.specs.FrameTable.{role_of, count_of, bytes_of}
 use Rattle.swap.specs.Slots.{Shares}

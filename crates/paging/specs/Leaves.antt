@@ -1,10 +1,9 @@
 -- The entries over one frame, and what becomes of them.
 use Rattle.vm_types.specs.declared.mode.Levels as Levels
 use Rattle.std.specs.Prelude.{◌≡◌, ◌≢◌, ◌⊎◌, ℕ, ◌==◌, ◌+◌, ◌-◌, ◌<◌, ◌≤◌, Bool, true, false, not, ◌&&◌, Some}
-use Rattle.vm_types.specs.Limits.{top_level, user_start, user_end}
+use Rattle.vm_types.specs.Limits.{top_level, user_end}
 use Rattle.vm_types.specs.declared.object.PageKey.{PageKey}
 use Rattle.vm_types.specs.declared.object.PageKey.TheVariants.{File, Object}
-use Rattle.vm_types.specs.declared.region.Backing.TheVariants.{Private}
 use Rattle.vm_types.specs.Attributes.{attr_after, file_page_after, object_page_after, stands_on}
 use Rattle.frames.specs.declared.role.Role.TheVariants as Role
 use Rattle.frames.specs.FrameTable.{frame_count, bytes_of, role_of, count_of}
@@ -12,6 +11,7 @@ use Rattle.sv39_walk.specs.Entry.{is_valid, can_read, can_write, can_execute, is
 use Rattle.page_tables.specs.Tree.{IsPage, Points, last_table}
 use Rattle.regions.specs.declared.run.Run.{Run}
 use Rattle.page_cache.specs.declared.place.Place.TheVariants.{Frame}
+use Rattle.mapped_memory.specs.Notes.{HasKind}
 use Rattle.paging.specs.declared.kernel.Core.{Core}
 use Rattle.paging.specs.declared.leaves.Change.{Change}
 use Rattle.paging.specs.declared.leaves.Change.TheVariants.{Forget, ClearAccessed, ClearDirty}
@@ -42,6 +42,11 @@ module _ {mode : ℕ} where
 module _ {mode : ℕ} where
   abbrev pub HasEntryOver : Picture mode → Change → ℕ → Type 0
   HasEntryOver c change n = (pid : ℕ) × (page : ℕ) × IsPage (top_level mode) page × IsOver c change n pid page
+
+-- all that have one are in the trees of roots of these kinds
+module _ {mode : ℕ} where
+  abbrev pub AreKinds : Picture mode → Change → ℕ → ℕ → Type 0
+  AreKinds c change n kinds = (pid r page : ℕ) → c.root pid ≡ Some r → IsPage (top_level mode) page → IsOver c change n pid page → HasKind kinds r
 
 -- the first page of a process from a page on that has one
 module _ {mode : ℕ} where
@@ -110,11 +115,3 @@ pub record IsPageOver (run : Run) (p : PageKey) (k : ℕ) : Type 0 where
   pub from : run.first ≤ k
   pub below : k < run.end
   pub is : stands_on (attr_after run.attr (k - run.first)).backing ≡ Some p
-
--- a run of user pages of a process
-module _ {mode : ℕ} where
-  pub record IsRunOf (c : Picture mode) (pid : ℕ) (run : Run) : Type 0 where
-    pub low : user_start ≤ run.first
-    pub nonempty : run.first < run.end
-    pub high : run.end ≤ user_end mode
-    pub mapped : (k : ℕ) → run.first ≤ k → k < run.end → c.at pid k ≡ Some (attr_after run.attr (k - run.first))

@@ -1,6 +1,6 @@
 -- What the looks of the clock leave.
 use Rattle.vm_types.specs.declared.mode.Levels as Levels
-use Rattle.std.specs.Prelude.{ℕ, ◌≡◌, Option}
+use Rattle.std.specs.Prelude.{◌≡◌, Option}
 use Rattle.frames.specs.FrameTable.{IsFull}
 use Rattle.vm_types.specs.declared.number.FrameNo.{FrameNo}
 use Rattle.paging.specs.declared.kernel.Core.{Core}

@@ -14,7 +14,7 @@ ghost use Rattle.paging.specs.Stalls.{HasStallCause};
 ghost use Rattle.paging.specs.Evictions.{Spares, GivesUp, KeepsPlain};
 
 use crate::kernel::Core;
-use crate::leaves::{Change, Held, change_leaves, held_in};
+use crate::leaves::{Held, forget_leaves, held_in};
 use crate::shares::hand_over;
 use disk_model::SectorDisk;
 use page_cache::Place;
@@ -33,7 +33,7 @@ pub(crate) fn send_home<D, E, M: Levels>(core: &mut Core<D, E, M>, victim: Frame
     ensures plain { KeepsPlain core.old core.new }
     ensures swap { core.new.swap ≡ core.old.swap }
 {
-    change_leaves(core, victim, Change::Forget);
+    forget_leaves(core, victim);
     core.cache.set_place(page, Place::Home);
     core.frames.release(victim);
 }
@@ -65,7 +65,7 @@ fn send_away<D, E: SectorDisk, M: Levels>(
     ensures fault { IfErr result (λ s. s ≡ Stalls.SwapDevice) }
     ensures cause { HasStallCause E.SectorDisk core.old core.new result }
 {
-    change_leaves(core, victim, Change::Forget);
+    forget_leaves(core, victim);
     match core.swap.put(core.frames.bytes(victim)) {
         Ok(slot) => {
             core.cache.set_place(page, Place::Slot(slot));

@@ -9,6 +9,7 @@ ghost use Rattle.paging.specs.Steps.{Forgets, HasNoEntry};
 ghost use Rattle.paging.specs.Calls.{KeepsBesidePlaces};
 
 use crate::kernel::Core;
+use mapped_memory::forget_pages;
 use page_cache::Place;
 use vm_types::{FrameNo, Levels, ObjectPage, PageKey, SlotNo};
 
@@ -40,6 +41,7 @@ impl<D, E, M: Levels> Core<D, E, M> {
     {
         self.cache.clean(PageKey::Object(page));
         self.cache.set_place(PageKey::Object(page), Place::Home);
+        forget_pages(&mut self.frames, frame);
         self.frames.release(frame);
     }
 

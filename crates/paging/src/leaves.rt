@@ -9,13 +9,14 @@ ghost use Rattle.page_tables.specs.Entry.{number_of, IsEntry};
 ghost use Rattle.page_tables.specs.Tree.{IsPage};
 ghost use Rattle.paging.specs.Picture.{picture_of, is_data};
 ghost use Rattle.paging.specs.Parts.{IsFit};
+ghost use Rattle.paging.specs.declared.leaves.Change.{Change};
 ghost use Rattle.paging.specs.declared.leaves.Change.TheVariants as Kinds;
 ghost use Rattle.page_cache.specs.declared.place.Place.TheVariants.{Frame};
-ghost use Rattle.paging.specs.Leaves.{concerns, IsOver, IsFirstOver, IsChanged, Drops, Holds, ChangesLeaves, KeepsAllButFrames, IsClear, HasEntryOver, IsPageOver, IsRunOf, key_after};
+ghost use Rattle.paging.specs.Leaves.{concerns, IsOver, IsFirstOver, IsChanged, Drops, Holds, ChangesLeaves, KeepsAllButFrames, IsClear, HasEntryOver, AreKinds, IsPageOver, key_after};
 
 use crate::kernel::{Core, PLACES};
 use frames::Role;
-use mapped_memory::{entry, entry_number, set};
+use mapped_memory::{entry, entry_number, forget_pages, is_kind, kinds_over, set};
 use page_tables::Entry;
 use regions::Run;
 use sv39_walk::Pte;
@@ -111,6 +112,30 @@ pub(crate) fn find_in<D, E, M: Levels>(
     }
 }
 
+/// The same where only one page can have such an entry.
+fn find_at<D, E, M: Levels>(
+    core: &Core<D, E, M>,
+    pid: usize,
+    root: FrameNo,
+    low: u64,
+    page: Vpn,
+    frame: FrameNo,
+    change: Change,
+) -> Option<Vpn>
+    requires fit { IsFit (picture_of core.now) }
+    requires lives { (picture_of core.now).root pid ≡ Some root.0 }
+    requires user { page < user_end M.mode }
+    requires only { (k : ℕ) → IsPage (top_level M.mode) k → IsOver (picture_of core.now) change frame.0 pid k → k ≡ page }
+    ensures some { IfSome result (λ k. IsFirstOver (picture_of core.now) change frame.0 pid low k) }
+    ensures none { IfNone result ((k : ℕ) → low ≤ k → IsPage (top_level M.mode) k → IsOver (picture_of core.now) change frame.0 pid k → ⊥) }
+{
+    if low <= page.get() && is_over(core, pid, root, page, frame, change) {
+        Some(page)
+    } else {
+        None
+    }
+}
+
 /// The same where the frame has the own copy of a page.
 fn find_own<D, E, M: Levels>(
     core: &Core<D, E, M>,
@@ -144,7 +169,8 @@ fn find_own<D, E, M: Levels>(
     }
 }
 
-/// The same where the frame holds a page of a file or an object: run by run, it has at most one page of a run.
+/// The same where the frame holds a page of a file or an object: at the page that is noted for the frame, or else at those that stand
+/// on what it holds.
 fn find_filed<D, E, M: Levels>(
     core: &Core<D, E, M>,
     pid: usize,
@@ -162,22 +188,18 @@ fn find_filed<D, E, M: Levels>(
     ensures some { IfSome result (λ k. IsFirstOver (picture_of core.now) change frame.0 pid low k) }
     ensures none { IfNone result ((k : ℕ) → low ≤ k → IsPage (top_level M.mode) k → IsOver (picture_of core.now) change frame.0 pid k → ⊥) }
 {
-    let mut from = low;
-    while let Some(run) = core.regions[pid].next_run(from) {
-        if let Some(at) = find_over(core, pid, root, run, page, frame, change) {
-            return Some(at);
-        }
-        from = run.end;
+    match mapped_memory::page_over(&core.frames, frame) {
+        Some(at) => find_at(core, pid, root, low, at, frame, change),
+        None => find_standing(core, pid, root, low, page, frame, change),
     }
-    None
 }
 
-/// The same within one run.
-fn find_over<D, E, M: Levels>(
+/// The same by the runs of the process.
+fn find_standing<D, E, M: Levels>(
     core: &Core<D, E, M>,
     pid: usize,
     root: FrameNo,
-    run: Run,
+    low: u64,
     page: PageKey,
     frame: FrameNo,
     change: Change,
@@ -185,21 +207,19 @@ fn find_over<D, E, M: Levels>(
     requires fit { IsFit (picture_of core.now) }
     requires lives { (picture_of core.now).root pid ≡ Some root.0 }
     requires above { 0 < frame.0 }
+    requires number { pid < 65 }
     requires placed { (picture_of core.now).place page ≡ Frame frame }
-    requires run { IsRunOf (picture_of core.now) pid run }
-    ensures some { IfSome result (λ k. IsFirstOver (picture_of core.now) change frame.0 pid run.first k × (k < run.end)) }
-    ensures none { IfNone result ((k : ℕ) → run.first ≤ k → k < run.end → IsOver (picture_of core.now) change frame.0 pid k → ⊥) }
+    ensures some { IfSome result (λ k. IsFirstOver (picture_of core.now) change frame.0 pid low k) }
+    ensures none { IfNone result ((k : ℕ) → low ≤ k → IsPage (top_level M.mode) k → IsOver (picture_of core.now) change frame.0 pid k → ⊥) }
 {
-    match page_over::<M>(run, page) {
-        Some(at) => {
-            if is_over(core, pid, root, at, frame, change) {
-                Some(at)
-            } else {
-                None
-            }
+    let mut from = low;
+    while let Some(at) = core.regions[pid].first_on(from, page) {
+        if is_over(core, pid, root, at, frame, change) {
+            return Some(at);
         }
-        None => None,
+        from = at.get() + 1;
     }
+    None
 }
 
 /// The page of a run that stands on this page of a file or an object.
@@ -307,14 +327,16 @@ fn change_in<D, E, M: Levels>(
     }
 }
 
-/// The same for the process of that number, where it lives.
+/// The same for the process of that number, where it lives. Entries over the frame are in the trees of roots of these kinds alone.
 fn change_of<D, E, M: Levels>(
     core: &mut Core<D, E, M>,
     pid: usize,
+    kinds: u64,
     held: Held,
     frame: FrameNo,
     change: Change,
 )
+    requires kinds { AreKinds (picture_of core.old) change frame.0 kinds }
     requires fit { IsFit (picture_of core.old) }
     requires above { 0 < frame.0 }
     requires number { pid < 65 }
@@ -326,7 +348,11 @@ fn change_of<D, E, M: Levels>(
     ensures clear { (page : ℕ) → IsPage (top_level M.mode) page → IsOver (picture_of core.new) change frame.0 pid page → ⊥ }
 {
     match core.roots[pid] {
-        Some(root) => change_in(core, pid, root, held, frame, change),
+        Some(root) => {
+            if is_kind(kinds, root) {
+                change_in(core, pid, root, held, frame, change);
+            }
+        }
         None => {}
     }
 }
@@ -345,8 +371,38 @@ pub fn change_leaves<D, E, M: Levels>(core: &mut Core<D, E, M>, frame: FrameNo, 
     ensures above { 0 < frame.0 }
 {
     let held = held_in(core, frame);
+    let kinds = kinds_of(core, held, frame);
     for pid in 1..PLACES {
-        change_of(core, pid, held, frame, change);
+        change_of(core, pid, kinds, held, frame, change);
+    }
+}
+
+/// Forgets each entry over a frame that holds a page of a file or an object, in the tables of all processes, and the notes of
+/// which pages name it: no process sees it. So a frame that is taken again begins with no note.
+pub(crate) fn forget_leaves<D, E, M: Levels>(core: &mut Core<D, E, M>, frame: FrameNo)
+    requires fit { IsFit (picture_of core.old) }
+    requires inside { IsFrame core.old.frames frame.0 }
+    requires filed { role_of core.old.frames frame.0 ≡ Roles.Cache }
+    ensures fit { IsFit (picture_of core.new) }
+    ensures beside { KeepsAllButFrames core.old core.new }
+    ensures changes { ChangesLeaves Kinds.Forget frame.0 (picture_of core.old) (picture_of core.new) }
+    ensures clear { IsClear (picture_of core.new) Kinds.Forget frame.0 }
+    ensures above { 0 < frame.0 }
+{
+    change_leaves(core, frame, Change::Forget);
+    forget_pages(&mut core.frames, frame);
+}
+
+/// The kinds of the roots in whose trees there may be entries over a frame that holds a page. Own copies aren't noted.
+fn kinds_of<D, E, M: Levels>(core: &Core<D, E, M>, held: Held, frame: FrameNo) -> u64
+    requires fit { IsFit (picture_of core.now) }
+    requires inside { IsFrame core.now.frames frame.0 }
+    requires holds { Holds (picture_of core.now) frame.0 held }
+    ensures { (change : Change) → AreKinds (picture_of core.now) change frame.0 result }
+{
+    match held {
+        Held::Own(_) => u64::MAX,
+        Held::Filed(_) => kinds_over(&core.frames, frame),
     }
 }
 
@@ -362,14 +418,39 @@ pub(crate) fn has_leaf<D, E, M: Levels>(
     ensures { (result ≡ true) ↔ HasEntryOver (picture_of core.now) change frame.0 }
 {
     let held = held_in(core, frame);
+    let kinds = kinds_of(core, held, frame);
     for pid in 1..PLACES {
-        if let Some(root) = core.roots[pid] {
-            if find_in(core, pid, root, 0, held, frame, change).is_some() {
-                return true;
-            }
+        if has_leaf_in(core, pid, kinds, held, frame, change) {
+            return true;
         }
     }
     false
+}
+
+/// The same for the process of that number, where it lives. Entries over the frame are in the trees of roots of these kinds alone.
+fn has_leaf_in<D, E, M: Levels>(
+    core: &Core<D, E, M>,
+    pid: usize,
+    kinds: u64,
+    held: Held,
+    frame: FrameNo,
+    change: Change,
+) -> bool
+    requires kinds { AreKinds (picture_of core.now) change frame.0 kinds }
+    requires fit { IsFit (picture_of core.now) }
+    requires above { 0 < frame.0 }
+    requires number { pid < 65 }
+    requires holds { Holds (picture_of core.now) frame.0 held }
+    ensures some { result ≡ true → HasEntryOver (picture_of core.now) change frame.0 }
+    ensures none { result ≡ false → (page : ℕ) → IsPage (top_level M.mode) page → IsOver (picture_of core.now) change frame.0 pid page → ⊥ }
+{
+    let Some(root) = core.roots[pid] else {
+        return false;
+    };
+    if !is_kind(kinds, root) {
+        return false;
+    }
+    find_in(core, pid, root, 0, held, frame, change).is_some()
 }
 
 /// The entry changed.

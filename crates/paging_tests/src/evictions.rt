@@ -66,3 +66,23 @@ const TOUCHED: [Step; 9] = [
 fn a_touched_page_comes_back_from_its_slot(rt: HostRuntime) -> Result<(), Fail> {
     follow(&rt, rt.alloc(), (4, 0), &TOUCHED)
 }
+
+/// A page of the file that is shown at two pages goes home from both, and both show it again. Its frame had an own page meanwhile.
+const SHOWN_TWICE: [Step; 11] = [
+    Go(Visit(0x30000, Load(One), Byte(7), 0x53)),
+    Go(Visit(0x10000, Load(One), Byte(7), 0x57)),
+    Page(File(FIRST), Frame(FrameNo(4)), false),
+    Go(Visit(0x20000, Store(2), Byte(0), 0x1d7)),
+    Go(Visit(0x21000, Store(3), Byte(0), 0x1d7)),
+    Go(Visit(0x22000, Store(4), Byte(0), 0x1d7)),
+    Go(Visit(0x23000, Store(5), Byte(0), 0x1d7)),
+    Page(File(FIRST), Home, false),
+    Go(Visit(0x10000, Load(One), Byte(7), 0x57)),
+    Go(Visit(0x30000, Load(One), Byte(7), 0x53)),
+    Free(3),
+];
+
+#[test]
+fn a_page_goes_home_from_two_pages(rt: HostRuntime) -> Result<(), Fail> {
+    follow(&rt, rt.alloc(), (4, 0), &SHOWN_TWICE)
+}

@@ -1,5 +1,5 @@
 -- A maximal list is as long as its map has runs.
-use Rattle.std.proofs.Common.{◌≡◌, ◌≢◌, ℕ, zero, suc, ◌+◌, ◌-◌, ◌^◌, ◌<◌, ◌≤◌, ⊎_elim, Bool, true, false, not, if◌then◌else◌, ◌&&◌, refl, sym, ◌∙◌, ap, ap₂, arith, List, [], ◌∷◌, length, Option, Some, None, eq-eqb}
+use Rattle.std.proofs.Common.{◌≡◌, ◌≢◌, ℕ, zero, suc, ◌+◌, ◌-◌, ◌<◌, ◌≤◌, ⊎_elim, Bool, true, false, not, if◌then◌else◌, ◌&&◌, refl, sym, ◌∙◌, ap, ap₂, arith, List, [], ◌∷◌, length, Option, Some, None, eq-eqb}
 use Rattle.std.proofs.lemmas.Bool.{cases_eq}
 use Rattle.vm_types.specs.Limits.{user_end}
 use Rattle.vm_types.specs.declared.region.Attr.{Attr}

@@ -11,3 +11,4 @@ pub mod ResultLemmas
 pub mod WalkLemmas
 pub mod RowLemmas
 pub mod PermissionLemmas
+pub mod StandLemmas

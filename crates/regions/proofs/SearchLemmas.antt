@@ -1,5 +1,5 @@
 -- What the walks along a list find, said of its map.
-use Rattle.std.proofs.Common.{ne_eqb, eq-eqb, IfSome, IsSome, ◌≢◌, ◌/◌, ◌≡◌, ℕ, zero, suc, ◌+◌, ◌^◌, ◌<◌, ◌≤◌, ◌⊎◌, inl, inr, ⊎_elim, max, Bool, true, false, not, if◌then◌else◌, ◌&&◌, leb, ltb, refl, sym, ◌∙◌, ap, ap₂, arith, List, [], ◌∷◌, Option, Some, None, is_some, is_none, true≢false, leb-true, leb-false, ltb-true, ltb-false, le-leb, lt-ltb}
+use Rattle.std.proofs.Common.{ne_eqb, eq-eqb, IfSome, IsSome, ◌≢◌, ◌/◌, ◌≡◌, ℕ, zero, suc, ◌+◌, ◌<◌, ◌≤◌, ◌⊎◌, inl, inr, ⊎_elim, max, Bool, true, false, not, if◌then◌else◌, ◌&&◌, leb, ltb, refl, sym, ◌∙◌, ap, ap₂, arith, List, [], ◌∷◌, Option, Some, None, is_some, is_none, true≢false, leb-true, leb-false, ltb-true, ltb-false, le-leb, lt-ltb}
 use Rattle.std.proofs.lemmas.Bool.{cases_eq, and_parts, and_from}
 use Rattle.vm_types.specs.Limits.{user_end}
 use Rattle.vm_types.specs.declared.region.Attr.{Attr}

@@ -1,6 +1,10 @@
 -- What a walk along a list of runs finds.
-use Rattle.std.specs.Prelude.{ℕ, ◌+◌, Bool, true, leb, ltb, max, not, ◌&&◌, if◌then◌else◌, List, [], ◌∷◌, Option, Some, None}
-use Rattle.vm_types.specs.Limits.{user_end, widest_end}
+use Rattle.std.specs.Prelude.{ℕ, ◌≡◌, ◌+◌, ◌-◌, ◌<◌, ◌≤◌, Bool, true, leb, ltb, max, not, ◌&&◌, ◌==◌, if◌then◌else◌, List, [], ◌∷◌, Option, Some, None}
+use Rattle.vm_types.specs.Limits.{user_start, user_end, widest_end}
+use Rattle.vm_types.specs.Attributes.{stands_on}
+use Rattle.vm_types.specs.declared.object.PageKey.{PageKey}
+use Rattle.vm_types.specs.declared.object.PageKey.TheVariants.{File, Object}
+use Rattle.vm_types.specs.declared.region.Attr.{Attr}
 use Rattle.regions.specs.declared.run.Run.{Run}
 use Rattle.regions.specs.Run.{run_between}
 
@@ -32,3 +36,47 @@ run_or (Some run) other = Some run
 abbrev pub first_part : ℕ → List Run → Option Run
 first_part page [] = None
 first_part page (run ∷ runs) = run_or (run_between page widest_end None run) (first_part page runs)
+
+-- how many pages further on than the first the second is, of the same file or object
+abbrev pub pages_between : PageKey → PageKey → Option ℕ
+pages_between (File q) (File p) = if (q.file == p.file) && leb q.page p.page then Some (p.page - q.page) else None
+pages_between (File q) (Object p) = None
+pages_between (Object q) (File p) = None
+pages_between (Object q) (Object p) = if (q.object == p.object) && leb q.page p.page then Some (p.page - q.page) else None
+
+abbrev pub pages_from : Option PageKey → PageKey → Option ℕ
+pages_from None key = None
+pages_from (Some first) key = pages_between first key
+
+-- the page of a run so far from its first
+abbrev pub page_further : Run → Option ℕ → Option ℕ
+page_further run None = None
+page_further run (Some n) = if ltb n (run.end - run.first) then Some (run.first + n) else None
+
+-- the page of a run that stands on that page of a file or an object
+abbrev pub page_on : PageKey → Run → Option ℕ
+page_on key run = page_further run (pages_from (stands_on run.attr.backing) key)
+
+-- the first where it is there and not under the page, else the second
+abbrev pub from_or : ℕ → Option ℕ → Option ℕ → Option ℕ
+from_or low None other = other
+from_or low (Some k) other = if leb low k then Some k else other
+
+-- the first page from this one on that stands on that page of a file or an object
+abbrev pub first_on : ℕ → PageKey → List Run → Option ℕ
+first_on low key [] = None
+first_on low key (run ∷ runs) = from_or low (page_on key run) (first_on low key runs)
+
+-- page k of a map stands on that page of a file or an object
+pub record StandsOn (map : ℕ → Option Attr) (key : PageKey) (k : ℕ) : Type 0 where
+  pub attr : Attr
+  pub mapped : map k ≡ Some attr
+  pub on : stands_on attr.backing ≡ Some key
+
+-- k is the first page from low on that does
+pub record IsFirstOn (mode : ℕ) (map : ℕ → Option Attr) (low : ℕ) (key : PageKey) (k : ℕ) : Type 0 where
+  pub from : low ≤ k
+  pub above : user_start ≤ k
+  pub user : k < user_end mode
+  pub stands : StandsOn map key k
+  pub before : (j : ℕ) → low ≤ j → j < k → StandsOn map key j → ⊥

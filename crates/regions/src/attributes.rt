@@ -1,8 +1,9 @@
 //! Attributes of pages that follow one another.
 ghost use Rattle.std.specs.Prelude.{◌≡◌, ◌+◌, ◌<◌, ◌^◌};
 ghost use Rattle.vm_types.specs.Attributes.{attr_after, attr_eq, backing_after, backing_eq, backing_fits, file_page_after, file_page_eq, object_page_after, object_page_eq};
+ghost use Rattle.regions.specs.Search.{pages_between};
 
-use vm_types::{Attr, Backing, FilePage, ObjectPage};
+use vm_types::{Attr, Backing, FilePage, ObjectPage, PageKey};
 
 /// The file page `count` pages further on.
 fn file_page_after(page: FilePage, count: u64) -> FilePage
@@ -79,4 +80,27 @@ pub(crate) fn attr_follows(attr: Attr, count: u64, next: Attr) -> bool
     ensures { result ≡ attr_eq (attr_after attr count) next }
 {
     attr.prot == next.prot && backing_follows(attr.backing, count, next.backing)
+}
+
+/// How many pages further on than `first` the page `key` is, of the same file or object; `None` where it isn't.
+pub(crate) fn pages_between(first: PageKey, key: PageKey) -> Option<u64>
+    ensures { result ≡ pages_between first key }
+{
+    match (first, key) {
+        (PageKey::File(first), PageKey::File(page)) => {
+            if first.file == page.file && first.page <= page.page {
+                Some(u64::from(page.page - first.page))
+            } else {
+                None
+            }
+        }
+        (PageKey::Object(first), PageKey::Object(page)) => {
+            if first.object == page.object && first.page <= page.page {
+                Some(page.page - first.page)
+            } else {
+                None
+            }
+        }
+        _ => None,
+    }
 }

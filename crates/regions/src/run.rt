@@ -1,8 +1,8 @@
 //! One run, and its part between two pages.
 ghost use Rattle.std.specs.Prelude.{◌≡◌};
 
-use crate::attributes::{attr_after, attr_follows};
-use vm_types::{Attr, Levels, Prot};
+use crate::attributes::{attr_after, attr_follows, pages_between};
+use vm_types::{Attr, Levels, PageKey, Prot};
 
 /// The pages from `first` up to, not including, `end`. The first one's attributes are `attr`; file pages follow one
 /// another.
@@ -15,6 +15,7 @@ pub struct Run {
 
 impl Run {
     ghost use Rattle.regions.specs.Run.{IsRun, run_between, joins, attr_in};
+    ghost use Rattle.regions.specs.Search.{page_on};
 
     /// What the page is; `None` where it isn't of this run.
     pub(crate) fn at<M: Levels>(&self, page: u64) -> Option<Attr>
@@ -34,6 +35,19 @@ impl Run {
         ensures { result ≡ joins self.now next }
     {
         self.end == next.first && attr_follows(self.attr, self.end - self.first, next.attr)
+    }
+
+    /// The page that stands on that page of a file or an object; `None` where none of the run does.
+    pub(crate) fn page_on<M: Levels>(&self, key: PageKey) -> Option<u64>
+        requires { IsRun M.mode self.now }
+        ensures { result ≡ page_on key self.now }
+    {
+        let pages = pages_between(self.attr.backing.stands_on()?, key)?;
+        if pages < self.end - self.first {
+            Some(self.first + pages)
+        } else {
+            None
+        }
     }
 
     /// The part between `low` and `high`, with the permission `prot` where one is given; `None` where that is empty.

@@ -5,7 +5,7 @@ ghost use Rattle.vm_types.specs.Limits.{user_start};
 use crate::RUNS;
 use crate::run::Run;
 use std::marker::{Model, PhantomData};
-use vm_types::{Attr, Backing, Levels, Prot, TooManyRuns, USER_START, Vpn, WIDEST_END};
+use vm_types::{Attr, Backing, Levels, PageKey, Prot, TooManyRuns, USER_START, Vpn, WIDEST_END};
 
 /// Bytes of a page.
 const PAGE_BYTES: u64 = vm_types::PAGE_BYTES as u64;
@@ -39,7 +39,7 @@ impl<M: Levels> Regions<M> {
     ghost use Rattle.vm_types.specs.Runs.{run_count};
     ghost use Rattle.regions.specs.Run.{IsRun};
     ghost use Rattle.regions.specs.RunList.{attr_at, end_of, IsMaximal, IsNextRun, joins_last, pasted, pushed};
-    ghost use Rattle.regions.specs.Search.{first_part, gap_from, is_clear, lowest_gap, runs_behind};
+    ghost use Rattle.regions.specs.Search.{first_on, first_part, gap_from, is_clear, lowest_gap, runs_behind, IsFirstOn, StandsOn};
     ghost use Rattle.vm_types.specs.Limits.{user_start, user_end};
 
     /// No page is mapped.
@@ -151,6 +151,30 @@ impl<M: Levels> Regions<M> {
     {
         let run = self.runs_behind(page).first()?;
         run.part::<M>(page, WIDEST_END, None)
+    }
+
+    /// The first page from `low` on that stands on that page of a file or an object: one search by halves, then one way along the
+    /// runs, of each of which only what stands behind it is compared. `None` exactly where no page from `low` on stands on it.
+    pub fn first_on(&self, low: u64, key: PageKey) -> Option<Vpn>
+        ensures some { IfSome result (λ k. IsFirstOn M.mode (attr_at self.now) low key k) }
+        ensures none { IfNone result ((k : ℕ) → low ≤ k → StandsOn (attr_at self.now) key k → ⊥) }
+    {
+        Vpn::new::<M>(self.first_page(low, key)?)
+    }
+
+    /// The same as a number.
+    fn first_page(&self, low: u64, key: PageKey) -> Option<u64>
+        ensures page { result ≡ first_on low key self.now }
+        ensures maximal { IsMaximal M.mode user_start self.now }
+    {
+        for run in self.runs_behind(low) {
+            if let Some(at) = run.page_on::<M>(key) {
+                if low <= at {
+                    return Some(at);
+                }
+            }
+        }
+        None
     }
 
     /// Whether each of the `pages` pages from `first` on is mapped.

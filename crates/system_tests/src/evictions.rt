@@ -13,7 +13,7 @@ addr 0x10000\nvalue 0x00\n",
 );
 
 /// How many frames and slots there are, a trace, and its replies, over a file of eight pages.
-pub(crate) const ROWS: [(Config, (&[u8], &[u8])); 10] = [
+pub(crate) const ROWS: [(Config, (&[u8], &[u8])); 11] = [
     // Without a slot no page of a process's own can be given up: the fifth store stalls.
     (
         Config {
@@ -66,6 +66,22 @@ load 1 0x10000 1\nload 2 0x10000 1\n",
 store 1 0x12000 1 3\nstore 1 0x13000 1 4\nstore 1 0x14000 1 5\nstore 1 0x15000 1 6\n\
 store 1 0x16000 1 7\nstore 1 0x17000 1 8\nmsync 1 0x10000 0x8000 sync\nstore 1 0x17000 1 8\n",
             b"pid 1\naddr 0x10000\nok\nok\nok\nok\nok\nok\nok\nstall 2 NOSWAP\nok\nok\n",
+        ),
+    ),
+    // A page of the file that two processes show at three pages goes to swap, and comes back to all.
+    (
+        Config {
+            frames: 11,
+            slots: 4,
+            mode: Mode::Sv39,
+        },
+        (
+            b"spawn\nspawn\nmmap 1 0 4096 rw- shared 0 0\nmmap 1 0 4096 r-- private 0 0\nmmap 2 0x20000 4096 rw- shared 0 0\n\
+store 2 0x20000 1 9\nload 1 0x10000 1\nload 1 0x11000 1\nmmap 1 0x40000 0x5000 rw- anon\nstore 1 0x40000 1 1\n\
+store 1 0x41000 1 2\nstore 1 0x42000 1 3\nstore 1 0x43000 1 4\nstore 1 0x44000 1 5\nload 2 0x20000 1\n\
+load 1 0x11000 1\nload 1 0x10000 1\n",
+            b"pid 1\npid 2\naddr 0x10000\naddr 0x11000\naddr 0x20000\nok\nvalue 0x09\nvalue 0x09\naddr 0x40000\n\
+ok\nok\nok\nok\nok\nvalue 0x09\nvalue 0x09\nvalue 0x09\n",
         ),
     ),
     // Shared anonymous memory: a mapping is an object of its own, which a child shares, an exit outlives, and its last name ends.

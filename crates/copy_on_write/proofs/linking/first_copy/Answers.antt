@@ -2,9 +2,7 @@ use Rattle.vm_types.proofs.Modes.{user_pages_fit}
 use Rattle.vm_types.specs.Limits.{top_level}
 use Rattle.std.proofs.Common.{◌≡◌, ℕ, inl, inr, ◌+◌, refl, sym, ap, ◌∙◌, subst, arith}
 use Rattle.std.proofs.lemmas.Bool.{cases_eq, cases_lt}
-use Rattle.page_tables.specs.Entry.{IsPageEntry, number_of}
 use Rattle.page_tables.specs.Places.{IsTableOf}
-use Rattle.page_tables.proofs.Ends.{page_is_entry}
 use Rattle.paging.specs.Seats.{seat}
 use Rattle.paging.specs.Picture.{Picture, picture_of, entry}
 use Rattle.paging.proofs.Entries.{entry-of}
@@ -15,22 +13,13 @@ use Rattle.copy_on_write.proofs.linking.first_copy.Goals as goal
 pub table_of-requires-clause-root : goal.table_of-requires-clause-root
 table_of-requires-clause-root g c = c.requires.fit.rooted.roots c.args.pid c.root_of-root.result.0 c.root_of-root.ensures
 
-pub decode-requires : goal.decode-requires
-decode-requires g c =
-    let same = same_table c.args.start c.loop-page.page c.args.stop c.loop-page.invariant.from c.loop-page-test.true c.requires.one_table in
-    let T : ℕ → Type 0 = λ x. IsTableOf c.args.core.now.frames (top_level g.M.Levels.mode) c.root_of-root.result.0 x c.in-Ok.table.0 in
-    let P : ℕ → Type 0 = λ x. IsPageEntry x in
-    subst P (sym (c.number_in.ensures c.root_of-root.result.0 c.loop-page.page (subst T (sym same) c.in-Ok.ensures.found) refl))
-    (page_is_entry c.args.core.now.frames (top_level g.M.Levels.mode) c.root_of-root.result.0 c.loop-page.page c.requires.fit.rooted.forest
-    (c.requires.fit.rooted.roots c.args.pid c.root_of-root.result.0 c.root_of-root.ensures))
-
 pub returns-then-is_own-clause-some : goal.returns-then-is_own-clause-some
 returns-then-is_own-clause-some g c =
     let old : Picture g.M.Levels.mode = picture_of c.args.core.now in
     let same = same_table c.args.start c.loop-page.page c.args.stop c.loop-page.invariant.from c.loop-page-test.true c.requires.one_table in
     let T : ℕ → Type 0 = λ x. IsTableOf c.args.core.now.frames (top_level g.M.Levels.mode) c.root_of-root.result.0 x c.in-Ok.table.0 in
-    let is : number_of c.decode.result ≡ entry old c.args.pid c.loop-page.page =
-    c.decode.ensures.number ∙ c.number_in.ensures c.root_of-root.result.0 c.loop-page.page (subst T (sym same) c.in-Ok.ensures.found) refl
+    let is : c.number_in.result.0 ≡ entry old c.args.pid c.loop-page.page =
+    c.number_in.ensures c.root_of-root.result.0 c.loop-page.page (subst T (sym same) c.in-Ok.ensures.found) refl
     ∙ sym (entry-of old c.args.pid c.root_of-root.result.0 c.loop-page.page c.root_of-root.ensures) in (
       omega (arith, c.user_page.ensures, c.loop-page-test.true, c.requires.high, user_pages_fit g.M.Levels.mode),
       λ none. c.is_own.ensures.own c.if-is_own.true (ap seat (is ∙ ap (entry old c.args.pid) (sym c.user_page.ensures)) ∙ none),
@@ -42,8 +31,8 @@ loop-page-preserved g c =
     let k = c.loop-page.invariant in
     let same = same_table c.args.start c.loop-page.page c.args.stop k.from c.loop-page-test.true c.requires.one_table in
     let T : ℕ → Type 0 = λ x. IsTableOf c.args.core.now.frames (top_level g.M.Levels.mode) c.root_of-root.result.0 x c.in-Ok.table.0 in
-    let is : number_of c.decode.result ≡ entry old c.args.pid c.loop-page.page =
-    c.decode.ensures.number ∙ c.number_in.ensures c.root_of-root.result.0 c.loop-page.page (subst T (sym same) c.in-Ok.ensures.found) refl
+    let is : c.number_in.result.0 ≡ entry old c.args.pid c.loop-page.page =
+    c.number_in.ensures c.root_of-root.result.0 c.loop-page.page (subst T (sym same) c.in-Ok.ensures.found) refl
     ∙ sym (entry-of old c.args.pid c.root_of-root.result.0 c.loop-page.page c.root_of-root.ensures) in
     let from = k.from in
     let step = c.next_entry-page.ensures in

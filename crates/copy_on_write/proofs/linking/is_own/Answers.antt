@@ -1,18 +1,17 @@
-use Rattle.paging.specs.Seats.{InSlot}
-use Rattle.page_tables.specs.Entry.{number_of}
-use Rattle.paging.specs.Seats.{seat}
-use Rattle.copy_on_write.proofs.Copies.{parked_own, parked_common, slot_seat, seat_some, nothing_common}
+use Rattle.std.proofs.Common.{sym, ◌∙◌}
+use Rattle.std.proofs.lemmas.Bool.{false≢true}
+use Rattle.mapping.proofs.Forms.{seat_common}
+use Rattle.copy_on_write.proofs.Copies.{own_some, away_some}
 use Rattle.copy_on_write.proofs.linking.is_own.Goals as goal
 
-pub returns-in-Parked-clause-own : goal.returns-in-Parked-clause-own
-returns-in-Parked-clause-own c is = parked_own c.args.entry c.in-Parked.field-0 c.in-Parked.private c.in-Parked.is is
+pub returns-then-is_private-clause-own : goal.returns-then-is_private-clause-own
+returns-then-is_private-clause-own c is = own_some c.args.number.0 (sym c.is_private.ensures ∙ c.if-is_private.true)
 
-pub returns-in-Parked-clause-other : goal.returns-in-Parked-clause-other
-returns-in-Parked-clause-other c is = parked_common c.args.entry c.in-Parked.field-0 c.in-Parked.private c.in-Parked.is is
+pub returns-then-is_private-clause-other : goal.returns-then-is_private-clause-other
+returns-then-is_private-clause-other c is = absurd (false≢true (sym is ∙ c.if-is_private.true))
 
-pub returns-in-Swapped-clause-own : goal.returns-in-Swapped-clause-own
-returns-in-Swapped-clause-own c is =
-    seat_some (seat (number_of c.args.entry)) (InSlot c.in-Swapped.field-0.0) (slot_seat c.args.entry c.in-Swapped.field-0 c.in-Swapped.is c.requires.form)
+pub returns-else-is_private-clause-own : goal.returns-else-is_private-clause-own
+returns-else-is_private-clause-own c is = away_some c.args.number.0 (sym c.is_private.ensures ∙ c.if-is_private.false) (sym c.is_swapped.ensures ∙ is)
 
-pub returns-in-None-clause-other : goal.returns-in-None-clause-other
-returns-in-None-clause-other c is = nothing_common c.args.entry c.in-None.is
+pub returns-else-is_private-clause-other : goal.returns-else-is_private-clause-other
+returns-else-is_private-clause-other c is = seat_common c.args.number.0 (sym c.is_private.ensures ∙ c.if-is_private.false) (sym c.is_swapped.ensures ∙ is)

@@ -1,6 +1,6 @@
 use Rattle.vm_types.proofs.Modes.{sizes}
 use Rattle.vm_types.specs.Limits.{user_end, top_level}
-use Rattle.std.proofs.Common.{◌≡◌, ℕ, inr, ◌<◌, ◌≤◌, ◌^◌, None, refl, sym, ap, ◌∙◌, subst, arith}
+use Rattle.std.proofs.Common.{◌≡◌, ℕ, inr, ◌<◌, ◌≤◌, None, refl, sym, ap, ◌∙◌, subst, arith}
 use Rattle.std.specs.Prelude.{is_some}
 use Rattle.page_tables.specs.Tree.{IsPage}
 use Rattle.regions.specs.RunList.{attr_at}

@@ -1,5 +1,5 @@
 use Rattle.vm_types.specs.Limits.{user_end}
-use Rattle.std.proofs.Common.{◌≡◌, ◌-◌, ◌≤◌, ◌^◌}
+use Rattle.std.proofs.Common.{◌≡◌, ◌-◌, ◌≤◌}
 use Rattle.paging.specs.Parts.{IsFit}
 use Rattle.paging.specs.Picture.{picture_of}
 use Rattle.page_ranges.specs.Steps.{KeepsBesideMemory}

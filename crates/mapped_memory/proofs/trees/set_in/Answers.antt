@@ -6,6 +6,8 @@ use Rattle.page_tables.specs.Places.{IsTableOf}
 use Rattle.page_tables.specs.Entry.{number_of}
 use Rattle.page_tables.specs.Change.{SetsEntry}
 use Rattle.mapped_memory.proofs.Keeping.{fewer_place, kept_set}
+use Rattle.mapped_memory.specs.Notes.{NamesNoMore}
+use Rattle.mapped_memory.proofs.Noting.{noted_place}
 use Rattle.mapped_memory.proofs.trees.set_in.Goals as goal
 
 same_place : (page index : ℕ) → page % 512 ≡ index → page % 64 ≡ index % 64
@@ -24,8 +26,12 @@ invariant_of-memory g c =
     let forest = subst (λ (x : FrameTable). IsForest x) (sym c.memory.view_is) c.requires.forest in
     let sets = c.set_in.ensures.sets (top_level g.M.Levels.mode) root page placed.2 placed.3 placed.4 placed.5 in
     let gone = c.drop_place.ensures.dropped in
-    kept_set g.M.Levels.mode t c.set_in.new.frames root page _ b b' forest placed.2 sets (gone root page (same_place page c.args.index placed.5))
-    (fewer_place b b' (c.args.index % 64) gone c.drop_place.ensures.others) c.memory.invariant
+    let N : FrameTable → Type 0 = λ x. NamesNoMore g.M.Levels.mode x table c.args.index (number_of c.args.entry) in (
+      kept_set g.M.Levels.mode t c.set_in.new.frames root page _ b b' forest placed.2 sets (gone root page (same_place page c.args.index placed.5))
+          (fewer_place b b' (c.args.index % 64) gone c.drop_place.ensures.others) c.memory.invariant.0,
+      noted_place g.M.Levels.mode t c.set_in.new.frames root page _ table c.args.index c.memory.inside.notes forest placed.2 sets placed.4 placed.5
+          (subst N (sym c.memory.view_is) c.requires.names) c.memory.invariant.1,
+    )
 
 pub returns-clause-sets : goal.returns-clause-sets
 returns-clause-sets g c root page is_root is_page row at =

@@ -9,6 +9,9 @@ use Rattle.page_tables.specs.Change.{AddsTable}
 use Rattle.walk_buffer.specs.declared.buffer.TranslationBuffer.{TranslationBuffer}
 use Rattle.mapped_memory.specs.Kept.{LinesAreLeaves}
 use Rattle.mapped_memory.proofs.Keeping.{kept_by, no_more, taken_leaf}
+use Rattle.mapped_memory.specs.declared.notes.Notes.{Notes}
+use Rattle.mapped_memory.specs.Notes.{AreNoted}
+use Rattle.mapped_memory.proofs.Noting.{noted_by, taken_back}
 use Rattle.mapped_memory.proofs.trees.take_table.Goals as goal
 
 either : (mode : ℕ) (old new : FrameTable) (b : TranslationBuffer) (r : Result FrameNo NoFree) → LinesAreLeaves mode old b
@@ -16,10 +19,18 @@ either : (mode : ℕ) (old new : FrameTable) (b : TranslationBuffer) (r : Result
 either mode old new b (Ok n) kept taken err = kept_by mode old new b b (no_more b) (taken_leaf old new n.0 Table (taken 0).takes mode) kept
 either mode old new b (Err e) kept taken err = subst (λ (t : FrameTable). LinesAreLeaves mode t b) (sym err) kept
 
+noted : (mode : ℕ) (old new : FrameTable) (notes : Notes) (r : Result FrameNo NoFree) → AreNoted mode old notes
+    → IfOk r (λ n. (top : ℕ) → AddsTable old new top n.0) → OnErr r (new ≡ old) → AreNoted mode new notes
+noted mode old new notes (Ok n) is taken err = noted_by mode old new notes (taken 0).takes.others.frames (taken_back old new n.0 Table (taken 0).takes mode) is
+noted mode old new notes (Err e) is taken err = subst (λ (t : FrameTable). AreNoted mode t notes) (sym err) is
+
 pub invariant_of-memory : goal.invariant_of-memory
-invariant_of-memory g c =
-    either g.M.Levels.mode c.memory.inside.frames c.take_table.new.frames c.memory.inside.buffer c.take_table.result c.memory.invariant
-    c.take_table.ensures.taken c.take_table.ensures.err
+invariant_of-memory g c = (
+  either g.M.Levels.mode c.memory.inside.frames c.take_table.new.frames c.memory.inside.buffer c.take_table.result c.memory.invariant.0
+      c.take_table.ensures.taken c.take_table.ensures.err,
+  noted g.M.Levels.mode c.memory.inside.frames c.take_table.new.frames c.memory.inside.notes c.take_table.result c.memory.invariant.1
+      c.take_table.ensures.taken c.take_table.ensures.err,
+)
 
 every : (r : Result FrameNo NoFree) (old new : FrameTable) (mode : ℕ) → IfOk r (λ n. (top : ℕ) → AddsTable old new top n.0) → IfOk r (λ n. AddsTable old new (top_level mode) n.0)
 every (Ok n) old new mode taken = taken (top_level mode)

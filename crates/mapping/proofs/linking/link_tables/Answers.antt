@@ -1,4 +1,6 @@
-use Rattle.std.proofs.Common.{ℕ, inl, Option, None, refl, sym, ◌∙◌, subst, arith}
+use Rattle.vm_types.specs.Limits.{top_level}
+use Rattle.page_tables.specs.Tree.{missing_of}
+use Rattle.std.proofs.Common.{◌≡◌, ℕ, inl, Option, Some, None, refl, sym, ◌∙◌, subst, arith}
 use Rattle.std.specs.Prelude.{IsSome}
 use Rattle.vm_types.specs.declared.region.Attr.{Attr}
 use Rattle.disk_model.specs.Moments.{Nothing}
@@ -13,11 +15,11 @@ use Rattle.mapping.proofs.TablesGiven.{links_then}
 use Rattle.mapping.proofs.Asking.{no_new_same, no_new_then, asks_slots_same, asks_slots_then}
 use Rattle.mapping.proofs.linking.link_tables.Goals as goal
 
-pub missing_tables-requires-clause-root : goal.missing_tables-requires-clause-root
-missing_tables-requires-clause-root g c = c.loop-pid.invariant.0.fit.rooted.roots c.args.pid c.root_of-root.result.0 c.loop-pid.invariant.4
+pub table_of-requires-clause-root : goal.table_of-requires-clause-root
+table_of-requires-clause-root g c = c.loop-table.invariant.0.fit.rooted.roots c.args.pid c.root_of-root.result.0 c.loop-table.invariant.4
 
-pub loop-pid-init : goal.loop-pid-init
-loop-pid-init g c = (
+pub loop-table-init : goal.loop-table-init
+loop-table-init g c = (
   moves_none g.E.SectorDisk c.args.core.now c.requires.fit c.requires.swap,
   record { root = λ q. refl; at = λ q k. refl; views = λ q k. refl; files = record { held = λ p. inl refl; touched = λ p. refl; files = λ f. refl } },
   λ q k h none. none,
@@ -35,12 +37,12 @@ loop-pid-init g c = (
   no_new_same (picture_of c.args.core.now) None Nothing,
 )
 
-pub loop-pid-preserved : goal.loop-pid-preserved
-loop-pid-preserved g c =
-    let k = c.loop-pid.invariant in
-    let step = c.in_ok-link_one.ensures in
+pub loop-table-preserved : goal.loop-table-preserved
+loop-table-preserved g c =
+    let k = c.loop-table.invariant in
+    let step = c.in_ok-link_one-in-Err.ensures in
     let first = c.args.core.now in
-    let mid = c.loop-pid.core in
+    let mid = c.loop-table.core in
     let last = c.link_one.new.core in
     let P : Option Attr → Type 0 = λ x. IsSome x in (
       moves_then g.E.SectorDisk first mid last k.0 step.moves,
@@ -60,37 +62,60 @@ loop-pid-preserved g c =
       no_new_then (picture_of first) (picture_of mid) (picture_of last) None Nothing Nothing k.14 step.asks_later (λ n none. absurd none),
     )
 
-pub returns-in_err-link_one-clause-tried : goal.returns-in_err-link_one-clause-tried
-returns-in_err-link_one-clause-tried g c =
-    let first : Picture g.M.Levels.mode = picture_of c.args.core.now in
-    let mid : Picture g.M.Levels.mode = picture_of c.loop-pid.core in
-    let last : Picture g.M.Levels.mode = picture_of c.link_one.new.core in
-    let step = c.in_err-link_one.ensures.tried in
-    on_err c.from_residual.result ((tried : Option ℕ) × GivesForTables first last tried)
-    (step.0, gives_then first mid last step.0 c.loop-pid.invariant.9 step.1)
+some_root : (r x : ℕ) → Some r ≡ Some x → r ≡ x
+some_root r x e = (cc)
 
-pub returns-in_err-link_one-clause-tables : goal.returns-in_err-link_one-clause-tables
-returns-in_err-link_one-clause-tables g c =
-    let k = c.loop-pid.invariant in
-    let step = c.in_err-link_one.ensures in
-    links_then (picture_of c.args.core.now) (picture_of c.loop-pid.core) (picture_of c.link_one.new.core) c.args.pid c.args.page step.tried.0
+pub returns-in-Ok-clause-whole : goal.returns-in-Ok-clause-whole
+returns-in-Ok-clause-whole g c r lives =
+    let P : ℕ → Type 0 = λ x. missing_of c.loop-table.core.frames (top_level g.M.Levels.mode) x c.args.page ≡ 0 in
+    subst P (some_root c.root_of-root.result.0 r (sym c.loop-table.invariant.4 ∙ lives)) (c.in-Ok.ensures.found.whole c.args.page refl)
+
+pub returns-in_err-link_one-in-Err-clause-moves : goal.returns-in_err-link_one-in-Err-clause-moves
+returns-in_err-link_one-in-Err-clause-moves g c =
+    moves_then g.E.SectorDisk c.args.core.now c.loop-table.core c.link_one.new.core c.loop-table.invariant.0 c.in_err-link_one-in-Err.ensures.moves
+
+pub returns-in_err-link_one-in-Err-clause-pages : goal.returns-in_err-link_one-in-Err-clause-pages
+returns-in_err-link_one-in-Err-clause-pages g c =
+    keeps_then (picture_of c.args.core.now) (picture_of c.loop-table.core) (picture_of c.link_one.new.core) c.loop-table.invariant.1 c.in_err-link_one-in-Err.ensures.pages
+
+pub returns-in_err-link_one-in-Err-clause-no_copy : goal.returns-in_err-link_one-in-Err-clause-no_copy
+returns-in_err-link_one-in-Err-clause-no_copy g c n is = c.loop-table.invariant.8 n (c.in_err-link_one-in-Err.ensures.no_copy n is)
+
+pub returns-in_err-link_one-in-Err-clause-bare : goal.returns-in_err-link_one-in-Err-clause-bare
+returns-in_err-link_one-in-Err-clause-bare g c =
+    bare_then (picture_of c.args.core.now) (picture_of c.loop-table.core) (picture_of c.link_one.new.core) c.loop-table.invariant.2 c.in_err-link_one-in-Err.ensures.bare
+
+pub returns-in_err-link_one-in-Err-clause-tried : goal.returns-in_err-link_one-in-Err-clause-tried
+returns-in_err-link_one-in-Err-clause-tried g c =
+    let first : Picture g.M.Levels.mode = picture_of c.args.core.now in
+    let mid : Picture g.M.Levels.mode = picture_of c.loop-table.core in
+    let last : Picture g.M.Levels.mode = picture_of c.link_one.new.core in
+    let step = c.in_err-link_one-in-Err.ensures.tried in
+    on_err c.from_residual.result ((tried : Option ℕ) × GivesForTables first last tried)
+    (step.0, gives_then first mid last step.0 c.loop-table.invariant.9 step.1)
+
+pub returns-in_err-link_one-in-Err-clause-tables : goal.returns-in_err-link_one-in-Err-clause-tables
+returns-in_err-link_one-in-Err-clause-tables g c =
+    let k = c.loop-table.invariant in
+    let step = c.in_err-link_one-in-Err.ensures in
+    links_then (picture_of c.args.core.now) (picture_of c.loop-table.core) (picture_of c.link_one.new.core) c.args.pid c.args.page step.tried.0
     (step.moves.spaces.root c.args.pid) step.tried.1 k.10 step.tables
 
-pub returns-in_err-link_one-clause-slotted : goal.returns-in_err-link_one-clause-slotted
-returns-in_err-link_one-clause-slotted g c =
-    slotted_then (λ p. ⊥) (λ q p. ⊥) (picture_of c.args.core.now) (picture_of c.loop-pid.core) (picture_of c.link_one.new.core) c.loop-pid.invariant.11 c.in_err-link_one.ensures.slotted
+pub returns-in_err-link_one-in-Err-clause-slotted : goal.returns-in_err-link_one-in-Err-clause-slotted
+returns-in_err-link_one-in-Err-clause-slotted g c =
+    slotted_then (λ p. ⊥) (λ q p. ⊥) (picture_of c.args.core.now) (picture_of c.loop-table.core) (picture_of c.link_one.new.core) c.loop-table.invariant.11 c.in_err-link_one-in-Err.ensures.slotted
 
-pub returns-in_err-link_one-clause-cause : goal.returns-in_err-link_one-clause-cause
-returns-in_err-link_one-clause-cause g c =
-    let k = c.loop-pid.invariant in
-    cause_as g.E.SectorDisk c.args.core.now c.link_one.new.core c.from_residual.result c.in_err-link_one.field-0.0 c.from_residual.ensures.1
-    (stall_then g.E.SectorDisk c.args.core.now c.loop-pid.core c.link_one.new.core c.in_err-link_one.field-0.0 k.3 k.12 c.in_err-link_one.ensures.cause)
+pub returns-in_err-link_one-in-Err-clause-cause : goal.returns-in_err-link_one-in-Err-clause-cause
+returns-in_err-link_one-in-Err-clause-cause g c =
+    let k = c.loop-table.invariant in
+    cause_as g.E.SectorDisk c.args.core.now c.link_one.new.core c.from_residual.result c.in_err-link_one-in-Err.field-0.0 c.from_residual.ensures.1
+    (stall_then g.E.SectorDisk c.args.core.now c.loop-table.core c.link_one.new.core c.in_err-link_one-in-Err.field-0.0 k.3 k.12 c.in_err-link_one-in-Err.ensures.cause)
 
-pub returns-in_err-link_one-clause-asks : goal.returns-in_err-link_one-clause-asks
-returns-in_err-link_one-clause-asks g c =
-    let k = c.loop-pid.invariant in
-    asks_slots_then g.E.SectorDisk c.args.core.now c.loop-pid.core c.link_one.new.core None Nothing Nothing k.13 k.14 c.in_err-link_one.ensures.asks (λ n none. absurd none)
+pub returns-in_err-link_one-in-Err-clause-asks : goal.returns-in_err-link_one-in-Err-clause-asks
+returns-in_err-link_one-in-Err-clause-asks g c =
+    let k = c.loop-table.invariant in
+    asks_slots_then g.E.SectorDisk c.args.core.now c.loop-table.core c.link_one.new.core None Nothing Nothing k.13 k.14 c.in_err-link_one-in-Err.ensures.asks (λ n none. absurd none)
 
-pub returns-in_err-link_one-clause-asks_later : goal.returns-in_err-link_one-clause-asks_later
-returns-in_err-link_one-clause-asks_later g c =
-    no_new_then (picture_of c.args.core.now) (picture_of c.loop-pid.core) (picture_of c.link_one.new.core) None Nothing Nothing c.loop-pid.invariant.14 c.in_err-link_one.ensures.asks_later (λ n none. absurd none)
+pub returns-in_err-link_one-in-Err-clause-asks_later : goal.returns-in_err-link_one-in-Err-clause-asks_later
+returns-in_err-link_one-in-Err-clause-asks_later g c =
+    no_new_then (picture_of c.args.core.now) (picture_of c.loop-table.core) (picture_of c.link_one.new.core) None Nothing Nothing c.loop-table.invariant.14 c.in_err-link_one-in-Err.ensures.asks_later (λ n none. absurd none)

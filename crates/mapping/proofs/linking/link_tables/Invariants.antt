@@ -12,8 +12,8 @@ use Rattle.mapping.specs.Changes.{KeepsBare, KeepsSlotted, LinksTables, Moves}
 use Rattle.mapping.specs.Asking.{AsksNoNew, AsksSlots}
 use Rattle.mapping.proofs.linking.link_tables.Given as goal
 
-abbrev pub invariant-loop-pid : goal.invariant-loop-pid
-invariant-loop-pid g l =
+abbrev pub invariant-loop-table : goal.invariant-loop-table
+invariant-loop-table g l =
     Moves g.E.SectorDisk l.initial.core l.core × KeepsPages (picture_of l.initial.core) (picture_of l.core) × KeepsBare (picture_of l.initial.core) (picture_of l.core)
     × (l.core.refused.number ≡ l.initial.core.refused.number) × ((picture_of l.core).root l.pid ≡ Some l.root.0) × IsMapped (picture_of l.core) l.pid l.page
     × (missing_of l.core.frames (top_level g.M.Levels.mode) l.root.0 l.page ≤ missing_of l.initial.core.frames (top_level g.M.Levels.mode) l.root.0 l.page)
@@ -24,5 +24,5 @@ invariant-loop-pid g l =
     × (g.E.SectorDisk.failures l.core.swap.pages.disk ≡ g.E.SectorDisk.failures l.initial.core.swap.pages.disk)
     × AsksSlots g.E.SectorDisk l.initial.core l.core None Nothing × AsksNoNew (picture_of l.initial.core) (picture_of l.core) None Nothing
 
-abbrev pub decreases-loop-pid : goal.decreases-loop-pid
-decreases-loop-pid g l = missing_of l.core.frames (top_level g.M.Levels.mode) l.root.0 l.page
+abbrev pub decreases-loop-table : goal.decreases-loop-table
+decreases-loop-table g l = missing_of l.core.frames (top_level g.M.Levels.mode) l.root.0 l.page

@@ -15,9 +15,10 @@ use Rattle.paging.proofs.Granting.{past_end-same}
 use Rattle.mapping.specs.Changes.{IsThatPage}
 use Rattle.mapping.proofs.Asking.{asks_slots_kept}
 use Rattle.mapping.proofs.Entering.{beside_around}
-use Rattle.mapping.proofs.OwnSteps.{behind_freed, shown_used, shown_datum, lives_found, whole_found, at_found, spaces_set, tables_set, room_set, others_set, bare_set, slotted_set, files_set, bytes_set, own_set, entry_set, count_set, fit_first, behind_first, role_shared, fit_shared, spaces_shared, tables_shared, room_shared, others_shared, bare_shared, slotted_shared, files_shared, bytes_shared, own_shared, entry_shared, count_shared}
+use Rattle.mapping.proofs.OwnSteps.{behind_freed, shown_used, shown_datum, lives_found, whole_found, at_found, spaces_set, tables_set, rows_mid, rows_own, room_set, others_set, bare_set, slotted_set, files_set, bytes_set, own_set, entry_set, count_set, fit_first, behind_first, role_shared, fit_shared, spaces_shared, tables_shared, rows_shared, room_shared, others_shared, bare_shared, slotted_shared, files_shared, bytes_shared, own_shared, entry_shared, count_shared}
 use Rattle.mapping.proofs.Forms.{used_inside}
-use Rattle.mapping.proofs.Settling.{forest_mid, root_mid, whole_mid}
+use Rattle.mapping.proofs.Rows.{rows_freed}
+use Rattle.mapping.proofs.Settling.{forest_mid, root_mid}
 use Rattle.mapping.proofs.Slotted.{slotted_frees}
 use Rattle.mapping.proofs.Steps.{same_with, moves_freed}
 use Rattle.mapping.proofs.owning.copy_page.Goals as goal
@@ -26,15 +27,15 @@ pub take_copy-requires-clause-source : goal.take_copy-requires-clause-source
 take_copy-requires-clause-source g c =
     let old : Picture g.M.Levels.mode = picture_of c.args.core.now in
     used_inside old.frames c.args.shown.0 c.args.core.now.sound
-    (shown_used old c.args.pid c.args.page c.args.shown.0 c.args.attr c.args.core.now.sound c.requires.linked c.requires.attr c.requires.resident c.requires.own c.requires.common)
+    (shown_used old c.args.spot.now.pid c.args.spot.now.page c.args.shown.0 c.args.attr c.args.core.now.sound c.requires.spot.linked c.requires.attr c.requires.resident c.requires.own c.requires.common)
 
 pub take_copy-requires-clause-in_use : goal.take_copy-requires-clause-in_use
 take_copy-requires-clause-in_use g c =
-    shown_used (picture_of c.args.core.now) c.args.pid c.args.page c.args.shown.0 c.args.attr c.args.core.now.sound c.requires.linked c.requires.attr c.requires.resident c.requires.own c.requires.common
+    shown_used (picture_of c.args.core.now) c.args.spot.now.pid c.args.spot.now.page c.args.shown.0 c.args.attr c.args.core.now.sound c.requires.spot.linked c.requires.attr c.requires.resident c.requires.own c.requires.common
 
 pub take_copy-requires-clause-datum : goal.take_copy-requires-clause-datum
 take_copy-requires-clause-datum g c =
-    shown_datum (picture_of c.args.core.now) c.args.pid c.args.page c.args.shown.0 c.args.attr c.args.core.now.sound c.requires.linked c.requires.attr c.requires.resident c.requires.own c.requires.common
+    shown_datum (picture_of c.args.core.now) c.args.spot.now.pid c.args.spot.now.page c.args.shown.0 c.args.attr c.args.core.now.sound c.requires.spot.linked c.requires.attr c.requires.resident c.requires.own c.requires.common
 
 pub set_full-requires-clause-forest : goal.set_full-requires-clause-forest
 set_full-requires-clause-forest g c =
@@ -42,8 +43,8 @@ set_full-requires-clause-forest g c =
     let mid : Picture g.M.Levels.mode = picture_of c.take_copy.new.core in
     let copy = c.in_ok-own.ensures.taken in
     let n = c.in_ok-own.own.0 in
-    let r = c.root_of-root.result.0 in
-    forest_mid copy.found mid c.args.pid c.args.page r n c.args.attr copy.fit copy.changes copy.role copy.count copy.noted (lives_found old c.args.pid c.args.page c.args.shown.0 c.args.attr c.args.core.now.sound c.requires.linked c.requires.attr c.requires.resident c.requires.own c.requires.common mid n r copy c.root_of-root.ensures) (whole_found old c.args.pid c.args.page c.args.shown.0 c.args.attr c.args.core.now.sound c.requires.linked c.requires.attr c.requires.resident c.requires.own c.requires.common mid n r copy c.root_of-root.ensures) (at_found old c.args.pid c.args.page c.args.shown.0 c.args.attr c.args.core.now.sound c.requires.linked c.requires.attr c.requires.resident c.requires.own c.requires.common mid n r copy c.root_of-root.ensures)
+    let r = c.args.spot.now.root.0 in
+    forest_mid copy.found mid c.args.spot.now.pid c.args.spot.now.page r n c.args.attr copy.fit copy.changes copy.role copy.count copy.noted (lives_found old c.args.spot.now.pid c.args.spot.now.page c.args.shown.0 c.args.attr c.args.core.now.sound c.requires.spot.linked c.requires.attr c.requires.resident c.requires.own c.requires.common mid n r copy c.requires.spot.root) (whole_found old c.args.spot.now.pid c.args.spot.now.page c.args.shown.0 c.args.attr c.args.core.now.sound c.requires.spot.linked c.requires.attr c.requires.resident c.requires.own c.requires.common mid n r copy c.requires.spot.root) (at_found old c.args.spot.now.pid c.args.spot.now.page c.args.shown.0 c.args.attr c.args.core.now.sound c.requires.spot.linked c.requires.attr c.requires.resident c.requires.own c.requires.common mid n r copy c.requires.spot.root)
 
 pub set_full-requires-clause-root : goal.set_full-requires-clause-root
 set_full-requires-clause-root g c =
@@ -51,17 +52,17 @@ set_full-requires-clause-root g c =
     let mid : Picture g.M.Levels.mode = picture_of c.take_copy.new.core in
     let copy = c.in_ok-own.ensures.taken in
     let n = c.in_ok-own.own.0 in
-    let r = c.root_of-root.result.0 in
-    root_mid copy.found mid c.args.pid c.args.page r n c.args.attr copy.fit copy.changes copy.role copy.count copy.noted (lives_found old c.args.pid c.args.page c.args.shown.0 c.args.attr c.args.core.now.sound c.requires.linked c.requires.attr c.requires.resident c.requires.own c.requires.common mid n r copy c.root_of-root.ensures) (whole_found old c.args.pid c.args.page c.args.shown.0 c.args.attr c.args.core.now.sound c.requires.linked c.requires.attr c.requires.resident c.requires.own c.requires.common mid n r copy c.root_of-root.ensures) (at_found old c.args.pid c.args.page c.args.shown.0 c.args.attr c.args.core.now.sound c.requires.linked c.requires.attr c.requires.resident c.requires.own c.requires.common mid n r copy c.root_of-root.ensures)
+    let r = c.args.spot.now.root.0 in
+    root_mid copy.found mid c.args.spot.now.pid c.args.spot.now.page r n c.args.attr copy.fit copy.changes copy.role copy.count copy.noted (lives_found old c.args.spot.now.pid c.args.spot.now.page c.args.shown.0 c.args.attr c.args.core.now.sound c.requires.spot.linked c.requires.attr c.requires.resident c.requires.own c.requires.common mid n r copy c.requires.spot.root) (whole_found old c.args.spot.now.pid c.args.spot.now.page c.args.shown.0 c.args.attr c.args.core.now.sound c.requires.spot.linked c.requires.attr c.requires.resident c.requires.own c.requires.common mid n r copy c.requires.spot.root) (at_found old c.args.spot.now.pid c.args.spot.now.page c.args.shown.0 c.args.attr c.args.core.now.sound c.requires.spot.linked c.requires.attr c.requires.resident c.requires.own c.requires.common mid n r copy c.requires.spot.root)
 
-pub set_full-requires-clause-whole : goal.set_full-requires-clause-whole
-set_full-requires-clause-whole g c =
+pub set_full-requires-clause-table : goal.set_full-requires-clause-table
+set_full-requires-clause-table g c =
     let old : Picture g.M.Levels.mode = picture_of c.args.core.now in
     let mid : Picture g.M.Levels.mode = picture_of c.take_copy.new.core in
     let copy = c.in_ok-own.ensures.taken in
     let n = c.in_ok-own.own.0 in
-    let r = c.root_of-root.result.0 in
-    whole_mid copy.found mid c.args.pid c.args.page r n c.args.attr copy.fit copy.changes copy.role copy.count copy.noted (lives_found old c.args.pid c.args.page c.args.shown.0 c.args.attr c.args.core.now.sound c.requires.linked c.requires.attr c.requires.resident c.requires.own c.requires.common mid n r copy c.root_of-root.ensures) (whole_found old c.args.pid c.args.page c.args.shown.0 c.args.attr c.args.core.now.sound c.requires.linked c.requires.attr c.requires.resident c.requires.own c.requires.common mid n r copy c.root_of-root.ensures) (at_found old c.args.pid c.args.page c.args.shown.0 c.args.attr c.args.core.now.sound c.requires.linked c.requires.attr c.requires.resident c.requires.own c.requires.common mid n r copy c.root_of-root.ensures)
+    let r = c.args.spot.now.root.0 in
+    rows_mid old c.args.spot.now.pid c.args.spot.now.page c.args.shown.0 c.args.attr c.args.core.now.sound c.requires.spot.linked c.requires.attr c.requires.resident c.requires.own c.requires.common mid n r copy c.requires.spot.root c.args.spot.now.pid r _ c.args.spot.now.table.0 c.requires.spot.root c.requires.spot.table
 
 pub set_full-requires-clause-inside : goal.set_full-requires-clause-inside
 set_full-requires-clause-inside g c = c.in_ok-own.ensures.taken.inside
@@ -75,10 +76,10 @@ release-requires g c =
     let beside = beside_around c.take_copy.new.core c.set_full.new.core c.set_full.ensures.rest in
     let copy = c.in_ok-own.ensures.taken in
     let n = c.in_ok-own.own.0 in
-    let r = c.root_of-root.result.0 in
+    let r = c.args.spot.now.root.0 in
     let inside = past_end-same old copy.found c.args.attr.backing copy.frees.pages.files.files ∙ c.requires.inside in
     let private = sym (ap is_private c.requires.was) ∙ sym c.is_private.ensures ∙ c.if-is_private.true in
-    let role = role_shared old c.args.pid c.args.page c.args.shown.0 c.args.attr c.args.core.now.sound c.requires.linked c.requires.attr c.requires.resident c.requires.own c.requires.common mid n r copy c.root_of-root.ensures set sets beside c.requires.not_shared inside private in
+    let role = role_shared old c.args.spot.now.pid c.args.spot.now.page c.args.shown.0 c.args.attr c.args.core.now.sound c.requires.spot.linked c.requires.attr c.requires.resident c.requires.own c.requires.common mid n r copy c.requires.spot.root set sets beside c.requires.not_shared inside private in
     record {
       inside = used_inside set.frames c.args.shown.0 c.set_full.new.core.sound (λ free. (let bad : Private ≡ Free = sym role ∙ free in (cc)));
       handed_out = (let P : Role → Type 0 = λ x. IsTrue (is_handed_out x) in subst P (sym role) refl);
@@ -93,7 +94,7 @@ returns-then-is_private-clause-moves g c =
     let beside = beside_around c.take_copy.new.core c.set_full.new.core c.set_full.ensures.rest in
     let copy = c.in_ok-own.ensures.taken in
     let n = c.in_ok-own.own.0 in
-    let r = c.root_of-root.result.0 in
+    let r = c.args.spot.now.root.0 in
     let inside = past_end-same old copy.found c.args.attr.backing copy.frees.pages.files.files ∙ c.requires.inside in
     let private = sym (ap is_private c.requires.was) ∙ sym c.is_private.ensures ∙ c.if-is_private.true in
     let new : Picture g.M.Levels.mode = record set { frames = c.release.new.self } in
@@ -101,11 +102,11 @@ returns-then-is_private-clause-moves g c =
     let releases = c.release.ensures.change in
     let done = c.in_ok-own.ensures in
     record {
-      fit = fit_shared old c.args.pid c.args.page c.args.shown.0 c.args.attr c.args.core.now.sound c.requires.linked c.requires.attr c.requires.resident c.requires.own c.requires.common mid n r copy c.root_of-root.ensures set sets beside c.requires.not_shared inside private new releases beside';
+      fit = fit_shared old c.args.spot.now.pid c.args.spot.now.page c.args.shown.0 c.args.attr c.args.core.now.sound c.requires.spot.linked c.requires.attr c.requires.resident c.requires.own c.requires.common mid n r copy c.requires.spot.root set sets beside c.requires.not_shared inside private new releases beside';
       swap = (let P : Swap _ → Type 0 = λ s. IsReady g.E.SectorDisk s in subst P (sym c.set_full.ensures.rest.swap) done.swap);
-      spaces = spaces_shared old c.args.pid c.args.page c.args.shown.0 c.args.attr c.args.core.now.sound c.requires.linked c.requires.attr c.requires.resident c.requires.own c.requires.common mid n r copy c.root_of-root.ensures set sets beside c.requires.not_shared inside private new releases beside';
-      tables = tables_shared old c.args.pid c.args.page c.args.shown.0 c.args.attr c.args.core.now.sound c.requires.linked c.requires.attr c.requires.resident c.requires.own c.requires.common mid n r copy c.root_of-root.ensures set sets beside c.requires.not_shared inside private new releases beside';
-      room = room_shared old c.args.pid c.args.page c.args.shown.0 c.args.attr c.args.core.now.sound c.requires.linked c.requires.attr c.requires.resident c.requires.own c.requires.common mid n r copy c.root_of-root.ensures set sets beside c.requires.not_shared inside private new releases beside';
+      spaces = spaces_shared old c.args.spot.now.pid c.args.spot.now.page c.args.shown.0 c.args.attr c.args.core.now.sound c.requires.spot.linked c.requires.attr c.requires.resident c.requires.own c.requires.common mid n r copy c.requires.spot.root set sets beside c.requires.not_shared inside private new releases beside';
+      tables = tables_shared old c.args.spot.now.pid c.args.spot.now.page c.args.shown.0 c.args.attr c.args.core.now.sound c.requires.spot.linked c.requires.attr c.requires.resident c.requires.own c.requires.common mid n r copy c.requires.spot.root set sets beside c.requires.not_shared inside private new releases beside';
+      room = room_shared old c.args.spot.now.pid c.args.spot.now.page c.args.shown.0 c.args.attr c.args.core.now.sound c.requires.spot.linked c.requires.attr c.requires.resident c.requires.own c.requires.common mid n r copy c.requires.spot.root set sets beside c.requires.not_shared inside private new releases beside';
       store = c.set_full.ensures.rest.store ∙ done.rest.store;
       device = (let P : Swap _ → Type 0 = λ s. UsesDevice g.E.SectorDisk c.args.core.now.swap.pages.disk s.pages.disk in subst P (sym c.set_full.ensures.rest.swap) done.device);
     }
@@ -119,13 +120,13 @@ returns-then-is_private-clause-own g c =
     let beside = beside_around c.take_copy.new.core c.set_full.new.core c.set_full.ensures.rest in
     let copy = c.in_ok-own.ensures.taken in
     let n = c.in_ok-own.own.0 in
-    let r = c.root_of-root.result.0 in
+    let r = c.args.spot.now.root.0 in
     let inside = past_end-same old copy.found c.args.attr.backing copy.frees.pages.files.files ∙ c.requires.inside in
     let private = sym (ap is_private c.requires.was) ∙ sym c.is_private.ensures ∙ c.if-is_private.true in
     let new : Picture g.M.Levels.mode = record set { frames = c.release.new.self } in
     let beside' : SameBeside set new = same_with set c.release.new.self in
     let releases = c.release.ensures.change in
-    own_shared old c.args.pid c.args.page c.args.shown.0 c.args.attr c.args.core.now.sound c.requires.linked c.requires.attr c.requires.resident c.requires.own c.requires.common mid n r copy c.root_of-root.ensures set sets beside c.requires.not_shared inside private new releases beside'
+    own_shared old c.args.spot.now.pid c.args.spot.now.page c.args.shown.0 c.args.attr c.args.core.now.sound c.requires.spot.linked c.requires.attr c.requires.resident c.requires.own c.requires.common mid n r copy c.requires.spot.root set sets beside c.requires.not_shared inside private new releases beside'
 
 pub returns-then-is_private-clause-bytes : goal.returns-then-is_private-clause-bytes
 returns-then-is_private-clause-bytes g c =
@@ -136,13 +137,13 @@ returns-then-is_private-clause-bytes g c =
     let beside = beside_around c.take_copy.new.core c.set_full.new.core c.set_full.ensures.rest in
     let copy = c.in_ok-own.ensures.taken in
     let n = c.in_ok-own.own.0 in
-    let r = c.root_of-root.result.0 in
+    let r = c.args.spot.now.root.0 in
     let inside = past_end-same old copy.found c.args.attr.backing copy.frees.pages.files.files ∙ c.requires.inside in
     let private = sym (ap is_private c.requires.was) ∙ sym c.is_private.ensures ∙ c.if-is_private.true in
     let new : Picture g.M.Levels.mode = record set { frames = c.release.new.self } in
     let beside' : SameBeside set new = same_with set c.release.new.self in
     let releases = c.release.ensures.change in
-    bytes_shared old c.args.pid c.args.page c.args.shown.0 c.args.attr c.args.core.now.sound c.requires.linked c.requires.attr c.requires.resident c.requires.own c.requires.common mid n r copy c.root_of-root.ensures set sets beside c.requires.not_shared inside private new releases beside'
+    bytes_shared old c.args.spot.now.pid c.args.spot.now.page c.args.shown.0 c.args.attr c.args.core.now.sound c.requires.spot.linked c.requires.attr c.requires.resident c.requires.own c.requires.common mid n r copy c.requires.spot.root set sets beside c.requires.not_shared inside private new releases beside'
 
 pub returns-then-is_private-clause-entry : goal.returns-then-is_private-clause-entry
 returns-then-is_private-clause-entry g c =
@@ -153,13 +154,13 @@ returns-then-is_private-clause-entry g c =
     let beside = beside_around c.take_copy.new.core c.set_full.new.core c.set_full.ensures.rest in
     let copy = c.in_ok-own.ensures.taken in
     let n = c.in_ok-own.own.0 in
-    let r = c.root_of-root.result.0 in
+    let r = c.args.spot.now.root.0 in
     let inside = past_end-same old copy.found c.args.attr.backing copy.frees.pages.files.files ∙ c.requires.inside in
     let private = sym (ap is_private c.requires.was) ∙ sym c.is_private.ensures ∙ c.if-is_private.true in
     let new : Picture g.M.Levels.mode = record set { frames = c.release.new.self } in
     let beside' : SameBeside set new = same_with set c.release.new.self in
     let releases = c.release.ensures.change in
-    entry_shared old c.args.pid c.args.page c.args.shown.0 c.args.attr c.args.core.now.sound c.requires.linked c.requires.attr c.requires.resident c.requires.own c.requires.common mid n r copy c.root_of-root.ensures set sets beside c.requires.not_shared inside private new releases beside' c.requires.writable
+    entry_shared old c.args.spot.now.pid c.args.spot.now.page c.args.shown.0 c.args.attr c.args.core.now.sound c.requires.spot.linked c.requires.attr c.requires.resident c.requires.own c.requires.common mid n r copy c.requires.spot.root set sets beside c.requires.not_shared inside private new releases beside' c.requires.writable
 
 pub returns-then-is_private-clause-sole : goal.returns-then-is_private-clause-sole
 returns-then-is_private-clause-sole g c =
@@ -170,13 +171,13 @@ returns-then-is_private-clause-sole g c =
     let beside = beside_around c.take_copy.new.core c.set_full.new.core c.set_full.ensures.rest in
     let copy = c.in_ok-own.ensures.taken in
     let n = c.in_ok-own.own.0 in
-    let r = c.root_of-root.result.0 in
+    let r = c.args.spot.now.root.0 in
     let inside = past_end-same old copy.found c.args.attr.backing copy.frees.pages.files.files ∙ c.requires.inside in
     let private = sym (ap is_private c.requires.was) ∙ sym c.is_private.ensures ∙ c.if-is_private.true in
     let new : Picture g.M.Levels.mode = record set { frames = c.release.new.self } in
     let beside' : SameBeside set new = same_with set c.release.new.self in
     let releases = c.release.ensures.change in
-    count_shared old c.args.pid c.args.page c.args.shown.0 c.args.attr c.args.core.now.sound c.requires.linked c.requires.attr c.requires.resident c.requires.own c.requires.common mid n r copy c.root_of-root.ensures set sets beside c.requires.not_shared inside private new releases beside'
+    count_shared old c.args.spot.now.pid c.args.spot.now.page c.args.shown.0 c.args.attr c.args.core.now.sound c.requires.spot.linked c.requires.attr c.requires.resident c.requires.own c.requires.common mid n r copy c.requires.spot.root set sets beside c.requires.not_shared inside private new releases beside'
 
 pub returns-then-is_private-clause-others : goal.returns-then-is_private-clause-others
 returns-then-is_private-clause-others g c =
@@ -187,13 +188,13 @@ returns-then-is_private-clause-others g c =
     let beside = beside_around c.take_copy.new.core c.set_full.new.core c.set_full.ensures.rest in
     let copy = c.in_ok-own.ensures.taken in
     let n = c.in_ok-own.own.0 in
-    let r = c.root_of-root.result.0 in
+    let r = c.args.spot.now.root.0 in
     let inside = past_end-same old copy.found c.args.attr.backing copy.frees.pages.files.files ∙ c.requires.inside in
     let private = sym (ap is_private c.requires.was) ∙ sym c.is_private.ensures ∙ c.if-is_private.true in
     let new : Picture g.M.Levels.mode = record set { frames = c.release.new.self } in
     let beside' : SameBeside set new = same_with set c.release.new.self in
     let releases = c.release.ensures.change in
-    others_shared old c.args.pid c.args.page c.args.shown.0 c.args.attr c.args.core.now.sound c.requires.linked c.requires.attr c.requires.resident c.requires.own c.requires.common mid n r copy c.root_of-root.ensures set sets beside c.requires.not_shared inside private new releases beside'
+    others_shared old c.args.spot.now.pid c.args.spot.now.page c.args.shown.0 c.args.attr c.args.core.now.sound c.requires.spot.linked c.requires.attr c.requires.resident c.requires.own c.requires.common mid n r copy c.requires.spot.root set sets beside c.requires.not_shared inside private new releases beside'
 
 pub returns-then-is_private-clause-bare : goal.returns-then-is_private-clause-bare
 returns-then-is_private-clause-bare g c =
@@ -204,13 +205,30 @@ returns-then-is_private-clause-bare g c =
     let beside = beside_around c.take_copy.new.core c.set_full.new.core c.set_full.ensures.rest in
     let copy = c.in_ok-own.ensures.taken in
     let n = c.in_ok-own.own.0 in
-    let r = c.root_of-root.result.0 in
+    let r = c.args.spot.now.root.0 in
     let inside = past_end-same old copy.found c.args.attr.backing copy.frees.pages.files.files ∙ c.requires.inside in
     let private = sym (ap is_private c.requires.was) ∙ sym c.is_private.ensures ∙ c.if-is_private.true in
     let new : Picture g.M.Levels.mode = record set { frames = c.release.new.self } in
     let beside' : SameBeside set new = same_with set c.release.new.self in
     let releases = c.release.ensures.change in
-    bare_shared old c.args.pid c.args.page c.args.shown.0 c.args.attr c.args.core.now.sound c.requires.linked c.requires.attr c.requires.resident c.requires.own c.requires.common mid n r copy c.root_of-root.ensures set sets beside c.requires.not_shared inside private new releases beside'
+    bare_shared old c.args.spot.now.pid c.args.spot.now.page c.args.shown.0 c.args.attr c.args.core.now.sound c.requires.spot.linked c.requires.attr c.requires.resident c.requires.own c.requires.common mid n r copy c.requires.spot.root set sets beside c.requires.not_shared inside private new releases beside'
+
+pub returns-then-is_private-clause-rows : goal.returns-then-is_private-clause-rows
+returns-then-is_private-clause-rows g c =
+    let old : Picture g.M.Levels.mode = picture_of c.args.core.now in
+    let mid : Picture g.M.Levels.mode = picture_of c.take_copy.new.core in
+    let set : Picture g.M.Levels.mode = picture_of c.set_full.new.core in
+    let sets = c.set_full.ensures.sets in
+    let beside = beside_around c.take_copy.new.core c.set_full.new.core c.set_full.ensures.rest in
+    let copy = c.in_ok-own.ensures.taken in
+    let n = c.in_ok-own.own.0 in
+    let r = c.args.spot.now.root.0 in
+    let inside = past_end-same old copy.found c.args.attr.backing copy.frees.pages.files.files ∙ c.requires.inside in
+    let private = sym (ap is_private c.requires.was) ∙ sym c.is_private.ensures ∙ c.if-is_private.true in
+    let new : Picture g.M.Levels.mode = record set { frames = c.release.new.self } in
+    let beside' : SameBeside set new = same_with set c.release.new.self in
+    let releases = c.release.ensures.change in
+    rows_shared old c.args.spot.now.pid c.args.spot.now.page c.args.shown.0 c.args.attr c.args.core.now.sound c.requires.spot.linked c.requires.attr c.requires.resident c.requires.own c.requires.common mid n r copy c.requires.spot.root set sets beside c.requires.not_shared inside private new releases beside'
 
 pub returns-then-is_private-clause-slotted : goal.returns-then-is_private-clause-slotted
 returns-then-is_private-clause-slotted g c =
@@ -221,13 +239,13 @@ returns-then-is_private-clause-slotted g c =
     let beside = beside_around c.take_copy.new.core c.set_full.new.core c.set_full.ensures.rest in
     let copy = c.in_ok-own.ensures.taken in
     let n = c.in_ok-own.own.0 in
-    let r = c.root_of-root.result.0 in
+    let r = c.args.spot.now.root.0 in
     let inside = past_end-same old copy.found c.args.attr.backing copy.frees.pages.files.files ∙ c.requires.inside in
     let private = sym (ap is_private c.requires.was) ∙ sym c.is_private.ensures ∙ c.if-is_private.true in
     let new : Picture g.M.Levels.mode = record set { frames = c.release.new.self } in
     let beside' : SameBeside set new = same_with set c.release.new.self in
     let releases = c.release.ensures.change in
-    slotted_shared old c.args.pid c.args.page c.args.shown.0 c.args.attr c.args.core.now.sound c.requires.linked c.requires.attr c.requires.resident c.requires.own c.requires.common mid n r copy c.root_of-root.ensures set sets beside c.requires.not_shared inside private new releases beside'
+    slotted_shared old c.args.spot.now.pid c.args.spot.now.page c.args.shown.0 c.args.attr c.args.core.now.sound c.requires.spot.linked c.requires.attr c.requires.resident c.requires.own c.requires.common mid n r copy c.requires.spot.root set sets beside c.requires.not_shared inside private new releases beside'
 
 pub returns-then-is_private-clause-files : goal.returns-then-is_private-clause-files
 returns-then-is_private-clause-files g c =
@@ -238,13 +256,13 @@ returns-then-is_private-clause-files g c =
     let beside = beside_around c.take_copy.new.core c.set_full.new.core c.set_full.ensures.rest in
     let copy = c.in_ok-own.ensures.taken in
     let n = c.in_ok-own.own.0 in
-    let r = c.root_of-root.result.0 in
+    let r = c.args.spot.now.root.0 in
     let inside = past_end-same old copy.found c.args.attr.backing copy.frees.pages.files.files ∙ c.requires.inside in
     let private = sym (ap is_private c.requires.was) ∙ sym c.is_private.ensures ∙ c.if-is_private.true in
     let new : Picture g.M.Levels.mode = record set { frames = c.release.new.self } in
     let beside' : SameBeside set new = same_with set c.release.new.self in
     let releases = c.release.ensures.change in
-    files_shared old c.args.pid c.args.page c.args.shown.0 c.args.attr c.args.core.now.sound c.requires.linked c.requires.attr c.requires.resident c.requires.own c.requires.common mid n r copy c.root_of-root.ensures set sets beside c.requires.not_shared inside private new releases beside'
+    files_shared old c.args.spot.now.pid c.args.spot.now.page c.args.shown.0 c.args.attr c.args.core.now.sound c.requires.spot.linked c.requires.attr c.requires.resident c.requires.own c.requires.common mid n r copy c.requires.spot.root set sets beside c.requires.not_shared inside private new releases beside'
 
 pub returns-then-is_private-clause-behind : goal.returns-then-is_private-clause-behind
 returns-then-is_private-clause-behind g c =
@@ -255,7 +273,7 @@ returns-then-is_private-clause-behind g c =
     let beside = beside_around c.take_copy.new.core c.set_full.new.core c.set_full.ensures.rest in
     let copy = c.in_ok-own.ensures.taken in
     let n = c.in_ok-own.own.0 in
-    let r = c.root_of-root.result.0 in
+    let r = c.args.spot.now.root.0 in
     let inside = past_end-same old copy.found c.args.attr.backing copy.frees.pages.files.files ∙ c.requires.inside in
     let private = sym (ap is_private c.requires.was) ∙ sym c.is_private.ensures ∙ c.if-is_private.true in
     let new : Picture g.M.Levels.mode = record set { frames = c.release.new.self } in
@@ -272,16 +290,16 @@ returns-else-is_private-clause-moves g c =
     let beside = beside_around c.take_copy.new.core c.set_full.new.core c.set_full.ensures.rest in
     let copy = c.in_ok-own.ensures.taken in
     let n = c.in_ok-own.own.0 in
-    let r = c.root_of-root.result.0 in
+    let r = c.args.spot.now.root.0 in
     let inside = past_end-same old copy.found c.args.attr.backing copy.frees.pages.files.files ∙ c.requires.inside in
     let common = sym (ap is_private c.requires.was) ∙ sym c.is_private.ensures ∙ c.if-is_private.false in
     let done = c.in_ok-own.ensures in
     record {
-      fit = fit_first old c.args.pid c.args.page c.args.shown.0 c.args.attr c.args.core.now.sound c.requires.linked c.requires.attr c.requires.resident c.requires.own c.requires.common mid n r copy c.root_of-root.ensures set sets beside c.requires.not_shared inside common;
+      fit = fit_first old c.args.spot.now.pid c.args.spot.now.page c.args.shown.0 c.args.attr c.args.core.now.sound c.requires.spot.linked c.requires.attr c.requires.resident c.requires.own c.requires.common mid n r copy c.requires.spot.root set sets beside c.requires.not_shared inside common;
       swap = (let P : Swap _ → Type 0 = λ s. IsReady g.E.SectorDisk s in subst P (sym c.set_full.ensures.rest.swap) done.swap);
-      spaces = spaces_set old c.args.pid c.args.page c.args.shown.0 c.args.attr c.args.core.now.sound c.requires.linked c.requires.attr c.requires.resident c.requires.own c.requires.common mid n r copy c.root_of-root.ensures set sets beside c.requires.not_shared inside;
-      tables = tables_set old c.args.pid c.args.page c.args.shown.0 c.args.attr c.args.core.now.sound c.requires.linked c.requires.attr c.requires.resident c.requires.own c.requires.common mid n r copy c.root_of-root.ensures set sets beside c.requires.not_shared inside;
-      room = room_set old c.args.pid c.args.page c.args.shown.0 c.args.attr c.args.core.now.sound c.requires.linked c.requires.attr c.requires.resident c.requires.own c.requires.common mid n r copy c.root_of-root.ensures set sets beside c.requires.not_shared inside;
+      spaces = spaces_set old c.args.spot.now.pid c.args.spot.now.page c.args.shown.0 c.args.attr c.args.core.now.sound c.requires.spot.linked c.requires.attr c.requires.resident c.requires.own c.requires.common mid n r copy c.requires.spot.root set sets beside c.requires.not_shared inside;
+      tables = tables_set old c.args.spot.now.pid c.args.spot.now.page c.args.shown.0 c.args.attr c.args.core.now.sound c.requires.spot.linked c.requires.attr c.requires.resident c.requires.own c.requires.common mid n r copy c.requires.spot.root set sets beside c.requires.not_shared inside;
+      room = room_set old c.args.spot.now.pid c.args.spot.now.page c.args.shown.0 c.args.attr c.args.core.now.sound c.requires.spot.linked c.requires.attr c.requires.resident c.requires.own c.requires.common mid n r copy c.requires.spot.root set sets beside c.requires.not_shared inside;
       store = c.set_full.ensures.rest.store ∙ done.rest.store;
       device = (let P : Swap _ → Type 0 = λ s. UsesDevice g.E.SectorDisk c.args.core.now.swap.pages.disk s.pages.disk in subst P (sym c.set_full.ensures.rest.swap) done.device);
     }
@@ -295,10 +313,10 @@ returns-else-is_private-clause-own g c =
     let beside = beside_around c.take_copy.new.core c.set_full.new.core c.set_full.ensures.rest in
     let copy = c.in_ok-own.ensures.taken in
     let n = c.in_ok-own.own.0 in
-    let r = c.root_of-root.result.0 in
+    let r = c.args.spot.now.root.0 in
     let inside = past_end-same old copy.found c.args.attr.backing copy.frees.pages.files.files ∙ c.requires.inside in
     let common = sym (ap is_private c.requires.was) ∙ sym c.is_private.ensures ∙ c.if-is_private.false in
-    own_set old c.args.pid c.args.page c.args.shown.0 c.args.attr c.args.core.now.sound c.requires.linked c.requires.attr c.requires.resident c.requires.own c.requires.common mid n r copy c.root_of-root.ensures set sets beside c.requires.not_shared inside
+    own_set old c.args.spot.now.pid c.args.spot.now.page c.args.shown.0 c.args.attr c.args.core.now.sound c.requires.spot.linked c.requires.attr c.requires.resident c.requires.own c.requires.common mid n r copy c.requires.spot.root set sets beside c.requires.not_shared inside
 
 pub returns-else-is_private-clause-bytes : goal.returns-else-is_private-clause-bytes
 returns-else-is_private-clause-bytes g c =
@@ -309,10 +327,10 @@ returns-else-is_private-clause-bytes g c =
     let beside = beside_around c.take_copy.new.core c.set_full.new.core c.set_full.ensures.rest in
     let copy = c.in_ok-own.ensures.taken in
     let n = c.in_ok-own.own.0 in
-    let r = c.root_of-root.result.0 in
+    let r = c.args.spot.now.root.0 in
     let inside = past_end-same old copy.found c.args.attr.backing copy.frees.pages.files.files ∙ c.requires.inside in
     let common = sym (ap is_private c.requires.was) ∙ sym c.is_private.ensures ∙ c.if-is_private.false in
-    bytes_set old c.args.pid c.args.page c.args.shown.0 c.args.attr c.args.core.now.sound c.requires.linked c.requires.attr c.requires.resident c.requires.own c.requires.common mid n r copy c.root_of-root.ensures set sets beside c.requires.not_shared inside
+    bytes_set old c.args.spot.now.pid c.args.spot.now.page c.args.shown.0 c.args.attr c.args.core.now.sound c.requires.spot.linked c.requires.attr c.requires.resident c.requires.own c.requires.common mid n r copy c.requires.spot.root set sets beside c.requires.not_shared inside
 
 pub returns-else-is_private-clause-entry : goal.returns-else-is_private-clause-entry
 returns-else-is_private-clause-entry g c =
@@ -323,10 +341,10 @@ returns-else-is_private-clause-entry g c =
     let beside = beside_around c.take_copy.new.core c.set_full.new.core c.set_full.ensures.rest in
     let copy = c.in_ok-own.ensures.taken in
     let n = c.in_ok-own.own.0 in
-    let r = c.root_of-root.result.0 in
+    let r = c.args.spot.now.root.0 in
     let inside = past_end-same old copy.found c.args.attr.backing copy.frees.pages.files.files ∙ c.requires.inside in
     let common = sym (ap is_private c.requires.was) ∙ sym c.is_private.ensures ∙ c.if-is_private.false in
-    entry_set old c.args.pid c.args.page c.args.shown.0 c.args.attr c.args.core.now.sound c.requires.linked c.requires.attr c.requires.resident c.requires.own c.requires.common mid n r copy c.root_of-root.ensures set sets beside c.requires.not_shared inside c.requires.writable
+    entry_set old c.args.spot.now.pid c.args.spot.now.page c.args.shown.0 c.args.attr c.args.core.now.sound c.requires.spot.linked c.requires.attr c.requires.resident c.requires.own c.requires.common mid n r copy c.requires.spot.root set sets beside c.requires.not_shared inside c.requires.writable
 
 pub returns-else-is_private-clause-sole : goal.returns-else-is_private-clause-sole
 returns-else-is_private-clause-sole g c =
@@ -337,10 +355,10 @@ returns-else-is_private-clause-sole g c =
     let beside = beside_around c.take_copy.new.core c.set_full.new.core c.set_full.ensures.rest in
     let copy = c.in_ok-own.ensures.taken in
     let n = c.in_ok-own.own.0 in
-    let r = c.root_of-root.result.0 in
+    let r = c.args.spot.now.root.0 in
     let inside = past_end-same old copy.found c.args.attr.backing copy.frees.pages.files.files ∙ c.requires.inside in
     let common = sym (ap is_private c.requires.was) ∙ sym c.is_private.ensures ∙ c.if-is_private.false in
-    count_set old c.args.pid c.args.page c.args.shown.0 c.args.attr c.args.core.now.sound c.requires.linked c.requires.attr c.requires.resident c.requires.own c.requires.common mid n r copy c.root_of-root.ensures set sets beside c.requires.not_shared inside
+    count_set old c.args.spot.now.pid c.args.spot.now.page c.args.shown.0 c.args.attr c.args.core.now.sound c.requires.spot.linked c.requires.attr c.requires.resident c.requires.own c.requires.common mid n r copy c.requires.spot.root set sets beside c.requires.not_shared inside
 
 pub returns-else-is_private-clause-others : goal.returns-else-is_private-clause-others
 returns-else-is_private-clause-others g c =
@@ -351,10 +369,10 @@ returns-else-is_private-clause-others g c =
     let beside = beside_around c.take_copy.new.core c.set_full.new.core c.set_full.ensures.rest in
     let copy = c.in_ok-own.ensures.taken in
     let n = c.in_ok-own.own.0 in
-    let r = c.root_of-root.result.0 in
+    let r = c.args.spot.now.root.0 in
     let inside = past_end-same old copy.found c.args.attr.backing copy.frees.pages.files.files ∙ c.requires.inside in
     let common = sym (ap is_private c.requires.was) ∙ sym c.is_private.ensures ∙ c.if-is_private.false in
-    others_set old c.args.pid c.args.page c.args.shown.0 c.args.attr c.args.core.now.sound c.requires.linked c.requires.attr c.requires.resident c.requires.own c.requires.common mid n r copy c.root_of-root.ensures set sets beside c.requires.not_shared inside
+    others_set old c.args.spot.now.pid c.args.spot.now.page c.args.shown.0 c.args.attr c.args.core.now.sound c.requires.spot.linked c.requires.attr c.requires.resident c.requires.own c.requires.common mid n r copy c.requires.spot.root set sets beside c.requires.not_shared inside
 
 pub returns-else-is_private-clause-bare : goal.returns-else-is_private-clause-bare
 returns-else-is_private-clause-bare g c =
@@ -365,10 +383,24 @@ returns-else-is_private-clause-bare g c =
     let beside = beside_around c.take_copy.new.core c.set_full.new.core c.set_full.ensures.rest in
     let copy = c.in_ok-own.ensures.taken in
     let n = c.in_ok-own.own.0 in
-    let r = c.root_of-root.result.0 in
+    let r = c.args.spot.now.root.0 in
     let inside = past_end-same old copy.found c.args.attr.backing copy.frees.pages.files.files ∙ c.requires.inside in
     let common = sym (ap is_private c.requires.was) ∙ sym c.is_private.ensures ∙ c.if-is_private.false in
-    bare_set old c.args.pid c.args.page c.args.shown.0 c.args.attr c.args.core.now.sound c.requires.linked c.requires.attr c.requires.resident c.requires.own c.requires.common mid n r copy c.root_of-root.ensures set sets beside c.requires.not_shared inside
+    bare_set old c.args.spot.now.pid c.args.spot.now.page c.args.shown.0 c.args.attr c.args.core.now.sound c.requires.spot.linked c.requires.attr c.requires.resident c.requires.own c.requires.common mid n r copy c.requires.spot.root set sets beside c.requires.not_shared inside
+
+pub returns-else-is_private-clause-rows : goal.returns-else-is_private-clause-rows
+returns-else-is_private-clause-rows g c =
+    let old : Picture g.M.Levels.mode = picture_of c.args.core.now in
+    let mid : Picture g.M.Levels.mode = picture_of c.take_copy.new.core in
+    let set : Picture g.M.Levels.mode = picture_of c.set_full.new.core in
+    let sets = c.set_full.ensures.sets in
+    let beside = beside_around c.take_copy.new.core c.set_full.new.core c.set_full.ensures.rest in
+    let copy = c.in_ok-own.ensures.taken in
+    let n = c.in_ok-own.own.0 in
+    let r = c.args.spot.now.root.0 in
+    let inside = past_end-same old copy.found c.args.attr.backing copy.frees.pages.files.files ∙ c.requires.inside in
+    let common = sym (ap is_private c.requires.was) ∙ sym c.is_private.ensures ∙ c.if-is_private.false in
+    rows_own old c.args.spot.now.pid c.args.spot.now.page c.args.shown.0 c.args.attr c.args.core.now.sound c.requires.spot.linked c.requires.attr c.requires.resident c.requires.own c.requires.common mid n r copy c.requires.spot.root set sets beside c.requires.not_shared inside
 
 pub returns-else-is_private-clause-slotted : goal.returns-else-is_private-clause-slotted
 returns-else-is_private-clause-slotted g c =
@@ -379,10 +411,10 @@ returns-else-is_private-clause-slotted g c =
     let beside = beside_around c.take_copy.new.core c.set_full.new.core c.set_full.ensures.rest in
     let copy = c.in_ok-own.ensures.taken in
     let n = c.in_ok-own.own.0 in
-    let r = c.root_of-root.result.0 in
+    let r = c.args.spot.now.root.0 in
     let inside = past_end-same old copy.found c.args.attr.backing copy.frees.pages.files.files ∙ c.requires.inside in
     let common = sym (ap is_private c.requires.was) ∙ sym c.is_private.ensures ∙ c.if-is_private.false in
-    slotted_set old c.args.pid c.args.page c.args.shown.0 c.args.attr c.args.core.now.sound c.requires.linked c.requires.attr c.requires.resident c.requires.own c.requires.common mid n r copy c.root_of-root.ensures set sets beside c.requires.not_shared inside
+    slotted_set old c.args.spot.now.pid c.args.spot.now.page c.args.shown.0 c.args.attr c.args.core.now.sound c.requires.spot.linked c.requires.attr c.requires.resident c.requires.own c.requires.common mid n r copy c.requires.spot.root set sets beside c.requires.not_shared inside
 
 pub returns-else-is_private-clause-files : goal.returns-else-is_private-clause-files
 returns-else-is_private-clause-files g c =
@@ -393,10 +425,10 @@ returns-else-is_private-clause-files g c =
     let beside = beside_around c.take_copy.new.core c.set_full.new.core c.set_full.ensures.rest in
     let copy = c.in_ok-own.ensures.taken in
     let n = c.in_ok-own.own.0 in
-    let r = c.root_of-root.result.0 in
+    let r = c.args.spot.now.root.0 in
     let inside = past_end-same old copy.found c.args.attr.backing copy.frees.pages.files.files ∙ c.requires.inside in
     let common = sym (ap is_private c.requires.was) ∙ sym c.is_private.ensures ∙ c.if-is_private.false in
-    files_set old c.args.pid c.args.page c.args.shown.0 c.args.attr c.args.core.now.sound c.requires.linked c.requires.attr c.requires.resident c.requires.own c.requires.common mid n r copy c.root_of-root.ensures set sets beside c.requires.not_shared inside
+    files_set old c.args.spot.now.pid c.args.spot.now.page c.args.shown.0 c.args.attr c.args.core.now.sound c.requires.spot.linked c.requires.attr c.requires.resident c.requires.own c.requires.common mid n r copy c.requires.spot.root set sets beside c.requires.not_shared inside
 
 pub returns-else-is_private-clause-behind : goal.returns-else-is_private-clause-behind
 returns-else-is_private-clause-behind g c =
@@ -407,10 +439,10 @@ returns-else-is_private-clause-behind g c =
     let beside = beside_around c.take_copy.new.core c.set_full.new.core c.set_full.ensures.rest in
     let copy = c.in_ok-own.ensures.taken in
     let n = c.in_ok-own.own.0 in
-    let r = c.root_of-root.result.0 in
+    let r = c.args.spot.now.root.0 in
     let inside = past_end-same old copy.found c.args.attr.backing copy.frees.pages.files.files ∙ c.requires.inside in
     let common = sym (ap is_private c.requires.was) ∙ sym c.is_private.ensures ∙ c.if-is_private.false in
-    λ x not_own behind. behind_first old c.args.pid c.args.page c.args.shown.0 c.args.attr c.args.core.now.sound c.requires.linked c.requires.attr c.requires.resident c.requires.own c.requires.common mid n r copy c.root_of-root.ensures set sets beside c.requires.not_shared inside not_own x behind
+    λ x not_own behind. behind_first old c.args.spot.now.pid c.args.spot.now.page c.args.shown.0 c.args.attr c.args.core.now.sound c.requires.spot.linked c.requires.attr c.requires.resident c.requires.own c.requires.common mid n r copy c.requires.spot.root set sets beside c.requires.not_shared inside not_own x behind
 
 pub returns-in_err-own-clause-moves : goal.returns-in_err-own-clause-moves
 returns-in_err-own-clause-moves g c =
@@ -420,19 +452,23 @@ returns-in_err-own-clause-moves g c =
 pub returns-in_err-own-clause-bare : goal.returns-in_err-own-clause-bare
 returns-in_err-own-clause-bare g c = λ q p h other none. c.in_err-own.ensures.frees.entries q p h (inl none) ∙ none
 
+pub returns-in_err-own-clause-rows : goal.returns-in_err-own-clause-rows
+returns-in_err-own-clause-rows g c =
+    rows_freed (picture_of c.args.core.now) (picture_of c.take_copy.new.core) _ c.in_err-own.ensures.fit c.in_err-own.ensures.frees
+
 pub returns-in_err-own-clause-slotted : goal.returns-in_err-own-clause-slotted
 returns-in_err-own-clause-slotted g c =
-    slotted_frees (λ p. ⊥) (IsThatPage c.args.pid c.args.page) (picture_of c.args.core.now) (picture_of c.take_copy.new.core) _ c.in_err-own.ensures.frees
+    slotted_frees (λ p. ⊥) (IsThatPage c.args.spot.now.pid c.args.spot.now.page) (picture_of c.args.core.now) (picture_of c.take_copy.new.core) _ c.in_err-own.ensures.frees
 
 pub returns-in_err-own-clause-behind : goal.returns-in_err-own-clause-behind
 returns-in_err-own-clause-behind g c = λ x not_own behind.
     let old : Picture g.M.Levels.mode = picture_of c.args.core.now in
     behind_freed old (picture_of c.take_copy.new.core) c.args.attr.backing c.args.shown.0 c.in_err-own.ensures.frees
-    (shown_datum old c.args.pid c.args.page c.args.shown.0 c.args.attr c.args.core.now.sound c.requires.linked c.requires.attr c.requires.resident c.requires.own c.requires.common)
+    (shown_datum old c.args.spot.now.pid c.args.spot.now.page c.args.shown.0 c.args.attr c.args.core.now.sound c.requires.spot.linked c.requires.attr c.requires.resident c.requires.own c.requires.common)
     (c.requires.common not_own) x behind
 
 pub set_full-requires-clause-user : goal.set_full-requires-clause-user
-set_full-requires-clause-user g c = ((c.requires.linked.fit.granting.user c.args.pid).user_pages c.args.page (ap is_some c.requires.attr)).1
+set_full-requires-clause-user g c = ((c.requires.spot.linked.fit.granting.user c.args.spot.now.pid).user_pages c.args.spot.now.page (ap is_some c.requires.attr)).1
 
 pub returns-then-is_private-clause-asks : goal.returns-then-is_private-clause-asks
 returns-then-is_private-clause-asks g c =

@@ -8,7 +8,6 @@ use Rattle.sv39_walk.specs.Entry.{frame_of}
 use Rattle.paging.specs.Picture.{Picture, picture_of, entry, is_private, view}
 use Rattle.paging.specs.Parts.{IsBehind}
 use Rattle.paging.specs.Calls.{Frees, Refuses}
-use Rattle.paging.proofs.Entries.{entry-of}
 use Rattle.page_tables.specs.Leaves.{IsEntryOver}
 use Rattle.mapping.specs.Leaves.{IsFullEntry}
 use Rattle.mapping.specs.Asking.{AsksSlots}
@@ -21,17 +20,14 @@ use Rattle.mapping.proofs.Steps.{moves_entered}
 use Rattle.mapping.proofs.owning.own_frame.Goals as goal
 use Rattle.mapping.proofs.owning.own_frame.Goals.{else-is_private-via-then-is_private+else-count-eq1, else-is_private-via-else-is_private}
 
-pub entry_number-entry-requires-clause-root : goal.entry_number-entry-requires-clause-root
-entry_number-entry-requires-clause-root g c = c.requires.linked.fit.rooted.roots c.args.pid c.root_of-root.result.0 c.root_of-root.ensures
-
 pub shown_frame-shown-requires-clause-number : goal.shown_frame-shown-requires-clause-number
 shown_frame-shown-requires-clause-number g c =
     let old : Picture g.M.Levels.mode = picture_of c.args.core.now in
-    let e = c.entry_number-entry.ensures ∙ sym (entry-of old c.args.pid c.root_of-root.result.0 c.args.page c.root_of-root.ensures) in
-    let h = mapped_page old c.args.pid c.args.page c.args.attr c.requires.linked.fit.granting c.requires.attr in
+    let e = c.number_at-was.ensures in
+    let h = mapped_page old c.args.spot.now.pid c.args.spot.now.page c.args.attr c.requires.spot.linked.fit.granting c.requires.attr in
     λ private.
-    let low = used_inside old.frames (frame_of (entry old c.args.pid c.args.page)) c.args.core.now.sound
-    (λ free. let bad : Private ≡ Free = sym (own_role old c.args.pid c.args.page c.requires.linked.fit h (sym (ap is_private e) ∙ private)) ∙ free in (cc)) in
+    let low = used_inside old.frames (frame_of (entry old c.args.spot.now.pid c.args.spot.now.page)) c.args.core.now.sound
+    (λ free. let bad : Private ≡ Free = sym (own_role old c.args.spot.now.pid c.args.spot.now.page c.requires.spot.linked.fit h (sym (ap is_private e) ∙ private)) ∙ free in (cc)) in
     let most = c.args.core.now.sound.most in
     let is = ap frame_of e in
     omega (arith, low, most, is)
@@ -39,76 +35,76 @@ shown_frame-shown-requires-clause-number g c =
 pub shown_frame-shown-requires-clause-in_memory : goal.shown_frame-shown-requires-clause-in_memory
 shown_frame-shown-requires-clause-in_memory g c =
     let old : Picture g.M.Levels.mode = picture_of c.args.core.now in
-    let e = c.entry_number-entry.ensures ∙ sym (entry-of old c.args.pid c.root_of-root.result.0 c.args.page c.root_of-root.ensures) in
+    let e = c.number_at-was.ensures in
     λ common. c.requires.in_memory (sym (ap is_private e) ∙ common)
 
 pub count-requires : goal.count-requires
 count-requires g c =
     let old : Picture g.M.Levels.mode = picture_of c.args.core.now in
-    let e = c.entry_number-entry.ensures ∙ sym (entry-of old c.args.pid c.root_of-root.result.0 c.args.page c.root_of-root.ensures) in
+    let e = c.number_at-was.ensures in
     let shown = c.shown_frame-shown.ensures ∙ ap (λ x. shown_frame old x c.args.attr.backing) e in
-    let h = mapped_page old c.args.pid c.args.page c.args.attr c.requires.linked.fit.granting c.requires.attr in
-    let own_of : is_private (entry old c.args.pid c.args.page) ≡ true → frame_of (entry old c.args.pid c.args.page) ≡ c.shown_frame-shown.result.0 = λ private. sym (shown ∙ shown_own old (entry old c.args.pid c.args.page) c.args.attr.backing private) in
-    let behind_of : is_private (entry old c.args.pid c.args.page) ≡ false → IsBehind old c.args.attr.backing c.shown_frame-shown.result.0 = λ common.
-    (let P : ℕ → Type 0 = λ x. IsBehind old c.args.attr.backing x in subst P (sym shown) (shown_behind old (entry old c.args.pid c.args.page) c.args.attr.backing common (c.requires.in_memory common))) in
+    let h = mapped_page old c.args.spot.now.pid c.args.spot.now.page c.args.attr c.requires.spot.linked.fit.granting c.requires.attr in
+    let own_of : is_private (entry old c.args.spot.now.pid c.args.spot.now.page) ≡ true → frame_of (entry old c.args.spot.now.pid c.args.spot.now.page) ≡ c.shown_frame-shown.result.0 = λ private. sym (shown ∙ shown_own old (entry old c.args.spot.now.pid c.args.spot.now.page) c.args.attr.backing private) in
+    let behind_of : is_private (entry old c.args.spot.now.pid c.args.spot.now.page) ≡ false → IsBehind old c.args.attr.backing c.shown_frame-shown.result.0 = λ common.
+    (let P : ℕ → Type 0 = λ x. IsBehind old c.args.attr.backing x in subst P (sym shown) (shown_behind old (entry old c.args.spot.now.pid c.args.spot.now.page) c.args.attr.backing common (c.requires.in_memory common))) in
     used_inside old.frames c.shown_frame-shown.result.0 c.args.core.now.sound
-    (shown_used old c.args.pid c.args.page c.shown_frame-shown.result.0 c.args.attr c.args.core.now.sound c.requires.linked c.requires.attr c.requires.resident own_of behind_of)
+    (shown_used old c.args.spot.now.pid c.args.spot.now.page c.shown_frame-shown.result.0 c.args.attr c.args.core.now.sound c.requires.spot.linked c.requires.attr c.requires.resident own_of behind_of)
 
 pub regrant-requires-clause-resident : goal.regrant-requires-clause-resident
 regrant-requires-clause-resident g c =
     let old : Picture g.M.Levels.mode = picture_of c.args.core.now in
-    let e = c.entry_number-entry.ensures ∙ sym (entry-of old c.args.pid c.root_of-root.result.0 c.args.page c.root_of-root.ensures) in
+    let e = c.number_at-was.ensures in
     let own = sym (ap is_private e) ∙ sym c.is_private.ensures ∙ c.if-is_private.true in
-    λ none. false≢true (sym (none_common (entry old c.args.pid c.args.page) (seat_zero (entry old c.args.pid c.args.page) none)) ∙ own)
+    λ none. false≢true (sym (none_common (entry old c.args.spot.now.pid c.args.spot.now.page) (seat_zero (entry old c.args.spot.now.pid c.args.spot.now.page) none)) ∙ own)
 
 pub returns-then-count-eq1-clause-moves : goal.returns-then-count-eq1-clause-moves
-returns-then-count-eq1-clause-moves g c = moves_entered g.E.SectorDisk c.args.core.now c.regrant.new.core c.args.pid c.args.page c.requires.swap c.regrant.ensures.enters
+returns-then-count-eq1-clause-moves g c = moves_entered g.E.SectorDisk c.args.core.now c.regrant.new.core c.args.spot.now.pid c.args.spot.now.page c.requires.swap c.regrant.ensures.enters
 
 pub returns-then-count-eq1-clause-own : goal.returns-then-count-eq1-clause-own
 returns-then-count-eq1-clause-own g c =
     let old : Picture g.M.Levels.mode = picture_of c.args.core.now in
-    let e = c.entry_number-entry.ensures ∙ sym (entry-of old c.args.pid c.root_of-root.result.0 c.args.page c.root_of-root.ensures) in
+    let e = c.number_at-was.ensures in
     let shown = c.shown_frame-shown.ensures ∙ ap (λ x. shown_frame old x c.args.attr.backing) e in
-    let h = mapped_page old c.args.pid c.args.page c.args.attr c.requires.linked.fit.granting c.requires.attr in
-    let own_of : is_private (entry old c.args.pid c.args.page) ≡ true → frame_of (entry old c.args.pid c.args.page) ≡ c.shown_frame-shown.result.0 = λ private. sym (shown ∙ shown_own old (entry old c.args.pid c.args.page) c.args.attr.backing private) in
-    let behind_of : is_private (entry old c.args.pid c.args.page) ≡ false → IsBehind old c.args.attr.backing c.shown_frame-shown.result.0 = λ common.
-    (let P : ℕ → Type 0 = λ x. IsBehind old c.args.attr.backing x in subst P (sym shown) (shown_behind old (entry old c.args.pid c.args.page) c.args.attr.backing common (c.requires.in_memory common))) in
+    let h = mapped_page old c.args.spot.now.pid c.args.spot.now.page c.args.attr c.requires.spot.linked.fit.granting c.requires.attr in
+    let own_of : is_private (entry old c.args.spot.now.pid c.args.spot.now.page) ≡ true → frame_of (entry old c.args.spot.now.pid c.args.spot.now.page) ≡ c.shown_frame-shown.result.0 = λ private. sym (shown ∙ shown_own old (entry old c.args.spot.now.pid c.args.spot.now.page) c.args.attr.backing private) in
+    let behind_of : is_private (entry old c.args.spot.now.pid c.args.spot.now.page) ≡ false → IsBehind old c.args.attr.backing c.shown_frame-shown.result.0 = λ common.
+    (let P : ℕ → Type 0 = λ x. IsBehind old c.args.attr.backing x in subst P (sym shown) (shown_behind old (entry old c.args.spot.now.pid c.args.spot.now.page) c.args.attr.backing common (c.requires.in_memory common))) in
     let own = sym (ap is_private e) ∙ sym c.is_private.ensures ∙ c.if-is_private.true in
-    let frame = shown ∙ shown_own old (entry old c.args.pid c.args.page) c.args.attr.backing own in
+    let frame = shown ∙ shown_own old (entry old c.args.spot.now.pid c.args.spot.now.page) c.args.attr.backing own in
     let one = ap (count_of old.frames) (sym frame) ∙ sym c.count.ensures ∙ c.if-count-eq1.true in
-    c.regrant.ensures.enters.views c.args.pid c.args.page ∙ own_view old c.args.pid c.args.page c.args.attr c.requires.attr own
-    ∙ ap (λ k. Some (record { attr = c.args.attr; own = Some (bytes_of old.frames k) })) (sym (shown_own old (entry old c.args.pid c.args.page) c.args.attr.backing own))
+    c.regrant.ensures.enters.views c.args.spot.now.pid c.args.spot.now.page ∙ own_view old c.args.spot.now.pid c.args.spot.now.page c.args.attr c.requires.attr own
+    ∙ ap (λ k. Some (record { attr = c.args.attr; own = Some (bytes_of old.frames k) })) (sym (shown_own old (entry old c.args.spot.now.pid c.args.spot.now.page) c.args.attr.backing own))
 
 pub returns-then-count-eq1-clause-bytes : goal.returns-then-count-eq1-clause-bytes
 returns-then-count-eq1-clause-bytes g c =
     let old : Picture g.M.Levels.mode = picture_of c.args.core.now in
-    let e = c.entry_number-entry.ensures ∙ sym (entry-of old c.args.pid c.root_of-root.result.0 c.args.page c.root_of-root.ensures) in
+    let e = c.number_at-was.ensures in
     let shown = c.shown_frame-shown.ensures ∙ ap (λ x. shown_frame old x c.args.attr.backing) e in
-    let h = mapped_page old c.args.pid c.args.page c.args.attr c.requires.linked.fit.granting c.requires.attr in
-    let own_of : is_private (entry old c.args.pid c.args.page) ≡ true → frame_of (entry old c.args.pid c.args.page) ≡ c.shown_frame-shown.result.0 = λ private. sym (shown ∙ shown_own old (entry old c.args.pid c.args.page) c.args.attr.backing private) in
-    let behind_of : is_private (entry old c.args.pid c.args.page) ≡ false → IsBehind old c.args.attr.backing c.shown_frame-shown.result.0 = λ common.
-    (let P : ℕ → Type 0 = λ x. IsBehind old c.args.attr.backing x in subst P (sym shown) (shown_behind old (entry old c.args.pid c.args.page) c.args.attr.backing common (c.requires.in_memory common))) in
+    let h = mapped_page old c.args.spot.now.pid c.args.spot.now.page c.args.attr c.requires.spot.linked.fit.granting c.requires.attr in
+    let own_of : is_private (entry old c.args.spot.now.pid c.args.spot.now.page) ≡ true → frame_of (entry old c.args.spot.now.pid c.args.spot.now.page) ≡ c.shown_frame-shown.result.0 = λ private. sym (shown ∙ shown_own old (entry old c.args.spot.now.pid c.args.spot.now.page) c.args.attr.backing private) in
+    let behind_of : is_private (entry old c.args.spot.now.pid c.args.spot.now.page) ≡ false → IsBehind old c.args.attr.backing c.shown_frame-shown.result.0 = λ common.
+    (let P : ℕ → Type 0 = λ x. IsBehind old c.args.attr.backing x in subst P (sym shown) (shown_behind old (entry old c.args.spot.now.pid c.args.spot.now.page) c.args.attr.backing common (c.requires.in_memory common))) in
     let own = sym (ap is_private e) ∙ sym c.is_private.ensures ∙ c.if-is_private.true in
-    let frame = shown ∙ shown_own old (entry old c.args.pid c.args.page) c.args.attr.backing own in
+    let frame = shown ∙ shown_own old (entry old c.args.spot.now.pid c.args.spot.now.page) c.args.attr.backing own in
     let one = ap (count_of old.frames) (sym frame) ∙ sym c.count.ensures ∙ c.if-count-eq1.true in
     ap (bytes_of c.regrant.new.core.frames) frame
-    ∙ c.regrant.ensures.enters.calm.frames.bytes (frame_of (entry old c.args.pid c.args.page)) (λ t. (let bad : Private ≡ Table = sym (own_role old c.args.pid c.args.page c.requires.linked.fit h own) ∙ t in (cc)))
-    ∙ ap (bytes_of old.frames) (sym (shown_own old (entry old c.args.pid c.args.page) c.args.attr.backing own))
+    ∙ c.regrant.ensures.enters.calm.frames.bytes (frame_of (entry old c.args.spot.now.pid c.args.spot.now.page)) (λ t. (let bad : Private ≡ Table = sym (own_role old c.args.spot.now.pid c.args.spot.now.page c.requires.spot.linked.fit h own) ∙ t in (cc)))
+    ∙ ap (bytes_of old.frames) (sym (shown_own old (entry old c.args.spot.now.pid c.args.spot.now.page) c.args.attr.backing own))
 
 pub returns-then-count-eq1-clause-entry : goal.returns-then-count-eq1-clause-entry
 returns-then-count-eq1-clause-entry g c =
     let old : Picture g.M.Levels.mode = picture_of c.args.core.now in
-    let e = c.entry_number-entry.ensures ∙ sym (entry-of old c.args.pid c.root_of-root.result.0 c.args.page c.root_of-root.ensures) in
+    let e = c.number_at-was.ensures in
     let shown = c.shown_frame-shown.ensures ∙ ap (λ x. shown_frame old x c.args.attr.backing) e in
-    let h = mapped_page old c.args.pid c.args.page c.args.attr c.requires.linked.fit.granting c.requires.attr in
-    let own_of : is_private (entry old c.args.pid c.args.page) ≡ true → frame_of (entry old c.args.pid c.args.page) ≡ c.shown_frame-shown.result.0 = λ private. sym (shown ∙ shown_own old (entry old c.args.pid c.args.page) c.args.attr.backing private) in
-    let behind_of : is_private (entry old c.args.pid c.args.page) ≡ false → IsBehind old c.args.attr.backing c.shown_frame-shown.result.0 = λ common.
-    (let P : ℕ → Type 0 = λ x. IsBehind old c.args.attr.backing x in subst P (sym shown) (shown_behind old (entry old c.args.pid c.args.page) c.args.attr.backing common (c.requires.in_memory common))) in
+    let h = mapped_page old c.args.spot.now.pid c.args.spot.now.page c.args.attr c.requires.spot.linked.fit.granting c.requires.attr in
+    let own_of : is_private (entry old c.args.spot.now.pid c.args.spot.now.page) ≡ true → frame_of (entry old c.args.spot.now.pid c.args.spot.now.page) ≡ c.shown_frame-shown.result.0 = λ private. sym (shown ∙ shown_own old (entry old c.args.spot.now.pid c.args.spot.now.page) c.args.attr.backing private) in
+    let behind_of : is_private (entry old c.args.spot.now.pid c.args.spot.now.page) ≡ false → IsBehind old c.args.attr.backing c.shown_frame-shown.result.0 = λ common.
+    (let P : ℕ → Type 0 = λ x. IsBehind old c.args.attr.backing x in subst P (sym shown) (shown_behind old (entry old c.args.spot.now.pid c.args.spot.now.page) c.args.attr.backing common (c.requires.in_memory common))) in
     let own = sym (ap is_private e) ∙ sym c.is_private.ensures ∙ c.if-is_private.true in
-    let frame = shown ∙ shown_own old (entry old c.args.pid c.args.page) c.args.attr.backing own in
+    let frame = shown ∙ shown_own old (entry old c.args.spot.now.pid c.args.spot.now.page) c.args.attr.backing own in
     let one = ap (count_of old.frames) (sym frame) ∙ sym c.count.ensures ∙ c.if-count-eq1.true in
-    let now = entry (picture_of c.regrant.new.core) c.args.pid c.args.page in
-    let was = frame_of (entry old c.args.pid c.args.page) in
+    let now = entry (picture_of c.regrant.new.core) c.args.spot.now.pid c.args.spot.now.page in
+    let was = frame_of (entry old c.args.spot.now.pid c.args.spot.now.page) in
     let P : Bool → Type 0 = λ x. IsFullEntry old c.args.attr was x now in
     let Q : ℕ → Type 0 = λ x. IsEntryOver now c.args.attr.prot x true true true in
     subst Q (sym frame) (full_own old c.args.attr was now one c.requires.writable (subst P own c.regrant.ensures.entry))
@@ -116,28 +112,28 @@ returns-then-count-eq1-clause-entry g c =
 pub returns-then-count-eq1-clause-sole : goal.returns-then-count-eq1-clause-sole
 returns-then-count-eq1-clause-sole g c =
     let old : Picture g.M.Levels.mode = picture_of c.args.core.now in
-    let e = c.entry_number-entry.ensures ∙ sym (entry-of old c.args.pid c.root_of-root.result.0 c.args.page c.root_of-root.ensures) in
+    let e = c.number_at-was.ensures in
     let shown = c.shown_frame-shown.ensures ∙ ap (λ x. shown_frame old x c.args.attr.backing) e in
-    let h = mapped_page old c.args.pid c.args.page c.args.attr c.requires.linked.fit.granting c.requires.attr in
-    let own_of : is_private (entry old c.args.pid c.args.page) ≡ true → frame_of (entry old c.args.pid c.args.page) ≡ c.shown_frame-shown.result.0 = λ private. sym (shown ∙ shown_own old (entry old c.args.pid c.args.page) c.args.attr.backing private) in
-    let behind_of : is_private (entry old c.args.pid c.args.page) ≡ false → IsBehind old c.args.attr.backing c.shown_frame-shown.result.0 = λ common.
-    (let P : ℕ → Type 0 = λ x. IsBehind old c.args.attr.backing x in subst P (sym shown) (shown_behind old (entry old c.args.pid c.args.page) c.args.attr.backing common (c.requires.in_memory common))) in
+    let h = mapped_page old c.args.spot.now.pid c.args.spot.now.page c.args.attr c.requires.spot.linked.fit.granting c.requires.attr in
+    let own_of : is_private (entry old c.args.spot.now.pid c.args.spot.now.page) ≡ true → frame_of (entry old c.args.spot.now.pid c.args.spot.now.page) ≡ c.shown_frame-shown.result.0 = λ private. sym (shown ∙ shown_own old (entry old c.args.spot.now.pid c.args.spot.now.page) c.args.attr.backing private) in
+    let behind_of : is_private (entry old c.args.spot.now.pid c.args.spot.now.page) ≡ false → IsBehind old c.args.attr.backing c.shown_frame-shown.result.0 = λ common.
+    (let P : ℕ → Type 0 = λ x. IsBehind old c.args.attr.backing x in subst P (sym shown) (shown_behind old (entry old c.args.spot.now.pid c.args.spot.now.page) c.args.attr.backing common (c.requires.in_memory common))) in
     let own = sym (ap is_private e) ∙ sym c.is_private.ensures ∙ c.if-is_private.true in
-    let frame = shown ∙ shown_own old (entry old c.args.pid c.args.page) c.args.attr.backing own in
+    let frame = shown ∙ shown_own old (entry old c.args.spot.now.pid c.args.spot.now.page) c.args.attr.backing own in
     let one = ap (count_of old.frames) (sym frame) ∙ sym c.count.ensures ∙ c.if-count-eq1.true in
     ap (λ cs. get_or cs c.shown_frame-shown.result.0 0) c.regrant.ensures.enters.calm.frames.counts ∙ ap (count_of old.frames) frame ∙ one
 
 pub returns-then-count-eq1-clause-behind : goal.returns-then-count-eq1-clause-behind
 returns-then-count-eq1-clause-behind g c =
     let old : Picture g.M.Levels.mode = picture_of c.args.core.now in
-    let e = c.entry_number-entry.ensures ∙ sym (entry-of old c.args.pid c.root_of-root.result.0 c.args.page c.root_of-root.ensures) in
+    let e = c.number_at-was.ensures in
     let shown = c.shown_frame-shown.ensures ∙ ap (λ x. shown_frame old x c.args.attr.backing) e in
-    let h = mapped_page old c.args.pid c.args.page c.args.attr c.requires.linked.fit.granting c.requires.attr in
-    let own_of : is_private (entry old c.args.pid c.args.page) ≡ true → frame_of (entry old c.args.pid c.args.page) ≡ c.shown_frame-shown.result.0 = λ private. sym (shown ∙ shown_own old (entry old c.args.pid c.args.page) c.args.attr.backing private) in
-    let behind_of : is_private (entry old c.args.pid c.args.page) ≡ false → IsBehind old c.args.attr.backing c.shown_frame-shown.result.0 = λ common.
-    (let P : ℕ → Type 0 = λ x. IsBehind old c.args.attr.backing x in subst P (sym shown) (shown_behind old (entry old c.args.pid c.args.page) c.args.attr.backing common (c.requires.in_memory common))) in
+    let h = mapped_page old c.args.spot.now.pid c.args.spot.now.page c.args.attr c.requires.spot.linked.fit.granting c.requires.attr in
+    let own_of : is_private (entry old c.args.spot.now.pid c.args.spot.now.page) ≡ true → frame_of (entry old c.args.spot.now.pid c.args.spot.now.page) ≡ c.shown_frame-shown.result.0 = λ private. sym (shown ∙ shown_own old (entry old c.args.spot.now.pid c.args.spot.now.page) c.args.attr.backing private) in
+    let behind_of : is_private (entry old c.args.spot.now.pid c.args.spot.now.page) ≡ false → IsBehind old c.args.attr.backing c.shown_frame-shown.result.0 = λ common.
+    (let P : ℕ → Type 0 = λ x. IsBehind old c.args.attr.backing x in subst P (sym shown) (shown_behind old (entry old c.args.spot.now.pid c.args.spot.now.page) c.args.attr.backing common (c.requires.in_memory common))) in
     let own = sym (ap is_private e) ∙ sym c.is_private.ensures ∙ c.if-is_private.true in
-    let frame = shown ∙ shown_own old (entry old c.args.pid c.args.page) c.args.attr.backing own in
+    let frame = shown ∙ shown_own old (entry old c.args.spot.now.pid c.args.spot.now.page) c.args.attr.backing own in
     let one = ap (count_of old.frames) (sym frame) ∙ sym c.count.ensures ∙ c.if-count-eq1.true in
     λ x not_own. absurd (false≢true (sym not_own ∙ own))
 
@@ -145,53 +141,53 @@ pub returns-then-count-eq1-clause-bare : goal.returns-then-count-eq1-clause-bare
 returns-then-count-eq1-clause-bare g c = λ q p h other none. c.regrant.ensures.enters.calm.others q p h other ∙ none
 
 pub returns-then-count-eq1-clause-slotted : goal.returns-then-count-eq1-clause-slotted
-returns-then-count-eq1-clause-slotted g c = slotted_calm (λ p. ⊥) c.args.core.now c.regrant.new.core c.args.pid c.args.page c.regrant.ensures.enters.calm
+returns-then-count-eq1-clause-slotted g c = slotted_calm (λ p. ⊥) c.args.core.now c.regrant.new.core c.args.spot.now.pid c.args.spot.now.page c.regrant.ensures.enters.calm
 
 pub copy_page-requires-clause-own : goal.copy_page-requires-clause-own
 copy_page-requires-clause-own g c =
     let old : Picture g.M.Levels.mode = picture_of c.args.core.now in
-    let e = c.entry_number-entry.ensures ∙ sym (entry-of old c.args.pid c.root_of-root.result.0 c.args.page c.root_of-root.ensures) in
+    let e = c.number_at-was.ensures in
     let shown = c.shown_frame-shown.ensures ∙ ap (λ x. shown_frame old x c.args.attr.backing) e in
-    let h = mapped_page old c.args.pid c.args.page c.args.attr c.requires.linked.fit.granting c.requires.attr in
-    let own_of : is_private (entry old c.args.pid c.args.page) ≡ true → frame_of (entry old c.args.pid c.args.page) ≡ c.shown_frame-shown.result.0 = λ private. sym (shown ∙ shown_own old (entry old c.args.pid c.args.page) c.args.attr.backing private) in
-    let behind_of : is_private (entry old c.args.pid c.args.page) ≡ false → IsBehind old c.args.attr.backing c.shown_frame-shown.result.0 = λ common.
-    (let P : ℕ → Type 0 = λ x. IsBehind old c.args.attr.backing x in subst P (sym shown) (shown_behind old (entry old c.args.pid c.args.page) c.args.attr.backing common (c.requires.in_memory common))) in
+    let h = mapped_page old c.args.spot.now.pid c.args.spot.now.page c.args.attr c.requires.spot.linked.fit.granting c.requires.attr in
+    let own_of : is_private (entry old c.args.spot.now.pid c.args.spot.now.page) ≡ true → frame_of (entry old c.args.spot.now.pid c.args.spot.now.page) ≡ c.shown_frame-shown.result.0 = λ private. sym (shown ∙ shown_own old (entry old c.args.spot.now.pid c.args.spot.now.page) c.args.attr.backing private) in
+    let behind_of : is_private (entry old c.args.spot.now.pid c.args.spot.now.page) ≡ false → IsBehind old c.args.attr.backing c.shown_frame-shown.result.0 = λ common.
+    (let P : ℕ → Type 0 = λ x. IsBehind old c.args.attr.backing x in subst P (sym shown) (shown_behind old (entry old c.args.spot.now.pid c.args.spot.now.page) c.args.attr.backing common (c.requires.in_memory common))) in
     own_of
 
 pub copy_page-requires-clause-common : goal.copy_page-requires-clause-common
 copy_page-requires-clause-common g c =
     let old : Picture g.M.Levels.mode = picture_of c.args.core.now in
-    let e = c.entry_number-entry.ensures ∙ sym (entry-of old c.args.pid c.root_of-root.result.0 c.args.page c.root_of-root.ensures) in
+    let e = c.number_at-was.ensures in
     let shown = c.shown_frame-shown.ensures ∙ ap (λ x. shown_frame old x c.args.attr.backing) e in
-    let h = mapped_page old c.args.pid c.args.page c.args.attr c.requires.linked.fit.granting c.requires.attr in
-    let own_of : is_private (entry old c.args.pid c.args.page) ≡ true → frame_of (entry old c.args.pid c.args.page) ≡ c.shown_frame-shown.result.0 = λ private. sym (shown ∙ shown_own old (entry old c.args.pid c.args.page) c.args.attr.backing private) in
-    let behind_of : is_private (entry old c.args.pid c.args.page) ≡ false → IsBehind old c.args.attr.backing c.shown_frame-shown.result.0 = λ common.
-    (let P : ℕ → Type 0 = λ x. IsBehind old c.args.attr.backing x in subst P (sym shown) (shown_behind old (entry old c.args.pid c.args.page) c.args.attr.backing common (c.requires.in_memory common))) in
+    let h = mapped_page old c.args.spot.now.pid c.args.spot.now.page c.args.attr c.requires.spot.linked.fit.granting c.requires.attr in
+    let own_of : is_private (entry old c.args.spot.now.pid c.args.spot.now.page) ≡ true → frame_of (entry old c.args.spot.now.pid c.args.spot.now.page) ≡ c.shown_frame-shown.result.0 = λ private. sym (shown ∙ shown_own old (entry old c.args.spot.now.pid c.args.spot.now.page) c.args.attr.backing private) in
+    let behind_of : is_private (entry old c.args.spot.now.pid c.args.spot.now.page) ≡ false → IsBehind old c.args.attr.backing c.shown_frame-shown.result.0 = λ common.
+    (let P : ℕ → Type 0 = λ x. IsBehind old c.args.attr.backing x in subst P (sym shown) (shown_behind old (entry old c.args.spot.now.pid c.args.spot.now.page) c.args.attr.backing common (c.requires.in_memory common))) in
     behind_of
 
 pub copy_page-requires-clause-was : goal.copy_page-requires-clause-was
 copy_page-requires-clause-was g c =
     let old : Picture g.M.Levels.mode = picture_of c.args.core.now in
-    let e = c.entry_number-entry.ensures ∙ sym (entry-of old c.args.pid c.root_of-root.result.0 c.args.page c.root_of-root.ensures) in
+    let e = c.number_at-was.ensures in
     let shown = c.shown_frame-shown.ensures ∙ ap (λ x. shown_frame old x c.args.attr.backing) e in
-    let h = mapped_page old c.args.pid c.args.page c.args.attr c.requires.linked.fit.granting c.requires.attr in
-    let own_of : is_private (entry old c.args.pid c.args.page) ≡ true → frame_of (entry old c.args.pid c.args.page) ≡ c.shown_frame-shown.result.0 = λ private. sym (shown ∙ shown_own old (entry old c.args.pid c.args.page) c.args.attr.backing private) in
-    let behind_of : is_private (entry old c.args.pid c.args.page) ≡ false → IsBehind old c.args.attr.backing c.shown_frame-shown.result.0 = λ common.
-    (let P : ℕ → Type 0 = λ x. IsBehind old c.args.attr.backing x in subst P (sym shown) (shown_behind old (entry old c.args.pid c.args.page) c.args.attr.backing common (c.requires.in_memory common))) in
+    let h = mapped_page old c.args.spot.now.pid c.args.spot.now.page c.args.attr c.requires.spot.linked.fit.granting c.requires.attr in
+    let own_of : is_private (entry old c.args.spot.now.pid c.args.spot.now.page) ≡ true → frame_of (entry old c.args.spot.now.pid c.args.spot.now.page) ≡ c.shown_frame-shown.result.0 = λ private. sym (shown ∙ shown_own old (entry old c.args.spot.now.pid c.args.spot.now.page) c.args.attr.backing private) in
+    let behind_of : is_private (entry old c.args.spot.now.pid c.args.spot.now.page) ≡ false → IsBehind old c.args.attr.backing c.shown_frame-shown.result.0 = λ common.
+    (let P : ℕ → Type 0 = λ x. IsBehind old c.args.attr.backing x in subst P (sym shown) (shown_behind old (entry old c.args.spot.now.pid c.args.spot.now.page) c.args.attr.backing common (c.requires.in_memory common))) in
     e
 
 pub returns-clause-own : goal.returns-clause-own
 returns-clause-own g c =
     let old : Picture g.M.Levels.mode = picture_of c.args.core.now in
-    let e = c.entry_number-entry.ensures ∙ sym (entry-of old c.args.pid c.root_of-root.result.0 c.args.page c.root_of-root.ensures) in
+    let e = c.number_at-was.ensures in
     let shown = c.shown_frame-shown.ensures ∙ ap (λ x. shown_frame old x c.args.attr.backing) e in
-    let P : ℕ → Type 0 = λ x. IfOk c.copy_page.result (λ n. view (picture_of c.copy_page.new.core) c.args.pid c.args.page ≡ Some (record { attr = c.args.attr; own = Some (bytes_of old.frames x) })) in
+    let P : ℕ → Type 0 = λ x. IfOk c.copy_page.result (λ n. view (picture_of c.copy_page.new.core) c.args.spot.now.pid c.args.spot.now.page ≡ Some (record { attr = c.args.attr; own = Some (bytes_of old.frames x) })) in
     subst P shown c.copy_page.ensures.own
 
 pub returns-clause-bytes : goal.returns-clause-bytes
 returns-clause-bytes g c =
     let old : Picture g.M.Levels.mode = picture_of c.args.core.now in
-    let e = c.entry_number-entry.ensures ∙ sym (entry-of old c.args.pid c.root_of-root.result.0 c.args.page c.root_of-root.ensures) in
+    let e = c.number_at-was.ensures in
     let shown = c.shown_frame-shown.ensures ∙ ap (λ x. shown_frame old x c.args.attr.backing) e in
     let P : ℕ → Type 0 = λ x. IfOk c.copy_page.result (λ n. bytes_of c.copy_page.new.core.frames n.0 ≡ bytes_of old.frames x) in
     subst P shown c.copy_page.ensures.bytes
@@ -203,9 +199,9 @@ on_err_same Q (Err s) q = q
 pub returns-clause-wanted : goal.returns-clause-wanted
 returns-clause-wanted g c =
     let old : Picture g.M.Levels.mode = picture_of c.args.core.now in
-    let e = c.entry_number-entry.ensures ∙ sym (entry-of old c.args.pid c.root_of-root.result.0 c.args.page c.root_of-root.ensures) in
+    let e = c.number_at-was.ensures in
     let shown = c.shown_frame-shown.ensures ∙ ap (λ x. shown_frame old x c.args.attr.backing) e in
-    let was = entry old c.args.pid c.args.page in
+    let was = entry old c.args.spot.now.pid c.args.spot.now.page in
     let not_sole : is_sole old was ≡ false = elim (cases_Bool (is_private was)) [
       | inl own ↦ (
           let frame = shown ∙ shown_own old was c.args.attr.backing own in
@@ -221,9 +217,9 @@ returns-clause-wanted g c =
 pub returns-clause-calm : goal.returns-clause-calm
 returns-clause-calm g c =
     let old : Picture g.M.Levels.mode = picture_of c.args.core.now in
-    let e = c.entry_number-entry.ensures ∙ sym (entry-of old c.args.pid c.root_of-root.result.0 c.args.page c.root_of-root.ensures) in
+    let e = c.number_at-was.ensures in
     let shown = c.shown_frame-shown.ensures ∙ ap (λ x. shown_frame old x c.args.attr.backing) e in
-    let was = entry old c.args.pid c.args.page in
+    let was = entry old c.args.spot.now.pid c.args.spot.now.page in
     let not_sole : is_sole old was ≡ false = elim (cases_Bool (is_private was)) [
       | inl own ↦ (
           let frame = shown ∙ shown_own old was c.args.attr.backing own in
@@ -239,7 +235,7 @@ returns-clause-calm g c =
 pub returns-clause-frees : goal.returns-clause-frees
 returns-clause-frees g c =
     let old : Picture g.M.Levels.mode = picture_of c.args.core.now in
-    let e = c.entry_number-entry.ensures ∙ sym (entry-of old c.args.pid c.root_of-root.result.0 c.args.page c.root_of-root.ensures) in
+    let e = c.number_at-was.ensures in
     let shown = c.shown_frame-shown.ensures ∙ ap (λ x. shown_frame old x c.args.attr.backing) e in
     let P : ℕ → Type 0 = λ x. OnErr c.copy_page.result (Frees old (picture_of c.copy_page.new.core) (Some (record { 0 = x }))) in
     subst P shown c.copy_page.ensures.frees
@@ -247,18 +243,18 @@ returns-clause-frees g c =
 pub returns-clause-refuses : goal.returns-clause-refuses
 returns-clause-refuses g c =
     let old : Picture g.M.Levels.mode = picture_of c.args.core.now in
-    let e = c.entry_number-entry.ensures ∙ sym (entry-of old c.args.pid c.root_of-root.result.0 c.args.page c.root_of-root.ensures) in
+    let e = c.number_at-was.ensures in
     let shown = c.shown_frame-shown.ensures ∙ ap (λ x. shown_frame old x c.args.attr.backing) e in
     let P : ℕ → Type 0 = λ x. IfErr c.copy_page.result (Refuses (picture_of c.copy_page.new.core) (Some (record { 0 = x }))) in
     subst P shown c.copy_page.ensures.refuses
 
 pub returns-then-count-eq1-clause-asks : goal.returns-then-count-eq1-clause-asks
-returns-then-count-eq1-clause-asks g c = asks_slots_same g.E.SectorDisk c.args.core.now c.regrant.new.core (copied_frame (picture_of c.args.core.now) c.args.pid c.args.page c.args.attr) Nothing c.regrant.ensures.enters.calm.swap
+returns-then-count-eq1-clause-asks g c = asks_slots_same g.E.SectorDisk c.args.core.now c.regrant.new.core (copied_frame (picture_of c.args.core.now) c.args.spot.now.pid c.args.spot.now.page c.args.attr) Nothing c.regrant.ensures.enters.calm.swap
 
 pub returns-clause-asks : goal.returns-clause-asks
 returns-clause-asks g c =
     let old : Picture g.M.Levels.mode = picture_of c.args.core.now in
-    let e = c.entry_number-entry.ensures ∙ sym (entry-of old c.args.pid c.root_of-root.result.0 c.args.page c.root_of-root.ensures) in
+    let e = c.number_at-was.ensures in
     let shown = c.shown_frame-shown.ensures ∙ ap (λ x. shown_frame old x c.args.attr.backing) e in
     let P : ℕ → Type 0 = λ x. AsksSlots g.E.SectorDisk c.args.core.now c.copy_page.new.core (Some (record { 0 = x })) Nothing in
     subst P shown c.copy_page.ensures.asks

@@ -15,7 +15,7 @@ use Rattle.mapping.specs.Changes.{KeepsSlotted}
 use Rattle.mapping.specs.Files.{BringsPages}
 use Rattle.mapping.proofs.Asking.{asks_swap}
 use Rattle.mapping.proofs.AskedIn.{store_same, no_new_of}
-use Rattle.mapping.proofs.BroughtIn.{spaces_of, tables_of, room_of, seen_of, bare_of, slotted_of, placed_of, reads_none, brings_home_of, brings_blank_of, causes_of, never_store, err_always, refused_but}
+use Rattle.mapping.proofs.BroughtIn.{spaces_of, tables_of, rows_of, room_of, seen_of, bare_of, slotted_of, placed_of, reads_none, brings_home_of, brings_blank_of, causes_of, never_store, err_always, refused_but}
 use Rattle.mapping.proofs.page_in.bring_home.Goals as goal
 
 -- a page at home isn't touched
@@ -54,6 +54,9 @@ returns-in-File-clause-brings g c = λ kept.
 
 pub returns-in-File-clause-keeps : goal.returns-in-File-clause-keeps
 returns-in-File-clause-keeps g c = seen_of (picture_of c.args.core.now) (picture_of c.bring_in.new.self) (File c.in-File.page) c.bring_in.result c.bring_in.ensures.brought c.bring_in.ensures.frees
+
+pub returns-in-File-clause-rows : goal.returns-in-File-clause-rows
+returns-in-File-clause-rows g c = rows_of (picture_of c.args.core.now) (picture_of c.bring_in.new.self) (File c.in-File.page) c.bring_in.result c.bring_in.ensures.brought c.bring_in.ensures.fit c.bring_in.ensures.frees
 
 pub returns-in-File-clause-bare : goal.returns-in-File-clause-bare
 returns-in-File-clause-bare g c = bare_of (picture_of c.args.core.now) (picture_of c.bring_in.new.self) (File c.in-File.page) c.bring_in.result c.bring_in.ensures.brought c.bring_in.ensures.frees
@@ -100,6 +103,9 @@ returns-in-Object-clause-brings g c = λ kept.
 
 pub returns-in-Object-clause-keeps : goal.returns-in-Object-clause-keeps
 returns-in-Object-clause-keeps g c = seen_of (picture_of c.args.core.now) (picture_of c.bring_blank.new.self) (Object c.in-Object.page) c.bring_blank.result c.bring_blank.ensures.brought c.bring_blank.ensures.frees
+
+pub returns-in-Object-clause-rows : goal.returns-in-Object-clause-rows
+returns-in-Object-clause-rows g c = rows_of (picture_of c.args.core.now) (picture_of c.bring_blank.new.self) (Object c.in-Object.page) c.bring_blank.result c.bring_blank.ensures.brought c.bring_blank.ensures.fit c.bring_blank.ensures.frees
 
 pub returns-in-Object-clause-bare : goal.returns-in-Object-clause-bare
 returns-in-Object-clause-bare g c = bare_of (picture_of c.args.core.now) (picture_of c.bring_blank.new.self) (Object c.in-Object.page) c.bring_blank.result c.bring_blank.ensures.brought c.bring_blank.ensures.frees

@@ -13,17 +13,18 @@ use Rattle.page_tables.specs.Leaves.{IsEntryOver}
 use Rattle.mapping.specs.Leaves.{is_touched_behind}
 use Rattle.mapping.proofs.Entering.{beside_around, full_entry_now, full_set, full_fit, full_views, full_tables, linked_marked, entry_marked, view_marked, tables_marked}
 use Rattle.mapping.proofs.Forms.{used_inside, behind_of, touched_of, behind_used, mapped_page, shared_none, seat_over_common}
+use Rattle.mapping.proofs.Rows.{rows_set}
 use Rattle.mapping.proofs.Steps.{tables_then}
 use Rattle.mapping.proofs.showing.touch.Goals as goal
 
 pub set_full-requires-clause-root : goal.set_full-requires-clause-root
-set_full-requires-clause-root g c = c.requires.linked.fit.rooted.roots c.args.pid c.root_of-root.result.0 c.root_of-root.ensures
+set_full-requires-clause-root g c = c.requires.spot.linked.fit.rooted.roots c.args.spot.now.pid c.args.spot.now.root.0 c.requires.spot.root
 
 pub set_full-requires-clause-inside : goal.set_full-requires-clause-inside
 set_full-requires-clause-inside g c =
     let old : Picture g.M.Levels.mode = picture_of c.args.core.now in
     used_inside old.frames c.args.frame.0 c.args.core.now.sound
-    (behind_used old c.args.attr.backing c.args.frame.0 c.args.core.now.sound c.requires.linked.fit.places (behind_of old c.args.attr.backing c.args.stored c.args.frame.0 c.requires.stands c.requires.cached))
+    (behind_used old c.args.attr.backing c.args.frame.0 c.args.core.now.sound c.requires.spot.linked.fit.places (behind_of old c.args.attr.backing c.args.stored c.args.frame.0 c.requires.stands c.requires.cached))
 
 pub returns-clause-entry : goal.returns-clause-entry
 returns-clause-entry g c =
@@ -34,16 +35,16 @@ returns-clause-entry g c =
       | inl is ↦ ap mid.place is ∙ c.mark_dirty.ensures.placed ∙ sym (ap old.place is)
       | inr ne ↦ c.mark_dirty.ensures.others.places p ne
     ] in
-    let linked = linked_marked old mid c.args.stored c.args.frame.0 refl refl (λ q. refl) (λ q k. refl) (λ x. refl) place c.mark_dirty.ensures.touched c.mark_dirty.ensures.others.touched (λ f. refl) c.requires.cached c.args.pid c.args.page c.requires.linked in
+    let linked = linked_marked old mid c.args.stored c.args.frame.0 refl refl (λ q. refl) (λ q k. refl) (λ x. refl) place c.mark_dirty.ensures.touched c.mark_dirty.ensures.others.touched (λ f. refl) c.requires.cached c.args.spot.now.pid c.args.spot.now.page c.requires.spot.linked in
     let beside = beside_around _ c.set_full.new.core c.set_full.ensures.rest in
     let sets = c.set_full.ensures.sets in
-    let r = c.root_of-root.result.0 in
-    let full = full_entry_now mid new c.args.pid c.args.page r c.args.attr c.args.frame.0 false linked c.root_of-root.ensures c.requires.attr sets beside in
+    let r = c.args.spot.now.root.0 in
+    let full = full_entry_now mid new c.args.spot.now.pid c.args.spot.now.page r c.args.attr c.args.frame.0 false linked c.requires.spot.root c.requires.attr sets beside in
     let cw = can_write c.args.attr.prot in
     let write : (is_shared c.args.attr.backing && cw) ≡ true = ap (λ t. t && cw) c.requires.shared ∙ c.requires.writable in
     let stored : (is_touched_behind mid c.args.attr.backing && cw) ≡ true =
     ap (λ t. t && cw) (touched_of mid c.args.attr.backing c.args.stored c.requires.shared c.requires.stands) ∙ ap (λ t. t && cw) c.mark_dirty.ensures.touched ∙ c.requires.writable in
-    let now = entry new c.args.pid c.args.page in
+    let now = entry new c.args.spot.now.pid c.args.spot.now.page in
     let P : Bool → Type 0 = λ x. IsEntryOver now c.args.attr.prot c.args.frame.0 false x (is_touched_behind mid c.args.attr.backing && cw) in
     let Q : Bool → Type 0 = λ x. IsEntryOver now c.args.attr.prot c.args.frame.0 false true x in
     subst Q stored (subst P write full)
@@ -57,13 +58,13 @@ returns-clause-touches g c =
       | inl is ↦ ap mid.place is ∙ c.mark_dirty.ensures.placed ∙ sym (ap old.place is)
       | inr ne ↦ c.mark_dirty.ensures.others.places p ne
     ] in
-    let linked = linked_marked old mid c.args.stored c.args.frame.0 refl refl (λ q. refl) (λ q k. refl) (λ x. refl) place c.mark_dirty.ensures.touched c.mark_dirty.ensures.others.touched (λ f. refl) c.requires.cached c.args.pid c.args.page c.requires.linked in
+    let linked = linked_marked old mid c.args.stored c.args.frame.0 refl refl (λ q. refl) (λ q k. refl) (λ x. refl) place c.mark_dirty.ensures.touched c.mark_dirty.ensures.others.touched (λ f. refl) c.requires.cached c.args.spot.now.pid c.args.spot.now.page c.requires.spot.linked in
     let beside = beside_around _ c.set_full.new.core c.set_full.ensures.rest in
     let sets = c.set_full.ensures.sets in
-    let r = c.root_of-root.result.0 in
+    let r = c.args.spot.now.root.0 in
     record {
       place = λ p. beside.place p ∙ place p;
-      bytes = λ p n at. sets.2.kept.bytes n.0 (λ t. (let bad : Cache ≡ Table = sym (c.requires.linked.fit.places.cached p n.0 at) ∙ t in (cc)));
+      bytes = λ p n at. sets.2.kept.bytes n.0 (λ t. (let bad : Cache ≡ Table = sym (c.requires.spot.linked.fit.places.cached p n.0 at) ∙ t in (cc)));
       touched = beside.touched c.args.stored ∙ c.mark_dirty.ensures.touched;
       others = λ p ne. beside.touched p ∙ c.mark_dirty.ensures.others.touched p ne;
       files = λ f. beside.files f;
@@ -78,20 +79,21 @@ returns-clause-enters g c =
       | inl is ↦ ap mid.place is ∙ c.mark_dirty.ensures.placed ∙ sym (ap old.place is)
       | inr ne ↦ c.mark_dirty.ensures.others.places p ne
     ] in
-    let linked = linked_marked old mid c.args.stored c.args.frame.0 refl refl (λ q. refl) (λ q k. refl) (λ x. refl) place c.mark_dirty.ensures.touched c.mark_dirty.ensures.others.touched (λ f. refl) c.requires.cached c.args.pid c.args.page c.requires.linked in
+    let linked = linked_marked old mid c.args.stored c.args.frame.0 refl refl (λ q. refl) (λ q k. refl) (λ x. refl) place c.mark_dirty.ensures.touched c.mark_dirty.ensures.others.touched (λ f. refl) c.requires.cached c.args.spot.now.pid c.args.spot.now.page c.requires.spot.linked in
     let beside = beside_around _ c.set_full.new.core c.set_full.ensures.rest in
     let sets = c.set_full.ensures.sets in
-    let r = c.root_of-root.result.0 in
+    let r = c.args.spot.now.root.0 in
     let rest = c.set_full.ensures.rest in
-    let none = shared_none mid c.args.pid c.args.page c.args.attr linked.fit.granting c.requires.attr (mapped_page mid c.args.pid c.args.page c.args.attr linked.fit.granting c.requires.attr) c.requires.shared in
+    let none = shared_none mid c.args.spot.now.pid c.args.spot.now.page c.args.attr linked.fit.granting c.requires.attr (mapped_page mid c.args.spot.now.pid c.args.spot.now.page c.args.attr linked.fit.granting c.requires.attr) c.requires.shared in
     let same = seat_over_common sets.0 c.args.attr c.args.frame.0 _ _ sets.1 ∙ sym none in
     record {
-      fit = full_fit mid new c.args.pid c.args.page r c.args.attr c.args.frame.0 false linked c.root_of-root.ensures c.requires.attr sets beside same
+      fit = full_fit mid new c.args.spot.now.pid c.args.spot.now.page r c.args.attr c.args.frame.0 false linked c.requires.spot.root c.requires.attr sets beside same
           (λ own. absurd (false≢true own)) (λ _. behind_of mid c.args.attr.backing c.args.stored c.args.frame.0 c.requires.stands (place c.args.stored ∙ c.requires.cached)) c.requires.inside;
       spaces = record { root = beside.root; at = beside.at };
       tables = tables_then old mid new (λ q. refl) (tables_marked old mid c.args.stored c.args.frame.0 refl refl (λ q. refl) (λ q k. refl) (λ x. refl) place c.mark_dirty.ensures.touched c.mark_dirty.ensures.others.touched (λ f. refl) c.requires.cached)
-          (full_tables mid new c.args.pid c.args.page r c.args.attr c.args.frame.0 false linked c.root_of-root.ensures c.requires.attr sets beside);
-      views = λ q p. full_views mid new c.args.pid c.args.page r c.args.attr c.args.frame.0 false linked c.root_of-root.ensures c.requires.attr sets beside same q p
+          (full_tables mid new c.args.spot.now.pid c.args.spot.now.page r c.args.attr c.args.frame.0 false linked c.requires.spot.root c.requires.attr sets beside);
+      rows = rows_set mid new linked.fit c.args.spot.now.root.0 c.args.spot.now.page sets.0 sets.2;
+      views = λ q p. full_views mid new c.args.spot.now.pid c.args.spot.now.page r c.args.attr c.args.frame.0 false linked c.requires.spot.root c.requires.attr sets beside same q p
           ∙ view_marked old mid c.args.stored c.args.frame.0 refl refl (λ q. refl) (λ q k. refl) (λ x. refl) place c.mark_dirty.ensures.touched c.mark_dirty.ensures.others.touched (λ f. refl) c.requires.cached q p;
       calm = record {
         store = rest.store;
@@ -99,10 +101,10 @@ returns-clause-enters g c =
         refused = c.set_full.ensures.not_refused;
         frames = sets.2.kept;
         place = λ p. beside.place p ∙ place p;
-        others = λ q p h other. (full_set mid new c.args.pid c.args.page r c.args.attr c.args.frame.0 false linked c.root_of-root.ensures c.requires.attr sets beside).others q p h other
+        others = λ q p h other. (full_set mid new c.args.spot.now.pid c.args.spot.now.page r c.args.attr c.args.frame.0 false linked c.requires.spot.root c.requires.attr sets beside).others q p h other
             ∙ entry_marked old mid c.args.stored c.args.frame.0 refl refl (λ q. refl) (λ q k. refl) (λ x. refl) place c.mark_dirty.ensures.touched c.mark_dirty.ensures.others.touched (λ f. refl) c.requires.cached q p;
       };
     }
 
 pub set_full-requires-clause-user : goal.set_full-requires-clause-user
-set_full-requires-clause-user g c = ((c.requires.linked.fit.granting.user c.args.pid).user_pages c.args.page (ap is_some c.requires.attr)).1
+set_full-requires-clause-user g c = ((c.requires.spot.linked.fit.granting.user c.args.spot.now.pid).user_pages c.args.spot.now.page (ap is_some c.requires.attr)).1

@@ -1,19 +1,21 @@
+use Rattle.vm_types.specs.Limits.{top_level}
 use Rattle.std.specs.Prelude.{is_some}
 use Rattle.std.proofs.Common.{◌≡◌, ◌≢◌, ℕ, ◌+◌, ◌*◌, ◌<◌, ◌^◌, inl, Some, None, get_or, refl, sym, ap, ◌∙◌, subst, arith}
-use Rattle.frames.specs.declared.role.Role.TheVariants.{Free, Table, Private}
+use Rattle.frames.specs.declared.role.Role.TheVariants.{Free, Table}
 use Rattle.frames.specs.FrameTable.{IsFrame, role_of, with_bytes}
 use Rattle.swap.specs.Slots.{SlotTable, IsInUse, slots_of}
 use Rattle.page_tables.specs.declared.forms.Entry.{Entry}
-use Rattle.page_tables.specs.Entry.{number_of, IsEntry}
+use Rattle.page_tables.specs.Entry.{number_of, IsEntry, IsPageEntry}
+use Rattle.page_tables.proofs.Ends.{page_is_entry}
 use Rattle.paging.specs.Seats.{seat}
 use Rattle.paging.specs.Picture.{Picture, picture_of, entry, is_swapped}
 use Rattle.paging.specs.Steps.{ChangesFrame}
 use Rattle.paging.proofs.Asking.{asks_between}
 use Rattle.paging.proofs.Entries.{entry-of}
-use Rattle.paging.proofs.Taking.{changes_taken, trees_changed}
+use Rattle.paging.proofs.Taking.{changes_taken}
 use Rattle.mapping.proofs.Entering.{beside_around}
 use Rattle.mapping.proofs.Forms.{mapped_page}
-use Rattle.mapping.proofs.SwapSteps.{swapped_form, away_seat, entry_taken, changes_written, changes_spent, full_count, ready_released}
+use Rattle.mapping.proofs.SwapSteps.{swapped_form, away_seat, changes_written, changes_spent, full_count, ready_released}
 use Rattle.paging.specs.Calls.{UsesDevice}
 use Rattle.regions.proofs.ResultLemmas.{on_err}
 use Rattle.paging.specs.Capacity.{IsShort}
@@ -28,20 +30,24 @@ use Rattle.mapping.specs.Changes.{IsThatPage}
 use Rattle.mapping.proofs.Asking.{asks_swap}
 use Rattle.mapping.proofs.AskedIn.{asks_read}
 use Rattle.mapping.proofs.Slotted.{slotted_frees}
-use Rattle.mapping.proofs.SwappedIn.{lives_of, whole_of, at_of, slot_set, slot_used, fit_in, spaces_in, tables_in, room_in, others_in, bare_in, slotted_in, files_in, seen_in, entry_in}
-use Rattle.mapping.proofs.Settling.{forest_mid, root_mid, whole_mid}
+use Rattle.mapping.proofs.SwappedIn.{lives_of, whole_of, at_of, slot_set, slot_used, fit_in, spaces_in, tables_in, rows_written, rows_in, room_in, others_in, bare_in, slotted_in, files_in, seen_in, entry_in}
+use Rattle.mapping.proofs.Rows.{rows_freed}
+use Rattle.mapping.proofs.Settling.{forest_mid, root_mid}
 use Rattle.mapping.proofs.Steps.{frees_any, moves_freed, device_then}
 use Rattle.mapping.proofs.swapping.swap_in.Goals as goal
 
+pub decode-requires : goal.decode-requires
+decode-requires g c =
+    let old : Picture g.M.Levels.mode = picture_of c.args.core.now in
+    let r = c.args.spot.now.root.0 in
+    let fit = c.requires.spot.linked.fit in
+    let P : ℕ → Type 0 = λ x. IsPageEntry x in
+    subst P (sym (c.number_at.ensures ∙ entry-of old c.args.spot.now.pid r c.args.spot.now.page c.requires.spot.root))
+    (page_is_entry old.frames (top_level g.M.Levels.mode) r c.args.spot.now.page fit.rooted.forest (fit.rooted.roots c.args.spot.now.pid r c.requires.spot.root))
+
 pub unreachable-requires : goal.unreachable-requires
 unreachable-requires g c =
-    let old : Picture g.M.Levels.mode = picture_of c.args.core.now in
-    let taken : Picture g.M.Levels.mode = picture_of c.take_own.new.self in
-    let took = c.in_ok-frame.ensures.taken in
-    let here = mapped_page old c.args.pid c.args.page c.args.attr c.requires.linked.fit.granting c.requires.attr in
-    let same_entry : entry taken c.args.pid c.args.page ≡ entry old c.args.pid c.args.page = entry_taken old taken c.args.pid c.args.page c.in_ok-frame.frame.0 took here c.requires.away in
-    let is = c.entry.ensures.entry ∙ sym (entry-of taken c.args.pid c.root_of-root.result.0 c.args.page c.root_of-root.ensures) ∙ same_entry in
-    let form = swapped_form c.entry.result c.entry.ensures.form (ap is_swapped is ∙ c.requires.away) in
+    let form = swapped_form c.decode.result c.decode.ensures.form (ap is_swapped (c.decode.ensures.number ∙ c.number_at.ensures) ∙ c.requires.away) in
     c.in_default.not-Swapped form.0 form.1
 
 pub get-requires-clause-in_use : goal.get-requires-clause-in_use
@@ -51,15 +57,14 @@ get-requires-clause-in_use g c =
     let took = c.in_ok-frame.ensures.taken in
     let n = c.in_ok-frame.frame.0 in
     let k = c.in-Swapped.slot.0 in
-    let r = c.root_of-root.result.0 in
-    let lives : old.root c.args.pid ≡ Some r = sym (took.own.root c.args.pid ∙ took.frees.pages.root c.args.pid) ∙ c.root_of-root.ensures in
-    let here = mapped_page old c.args.pid c.args.page c.args.attr c.requires.linked.fit.granting c.requires.attr in
-    let same_entry : entry taken c.args.pid c.args.page ≡ entry old c.args.pid c.args.page = entry_taken old taken c.args.pid c.args.page n took here c.requires.away in
-    let number : entry old c.args.pid c.args.page ≡ k * 1024 + 2 =
-    sym same_entry ∙ entry-of taken c.args.pid r c.args.page c.root_of-root.ensures ∙ sym c.entry.ensures.entry ∙ ap number_of c.in-Swapped.is in
-    let low : k < 2 ^ 32 = (let P : Entry → Type 0 = λ e. IsEntry e in subst P c.in-Swapped.is c.entry.ensures.form) in
+    let r = c.args.spot.now.root.0 in
+    let lives : old.root c.args.spot.now.pid ≡ Some r = c.requires.spot.root in
+    let here = mapped_page old c.args.spot.now.pid c.args.spot.now.page c.args.attr c.requires.spot.linked.fit.granting c.requires.attr in
+    let number : entry old c.args.spot.now.pid c.args.spot.now.page ≡ k * 1024 + 2 =
+    sym c.number_at.ensures ∙ sym c.decode.ensures.number ∙ ap number_of c.in-Swapped.is in
+    let low : k < 2 ^ 32 = (let P : Entry → Type 0 = λ e. IsEntry e in subst P c.in-Swapped.is c.decode.ensures.form) in
     let P : SlotTable → Type 0 = λ x. IsInUse x k in
-    subst P (sym took.own.slots) (slot_used old taken c.args.pid c.args.page n k r c.args.attr took c.requires.linked lives c.requires.attr c.requires.away number low taken (changes_taken took.found taken n c.args.page took.own) took.own.takes.kind_set took.own.takes.counted took.own.noted)
+    subst P (sym took.own.slots) (slot_used old taken c.args.spot.now.pid c.args.spot.now.page n k r c.args.attr took c.requires.spot.linked lives c.requires.attr c.requires.away number low taken (changes_taken took.found taken n c.args.spot.now.page took.own) took.own.takes.kind_set took.own.takes.counted took.own.noted)
 
 pub returns-in-Ok-clause-moves : goal.returns-in-Ok-clause-moves
 returns-in-Ok-clause-moves g c =
@@ -68,26 +73,25 @@ returns-in-Ok-clause-moves g c =
     let took = c.in_ok-frame.ensures.taken in
     let n = c.in_ok-frame.frame.0 in
     let k = c.in-Swapped.slot.0 in
-    let r = c.root_of-root.result.0 in
-    let lives : old.root c.args.pid ≡ Some r = sym (took.own.root c.args.pid ∙ took.frees.pages.root c.args.pid) ∙ c.root_of-root.ensures in
-    let here = mapped_page old c.args.pid c.args.page c.args.attr c.requires.linked.fit.granting c.requires.attr in
-    let same_entry : entry taken c.args.pid c.args.page ≡ entry old c.args.pid c.args.page = entry_taken old taken c.args.pid c.args.page n took here c.requires.away in
-    let number : entry old c.args.pid c.args.page ≡ k * 1024 + 2 =
-    sym same_entry ∙ entry-of taken c.args.pid r c.args.page c.root_of-root.ensures ∙ sym c.entry.ensures.entry ∙ ap number_of c.in-Swapped.is in
-    let low : k < 2 ^ 32 = (let P : Entry → Type 0 = λ e. IsEntry e in subst P c.in-Swapped.is c.entry.ensures.form) in
+    let r = c.args.spot.now.root.0 in
+    let lives : old.root c.args.spot.now.pid ≡ Some r = c.requires.spot.root in
+    let here = mapped_page old c.args.spot.now.pid c.args.spot.now.page c.args.attr c.requires.spot.linked.fit.granting c.requires.attr in
+    let number : entry old c.args.spot.now.pid c.args.spot.now.page ≡ k * 1024 + 2 =
+    sym c.number_at.ensures ∙ sym c.decode.ensures.number ∙ ap number_of c.in-Swapped.is in
+    let low : k < 2 ^ 32 = (let P : Entry → Type 0 = λ e. IsEntry e in subst P c.in-Swapped.is c.decode.ensures.form) in
     let written : Picture g.M.Levels.mode = record taken { slots = slots_of c.get.new.self; frames = with_bytes c.take_own.new.self.frames n c.get.new.to } in
-    let changes : ChangesFrame took.found written n = changes_written took.found taken n c.args.page took.own (slots_of c.get.new.self) c.get.ensures.same c.get.new.to in
+    let changes : ChangesFrame took.found written n = changes_written took.found taken n c.args.spot.now.page took.own (slots_of c.get.new.self) c.get.ensures.same c.get.new.to in
     let set : Picture g.M.Levels.mode = picture_of c.set_full.new.core in
     let sets = c.set_full.ensures.sets in
     let beside = beside_around _ c.set_full.new.core c.set_full.ensures.rest in
     let t = slots_of c.release.new.self in
     let done = c.in_ok-frame.ensures in
     record {
-      fit = fit_in old taken c.args.pid c.args.page n k r c.args.attr took c.requires.linked lives c.requires.attr c.requires.away number low written changes took.own.takes.kind_set took.own.takes.counted took.own.noted set sets beside t c.release.ensures.releases;
+      fit = fit_in old taken c.args.spot.now.pid c.args.spot.now.page n k r c.args.attr took c.requires.spot.linked lives c.requires.attr c.requires.away number low written changes took.own.takes.kind_set took.own.takes.counted took.own.noted set sets beside t c.release.ensures.releases;
       swap = ready_released g.E.SectorDisk c.get.new.self c.set_full.new.core.swap c.release.new.self c.set_full.ensures.rest.swap c.release.ensures.pages c.release.ensures.releases.others.total c.get.ensures.ready;
-      spaces = spaces_in old taken c.args.pid c.args.page n k r c.args.attr took c.requires.linked lives c.requires.attr c.requires.away number low written changes took.own.takes.kind_set took.own.takes.counted took.own.noted set sets beside t c.release.ensures.releases;
-      tables = tables_in old taken c.args.pid c.args.page n k r c.args.attr took c.requires.linked lives c.requires.attr c.requires.away number low written changes took.own.takes.kind_set took.own.takes.counted took.own.noted set sets beside t c.release.ensures.releases;
-      room = room_in old taken c.args.pid c.args.page n k r c.args.attr took c.requires.linked lives c.requires.attr c.requires.away number low written changes took.own.takes.kind_set took.own.takes.counted took.own.noted set sets beside t c.release.ensures.releases;
+      spaces = spaces_in old taken c.args.spot.now.pid c.args.spot.now.page n k r c.args.attr took c.requires.spot.linked lives c.requires.attr c.requires.away number low written changes took.own.takes.kind_set took.own.takes.counted took.own.noted set sets beside t c.release.ensures.releases;
+      tables = tables_in old taken c.args.spot.now.pid c.args.spot.now.page n k r c.args.attr took c.requires.spot.linked lives c.requires.attr c.requires.away number low written changes took.own.takes.kind_set took.own.takes.counted took.own.noted set sets beside t c.release.ensures.releases;
+      room = room_in old taken c.args.spot.now.pid c.args.spot.now.page n k r c.args.attr took c.requires.spot.linked lives c.requires.attr c.requires.away number low written changes took.own.takes.kind_set took.own.takes.counted took.own.noted set sets beside t c.release.ensures.releases;
       store = c.set_full.ensures.rest.store ∙ done.rest.store;
       device = (let P : Swap _ → Type 0 = λ x. UsesDevice g.E.SectorDisk c.args.core.now.swap.pages.disk x.pages.disk in let Q : Pages _ → Type 0 = λ x. UsesDevice g.E.SectorDisk c.args.core.now.swap.pages.disk x.disk in
           subst Q (sym c.release.ensures.pages) (subst P (sym c.set_full.ensures.rest.swap)
@@ -102,20 +106,19 @@ returns-in-Ok-clause-others g c =
     let took = c.in_ok-frame.ensures.taken in
     let n = c.in_ok-frame.frame.0 in
     let k = c.in-Swapped.slot.0 in
-    let r = c.root_of-root.result.0 in
-    let lives : old.root c.args.pid ≡ Some r = sym (took.own.root c.args.pid ∙ took.frees.pages.root c.args.pid) ∙ c.root_of-root.ensures in
-    let here = mapped_page old c.args.pid c.args.page c.args.attr c.requires.linked.fit.granting c.requires.attr in
-    let same_entry : entry taken c.args.pid c.args.page ≡ entry old c.args.pid c.args.page = entry_taken old taken c.args.pid c.args.page n took here c.requires.away in
-    let number : entry old c.args.pid c.args.page ≡ k * 1024 + 2 =
-    sym same_entry ∙ entry-of taken c.args.pid r c.args.page c.root_of-root.ensures ∙ sym c.entry.ensures.entry ∙ ap number_of c.in-Swapped.is in
-    let low : k < 2 ^ 32 = (let P : Entry → Type 0 = λ e. IsEntry e in subst P c.in-Swapped.is c.entry.ensures.form) in
+    let r = c.args.spot.now.root.0 in
+    let lives : old.root c.args.spot.now.pid ≡ Some r = c.requires.spot.root in
+    let here = mapped_page old c.args.spot.now.pid c.args.spot.now.page c.args.attr c.requires.spot.linked.fit.granting c.requires.attr in
+    let number : entry old c.args.spot.now.pid c.args.spot.now.page ≡ k * 1024 + 2 =
+    sym c.number_at.ensures ∙ sym c.decode.ensures.number ∙ ap number_of c.in-Swapped.is in
+    let low : k < 2 ^ 32 = (let P : Entry → Type 0 = λ e. IsEntry e in subst P c.in-Swapped.is c.decode.ensures.form) in
     let written : Picture g.M.Levels.mode = record taken { slots = slots_of c.get.new.self; frames = with_bytes c.take_own.new.self.frames n c.get.new.to } in
-    let changes : ChangesFrame took.found written n = changes_written took.found taken n c.args.page took.own (slots_of c.get.new.self) c.get.ensures.same c.get.new.to in
+    let changes : ChangesFrame took.found written n = changes_written took.found taken n c.args.spot.now.page took.own (slots_of c.get.new.self) c.get.ensures.same c.get.new.to in
     let set : Picture g.M.Levels.mode = picture_of c.set_full.new.core in
     let sets = c.set_full.ensures.sets in
     let beside = beside_around _ c.set_full.new.core c.set_full.ensures.rest in
     let t = slots_of c.release.new.self in
-    others_in old taken c.args.pid c.args.page n k r c.args.attr took c.requires.linked lives c.requires.attr c.requires.away number low written changes took.own.takes.kind_set took.own.takes.counted took.own.noted set sets beside t c.release.ensures.releases
+    others_in old taken c.args.spot.now.pid c.args.spot.now.page n k r c.args.attr took c.requires.spot.linked lives c.requires.attr c.requires.away number low written changes took.own.takes.kind_set took.own.takes.counted took.own.noted set sets beside t c.release.ensures.releases
 
 pub returns-in-Ok-clause-bare : goal.returns-in-Ok-clause-bare
 returns-in-Ok-clause-bare g c =
@@ -124,20 +127,40 @@ returns-in-Ok-clause-bare g c =
     let took = c.in_ok-frame.ensures.taken in
     let n = c.in_ok-frame.frame.0 in
     let k = c.in-Swapped.slot.0 in
-    let r = c.root_of-root.result.0 in
-    let lives : old.root c.args.pid ≡ Some r = sym (took.own.root c.args.pid ∙ took.frees.pages.root c.args.pid) ∙ c.root_of-root.ensures in
-    let here = mapped_page old c.args.pid c.args.page c.args.attr c.requires.linked.fit.granting c.requires.attr in
-    let same_entry : entry taken c.args.pid c.args.page ≡ entry old c.args.pid c.args.page = entry_taken old taken c.args.pid c.args.page n took here c.requires.away in
-    let number : entry old c.args.pid c.args.page ≡ k * 1024 + 2 =
-    sym same_entry ∙ entry-of taken c.args.pid r c.args.page c.root_of-root.ensures ∙ sym c.entry.ensures.entry ∙ ap number_of c.in-Swapped.is in
-    let low : k < 2 ^ 32 = (let P : Entry → Type 0 = λ e. IsEntry e in subst P c.in-Swapped.is c.entry.ensures.form) in
+    let r = c.args.spot.now.root.0 in
+    let lives : old.root c.args.spot.now.pid ≡ Some r = c.requires.spot.root in
+    let here = mapped_page old c.args.spot.now.pid c.args.spot.now.page c.args.attr c.requires.spot.linked.fit.granting c.requires.attr in
+    let number : entry old c.args.spot.now.pid c.args.spot.now.page ≡ k * 1024 + 2 =
+    sym c.number_at.ensures ∙ sym c.decode.ensures.number ∙ ap number_of c.in-Swapped.is in
+    let low : k < 2 ^ 32 = (let P : Entry → Type 0 = λ e. IsEntry e in subst P c.in-Swapped.is c.decode.ensures.form) in
     let written : Picture g.M.Levels.mode = record taken { slots = slots_of c.get.new.self; frames = with_bytes c.take_own.new.self.frames n c.get.new.to } in
-    let changes : ChangesFrame took.found written n = changes_written took.found taken n c.args.page took.own (slots_of c.get.new.self) c.get.ensures.same c.get.new.to in
+    let changes : ChangesFrame took.found written n = changes_written took.found taken n c.args.spot.now.page took.own (slots_of c.get.new.self) c.get.ensures.same c.get.new.to in
     let set : Picture g.M.Levels.mode = picture_of c.set_full.new.core in
     let sets = c.set_full.ensures.sets in
     let beside = beside_around _ c.set_full.new.core c.set_full.ensures.rest in
     let t = slots_of c.release.new.self in
-    bare_in old taken c.args.pid c.args.page n k r c.args.attr took c.requires.linked lives c.requires.attr c.requires.away number low written changes took.own.takes.kind_set took.own.takes.counted took.own.noted set sets beside t c.release.ensures.releases
+    bare_in old taken c.args.spot.now.pid c.args.spot.now.page n k r c.args.attr took c.requires.spot.linked lives c.requires.attr c.requires.away number low written changes took.own.takes.kind_set took.own.takes.counted took.own.noted set sets beside t c.release.ensures.releases
+
+pub returns-in-Ok-clause-rows : goal.returns-in-Ok-clause-rows
+returns-in-Ok-clause-rows g c =
+    let old : Picture g.M.Levels.mode = picture_of c.args.core.now in
+    let taken : Picture g.M.Levels.mode = picture_of c.take_own.new.self in
+    let took = c.in_ok-frame.ensures.taken in
+    let n = c.in_ok-frame.frame.0 in
+    let k = c.in-Swapped.slot.0 in
+    let r = c.args.spot.now.root.0 in
+    let lives : old.root c.args.spot.now.pid ≡ Some r = c.requires.spot.root in
+    let here = mapped_page old c.args.spot.now.pid c.args.spot.now.page c.args.attr c.requires.spot.linked.fit.granting c.requires.attr in
+    let number : entry old c.args.spot.now.pid c.args.spot.now.page ≡ k * 1024 + 2 =
+    sym c.number_at.ensures ∙ sym c.decode.ensures.number ∙ ap number_of c.in-Swapped.is in
+    let low : k < 2 ^ 32 = (let P : Entry → Type 0 = λ e. IsEntry e in subst P c.in-Swapped.is c.decode.ensures.form) in
+    let written : Picture g.M.Levels.mode = record taken { slots = slots_of c.get.new.self; frames = with_bytes c.take_own.new.self.frames n c.get.new.to } in
+    let changes : ChangesFrame took.found written n = changes_written took.found taken n c.args.spot.now.page took.own (slots_of c.get.new.self) c.get.ensures.same c.get.new.to in
+    let set : Picture g.M.Levels.mode = picture_of c.set_full.new.core in
+    let sets = c.set_full.ensures.sets in
+    let beside = beside_around _ c.set_full.new.core c.set_full.ensures.rest in
+    let t = slots_of c.release.new.self in
+    rows_in old taken c.args.spot.now.pid c.args.spot.now.page n k r c.args.attr took c.requires.spot.linked lives c.requires.attr c.requires.away number low written changes took.own.takes.kind_set took.own.takes.counted took.own.noted set sets beside t c.release.ensures.releases
 
 pub returns-in-Ok-clause-slotted : goal.returns-in-Ok-clause-slotted
 returns-in-Ok-clause-slotted g c =
@@ -146,20 +169,19 @@ returns-in-Ok-clause-slotted g c =
     let took = c.in_ok-frame.ensures.taken in
     let n = c.in_ok-frame.frame.0 in
     let k = c.in-Swapped.slot.0 in
-    let r = c.root_of-root.result.0 in
-    let lives : old.root c.args.pid ≡ Some r = sym (took.own.root c.args.pid ∙ took.frees.pages.root c.args.pid) ∙ c.root_of-root.ensures in
-    let here = mapped_page old c.args.pid c.args.page c.args.attr c.requires.linked.fit.granting c.requires.attr in
-    let same_entry : entry taken c.args.pid c.args.page ≡ entry old c.args.pid c.args.page = entry_taken old taken c.args.pid c.args.page n took here c.requires.away in
-    let number : entry old c.args.pid c.args.page ≡ k * 1024 + 2 =
-    sym same_entry ∙ entry-of taken c.args.pid r c.args.page c.root_of-root.ensures ∙ sym c.entry.ensures.entry ∙ ap number_of c.in-Swapped.is in
-    let low : k < 2 ^ 32 = (let P : Entry → Type 0 = λ e. IsEntry e in subst P c.in-Swapped.is c.entry.ensures.form) in
+    let r = c.args.spot.now.root.0 in
+    let lives : old.root c.args.spot.now.pid ≡ Some r = c.requires.spot.root in
+    let here = mapped_page old c.args.spot.now.pid c.args.spot.now.page c.args.attr c.requires.spot.linked.fit.granting c.requires.attr in
+    let number : entry old c.args.spot.now.pid c.args.spot.now.page ≡ k * 1024 + 2 =
+    sym c.number_at.ensures ∙ sym c.decode.ensures.number ∙ ap number_of c.in-Swapped.is in
+    let low : k < 2 ^ 32 = (let P : Entry → Type 0 = λ e. IsEntry e in subst P c.in-Swapped.is c.decode.ensures.form) in
     let written : Picture g.M.Levels.mode = record taken { slots = slots_of c.get.new.self; frames = with_bytes c.take_own.new.self.frames n c.get.new.to } in
-    let changes : ChangesFrame took.found written n = changes_written took.found taken n c.args.page took.own (slots_of c.get.new.self) c.get.ensures.same c.get.new.to in
+    let changes : ChangesFrame took.found written n = changes_written took.found taken n c.args.spot.now.page took.own (slots_of c.get.new.self) c.get.ensures.same c.get.new.to in
     let set : Picture g.M.Levels.mode = picture_of c.set_full.new.core in
     let sets = c.set_full.ensures.sets in
     let beside = beside_around _ c.set_full.new.core c.set_full.ensures.rest in
     let t = slots_of c.release.new.self in
-    slotted_in old taken c.args.pid c.args.page n k r c.args.attr took c.requires.linked lives c.requires.attr c.requires.away number low written changes took.own.takes.kind_set took.own.takes.counted took.own.noted set sets beside t c.release.ensures.releases
+    slotted_in old taken c.args.spot.now.pid c.args.spot.now.page n k r c.args.attr took c.requires.spot.linked lives c.requires.attr c.requires.away number low written changes took.own.takes.kind_set took.own.takes.counted took.own.noted set sets beside t c.release.ensures.releases
 
 pub returns-in-Ok-clause-files : goal.returns-in-Ok-clause-files
 returns-in-Ok-clause-files g c =
@@ -168,20 +190,19 @@ returns-in-Ok-clause-files g c =
     let took = c.in_ok-frame.ensures.taken in
     let n = c.in_ok-frame.frame.0 in
     let k = c.in-Swapped.slot.0 in
-    let r = c.root_of-root.result.0 in
-    let lives : old.root c.args.pid ≡ Some r = sym (took.own.root c.args.pid ∙ took.frees.pages.root c.args.pid) ∙ c.root_of-root.ensures in
-    let here = mapped_page old c.args.pid c.args.page c.args.attr c.requires.linked.fit.granting c.requires.attr in
-    let same_entry : entry taken c.args.pid c.args.page ≡ entry old c.args.pid c.args.page = entry_taken old taken c.args.pid c.args.page n took here c.requires.away in
-    let number : entry old c.args.pid c.args.page ≡ k * 1024 + 2 =
-    sym same_entry ∙ entry-of taken c.args.pid r c.args.page c.root_of-root.ensures ∙ sym c.entry.ensures.entry ∙ ap number_of c.in-Swapped.is in
-    let low : k < 2 ^ 32 = (let P : Entry → Type 0 = λ e. IsEntry e in subst P c.in-Swapped.is c.entry.ensures.form) in
+    let r = c.args.spot.now.root.0 in
+    let lives : old.root c.args.spot.now.pid ≡ Some r = c.requires.spot.root in
+    let here = mapped_page old c.args.spot.now.pid c.args.spot.now.page c.args.attr c.requires.spot.linked.fit.granting c.requires.attr in
+    let number : entry old c.args.spot.now.pid c.args.spot.now.page ≡ k * 1024 + 2 =
+    sym c.number_at.ensures ∙ sym c.decode.ensures.number ∙ ap number_of c.in-Swapped.is in
+    let low : k < 2 ^ 32 = (let P : Entry → Type 0 = λ e. IsEntry e in subst P c.in-Swapped.is c.decode.ensures.form) in
     let written : Picture g.M.Levels.mode = record taken { slots = slots_of c.get.new.self; frames = with_bytes c.take_own.new.self.frames n c.get.new.to } in
-    let changes : ChangesFrame took.found written n = changes_written took.found taken n c.args.page took.own (slots_of c.get.new.self) c.get.ensures.same c.get.new.to in
+    let changes : ChangesFrame took.found written n = changes_written took.found taken n c.args.spot.now.page took.own (slots_of c.get.new.self) c.get.ensures.same c.get.new.to in
     let set : Picture g.M.Levels.mode = picture_of c.set_full.new.core in
     let sets = c.set_full.ensures.sets in
     let beside = beside_around _ c.set_full.new.core c.set_full.ensures.rest in
     let t = slots_of c.release.new.self in
-    files_in old taken c.args.pid c.args.page n k r c.args.attr took c.requires.linked lives c.requires.attr c.requires.away number low written changes took.own.takes.kind_set took.own.takes.counted took.own.noted set sets beside t c.release.ensures.releases
+    files_in old taken c.args.spot.now.pid c.args.spot.now.page n k r c.args.attr took c.requires.spot.linked lives c.requires.attr c.requires.away number low written changes took.own.takes.kind_set took.own.takes.counted took.own.noted set sets beside t c.release.ensures.releases
 
 pub set_full-requires-clause-forest : goal.set_full-requires-clause-forest
 set_full-requires-clause-forest g c =
@@ -190,16 +211,15 @@ set_full-requires-clause-forest g c =
     let took = c.in_ok-frame.ensures.taken in
     let n = c.in_ok-frame.frame.0 in
     let k = c.in-Swapped.slot.0 in
-    let r = c.root_of-root.result.0 in
-    let lives : old.root c.args.pid ≡ Some r = sym (took.own.root c.args.pid ∙ took.frees.pages.root c.args.pid) ∙ c.root_of-root.ensures in
-    let here = mapped_page old c.args.pid c.args.page c.args.attr c.requires.linked.fit.granting c.requires.attr in
-    let same_entry : entry taken c.args.pid c.args.page ≡ entry old c.args.pid c.args.page = entry_taken old taken c.args.pid c.args.page n took here c.requires.away in
-    let number : entry old c.args.pid c.args.page ≡ k * 1024 + 2 =
-    sym same_entry ∙ entry-of taken c.args.pid r c.args.page c.root_of-root.ensures ∙ sym c.entry.ensures.entry ∙ ap number_of c.in-Swapped.is in
-    let low : k < 2 ^ 32 = (let P : Entry → Type 0 = λ e. IsEntry e in subst P c.in-Swapped.is c.entry.ensures.form) in
+    let r = c.args.spot.now.root.0 in
+    let lives : old.root c.args.spot.now.pid ≡ Some r = c.requires.spot.root in
+    let here = mapped_page old c.args.spot.now.pid c.args.spot.now.page c.args.attr c.requires.spot.linked.fit.granting c.requires.attr in
+    let number : entry old c.args.spot.now.pid c.args.spot.now.page ≡ k * 1024 + 2 =
+    sym c.number_at.ensures ∙ sym c.decode.ensures.number ∙ ap number_of c.in-Swapped.is in
+    let low : k < 2 ^ 32 = (let P : Entry → Type 0 = λ e. IsEntry e in subst P c.in-Swapped.is c.decode.ensures.form) in
     let written : Picture g.M.Levels.mode = record taken { slots = slots_of c.get.new.self; frames = with_bytes c.take_own.new.self.frames n c.get.new.to } in
-    let changes : ChangesFrame took.found written n = changes_written took.found taken n c.args.page took.own (slots_of c.get.new.self) c.get.ensures.same c.get.new.to in
-    forest_mid took.found written c.args.pid c.args.page r n c.args.attr took.fit changes took.own.takes.kind_set took.own.takes.counted took.own.noted (lives_of old taken c.args.pid c.args.page n k r c.args.attr took c.requires.linked lives c.requires.attr c.requires.away number low written changes took.own.takes.kind_set took.own.takes.counted took.own.noted) (whole_of old taken c.args.pid c.args.page n k r c.args.attr took c.requires.linked lives c.requires.attr c.requires.away number low written changes took.own.takes.kind_set took.own.takes.counted took.own.noted) (at_of old taken c.args.pid c.args.page n k r c.args.attr took c.requires.linked lives c.requires.attr c.requires.away number low written changes took.own.takes.kind_set took.own.takes.counted took.own.noted)
+    let changes : ChangesFrame took.found written n = changes_written took.found taken n c.args.spot.now.page took.own (slots_of c.get.new.self) c.get.ensures.same c.get.new.to in
+    forest_mid took.found written c.args.spot.now.pid c.args.spot.now.page r n c.args.attr took.fit changes took.own.takes.kind_set took.own.takes.counted took.own.noted (lives_of old taken c.args.spot.now.pid c.args.spot.now.page n k r c.args.attr took c.requires.spot.linked lives c.requires.attr c.requires.away number low written changes took.own.takes.kind_set took.own.takes.counted took.own.noted) (whole_of old taken c.args.spot.now.pid c.args.spot.now.page n k r c.args.attr took c.requires.spot.linked lives c.requires.attr c.requires.away number low written changes took.own.takes.kind_set took.own.takes.counted took.own.noted) (at_of old taken c.args.spot.now.pid c.args.spot.now.page n k r c.args.attr took c.requires.spot.linked lives c.requires.attr c.requires.away number low written changes took.own.takes.kind_set took.own.takes.counted took.own.noted)
 
 pub set_full-requires-clause-root : goal.set_full-requires-clause-root
 set_full-requires-clause-root g c =
@@ -208,34 +228,32 @@ set_full-requires-clause-root g c =
     let took = c.in_ok-frame.ensures.taken in
     let n = c.in_ok-frame.frame.0 in
     let k = c.in-Swapped.slot.0 in
-    let r = c.root_of-root.result.0 in
-    let lives : old.root c.args.pid ≡ Some r = sym (took.own.root c.args.pid ∙ took.frees.pages.root c.args.pid) ∙ c.root_of-root.ensures in
-    let here = mapped_page old c.args.pid c.args.page c.args.attr c.requires.linked.fit.granting c.requires.attr in
-    let same_entry : entry taken c.args.pid c.args.page ≡ entry old c.args.pid c.args.page = entry_taken old taken c.args.pid c.args.page n took here c.requires.away in
-    let number : entry old c.args.pid c.args.page ≡ k * 1024 + 2 =
-    sym same_entry ∙ entry-of taken c.args.pid r c.args.page c.root_of-root.ensures ∙ sym c.entry.ensures.entry ∙ ap number_of c.in-Swapped.is in
-    let low : k < 2 ^ 32 = (let P : Entry → Type 0 = λ e. IsEntry e in subst P c.in-Swapped.is c.entry.ensures.form) in
+    let r = c.args.spot.now.root.0 in
+    let lives : old.root c.args.spot.now.pid ≡ Some r = c.requires.spot.root in
+    let here = mapped_page old c.args.spot.now.pid c.args.spot.now.page c.args.attr c.requires.spot.linked.fit.granting c.requires.attr in
+    let number : entry old c.args.spot.now.pid c.args.spot.now.page ≡ k * 1024 + 2 =
+    sym c.number_at.ensures ∙ sym c.decode.ensures.number ∙ ap number_of c.in-Swapped.is in
+    let low : k < 2 ^ 32 = (let P : Entry → Type 0 = λ e. IsEntry e in subst P c.in-Swapped.is c.decode.ensures.form) in
     let written : Picture g.M.Levels.mode = record taken { slots = slots_of c.get.new.self; frames = with_bytes c.take_own.new.self.frames n c.get.new.to } in
-    let changes : ChangesFrame took.found written n = changes_written took.found taken n c.args.page took.own (slots_of c.get.new.self) c.get.ensures.same c.get.new.to in
-    root_mid took.found written c.args.pid c.args.page r n c.args.attr took.fit changes took.own.takes.kind_set took.own.takes.counted took.own.noted (lives_of old taken c.args.pid c.args.page n k r c.args.attr took c.requires.linked lives c.requires.attr c.requires.away number low written changes took.own.takes.kind_set took.own.takes.counted took.own.noted) (whole_of old taken c.args.pid c.args.page n k r c.args.attr took c.requires.linked lives c.requires.attr c.requires.away number low written changes took.own.takes.kind_set took.own.takes.counted took.own.noted) (at_of old taken c.args.pid c.args.page n k r c.args.attr took c.requires.linked lives c.requires.attr c.requires.away number low written changes took.own.takes.kind_set took.own.takes.counted took.own.noted)
+    let changes : ChangesFrame took.found written n = changes_written took.found taken n c.args.spot.now.page took.own (slots_of c.get.new.self) c.get.ensures.same c.get.new.to in
+    root_mid took.found written c.args.spot.now.pid c.args.spot.now.page r n c.args.attr took.fit changes took.own.takes.kind_set took.own.takes.counted took.own.noted (lives_of old taken c.args.spot.now.pid c.args.spot.now.page n k r c.args.attr took c.requires.spot.linked lives c.requires.attr c.requires.away number low written changes took.own.takes.kind_set took.own.takes.counted took.own.noted) (whole_of old taken c.args.spot.now.pid c.args.spot.now.page n k r c.args.attr took c.requires.spot.linked lives c.requires.attr c.requires.away number low written changes took.own.takes.kind_set took.own.takes.counted took.own.noted) (at_of old taken c.args.spot.now.pid c.args.spot.now.page n k r c.args.attr took c.requires.spot.linked lives c.requires.attr c.requires.away number low written changes took.own.takes.kind_set took.own.takes.counted took.own.noted)
 
-pub set_full-requires-clause-whole : goal.set_full-requires-clause-whole
-set_full-requires-clause-whole g c =
+pub set_full-requires-clause-table : goal.set_full-requires-clause-table
+set_full-requires-clause-table g c =
     let old : Picture g.M.Levels.mode = picture_of c.args.core.now in
     let taken : Picture g.M.Levels.mode = picture_of c.take_own.new.self in
     let took = c.in_ok-frame.ensures.taken in
     let n = c.in_ok-frame.frame.0 in
     let k = c.in-Swapped.slot.0 in
-    let r = c.root_of-root.result.0 in
-    let lives : old.root c.args.pid ≡ Some r = sym (took.own.root c.args.pid ∙ took.frees.pages.root c.args.pid) ∙ c.root_of-root.ensures in
-    let here = mapped_page old c.args.pid c.args.page c.args.attr c.requires.linked.fit.granting c.requires.attr in
-    let same_entry : entry taken c.args.pid c.args.page ≡ entry old c.args.pid c.args.page = entry_taken old taken c.args.pid c.args.page n took here c.requires.away in
-    let number : entry old c.args.pid c.args.page ≡ k * 1024 + 2 =
-    sym same_entry ∙ entry-of taken c.args.pid r c.args.page c.root_of-root.ensures ∙ sym c.entry.ensures.entry ∙ ap number_of c.in-Swapped.is in
-    let low : k < 2 ^ 32 = (let P : Entry → Type 0 = λ e. IsEntry e in subst P c.in-Swapped.is c.entry.ensures.form) in
+    let r = c.args.spot.now.root.0 in
+    let lives : old.root c.args.spot.now.pid ≡ Some r = c.requires.spot.root in
+    let here = mapped_page old c.args.spot.now.pid c.args.spot.now.page c.args.attr c.requires.spot.linked.fit.granting c.requires.attr in
+    let number : entry old c.args.spot.now.pid c.args.spot.now.page ≡ k * 1024 + 2 =
+    sym c.number_at.ensures ∙ sym c.decode.ensures.number ∙ ap number_of c.in-Swapped.is in
+    let low : k < 2 ^ 32 = (let P : Entry → Type 0 = λ e. IsEntry e in subst P c.in-Swapped.is c.decode.ensures.form) in
     let written : Picture g.M.Levels.mode = record taken { slots = slots_of c.get.new.self; frames = with_bytes c.take_own.new.self.frames n c.get.new.to } in
-    let changes : ChangesFrame took.found written n = changes_written took.found taken n c.args.page took.own (slots_of c.get.new.self) c.get.ensures.same c.get.new.to in
-    whole_mid took.found written c.args.pid c.args.page r n c.args.attr took.fit changes took.own.takes.kind_set took.own.takes.counted took.own.noted (lives_of old taken c.args.pid c.args.page n k r c.args.attr took c.requires.linked lives c.requires.attr c.requires.away number low written changes took.own.takes.kind_set took.own.takes.counted took.own.noted) (whole_of old taken c.args.pid c.args.page n k r c.args.attr took c.requires.linked lives c.requires.attr c.requires.away number low written changes took.own.takes.kind_set took.own.takes.counted took.own.noted) (at_of old taken c.args.pid c.args.page n k r c.args.attr took c.requires.linked lives c.requires.attr c.requires.away number low written changes took.own.takes.kind_set took.own.takes.counted took.own.noted)
+    let changes : ChangesFrame took.found written n = changes_written took.found taken n c.args.spot.now.page took.own (slots_of c.get.new.self) c.get.ensures.same c.get.new.to in
+    rows_written old taken c.args.spot.now.pid c.args.spot.now.page n k r c.args.attr took c.requires.spot.linked lives c.requires.attr c.requires.away number low written changes took.own.takes.kind_set took.own.takes.counted took.own.noted c.args.spot.now.pid r _ c.args.spot.now.table.0 c.requires.spot.root c.requires.spot.table
 
 pub release-requires : goal.release-requires
 release-requires g c =
@@ -244,16 +262,15 @@ release-requires g c =
     let took = c.in_ok-frame.ensures.taken in
     let n = c.in_ok-frame.frame.0 in
     let k = c.in-Swapped.slot.0 in
-    let r = c.root_of-root.result.0 in
-    let lives : old.root c.args.pid ≡ Some r = sym (took.own.root c.args.pid ∙ took.frees.pages.root c.args.pid) ∙ c.root_of-root.ensures in
-    let here = mapped_page old c.args.pid c.args.page c.args.attr c.requires.linked.fit.granting c.requires.attr in
-    let same_entry : entry taken c.args.pid c.args.page ≡ entry old c.args.pid c.args.page = entry_taken old taken c.args.pid c.args.page n took here c.requires.away in
-    let number : entry old c.args.pid c.args.page ≡ k * 1024 + 2 =
-    sym same_entry ∙ entry-of taken c.args.pid r c.args.page c.root_of-root.ensures ∙ sym c.entry.ensures.entry ∙ ap number_of c.in-Swapped.is in
-    let low : k < 2 ^ 32 = (let P : Entry → Type 0 = λ e. IsEntry e in subst P c.in-Swapped.is c.entry.ensures.form) in
+    let r = c.args.spot.now.root.0 in
+    let lives : old.root c.args.spot.now.pid ≡ Some r = c.requires.spot.root in
+    let here = mapped_page old c.args.spot.now.pid c.args.spot.now.page c.args.attr c.requires.spot.linked.fit.granting c.requires.attr in
+    let number : entry old c.args.spot.now.pid c.args.spot.now.page ≡ k * 1024 + 2 =
+    sym c.number_at.ensures ∙ sym c.decode.ensures.number ∙ ap number_of c.in-Swapped.is in
+    let low : k < 2 ^ 32 = (let P : Entry → Type 0 = λ e. IsEntry e in subst P c.in-Swapped.is c.decode.ensures.form) in
     let written : Picture g.M.Levels.mode = record taken { slots = slots_of c.get.new.self; frames = with_bytes c.take_own.new.self.frames n c.get.new.to } in
-    let changes : ChangesFrame took.found written n = changes_written took.found taken n c.args.page took.own (slots_of c.get.new.self) c.get.ensures.same c.get.new.to in
-    slot_set old taken c.args.pid c.args.page n k r c.args.attr took c.requires.linked lives c.requires.attr c.requires.away number low written changes took.own.takes.kind_set took.own.takes.counted took.own.noted (picture_of c.set_full.new.core) c.set_full.ensures.sets (beside_around _ c.set_full.new.core c.set_full.ensures.rest)
+    let changes : ChangesFrame took.found written n = changes_written took.found taken n c.args.spot.now.page took.own (slots_of c.get.new.self) c.get.ensures.same c.get.new.to in
+    slot_set old taken c.args.spot.now.pid c.args.spot.now.page n k r c.args.attr took c.requires.spot.linked lives c.requires.attr c.requires.away number low written changes took.own.takes.kind_set took.own.takes.counted took.own.noted (picture_of c.set_full.new.core) c.set_full.ensures.sets (beside_around _ c.set_full.new.core c.set_full.ensures.rest)
 
 pub returns-in-Ok-clause-entry : goal.returns-in-Ok-clause-entry
 unfolding entry
@@ -263,21 +280,20 @@ returns-in-Ok-clause-entry g c =
     let took = c.in_ok-frame.ensures.taken in
     let n = c.in_ok-frame.frame.0 in
     let k = c.in-Swapped.slot.0 in
-    let r = c.root_of-root.result.0 in
-    let lives : old.root c.args.pid ≡ Some r = sym (took.own.root c.args.pid ∙ took.frees.pages.root c.args.pid) ∙ c.root_of-root.ensures in
-    let here = mapped_page old c.args.pid c.args.page c.args.attr c.requires.linked.fit.granting c.requires.attr in
-    let same_entry : entry taken c.args.pid c.args.page ≡ entry old c.args.pid c.args.page = entry_taken old taken c.args.pid c.args.page n took here c.requires.away in
-    let number : entry old c.args.pid c.args.page ≡ k * 1024 + 2 =
-    sym same_entry ∙ entry-of taken c.args.pid r c.args.page c.root_of-root.ensures ∙ sym c.entry.ensures.entry ∙ ap number_of c.in-Swapped.is in
-    let low : k < 2 ^ 32 = (let P : Entry → Type 0 = λ e. IsEntry e in subst P c.in-Swapped.is c.entry.ensures.form) in
+    let r = c.args.spot.now.root.0 in
+    let lives : old.root c.args.spot.now.pid ≡ Some r = c.requires.spot.root in
+    let here = mapped_page old c.args.spot.now.pid c.args.spot.now.page c.args.attr c.requires.spot.linked.fit.granting c.requires.attr in
+    let number : entry old c.args.spot.now.pid c.args.spot.now.page ≡ k * 1024 + 2 =
+    sym c.number_at.ensures ∙ sym c.decode.ensures.number ∙ ap number_of c.in-Swapped.is in
+    let low : k < 2 ^ 32 = (let P : Entry → Type 0 = λ e. IsEntry e in subst P c.in-Swapped.is c.decode.ensures.form) in
     let written : Picture g.M.Levels.mode = record taken { slots = slots_of c.get.new.self; frames = with_bytes c.take_own.new.self.frames n c.get.new.to } in
-    let changes : ChangesFrame took.found written n = changes_written took.found taken n c.args.page took.own (slots_of c.get.new.self) c.get.ensures.same c.get.new.to in
+    let changes : ChangesFrame took.found written n = changes_written took.found taken n c.args.spot.now.page took.own (slots_of c.get.new.self) c.get.ensures.same c.get.new.to in
     let set : Picture g.M.Levels.mode = picture_of c.set_full.new.core in
     let sets = c.set_full.ensures.sets in
     let beside = beside_around _ c.set_full.new.core c.set_full.ensures.rest in
     let t = slots_of c.release.new.self in
-    full_count written (record set { slots = t }) c.args.attr n (entry set c.args.pid c.args.page) (ap (λ cs. get_or cs n 0) sets.2.kept.counts)
-    (entry_in old taken c.args.pid c.args.page n k r c.args.attr took c.requires.linked lives c.requires.attr c.requires.away number low written changes took.own.takes.kind_set took.own.takes.counted took.own.noted set sets beside t c.release.ensures.releases)
+    full_count written (record set { slots = t }) c.args.attr n (entry set c.args.spot.now.pid c.args.spot.now.page) (ap (λ cs. get_or cs n 0) sets.2.kept.counts)
+    (entry_in old taken c.args.spot.now.pid c.args.spot.now.page n k r c.args.attr took c.requires.spot.linked lives c.requires.attr c.requires.away number low written changes took.own.takes.kind_set took.own.takes.counted took.own.noted set sets beside t c.release.ensures.releases)
 
 pub returns-in-Ok-clause-sole : goal.returns-in-Ok-clause-sole
 returns-in-Ok-clause-sole g c =
@@ -290,15 +306,14 @@ returns-in-Ok-clause-seen g c = λ model.
     let took = c.in_ok-frame.ensures.taken in
     let n = c.in_ok-frame.frame.0 in
     let k = c.in-Swapped.slot.0 in
-    let r = c.root_of-root.result.0 in
-    let lives : old.root c.args.pid ≡ Some r = sym (took.own.root c.args.pid ∙ took.frees.pages.root c.args.pid) ∙ c.root_of-root.ensures in
-    let here = mapped_page old c.args.pid c.args.page c.args.attr c.requires.linked.fit.granting c.requires.attr in
-    let same_entry : entry taken c.args.pid c.args.page ≡ entry old c.args.pid c.args.page = entry_taken old taken c.args.pid c.args.page n took here c.requires.away in
-    let number : entry old c.args.pid c.args.page ≡ k * 1024 + 2 =
-    sym same_entry ∙ entry-of taken c.args.pid r c.args.page c.root_of-root.ensures ∙ sym c.entry.ensures.entry ∙ ap number_of c.in-Swapped.is in
-    let low : k < 2 ^ 32 = (let P : Entry → Type 0 = λ e. IsEntry e in subst P c.in-Swapped.is c.entry.ensures.form) in
+    let r = c.args.spot.now.root.0 in
+    let lives : old.root c.args.spot.now.pid ≡ Some r = c.requires.spot.root in
+    let here = mapped_page old c.args.spot.now.pid c.args.spot.now.page c.args.attr c.requires.spot.linked.fit.granting c.requires.attr in
+    let number : entry old c.args.spot.now.pid c.args.spot.now.page ≡ k * 1024 + 2 =
+    sym c.number_at.ensures ∙ sym c.decode.ensures.number ∙ ap number_of c.in-Swapped.is in
+    let low : k < 2 ^ 32 = (let P : Entry → Type 0 = λ e. IsEntry e in subst P c.in-Swapped.is c.decode.ensures.form) in
     let written : Picture g.M.Levels.mode = record taken { slots = slots_of c.get.new.self; frames = with_bytes c.take_own.new.self.frames n c.get.new.to } in
-    let changes : ChangesFrame took.found written n = changes_written took.found taken n c.args.page took.own (slots_of c.get.new.self) c.get.ensures.same c.get.new.to in
+    let changes : ChangesFrame took.found written n = changes_written took.found taken n c.args.spot.now.page took.own (slots_of c.get.new.self) c.get.ensures.same c.get.new.to in
     let set : Picture g.M.Levels.mode = picture_of c.set_full.new.core in
     let sets = c.set_full.ensures.sets in
     let beside = beside_around _ c.set_full.new.core c.set_full.ensures.rest in
@@ -307,22 +322,7 @@ returns-in-Ok-clause-seen g c = λ model.
     let M : Pages _ → Type 0 = λ x. g.E.SectorDisk.keeps_model x.disk in
     let N : Swap _ → Type 0 = λ x. g.E.SectorDisk.keeps_model x.pages.disk in
     let got = c.in-Ok.ensures.gives (subst N c.set_full.ensures.rest.swap (subst M c.release.ensures.pages model)) in
-    seen_in old taken c.args.pid c.args.page n k r c.args.attr took c.requires.linked lives c.requires.attr c.requires.away number low written changes took.own.takes.kind_set took.own.takes.counted took.own.noted set sets beside t c.release.ensures.releases (with_bytes-same c.take_own.new.self.frames n c.get.new.to inside ∙ got ∙ ap (λ u. u.bytes k) took.own.slots)
-
-pub entry-requires-clause-forest : goal.entry-requires-clause-forest
-entry-requires-clause-forest g c =
-    let took = c.in_ok-frame.ensures.taken in
-    let n = c.in_ok-frame.frame.0 in
-    (trees_changed took.found (picture_of c.take_own.new.self) n took.fit (changes_taken took.found (picture_of c.take_own.new.self) n c.args.page took.own)
-    (λ t. (let bad : Private ≡ Table = sym took.own.takes.kind_set ∙ t in (cc)))).forest
-
-pub entry-requires-clause-root : goal.entry-requires-clause-root
-entry-requires-clause-root g c =
-    let took = c.in_ok-frame.ensures.taken in
-    let n = c.in_ok-frame.frame.0 in
-    let r = c.root_of-root.result.0 in
-    (trees_changed took.found (picture_of c.take_own.new.self) n took.fit (changes_taken took.found (picture_of c.take_own.new.self) n c.args.page took.own)
-    (λ t. (let bad : Private ≡ Table = sym took.own.takes.kind_set ∙ t in (cc)))).roots r (took.fit.rooted.roots c.args.pid r (sym (took.own.root c.args.pid) ∙ c.root_of-root.ensures))
+    seen_in old taken c.args.spot.now.pid c.args.spot.now.page n k r c.args.attr took c.requires.spot.linked lives c.requires.attr c.requires.away number low written changes took.own.takes.kind_set took.own.takes.counted took.own.noted set sets beside t c.release.ensures.releases (with_bytes-same c.take_own.new.self.frames n c.get.new.to inside ∙ got ∙ ap (λ u. u.bytes k) took.own.slots)
 
 pub returns-in-Err-clause-short : goal.returns-in-Err-clause-short
 unfolding IsShort
@@ -335,7 +335,7 @@ returns-in-Err-clause-moves g c =
     let took = c.in_ok-frame.ensures.taken in
     let n = c.in_ok-frame.frame.0 in
     let new : Picture g.M.Levels.mode = record taken { slots = slots_of c.get.new.self; frames = c.release-in-Err.new.self } in
-    let changes : ChangesFrame took.found new n = changes_spent took.found taken n c.args.page took.own (slots_of c.get.new.self) c.get.ensures.same c.get.new.to c.release-in-Err.new.self c.release-in-Err.ensures.change in
+    let changes : ChangesFrame took.found new n = changes_spent took.found taken n c.args.spot.now.page took.own (slots_of c.get.new.self) c.get.ensures.same c.get.new.to c.release-in-Err.new.self c.release-in-Err.ensures.change in
     let free : role_of c.release-in-Err.new.self n ≡ Free = c.release-in-Err.ensures.change.freed took.own.takes.counted in
     let datum : role_of c.release-in-Err.new.self n ≢ Table = λ table. (let bad : Free ≡ Table = sym free ∙ table in (cc)) in
     let frees = frees_then old took.found new None (frees_any old took.found _ took.frees) (frees_spent took.found new n took.fit changes free) in
@@ -352,7 +352,7 @@ returns-in-Err-clause-others g c =
     let took = c.in_ok-frame.ensures.taken in
     let n = c.in_ok-frame.frame.0 in
     let new : Picture g.M.Levels.mode = record taken { slots = slots_of c.get.new.self; frames = c.release-in-Err.new.self } in
-    let changes : ChangesFrame took.found new n = changes_spent took.found taken n c.args.page took.own (slots_of c.get.new.self) c.get.ensures.same c.get.new.to c.release-in-Err.new.self c.release-in-Err.ensures.change in
+    let changes : ChangesFrame took.found new n = changes_spent took.found taken n c.args.spot.now.page took.own (slots_of c.get.new.self) c.get.ensures.same c.get.new.to c.release-in-Err.new.self c.release-in-Err.ensures.change in
     let free : role_of c.release-in-Err.new.self n ≡ Free = c.release-in-Err.ensures.change.freed took.own.takes.counted in
     let datum : role_of c.release-in-Err.new.self n ≢ Table = λ table. (let bad : Free ≡ Table = sym free ∙ table in (cc)) in
     let frees = frees_then old took.found new None (frees_any old took.found _ took.frees) (frees_spent took.found new n took.fit changes free) in
@@ -365,11 +365,24 @@ returns-in-Err-clause-bare g c =
     let took = c.in_ok-frame.ensures.taken in
     let n = c.in_ok-frame.frame.0 in
     let new : Picture g.M.Levels.mode = record taken { slots = slots_of c.get.new.self; frames = c.release-in-Err.new.self } in
-    let changes : ChangesFrame took.found new n = changes_spent took.found taken n c.args.page took.own (slots_of c.get.new.self) c.get.ensures.same c.get.new.to c.release-in-Err.new.self c.release-in-Err.ensures.change in
+    let changes : ChangesFrame took.found new n = changes_spent took.found taken n c.args.spot.now.page took.own (slots_of c.get.new.self) c.get.ensures.same c.get.new.to c.release-in-Err.new.self c.release-in-Err.ensures.change in
     let free : role_of c.release-in-Err.new.self n ≡ Free = c.release-in-Err.ensures.change.freed took.own.takes.counted in
     let datum : role_of c.release-in-Err.new.self n ≢ Table = λ table. (let bad : Free ≡ Table = sym free ∙ table in (cc)) in
     let frees = frees_then old took.found new None (frees_any old took.found _ took.frees) (frees_spent took.found new n took.fit changes free) in
     λ q p h other none. frees.entries q p h (inl none) ∙ none
+
+pub returns-in-Err-clause-rows : goal.returns-in-Err-clause-rows
+returns-in-Err-clause-rows g c =
+    let old : Picture g.M.Levels.mode = picture_of c.args.core.now in
+    let taken : Picture g.M.Levels.mode = picture_of c.take_own.new.self in
+    let took = c.in_ok-frame.ensures.taken in
+    let n = c.in_ok-frame.frame.0 in
+    let new : Picture g.M.Levels.mode = record taken { slots = slots_of c.get.new.self; frames = c.release-in-Err.new.self } in
+    let changes : ChangesFrame took.found new n = changes_spent took.found taken n c.args.spot.now.page took.own (slots_of c.get.new.self) c.get.ensures.same c.get.new.to c.release-in-Err.new.self c.release-in-Err.ensures.change in
+    let free : role_of c.release-in-Err.new.self n ≡ Free = c.release-in-Err.ensures.change.freed took.own.takes.counted in
+    let datum : role_of c.release-in-Err.new.self n ≢ Table = λ table. (let bad : Free ≡ Table = sym free ∙ table in (cc)) in
+    let frees = frees_then old took.found new None (frees_any old took.found _ took.frees) (frees_spent took.found new n took.fit changes free) in
+    rows_freed old new _ (fit_spent took.found new n took.fit changes datum free) frees
 
 pub returns-in-Err-clause-slotted : goal.returns-in-Err-clause-slotted
 returns-in-Err-clause-slotted g c =
@@ -378,11 +391,11 @@ returns-in-Err-clause-slotted g c =
     let took = c.in_ok-frame.ensures.taken in
     let n = c.in_ok-frame.frame.0 in
     let new : Picture g.M.Levels.mode = record taken { slots = slots_of c.get.new.self; frames = c.release-in-Err.new.self } in
-    let changes : ChangesFrame took.found new n = changes_spent took.found taken n c.args.page took.own (slots_of c.get.new.self) c.get.ensures.same c.get.new.to c.release-in-Err.new.self c.release-in-Err.ensures.change in
+    let changes : ChangesFrame took.found new n = changes_spent took.found taken n c.args.spot.now.page took.own (slots_of c.get.new.self) c.get.ensures.same c.get.new.to c.release-in-Err.new.self c.release-in-Err.ensures.change in
     let free : role_of c.release-in-Err.new.self n ≡ Free = c.release-in-Err.ensures.change.freed took.own.takes.counted in
     let datum : role_of c.release-in-Err.new.self n ≢ Table = λ table. (let bad : Free ≡ Table = sym free ∙ table in (cc)) in
     let frees = frees_then old took.found new None (frees_any old took.found _ took.frees) (frees_spent took.found new n took.fit changes free) in
-    slotted_frees (λ p. ⊥) (IsThatPage c.args.pid c.args.page) old new _ frees
+    slotted_frees (λ p. ⊥) (IsThatPage c.args.spot.now.pid c.args.spot.now.page) old new _ frees
 
 pub returns-in-Err-clause-frees : goal.returns-in-Err-clause-frees
 returns-in-Err-clause-frees g c =
@@ -391,7 +404,7 @@ returns-in-Err-clause-frees g c =
     let took = c.in_ok-frame.ensures.taken in
     let n = c.in_ok-frame.frame.0 in
     let new : Picture g.M.Levels.mode = record taken { slots = slots_of c.get.new.self; frames = c.release-in-Err.new.self } in
-    let changes : ChangesFrame took.found new n = changes_spent took.found taken n c.args.page took.own (slots_of c.get.new.self) c.get.ensures.same c.get.new.to c.release-in-Err.new.self c.release-in-Err.ensures.change in
+    let changes : ChangesFrame took.found new n = changes_spent took.found taken n c.args.spot.now.page took.own (slots_of c.get.new.self) c.get.ensures.same c.get.new.to c.release-in-Err.new.self c.release-in-Err.ensures.change in
     let free : role_of c.release-in-Err.new.self n ≡ Free = c.release-in-Err.ensures.change.freed took.own.takes.counted in
     let datum : role_of c.release-in-Err.new.self n ≢ Table = λ table. (let bad : Free ≡ Table = sym free ∙ table in (cc)) in
     let frees = frees_then old took.found new None (frees_any old took.found _ took.frees) (frees_spent took.found new n took.fit changes free) in
@@ -404,7 +417,7 @@ returns-in-Err-clause-same g c =
     let took = c.in_ok-frame.ensures.taken in
     let n = c.in_ok-frame.frame.0 in
     let new : Picture g.M.Levels.mode = record taken { slots = slots_of c.get.new.self; frames = c.release-in-Err.new.self } in
-    let changes : ChangesFrame took.found new n = changes_spent took.found taken n c.args.page took.own (slots_of c.get.new.self) c.get.ensures.same c.get.new.to c.release-in-Err.new.self c.release-in-Err.ensures.change in
+    let changes : ChangesFrame took.found new n = changes_spent took.found taken n c.args.spot.now.page took.own (slots_of c.get.new.self) c.get.ensures.same c.get.new.to c.release-in-Err.new.self c.release-in-Err.ensures.change in
     let free : role_of c.release-in-Err.new.self n ≡ Free = c.release-in-Err.ensures.change.freed took.own.takes.counted in
     let datum : role_of c.release-in-Err.new.self n ≢ Table = λ table. (let bad : Free ≡ Table = sym free ∙ table in (cc)) in
     let frees = frees_then old took.found new None (frees_any old took.found _ took.frees) (frees_spent took.found new n took.fit changes free) in
@@ -417,7 +430,7 @@ returns-in-Err-clause-seen g c = λ model.
     let took = c.in_ok-frame.ensures.taken in
     let n = c.in_ok-frame.frame.0 in
     let new : Picture g.M.Levels.mode = record taken { slots = slots_of c.get.new.self; frames = c.release-in-Err.new.self } in
-    let changes : ChangesFrame took.found new n = changes_spent took.found taken n c.args.page took.own (slots_of c.get.new.self) c.get.ensures.same c.get.new.to c.release-in-Err.new.self c.release-in-Err.ensures.change in
+    let changes : ChangesFrame took.found new n = changes_spent took.found taken n c.args.spot.now.page took.own (slots_of c.get.new.self) c.get.ensures.same c.get.new.to c.release-in-Err.new.self c.release-in-Err.ensures.change in
     let free : role_of c.release-in-Err.new.self n ≡ Free = c.release-in-Err.ensures.change.freed took.own.takes.counted in
     let datum : role_of c.release-in-Err.new.self n ≢ Table = λ table. (let bad : Free ≡ Table = sym free ∙ table in (cc)) in
     let frees = frees_then old took.found new None (frees_any old took.found _ took.frees) (frees_spent took.found new n took.fit changes free) in
@@ -430,7 +443,7 @@ returns-in-Err-clause-files g c =
     let took = c.in_ok-frame.ensures.taken in
     let n = c.in_ok-frame.frame.0 in
     let new : Picture g.M.Levels.mode = record taken { slots = slots_of c.get.new.self; frames = c.release-in-Err.new.self } in
-    let changes : ChangesFrame took.found new n = changes_spent took.found taken n c.args.page took.own (slots_of c.get.new.self) c.get.ensures.same c.get.new.to c.release-in-Err.new.self c.release-in-Err.ensures.change in
+    let changes : ChangesFrame took.found new n = changes_spent took.found taken n c.args.spot.now.page took.own (slots_of c.get.new.self) c.get.ensures.same c.get.new.to c.release-in-Err.new.self c.release-in-Err.ensures.change in
     let free : role_of c.release-in-Err.new.self n ≡ Free = c.release-in-Err.ensures.change.freed took.own.takes.counted in
     let datum : role_of c.release-in-Err.new.self n ≢ Table = λ table. (let bad : Free ≡ Table = sym free ∙ table in (cc)) in
     let frees = frees_then old took.found new None (frees_any old took.found _ took.frees) (frees_spent took.found new n took.fit changes free) in
@@ -448,12 +461,16 @@ returns-in_err-frame-clause-frees g c =
 pub returns-in_err-frame-clause-bare : goal.returns-in_err-frame-clause-bare
 returns-in_err-frame-clause-bare g c = λ q p h other none. c.in_err-frame.ensures.frees.entries q p h (inl none) ∙ none
 
+pub returns-in_err-frame-clause-rows : goal.returns-in_err-frame-clause-rows
+returns-in_err-frame-clause-rows g c =
+    rows_freed (picture_of c.args.core.now) (picture_of c.take_own.new.self) _ c.in_err-frame.ensures.fit c.in_err-frame.ensures.frees
+
 pub returns-in_err-frame-clause-slotted : goal.returns-in_err-frame-clause-slotted
 returns-in_err-frame-clause-slotted g c =
-    slotted_frees (λ p. ⊥) (IsThatPage c.args.pid c.args.page) (picture_of c.args.core.now) (picture_of c.take_own.new.self) _ c.in_err-frame.ensures.frees
+    slotted_frees (λ p. ⊥) (IsThatPage c.args.spot.now.pid c.args.spot.now.page) (picture_of c.args.core.now) (picture_of c.take_own.new.self) _ c.in_err-frame.ensures.frees
 
 pub set_full-requires-clause-user : goal.set_full-requires-clause-user
-set_full-requires-clause-user g c = ((c.requires.linked.fit.granting.user c.args.pid).user_pages c.args.page (ap is_some c.requires.attr)).1
+set_full-requires-clause-user g c = ((c.requires.spot.linked.fit.granting.user c.args.spot.now.pid).user_pages c.args.spot.now.page (ap is_some c.requires.attr)).1
 
 pub returns-in-Ok-clause-asks : goal.returns-in-Ok-clause-asks
 returns-in-Ok-clause-asks g c =
@@ -462,13 +479,12 @@ returns-in-Ok-clause-asks g c =
     let took = c.in_ok-frame.ensures.taken in
     let n = c.in_ok-frame.frame.0 in
     let k = c.in-Swapped.slot.0 in
-    let r = c.root_of-root.result.0 in
-    let here = mapped_page old c.args.pid c.args.page c.args.attr c.requires.linked.fit.granting c.requires.attr in
-    let same_entry : entry taken c.args.pid c.args.page ≡ entry old c.args.pid c.args.page = entry_taken old taken c.args.pid c.args.page n took here c.requires.away in
-    let number : entry old c.args.pid c.args.page ≡ k * 1024 + 2 =
-    sym same_entry ∙ entry-of taken c.args.pid r c.args.page c.root_of-root.ensures ∙ sym c.entry.ensures.entry ∙ ap number_of c.in-Swapped.is in
-    let low : k < 2 ^ 32 = (let P : Entry → Type 0 = λ e. IsEntry e in subst P c.in-Swapped.is c.entry.ensures.form) in
-    let also : ℕ → Type 0 = λ j. IsSectorOfCopy old c.args.pid c.args.page j in
+    let r = c.args.spot.now.root.0 in
+    let here = mapped_page old c.args.spot.now.pid c.args.spot.now.page c.args.attr c.requires.spot.linked.fit.granting c.requires.attr in
+    let number : entry old c.args.spot.now.pid c.args.spot.now.page ≡ k * 1024 + 2 =
+    sym c.number_at.ensures ∙ sym c.decode.ensures.number ∙ ap number_of c.in-Swapped.is in
+    let low : k < 2 ^ 32 = (let P : Entry → Type 0 = λ e. IsEntry e in subst P c.in-Swapped.is c.decode.ensures.form) in
+    let also : ℕ → Type 0 = λ j. IsSectorOfCopy old c.args.spot.now.pid c.args.spot.now.page j in
     let read = asks_read g.E.SectorDisk c.args.core.now c.take_own.new.self c.get.new.self None also k (λ j is. (k, ap seat number ∙ away_seat k low, is)) c.in_ok-frame.ensures.asked c.get.ensures.asks in
     asks_between g.E.SectorDisk (MayAsk old None also) c.args.core.now.swap c.args.core.now.swap c.get.new.self c.release.new.self refl (c.release.ensures.pages ∙ ap (λ (s : Swap _). s.pages) c.set_full.ensures.rest.swap) read
 
@@ -479,16 +495,15 @@ returns-in-Err-clause-asks g c =
     let took = c.in_ok-frame.ensures.taken in
     let n = c.in_ok-frame.frame.0 in
     let k = c.in-Swapped.slot.0 in
-    let r = c.root_of-root.result.0 in
-    let here = mapped_page old c.args.pid c.args.page c.args.attr c.requires.linked.fit.granting c.requires.attr in
-    let same_entry : entry taken c.args.pid c.args.page ≡ entry old c.args.pid c.args.page = entry_taken old taken c.args.pid c.args.page n took here c.requires.away in
-    let number : entry old c.args.pid c.args.page ≡ k * 1024 + 2 =
-    sym same_entry ∙ entry-of taken c.args.pid r c.args.page c.root_of-root.ensures ∙ sym c.entry.ensures.entry ∙ ap number_of c.in-Swapped.is in
-    let low : k < 2 ^ 32 = (let P : Entry → Type 0 = λ e. IsEntry e in subst P c.in-Swapped.is c.entry.ensures.form) in
-    let also : ℕ → Type 0 = λ j. IsSectorOfCopy old c.args.pid c.args.page j in
+    let r = c.args.spot.now.root.0 in
+    let here = mapped_page old c.args.spot.now.pid c.args.spot.now.page c.args.attr c.requires.spot.linked.fit.granting c.requires.attr in
+    let number : entry old c.args.spot.now.pid c.args.spot.now.page ≡ k * 1024 + 2 =
+    sym c.number_at.ensures ∙ sym c.decode.ensures.number ∙ ap number_of c.in-Swapped.is in
+    let low : k < 2 ^ 32 = (let P : Entry → Type 0 = λ e. IsEntry e in subst P c.in-Swapped.is c.decode.ensures.form) in
+    let also : ℕ → Type 0 = λ j. IsSectorOfCopy old c.args.spot.now.pid c.args.spot.now.page j in
     let read = asks_read g.E.SectorDisk c.args.core.now c.take_own.new.self c.get.new.self None also k (λ j is. (k, ap seat number ∙ away_seat k low, is)) c.in_ok-frame.ensures.asked c.get.ensures.asks in
     read
 
 pub returns-in_err-frame-clause-asks : goal.returns-in_err-frame-clause-asks
 returns-in_err-frame-clause-asks g c =
-    asks_swap g.E.SectorDisk c.args.core.now c.take_own.new.self None (IsSectorOfCopy (picture_of c.args.core.now) c.args.pid c.args.page) c.in_err-frame.ensures.asked
+    asks_swap g.E.SectorDisk c.args.core.now c.take_own.new.self None (IsSectorOfCopy (picture_of c.args.core.now) c.args.spot.now.pid c.args.spot.now.page) c.in_err-frame.ensures.asked

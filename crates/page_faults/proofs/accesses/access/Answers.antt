@@ -1,7 +1,7 @@
 use Rattle.vm_types.specs.Limits.{user_end}
-use Rattle.std.proofs.Common.{◌≡◌, ℕ, inl, refl, ◌⊎◌, Ok, ◌*◌, ◌+◌, ◌%◌, ◌/◌, ◌<◌, true, sym, ap, ◌∙◌, subst}
+use Rattle.std.proofs.Common.{◌≡◌, ℕ, inl, refl, ◌⊎◌, Ok, ◌/◌, ◌<◌, true, sym, ap, ◌∙◌, subst}
 use Rattle.vm_types.specs.Verdict.{Fine}
-use Rattle.std.specs.Prelude.{is_some}
+use Rattle.vm_types.specs.declared.number.Phys.{Phys}
 use Rattle.paging.specs.declared.kernel.Core.{Core}
 use Rattle.paging.specs.Picture.{Picture, picture_of, entry, is_swapped}
 use Rattle.mapping.specs.Changes.{IsCalm, IsThatPage, KeepsOtherViews, KeepsSlotted}
@@ -145,14 +145,14 @@ returns-in_ok-frame-in-Page-clause-placed g c =
     let proceeds = subst M c.find.ensures.same c.grant.ensures.proceeds in
     let old : Picture g.M.Levels.mode = picture_of c.args.core.now in
     let new : Picture g.M.Levels.mode = picture_of c.grant.new.core in
-    let N : Core g.row.D.Denot g.row.E.Denot g.row.M.Denot g.M.Levels → Type 0 = λ m. IsPlaced old (picture_of m) c.args.pid c.args.addr c.args.width c.args.access (record { 0 = c.from.result * 4096 + c.args.addr % 4096 }) in
+    let N : Core g.row.D.Denot g.row.E.Denot g.row.M.Denot g.M.Levels → Type 0 = λ m. IsPlaced old (picture_of m) c.args.pid c.args.addr c.args.width c.args.access c.place_in.result in
     let fine = c.in-Page.ensures.found in
     let root = root_live old c.args.pid c.requires.lives in
     let n = c.in_ok-frame-in-Page.frame.0 in
     let P : ℕ → Type 0 = λ x. IsEntered new c.args.pid x c.in-Page.attr c.args.access n in
-    let Q : ℕ → Type 0 = λ x. IsPlaced old new c.args.pid c.args.addr c.args.width c.args.access (record { 0 = x * 4096 + c.args.addr % 4096 }) in
+    let Q : Phys → Type 0 = λ x. IsPlaced old new c.args.pid c.args.addr c.args.width c.args.access x in
     let R : ℕ → Type 0 = λ x. x < user_end g.M.Levels.mode in
-    subst N (sym c.keep_line.ensures) (subst Q (sym c.from.ensures)
+    subst N (sym c.keep_line.ensures) (subst Q (sym c.place_in.ensures)
     (placed_made old new c.args.pid root.0 c.args.addr c.args.width c.args.access c.in-Page.attr n
     proceeds.fit (proceeds.spaces.root c.args.pid ∙ root.1)
     (subst R fine.page_is (page_user old c.args.pid c.in-Page.page c.in-Page.attr c.requires.fit fine.allowed.mapped).1)
@@ -163,17 +163,17 @@ pub returns-in_ok-frame-in-Page-clause-granted : goal.returns-in_ok-frame-in-Pag
 returns-in_ok-frame-in-Page-clause-granted g c trusted =
     let old : Picture g.M.Levels.mode = picture_of c.args.core.now in
     let new : Picture g.M.Levels.mode = picture_of c.grant.new.core in
-    let N : Core g.row.D.Denot g.row.E.Denot g.row.M.Denot g.M.Levels → Type 0 = λ m. Grants old (picture_of m) c.args.pid c.args.addr c.args.width c.args.access (record { 0 = c.from.result * 4096 + c.args.addr % 4096 }) in
+    let N : Core g.row.D.Denot g.row.E.Denot g.row.M.Denot g.M.Levels → Type 0 = λ m. Grants old (picture_of m) c.args.pid c.args.addr c.args.width c.args.access c.place_in.result in
     let K : Core g.row.D.Denot g.row.E.Denot g.row.M.Denot g.M.Levels → Type 0 = λ m. g.E.SectorDisk.keeps_model m.swap.pages.disk in
     let fine = c.in-Page.ensures.found in
     let n = c.in_ok-frame-in-Page.frame.0 in
     let P : ℕ → Type 0 = λ x. IsReadyAt old new c.args.pid x c.in-Page.attr c.args.access n in
-    let Q : ℕ → Type 0 = λ x. Grants old new c.args.pid c.args.addr c.args.width c.args.access (record { 0 = x * 4096 + c.args.addr % 4096 }) in
+    let Q : Phys → Type 0 = λ x. Grants old new c.args.pid c.args.addr c.args.width c.args.access x in
     let R : ℕ → Type 0 = λ x. is_swapped (entry old c.args.pid x) ≡ true in
     let S : Core g.row.D.Denot g.row.E.Denot g.row.M.Denot g.M.Levels → Type 0 = λ m. is_swapped (entry (picture_of m) c.args.pid c.in-Page.page) ≡ true in
     let M : Core g.row.D.Denot g.row.E.Denot g.row.M.Denot g.M.Levels → Type 0 = λ m. IsReadyAt (picture_of m) new c.args.pid c.in-Page.page c.in-Page.attr c.args.access n in
     let ready = subst M c.find.ensures.same (c.in_ok-frame-in-Page.ensures.ready (λ away. subst K c.keep_line.ensures (trusted (subst R fine.page_is (subst S c.find.ensures.same away))))) in
-    subst N (sym c.keep_line.ensures) (subst Q (sym c.from.ensures)
+    subst N (sym c.keep_line.ensures) (subst Q (sym c.place_in.ensures)
     (grants_made old new c.args.pid c.args.addr c.args.width c.args.access c.in-Page.attr n
     (fine.fine ∙ ap (λ k. Fine (seen_at old c.args.pid k c.in-Page.attr)) fine.page_is)
     (subst P fine.page_is ready)))
@@ -256,11 +256,6 @@ returns-in_ok-frame-in-Page-clause-proceeds g c =
     let M : Core g.row.D.Denot g.row.E.Denot g.row.M.Denot g.M.Levels → Type 0 = λ m. Proceeds g.D.SectorDisk g.E.SectorDisk m c.grant.new.core in
     let N : Core g.row.D.Denot g.row.E.Denot g.row.M.Denot g.M.Levels → Type 0 = λ m. Proceeds g.D.SectorDisk g.E.SectorDisk c.args.core.now m in
     subst N (sym c.keep_line.ensures) (subst M c.find.ensures.same c.grant.ensures.proceeds)
-
-pub keep_line-requires-clause-lives : goal.keep_line-requires-clause-lives
-keep_line-requires-clause-lives g c =
-    let M : Core g.row.D.Denot g.row.E.Denot g.row.M.Denot g.M.Levels → Type 0 = λ m. Proceeds g.D.SectorDisk g.E.SectorDisk m c.grant.new.core in
-    ap is_some ((subst M c.find.ensures.same c.grant.ensures.proceeds).spaces.root c.args.pid) ∙ c.requires.lives
 
 pub keep_line-requires-clause-user : goal.keep_line-requires-clause-user
 keep_line-requires-clause-user g c =

@@ -6,6 +6,8 @@ use Rattle.paging.specs.Picture.{Picture, picture_of}
 use Rattle.paging.specs.Parts.{is_shared}
 use Rattle.mapping.specs.Changes.{copied_frame}
 use Rattle.mapping.proofs.Forms.{none_here, behind_of}
+use Rattle.mapping.proofs.Rows.{rows_then}
+use Rattle.mapping.proofs.Staying.{stands_kept}
 use Rattle.page_faults.specs.Granted.{IsReadyAt}
 use Rattle.page_faults.proofs.Asking.{asks_brought, asks_copied, copies_cached}
 use Rattle.page_faults.proofs.Brought.{linked_then, read_then, calm_then, brings_wider, brings_on, stalled_away, stalled_on}
@@ -20,45 +22,45 @@ use Rattle.page_faults.proofs.granting.grant_copy.Goals as goal
 
 pub cached-requires-clause-inside : goal.cached-requires-clause-inside
 cached-requires-clause-inside g c =
-    page_inside (picture_of c.args.core.now) c.args.pid c.args.page c.args.attr (File c.args.file_page) c.requires.linked c.requires.allowed.mapped (ap stands_on c.requires.private) c.requires.allowed.inside
+    page_inside (picture_of c.args.core.now) c.args.spot.now.pid c.args.spot.now.page c.args.attr (File c.args.file_page) c.requires.spot.linked c.requires.allowed.mapped (ap stands_on c.requires.private) c.requires.allowed.inside
 
 pub returns-in_err-cached-clause-brings : goal.returns-in_err-cached-clause-brings
 returns-in_err-cached-clause-brings g c =
     let old : Picture g.M.Levels.mode = picture_of c.args.core.now in
-    let shows = shows_file old c.args.pid c.args.page c.args.attr (File c.args.file_page) c.requires.allowed.mapped (ap stands_on c.requires.private) c.requires.none in
-    brings_wider c.args.core.now c.cached.new.core c.args.pid c.args.page (File c.args.file_page) shows g.D.SectorDisk g.E.SectorDisk c.in_err-cached.ensures.brings
+    let shows = shows_file old c.args.spot.now.pid c.args.spot.now.page c.args.attr (File c.args.file_page) c.requires.allowed.mapped (ap stands_on c.requires.private) c.requires.none in
+    brings_wider c.args.core.now c.cached.new.core c.args.spot.now.pid c.args.spot.now.page (File c.args.file_page) shows g.D.SectorDisk g.E.SectorDisk c.in_err-cached.ensures.brings
 
 pub returns-in_err-cached-clause-calm : goal.returns-in_err-cached-clause-calm
 returns-in_err-cached-clause-calm g c unwanted =
     let old : Picture g.M.Levels.mode = picture_of c.args.core.now in
-    let shows = shows_file old c.args.pid c.args.page c.args.attr (File c.args.file_page) c.requires.allowed.mapped (ap stands_on c.requires.private) c.requires.none in
-    let there = page_there old c.args.pid c.args.page Store (File c.args.file_page) shows unwanted in
+    let shows = shows_file old c.args.spot.now.pid c.args.spot.now.page c.args.attr (File c.args.file_page) c.requires.allowed.mapped (ap stands_on c.requires.private) c.requires.none in
+    let there = page_there old c.args.spot.now.pid c.args.spot.now.page Store (File c.args.file_page) shows unwanted in
     absurd (c.in_err-cached.ensures.idle there.0 there.1).1
 
 pub returns-in_err-cached-clause-read : goal.returns-in_err-cached-clause-read
 returns-in_err-cached-clause-read g c =
     let old : Picture g.M.Levels.mode = picture_of c.args.core.now in
-    let shows = shows_file old c.args.pid c.args.page c.args.attr (File c.args.file_page) c.requires.allowed.mapped (ap stands_on c.requires.private) c.requires.none in
-    read_then c.args.core.now c.cached.new.core c.args.pid c.args.page (File c.args.file_page) shows c.cached.new.core.store c.requires.linked.fit refl c.in_err-cached.ensures.read
+    let shows = shows_file old c.args.spot.now.pid c.args.spot.now.page c.args.attr (File c.args.file_page) c.requires.allowed.mapped (ap stands_on c.requires.private) c.requires.none in
+    read_then c.args.core.now c.cached.new.core c.args.spot.now.pid c.args.spot.now.page (File c.args.file_page) shows c.cached.new.core.store c.requires.spot.linked.fit refl c.in_err-cached.ensures.read
 
 pub returns-in_err-cached-clause-stalled : goal.returns-in_err-cached-clause-stalled
 returns-in_err-cached-clause-stalled g c =
     let old : Picture g.M.Levels.mode = picture_of c.args.core.now in
-    let shows = shows_file old c.args.pid c.args.page c.args.attr (File c.args.file_page) c.requires.allowed.mapped (ap stands_on c.requires.private) c.requires.none in
+    let shows = shows_file old c.args.spot.now.pid c.args.spot.now.page c.args.attr (File c.args.file_page) c.requires.allowed.mapped (ap stands_on c.requires.private) c.requires.none in
     let done = c.in_err-cached.ensures in
-    stalled_as g.D.SectorDisk g.E.SectorDisk c.args.core.now c.cached.new.core c.args.pid c.args.page Store c.from_residual.result c.in_err-cached.field-0.0 c.from_residual.ensures.1
-    (stalled_away c.args.core.now c.cached.new.core c.args.pid c.args.page (File c.args.file_page) shows g.D.SectorDisk g.E.SectorDisk Store c.in_err-cached.field-0.0 c.requires.linked.fit done.keeps
+    stalled_as g.D.SectorDisk g.E.SectorDisk c.args.core.now c.cached.new.core c.args.spot.now.pid c.args.spot.now.page Store c.from_residual.result c.in_err-cached.field-0.0 c.from_residual.ensures.1
+    (stalled_away c.args.core.now c.cached.new.core c.args.spot.now.pid c.args.spot.now.page (File c.args.file_page) shows g.D.SectorDisk g.E.SectorDisk Store c.in_err-cached.field-0.0 c.requires.spot.linked.fit done.keeps
     (λ n at. (done.idle n at).1) done.cause done.short done.home done.proceeds.spaces done.frees done.refuses)
 
-pub own_frame-requires-clause-linked : goal.own_frame-requires-clause-linked
-own_frame-requires-clause-linked g c =
+pub own_frame-requires-clause-spot : goal.own_frame-requires-clause-spot
+own_frame-requires-clause-spot g c =
     let done = c.in_ok-cached.ensures in
-    linked_then (picture_of c.args.core.now) (picture_of c.cached.new.core) c.args.pid c.args.page done.proceeds.fit done.proceeds.spaces done.proceeds.tables c.requires.linked
+    stands_kept (picture_of c.args.core.now) (picture_of c.cached.new.core) c.args.spot.now c.requires.spot done.proceeds.fit done.proceeds.spaces done.proceeds.tables done.rows
 
 pub own_frame-requires-clause-inside : goal.own_frame-requires-clause-inside
 own_frame-requires-clause-inside g c =
     let done = c.in_ok-cached.ensures in
-    (open_still (picture_of c.args.core.now) (picture_of c.cached.new.core) c.args.pid c.args.page Store c.args.attr done.proceeds.spaces.at
+    (open_still (picture_of c.args.core.now) (picture_of c.cached.new.core) c.args.spot.now.pid c.args.spot.now.page Store c.args.attr done.proceeds.spaces.at
     (files_read g.D.SectorDisk c.args.core.now.store c.cached.new.core.store done.proceeds.reads) c.requires.allowed).inside
 
 pub own_frame-requires-clause-not_shared : goal.own_frame-requires-clause-not_shared
@@ -69,8 +71,8 @@ own_frame-requires-clause-resident g c =
     let old : Picture g.M.Levels.mode = picture_of c.args.core.now in
     let mid : Picture g.M.Levels.mode = picture_of c.cached.new.core in
     let done = c.in_ok-cached.ensures in
-    none_here _ (none_same old mid c.args.pid c.args.page c.args.attr c.requires.allowed.mapped (done.proceeds.spaces.at c.args.pid c.args.page ∙ c.requires.allowed.mapped)
-    (done.keeps.views c.args.pid c.args.page) c.requires.none)
+    none_here _ (none_same old mid c.args.spot.now.pid c.args.spot.now.page c.args.attr c.requires.allowed.mapped (done.proceeds.spaces.at c.args.spot.now.pid c.args.spot.now.page ∙ c.requires.allowed.mapped)
+    (done.keeps.views c.args.spot.now.pid c.args.spot.now.page) c.requires.none)
 
 pub own_frame-requires-clause-in_memory : goal.own_frame-requires-clause-in_memory
 own_frame-requires-clause-in_memory g c common =
@@ -83,10 +85,10 @@ returns-clause-proceeds g c =
 pub returns-clause-brings : goal.returns-clause-brings
 returns-clause-brings g c =
     let old : Picture g.M.Levels.mode = picture_of c.args.core.now in
-    let shows = shows_file old c.args.pid c.args.page c.args.attr (File c.args.file_page) c.requires.allowed.mapped (ap stands_on c.requires.private) c.requires.none in
+    let shows = shows_file old c.args.spot.now.pid c.args.spot.now.page c.args.attr (File c.args.file_page) c.requires.allowed.mapped (ap stands_on c.requires.private) c.requires.none in
     let done = c.in_ok-cached.ensures in
     let files = c.own_frame.ensures.files in
-    brings_on c.args.core.now c.cached.new.core c.args.pid c.args.page (File c.args.file_page) shows g.D.SectorDisk g.E.SectorDisk c.own_frame.new.core done.brings done.keeps c.own_frame.ensures.moves.store
+    brings_on c.args.core.now c.cached.new.core c.args.spot.now.pid c.args.spot.now.page (File c.args.file_page) shows g.D.SectorDisk g.E.SectorDisk c.own_frame.new.core done.brings done.keeps c.own_frame.ensures.moves.store
     c.own_frame.ensures.moves.device files.held files.files
 
 pub returns-clause-entered : goal.returns-clause-entered
@@ -95,10 +97,10 @@ returns-clause-entered g c =
     let new : Picture g.M.Levels.mode = picture_of c.own_frame.new.core in
     let first = c.in_ok-cached.ensures in
     let done = c.own_frame.ensures in
-    let at = first.proceeds.spaces.at c.args.pid c.args.page ∙ c.requires.allowed.mapped in
-    owned_entered mid new c.args.pid c.args.page c.args.attr c.cached.new.core.sound done.moves.fit c.own_frame.new.core.sound
-    (done.moves.spaces.at c.args.pid c.args.page ∙ at) (ap is_shared c.requires.private) c.requires.allowed.lets
-    (none_here _ (none_same (picture_of c.args.core.now) mid c.args.pid c.args.page c.args.attr c.requires.allowed.mapped at (first.keeps.views c.args.pid c.args.page) c.requires.none))
+    let at = first.proceeds.spaces.at c.args.spot.now.pid c.args.spot.now.page ∙ c.requires.allowed.mapped in
+    owned_entered mid new c.args.spot.now.pid c.args.spot.now.page c.args.attr c.cached.new.core.sound done.moves.fit c.own_frame.new.core.sound
+    (done.moves.spaces.at c.args.spot.now.pid c.args.spot.now.page ∙ at) (ap is_shared c.requires.private) c.requires.allowed.lets
+    (none_here _ (none_same (picture_of c.args.core.now) mid c.args.spot.now.pid c.args.spot.now.page c.args.attr c.requires.allowed.mapped at (first.keeps.views c.args.spot.now.pid c.args.spot.now.page) c.requires.none))
     (λ common. (c.in_ok-cached.field-0.0, behind_of mid c.args.attr.backing (File c.args.file_page) c.in_ok-cached.field-0.0 (ap stands_on c.requires.private) first.placed))
     done.behind done.others done.files c.own_frame.result done.bytes done.entry
 
@@ -109,28 +111,28 @@ returns-clause-ready g c =
     let new : Picture g.M.Levels.mode = picture_of c.own_frame.new.core in
     let first = c.in_ok-cached.ensures in
     let done = c.own_frame.ensures in
-    let at = first.proceeds.spaces.at c.args.pid c.args.page ∙ c.requires.allowed.mapped in
-    ok_then (λ n. IsReadyAt mid new c.args.pid c.args.page c.args.attr Store n.0) (λ n. IsReadyAt old new c.args.pid c.args.page c.args.attr Store n.0) c.own_frame.result (λ n. ready_after old mid new c.args.pid c.args.page c.args.attr Store n.0 c.requires.allowed.mapped at first.keeps)
-    (owned_ready mid new c.args.pid c.args.page c.args.attr c.cached.new.core.sound done.moves.fit c.own_frame.new.core.sound
-    (done.moves.spaces.at c.args.pid c.args.page ∙ at) (ap is_shared c.requires.private) c.requires.allowed.lets
-    (none_here _ (none_same old mid c.args.pid c.args.page c.args.attr c.requires.allowed.mapped at (first.keeps.views c.args.pid c.args.page) c.requires.none))
+    let at = first.proceeds.spaces.at c.args.spot.now.pid c.args.spot.now.page ∙ c.requires.allowed.mapped in
+    ok_then (λ n. IsReadyAt mid new c.args.spot.now.pid c.args.spot.now.page c.args.attr Store n.0) (λ n. IsReadyAt old new c.args.spot.now.pid c.args.spot.now.page c.args.attr Store n.0) c.own_frame.result (λ n. ready_after old mid new c.args.spot.now.pid c.args.spot.now.page c.args.attr Store n.0 c.requires.allowed.mapped at first.keeps)
+    (owned_ready mid new c.args.spot.now.pid c.args.spot.now.page c.args.attr c.cached.new.core.sound done.moves.fit c.own_frame.new.core.sound
+    (done.moves.spaces.at c.args.spot.now.pid c.args.spot.now.page ∙ at) (ap is_shared c.requires.private) c.requires.allowed.lets
+    (none_here _ (none_same old mid c.args.spot.now.pid c.args.spot.now.page c.args.attr c.requires.allowed.mapped at (first.keeps.views c.args.spot.now.pid c.args.spot.now.page) c.requires.none))
     (λ common. (c.in_ok-cached.field-0.0, behind_of mid c.args.attr.backing (File c.args.file_page) c.in_ok-cached.field-0.0 (ap stands_on c.requires.private) first.placed))
     done.behind done.others done.files c.own_frame.result done.bytes done.entry)
 
 pub returns-clause-calm : goal.returns-clause-calm
 returns-clause-calm g c =
     let old : Picture g.M.Levels.mode = picture_of c.args.core.now in
-    let shows = shows_file old c.args.pid c.args.page c.args.attr (File c.args.file_page) c.requires.allowed.mapped (ap stands_on c.requires.private) c.requires.none in
+    let shows = shows_file old c.args.spot.now.pid c.args.spot.now.page c.args.attr (File c.args.file_page) c.requires.allowed.mapped (ap stands_on c.requires.private) c.requires.none in
     let first = c.in_ok-cached.ensures in
-    calm_then c.args.core.now c.cached.new.core c.args.pid c.args.page (File c.args.file_page) shows (λ n at. (first.idle n at).0) c.own_frame.new.core Store
-    (owned_calm c.cached.new.core c.own_frame.new.core c.args.pid c.args.page c.args.attr (first.proceeds.spaces.at c.args.pid c.args.page ∙ c.requires.allowed.mapped)
+    calm_then c.args.core.now c.cached.new.core c.args.spot.now.pid c.args.spot.now.page (File c.args.file_page) shows (λ n at. (first.idle n at).0) c.own_frame.new.core Store
+    (owned_calm c.cached.new.core c.own_frame.new.core c.args.spot.now.pid c.args.spot.now.page c.args.attr (first.proceeds.spaces.at c.args.spot.now.pid c.args.spot.now.page ∙ c.requires.allowed.mapped)
     (ap is_shared c.requires.private) c.own_frame.ensures.calm)
 
 pub returns-clause-read : goal.returns-clause-read
 returns-clause-read g c =
     let old : Picture g.M.Levels.mode = picture_of c.args.core.now in
-    let shows = shows_file old c.args.pid c.args.page c.args.attr (File c.args.file_page) c.requires.allowed.mapped (ap stands_on c.requires.private) c.requires.none in
-    read_then c.args.core.now c.cached.new.core c.args.pid c.args.page (File c.args.file_page) shows c.own_frame.new.core.store c.requires.linked.fit c.own_frame.ensures.moves.store c.in_ok-cached.ensures.read
+    let shows = shows_file old c.args.spot.now.pid c.args.spot.now.page c.args.attr (File c.args.file_page) c.requires.allowed.mapped (ap stands_on c.requires.private) c.requires.none in
+    read_then c.args.core.now c.cached.new.core c.args.spot.now.pid c.args.spot.now.page (File c.args.file_page) shows c.own_frame.new.core.store c.requires.spot.linked.fit c.own_frame.ensures.moves.store c.in_ok-cached.ensures.read
 
 pub returns-clause-counts : goal.returns-clause-counts
 returns-clause-counts g c =
@@ -141,16 +143,16 @@ returns-clause-counts g c =
 pub returns-clause-stalled : goal.returns-clause-stalled
 returns-clause-stalled g c =
     let old : Picture g.M.Levels.mode = picture_of c.args.core.now in
-    let shows = shows_file old c.args.pid c.args.page c.args.attr (File c.args.file_page) c.requires.allowed.mapped (ap stands_on c.requires.private) c.requires.none in
+    let shows = shows_file old c.args.spot.now.pid c.args.spot.now.page c.args.attr (File c.args.file_page) c.requires.allowed.mapped (ap stands_on c.requires.private) c.requires.none in
     let mid : Picture g.M.Levels.mode = picture_of c.cached.new.core in
     let first = c.in_ok-cached.ensures in
     let done = c.own_frame.ensures in
-    let at = first.proceeds.spaces.at c.args.pid c.args.page ∙ c.requires.allowed.mapped in
-    stalled_on c.args.core.now c.cached.new.core c.args.pid c.args.page (File c.args.file_page) shows g.D.SectorDisk g.E.SectorDisk c.own_frame.new.core Store c.own_frame.result
+    let at = first.proceeds.spaces.at c.args.spot.now.pid c.args.spot.now.page ∙ c.requires.allowed.mapped in
+    stalled_on c.args.core.now c.cached.new.core c.args.spot.now.pid c.args.spot.now.page (File c.args.file_page) shows g.D.SectorDisk g.E.SectorDisk c.own_frame.new.core Store c.own_frame.result
     (λ n at. (first.idle n at).0) first.keeps first.cause.2 first.cause.0 first.cause.1 done.cause
-    (owned_stalled c.cached.new.core c.own_frame.new.core c.args.pid c.args.page c.args.attr at (ap is_shared c.requires.private) g.D.SectorDisk g.E.SectorDisk c.own_frame.result
-    (linked_then old mid c.args.pid c.args.page first.proceeds.fit first.proceeds.spaces first.proceeds.tables c.requires.linked)
-    (none_here _ (none_same old mid c.args.pid c.args.page c.args.attr c.requires.allowed.mapped at (first.keeps.views c.args.pid c.args.page) c.requires.none))
+    (owned_stalled c.cached.new.core c.own_frame.new.core c.args.spot.now.pid c.args.spot.now.page c.args.attr at (ap is_shared c.requires.private) g.D.SectorDisk g.E.SectorDisk c.own_frame.result
+    (linked_then old mid c.args.spot.now.pid c.args.spot.now.page first.proceeds.fit first.proceeds.spaces first.proceeds.tables c.requires.spot.linked)
+    (none_here _ (none_same old mid c.args.spot.now.pid c.args.spot.now.page c.args.attr c.requires.allowed.mapped at (first.keeps.views c.args.spot.now.pid c.args.spot.now.page) c.requires.none))
     (λ common. (c.in_ok-cached.field-0.0, behind_of mid c.args.attr.backing (File c.args.file_page) c.in_ok-cached.field-0.0 (ap stands_on c.requires.private) first.placed))
     done.behind done.moves done.files done.same done.frees done.wanted done.cause done.short done.refuses)
 
@@ -163,29 +165,34 @@ returns-clause-others g c = λ q k other. c.own_frame.ensures.others q k other �
 pub returns-in_err-cached-clause-slotted : goal.returns-in_err-cached-clause-slotted
 returns-in_err-cached-clause-slotted g c =
     let old : Picture g.M.Levels.mode = picture_of c.args.core.now in
-    let shows = shows_file old c.args.pid c.args.page c.args.attr (File c.args.file_page) c.requires.allowed.mapped (ap stands_on c.requires.private) c.requires.none in
-    slotted_brought old (picture_of c.cached.new.core) c.args.pid c.args.page (File c.args.file_page) shows c.in_err-cached.ensures.slotted
+    let shows = shows_file old c.args.spot.now.pid c.args.spot.now.page c.args.attr (File c.args.file_page) c.requires.allowed.mapped (ap stands_on c.requires.private) c.requires.none in
+    slotted_brought old (picture_of c.cached.new.core) c.args.spot.now.pid c.args.spot.now.page (File c.args.file_page) shows c.in_err-cached.ensures.slotted
 
 pub returns-clause-slotted : goal.returns-clause-slotted
 returns-clause-slotted g c =
     let old : Picture g.M.Levels.mode = picture_of c.args.core.now in
-    let shows = shows_file old c.args.pid c.args.page c.args.attr (File c.args.file_page) c.requires.allowed.mapped (ap stands_on c.requires.private) c.requires.none in
-    slotted_on old (picture_of c.cached.new.core) c.args.pid c.args.page (picture_of c.own_frame.new.core) (File c.args.file_page) shows c.in_ok-cached.ensures.slotted c.own_frame.ensures.slotted
+    let shows = shows_file old c.args.spot.now.pid c.args.spot.now.page c.args.attr (File c.args.file_page) c.requires.allowed.mapped (ap stands_on c.requires.private) c.requires.none in
+    slotted_on old (picture_of c.cached.new.core) c.args.spot.now.pid c.args.spot.now.page (picture_of c.own_frame.new.core) (File c.args.file_page) shows c.in_ok-cached.ensures.slotted c.own_frame.ensures.slotted
 
 pub returns-in_err-cached-clause-asks : goal.returns-in_err-cached-clause-asks
 returns-in_err-cached-clause-asks g c =
     let old : Picture g.M.Levels.mode = picture_of c.args.core.now in
-    let shows = shows_file old c.args.pid c.args.page c.args.attr (File c.args.file_page) c.requires.allowed.mapped (ap stands_on c.requires.private) c.requires.none in
-    asks_brought g.D.SectorDisk g.E.SectorDisk c.args.core.now c.cached.new.core c.args.pid c.args.page (File c.args.file_page) shows c.in_err-cached.ensures.asks c.in_err-cached.ensures.asks_store
+    let shows = shows_file old c.args.spot.now.pid c.args.spot.now.page c.args.attr (File c.args.file_page) c.requires.allowed.mapped (ap stands_on c.requires.private) c.requires.none in
+    asks_brought g.D.SectorDisk g.E.SectorDisk c.args.core.now c.cached.new.core c.args.spot.now.pid c.args.spot.now.page (File c.args.file_page) shows c.in_err-cached.ensures.asks c.in_err-cached.ensures.asks_store
 
 pub returns-clause-asks : goal.returns-clause-asks
 returns-clause-asks g c =
     let old : Picture g.M.Levels.mode = picture_of c.args.core.now in
     let mid : Picture g.M.Levels.mode = picture_of c.cached.new.core in
-    let shows = shows_file old c.args.pid c.args.page c.args.attr (File c.args.file_page) c.requires.allowed.mapped (ap stands_on c.requires.private) c.requires.none in
+    let shows = shows_file old c.args.spot.now.pid c.args.spot.now.page c.args.attr (File c.args.file_page) c.requires.allowed.mapped (ap stands_on c.requires.private) c.requires.none in
     let first = c.in_ok-cached.ensures in
-    let none = none_same old mid c.args.pid c.args.page c.args.attr c.requires.allowed.mapped (first.proceeds.spaces.at c.args.pid c.args.page ∙ c.requires.allowed.mapped)
-    (first.keeps.views c.args.pid c.args.page) c.requires.none in
-    asks_copied g.D.SectorDisk g.E.SectorDisk c.args.core.now c.cached.new.core c.args.pid c.args.page (File c.args.file_page) shows first.asks first.asks_store c.own_frame.new.core c.in_ok-cached.field-0
-    (copied_frame mid c.args.pid c.args.page c.args.attr) (copies_cached mid c.args.pid c.args.page c.args.attr c.args.file_page c.in_ok-cached.field-0 c.requires.private none first.placed)
+    let none = none_same old mid c.args.spot.now.pid c.args.spot.now.page c.args.attr c.requires.allowed.mapped (first.proceeds.spaces.at c.args.spot.now.pid c.args.spot.now.page ∙ c.requires.allowed.mapped)
+    (first.keeps.views c.args.spot.now.pid c.args.spot.now.page) c.requires.none in
+    asks_copied g.D.SectorDisk g.E.SectorDisk c.args.core.now c.cached.new.core c.args.spot.now.pid c.args.spot.now.page (File c.args.file_page) shows first.asks first.asks_store c.own_frame.new.core c.in_ok-cached.field-0
+    (copied_frame mid c.args.spot.now.pid c.args.spot.now.page c.args.attr) (copies_cached mid c.args.spot.now.pid c.args.spot.now.page c.args.attr c.args.file_page c.in_ok-cached.field-0 c.requires.private none first.placed)
     first.asks_later c.own_frame.ensures.moves.store c.own_frame.ensures.asks
+
+pub returns-clause-rows : goal.returns-clause-rows
+returns-clause-rows g c =
+    let first = c.in_ok-cached.ensures in
+    rows_then (picture_of c.args.core.now) (picture_of c.cached.new.core) (picture_of c.own_frame.new.core) first.proceeds.spaces.root first.rows c.own_frame.ensures.rows

@@ -17,15 +17,15 @@ pub returns-clause-brings : goal.returns-clause-brings
 returns-clause-brings g c kept =
     let old : Picture g.M.Levels.mode = picture_of c.args.core.now in
     let files = c.own_frame.ensures.files in
-    brings_none g.D.SectorDisk c.args.core.now.store.disk c.own_frame.new.core.store.disk (ShowsFile old c.args.pid c.args.page) old (picture_of c.own_frame.new.core) files.held files.files
+    brings_none g.D.SectorDisk c.args.core.now.store.disk c.own_frame.new.core.store.disk (ShowsFile old c.args.spot.now.pid c.args.spot.now.page) old (picture_of c.own_frame.new.core) files.held files.files
 
 pub returns-clause-entered : goal.returns-clause-entered
 returns-clause-entered g c =
     let old : Picture g.M.Levels.mode = picture_of c.args.core.now in
     let new : Picture g.M.Levels.mode = picture_of c.own_frame.new.core in
     let done = c.own_frame.ensures in
-    owned_entered old new c.args.pid c.args.page c.args.attr c.args.core.now.sound done.moves.fit c.own_frame.new.core.sound
-    (done.moves.spaces.at c.args.pid c.args.page ∙ c.requires.allowed.mapped) c.requires.not_shared c.requires.allowed.lets c.requires.here c.requires.in_memory done.behind done.others done.files
+    owned_entered old new c.args.spot.now.pid c.args.spot.now.page c.args.attr c.args.core.now.sound done.moves.fit c.own_frame.new.core.sound
+    (done.moves.spaces.at c.args.spot.now.pid c.args.spot.now.page ∙ c.requires.allowed.mapped) c.requires.not_shared c.requires.allowed.lets c.requires.here c.requires.in_memory done.behind done.others done.files
     c.own_frame.result done.bytes done.entry
 
 pub returns-clause-ready : goal.returns-clause-ready
@@ -33,13 +33,13 @@ returns-clause-ready g c =
     let old : Picture g.M.Levels.mode = picture_of c.args.core.now in
     let new : Picture g.M.Levels.mode = picture_of c.own_frame.new.core in
     let done = c.own_frame.ensures in
-    owned_ready old new c.args.pid c.args.page c.args.attr c.args.core.now.sound done.moves.fit c.own_frame.new.core.sound
-    (done.moves.spaces.at c.args.pid c.args.page ∙ c.requires.allowed.mapped) c.requires.not_shared c.requires.allowed.lets c.requires.here c.requires.in_memory done.behind done.others done.files
+    owned_ready old new c.args.spot.now.pid c.args.spot.now.page c.args.attr c.args.core.now.sound done.moves.fit c.own_frame.new.core.sound
+    (done.moves.spaces.at c.args.spot.now.pid c.args.spot.now.page ∙ c.requires.allowed.mapped) c.requires.not_shared c.requires.allowed.lets c.requires.here c.requires.in_memory done.behind done.others done.files
     c.own_frame.result done.bytes done.entry
 
 pub returns-clause-calm : goal.returns-clause-calm
 returns-clause-calm g c =
-    owned_calm c.args.core.now c.own_frame.new.core c.args.pid c.args.page c.args.attr c.requires.allowed.mapped c.requires.not_shared c.own_frame.ensures.calm
+    owned_calm c.args.core.now c.own_frame.new.core c.args.spot.now.pid c.args.spot.now.page c.args.attr c.requires.allowed.mapped c.requires.not_shared c.own_frame.ensures.calm
 
 pub returns-clause-read : goal.returns-clause-read
 returns-clause-read g c = inl c.own_frame.ensures.moves.store
@@ -51,14 +51,14 @@ returns-clause-counts g c =
 pub returns-clause-stalled : goal.returns-clause-stalled
 returns-clause-stalled g c =
     let done = c.own_frame.ensures in
-    owned_stalled c.args.core.now c.own_frame.new.core c.args.pid c.args.page c.args.attr c.requires.allowed.mapped c.requires.not_shared g.D.SectorDisk g.E.SectorDisk
-    c.own_frame.result c.requires.linked c.requires.here c.requires.in_memory done.behind done.moves done.files done.same done.frees done.wanted done.cause done.short done.refuses
+    owned_stalled c.args.core.now c.own_frame.new.core c.args.spot.now.pid c.args.spot.now.page c.args.attr c.requires.allowed.mapped c.requires.not_shared g.D.SectorDisk g.E.SectorDisk
+    c.own_frame.result c.requires.spot.linked c.requires.here c.requires.in_memory done.behind done.moves done.files done.same done.frees done.wanted done.cause done.short done.refuses
 
 pub returns-clause-slotted : goal.returns-clause-slotted
 returns-clause-slotted g c =
-    slotted_own (picture_of c.args.core.now) (picture_of c.own_frame.new.core) c.args.pid c.args.page c.own_frame.ensures.slotted
+    slotted_own (picture_of c.args.core.now) (picture_of c.own_frame.new.core) c.args.spot.now.pid c.args.spot.now.page c.own_frame.ensures.slotted
 
 pub returns-clause-asks : goal.returns-clause-asks
 returns-clause-asks g c =
-    asks_less g.D.SectorDisk g.E.SectorDisk c.args.core.now c.own_frame.new.core c.args.pid c.args.page (copied_frame (picture_of c.args.core.now) c.args.pid c.args.page c.args.attr) Nothing
+    asks_less g.D.SectorDisk g.E.SectorDisk c.args.core.now c.own_frame.new.core c.args.spot.now.pid c.args.spot.now.page (copied_frame (picture_of c.args.core.now) c.args.spot.now.pid c.args.spot.now.page c.args.attr) Nothing
     c.own_frame.ensures.moves.store (λ k none. absurd none) c.own_frame.ensures.asks

@@ -10,4 +10,4 @@ grant_own-requires-clause-in_memory g c common = (0, (let P : Backing → Type 0
 
 pub grant_own-requires-then-is_private-clause-in_memory : goal.grant_own-requires-then-is_private-clause-in_memory
 grant_own-requires-then-is_private-clause-in_memory g c common =
-    absurd (false≢true (sym common ∙ sym (ap is_private c.entry_at.ensures) ∙ sym c.is_private.ensures ∙ c.if-is_private.true))
+    absurd (false≢true (sym common ∙ sym (ap is_private c.requires.was) ∙ sym c.is_private.ensures ∙ c.if-is_private.true))

@@ -7,6 +7,7 @@ use Rattle.paging.proofs.Entries.{entry-of}
 use Rattle.page_ranges.specs.Leaves.{TakesStores, IsPermittedEntry}
 use Rattle.page_ranges.proofs.ClearedPages.{same_beside}
 use Rattle.page_ranges.proofs.PermittedRows.{permits_none, permits_same, rooted_permitted, places_permitted, named_permitted, permits_set}
+use Rattle.page_ranges.proofs.StillNamed.{names_still}
 use Rattle.page_ranges.proofs.permitting.permit_page.Given.{Over}
 use Rattle.page_ranges.proofs.permitting.permit_page.Goals as goal
 
@@ -96,3 +97,11 @@ returns-clause-places g c =
 pub set_in-requires-clause-placed : goal.set_in-requires-clause-placed
 set_in-requires-clause-placed g c =
     (c.args.root.0, c.args.page, c.requires.rooted.roots c.args.pid c.args.root.0 c.requires.root, c.requires.inside, c.requires.place, ap (λ x. x % 512) (sym c.get.ensures.number))
+
+pub set_in-requires-clause-names : goal.set_in-requires-clause-names
+set_in-requires-clause-names g c =
+    let away : is_swapped c.number_in-number.result.0 ≡ false = sym c.is_swapped.ensures ∙ c.if-is_swapped.false in
+    names_still g.M.Levels.mode c.args.core.now.frames c.args.table.0 (c.get.result % 512) c.args.prot c.takes_stores-writable.result
+    c.number_in-number.result.0 (number_of c.permitted.result) c.requires.rooted.forest
+    c.number_in-number.ensures
+    (λ z. c.if-to_u64-eq0.false (c.to_u64.ensures ∙ z)) away c.permitted.ensures.permitted

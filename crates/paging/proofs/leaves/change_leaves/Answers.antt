@@ -2,7 +2,7 @@ use Rattle.std.proofs.Common.{ℕ, inl, inr, subst, arith}
 use Rattle.std.proofs.lemmas.Bool.{cases_eq}
 use Rattle.paging.specs.Picture.{picture_of}
 use Rattle.paging.specs.Leaves.{IsOver}
-use Rattle.paging.proofs.LeafSteps.{changes_none, changes_then, frames_none, frames_then, still_clear, over_number}
+use Rattle.paging.proofs.LeafSteps.{changes_none, changes_then, frames_none, frames_then, still_clear, over_number, kinds_kept}
 use Rattle.paging.proofs.leaves.change_leaves.Goals as goal
 
 pub loop-pid-init : goal.loop-pid-init
@@ -35,3 +35,7 @@ returns-clause-clear g c = λ pid page h over.
     let kept = c.loop-pid.invariant in
     let n = over_number (picture_of c.loop-pid.core) c.args.change c.args.frame.0 pid page kept.fit over in
     kept.clear pid page (omega (arith, n.1, c.loop-pid-test.false)) h over
+
+pub change_of-requires-clause-kinds : goal.change_of-requires-clause-kinds
+change_of-requires-clause-kinds g c =
+    kinds_kept c.args.change c.args.frame.0 c.kinds_of-kinds.result (picture_of c.args.core.now) (picture_of c.loop-pid.core) c.loop-pid.invariant.changes (c.kinds_of-kinds.ensures c.args.change)

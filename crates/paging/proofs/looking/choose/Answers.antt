@@ -3,11 +3,9 @@ use Rattle.std.specs.declared.result.Result.{Result}
 use Rattle.std.specs.declared.result.Result.TheVariants.{Ok, Err}
 use Rattle.std.specs.Prelude.{IfOk, OnErr}
 use Rattle.vm_types.specs.declared.number.FrameNo.{FrameNo}
-use Rattle.frames.specs.FrameTable.{IsFrame, IsFull}
 use Rattle.paging.specs.Picture.{picture_of}
-use Rattle.paging.specs.Parts.{IsFit}
 use Rattle.paging.specs.Calls.{Frees}
-use Rattle.paging.specs.Evictions.{IsEvictable, ClearsMarks}
+use Rattle.paging.specs.Evictions.{IsEvictable}
 use Rattle.paging.proofs.Giving.{marks_none}
 use Rattle.paging.proofs.Sparing.{frees_none}
 use Rattle.paging.proofs.looking.choose.Goals as goal

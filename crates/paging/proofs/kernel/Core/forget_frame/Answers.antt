@@ -1,21 +1,38 @@
-use Rattle.std.proofs.Common.{◌≡◌, ◌≢◌, inl, inr, refl, sym, ap, ◌∙◌, arith}
+use Rattle.vm_types.proofs.Modes.{user_pages_fit}
+use Rattle.std.proofs.Common.{◌≡◌, ◌≢◌, inl, inr, refl, sym, ap, ◌∙◌, subst, arith}
 use Rattle.vm_types.specs.declared.object.PageKey.TheVariants.{Object}
 use Rattle.frames.specs.declared.role.Role.TheVariants.{Zero, Private, Cache}
-use Rattle.frames.specs.FrameTable.{role_of}
+use Rattle.frames.specs.FrameTable.{FrameTable, IsHeld, SameButFor, role_of}
 use Rattle.page_cache.specs.declared.place.Place.TheVariants.{Home}
 use Rattle.page_cache.specs.CacheTable.{place_of, is_touched}
+use Rattle.paging.specs.declared.leaves.Change.TheVariants.{Forget}
 use Rattle.paging.specs.Picture.{Picture, picture_of, is_data}
 use Rattle.paging.proofs.Cleaning.{Untouches, all_placed}
-use Rattle.paging.proofs.Forgotten.{fit_forgotten, forgets_framed}
+use Rattle.paging.proofs.Forgotten.{none_over, fit_forgotten, forgets_framed}
+use Rattle.paging.proofs.LeafSteps.{names_over}
 use Rattle.paging.proofs.Leaving.{Leaves}
 use Rattle.paging.proofs.Places.{cases_page}
-use Rattle.paging.proofs.Refusing.{inside_of}
+use Rattle.paging.proofs.Refusing.{above_of, inside_of}
 use Rattle.paging.proofs.kernel.Core.forget_frame.Goals as goal
+
+pub forget_pages-requires-clause-inside : goal.forget_pages-requires-clause-inside
+forget_pages-requires-clause-inside g c =
+    inside_of c.args.self.now.frames c.args.frame.0 c.args.self.now.sound (ap is_data (c.requires.fit.places.cached (Object c.args.page) c.args.frame.0 c.requires.placed))
+
+pub forget_pages-requires-clause-none : goal.forget_pages-requires-clause-none
+forget_pages-requires-clause-none g c = λ root page names.
+    let old : Picture g.M.Levels.mode = picture_of c.args.self.now in
+    let cache = c.requires.fit.places.cached (Object c.args.page) c.args.frame.0 c.requires.placed in
+    let nonzero = above_of c.args.self.now.frames c.args.frame.0 c.args.self.now.sound (ap is_data cache) in
+    let over = names_over old c.args.frame.0 root page c.requires.fit c.args.self.now.sound.zero_role names in
+    let l = names.is.inside in
+    none_over old c.args.page c.args.frame.0 c.requires.fit c.requires.bare c.requires.placed (omega (arith, nonzero)) Forget over.0 page (omega (arith, l, user_pages_fit g.M.Levels.mode)) over.1
 
 pub release-requires : goal.release-requires
 release-requires g c =
     let cache = c.requires.fit.places.cached (Object c.args.page) c.args.frame.0 c.requires.placed in
-    record { inside = inside_of c.args.self.now.frames c.args.frame.0 c.args.self.now.sound (ap is_data cache); handed_out = rw cache refl }
+    subst (λ (t : FrameTable). IsHeld t c.args.frame.0) (sym c.forget_pages.ensures.same)
+    (record { inside = inside_of c.args.self.now.frames c.args.frame.0 c.args.self.now.sound (ap is_data cache); handed_out = rw cache refl })
 
 pub returns-clause-fit : goal.returns-clause-fit
 returns-clause-fit g c =
@@ -42,8 +59,8 @@ returns-clause-fit g c =
       above = nonzero;
       placed = c.set_place.ensures.placed;
       others = c.set_place.ensures.others.places;
-      frames = c.release.ensures.change.others;
-      free = c.release.ensures.alone (λ own. (let bad : Private ≡ Cache = sym own ∙ cache in (cc)));
+      frames = subst (λ (t : FrameTable). SameButFor n t c.release.new.self) c.forget_pages.ensures.same c.release.ensures.change.others;
+      free = c.release.ensures.alone (λ own. (let bad : Private ≡ Cache = sym own ∙ ap (λ (t : FrameTable). role_of t n) c.forget_pages.ensures.same ∙ cache in (cc)));
       slots = refl;
       root = λ pid. refl;
       at_same = λ pid k. refl;
@@ -81,8 +98,8 @@ returns-clause-forgets g c =
       above = nonzero;
       placed = c.set_place.ensures.placed;
       others = c.set_place.ensures.others.places;
-      frames = c.release.ensures.change.others;
-      free = c.release.ensures.alone (λ own. (let bad : Private ≡ Cache = sym own ∙ cache in (cc)));
+      frames = subst (λ (t : FrameTable). SameButFor n t c.release.new.self) c.forget_pages.ensures.same c.release.ensures.change.others;
+      free = c.release.ensures.alone (λ own. (let bad : Private ≡ Cache = sym own ∙ ap (λ (t : FrameTable). role_of t n) c.forget_pages.ensures.same ∙ cache in (cc)));
       slots = refl;
       root = λ pid. refl;
       at_same = λ pid k. refl;

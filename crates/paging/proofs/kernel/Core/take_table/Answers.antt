@@ -1,10 +1,8 @@
-use Rattle.vm_types.specs.declared.mode.Levels as Levels
-use Rattle.std.proofs.Common.{ℕ, Option, refl, Some, None, ap, inl, inr, ◌⊎◌, ◌≡◌}
-use Rattle.frames.specs.FrameTable.{FrameTable, IsFull}
+use Rattle.std.proofs.Common.{ℕ, Option, refl, Some, None}
+use Rattle.frames.specs.FrameTable.{FrameTable}
 use Rattle.paging.specs.Picture.{Picture, picture_of}
 use Rattle.paging.specs.Ages.{GivesForTables}
 use Rattle.paging.specs.Steps.{SameBeside}
-use Rattle.paging.specs.declared.kernel.Core.{Core}
 use Rattle.paging.proofs.Asking.{needed_of, asked_taken}
 use Rattle.paging.proofs.Giving.{on_err_same, frame_taken, roles_but, gives_table, table_given, tables_tried}
 use Rattle.paging.proofs.Returning.{zero_no_table}

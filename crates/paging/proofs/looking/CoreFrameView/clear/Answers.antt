@@ -1,4 +1,4 @@
-use Rattle.std.proofs.Common.{refl, subst, sym, ◌∙◌, arith}
+use Rattle.std.proofs.Common.{subst, sym, ◌∙◌, arith}
 use Rattle.paging.specs.declared.leaves.Change.TheVariants.{ClearAccessed}
 use Rattle.paging.specs.Picture.{picture_of}
 use Rattle.paging.specs.Calls.{Frees}

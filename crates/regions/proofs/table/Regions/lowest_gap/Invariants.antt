@@ -1,5 +1,5 @@
 use Rattle.vm_types.specs.Limits.{user_end}
-use Rattle.std.proofs.Common.{◌≡◌, ◌≤◌, ◌^◌, drop}
+use Rattle.std.proofs.Common.{◌≡◌, ◌≤◌, drop}
 use Rattle.regions.specs.RunList.{IsMaximal}
 use Rattle.regions.specs.Search.{lowest_gap}
 use Rattle.regions.proofs.table.Regions.lowest_gap.Given as goal

@@ -1,5 +1,5 @@
 use Rattle.vm_types.specs.Limits.{user_end}
-use Rattle.std.proofs.Common.{◌≡◌, ◌/◌, ◌≤◌, ◌+◌, ◌^◌, true, sym, ◌∙◌, arith}
+use Rattle.std.proofs.Common.{◌≡◌, ◌/◌, ◌≤◌, ◌+◌, true, sym, ◌∙◌, arith}
 use Rattle.vm_types.specs.Placement.{is_place, lowest_place, placed}
 use Rattle.regions.specs.RunList.{attr_at}
 use Rattle.regions.proofs.SearchLemmas.{IsPlace, is_place-is, lowest_place-gap, placed-hint, placed-zero, placed-taken, some_from}
