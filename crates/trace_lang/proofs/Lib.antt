@@ -4,6 +4,7 @@ mod Places
 mod Spaces
 mod OneName
 mod OneCommand
-mod Cuts
+mod OneNumber
+mod FirstWord
 pub mod Lines
 mod Nothing

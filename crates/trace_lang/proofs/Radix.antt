@@ -1,6 +1,6 @@
 -- Numerals digit by digit.
 use Rattle.std.proofs.Common.{◌≡◌, ℕ, zero, suc, ◌+◌, ◌*◌, ◌<◌, ◌≤◌, ◌^◌, List, [], ◌∷◌, length, get_or, take, Bool, false, ◌==◌, Option, None, SomeIff, sym, ◌∙◌, ap, subst, arith}
-use Rattle.std.proofs.lemmas.Nat.{pow-add}
+use Rattle.std.proofs.Math.Nat.{mul_comm, mul-le-mul_right, pow-le-pow_right, pow-succ'}
 use Rattle.std.specs.Char.{digit_value}
 use Rattle.std.specs.Str.Parse.{AllDigits, digits_value}
 use Rattle.std.proofs.lemmas.Int.Digits.{digits_value_more}
@@ -35,9 +35,22 @@ next_value radix ds i n factor byte digit added more l en ef eb ed ea em =
     ∙ ap (λ x. n * radix + x) (ea ∙ ed ∙ ap digit_value eb)
     ∙ ap (λ v. v * radix + digit_value (get_or ds i 0)) en ∙ sym (digits_value_more radix ds i l)
 
--- a number of one more decimal digit
-pub next_small : (i n digit : ℕ) → n < 10 ^ i → digit < 10 → n * 10 + digit < 10 ^ (i + 1)
-next_small i n digit h l = omega (arith, pow-add 10 i 1, h, l)
+-- a number of one more digit
+pub next_small : (radix i n digit : ℕ) → n < radix ^ i → digit < radix → n * radix + digit < radix ^ (i + 1)
+next_small radix i n digit h l =
+    let more : suc i ≡ i + 1 = omega arith in
+    let most : suc n * radix ≤ radix ^ i * radix = mul-le-mul_right radix h in
+    let under : n * radix + digit < radix ^ i * radix = omega (arith, most, l) in
+    let P : ℕ → Type 0 = λ x. n * radix + digit < x in
+    subst P (mul_comm (radix ^ i) radix ∙ sym (pow-succ' radix i) ∙ ap (λ k. radix ^ k) more) under
+
+-- so many digits always fit
+pub next_fits : (radix most i n digit : ℕ) → 2 ≤ radix → radix ^ most ≤ 2 ^ 64 → i < most → n < radix ^ i → digit < radix → n * radix + digit < 2 ^ 64
+next_fits radix most i n digit low room inside h l =
+    let some : 0 < radix = omega (arith, low) in
+    let up : i + 1 ≤ most = omega (arith, inside) in
+    let top : radix ^ (i + 1) ≤ radix ^ most = pow-le-pow_right some up in
+    omega (arith, next_small radix i n digit h l, top, room)
 
 -- one more digit past the limit shows that the numeral is
 pub digit_past : (n radix factor d digit added most limit : ℕ) → n * radix + d ≤ most → most < limit → factor ≡ radix

@@ -1,5 +1,5 @@
 -- The words of a line are what stands between its spaces.
-use Rattle.std.proofs.Common.{◌≡◌, ◌≢◌, ℕ, zero, suc, ◌<◌, ◌≤◌, Bool, true, false, eqb, eqb-true, List, [], ◌∷◌, length, get_or, All, length-append, refl, sym, ◌∙◌, ap, subst, inl, inr, lit<, lit≤, arith}
+use Rattle.std.proofs.Common.{◌≡◌, ◌≢◌, ℕ, zero, suc, ◌<◌, ◌≤◌, Bool, true, false, eqb, eqb-true, List, [], ◌∷◌, length, get_or, All, length-append, refl, sym, ◌∙◌, ap, subst, inl, inr, arith}
 use Rattle.std.proofs.lemmas.Bool.{cases_eq}
 use Rattle.std.specs.List.{onto_first, join_with_byte}
 use Rattle.std.proofs.lemmas.List.Splits.{slice_split-cons_yes, slice_split-cons_no, slice_split_none, slice_split_at, join_with_byte-slice_split}
@@ -56,8 +56,8 @@ pub words_of_line : (line : List ℕ) (words : List (List ℕ)) → IsWords line
 words_of_line line [] h some = absurd (omega arith)
 words_of_line line (word ∷ words) h some = ap words_of h.joined ∙ split-join word words h.each
 
-few_of : (n : ℕ) (words others : List (List ℕ)) → words ≡ others → length others ≡ n → 0 < n → n ≤ 9 → (0 < length words) × (length words ≤ 9)
-few_of n words others e l low high = let m = ap length e ∙ l in (omega (arith, m), omega (arith, m))
+some_words : (n : ℕ) (words others : List (List ℕ)) → words ≡ others → length others ≡ suc n → 0 < length words
+some_words n words others e l = let m = ap length e ∙ l in omega (arith, m)
 
 source_words : (words : List (List ℕ)) (source : MapSource) → IsSource words source → length words ≤ 3
 source_words words Anon h = let m = ap length h in omega (arith, m)
@@ -70,29 +70,41 @@ placing_words words Hint h = let m = ap length h in omega (arith, m)
 placing_words words Fixed h = let m = ap length h in omega (arith, m)
 placing_words words NoReplace h = let m = ap length h in omega (arith, m)
 
-back_words : (words : List (List ℕ)) (source : MapSource) (placing : Placing) → IsBack words source placing → length words ≤ 4
+source_some : (words : List (List ℕ)) (source : MapSource) → IsSource words source → 0 < length words
+source_some words Anon h = some_words 0 words _ h refl
+source_some words Common h = some_words 0 words _ h refl
+source_some words (Private file offset) h = some_words 2 words _ h.2 refl
+source_some words (Shared file offset) h = some_words 2 words _ h.2 refl
+
+-- some word stands behind a permission
+pub back_some : (words : List (List ℕ)) (source : MapSource) (placing : Placing) → IsBack words source placing → 0 < length words
+back_some words source placing h =
+    let m = ap length h.2 ∙ length-append h.0 h.1 in
+    let n = source_some h.0 source h.3 in omega (arith, m, n)
+
+-- four words at most stand behind a permission
+pub back_words : (words : List (List ℕ)) (source : MapSource) (placing : Placing) → IsBack words source placing → length words ≤ 4
 back_words words source placing h =
     let m = ap length h.2 ∙ length-append h.0 h.1 in
     let n = source_words h.0 source h.3 in let o = placing_words h.1 placing h.4 in omega (arith, m, n, o)
 
--- a form has one word to nine
-pub form_words : (words : List (List ℕ)) (command : Command) → IsForm words command → (0 < length words) × (length words ≤ 9)
-form_words words Spawn h = few_of 1 words _ h refl (lit< tt) (lit≤ tt)
-form_words words (Fork pid) h = few_of 2 words _ h.1 refl (lit< tt) (lit≤ tt)
-form_words words (Exit pid) h = few_of 2 words _ h.1 refl (lit< tt) (lit≤ tt)
-form_words words (Mmap pid addr len prot source placing) h =
-    let m = ap length h.5 in let n = back_words h.4 source placing h.10 in (omega (arith, m, n), omega (arith, m, n))
-form_words words (Munmap pid addr len) h = few_of 4 words _ h.3 refl (lit< tt) (lit≤ tt)
-form_words words (Mprotect pid addr len prot) h = few_of 5 words _ h.4 refl (lit< tt) (lit≤ tt)
-form_words words (Dontneed pid addr len) h = few_of 4 words _ h.3 refl (lit< tt) (lit≤ tt)
-form_words words PastFaults h = few_of 1 words _ h refl (lit< tt) (lit≤ tt)
-form_words words (Msync pid addr len mode) h = few_of 5 words _ h.4 refl (lit< tt) (lit≤ tt)
-form_words words (Load pid addr width) h = few_of 4 words _ h.3 refl (lit< tt) (lit≤ tt)
-form_words words (Store pid addr stored) h = few_of 5 words _ h.4 refl (lit< tt) (lit≤ tt)
-form_words words (Fetch pid addr) h = few_of 3 words _ h.2 refl (lit< tt) (lit≤ tt)
+-- a form has a word
+form_words : (words : List (List ℕ)) (command : Command) → IsForm words command → 0 < length words
+form_words words Spawn h = some_words 0 words _ h refl
+form_words words (Fork pid) h = some_words 1 words _ h.1 refl
+form_words words (Exit pid) h = some_words 1 words _ h.1 refl
+form_words words (Mmap pid addr len prot source placing) h = let m = ap length h.5 in omega (arith, m)
+form_words words (Munmap pid addr len) h = some_words 3 words _ h.3 refl
+form_words words (Mprotect pid addr len prot) h = some_words 4 words _ h.4 refl
+form_words words (Dontneed pid addr len) h = some_words 3 words _ h.3 refl
+form_words words PastFaults h = some_words 0 words _ h refl
+form_words words (Msync pid addr len mode) h = some_words 4 words _ h.4 refl
+form_words words (Load pid addr width) h = some_words 3 words _ h.3 refl
+form_words words (Store pid addr stored) h = some_words 4 words _ h.4 refl
+form_words words (Fetch pid addr) h = some_words 2 words _ h.2 refl
 
 pub same_words : (line : List ℕ) (command : Command) (h : IsCommand line command) → words_of line ≡ h.words
-same_words line command h = words_of_line line h.words h.parted (form_words h.words command h.form).0
+same_words line command h = words_of_line line h.words h.parted (form_words h.words command h.form)
 
 -- the command of a line is read off its words
 pub form_of_line : (line : List ℕ) (words : List (List ℕ)) (command : Command) → words ≡ words_of line → IsCommand line command → IsForm words command

@@ -1,9 +1,9 @@
 //! The language of traces: which command a line stands for, and which text a reply is.
 #![tactic(auto)]
 
-mod accesses;
 mod arguments;
 mod forms;
+mod fronts;
 mod names;
 mod numerals;
 mod output;

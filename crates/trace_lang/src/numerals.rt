@@ -1,6 +1,7 @@
 //! Numbers and widths as lines write them.
-ghost use Rattle.std.specs.Prelude.{◌≡◌, ℕ, ◌+◌, ◌<◌, ◌≤◌, ◌^◌, ◌*◌, length, SomeIff, IfSome, IfNone};
-ghost use Rattle.std.specs.Str.Parse.{IsNumeral, digits_value};
+ghost use Rattle.std.specs.Prelude.{◌≡◌, ℕ, ◌+◌, ◌<◌, ◌≤◌, ◌^◌, ◌*◌, length, take, slice_index, SomeIff, IfSome, IfNone};
+ghost use Rattle.std.specs.Char.{digit_value};
+ghost use Rattle.std.specs.Str.Parse.{AllDigits, IsNumeral, digits_value};
 ghost use Rattle.trace_lang.specs.Grammar.{IsNumber, IsWidth};
 ghost use Rattle.vm_types.specs.Width.{byte_count};
 ghost use Rattle.vm_types.specs.declared.access.StoredValue.{StoredValue};
@@ -29,7 +30,7 @@ fn value_of(digits: &[u8], radix: u32) -> Option<u64>
     Some(value)
 }
 
-/// The number with one more digit of a radix behind it; `None` exactly where that is 2^64 or more. Below the greatest number
+/// The number with one more digit of a radix after it; `None` exactly where that is 2^64 or more. Below the greatest number
 /// without its last digit there is room for any digit, and no test of each step.
 #[inline(always)]
 fn with_digit(value: u64, radix: u64, digit: u64) -> Option<u64>
@@ -44,20 +45,47 @@ fn with_digit(value: u64, radix: u64, digit: u64) -> Option<u64>
     shifted.checked_add(digit)
 }
 
-/// The number that at most seven decimal digits write, for which there is always room.
-fn short_decimal(digits: &[u8]) -> Option<u64>
-    requires { length digits.now < 8 }
-    ensures { SomeIff result (IsNumeral 10 digits.now × (digits_value 10 digits.now < 2 ^ 64)) (digits_value 10 digits.now) }
+/// The number that the digits at the front of a text write, and how many these are: `most` of them at most, for which there is
+/// always room.
+#[inline(always)]
+pub(crate) fn front_digits(text: &[u8], radix: u32, most: usize) -> (u64, usize)
+    requires low { 2 ≤ radix }
+    requires high { radix ≤ 36 }
+    requires room { radix ^ most ≤ 2 ^ 64 }
+    ensures count { (result.1 ≤ length text.now) × (result.1 ≤ most) }
+    ensures digits { AllDigits radix (take result.1 text.now) × (result.0 ≡ digits_value radix (take result.1 text.now)) }
+    // It ends at a byte that is no digit, or for want of more.
+    ensures end { result.1 < length text.now → result.1 < most → radix ≤ digit_value (slice_index text.now result.1) }
+{
+    let end = text.len().min(most);
+    let mut value: u64 = 0;
+    for at in 0..end {
+        let Some(digit) = char::from(text[at]).to_digit(radix) else {
+            return (value, at);
+        };
+        value = value * u64::from(radix) + u64::from(digit);
+    }
+    (value, end)
+}
+
+/// The number that at most `most` digits write, for which there is always room.
+#[inline(always)]
+fn short_numeral(digits: &[u8], radix: u32, most: usize) -> Option<u64>
+    requires low { 2 ≤ radix }
+    requires high { radix ≤ 36 }
+    requires room { radix ^ most ≤ 2 ^ 64 }
+    requires short { length digits.now ≤ most }
+    ensures { SomeIff result (IsNumeral radix digits.now × (digits_value radix digits.now < 2 ^ 64)) (digits_value radix digits.now) }
 {
     if digits.is_empty() {
         return None;
     }
-    let mut value: u64 = 0;
-    for byte in digits {
-        let digit = char::from(*byte).to_digit(10)?;
-        value = value * 10 + u64::from(digit);
+    let (value, count) = front_digits(digits, radix, most);
+    if count == digits.len() {
+        Some(value)
+    } else {
+        None
     }
-    Some(value)
 }
 
 /// The number that more decimal digits write. (It stays out of the way of short ones, which it would hold up.)
@@ -79,10 +107,21 @@ fn decimal_of(digits: &[u8]) -> Option<u64>
     ensures { SomeIff result (IsNumeral 10 digits.now × (digits_value 10 digits.now < 2 ^ 64)) (digits_value 10 digits.now) }
 {
     match digits.len() {
-        0..=7 => short_decimal(digits),
+        0..=7 => short_numeral(digits, 10, 19),
         8..=19 => long_decimal(digits),
         // with so many, `parse_u64` counts in 128 bits
         _ => value_of(digits, 10),
+    }
+}
+
+/// The number that hexadecimal digits of either case write; `None` exactly where there is no digit, a byte is no digit, or the
+/// number is 2^64 or more.
+fn hexadecimal_of(digits: &[u8]) -> Option<u64>
+    ensures { SomeIff result (IsNumeral 16 digits.now × (digits_value 16 digits.now < 2 ^ 64)) (digits_value 16 digits.now) }
+{
+    match digits.len() {
+        0..=16 => short_numeral(digits, 16, 16),
+        _ => value_of(digits, 16),
     }
 }
 
@@ -96,7 +135,7 @@ pub fn parse_number(text: &[u8]) -> Option<u64>
     ensures only { (n : ℕ) → IsNumber text.now n → result ≡ Some n }
 {
     match text {
-        [b'0', b'x', digits @ ..] => value_of(digits, 16),
+        [b'0', b'x', digits @ ..] => hexadecimal_of(digits),
         digits => decimal_of(digits),
     }
 }

@@ -5,9 +5,7 @@ ghost use Rattle.trace_lang.specs.Names.{StandsFor};
 ghost use Rattle.trace_lang.specs.Words.{words_of};
 ghost use Rattle.vm_types.specs.declared.command.Command.{Command};
 
-use crate::accesses::{fetch_in, load_in, store_in};
-use crate::forms::command_of;
-use crate::words::{MAX_WORDS, split_words};
+use crate::forms::{fetch_in, load_in, named_in, store_in};
 use vm_types::Command;
 
 /// The most bytes of a line that stands for a command.
@@ -17,17 +15,7 @@ pub const MAX_LINE_BYTES: usize = 256;
 #[derive(Clone, Copy, Debug, PartialEq, Eq)]
 pub struct BadLine;
 
-/// The command that all words of a line stand for.
-#[inline(never)]
-fn split_in(line: &[u8]) -> Option<Command>
-    ensures { StandsFor (words_of line.now) result }
-{
-    let mut words: [&[u8]; MAX_WORDS] = [&[]; MAX_WORDS];
-    let count = split_words(line, &mut words)?;
-    command_of(&words[..count])
-}
-
-/// The command that a line stands for, by its words.
+/// The command that a line stands for, by its words. Most lines are accesses, whose names are looked for first.
 #[inline(never)]
 fn command_in(line: &[u8]) -> Option<Command>
     ensures { StandsFor (words_of line.now) result }
@@ -41,7 +29,7 @@ fn command_in(line: &[u8]) -> Option<Command>
     if let [b'f', b'e', b't', b'c', b'h', b' ', rest @ ..] = line {
         return fetch_in(rest);
     }
-    split_in(line)
+    named_in(line)
 }
 
 /// The command that a line without its newline stands for. An `Err` exactly where it stands for none: its words

@@ -1,0 +1,9 @@
+use Rattle.std.proofs.Common.{sym, ◌∙◌, ap}
+use Rattle.trace_lang.proofs.FirstWord.{one_word_of}
+use Rattle.trace_lang.proofs.Nothing.{none≢some}
+use Rattle.trace_lang.proofs.OneCommand.{first, no_command}
+use Rattle.trace_lang.proofs.forms.alone_in.Goals as goal
+
+pub returns-in_err-name_of : goal.returns-in_err-name_of
+returns-in_err-name_of c = λ plain. no_command _ _ c.from_residual.ensures (λ n h.
+    none≢some (c.in_err-name_of.ensures.only n (sym (ap first (one_word_of c.args.line.now plain)) ∙ h)))
