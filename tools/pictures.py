@@ -109,23 +109,24 @@ def acknowledged(picture, stops, left, cell, top):
 
 
 class Row(NamedTuple):
-    """A line of bench/run: what was timed, the nanoseconds, and how many times something else that is."""
+    """A line of bench/run: what was measured, how much it took in which unit, and how many times something else that is."""
 
     name: str
     taken: float
+    unit: str
     times: float
     what: str
 
     def line(self):
-        return f"{self.name:34} {self.taken:12.0f} ns {self.times:9.2f} times {self.what}"
+        return f"{self.name:42} {self.taken:10.0f} {self.unit:12} {self.times:9.2f} times {self.what}"
 
 
-ROW = re.compile(r"(.+?) +([\d.]+) ns +([\d.]+) times (.+)")
+ROW = re.compile(r"(.+?) +([\d.]+) (ns|bytes|instructions) +([\d.]+) times (.+)")
 
 
 def rows_of(lines):
     """The rows among the lines of bench/run."""
-    return [Row(it[1], float(it[2]), float(it[3]), it[4]) for it in map(ROW.fullmatch, lines) if it]
+    return [Row(it[1], float(it[2]), it[3], float(it[4]), it[5]) for it in map(ROW.fullmatch, lines) if it]
 
 
 def bars(rows, what="a warm load"):
@@ -137,7 +138,7 @@ def bars(rows, what="a warm load"):
     low = math.floor(math.log10(min(it.times for it in rows)) - 0.1)
     high = math.ceil(math.log10(max(it.times for it in rows)) + 0.01)
     bottom = top + line * len(rows)
-    picture = Picture(left + decade * (high - low) + 130, bottom + 40)
+    picture = Picture(left + decade * (high - low) + 230, bottom + 40)
     picture.word(10, 22, f"Calls, as times of {what}, text in and text out", size=15)
     for power in range(low, high + 1):
         x = left + decade * (power - low)
@@ -148,13 +149,20 @@ def bars(rows, what="a warm load"):
         width = decade * (math.log10(row.times) - low)
         picture.word(left - 8, y + 13, row.name, anchor="end")
         picture.box(left, y, width, line - 6, BAR)
-        picture.word(left + width + 6, y + 13, f"{row.times:.3g} times, {spoken(row.taken)}")
+        picture.word(left + width + 6, y + 13, f"{figures(row.times)} times, {spoken(row)}")
     return picture.text()
 
 
-def spoken(nanoseconds):
-    """A time in a unit that suits it."""
+def figures(number):
+    """A number in three figures, or as many as it has before the point."""
+    return f"{number:,.0f}" if number >= 100 else f"{number:.3g}"
+
+
+def spoken(row):
+    """What a row took: instructions, or a time in a unit that suits it."""
+    if row.unit != "ns":
+        return f"{row.taken:,.0f} {row.unit}"
     for size, unit in ((1e6, "ms"), (1e3, "us")):
-        if nanoseconds >= size:
-            return f"{nanoseconds / size:.3g} {unit}"
-    return f"{nanoseconds:.3g} ns"
+        if row.taken >= size:
+            return f"{figures(row.taken / size)} {unit}"
+    return f"{figures(row.taken)} ns"
