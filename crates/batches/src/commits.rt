@@ -3,7 +3,8 @@ ghost use Rattle.std.specs.Prelude.{◌≡◌, ◌≢◌, ◌<◌, ℕ, List, []
 ghost use Rattle.std.proofs.Common.{◌∙◌};
 ghost use Rattle.batches.specs.Pages.{HasReadOnly, given_page};
 ghost use Rattle.vm_types.specs.declared.file.FileInfo.{FileInfo};
-ghost use Rattle.disk_model.specs.Moments.{LeavesOnly, LeavesNow};
+ghost use Rattle.disk_model.specs.Moments.{AsksOnly, LeavesOnly, LeavesNow};
+ghost use Rattle.sync_journal.specs.Kinds.{IsStoreUsed};
 ghost use Rattle.file_store.specs.Commit.{ArePages, Changes, StandsForEither};
 ghost use Rattle.file_store.specs.Standing.{StandsFor};
 ghost use Rattle.file_store.specs.Store.{IsReadyStore, files_of};
@@ -79,6 +80,7 @@ fn commit_good<D: SectorDisk>(
     ensures size { D.sector_count store.new.disk ≡ D.sector_count store.old.disk }
     ensures kept { D.keeps_model store.new.disk → D.keeps_model store.old.disk }
     ensures calm { OnOk result (D.failures store.new.disk ≡ D.failures store.old.disk) }
+    ensures asks { AsksOnly D.SectorDisk (IsStoreUsed store.old.journal) store.old.disk store.new.disk }
     ensures fault { IfErr result (λ fault. (fault ≡ BatchFault.Device) × (D.failures store.old.disk < D.failures store.new.disk)) }
     ensures files { files_of store.new ≡ files_of store.old }
     ensures ready { OnOk result (IsReadyStore D.SectorDisk store.new) }
@@ -134,6 +136,8 @@ pub fn commit_pages<D: SectorDisk>(
     // Device is the fault exactly where the device failed.
     ensures cause { IfErr result (λ fault. fault ≡ BatchFault.Device → D.failures store.old.disk < D.failures store.new.disk) }
     ensures calm { OnOk result (D.failures store.new.disk ≡ D.failures store.old.disk) }
+    // Of the device no sector was asked for but those of the gate, the map and the body of its journal, and of the homes of the commit before.
+    ensures asks { AsksOnly D.SectorDisk (IsStoreUsed store.old.journal) store.old.disk store.new.disk }
     ensures unchanged { IfErr result (λ fault. fault ≢ BatchFault.Device → store.new ≡ store.old) }
 {
     match check_pages(store, pages) {

@@ -118,8 +118,8 @@ fn synced_disk(file: File) -> Result<FileDisk<Unknown>, ProgramFault>
     ensures told { IfErr result (λ fault. fault ≡ ProgramFault.Device) }
 {
     match FileDisk::<Unknown>::new(file) {
-        Ok(disk) => Ok(disk),
-        Err(_) => Err(ProgramFault::Device),
+        Ok(disk) if disk.is_settled() => Ok(disk),
+        _ => Err(ProgramFault::Device),
     }
 }
 

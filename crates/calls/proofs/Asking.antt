@@ -1,6 +1,6 @@
 -- What an access asks for.
 use Rattle.vm_types.specs.declared.mode.Levels as Levels
-use Rattle.std.proofs.Common.{ℕ, ◌≡◌, ◌≢◌, ◌⊎◌, ◌/◌, true, false, Some, is_some, List, Result, Ok, Err, sym, ap, ◌∙◌, subst}
+use Rattle.std.proofs.Common.{ℕ, ◌≡◌, ◌≢◌, ◌⊎◌, ◌/◌, true, false, Some, is_some, List, Result, Ok, Err, inl, refl, sym, ap, ◌∙◌, subst}
 use Rattle.disk_model.specs.declared.sector_disk.SectorDisk.{Ghosts}
 use Rattle.page_faults.specs.declared.refusal.AccessRefusal.{AccessRefusal}
 use Rattle.page_faults.specs.declared.refusal.AccessRefusal.TheVariants as Refusal
@@ -9,9 +9,10 @@ use Rattle.page_faults.specs.Outcome.{IsRefusal}
 use Rattle.frames.specs.FrameTable.{bytes_of, with_bytes}
 use Rattle.page_faults.specs.Wants.{Wants, ReadsHome, RefusesAccess, ShowsFile}
 use Rattle.paging.specs.declared.kernel.Core.{Core}
-use Rattle.mapping.specs.Changes.{KeepsAround, KeepsSlotted, IsThatPage}
+use Rattle.mapping.specs.Changes.{IsCalm, KeepsAround, KeepsSlotted, IsThatPage, LinksTables}
 use Rattle.paging.specs.Picture.{Picture, picture_of, is_live}
 use Rattle.vm_types.specs.declared.access.Access.{Access}
+use Rattle.vm_types.specs.declared.access.Access.TheVariants.{Load, Store, Fetch}
 use Rattle.vm_types.specs.declared.access.StoredValue.{StoredValue}
 use Rattle.vm_types.specs.declared.number.Phys.{Phys}
 use Rattle.vm_types.specs.declared.refusal.Stall.{Stall}
@@ -22,12 +23,20 @@ use Rattle.vm_types.specs.declared.width.Width.{Width}
 use Rattle.vm_types.specs.Access.{with_number}
 use Rattle.vm_types.specs.Replies.{reply_of}
 use Rattle.vm_types.specs.Width.{byte_count}
-use Rattle.calls.specs.Accesses.{answer_of, AsksFor, WritesNumber}
+use Rattle.calls.specs.Accesses.{answer_of, AsksFor, MayWrite, WritesNumber}
 use Rattle.calls.proofs.Refusals.{no_stall, same_stall}
+
+-- nothing was written
+pub writes_none : {M : Type 0} {m : Levels.Ghosts M} → {D E : Type 0} (access : Access) (c : Core D E M m) → MayWrite access c c
+writes_none Load c = refl
+writes_none Store c = inl refl
+writes_none Fetch c = refl
 
 module _ {M : Type 0} {m : Levels.Ghosts M} {D E : Type 0} (g : Ghosts D) (h : Ghosts E) (old new : Core D E M m) (pid addr : ℕ) (access : Access) (read : (new.store ≡ old.store) ⊎ ReadsHome (picture_of old) pid (addr / 4096))
     (slots : (Wants (picture_of old) pid (addr / 4096) access → ⊥) → new.swap ≡ old.swap)
-    (slotted : KeepsSlotted (ShowsFile (picture_of old) pid (addr / 4096)) (IsThatPage pid (addr / 4096)) (picture_of old) (picture_of new)) (sectors : AsksForPage g h old new pid (addr / 4096)) where
+    (slotted : KeepsSlotted (ShowsFile (picture_of old) pid (addr / 4096)) (IsThatPage pid (addr / 4096)) (picture_of old) (picture_of new)) (sectors : AsksForPage g h old new pid (addr / 4096) access)
+    (granted : Core D E M m) (tables : LinksTables (picture_of old) (picture_of granted) pid (addr / 4096)) (calm : (Wants (picture_of old) pid (addr / 4096) access → ⊥) → IsCalm old granted pid (addr / 4096))
+    (writes : MayWrite access granted new) where
   pub asks_unstalled : (reply : Reply) → ((stall : Stall) → reply ≡ Stalled stall → ⊥) → AsksFor g h old new pid addr access reply
   asks_unstalled reply none = record {
     wanted = λ stall e. absurd (none stall e);
@@ -36,6 +45,10 @@ module _ {M : Type 0} {m : Levels.Ghosts M} {D E : Type 0} (g : Ghosts D) (h : G
     read = read;
     slots = slots;
     slotted = slotted;
+    granted = granted;
+    tables = tables;
+    calm = calm;
+    writes = writes;
     sectors = sectors;
   }
 
@@ -52,6 +65,10 @@ module _ {M : Type 0} {m : Levels.Ghosts M} {D E : Type 0} (g : Ghosts D) (h : G
     read = read;
     slots = slots;
     slotted = slotted;
+    granted = granted;
+    tables = tables;
+    calm = calm;
+    writes = writes;
     sectors = sectors;
   }
 

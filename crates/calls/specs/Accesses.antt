@@ -8,9 +8,10 @@ use Rattle.page_faults.specs.Asking.{AsksForPage}
 use Rattle.frames.specs.FrameTable.{bytes_of, with_bytes}
 use Rattle.page_faults.specs.Wants.{Wants, ReadsHome, RefusesAccess, ShowsFile}
 use Rattle.paging.specs.declared.kernel.Core.{Core}
-use Rattle.mapping.specs.Changes.{KeepsAround, KeepsSlotted, IsThatPage}
+use Rattle.mapping.specs.Changes.{IsCalm, KeepsAround, KeepsSlotted, IsThatPage, LinksTables}
 use Rattle.paging.specs.Picture.{picture_of}
 use Rattle.vm_types.specs.declared.access.Access.{Access}
+use Rattle.vm_types.specs.declared.access.Access.TheVariants.{Load, Store, Fetch}
 use Rattle.vm_types.specs.declared.access.StoredValue.{StoredValue}
 use Rattle.vm_types.specs.declared.refusal.Stall.{Stall}
 use Rattle.vm_types.specs.declared.refusal.Stall.TheVariants.{StoreDevice}
@@ -24,20 +25,6 @@ abbrev pub answer_of : AccessRefusal → Answer
 answer_of (Refusal.Fault fault) = Faulted fault
 answer_of (Refusal.Stall stall) = Stalled stall
 
-module _ {M : Type 0} {m : Levels.Ghosts M} {D E : Type 0} (g : Ghosts D) (h : Ghosts E) where
-  -- What an access that returns this asks for: it stalls only where a frame is wanted, and for want of frames or slots only where none
-  -- could be given up but the one that it copies, and for the store's device only where its page is to be read from its home; the store is
-  -- read there alone, slots are asked for and read only where a frame is wanted, and no other page comes back from one.
-  pub record AsksFor (old new : Core D E M m) (pid addr : ℕ) (access : Access) (reply : Reply) : Type 0 where
-    pub wanted : (stall : Stall) → reply ≡ Reply.Stalled stall → Wants (picture_of old) pid (addr / 4096) access
-    pub refused : (stall : Stall) → reply ≡ Reply.Stalled stall → stall ≢ StoreDevice → RefusesAccess (picture_of new) pid (addr / 4096) access stall
-    pub home : reply ≡ Reply.Stalled StoreDevice → ReadsHome (picture_of old) pid (addr / 4096)
-    pub read : (new.store ≡ old.store) ⊎ ReadsHome (picture_of old) pid (addr / 4096)
-    pub slots : (Wants (picture_of old) pid (addr / 4096) access → ⊥) → new.swap ≡ old.swap
-    pub slotted : KeepsSlotted (ShowsFile (picture_of old) pid (addr / 4096)) (IsThatPage pid (addr / 4096)) (picture_of old) (picture_of new)
-    -- the devices are asked for sectors of this page, and swap for those of free slots where a frame may be given up that needs one
-    pub sectors : AsksForPage g h old new pid (addr / 4096)
-
 module _ {M : Type 0} {m : Levels.Ghosts M} {D E : Type 0} where
   -- a number was written into frame n from that byte of it on, and nothing else changed
   pub record WritesNumber (old new : Core D E M m) (n offset : ℕ) (stored : StoredValue) : Type 0 where
@@ -45,3 +32,31 @@ module _ {M : Type 0} {m : Levels.Ghosts M} {D E : Type 0} where
     pub around : KeepsAround old new
     pub clock : new.clock ≡ old.clock
     pub refused : new.refused ≡ old.refused
+
+  -- a store may have written a number into a frame, and nothing else changed
+  abbrev pub MayWrite : Access → Core D E M m → Core D E M m → Type 0
+  MayWrite Load old new = new ≡ old
+  MayWrite Store old new = (new ≡ old) ⊎ ((n : ℕ) × (offset : ℕ) × (stored : StoredValue) × WritesNumber old new n offset stored)
+  MayWrite Fetch old new = new ≡ old
+
+module _ {M : Type 0} {m : Levels.Ghosts M} {D E : Type 0} (g : Ghosts D) (h : Ghosts E) where
+  -- What an access that returns this asks for: it stalls only where a frame is wanted, and for want of frames or slots only where none
+  -- could be given up but the one that it copies, and for the store's device only where its page is to be read from its home; the store is
+  -- read there alone, slots are asked for and read only where a frame is wanted, and no other page comes back from one; frames are taken
+  -- for no tables but its page's.
+  pub record AsksFor (old new : Core D E M m) (pid addr : ℕ) (access : Access) (reply : Reply) : Type 0 where
+    pub wanted : (stall : Stall) → reply ≡ Reply.Stalled stall → Wants (picture_of old) pid (addr / 4096) access
+    pub refused : (stall : Stall) → reply ≡ Reply.Stalled stall → stall ≢ StoreDevice → RefusesAccess (picture_of new) pid (addr / 4096) access stall
+    pub home : reply ≡ Reply.Stalled StoreDevice → ReadsHome (picture_of old) pid (addr / 4096)
+    pub read : (new.store ≡ old.store) ⊎ ReadsHome (picture_of old) pid (addr / 4096)
+    pub slots : (Wants (picture_of old) pid (addr / 4096) access → ⊥) → new.swap ≡ old.swap
+    pub slotted : KeepsSlotted (ShowsFile (picture_of old) pid (addr / 4096)) (IsThatPage pid (addr / 4096)) (picture_of old) (picture_of new)
+    -- tables are made on the page's way alone, and where no frame is wanted nothing changes but the page's entry, and the number that a
+    -- store writes
+    pub granted : Core D E M m
+    pub tables : LinksTables (picture_of old) (picture_of granted) pid (addr / 4096)
+    pub calm : (Wants (picture_of old) pid (addr / 4096) access → ⊥) → IsCalm old granted pid (addr / 4096)
+    pub writes : MayWrite access granted new
+    -- the devices are asked for sectors of this page, and swap for those of free slots where a frame has to be given up, and one may be
+    -- that needs a slot
+    pub sectors : AsksForPage g h old new pid (addr / 4096) access

@@ -4,7 +4,7 @@ ghost use Rattle.disk_model.specs.Moments.{Nothing};
 ghost use Rattle.vm_types.specs.Limits.{user_end};
 ghost use Rattle.vm_types.specs.Replies.{reply_of};
 ghost use Rattle.vm_types.specs.declared.command.Command.TheVariants.{Spawn, Fork, Exit};
-ghost use Rattle.mapping.specs.Asking.{AsksSlots};
+ghost use Rattle.mapping.specs.Asking.{AsksIfFull, AsksSlots};
 ghost use Rattle.mapping.specs.Changes.{KeepsRoom};
 ghost use Rattle.page_ranges.specs.Steps.{KeepsDevices};
 ghost use Rattle.msync.specs.Shows.{IsSoundCore};
@@ -32,7 +32,7 @@ pub fn spawn<D: SectorDisk, E: SectorDisk, M: Levels>(core: &mut Core<D, E, M>) 
     ensures takes { SpawnTakes (picture_of core.old) (picture_of core.new) (reply_of result) }
     ensures store { core.new.store ≡ core.old.store }
     ensures device { UsesDevice E.SectorDisk core.old.swap.pages.disk core.new.swap.pages.disk }
-    ensures asks { AsksSlots E.SectorDisk core.old core.new None Nothing }
+    ensures asks { AsksIfFull E.SectorDisk core.old core.new None Nothing }
     ensures denied { is_denial (reply_of result) ≡ true → core.new ≡ core.old }
     ensures room { KeepsRoom (picture_of core.old) (picture_of core.new) }
     ensures caused { IsCaused D.SectorDisk E.SectorDisk core.old core.new (reply_of result) }

@@ -10,3 +10,4 @@ pub mod Sharers
 pub mod SharedRows
 pub mod SharedPage
 pub mod Passed
+pub mod CopySteps

@@ -1,21 +1,13 @@
 //! The child's tables.
-ghost use Rattle.std.specs.Prelude.{◌≡◌, ◌≢◌, ℕ, ◌+◌, ◌*◌, ◌/◌, ◌<◌, ◌≤◌, ◌^◌, true, false, Option, None, OnOk, OnErr, IfOk, IfErr, IfSome, IfNone};
+ghost use Rattle.std.specs.Prelude.{◌≡◌, ◌≢◌, ℕ, ◌+◌, ◌*◌, ◌/◌, ◌<◌, ◌≤◌, true, false, Option, None, OnOk, IfOk, IfSome, IfNone};
 ghost use Rattle.vm_types.specs.Limits.{user_end, table_entries};
-ghost use Rattle.disk_model.specs.Moments.{Nothing};
-ghost use Rattle.frames.specs.declared.role.Role.TheVariants.{Private};
-ghost use Rattle.frames.specs.FrameTable.{role_of, IsFull};
 ghost use Rattle.swap.specs.Slots.{IsReady};
 ghost use Rattle.paging.specs.Seats.{seat};
 ghost use Rattle.paging.specs.Picture.{picture_of, entry, is_live};
 ghost use Rattle.paging.specs.Parts.{IsFit};
-ghost use Rattle.paging.specs.Calls.{KeepsPages, Refuses};
-ghost use Rattle.paging.specs.Stalls.{HasStallCause};
-ghost use Rattle.paging.specs.Capacity.{IsShort};
-ghost use Rattle.paging.specs.Ages.{GivesForTables};
-ghost use Rattle.mapping.specs.Changes.{IsWhole, KeepsBare, Moves};
-ghost use Rattle.mapping.specs.Asking.{AsksNoNew, AsksSlots};
-ghost use Rattle.page_ranges.specs.Steps.{IsStepEnd};
-ghost use Rattle.copy_on_write.specs.Steps.{HasCopy, HasTables, HasTablesFrom, LacksTableForCopy, LinksCopies, IsMappedRow};
+ghost use Rattle.mapping.specs.Changes.{IsWhole};
+ghost use Rattle.copy_on_write.specs.TablesForCopies.{IsFirstCopy, IsForking, LinksForCopies, MakesReady, StepsOn};
+ghost use Rattle.copy_on_write.specs.Steps.{HasTablesFrom, IsMappedRow};
 
 use disk_model::SectorDisk;
 use mapped_memory::{number_in, table_of};
@@ -43,23 +35,7 @@ pub fn link_copies<D, E: SectorDisk, M: Levels>(
     requires parent { is_live (picture_of core.old) parent ≡ true }
     requires child { is_live (picture_of core.old) child ≡ true }
     requires same { (page : ℕ) → (picture_of core.old).at child page ≡ (picture_of core.old).at parent page }
-    ensures moves { Moves E.SectorDisk core.old core.new }
-    ensures pages { KeepsPages (picture_of core.old) (picture_of core.new) }
-    ensures bare { KeepsBare (picture_of core.old) (picture_of core.new) }
-    ensures linked { OnOk result (HasTables (picture_of core.new) parent child) }
-    ensures idle { HasTables (picture_of core.old) parent child → core.new ≡ core.old }
-    ensures wanted { OnErr result (LacksTableForCopy (picture_of core.old) parent child) }
-    ensures lacks { OnErr result (LacksTableForCopy (picture_of core.new) parent child) }
-    ensures gives { OnOk result (GivesForTables (picture_of core.old) (picture_of core.new) None) }
-    ensures tried { OnErr result ((tried : Option ℕ) × GivesForTables (picture_of core.old) (picture_of core.new) tried) }
-    ensures tables { LinksCopies (picture_of core.old) (picture_of core.new) parent child }
-    ensures asks { AsksSlots E.SectorDisk core.old core.new None Nothing }
-    ensures asks_later { AsksNoNew (picture_of core.old) (picture_of core.new) None Nothing }
-    ensures full { OnErr result (IsFull core.new.frames) }
-    ensures refuses { IfErr result (Refuses (picture_of core.new) None) }
-    ensures no_copy { (n : ℕ) → role_of core.new.frames n ≡ Private → role_of core.old.frames n ≡ Private }
-    ensures short { IfErr result (IsShort (picture_of core.new)) }
-    ensures cause { HasStallCause E.SectorDisk core.old core.new result }
+    ensures { MakesReady E.SectorDisk core.old core.new parent child result }
 {
     let mut page = USER_START;
     while let Some(run) = core.regions(parent).next_run(page) {
@@ -78,30 +54,12 @@ fn link_run<D, E: SectorDisk, M: Levels>(
     start: Vpn,
     end: u64,
 ) -> Result<(), Stall>
-    requires fit { IsFit (picture_of core.old) }
     requires swap { IsReady E.SectorDisk core.old.swap }
-    requires parent { is_live (picture_of core.old) parent ≡ true }
-    requires child { is_live (picture_of core.old) child ≡ true }
-    requires same { (p : ℕ) → (picture_of core.old).at child p ≡ (picture_of core.old).at parent p }
+    requires forking { IsForking (picture_of core.old) parent child }
     requires mapped { IsMappedRow (picture_of core.old) parent start end }
     requires high { end ≤ user_end M.mode }
-    ensures moves { Moves E.SectorDisk core.old core.new }
-    ensures pages { KeepsPages (picture_of core.old) (picture_of core.new) }
-    ensures bare { KeepsBare (picture_of core.old) (picture_of core.new) }
+    ensures links { LinksForCopies E.SectorDisk core.old core.new parent child result }
     ensures linked { OnOk result (HasTablesFrom (picture_of core.new) parent child start end) }
-    ensures idle { HasTables (picture_of core.old) parent child → core.new ≡ core.old }
-    ensures wanted { OnErr result (LacksTableForCopy (picture_of core.old) parent child) }
-    ensures lacks { OnErr result (LacksTableForCopy (picture_of core.new) parent child) }
-    ensures gives { OnOk result (GivesForTables (picture_of core.old) (picture_of core.new) None) }
-    ensures tried { OnErr result ((tried : Option ℕ) × GivesForTables (picture_of core.old) (picture_of core.new) tried) }
-    ensures tables { LinksCopies (picture_of core.old) (picture_of core.new) parent child }
-    ensures asks { AsksSlots E.SectorDisk core.old core.new None Nothing }
-    ensures asks_later { AsksNoNew (picture_of core.old) (picture_of core.new) None Nothing }
-    ensures full { OnErr result (IsFull core.new.frames) }
-    ensures refuses { IfErr result (Refuses (picture_of core.new) None) }
-    ensures no_copy { (n : ℕ) → role_of core.new.frames n ≡ Private → role_of core.old.frames n ≡ Private }
-    ensures short { IfErr result (IsShort (picture_of core.new)) }
-    ensures cause { HasStallCause E.SectorDisk core.old core.new result }
 {
     let mut page = start.get();
     while page < end {
@@ -119,33 +77,13 @@ fn link_next<D, E: SectorDisk, M: Levels>(
     page: Vpn,
     end: u64,
 ) -> Result<u64, Stall>
-    requires fit { IsFit (picture_of core.old) }
     requires swap { IsReady E.SectorDisk core.old.swap }
-    requires parent { is_live (picture_of core.old) parent ≡ true }
-    requires child { is_live (picture_of core.old) child ≡ true }
-    requires same { (p : ℕ) → (picture_of core.old).at child p ≡ (picture_of core.old).at parent p }
+    requires forking { IsForking (picture_of core.old) parent child }
     requires some { page < end }
     requires high { end ≤ user_end M.mode }
-    ensures moves { Moves E.SectorDisk core.old core.new }
-    ensures pages { KeepsPages (picture_of core.old) (picture_of core.new) }
-    ensures bare { KeepsBare (picture_of core.old) (picture_of core.new) }
-    ensures further { IfOk result (λ next. page < next) }
-    ensures within { IfOk result (λ next. next ≤ end) }
-    ensures next { IfOk result (IsStepEnd (picture_of core.old) parent page end) }
+    ensures links { LinksForCopies E.SectorDisk core.old core.new parent child result }
     ensures linked { IfOk result (HasTablesFrom (picture_of core.new) parent child page) }
-    ensures idle { HasTables (picture_of core.old) parent child → core.new ≡ core.old }
-    ensures wanted { OnErr result (LacksTableForCopy (picture_of core.old) parent child) }
-    ensures lacks { OnErr result (LacksTableForCopy (picture_of core.new) parent child) }
-    ensures gives { OnOk result (GivesForTables (picture_of core.old) (picture_of core.new) None) }
-    ensures tried { OnErr result ((tried : Option ℕ) × GivesForTables (picture_of core.old) (picture_of core.new) tried) }
-    ensures tables { LinksCopies (picture_of core.old) (picture_of core.new) parent child }
-    ensures asks { AsksSlots E.SectorDisk core.old core.new None Nothing }
-    ensures asks_later { AsksNoNew (picture_of core.old) (picture_of core.new) None Nothing }
-    ensures full { OnErr result (IsFull core.new.frames) }
-    ensures refuses { IfErr result (Refuses (picture_of core.new) None) }
-    ensures no_copy { (n : ℕ) → role_of core.new.frames n ≡ Private → role_of core.old.frames n ≡ Private }
-    ensures short { IfErr result (IsShort (picture_of core.new)) }
-    ensures cause { HasStallCause E.SectorDisk core.old core.new result }
+    ensures next { IfOk result (StepsOn (picture_of core.old) parent page end) }
 {
     if let Some(gap) = gap_end(core, parent, page) {
         return Ok(end.min(gap));
@@ -165,8 +103,7 @@ fn first_copy<D, E, M: Levels>(core: &Core<D, E, M>, pid: Pid, start: Vpn, stop:
     requires whole { IsWhole (picture_of core.now) pid start }
     requires one_table { stop ≤ (start / table_entries + 1) * table_entries }
     requires high { stop ≤ user_end M.mode }
-    ensures row { IfSome result (λ page. page / table_entries ≡ start / table_entries) }
-    ensures some { IfSome result (HasCopy (picture_of core.now) pid) }
+    ensures some { IfSome result (IsFirstCopy (picture_of core.now) pid start) }
     ensures none { IfNone result ((page : ℕ) → start ≤ page → page < stop → seat (entry (picture_of core.now) pid page) ≡ None) }
 {
     let root = root_of(core, pid);

@@ -28,6 +28,15 @@ bytes_moved call k = slice_index_or call.1 (k - sector_called call) []
 abbrev pub succeeded : Note → Bool
 succeeded call = slice_index_or call.2 0 false
 
+abbrev pub has_succeeded : List Note → Bool
+has_succeeded [] = false
+has_succeeded (call ∷ earlier) = succeeded call || has_succeeded earlier
+
+-- a write was asked for
+abbrev pub has_written : List Note → Bool
+has_written [] = false
+has_written (call ∷ earlier) = is_write call || has_written earlier
+
 -- A sync has failed. The system may then take pages for written that are not, so no later sync counts.
 abbrev pub is_lost : List Note → Bool
 is_lost [] = false

@@ -6,26 +6,25 @@ use Rattle.disk_model.specs.Moments.{AsksOnly}
 use Rattle.disk_model.proofs.Moments.{asks_wider, asks_then}
 use Rattle.disk_model.specs.declared.sector_disk.SectorDisk.{Ghosts}
 use Rattle.sync_journal.specs.Layout.{IsPageSector}
-use Rattle.sync_journal.specs.Journal.{live_homes}
-use Rattle.sync_journal.specs.Map.{place_of}
-use Rattle.sync_journal.specs.Standing.{place_or_home, IsAskedIn}
+use Rattle.sync_journal.specs.Kinds.{journal_stands, IsStoreAsked}
 use Rattle.file_store.specs.declared.store.FileStore.{FileStore}
-use Rattle.file_store.specs.Standing.{IsHeadSector, IsAskedToOpen}
+use Rattle.file_store.specs.Standing.{IsHeadIn, IsAskedToOpen}
+use Rattle.file_store.specs.Versions.{version_of}
 use Rattle.file_store.specs.Store.{home_of, IsSectorOf}
 
 module _ {D : Type 0} (g : Ghosts D) where
   -- a page by its home
   pub page_asks : (store : FileStore D) (p : FilePage) (home : ℕ) (new : D) → home ≡ home_of store.directory p
-      → AsksOnly g (IsPageSector (place_or_home home (place_of (live_homes store.journal) home))) store.disk new → AsksOnly g (IsSectorOf store p) store.disk new
-  page_asks store p home new is asks = subst (λ h. AsksOnly g (IsPageSector (place_or_home h (place_of (live_homes store.journal) h))) store.disk new) is asks
+      → AsksOnly g (IsPageSector (journal_stands store.journal home)) store.disk new → AsksOnly g (IsSectorOf store p) store.disk new
+  page_asks store p home new is asks = subst (λ h. AsksOnly g (IsPageSector (journal_stands store.journal h)) store.disk new) is asks
 
   -- mark and directory alone
-  pub head_asks : (image : Image) (old new : D) → AsksOnly g IsHeadSector old new → AsksOnly g (IsAskedToOpen image) old new
-  head_asks image old new asks = asks_wider g IsHeadSector (IsAskedToOpen image) old new (λ k head. inl head) asks
+  pub head_asks : (image : Image) (old new : D) → AsksOnly g (IsHeadIn (version_of image)) old new → AsksOnly g (IsAskedToOpen image) old new
+  head_asks image old new asks = asks_wider g (IsHeadIn (version_of image)) (IsAskedToOpen image) old new (λ k head. inl head) asks
 
   -- and then a recovery
-  pub opening_asks : (image : Image) (old mid new : D) → g.content mid ≡ image → AsksOnly g IsHeadSector old mid → AsksOnly g (IsAskedIn (g.content mid)) mid new
+  pub opening_asks : (image : Image) (old mid new : D) → g.content mid ≡ image → AsksOnly g (IsHeadIn (version_of image)) old mid → AsksOnly g (IsStoreAsked (g.content mid)) mid new
       → AsksOnly g (IsAskedToOpen image) old new
   opening_asks image old mid new same first second = asks_then g (IsAskedToOpen image) old mid new (head_asks image old mid first)
-      (asks_wider g (IsAskedIn image) (IsAskedToOpen image) mid new (λ k asked. inr asked)
-      (subst (λ (held : Image). AsksOnly g (IsAskedIn held) mid new) same second))
+      (asks_wider g (IsStoreAsked image) (IsAskedToOpen image) mid new (λ k asked. inr asked)
+      (subst (λ (held : Image). AsksOnly g (IsStoreAsked held) mid new) same second))

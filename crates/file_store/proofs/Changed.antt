@@ -1,30 +1,28 @@
 -- What a commit makes of the files.
-use Rattle.std.proofs.Common.{◌≡◌, ◌≢◌, ℕ, zero, suc, ◌+◌, ◌*◌, ◌<◌, ◌≤◌, ◌⊎◌, ⊎_elim, inl, inr, List, length, get_or, take, slice_get, slice_index, Option, Some, None, cond, false, eqb, refl, sym, ap, subst, ◌∙◌, arith}
+use Rattle.std.proofs.Common.{◌≡◌, ◌≢◌, ℕ, zero, suc, ◌+◌, ◌*◌, ◌<◌, ◌≤◌, ◌⊎◌, ⊎_elim, inl, inr, Bool, List, length, get_or, take, slice_get, slice_index, Option, Some, None, cond, false, eqb, refl, sym, ap, subst, ◌∙◌, arith}
 use Rattle.std.proofs.lemmas.Bool.{cases_eq, cases_lt, eq-eqb}
 use Rattle.std.proofs.lemmas.Bool.Decides.{nat_tests}
 use Rattle.std.proofs.lemmas.List.{length-take-le, get_or-take}
 use Rattle.std.proofs.lemmas.Option.{same_Some, slice_get-get_or, slice_get_within}
 use Rattle.disk_model.specs.Stop.{Image}
-use Rattle.sync_journal.specs.Layout.{home_count}
+use Rattle.sync_journal.specs.Kinds.{kind_home_count, StoreStandsFor, StoreStandsForEither, IsStoreKept}
 use Rattle.sync_journal.specs.Map.{place_among, AreHomes}
-use Rattle.sync_journal.specs.Standing.{standing}
 use Rattle.disk_model.specs.Sectors.{part_of}
-use Rattle.sync_journal.specs.Standing.{StandsFor as HomesStandFor}
-use Rattle.sync_journal.specs.Commit.{changed, sector_or, IsKept}
-use Rattle.sync_journal.specs.Commit.{StandsForEither as HomesStandForEither}
+use Rattle.sync_journal.specs.Commit.{changed, sector_or}
+use Rattle.sync_journal.specs.declared.store_journal.Journals.{Journals}
 use Rattle.vm_types.specs.declared.file.FileInfo.{FileInfo}
 use Rattle.vm_types.specs.declared.file.FilePage.{FilePage}
 use Rattle.file_store.specs.declared.directory.Entry.{Entry}
 use Rattle.file_store.specs.declared.directory.Directory.{Directory}
 use Rattle.file_store.specs.Layout.{trimmed, bytes_inside}
 use Rattle.file_store.specs.Directory.{IsSoundDirectory, IsHomeOf}
-use Rattle.file_store.specs.Standing.{IsPageOf, StandsFor, directory_entry, file_info, page_standing, standing_page}
+use Rattle.file_store.specs.Standing.{IsPageOf, StandsFor, standing, directory_entry, page_standing, standing_page}
 use Rattle.file_store.specs.Store.{entry_of, home_of, inside_of, inside_at, IsEntryPage, PutsHomes, PutsHomesOrNone}
 use Rattle.file_store.specs.Commit.{cut_page, ArePages, Changes, StandsForEither}
 use Rattle.disk_model.proofs.Pieces.{joined-same, joined_parts}
 use Rattle.file_store.proofs.Pieces.{trimmed-trimmed, length-trimmed}
 use Rattle.file_store.proofs.Homes.{entry_behind, home_of-entry, is_home, one_file, one_page, home_inside, inside_of-entry}
-use Rattle.file_store.proofs.Images.{bad_layout_moves, stands_kept}
+use Rattle.file_store.proofs.Images.{SameHead, same_head, entry_same, info_same, bad_layout_moves, stands_kept}
 
 eqb-ne : (m n : ℕ) → m ≢ n → eqb m n ≡ false
 eqb-ne m n other = grind (arith, nat_tests)
@@ -63,16 +61,16 @@ no_page = record { file = 0; page = 0 }
 at_place : (list : List FilePage) (i : ℕ) → i < length list → (p : FilePage) × (slice_get list i ≡ Some p)
 at_place list i lt = (get_or list i no_page, slice_get-get_or list i no_page lt)
 
-pub are_homes : (sectors : ℕ) (directory : Directory) (files : ℕ → Option FileInfo) (list : List FilePage) (homes : List ℕ)
-    → IsSoundDirectory (home_count sectors) (entry_of directory) → ArePages files list → AreHomesOf directory list homes → AreHomes (home_count sectors) homes
-are_homes sectors directory files list homes sound pages of_list = record {
+pub are_homes : (kind : Journals) (sectors : ℕ) (directory : Directory) (files : ℕ → Option FileInfo) (list : List FilePage) (homes : List ℕ)
+    → IsSoundDirectory (kind_home_count kind sectors) (entry_of directory) → ArePages files list → AreHomesOf directory list homes → AreHomes (kind_home_count kind sectors) homes
+are_homes kind sectors directory files list homes sound pages of_list = record {
   few = omega (arith, pages.few, of_list.size);
   inside = λ j lt.
       let at = at_place list j (omega (arith, lt, of_list.size)) in
       let entry = of_list.entries j at.0 at.1 in
       let home = of_list.each j at.0 at.1 ∙ home_of-entry directory at.0 entry.entry entry.is in
-      let below = home_inside sectors directory sound at.0 entry in
-      subst (λ h. h < home_count sectors) (sym home) below;
+      let below = home_inside kind sectors directory sound at.0 entry in
+      subst (λ h. h < kind_home_count kind sectors) (sym home) below;
   distinct = λ i j less lt same.
       let at = at_place list i (omega (arith, less, lt, of_list.size)) in
       let at' = at_place list j (omega (arith, lt, of_list.size)) in
@@ -80,23 +78,20 @@ are_homes sectors directory files list homes sound pages of_list = record {
       let entry' = of_list.entries j at'.0 at'.1 in
       let home = of_list.each i at.0 at.1 ∙ home_of-entry directory at.0 entry.entry entry.is in
       let home' = of_list.each j at'.0 at'.1 ∙ home_of-entry directory at'.0 entry'.entry entry'.is in
-      let page = one_page (home_count sectors) directory sound at.0 at'.0 entry entry' (sym home ∙ same ∙ home') in
+      let page = one_page (kind_home_count kind sectors) directory sound at.0 at'.0 entry entry' (sym home ∙ same ∙ home') in
       pages.distinct i j at.0 less at.1 (at'.1 ∙ ap Some (sym page));
 }
 
 -- A page of which the list names the home is that page of the list.
-module _ (sectors : ℕ) (directory : Directory) (list : List FilePage) (homes : List ℕ) (given : ℕ → List ℕ) (old new : Image)
-    (sound : IsSoundDirectory (home_count sectors) (entry_of directory)) (same_directory : (f : ℕ) → entry_of directory f ≡ directory_entry old f)
+module _ (kind : Journals) (sectors : ℕ) (directory : Directory) (list : List FilePage) (homes : List ℕ) (given : ℕ → List ℕ) (old new : Image)
+    (sound : IsSoundDirectory (kind_home_count kind sectors) (entry_of directory)) (same_directory : (f : ℕ) → entry_of directory f ≡ directory_entry old f)
     (of_list : AreHomesOf directory list homes)
-    (kept : IsKept sectors old (HomesStandFor (changed (standing old) homes (λ i. trimmed (inside_at directory list i) (given i)))) new) where
+    (kept : IsStoreKept sectors old (StoreStandsFor (changed (standing old) homes (λ i. trimmed (inside_at directory list i) (given i)))) new) where
   abbrev cut : ℕ → List ℕ
   cut i = trimmed (inside_at directory list i) (given i)
 
-  second : new 1 ≡ old 1
-  second = kept.outside 1 (inl (omega arith))
-
-  entry_same : (f : ℕ) → directory_entry new f ≡ directory_entry old f
-  entry_same f = ap (λ (s : List ℕ). directory_entry (λ _. s) f) second
+  head : SameHead old new
+  head = same_head sectors old new kept.outside
 
   -- not named: as before
   unlisted : (f k : ℕ) (e : Entry) → directory_entry old f ≡ Some e → place_among (λ j. slice_index homes j) (e.first + k) (length homes) ≡ None → standing_page new f k ≡ standing_page old f k
@@ -104,7 +99,7 @@ module _ (sectors : ℕ) (directory : Directory) (list : List FilePage) (homes :
   unlisted f k e is none =
       let sectors_same : (i : ℕ) → i < 8 → standing new (e.first + k) i ≡ standing old (e.first + k) i
       = λ i lt. kept.stands.each (e.first + k) i lt ∙ ap (sector_or cut (standing old (e.first + k) i) i) none in
-      ap (page_standing new k) (entry_same f ∙ is)
+      ap (page_standing new k) (entry_same old new head f ∙ is)
       ∙ ap (trimmed (bytes_inside e.info.length k)) (joined-same 8 (standing new (e.first + k)) (standing old (e.first + k)) sectors_same)
       ∙ sym (ap (page_standing old k) is)
 
@@ -120,13 +115,13 @@ module _ (sectors : ℕ) (directory : Directory) (list : List FilePage) (homes :
       = ap (inside_of directory) at ∙ inside_of-entry directory p e entry_is ∙ ap (bytes_inside e.info.length) page in
       let cut_is : cut j ≡ trimmed (bytes_inside e.info.length k) (given j) = ap (λ n. trimmed n (given j)) inside in
       let small : bytes_inside e.info.length k ≤ 4096 = omega arith in
-      ap (page_standing new k) (entry_same f ∙ is)
+      ap (page_standing new k) (entry_same old new head f ∙ is)
       ∙ ap (trimmed (bytes_inside e.info.length k)) (joined-same 8 (standing new (e.first + k)) (part_of (cut j)) sectors_are
       ∙ joined_parts (cut j) (ap length cut_is ∙ length-trimmed (bytes_inside e.info.length k) (given j) small) ∙ cut_is)
       ∙ trimmed-trimmed (bytes_inside e.info.length k) (given j) small
 
   -- what stands for the homes
-  pub homes_put : AreHomes (home_count sectors) homes → PutsHomes sectors directory list given old new
+  pub homes_put : AreHomes (kind_home_count kind sectors) homes → PutsHomes sectors directory list given old new
   unfolding changed
   homes_put are = record {
     listed = λ i j p at lt.
@@ -158,9 +153,9 @@ module _ (sectors : ℕ) (directory : Directory) (list : List FilePage) (homes :
   -- so the image stands for the files after
   pub stands_changed : (files : ℕ → Option FileInfo) (before after : ℕ → ℕ → List ℕ) → StandsFor sectors files before old → Changes files list given before after → StandsFor sectors files after new
   stands_changed files before after was changes = record {
-    layout = λ bad. was.layout (bad_layout_moves sectors new old (kept.outside 0 (inl (omega arith))) second bad);
+    layout = λ bad. was.layout (bad_layout_moves old new head sectors bad);
     journal = λ bad. was.journal (kept.journal bad);
-    facts = λ f. ap (λ (s : List ℕ). file_info (λ _. s) f) second ∙ was.facts f;
+    facts = λ f. info_same old new head f ∙ was.facts f;
     same = same_pages;
   }
     where
@@ -181,7 +176,7 @@ module _ (sectors : ℕ) (directory : Directory) (list : List FilePage) (homes :
           let p = at.0 in
           let entry = of_list.entries some.0 p at.1 in
           let home : entry.entry.first + p.page ≡ e.first + k = sym (of_list.each some.0 p at.1 ∙ home_of-entry directory p entry.entry entry.is) ∙ some.3 in
-          let file : p.file ≡ f = one_file (home_count sectors) (entry_of directory) sound p.file f (entry.entry.first + p.page) entry.entry e entry.is in_memory
+          let file : p.file ≡ f = one_file (kind_home_count kind sectors) (entry_of directory) sound p.file f (entry.entry.first + p.page) entry.entry e entry.is in_memory
           (is_home entry.entry p.page entry.inside) (subst (λ h. IsHomeOf e h) (sym home) (is_home e k lt)) in
           let same_entry : entry.entry ≡ e = same_Some entry.entry e (sym entry.is ∙ ap (entry_of directory) file ∙ in_memory) in
           let first : entry.entry.first ≡ e.first = ap (λ x. x.first) same_entry in
@@ -196,25 +191,25 @@ module _ (sectors : ℕ) (directory : Directory) (list : List FilePage) (homes :
           (place_cases (λ j. slice_index homes j) (e.first + k) (length homes))
 
 -- at any moment the image stands for the files before or after
-pub stands_either : (sectors : ℕ) (directory : Directory) (list : List FilePage) (homes : List ℕ) (given : ℕ → List ℕ) (old new : Image)
-    → IsSoundDirectory (home_count sectors) (entry_of directory) → ((f : ℕ) → entry_of directory f ≡ directory_entry old f) → AreHomesOf directory list homes
+pub stands_either : (kind : Journals) (sectors : ℕ) (directory : Directory) (list : List FilePage) (homes : List ℕ) (given : ℕ → List ℕ) (old new : Image)
+    → IsSoundDirectory (kind_home_count kind sectors) (entry_of directory) → ((f : ℕ) → entry_of directory f ≡ directory_entry old f) → AreHomesOf directory list homes
     → (files : ℕ → Option FileInfo) (before after : ℕ → ℕ → List ℕ) → StandsFor sectors files before old → Changes files list given before after
-    → IsKept sectors old (HomesStandForEither (standing old) (changed (standing old) homes (λ i. trimmed (inside_at directory list i) (given i)))) new
+    → IsStoreKept sectors old (StoreStandsForEither (standing old) (changed (standing old) homes (λ i. trimmed (inside_at directory list i) (given i)))) new
     → StandsForEither sectors files before after new
-stands_either sectors directory list homes given old new sound same_directory of_list files before after was changes kept = ⊎_elim
+stands_either kind sectors directory list homes given old new sound same_directory of_list files before after was changes kept = ⊎_elim
     (λ stands. inl (stands_kept sectors old new (record { stands = stands; journal = kept.journal; outside = kept.outside }) files before was))
-    (λ stands. inr (stands_changed sectors directory list homes given old new sound same_directory of_list
+    (λ stands. inr (stands_changed kind sectors directory list homes given old new sound same_directory of_list
     (record { stands = stands; journal = kept.journal; outside = kept.outside }) files before after was changes))
     kept.stands
 
 -- and so do the homes
-pub homes_either : (sectors : ℕ) (directory : Directory) (list : List FilePage) (homes : List ℕ) (given : ℕ → List ℕ) (old new : Image)
-    → IsSoundDirectory (home_count sectors) (entry_of directory) → ((f : ℕ) → entry_of directory f ≡ directory_entry old f) → AreHomesOf directory list homes
-    → AreHomes (home_count sectors) homes
-    → IsKept sectors old (HomesStandForEither (standing old) (changed (standing old) homes (λ i. trimmed (inside_at directory list i) (given i)))) new
+pub homes_either : (kind : Journals) (sectors : ℕ) (directory : Directory) (list : List FilePage) (homes : List ℕ) (given : ℕ → List ℕ) (old new : Image)
+    → IsSoundDirectory (kind_home_count kind sectors) (entry_of directory) → ((f : ℕ) → entry_of directory f ≡ directory_entry old f) → AreHomesOf directory list homes
+    → AreHomes (kind_home_count kind sectors) homes
+    → IsStoreKept sectors old (StoreStandsForEither (standing old) (changed (standing old) homes (λ i. trimmed (inside_at directory list i) (given i)))) new
     → PutsHomesOrNone sectors directory list given old new
-homes_either sectors directory list homes given old new sound same_directory of_list are kept = ⊎_elim
+homes_either kind sectors directory list homes given old new sound same_directory of_list are kept = ⊎_elim
     (λ stands. inl (record { stands = stands; journal = kept.journal; outside = kept.outside }))
-    (λ stands. inr (homes_put sectors directory list homes given old new sound same_directory of_list
+    (λ stands. inr (homes_put kind sectors directory list homes given old new sound same_directory of_list
     (record { stands = stands; journal = kept.journal; outside = kept.outside }) are))
     kept.stands

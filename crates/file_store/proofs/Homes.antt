@@ -1,9 +1,10 @@
 -- The homes of pages.
-use Rattle.std.proofs.Common.{◌≡◌, ℕ, ◌+◌, ◌*◌, ◌<◌, ◌≤◌, ⊎_elim, Option, Some, None, refl, sym, ap, subst, ◌∙◌, arith}
+use Rattle.std.proofs.Common.{◌≡◌, ℕ, ◌+◌, ◌*◌, ◌<◌, ◌≤◌, ⊎_elim, Bool, Option, Some, None, refl, sym, ap, subst, ◌∙◌, arith}
 use Rattle.std.specs.Option.{option_map}
 use Rattle.std.proofs.lemmas.Bool.{cases_eq, cases_lt}
 use Rattle.std.proofs.lemmas.Option.{none-some, same_Some}
-use Rattle.sync_journal.specs.Layout.{home_count}
+use Rattle.sync_journal.specs.Kinds.{kind_home_count}
+use Rattle.sync_journal.specs.declared.store_journal.Journals.{Journals}
 use Rattle.vm_types.specs.declared.file.FileInfo.{FileInfo}
 use Rattle.vm_types.specs.declared.file.FilePage.{FilePage}
 use Rattle.file_store.specs.declared.directory.Entry.{Entry}
@@ -26,16 +27,16 @@ home_of-entry directory p e is = ap (λ o. home_in o p.page) is
 pub is_home : (e : Entry) (k : ℕ) → 4096 * k < e.info.length → IsHomeOf e (e.first + k)
 is_home e k inside = (omega arith, omega (arith, inside))
 
-pub entry_page : (sectors : ℕ) (directory : Directory) → IsSoundDirectory (home_count sectors) (entry_of directory) → (p : FilePage)
+pub entry_page : (kind : Journals) (sectors : ℕ) (directory : Directory) → IsSoundDirectory (kind_home_count kind sectors) (entry_of directory) → (p : FilePage)
     → IsPageOf (λ f. option_map (λ e. e.info) (entry_of directory f)) p.file p.page → IsEntryPage directory p
-entry_page sectors directory sound p inside =
+entry_page kind sectors directory sound p inside =
     let b = entry_behind (entry_of directory p.file) inside.0 inside.1 in
     let within = sound.within p.file b.0 b.1 in
     let lt : 4096 * p.page < b.0.info.length = subst (λ (i : FileInfo). 4096 * p.page < i.length) (sym b.2) inside.2 in
     record { entry = b.0; is = b.1; inside = lt; fits = omega (arith, within, lt) }
 
-pub home_inside : (sectors : ℕ) (directory : Directory) → IsSoundDirectory (home_count sectors) (entry_of directory) → (p : FilePage) → (at : IsEntryPage directory p) → at.entry.first + p.page < home_count sectors
-home_inside sectors directory sound p at =
+pub home_inside : (kind : Journals) (sectors : ℕ) (directory : Directory) → IsSoundDirectory (kind_home_count kind sectors) (entry_of directory) → (p : FilePage) → (at : IsEntryPage directory p) → at.entry.first + p.page < kind_home_count kind sectors
+home_inside kind sectors directory sound p at =
     let within = sound.within p.file at.entry at.is in
     omega (arith, within, at.inside)
 
@@ -57,10 +58,6 @@ one_page homes directory sound p q a b same =
     let left : p ≡ record { file = q.file; page = p.page } = ap (λ f. record { file = f; page = p.page }) file in
     let right : record { file = q.file; page = p.page } ≡ q = ap (λ k. record { file = q.file; page = k }) page in
     left ∙ right
-
--- the sectors of a home
-pub home_room : (sectors h : ℕ) → h < home_count sectors → 8195 + 8 * h + 8 ≤ sectors
-home_room sectors h lt = omega (arith, lt)
 
 inside_in-small : (entry : Option Entry) (k : ℕ) → inside_in entry k ≤ 4096
 unfolding inside_in

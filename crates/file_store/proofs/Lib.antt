@@ -11,9 +11,12 @@ pub mod Causes
 pub mod Changed
 pub mod Lists
 pub mod Totals
+pub mod Making
+pub mod Blocks
 pub mod NewStores
 pub mod Formats
 pub mod Encoded
 pub mod Filled
 pub mod Stops
 pub mod Upgrades
+mod Rows

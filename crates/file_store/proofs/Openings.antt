@@ -1,15 +1,54 @@
 -- What opening leaves meanwhile.
-use Rattle.std.proofs.Common.{◌≡◌, ℕ, ⊎_elim}
+use Rattle.std.proofs.Common.{◌≡◌, ◌<◌, ◌≤◌, ℕ, false, List, Option, Result, Ok, Err, OnOk, inl, inr, refl, ⊎_elim, sym, ap, subst, ◌∙◌, arith}
 use Rattle.disk_model.specs.Stop.{Image, MayLeave}
 use Rattle.disk_model.specs.Moments.{Nothing, Touches, LeavesOnly}
 use Rattle.disk_model.specs.declared.sector_disk.SectorDisk.{Ghosts}
 use Rattle.disk_model.proofs.Moments.{weaker}
-use Rattle.sync_journal.specs.Commit.{HomesStandAs, KeepsHomes}
-use Rattle.sync_journal.proofs.Recoveries.{while_reading, while_replaying}
-use Rattle.file_store.specs.Standing.{StandsAs}
-use Rattle.file_store.proofs.Images.{stands_kept}
+use Rattle.sync_journal.specs.Kinds.{StoreStandsAs, KeepsStore}
+use Rattle.sync_journal.proofs.InKinds.{while_reading, while_recovering}
+use Rattle.sync_journal.specs.Kinds.{is_kind, kind_when, kind_of, kind_home_count}
+use Rattle.sync_journal.specs.Layout.{layout_before, home_count_in}
+use Rattle.sync_journal.specs.declared.store_journal.Journals.{Journals}
+use Rattle.sync_journal.specs.declared.store_journal.Journals.TheVariants.{Single, Paired}
+use Rattle.file_store.specs.declared.version.Version.{Version}
+use Rattle.file_store.specs.declared.directory.Entry.{Entry}
+use Rattle.file_store.specs.Versions.{version_at, version_before, version_of, homes_of, count_of, directory_of, mark_of}
+use Rattle.file_store.specs.Directory.{IsSoundDirectory, AreGood}
+use Rattle.file_store.specs.Standing.{StandsAs, IsHeadIn, IsBadLayoutIn}
+use Rattle.file_store.proofs.Images.{sector_kind, stands_kept, layout_is_good_in}
 use Rattle.file_store.proofs.Reading.{same_content}
 use Rattle.file_store.proofs.Stops.{stands_as_again}
+
+-- a device that is too small for layout 2 is so for layout 3
+pub small_for_both : (kind : Journals) (n : ℕ) → n < 8195 → n < homes_of (version_at kind)
+small_for_both Single n few = few
+small_for_both Paired n few = omega (arith, few)
+
+-- what was found of the kind: where the mark claims layout 3 it was read, and otherwise sector 1 holds a directory
+pub kind_found : (kind : Journals) (image : Image) (sector : List ℕ) → (kind ≡ Paired → kind_of image ≡ Paired) → is_kind sector ≡ false → sector ≡ image (directory_of (version_at kind)) → kind_of image ≡ kind
+kind_found Single image sector paired no_kind is = ap sector_kind (sym is) ∙ ap kind_when no_kind
+kind_found Paired image sector paired no_kind is = paired refl
+
+-- the directory that is looked for is one that an opening asks for
+pub directory_asked : (kind : Journals) (image : Image) (k : ℕ) → (kind ≡ Paired → kind_of image ≡ Paired) → k ≡ directory_of (version_at kind) → IsHeadIn (version_of image) k
+directory_asked Single image k paired at = inl (omega (arith, at))
+directory_asked Paired image k paired at = inr (at ∙ ap (λ b. directory_of (version_at b)) (sym (paired refl)))
+
+-- a layout with its mark and a good directory is good
+pub good_when : {T E : Type 0} (r : Result T E) (version : Version) (n m : ℕ) (old mid : Image) → m ≡ n → mid ≡ old → homes_of version ≤ n → old 0 ≡ mark_of version
+    → OnOk r (AreGood (count_of version m) (mid (directory_of version)) 64) → OnOk r (IsBadLayoutIn version n old → ⊥)
+good_when (Err e) version n m old mid size same room marked good = tt
+good_when (Ok x) version n m old mid size same room marked good = layout_is_good_in version n old room marked
+    (subst (λ (image : Image). AreGood (count_of version n) (image (directory_of version)) 64) same (subst (λ k. AreGood (count_of version k) (mid (directory_of version)) 64) size good))
+
+-- what is known of the layout of a kind
+pub kind_sound : (kind : Journals) (version : Version) (n : ℕ) (entry : ℕ → Option Entry) → version ≡ version_at kind → IsSoundDirectory (count_of version n) entry → IsSoundDirectory (kind_home_count kind n) entry
+kind_sound Single version n entry is sound = subst (λ v. IsSoundDirectory (count_of v n) entry) is sound
+kind_sound Paired version n entry is sound = subst (λ v. IsSoundDirectory (count_of v n) entry) is sound
+
+pub old_sound : (kind : Journals) (version : Version) (n : ℕ) (entry : ℕ → Option Entry) → version ≡ version_before kind → IsSoundDirectory (count_of version n) entry → IsSoundDirectory (home_count_in (layout_before kind) n) entry
+old_sound Single version n entry is sound = subst (λ v. IsSoundDirectory (count_of v n) entry) is sound
+old_sound Paired version n entry is sound = subst (λ v. IsSoundDirectory (count_of v n) entry) is sound
 
 module _ {D : Type 0} (g : Ghosts D) where
   pub content_is : (old new : D) → Touches g Nothing old new → g.content new ≡ g.content old
@@ -22,13 +61,13 @@ module _ {D : Type 0} (g : Ghosts D) where
   -- reads, and then a recovery
   pub recovery_leaves : (old mid new : D) → g.sector_count mid ≡ g.sector_count old
       → ((c : Image) → g.left_since old (g.moment old) c → MayLeave (g.content old) (g.unsynced old) c)
-      → Touches g Nothing old mid → (((k : ℕ) → g.unsynced mid k → ⊥) → KeepsHomes g mid new)
-      → ((k : ℕ) → g.unsynced old k → ⊥) → KeepsHomes g old new
+      → Touches g Nothing old mid → (((k : ℕ) → g.unsynced mid k → ⊥) → KeepsStore g mid new)
+      → ((k : ℕ) → g.unsynced old k → ⊥) → KeepsStore g old new
   recovery_leaves old mid new size only_now run recovery synced =
-      while_replaying g old mid new run size (while_reading g old mid new run only_now synced) (recovery (still_synced old mid run synced))
+      while_recovering g old mid new run size (while_reading g old mid new run only_now synced) (recovery (still_synced old mid run synced))
 
   -- where the homes stand, the files stand as they did before any earlier stop
   pub files_stand : (old new : D) (sectors : ℕ) (first : Image) → StandsAs sectors first (g.content old)
-      → LeavesOnly g old new (HomesStandAs sectors (g.content old)) → LeavesOnly g old new (StandsAs sectors first)
-  files_stand old new sectors first was homes = weaker g old new (HomesStandAs sectors (g.content old)) (StandsAs sectors first)
+      → LeavesOnly g old new (StoreStandsAs sectors (g.content old)) → LeavesOnly g old new (StandsAs sectors first)
+  files_stand old new sectors first was homes = weaker g old new (StoreStandsAs sectors (g.content old)) (StandsAs sectors first)
       (λ image kept. stands_as_again sectors first (g.content old) image was (stands_kept sectors (g.content old) image kept)) homes

@@ -1,15 +1,19 @@
--- An opening leaves what lies outside the gate, the journal and the homes.
-use Rattle.std.proofs.Common.{◌≡◌, ℕ, ⊎_elim, arith}
+-- An opening leaves what lies outside the gate, the journals and the homes.
+use Rattle.std.proofs.Common.{◌≡◌, ℕ, ⊎_elim, Bool, true, false, arith}
+use Rattle.disk_model.specs.Stop.{Image}
 use Rattle.disk_model.specs.Moments.{Touches}
 use Rattle.disk_model.specs.declared.sector_disk.SectorDisk.{Ghosts}
-use Rattle.sync_journal.specs.Layout.{IsRecovered, IsOutside}
+use Rattle.sync_journal.specs.Kinds.{kind_of, IsKindRecovered, IsKindOutside, IsStoreRecovered, IsOutsideOf}
+use Rattle.sync_journal.specs.declared.store_journal.Journals.{Journals}
+use Rattle.sync_journal.specs.declared.store_journal.Journals.TheVariants.{Single, Paired}
 
-not_recovered : (sectors k : ℕ) → IsOutside sectors k → IsRecovered sectors k → ⊥
-not_recovered sectors k outside written = ⊎_elim
+not_recovered : (kind : Journals) (sectors k : ℕ) → IsKindOutside kind sectors k → IsKindRecovered kind sectors k → ⊥
+not_recovered Single sectors k outside written = ⊎_elim
     (λ front. ⊎_elim (λ gate. omega (arith, front, gate)) (λ home. omega (arith, front, home.0)) written)
     (λ after. ⊎_elim (λ gate. omega (arith, after, gate)) (λ home. omega (arith, after, home.1)) written)
     outside
+not_recovered Paired sectors k outside written = ⊎_elim (λ front. omega (arith, front, written.0)) (λ after. omega (arith, after, written.1)) outside
 
-pub left_outside : {D : Type 0} (g : Ghosts D) (sectors : ℕ) (old new : D) → Touches g (IsRecovered sectors) old new
-    → (k : ℕ) → IsOutside sectors k → g.content new k ≡ g.content old k
-left_outside g sectors old new run k outside = ⊎_elim (λ written. absurd (not_recovered sectors k outside written)) (λ e. e) (run.content k)
+pub left_outside : {D : Type 0} (g : Ghosts D) (sectors : ℕ) (image : Image) (old new : D) → Touches g (IsStoreRecovered image sectors) old new
+    → (k : ℕ) → IsOutsideOf image sectors k → g.content new k ≡ g.content old k
+left_outside g sectors image old new run k outside = ⊎_elim (λ written. absurd (not_recovered (kind_of image) sectors k outside written)) (λ e. e) (run.content k)

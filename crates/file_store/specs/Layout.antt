@@ -2,6 +2,7 @@
 use Rattle.std.specs.Prelude.{ℕ, ◌≡◌, ◌⊎◌, ◌+◌, ◌-◌, ◌/◌, List, [], ◌∷◌, ◌++◌, take, length, replicate}
 pub use Rattle.vm_types.specs.Files.{bytes_inside}
 use Rattle.sync_journal.specs.Gate.{repeated}
+use Rattle.sync_journal.specs.Kinds.{turn_kind}
 
 -- sector 0 of every store: the bytes `FAMSYNC2`, 64 times
 unfoldable pub mark : List ℕ
@@ -11,9 +12,13 @@ mark = repeated 64 (70 ∷ 65 ∷ 77 ∷ 83 ∷ 89 ∷ 78 ∷ 67 ∷ 50 ∷ [])
 unfoldable pub old_mark : List ℕ
 old_mark = repeated 64 (70 ∷ 65 ∷ 77 ∷ 83 ∷ 89 ∷ 78 ∷ 67 ∷ 49 ∷ [])
 
--- the mark of either layout
+-- sectors 0 and 1 of every store of layout 3: the bytes `FAMSYNC3`, 64 times
+abbrev pub turn_mark : List ℕ
+turn_mark = turn_kind
+
+-- the mark of any layout
 abbrev pub IsMark : List ℕ → Type 0
-IsMark sector = (sector ≡ mark) ⊎ (sector ≡ old_mark)
+IsMark sector = (sector ≡ mark) ⊎ ((sector ≡ old_mark) ⊎ (sector ≡ turn_mark))
 
 -- how many pages of 4,096 bytes a file of so many bytes has, the last one in part perhaps
 abbrev pub page_count : ℕ → ℕ

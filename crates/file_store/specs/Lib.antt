@@ -5,7 +5,9 @@ pub mod Versions
 pub mod Upgrade
 pub mod Faults
 pub mod Format
+pub mod Making
 pub mod Standing
 pub mod Store
 pub mod Commit
 pub mod Stops
+pub mod Blocks

@@ -1,52 +1,69 @@
 -- The files that an image of a store stands for. The format is our own.
 use Rattle.std.specs.Prelude.{ℕ, ◌+◌, ◌*◌, ◌<◌, ◌≡◌, ◌≢◌, ◌⊎◌, List, [], take, Option, Some, None}
+use Rattle.sync_journal.specs.declared.store_journal.Journals.{Journals}
 use Rattle.vm_types.specs.Limits.{file_limit, file_page_limit}
 use Rattle.std.specs.Option.{option_map}
 use Rattle.vm_types.specs.declared.file.FileInfo.{FileInfo}
 use Rattle.disk_model.specs.Stop.{Image}
-use Rattle.sync_journal.specs.Layout.{Layout, layout_1, layout_2, home_count_in, gate_sector}
-use Rattle.sync_journal.specs.Standing.{standing_in, IsBadJournalIn, IsAskedIn}
+use Rattle.sync_journal.specs.Layout.{layout_before}
+use Rattle.sync_journal.specs.Standing.{standing_in, IsBadJournalIn}
+use Rattle.sync_journal.specs.Kinds.{kind_of, store_standing, IsBadStore, IsStoreAsked}
 use Rattle.disk_model.specs.Sectors.{joined}
 use Rattle.file_store.specs.declared.directory.Entry.{Entry}
-use Rattle.file_store.specs.Layout.{mark, old_mark, page_count, bytes_inside, trimmed}
+use Rattle.file_store.specs.Layout.{page_count, bytes_inside, trimmed}
+use Rattle.file_store.specs.Versions.{version_before, version_of, homes_of, count_of, directory_of, mark_of}
+use Rattle.file_store.specs.declared.version.Version.{Version}
 use Rattle.file_store.specs.Directory.{entry_in, IsBadDirectory}
 
--- An image without the layout of a store with this mark: the device is too small, the mark is missing, or the directory is bad.
-pub data IsBadLayoutIn (places : Layout) (mark : List ℕ) (sectors : ℕ) (image : Image) : Type 0 where
-  TooSmall : sectors < places.homes → IsBadLayoutIn places mark sectors image
-  Unmarked : image 0 ≢ mark → IsBadLayoutIn places mark sectors image
-  BadDirectory : IsBadDirectory (home_count_in places sectors) (image 1) → IsBadLayoutIn places mark sectors image
+-- what stands for the home pages, and that the journal that the gate names is bad: of an image of whichever layout
+abbrev pub standing : Image → ℕ → ℕ → List ℕ
+standing image h i = store_standing image h i
 
--- the layout mark and the directory
-abbrev pub IsHeadSector : ℕ → Type 0
-IsHeadSector k = k < gate_sector
+abbrev pub IsBadJournal : ℕ → Image → Type 0
+IsBadJournal sectors image = IsBadStore sectors image
 
--- what an opening of this image asks for: the mark, the directory, and what a recovery asks for
+-- An image without the layout of a store of this version: the device is too small, the mark is missing, or the directory is bad.
+pub data IsBadLayoutIn (version : Version) (sectors : ℕ) (image : Image) : Type 0 where
+  TooSmall : sectors < homes_of version → IsBadLayoutIn version sectors image
+  Unmarked : image 0 ≢ mark_of version → IsBadLayoutIn version sectors image
+  BadDirectory : IsBadDirectory (count_of version sectors) (image (directory_of version)) → IsBadLayoutIn version sectors image
+
+-- mark, kind and directory
+abbrev pub IsHeadIn : Version → ℕ → Type 0
+IsHeadIn version k = (k < 2) ⊎ (k ≡ directory_of version)
+
+-- what an opening of this image asks for: the mark, the kind, the directory, and what a recovery asks for
 abbrev pub IsAskedToOpen : Image → ℕ → Type 0
-IsAskedToOpen image k = IsHeadSector k ⊎ IsAskedIn image k
+IsAskedToOpen image k = IsHeadIn (version_of image) k ⊎ IsStoreAsked image k
 
--- the directory's entry of file f
+-- the directory's entry of file f, of an image of this layout, and of one of the layout that its kind says
+abbrev pub entry_at : Version → Image → ℕ → Option Entry
+entry_at version image f = entry_in (image (directory_of version)) f
+
 abbrev pub directory_entry : Image → ℕ → Option Entry
-directory_entry image f = entry_in (image 1) f
+directory_entry image f = entry_at (version_of image) image f
 
 -- what the directory says of file f
-abbrev pub file_info : Image → ℕ → Option FileInfo
-file_info image f = option_map (λ e. e.info) (directory_entry image f)
+abbrev pub info_at : Version → Image → ℕ → Option FileInfo
+info_at version image f = option_map (λ e. e.info) (entry_at version image f)
 
--- page k of a file with this entry: the file's bytes, and zeros past its end
-abbrev pub page_standing_in : Layout → Image → ℕ → Option Entry → List ℕ
-page_standing_in layout image k None = []
-page_standing_in layout image k (Some e) = trimmed (bytes_inside e.info.length k) (joined (standing_in layout image (e.first + k)) 8)
+abbrev pub file_info : Image → ℕ → Option FileInfo
+file_info image f = info_at (version_of image) image f
+
+-- page k of a file with this entry, where this stands for the homes: the file's bytes, and zeros past its end
+abbrev pub page_standing_in : (ℕ → ℕ → List ℕ) → ℕ → Option Entry → List ℕ
+page_standing_in stands k None = []
+page_standing_in stands k (Some e) = trimmed (bytes_inside e.info.length k) (joined (stands (e.first + k)) 8)
 
 abbrev pub page_standing : Image → ℕ → Option Entry → List ℕ
-page_standing image k entry = page_standing_in layout_2 image k entry
+page_standing image k entry = page_standing_in (standing image) k entry
 
 -- page k of file f as it stands
-abbrev pub standing_page_in : Layout → Image → ℕ → ℕ → List ℕ
-standing_page_in layout image f k = page_standing_in layout image k (directory_entry image f)
+abbrev pub standing_page_at : Version → (ℕ → ℕ → List ℕ) → Image → ℕ → ℕ → List ℕ
+standing_page_at version stands image f k = page_standing_in stands k (entry_at version image f)
 
 abbrev pub standing_page : Image → ℕ → ℕ → List ℕ
-standing_page image f k = standing_page_in layout_2 image f k
+standing_page image f k = standing_page_at (version_of image) (standing image) image f k
 
 -- page k begins inside file f
 abbrev pub IsPageOf : (ℕ → Option FileInfo) → ℕ → ℕ → Type 0
@@ -58,24 +75,27 @@ pub record AreBounded (files : ℕ → Option FileInfo) : Type 0 where
 
 -- The image stands for these files, with these bytes in each of their pages: it has the layout of a store, and its
 -- journal is one that a commit wrote.
-pub record StandsForIn (places : Layout) (mark : List ℕ) (sectors : ℕ) (files : ℕ → Option FileInfo) (pages : ℕ → ℕ → List ℕ) (image : Image) : Type 0 where
-  pub layout : IsBadLayoutIn places mark sectors image → ⊥
-  pub journal : IsBadJournalIn places sectors image → ⊥
-  pub facts : (f : ℕ) → file_info image f ≡ files f
-  pub same : (f k : ℕ) → IsPageOf files f k → standing_page_in places image f k ≡ pages f k
+pub record StandsForIn (version : Version) (BadJournal : Type 0) (stands : ℕ → ℕ → List ℕ) (sectors : ℕ) (files : ℕ → Option FileInfo) (pages : ℕ → ℕ → List ℕ) (image : Image) : Type 0 where
+  pub layout : IsBadLayoutIn version sectors image → ⊥
+  pub journal : BadJournal → ⊥
+  pub facts : (f : ℕ) → info_at version image f ≡ files f
+  pub same : (f k : ℕ) → IsPageOf files f k → standing_page_at version stands image f k ≡ pages f k
 
--- The same of stores, which are of layout 2, and of those of layout 1.
+-- The same of stores of layouts 2 and 3, and of those from which an upgrade makes one of this kind.
 abbrev pub IsBadLayout : ℕ → Image → Type 0
-IsBadLayout sectors image = IsBadLayoutIn layout_2 mark sectors image
+IsBadLayout sectors image = IsBadLayoutIn (version_of image) sectors image
 
-abbrev pub IsBadOldLayout : ℕ → Image → Type 0
-IsBadOldLayout sectors image = IsBadLayoutIn layout_1 old_mark sectors image
+abbrev pub IsBadOldLayout : Journals → ℕ → Image → Type 0
+IsBadOldLayout kind sectors image = IsBadLayoutIn (version_before kind) sectors image
+
+abbrev pub IsBadOldJournal : Journals → ℕ → Image → Type 0
+IsBadOldJournal kind sectors image = IsBadJournalIn (layout_before kind) sectors image
 
 abbrev pub StandsFor : ℕ → (ℕ → Option FileInfo) → (ℕ → ℕ → List ℕ) → Image → Type 0
-StandsFor sectors files pages image = StandsForIn layout_2 mark sectors files pages image
+StandsFor sectors files pages image = StandsForIn (version_of image) (IsBadJournal sectors image) (standing image) sectors files pages image
 
-abbrev pub OldStandsFor : ℕ → (ℕ → Option FileInfo) → (ℕ → ℕ → List ℕ) → Image → Type 0
-OldStandsFor sectors files pages image = StandsForIn layout_1 old_mark sectors files pages image
+abbrev pub OldStandsFor : Journals → ℕ → (ℕ → Option FileInfo) → (ℕ → ℕ → List ℕ) → Image → Type 0
+OldStandsFor kind sectors files pages image = StandsForIn (version_before kind) (IsBadOldJournal kind sectors image) (standing_in (layout_before kind) image) sectors files pages image
 
 -- the bytes of a file of these pages
 abbrev pub bytes_of_pages : (ℕ → List ℕ) → FileInfo → List ℕ

@@ -1,22 +1,21 @@
 -- An open store.
-use Rattle.std.specs.Prelude.{ℕ, ◌+◌, ◌*◌, ◌^◌, ◌<◌, ◌≤◌, ◌≡◌, ◌⊎◌, List, slice_get, Option, Some, None, get_or}
+use Rattle.std.specs.Prelude.{ℕ, ◌+◌, ◌*◌, ◌^◌, ◌<◌, ◌≤◌, ◌≡◌, ◌⊎◌, List, [], slice_get, Option, Some, None, get_or}
 use Rattle.std.specs.Option.{option_map}
 use Rattle.vm_types.specs.declared.file.FileInfo.{FileInfo}
 use Rattle.disk_model.specs.declared.sector_disk.SectorDisk.{Ghosts}
-use Rattle.sync_journal.specs.Layout.{home_count, IsPageSector, IsOutside, first_home_sector}
-use Rattle.sync_journal.specs.Commit.{HomesStandAs, IsQuiet, IsAtRest as IsJournalAtRest}
-use Rattle.sync_journal.specs.Journal.{live_homes}
-use Rattle.sync_journal.specs.Map.{AreHomes, place_of}
+use Rattle.sync_journal.specs.Layout.{IsPageSector}
+use Rattle.sync_journal.specs.Kinds.{kind_homes, kind_home_count, journal_kind, journal_stands, store_live, IsOutsideOf, IsStoreRest, StoreStandsAs}
+use Rattle.sync_journal.specs.Map.{AreHomes}
+use Rattle.sync_journal.specs.declared.store_journal.StoreJournal.{StoreJournal}
 use Rattle.file_store.specs.declared.directory.Entry.{Entry}
 use Rattle.file_store.specs.declared.directory.Directory.{Directory}
 use Rattle.file_store.specs.declared.store.FileStore.{FileStore}
 use Rattle.vm_types.specs.declared.file.FilePage.{FilePage}
 use Rattle.file_store.specs.Layout.{bytes_inside, trimmed}
 use Rattle.file_store.specs.Directory.{IsSoundDirectory}
-use Rattle.file_store.specs.Standing.{directory_entry, IsBadLayout}
+use Rattle.file_store.specs.Standing.{directory_entry, standing, IsBadLayout, IsBadJournal}
 use Rattle.disk_model.specs.Stop.{Image}
 use Rattle.disk_model.specs.Moments.{LeavesNow}
-use Rattle.sync_journal.specs.Standing.{IsBadJournal, standing, place_or_home}
 use Rattle.disk_model.specs.Sectors.{part_of}
 
 -- the entry of file f
@@ -32,14 +31,14 @@ module _ {D : Type 0} (g : Ghosts D) where
   -- what the store's device holds, as long as it keeps its model: the directory is the store's, and the journal open is
   -- the one that the store knows of, if any
   pub record IsAtRest (store : FileStore D) : Type 0 where
-    pub journal : IsJournalAtRest g (live_homes store.journal) store.disk
+    pub journal : IsStoreRest g store.journal store.disk
     pub directory : (f : ℕ) → entry_of store.directory f ≡ directory_entry (g.content store.disk) f
 
   -- The store may be read and committed to.
   pub record IsReadyStore (store : FileStore D) : Type 0 where
-    pub room : first_home_sector ≤ g.sector_count store.disk
-    pub sound : IsSoundDirectory (home_count (g.sector_count store.disk)) (entry_of store.directory)
-    pub live : AreHomes (home_count (g.sector_count store.disk)) (live_homes store.journal)
+    pub room : kind_homes (journal_kind store.journal) ≤ g.sector_count store.disk
+    pub sound : IsSoundDirectory (kind_home_count (journal_kind store.journal) (g.sector_count store.disk)) (entry_of store.directory)
+    pub live : AreHomes (kind_home_count (journal_kind store.journal) (g.sector_count store.disk)) (store_live store.journal)
     pub at_rest : g.keeps_model store.disk → IsAtRest store
 
 -- how many bytes of the page at place i of a list lie inside its file, where it has one
@@ -72,18 +71,19 @@ home_of directory p = home_in (entry_of directory p.file) p.page
 module _ {D : Type 0} where
   -- one of the eight sectors in which this page stands: in the body where the journal is live with it, otherwise in its home
   abbrev pub IsSectorOf : FileStore D → FilePage → ℕ → Type 0
-  IsSectorOf store p k = IsPageSector (place_or_home (home_of store.directory p) (place_of (live_homes store.journal) (home_of store.directory p))) k
+  IsSectorOf store p k = IsPageSector (journal_stands store.journal (home_of store.directory p)) k
 
 module _ {D : Type 0} (g : Ghosts D) where
   -- What opening leaves: the device at rest with this directory, and what stood for its homes.
-  pub record IsMounted (old new : D) (directory : Directory) : Type 0 where
-    pub room : first_home_sector ≤ g.sector_count old
-    pub sound : IsSoundDirectory (home_count (g.sector_count old)) (entry_of directory)
-    pub quiet : g.keeps_model new → IsQuiet g new
+  pub record IsMounted (old new : D) (directory : Directory) (turns : StoreJournal) : Type 0 where
+    pub room : kind_homes (journal_kind turns) ≤ g.sector_count old
+    pub sound : IsSoundDirectory (kind_home_count (journal_kind turns) (g.sector_count old)) (entry_of directory)
+    pub not_live : store_live turns ≡ []
+    pub rest : g.keeps_model new → IsStoreRest g turns new
     pub same : g.keeps_model new → (f : ℕ) → entry_of directory f ≡ directory_entry (g.content new) f
     pub layout : g.keeps_model new → IsBadLayout (g.sector_count old) (g.content old) → ⊥
     pub journal : g.keeps_model new → IsBadJournal (g.sector_count old) (g.content old) → ⊥
-    pub stands : g.keeps_model new → LeavesNow g new (HomesStandAs (g.sector_count old) (g.content old))
+    pub stands : g.keeps_model new → LeavesNow g new (StoreStandsAs (g.sector_count old) (g.content old))
 
 -- What a commit of these pages makes of the homes: a page of the list stands for its home whole, with zeros past its
 -- file's end, and every other home stands as it did, the bytes past a file's end too. The mark, the directory and what
@@ -92,8 +92,8 @@ pub record PutsHomes (sectors : ℕ) (directory : Directory) (list : List FilePa
   pub listed : (i j : ℕ) (p : FilePage) → slice_get list i ≡ Some p → j < 8
       → standing new (home_of directory p) j ≡ part_of (trimmed (inside_at directory list i) (given i)) j
   pub others : (h j : ℕ) → ((i : ℕ) (p : FilePage) → slice_get list i ≡ Some p → home_of directory p ≡ h → ⊥) → j < 8 → standing new h j ≡ standing old h j
-  pub outside : (k : ℕ) → IsOutside sectors k → new k ≡ old k
+  pub outside : (k : ℕ) → IsOutsideOf old sectors k → new k ≡ old k
 
 -- the homes stand as they did, or as the commit makes them
 abbrev pub PutsHomesOrNone : ℕ → Directory → List FilePage → (ℕ → List ℕ) → Image → Image → Type 0
-PutsHomesOrNone sectors directory list given old new = HomesStandAs sectors old new ⊎ PutsHomes sectors directory list given old new
+PutsHomesOrNone sectors directory list given old new = StoreStandsAs sectors old new ⊎ PutsHomes sectors directory list given old new

@@ -3,9 +3,8 @@ ghost use Rattle.std.specs.Prelude.{◌≡◌, ◌<◌, ◌≤◌, ℕ, List, Op
 ghost use Rattle.vm_types.specs.declared.file.FileInfo.{FileInfo};
 ghost use Rattle.vm_types.specs.declared.file.FilePage.{FilePage};
 ghost use Rattle.disk_model.specs.Moments.{LeavesOnly, LeavesNow, Touches, AsksOnly};
-ghost use Rattle.sync_journal.specs.Layout.{IsCommitted, page_limit};
-ghost use Rattle.sync_journal.specs.Journal.{live_homes};
-ghost use Rattle.sync_journal.specs.Commit.{HomesStandAs, AsksInTwo};
+ghost use Rattle.sync_journal.specs.Layout.{page_limit};
+ghost use Rattle.sync_journal.specs.Kinds.{IsStoreCommitted, IsStoreUsed, StoreStandsAs, AsksEachOnce};
 ghost use Rattle.sync_journal.specs.Source.{HasCauses, Asks};
 ghost use Rattle.file_store.specs.Standing.{StandsFor};
 ghost use Rattle.file_store.specs.Store.{files_of, home_of, IsEntryPage, IsReadyStore, PutsHomes, PutsHomesOrNone};
@@ -38,13 +37,13 @@ impl<D: SectorDisk> FileStore<D> {
         ensures size { D.sector_count self.new.disk ≡ D.sector_count self.old.disk }
         ensures kept { D.keeps_model self.new.disk → D.keeps_model self.old.disk }
         ensures asks { Asks S.PageSource source.old source.new }
-        // The device is asked for the gate, the journal, and the homes of the commit before alone.
-        ensures asks_device { AsksOnly D.SectorDisk (IsCommitted (live_homes self.old.journal)) self.old.disk self.new.disk }
+        // The device is asked for the gate, the journals, and the homes of the commit before alone.
+        ensures asks_device { AsksOnly D.SectorDisk (IsStoreUsed self.old.journal) self.old.disk self.new.disk }
         // And for no sector more often than it takes.
-        ensures once { AsksInTwo D.SectorDisk (live_homes self.old.journal) (length pages.now) self.old.disk self.new.disk }
+        ensures once { AsksEachOnce D.SectorDisk self.old.journal (length pages.now) self.old.disk self.new.disk }
         ensures causes { HasCauses (D.failures self.old.disk) (D.failures self.new.disk) (S.failures source.old) (S.failures source.new) result }
-        // No sector is written but the gate, the journal, and the homes of the commit before.
-        ensures touches { D.keeps_model self.new.disk → Touches D.SectorDisk (IsCommitted (live_homes self.old.journal)) self.old.disk self.new.disk }
+        // No sector is written but the gate, the journals, and the homes of the commit before.
+        ensures touches { D.keeps_model self.new.disk → Touches D.SectorDisk (IsStoreCommitted self.old.journal) self.old.disk self.new.disk }
         ensures files { self.new.directory ≡ self.old.directory }
         ensures ready { OnOk result (IsReadyStore D.SectorDisk self.new) }
         ensures synced { D.keeps_model self.new.disk → OnOk result ((k : ℕ) → D.unsynced self.new.disk k → ⊥) }
@@ -69,7 +68,7 @@ impl<D: SectorDisk> FileStore<D> {
         ensures homes { D.keeps_model self.new.disk → S.keeps_model source.new
             → OnOk result (LeavesNow D.SectorDisk self.new.disk (PutsHomes (D.sector_count self.old.disk) self.old.directory pages.now (S.pages source.old) (D.content self.old.disk))) }
         ensures source_homes { D.keeps_model self.new.disk → IsErrOf result CommitFault.Source
-            → LeavesNow D.SectorDisk self.new.disk (HomesStandAs (D.sector_count self.old.disk) (D.content self.old.disk)) }
+            → LeavesNow D.SectorDisk self.new.disk (StoreStandsAs (D.sector_count self.old.disk) (D.content self.old.disk)) }
 
         // After a source's fault they stand for the files before, as at every moment of the call.
         ensures source { D.keeps_model self.new.disk → IsErrOf result CommitFault.Source

@@ -13,11 +13,12 @@ pub enum OpenFault {
     /// The device failed.
     #[error("{}", RecoverFault::Device)]
     Device = 1,
-    /// The device has fewer than 8,195 sectors, sector 0 is not the layout mark, or the directory is bad: an entry of
-    /// no file is not zero, a file's homes do not end within the store, or two files share a home. Nothing was written.
+    /// The device has fewer than 8,195 sectors, of layout 3 16,408, sector 0 is not the mark of the layout that sector 1 says, or the
+    /// directory is bad: an entry of no file is not zero, a file's homes do not end within the store, or two files share a
+    /// home. Nothing was written.
     #[error("BADLAYOUT")]
     BadLayout = 2,
-    /// The journal is open with a map that no commit writes. Nothing was written.
+    /// The journal that the gate names has a map that no commit writes. Nothing was written.
     #[error("{}", RecoverFault::BadJournal)]
     BadJournal = 3,
 }
@@ -28,10 +29,10 @@ pub enum FormatFault {
     /// The device failed.
     #[error("{}", RecoverFault::Device)]
     Device = 1,
-    /// There are over 64 files, fewer than 8,195 sectors, or not enough home pages. Nothing was written.
+    /// There are over 64 files, fewer sectors than the layout has before its homes, or not enough home pages. Nothing was written.
     #[error("TOOLARGE")]
     TooLarge = 2,
-    /// Sector 0 is the mark of either layout already. Nothing was written.
+    /// Sector 0 is the mark of a layout already. Nothing was written.
     #[error("FORMATTED")]
     Formatted = 3,
     /// A source failed or ended early.
@@ -42,23 +43,23 @@ pub enum FormatFault {
 /// Why a store could not be upgraded. `Display` gives its name, as the programs print it.
 #[derive(Clone, Copy, Debug, PartialEq, Eq, Error)]
 pub enum UpgradeFault {
-    /// The device of the store of layout 1 failed.
+    /// The device of the old store failed.
     #[error("OLDDEVICE")]
     OldDevice = 1,
-    /// It has fewer than 1,020 sectors, sector 0 is not the mark of layout 1, or the directory is bad for that layout. Nothing
-    /// was written.
+    /// It has fewer sectors than the layout before has in front of its homes, sector 0 is not the mark of that layout, or the
+    /// directory is bad for it. Nothing was written.
     #[error("OLDLAYOUT")]
     OldLayout = 2,
-    /// Its journal is open with a map that no commit of layout 1 writes. Nothing was written.
+    /// Its journal is open with a map that no commit of that layout writes. Nothing was written.
     #[error("OLDJOURNAL")]
     OldJournal = 3,
     /// The device of the new store failed.
     #[error("NEWDEVICE")]
     NewDevice = 4,
-    /// It has fewer than 8,195 sectors, or the homes of a file do not end within it. Nothing was written.
+    /// It has fewer sectors than its layout has before the homes, or the homes of a file do not end within it. Nothing was written.
     #[error("NEWSMALL")]
     NewSmall = 5,
-    /// Its sector 0 is the mark of either layout already. Nothing was written.
+    /// Its sector 0 is the mark of a layout already. Nothing was written.
     #[error("{}", FormatFault::Formatted)]
     Formatted = 6,
 }

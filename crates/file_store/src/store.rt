@@ -10,14 +10,14 @@ use crate::directory::Directory;
 use crate::pages::trim;
 use crate::room::HomeRoom;
 use disk_model::{DiskFault, SectorDisk};
-use sync_journal::Journal;
+use sync_journal::StoreJournal;
 use vm_types::{FileInfo, FilePage};
 
 /// Up to 64 files of fixed lengths on a device.
 #[derive(Debug, Drop)]
 pub struct FileStore<D> {
     pub(crate) disk: D,
-    pub(crate) journal: Journal,
+    pub(crate) journal: StoreJournal,
     pub(crate) directory: Directory,
     pub(crate) room: HomeRoom,
 }
@@ -62,6 +62,7 @@ impl<D: SectorDisk> FileStore<D> {
         ensures cause { HasCause (D.failures self.old.disk) (D.failures self.new.disk) result }
         ensures asks { AsksOnly D.SectorDisk (IsSectorOf self.old page) self.old.disk self.new.disk }
         ensures files { self.new.directory ≡ self.old.directory }
+        ensures journal { self.new.journal ≡ self.old.journal }
         ensures ready { IsReadyStore D.SectorDisk self.new }
         ensures touches { D.keeps_model self.new.disk → Touches D.SectorDisk Nothing self.old.disk self.new.disk }
         ensures page { D.keeps_model self.new.disk → OnOk result (to.new ≡ standing_page (D.content self.old.disk) page.file page.page) }

@@ -1,5 +1,5 @@
 //! What the tests share: a trace over an image of files, and a run of it with a fault. No other file here makes a machine.
-use crate::fillings::{EACH, FILLINGS, OPEN};
+use crate::fillings::{EACH, FILLINGS, OLD, OPEN};
 use crate::judge::{Judge, heard};
 use crate::short_disk::ShortDisk;
 use disk_model::SimDisk;
@@ -8,6 +8,7 @@ use machine::{BootFault, Config};
 use runner::{RunEnd, run_on};
 use std::alloc::Global;
 use std::test::Fail;
+use sync_journal::Journals;
 
 /// The fault that a device is to have: the store's, or that of swap, whose calls are counted from the start of the machine on.
 #[derive(Clone, Copy, Debug)]
@@ -34,7 +35,9 @@ impl Armed {
 pub(crate) struct Case<'a> {
     pub config: Config,
     pub lengths: &'a [u32],
-    /// The writes of the store that open the gate of each msync, the first write being 1.
+    /// The journals of the store.
+    pub journals: Journals,
+    /// The writes of the store's gate that each msync ends with, the first write being 1.
     pub gates: &'a [u64],
     pub trace: &'a [u8],
     /// The replies where no device fails.
@@ -79,8 +82,8 @@ impl Case<'_> {
                 bytes: None,
             })?;
         }
-        let mut disk = ShortDisk::new(alloc, homes)?;
-        format(&mut disk, files.as_mut_slice())?;
+        let mut disk = ShortDisk::new(alloc, self.journals, homes)?;
+        format(&mut disk, self.journals, files.as_mut_slice())?;
         Ok(disk)
     }
 
@@ -110,8 +113,17 @@ impl Case<'_> {
         }
     }
 
+    /// Whether the gate says that an msync is done that comes after so many others, where its sector holds that filling. Two journals
+    /// are named in turn: the second by what opens a gate, and the first by other bytes, of which the old ones are none.
+    fn is_done(&self, others: usize, filling: usize) -> bool {
+        match self.journals {
+            Journals::Paired if others % 2 == 1 => filling != OPEN && filling != OLD,
+            _ => filling == OPEN,
+        }
+    }
+
     /// What the homes hold once the store was opened that a run left, with that filling of its unsynced sectors: that is what the
-    /// judge says, with an msync that failed only where the gate's sector is filled with what opens it.
+    /// judge says, with an msync that failed only where the gate's sector is filled with what says that it is done.
     pub(crate) fn standing(
         &self,
         alloc: Global,
@@ -120,9 +132,10 @@ impl Case<'_> {
         filling: usize,
     ) -> Result<Vec<u8>, Fail> {
         let write = told.store.disk.writes();
-        let opens = filling == OPEN && self.gates.get(judge.synced) == Some(&write);
+        let at_gate = self.gates.get(judge.synced) == Some(&write);
+        let is_done = at_gate && self.is_done(judge.synced, filling);
         let wanted = match &judge.before {
-            Some(before) if !opens => before.clone()?,
+            Some(before) if !is_done => before.clone()?,
             _ => judge.flat.durable(alloc)?,
         };
         let left = opened(told.store.left(alloc, FILLINGS[filling % 5])?)?;

@@ -2,7 +2,7 @@
 use crate::bench::{Armed, Case, expect};
 use crate::cases::{
     HALTING, MOST_PAGES, OBJECT_PAGES, OWN_PAGES, PAGES_IN_SLOTS, PARTIAL_PAGE, SHARED_COPY,
-    TWO_FILES, TWO_PROCESSES, most_pages,
+    TWO_FILES, TWO_PAGES_IN_TURN, TWO_PROCESSES, most_pages,
 };
 use crate::fillings::EACH;
 use std::test::Fail;
@@ -34,7 +34,7 @@ fn a_failing_call_of_swap_stalls_one_line(rt: HostRuntime) -> Result<(), Fail> {
 /// The machine does not start, or a line stalls, or an msync fails and halts it.
 #[test]
 fn a_failing_call_of_the_store_leaves_an_msync_or_none(rt: HostRuntime) -> Result<(), Fail> {
-    for case in [PARTIAL_PAGE, TWO_FILES, TWO_PROCESSES] {
+    for case in [PARTIAL_PAGE, TWO_FILES, TWO_PROCESSES, TWO_PAGES_IN_TURN] {
         case.try_each(rt.alloc(), false)?;
     }
     Ok(())
@@ -57,7 +57,8 @@ fn a_failing_call_of_the_store_leaves_most_pages_whole(rt: HostRuntime) -> Resul
 }
 
 /// A sync that fails within an msync of one page, the first behind sixteen writes, the second behind that of the gate, comes so many
-/// calls after the start and the reads of the page. The machine is halted, and what stands is what the gate's sector says.
+/// calls after the start and the reads of the page. The machine is halted and calls the device no more, so that no sync is believed
+/// which comes behind it, and what stands is what the gate's sector says.
 #[test]
 fn a_failed_sync_halts_the_machine(rt: HostRuntime) -> Result<(), Fail> {
     let image = HALTING.image(rt.alloc())?;
@@ -67,8 +68,13 @@ fn a_failed_sync_halts_the_machine(rt: HostRuntime) -> Result<(), Fail> {
     };
     let at_start = start.ran(rt.alloc(), &image, Armed::Nothing)?;
     for (calls, writes) in [(8 + 17, 16), (8 + 19, 17)] {
-        let armed = Armed::FailAtCall(at_start.store.disk.calls().saturating_add(calls));
+        let call = at_start.store.disk.calls().saturating_add(calls);
+        let armed = Armed::FailAtCall(call);
         let told = HALTING.ran(rt.alloc(), &image, armed)?;
+        expect(
+            told.store.disk.calls() == call,
+            "a call behind a sync that failed",
+        )?;
         expect(
             told.output.as_slice() == HALTING.replies,
             "other replies than wanted",

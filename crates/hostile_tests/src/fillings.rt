@@ -35,5 +35,8 @@ pub(crate) const FILLINGS: [Option<&[u8; 512]>; 5] = [
 /// Their places.
 pub(crate) const EACH: [usize; 5] = [0, 1, 2, 3, 4];
 
+/// The place of the bytes that were there before.
+pub(crate) const OLD: usize = 0;
+
 /// The place of the one that opens the gate.
 pub(crate) const OPEN: usize = 4;

@@ -5,8 +5,8 @@
 //! stopped recoveries leave, those are left out in which the filling of one isn't the next of `FILLINGS` after that of the one
 //! before; for the longest trace the first stop takes one filling a write, the next each time. So each test takes seconds.
 use crate::bench::{Armed, Case, expect, opened};
-use crate::cases::{PARTIAL_PAGE, TWO_FILES, TWO_PROCESSES};
-use crate::fillings::{EACH, FILLINGS};
+use crate::cases::{ONE_PAGE_IN_TURN, PARTIAL_PAGE, TWO_FILES, TWO_PROCESSES};
+use crate::fillings::{EACH, FILLINGS, OPEN};
 use crate::judge::heard;
 use crate::short_disk::ShortDisk;
 use file_store::{FileStore, OpenFault};
@@ -114,4 +114,12 @@ fn stopped_recoveries_of_a_second_msync_change_nothing(rt: HostRuntime) -> Resul
         stop_at(rt.alloc(), &TWO_PROCESSES, &image, write as u64, &[filling])?;
     }
     Ok(())
+}
+
+/// A recovery of two journals in turn is a commit of no pages, of seventeen writes for one page. The first stop comes at the gate that
+/// names the second journal.
+#[test]
+fn stopped_recoveries_of_journals_in_turn_change_nothing(rt: HostRuntime) -> Result<(), Fail> {
+    let image = ONE_PAGE_IN_TURN.image(rt.alloc())?;
+    stop_at(rt.alloc(), &ONE_PAGE_IN_TURN, &image, 17, &[OPEN])
 }

@@ -6,43 +6,103 @@ ghost use Rattle.disk_model.specs.SimDisk.{sectors_in, sector_of, IsUnsynced, mo
 
 use disk_model::{Asked, DiskFault, SectorDisk, SimDisk};
 use std::alloc::{AllocError, Global};
+use sync_journal::Journals;
 
-/// The sector of the gate, and those at which the journal's body and the homes begin.
-const GATE: u64 = 2;
-
-const BODY: u64 = 11;
-
-const FIRST_HOME: u64 = 8195;
+/// The first sector that any run writes.
+const FIRST_WRITTEN: u64 = 2;
 
 /// The most pages of a journal.
 const BODY_PAGES: u64 = 1023;
 
-/// A device in memory. Of the journal's body it has as many pages as there are homes, since no commit takes more: a call that
+/// Sectors that are there, from one up to another, behind so many that are absent.
+#[derive(Clone, Copy)]
+struct Piece {
+    from: u64,
+    to: u64,
+    absent: u64,
+}
+
+impl Piece {
+    /// Where so many sectors from that one on lie, if they are of this piece.
+    fn place(&self, n: u64, count: u64) -> Option<u64>
+        ensures { IfSome result (λ at. at ≤ n) }
+    {
+        if self.from <= n && n < self.to && count <= self.to - n {
+            Some(n.saturating_sub(self.absent))
+        } else {
+            None
+        }
+    }
+}
+
+/// Where the pieces of a store of few homes lie: what lies before a body and so many sectors of the body, of each journal, and the homes.
+fn pieces_of(journals: Journals, body: u64, homes: u64) -> [Piece; 3] {
+    let (first, second, first_home) = match journals {
+        Journals::Single => (11, 11, 8195),
+        Journals::Paired => (32, 8216, 16408),
+    };
+    let first_end = body.saturating_add(first);
+    let second_end = match journals {
+        Journals::Single => second,
+        Journals::Paired => body.saturating_add(8224),
+    };
+    let second_length = second_end.saturating_sub(second);
+    [
+        Piece {
+            from: 0,
+            to: first_end,
+            absent: 0,
+        },
+        Piece {
+            from: second,
+            to: second_end,
+            absent: second.saturating_sub(first_end),
+        },
+        Piece {
+            from: first_home,
+            to: homes.saturating_add(first_home),
+            absent: first_home.saturating_sub(first_end.saturating_add(second_length)),
+        },
+    ]
+}
+
+/// A device in memory. Of a journal's body it has as many pages as there are homes, since no commit takes more: a call that
 /// asks for another sector of the body fails.
 #[derive(Drop)]
 pub(crate) struct ShortDisk {
     pub disk: SimDisk,
     sectors: u64,
-    /// Where the homes begin in memory.
-    first_home: u64,
+    pieces: [Piece; 3],
+    /// Of a store of two journals, for each block of eight sectors whether it was written to since the last sync: a stop may spoil all of it.
+    torn: Vec<bool>,
     asked: Asked,
 }
 
 impl ShortDisk {
     /// A device of zeros with so many homes.
-    pub(crate) fn new(alloc: Global, homes: u64) -> Result<ShortDisk, AllocError> {
+    pub(crate) fn new(
+        alloc: Global,
+        journals: Journals,
+        homes: u64,
+    ) -> Result<ShortDisk, AllocError> {
         let body = homes.min(BODY_PAGES).saturating_mul(8);
-        let homes = homes.saturating_mul(8);
-        let first_home = body.saturating_add(BODY);
+        let pieces = pieces_of(journals, body, homes.saturating_mul(8));
+        let end = pieces[2].to.saturating_sub(pieces[2].absent);
+        let blocks = match journals {
+            Journals::Single => 0,
+            Journals::Paired => end / 8,
+        };
         Ok(ShortDisk {
-            disk: SimDisk::new(alloc, first_home.saturating_add(homes))?,
-            sectors: homes.saturating_add(FIRST_HOME),
-            first_home,
+            disk: SimDisk::new(alloc, end)?,
+            sectors: pieces[2].to,
+            pieces,
+            torn: Vec::from_elem(alloc, false, blocks as usize)?,
             asked: Asked::new(),
         })
     }
 
-    /// The device after a stop, with these bytes in its unsynced sectors, or else those that were last synced.
+    /// The device after a stop, with these bytes in its unsynced sectors, or else those that were last synced. Of a store of two
+    /// journals these bytes are in each block of 4,096 that has such a sector.
     pub(crate) fn left(
         &self,
         alloc: Global,
@@ -50,22 +110,55 @@ impl ShortDisk {
     ) -> Result<ShortDisk, AllocError> {
         let mut chosen = Vec::new(alloc);
         if let Some(bytes) = filling {
-            for sector in GATE..self.disk.sectors() {
+            for sector in FIRST_WRITTEN..self.disk.sectors() {
                 chosen.push((sector, *bytes))?;
             }
         }
+        let disk = self.disk.left(alloc, chosen.as_slice())?;
+        let disk = match filling {
+            Some(bytes) if !self.torn.is_empty() => self.spoiled(alloc, disk, bytes)?,
+            _ => disk,
+        };
         Ok(ShortDisk {
-            disk: self.disk.left(alloc, chosen.as_slice())?,
+            disk,
             sectors: self.sectors,
-            first_home: self.first_home,
+            pieces: self.pieces,
+            torn: Vec::from_elem(alloc, false, self.torn.len())?,
             asked: Asked::new(),
         })
+    }
+
+    /// Another device, with these bytes in each block that was written to here since the last sync.
+    fn spoiled(
+        &self,
+        alloc: Global,
+        mut disk: SimDisk,
+        bytes: &[u8; 512],
+    ) -> Result<SimDisk, AllocError> {
+        for n in 0..self.disk.sectors() {
+            let is_torn = self.torn.get((n / 8) as usize) == Some(&true);
+            if is_torn && n < disk.sectors() {
+                let _ = disk.write(n, bytes);
+            }
+        }
+        let _ = disk.sync();
+        disk.left(alloc, &[])
+    }
+
+    /// Notes that the block of a sector was written to.
+    fn tear(&mut self, at: u64)
+        ensures { self.new ≡ record self.old { torn = self.new.torn } }
+    {
+        if let Some(torn) = self.torn.get_mut((at / 8) as usize) {
+            *torn = true;
+        }
     }
 
     /// What the homes hold.
     pub(crate) fn homes(&self, alloc: Global) -> Result<Vec<u8>, AllocError> {
         let mut bytes = Vec::new(alloc);
-        for n in self.first_home..self.disk.sectors() {
+        let homes = self.pieces[2];
+        for n in homes.from.saturating_sub(homes.absent)..self.disk.sectors() {
             bytes.extend_from_slice(self.disk.sector(n))?;
         }
         Ok(bytes)
@@ -75,17 +168,22 @@ impl ShortDisk {
     fn place(&self, n: u64, count: u64) -> Option<u64>
         ensures { IfSome result (λ at. (at + count ≤ sectors_in self.now.disk) × (at ≤ n)) }
     {
-        let absent = FIRST_HOME.saturating_sub(self.first_home);
-        let end = self.disk.sectors();
-        let (at, limit) = if n < FIRST_HOME {
-            (n, self.first_home.min(end))
-        } else {
-            (n.saturating_sub(absent), end)
-        };
+        let at = self.place_in_pieces(n, count)?;
         match at.checked_add(count) {
-            Some(last) if last <= limit => Some(at),
+            Some(end) if end <= self.disk.sectors() => Some(at),
             _ => None,
         }
+    }
+
+    fn place_in_pieces(&self, n: u64, count: u64) -> Option<u64>
+        ensures { IfSome result (λ at. at ≤ n) }
+    {
+        for piece in &self.pieces {
+            if let Some(at) = piece.place(n, count) {
+                return Some(at);
+            }
+        }
+        None
     }
 
     /// A call that fails.
@@ -136,7 +234,10 @@ impl SectorDisk for ShortDisk {
     fn write(&mut self, n: u64, from: &[u8; 512]) -> Result<(), DiskFault> {
         self.asked.sector(n);
         match self.place(n, 1) {
-            Some(at) => self.disk.write(at, from),
+            Some(at) => {
+                self.tear(at);
+                self.disk.write(at, from)
+            }
             None => self.fail(),
         }
     }
@@ -152,12 +253,17 @@ impl SectorDisk for ShortDisk {
     fn write_page(&mut self, n: u64, from: &[u8; 4096]) -> Result<(), DiskFault> {
         self.asked.page(n);
         match self.place(n, 8) {
-            Some(at) => self.disk.write_page(at, from),
+            Some(at) => {
+                self.tear(at);
+                self.disk.write_page(at, from)
+            }
             None => self.fail(),
         }
     }
 
     fn sync(&mut self) -> Result<(), DiskFault> {
-        self.disk.sync()
+        self.disk.sync()?;
+        self.torn.fill(false);
+        Ok(())
     }
 }

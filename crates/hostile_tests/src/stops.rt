@@ -1,9 +1,9 @@
 //! A stop at each write of the store, with each filling of the unsynced sectors: it fails one msync, and leaves what was acknowledged,
-//! and no more but at the write that opens a gate: the msync that failed too, whole, where the gate's sector holds all of what opens it.
+//! and no more but at the write of a gate: the msync that failed too, whole, where the gate's sector holds what says that it is done.
 use crate::bench::{Armed, Case, expect};
 use crate::cases::{
-    MOST_PAGES, ONE_PAGE, PAGE_IN_THE_JOURNAL, PAGES_IN_SLOTS, PARTIAL_PAGE, TWO_FILES_TWICE,
-    TWO_PROCESSES, most_pages,
+    MOST_PAGES, ONE_PAGE, ONE_PAGE_IN_TURN, PAGE_IN_THE_JOURNAL, PAGES_IN_SLOTS, PARTIAL_PAGE,
+    TWO_FILES_TWICE, TWO_PAGES_IN_TURN, TWO_PROCESSES, most_pages,
 };
 use std::test::Fail;
 
@@ -12,6 +12,15 @@ use std::test::Fail;
 #[test]
 fn a_page_is_old_or_new(rt: HostRuntime) -> Result<(), Fail> {
     for case in [ONE_PAGE, PARTIAL_PAGE, TWO_PROCESSES, PAGE_IN_THE_JOURNAL] {
+        case.try_each(rt.alloc(), true)?;
+    }
+    Ok(())
+}
+
+/// Of two journals in turn the other one is written first, and homes that the new one doesn't take, and then the gate.
+#[test]
+fn a_page_is_old_or_new_in_turn(rt: HostRuntime) -> Result<(), Fail> {
+    for case in [ONE_PAGE_IN_TURN, TWO_PAGES_IN_TURN] {
         case.try_each(rt.alloc(), true)?;
     }
     Ok(())

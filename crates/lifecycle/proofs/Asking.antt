@@ -11,8 +11,8 @@ use Rattle.paging.specs.Picture.{Picture, picture_of}
 use Rattle.paging.specs.Parts.{IsFit}
 use Rattle.paging.specs.Calls.{ObtainsTable, KeepsBesideProcesses}
 use Rattle.paging.specs.Steps.{Spawns}
-use Rattle.mapping.specs.Asking.{AsksNoNew, AsksSlots}
-use Rattle.mapping.proofs.Asking.{no_new_then, no_new_held, no_new_taken, asks_slots_kept, asks_slots_then}
+use Rattle.mapping.specs.Asking.{AsksNoNew, AsksSlots, AsksSlotsIf}
+use Rattle.mapping.proofs.Asking.{no_new_then, no_new_held, no_new_taken, asks_slots_if, asks_slots_kept, asks_slots_then}
 
 -- a frame was taken for a table, which is the root of a process that was made
 pub no_new_spawned : {mode : ℕ} (old mid new : Picture mode) (pid n : ℕ) → IsFit old → ObtainsTable old mid n → Spawns mid new pid n → AsksNoNew old new None Nothing
@@ -22,7 +22,7 @@ no_new_spawned old mid new pid n fit obtains spawns =
 
 module _ {M : Type 0} {m : Levels.Ghosts M} {D E : Type 0} (h : Ghosts E) where
   -- the processes changed alone
-  pub asks_process : (old mid new : Core D E M m) → KeepsBesideProcesses mid new → AsksSlots h old mid None Nothing → AsksSlots h old new None Nothing
+  pub asks_process : {full : Type 0} (old mid new : Core D E M m) → KeepsBesideProcesses mid new → AsksSlotsIf h full old mid None Nothing → AsksSlotsIf h full old new None Nothing
   asks_process old mid new rest asks = asks_slots_kept h old mid new None Nothing (ap (λ s. s.pages) rest.swap) asks
 
   no_new_process : (old mid new : Core D E M m) → KeepsBesideProcesses mid new → AsksNoNew (picture_of old) (picture_of mid) None Nothing → AsksNoNew (picture_of old) (picture_of new) None Nothing
@@ -33,8 +33,9 @@ module _ {M : Type 0} {m : Levels.Ghosts M} {D E : Type 0} (h : Ghosts E) where
       (λ k none. absurd none)
 
   -- a process was made, mapped as another, its tables were linked, and then no device was asked
-  pub asks_forked : (old spawned mapped mid new : Core D E M m) → AsksSlots h old spawned None Nothing → AsksNoNew (picture_of old) (picture_of spawned) None Nothing → KeepsBesideProcesses spawned mapped
-      → AsksSlots h mapped mid None Nothing → new.swap.pages ≡ mid.swap.pages → AsksSlots h old new None Nothing
-  asks_forked old spawned mapped mid new first still rest second same =
+  pub asks_forked : {first last : Type 0} (old spawned mapped mid new : Core D E M m) → AsksSlotsIf h first old spawned None Nothing → AsksNoNew (picture_of old) (picture_of spawned) None Nothing → KeepsBesideProcesses spawned mapped
+      → AsksSlotsIf h last mapped mid None Nothing → new.swap.pages ≡ mid.swap.pages → AsksSlots h old new None Nothing
+  asks_forked {last = last} old spawned mapped mid new first still rest second same =
       asks_slots_kept h old mid new None Nothing same
-      (asks_slots_then h old mapped mid None Nothing Nothing (asks_process old spawned mapped rest first) (no_new_process old spawned mapped rest still) second (λ k none. absurd none))
+      (asks_slots_then h last old mapped mid None Nothing Nothing (asks_slots_if h (Unit {0}) old mapped None Nothing (λ full. tt) (asks_process old spawned mapped rest first))
+      (no_new_process old spawned mapped rest still) (λ full. tt) second (λ k none. absurd none))

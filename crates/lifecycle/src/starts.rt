@@ -11,7 +11,7 @@ ghost use Rattle.paging.specs.Ages.{GivesForTables, KeepsRoles};
 ghost use Rattle.frames.specs.FrameTable.{IsFull};
 ghost use Rattle.paging.specs.Shows.{KeepsFiles};
 ghost use Rattle.mapping.specs.Changes.{KeepsBare, KeepsRoom};
-ghost use Rattle.mapping.specs.Asking.{AsksNoNew, AsksSlots};
+ghost use Rattle.mapping.specs.Asking.{AsksIfFull, AsksNoNew};
 ghost use Rattle.lifecycle.specs.Changes.{AddsProcess, KeepsProcesses, TakesRoot, TakesNoCopy};
 
 use disk_model::SectorDisk;
@@ -35,7 +35,7 @@ pub fn spawn<D, E: SectorDisk, M: Levels>(core: &mut Core<D, E, M>, pid: Pid) ->
     ensures gives { OnOk result (GivesForTables (picture_of core.old) (picture_of core.new) None) }
     ensures tried { OnErr result ((tried : Option ℕ) × GivesForTables (picture_of core.old) (picture_of core.new) tried) }
     ensures still { OnErr result (KeepsRoles (picture_of core.old) (picture_of core.new)) }
-    ensures asks { AsksSlots E.SectorDisk core.old core.new None Nothing }
+    ensures asks { AsksIfFull E.SectorDisk core.old core.new None Nothing }
     ensures asks_later { AsksNoNew (picture_of core.old) (picture_of core.new) None Nothing }
     ensures full { OnErr result (IsFull core.new.frames) }
     ensures refuses { IfErr result (Refuses (picture_of core.new) None) }

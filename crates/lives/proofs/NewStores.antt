@@ -1,43 +1,51 @@
 -- The stores that `format` and an upgrade make.
-use Rattle.std.proofs.Common.{ℕ, ◌≡◌, ◌⊎◌, ⊎_elim, inl, inr, List, Option, refl}
+use Rattle.std.proofs.Common.{ℕ, ◌≡◌, ◌⊎◌, ⊎_elim, inl, inr, List, Option, refl, subst}
 use Rattle.std.proofs.lemmas.Bool.{cases_Bool}
 use Rattle.std.proofs.lemmas.Slice.Eq.{bytes_eq-Decides}
 use Rattle.std.specs.Str.{bytes_eq}
 use Rattle.disk_model.specs.Stop.{Image}
 use Rattle.file_store.specs.declared.sources.FileSource.{FileSource}
 use Rattle.file_store.specs.Format.{IsStoreOf, IsStoreIfMarked}
-use Rattle.file_store.specs.Layout.{mark}
-use Rattle.file_store.specs.Standing.{IsBadLayout, OldStandsFor, StandsFor, standing_page}
+use Rattle.sync_journal.specs.Kinds.{kind_of, kind_standing, IsKindBad}
+use Rattle.sync_journal.specs.declared.store_journal.Journals.{Journals}
+use Rattle.sync_journal.specs.declared.store_journal.Journals.TheVariants.{Single, Paired}
+use Rattle.file_store.specs.Versions.{version_at, version_of, mark_of}
+use Rattle.file_store.specs.Standing.{IsBadLayout, OldStandsFor, StandsFor, StandsForIn, standing_page}
 use Rattle.file_store.specs.Standing.IsBadLayoutIn.{Unmarked}
 use Rattle.file_store.specs.Upgrade.{IsUpgradeOf, IsUpgradeIfMarked}
 use Rattle.vm_types.specs.Files.{Files}
 use Rattle.vm_types.specs.View.{Pages}
 use Rattle.lives.specs.Formatted.{StandsForSources}
 
-pub stands_for_sources : {R : Type 0} (remaining : R → Option (List ℕ)) (sectors : ℕ) (sources : List (FileSource R)) (image : Image)
-    → IsStoreOf remaining sectors sources image → StandsForSources remaining sectors sources image
-stands_for_sources remaining sectors sources image store = (
+pub stands_for_sources : {R : Type 0} (journals : Journals) (remaining : R → Option (List ℕ)) (sectors : ℕ) (sources : List (FileSource R)) (image : Image)
+    → IsStoreOf journals remaining sectors sources image → StandsForSources remaining sectors sources image
+stands_for_sources journals remaining sectors sources image store = (
   standing_page image,
   λ f k source page at inside told. store.pages f k source page at inside told,
   record { layout = store.layout; journal = store.journal; facts = store.facts; same = λ f k inside. refl },
 )
 
--- an image without the mark is no store
-none_or : (P : Type 0) (sectors : ℕ) (image : Image) → (image 0 ≡ mark → P) → IsBadLayout sectors image ⊎ P
+-- an image without the mark of its layout is no store
+none_or : (P : Type 0) (sectors : ℕ) (image : Image) → (image 0 ≡ mark_of (version_of image) → P) → IsBadLayout sectors image ⊎ P
 none_or P sectors image marked =
-    let decides = bytes_eq-Decides (image 0) mark in
-    ⊎_elim (λ is. inr (marked (decides.0 is))) (λ is. inl (Unmarked (λ same. let other = decides.1 same in cc))) (cases_Bool (bytes_eq (image 0) mark))
+    let decides = bytes_eq-Decides (image 0) (mark_of (version_of image)) in
+    ⊎_elim (λ is. inr (marked (decides.0 is))) (λ is. inl (Unmarked (λ same. let other = decides.1 same in cc))) (cases_Bool (bytes_eq (image 0) (mark_of (version_of image))))
 
-pub stopped_format : {R : Type 0} (remaining : R → Option (List ℕ)) (sectors : ℕ) (sources : List (FileSource R)) (image : Image)
-    → IsStoreIfMarked remaining sectors sources image → IsBadLayout sectors image ⊎ StandsForSources remaining sectors sources image
-stopped_format remaining sectors sources image made =
-    none_or (StandsForSources remaining sectors sources image) sectors image (λ marked. stands_for_sources remaining sectors sources image (made marked))
+pub stopped_format : {R : Type 0} (journals : Journals) (remaining : R → Option (List ℕ)) (sectors : ℕ) (sources : List (FileSource R)) (image : Image)
+    → IsStoreIfMarked journals remaining sectors sources image → IsBadLayout sectors image ⊎ StandsForSources remaining sectors sources image
+stopped_format journals remaining sectors sources image made =
+    none_or (StandsForSources remaining sectors sources image) sectors image (λ marked. stands_for_sources journals remaining sectors sources image (made marked))
 
-pub upgrade_stands : (old_sectors sectors : ℕ) (files : Files) (pages : Pages) (old image : Image) → OldStandsFor old_sectors files pages old
-    → IsUpgradeOf old_sectors sectors old image → StandsFor sectors files pages image
-upgrade_stands old_sectors sectors files pages old image stood made = made.stands files pages stood
+-- what an image of layout 2 stands for is what an upgrade to layout 3 reads
+pub lived_before : (sectors : ℕ) (files : Files) (pages : Pages) (image : Image) → kind_of image ≡ Single → StandsFor sectors files pages image → OldStandsFor Paired sectors files pages image
+lived_before sectors files pages image is stood =
+    subst (λ kind. StandsForIn (version_at kind) (IsKindBad kind sectors image) (λ h i. kind_standing kind image h i) sectors files pages image) is stood
 
-pub stopped_upgrade : (old_sectors sectors : ℕ) (files : Files) (pages : Pages) (old image : Image) → OldStandsFor old_sectors files pages old
-    → IsUpgradeIfMarked old_sectors sectors old image → IsBadLayout sectors image ⊎ StandsFor sectors files pages image
-stopped_upgrade old_sectors sectors files pages old image stood made =
-    none_or (StandsFor sectors files pages image) sectors image (λ marked. upgrade_stands old_sectors sectors files pages old image stood (made marked))
+pub upgrade_stands : (journals : Journals) (old_sectors sectors : ℕ) (files : Files) (pages : Pages) (old image : Image) → OldStandsFor journals old_sectors files pages old
+    → IsUpgradeOf journals old_sectors sectors old image → StandsFor sectors files pages image
+upgrade_stands journals old_sectors sectors files pages old image stood made = made.stands files pages stood
+
+pub stopped_upgrade : (journals : Journals) (old_sectors sectors : ℕ) (files : Files) (pages : Pages) (old image : Image) → OldStandsFor journals old_sectors files pages old
+    → IsUpgradeIfMarked journals old_sectors sectors old image → IsBadLayout sectors image ⊎ StandsFor sectors files pages image
+stopped_upgrade journals old_sectors sectors files pages old image stood made =
+    none_or (StandsFor sectors files pages image) sectors image (λ marked. upgrade_stands journals old_sectors sectors files pages old image stood (made marked))

@@ -1,10 +1,14 @@
 //! Laws of stores and of their lives. The functions do nothing: each one's contract is the law.
 ghost use Rattle.std.specs.Prelude.{◌≡◌, ◌⊎◌, ◌↔◌, true, ℕ, List, [], ◌∷◌, ◌++◌, Option};
 ghost use Rattle.disk_model.specs.Stop.{Image};
-ghost use Rattle.sync_journal.specs.Layout.{layout_1};
-ghost use Rattle.sync_journal.specs.Standing.{IsBadJournal, IsBadJournalIn};
+ghost use Rattle.sync_journal.specs.Layout.{layout_before};
+ghost use Rattle.sync_journal.specs.Standing.{standing_in};
+ghost use Rattle.sync_journal.specs.Kinds.{kind_of};
+ghost use Rattle.sync_journal.specs.declared.store_journal.Journals.{Journals};
+ghost use Rattle.sync_journal.specs.declared.store_journal.Journals.TheVariants.{Single, Paired};
 ghost use Rattle.file_store.specs.Format.{IsStoreOf, IsStoreIfMarked, files_given};
-ghost use Rattle.file_store.specs.Standing.{IsBadLayout, IsBadOldLayout, IsPageOf, OldStandsFor, StandsFor, file_info, standing_page_in};
+ghost use Rattle.file_store.specs.Standing.{IsBadLayout, IsBadJournal, IsBadOldLayout, IsBadOldJournal, IsPageOf, OldStandsFor, StandsFor, info_at, standing_page_at};
+ghost use Rattle.file_store.specs.Versions.{version_before};
 ghost use Rattle.file_store.specs.Upgrade.{IsUpgradeOf, IsUpgradeIfMarked};
 ghost use Rattle.file_store.specs.declared.sources.FileSource.{FileSource};
 ghost use Rattle.vm_types.specs.declared.command.Command.{Command};
@@ -31,25 +35,28 @@ ghost use Rattle.lives.specs.Upgraded.{IsUpgradedStore};
 use disk_model::SectorDisk;
 use std::io::Read;
 
-/// A new store stands for the bytes of its sources: its layout and its journal are good, its files are those of the sources,
+/// A new store of either layout stands for the bytes of its sources: its layout and its journal are good, its files are those of the sources,
 /// and each page of them is the one that the source told. What a stop leaves while it is made is no store, so that every
 /// opening and boot returns `BadLayout`, or all of it.
 pub fn new_store<R: Read>(_reader: &R)
-    ensures made { (sectors : ℕ) (sources : List (FileSource R)) (image : Image) → IsStoreOf R.remaining sectors sources image
+    ensures made { (journals : Journals) (sectors : ℕ) (sources : List (FileSource R)) (image : Image) → IsStoreOf journals R.remaining sectors sources image
         → StandsForSources R.remaining sectors sources image }
-    ensures stopped { (sectors : ℕ) (sources : List (FileSource R)) (image : Image) → IsStoreIfMarked R.remaining sectors sources image
+    ensures stopped { (journals : Journals) (sectors : ℕ) (sources : List (FileSource R)) (image : Image) → IsStoreIfMarked journals R.remaining sectors sources image
         → IsBadLayout sectors image ⊎ StandsForSources R.remaining sectors sources image }
 {}
 
-/// A store that an upgrade made stands for what the one of layout 1 stood for, which is something wherever that has a good
+/// A store that an upgrade made stands for what the one of the layout before stood for, which is something wherever that has a good
 /// layout and a good journal. What a stop leaves while it is made is no store, or all of it.
 pub fn upgraded_store()
-    ensures stood { (sectors : ℕ) (old : Image) → (IsBadOldLayout sectors old → ⊥) → (IsBadJournalIn layout_1 sectors old → ⊥)
-        → OldStandsFor sectors (file_info old) (standing_page_in layout_1 old) old }
-    ensures made { (old_sectors sectors : ℕ) (files : Files) (pages : Pages) (old image : Image) → OldStandsFor old_sectors files pages old
-        → IsUpgradeOf old_sectors sectors old image → StandsFor sectors files pages image }
-    ensures stopped { (old_sectors sectors : ℕ) (files : Files) (pages : Pages) (old image : Image) → OldStandsFor old_sectors files pages old
-        → IsUpgradeIfMarked old_sectors sectors old image → IsBadLayout sectors image ⊎ StandsFor sectors files pages image }
+    ensures stood { (journals : Journals) (sectors : ℕ) (old : Image) → (IsBadOldLayout journals sectors old → ⊥) → (IsBadOldJournal journals sectors old → ⊥)
+        → OldStandsFor journals sectors (info_at (version_before journals) old) (standing_page_at (version_before journals) (standing_in (layout_before journals) old) old) old }
+    // A store of one journal, as lives leave it, stands for the same to the upgrade that makes one of two of it.
+    ensures lived { (sectors : ℕ) (files : Files) (pages : Pages) (old : Image) → kind_of old ≡ Single → StandsFor sectors files pages old
+        → OldStandsFor Paired sectors files pages old }
+    ensures made { (journals : Journals) (old_sectors sectors : ℕ) (files : Files) (pages : Pages) (old image : Image) → OldStandsFor journals old_sectors files pages old
+        → IsUpgradeOf journals old_sectors sectors old image → StandsFor sectors files pages image }
+    ensures stopped { (journals : Journals) (old_sectors sectors : ℕ) (files : Files) (pages : Pages) (old image : Image) → OldStandsFor journals old_sectors files pages old
+        → IsUpgradeIfMarked journals old_sectors sectors old image → IsBadLayout sectors image ⊎ StandsFor sectors files pages image }
 {}
 
 /// What any number of lives leave of a store that stood for these files: the files that the first image stood for, with what
@@ -73,7 +80,7 @@ pub fn formatted_lives<R: Read, D: SectorDisk, E: SectorDisk>(_reader: &R, _stor
         → (before : Pages) × AreSourcesBytes R.remaining sources before × StandsForSome sectors (files_given sources) (IsLeftBy before lives) image }
 {}
 
-/// What lives leave of a store that an upgrade made begins with what the store of layout 1 stood for.
+/// What lives leave of a store that an upgrade made begins with what the store of the layout before stood for.
 pub fn upgraded_lives<D: SectorDisk, E: SectorDisk>(_store: &D, _swap: &E)
     ensures { (sectors : ℕ) (files : Files) (before : Pages) (lives : List Life) (image : Image)
         → IsUpgradedStore D.SectorDisk E.SectorDisk sectors files before lives image → StandsForSome sectors files (IsLeftBy before lives) image }

@@ -1,5 +1,6 @@
 //! One life of a store.
 ghost use Rattle.std.specs.Prelude.{◌≡◌, ℕ, List, IfOk, IfErr, length};
+ghost use Rattle.machine.specs.Boot.{BootRefuses, HasRoom};
 ghost use Rattle.machine.specs.Machine.{IsSoundMachine, store_of, swap_of};
 ghost use Rattle.vm_types.specs.Files.{Files};
 ghost use Rattle.vm_types.specs.View.{Pages};
@@ -10,8 +11,9 @@ use machine::{BootFault, Config, Machine};
 use std::alloc::Global;
 use vm_types::{Command, Reply};
 
-/// Boots a machine on a store as a stop left it, and has it carry out commands: with whatever stop comes meanwhile, that is a life.
-/// On what lives left of a store, and on one that has had none, it never returns `BadLayout` or `BadJournal`.
+/// Boots a machine of that size on a store as a stop left it, and has it carry out commands: with whatever stop comes meanwhile,
+/// that is a life. Where no machine starts, the fault is that of `Machine::boot`; on what lives left of a store, and on one that
+/// has had none, it is never `BadLayout` or `BadJournal`.
 pub fn live<D: SectorDisk, E: SectorDisk + Drop>(
     alloc: Global,
     config: Config,
@@ -22,8 +24,11 @@ pub fn live<D: SectorDisk, E: SectorDisk + Drop>(
 ) -> Result<Machine<D, E>, (BootFault, D)>
     requires lengths { length replies.old ≡ length commands.now }
     ensures sound { IfOk result (λ m. IsSoundMachine D.SectorDisk E.SectorDisk m) }
+    ensures room { IfOk result (λ m. HasRoom m config) }
+    ensures swap_kept { IfOk result (λ m. E.keeps_model (swap_of m) → E.keeps_model swap) }
     ensures lived { IfOk result (λ m. D.keeps_model (store_of m) → E.keeps_model (swap_of m)
         → RanSince D.SectorDisk E.SectorDisk store m commands.now replies.new) }
+    ensures refuses { IfErr result (λ e. BootRefuses D.SectorDisk config (E.sector_count swap) store e.0 e.1) }
     ensures failed { IfErr result (λ e. D.keeps_model e.1 → ((k : ℕ) → D.unsynced store k → ⊥) → FailedSince D.SectorDisk E.SectorDisk store e.1) }
     ensures good_layout { IfErr result (λ e. D.keeps_model e.1 → (files : Files) (before : Pages) (lives : List Life)
         → HoldsLives D.SectorDisk E.SectorDisk files before lives store → e.0 ≡ BootFault.BadLayout → ⊥) }

@@ -12,6 +12,7 @@ use file_store::{FileSource, format};
 use machine::{Config, Machine};
 use std::alloc::Global;
 use std::test::Fail;
+use sync_journal::Journals;
 use vm_types::{Command, MapSource, Mode, MsyncMode, Placing, Prot, Reply, StoredValue, Width};
 
 /// A device with a store of one file, of one page of zeros.
@@ -22,7 +23,7 @@ fn formatted(alloc: Global) -> Result<SimDisk, Fail> {
         length: 4096,
         bytes: None,
     }];
-    format(&mut disk, &mut files)?;
+    format(&mut disk, Journals::Single, &mut files)?;
     Ok(disk)
 }
 

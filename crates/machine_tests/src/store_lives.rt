@@ -10,6 +10,7 @@ use std::alloc::Global;
 use std::fmt::Debug;
 use std::process::Abort;
 use std::test::Fail;
+use sync_journal::Journals;
 use vm_types::{
     Command, Errno, MapSource, Mode, MsyncMode, Placing, Prot, Reply, StoredValue, Width,
 };
@@ -28,7 +29,7 @@ fn formatted(alloc: Global) -> Result<SimDisk, Fail> {
         length: 4096,
         bytes: None,
     }];
-    format(&mut disk, &mut files)?;
+    format(&mut disk, Journals::Single, &mut files)?;
     Ok(disk)
 }
 

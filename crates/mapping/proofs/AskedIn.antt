@@ -9,6 +9,7 @@ use Rattle.vm_types.specs.declared.refusal.Stall.{Stall}
 use Rattle.disk_model.specs.declared.sector_disk.SectorDisk.{Ghosts}
 use Rattle.disk_model.specs.Moments.{AsksOnly}
 use Rattle.disk_model.proofs.Moments.{asks_none, asks_wider, asks_then}
+use Rattle.frames.specs.FrameTable.{IsFull}
 use Rattle.file_store.specs.declared.store.FileStore.{FileStore}
 use Rattle.page_cache.specs.declared.place.Place.{Place}
 use Rattle.page_cache.specs.declared.place.Place.TheVariants.{Home, Frame, Slot}
@@ -27,10 +28,10 @@ use Rattle.mapping.proofs.Asking.{asks_swap, no_new_frees}
 -- a frame was asked for, and then a slot read
 module _ {M : Type 0} {m : Levels.Ghosts M} {D E : Type 0} (h : Ghosts E) where
   pub asks_read : (old taken : Core D E M m) (got : Swap E) (keep : Option FrameNo) (also : ℕ → Type 0) (s : ℕ) → ((k : ℕ) → IsSectorOfSlot s k → also k) → AsksSwap h old taken keep
-      → AsksOnly h (IsSectorOfSlot s) taken.swap.pages.disk got.pages.disk → AsksOnly h (MayAsk (picture_of old) keep also) old.swap.pages.disk got.pages.disk
+      → AsksOnly h (IsSectorOfSlot s) taken.swap.pages.disk got.pages.disk → AsksOnly h (MayAsk (picture_of old) (IsFull old.frames) keep also) old.swap.pages.disk got.pages.disk
   asks_read old taken got keep also s more asked read =
-      asks_then h (MayAsk (picture_of old) keep also) old.swap.pages.disk taken.swap.pages.disk got.pages.disk (asks_swap h old taken keep also asked)
-      (asks_wider h (IsSectorOfSlot s) (MayAsk (picture_of old) keep also) taken.swap.pages.disk got.pages.disk (λ k is. inl (more k is)) read)
+      asks_then h (MayAsk (picture_of old) (IsFull old.frames) keep also) old.swap.pages.disk taken.swap.pages.disk got.pages.disk (asks_swap h old taken keep also asked)
+      (asks_wider h (IsSectorOfSlot s) (MayAsk (picture_of old) (IsFull old.frames) keep also) taken.swap.pages.disk got.pages.disk (λ k is. inl (more k is)) read)
 
 -- the store is as it was
 module _ {D : Type 0} (g : Ghosts D) where

@@ -8,7 +8,7 @@ use Rattle.disk_model.specs.declared.sector_disk.SectorDisk.{Ghosts}
 use Rattle.disk_model.specs.Moments.{Nothing}
 use Rattle.disk_model.proofs.Moments.{asks_wider, asks_then}
 use Rattle.frames.specs.declared.role.Role.TheVariants.{Free, Private}
-use Rattle.frames.specs.FrameTable.{role_of}
+use Rattle.frames.specs.FrameTable.{role_of, IsFull}
 use Rattle.page_tables.specs.Change.{KeepsFrames}
 use Rattle.page_cache.specs.declared.place.Place.{Place}
 use Rattle.page_cache.specs.declared.place.Place.TheVariants.{Home, Frame, Slot}
@@ -19,7 +19,7 @@ use Rattle.paging.specs.Parts.{IsFit}
 use Rattle.paging.specs.Calls.{IsSpareable, NeedsSlot, Frees, ObtainsTable, AsksSwap, AsksSwapAlso, GivesToSwap}
 use Rattle.paging.specs.Steps.{SameBeside}
 use Rattle.paging.proofs.Asking.{asks_same, asks_between}
-use Rattle.mapping.specs.Asking.{HasSwappable, MayAsk, AsksNoNew, AsksSlots}
+use Rattle.mapping.specs.Asking.{HasSwappable, MayAsk, AsksIfFull, AsksNoNew, AsksSlotsIf}
 
 -- what a call may ask for, by the steps of it
 module _ {mode : ℕ} where
@@ -27,20 +27,24 @@ module _ {mode : ℕ} where
   swappable_any : (c : Picture mode) (keep : Option FrameNo) → HasSwappable c keep → HasSwappable c None
   swappable_any c keep has = (has.0, (has.1.0, λ none. none), has.2)
 
-  may_wider : (c : Picture mode) (keep : Option FrameNo) (also more : ℕ → Type 0) → ((k : ℕ) → also k → MayAsk c keep more k) → (k : ℕ) → MayAsk c keep also k → MayAsk c keep more k
-  may_wider c keep also more wider k (inl is) = wider k is
-  may_wider c keep also more wider k (inr free) = inr free
+  may_wider : (c : Picture mode) (full : Type 0) (keep : Option FrameNo) (also more : ℕ → Type 0) → ((k : ℕ) → also k → MayAsk c full keep more k) → (k : ℕ) → MayAsk c full keep also k → MayAsk c full keep more k
+  may_wider c full keep also more wider k (inl is) = wider k is
+  may_wider c full keep also more wider k (inr free) = inr free
 
-  may_any : (c : Picture mode) (keep : Option FrameNo) (also : ℕ → Type 0) (k : ℕ) → MayAsk c keep also k → MayAsk c None also k
-  may_any c keep also k (inl is) = inl is
-  may_any c keep also k (inr free) = inr (swappable_any c keep free.0, free.1)
+  may_any : (c : Picture mode) (full : Type 0) (keep : Option FrameNo) (also : ℕ → Type 0) (k : ℕ) → MayAsk c full keep also k → MayAsk c full None also k
+  may_any c full keep also k (inl is) = inl is
+  may_any c full keep also k (inr free) = inr (free.0, swappable_any c keep free.1, free.2)
+
+  may_if : (c : Picture mode) (full more : Type 0) (keep : Option FrameNo) (also : ℕ → Type 0) → (full → more) → (k : ℕ) → MayAsk c full keep also k → MayAsk c more keep also k
+  may_if c full more keep also f k (inl is) = inl is
+  may_if c full more keep also f k (inr free) = inr (f free.0, free.1, free.2)
 
   -- what a later call may ask for, where the one before left no new sector, and what it asks for besides the earlier might have asked for
-  may_before : (old new : Picture mode) (keep : Option FrameNo) (also more : ℕ → Type 0) → AsksNoNew old new keep more → ((k : ℕ) → also k → MayAsk old None more k)
-      → (k : ℕ) → MayAsk new keep also k → MayAsk old None more k
-  may_before old new keep also more still wider k (inl is) = wider k is
-  may_before old new keep also more still wider k (inr free) = elim (still.slots k free.1) [
-    | inl was ↦ inr (still.frames free.0, was)
+  may_before : (old new : Picture mode) (full now : Type 0) (keep : Option FrameNo) (also more : ℕ → Type 0) → AsksNoNew old new keep more → (now → full) → ((k : ℕ) → also k → MayAsk old full None more k)
+      → (k : ℕ) → MayAsk new now keep also k → MayAsk old full None more k
+  may_before old new full now keep also more still f wider k (inl is) = wider k is
+  may_before old new full now keep also more still f wider k (inr free) = elim (still.slots k free.2) [
+    | inl was ↦ inr (f free.0, still.frames free.1, was)
     | inr is ↦ inl is
   ]
 
@@ -116,47 +120,56 @@ module _ {mode : ℕ} (old taken : Picture mode) (table : ℕ) (fit : IsFit old)
       (no_new_held taken new None Nothing beside.slots (λ n holds. ap (λ roles. get_or roles n Free) kept.roles) beside.place beside.touched) (λ k none. absurd none)
 
 module _ {M : Type 0} {m : Levels.Ghosts M} {D E : Type 0} (h : Ghosts E) where
-  pub asks_slots_wider : (old new : Core D E M m) (keep : Option FrameNo) (also more : ℕ → Type 0) → ((k : ℕ) → also k → MayAsk (picture_of old) keep more k) → AsksSlots h old new keep also → AsksSlots h old new keep more
-  asks_slots_wider old new keep also more wider asks =
-      asks_wider h (MayAsk (picture_of old) keep also) (MayAsk (picture_of old) keep more) old.swap.pages.disk new.swap.pages.disk (may_wider (picture_of old) keep also more wider) asks
+  module _ {full : Type 0} where
+    pub asks_slots_wider : (old new : Core D E M m) (keep : Option FrameNo) (also more : ℕ → Type 0) → ((k : ℕ) → also k → MayAsk (picture_of old) full keep more k) → AsksSlotsIf h full old new keep also
+        → AsksSlotsIf h full old new keep more
+    asks_slots_wider old new keep also more wider asks =
+        asks_wider h (MayAsk (picture_of old) full keep also) (MayAsk (picture_of old) full keep more) old.swap.pages.disk new.swap.pages.disk (may_wider (picture_of old) full keep also more wider) asks
 
-  pub asks_slots_any : (old new : Core D E M m) (keep : Option FrameNo) (also : ℕ → Type 0) → AsksSlots h old new keep also → AsksSlots h old new None also
-  asks_slots_any old new keep also asks =
-      asks_wider h (MayAsk (picture_of old) keep also) (MayAsk (picture_of old) None also) old.swap.pages.disk new.swap.pages.disk (may_any (picture_of old) keep also) asks
+    pub asks_slots_any : (old new : Core D E M m) (keep : Option FrameNo) (also : ℕ → Type 0) → AsksSlotsIf h full old new keep also → AsksSlotsIf h full old new None also
+    asks_slots_any old new keep also asks =
+        asks_wider h (MayAsk (picture_of old) full keep also) (MayAsk (picture_of old) full None also) old.swap.pages.disk new.swap.pages.disk (may_any (picture_of old) full keep also) asks
 
-  -- no call of the device was made
-  pub asks_slots_same : (old new : Core D E M m) (keep : Option FrameNo) (also : ℕ → Type 0) → new.swap ≡ old.swap → AsksSlots h old new keep also
-  asks_slots_same old new keep also same = asks_same h (MayAsk (picture_of old) keep also) old.swap new.swap same
+    -- no call of the device was made
+    pub asks_slots_same : (old new : Core D E M m) (keep : Option FrameNo) (also : ℕ → Type 0) → new.swap ≡ old.swap → AsksSlotsIf h full old new keep also
+    asks_slots_same old new keep also same = asks_same h (MayAsk (picture_of old) full keep also) old.swap new.swap same
 
-  -- or none but those before
-  pub asks_slots_kept : (old mid new : Core D E M m) (keep : Option FrameNo) (also : ℕ → Type 0) → new.swap.pages ≡ mid.swap.pages → AsksSlots h old mid keep also → AsksSlots h old new keep also
-  asks_slots_kept old mid new keep also same asks = asks_between h (MayAsk (picture_of old) keep also) old.swap old.swap mid.swap new.swap refl same asks
+    -- or none but those before
+    pub asks_slots_kept : (old mid new : Core D E M m) (keep : Option FrameNo) (also : ℕ → Type 0) → new.swap.pages ≡ mid.swap.pages → AsksSlotsIf h full old mid keep also → AsksSlotsIf h full old new keep also
+    asks_slots_kept old mid new keep also same asks = asks_between h (MayAsk (picture_of old) full keep also) old.swap old.swap mid.swap new.swap refl same asks
+
+    -- memory is full in another way
+    pub asks_slots_if : (more : Type 0) (old new : Core D E M m) (keep : Option FrameNo) (also : ℕ → Type 0) → (full → more) → AsksSlotsIf h full old new keep also → AsksSlotsIf h more old new keep also
+    asks_slots_if more old new keep also f asks =
+        asks_wider h (MayAsk (picture_of old) full keep also) (MayAsk (picture_of old) more keep also) old.swap.pages.disk new.swap.pages.disk (may_if (picture_of old) full more keep also f) asks
+
+    -- A call after one that left no new sector: what it asks for besides, the first might have asked for.
+    pub asks_slots_then : (now : Type 0) (old mid new : Core D E M m) (keep : Option FrameNo) (also more : ℕ → Type 0) → AsksSlotsIf h full old mid None also → AsksNoNew (picture_of old) (picture_of mid) keep also
+        → (now → full) → AsksSlotsIf h now mid new keep more → ((k : ℕ) → more k → MayAsk (picture_of old) full None also k) → AsksSlotsIf h full old new None also
+    asks_slots_then now old mid new keep also more first still f second wider =
+        let W : ℕ → Type 0 = MayAsk (picture_of old) full None also in
+        let before = old.swap.pages.disk in
+        let between = mid.swap.pages.disk in
+        let after = new.swap.pages.disk in
+        asks_then h W before between after first
+        (asks_wider h (MayAsk (picture_of mid) now keep more) W between after (may_before (picture_of old) (picture_of mid) full now keep more also still f wider) second)
 
   -- a frame was asked for
-  free_slots : (c : Core D E M m) (keep : Option FrameNo) (also : ℕ → Type 0) → HasSwappable (picture_of c) keep → (k : ℕ) → IsSectorOfFreeSlot (picture_of c).slots k ⊎ also k → MayAsk (picture_of c) keep also k
-  free_slots c keep also has k (inl free) = inr (has, free)
-  free_slots c keep also has k (inr is) = inl is
+  free_slots : (c : Core D E M m) (keep : Option FrameNo) (also : ℕ → Type 0) → IsFull c.frames → HasSwappable (picture_of c) keep → (k : ℕ) → IsSectorOfFreeSlot (picture_of c).slots k ⊎ also k
+      → MayAsk (picture_of c) (IsFull c.frames) keep also k
+  free_slots c keep also full has k (inl free) = inr (full, has, free)
+  free_slots c keep also full has k (inr is) = inl is
 
-  given_slots : (old new : Core D E M m) (keep : Option FrameNo) (also : ℕ → Type 0) → GivesToSwap h old new keep also → AsksSlots h old new keep also
+  given_slots : (old new : Core D E M m) (keep : Option FrameNo) (also : ℕ → Type 0) → GivesToSwap h old new keep also → AsksIfFull h old new keep also
   given_slots old new keep also given =
-      asks_wider h (λ k. IsSectorOfFreeSlot (picture_of old).slots k ⊎ also k) (MayAsk (picture_of old) keep also) old.swap.pages.disk new.swap.pages.disk
-      (free_slots old keep also (given.frame, given.spareable, given.needs)) given.asks
+      asks_wider h (λ k. IsSectorOfFreeSlot (picture_of old).slots k ⊎ also k) (MayAsk (picture_of old) (IsFull old.frames) keep also) old.swap.pages.disk new.swap.pages.disk
+      (free_slots old keep also given.full (given.frame, given.spareable, given.needs)) given.asks
 
-  pub asks_swap : (old new : Core D E M m) (keep : Option FrameNo) (also : ℕ → Type 0) → AsksSwap h old new keep → AsksSlots h old new keep also
+  pub asks_swap : (old new : Core D E M m) (keep : Option FrameNo) (also : ℕ → Type 0) → AsksSwap h old new keep → AsksIfFull h old new keep also
   asks_swap old new keep also (inl same) = asks_slots_same old new keep also same
   asks_swap old new keep also (inr given) = asks_slots_wider old new keep Nothing also (λ k none. absurd none) (given_slots old new keep Nothing given)
 
   -- and swap was asked for more
-  pub asks_swap_also : (old new : Core D E M m) (keep : Option FrameNo) (also : ℕ → Type 0) → AsksSwapAlso h old new keep also → AsksSlots h old new keep also
-  asks_swap_also old new keep also (inl only) = asks_wider h also (MayAsk (picture_of old) keep also) old.swap.pages.disk new.swap.pages.disk (λ k is. inl is) only
+  pub asks_swap_also : (old new : Core D E M m) (keep : Option FrameNo) (also : ℕ → Type 0) → AsksSwapAlso h old new keep also → AsksIfFull h old new keep also
+  asks_swap_also old new keep also (inl only) = asks_wider h also (MayAsk (picture_of old) (IsFull old.frames) keep also) old.swap.pages.disk new.swap.pages.disk (λ k is. inl is) only
   asks_swap_also old new keep also (inr given) = given_slots old new keep also given
-
-  -- A call after one that left no new sector: what it asks for besides, the first might have asked for.
-  pub asks_slots_then : (old mid new : Core D E M m) (keep : Option FrameNo) (also more : ℕ → Type 0) → AsksSlots h old mid None also → AsksNoNew (picture_of old) (picture_of mid) keep also
-      → AsksSlots h mid new keep more → ((k : ℕ) → more k → MayAsk (picture_of old) None also k) → AsksSlots h old new None also
-  asks_slots_then old mid new keep also more first still second wider =
-      let W : ℕ → Type 0 = MayAsk (picture_of old) None also in
-      let before = old.swap.pages.disk in
-      let between = mid.swap.pages.disk in
-      let after = new.swap.pages.disk in
-      asks_then h W before between after first (asks_wider h (MayAsk (picture_of mid) keep more) W between after (may_before (picture_of old) (picture_of mid) keep more also still wider) second)

@@ -13,9 +13,10 @@ use Rattle.vm_types.specs.declared.refusal.Stall.TheVariants.{NoFrames, NoSwap, 
 use Rattle.disk_model.specs.declared.sector_disk.SectorDisk.{Ghosts}
 use Rattle.disk_model.specs.Moments.{Touches, Nothing}
 use Rattle.file_store.specs.declared.store.FileStore.{FileStore}
-use Rattle.frames.specs.FrameTable.{bytes_of}
+use Rattle.frames.specs.FrameTable.{IsFull, bytes_of, role_of}
 use Rattle.page_cache.specs.declared.place.Place.TheVariants.{Home, Frame, Slot}
 use Rattle.paging.specs.declared.kernel.Core.{Core}
+use Rattle.paging.specs.Ages.{KeepsRolesBut}
 use Rattle.paging.specs.Picture.{Picture, held, bytes_at}
 use Rattle.paging.specs.Parts.{IsFit}
 use Rattle.paging.specs.Calls.{Frees, ObtainsCached}
@@ -23,8 +24,9 @@ use Rattle.paging.specs.Stalls.{StallCause, HasStallCause, ReadCause, HasReadCau
 use Rattle.paging.specs.Reading.{ReadsStore, IsRead}
 use Rattle.paging.proofs.BroughtIn.{fit_brought, trees_brought, entries_brought, views_brought, held_else, held_here}
 use Rattle.paging.proofs.Places.{cases_page}
-use Rattle.mapping.specs.Changes.{KeepsSpaces, KeepsTables, KeepsRows, KeepsRoom, KeepsSeen, KeepsBare, KeepsSlotted}
+use Rattle.mapping.specs.Changes.{AddsNoTable, KeepsSpaces, KeepsTables, KeepsRows, KeepsRoom, KeepsSeen, KeepsBare, KeepsSlotted}
 use Rattle.mapping.specs.Files.{IsBrought, Stays, Leaves, Comes, Blank, BringsPages}
+use Rattle.mapping.proofs.NoTables.{no_table_then, no_table_freed, no_table_trees}
 use Rattle.mapping.proofs.Rows.{rows_then, rows_freed, rows_trees}
 use Rattle.mapping.proofs.Slotted.{slotted_then, slotted_frees}
 use Rattle.mapping.proofs.Steps.{spaces_then, room_then, seen_then, tables_then, bare_then, tables_same, spaces_freed, room_freed, seen_freed, tables_freed, bare_freed}
@@ -44,6 +46,15 @@ module _ {mode : ℕ} (old new : Picture mode) (page : PageKey) (n : ℕ) (obtai
   rows_came : KeepsRows old new
   rows_came = rows_then old found new obtains.frees.pages.root (rows_freed old found _ obtains.fit obtains.frees)
       (rows_trees found new obtains.fit (trees_brought found new page n obtains.fit obtains.brings))
+
+  no_table_came : AddsNoTable old new
+  no_table_came = no_table_then old found new (no_table_freed old found _ obtains.frees) (no_table_trees found new (trees_brought found new page n obtains.fit obtains.brings))
+
+  only_came : IsFull old.frames ⊎ KeepsRolesBut old new n
+  only_came = elim obtains.needed [
+    | inl full ↦ inl full
+    | inr same ↦ inr (λ k ne. obtains.brings.frames.roles k ne ∙ ap (λ (c : Picture mode). role_of c.frames k) same)
+  ]
 
   room_came : KeepsRoom old new
   room_came = room_then old found new (room_freed old found _ obtains.frees) (record { frames = obtains.brings.frames.frames; slots = obtains.brings.slots.total })
@@ -83,6 +94,14 @@ module _ {mode : ℕ} (old new : Picture mode) (page : PageKey) where
   pub rows_of : (r : Result FrameNo Stall) → IfOk r (λ n. ObtainsCached old new page n.0) → IsFit new → OnErr r (Frees old new None) → KeepsRows old new
   rows_of (Ok n) obtains fit frees = rows_came old new page n.0 obtains
   rows_of (Err s) obtains fit frees = rows_freed old new None fit frees
+
+  pub no_table_of : (r : Result FrameNo Stall) → IfOk r (λ n. ObtainsCached old new page n.0) → OnErr r (Frees old new None) → AddsNoTable old new
+  no_table_of (Ok n) obtains frees = no_table_came old new page n.0 obtains
+  no_table_of (Err s) obtains frees = no_table_freed old new None frees
+
+  pub only_of : (r : Result FrameNo Stall) → IfOk r (λ n. ObtainsCached old new page n.0) → IfOk r (λ n. IsFull old.frames ⊎ KeepsRolesBut old new n.0)
+  only_of (Ok n) obtains = only_came old new page n.0 obtains
+  only_of (Err s) obtains = tt
 
   pub room_of : (r : Result FrameNo Stall) → IfOk r (λ n. ObtainsCached old new page n.0) → OnErr r (Frees old new None) → KeepsRoom old new
   room_of (Ok n) obtains frees = room_came old new page n.0 obtains

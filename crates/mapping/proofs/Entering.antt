@@ -99,6 +99,7 @@ module _ {M : Type 0} {m : Levels.Ghosts M} {D E : Type 0} where
           swap = rest.swap;
           refused = refused;
           frames = sets.2.kept;
+          pointers = λ n i m points. (sets.2.pointers n i m).0 points;
           place = beside.place;
           others = (full_set o n pid page r a frame private linked lives at sets beside).others;
         };

@@ -1,4 +1,5 @@
 pub mod Rows
+pub mod NoTables
 pub mod Steps
 pub mod Slotted
 pub mod TablesLinked
@@ -14,3 +15,4 @@ pub mod Staying
 pub mod Spawning
 pub mod Asking
 pub mod AskedIn
+pub mod WaySteps

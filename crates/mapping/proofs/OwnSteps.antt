@@ -27,10 +27,12 @@ use Rattle.paging.proofs.Callers.{shown_stays}
 use Rattle.paging.proofs.Evicted.{fit_released}
 use Rattle.paging.proofs.Handed.{release_spares, same}
 use Rattle.paging.proofs.Sparing.{missing_ends}
+use Rattle.paging.proofs.Taking.{trees_changed}
 use Rattle.page_tables.specs.Leaves.{IsEntryOver}
 use Rattle.mapping.specs.Leaves.{IsFullEntry}
-use Rattle.mapping.specs.Changes.{IsLinked, KeepsSpaces, KeepsTables, KeepsRows, KeepsRoom, KeepsOtherViews, KeepsOtherBare, KeepsSlotted, IsThatPage, TakesCopy, frame_of_place, frame_behind, shown_frame, is_sole}
+use Rattle.mapping.specs.Changes.{AddsNoTable, IsLinked, KeepsSpaces, KeepsTables, KeepsRows, KeepsRoom, KeepsOtherViews, KeepsOtherBare, KeepsSlotted, IsThatPage, TakesCopy, frame_of_place, frame_behind, shown_frame, is_sole}
 use Rattle.mapping.proofs.Forms.{mapped_page, behind_used, behind_datum, own_role, seat_own, seat_common}
+use Rattle.mapping.proofs.NoTables.{no_table_then, no_table_freed, no_table_spared, no_table_trees, no_table_set}
 use Rattle.mapping.proofs.Rows.{rows_then, rows_ends, rows_freed, rows_changed, rows_settled}
 use Rattle.mapping.proofs.Settling.{settled_first, settled_moved, settled_others, settled_views, settled_view, settled_held, settled_missing, settled_room, settled_full, settled_bytes, settled_count}
 use Rattle.mapping.proofs.Slotted.{slotted_then, slotted_frees, slotted_but, slotted_same}
@@ -180,6 +182,11 @@ module _ {mode : ℕ} (old : Picture mode) (pid page m : ℕ) (a : Attr) (sound 
       pub rows_own : KeepsRows old set
       rows_own = rows_then old found set copy.frees.pages.root (rows_freed old found _ copy.fit copy.frees) (rows_settled found mid n copy.fit copy.changes datum_mid set r page sets.0 sets.2)
 
+      pub no_table_own : AddsNoTable old set
+      no_table_own =
+          no_table_then old found set (no_table_freed old found _ copy.frees)
+          (no_table_then found mid set (no_table_trees found mid (trees_changed found mid n copy.fit copy.changes datum_mid)) (no_table_set mid set r page sets.0 sets.2))
+
       pub room_set : KeepsRoom old set
       room_set = room_then old found set (room_freed old found _ copy.frees) (record {
         frames = settled_room found mid pid page r n a copy.fit copy.changes copy.role copy.count copy.noted lives_found whole_found at_found set sets beside alone inside;
@@ -266,6 +273,9 @@ module _ {mode : ℕ} (old : Picture mode) (pid page m : ℕ) (a : Attr) (sound 
 
           pub rows_shared : KeepsRows old new
           rows_shared = rows_then old set new spaces_set.root rows_own (rows_ends set new fit_shared beside'.root (release_spares set new m 0 fit_moved' role_shared releases beside').ends)
+
+          pub no_table_shared : AddsNoTable old new
+          no_table_shared = no_table_then old set new no_table_own (no_table_spared m 0 set new (release_spares set new m 0 fit_moved' role_shared releases beside'))
 
           pub room_shared : KeepsRoom old new
           room_shared = room_then old set new room_set (record { frames = releases.others.frames; slots = ap (λ s. s.total) beside'.slots })

@@ -79,6 +79,7 @@ frees_any old new keep frees = record {
   roles = frees.roles;
   missing = frees.missing;
   ends = frees.ends;
+  pointers = frees.pointers;
   entries = λ pid page h stays. frees.entries pid page h (stays_any keep (entry old pid page) stays);
   slots = frees.slots;
   total = frees.total;

@@ -20,9 +20,11 @@ use Rattle.paging.specs.Steps.{SameBeside, ChangesFrame}
 use Rattle.paging.proofs.Putting.{with_slots}
 use Rattle.paging.proofs.SlotReleased.{fit_slot_released}
 use Rattle.paging.proofs.Ways.{by_page}
+use Rattle.paging.proofs.Taking.{trees_changed}
 use Rattle.mapping.specs.Leaves.{IsFullEntry}
-use Rattle.mapping.specs.Changes.{IsLinked, KeepsSpaces, KeepsTables, KeepsRows, KeepsRoom, KeepsViews, KeepsOtherViews, KeepsOtherBare, KeepsSlotted, IsThatPage}
+use Rattle.mapping.specs.Changes.{AddsNoTable, IsLinked, KeepsSpaces, KeepsTables, KeepsRows, KeepsRoom, KeepsViews, KeepsOtherViews, KeepsOtherBare, KeepsSlotted, IsThatPage}
 use Rattle.mapping.proofs.Forms.{mapped_page}
+use Rattle.mapping.proofs.NoTables.{no_table_then, no_table_freed, no_table_trees, no_table_set}
 use Rattle.mapping.proofs.Rows.{rows_then, rows_freed, rows_changed, rows_settled}
 use Rattle.mapping.proofs.Settling.{settled_moved, settled_owned, settled_others, settled_views, settled_view, settled_held, settled_missing, settled_room, settled_full}
 use Rattle.mapping.proofs.Slotted.{slotted_then, slotted_frees, slotted_but}
@@ -116,6 +118,11 @@ module _ {mode : ℕ} {keep : Option FrameNo} (old taken : Picture mode) (pid pa
 
       pub rows_in : KeepsRows old (record set { slots = t })
       rows_in = rows_then old found set obtains.frees.pages.root (rows_freed old found keep obtains.fit obtains.frees) (rows_settled found written n obtains.fit changes datum set r page sets.0 sets.2)
+
+      pub no_table_in : AddsNoTable old (record set { slots = t })
+      no_table_in =
+          no_table_then old found new (no_table_freed old found keep obtains.frees)
+          (no_table_then found written new (no_table_trees found written (trees_changed found written n obtains.fit changes datum)) (no_table_set written new r page sets.0 sets.2))
 
       pub room_in : KeepsRoom old (record set { slots = t })
       room_in = room_then old found new (room_freed old found keep obtains.frees) (record {

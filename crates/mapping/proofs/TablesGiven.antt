@@ -1,11 +1,11 @@
 -- What tables taken and linked take of memory.
 use Rattle.vm_types.specs.Limits.{top_level}
-use Rattle.std.proofs.Common.{◌≡◌, ◌≢◌, ◌-◌, ◌<◌, ◌≤◌, ℕ, zero, suc, inl, inr, Option, Some, None, get_or, sym, ap, ◌∙◌, subst, arith}
+use Rattle.std.proofs.Common.{◌≡◌, ◌≢◌, ◌-◌, ◌≤◌, ℕ, zero, suc, inl, inr, Option, Some, None, get_or, sym, ap, ◌∙◌, subst, arith}
 use Rattle.std.proofs.lemmas.Bool.{cases_eq}
 use Rattle.frames.specs.declared.role.Role.TheVariants.{Free}
 use Rattle.frames.specs.FrameTable.{FrameTable, frame_count, role_of}
 use Rattle.page_tables.specs.Change.{LinksTable}
-use Rattle.page_tables.specs.Tree.{IsTable, IsBelowRoot, Points, Way, last_table, missing_of}
+use Rattle.page_tables.specs.Tree.{IsBelowRoot, Points, Way, last_table, missing_of}
 use Rattle.page_tables.proofs.Ways.{ends}
 use Rattle.page_tables.proofs.Ends.{way_forth}
 use Rattle.paging.specs.Ages.{Same, GivesForTables, KeepsRoles, KeepsRolesBut}
@@ -15,13 +15,8 @@ use Rattle.paging.specs.Steps.{SameBeside}
 use Rattle.paging.proofs.Aging.{gives_then}
 use Rattle.paging.proofs.Entries.{entry-same}
 use Rattle.paging.proofs.Linked.{loose_table}
-use Rattle.mapping.specs.Changes.{IsWhole, IsTableOnWay, LinksTables}
-
--- a frame that has its role was a table if it is one
-table_before : (old new : FrameTable) (n : ℕ) → frame_count new ≡ frame_count old → role_of new n ≡ role_of old n → IsTable new n → IsTable old n
-table_before old new n count role table =
-    let P : ℕ → Type 0 = λ k. n < k in
-    record { inside = subst P count table.inside; role = sym role ∙ table.role }
+use Rattle.mapping.specs.Changes.{AddsNoTable, IsWhole, IsTableOnWay, LinksTables}
+use Rattle.mapping.proofs.NoTables.{table_before}
 
 -- a table on the way to a page that is not the root
 module _ (mode : ℕ) where
@@ -37,15 +32,23 @@ module _ {mode : ℕ} where
       let below : IsBelowRoot old.frames (top_level mode) way.0 page n = way.2 in
       (way.0, root ∙ way.1, (below.0, below.1, way_forth old.frames new.frames pointers (top_level mode) way.0 page (suc below.0) n below.2))
 
-pub links_then : {mode : ℕ} (a b c : Picture mode) (pid page : ℕ) (tried : Option ℕ) → c.root pid ≡ b.root pid → GivesForTables b c tried
+pub links_on : {mode : ℕ} (a b c : Picture mode) (pid page : ℕ) → c.root pid ≡ b.root pid → ((n i m : ℕ) → Points b.frames n i m → Points c.frames n i m)
     → LinksTables a b pid page → LinksTables b c pid page → LinksTables a c pid page
-links_then a b c pid page tried root gives first second n table = elim (second n table) [
+links_on a b c pid page root pointers first second n table = elim (second n table) [
   | inl was ↦ elim (first n was) [
     | inl start ↦ inl start
-    | inr way ↦ inr (way_stands b c pid page n root gives.pointers way)
+    | inr way ↦ inr (way_stands b c pid page n root pointers way)
   ]
   | inr way ↦ inr way
 ]
+
+pub links_then : {mode : ℕ} (a b c : Picture mode) (pid page : ℕ) (tried : Option ℕ) → c.root pid ≡ b.root pid → GivesForTables b c tried
+    → LinksTables a b pid page → LinksTables b c pid page → LinksTables a c pid page
+links_then a b c pid page tried root gives first second = links_on a b c pid page root gives.pointers first second
+
+-- none came to be a table
+pub links_no_table : {mode : ℕ} (old new : Picture mode) (pid page : ℕ) → AddsNoTable old new → LinksTables old new pid page
+links_no_table old new pid page none n table = inl (none.tables n table)
 
 -- no frame came to another use
 pub links_none : {mode : ℕ} (old new : Picture mode) (pid page : ℕ) → frame_count new.frames ≡ frame_count old.frames → KeepsRoles old new → LinksTables old new pid page

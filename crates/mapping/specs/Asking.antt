@@ -8,6 +8,7 @@ use Rattle.vm_types.specs.declared.number.FrameNo.{FrameNo}
 use Rattle.vm_types.specs.declared.number.SlotNo.{SlotNo}
 use Rattle.disk_model.specs.declared.sector_disk.SectorDisk.{Ghosts}
 use Rattle.disk_model.specs.Moments.{AsksOnly}
+use Rattle.frames.specs.FrameTable.{IsFull}
 use Rattle.file_store.specs.declared.store.FileStore.{FileStore}
 use Rattle.file_store.specs.Store.{IsSectorOf}
 use Rattle.page_cache.specs.declared.place.Place.TheVariants.{Slot}
@@ -22,10 +23,10 @@ module _ {mode : ℕ} where
   abbrev pub HasSwappable : Picture mode → Option FrameNo → Type 0
   HasSwappable c keep = (n : ℕ) × IsSpareable c keep n × NeedsSlot c n
 
-  -- The sectors of swap's device that a call may ask for: these, and those of free slots, which only where a frame that may be given
-  -- up holds a page that has to be put into one.
-  abbrev pub MayAsk : Picture mode → Option FrameNo → (ℕ → Type 0) → ℕ → Type 0
-  MayAsk c keep also k = also k ⊎ (HasSwappable c keep × IsSectorOfFreeSlot c.slots k)
+  -- The sectors of swap's device that a call may ask for: these, and those of free slots, which only where memory is full, as that
+  -- says, and a frame that may be given up holds a page that has to be put into one.
+  abbrev pub MayAsk : Picture mode → Type 0 → Option FrameNo → (ℕ → Type 0) → ℕ → Type 0
+  MayAsk c full keep also k = also k ⊎ (full × HasSwappable c keep × IsSectorOfFreeSlot c.slots k)
 
   -- What a later call may ask for, which doesn't give that frame up, an earlier one might have asked for, but for these sectors.
   pub record AsksNoNew (old new : Picture mode) (keep : Option FrameNo) (also : ℕ → Type 0) : Type 0 where
@@ -47,5 +48,13 @@ module _ {D : Type 0} where
 
 module _ {M : Type 0} {m : Levels.Ghosts M} {D E : Type 0} (h : Ghosts E) where
   -- swap's device was asked for no sector but those
+  abbrev pub AsksSlotsIf : Type 0 → Core D E M m → Core D E M m → Option FrameNo → (ℕ → Type 0) → Type 0
+  AsksSlotsIf full old new keep also = AsksOnly h (MayAsk (picture_of old) full keep also) old.swap.pages.disk new.swap.pages.disk
+
+  -- where no frame was free for those of free slots
+  abbrev pub AsksIfFull : Core D E M m → Core D E M m → Option FrameNo → (ℕ → Type 0) → Type 0
+  AsksIfFull old new keep also = AsksSlotsIf (IsFull old.frames) old new keep also
+
+  -- or of free slots whether a frame was free or not
   abbrev pub AsksSlots : Core D E M m → Core D E M m → Option FrameNo → (ℕ → Type 0) → Type 0
-  AsksSlots old new keep also = AsksOnly h (MayAsk (picture_of old) keep also) old.swap.pages.disk new.swap.pages.disk
+  AsksSlots old new keep also = AsksSlotsIf (Unit {0}) old new keep also

@@ -13,7 +13,7 @@ use Rattle.disk_model.specs.declared.sector_disk.SectorDisk.{Ghosts}
 use Rattle.frames.specs.declared.role.Role.TheVariants as Role
 use Rattle.frames.specs.FrameTable.{frame_count, bytes_of, role_of, count_of, IsFrame}
 use Rattle.sv39_walk.specs.Entry.{frame_of}
-use Rattle.page_tables.specs.Tree.{IsPage, IsTable, IsBelowRoot, missing_of}
+use Rattle.page_tables.specs.Tree.{IsPage, IsTable, IsBelowRoot, Points, missing_of}
 use Rattle.page_tables.specs.Places.{IsTableOf}
 use Rattle.page_tables.specs.Change.{KeepsFrames}
 use Rattle.page_cache.specs.declared.place.Place.{Place}
@@ -64,6 +64,12 @@ module _ {mode : ℕ} where
 module _ {mode : ℕ} where
   abbrev pub LinksTables : Picture mode → Picture mode → ℕ → ℕ → Type 0
   LinksTables old new pid page = (n : ℕ) → IsTable new.frames n → IsTable old.frames n ⊎ IsTableOnWay new pid page n
+
+-- no frame came to be a table, and every pointer to a table stands
+module _ {mode : ℕ} where
+  pub record AddsNoTable (old new : Picture mode) : Type 0 where
+    pub tables : (n : ℕ) → IsTable new.frames n → IsTable old.frames n
+    pub pointers : (n i m : ℕ) → Points old.frames n i m → Points new.frames n i m
 
 -- a page that had no entry has none
 module _ {mode : ℕ} where
@@ -171,12 +177,14 @@ module _ {mode : ℕ} where
     pub copied : bytes_of new.frames n ≡ bytes_of old.frames m
 
 module _ {M : Type 0} {m : Levels.Ghosts M} {D E : Type 0} where
-  -- No frame was asked for and none changed hands, no device was asked, and no page but that one has another entry.
+  -- No frame was asked for and none changed hands, no device was asked, every pointer to a table stands, and no page but that one has
+  -- another entry.
   pub record IsCalm (old new : Core D E M m) (pid page : ℕ) : Type 0 where
     pub store : new.store ≡ old.store
     pub swap : new.swap ≡ old.swap
     pub refused : new.refused.number ≡ old.refused.number
     pub frames : KeepsFrames old.frames new.frames
+    pub pointers : (n i m : ℕ) → Points old.frames n i m → Points new.frames n i m
     pub place : (p : PageKey) → (picture_of new).place p ≡ (picture_of old).place p
     pub others : (q p : ℕ) → IsPage (top_level m.mode) p → (q ≢ pid) ⊎ (p ≢ page) → entry (picture_of new) q p ≡ entry (picture_of old) q p
 

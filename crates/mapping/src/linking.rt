@@ -1,20 +1,11 @@
 //! The tables on the way to a page.
-ghost use Rattle.std.specs.Prelude.{ℕ, ◌≡◌, ◌≢◌, ◌+◌, ◌/◌, Option, None, Some, IfOk, IfErr, OnOk, OnErr};
-ghost use Rattle.vm_types.specs.Limits.{top_level, table_entries};
-ghost use Rattle.disk_model.specs.Moments.{Nothing};
-ghost use Rattle.frames.specs.declared.role.Role.TheVariants.{Private};
-ghost use Rattle.frames.specs.FrameTable.{role_of, IsFull};
+ghost use Rattle.std.specs.Prelude.{◌≡◌, ◌≢◌, ◌+◌, None, Some, OnOk};
+ghost use Rattle.vm_types.specs.Limits.{top_level};
 ghost use Rattle.page_tables.specs.Tree.{missing_of};
-ghost use Rattle.page_tables.specs.Places.{IsTableOf};
 ghost use Rattle.swap.specs.Slots.{IsReady};
 ghost use Rattle.paging.specs.Picture.{picture_of};
 ghost use Rattle.paging.specs.Parts.{IsFit, IsMapped};
-ghost use Rattle.paging.specs.Calls.{KeepsPages, Refuses};
-ghost use Rattle.paging.specs.Stalls.{HasStallCause};
-ghost use Rattle.paging.specs.Capacity.{IsShort};
-ghost use Rattle.paging.specs.Ages.{GivesForTables};
-ghost use Rattle.mapping.specs.Changes.{IsWhole, KeepsBare, KeepsSlotted, LinksTables, Moves};
-ghost use Rattle.mapping.specs.Asking.{AsksNoNew, AsksSlots};
+ghost use Rattle.mapping.specs.WaysLinked.{LinksWay, MakesWhole};
 
 use disk_model::SectorDisk;
 use mapped_memory::{link_table, table_of};
@@ -46,24 +37,7 @@ pub fn link_tables<D, E: SectorDisk, M: Levels>(
     requires swap { IsReady E.SectorDisk core.old.swap }
     requires live { (picture_of core.old).root pid ≢ None }
     requires mapped { IsMapped (picture_of core.old) pid page }
-    ensures moves { Moves E.SectorDisk core.old core.new }
-    ensures pages { KeepsPages (picture_of core.old) (picture_of core.new) }
-    ensures no_copy { (n : ℕ) → role_of core.new.frames n ≡ Private → role_of core.old.frames n ≡ Private }
-    ensures bare { KeepsBare (picture_of core.old) (picture_of core.new) }
-    ensures slotted { KeepsSlotted (λ p. ⊥) (λ q p. ⊥) (picture_of core.old) (picture_of core.new) }
-    ensures whole { OnOk result (IsWhole (picture_of core.new) pid page) }
-    ensures table { IfOk result (λ n. (root : ℕ) → (picture_of core.new).root pid ≡ Some root → IsTableOf core.new.frames (top_level M.mode) root (page / table_entries) n.0) }
-    ensures wanted { OnErr result (IsWhole (picture_of core.new) pid page → ⊥) }
-    ensures gives { OnOk result (GivesForTables (picture_of core.old) (picture_of core.new) None) }
-    ensures tried { OnErr result ((tried : Option ℕ) × GivesForTables (picture_of core.old) (picture_of core.new) tried) }
-    ensures tables { LinksTables (picture_of core.old) (picture_of core.new) pid page }
-    ensures asks { AsksSlots E.SectorDisk core.old core.new None Nothing }
-    ensures asks_later { AsksNoNew (picture_of core.old) (picture_of core.new) None Nothing }
-    ensures full { OnErr result (IsFull core.new.frames) }
-    ensures idle { IsWhole (picture_of core.old) pid page → (core.new ≡ core.old) × OnErr result ⊥ }
-    ensures refuses { IfErr result (Refuses (picture_of core.new) None) }
-    ensures short { IfErr result (IsShort (picture_of core.new)) }
-    ensures cause { HasStallCause E.SectorDisk core.old core.new result }
+    ensures { MakesWhole E.SectorDisk core.old core.new pid page result }
 {
     let root = root_of(core, pid);
     loop {
@@ -86,22 +60,8 @@ fn link_one<D, E: SectorDisk, M: Levels>(
     requires lives { (picture_of core.old).root pid ≡ Some root.0 }
     requires mapped { IsMapped (picture_of core.old) pid page }
     requires missing { missing_of core.old.frames (top_level M.mode) root.0 page ≢ 0 }
-    ensures moves { Moves E.SectorDisk core.old core.new }
-    ensures pages { KeepsPages (picture_of core.old) (picture_of core.new) }
-    ensures no_copy { (n : ℕ) → role_of core.new.frames n ≡ Private → role_of core.old.frames n ≡ Private }
-    ensures bare { KeepsBare (picture_of core.old) (picture_of core.new) }
-    ensures slotted { KeepsSlotted (λ p. ⊥) (λ q p. ⊥) (picture_of core.old) (picture_of core.new) }
+    ensures links { LinksWay E.SectorDisk core.old core.new pid page result }
     ensures lowered { OnOk result (missing_of core.new.frames (top_level M.mode) root.0 page + 1 ≡ missing_of core.old.frames (top_level M.mode) root.0 page) }
-    ensures wanted { OnErr result (IsWhole (picture_of core.new) pid page → ⊥) }
-    ensures gives { OnOk result (GivesForTables (picture_of core.old) (picture_of core.new) None) }
-    ensures tried { OnErr result ((tried : Option ℕ) × GivesForTables (picture_of core.old) (picture_of core.new) tried) }
-    ensures tables { LinksTables (picture_of core.old) (picture_of core.new) pid page }
-    ensures asks { AsksSlots E.SectorDisk core.old core.new None Nothing }
-    ensures asks_later { AsksNoNew (picture_of core.old) (picture_of core.new) None Nothing }
-    ensures full { OnErr result (IsFull core.new.frames) }
-    ensures refuses { IfErr result (Refuses (picture_of core.new) None) }
-    ensures short { IfErr result (IsShort (picture_of core.new)) }
-    ensures cause { HasStallCause E.SectorDisk core.old core.new result }
 {
     let table = core.take_table()?;
     link_table(&mut core.frames, root, page, table);

@@ -1,22 +1,15 @@
 //! Frames of a process's own.
-ghost use Rattle.std.specs.Prelude.{◌≡◌, ◌≢◌, ℕ, ◌<◌, ◌^◌, Some, true, false, IfOk, IfErr, OnErr};
+ghost use Rattle.std.specs.Prelude.{◌≡◌, ◌≢◌, ℕ, ◌<◌, ◌^◌, Some, true, false};
 ghost use Rattle.disk_model.specs.Moments.{Nothing};
-ghost use Rattle.vm_types.specs.Permission.{can_write};
-ghost use Rattle.vm_types.specs.Verdict.{is_past_end};
 ghost use Rattle.frames.specs.declared.role.Role.TheVariants.{Free, Table};
-ghost use Rattle.frames.specs.FrameTable.{IsFrame, IsHeld, bytes_of, role_of, count_of, zero_bytes, with_bytes};
+ghost use Rattle.frames.specs.FrameTable.{IsFrame, IsHeld, bytes_of, role_of, zero_bytes, with_bytes};
 ghost use Rattle.sv39_walk.specs.Entry.{frame_of};
 ghost use Rattle.swap.specs.Slots.{IsReady};
-ghost use Rattle.paging.specs.Picture.{picture_of, entry, is_private, is_swapped, view};
-ghost use Rattle.paging.specs.Parts.{IsFit, is_shared, IsBehind};
-ghost use Rattle.paging.specs.Calls.{Frees, KeepsRest, Refuses, UsesDevice};
-ghost use Rattle.paging.specs.Stalls.{HasStallCause};
-ghost use Rattle.paging.specs.Capacity.{IsShort};
-ghost use Rattle.paging.specs.Shows.{KeepsFiles};
-ghost use Rattle.page_tables.specs.Leaves.{IsEntryOver};
+ghost use Rattle.paging.specs.Picture.{picture_of, entry, is_private};
+ghost use Rattle.paging.specs.Parts.{IsFit, IsBehind};
 ghost use Rattle.page_cache.specs.declared.place.Place.TheVariants.{Frame};
-ghost use Rattle.mapping.specs.Asking.{AsksSlots};
-ghost use Rattle.mapping.specs.Changes.{StandsAt, KeepsViews, KeepsOtherViews, KeepsOtherBare, KeepsRows, KeepsSlotted, IsCalm, IsThatPage, Moves, TakesCopy, is_sole, frame_of_place, shown_frame, shown_bytes, copied_frame};
+ghost use Rattle.mapping.specs.OwnFrames.{CopiesPage, IsOwnable, MakesSole, TakesFrameWith};
+ghost use Rattle.mapping.specs.Changes.{frame_of_place, shown_frame};
 
 use crate::showing::{ZERO_PAGE, regrant, set_full};
 use crate::spot::{Spot, number_at};
@@ -39,36 +32,11 @@ pub fn own_frame<D, E: SectorDisk, M: Levels>(
     spot: &Spot,
     attr: Attr,
 ) -> Result<FrameNo, Stall>
-    requires spot { StandsAt (picture_of core.old) spot.now }
     requires swap { IsReady E.SectorDisk core.old.swap }
-    requires attr { (picture_of core.old).at spot.now.pid spot.now.page ≡ Some attr }
-    requires writable { can_write attr.prot ≡ true }
-    requires not_shared { is_shared attr.backing ≡ false }
-    requires inside { is_past_end (picture_of core.old).files attr.backing ≡ false }
-    requires resident { is_swapped (entry (picture_of core.old) spot.now.pid spot.now.page) ≡ false }
+    requires page { IsOwnable core.old spot.now attr }
     requires in_memory { is_private (entry (picture_of core.old) spot.now.pid spot.now.page) ≡ false
         → (n : ℕ) × IsBehind (picture_of core.old) attr.backing n }
-    ensures moves { Moves E.SectorDisk core.old core.new }
-    ensures own { IfOk result (λ n. view (picture_of core.new) spot.now.pid spot.now.page
-        ≡ Some (record { attr = attr; own = Some (shown_bytes (picture_of core.old) spot.now.pid spot.now.page attr) })) }
-    ensures bytes { IfOk result (λ n. bytes_of core.new.frames n.0 ≡ shown_bytes (picture_of core.old) spot.now.pid spot.now.page attr) }
-    ensures entry { IfOk result (λ n. IsEntryOver (entry (picture_of core.new) spot.now.pid spot.now.page) attr.prot n.0 true true true) }
-    ensures sole { IfOk result (λ n. count_of core.new.frames n.0 ≡ 1) }
-    ensures behind { (n : ℕ) → is_private (entry (picture_of core.old) spot.now.pid spot.now.page) ≡ false → IsBehind (picture_of core.old) attr.backing n
-        → IsBehind (picture_of core.new) attr.backing n × (bytes_of core.new.frames n ≡ bytes_of core.old.frames n) }
-    ensures others { KeepsOtherViews (picture_of core.old) (picture_of core.new) spot.now.pid spot.now.page }
-    ensures bare { KeepsOtherBare (picture_of core.old) (picture_of core.new) spot.now.pid spot.now.page }
-    ensures rows { KeepsRows (picture_of core.old) (picture_of core.new) }
-    ensures slotted { KeepsSlotted (λ p. ⊥) (IsThatPage spot.now.pid spot.now.page) (picture_of core.old) (picture_of core.new) }
-    ensures frees { OnErr result (Frees (picture_of core.old) (picture_of core.new) (copied_frame (picture_of core.old) spot.now.pid spot.now.page attr)) }
-    ensures same { OnErr result (KeepsViews (picture_of core.old) (picture_of core.new)) }
-    ensures files { KeepsFiles (picture_of core.old) (picture_of core.new) }
-    ensures wanted { OnErr result (is_sole (picture_of core.old) (entry (picture_of core.old) spot.now.pid spot.now.page) ≡ false) }
-    ensures calm { is_sole (picture_of core.old) (entry (picture_of core.old) spot.now.pid spot.now.page) ≡ true → IsCalm core.old core.new spot.now.pid spot.now.page }
-    ensures asks { AsksSlots E.SectorDisk core.old core.new (copied_frame (picture_of core.old) spot.now.pid spot.now.page attr) Nothing }
-    ensures refuses { IfErr result (Refuses (picture_of core.new) (copied_frame (picture_of core.old) spot.now.pid spot.now.page attr)) }
-    ensures short { IfErr result (IsShort (picture_of core.new)) }
-    ensures cause { HasStallCause E.SectorDisk core.old core.new result }
+    ensures { MakesSole E.SectorDisk core.old core.new spot.now.pid spot.now.page attr result }
 {
     let was = number_at(core, spot);
     let shown = shown_frame(core, was, attr.backing);
@@ -87,35 +55,12 @@ fn copy_page<D, E: SectorDisk, M: Levels>(
     was: Pte,
     shown: FrameNo,
 ) -> Result<FrameNo, Stall>
-    requires spot { StandsAt (picture_of core.old) spot.now }
     requires swap { IsReady E.SectorDisk core.old.swap }
-    requires attr { (picture_of core.old).at spot.now.pid spot.now.page ≡ Some attr }
-    requires writable { can_write attr.prot ≡ true }
-    requires not_shared { is_shared attr.backing ≡ false }
-    requires inside { is_past_end (picture_of core.old).files attr.backing ≡ false }
-    requires resident { is_swapped (entry (picture_of core.old) spot.now.pid spot.now.page) ≡ false }
+    requires page { IsOwnable core.old spot.now attr }
     requires was { was.0 ≡ entry (picture_of core.old) spot.now.pid spot.now.page }
     requires own { is_private (entry (picture_of core.old) spot.now.pid spot.now.page) ≡ true → frame_of (entry (picture_of core.old) spot.now.pid spot.now.page) ≡ shown.0 }
     requires common { is_private (entry (picture_of core.old) spot.now.pid spot.now.page) ≡ false → IsBehind (picture_of core.old) attr.backing shown.0 }
-    ensures moves { Moves E.SectorDisk core.old core.new }
-    ensures own { IfOk result (λ n. view (picture_of core.new) spot.now.pid spot.now.page
-        ≡ Some (record { attr = attr; own = Some (bytes_of core.old.frames shown.0) })) }
-    ensures bytes { IfOk result (λ n. bytes_of core.new.frames n.0 ≡ bytes_of core.old.frames shown.0) }
-    ensures entry { IfOk result (λ n. IsEntryOver (entry (picture_of core.new) spot.now.pid spot.now.page) attr.prot n.0 true true true) }
-    ensures sole { IfOk result (λ n. count_of core.new.frames n.0 ≡ 1) }
-    ensures behind { (n : ℕ) → is_private (entry (picture_of core.old) spot.now.pid spot.now.page) ≡ false → IsBehind (picture_of core.old) attr.backing n
-        → IsBehind (picture_of core.new) attr.backing n × (bytes_of core.new.frames n ≡ bytes_of core.old.frames n) }
-    ensures others { KeepsOtherViews (picture_of core.old) (picture_of core.new) spot.now.pid spot.now.page }
-    ensures bare { KeepsOtherBare (picture_of core.old) (picture_of core.new) spot.now.pid spot.now.page }
-    ensures rows { KeepsRows (picture_of core.old) (picture_of core.new) }
-    ensures slotted { KeepsSlotted (λ p. ⊥) (IsThatPage spot.now.pid spot.now.page) (picture_of core.old) (picture_of core.new) }
-    ensures frees { OnErr result (Frees (picture_of core.old) (picture_of core.new) (Some shown)) }
-    ensures same { OnErr result (KeepsViews (picture_of core.old) (picture_of core.new)) }
-    ensures files { KeepsFiles (picture_of core.old) (picture_of core.new) }
-    ensures asks { AsksSlots E.SectorDisk core.old core.new (Some shown) Nothing }
-    ensures refuses { IfErr result (Refuses (picture_of core.new) (Some shown)) }
-    ensures short { IfErr result (IsShort (picture_of core.new)) }
-    ensures cause { HasStallCause E.SectorDisk core.old core.new result }
+    ensures { CopiesPage E.SectorDisk core.old core.new spot.now.pid spot.now.page attr shown result }
 {
     let own = take_copy(core, shown, spot.page)?;
     set_full(core, spot, attr, own, true);
@@ -165,16 +110,7 @@ fn take_copy<D, E: SectorDisk, M: Levels>(
     requires source { IsFrame core.old.frames from.0 }
     requires in_use { role_of core.old.frames from.0 ≢ Free }
     requires datum { role_of core.old.frames from.0 ≢ Table }
-    ensures taken { IfOk result (λ n. TakesCopy (picture_of core.old) (picture_of core.new) n.0 page from.0) }
-    ensures fit { OnErr result (IsFit (picture_of core.new)) }
-    ensures frees { OnErr result (Frees (picture_of core.old) (picture_of core.new) (Some from)) }
-    ensures swap { IsReady E.SectorDisk core.new.swap }
-    ensures rest { KeepsRest core.old core.new }
-    ensures device { UsesDevice E.SectorDisk core.old.swap.pages.disk core.new.swap.pages.disk }
-    ensures asks { AsksSlots E.SectorDisk core.old core.new (Some from) Nothing }
-    ensures refuses { IfErr result (Refuses (picture_of core.new) (Some from)) }
-    ensures short { IfErr result (IsShort (picture_of core.new)) }
-    ensures cause { HasStallCause E.SectorDisk core.old core.new result }
+    ensures { TakesFrameWith E.SectorDisk core.old core.new page from Nothing result }
 {
     let own = core.take_own(page, Some(from))?;
     fill(&mut core.frames, from, own);

@@ -1,15 +1,9 @@
 //! Own copies brought back from slots.
-ghost use Rattle.std.specs.Prelude.{◌≡◌, None, Some, true, IfOk, IfErr, OnErr};
-ghost use Rattle.frames.specs.FrameTable.{count_of};
+ghost use Rattle.std.specs.Prelude.{◌≡◌, Some, true};
 ghost use Rattle.swap.specs.Slots.{IsReady};
 ghost use Rattle.paging.specs.Picture.{picture_of, entry, is_swapped};
-ghost use Rattle.paging.specs.Calls.{Frees, Refuses};
-ghost use Rattle.paging.specs.Stalls.{HasStallCause};
-ghost use Rattle.paging.specs.Capacity.{IsShort};
-ghost use Rattle.paging.specs.Shows.{KeepsFiles};
-ghost use Rattle.mapping.specs.Leaves.{IsFullEntry};
-ghost use Rattle.mapping.specs.Asking.{AsksSlots, IsSectorOfCopy};
-ghost use Rattle.mapping.specs.Changes.{StandsAt, KeepsViews, KeepsOtherViews, KeepsOtherBare, KeepsRows, KeepsSlotted, IsThatPage, Moves};
+ghost use Rattle.mapping.specs.Changes.{StandsAt};
+ghost use Rattle.mapping.specs.OwnFrames.{SwapsIn};
 
 use crate::showing::set_full;
 use crate::spot::{Spot, number_at};
@@ -32,21 +26,7 @@ pub fn swap_in<D, E: SectorDisk, M: Levels>(
     requires swap { IsReady E.SectorDisk core.old.swap }
     requires attr { (picture_of core.old).at spot.now.pid spot.now.page ≡ Some attr }
     requires away { is_swapped (entry (picture_of core.old) spot.now.pid spot.now.page) ≡ true }
-    ensures moves { Moves E.SectorDisk core.old core.new }
-    ensures entry { IfOk result (λ n. IsFullEntry (picture_of core.new) attr n.0 true (entry (picture_of core.new) spot.now.pid spot.now.page)) }
-    ensures sole { IfOk result (λ n. count_of core.new.frames n.0 ≡ 1) }
-    ensures others { KeepsOtherViews (picture_of core.old) (picture_of core.new) spot.now.pid spot.now.page }
-    ensures bare { KeepsOtherBare (picture_of core.old) (picture_of core.new) spot.now.pid spot.now.page }
-    ensures rows { KeepsRows (picture_of core.old) (picture_of core.new) }
-    ensures slotted { KeepsSlotted (λ p. ⊥) (IsThatPage spot.now.pid spot.now.page) (picture_of core.old) (picture_of core.new) }
-    ensures frees { OnErr result (Frees (picture_of core.old) (picture_of core.new) None) }
-    ensures same { OnErr result (KeepsViews (picture_of core.old) (picture_of core.new)) }
-    ensures seen { E.keeps_model core.new.swap.pages.disk → KeepsViews (picture_of core.old) (picture_of core.new) }
-    ensures files { KeepsFiles (picture_of core.old) (picture_of core.new) }
-    ensures asks { AsksSlots E.SectorDisk core.old core.new None (IsSectorOfCopy (picture_of core.old) spot.now.pid spot.now.page) }
-    ensures refuses { IfErr result (Refuses (picture_of core.new) None) }
-    ensures short { IfErr result (IsShort (picture_of core.new)) }
-    ensures cause { HasStallCause E.SectorDisk core.old core.new result }
+    ensures { SwapsIn E.SectorDisk core.old core.new spot.now.pid spot.now.page attr result }
 {
     let Entry::Swapped(slot) = decode(number_at(core, spot)) else {
         unreachable!();

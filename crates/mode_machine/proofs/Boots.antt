@@ -6,7 +6,7 @@ use Rattle.disk_model.specs.Moments.{LeavesNow, LeavesOnly, Touches, AsksOnly, N
 use Rattle.disk_model.specs.Stop.{Image, MayLeave}
 use Rattle.disk_model.specs.declared.sector_disk.SectorDisk.{Ghosts}
 use Rattle.disk_model.proofs.Moments.{started, stays, asks_none}
-use Rattle.file_store.specs.Standing.{StandsFor, StandsAs, IsBadLayout, IsAskedToOpen, file_info, standing_page}
+use Rattle.file_store.specs.Standing.{StandsFor, StandsAs, IsBadLayout, IsBadJournal, IsAskedToOpen, file_info, standing_page}
 use Rattle.file_store.specs.Store.{IsReadyStore}
 use Rattle.file_store.specs.Store as Stores
 use Rattle.file_store.specs.declared.faults.OpenFault.{OpenFault}
@@ -19,9 +19,7 @@ use Rattle.vm_types.specs.declared.object.PageKey.TheVariants.{File, Object}
 use Rattle.paging.specs.Calls.{IsStart}
 use Rattle.paging.specs.Picture.{Picture, picture_of, view, held}
 use Rattle.paging.specs.Shows.{ShowsPages}
-use Rattle.sync_journal.specs.Commit.{HomesStandAs}
-use Rattle.sync_journal.specs.Layout.{IsOutside, IsRecovered}
-use Rattle.sync_journal.specs.Standing.{IsBadJournal}
+use Rattle.sync_journal.specs.Kinds.{StoreStandsAs, IsOutsideOf, IsStoreRecovered}
 use Rattle.swap.specs.Slots.{slots_of}
 use Rattle.vm_types.specs.State.{State}
 use Rattle.mode_machine.specs.declared.boot.BootFault.TheVariants.{Frames, Slots, OutOfMemory, Device, BadLayout, BadJournal}
@@ -76,7 +74,7 @@ module _ {D : Type 0} (g : Ghosts D) where
     pub layout : g.keeps_model store.disk → IsBadLayout (g.sector_count entry) (g.content entry) → ⊥
     pub journal : g.keeps_model store.disk → IsBadJournal (g.sector_count entry) (g.content entry) → ⊥
     pub leaves : g.keeps_model store.disk → LeavesNow g store.disk (StandsAs (g.sector_count entry) (g.content entry))
-    pub homes : g.keeps_model store.disk → LeavesNow g store.disk (HomesStandAs (g.sector_count entry) (g.content entry))
+    pub homes : g.keeps_model store.disk → LeavesNow g store.disk (StoreStandsAs (g.sector_count entry) (g.content entry))
     pub kept : g.keeps_model store.disk → g.keeps_model entry
     pub later : g.failures entry ≤ g.failures store.disk
     pub calm : g.failures store.disk ≡ g.failures entry
@@ -144,7 +142,7 @@ module _ {D : Type 0} (g : Ghosts D) where
 
   -- what an opening leaves outside the homes
   same_outside : (entry : D) (store : FileStore D) → IsOpened entry store → g.keeps_model store.disk
-      → (k : ℕ) → IsOutside (g.sector_count entry) k → g.content store.disk k ≡ g.content entry k
+      → (k : ℕ) → IsOutsideOf (g.content entry) (g.sector_count entry) k → g.content store.disk k ≡ g.content entry k
   same_outside entry store opened keeps = (opened.homes keeps (g.content store.disk) (record { kept = λ k. inr refl })).outside
 
   -- a store that was opened, of which a machine is made
@@ -197,7 +195,7 @@ module _ {D : Type 0} (g : Ghosts D) where
     pub first : g.keeps_model left → fault ≡ StoreJournal → IsBadLayout (g.sector_count entry) (g.content entry) → ⊥
     pub unwritten : g.keeps_model left → (fault ≡ StoreDevice → ⊥) → Touches g Nothing entry left
     pub asks : g.keeps_model left → AsksOnly g (IsAskedToOpen (g.content entry)) entry left
-    pub touches : g.keeps_model left → Touches g (IsRecovered (g.sector_count entry)) entry left
+    pub touches : g.keeps_model left → Touches g (IsStoreRecovered (g.content entry) (g.sector_count entry)) entry left
 
   -- a store that can't be opened
   pub refuses_store : (sizes : Sizes) (n : ℕ) (entry : D) (fault : OpenFault) (left : D) → (HasBadFrames sizes → ⊥) → (HasBadSlots sizes n → ⊥) → IsUnopened entry fault left
@@ -215,7 +213,7 @@ module _ {D : Type 0} (g : Ghosts D) where
     unasked = λ either. absurd (sized fault either);
     unwritten = λ keeps either. unopened.unwritten keeps (no_device fault either);
     asks = unopened.asks;
-    outside = λ keeps. left_outside g (g.sector_count entry) entry left (unopened.touches keeps);
+    outside = λ keeps. left_outside g (g.sector_count entry) (g.content entry) entry left (unopened.touches keeps);
     err_size = unopened.size;
     err_kept = unopened.kept;
     err_later = unopened.later;

@@ -19,8 +19,10 @@ use Rattle.mapping.specs.Changes.{KeepsRoom}
 use Rattle.page_ranges.specs.Steps.{KeepsDevices}
 use Rattle.page_faults.proofs.Asking.{asks_same}
 use Rattle.page_faults.proofs.Slotted.{slotted_same}
+use Rattle.page_faults.proofs.Wanted.{calm_same}
 use Rattle.msync.specs.Shows as Syncing
 use Rattle.msync.proofs.SettledPages.{settles_nothing}
+use Rattle.calls.proofs.Asking.{writes_none}
 use Rattle.calls.proofs.Returning.{takes_none}
 use Rattle.calls.specs.Accesses.{AsksFor}
 use Rattle.calls.specs.Calls as Calls
@@ -67,7 +69,7 @@ same_stall : (stall other : Stall) → Reply.Stalled stall ≡ Reply.Stalled oth
 same_stall stall other e = cc
 
 halted_asks : {M : Type 0} {levels : Levels.Ghosts M} {D E : Type 0} (g : Ghosts D) (h : Ghosts E) (c : Core D E M levels) (pid addr : ℕ) (access : Access) → AsksFor g h c c pid addr access Halted
-halted_asks g h c pid addr access = record { wanted = λ stall e. absurd (no_stall stall e); refused = λ stall e. absurd (no_stall stall e); home = λ e. absurd (no_stall StoreDevice e); read = inl refl; slots = λ none. refl; slotted = slotted_same _ _ (picture_of c); sectors = asks_same g h c c pid (addr / 4096) refl refl }
+halted_asks g h c pid addr access = record { wanted = λ stall e. absurd (no_stall stall e); refused = λ stall e. absurd (no_stall stall e); home = λ e. absurd (no_stall StoreDevice e); read = inl refl; slots = λ none. refl; slotted = slotted_same _ _ (picture_of c); granted = c; tables = λ n table. inl table; calm = λ none. calm_same c pid (addr / 4096); writes = writes_none access c; sectors = asks_same g h c c pid (addr / 4096) access refl refl }
 
 module _ {M : Type 0} {levels : Levels.Ghosts M} {D E : Type 0} (g : Ghosts D) (h : Ghosts E) where
   pub halted_accesses : (c : Core D E M levels) (command : Command) → Accesses g h c c command Halted

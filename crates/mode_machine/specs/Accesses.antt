@@ -5,7 +5,7 @@ use Rattle.vm_types.specs.declared.mode.Levels as Levels
 use Rattle.std.specs.Prelude.{◌≡◌, ◌/◌, ◌%◌, None}
 use Rattle.disk_model.specs.declared.sector_disk.SectorDisk.{Ghosts}
 use Rattle.disk_model.specs.Moments.{Nothing}
-use Rattle.mapping.specs.Asking.{AsksSlots}
+use Rattle.mapping.specs.Asking.{AsksIfFull, AsksSlots}
 use Rattle.page_faults.specs.Outcome.{IsWalked}
 use Rattle.msync.specs.Asking.{AsksToCommit}
 use Rattle.msync.specs.Settling.{SettlesMemory}
@@ -25,12 +25,12 @@ use Rattle.vm_types.specs.declared.reply.Reply.TheVariants.{Done}
 use Rattle.vm_types.specs.declared.width.Width.TheVariants.{Four}
 
 module _ {M : Type 0} {levels : Levels.Ghosts M} {D E : Type 0} (g : Ghosts D) (h : Ghosts E) where
-  -- An access asks for no more than it wants, and the devices for sectors of its page and of free slots alone. Where the tables grant
-  -- it nothing changes, but the number that a store writes. A spawn and a fork take frames for tables alone, and give others up only
-  -- for that; they ask swap for free slots alone, and the store for nothing. An exit and a call on a range take no frame and drop no
-  -- page, and a call on a range changes no entry beside it. An msync takes no frame either, and of its entries none loses more than
-  -- D; it asks swap for slots of the pages that it takes alone, and the store for what a commit writes. Telling the history changes
-  -- nothing.
+  -- An access asks for no more than it wants, and the devices for sectors of its page and of free slots alone. Where the tables grant it
+  -- nothing changes, but the number that a store writes. A spawn and a fork take frames for tables alone, and give others up only for
+  -- that; they ask swap for free slots alone, a spawn only where no frame is free, and the store for nothing. An exit and a call on a
+  -- range take no frame and drop no page, and a call on a range changes no entry beside it. An msync takes no frame either, and of its
+  -- entries none loses more than D; it asks swap for slots of the pages that it takes alone, and the store for what a commit writes.
+  -- Telling the history changes nothing.
   abbrev pub Accesses : Core D E M levels → Core D E M levels → Command → Reply → Type 0
   Accesses old new (Load pid addr width) reply =
       AsksFor g h old new pid addr Access.Load reply × ((place : Phys) → IsWalked (picture_of old) pid addr width Access.Load place → new ≡ old)
@@ -39,7 +39,7 @@ module _ {M : Type 0} {levels : Levels.Ghosts M} {D E : Type 0} (g : Ghosts D) (
   Accesses old new (Store pid addr stored) reply =
       AsksFor g h old new pid addr Access.Store reply × ((place : Phys) → IsWalked (picture_of old) pid addr stored.width Access.Store place
       → reply ≡ Done → WritesNumber old new (place.0 / 4096) (addr % 4096) stored)
-  Accesses old new Spawn reply = SpawnTakes (picture_of old) (picture_of new) reply × (new.store ≡ old.store) × AsksSlots h old new None Nothing
+  Accesses old new Spawn reply = SpawnTakes (picture_of old) (picture_of new) reply × (new.store ≡ old.store) × AsksIfFull h old new None Nothing
   Accesses old new (Fork pid) reply = ForkTakes (picture_of old) (picture_of new) pid reply × (new.store ≡ old.store) × AsksSlots h old new None Nothing
   Accesses old new (Exit pid) reply = TakesNothing (picture_of old) (picture_of new) pid 0 (user_end levels.mode)
   Accesses old new (Mmap pid addr len prot source placing) reply =

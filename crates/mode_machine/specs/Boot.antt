@@ -4,9 +4,8 @@ use Rattle.std.specs.Prelude.{ℕ, ◌*◌, ◌^◌, ◌≡◌, ◌<◌, ◌≤�
 use Rattle.disk_model.specs.Moments.{Touches, AsksOnly, Nothing, LeavesOnly}
 use Rattle.disk_model.specs.Stop.{Image}
 use Rattle.disk_model.specs.declared.sector_disk.SectorDisk.{Ghosts}
-use Rattle.sync_journal.specs.Layout.{IsOutside}
-use Rattle.sync_journal.specs.Standing.{IsBadJournal}
-use Rattle.file_store.specs.Standing.{StandsFor, StandsAs, IsBadLayout, IsAskedToOpen}
+use Rattle.sync_journal.specs.Kinds.{IsOutsideOf}
+use Rattle.file_store.specs.Standing.{StandsFor, StandsAs, IsBadLayout, IsBadJournal, IsAskedToOpen}
 use Rattle.frames.specs.FrameTable.{frame_count}
 use Rattle.swap.specs.Slots.{slots_of}
 use Rattle.paging.specs.Calls.{IsStart}
@@ -70,7 +69,7 @@ module _ {D : Type 0} (g : Ghosts D) where
     pub slots : HasBadSlots sizes swap_sectors → ⊥
     -- the image has the layout of a store
     pub layout : g.keeps_model new → IsBadLayout (g.sector_count store) (g.content store) → ⊥
-    -- its journal is closed, or open with a map that some commit writes
+    -- no journal stands over its homes, or one with a map that some commit writes
     pub journal : g.keeps_model new → IsBadJournal (g.sector_count store) (g.content store) → ⊥
     -- the device has as many sectors as it had
     pub size : g.sector_count new ≡ g.sector_count store
@@ -80,10 +79,10 @@ module _ {D : Type 0} (g : Ghosts D) where
     pub later : g.failures store ≤ g.failures new
     -- and it did not fail
     pub calm : g.failures new ≡ g.failures store
-    -- no sector was asked for but the mark, the directory, the gate and, where it is open, the map, the body and the homes that the map names
+    -- no sector was asked for but mark, kind and directory, the gate, the map that it names, and, where that has pages, what is copied and written
     pub asks : g.keeps_model new → AsksOnly g (IsAskedToOpen (g.content store)) store new
     -- the mark, the directory and what lies after the last home are as they were
-    pub outside : g.keeps_model new → (k : ℕ) → IsOutside (g.sector_count store) k → g.content new k ≡ g.content store k
+    pub outside : g.keeps_model new → (k : ℕ) → IsOutsideOf (g.content store) (g.sector_count store) k → g.content new k ≡ g.content store k
 
   -- Why a boot gives up with this fault, and what it leaves of the store's device, which is the new one then.
   pub record BootRefuses (sizes : Sizes) (swap_sectors : ℕ) (store : D) (fault : BootFault) (new : D) : Type 0 where
@@ -101,7 +100,7 @@ module _ {D : Type 0} (g : Ghosts D) where
     pub err_calm : (fault ≡ Device → ⊥) → g.failures new ≡ g.failures store
     -- `BadLayout` comes only where the image has no layout of a store
     pub bad_layout : g.keeps_model new → fault ≡ BadLayout → IsBadLayout (g.sector_count store) (g.content store)
-    -- `BadJournal` comes only where its journal is open with a map that no commit writes
+    -- `BadJournal` comes only where a journal stands over its homes with a map that no commit writes
     pub bad_journal : g.keeps_model new → fault ≡ BadJournal → IsBadJournal (g.sector_count store) (g.content store)
     -- a bad layout is reported before a bad journal
     pub layout_first : g.keeps_model new → fault ≡ BadJournal → IsBadLayout (g.sector_count store) (g.content store) → ⊥
@@ -109,10 +108,10 @@ module _ {D : Type 0} (g : Ghosts D) where
     pub unasked : (fault ≡ Frames) ⊎ (fault ≡ Slots) → new ≡ store
     -- for a bad image nothing was written to it
     pub unwritten : g.keeps_model new → (fault ≡ BadLayout) ⊎ (fault ≡ BadJournal) → Touches g Nothing store new
-    -- no sector was asked for but the mark, the directory, the gate and, where it is open, the map, the body and the homes that the map names
+    -- no sector was asked for but mark, kind and directory, the gate, the map that it names, and, where that has pages, what is copied and written
     pub asks : g.keeps_model new → AsksOnly g (IsAskedToOpen (g.content store)) store new
     -- the mark, the directory and what lies after the last home are as they were
-    pub outside : g.keeps_model new → (k : ℕ) → IsOutside (g.sector_count store) k → g.content new k ≡ g.content store k
+    pub outside : g.keeps_model new → (k : ℕ) → IsOutsideOf (g.content store) (g.sector_count store) k → g.content new k ≡ g.content store k
     -- the device has as many sectors as it had
     pub err_size : g.sector_count new ≡ g.sector_count store
     -- if it keeps the disk model still, it did before

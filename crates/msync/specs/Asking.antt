@@ -3,8 +3,7 @@ use Rattle.vm_types.specs.declared.mode.Levels as Levels
 use Rattle.std.specs.Prelude.{◌≡◌, ◌<◌, ℕ, true}
 use Rattle.disk_model.specs.Moments.{AsksOnly}
 use Rattle.disk_model.specs.declared.sector_disk.SectorDisk.{Ghosts}
-use Rattle.sync_journal.specs.Journal.{live_homes}
-use Rattle.sync_journal.specs.Layout.{IsCommitted}
+use Rattle.sync_journal.specs.Kinds.{IsStoreUsed}
 use Rattle.swap.specs.Slots.{IsSectorOfSlot}
 use Rattle.vm_types.specs.declared.file.FilePage.{FilePage}
 use Rattle.vm_types.specs.declared.object.PageKey.TheVariants.{File}
@@ -30,7 +29,7 @@ module _ {mode : ℕ} where
 module _ {M : Type 0} {m : Levels.Ghosts M} {D E : Type 0} (g : Ghosts D) (h : Ghosts E) where
   -- Which sectors an msync asks for, of both devices.
   pub record AsksToCommit (old new : Core D E M m) (pid addr len : ℕ) : Type 0 where
-    -- of the store those of the gate, the map and the body of its journal, and the homes of the pages of the commit before
-    pub store : AsksOnly g (IsCommitted (live_homes old.store.journal)) old.store.disk new.store.disk
+    -- of the store those of the gate, of the map and the body of a journal, and what the pages of the commit before are copied from and to
+    pub store : AsksOnly g (IsStoreUsed old.store.journal) old.store.disk new.store.disk
     -- of swap those of the slots that the pages lie in which it takes
     pub swap : AsksOnly h (IsSectorTaken (picture_of old) pid addr len) old.swap.pages.disk new.swap.pages.disk

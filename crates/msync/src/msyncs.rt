@@ -13,8 +13,7 @@ ghost use Rattle.vm_types.specs.declared.refusal.Stall.TheVariants.{SwapDevice};
 ghost use Rattle.vm_types.specs.declared.command.MsyncMode.{MsyncMode as Mode};
 ghost use Rattle.vm_types.specs.declared.object.PageKey.TheVariants.{File};
 ghost use Rattle.disk_model.specs.Moments.{AsksOnly};
-ghost use Rattle.sync_journal.specs.Journal.{live_homes};
-ghost use Rattle.sync_journal.specs.Layout.{IsCommitted};
+ghost use Rattle.sync_journal.specs.Kinds.{IsStoreUsed};
 ghost use Rattle.frames.specs.FrameTable.{frame_count};
 ghost use Rattle.swap.specs.Slots.{slots_of, IsReady};
 ghost use Rattle.paging.specs.Picture.{picture_of};
@@ -112,7 +111,7 @@ fn commit<D: SectorDisk, E: SectorDisk, M: Levels>(
     ensures size { D.sector_count core.new.store.disk ≡ D.sector_count core.old.store.disk }
     ensures swap { IsReady E.SectorDisk core.new.swap }
     ensures device { UsesDevice E.SectorDisk core.old.swap.pages.disk core.new.swap.pages.disk }
-    ensures asks_store { AsksOnly D.SectorDisk (IsCommitted (live_homes core.old.store.journal)) core.old.store.disk core.new.store.disk }
+    ensures asks_store { AsksOnly D.SectorDisk (IsStoreUsed core.old.store.journal) core.old.store.disk core.new.store.disk }
     ensures asks_slots { AsksOnly E.SectorDisk (IsSectorListed (picture_of core.old) (chosen_of list.now count)) core.old.swap.pages.disk core.new.swap.pages.disk }
     ensures frames { frame_count core.new.frames ≡ frame_count core.old.frames }
     ensures slots { (slots_of core.new.swap).total ≡ (slots_of core.old.swap).total }

@@ -3,6 +3,8 @@ use Rattle.vm_types.specs.declared.mode.Levels as Levels
 use Rattle.vm_types.specs.Limits.{top_level}
 use Rattle.std.proofs.Common.{◌≡◌, ◌≢◌, ◌<◌, ℕ, true, inl, inr, ◌⊎◌, Option, Some, None, refl, sym, ap, ◌∙◌, subst, arith}
 use Rattle.std.proofs.lemmas.Bool.{cases_Bool, cases_lt}
+use Rattle.vm_types.specs.declared.access.Access.{Access}
+use Rattle.vm_types.specs.declared.access.Access.TheVariants.{Store}
 use Rattle.vm_types.specs.declared.file.FilePage.{FilePage}
 use Rattle.vm_types.specs.declared.number.FrameNo.{FrameNo}
 use Rattle.vm_types.specs.declared.number.SlotNo.{SlotNo}
@@ -15,6 +17,7 @@ use Rattle.disk_model.specs.Moments.{AsksOnly, Nothing}
 use Rattle.disk_model.proofs.Moments.{asks_none, asks_wider}
 use Rattle.file_store.specs.declared.store.FileStore.{FileStore}
 use Rattle.file_store.specs.Store.{IsSectorOf}
+use Rattle.frames.specs.FrameTable.{IsFull, frame_count}
 use Rattle.swap.specs.declared.slots.Swap.{Swap}
 use Rattle.swap.proofs.Stack.{inside_of}
 use Rattle.page_tables.specs.Tree.{IsPage}
@@ -24,19 +27,20 @@ use Rattle.paging.specs.declared.kernel.Core.{Core}
 use Rattle.paging.specs.Seats.{InFrame, InSlot, seat, is_private, is_swapped}
 use Rattle.paging.specs.Picture.{Picture, picture_of, entry, is_data, IsOwned}
 use Rattle.paging.specs.Parts.{IsFit}
+use Rattle.paging.specs.Ages.{GivesForTables, KeepsRolesBut}
 use Rattle.paging.specs.Calls.{KeepsPages}
 use Rattle.paging.specs.Shows.{KeepsFiles}
 use Rattle.paging.proofs.Seats.{holders_none}
-use Rattle.mapping.specs.Asking.{HasSwappable, MayAsk, AsksNoNew, AsksSlots, IsSectorOfFile, IsSectorOfPage}
-use Rattle.mapping.specs.Changes.{IsWhole, IsCalm, KeepsBare, KeepsSlotted, Moves, copied_frame, frame_behind, frame_of_place}
-use Rattle.mapping.proofs.Asking.{asks_slots_any, asks_slots_kept, asks_slots_same, asks_slots_then, asks_slots_wider}
+use Rattle.mapping.specs.Asking.{HasSwappable, MayAsk, AsksIfFull, AsksNoNew, AsksSlotsIf, IsSectorOfFile, IsSectorOfPage}
+use Rattle.mapping.specs.Changes.{IsWhole, IsCalm, KeepsBare, KeepsSlotted, LinksTables, Moves, copied_frame, frame_behind, frame_of_place}
+use Rattle.mapping.proofs.Asking.{asks_slots_any, asks_slots_if, asks_slots_kept, asks_slots_same, asks_slots_then, asks_slots_wider}
 use Rattle.mapping.proofs.Forms.{none_common, seat_common, seat_own, seat_zero}
 use Rattle.mapping.proofs.OwnSteps.{shown_common}
 use Rattle.page_faults.specs.Asking.{IsSectorOfItsSlot, AsksForPage}
-use Rattle.page_faults.specs.Wants.{LacksTable, ShowsFile}
+use Rattle.page_faults.specs.Wants.{LacksTable, RunsOut, ShowsFile, WantsTwo}
 use Rattle.page_faults.proofs.Linked.{lacks_none}
 use Rattle.page_faults.proofs.Steps.{keeps_seen}
-use Rattle.page_faults.proofs.Wanted.{whole_or, shows_back}
+use Rattle.page_faults.proofs.Wanted.{cases_frame, whole_or, shows_back}
 
 -- an entry that names a slot as the seat of its page is one of a page that lies in a slot
 away_of : (e k : ℕ) → seat e ≡ Some (InSlot k) → is_swapped e ≡ true
@@ -98,35 +102,69 @@ module _ {mode : ℕ} (old new : Picture mode) (fit : IsFit old) (now : IsFit ne
     | inr none ↦ omega (arith, none)
   ]
 
-  lay_by : (place : Place) → old.place p ≡ place → (old.place p ≡ Slot s) ⊎ (HasSwappable old None × (old.slots.count s.0 ≡ 0))
+  lay_by : (place : Place) → old.place p ≡ place → (old.place p ≡ Slot s) ⊎ (((n : FrameNo) × (old.place p ≡ Frame n)) × HasSwappable old None × (old.slots.count s.0 ≡ 0))
   lay_by Home at = absurd (fit.dirty.held p (sym (files.touched p) ∙ now.dirty.slotted p s.0 there) at)
   lay_by (Slot k) at = inl (at ∙ ap (λ (j : SlotNo). Slot j) (one_slot k s (sym (stays p k at) ∙ there)))
   lay_by (Frame n) at =
       inr (
+        (n, at),
         (n.0, (ap is_data (fit.places.cached p n.0 at), λ none. none), inr (p, at, sym (files.touched p) ∙ now.dirty.slotted p s.0 there)),
         was_free n at,
       )
 
-  lay : (old.place p ≡ Slot s) ⊎ (HasSwappable old None × (old.slots.count s.0 ≡ 0))
+  lay : (old.place p ≡ Slot s) ⊎ (((n : FrameNo) × (old.place p ≡ Frame n)) × HasSwappable old None × (old.slots.count s.0 ≡ 0))
   lay = lay_by (old.place p) refl
+
+-- no frame is free
+pub now_out : {mode : ℕ} (c : Picture mode) (pid page : ℕ) (access : Access) → IsFull c.frames → RunsOut c pid page access
+now_out c pid page access full = record { linked = c; made = inl refl; short = inl full }
+
+-- or none once tables were made
+pub tables_out : {mode : ℕ} (old mid : Picture mode) (pid page : ℕ) (access : Access) (tried : Option ℕ) → LacksTable old pid page → GivesForTables old mid tried → LinksTables old mid pid page → IsFull mid.frames
+    → RunsOut old pid page access
+tables_out old mid pid page access tried lacks gives tables full =
+    record { linked = mid; made = inr (record { lacks = lacks; tried = tried; gives = gives; tables = tables }); short = inl full }
+
+-- or none once a page of a file was brought into a frame that a store copies
+pub brought_out : {mode : ℕ} (old mid : Picture mode) (pid page : ℕ) (p : PageKey) (n : FrameNo) → ShowsFile old pid page p → frame_count mid.frames ≡ frame_count old.frames
+    → IsFull old.frames ⊎ KeepsRolesBut old mid n.0 → ((k : FrameNo) → old.place p ≡ Frame k → mid ≡ old) → IsFull mid.frames → RunsOut old pid page Store
+brought_out old mid pid page p n shows count (inl full) idle now = now_out old pid page Store full
+brought_out old mid pid page p n shows count (inr only) idle now = elim (cases_frame (old.place p)) [
+  | inl there ↦ now_out old pid page Store (let P : Picture _ → Type 0 = λ c. IsFull c.frames in subst P (idle there.0 there.1) now)
+  | inr away ↦ record {
+    linked = old;
+    made = inl refl;
+    short = inr (record {
+      stores = refl;
+      file = p;
+      shows = shows;
+      away = away;
+      last = n.0;
+      full = λ k inside ne free. (
+          let P : ℕ → Type 0 = λ i. k < i in
+          now k (subst P (sym count) inside) (only k ne ∙ free));
+    });
+  }
+]
 
 module _ {M : Type 0} {m : Levels.Ghosts M} {D E : Type 0} (g : Ghosts D) (h : Ghosts E) where
   -- the store wasn't asked, and swap for less
-  pub asks_less : (old new : Core D E M m) (pid page : ℕ) (keep : Option FrameNo) (few : ℕ → Type 0) → new.store ≡ old.store → ((k : ℕ) → few k → IsSectorOfItsSlot (picture_of old) pid page k)
-      → AsksSlots h old new keep few → AsksForPage g h old new pid page
-  asks_less old new pid page keep few same less asks = record {
+  pub asks_less : (old new : Core D E M m) (pid page : ℕ) (access : Access) (full : Type 0) (keep : Option FrameNo) (few : ℕ → Type 0) → new.store ≡ old.store
+      → ((k : ℕ) → few k → IsSectorOfItsSlot (picture_of old) pid page k) → (full → RunsOut (picture_of old) pid page access) → AsksSlotsIf h full old new keep few → AsksForPage g h old new pid page access
+  asks_less old new pid page access full keep few same less out asks = record {
     store = asks_none g _ old.store.disk new.store.disk (λ k. ap (λ (s : FileStore D). g.asked s.disk k) same);
-    swap = asks_slots_wider h old new None few (IsSectorOfItsSlot (picture_of old) pid page) (λ k is. inl (less k is)) (asks_slots_any h old new keep few asks);
+    swap = asks_slots_if h (RunsOut (picture_of old) pid page access) old new None (IsSectorOfItsSlot (picture_of old) pid page) out
+        (asks_slots_wider h old new None few (IsSectorOfItsSlot (picture_of old) pid page) (λ k is. inl (less k is)) (asks_slots_any h old new keep few asks));
   }
 
   -- neither device was asked
-  pub asks_same : (old new : Core D E M m) (pid page : ℕ) → new.store ≡ old.store → new.swap ≡ old.swap → AsksForPage g h old new pid page
-  asks_same old new pid page store swap = asks_less old new pid page None Nothing store (λ k none. absurd none) (asks_slots_same h old new None Nothing swap)
+  pub asks_same : (old new : Core D E M m) (pid page : ℕ) (access : Access) → new.store ≡ old.store → new.swap ≡ old.swap → AsksForPage g h old new pid page access
+  asks_same old new pid page access store swap = asks_less old new pid page access ⊥ None Nothing store (λ k none. absurd none) (λ none. absurd none) (asks_slots_same h old new None Nothing swap)
 
-  pub asks_calm : (old new : Core D E M m) (pid page : ℕ) → IsCalm old new pid page → AsksForPage g h old new pid page
-  asks_calm old new pid page calm = asks_same old new pid page calm.store calm.swap
+  pub asks_calm : (old new : Core D E M m) (pid page : ℕ) (access : Access) → IsCalm old new pid page → AsksForPage g h old new pid page access
+  asks_calm old new pid page access calm = asks_same old new pid page access calm.store calm.swap
 
-  module _ (old mid : Core D E M m) (pid page : ℕ) (p : PageKey) (shows : ShowsFile (picture_of old) pid page p) (swap : AsksSlots h old mid None (IsSectorOfPage (picture_of old) p))
+  module _ (old mid : Core D E M m) (pid page : ℕ) (access : Access) (p : PageKey) (shows : ShowsFile (picture_of old) pid page p) (swap : AsksIfFull h old mid None (IsSectorOfPage (picture_of old) p))
       (store : AsksOnly g (IsSectorOfFile old.store p) old.store.disk mid.store.disk) where
     of_file : (k : ℕ) → IsSectorOfFile old.store p k → (f : FilePage) × ShowsFile (picture_of old) pid page (File f) × IsSectorOf old.store f k
     of_file k is = (is.0, (let P : PageKey → Type 0 = λ x. ShowsFile (picture_of old) pid page x in subst P is.1 shows), is.2)
@@ -137,31 +175,36 @@ module _ {M : Type 0} {m : Levels.Ghosts M} {D E : Type 0} (g : Ghosts D) (h : G
         let P : FileStore D → Type 0 = λ s. AsksOnly g (IsSectorOfFile old.store p) old.store.disk s.disk in
         asks_wider g (IsSectorOfFile old.store p) _ old.store.disk new.store.disk of_file (subst P (sym same) store)
 
-    slot_asked : (new : Core D E M m) → AsksSlots h old new None (IsSectorOfPage (picture_of old) p) → AsksSlots h old new None (IsSectorOfItsSlot (picture_of old) pid page)
+    slot_asked : (new : Core D E M m) → AsksSlotsIf h (RunsOut (picture_of old) pid page access) old new None (IsSectorOfPage (picture_of old) p)
+        → AsksSlotsIf h (RunsOut (picture_of old) pid page access) old new None (IsSectorOfItsSlot (picture_of old) pid page)
     slot_asked new = asks_slots_wider h old new None (IsSectorOfPage (picture_of old) p) (IsSectorOfItsSlot (picture_of old) pid page) (λ k is. inl (inr (p, shows, is)))
 
+    swap_out : AsksSlotsIf h (RunsOut (picture_of old) pid page access) old mid None (IsSectorOfPage (picture_of old) p)
+    swap_out = asks_slots_if h (RunsOut (picture_of old) pid page access) old mid None (IsSectorOfPage (picture_of old) p) (now_out (picture_of old) pid page access) swap
+
     -- the page of a file or an object that the page shows was brought into a frame
-    pub asks_brought : AsksForPage g h old mid pid page
-    asks_brought = record { store = file_asked mid refl; swap = slot_asked mid swap }
+    pub asks_brought : AsksForPage g h old mid pid page access
+    asks_brought = record { store = file_asked mid refl; swap = slot_asked mid swap_out }
 
     -- and then neither device was asked
-    pub asks_still : (new : Core D E M m) → new.store ≡ mid.store → new.swap ≡ mid.swap → AsksForPage g h old new pid page
-    asks_still new same kept = record { store = file_asked new same; swap = slot_asked new (asks_slots_kept h old mid new None (IsSectorOfPage (picture_of old) p) (ap (λ (s : Swap E). s.pages) kept) swap) }
+    pub asks_still : (new : Core D E M m) → new.store ≡ mid.store → new.swap ≡ mid.swap → AsksForPage g h old new pid page access
+    asks_still new same kept = record { store = file_asked new same; swap = slot_asked new (asks_slots_kept h old mid new None (IsSectorOfPage (picture_of old) p) (ap (λ (s : Swap E). s.pages) kept) swap_out) }
 
     -- or a frame was taken that it is copied into
     pub asks_copied : (new : Core D E M m) (n : FrameNo) (keep : Option FrameNo) → keep ≡ Some n → AsksNoNew (picture_of old) (picture_of mid) (Some n) (IsSectorOfPage (picture_of old) p)
-        → new.store ≡ mid.store → AsksSlots h mid new keep Nothing → AsksForPage g h old new pid page
-    asks_copied new n keep is none same more =
-        let P : Option FrameNo → Type 0 = λ o. AsksSlots h mid new o Nothing in
+        → (IsFull mid.frames → RunsOut (picture_of old) pid page access) → new.store ≡ mid.store → AsksIfFull h mid new keep Nothing → AsksForPage g h old new pid page access
+    asks_copied new n keep is none out same more =
+        let P : Option FrameNo → Type 0 = λ o. AsksIfFull h mid new o Nothing in
         record {
           store = file_asked new same;
-          swap = slot_asked new (asks_slots_then h old mid new (Some n) (IsSectorOfPage (picture_of old) p) Nothing swap none (subst P is more) (λ k no_sector. absurd no_sector));
+          swap = slot_asked new (asks_slots_then h (IsFull mid.frames) old mid new (Some n) (IsSectorOfPage (picture_of old) p) Nothing swap_out none out (subst P is more) (λ k no_sector. absurd no_sector));
         }
 
   -- tables were linked before
-  module _ (old mid new : Core D E M m) (pid page : ℕ) (fit : IsFit (picture_of old)) (lives : (r : ℕ) × ((picture_of old).root pid ≡ Some r)) (inside : IsPage (top_level m.mode) page)
+  module _ (old mid new : Core D E M m) (pid page : ℕ) (access : Access) (fit : IsFit (picture_of old)) (lives : (r : ℕ) × ((picture_of old).root pid ≡ Some r)) (inside : IsPage (top_level m.mode) page)
       (idle : IsWhole (picture_of old) pid page → mid ≡ old) (moves : Moves h old mid) (pages : KeepsPages (picture_of old) (picture_of mid)) (bare : KeepsBare (picture_of old) (picture_of mid))
-      (slotted : KeepsSlotted (λ p. ⊥) (λ q p. ⊥) (picture_of old) (picture_of mid)) where
+      (slotted : KeepsSlotted (λ p. ⊥) (λ q p. ⊥) (picture_of old) (picture_of mid)) (whole : IsWhole (picture_of mid) pid page) (gives : GivesForTables (picture_of old) (picture_of mid) None)
+      (tables : LinksTables (picture_of old) (picture_of mid) pid page) where
     shown_before : (p : PageKey) → ShowsFile (picture_of mid) pid page p → ShowsFile (picture_of old) pid page p
     shown_before p = shows_back (picture_of old) (picture_of mid) pid page p pages.at (keeps_seen (picture_of old) (picture_of mid) pages)
 
@@ -172,7 +215,32 @@ module _ {M : Type 0} {m : Levels.Ghosts M} {D E : Type 0} (g : Ghosts D) (h : G
         let low = inside_of mid.swap.counts s.0 (omega (arith, one)) in
         omega (arith, room, low)
 
-    lacking : LacksTable (picture_of old) pid page → (k : ℕ) → IsSectorOfItsSlot (picture_of mid) pid page k → MayAsk (picture_of old) None (IsSectorOfItsSlot (picture_of old) pid page) k
+    -- no frame is free, or one alone where two are wanted, in memory as the tables leave it
+    out_after : IsFull mid.frames ⊎ WantsTwo (picture_of mid) pid page access → RunsOut (picture_of old) pid page access
+    out_after short = elim (whole_or (picture_of old) pid page lives) [
+      | inl had ↦ record {
+        linked = picture_of old;
+        made = inl refl;
+        short = (let P : Core D E M m → Type 0 = λ c. IsFull c.frames ⊎ WantsTwo (picture_of c) pid page access in subst P (idle had) short);
+      }
+      | inr lacks ↦ record { linked = picture_of mid; made = inr (record { lacks = lacks; tried = None; gives = gives; tables = tables }); short = short }
+    ]
+
+    out_before : RunsOut (picture_of mid) pid page access → RunsOut (picture_of old) pid page access
+    out_before out = elim out.made [
+      | inl same ↦ out_after (let P : Picture m.mode → Type 0 = λ c. IsFull c.frames ⊎ WantsTwo c pid page access in subst P same out.short)
+      | inr makes ↦ absurd (makes.lacks.missing (whole makes.lacks.root makes.lacks.lives))
+    ]
+
+    -- a page that lay in a frame, and lies in a slot, was given up for a table
+    out_given : (p : PageKey) (n : FrameNo) (s : SlotNo) → (picture_of old).place p ≡ Frame n → (picture_of mid).place p ≡ Slot s → RunsOut (picture_of old) pid page access
+    out_given p n s was now = elim gives.needed [
+      | inl full ↦ out_after (inl full)
+      | inr none ↦ (let bad : Frame n ≡ Slot s = sym was ∙ sym (none.places p) ∙ now in absurd (cc))
+    ]
+
+    lacking : LacksTable (picture_of old) pid page → (k : ℕ) → IsSectorOfItsSlot (picture_of mid) pid page k
+        → MayAsk (picture_of old) (RunsOut (picture_of old) pid page access) None (IsSectorOfItsSlot (picture_of old) pid page) k
     lacking lacks k (inl copy) =
         absurd (let bad : None ≡ Some (InSlot copy.0) = sym (seat_zero (entry (picture_of mid) pid page) (bare pid page inside (lacks_none (picture_of old) pid page lacks))) ∙ copy.1 in (cc))
     lacking lacks k (inr shown) =
@@ -180,24 +248,27 @@ module _ {M : Type 0} {m : Levels.Ghosts M} {D E : Type 0} (g : Ghosts D) (h : G
         let s = shown.2.0 in
         elim (lay (picture_of old) (picture_of mid) fit moves.fit pages.files slotted p s shown.2.1) [
           | inl was ↦ inl (inr (p, shown_before p shown.1, (s, was, shown.2.2)))
-          | inr free ↦ inr (free.0, (s.0, below p s shown.2.1, free.1, shown.2.2))
+          | inr free ↦ inr (out_given p free.0.0 s free.0.1 shown.2.1, free.1, (s.0, below p s shown.2.1, free.2, shown.2.2))
         ]
 
-    its_before : (k : ℕ) → IsSectorOfItsSlot (picture_of mid) pid page k → MayAsk (picture_of old) None (IsSectorOfItsSlot (picture_of old) pid page) k
+    its_before : (k : ℕ) → IsSectorOfItsSlot (picture_of mid) pid page k → MayAsk (picture_of old) (RunsOut (picture_of old) pid page access) None (IsSectorOfItsSlot (picture_of old) pid page) k
     its_before k is = elim (whole_or (picture_of old) pid page lives) [
-      | inl whole ↦ inl (let P : Core D E M m → Type 0 = λ c. IsSectorOfItsSlot (picture_of c) pid page k in subst P (idle whole) is)
+      | inl had ↦ inl (let P : Core D E M m → Type 0 = λ c. IsSectorOfItsSlot (picture_of c) pid page k in subst P (idle had) is)
       | inr lacks ↦ lacking lacks k is
     ]
 
-    pub asks_back : AsksNoNew (picture_of old) (picture_of mid) None Nothing → AsksSlots h old mid None Nothing → AsksForPage g h mid new pid page → AsksForPage g h old new pid page
+    pub asks_back : AsksNoNew (picture_of old) (picture_of mid) None Nothing → AsksSlotsIf h (IsFull mid.frames) old mid None Nothing → AsksForPage g h mid new pid page access
+        → AsksForPage g h old new pid page access
     asks_back none first asks =
         let its = IsSectorOfItsSlot (picture_of old) pid page in
+        let out = RunsOut (picture_of old) pid page access in
         let W : FileStore D → ℕ → Type 0 = λ s k. (f : FilePage) × ShowsFile (picture_of old) pid page (File f) × IsSectorOf s f k in
         let P : FileStore D → Type 0 = λ s. AsksOnly g (W s) s.disk new.store.disk in
         record {
           store = subst P moves.store (asks_wider g _ (W mid.store) mid.store.disk new.store.disk (λ k is. (is.0, shown_before (File is.0) is.1, is.2)) asks.store);
-          swap = asks_slots_then h old mid new None its (IsSectorOfItsSlot (picture_of mid) pid page) (asks_slots_wider h old mid None Nothing its (λ k no_sector. absurd no_sector) first)
-              (no_new_wider (picture_of old) (picture_of mid) None its none) asks.swap its_before;
+          swap = asks_slots_then h (RunsOut (picture_of mid) pid page access) old mid new None its (IsSectorOfItsSlot (picture_of mid) pid page)
+              (asks_slots_if h out old mid None its (λ full. out_after (inl full)) (asks_slots_wider h old mid None Nothing its (λ k no_sector. absurd no_sector) first))
+              (no_new_wider (picture_of old) (picture_of mid) None its none) out_before asks.swap its_before;
         }
 
 -- the frame that is kept for a copy of a file page that lies in a frame is that one

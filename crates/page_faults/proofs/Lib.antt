@@ -16,3 +16,4 @@ pub mod Entered
 pub mod Storing
 pub mod Showing
 pub mod Asking
+pub mod Serving

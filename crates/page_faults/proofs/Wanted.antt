@@ -35,7 +35,7 @@ use Rattle.page_faults.specs.Wants.{LacksTable, ShowsFile, Wants, ForFile, ForSt
 use Rattle.page_faults.specs.Outcome.{verdict_of, IsPlaced, IsWalked, IsStalled, Stalls, IsRefusal}
 use Rattle.page_faults.proofs.Settled.{none_same}
 
-cases_frame : (place : Place) → ((n : FrameNo) × (place ≡ Frame n)) ⊎ ((n : FrameNo) → place ≢ Frame n)
+pub cases_frame : (place : Place) → ((n : FrameNo) × (place ≡ Frame n)) ⊎ ((n : FrameNo) → place ≢ Frame n)
 cases_frame (Frame m) = inl (m, refl)
 cases_frame Home = inr (λ n e. (cc))
 cases_frame (Slot m) = inr (λ n e. (cc))
@@ -124,6 +124,7 @@ calm_same c pid page = record {
   swap = refl;
   refused = refl;
   frames = record { frames = refl; roles = refl; counts = refl; bytes = λ n other. refl };
+  pointers = λ n i m points. points;
   place = λ p. refl;
   others = λ q p h other. refl;
 }

@@ -4,3 +4,4 @@ pub mod Outcome
 pub mod Found
 pub mod Granted
 pub mod Asking
+pub mod Serving

@@ -11,7 +11,8 @@ use Rattle.vm_types.specs.declared.refusal.Stall.{Stall}
 use Rattle.vm_types.specs.declared.region.Attr.{Attr}
 use Rattle.vm_types.specs.declared.region.Backing.{Backing}
 use Rattle.vm_types.specs.Attributes.{stands_on}
-use Rattle.frames.specs.FrameTable.{IsFull}
+use Rattle.frames.specs.declared.role.Role.TheVariants.{Free}
+use Rattle.frames.specs.FrameTable.{FrameTable, IsFrame, IsFull, role_of}
 use Rattle.page_tables.specs.Tree.{missing_of}
 use Rattle.page_cache.specs.declared.place.Place.TheVariants.{Home, Frame}
 use Rattle.paging.specs.Ages.{GivesForTables}
@@ -97,3 +98,33 @@ module _ {mode : ℕ} where
     pub shows : ShowsFile c pid page (File file)
     pub untouched : c.touched (File file) ≡ false
     pub home : (c.place (File file) ≡ Home) ⊎ FillsMemory c pid page
+
+-- no frame is free but that one
+abbrev pub IsFullBut : FrameTable → ℕ → Type 0
+IsFullBut t last = (n : ℕ) → IsFrame t n → n ≢ last → role_of t n ≢ Free
+
+-- A store is to copy a page of a file that lies in no frame, and one frame at most is free, which that page takes.
+module _ {mode : ℕ} where
+  pub record WantsTwo (c : Picture mode) (pid page : ℕ) (access : Access) : Type 0 where
+    pub stores : access ≡ Store
+    pub file : PageKey
+    pub shows : ShowsFile c pid page file
+    pub away : (n : FrameNo) → c.place file ≢ Frame n
+    pub last : ℕ
+    pub full : IsFullBut c.frames last
+
+-- Tables were missing on a page's way, and frames were taken for them, and for no others.
+module _ {mode : ℕ} where
+  pub record MakesTables (c linked : Picture mode) (pid page : ℕ) : Type 0 where
+    pub lacks : LacksTable c pid page
+    pub tried : Option ℕ
+    pub gives : GivesForTables c linked tried
+    pub tables : LinksTables c linked pid page
+
+-- A frame has to be given up for an access to a page, at once or once the tables are made that are missing on its way: none is free,
+-- or one alone where it wants two.
+module _ {mode : ℕ} where
+  pub record RunsOut (c : Picture mode) (pid page : ℕ) (access : Access) : Type 0 where
+    pub linked : Picture mode
+    pub made : (linked ≡ c) ⊎ MakesTables c linked pid page
+    pub short : IsFull linked.frames ⊎ WantsTwo linked pid page access

@@ -1,16 +1,10 @@
 //! Accesses.
-ghost use Rattle.std.specs.Prelude.{◌≡◌, ◌⊎◌, ◌/◌, true, Ok, IfOk, IfErr, OnOk};
-ghost use Rattle.vm_types.specs.declared.number.Phys.{Phys};
+ghost use Rattle.std.specs.Prelude.{◌≡◌, true};
 ghost use Rattle.file_store.specs.Store.{IsReadyStore};
 ghost use Rattle.swap.specs.Slots.{IsReady};
-ghost use Rattle.paging.specs.Picture.{picture_of, is_live, entry, is_swapped};
+ghost use Rattle.paging.specs.Picture.{picture_of, is_live};
 ghost use Rattle.paging.specs.Parts.{IsFit};
-ghost use Rattle.paging.specs.Stalls.{CountsNothing};
-ghost use Rattle.mapping.specs.Changes.{IsCalm, IsThatPage, KeepsOtherViews, KeepsSlotted};
-ghost use Rattle.mapping.specs.Files.{Proceeds, BringsFiles};
-ghost use Rattle.page_faults.specs.Wants.{Wants, ReadsHome, ShowsFile};
-ghost use Rattle.page_faults.specs.Outcome.{IsPlaced, Grants, IsRefusal, IsWalked};
-ghost use Rattle.page_faults.specs.Asking.{AsksForPage};
+ghost use Rattle.page_faults.specs.Serving.{Reaches};
 
 use crate::faults::fault;
 use crate::finding::{Finding, find, keep_line, place_in};
@@ -27,8 +21,9 @@ use vm_types::{Access, Levels, Phys, Pid, Width};
 /// of the shared page of a file or an object, which is touched now: the caller writes the bytes. Where the walk returns a place already nothing changes;
 /// where no frame is wanted none is asked for, and nothing but the page's own entry changes. A frame that is wanted may be had by
 /// giving up another, which nobody sees. The store is read only for the page's own file page, where that is at home.
-/// Of the store no sector is asked for but those of that page, and of swap none but those of the slot that the page lies in, and of
-/// free slots where a frame that may be given up holds what has to go into one.
+/// Tables are made on the page's way alone. Of the store no sector is asked for but those of that page, and of swap none but those of
+/// the slot that the page lies in, and where a frame has to be given up, and one that may be holds what has to go into a slot, of free
+/// ones.
 ///
 /// # Errors
 /// `Fault` exactly where the access faults; then nothing changes. `Stall` only where the access is fine and a frame is wanted:
@@ -47,19 +42,7 @@ pub fn access<D: SectorDisk, E: SectorDisk, M: Levels>(
     requires store { IsReadyStore D.SectorDisk core.old.store }
     requires swap { IsReady E.SectorDisk core.old.swap }
     requires lives { is_live (picture_of core.old) pid ≡ true }
-    ensures proceeds { Proceeds D.SectorDisk E.SectorDisk core.old core.new }
-    ensures brings { BringsFiles D.SectorDisk E.SectorDisk (ShowsFile (picture_of core.old) pid (addr / 4096)) core.old core.new }
-    ensures placed { IfOk result (λ place. IsPlaced (picture_of core.old) (picture_of core.new) pid addr width access place) }
-    ensures granted { (is_swapped (entry (picture_of core.old) pid (addr / 4096)) ≡ true → E.keeps_model core.new.swap.pages.disk)
-        → IfOk result (λ place. Grants (picture_of core.old) (picture_of core.new) pid addr width access place) }
-    ensures others { KeepsOtherViews (picture_of core.old) (picture_of core.new) pid (addr / 4096) }
-    ensures slotted { KeepsSlotted (ShowsFile (picture_of core.old) pid (addr / 4096)) (IsThatPage pid (addr / 4096)) (picture_of core.old) (picture_of core.new) }
-    ensures walked { (place : Phys) → IsWalked (picture_of core.old) pid addr width access place → (core.new ≡ core.old) × (result ≡ Ok place) }
-    ensures calm { (Wants (picture_of core.old) pid (addr / 4096) access → ⊥) → IsCalm core.old core.new pid (addr / 4096) }
-    ensures read { (core.new.store ≡ core.old.store) ⊎ ReadsHome (picture_of core.old) pid (addr / 4096) }
-    ensures asks { AsksForPage D.SectorDisk E.SectorDisk core.old core.new pid (addr / 4096) }
-    ensures counts { OnOk result (CountsNothing D.SectorDisk E.SectorDisk core.old core.new) }
-    ensures refusal { IfErr result (IsRefusal D.SectorDisk E.SectorDisk core.old core.new pid addr width access) }
+    ensures { Reaches D.SectorDisk E.SectorDisk core.old core.new pid addr width access result }
 {
     match find(core, pid, addr, width, access) {
         Finding::Place(place) => Ok(place),

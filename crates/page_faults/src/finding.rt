@@ -10,7 +10,7 @@ ghost use Rattle.page_faults.specs.Found.{Finds, IsOpenTo, IsWayTo};
 use crate::faults::{is_past_end, lets};
 use crate::processes::attr_at;
 use disk_model::SectorDisk;
-use mapped_memory::{WalkEnd, keep_at, walk_page};
+use mapped_memory::{WalkEnd, keep_at, table_of, walk_page};
 use mapping::root_of;
 use paging::Core;
 use vm_types::{Access, Attr, Code, FrameNo, Levels, PAGE_BYTES, Phys, Pid, Vpn, Width};
@@ -103,8 +103,7 @@ fn judge<D: SectorDisk, E, M: Levels>(
     Ok(attr)
 }
 
-/// Keeps the leaf of a page that an access was just granted in the buffer of translations, for the next access to the page. Where the
-/// page's table was only just made, the next walk does so.
+/// Keeps the leaf of a page that an access was just granted in the buffer of translations, for the next access to the page.
 pub(crate) fn keep_line<D, E, M: Levels>(
     core: &mut Core<D, E, M>,
     pid: Pid,
@@ -117,7 +116,13 @@ pub(crate) fn keep_line<D, E, M: Levels>(
     requires way { IsWayTo (picture_of core.old) pid page way }
     ensures { core.new ≡ core.old }
 {
-    if let Some(table) = way.table {
-        keep_at(&mut core.frames, way.root, page, table, access);
+    match way.table {
+        Some(table) => keep_at(&mut core.frames, way.root, page, table, access),
+        // The table was only just made.
+        None => {
+            if let Ok(table) = table_of(&core.frames, way.root, page) {
+                keep_at(&mut core.frames, way.root, page, table, access);
+            }
+        }
     }
 }

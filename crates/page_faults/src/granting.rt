@@ -1,5 +1,5 @@
 //! A page brought in, so that its entry grants an access.
-ghost use Rattle.std.specs.Prelude.{◌≡◌, ◌≢◌, ◌⊎◌, ℕ, true, false, None, Some, IfOk, IfErr, OnOk, OnErr};
+ghost use Rattle.std.specs.Prelude.{◌≡◌, ◌≢◌, ℕ, true, false, None, Some};
 ghost use Rattle.vm_types.specs.declared.access.Access.TheVariants as Access;
 ghost use Rattle.vm_types.specs.declared.region.Backing.TheVariants.{Private};
 ghost use Rattle.vm_types.specs.Attributes.{stands_on};
@@ -8,14 +8,9 @@ ghost use Rattle.swap.specs.Slots.{IsReady};
 ghost use Rattle.paging.specs.Seats.{seat};
 ghost use Rattle.paging.specs.Picture.{picture_of, is_live, entry, is_private, is_swapped};
 ghost use Rattle.paging.specs.Parts.{IsFit, IsBehind, is_shared};
-ghost use Rattle.paging.specs.Stalls.{CountsNothing};
-ghost use Rattle.mapping.specs.Changes.{StandsAt, IsCalm, IsThatPage, KeepsOtherViews, KeepsRows, KeepsSlotted};
-ghost use Rattle.mapping.specs.Files.{Proceeds, BringsFiles};
-ghost use Rattle.page_faults.specs.Wants.{Wants, ReadsHome, ShowsFile};
+ghost use Rattle.mapping.specs.Changes.{StandsAt, KeepsRows};
 ghost use Rattle.page_faults.specs.Found.{IsOpenTo, IsWayTo};
-ghost use Rattle.page_faults.specs.Outcome.{IsStalled};
-ghost use Rattle.page_faults.specs.Granted.{IsEntered, IsReadyAt};
-ghost use Rattle.page_faults.specs.Asking.{AsksForPage};
+ghost use Rattle.page_faults.specs.Serving.{Serves};
 
 use crate::finding::Way;
 use disk_model::SectorDisk;
@@ -46,19 +41,8 @@ pub(crate) fn grant<D: SectorDisk, E: SectorDisk, M: Levels>(
     requires lives { is_live (picture_of core.old) pid ≡ true }
     requires way { IsWayTo (picture_of core.old) pid page way }
     requires allowed { IsOpenTo (picture_of core.old) pid page access attr }
-    ensures proceeds { Proceeds D.SectorDisk E.SectorDisk core.old core.new }
-    ensures brings { BringsFiles D.SectorDisk E.SectorDisk (ShowsFile (picture_of core.old) pid page) core.old core.new }
-    ensures entered { IfOk result (λ frame. IsEntered (picture_of core.new) pid page attr access frame.0) }
-    ensures ready { (is_swapped (entry (picture_of core.old) pid page) ≡ true → E.keeps_model core.new.swap.pages.disk)
-        → IfOk result (λ frame. IsReadyAt (picture_of core.old) (picture_of core.new) pid page attr access frame.0) }
-    ensures others { KeepsOtherViews (picture_of core.old) (picture_of core.new) pid page }
-    ensures slotted { KeepsSlotted (ShowsFile (picture_of core.old) pid page) (IsThatPage pid page) (picture_of core.old) (picture_of core.new) }
+    ensures serves { Serves D.SectorDisk E.SectorDisk core.old core.new pid page attr access result }
     ensures way { IsWayTo (picture_of core.new) pid page way }
-    ensures calm { (Wants (picture_of core.old) pid page access → ⊥) → IsCalm core.old core.new pid page }
-    ensures read { (core.new.store ≡ core.old.store) ⊎ ReadsHome (picture_of core.old) pid page }
-    ensures asks { AsksForPage D.SectorDisk E.SectorDisk core.old core.new pid page }
-    ensures counts { OnOk result (CountsNothing D.SectorDisk E.SectorDisk core.old core.new) }
-    ensures stalled { IfErr result (IsStalled D.SectorDisk E.SectorDisk core.old core.new pid page access) }
 {
     match way.table {
         Some(table) => {
@@ -88,18 +72,7 @@ fn grant_unlinked<D: SectorDisk, E: SectorDisk, M: Levels>(
     requires swap { IsReady E.SectorDisk core.old.swap }
     requires lives { is_live (picture_of core.old) pid ≡ true }
     requires allowed { IsOpenTo (picture_of core.old) pid page access attr }
-    ensures proceeds { Proceeds D.SectorDisk E.SectorDisk core.old core.new }
-    ensures brings { BringsFiles D.SectorDisk E.SectorDisk (ShowsFile (picture_of core.old) pid page) core.old core.new }
-    ensures entered { IfOk result (λ frame. IsEntered (picture_of core.new) pid page attr access frame.0) }
-    ensures ready { (is_swapped (entry (picture_of core.old) pid page) ≡ true → E.keeps_model core.new.swap.pages.disk)
-        → IfOk result (λ frame. IsReadyAt (picture_of core.old) (picture_of core.new) pid page attr access frame.0) }
-    ensures others { KeepsOtherViews (picture_of core.old) (picture_of core.new) pid page }
-    ensures slotted { KeepsSlotted (ShowsFile (picture_of core.old) pid page) (IsThatPage pid page) (picture_of core.old) (picture_of core.new) }
-    ensures calm { (Wants (picture_of core.old) pid page access → ⊥) → IsCalm core.old core.new pid page }
-    ensures read { (core.new.store ≡ core.old.store) ⊎ ReadsHome (picture_of core.old) pid page }
-    ensures asks { AsksForPage D.SectorDisk E.SectorDisk core.old core.new pid page }
-    ensures counts { OnOk result (CountsNothing D.SectorDisk E.SectorDisk core.old core.new) }
-    ensures stalled { IfErr result (IsStalled D.SectorDisk E.SectorDisk core.old core.new pid page access) }
+    ensures { Serves D.SectorDisk E.SectorDisk core.old core.new pid page attr access result }
 {
     let table = link_tables(core, pid, page)?;
     let root = root_of(core, pid);
@@ -123,19 +96,8 @@ fn grant_linked<D: SectorDisk, E: SectorDisk, M: Levels>(
     requires store { IsReadyStore D.SectorDisk core.old.store }
     requires swap { IsReady E.SectorDisk core.old.swap }
     requires allowed { IsOpenTo (picture_of core.old) spot.now.pid spot.now.page access attr }
-    ensures proceeds { Proceeds D.SectorDisk E.SectorDisk core.old core.new }
-    ensures brings { BringsFiles D.SectorDisk E.SectorDisk (ShowsFile (picture_of core.old) spot.now.pid spot.now.page) core.old core.new }
-    ensures entered { IfOk result (λ frame. IsEntered (picture_of core.new) spot.now.pid spot.now.page attr access frame.0) }
-    ensures ready { (is_swapped (entry (picture_of core.old) spot.now.pid spot.now.page) ≡ true → E.keeps_model core.new.swap.pages.disk)
-        → IfOk result (λ frame. IsReadyAt (picture_of core.old) (picture_of core.new) spot.now.pid spot.now.page attr access frame.0) }
-    ensures others { KeepsOtherViews (picture_of core.old) (picture_of core.new) spot.now.pid spot.now.page }
-    ensures slotted { KeepsSlotted (ShowsFile (picture_of core.old) spot.now.pid spot.now.page) (IsThatPage spot.now.pid spot.now.page) (picture_of core.old) (picture_of core.new) }
+    ensures serves { Serves D.SectorDisk E.SectorDisk core.old core.new spot.now.pid spot.now.page attr access result }
     ensures rows { KeepsRows (picture_of core.old) (picture_of core.new) }
-    ensures calm { (Wants (picture_of core.old) spot.now.pid spot.now.page access → ⊥) → IsCalm core.old core.new spot.now.pid spot.now.page }
-    ensures read { (core.new.store ≡ core.old.store) ⊎ ReadsHome (picture_of core.old) spot.now.pid spot.now.page }
-    ensures asks { AsksForPage D.SectorDisk E.SectorDisk core.old core.new spot.now.pid spot.now.page }
-    ensures counts { OnOk result (CountsNothing D.SectorDisk E.SectorDisk core.old core.new) }
-    ensures stalled { IfErr result (IsStalled D.SectorDisk E.SectorDisk core.old core.new spot.now.pid spot.now.page access) }
 {
     let was = number_at(core, spot);
     if was.is_swapped() {
@@ -162,18 +124,8 @@ fn grant_read<D: SectorDisk, E: SectorDisk, M: Levels>(
     requires was { was.0 ≡ entry (picture_of core.old) spot.now.pid spot.now.page }
     requires here { is_swapped (entry (picture_of core.old) spot.now.pid spot.now.page) ≡ false }
     requires reads { access ≢ Access.Store }
-    ensures proceeds { Proceeds D.SectorDisk E.SectorDisk core.old core.new }
-    ensures brings { BringsFiles D.SectorDisk E.SectorDisk (ShowsFile (picture_of core.old) spot.now.pid spot.now.page) core.old core.new }
-    ensures entered { IfOk result (λ frame. IsEntered (picture_of core.new) spot.now.pid spot.now.page attr access frame.0) }
-    ensures ready { IfOk result (λ frame. IsReadyAt (picture_of core.old) (picture_of core.new) spot.now.pid spot.now.page attr access frame.0) }
-    ensures others { KeepsOtherViews (picture_of core.old) (picture_of core.new) spot.now.pid spot.now.page }
-    ensures slotted { KeepsSlotted (ShowsFile (picture_of core.old) spot.now.pid spot.now.page) (IsThatPage spot.now.pid spot.now.page) (picture_of core.old) (picture_of core.new) }
+    ensures serves { Serves D.SectorDisk E.SectorDisk core.old core.new spot.now.pid spot.now.page attr access result }
     ensures rows { KeepsRows (picture_of core.old) (picture_of core.new) }
-    ensures calm { (Wants (picture_of core.old) spot.now.pid spot.now.page access → ⊥) → IsCalm core.old core.new spot.now.pid spot.now.page }
-    ensures read { (core.new.store ≡ core.old.store) ⊎ ReadsHome (picture_of core.old) spot.now.pid spot.now.page }
-    ensures asks { AsksForPage D.SectorDisk E.SectorDisk core.old core.new spot.now.pid spot.now.page }
-    ensures counts { OnOk result (CountsNothing D.SectorDisk E.SectorDisk core.old core.new) }
-    ensures stalled { IfErr result (IsStalled D.SectorDisk E.SectorDisk core.old core.new spot.now.pid spot.now.page access) }
 {
     if was.to_u64() != 0 {
         regrant(core, spot, attr);
@@ -205,18 +157,8 @@ fn grant_store<D: SectorDisk, E: SectorDisk, M: Levels>(
     requires allowed { IsOpenTo (picture_of core.old) spot.now.pid spot.now.page Access.Store attr }
     requires was { was.0 ≡ entry (picture_of core.old) spot.now.pid spot.now.page }
     requires here { is_swapped (entry (picture_of core.old) spot.now.pid spot.now.page) ≡ false }
-    ensures proceeds { Proceeds D.SectorDisk E.SectorDisk core.old core.new }
-    ensures brings { BringsFiles D.SectorDisk E.SectorDisk (ShowsFile (picture_of core.old) spot.now.pid spot.now.page) core.old core.new }
-    ensures entered { IfOk result (λ frame. IsEntered (picture_of core.new) spot.now.pid spot.now.page attr Access.Store frame.0) }
-    ensures ready { IfOk result (λ frame. IsReadyAt (picture_of core.old) (picture_of core.new) spot.now.pid spot.now.page attr Access.Store frame.0) }
-    ensures others { KeepsOtherViews (picture_of core.old) (picture_of core.new) spot.now.pid spot.now.page }
-    ensures slotted { KeepsSlotted (ShowsFile (picture_of core.old) spot.now.pid spot.now.page) (IsThatPage spot.now.pid spot.now.page) (picture_of core.old) (picture_of core.new) }
+    ensures serves { Serves D.SectorDisk E.SectorDisk core.old core.new spot.now.pid spot.now.page attr Access.Store result }
     ensures rows { KeepsRows (picture_of core.old) (picture_of core.new) }
-    ensures calm { (Wants (picture_of core.old) spot.now.pid spot.now.page Access.Store → ⊥) → IsCalm core.old core.new spot.now.pid spot.now.page }
-    ensures read { (core.new.store ≡ core.old.store) ⊎ ReadsHome (picture_of core.old) spot.now.pid spot.now.page }
-    ensures asks { AsksForPage D.SectorDisk E.SectorDisk core.old core.new spot.now.pid spot.now.page }
-    ensures counts { OnOk result (CountsNothing D.SectorDisk E.SectorDisk core.old core.new) }
-    ensures stalled { IfErr result (IsStalled D.SectorDisk E.SectorDisk core.old core.new spot.now.pid spot.now.page Access.Store) }
 {
     match attr.backing {
         Backing::Anon => grant_own(core, spot, attr),
@@ -247,18 +189,8 @@ fn grant_own<D: SectorDisk, E: SectorDisk, M: Levels>(
     requires here { is_swapped (entry (picture_of core.old) spot.now.pid spot.now.page) ≡ false }
     requires not_shared { is_shared attr.backing ≡ false }
     requires in_memory { is_private (entry (picture_of core.old) spot.now.pid spot.now.page) ≡ false → (n : ℕ) × IsBehind (picture_of core.old) attr.backing n }
-    ensures proceeds { Proceeds D.SectorDisk E.SectorDisk core.old core.new }
-    ensures brings { BringsFiles D.SectorDisk E.SectorDisk (ShowsFile (picture_of core.old) spot.now.pid spot.now.page) core.old core.new }
-    ensures entered { IfOk result (λ frame. IsEntered (picture_of core.new) spot.now.pid spot.now.page attr Access.Store frame.0) }
-    ensures ready { IfOk result (λ frame. IsReadyAt (picture_of core.old) (picture_of core.new) spot.now.pid spot.now.page attr Access.Store frame.0) }
-    ensures others { KeepsOtherViews (picture_of core.old) (picture_of core.new) spot.now.pid spot.now.page }
-    ensures slotted { KeepsSlotted (ShowsFile (picture_of core.old) spot.now.pid spot.now.page) (IsThatPage spot.now.pid spot.now.page) (picture_of core.old) (picture_of core.new) }
+    ensures serves { Serves D.SectorDisk E.SectorDisk core.old core.new spot.now.pid spot.now.page attr Access.Store result }
     ensures rows { KeepsRows (picture_of core.old) (picture_of core.new) }
-    ensures calm { (Wants (picture_of core.old) spot.now.pid spot.now.page Access.Store → ⊥) → IsCalm core.old core.new spot.now.pid spot.now.page }
-    ensures read { (core.new.store ≡ core.old.store) ⊎ ReadsHome (picture_of core.old) spot.now.pid spot.now.page }
-    ensures asks { AsksForPage D.SectorDisk E.SectorDisk core.old core.new spot.now.pid spot.now.page }
-    ensures counts { OnOk result (CountsNothing D.SectorDisk E.SectorDisk core.old core.new) }
-    ensures stalled { IfErr result (IsStalled D.SectorDisk E.SectorDisk core.old core.new spot.now.pid spot.now.page Access.Store) }
 {
     own_frame(core, spot, attr)
 }
@@ -276,18 +208,8 @@ fn grant_copy<D: SectorDisk, E: SectorDisk, M: Levels>(
     requires allowed { IsOpenTo (picture_of core.old) spot.now.pid spot.now.page Access.Store attr }
     requires private { attr.backing ≡ Private file_page }
     requires none { seat (entry (picture_of core.old) spot.now.pid spot.now.page) ≡ None }
-    ensures proceeds { Proceeds D.SectorDisk E.SectorDisk core.old core.new }
-    ensures brings { BringsFiles D.SectorDisk E.SectorDisk (ShowsFile (picture_of core.old) spot.now.pid spot.now.page) core.old core.new }
-    ensures entered { IfOk result (λ frame. IsEntered (picture_of core.new) spot.now.pid spot.now.page attr Access.Store frame.0) }
-    ensures ready { IfOk result (λ frame. IsReadyAt (picture_of core.old) (picture_of core.new) spot.now.pid spot.now.page attr Access.Store frame.0) }
-    ensures others { KeepsOtherViews (picture_of core.old) (picture_of core.new) spot.now.pid spot.now.page }
-    ensures slotted { KeepsSlotted (ShowsFile (picture_of core.old) spot.now.pid spot.now.page) (IsThatPage spot.now.pid spot.now.page) (picture_of core.old) (picture_of core.new) }
+    ensures serves { Serves D.SectorDisk E.SectorDisk core.old core.new spot.now.pid spot.now.page attr Access.Store result }
     ensures rows { KeepsRows (picture_of core.old) (picture_of core.new) }
-    ensures calm { (Wants (picture_of core.old) spot.now.pid spot.now.page Access.Store → ⊥) → IsCalm core.old core.new spot.now.pid spot.now.page }
-    ensures read { (core.new.store ≡ core.old.store) ⊎ ReadsHome (picture_of core.old) spot.now.pid spot.now.page }
-    ensures asks { AsksForPage D.SectorDisk E.SectorDisk core.old core.new spot.now.pid spot.now.page }
-    ensures counts { OnOk result (CountsNothing D.SectorDisk E.SectorDisk core.old core.new) }
-    ensures stalled { IfErr result (IsStalled D.SectorDisk E.SectorDisk core.old core.new spot.now.pid spot.now.page Access.Store) }
 {
     cached(core, PageKey::File(file_page))?;
     own_frame(core, spot, attr)
@@ -306,18 +228,8 @@ fn grant_shared<D: SectorDisk, E: SectorDisk, M: Levels>(
     requires allowed { IsOpenTo (picture_of core.old) spot.now.pid spot.now.page Access.Store attr }
     requires shared { is_shared attr.backing ≡ true }
     requires stands { stands_on attr.backing ≡ Some stored }
-    ensures proceeds { Proceeds D.SectorDisk E.SectorDisk core.old core.new }
-    ensures brings { BringsFiles D.SectorDisk E.SectorDisk (ShowsFile (picture_of core.old) spot.now.pid spot.now.page) core.old core.new }
-    ensures entered { IfOk result (λ frame. IsEntered (picture_of core.new) spot.now.pid spot.now.page attr Access.Store frame.0) }
-    ensures ready { IfOk result (λ frame. IsReadyAt (picture_of core.old) (picture_of core.new) spot.now.pid spot.now.page attr Access.Store frame.0) }
-    ensures others { KeepsOtherViews (picture_of core.old) (picture_of core.new) spot.now.pid spot.now.page }
-    ensures slotted { KeepsSlotted (ShowsFile (picture_of core.old) spot.now.pid spot.now.page) (IsThatPage spot.now.pid spot.now.page) (picture_of core.old) (picture_of core.new) }
+    ensures serves { Serves D.SectorDisk E.SectorDisk core.old core.new spot.now.pid spot.now.page attr Access.Store result }
     ensures rows { KeepsRows (picture_of core.old) (picture_of core.new) }
-    ensures calm { (Wants (picture_of core.old) spot.now.pid spot.now.page Access.Store → ⊥) → IsCalm core.old core.new spot.now.pid spot.now.page }
-    ensures read { (core.new.store ≡ core.old.store) ⊎ ReadsHome (picture_of core.old) spot.now.pid spot.now.page }
-    ensures asks { AsksForPage D.SectorDisk E.SectorDisk core.old core.new spot.now.pid spot.now.page }
-    ensures counts { OnOk result (CountsNothing D.SectorDisk E.SectorDisk core.old core.new) }
-    ensures stalled { IfErr result (IsStalled D.SectorDisk E.SectorDisk core.old core.new spot.now.pid spot.now.page Access.Store) }
 {
     let frame = cached(core, stored)?;
     touch(core, spot, attr, stored, frame);

@@ -72,9 +72,11 @@ module _ {E : Type 0} (h : Ghosts E) where
 module _ {M : Type 0} {m : Levels.Ghosts M} {D E : Type 0} (h : Ghosts E) where
   -- a frame was chosen by the clock, and tried
   pub asked_tried : (old mid new : Core D E M m) (keep : Option FrameNo) (v : ℕ) → ClearsMarks (picture_of old) (picture_of mid) → Looked old mid → IsEvictable (picture_of mid) keep v
-      → GivesUp v (picture_of mid) (picture_of new) → AsksOnly h (IsSectorOfFreeSlot (slots_of mid.swap)) mid.swap.pages.disk new.swap.pages.disk → (new.swap ≡ mid.swap) ⊎ NeedsSlot (picture_of mid) v → AsksSwap h old new keep
-  asked_tried old mid new keep v marks looked ev gives asks (inl same) = inl (same ∙ looked.swap)
-  asked_tried old mid new keep v marks looked ev gives asks (inr needs) = inr (record {
+      → GivesUp v (picture_of mid) (picture_of new) → AsksOnly h (IsSectorOfFreeSlot (slots_of mid.swap)) mid.swap.pages.disk new.swap.pages.disk → (new.swap ≡ mid.swap) ⊎ NeedsSlot (picture_of mid) v → IsFull old.frames
+      → AsksSwap h old new keep
+  asked_tried old mid new keep v marks looked ev gives asks (inl same) full = inl (same ∙ looked.swap)
+  asked_tried old mid new keep v marks looked ev gives asks (inr needs) full = inr (record {
+    full = full;
     frame = v;
     spareable = (sym (ap is_data (marks.roles v)) ∙ ev.0.0, ev.0.1);
     needs = needed_before old mid v (marks.roles v) looked.cache needs;
@@ -101,6 +103,7 @@ module _ {M : Type 0} {m : Levels.Ghosts M} {D E : Type 0} (h : Ghosts E) where
         let mid = found.swap.pages.disk in
         let after = new.swap.pages.disk in
         inr (record {
+          full = full;
           frame = given.frame;
           spareable = given.spareable;
           needs = given.needs;
@@ -135,7 +138,7 @@ module _ {M : Type 0} {m : Levels.Ghosts M} {D E : Type 0} (h : Ghosts E) where
 
   pub also_asked : (old new : Core D E M m) (keep : Option FrameNo) (also : ℕ → Type 0) → AsksSwap h old new keep → AsksSwapAlso h old new keep also
   also_asked old new keep also (inl same) = inl (asks_same h also old.swap new.swap same)
-  also_asked old new keep also (inr given) = inr (record { frame = given.frame; spareable = given.spareable; needs = given.needs; room = given.room; alone = given.alone; asks = asks_wider h _ _ old.swap.pages.disk new.swap.pages.disk free_or given.asks })
+  also_asked old new keep also (inr given) = inr (record { full = given.full; frame = given.frame; spareable = given.spareable; needs = given.needs; room = given.room; alone = given.alone; asks = asks_wider h _ _ old.swap.pages.disk new.swap.pages.disk free_or given.asks })
     where
       free_or : (k : ℕ) → IsSectorOfFreeSlot (slots_of old.swap) k ⊎ ⊥ → IsSectorOfFreeSlot (slots_of old.swap) k ⊎ also k
       free_or k (inl is) = inl is

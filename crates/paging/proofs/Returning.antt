@@ -82,6 +82,7 @@ module _ {mode : ℕ} where
         ];
         missing = λ pid r page e. trees.missing r page (fit.rooted.roots pid r e);
         ends = λ pid r p e. (let table = (fit.rooted.roots pid r e).table in (same_last old.frames new.frames fit.rooted.forest trees.forest trees.same (top_level mode) r p table ((trees.tables r).0 table)).0);
+        pointers = trees.same.forth;
         entries = λ pid page h stays. entries_changed old new n fit changes datum pid page;
         slots = λ k used. (ap (λ t. t.bytes k) changes.slots, ap (λ t. t.count k) changes.slots);
         total = ap (λ t. t.total) changes.slots;

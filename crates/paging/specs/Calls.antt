@@ -12,7 +12,7 @@ use Rattle.frames.specs.declared.role.Role.TheVariants.{Free, Table, Private}
 use Rattle.frames.specs.FrameTable.{FrameTable, frame_count, bytes_of, role_of, count_of, IsFrame, IsFresh, IsFull}
 use Rattle.page_cache.specs.CacheTable.{slot_count}
 use Rattle.page_cache.specs.declared.place.Place.TheVariants.{Home, Frame, Slot}
-use Rattle.page_tables.specs.Tree.{IsPage, missing_of, last_table}
+use Rattle.page_tables.specs.Tree.{IsPage, Points, missing_of, last_table}
 use Rattle.sv39_walk.specs.Entry.{frame_of}
 use Rattle.swap.specs.Slots.{slots_of, IsInUse}
 use Rattle.swap.specs.Slots as Slots
@@ -75,6 +75,7 @@ module _ {mode : ℕ} where
     pub roles : (n : ℕ) → (role_of new.frames n ≡ role_of old.frames n) ⊎ ((role_of new.frames n ≡ Free) × (is_data (role_of old.frames n) ≡ true))
     pub missing : (pid r page : ℕ) → old.root pid ≡ Some r → missing_of new.frames (top_level mode) r page ≡ missing_of old.frames (top_level mode) r page
     pub ends : (pid r page : ℕ) → old.root pid ≡ Some r → last_table new.frames page (top_level mode) r ≡ last_table old.frames page (top_level mode) r
+    pub pointers : (n i m : ℕ) → Points old.frames n i m → Points new.frames n i m
     pub entries : (pid page : ℕ) → IsPage (top_level mode) page → IsStaying keep (entry old pid page) → entry new pid page ≡ entry old pid page
     pub slots : (k : ℕ) → IsInUse old.slots k → (new.slots.bytes k ≡ old.slots.bytes k) × (new.slots.count k ≡ old.slots.count k)
     pub total : new.slots.total ≡ old.slots.total
@@ -166,6 +167,8 @@ module _ {M : Type 0} {m : Levels.Ghosts M} {D E : Type 0} where
 module _ {M : Type 0} {m : Levels.Ghosts M} {D E : Type 0} (h : Ghosts E) where
   -- A frame was to be given up that needs a slot, and for that swap was asked.
   pub record GivesToSwap (old new : Core D E M m) (keep : Option FrameNo) (also : ℕ → Type 0) : Type 0 where
+    -- no frame was free
+    pub full : IsFull old.frames
     -- which frame: it holds a page, and isn't the one to keep
     pub frame : ℕ
     pub spareable : IsSpareable (picture_of old) keep frame

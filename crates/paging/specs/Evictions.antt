@@ -93,3 +93,4 @@ module _ {M : Type 0} {m : Levels.Ghosts M} {D E : Type 0} where
     pub roots : new.roots ≡ old.roots
     pub regions : new.regions ≡ old.regions
     pub refused : new.refused ≡ old.refused
+    pub looks : new.looks ≡ old.looks

@@ -1,5 +1,5 @@
 //! The choice of a frame to be given up.
-ghost use Rattle.std.specs.Prelude.{◌≡◌, ◌≢◌, ◌<◌, ◌≤◌, ◌↔◌, ℕ, true, IfOk, OnErr};
+ghost use Rattle.std.specs.Prelude.{◌≡◌, ◌≢◌, ◌<◌, ◌≤◌, ◌+◌, ◌*◌, ◌↔◌, ℕ, true, IfOk, OnErr};
 ghost use Rattle.std.proofs.Common.{refl, ◌∙◌};
 ghost use Rattle.frames.specs.FrameTable.{frame_count, IsFrame, IsFull, role_of};
 ghost use Rattle.swap.specs.Slots.{slots_of};
@@ -106,7 +106,7 @@ fn is_accessed<D, E, M: Levels>(core: &Core<D, E, M>, n: FrameNo) -> bool
     is_spareable(core, None, n) && has_leaf(core, n, Change::ClearAccessed)
 }
 
-/// A frame to be given up, chosen by the clock.
+/// A frame to be given up, chosen by the clock, which looks at each frame twice at most.
 pub(crate) fn choose<D, E, M: Levels>(
     core: &mut Core<D, E, M>,
     keep: Option<FrameNo>,
@@ -119,6 +119,7 @@ pub(crate) fn choose<D, E, M: Levels>(
     ensures full { IsFull core.old.frames → IsFull core.new.frames }
     ensures found { IfOk result (λ n. IsEvictable (picture_of core.new) keep n.0) }
     ensures none { OnErr result ((n : ℕ) → IsFrame core.new.frames n → IsEvictable (picture_of core.new) keep n → ⊥) }
+    ensures looks { core.new.looks.number ≤ core.old.looks.number + 2 * frame_count core.old.frames }
 {
     core.keep = keep;
     let mut clock = core.clock;

@@ -1,11 +1,11 @@
 //! A frame for a page.
 ghost use Rattle.disk_model.specs.Moments.{Nothing};
-ghost use Rattle.frames.specs.FrameTable.{IsFrame, IsFull};
+ghost use Rattle.frames.specs.FrameTable.{frame_count, IsFrame, IsFull};
 ghost use Rattle.paging.specs.Ages.{GivesFrame, KeepsRoles};
 ghost use Rattle.paging.specs.Calls.{IsSpareable};
 ghost use Rattle.paging.specs.Shows.{ShowsPages};
 ghost use Rattle.vm_types.specs.State.{State};
-ghost use Rattle.std.specs.Prelude.{true, false, ℕ, ◌≡◌, ◌+◌, ◌⊎◌, IsErr, IfOk, IfErr, OnOk, OnErr};
+ghost use Rattle.std.specs.Prelude.{true, false, ℕ, ◌≡◌, ◌≤◌, ◌+◌, ◌*◌, ◌⊎◌, IsErr, IfOk, IfErr, OnOk, OnErr};
 ghost use Rattle.swap.specs.Slots.{IsReady};
 ghost use Rattle.paging.specs.Picture.{picture_of};
 ghost use Rattle.paging.specs.Parts.{IsFit};
@@ -21,7 +21,7 @@ use disk_model::SectorDisk;
 use vm_types::{FrameNo, Levels, Stall};
 
 /// A free frame, to be taken at once. Where none is free, a frame is given up for it, but not the one to keep: its page goes
-/// to a slot, or home where nobody has touched it. No process sees a change, and no file does.
+/// to a slot, or home where nobody has touched it. No process sees a change, and no file does. Each frame is looked at twice at most.
 ///
 /// # Errors
 /// `NoFrames` only where every frame but the zero page is a table or the one to keep, `NoSwap` only where every other one needs a
@@ -50,6 +50,7 @@ pub fn obtain<D, E: SectorDisk, M: Levels>(
     ensures refuses { IfErr result (Refuses (picture_of core.new) keep) }
     ensures short { IfErr result (IsShort (picture_of core.new)) }
     ensures cause { HasStallCause E.SectorDisk core.old core.new result }
+    ensures looks { core.new.looks.number ≤ core.old.looks.number + 2 * frame_count core.old.frames }
 {
     match core.frames.next_free() {
         Some(n) => Ok(n),
@@ -81,6 +82,7 @@ fn give_up<D, E: SectorDisk, M: Levels>(
     ensures still { OnErr result (KeepsRoles (picture_of core.old) (picture_of core.new)) }
     ensures refuses { IfErr result (Refuses (picture_of core.new) keep) }
     ensures cause { HasStallCause E.SectorDisk core.old core.new result }
+    ensures looks { core.new.looks.number ≤ core.old.looks.number + 2 * frame_count core.old.frames }
 {
     let choice = choose(core, keep);
     match choice {

@@ -3,7 +3,9 @@ use super::client::{Client, carry_out, filled, lent_of, new_store, rows_of, zero
 use super::stops::open_words;
 use disk_model::SimDisk;
 use file_store::format;
+use std::process::Abort;
 use std::test::Fail;
+use sync_journal::Journals;
 use sync_plans::Refusal;
 use vm_types::FilePage;
 
@@ -11,7 +13,14 @@ const FIRST: FilePage = FilePage { file: 0, page: 0 };
 
 #[test]
 fn pages_and_lengths_are_told(rt: HostRuntime) -> Result<(), Fail> {
-    let mut disk = new_store(rt.alloc())?;
+    for journals in [Journals::Single, Journals::Paired] {
+        told_of_a_store(&rt, journals)?;
+    }
+    Ok(())
+}
+
+fn told_of_a_store<R: AllocGlobal + Abort>(rt: &R, journals: Journals) -> Result<(), Fail> {
+    let mut disk = new_store(rt.alloc(), journals)?;
     let mut client = Client::new(rt.alloc())?;
     let files = client.opened(rt.alloc(), &mut disk)?;
     assert_eq!(rt; files.as_slice(), filled(rt.alloc(), [0; 4])?.as_slice());
@@ -34,7 +43,7 @@ fn pages_and_lengths_are_told(rt: HostRuntime) -> Result<(), Fail> {
 
 #[test]
 fn bad_pages_are_refused(rt: HostRuntime) -> Result<(), Fail> {
-    let mut disk = new_store(rt.alloc())?;
+    let mut disk = new_store(rt.alloc(), Journals::Single)?;
     let mut client = Client::new(rt.alloc())?;
     client.opened(rt.alloc(), &mut disk)?;
     let image = rows_of(rt.alloc(), &disk)?;
@@ -67,9 +76,16 @@ fn images_of_no_store_are_refused(rt: HostRuntime) -> Result<(), Fail> {
         Err(Refusal::BadLayout)
     );
     // The gate is open over a map of too many pages.
-    let store = new_store(rt.alloc())?;
+    let store = new_store(rt.alloc(), Journals::Single)?;
     let mut image = rows_of(rt.alloc(), &store)?;
     for (row, bytes) in image.iter_mut().skip(2).zip([open_words(512), [128; 512]]) {
+        *row = bytes;
+    }
+    assert_eq!(rt; client.open(image.as_slice()), Err(Refusal::BadJournal));
+    // Any bytes in the gate name the first of two journals, here over a map of too many pages.
+    let store = new_store(rt.alloc(), Journals::Paired)?;
+    let mut image = rows_of(rt.alloc(), &store)?;
+    for (row, bytes) in image.iter_mut().skip(16).zip([[7; 512]; 9]) {
         *row = bytes;
     }
     assert_eq!(rt; client.open(image.as_slice()), Err(Refusal::BadJournal));
@@ -80,7 +96,11 @@ fn images_of_no_store_are_refused(rt: HostRuntime) -> Result<(), Fail> {
 #[test]
 fn the_largest_plan_has_room(rt: HostRuntime) -> Result<(), Fail> {
     let mut disk = SimDisk::new(rt.alloc(), 16379)?;
-    format(&mut disk, &mut [zeros(1023 * 4096, false)])?;
+    format(
+        &mut disk,
+        Journals::Single,
+        &mut [zeros(1023 * 4096, false)],
+    )?;
     let mut client = Client::new(rt.alloc())?;
     let mut pages = Vec::new(rt.alloc());
     for page in 0..1023 {

@@ -3,6 +3,7 @@ use disk_model::{SectorDisk, SimDisk};
 use file_store::{FileSource, format};
 use std::alloc::{AllocError, Global};
 use std::test::Fail;
+use sync_journal::Journals;
 use sync_plans::{Call, PageBytes, ROOM, Refusal, file_facts, plan_commit, plan_open};
 use vm_types::{FileInfo, FilePage};
 
@@ -43,10 +44,14 @@ pub(crate) fn zeros(length: u32, read_only: bool) -> FileSource<&'static [u8]> {
 }
 
 /// A new store of the files of `PLACES`, all zeros.
-pub(crate) fn new_store(alloc: Global) -> Result<SimDisk, Fail> {
-    let mut disk = SimDisk::new(alloc, 8227)?;
+pub(crate) fn new_store(alloc: Global, journals: Journals) -> Result<SimDisk, Fail> {
+    let sectors = match journals {
+        Journals::Single => 8227,
+        Journals::Paired => 16440,
+    };
+    let mut disk = SimDisk::new(alloc, sectors)?;
     let mut files = [zeros(5000, false), zeros(1, true), zeros(4096, false)];
-    format(&mut disk, &mut files)?;
+    format(&mut disk, journals, &mut files)?;
     Ok(disk)
 }
 

@@ -1,13 +1,16 @@
 //! Plans that are stopped before each of their calls, with torn sectors, and opened again.
 use super::client::{Client, PLACES, Plan, carry_out, filled, lent_of, new_store, rows_of};
-use disk_model::SimDisk;
+use disk_model::{SectorDisk, SimDisk};
 use std::alloc::Global;
 use std::process::Abort;
 use std::test::Fail;
+use sync_journal::Journals;
 use vm_types::FilePage;
 
-/// The sector of the gate.
-const GATE: u64 = 2;
+/// The sector of the gate of a device of so many sectors, which has two journals if the homes behind them have room.
+fn gate_of(sectors: u64) -> u64 {
+    if sectors > 16408 { 16 } else { 2 }
+}
 
 /// So many bytes of the words that open the gate, and zeros.
 pub(crate) fn open_words(count: usize) -> [u8; 512] {
@@ -39,10 +42,10 @@ fn left_with(alloc: Global, disk: &SimDisk, plan: &Plan, number: usize) -> Resul
 }
 
 /// How many fillings are tried after so many calls of a plan: all of them where the gate is unsynced, else one.
-fn filling_count(plan: &Plan, count: usize) -> usize {
+fn filling_count(plan: &Plan, count: usize, gate: u64) -> usize {
     let made = plan.calls.iter().take(plan.used).take(count);
     match made.last() {
-        Some(call) if call.sector == GATE && call.kind == 1 => 5,
+        Some(call) if call.sector == gate && call.kind == 1 => 5,
         _ => 1,
     }
 }
@@ -58,8 +61,9 @@ fn stopped_everywhere<R: AllocGlobal + Abort>(
 ) -> Result<(), Fail> {
     let mut looker = Client::new(rt.alloc())?;
     let mut stopped = disk.left(rt.alloc(), &[])?;
+    let gate = gate_of(disk.sectors());
     for count in 0..=plan.used {
-        for further in 0..filling_count(plan, count) {
+        for further in 0..filling_count(plan, count, gate) {
             let number = count % 5 + further % 5;
             let mut left = left_with(rt.alloc(), &stopped, plan, number)?;
             let files = looker.opened(rt.alloc(), &mut left)?;
@@ -110,7 +114,7 @@ fn committed<R: AllocGlobal + Abort>(
 
 #[test]
 fn a_commit_that_is_stopped_anywhere_is_whole_or_nothing(rt: HostRuntime) -> Result<(), Fail> {
-    let mut disk = new_store(rt.alloc())?;
+    let mut disk = new_store(rt.alloc(), Journals::Single)?;
     // The eight sectors of the body, since the page has bytes past its file's end, and those of the map, and the gate, with
     // a sync behind each.
     committed(&rt, &mut disk, [0; 4], [0, 7, 0, 0], 19)?;
@@ -119,13 +123,36 @@ fn a_commit_that_is_stopped_anywhere_is_whole_or_nothing(rt: HostRuntime) -> Res
     committed(&rt, &mut disk, [0, 7, 0, 0], [5, 6, 0, 8], 25)
 }
 
+/// The same of two journals in turn. A plan of a commit begins with an opening, which is a commit of no pages where some are live: eight
+/// sectors of a map, those pages home, a sync, the gate, and a sync.
+#[test]
+fn a_commit_in_turn_that_is_stopped_anywhere_is_whole_or_nothing(
+    rt: HostRuntime,
+) -> Result<(), Fail> {
+    let mut disk = new_store(rt.alloc(), Journals::Paired)?;
+    committed(&rt, &mut disk, [0; 4], [0, 7, 0, 0], 19)?;
+    committed(&rt, &mut disk, [0, 7, 0, 0], [5, 6, 0, 8], 40)
+}
+
 #[test]
 fn an_opening_that_is_stopped_anywhere_keeps_the_files(rt: HostRuntime) -> Result<(), Fail> {
-    let mut disk = new_store(rt.alloc())?;
-    committed(&rt, &mut disk, [0; 4], [3, 7, 0, 0], 20)?;
+    for (journals, calls) in [(Journals::Single, 5), (Journals::Paired, 27)] {
+        opened_everywhere(&rt, journals, calls)?;
+    }
+    Ok(())
+}
+
+/// Commits two pages to a new store, and stops the plan of its opening, of so many calls, everywhere.
+fn opened_everywhere<R: AllocGlobal + Abort>(
+    rt: &R,
+    journals: Journals,
+    calls: usize,
+) -> Result<(), Fail> {
+    let mut disk = new_store(rt.alloc(), journals)?;
+    committed(rt, &mut disk, [0; 4], [3, 7, 0, 0], 20)?;
     let mut client = Client::new(rt.alloc())?;
     let image = rows_of(rt.alloc(), &disk)?;
-    assert_eq!(rt; client.open(image.as_slice()), Ok(5));
+    assert_eq!(rt; client.open(image.as_slice()), Ok(calls));
     let files = filled(rt.alloc(), [3, 7, 0, 0])?;
-    stopped_everywhere(&rt, &disk, &client.plan, files.as_slice(), files.as_slice())
+    stopped_everywhere(rt, &disk, &client.plan, files.as_slice(), files.as_slice())
 }

@@ -5,10 +5,10 @@ use programs::{ProgramFault, report};
 use std::fs::OpenOptions;
 use std::io::{self, Read};
 use std::test::Fail;
-use test_steps::FileStep::IsMissing;
+use test_steps::FileStep::{IsLong, IsMissing};
 use test_steps::Program::{Cat, Format, Run};
 use test_steps::Step::{self, Does, Fails, File, Removes};
-use test_steps::{NEW, UNMADE, carry_out, path, ran_over, same, same_number};
+use test_steps::{NEW, carry_out, path, ran_over, same, same_number};
 
 /// Gives some lines, cuts a file before it is read again, so that the device in it fails from there on, and gives the other lines.
 #[derive(Drop)]
@@ -109,19 +109,40 @@ fn failing_devices_have_their_replies(rt: HostRuntime) -> Result<(), Fail> {
     Ok(())
 }
 
-/// A file of the kernel that may be written but not synced: the first call of a device in it fails.
-const UNSYNCED: &str = "/proc/self/comm";
+/// A file of the kernel that has no bytes, may be written and can't be synced: the first call of a device in it fails.
+pub(crate) const UNSYNCED: &str = "/proc/self/comm";
 
-/// An image that can't be synced is the device's fault, and nothing is made after it; of a SWAP it is the file's.
-const FAILS_AT_FIRST: [Step<'static>; 10] = [
+/// Both files are opened first, in the order of the words, then the sizes are looked at, and then an image, which has to be
+/// synced for that. A SWAP that can't be synced is not opened.
+const FAILS_AT_FIRST: [Step<'static>; 14] = [
     Fails(
         Format,
         &["new", UNSYNCED, "zero:1"],
-        "pagefmt: format 1 DEVICE\n",
+        "pagefmt: format 2 TOOLARGE\n",
     ),
     Fails(Cat, &[UNSYNCED, "0"], "pagecat: open 1 DEVICE\n"),
-    Fails(Run, &[UNSYNCED, UNMADE], "pagerun: boot 4 DEVICE\n"),
-    File(UNMADE, IsMissing),
+    Fails(
+        Run,
+        &[UNSYNCED, "/tmp/none/none", "7", "16"],
+        "pagerun: cannot open /tmp/none/none\n",
+    ),
+    Fails(
+        Run,
+        &[UNSYNCED, "@swap", "7", "65537"],
+        "pagerun: boot 1 FRAMES\n",
+    ),
+    Fails(
+        Run,
+        &[UNSYNCED, "@swap", "8", "65537"],
+        "pagerun: boot 2 SLOTS\n",
+    ),
+    Fails(Run, &[UNSYNCED, "@swap"], "pagerun: boot 4 DEVICE\n"),
+    File("@swap", IsLong(65_536)),
+    Fails(
+        Format,
+        &["upgrade", UNSYNCED, "/tmp"],
+        "pagefmt: cannot open /tmp\n",
+    ),
     Fails(
         Format,
         &["upgrade", UNSYNCED, "@image"],
@@ -132,14 +153,14 @@ const FAILS_AT_FIRST: [Step<'static>; 10] = [
     Fails(
         Format,
         &["upgrade", "@image", UNSYNCED],
-        "pagefmt: upgrade 4 NEWDEVICE\n",
+        "pagefmt: upgrade 2 OLDLAYOUT\n",
     ),
     Fails(
         Run,
-        &["@image", UNSYNCED],
+        &["@image", UNSYNCED, "64", "0"],
         "pagerun: cannot open /proc/self/comm\n",
     ),
-    Removes(&["@image"]),
+    Removes(&["@image", "@swap"]),
 ];
 
 #[test]
@@ -152,7 +173,7 @@ fn an_image_that_cannot_be_synced_is_the_fault_of_the_device(rt: HostRuntime) ->
 }
 
 /// Whether that file is there, may be written, and can't be synced.
-fn has_unsynced(rt: &HostRuntime) -> bool {
+pub(crate) fn has_unsynced(rt: &HostRuntime) -> bool {
     let opened = OpenOptions::new().read(true).write(true).open(rt, UNSYNCED);
     match opened {
         Ok(file) => file.sync_all().is_err(),

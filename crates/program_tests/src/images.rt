@@ -3,11 +3,12 @@ use disk_model::SimDisk;
 use file_store::{FileSource, FormatFault, format};
 use std::fs;
 use std::test::Fail;
+use sync_journal::Journals;
 use test_steps::FileStep::{
     FillAt, Has, HasAt, IsFilledAt, IsLong, IsMissing, SetLength, Write, WriteAt,
 };
 use test_steps::Program::Format;
-use test_steps::Step::{self, Does, Fails, File, Files, Removes};
+use test_steps::Step::{self, Does, Fails, File, Files, Removes, Shows};
 use test_steps::{TwoFiles, UNMADE, carry_out, carry_out_all, carry_out_for_each};
 
 /// One image, of one byte.
@@ -103,11 +104,12 @@ const IN_THE_WAY: [(&str, &[Step<'static>]); 3] = [
                 &["new", "/tmp/none/none", "zero:1"],
                 "pagefmt: cannot open /tmp/none/none\n",
             ),
-            // Nothing is made through a link to a file that is missing.
+            // A link to a file that is missing serves.
             Files(TwoFiles::Link, "@image", "@to"),
-            Fails(Format, ONE_BYTE, "pagefmt: cannot open @image\n"),
-            File("@to", IsMissing),
-            Removes(&["@image"]),
+            Does(Format, ONE_BYTE, b"", b""),
+            File("@to", IsFilledAt(0, b"FAMSYNC2", 64)),
+            Shows(&["@image", "0"], &[(b"\0", 1)]),
+            Removes(&["@image", "@to"]),
         ],
     ),
     // Host files are opened at their specs.
@@ -173,12 +175,21 @@ fn a_store_has_at_most_64_files(rt: HostRuntime) -> Result<(), Fail> {
     let mut words = ["zero:0"; 2 + 65];
     words[0] = "new";
     words[1] = "@image";
+    let mut in_a_folder = ["zero:0"; 2 + 65];
+    in_a_folder[0] = "new";
+    in_a_folder[1] = "/tmp";
     carry_out(
         &rt,
         "many",
         &[
+            Fails(Format, &in_a_folder, "pagefmt: cannot open /tmp\n"),
             Fails(Format, &words, "pagefmt: format 2 TOOLARGE\n"),
             File("@image", IsMissing),
+            // What was made through a link is unmade, and the link stays.
+            Files(TwoFiles::Link, "@image", "@to"),
+            Fails(Format, &words, "pagefmt: format 2 TOOLARGE\n"),
+            File("@to", IsMissing),
+            Removes(&["@image"]),
             File("@image", Write(b"other")),
             Fails(Format, &words, "pagefmt: format 2 TOOLARGE\n"),
             File("@image", Has(b"other")),
@@ -236,7 +247,10 @@ fn a_source_that_ends_early_is_a_fault(rt: HostRuntime) -> Result<(), Fail> {
         length: 5001,
         bytes: Some(&[b'A'; 5000]),
     }];
-    assert_eq!(rt; format(&mut disk, &mut sources), Err(FormatFault::Source));
+    assert_eq!(rt;
+        format(&mut disk, Journals::Single, &mut sources),
+        Err(FormatFault::Source)
+    );
     Ok(())
 }
 
@@ -254,7 +268,8 @@ const ENDS_EARLY: [Step<'static>; 2] = [
         ],
         "pagefmt: format 4 SOURCE\n",
     ),
-    Removes(&["@image"]),
+    // Nothing was written to it yet.
+    File("@image", IsMissing),
 ];
 
 #[test]

@@ -1,9 +1,10 @@
 //! Stops of a trace on a simulated store.
 use std::test::Fail;
 use stop_trials::{Event, Trial};
+use sync_journal::Journals;
 use test_steps::Program::Stops;
 use test_steps::Step::{self, Does, Fails};
-use test_steps::{carry_out, same};
+use test_steps::{carry_out, ran_over, same, same_number};
 
 /// One msync of one page: its events are the sync of the boot, 8 writes of the body, 8 of the map, a sync, the write of the
 /// gate, and a sync.
@@ -24,8 +25,20 @@ stop 15 map acknowledged 0 left 0 0 0 0 0\nstop 16 map acknowledged 0 left 0 0 0
 stop 18 sync acknowledged 0 left 0 0 0 0 0\nstop 19 gate acknowledged 0 left 0 0 0 0 1\nstop 20 sync acknowledged 0 left 0 0 0 0 1\nstops 20 recoveries 100 bad 0\n",
 )];
 
+/// The same, and another msync of that page: 16 writes, a sync, the gate, and a sync.
+const TWO_MSYNCS: &[u8] =
+    b"spawn\nmmap 1 0 4096 rw- shared 0 0\nstore 1 0x10000 1 0x5a\nmsync 1 0x10000 4096 sync\n\
+store 1 0x10000 1 0x5b\nmsync 1 0x10000 4096 sync\n";
+
 /// Some events, and traces whose msyncs write nothing.
-const SOME: [Step<'static>; 3] = [
+const SOME: [Step<'static>; 4] = [
+    // The gates of two journals in turn: what opens a gate names the second one, and any other bytes the first.
+    Does(
+        Stops,
+        &["--layout", "3", "--every", "19", "zero:1"],
+        TWO_MSYNCS,
+        b"stop 19 gate acknowledged 0 left 0 0 0 0 1\nstop 38 gate acknowledged 1 left 1 2 2 2 1\nstops 2 recoveries 10 bad 0\n",
+    ),
     // Each second one.
     Does(
         Stops,
@@ -64,12 +77,28 @@ fn some_events_are_stopped_in(rt: HostRuntime) -> Result<(), Fail> {
     carry_out(&rt, "stops", &SOME)
 }
 
+/// The device drops the sync of body and map. The stop before it is good; the one in the sync of the gate, where body and map may
+/// still hold any bytes, is bad.
+#[test]
+fn a_stop_after_a_dropped_sync_is_bad(rt: HostRuntime) -> Result<(), Fail> {
+    let words = ["--drop", "18", "--every", "10", "zero:1"];
+    let mut reader = ONE_MSYNC;
+    let mut output = Vec::new(rt.alloc());
+    let (status, errors) = ran_over(&rt, "drops", Stops, &words, &mut reader, &mut output)?;
+    let wanted = b"stop 10 map acknowledged 0 left 0 0 0 0 0\n\
+stop 20 sync acknowledged 0 left 0 0 0 0 - BAD\nstops 2 recoveries 10 bad 1\n";
+    same("standard error", errors.as_slice(), b"")?;
+    same("standard output", output.as_slice(), wanted)?;
+    same_number("exit status", status.into(), 1)
+}
+
 /// No store gives such a line: with one filling an acknowledged msync is lost.
 #[test]
 fn a_stop_that_loses_an_acknowledged_msync_is_bad(rt: HostRuntime) -> Result<(), Fail> {
     let trial = Trial {
         number: 12,
         event: Event::Sync,
+        journals: Journals::Single,
         acknowledged: 2,
         standing: [Some(2), Some(3), None, Some(2), Some(2)],
     };

@@ -1,9 +1,10 @@
-//! Images of layout 1, made anew in layout 2.
+//! Images of layout 1, made anew in layout 2, and images of layout 3, which are made or made anew of layout 2.
+use crate::devices::{UNSYNCED, has_unsynced};
 use std::test::Fail;
 use test_steps::FileStep::{
     FillAt, HasAt, IsFilledAt, IsLong, IsMissing, SetLength, Write, WriteAt,
 };
-use test_steps::Program::{Cat, Format};
+use test_steps::Program::{Cat, Format, Run};
 use test_steps::Step::{self, Does, Fails, File, Files, Refuses, Removes, Shows};
 use test_steps::{NEW, TwoFiles, carry_out, carry_out_all};
 
@@ -93,6 +94,23 @@ const UPGRADES: [(&str, &[Step<'static>]); 4] = [
         ],
     ),
 ];
+
+/// A NEW that can't be synced is looked at once OLD is found good.
+const UNSYNCED_NEW: [Step<'static>; 1] = [Fails(
+    Format,
+    &["upgrade", "@old", UNSYNCED],
+    "pagefmt: upgrade 4 NEWDEVICE\n",
+)];
+
+#[test]
+fn a_new_that_cannot_be_synced_is_the_fault_of_its_device(rt: HostRuntime) -> Result<(), Fail> {
+    if has_unsynced(&rt) {
+        carry_out(&rt, "unsynced_new", &OLD)?;
+        carry_out(&rt, "unsynced_new", &UNSYNCED_NEW)?;
+        carry_out(&rt, "unsynced_new", &UNCHANGED)?;
+    }
+    Ok(())
+}
 
 /// The image is as it was.
 const UNCHANGED: [Step<'static>; 2] = [
@@ -185,4 +203,98 @@ const REFUSED: [(&str, &[Step<'static>]); 2] = [
 #[test]
 fn a_refused_upgrade_takes_back_what_it_made(rt: HostRuntime) -> Result<(), Fail> {
     carry_out_all(&rt, &REFUSED)
+}
+
+/// Makes a byte of the first page of a file durable, and then one of the second.
+const TWO_MSYNCS: &[u8] =
+    b"spawn\nmmap 1 0 8192 rw- shared 0 0\nstore 1 0x10000 1 0x5a\nmsync 1 0x10000 8192 sync\n\
+store 1 0x11000 1 0x5b\nmsync 1 0x10000 8192 sync\n";
+
+const TWO_DONE: &[u8] = b"pid 1\naddr 0x10000\nok\nok\nok\nok\n";
+
+/// The file then.
+const TWO_BYTES: &[(&[u8], usize)] = &[(b"\x5a", 1), (b"\0", 4095), (b"\x5b", 1), (b"\0", 4095)];
+
+/// The directory of a writable file of two pages.
+const TWO_PAGES: &[u8] = b"\x00\x00\x00\x80\x00\x20\x00\x00";
+
+/// Images of layout 3: 16,408 sectors come before the homes.
+const IN_TURN: [(&str, &[Step<'static>]); 3] = [
+    (
+        "new3",
+        &[
+            Does(Format, &["new3", "@image", "zero:8192"], b"", b""),
+            File("@image", IsLong(8_400_896 + 8192)),
+            // Mark and kind, the directory, and the gate and the first map, in blocks of 4,096 bytes.
+            File("@image", IsFilledAt(0, b"FAMSYNC3", 128)),
+            File("@image", HasAt(4608, TWO_PAGES)),
+            File("@image", IsFilledAt(8192, b"\0", 8192)),
+            Does(Run, &["@image", "@swap"], TWO_MSYNCS, TWO_DONE),
+            // The second msync took the first journal, and wrote the page of the second one home.
+            File("@image", HasAt(8192, b"\0")),
+            File("@image", IsFilledAt(8_400_896, b"\x5a", 1)),
+            Shows(&["@image", "0"], TWO_BYTES),
+            Fails(
+                Format,
+                &["new3", "@image", "zero:1"],
+                "pagefmt: format 3 FORMATTED\n",
+            ),
+            Fails(
+                Format,
+                &["new", "@image", "zero:1"],
+                "pagefmt: format 3 FORMATTED\n",
+            ),
+            Fails(
+                Format,
+                &["upgrade", "@image", "@new"],
+                "pagefmt: upgrade 2 OLDLAYOUT\n",
+            ),
+            Fails(
+                Format,
+                &["upgrade3", "@image", "@new"],
+                "pagefmt: upgrade 2 OLDLAYOUT\n",
+            ),
+            File("@new", IsMissing),
+            Shows(&["@image", "0"], TWO_BYTES),
+            Removes(&["@image", "@swap"]),
+        ],
+    ),
+    // The journal of the old image is open: its page stands, and not the one at home.
+    (
+        "upgrade3",
+        &[
+            Does(Format, &["new", "@image", "zero:8192"], b"", b""),
+            Does(Run, &["@image", "@swap"], TWO_MSYNCS, TWO_DONE),
+            Files(TwoFiles::Copy, "@image", "@before"),
+            Does(Format, &["upgrade3", "@image", "@new"], b"", b""),
+            Files(TwoFiles::Alike, "@image", "@before"),
+            File("@new", IsLong(8_400_896 + 8192)),
+            File("@new", IsFilledAt(0, b"FAMSYNC3", 128)),
+            File("@new", HasAt(4608, TWO_PAGES)),
+            Shows(&["@new", "0"], TWO_BYTES),
+            Fails(
+                Format,
+                &["upgrade3", "@image", "@new"],
+                "pagefmt: upgrade 6 FORMATTED\n",
+            ),
+            Shows(&["@new", "0"], TWO_BYTES),
+            Removes(&["@image", "@new", "@before", "@swap"]),
+        ],
+    ),
+    (
+        "words3",
+        &[
+            Refuses(Format, &["new3"]),
+            Refuses(Format, &["new3", "@image"]),
+            Refuses(Format, &["new2", "@image", "zero:1"]),
+            Refuses(Format, &["upgrade3", "@image"]),
+            Refuses(Format, &["upgrade3", "@image", "@new", "@new"]),
+            File("@image", IsMissing),
+        ],
+    ),
+];
+
+#[test]
+fn images_of_two_journals_are_made_and_used(rt: HostRuntime) -> Result<(), Fail> {
+    carry_out_all(&rt, &IN_TURN)
 }

@@ -12,13 +12,12 @@ use Rattle.disk_model.specs.Moments.{Touches, Nothing, LeavesNow, LeavesOnly}
 use Rattle.disk_model.proofs.Moments.{goes_on}
 use Rattle.disk_model.specs.declared.sector_disk.SectorDisk.{Ghosts}
 use Rattle.vm_types.specs.declared.file.FileInfo.{FileInfo}
-use Rattle.sync_journal.specs.Standing.{standing}
 use Rattle.disk_model.specs.Sectors.{joined}
 use Rattle.file_store.specs.declared.directory.Entry.{Entry}
 use Rattle.file_store.specs.declared.faults.OpenFault.{OpenFault}
 use Rattle.file_store.specs.declared.store.FileStore.{FileStore}
 use Rattle.file_store.specs.Layout.{page_count, bytes_inside}
-use Rattle.file_store.specs.Standing.{StandsFor, StandsAs, bytes_of_pages, directory_entry, file_info, standing_page, page_standing, standing_file}
+use Rattle.file_store.specs.Standing.{StandsFor, StandsAs, bytes_of_pages, directory_entry, file_info, standing, standing_page, page_standing, standing_file}
 use Rattle.file_store.specs.Store.{IsReadyStore, files_of, entry_of}
 use Rattle.runner.specs.Bytes.{WritesBeginning}
 use Rattle.disk_model.proofs.Pieces.{joined-none, joined-same, joined-more}
@@ -95,7 +94,7 @@ next_bytes pages whole info k inside =
 all_bytes : (pages : ℕ → List ℕ) (info : FileInfo) (k : ℕ) → page_count info.length ≤ k → take (4096 * k) (bytes_of_pages pages info) ≡ bytes_of_pages pages info
 all_bytes pages info k past = take_all (4096 * k) (bytes_of_pages pages info) (simp length-take (omega (arith, past)))
 
-has_entry : (entry : Option Entry) (info : FileInfo) → option_map (λ e. e.info) entry ≡ Some info → (e : Entry) × (entry ≡ Some e)
+pub has_entry : (entry : Option Entry) (info : FileInfo) → option_map (λ e. e.info) entry ≡ Some info → (e : Entry) × (entry ≡ Some e)
 has_entry None info is = absurd (none-some info is)
 has_entry (Some e) info is = (e, refl)
 

@@ -1,2 +1,3 @@
 pub mod Specs
 pub mod Copies
+pub mod Asking

@@ -1,2 +1,3 @@
 pub mod Specs
 pub mod Faults
+pub mod Showing

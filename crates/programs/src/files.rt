@@ -1,5 +1,5 @@
 //! The files that a program works on, as devices.
-ghost use Rattle.std.specs.Prelude.{◌≡◌, ◌⊎◌, ℕ, IfOk, IfErr};
+ghost use Rattle.std.specs.Prelude.{◌≡◌, ℕ, IfOk, IfErr};
 ghost use Rattle.programs.specs.Faults.{IsUnopened};
 
 use crate::faults::ProgramFault;
@@ -24,52 +24,66 @@ pub(crate) enum Access {
 ///
 /// # Errors
 ///
-/// `CannotOpen` where the file can't be had so, and `unsynced` where it then can't be synced.
+/// `CannotOpen` where the file can't be had so. One that can't be synced is had: its device fails.
 pub(crate) fn open_disk<'a, C: FileContents, R: Files<File = File>>(
     rt: &R,
     path: &'a str,
     access: Access,
     length: u64,
-    unsynced: ProgramFault<'a>,
 ) -> Result<FileDisk<C>, ProgramFault<'a>>
     ensures kept { IfOk result (λ disk. ⟦<FileDisk<C> as SectorDisk>⟧.keeps_model disk) }
     ensures synced { IfOk result (λ disk. (k : ℕ) → ⟦<FileDisk<C> as SectorDisk>⟧.unsynced disk k → ⊥) }
-    ensures told { IfErr result (λ fault. IsUnopened path.now fault ⊎ (fault ≡ unsynced.entry)) }
+    ensures told { IfErr result (IsUnopened path.now) }
 {
-    let file = open_lengthened(rt, path, access, length)?;
-    synced_disk::<C>(file, unsynced)
-}
-
-/// The device in the file of that path, of which nothing is written where it may only be read. The faults are those of
-/// `open_disk`: a file that can't be synced is not tried again.
-pub(crate) fn open_disk_to_show<'a, C: FileContents, R: Files<File = File>>(
-    rt: &R,
-    path: &'a str,
-    unsynced: ProgramFault<'a>,
-) -> Result<FileDisk<C>, ProgramFault<'a>>
-    ensures kept { IfOk result (λ disk. ⟦<FileDisk<C> as SectorDisk>⟧.keeps_model disk) }
-    ensures synced { IfOk result (λ disk. (k : ℕ) → ⟦<FileDisk<C> as SectorDisk>⟧.unsynced disk k → ⊥) }
-    ensures told { IfErr result (λ fault. IsUnopened path.now fault ⊎ (fault ≡ unsynced.entry)) }
-{
-    match open_alone(rt, path, Access::Write) {
-        Ok(file) => synced_disk::<C>(file, unsynced),
-        Err(_) => open_disk::<C, R>(rt, path, Access::Read, 0, unsynced),
+    match opened_lengthened(rt, path, access, length) {
+        Ok(file) => disk_in::<C>(path, file),
+        Err(_) => Err(ProgramFault::CannotOpen(path)),
     }
 }
 
-/// The device in a file, which is synced first, as a call of the device: where that fails the fault is the device's, and is
-/// the one that is given.
-pub(crate) fn synced_disk<'a, C: FileContents>(
-    file: File,
-    unsynced: ProgramFault<'a>,
+/// The device in the file of that path, of which nothing is written where it may only be read. The fault is that of
+/// `open_disk`.
+pub(crate) fn open_disk_to_show<'a, C: FileContents, R: Files<File = File>>(
+    rt: &R,
+    path: &'a str,
 ) -> Result<FileDisk<C>, ProgramFault<'a>>
     ensures kept { IfOk result (λ disk. ⟦<FileDisk<C> as SectorDisk>⟧.keeps_model disk) }
     ensures synced { IfOk result (λ disk. (k : ℕ) → ⟦<FileDisk<C> as SectorDisk>⟧.unsynced disk k → ⊥) }
-    ensures told { IfErr result (λ fault. fault ≡ unsynced.entry) }
+    ensures told { IfErr result (IsUnopened path.now) }
+{
+    match open_alone(rt, path, Access::Write) {
+        Ok(file) => disk_in::<C>(path, file),
+        Err(_) => open_disk::<C, R>(rt, path, Access::Read, 0),
+    }
+}
+
+/// The device in a file of that path.
+pub(crate) fn disk_in<'a, C: FileContents>(
+    path: &'a str,
+    file: File,
+) -> Result<FileDisk<C>, ProgramFault<'a>>
+    ensures kept { IfOk result (λ disk. ⟦<FileDisk<C> as SectorDisk>⟧.keeps_model disk) }
+    ensures synced { IfOk result (λ disk. (k : ℕ) → ⟦<FileDisk<C> as SectorDisk>⟧.unsynced disk k → ⊥) }
+    ensures told { IfErr result (IsUnopened path.now) }
 {
     match FileDisk::<C>::new(file) {
         Ok(disk) => Ok(disk),
-        Err(_) => Err(unsynced),
+        Err(_) => Err(ProgramFault::CannotOpen(path)),
+    }
+}
+
+/// The device, unless its file could not be synced as it was opened: that is this fault.
+pub(crate) fn settled<'a, C: FileContents>(
+    disk: FileDisk<C>,
+    unsynced: ProgramFault<'a>,
+) -> Result<FileDisk<C>, ProgramFault<'a>>
+    ensures same { IfOk result (λ given. given ≡ disk) }
+    ensures told { IfErr result (λ fault. fault ≡ unsynced.entry) }
+{
+    if disk.is_settled() {
+        Ok(disk)
+    } else {
+        Err(unsynced)
     }
 }
 
@@ -104,7 +118,11 @@ pub(crate) fn open_alone<R: Files<File = File>>(
 }
 
 /// The regular file of that path. What is none is not opened, since that may wait for ever, as for the other end of a pipe.
-fn open_regular<R: Files<File = File>>(rt: &R, path: &str, access: Access) -> io::Result<File> {
+pub(crate) fn open_regular<R: Files<File = File>>(
+    rt: &R,
+    path: &str,
+    access: Access,
+) -> io::Result<File> {
     match fs::metadata(rt, path) {
         Ok(metadata) if metadata.is_file() => {}
         Ok(_) => return Err(io::Error::from(ErrorKind::InvalidInput)),
@@ -120,20 +138,6 @@ fn open_regular<R: Files<File = File>>(rt: &R, path: &str, access: Access) -> io
 }
 
 /// The regular file of that path, under a lock and lengthened with zeros to so many bytes where it is shorter.
-fn open_lengthened<'a, R: Files<File = File>>(
-    rt: &R,
-    path: &'a str,
-    access: Access,
-    length: u64,
-) -> Result<File, ProgramFault<'a>>
-    ensures told { IfErr result (IsUnopened path.now) }
-{
-    match opened_lengthened(rt, path, access, length) {
-        Ok(file) => Ok(file),
-        Err(_) => Err(ProgramFault::CannotOpen(path)),
-    }
-}
-
 fn opened_lengthened<R: Files<File = File>>(
     rt: &R,
     path: &str,
@@ -153,20 +157,17 @@ pub(crate) fn lengthen(file: &File, length: u64) -> io::Result<()> {
     Ok(())
 }
 
-/// What the first 512 bytes of an image are, 64 times over.
-const MARK: &[u8] = b"FAMSYNC2";
+/// What the first 512 bytes of an image are, 64 times over: of each layout.
+const MARKS: [&[u8]; 3] = [b"FAMSYNC1", b"FAMSYNC2", b"FAMSYNC3"];
 
-/// The same of an image of layout 1.
-const OLD_MARK: &[u8] = b"FAMSYNC1";
-
-/// Whether a file begins as an image of either layout does.
+/// Whether a file begins as an image of any layout does.
 pub(crate) fn has_mark(file: &File) -> io::Result<bool> {
     let mut sector = [0; 512];
     if file.metadata()?.len() < sector.len() as u64 {
         return Ok(false);
     }
     file.read_exact_at(&mut sector, 0)?;
-    Ok(repeats(&sector, MARK) || repeats(&sector, OLD_MARK))
+    Ok(MARKS.iter().any(|mark| repeats(&sector, mark)))
 }
 
 /// Whether a sector is this word all over.

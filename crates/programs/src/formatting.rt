@@ -1,9 +1,9 @@
 //! The program that makes images.
-ghost use Rattle.std.specs.Prelude.{◌≡◌, ◌≤◌, ◌⊎◌, ℕ, IfOk, IfErr};
+ghost use Rattle.std.specs.Prelude.{◌≡◌, ◌≤◌, ℕ, IfOk, IfErr};
 ghost use Rattle.programs.specs.Faults.{IsUnopened};
 
 use crate::faults::{ProgramFault, report};
-use crate::files::{Access, has_mark, lengthen, open_alone, synced_disk};
+use crate::files::{Access, disk_in, has_mark, lengthen, open_alone, open_regular};
 use crate::places::held_places;
 use crate::sources::open_sources;
 use crate::upgrading::upgrade_image;
@@ -12,6 +12,7 @@ use disk_model::{FileContents, FileDisk, SectorDisk, Unknown};
 use file_store::{FileSource, FormatFault, format, image_bytes};
 use std::fs::{self, File, Files, TryLockError};
 use std::io::{self, ErrorKind, Read, Write};
+use sync_journal::Journals;
 
 /// The most files of an image.
 const MAX_FILES: usize = 64;
@@ -20,14 +21,19 @@ const MAX_FILES: usize = 64;
 /// home pages of the specs, and formats it. The files get numbers and homes in the order of the specs. SPEC is `zero:LEN`,
 /// a writable file of LEN zero bytes, or `rw:PATH` or `ro:PATH`, a writable or a read-only file of the bytes of a host
 /// file, which is read a page at a time. All specs are looked at, and their host files opened, before IMAGE is made; over
-/// 64 specs, and an IMAGE that is an image already, are reported before it is lengthened. What can't be locked, lengthened
-/// or synced keeps its bytes and its length, or is unmade again; only a file that another program locks first is left to it.
+/// 64 specs, and an IMAGE that is an image already, are reported before it is lengthened. Until something is written to it,
+/// every fault leaves IMAGE with its bytes and its length, or unmakes it again; only a file that another program locks first
+/// is left to it.
+///
+/// `pagefmt new3 IMAGE SPEC...` does the same with a store of two journals in turn, whose image has `512 * (16408 + 8 H)` bytes.
 ///
 /// `pagefmt upgrade OLD NEW`: makes NEW where it is missing, lengthens it so that it has as many home pages as OLD, an image of
-/// layout 1, and makes a store on it that stands for what OLD stands for. OLD is only read. Where the upgrade is refused, or
-/// NEW can't be synced at first, NEW is as it was, or unmade again.
+/// layout 1, and makes a store on it that stands for what OLD stands for. OLD is only read. Until something is written to NEW,
+/// every fault leaves it as it was, or unmakes it again. `pagefmt upgrade3 OLD NEW` does the same with an OLD of layout 2 and a NEW of
+/// layout 3, that of two journals in turn.
 ///
-/// An image that can't be synced at first is the fault of its device, and one that can't be had is not opened.
+/// An image that can't be had is not opened, and one that can't be synced is the fault of its device, which comes where the
+/// image is looked at: OLD and NEW are both opened before OLD is, and NEW is looked at once OLD is found good.
 ///
 /// Returns the exit status: 0 done; 1 a fault; 2 other words. For 1 and 2 one line on `errors` says why.
 pub fn pagefmt<R: Files<File = File> + AllocGlobal, I: Read, O: Write, X: Write>(
@@ -66,10 +72,30 @@ fn format_image<'a, C: FileContents, R: Files<File = File> + AllocGlobal>(
 {
     let _places = held_places(rt)?;
     let mut sources = open_sources(rt.alloc(), rt, words.specs.as_slice())?;
-    let mut disk = new_image::<C, R>(rt, words.image, sources.as_slice())?;
-    match format(&mut disk, sources.as_mut_slice()) {
+    let (file, former) = match image_file(rt, words.image) {
+        Ok(opened) => opened,
+        Err(_) => return Err(ProgramFault::CannotOpen(words.image)),
+    };
+    let mut disk = match unmarked_disk::<C>(
+        words.image,
+        &file,
+        words.journals,
+        sources.as_slice(),
+    ) {
+        Ok(disk) => disk,
+        Err(fault) => {
+            set_back(rt, words.image, &file, former);
+            return Err(fault);
+        }
+    };
+    match format(&mut disk, words.journals, sources.as_mut_slice()) {
         Ok(()) => Ok(0),
-        Err(fault) => Err(ProgramFault::Format(fault)),
+        Err(fault) => {
+            if !disk.is_written() {
+                set_back(rt, words.image, &file, former);
+            }
+            Err(ProgramFault::Format(fault))
+        }
     }
 }
 
@@ -82,34 +108,12 @@ pub(crate) enum Former {
     Bytes(u64),
 }
 
-/// The device for an image of these files. Where it is refused, the file is as it was, or unmade.
-fn new_image<'a, C: FileContents, R: Files<File = File>>(
-    rt: &R,
-    path: &'a str,
-    sources: &[FileSource<File>],
-) -> Result<FileDisk<C>, ProgramFault<'a>>
-    ensures kept { IfOk result (λ disk. ⟦<FileDisk<C> as SectorDisk>⟧.keeps_model disk) }
-    ensures synced { IfOk result (λ disk. (k : ℕ) → ⟦<FileDisk<C> as SectorDisk>⟧.unsynced disk k → ⊥) }
-{
-    if sources.len() > MAX_FILES {
-        return Err(ProgramFault::Format(FormatFault::TooLarge));
-    }
-    let (file, former) = match image_file(rt, path) {
-        Ok(opened) => opened,
-        Err(_) => return Err(ProgramFault::CannotOpen(path)),
-    };
-    match unmarked_disk::<C>(path, &file, image_bytes(sources)) {
-        Ok(disk) => Ok(disk),
-        Err(fault) => {
-            set_back(rt, path, &file, former);
-            Err(fault)
-        }
-    }
-}
-
 /// The file of that path under a lock that no other program of ours has, and what stood there before. One that is missing is
-/// made; a link to one that is missing is not opened.
-pub(crate) fn image_file<R: Files<File = File>>(rt: &R, path: &str) -> io::Result<(File, Former)> {
+/// made, as is one that a link leads to.
+pub(crate) fn image_file<R: Files<File = File> + AllocGlobal>(
+    rt: &R,
+    path: &str,
+) -> io::Result<(File, Former)> {
     match File::create_new(rt, path) {
         Ok(file) => lock_made(rt, path, file),
         Err(error) if error.kind() == ErrorKind::AlreadyExists => found_file(rt, path),
@@ -117,14 +121,28 @@ pub(crate) fn image_file<R: Files<File = File>>(rt: &R, path: &str) -> io::Resul
     }
 }
 
-fn found_file<R: Files<File = File>>(rt: &R, path: &str) -> io::Result<(File, Former)> {
-    let file = open_alone(rt, path, Access::Write)?;
-    let bytes = file.metadata()?.len();
-    Ok((file, Former::Bytes(bytes)))
+fn found_file<R: Files<File = File> + AllocGlobal>(
+    rt: &R,
+    path: &str,
+) -> io::Result<(File, Former)> {
+    match open_alone(rt, path, Access::Write) {
+        Ok(file) => {
+            let bytes = file.metadata()?.len();
+            Ok((file, Former::Bytes(bytes)))
+        }
+        Err(error) if error.kind() == ErrorKind::NotFound => {
+            lock_made(rt, path, open_regular(rt, path, Access::Make)?)
+        }
+        Err(error) => Err(error),
+    }
 }
 
 /// The same of a file that this run has just made. Where it gets no lock it is removed again, unless another program has one.
-fn lock_made<R: Files<File = File>>(rt: &R, path: &str, file: File) -> io::Result<(File, Former)> {
+fn lock_made<R: Files<File = File> + AllocGlobal>(
+    rt: &R,
+    path: &str,
+    file: File,
+) -> io::Result<(File, Former)> {
     match file.try_lock() {
         Ok(()) => {
             let former = former_of_made(&file);
@@ -132,9 +150,16 @@ fn lock_made<R: Files<File = File>>(rt: &R, path: &str, file: File) -> io::Resul
         }
         Err(TryLockError::WouldBlock) => Err(io::Error::from(ErrorKind::WouldBlock)),
         Err(TryLockError::Error(error)) => {
-            let _ = fs::remove_file(rt, path);
+            remove_made(rt, path);
             Err(error)
         }
+    }
+}
+
+/// Removes the file that this run has made, and no link that leads to it.
+fn remove_made<R: Files<File = File> + AllocGlobal>(rt: &R, path: &str) {
+    if let Ok(made) = fs::canonicalize(rt, path) {
+        let _ = fs::remove_file(rt, made);
     }
 }
 
@@ -147,21 +172,24 @@ fn former_of_made(file: &File) -> Former {
     }
 }
 
-/// The device in a file that is no image, which is lengthened with zeros to so many bytes where it is shorter. The device has
-/// a handle of its own, so that the lock stands until the file is set back.
+/// The device for an image of these files in a file that is no image, which is lengthened with zeros where it is shorter. The
+/// device has a handle of its own, so that the lock stands until the file is set back.
 fn unmarked_disk<'a, C: FileContents>(
     path: &'a str,
     file: &File,
-    length: u64,
+    journals: Journals,
+    sources: &[FileSource<File>],
 ) -> Result<FileDisk<C>, ProgramFault<'a>>
     ensures kept { IfOk result (λ disk. ⟦<FileDisk<C> as SectorDisk>⟧.keeps_model disk) }
     ensures synced { IfOk result (λ disk. (k : ℕ) → ⟦<FileDisk<C> as SectorDisk>⟧.unsynced disk k → ⊥) }
 {
-    const FAILED: ProgramFault<'static> = ProgramFault::Format(FormatFault::Device);
+    if sources.len() > MAX_FILES {
+        return Err(ProgramFault::Format(FormatFault::TooLarge));
+    }
     match has_mark(file) {
-        Ok(false) => lengthened_disk::<C>(path, file, length, FAILED),
+        Ok(false) => lengthened_disk::<C>(path, file, image_bytes(journals, sources)),
         Ok(true) => Err(ProgramFault::Format(FormatFault::Formatted)),
-        Err(_) => Err(FAILED),
+        Err(_) => Err(ProgramFault::Format(FormatFault::Device)),
     }
 }
 
@@ -170,30 +198,32 @@ fn unmarked_disk<'a, C: FileContents>(
 ///
 /// # Errors
 ///
-/// `CannotOpen` where the file can't be lengthened or gets no second handle, and `unsynced` where it then can't be synced.
+/// `CannotOpen` where the file can't be lengthened or gets no second handle.
 pub(crate) fn lengthened_disk<'a, C: FileContents>(
     path: &'a str,
     file: &File,
     length: u64,
-    unsynced: ProgramFault<'a>,
 ) -> Result<FileDisk<C>, ProgramFault<'a>>
     ensures kept { IfOk result (λ disk. ⟦<FileDisk<C> as SectorDisk>⟧.keeps_model disk) }
     ensures synced { IfOk result (λ disk. (k : ℕ) → ⟦<FileDisk<C> as SectorDisk>⟧.unsynced disk k → ⊥) }
-    ensures told { IfErr result (λ fault. IsUnopened path.now fault ⊎ (fault ≡ unsynced.entry)) }
+    ensures told { IfErr result (IsUnopened path.now) }
 {
     let (Ok(own), Ok(())) = (file.try_clone(), lengthen(file, length)) else {
         return Err(ProgramFault::CannotOpen(path));
     };
-    synced_disk::<C>(own, unsynced)
+    disk_in::<C>(path, own)
 }
 
-/// Takes back what this run did to the file of that path, which was not formatted. Where the system fails in that too, an
+/// Takes back what this run did to the file of that path, of which it wrote nothing. Where the system fails in that too, an
 /// empty file stays, or zeros at a file's end.
-pub(crate) fn set_back<R: Files<File = File>>(rt: &R, path: &str, file: &File, former: Former) {
+pub(crate) fn set_back<R: Files<File = File> + AllocGlobal>(
+    rt: &R,
+    path: &str,
+    file: &File,
+    former: Former,
+) {
     match former {
-        Former::Missing => {
-            let _ = fs::remove_file(rt, path);
-        }
+        Former::Missing => remove_made(rt, path),
         Former::Bytes(bytes) => cut_back(file, bytes),
     }
 }

@@ -1,10 +1,10 @@
 //! The program that runs traces.
-ghost use Rattle.std.specs.Prelude.{◌≡◌, ◌≤◌, IfOk};
+ghost use Rattle.std.specs.Prelude.{◌≡◌, ◌⊎◌, ◌≤◌, IfOk, true, false};
 ghost use Rattle.machine.specs.Machine.{halted_of};
 ghost use Rattle.programs.specs.Faults.{end_status};
 
 use crate::faults::{ProgramFault, report};
-use crate::files::{Access, open_disk};
+use crate::files::{Access, open_disk, settled};
 use crate::places::held_places;
 use crate::words::run_words;
 use disk_model::{FileContents, SectorDisk, Unknown};
@@ -22,7 +22,8 @@ const HALTED: u8 = 3;
 
 /// `pagerun IMAGE SWAP [FRAMES SLOTS [sv39|sv48]]`: makes SWAP where it is missing, lengthens it to
 /// `4096 * SLOTS` bytes where SLOTS is at most 65,536, boots a machine on the image and runs the trace of `reader`, whose
-/// replies go to `writer`. FRAMES is 64, SLOTS 16 and the mode of address spaces Sv39 where they are not given.
+/// replies go to `writer`. FRAMES is 64, SLOTS 16 and the mode of address spaces Sv39 where they are not given. Both files are
+/// opened before the sizes are looked at, and these before the image is, which has to be synced for that.
 ///
 /// Returns the exit status: 0 done; 1 a fault; 2 other words; 3 the end of the trace with a halted machine. For 1 and 2
 /// one line on `errors` says why.
@@ -51,14 +52,25 @@ fn run_image<
 {
     let words = run_words(rt.alloc(), words)?;
     let _places = held_places(rt)?;
-    let unsynced = ProgramFault::Boot(BootFault::Device);
-    let store = open_disk::<C, R>(rt, words.image, Access::Write, 0, unsynced)?;
-    let unsynced = ProgramFault::CannotOpen(words.swap);
+    let store = open_disk::<C, R>(rt, words.image, Access::Write, 0)?;
     let length = swap_bytes(words.config.slots);
-    let swap = open_disk::<K, R>(rt, words.swap, Access::Make, length, unsynced)?;
+    let swap = open_disk::<K, R>(rt, words.swap, Access::Make, length)?;
+    let swap = settled(swap, ProgramFault::CannotOpen(words.swap))?;
     match run_on(rt.alloc(), words.config, store, swap, reader, writer) {
         Ok((end, machine)) => status_of(end, &machine),
-        Err((fault, _)) => Err(ProgramFault::Boot(fault)),
+        Err((fault, store)) => Err(ProgramFault::Boot(told(fault, store.is_settled()))),
+    }
+}
+
+/// The fault that is told where no machine started. An image that could not be synced is the fault of its device, whatever its
+/// length is.
+fn told(fault: BootFault, is_settled: bool) -> BootFault
+    ensures same { (fault ≡ BootFault.BadLayout → ⊥) ⊎ (is_settled ≡ true) → result ≡ fault }
+    ensures device { fault ≡ BootFault.BadLayout → is_settled ≡ false → result ≡ BootFault.Device }
+{
+    match fault {
+        BootFault::BadLayout if !is_settled => BootFault::Device,
+        _ => fault,
     }
 }
 

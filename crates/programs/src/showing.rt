@@ -2,16 +2,16 @@
 ghost use Rattle.std.specs.Prelude.{◌≡◌, ◌⊎◌, ◌≤◌, ◌<◌, ◌*◌, ℕ, List, Option, Some, None, IfOk, IfErr, OnOk, OnErr, IsErrOf, MatchResult, take};
 ghost use Rattle.std.specs.Io.KnownBytes.{Appends};
 ghost use Rattle.disk_model.specs.Stop.{Image};
-ghost use Rattle.disk_model.specs.Moments.{Touches, Nothing, LeavesOnly};
+ghost use Rattle.disk_model.specs.Moments.{Touches, Nothing, LeavesOnly, AsksOnly};
 ghost use Rattle.vm_types.specs.declared.file.FileInfo.{FileInfo};
 ghost use Rattle.vm_types.specs.Files.{bytes_inside};
-ghost use Rattle.sync_journal.specs.Standing.{IsBadJournal};
-ghost use Rattle.file_store.specs.Standing.{IsBadLayout, IsPageOf, StandsAs, StandsFor, bytes_of_pages, standing_page, standing_file};
-ghost use Rattle.file_store.specs.Store.{IsReadyStore, files_of};
+ghost use Rattle.file_store.specs.Standing.{IsBadLayout, IsBadJournal, IsPageOf, StandsAs, StandsFor, bytes_of_pages, standing_page, standing_file};
+ghost use Rattle.file_store.specs.Store.{IsReadyStore, IsSectorOf, files_of};
+ghost use Rattle.programs.specs.Showing.{IsSectorOfFile, KeepsToFile};
 ghost use Rattle.runner.specs.Bytes.{WritesBeginning};
 
 use crate::faults::{ProgramFault, report};
-use crate::files::open_disk_to_show;
+use crate::files::{open_disk_to_show, settled};
 use crate::places::held_places;
 use crate::words::cat_words;
 use disk_model::{DiskFault, FileContents, SectorDisk, Unknown};
@@ -51,8 +51,8 @@ fn show_file<'a, C: FileContents, R: Files<File = File> + AllocGlobal, O: Write>
 {
     let words = cat_words(rt.alloc(), words)?;
     let _places = held_places(rt)?;
-    let unsynced = ProgramFault::Open(OpenFault::Device);
-    let disk = open_disk_to_show::<C, R>(rt, words.image, unsynced)?;
+    let disk = open_disk_to_show::<C, R>(rt, words.image)?;
+    let disk = settled(disk, ProgramFault::Open(OpenFault::Device))?;
     match show(disk, words.file, writer) {
         Ok(_) => Ok(0),
         Err((fault, _)) => Err(told(fault, words.file)),
@@ -106,7 +106,8 @@ impl From<CopyFault> for ShowFault {
 /// journal exactly where the image has one, unless the device fails first, and the device only where it failed
 /// (`FileStore::open`); the other faults come only once the image is open: `NoFile` where it has no file of that number,
 /// `Read` only where the device failed, and `Write` where the writer failed or took no bytes. Each fault hands the device back,
-/// and no failure of it is forgotten. An image that is no store has had nothing written.
+/// and no failure of it is forgotten. An image that is no store has had nothing written. No sector is asked for but those that an
+/// opening asks for and the file's own, and what lies outside the homes stays.
 pub fn show<D: SectorDisk + Drop, W: Write>(
     disk: D,
     file: u32,
@@ -124,6 +125,7 @@ pub fn show<D: SectorDisk + Drop, W: Write>(
         → LeavesOnly D.SectorDisk disk store.disk (StandsAs (D.sector_count disk) (D.content disk))) }
     ensures in_a_row { IfOk result (λ store. D.keeps_model store.disk → ((k : ℕ) → D.unsynced disk k → ⊥) → (first : Image) → StandsAs (D.sector_count disk) first (D.content disk)
         → LeavesOnly D.SectorDisk disk store.disk (StandsAs (D.sector_count disk) first)) }
+    ensures asks { IfOk result (λ store. KeepsToFile D.SectorDisk file disk store.disk) }
 
     ensures err_kept { IfErr result (λ e. D.keeps_model e.1 → D.keeps_model disk) }
     ensures device { IfErr result (λ e. e.0 ≡ ShowFault.Open OpenFault.Device → D.failures disk < D.failures e.1) }
@@ -147,6 +149,7 @@ pub fn show<D: SectorDisk + Drop, W: Write>(
         → LeavesOnly D.SectorDisk disk e.1 (StandsAs (D.sector_count disk) (D.content disk))) }
     ensures err_in_a_row { IfErr result (λ e. D.keeps_model e.1 → ((k : ℕ) → D.unsynced disk k → ⊥) → (first : Image) → StandsAs (D.sector_count disk) first (D.content disk)
         → LeavesOnly D.SectorDisk disk e.1 (StandsAs (D.sector_count disk) first)) }
+    ensures err_asks { IfErr result (λ e. KeepsToFile D.SectorDisk file disk e.1) }
 {
     let mut store = match FileStore::open(disk) {
         Ok(store) => store,
@@ -159,7 +162,7 @@ pub fn show<D: SectorDisk + Drop, W: Write>(
 }
 
 /// Writes the bytes of a file of an open store to the writer; after a fault it took a beginning of them. Nothing is written
-/// to the device.
+/// to the device, which is asked for the sectors of that file alone.
 ///
 /// # Errors
 ///
@@ -173,6 +176,7 @@ pub fn show_opened<D: SectorDisk, W: Write>(
     ensures kept { D.keeps_model store.new.disk → D.keeps_model store.old.disk }
     ensures ready { IsReadyStore D.SectorDisk store.new }
     ensures touches { D.keeps_model store.new.disk → Touches D.SectorDisk Nothing store.old.disk store.new.disk }
+    ensures asks { AsksOnly D.SectorDisk (IsSectorOfFile store.old file) store.old.disk store.new.disk }
     ensures some { OnOk result ((info : FileInfo) × (files_of store.old file ≡ Some info)) }
     ensures unopened { (fault : OpenFault) → IsErrOf result (ShowFault.Open fault) → ⊥ }
     ensures none { IsErrOf result ShowFault.NoFile → files_of store.old file ≡ None }
@@ -235,6 +239,7 @@ fn copy_file<D: SectorDisk, W: Write>(
     ensures cause { IsErrOf result CopyFault.Read → D.failures store.old.disk < D.failures store.new.disk }
     ensures calm { OnOk result (D.failures store.new.disk ≡ D.failures store.old.disk) }
     ensures still { IsErrOf result CopyFault.Write → D.failures store.new.disk ≡ D.failures store.old.disk }
+    ensures asks { AsksOnly D.SectorDisk (IsSectorOfFile store.old file) store.old.disk store.new.disk }
     ensures ready { IsReadyStore D.SectorDisk store.new }
     ensures touches { D.keeps_model store.new.disk → Touches D.SectorDisk Nothing store.old.disk store.new.disk }
     ensures written { D.keeps_model store.new.disk → (bytes : List ℕ) → standing_file (D.content store.old.disk) file ≡ Some bytes
@@ -269,7 +274,9 @@ fn copy_page<D: SectorDisk, W: Write>(
     ensures cause { IsErrOf result CopyFault.Read → D.failures store.old.disk < D.failures store.new.disk }
     ensures calm { OnOk result (D.failures store.new.disk ≡ D.failures store.old.disk) }
     ensures still { IsErrOf result CopyFault.Write → D.failures store.new.disk ≡ D.failures store.old.disk }
+    ensures asks { AsksOnly D.SectorDisk (IsSectorOf store.old (record { file = file; page = k })) store.old.disk store.new.disk }
     ensures files { store.new.directory ≡ store.old.directory }
+    ensures journal { store.new.journal ≡ store.old.journal }
     ensures ready { IsReadyStore D.SectorDisk store.new }
     ensures touches { D.keeps_model store.new.disk → Touches D.SectorDisk Nothing store.old.disk store.new.disk }
     ensures written { D.keeps_model store.new.disk → MatchResult result

@@ -1,4 +1,4 @@
-//! Images of layout 1, made anew in layout 2.
+//! Images made anew in the next layout.
 ghost use Rattle.std.specs.Prelude.{◌≡◌, IfOk};
 
 use crate::faults::ProgramFault;
@@ -6,10 +6,10 @@ use crate::files::{Access, open_disk};
 use crate::formatting::{image_file, lengthened_disk, set_back};
 use crate::places::held_places;
 use crate::words::UpgradeWords;
-use disk_model::{FileContents, SECTOR_BYTES, SectorDisk};
+use disk_model::{FileContents, FileDisk, SECTOR_BYTES, SectorDisk};
 use file_store::{UpgradeFault, upgrade};
 use std::fs::{File, Files};
-use sync_journal::{FIRST_HOME, PAGE_SECTORS, old_home_count};
+use sync_journal::{FIRST_HOME, Journals, PAGE_SECTORS, TURN_HOMES, home_count, old_home_count};
 
 /// Makes a store in NEW that stands for what the image OLD stands for.
 pub(crate) fn upgrade_image<
@@ -21,25 +21,23 @@ pub(crate) fn upgrade_image<
     ensures { IfOk result (λ status. status ≡ 0) }
 {
     let _places = held_places(rt)?;
-    let unsynced = ProgramFault::Upgrade(UpgradeFault::OldDevice);
-    let mut old = open_disk::<C, R>(rt, words.old, Access::Read, 0, unsynced)?;
+    let mut old = open_disk::<C, R>(rt, words.old, Access::Read, 0)?;
     let (file, former) = match image_file(rt, words.new) {
         Ok(opened) => opened,
         Err(_) => return Err(ProgramFault::CannotOpen(words.new)),
     };
-    let length = upgraded_bytes(old.sectors());
-    let unsynced = ProgramFault::Upgrade(UpgradeFault::NewDevice);
-    let mut new = match lengthened_disk::<K>(words.new, &file, length, unsynced) {
+    let length = upgraded_bytes(words.journals, old.sectors());
+    let mut new = match lengthened_disk::<K>(words.new, &file, length) {
         Ok(new) => new,
         Err(fault) => {
             set_back(rt, words.new, &file, former);
             return Err(fault);
         }
     };
-    match upgrade(&mut old, &mut new) {
+    match upgrade_settled(&mut old, &mut new, words.journals) {
         Ok(()) => Ok(0),
         Err(fault) => {
-            if is_unwritten(fault) {
+            if !new.is_written() {
                 set_back(rt, words.new, &file, former);
             }
             Err(ProgramFault::Upgrade(fault))
@@ -47,12 +45,27 @@ pub(crate) fn upgrade_image<
     }
 }
 
-/// How many bytes an image has that has as many home pages as one of layout 1 of so many sectors.
-fn upgraded_bytes(sectors: u64) -> u64 {
-    SECTOR_BYTES as u64 * (FIRST_HOME + PAGE_SECTORS * old_home_count(sectors))
+/// Makes the store on NEW. A file that could not be synced is the fault of its device, whatever its length is: OLD before it is
+/// looked at, and NEW once OLD is found good.
+fn upgrade_settled<C: FileContents, K: FileContents>(
+    old: &mut FileDisk<C>,
+    new: &mut FileDisk<K>,
+    journals: Journals,
+) -> Result<(), UpgradeFault> {
+    if !old.is_settled() {
+        return Err(UpgradeFault::OldDevice);
+    }
+    match upgrade(old, new, journals) {
+        Err(UpgradeFault::NewSmall) if !new.is_settled() => Err(UpgradeFault::NewDevice),
+        outcome => outcome,
+    }
 }
 
-/// Whether nothing was written: the fault is no device's.
-fn is_unwritten(fault: UpgradeFault) -> bool {
-    !matches!(fault, UpgradeFault::OldDevice | UpgradeFault::NewDevice)
+/// How many bytes an image of these journals has that has as many home pages as one of the layout before of so many sectors.
+fn upgraded_bytes(journals: Journals, sectors: u64) -> u64 {
+    let (first, homes) = match journals {
+        Journals::Single => (FIRST_HOME, old_home_count(sectors)),
+        Journals::Paired => (TURN_HOMES, home_count(sectors)),
+    };
+    SECTOR_BYTES as u64 * (first + PAGE_SECTORS * homes)
 }

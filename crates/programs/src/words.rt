@@ -1,9 +1,10 @@
 //! What the words after a program's name ask for.
 use crate::faults::ProgramFault;
 use crate::numbers::number;
-use clap::{Arg, Command};
+use clap::{Arg, ArgMatches, Command};
 use machine::Config;
-use std::alloc::Global;
+use std::alloc::{AllocError, Global};
+use sync_journal::Journals;
 use vm_types::Mode;
 
 /// The page frames, the slots and the mode of a machine where none are named.
@@ -16,22 +17,24 @@ pub const DEFAULT_CONFIG: Config = Config {
 /// The words of `pagefmt`.
 #[derive(Debug, Drop)]
 pub(crate) enum FormatWords<'a> {
-    /// `new IMAGE SPEC...`
+    /// `new IMAGE SPEC...` or `new3 IMAGE SPEC...`
     New(NewWords<'a>),
-    /// `upgrade OLD NEW`
+    /// `upgrade OLD NEW` or `upgrade3 OLD NEW`
     Upgrade(UpgradeWords<'a>),
 }
 
-/// The words of `pagefmt new IMAGE SPEC...`.
+/// The words of `pagefmt new IMAGE SPEC...`, whose store has one journal, or of `pagefmt new3 IMAGE SPEC...`, whose store has two in turn.
 #[derive(Debug, Drop)]
 pub(crate) struct NewWords<'a> {
+    pub journals: Journals,
     pub image: &'a str,
     pub specs: Vec<&'a str>,
 }
 
-/// The words of `pagefmt upgrade OLD NEW`.
+/// The words of `pagefmt upgrade OLD NEW`, which makes a store of one journal, or of `pagefmt upgrade3 OLD NEW`, which makes one of two.
 #[derive(Clone, Copy, Debug, PartialEq, Eq)]
 pub(crate) struct UpgradeWords<'a> {
+    pub journals: Journals,
     pub old: &'a str,
     pub new: &'a str,
 }
@@ -56,30 +59,59 @@ pub(crate) fn format_words<'a>(
     alloc: Global,
     words: &'a [String],
 ) -> Result<FormatWords<'a>, ProgramFault<'a>> {
-    let image = Arg::new(alloc, "IMAGE").required(true);
-    let specs = Arg::new(alloc, "SPEC").required(true).num_args(1..);
-    let new = Command::new(alloc, "new").arg(image)?.arg(specs)?;
-    let upgrade = Command::new(alloc, "upgrade")
-        .arg(Arg::new(alloc, "OLD").required(true))?
-        .arg(Arg::new(alloc, "NEW").required(true))?;
     let command = Command::new(alloc, "pagefmt")
         .no_binary_name(true)
         .subcommand_required(true)
-        .subcommand(new)?
-        .subcommand(upgrade)?;
+        .subcommand(new_command(alloc, "new")?)?
+        .subcommand(new_command(alloc, "new3")?)?
+        .subcommand(upgrade_command(alloc, "upgrade")?)?
+        .subcommand(upgrade_command(alloc, "upgrade3")?)?;
     let matches = command.try_get_matches_from(words)?;
-    if let Some(upgrade) = matches.subcommand_matches("upgrade") {
-        let old = upgrade.get_str("OLD").ok_or(ProgramFault::Usage)?;
-        let new = upgrade.get_str("NEW").ok_or(ProgramFault::Usage)?;
-        return Ok(FormatWords::Upgrade(UpgradeWords { old, new }));
+    match matches.subcommand() {
+        Some(("new", found)) => new_words(alloc, Journals::Single, found),
+        Some(("new3", found)) => new_words(alloc, Journals::Paired, found),
+        Some(("upgrade", found)) => upgrade_words(Journals::Single, found),
+        Some(("upgrade3", found)) => upgrade_words(Journals::Paired, found),
+        _ => Err(ProgramFault::Usage),
     }
-    let new = matches
-        .subcommand_matches("new")
-        .ok_or(ProgramFault::Usage)?;
-    let image = new.get_str("IMAGE").ok_or(ProgramFault::Usage)?;
-    let specs = new.get_strs("SPEC").ok_or(ProgramFault::Usage)?;
+}
+
+/// A subcommand of that name with the words of a new image.
+fn new_command<'a>(alloc: Global, name: &'a str) -> Result<Command<'a>, AllocError> {
+    let image = Arg::new(alloc, "IMAGE").required(true);
+    let specs = Arg::new(alloc, "SPEC").required(true).num_args(1..);
+    Command::new(alloc, name).arg(image)?.arg(specs)
+}
+
+/// A subcommand of that name with the words of an upgrade.
+fn upgrade_command<'a>(alloc: Global, name: &'a str) -> Result<Command<'a>, AllocError> {
+    let old = Arg::new(alloc, "OLD").required(true);
+    let new = Arg::new(alloc, "NEW").required(true);
+    Command::new(alloc, name).arg(old)?.arg(new)
+}
+
+fn new_words<'a>(
+    alloc: Global,
+    journals: Journals,
+    matches: &ArgMatches<'a>,
+) -> Result<FormatWords<'a>, ProgramFault<'a>> {
+    let image = matches.get_str("IMAGE").ok_or(ProgramFault::Usage)?;
+    let specs = matches.get_strs("SPEC").ok_or(ProgramFault::Usage)?;
     let specs = Vec::from_slice(alloc, specs)?;
-    Ok(FormatWords::New(NewWords { image, specs }))
+    Ok(FormatWords::New(NewWords {
+        journals,
+        image,
+        specs,
+    }))
+}
+
+fn upgrade_words<'a>(
+    journals: Journals,
+    matches: &ArgMatches<'a>,
+) -> Result<FormatWords<'a>, ProgramFault<'a>> {
+    let old = matches.get_str("OLD").ok_or(ProgramFault::Usage)?;
+    let new = matches.get_str("NEW").ok_or(ProgramFault::Usage)?;
+    Ok(FormatWords::Upgrade(UpgradeWords { journals, old, new }))
 }
 
 /// Reads the words of `pagerun`.

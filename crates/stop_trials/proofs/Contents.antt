@@ -4,12 +4,11 @@ use Rattle.std.specs.Option.{option_map, unwrap_or}
 use Rattle.vm_types.specs.declared.file.FileInfo.{FileInfo}
 use Rattle.disk_model.specs.Stop.{Image}
 use Rattle.disk_model.specs.declared.sector_disk.SectorDisk.{Ghosts}
-use Rattle.sync_journal.specs.Standing.{IsBadJournal}
 use Rattle.disk_model.specs.Sectors.{joined}
 use Rattle.disk_model.proofs.Pieces.{joined-same}
 use Rattle.file_store.specs.declared.store.FileStore.{FileStore}
 use Rattle.file_store.specs.Layout.{page_count}
-use Rattle.file_store.specs.Standing.{IsBadLayout, IsPageOf, StandsAs, bytes_of_pages, file_info, standing_file, standing_page}
+use Rattle.file_store.specs.Standing.{IsBadLayout, IsBadJournal, IsPageOf, StandsAs, bytes_of_pages, file_info, standing_file, standing_page}
 use Rattle.file_store.specs.Store.{IsReadyStore, files_of}
 use Rattle.stop_trials.specs.Standing.{standing_bytes, standing_contents}
 

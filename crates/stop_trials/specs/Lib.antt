@@ -3,3 +3,4 @@ pub mod Parts
 pub mod Fillings
 pub mod Standing
 pub mod Trials
+pub mod Lines

@@ -1,5 +1,5 @@
 -- What a stopping device has counted, and where it stops.
-use Rattle.std.specs.Prelude.{ℕ, zero, suc, ◌+◌, if◌then◌else◌, Option, Some, None}
+use Rattle.std.specs.Prelude.{◌≡◌, ℕ, zero, suc, ◌+◌, if◌then◌else◌, Option, Some, None}
 use Rattle.disk_model.specs.Plan.{one_more, is_at}
 use Rattle.stop_trials.specs.declared.stopping.Event.{Event}
 use Rattle.stop_trials.specs.declared.stopping.Event.TheVariants.{Write}
@@ -9,9 +9,15 @@ pub record Plan : Type 0 where
   pub events : ℕ
   pub stop : Option ℕ
   pub stopped : Option Event
+  -- the sync that succeeds and syncs nothing
+  pub drops : Option ℕ
 
 abbrev pub plan_of : StoppingDisk → Plan
-plan_of d = record { events = d.events; stop = d.stop; stopped = d.stopped }
+plan_of d = record { events = d.events; stop = d.stop; stopped = d.stopped; drops = d.drops }
+
+-- no sync is dropped
+abbrev pub IsHonest : StoppingDisk → Type 0
+IsHonest d = d.drops ≡ None
 
 -- it stays stopped where it is, and else stops in this event where it is told to
 abbrev pub stopped_in : Option Event → Option ℕ → ℕ → Event → Option Event

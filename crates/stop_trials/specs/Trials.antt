@@ -1,5 +1,5 @@
 -- What trials of stops find, and what they come to.
-use Rattle.std.specs.Prelude.{◌≡◌, ◌<◌, ◌+◌, ◌*◌, ◌^◌, ◌-◌, min, ℕ, List, [], ◌∷◌, Option, None, IfSome, IsSome, slice_index_or, EachIndex, length}
+use Rattle.std.specs.Prelude.{◌≡◌, ◌<◌, ◌+◌, ◌*◌, ◌^◌, ◌-◌, min, ℕ, List, [], ◌∷◌, Option, None, Some, IfSome, IsSome, slice_index_or, EachIndex, length}
 use Rattle.std.specs.declared.alloc.Global.{Global}
 use Rattle.std.specs.declared.vec.Vec.{Vec}
 use Rattle.disk_model.specs.Stop.{Image}
@@ -7,6 +7,7 @@ use Rattle.disk_model.specs.SimDisk.{sectors_in}
 use Rattle.disk_model.specs.declared.sim_disk.SimDisk.{SimDisk}
 use Rattle.stop_trials.specs.declared.fillings.Filling.{Filling}
 use Rattle.stop_trials.specs.declared.fillings.Filling.TheVariants.{Old, Zeros, Ones, HalfOpen, Open}
+use Rattle.stop_trials.specs.declared.stopping.StoppingDisk.{StoppingDisk}
 use Rattle.stop_trials.specs.declared.trials.Trial.{Trial}
 use Rattle.stop_trials.specs.declared.trials.Summary.{Summary}
 use Rattle.stop_trials.specs.Fillings.{left_with}
@@ -30,11 +31,13 @@ abbrev pub StandWithEach : List (Vec ℕ Global) → ℕ → SimDisk → List (O
 StandWithEach states acknowledged device standing =
     (i : ℕ) → i < 5 → IfSome (slice_index_or standing i None) (StandsWith states acknowledged device (slice_index_or all_fillings i Old))
 
--- The trial of a stop in the event of that number, by what some device was left as.
+-- The trial of a stop in the event of that number, by what the device that stopped there was left as.
 pub record IsTrial (states : List (Vec ℕ Global)) (number : ℕ) (trial : Trial) : Type 0 where
   pub is : trial.number ≡ number
-  pub device : SimDisk
-  pub each : StandWithEach states trial.acknowledged device trial.standing
+  pub device : StoppingDisk
+  pub at : device.stop ≡ Some number
+  pub stopped : device.stopped ≡ Some trial.event
+  pub each : StandWithEach states trial.acknowledged device.disk trial.standing
 
 -- trials, the last one first, of the first multiples of a number
 abbrev pub AreTrials : List (Vec ℕ Global) → ℕ → List Trial → Type 0

@@ -10,12 +10,16 @@ use std::alloc::{AllocError, Global};
 use std::fs::{File, Files};
 use std::io::{ErrorKind, Read, Write};
 
-/// `pagestops [--every K] [--frames N] [--slots N] SPEC...`: formats a store in memory for the specs, as `pagefmt` does an image,
+/// `pagestops [--every K] [--drop K] [--layout 2|3] [--frames N] [--slots N] SPEC...`: formats a store of layout 2, or of
+/// layout 3 where that is asked for, in memory for the specs, as `pagefmt` does an image,
 /// and runs the trace of `reader` on it. The run is stopped in each event of the store's device, a write of a sector or a
 /// sync, or in each Kth; what is left is recovered with five fillings of the sectors that were not synced (`Filling`), and
 /// a line on `writer` says after how many msyncs the files stand. The last line counts the stops, the recoveries and the bad
 /// stops: those that leave anything but the files as after some of the msyncs, each acknowledged one among them. The machine has
 /// N frames and N slots, 64 and 16 where they are not given.
+///
+/// `--drop K` is a control: of the runs that are stopped the device drops the sync that is event K, which succeeds and syncs
+/// nothing, so that later stops have to be found bad.
 ///
 /// Returns the exit status: 0 done, and no stop was bad; 1 a bad stop, or a fault; 2 other words, or a K of 0. For a fault and for 2
 /// one line on `errors` says why.
@@ -48,8 +52,10 @@ fn tried<'a, R: Files<File = File> + AllocGlobal, I: Read, O: Write>(
     let setting = Setting {
         alloc: rt.alloc(),
         image: &image,
+        journals: words.journals,
         config: words.config,
         lines: lines.as_slice(),
+        drops: words.drop.map(u64::from),
     };
     let summary = setting.try_stops(u64::from(words.every), writer)?;
     Ok(summary.status())
@@ -61,9 +67,9 @@ fn new_image<'a, R: Files<File = File> + AllocGlobal>(
     words: &StopWords<'a>,
 ) -> Result<SimDisk, ProgramFault<'a>> {
     let mut sources = open_sources(rt.alloc(), rt, words.specs.as_slice())?;
-    let sectors = image_bytes(sources.as_slice()) / SECTOR_BYTES as u64;
+    let sectors = image_bytes(words.journals, sources.as_slice()) / SECTOR_BYTES as u64;
     let mut image = SimDisk::new(rt.alloc(), sectors)?;
-    match format(&mut image, sources.as_mut_slice()) {
+    match format(&mut image, words.journals, sources.as_mut_slice()) {
         Ok(()) => Ok(image),
         Err(fault) => Err(ProgramFault::Format(fault)),
     }

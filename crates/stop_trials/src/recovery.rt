@@ -2,9 +2,8 @@
 ghost use Rattle.std.specs.Prelude.{◌≡◌, ◌++◌, IfOk, OnOk};
 ghost use Rattle.disk_model.specs.Moments.{Touches, Nothing};
 ghost use Rattle.disk_model.specs.SimDisk.{sectors_in, sector_of};
-ghost use Rattle.file_store.specs.Standing.{IsBadLayout};
+ghost use Rattle.file_store.specs.Standing.{IsBadLayout, IsBadJournal};
 ghost use Rattle.file_store.specs.Store.{IsReadyStore};
-ghost use Rattle.sync_journal.specs.Standing.{IsBadJournal};
 ghost use Rattle.stop_trials.specs.Standing.{standing_bytes, standing_contents};
 
 use disk_model::{SectorDisk, SimDisk};

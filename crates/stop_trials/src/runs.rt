@@ -1,9 +1,8 @@
 //! Runs of a trace, to its end or to a stop.
-ghost use Rattle.std.specs.Prelude.{◌≡◌, ◌≤◌, IsTrue, IfOk, true};
+ghost use Rattle.std.specs.Prelude.{◌≡◌, ◌≤◌, IfOk};
 ghost use Rattle.machine.specs.Machine.{IsSoundMachine};
-ghost use Rattle.trace_lang.specs.Grammar.{IsCommand};
-ghost use Rattle.vm_types.specs.Prefix.{is_msync};
-ghost use Rattle.vm_types.specs.declared.command.Command.{Command};
+ghost use Rattle.vm_types.specs.Prefix.{is_msync, is_done};
+ghost use Rattle.stop_trials.specs.Lines.{RunsLine};
 
 use crate::fillings::Filling;
 use crate::recovery::recovered;
@@ -12,6 +11,7 @@ use disk_model::{SectorDisk, SimDisk};
 use machine::{BootFault, Config, Machine};
 use programs::ProgramFault;
 use std::alloc::{AllocError, Global};
+use sync_journal::Journals;
 use trace_lang::parse_line;
 use vm_types::{Command, Reply};
 
@@ -20,13 +20,16 @@ const MAX_SLOTS: u32 = 65536;
 
 const SLOT_SECTORS: u64 = 8;
 
-/// What is run in each trial: the lines of a trace on a machine of that size, over a store device of what the image holds.
+/// What is run in each trial: the lines of a trace on a machine of that size, over a store device of what the image holds. The
+/// device of a run that is stopped may drop a sync.
 #[derive(Drop)]
 pub(crate) struct Setting<'a> {
     pub alloc: Global,
     pub image: &'a SimDisk,
+    pub journals: Journals,
     pub config: Config,
     pub lines: &'a [&'a [u8]],
+    pub drops: Option<u64>,
 }
 
 /// A run that is over: the store's device as it left it, and how many msyncs returned `ok`.
@@ -36,21 +39,33 @@ pub(crate) struct Run {
     pub acknowledged: usize,
 }
 
+/// Whether a command is an msync.
+fn is_msync(command: &Command) -> bool
+    ensures { result ≡ is_msync command.now }
+{
+    matches!(command, Command::Msync { .. })
+}
+
+/// Whether a reply is `ok`.
+fn is_done(reply: &Reply) -> bool
+    ensures { result ≡ is_done reply.now }
+{
+    matches!(reply, Reply::Done)
+}
+
 /// Carries out the command of a line, and says whether it was an msync that returned `ok`. A line that stands for no
 /// command changes nothing.
 fn acknowledges<D: SectorDisk, E: SectorDisk>(machine: &mut Machine<D, E>, line: &[u8]) -> bool
     requires { IsSoundMachine D.SectorDisk E.SectorDisk machine.old }
     ensures sound { IsSoundMachine D.SectorDisk E.SectorDisk machine.new }
-    ensures msync { IsTrue result → (command : Command) × IsCommand line.now command × (is_msync command ≡ true) }
+    ensures runs { RunsLine D.SectorDisk E.SectorDisk machine.old line.now machine.new result }
 {
     let Ok(command) = parse_line(line) else {
         return false;
     };
+    let syncs = is_msync(&command);
     let reply = machine.step(command);
-    match command {
-        Command::Msync { .. } => matches!(reply, Reply::Done),
-        _ => false,
-    }
+    syncs && is_done(&reply)
 }
 
 /// Carries out lines until so many msyncs have returned `ok`, or else all of them, and says how many were.
@@ -87,7 +102,8 @@ fn swap_sectors(slots: u32) -> u64 {
 impl Setting<'_> {
     /// The store device, which stops in that event, and an empty swap device.
     fn devices(&self, stop: Option<u64>) -> Result<(StoppingDisk, SimDisk), AllocError> {
-        let store = StoppingDisk::new(self.alloc, self.image, stop)?;
+        let drops = if stop.is_some() { self.drops } else { None };
+        let store = StoppingDisk::new(self.alloc, self.image, stop, drops)?;
         let swap = SimDisk::new(self.alloc, swap_sectors(self.config.slots))?;
         Ok((store, swap))
     }

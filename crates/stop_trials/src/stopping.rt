@@ -1,5 +1,5 @@
 //! A device that stops where it is told to.
-ghost use Rattle.std.specs.Prelude.{◌≡◌, ◌⊎◌, ◌<◌, ◌≤◌, ◌+◌, ◌^◌, ℕ, Some, None, is_err, is_some, IfOk, OnOk, OnErr, false};
+ghost use Rattle.std.specs.Prelude.{◌≡◌, ◌⊎◌, ◌<◌, ◌≤◌, ◌+◌, ◌^◌, ℕ, Some, None, is_err, is_some, IfOk, IfSome, OnOk, OnErr, false};
 ghost use Rattle.std.proofs.Common.{inl};
 ghost use Rattle.disk_model.specs.Stop.{MayLeave, ChangesOnly, ChangesPage, IsOfPage, Elapses, HasCause, Names};
 ghost use Rattle.disk_model.specs.Sectors.{part_of};
@@ -18,13 +18,15 @@ pub enum Event {
     Sync,
 }
 
-/// A device in memory that counts its events, and stops in the one that it is told: this fails, and so does every later call.
+/// A device in memory that counts its events, and stops in the one that it is told: this fails, and so does every later call. It
+/// may be told to drop a sync, which then succeeds and syncs nothing: such a device keeps no model.
 #[derive(Drop)]
 pub(crate) struct StoppingDisk {
     disk: SimDisk,
     events: u64,
     stop: Option<u64>,
     stopped: Option<Event>,
+    drops: Option<u64>,
     ghost runs: { (counts_of disk).stopped ≡ false },
     ghost no_stop: { (counts_of disk).stop ≡ None },
 }
@@ -49,7 +51,8 @@ fn fault_if(failed: bool) -> Result<(), DiskFault>
 impl StoppingDisk {
     ghost use Rattle.stop_trials.specs.Stopping.{plan_of, after_event, failing_call};
 
-    /// A device of what another one holds, all of it synced. It stops in event `stop`, the first being 1, or never.
+    /// A device of what another one holds, all of it synced. It stops in event `stop`, the first being 1, or never, and drops the
+    /// sync that is event `drops`, or none.
     ///
     /// # Errors
     ///
@@ -58,8 +61,9 @@ impl StoppingDisk {
         alloc: Global,
         image: &SimDisk,
         stop: Option<u64>,
+        drops: Option<u64>,
     ) -> Result<StoppingDisk, AllocError>
-        ensures plan { IfOk result (λ d. plan_of d ≡ record { events = 0; stop = stop; stopped = None }) }
+        ensures plan { IfOk result (λ d. plan_of d ≡ record { events = 0; stop = stop; stopped = None; drops = drops }) }
         ensures size { IfOk result (λ d. sectors_in d.disk ≡ sectors_in image.now) }
         ensures synced { IfOk result (λ d. (k : ℕ) → IsUnsynced d.disk k → ⊥) }
         ensures stop { IfOk result (λ d. MayLeave (sector_of image.now) (IsUnsynced image.now) (sector_of d.disk)) }
@@ -70,6 +74,7 @@ impl StoppingDisk {
             events: 0,
             stop,
             stopped: None,
+            drops,
         })
     }
 
@@ -80,11 +85,16 @@ impl StoppingDisk {
         self.events // the one that it stopped in too
     }
 
-    /// The event that it has stopped in, if it has.
-    pub(crate) fn stopped(&self) -> Option<Event>
-        ensures { result ≡ self.now.stopped }
+    /// The event of that number, if it was told to stop in it and has.
+    pub(crate) fn stopped_in(&self, number: u64) -> Option<Event>
+        ensures told { IfSome result (λ event. (self.now.stop ≡ Some number) × (self.now.stopped ≡ Some event)) }
+        ensures none { self.now.stop ≡ Some number → result ≡ self.now.stopped }
     {
-        self.stopped // none where it has not
+        if is_at(self.stop, number) {
+            self.stopped
+        } else {
+            None
+        }
     }
 
     /// What it holds, and what of it is synced.
@@ -120,7 +130,7 @@ impl StoppingDisk {
 }
 
 impl SectorDisk for StoppingDisk {
-    ghost use Rattle.stop_trials.specs.Stopping.{plan_of, after_event, after_writes};
+    ghost use Rattle.stop_trials.specs.Stopping.{plan_of, after_event, after_writes, IsHonest};
 
     ghost sector_count = { λ d. sectors_in d.disk };
 
@@ -136,7 +146,7 @@ impl SectorDisk for StoppingDisk {
 
     ghost asked = { λ d. asked_of d.disk };
 
-    ghost keeps_model = { λ _. Unit {0} };
+    ghost keeps_model = { IsHonest };
 
     ghost counts_now = { λ d t c kept le now. inl now };
 
@@ -149,6 +159,7 @@ impl SectorDisk for StoppingDisk {
     fn read(&mut self, n: u64, to: &mut [u8; 512]) -> Result<(), DiskFault>
         requires { n < sectors_in self.old.disk }
         ensures size { sectors_in self.new.disk ≡ sectors_in self.old.disk }
+        ensures kept { IsHonest self.new → IsHonest self.old }
         ensures cause { HasCause (failures_of self.old.disk) (failures_of self.new.disk) result }
         ensures asks { Names (λ k. k ≡ n) (asked_of self.old.disk) (asked_of self.new.disk) }
         ensures gives { OnOk result (to.new ≡ sector_of self.old.disk n) }
@@ -167,6 +178,7 @@ impl SectorDisk for StoppingDisk {
         requires room { n + 8 ≤ sectors_in self.old.disk }
         requires fits { n < 2 ^ 60 }
         ensures size { sectors_in self.new.disk ≡ sectors_in self.old.disk }
+        ensures kept { IsHonest self.new → IsHonest self.old }
         ensures cause { HasCause (failures_of self.old.disk) (failures_of self.new.disk) result }
         ensures asks { Names (IsOfPage n) (asked_of self.old.disk) (asked_of self.new.disk) }
         ensures gives { OnOk result ((i : ℕ) → i < 8 → part_of to.new i ≡ sector_of self.old.disk (n + i)) }
@@ -183,6 +195,7 @@ impl SectorDisk for StoppingDisk {
     fn write(&mut self, n: u64, from: &[u8; 512]) -> Result<(), DiskFault>
         requires { n < sectors_in self.old.disk }
         ensures size { sectors_in self.new.disk ≡ sectors_in self.old.disk }
+        ensures kept { IsHonest self.new → IsHonest self.old }
         ensures cause { HasCause (failures_of self.old.disk) (failures_of self.new.disk) result }
         ensures asks { Names (λ k. k ≡ n) (asked_of self.old.disk) (asked_of self.new.disk) }
         ensures written { OnOk result (sector_of self.new.disk n ≡ from.now) }
@@ -203,6 +216,7 @@ impl SectorDisk for StoppingDisk {
         requires room { n + 8 ≤ sectors_in self.old.disk }
         requires fits { n < 2 ^ 60 }
         ensures size { sectors_in self.new.disk ≡ sectors_in self.old.disk }
+        ensures kept { IsHonest self.new → IsHonest self.old }
         ensures cause { HasCause (failures_of self.old.disk) (failures_of self.new.disk) result }
         ensures asks { Names (IsOfPage n) (asked_of self.old.disk) (asked_of self.new.disk) }
         ensures written { OnOk result ((i : ℕ) → i < 8 → sector_of self.new.disk (n + i) ≡ part_of from.now i) }
@@ -221,12 +235,14 @@ impl SectorDisk for StoppingDisk {
         fault_if(failed)
     }
 
+    /// A sync that it drops is none, and succeeds.
     fn sync(&mut self) -> Result<(), DiskFault>
         ensures size { sectors_in self.new.disk ≡ sectors_in self.old.disk }
+        ensures kept { IsHonest self.new → IsHonest self.old }
         ensures cause { HasCause (failures_of self.old.disk) (failures_of self.new.disk) result }
         ensures asks { (k : ℕ) → asked_of self.new.disk k ≡ asked_of self.old.disk k }
         ensures same { sector_of self.new.disk ≡ sector_of self.old.disk }
-        ensures synced { OnOk result ((k : ℕ) → IsUnsynced self.new.disk k → ⊥) }
+        ensures synced { IsHonest self.new → OnOk result ((k : ℕ) → IsUnsynced self.new.disk k → ⊥) }
         ensures unsynced { (k : ℕ) → IsUnsynced self.new.disk k → IsUnsynced self.old.disk k }
         ensures still { OnErr result ((k : ℕ) → IsUnsynced self.old.disk k → IsUnsynced self.new.disk k) }
         ensures time { Elapses (moment_of self.old.disk) (moment_of self.new.disk) (LeftSince self.old.disk) (LeftSince self.new.disk) (sector_of self.new.disk) (IsUnsynced self.new.disk) }
@@ -234,6 +250,9 @@ impl SectorDisk for StoppingDisk {
         ensures plan { plan_of self.new ≡ after_event Event.Sync (plan_of self.old) }
     {
         self.note(Event::Sync);
+        if self.stopped.is_none() && is_at(self.drops, self.events) {
+            return Ok(());
+        }
         self.disk.sync()
     }
 }

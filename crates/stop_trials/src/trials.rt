@@ -6,6 +6,7 @@ ghost use Rattle.disk_model.specs.Plan.{one_more};
 ghost use Rattle.stop_trials.specs.Trials.{AllStand, StandsWith, StandWithEach, IsTrial, AreTried};
 
 use crate::fillings::Filling;
+use crate::parts::write_event;
 use crate::recovery::recovered;
 use crate::runs::{Run, Setting};
 use crate::standing::msyncs_standing;
@@ -15,6 +16,7 @@ use runner::write_bytes;
 use std::alloc::Global;
 use std::fmt::{self, Display, Formatter};
 use std::io::Write;
+use sync_journal::Journals;
 
 /// How many fillings a stop is tried with.
 const FILLINGS: u64 = 5;
@@ -26,6 +28,8 @@ pub struct Trial {
     pub number: u64,
     /// What the event was.
     pub event: Event,
+    /// The journals of the store, which say what its sectors are.
+    pub journals: Journals,
     /// How many msyncs returned `ok`.
     pub acknowledged: usize,
     /// For each filling after how many msyncs the files stand; `None` where that is no number of them that holds each
@@ -44,7 +48,8 @@ impl Trial {
 
 impl Display for Trial {
     fn fmt<W: fmt::Write>(&self, f: &mut Formatter<W>) -> fmt::Result {
-        write!(f, "stop {} {}", self.number, self.event)?;
+        write!(f, "stop {} ", self.number)?;
+        write_event(self.journals, self.event, f)?;
         write!(f, " acknowledged {} left", self.acknowledged)?;
         for standing in &self.standing {
             match standing {
@@ -155,13 +160,14 @@ impl Setting<'_> {
         ensures { IfOk result (λ trial. IfSome trial (IsTrial states.now number)) }
     {
         let ran = self.run(Some(number), usize::MAX)?;
-        let Some(event) = ran.device.stopped() else {
+        let Some(event) = ran.device.stopped_in(number) else {
             return Ok(None);
         };
         let standing = self.judged_with_each(states, &ran)?;
         Ok(Some(Trial {
             number,
             event,
+            journals: self.journals,
             acknowledged: ran.acknowledged,
             standing,
         }))

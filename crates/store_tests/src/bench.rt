@@ -8,8 +8,8 @@ use std::alloc::Global;
 use std::test::Fail;
 use vm_types::FilePage;
 
-/// The first sector of the homes, as the format has it.
-const FIRST_HOME: u64 = 8195;
+/// The first sector of the homes of layout 3, as the format has it.
+const TURN_HOMES: u64 = 16_408;
 
 /// Fails where something does not hold.
 pub(crate) fn expect(holds: bool, otherwise: &str) -> Result<(), Fail> {
@@ -105,12 +105,16 @@ fn are_same(one: &SimDisk, other: &SimDisk) -> bool {
     true
 }
 
-/// The device after a stop, with these bytes in each unsynced sector, or where there are none with what was synced. Nothing is
-/// written to map and body of a new store.
-fn left(alloc: Global, disk: &SimDisk, fill: Option<[u8; 512]>) -> Result<SimDisk, Fail> {
+/// The device after a stop, with these bytes in each unsynced sector, or where there are none with what was synced: heads, the
+/// fronts of the journals of layout 3, and the homes of either layout.
+pub(crate) fn left(
+    alloc: Global,
+    disk: &SimDisk,
+    fill: Option<[u8; 512]>,
+) -> Result<SimDisk, Fail> {
     let mut chosen = Vec::new(alloc);
     if let Some(bytes) = fill {
-        for n in (0..3).chain(FIRST_HOME..disk.sectors()) {
+        for n in (0..40).chain(8195..8232).chain(TURN_HOMES..disk.sectors()) {
             chosen.push((n, bytes))?;
         }
     }
@@ -118,14 +122,14 @@ fn left(alloc: Global, disk: &SimDisk, fill: Option<[u8; 512]>) -> Result<SimDis
 }
 
 /// Sees that what a stop leaves of a new store has no mark or is the whole store, whatever the unsynced sectors then hold: their
-/// old bytes, zeros, ones, half of the mark or all of it. It has the mark where all of the mark's own write reached the device.
+/// old bytes, zeros, ones, half of a mark or all of either. It has the mark where all of the mark's own write reached the device.
 pub(crate) fn check_left(
     alloc: Global,
     stopped: &SimDisk,
     at_mark: bool,
     whole: &SimDisk,
+    mark: [u8; 512],
 ) -> Result<(), Fail> {
-    let mark = repeated(b"FAMSYNC2");
     let mut half = mark;
     half[256..].fill(0);
     for fill in [
@@ -133,7 +137,8 @@ pub(crate) fn check_left(
         Some([0; 512]),
         Some([0xff; 512]),
         Some(half),
-        Some(mark),
+        Some(repeated(b"FAMSYNC2")),
+        Some(repeated(b"FAMSYNC3")),
     ] {
         let image = left(alloc, stopped, fill)?;
         let marked = holds(&image, &[(0, mark)]);

@@ -129,6 +129,7 @@ fn a_device_in_a_file_keeps_what_was_written(rt: HostRuntime) -> Result<(), Fail
     file.set_len(12 * 512 + 100)?;
     let mut disk: FileDisk = FileDisk::new(file)?;
     assert_eq!(rt; disk.sectors(), 12);
+    assert!(rt; disk.is_settled() && !disk.is_written());
     run(
         &mut disk,
         &[
@@ -137,6 +138,7 @@ fn a_device_in_a_file_keeps_what_was_written(rt: HostRuntime) -> Result<(), Fail
             (Call::Sync, true),
         ],
     )?;
+    assert!(rt; disk.is_written());
     drop(disk);
 
     // It is opened for reading alone, and then cut.

@@ -12,4 +12,6 @@ mod requests;
 #[cfg(test)]
 mod stores;
 #[cfg(test)]
+mod turns;
+#[cfg(test)]
 mod upgrades;

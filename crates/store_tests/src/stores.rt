@@ -15,8 +15,8 @@ const TWO_FILES: [(usize, u8); 6] = [(3, 0x80), (4, 0x88), (5, 0x13), (8, 2), (1
 
 /// Each page is `01` in each byte. Where `fails` is set, page 1 fails once.
 #[derive(Drop)]
-struct Filled {
-    fails: bool,
+pub(crate) struct Filled {
+    pub(crate) fails: bool,
 }
 
 impl PageSource for Filled {
@@ -45,7 +45,7 @@ impl PageSource for Filled {
 }
 
 /// Commits these pages: whether it succeeds, or the source fails.
-fn commits(
+pub(crate) fn commits(
     store: &mut FileStore<SimDisk>,
     pages: &[FilePage],
     source: &mut Filled,

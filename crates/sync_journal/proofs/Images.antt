@@ -61,25 +61,32 @@ place_means names h zero = λ j below. absurd (omega arith)
 place_means names h (suc n) = stepped names h n (place_among names h n) (names n == h) refl (place_means names h n)
 
 -- under a closed gate the homes stand
-pub closed_stands : (layout : Layout) (image : Image) (h i : ℕ) → is_open image ≡ false → standing_in layout image h i ≡ image (home_at layout h + i)
+pub closed_place : (layout : Layout) (image : Image) (h : ℕ) → is_open image ≡ false → standing_under layout (is_open image) (map_in layout image) h ≡ home_at layout h
 unfolding standing_under
-closed_stands layout image h i closed =
+closed_place layout image h closed =
     let map = map_in layout image in
-    ap (λ gate. image ((if gate then place_or_home_in layout h (place_among (home_in map) h (count_in map)) else home_at layout h) + i)) closed
+    ap (λ gate. if gate then place_or_home_in layout h (place_among (home_in map) h (count_in map)) else home_at layout h) closed
+
+pub closed_stands : (layout : Layout) (image : Image) (h i : ℕ) → is_open image ≡ false → standing_in layout image h i ≡ image (home_at layout h + i)
+closed_stands layout image h i closed = ap (λ first. image (first + i)) (closed_place layout image h closed)
 
 pub standing_closed : (image : Image) (h i : ℕ) → is_open image ≡ false → standing image h i ≡ image (home_sector h + i)
 standing_closed image h i closed = closed_stands layout_2 image h i closed
 
 -- under a gate that is open for homes, what the body holds for them, and the other homes
-pub open_stands : (layout : Layout) (homes : List ℕ) (image : Image) (h i : ℕ) → IsOpenIn layout homes image
-    → standing_in layout image h i ≡ image (place_or_home_in layout h (place_of homes h) + i)
+pub open_place : (layout : Layout) (homes : List ℕ) (image : Image) (h : ℕ) → IsOpenIn layout homes image
+    → standing_under layout (is_open image) (map_in layout image) h ≡ place_or_home_in layout h (place_of homes h)
 unfolding standing_under
-open_stands layout homes image h i opens =
+open_place layout homes image h opens =
     let map = map_in layout image in
     let names = home_in map in
-    ap (λ gate. image ((if gate then place_or_home_in layout h (place_among names h (count_in map)) else home_at layout h) + i)) opens.gate
-    ∙ ap (λ n. image (place_or_home_in layout h (place_among names h n) + i)) opens.count
-    ∙ ap (λ place. image (place_or_home_in layout h place + i)) (place_same names (λ j. get_or homes j 0) h (length homes) opens.each)
+    ap (λ gate. if gate then place_or_home_in layout h (place_among names h (count_in map)) else home_at layout h) opens.gate
+    ∙ ap (λ n. place_or_home_in layout h (place_among names h n)) opens.count
+    ∙ ap (λ place. place_or_home_in layout h place) (place_same names (λ j. get_or homes j 0) h (length homes) opens.each)
+
+pub open_stands : (layout : Layout) (homes : List ℕ) (image : Image) (h i : ℕ) → IsOpenIn layout homes image
+    → standing_in layout image h i ≡ image (place_or_home_in layout h (place_of homes h) + i)
+open_stands layout homes image h i opens = ap (λ first. image (first + i)) (open_place layout homes image h opens)
 
 pub standing_open : (homes : List ℕ) (image : Image) (h i : ℕ) → IsOpenFor homes image → standing image h i ≡ image (place_or_home h (place_of homes h) + i)
 standing_open homes image h i opens = open_stands layout_2 homes image h i opens

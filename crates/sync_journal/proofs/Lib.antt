@@ -13,3 +13,6 @@ pub mod Rests
 pub mod Runs
 pub mod Sectors
 pub mod Since
+pub mod InTurn
+pub mod TurnAsking
+pub mod InKinds

@@ -1,36 +1,69 @@
--- What gate and map of a store of layout 1 say.
-use Rattle.std.proofs.Common.{◌≡◌, ◌≤◌, ◌<◌, ◌+◌, ℕ, true, false, List, [], length, take, get_or, sym, ap, subst, ◌∙◌, arith}
-use Rattle.std.proofs.lemmas.List.{length-take-le, get_or-take}
+-- What gate and map of a store of the layout before say.
+use Rattle.std.proofs.Common.{◌≡◌, ◌≤◌, ◌<◌, ◌+◌, ℕ, true, false, List, [], ◌++◌, length, take, get_or, Option, Some, None, sym, ap, subst, ◌∙◌, arith}
+use Rattle.std.specs.Prelude.{MatchOption}
+use Rattle.std.proofs.lemmas.List.{length-take-le, get_or-take, take-append-le, get_or_append_left}
 use Rattle.disk_model.specs.Stop.{Image}
-use Rattle.sync_journal.specs.Layout.{Layout, layout_1, home_count_in}
+use Rattle.sync_journal.specs.Layout.{Layout, layout_before, home_count_in}
+use Rattle.sync_journal.specs.declared.store_journal.Journals.{Journals}
+use Rattle.sync_journal.specs.declared.store_journal.Journals.TheVariants.{Single, Paired}
 use Rattle.sync_journal.specs.Gate.{is_open}
-use Rattle.sync_journal.specs.Map.{count_in, home_in, AreFewHomes}
-use Rattle.sync_journal.specs.Standing.{place_or_home_in, map_in, IsBadJournalIn, IsOpenIn}
+use Rattle.sync_journal.specs.Map.{place_of, count_in, home_in, IsBadMap, AreFewHomes, AreNamed, ReadsMap}
+use Rattle.sync_journal.specs.Standing.{place_or_home_in, standing_in, map_in, IsBadJournalIn, IsOpenIn}
 use Rattle.sync_journal.specs.OldJournal.{StandsAt}
-use Rattle.sync_journal.proofs.Images.{no_place, closed_stands, open_stands}
+use Rattle.sync_journal.proofs.Images.{no_place, closed_place, open_place}
 use Rattle.sync_journal.proofs.Phases.{not_bad}
 
 pub closed_at : (layout : Layout) (image : Image) → is_open image ≡ false → StandsAt layout [] image
 closed_at layout image closed = record {
-  each = λ h i. closed_stands layout image h i closed ∙ ap (λ o. image (place_or_home_in layout h o + i)) (sym (no_place (λ j. get_or [] j 0) h));
+  at = λ h. closed_place layout image h closed ∙ ap (λ o. place_or_home_in layout h o) (sym (no_place (λ j. get_or [] j 0) h));
 }
 
 pub open_at : (layout : Layout) (homes : List ℕ) (image : Image) → IsOpenIn layout homes image → StandsAt layout homes image
-open_at layout homes image opens = record { each = λ h i. open_stands layout homes image h i opens }
+open_at layout homes image opens = record { at = λ h. open_place layout homes image h opens }
+
+-- the page that stands for a home
+pub stands_there : (layout : Layout) (homes : List ℕ) (image : Image) (h i : ℕ) → StandsAt layout homes image → image (place_or_home_in layout h (place_of homes h) + i) ≡ standing_in layout image h i
+stands_there layout homes image h i stands = ap (λ first. image (first + i)) (sym (stands.at h))
 
 -- the first numbers of a list, read from the map behind an open gate
-pub open_read : (n : ℕ) (map list : List ℕ) (image : Image) → is_open image ≡ true → map_in layout_1 image ≡ map → n ≡ count_in map → n ≤ length list
-    → ((j : ℕ) → j < n → get_or list j 0 ≡ home_in map j) → IsOpenIn layout_1 (take n list) image
-open_read n map list image gate mapped counted room read =
-    let long : length (take n list) ≡ n = length-take-le n list room in
+pub named_opens : (layout : Layout) (limit count : ℕ) (homes : List ℕ) (image : Image) → is_open image ≡ true → AreNamed layout.most limit (map_in layout image) homes count
+    → count ≤ length homes → IsOpenIn layout (take count homes) image
+named_opens layout limit count homes image gate are room =
+    let long : length (take count homes) ≡ count = length-take-le count homes room in
     record {
       gate = gate;
-      count = ap count_in mapped ∙ sym counted ∙ sym long;
-      each = λ j below. let inside : j < n = omega (arith, below, long) in
-          ap (λ m. home_in m j) mapped ∙ sym (read j inside) ∙ sym (get_or-take n list j 0 inside);
+      count = sym are.counted ∙ sym long;
+      each = λ j below. let inside : j < count = omega (arith, below, long) in
+          sym (are.each j inside) ∙ sym (get_or-take count homes j 0 inside);
     }
 
-pub good_read : (sectors limit : ℕ) (homes : List ℕ) (image : Image) → limit ≡ home_count_in layout_1 sectors → AreFewHomes 127 limit homes → IsOpenIn layout_1 homes image
-    → IsBadJournalIn layout_1 sectors image → ⊥
-good_read sectors limit homes image is are opens bad =
-    not_bad 127 (home_count_in layout_1 sectors) homes (map_in layout_1 image) (subst (λ n. AreFewHomes 127 n homes) is are) opens.count opens.each bad.map
+pub named_good : (layout : Layout) (sectors count : ℕ) (homes : List ℕ) (image : Image) → AreNamed layout.most (home_count_in layout sectors) (map_in layout image) homes count
+    → IsOpenIn layout (take count homes) image → IsBadJournalIn layout sectors image → ⊥
+named_good layout sectors count homes image are opens bad =
+    not_bad layout.most (home_count_in layout sectors) (take count homes) (map_in layout image) are.good opens.count opens.each bad.map
+
+-- the homes that the first part of a list names
+pub named_front : (most limit count : ℕ) (map front rest : List ℕ) → count ≤ length front → AreNamed most limit map front count → AreNamed most limit map (front ++ rest) count
+named_front most limit count map front rest inside are = record {
+  counted = are.counted;
+  each = λ j below. get_or_append_left front rest 0 j (omega (arith, below, inside)) ∙ are.each j below;
+  good = subst (λ list. AreFewHomes most limit list) (sym (take-append-le count front rest inside)) are.good;
+}
+
+-- what is read of a map into the front of a list
+pub reads_map : (most len limit homes_limit : ℕ) (map page front rest : List ℕ) (found : Option ℕ) → len ≡ most → length front ≡ most → limit ≡ homes_limit → page ≡ map
+    → MatchOption found (IsBadMap len limit page) (λ count. (count ≡ count_in page) × (count ≤ len) × ((j : ℕ) → j < count → get_or front j 0 ≡ home_in page j) × AreFewHomes len limit (take count front))
+    → ReadsMap most homes_limit map (front ++ rest) found
+reads_map most len limit homes_limit map page front rest None same long limit_is page_is bad =
+    subst (λ m. IsBadMap most homes_limit m) page_is (subst (λ n. IsBadMap most n page) limit_is (subst (λ n. IsBadMap n limit page) same bad))
+reads_map most len limit homes_limit map page front rest (Some count) same long limit_is page_is e =
+    named_front most homes_limit count map front rest (omega (arith, e.1, same, long)) (subst (λ m. AreNamed most homes_limit m front count) page_is (record {
+      counted = e.0;
+      each = e.2;
+      good = subst (λ n. AreFewHomes most n (take count front)) limit_is (subst (λ n. AreFewHomes n limit (take count front)) same e.3);
+    }))
+
+-- the layouts before have room for no more homes than layout 2
+pub most_before : (kind : Journals) → (layout_before kind).most ≤ 1023
+most_before Single = omega arith
+most_before Paired = omega arith

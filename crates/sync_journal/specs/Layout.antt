@@ -2,6 +2,8 @@
 -- an upgrade reads those of layout 1.
 -- What it has to keep is failure-atomic msync (Park, Kelly and Shen, "Failure-Atomic msync()", EuroSys 2013).
 use Rattle.std.specs.Prelude.{ℕ, ◌+◌, ◌-◌, ◌*◌, ◌/◌, ◌^◌, ◌<◌, ◌≤◌, ◌⊎◌, ◌≡◌, List, length, slice_index, min}
+use Rattle.sync_journal.specs.declared.store_journal.Journals.{Journals}
+use Rattle.sync_journal.specs.declared.store_journal.Journals.TheVariants.{Single, Paired}
 
 -- What the layouts have in different sizes and places.
 pub record Layout : Type 0 where
@@ -50,6 +52,11 @@ first_home_sector = 8195
 abbrev pub layout_2 : Layout
 layout_2 = record { map_sectors = map_sectors; most = page_limit; body = first_body_sector; homes = first_home_sector }
 
+-- the layout from which an upgrade makes a store: of layout 3, with two journals in turn, from layout 2, and of that from layout 1
+abbrev pub layout_before : Journals → Layout
+layout_before Single = layout_1
+layout_before Paired = layout_2
+
 -- the first sector of page j of the journal body
 abbrev pub body_at : Layout → ℕ → ℕ
 body_at layout j = layout.body + 8 * j
@@ -82,6 +89,13 @@ IsHomeSector homes k = (j : ℕ) × (j < length homes) × IsPageSector (home_sec
 -- the gate
 abbrev pub IsGate : ℕ → Type 0
 IsGate k = k ≡ gate_sector
+
+-- a sector of the map
+abbrev pub IsMapIn : Layout → ℕ → Type 0
+IsMapIn layout k = (map_sector ≤ k) × (k < map_sector + layout.map_sectors)
+
+abbrev pub IsGateOrMapIn : Layout → ℕ → Type 0
+IsGateOrMapIn layout k = IsGate k ⊎ IsMapIn layout k
 
 -- the gate and the sectors of these homes
 abbrev pub IsReplayed : List ℕ → ℕ → Type 0

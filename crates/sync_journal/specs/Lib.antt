@@ -9,3 +9,6 @@ pub mod Source
 pub mod Runs
 pub mod Recovery
 pub mod Stops
+pub mod Turns
+pub mod Blocks
+pub mod Kinds

@@ -1,6 +1,6 @@
 -- The journal map: a count, then so many home page numbers, each a little-endian number of four bytes.
 -- The rest is zero when written, and is not looked at. The format is our own.
-use Rattle.std.specs.Prelude.{ℕ, zero, suc, ◌+◌, ◌-◌, ◌*◌, ◌<◌, ◌≤◌, ◌≡◌, ◌⊎◌, List, ◌++◌, length, drop, replicate, slice_index, Option, Some, None, if◌then◌else◌, ◌==◌}
+use Rattle.std.specs.Prelude.{ℕ, ⊤, zero, suc, ◌+◌, ◌-◌, ◌*◌, ◌<◌, ◌≤◌, ◌≡◌, ◌⊎◌, List, ◌++◌, length, take, drop, replicate, slice_index, Option, Some, None, if◌then◌else◌, ◌==◌}
 use Rattle.std.specs.List.{flat_map}
 use Rattle.sync_journal.specs.Layout.{page_limit}
 use Rattle.byteorder.specs.Endian.{little_number, little_bytes}
@@ -47,3 +47,19 @@ HasHomeTwice names n = (i : ℕ) × (j : ℕ) × (i < j) × (j < n) × (names i 
 -- a map that no commit writes: more pages than it has room for, a home that the device hasn't, or a home twice
 abbrev pub IsBadMap : ℕ → ℕ → List ℕ → Type 0
 IsBadMap most count map = (most < count_in map) ⊎ (HasNoHome count (home_in map) (count_in map) ⊎ HasHomeTwice (home_in map) (count_in map))
+
+-- no number, or one that is at most so large
+abbrev pub IsWithin : ℕ → Option ℕ → Type 0
+IsWithin most None = ⊤
+IsWithin most (Some count) = count ≤ most
+
+-- The first so many of a list are the homes that a good map names.
+pub record AreNamed (most limit : ℕ) (map homes : List ℕ) (count : ℕ) : Type 0 where
+  pub counted : count ≡ count_in map
+  pub each : (j : ℕ) → j < count → slice_index homes j ≡ home_in map j
+  pub good : AreFewHomes most limit (take count homes)
+
+-- what is read of a map: that it is bad, or the homes that it names
+abbrev pub ReadsMap : ℕ → ℕ → List ℕ → List ℕ → Option ℕ → Type 0
+ReadsMap most limit map homes None = IsBadMap most limit map
+ReadsMap most limit map homes (Some count) = AreNamed most limit map homes count

@@ -32,7 +32,7 @@ impl Journal {
         }
     }
 
-    fn live(&self) -> &[u32]
+    pub(crate) fn live(&self) -> &[u32]
         ensures { result.now ≡ live_homes self.now }
     {
         &self.homes[..self.count]
@@ -153,7 +153,7 @@ impl Journal {
     }
 
     // The journal is live with these homes.
-    fn keep(&mut self, homes: &[u32])
+    pub(crate) fn keep(&mut self, homes: &[u32])
         requires { length homes.now ≤ page_limit }
         ensures { live_homes self.new ≡ homes.now }
     {

@@ -19,7 +19,7 @@ const OPEN_GATE: &[u8; 512] = b"\
     GATEOPENGATEOPENGATEOPENGATEOPENGATEOPENGATEOPENGATEOPENGATEOPEN";
 
 // What an open gate holds.
-fn open_bytes() -> &'static [u8; 512]
+pub(crate) fn open_bytes() -> &'static [u8; 512]
     ensures { result.now ≡ open_sector }
 {
     OPEN_GATE

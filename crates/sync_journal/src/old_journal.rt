@@ -1,19 +1,20 @@
-//! The journal of a store of layout 1, which is only read.
-ghost use Rattle.std.specs.Prelude.{◌≡◌, ◌<◌, ◌≤◌, ◌+◌, ◌⊎◌, ℕ, IfOk, OnOk, IsErrOf, take};
+//! The journal of a store of the layout before, which is only read.
+ghost use Rattle.std.specs.Prelude.{◌≡◌, ◌<◌, ◌≤◌, ◌+◌, ◌*◌, ◌⊎◌, ℕ, IfOk, OnOk, IsErr, IsErrOf, take};
 ghost use Rattle.disk_model.specs.Stop.{HasCause};
 ghost use Rattle.disk_model.specs.Moments.{Touches, AsksOnly, Nothing};
 ghost use Rattle.disk_model.specs.Sectors.{joined};
-ghost use Rattle.sync_journal.specs.Layout.{layout_1, home_at, home_count_in, IsPageSector};
-ghost use Rattle.sync_journal.specs.Map.{place_of};
+ghost use Rattle.sync_journal.specs.Layout.{layout_1, layout_2, layout_before, home_at, home_count_in, IsPageSector, IsMapIn, IsGateOrMapIn};
+ghost use Rattle.sync_journal.specs.Map.{place_of, IsWithin, ReadsMap};
 ghost use Rattle.sync_journal.specs.Runs.{Runs};
-ghost use Rattle.sync_journal.specs.Standing.{standing_in, place_or_home_in, IsBadJournalIn};
+ghost use Rattle.sync_journal.specs.Standing.{standing_in, place_or_home_in, map_in, IsBadJournalIn};
 
 use crate::commits::place;
 use crate::faults::RecoverFault;
 use crate::gate::is_open_gate;
-use crate::layout::{GATE, MAP, MAX_HOMES, PAGE_SECTORS};
+use crate::layout::{BODY, FIRST_HOME, GATE, MAP, MAX_HOMES, PAGE_LIMIT, PAGE_SECTORS, home_count};
 use crate::map::read_homes;
 use crate::pages::read_page;
+use crate::store_journal::Journals;
 use disk_model::{DiskFault, SectorDisk};
 
 /// The first sector of the journal body of layout 1, behind one sector of map.
@@ -32,14 +33,17 @@ pub fn old_home_count(sectors: u64) -> u64
     (sectors.saturating_sub(OLD_FIRST_HOME) / PAGE_SECTORS).min(MAX_HOMES)
 }
 
-/// The journal of a store of layout 1, as its gate and its map say. It holds no device: each call takes it.
+/// The journal of a store from which one of the next layout is made, as its gate and its map say: of layout 1 for a store of
+/// layout 2, of layout 2 for one of layout 3. It holds no device: each call takes it.
 #[derive(Debug, Drop)]
 pub struct OldJournal {
+    /// Which journals the store has that is made.
+    pub(crate) journals: Journals,
     /// The homes of the pages in the body, at the front.
-    pub(crate) homes: [u32; OLD_PAGE_LIMIT],
+    pub(crate) homes: [u32; PAGE_LIMIT],
     /// How many they are: none where the gate is closed.
     pub(crate) count: usize,
-    ghost within: { count ≤ 127 },
+    ghost within: { count ≤ (layout_before journals).most },
 }
 
 impl OldJournal {
@@ -49,27 +53,37 @@ impl OldJournal {
     ///
     /// # Errors
     ///
-    /// `BadJournal` comes exactly where the gate is open and the map names over 127 pages, a home that the device
-    /// hasn't or a home twice, unless the device fails first. `Device` comes exactly where the device failed.
-    pub fn find<D: SectorDisk>(disk: &mut D) -> Result<OldJournal, RecoverFault>
-        requires { layout_1.homes ≤ D.sector_count disk.old }
+    /// `BadJournal` comes exactly where the gate is open and the map names more pages than it has room for, a home that the
+    /// device hasn't or a home twice, unless the device fails first. `Device` comes exactly where the device failed.
+    pub fn find<D: SectorDisk>(disk: &mut D, journals: Journals) -> Result<OldJournal, RecoverFault>
+        requires { (layout_before journals).homes ≤ D.sector_count disk.old }
         ensures run { Runs D.SectorDisk Nothing disk.old disk.new }
+        ensures asks { AsksOnly D.SectorDisk (IsGateOrMapIn (layout_before journals)) disk.old disk.new }
         ensures device { IsErrOf result RecoverFault.Device → D.failures disk.old < D.failures disk.new }
         ensures calm { OnOk result (D.failures disk.new ≡ D.failures disk.old) }
         ensures still { IsErrOf result RecoverFault.BadJournal → D.failures disk.new ≡ D.failures disk.old }
-        ensures good { D.keeps_model disk.new → OnOk result (IsBadJournalIn layout_1 (D.sector_count disk.old) (D.content disk.old) → ⊥) }
-        ensures bad { D.keeps_model disk.new → IsErrOf result RecoverFault.BadJournal → IsBadJournalIn layout_1 (D.sector_count disk.old) (D.content disk.old) }
-        ensures found { D.keeps_model disk.new → IfOk result (λ journal. StandsAt layout_1 (old_homes journal) (D.content disk.old)) }
+        ensures good { D.keeps_model disk.new → OnOk result (IsBadJournalIn (layout_before journals) (D.sector_count disk.old) (D.content disk.old) → ⊥) }
+        ensures bad { D.keeps_model disk.new → IsErrOf result RecoverFault.BadJournal → IsBadJournalIn (layout_before journals) (D.sector_count disk.old) (D.content disk.old) }
+        ensures before { IfOk result (λ journal. journal.journals ≡ journals) }
+        ensures found { D.keeps_model disk.new → IfOk result (λ journal. StandsAt (layout_before journals) (old_homes journal) (D.content disk.old)) }
     {
-        let mut homes = [0; OLD_PAGE_LIMIT];
+        let mut homes = [0; PAGE_LIMIT];
         let mut sector = [0; 512];
         disk.read(GATE, &mut sector)?;
         if !is_open_gate(&sector) {
-            return Ok(OldJournal { homes, count: 0 });
+            let count = 0;
+            return Ok(OldJournal {
+                journals,
+                homes,
+                count,
+            });
         }
-        disk.read(MAP, &mut sector)?;
-        match read_homes(&sector, old_home_count(disk.sectors()), &mut homes) {
-            Some(count) => Ok(OldJournal { homes, count }),
+        match read_map(disk, journals, &mut homes)? {
+            Some(count) => Ok(OldJournal {
+                journals,
+                homes,
+                count,
+            }),
             None => Err(RecoverFault::BadJournal),
         }
     }
@@ -81,26 +95,112 @@ impl OldJournal {
         home: u32,
         to: &mut [u8; 4096],
     ) -> Result<(), DiskFault>
-        requires home { home < home_count_in layout_1 (D.sector_count disk.old) }
-        requires found { D.keeps_model disk.old → StandsAt layout_1 (old_homes self.now) (D.content disk.old) }
+        requires home { home < home_count_in (layout_before self.now.journals) (D.sector_count disk.old) }
+        requires found { D.keeps_model disk.old → StandsAt (layout_before self.now.journals) (old_homes self.now) (D.content disk.old) }
         ensures size { D.sector_count disk.new ≡ D.sector_count disk.old }
         ensures kept { D.keeps_model disk.new → D.keeps_model disk.old }
         ensures cause { HasCause (D.failures disk.old) (D.failures disk.new) result }
-        ensures asks { AsksOnly D.SectorDisk (IsPageSector (place_or_home_in layout_1 home (place_of (old_homes self.now) home))) disk.old disk.new }
+        ensures asks { AsksOnly D.SectorDisk (IsPageSector (place_or_home_in (layout_before self.now.journals) home (place_of (old_homes self.now) home))) disk.old disk.new }
         ensures touches { D.keeps_model disk.new → Touches D.SectorDisk Nothing disk.old disk.new }
-        ensures page { D.keeps_model disk.new → OnOk result (to.new ≡ joined (standing_in layout_1 (D.content disk.old) home) 8) }
+        ensures page { D.keeps_model disk.new → OnOk result (to.new ≡ joined (standing_in (layout_before self.now.journals) (D.content disk.old) home) 8) }
     {
         read_page(disk, self.stands_at(home), to)
     }
 
     // The first sector of the page that stands for a home.
     fn stands_at(&self, home: u32) -> u64
-        ensures at { result ≡ place_or_home_in layout_1 home (place_of (old_homes self.now) home) }
-        ensures inside { (result + 8 ≤ layout_1.homes) ⊎ (result ≡ home_at layout_1 home) }
+        ensures at { result ≡ place_or_home_in (layout_before self.now.journals) home (place_of (old_homes self.now) home) }
+        ensures inside { (result + 8 ≤ (layout_before self.now.journals).homes) ⊎ (result ≡ home_at (layout_before self.now.journals) home) }
     {
         match place(&self.homes[..self.count], home) {
-            Some(j) => OLD_BODY + PAGE_SECTORS * j as u64,
-            None => OLD_FIRST_HOME + PAGE_SECTORS * u64::from(home),
+            Some(j) => body_before(self.journals) + PAGE_SECTORS * j as u64,
+            None => homes_before(self.journals) + PAGE_SECTORS * u64::from(home),
         }
     }
+}
+
+// The first sector of the body of the layout before.
+fn body_before(journals: Journals) -> u64
+    ensures is { result ≡ (layout_before journals).body }
+    ensures behind { result + 8 * (layout_before journals).most ≤ (layout_before journals).homes }
+    ensures small { result ≤ 11 }
+{
+    match journals {
+        Journals::Single => OLD_BODY,
+        Journals::Paired => BODY,
+    }
+}
+
+// The first sector of the first home page of the layout before.
+fn homes_before(journals: Journals) -> u64
+    ensures is { result ≡ (layout_before journals).homes }
+    ensures small { result ≤ 8195 }
+{
+    match journals {
+        Journals::Single => OLD_FIRST_HOME,
+        Journals::Paired => FIRST_HOME,
+    }
+}
+
+// Reads the homes that the map of the layout before names to the front of `homes`, and says how many they are; `None` where the
+// map is bad.
+fn read_map<D: SectorDisk>(
+    disk: &mut D,
+    journals: Journals,
+    homes: &mut [u32; PAGE_LIMIT],
+) -> Result<Option<usize>, DiskFault>
+    requires { (layout_before journals).homes ≤ D.sector_count disk.old }
+    ensures run { Runs D.SectorDisk Nothing disk.old disk.new }
+    ensures asks { AsksOnly D.SectorDisk (IsMapIn (layout_before journals)) disk.old disk.new }
+    ensures failed { IsErr result → D.failures disk.old < D.failures disk.new }
+    ensures calm { OnOk result (D.failures disk.new ≡ D.failures disk.old) }
+    ensures few { IfOk result (λ found. IsWithin (layout_before journals).most found) }
+    ensures names { D.keeps_model disk.new → IfOk result (λ found. ReadsMap (layout_before journals).most (home_count_in (layout_before journals) (D.sector_count disk.old)) (map_in (layout_before journals) (D.content disk.old)) homes.new found) }
+{
+    match journals {
+        Journals::Single => read_map_of_1(disk, homes),
+        Journals::Paired => read_map_of_2(disk, homes),
+    }
+}
+
+// The same of layout 1.
+fn read_map_of_1<D: SectorDisk>(
+    disk: &mut D,
+    homes: &mut [u32; PAGE_LIMIT],
+) -> Result<Option<usize>, DiskFault>
+    requires { layout_1.homes ≤ D.sector_count disk.old }
+    ensures run { Runs D.SectorDisk Nothing disk.old disk.new }
+    ensures asks { AsksOnly D.SectorDisk (IsMapIn layout_1) disk.old disk.new }
+    ensures failed { IsErr result → D.failures disk.old < D.failures disk.new }
+    ensures calm { OnOk result (D.failures disk.new ≡ D.failures disk.old) }
+    ensures few { IfOk result (λ found. IsWithin layout_1.most found) }
+    ensures names { D.keeps_model disk.new → IfOk result (λ found. ReadsMap layout_1.most (home_count_in layout_1 (D.sector_count disk.old)) (map_in layout_1 (D.content disk.old)) homes.new found) }
+{
+    let mut map = [0; 512];
+    disk.read(MAP, &mut map)?;
+    let found = read_homes(
+        &map,
+        old_home_count(disk.sectors()),
+        &mut homes[..OLD_PAGE_LIMIT],
+    );
+    Ok(found)
+}
+
+// The same of layout 2.
+fn read_map_of_2<D: SectorDisk>(
+    disk: &mut D,
+    homes: &mut [u32; PAGE_LIMIT],
+) -> Result<Option<usize>, DiskFault>
+    requires { layout_2.homes ≤ D.sector_count disk.old }
+    ensures run { Runs D.SectorDisk Nothing disk.old disk.new }
+    ensures asks { AsksOnly D.SectorDisk (IsMapIn layout_2) disk.old disk.new }
+    ensures failed { IsErr result → D.failures disk.old < D.failures disk.new }
+    ensures calm { OnOk result (D.failures disk.new ≡ D.failures disk.old) }
+    ensures few { IfOk result (λ found. IsWithin layout_2.most found) }
+    ensures names { D.keeps_model disk.new → IfOk result (λ found. ReadsMap layout_2.most (home_count_in layout_2 (D.sector_count disk.old)) (map_in layout_2 (D.content disk.old)) homes.new found) }
+{
+    let mut map = [0; 4096];
+    read_page(disk, MAP, &mut map)?;
+    let found = read_homes(&map, home_count(disk.sectors()), homes);
+    Ok(found)
 }

@@ -1,10 +1,13 @@
 -- A store that is opened, and then committed to.
-use Rattle.std.proofs.Common.{ℕ, ◌≡◌, List, [], Option, inl, inr, ⊎_elim, refl, ap, subst, ◌∙◌, arith}
+use Rattle.std.proofs.Common.{ℕ, ◌≡◌, List, [], Option, inl, inr, ⊎_elim, refl, sym, ap, subst, ◌∙◌}
 use Rattle.std.proofs.Math.Path.{fun_ext}
 use Rattle.std.specs.Option.{option_map}
-use Rattle.sync_journal.specs.Standing.{IsBadJournal}
 use Rattle.sync_journal.specs.Commit.{IsAtRest as IsJournalAtRest}
-use Rattle.sync_journal.specs.Journal.{live_homes}
+use Rattle.sync_journal.specs.Map.{place_of, place_among}
+use Rattle.sync_journal.specs.Turns.{stands_under}
+use Rattle.sync_journal.specs.Kinds.{is_kind, kind_when, store_live, IsKindOutside, IsOutsideOf, IsStoreRest}
+use Rattle.sync_journal.specs.declared.store_journal.StoreJournal.{StoreJournal}
+use Rattle.sync_journal.specs.declared.store_journal.StoreJournal.TheVariants.{One, InTurn}
 use Rattle.file_store.specs.declared.store.FileStore.{FileStore}
 use Rattle.file_store.specs.Store.{files_of, IsAtRest, PutsHomesOrNone}
 use Rattle.file_store.specs.declared.directory.Directory.{Directory}
@@ -14,10 +17,10 @@ use Rattle.disk_model.specs.declared.sector_disk.SectorDisk.{Ghosts}
 use Rattle.disk_model.proofs.Moments.{weaker, joined}
 use Rattle.vm_types.specs.declared.file.FileInfo.{FileInfo}
 use Rattle.vm_types.specs.declared.file.FilePage.{FilePage}
-use Rattle.file_store.specs.Standing.{StandsFor, StandsAs, IsBadLayout, file_info, standing_page}
+use Rattle.file_store.specs.Standing.{StandsFor, StandsAs, IsBadLayout, IsBadJournal, file_info, standing_page}
 use Rattle.file_store.specs.Commit.{StandsForEither}
-use Rattle.file_store.proofs.Images.{bad_layout_moves, stands_for_itself}
-use Rattle.sync_plans.specs.Requests.{IsClosed, KeepsOutside, HasLayout}
+use Rattle.file_store.proofs.Images.{bad_layout_moves, same_head, stands_for_itself}
+use Rattle.sync_plans.specs.Requests.{IsKindEmpty, IsClosed, KeepsOutside, HasLayout}
 
 module _ {D : Type 0} (g : Ghosts D) (sectors : ℕ) (files : ℕ → Option FileInfo) (before : ℕ → ℕ → List ℕ) (old mid : D) (left : LeavesNow g old (StandsFor sectors files before)) where
   was : StandsFor sectors files before (g.content old)
@@ -37,9 +40,19 @@ module _ {D : Type 0} (g : Ghosts D) (sectors : ℕ) (files : ℕ → Option Fil
   then_committed after new first second = joined g old mid new (StandsForEither sectors files before after)
       (weaker g old mid (StandsFor sectors files before) (StandsForEither sectors files before after) (λ image s. inl s) (while_opening first)) second
 
--- an open store with nothing in its journal has a closed gate
-pub is_closed : {D : Type 0} (g : Ghosts D) (store : FileStore D) → live_homes store.journal ≡ [] → IsAtRest g store → IsClosed (g.content store.disk)
-is_closed g store none rest = (subst (λ homes. IsJournalAtRest g homes store.disk) none rest.journal).closed
+-- an open store of which no page is live has nothing in a journal alone
+journal_closed : {D : Type 0} (g : Ghosts D) (disk : D) (journal : StoreJournal) → store_live journal ≡ [] → IsStoreRest g journal disk → IsClosed (g.content disk)
+unfolding place_among
+journal_closed g disk (One journal) none rest = subst (λ kind. IsKindEmpty kind (g.content disk)) (sym rest.kind) (subst (λ homes. IsJournalAtRest g homes disk) none rest.rest).closed
+journal_closed g disk (InTurn journal) none rest = subst (λ kind. IsKindEmpty kind (g.content disk)) (sym rest.kind)
+    (λ h i below. ap (λ second. stands_under second (g.content disk) h i) rest.rest.gate ∙ rest.rest.home h i below (ap (λ homes. place_of homes h) none))
+
+pub is_closed : {D : Type 0} (g : Ghosts D) (store : FileStore D) → store_live store.journal ≡ [] → IsAtRest g store → IsClosed (g.content store.disk)
+is_closed g store none rest = journal_closed g store.disk store.journal none rest.journal
+
+-- what lies outside the homes of an image does so of an image that keeps it
+pub still_outside : (sectors : ℕ) (old new : Image) → KeepsOutside sectors old new → (k : ℕ) → IsOutsideOf old sectors k → IsOutsideOf new sectors k
+still_outside sectors old new kept k out = subst (λ kind. IsKindOutside kind sectors k) (sym (ap (λ sector. kind_when (is_kind sector)) (same_head sectors old new kept).kind)) out
 
 -- The layout is good at every moment of an opening and of a commit.
 module _ {D : Type 0} (g : Ghosts D) (sectors : ℕ) (directory : Directory) (list : List FilePage) (given : ℕ → List ℕ) (old mid new : D)
@@ -48,7 +61,7 @@ module _ {D : Type 0} (g : Ghosts D) (sectors : ℕ) (directory : Directory) (li
   of_file image stands = (stands (file_info (g.content old)) (standing_page (g.content old)) (stands_for_itself sectors (g.content old) layout journal)).layout
 
   moved : (image : Image) → HasLayout sectors (g.content mid) → KeepsOutside sectors (g.content mid) image → HasLayout sectors image
-  moved image good kept bad = good (bad_layout_moves sectors image (g.content mid) (kept 0 (inl (omega arith))) (kept 1 (inl (omega arith))) bad)
+  moved image good kept bad = good (bad_layout_moves (g.content mid) image (same_head sectors (g.content mid) image kept) sectors bad)
 
   pub laid_out : LeavesOnly g old mid (StandsAs sectors (g.content old)) → LeavesNow g mid (StandsAs sectors (g.content old))
       → LeavesOnly g mid new (PutsHomesOrNone sectors directory list given (g.content mid)) → LeavesOnly g old new (HasLayout sectors)

@@ -6,7 +6,11 @@ use Rattle.std.proofs.Math.ListN.{get_or}
 use Rattle.std.proofs.Math.Path.{fun_ext}
 use Rattle.vm_types.specs.declared.file.FileInfo.{FileInfo}
 use Rattle.disk_model.specs.Stop.{Image, MayLeave}
+use Rattle.sync_journal.specs.Kinds.{turn_kind, kind_of}
+use Rattle.sync_journal.specs.declared.store_journal.Journals.{Journals}
+use Rattle.sync_journal.specs.declared.store_journal.Journals.TheVariants.{Single, Paired}
 use Rattle.file_store.specs.Layout.{mark}
+use Rattle.file_store.specs.Versions.{version_at, mark_of}
 use Rattle.file_store.specs.Standing.{StandsFor, Unmarked}
 use Rattle.file_store.specs.Commit.{StandsForEither}
 use Rattle.sync_plans.specs.declared.call.Call.{Call}
@@ -79,12 +83,13 @@ is_none : List ℕ → Bool
 is_none [] = true
 is_none (b ∷ bytes) = false
 
-unmarked : [] ≢ mark
-unfolding mark is_none
-unmarked e = false≢true (sym (ap is_none e))
+unmarked : (kind : Journals) → [] ≢ mark_of (version_at kind)
+unfolding mark turn_kind is_none
+unmarked Single e = false≢true (sym (ap is_none e))
+unmarked Paired e = false≢true (sym (ap is_none e))
 
 no_layout : (sectors : ℕ) (image : Image) → HasLayout sectors image → image 0 ≡ [] → ⊥
-no_layout sectors image good blank = good (Unmarked (λ e. unmarked (sym blank ∙ e)))
+no_layout sectors image good blank = good (Unmarked (λ e. unmarked (kind_of image) (sym blank ∙ e)))
 
 same_label : (one other : Image) → label one ≡ label other → one ≡ other
 same_label one other e = fun_ext (λ n. ap (λ (f : Image). f (suc n)) e)

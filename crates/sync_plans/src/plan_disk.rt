@@ -32,8 +32,9 @@ pub(crate) struct PlanDisk<'a> {
     pub least: u64,
     /// The first sector of the page that was read last.
     read: u64,
-    /// The lent page that is looked for next.
+    /// The lent page that is looked for next, and the sector behind the page that was written last.
     next: usize,
+    after: u64,
     /// A call found no room.
     pub full: bool,
     pub failures: Count,
@@ -70,13 +71,10 @@ fn place(call: Call, n: u64) -> usize
     (n - call.sector) as usize
 }
 
-/// The lent page that is looked for after this call.
-fn next_after(next: usize, call: Call) -> usize {
-    if call.kind == LENT {
-        next.saturating_add(1)
-    } else {
-        next
-    }
+/// The lent page that is looked for at sector `n`: the next one where it lies behind the page that was written last, or else the
+/// first, since a body is written page after page.
+fn next_at(next: usize, after: u64, n: u64) -> usize {
+    if n == after { next } else { 0 }
 }
 
 /// Keeps the row of a call that has one.
@@ -110,6 +108,7 @@ impl<'a> PlanDisk<'a> {
             least: u64::MAX,
             read: u64::MAX,
             next: 0,
+            after: 0,
             full: false,
             failures: Count::new(),
             asked: Asked::new(),
@@ -183,7 +182,7 @@ impl<'a> PlanDisk<'a> {
         ensures still { self.new.full ≡ false → (k : ℕ) → unsynced_in self.old k → unsynced_in self.new k }
         ensures time { self.new.full ≡ false → Elapses (moment_of self.old) (moment_of self.new) (left_in self.old) (left_in self.new) (content_of self.new) (unsynced_in self.new) }
     {
-        self.next = next_after(self.next, call);
+        self.next = self.next.saturating_add(1);
         self.list(call, &parts(from)[0])
     }
 
@@ -378,6 +377,8 @@ impl SectorDisk for PlanDisk<'_> {
 
     fn write_page(&mut self, n: u64, from: &[u8; 4096]) -> Result<(), DiskFault> {
         self.asked.page(n);
+        self.next = next_at(self.next, self.after, n);
+        self.after = n.saturating_add(8);
         match self.named(n, from) {
             Some(call) => self.put_page(call, from),
             None => self.put_sectors(n, from),

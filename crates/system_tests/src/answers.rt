@@ -6,6 +6,7 @@ use crate::evictions::{
 use crate::{evictions, four_levels, histories, mappings, memory, processes, shared_pages};
 use machine::Config;
 use std::test::Fail;
+use sync_journal::Journals;
 use test_traces::{
     Armed, CONFIG, PLAIN, SMALL, Setting, asked_after_start, expect, expect_all, expect_file,
     expect_in, image_of_letters, left_in, same,
@@ -27,6 +28,7 @@ fn traces_are_answered(rt: HostRuntime) -> Result<(), Fail> {
 /// 64 frames, over a page of zeros.
 const SV48: Setting = Setting {
     length: 4096,
+    journals: Journals::Single,
     config: Config {
         frames: 64,
         slots: 16,
@@ -56,6 +58,7 @@ fn pages_wait_for_frames_and_slots(rt: HostRuntime) -> Result<(), Fail> {
     for (config, exchange) in evictions::ROWS {
         let setting = Setting {
             length: 0x8000,
+            journals: Journals::Single,
             config,
             armed: Armed::Nothing,
         };
@@ -67,6 +70,7 @@ fn pages_wait_for_frames_and_slots(rt: HostRuntime) -> Result<(), Fail> {
 /// Eight frames, of which four are for pages, over a file of eight pages.
 const FEW_FRAMES: Setting = Setting {
     length: 0x8000,
+    journals: Journals::Single,
     config: SMALL,
     armed: Armed::Nothing,
 };
@@ -94,6 +98,7 @@ load 1 0x10000 1\nmsync 1 0x10000 0x2000 sync\n",
 /// as that holds it.
 const WITHOUT_SLOTS: Setting = Setting {
     length: 0xa000,
+    journals: Journals::Single,
     config: Config {
         frames: 8,
         slots: 0,
@@ -102,10 +107,25 @@ const WITHOUT_SLOTS: Setting = Setting {
     armed: Armed::Nothing,
 };
 
+/// The same over two journals in turn.
+const IN_TURN: Setting = Setting {
+    journals: Journals::Paired,
+    ..WITHOUT_SLOTS
+};
+
+/// Two pages, each in an msync of its own, and then both.
+const PAGES_IN_TURN: Exchange = (
+    b"spawn\nmmap 1 0 0x2000 rw- shared 0 0\nstore 1 0x10000 1 1\nmsync 1 0x10000 0x2000 sync\n\
+store 1 0x11000 1 2\nmsync 1 0x10000 0x2000 sync\nstore 1 0x10000 1 3\nstore 1 0x11000 1 4\n\
+msync 1 0x10000 0x2000 sync\n",
+    b"pid 1\naddr 0x10000\nok\nok\nok\nok\nok\nok\nok\n",
+);
+
 /// How many writes and syncs the store's device is asked for once a machine has started. An msync of `n` pages has `8 n` sectors of the
-/// body, eight of the map, and the gate, with two syncs; before it comes what a journal that is live still owes to the homes. Pages that
-/// are given up are never written home.
-const ASKED: [(Setting, Exchange, (u64, u64)); 11] = [
+/// body, eight of the map, and the gate, with two syncs; before it comes what a journal that is live still owes to the homes, which takes
+/// two syncs more, or with two journals in turn none. Those owe nothing to a home that is taken again. Pages that are given up are never
+/// written home.
+const ASKED: [(Setting, Exchange, (u64, u64)); 16] = [
     (PLAIN, (b"", b""), (0, 0)),
     (PLAIN, STORED, (0, 0)),
     (PLAIN, STORED_AND_SYNCED, (17, 2)),
@@ -114,6 +134,7 @@ const ASKED: [(Setting, Exchange, (u64, u64)); 11] = [
     (
         Setting {
             length: 4096,
+            journals: Journals::Single,
             config: Config {
                 frames: 64,
                 slots: 0,
@@ -129,6 +150,11 @@ const ASKED: [(Setting, Exchange, (u64, u64)); 11] = [
     (FEW_FRAMES, EIGHT_PAGES_SYNCED, (73, 2)),
     (WITHOUT_SLOTS, LOOKED_AFTER_AN_MSYNC, (17, 2)),
     (WITHOUT_SLOTS, LOOKED_AFTER_TWO_MSYNCS, (43, 6)),
+    (WITHOUT_SLOTS, PAGES_IN_TURN, (17 + 26 + 34, 10)),
+    (IN_TURN, STORED, (0, 0)),
+    (IN_TURN, STORED_AND_SYNCED, (17, 2)),
+    (IN_TURN, LOOKED_AFTER_TWO_MSYNCS, (34, 4)),
+    (IN_TURN, PAGES_IN_TURN, (17 + 25 + 25, 6)),
 ];
 
 #[test]
@@ -180,6 +206,7 @@ msync 1 0x10000 4096 sync\n",
     (
         Setting {
             length: 5000,
+            journals: Journals::Single,
             config: CONFIG,
             armed: Armed::Nothing,
         },

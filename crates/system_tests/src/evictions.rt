@@ -13,7 +13,7 @@ addr 0x10000\nvalue 0x00\n",
 );
 
 /// How many frames and slots there are, a trace, and its replies, over a file of eight pages.
-pub(crate) const ROWS: [(Config, (&[u8], &[u8])); 11] = [
+pub(crate) const ROWS: [(Config, (&[u8], &[u8])); 12] = [
     // Without a slot no page of a process's own can be given up: the fifth store stalls.
     (
         Config {
@@ -141,6 +141,15 @@ store 1 0x12000 1 0x3\nstore 1 0x13000 1 0x4\nload 1 0x10000 1\nload 1 0x13000 1
         },
         FORTY_LINES,
     ),
+    // The zero page and three tables serve all five loads: four frames are left, of which a spawn takes one.
+    (
+        SMALL,
+        (
+            b"spawn\nmmap 1 0 0x3fffff0000 r-- anon\nload 1 0x10000 1\nload 1 0x11000 1\nload 1 0x12000 1\n\
+load 1 0x13000 1\nload 1 0x14000 1\nspawn\n",
+            b"pid 1\naddr 0x10000\nvalue 0x00\nvalue 0x00\nvalue 0x00\nvalue 0x00\nvalue 0x00\npid 2\n",
+        ),
+    ),
 ];
 
 /// Forty lines over sixteen pages of anonymous memory.
@@ -212,6 +221,13 @@ load 1 0x10000 1\nload 1 0x11000 1\nload 1 0x12000 1\nload 1 0x13000 1\nload 1 0
 load 1 0x15000 1\nload 1 0x16000 1\nload 1 0x17000 1\n",
     b"pid 1\naddr 0x10000\nok\nok\nok\nok\nok\nok\nok\nok\nstall 3 SWAPDEV\nok\nvalue 0x01\nvalue 0x02\n\
 value 0x03\nvalue 0x04\nvalue 0x05\nvalue 0x06\nvalue 0x07\nvalue 0x08\n",
+);
+
+/// Five pages in four frames, of which two are given back: the one that went to a slot is read again.
+pub(crate) const BACK_TO_A_FREE_FRAME: (&[u8], &[u8]) = (
+    b"spawn\nmmap 1 0 0x5000 rw- anon\nstore 1 0x10000 1 1\nstore 1 0x11000 1 2\nstore 1 0x12000 1 3\n\
+store 1 0x13000 1 4\nstore 1 0x14000 1 5\nmunmap 1 0x13000 0x2000\nload 1 0x10000 1\n",
+    b"pid 1\naddr 0x10000\nok\nok\nok\nok\nok\nok\nvalue 0x01\n",
 );
 
 /// An msync of one page, loads of nine others, and one of that page again.

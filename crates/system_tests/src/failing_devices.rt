@@ -1,10 +1,11 @@
 //! Devices that fail a call once, and machines that do not start.
-use crate::evictions::{EIGHT_PAGES_SYNCED_AGAIN, ONE_WRITE_LOST};
+use crate::evictions::{BACK_TO_A_FREE_FRAME, EIGHT_PAGES_SYNCED_AGAIN, ONE_WRITE_LOST};
 use disk_model::SimDisk;
 use machine::{BootFault, Config};
 use runner::RunEnd;
 use std::alloc::Global;
 use std::test::Fail;
+use sync_journal::Journals;
 use test_traces::{Armed, CONFIG, PLAIN, SMALL, Setting, expect_ending, image, ran_on, same};
 use vm_types::Mode;
 
@@ -34,12 +35,13 @@ load 1 0x10000 1\nfaults\nspawn\nfork\n",
     b"pid 1\naddr 0x10000\nok\nerror 5 EIO\nhalted\nhalted\nhalted\nbad line\n",
 );
 
-const ENDINGS: [Ending; 9] = [
+const ENDINGS: [Ending; 10] = [
     (PLAIN, (b"spawn\n", b"pid 1\n"), GOES_ON),
     // The first call of a start.
     (
         Setting {
             length: 4096,
+            journals: Journals::Single,
             config: CONFIG,
             armed: Armed::FailAtCall(1),
         },
@@ -49,6 +51,7 @@ const ENDINGS: [Ending; 9] = [
     (
         Setting {
             length: 4096,
+            journals: Journals::Single,
             config: Config {
                 frames: 8,
                 slots: 17,
@@ -63,6 +66,7 @@ const ENDINGS: [Ending; 9] = [
     (
         Setting {
             length: 8192,
+            journals: Journals::Single,
             config: CONFIG,
             armed: Armed::FailAfterStart(1),
         },
@@ -78,6 +82,7 @@ ok\nvalue 0x03\nvalue 0x00\n",
     (
         Setting {
             length: 4096,
+            journals: Journals::Single,
             config: CONFIG,
             armed: Armed::FailAfterStart(8),
         },
@@ -90,6 +95,7 @@ ok\nvalue 0x03\nvalue 0x00\n",
     (
         Setting {
             length: 4096,
+            journals: Journals::Single,
             config: CONFIG,
             armed: Armed::FailAfterStart(FIRST_SYNC),
         },
@@ -99,6 +105,7 @@ ok\nvalue 0x03\nvalue 0x00\n",
     (
         Setting {
             length: 4096,
+            journals: Journals::Single,
             config: CONFIG,
             armed: Armed::FailAfterStart(SECOND_SYNC),
         },
@@ -109,6 +116,7 @@ ok\nvalue 0x03\nvalue 0x00\n",
     (
         Setting {
             length: 0x8000,
+            journals: Journals::Single,
             config: SMALL,
             armed: Armed::SwapFailsAtCall(1),
         },
@@ -119,10 +127,22 @@ ok\nvalue 0x03\nvalue 0x00\n",
     (
         Setting {
             length: 0x8000,
+            journals: Journals::Single,
             config: SMALL,
             armed: Armed::SwapFailsAtCall(33),
         },
         EIGHT_PAGES_SYNCED_AGAIN,
+        GOES_ON,
+    ),
+    // One page went to a slot by eight writes, and comes back by eight reads: no slot is tried where frames are free.
+    (
+        Setting {
+            length: 4096,
+            journals: Journals::Single,
+            config: SMALL,
+            armed: Armed::SwapFailsAtCall(17),
+        },
+        BACK_TO_A_FREE_FRAME,
         GOES_ON,
     ),
 ];

@@ -4,6 +4,7 @@ ghost use Rattle.std.specs.Prelude.{◌≤◌};
 use machine::Config;
 use std::alloc::Global;
 use std::test::Fail;
+use sync_journal::Journals;
 use test_traces::{Armed, Exchange, PLAIN, SMALL, Setting, expect_file, expect_in, left_in};
 use vm_types::Mode;
 
@@ -34,6 +35,7 @@ fn a_process_has_at_most_256_runs(rt: HostRuntime) -> Result<(), Fail> {
 /// A file of 1,024 pages, and room for all of them.
 const ROOMY: Setting = Setting {
     length: 4194304,
+    journals: Journals::Single,
     config: Config {
         frames: 2048,
         slots: 0,

@@ -15,7 +15,7 @@ use paging::Core;
 use std::alloc::Global;
 use std::test::Fail;
 use swap::Swap;
-use sync_journal::FIRST_HOME;
+use sync_journal::{FIRST_HOME, Journals};
 use vm_types::{Levels, Pid, SlotNo};
 
 /// How large memory, its swap and its one file are, and which call of each device fails, the first being 1; 0 is none.
@@ -52,7 +52,7 @@ fn image(alloc: Global, sizes: Sizes) -> Result<SimDisk, Fail> {
         length: sizes.length,
         bytes: None,
     }];
-    format(&mut disk, &mut files)?;
+    format(&mut disk, Journals::Single, &mut files)?;
     begin_file(&mut disk, sizes.first)?;
     Ok(disk)
 }

@@ -3,13 +3,14 @@ ghost use Rattle.std.specs.Prelude.{IfOk};
 ghost use Rattle.machine.specs.Machine.{IsSoundMachine};
 
 use crate::exchanges::{expect_end, same};
-use crate::images::{image, image_of_two};
+use crate::images::{image, image_of_two, image_with};
 use disk_model::{SectorDisk, SimDisk};
 use machine::{BootFault, Config, Machine};
 use runner::{RunEnd, run, run_on};
 use std::alloc::Global;
 use std::io::{Read, Write};
 use std::test::Fail;
+use sync_journal::Journals;
 use vm_types::Mode;
 
 /// The fault that a device is to have: the store's, or that of swap, whose calls are counted from the start of the machine on.
@@ -37,10 +38,12 @@ pub const SMALL: Config = Config {
     mode: Mode::Sv39,
 };
 
-/// What a trace is run on: a machine of that size over a file of so many zeros, and the fault of its devices.
+/// What a trace is run on: a machine of that size over a file of so many zeros, in a store of these journals, and the fault of its
+/// devices.
 #[derive(Clone, Copy, Debug, PartialEq, Eq)]
 pub struct Setting {
     pub length: u32,
+    pub journals: Journals,
     pub config: Config,
     pub armed: Armed,
 }
@@ -48,6 +51,7 @@ pub struct Setting {
 /// A machine of 64 frames over a page of zeros, whose devices have no fault.
 pub const PLAIN: Setting = Setting {
     length: 4096,
+    journals: Journals::Single,
     config: CONFIG,
     armed: Armed::Nothing,
 };
@@ -139,7 +143,7 @@ fn left_over(
 
 /// The device of the store, as a machine leaves it that gives these replies to a trace.
 pub fn left_in(alloc: Global, setting: Setting, exchange: (&[u8], &[u8])) -> Result<SimDisk, Fail> {
-    let image = image(alloc, setting.length)?;
+    let image = image_with(alloc, setting.journals, setting.length)?;
     let armed = counted(alloc, &image, setting)?;
     left_over(alloc, &image, armed, setting.config, exchange)
 }
@@ -223,7 +227,7 @@ fn ending_in(
     trace: &[u8],
     output: &mut Vec<u8>,
 ) -> Result<Result<(RunEnd, bool), BootFault>, Fail> {
-    let image = image(alloc, setting.length)?;
+    let image = image_with(alloc, setting.journals, setting.length)?;
     let armed = counted(alloc, &image, setting)?;
     let devices = devices(alloc, &image, armed)?;
     let mut reader = trace;

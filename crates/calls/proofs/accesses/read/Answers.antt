@@ -18,7 +18,8 @@ use Rattle.calls.specs.Calls.{Comes, IsCaused}
 use Rattle.calls.specs.Idle.{is_denial}
 use Rattle.page_faults.proofs.Asking.{asks_same}
 use Rattle.page_faults.proofs.Slotted.{slotted_same}
-use Rattle.calls.proofs.Asking.{asks_refused, asks_unstalled}
+use Rattle.page_faults.proofs.Wanted.{calm_same}
+use Rattle.calls.proofs.Asking.{asks_refused, asks_unstalled, writes_none}
 use Rattle.calls.proofs.Calls.{found_lives}
 use Rattle.calls.proofs.Reading.{open_read, loads, fetches, load_refused, fetch_refused}
 use Rattle.calls.proofs.Refusals.{refused_idle, refused_caused}
@@ -53,7 +54,8 @@ returns-in-Ok-clause-asks g c =
     let a = c.args in
     let reply = Value a.width c.read_number-value.result in
     subst (λ (p : ℕ). AsksFor g.D.SectorDisk g.E.SectorDisk a.core.now c.access.new.core p a.addr a.kind reply) c.in-Some.ensures.found.0
-    (asks_unstalled g.D.SectorDisk g.E.SectorDisk a.core.now c.access.new.core c.in-Some.pid a.addr a.kind c.access.ensures.read (λ none. (c.access.ensures.calm none).swap) c.access.ensures.slotted c.access.ensures.asks reply (λ stall e. cc))
+    (asks_unstalled g.D.SectorDisk g.E.SectorDisk a.core.now c.access.new.core c.in-Some.pid a.addr a.kind c.access.ensures.read (λ none. (c.access.ensures.calm none).swap) c.access.ensures.slotted c.access.ensures.asks
+    c.access.new.core c.access.ensures.tables c.access.ensures.calm (writes_none a.kind c.access.new.core) reply (λ stall e. cc))
 
 pub returns-in-Ok-clause-load : goal.returns-in-Ok-clause-load
 returns-in-Ok-clause-load g c = λ is s shows keeps swaps.
@@ -112,7 +114,7 @@ returns-in-Err-clause-asks g c =
     subst (λ (r : Answer). AsksFor g.D.SectorDisk g.E.SectorDisk a.core.now c.access.new.core a.pid a.addr a.kind (reply_of r)) (sym c.refused.ensures)
     (subst (λ (p : ℕ). AsksFor g.D.SectorDisk g.E.SectorDisk a.core.now c.access.new.core p a.addr a.kind (reply_of (answer_of c.in-Err.refusal))) c.in-Some.ensures.found.0
     (asks_refused g.D.SectorDisk g.E.SectorDisk a.core.now c.access.new.core c.in-Some.pid a.addr a.kind c.access.ensures.read (λ none. (c.access.ensures.calm none).swap) c.access.ensures.slotted c.access.ensures.asks
-    a.width c.in-Err.refusal c.in-Err.ensures.refusal))
+    c.access.new.core c.access.ensures.tables c.access.ensures.calm (writes_none a.kind c.access.new.core) a.width c.in-Err.refusal c.in-Err.ensures.refusal))
 
 pub returns-in-Err-clause-load : goal.returns-in-Err-clause-load
 returns-in-Err-clause-load g c = λ is s shows keeps swaps.
@@ -145,7 +147,8 @@ returns-in_default-clause-walked g c place walked = refl
 
 pub returns-in_default-clause-asks : goal.returns-in_default-clause-asks
 returns-in_default-clause-asks g c =
-    asks_unstalled g.D.SectorDisk g.E.SectorDisk c.args.core.now c.args.core.now c.args.pid c.args.addr c.args.kind (inl refl) (λ none. refl) (slotted_same _ _ (picture_of c.args.core.now)) (asks_same g.D.SectorDisk g.E.SectorDisk c.args.core.now c.args.core.now c.args.pid (c.args.addr / 4096) refl refl) (Refused ESRCH) (λ stall e. cc)
+    asks_unstalled g.D.SectorDisk g.E.SectorDisk c.args.core.now c.args.core.now c.args.pid c.args.addr c.args.kind (inl refl) (λ none. refl) (slotted_same _ _ (picture_of c.args.core.now)) (asks_same g.D.SectorDisk g.E.SectorDisk c.args.core.now c.args.core.now c.args.pid (c.args.addr / 4096) c.args.kind refl refl)
+    c.args.core.now (λ n table. inl table) (λ none. calm_same c.args.core.now c.args.pid (c.args.addr / 4096)) (writes_none c.args.kind c.args.core.now) (Refused ESRCH) (λ stall e. cc)
 
 pub returns-in_default-clause-others : goal.returns-in_default-clause-others
 returns-in_default-clause-others g c = λ q k other. refl

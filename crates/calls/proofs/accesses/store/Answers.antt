@@ -1,10 +1,13 @@
-use Rattle.std.proofs.Common.{ℕ, ◌≡◌, ◌⊎◌, inl, true, false, is_some, ◌/◌, ◌%◌, List, refl, sym, ap, ◌∙◌, subst}
+use Rattle.std.proofs.Common.{ℕ, ◌<◌, ◌≡◌, ◌⊎◌, inl, inr, true, false, is_some, ◌/◌, ◌%◌, List, refl, sym, ap, ◌∙◌, subst, arith}
+use Rattle.frames.specs.FrameTable.{FrameTable, IsHeld, IsSound, with_bytes}
+use Rattle.frames.proofs.FrameLemmas.{IsHeld-above, IsHeld-not_zero, IsSound-step, with_bytes-others}
 use Rattle.page_faults.specs.Asking.{AsksForPage}
 use Rattle.page_faults.specs.Outcome.{Grants, IsReadyToStore, IsOpenToStore, IsRefusal, IsWalked}
 use Rattle.page_faults.specs.Wants.{Wants, ReadsHome, ShowsFile}
 use Rattle.page_faults.proofs.Asking.{asks_same}
 use Rattle.page_faults.proofs.Slotted.{slotted_same}
-use Rattle.mapping.specs.Changes.{KeepsOtherViews, KeepsSlotted, IsThatPage}
+use Rattle.page_faults.proofs.Wanted.{calm_same}
+use Rattle.mapping.specs.Changes.{IsCalm, KeepsOtherViews, KeepsSlotted, IsThatPage, LinksTables}
 use Rattle.paging.specs.Picture.{picture_of, is_live}
 use Rattle.vm_types.specs.declared.access.Access.TheVariants as Accesses
 use Rattle.vm_types.specs.declared.command.Command.TheVariants.{Store}
@@ -18,7 +21,7 @@ use Rattle.vm_types.specs.Replies.{reply_of}
 use Rattle.calls.specs.Accesses.{answer_of, AsksFor}
 use Rattle.calls.specs.Calls.{Comes, IsCaused}
 use Rattle.calls.specs.Idle.{is_denial}
-use Rattle.calls.proofs.Asking.{asks_refused, asks_unstalled, no_root, one_end, one_place, writes_walked}
+use Rattle.calls.proofs.Asking.{asks_refused, asks_unstalled, no_root, one_end, one_place, writes_none, writes_walked}
 use Rattle.calls.proofs.Calls.{found_lives}
 use Rattle.calls.proofs.Refusals.{refused_idle, refused_caused}
 use Rattle.calls.proofs.Writing.{fit_stored, open_held, others_stored, room_stored, slotted_stored, store_refused, stores}
@@ -105,13 +108,20 @@ returns-in-Ok-clause-asks g c =
     let mid = picture_of c.access.new.core in
     let placed = c.in-Ok.ensures.placed in
     let slotted = subst (λ (p : ℕ). KeepsSlotted (ShowsFile old p (a.addr / 4096)) (IsThatPage p (a.addr / 4096)) old mid) c.in-Some.ensures.found.0 c.access.ensures.slotted in
-    let sectors = subst (λ (p : ℕ). AsksForPage g.D.SectorDisk g.E.SectorDisk a.core.now c.access.new.core p (a.addr / 4096)) c.in-Some.ensures.found.0 c.access.ensures.asks in
+    let sectors = subst (λ (p : ℕ). AsksForPage g.D.SectorDisk g.E.SectorDisk a.core.now c.access.new.core p (a.addr / 4096) Accesses.Store) c.in-Some.ensures.found.0 c.access.ensures.asks in
     let usable = subst (λ (k : ℕ). IsOpenToStore mid c.in-Some.pid (a.addr / 4096) placed.seen.attr.backing k) (sym c.frame_of-frame.ensures) placed.usable in
+    let tables = subst (λ (p : ℕ). LinksTables old mid p (a.addr / 4096)) c.in-Some.ensures.found.0 c.access.ensures.tables in
+    let calm = subst (λ (p : ℕ). (Wants old p (a.addr / 4096) Accesses.Store → ⊥) → IsCalm a.core.now c.access.new.core p (a.addr / 4096)) c.in-Some.ensures.found.0 c.access.ensures.calm in
+    let n = c.frame_of-frame.result.0 in
+    let written = writes_walked c.access.new.core c.access.new.core _ n n (a.addr % 4096) a.stored c.write_number.new.page refl refl
+    (record { store = refl; swap = refl; cache = refl; roots = refl; regions = refl; page_of = refl }) refl refl refl
+    (c.write_number.ensures
+    ∙ ap (λ (b : List ℕ). with_number b (a.addr % 4096) (byte_count a.stored.width) a.stored.value) c.bytes_mut-page.ensures.value) in
     asks_unstalled g.D.SectorDisk g.E.SectorDisk a.core.now _ a.pid a.addr Accesses.Store read slots
     (slotted_stored old mid _ c.in-Some.pid (a.addr / 4096) placed.seen.attr.backing c.frame_of-frame.result.0 c.write_number.new.page
     (ShowsFile old a.pid (a.addr / 4096)) (IsThatPage a.pid (a.addr / 4096)) c.access.ensures.proceeds.fit usable refl
     (record { slots = refl; root = λ q. refl; at = λ q k. refl; page_of = λ m. refl; place = λ p. refl; touched = λ p. refl; files = λ f. refl }) slotted)
-    (record { store = sectors.store; swap = sectors.swap }) Done (λ stall e. cc)
+    (record { store = sectors.store; swap = sectors.swap }) c.access.new.core tables calm (inr (n, a.addr % 4096, a.stored, written)) Done (λ stall e. cc)
 
 pub returns-in-Err-clause-comes : goal.returns-in-Err-clause-comes
 returns-in-Err-clause-comes g c = λ s shows keeps swaps.
@@ -153,7 +163,7 @@ returns-in-Err-clause-asks g c =
     subst (λ (r : Answer). AsksFor g.D.SectorDisk g.E.SectorDisk a.core.now c.access.new.core a.pid a.addr Accesses.Store (reply_of r)) (sym c.refused.ensures)
     (subst (λ (p : ℕ). AsksFor g.D.SectorDisk g.E.SectorDisk a.core.now c.access.new.core p a.addr Accesses.Store (reply_of (answer_of c.in-Err.refusal))) c.in-Some.ensures.found.0
     (asks_refused g.D.SectorDisk g.E.SectorDisk a.core.now c.access.new.core c.in-Some.pid a.addr Accesses.Store c.access.ensures.read (λ none. (c.access.ensures.calm none).swap) c.access.ensures.slotted c.access.ensures.asks
-    a.stored.width c.in-Err.refusal c.in-Err.ensures.refusal))
+    c.access.new.core c.access.ensures.tables c.access.ensures.calm (writes_none Accesses.Store c.access.new.core) a.stored.width c.in-Err.refusal c.in-Err.ensures.refusal))
 
 pub returns-in-Err-clause-caused : goal.returns-in-Err-clause-caused
 returns-in-Err-clause-caused g c =
@@ -169,7 +179,36 @@ returns-in_default-clause-walked g c place walked =
 
 pub returns-in_default-clause-asks : goal.returns-in_default-clause-asks
 returns-in_default-clause-asks g c =
-    asks_unstalled g.D.SectorDisk g.E.SectorDisk c.args.core.now c.args.core.now c.args.pid c.args.addr Accesses.Store (inl refl) (λ none. refl) (slotted_same _ _ (picture_of c.args.core.now)) (asks_same g.D.SectorDisk g.E.SectorDisk c.args.core.now c.args.core.now c.args.pid (c.args.addr / 4096) refl refl) (Refused ESRCH) (λ stall e. cc)
+    asks_unstalled g.D.SectorDisk g.E.SectorDisk c.args.core.now c.args.core.now c.args.pid c.args.addr Accesses.Store (inl refl) (λ none. refl) (slotted_same _ _ (picture_of c.args.core.now)) (asks_same g.D.SectorDisk g.E.SectorDisk c.args.core.now c.args.core.now c.args.pid (c.args.addr / 4096) Accesses.Store refl refl)
+    c.args.core.now (λ n table. inl table) (λ none. calm_same c.args.core.now c.args.pid (c.args.addr / 4096)) (writes_none Accesses.Store c.args.core.now) (Refused ESRCH) (λ stall e. cc)
 
 pub returns-in_default-clause-others : goal.returns-in_default-clause-others
 returns-in_default-clause-others g c = λ q k other. refl
+
+sound_written : (t : FrameTable) (n : ℕ) (w : List ℕ) → IsHeld t n → IsSound t → IsSound (with_bytes t n w)
+sound_written t n w held sound =
+    IsSound-step n t (with_bytes t n w) sound (with_bytes-others t n w) (IsHeld-above t n sound held) refl refl (sound.counted n held.inside) (IsHeld-not_zero t n held)
+
+pub invariant_of-core-clause-sound : goal.invariant_of-core-clause-sound
+invariant_of-core-clause-sound g c =
+    let mid = c.access.new.core in
+    let n = c.frame_of-frame.result.0 in
+    let placed = c.in-Ok.ensures.placed in
+    let usable = subst (λ (k : ℕ). IsOpenToStore (picture_of mid) c.in-Some.pid (c.args.addr / 4096) placed.seen.attr.backing k) (sym c.frame_of-frame.ensures) placed.usable in
+    sound_written mid.frames n c.write_number.new.page (open_held (picture_of mid) c.in-Some.pid (c.args.addr / 4096) placed.seen.attr.backing n usable) mid.sound
+
+-- the frame that was written is one of as many as there were
+pub invariant_of-core-clause-page_count : goal.invariant_of-core-clause-page_count
+invariant_of-core-clause-page_count g c =
+    let mid = c.access.new.core in mid.page_count ∙ sym (with_bytes-others mid.frames c.frame_of-frame.result.0 c.write_number.new.page).frames
+
+pub invariant_of-core-clause-node_count : goal.invariant_of-core-clause-node_count
+invariant_of-core-clause-node_count g c =
+    let mid = c.access.new.core in mid.node_count ∙ sym (with_bytes-others mid.frames c.frame_of-frame.result.0 c.write_number.new.page).frames
+
+below_same : (k m n : ℕ) → k < m → n ≡ m → k < n
+below_same k m n low same = omega (arith, low, same)
+
+pub invariant_of-core-clause-hand_inside : goal.invariant_of-core-clause-hand_inside
+invariant_of-core-clause-hand_inside g c =
+    let mid = c.access.new.core in below_same _ _ _ mid.hand_inside (with_bytes-others mid.frames c.frame_of-frame.result.0 c.write_number.new.page).frames

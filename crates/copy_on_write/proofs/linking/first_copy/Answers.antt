@@ -1,6 +1,6 @@
 use Rattle.vm_types.proofs.Modes.{user_pages_fit}
 use Rattle.vm_types.specs.Limits.{top_level}
-use Rattle.std.proofs.Common.{◌≡◌, ℕ, inl, inr, ◌+◌, refl, sym, ap, ◌∙◌, subst, arith}
+use Rattle.std.proofs.Common.{◌≡◌, ℕ, inl, inr, ◌+◌, ◌/◌, refl, sym, ap, ◌∙◌, subst, arith}
 use Rattle.std.proofs.lemmas.Bool.{cases_eq, cases_lt}
 use Rattle.page_tables.specs.Places.{IsTableOf}
 use Rattle.paging.specs.Seats.{seat}
@@ -20,10 +20,14 @@ returns-then-is_own-clause-some g c =
     let T : ℕ → Type 0 = λ x. IsTableOf c.args.core.now.frames (top_level g.M.Levels.mode) c.root_of-root.result.0 x c.in-Ok.table.0 in
     let is : c.number_in.result.0 ≡ entry old c.args.pid c.loop-page.page =
     c.number_in.ensures c.root_of-root.result.0 c.loop-page.page (subst T (sym same) c.in-Ok.ensures.found) refl
-    ∙ sym (entry-of old c.args.pid c.root_of-root.result.0 c.loop-page.page c.root_of-root.ensures) in (
-      omega (arith, c.user_page.ensures, c.loop-page-test.true, c.requires.high, user_pages_fit g.M.Levels.mode),
-      λ none. c.is_own.ensures.own c.if-is_own.true (ap seat (is ∙ ap (entry old c.args.pid) (sym c.user_page.ensures)) ∙ none),
-    )
+    ∙ sym (entry-of old c.args.pid c.root_of-root.result.0 c.loop-page.page c.root_of-root.ensures) in
+    record {
+      row = ap (λ x. x / 512) c.user_page.ensures ∙ same;
+      copy = (
+        omega (arith, c.user_page.ensures, c.loop-page-test.true, c.requires.high, user_pages_fit g.M.Levels.mode),
+        λ none. c.is_own.ensures.own c.if-is_own.true (ap seat (is ∙ ap (entry old c.args.pid) (sym c.user_page.ensures)) ∙ none),
+      );
+    }
 
 pub loop-page-preserved : goal.loop-page-preserved
 loop-page-preserved g c =

@@ -1,9 +1,9 @@
 use Rattle.std.proofs.Common.{◌≡◌, ◌+◌, ◌*◌, ◌<◌, min, Some, drop, drop-drop, length-drop, sym, ap, subst, ◌∙◌, ⊎_elim, arith}
 use Rattle.std.proofs.lemmas.Bool.{cases_eq}
-use Rattle.sync_journal.specs.Layout.{home_sector, IsPageSector}
-use Rattle.sync_journal.proofs.Runs.{one_more, of_more}
-use Rattle.file_store.specs.Layout.{bytes_inside, trimmed}
-use Rattle.file_store.specs.Format.{told_by, page_given, IsFrom, HoldsCut}
+use Rattle.sync_journal.specs.Kinds.{kind_home}
+use Rattle.file_store.specs.Layout.{page_count, bytes_inside, trimmed}
+use Rattle.file_store.specs.Format.{told_by, page_given, IsHomesBetween, HoldsCut}
+use Rattle.file_store.proofs.Making.{makes_more, makes_page}
 use Rattle.file_store.proofs.NewStores.{cut_moves, is_told}
 use Rattle.file_store.proofs.formatting.write_file.Goals as goal
 
@@ -15,11 +15,12 @@ loop-k-preserved g c =
     let remaining = g.R.Read.remaining in
     let content = g.D.SectorDisk.content in
     let length : c.loop-k.source.length ≡ c.args.source.now.length = ap (λ i. i.length) inv.info in
+    let below : c.loop-k.k < page_count c.args.source.now.length = omega (arith, c.loop-k-test.true, c.pages-k-end.ensures.count, length) in
     let more : 4096 * c.loop-k.k < c.args.source.now.length = omega (arith, c.loop-k-test.true, c.pages-k-end.ensures.count) in
     record {
-      run = one_more g.D.SectorDisk (IsFrom (home_sector c.args.first)) c.args.disk.now c.loop-k.disk c.write_page.new.disk inv.run
-          (of_more g.D.SectorDisk (IsPageSector (8195 + 8 * (c.args.first + c.loop-k.k))) (IsFrom (home_sector c.args.first)) c.loop-k.disk c.write_page.new.disk
-          (λ k inside. omega (arith, inside.0)) w.run);
+      run = makes_more g.D.SectorDisk (IsHomesBetween c.args.journals c.args.first (c.args.first + page_count c.args.source.now.length)) c.args.disk.now c.loop-k.disk c.write_page.new.disk inv.run
+          (makes_page g.D.SectorDisk (IsHomesBetween c.args.journals c.args.first (c.args.first + page_count c.args.source.now.length)) (c.first_home-homes.result + 8 * (c.args.first + c.loop-k.k)) c.loop-k.disk c.write_page.new.disk
+          (λ k inside. (omega (arith, inside.0, c.first_home-homes.ensures.is), omega (arith, inside.1, c.first_home-homes.ensures.is, below))) c.write_page.ensures.run c.write_page.ensures.asks);
       calm = c.in_ok-write_page.ensures.calm ∙ inv.calm;
       info = c.read_page.ensures.info ∙ inv.info;
       left = λ told is.
@@ -35,11 +36,11 @@ loop-k-preserved g c =
           );
       reader = λ some. inv.reader (c.read_page.ensures.reader some);
       pages = λ keeps j below. ⊎_elim
-          (λ same. subst (λ n. HoldsCut (c.args.first + n) (bytes_inside c.args.source.now.length n) (page_given remaining c.args.source.now n) (content c.write_page.new.disk))
+          (λ same. subst (λ n. HoldsCut c.args.journals (c.args.first + n) (bytes_inside c.args.source.now.length n) (page_given remaining c.args.source.now n) (content c.write_page.new.disk))
           (sym same) (record {
             page = c.read_page.new.page;
             zeros = ap (λ n. trimmed (bytes_inside n c.loop-k.k) c.read_page.new.page) (sym length) ∙ r.zeros;
-            holds = c.in_ok-write_page.ensures.written keeps;
+            holds = λ i lt. ap (λ n. content c.write_page.new.disk (n + 8 * (c.args.first + c.loop-k.k) + i)) (sym c.first_home-homes.ensures.is) ∙ c.in_ok-write_page.ensures.written keeps i lt;
             is = λ page given.
                 let told = is_told c.args.source.now.length c.loop-k.k (told_by remaining c.args.source.now.bytes) page given in
                 let reached : min c.args.source.now.length (4096 * c.loop-k.k) ≡ 4096 * c.loop-k.k = omega (arith, more) in
@@ -48,15 +49,17 @@ loop-k-preserved g c =
                 ∙ ap (λ n. trimmed (bytes_inside c.args.source.now.length c.loop-k.k) (drop n told.bytes)) reached
                 ∙ sym told.page_is;
           }))
-          (λ other. cut_moves (c.args.first + j) (bytes_inside c.args.source.now.length j) (page_given remaining c.args.source.now j)
+          (λ other. cut_moves c.args.journals (c.args.first + j) (bytes_inside c.args.source.now.length j) (page_given remaining c.args.source.now j)
           (content c.loop-k.disk) (content c.write_page.new.disk)
-          (λ i inside. ⊎_elim (λ at. absurd (omega (arith, at.0, below, other, inside))) (λ e. e) ((w.run.touches keeps).content (home_sector (c.args.first + j) + i)))
+          (λ i inside. ⊎_elim (λ at. absurd (omega (arith, at.0, below, other, inside, c.first_home-homes.ensures.is))) (λ e. e) ((w.run.touches keeps).content (kind_home c.args.journals (c.args.first + j) + i)))
           (inv.pages (w.run.kept keeps) j (omega (arith, below, other))))
           (cases_eq j c.loop-k.k);
     }
 
 pub returns-in_err-write_page-clause-run : goal.returns-in_err-write_page-clause-run
 returns-in_err-write_page-clause-run g c =
-    one_more g.D.SectorDisk (IsFrom (home_sector c.args.first)) c.args.disk.now c.loop-k.disk c.write_page.new.disk c.loop-k.invariant.run
-    (of_more g.D.SectorDisk (IsPageSector (8195 + 8 * (c.args.first + c.loop-k.k))) (IsFrom (home_sector c.args.first)) c.loop-k.disk c.write_page.new.disk
-    (λ k inside. omega (arith, inside.0)) c.write_page.ensures.run)
+    let length : c.loop-k.source.length ≡ c.args.source.now.length = ap (λ i. i.length) c.loop-k.invariant.info in
+    let below : c.loop-k.k < page_count c.args.source.now.length = omega (arith, c.loop-k-test.true, c.pages-k-end.ensures.count, length) in
+    makes_more g.D.SectorDisk (IsHomesBetween c.args.journals c.args.first (c.args.first + page_count c.args.source.now.length)) c.args.disk.now c.loop-k.disk c.write_page.new.disk c.loop-k.invariant.run
+    (makes_page g.D.SectorDisk (IsHomesBetween c.args.journals c.args.first (c.args.first + page_count c.args.source.now.length)) (c.first_home-homes.result + 8 * (c.args.first + c.loop-k.k)) c.loop-k.disk c.write_page.new.disk
+    (λ k inside. (omega (arith, inside.0, c.first_home-homes.ensures.is), omega (arith, inside.1, c.first_home-homes.ensures.is, below))) c.write_page.ensures.run c.write_page.ensures.asks)

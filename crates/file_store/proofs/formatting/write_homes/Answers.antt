@@ -3,11 +3,11 @@ use Rattle.std.specs.Prelude.{IsSome}
 use Rattle.std.proofs.lemmas.Bool.{cases_eq}
 use Rattle.std.proofs.lemmas.List.{length-set, drop-set-lt}
 use Rattle.std.proofs.lemmas.Option.{same_Some, slice_get_read}
-use Rattle.sync_journal.specs.Layout.{home_count, home_sector}
-use Rattle.sync_journal.proofs.Runs.{one_more, of_more}
+use Rattle.sync_journal.specs.Kinds.{kind_home, kind_home_count}
 use Rattle.file_store.specs.declared.sources.FileSource.{FileSource}
 use Rattle.file_store.specs.Layout.{page_count, bytes_inside}
-use Rattle.file_store.specs.Format.{total_pages, first_home, page_given, reader_tells, IsFrom, HoldsPages}
+use Rattle.file_store.specs.Format.{total_pages, first_home, page_given, reader_tells, IsHomesBetween, HoldsPages}
+use Rattle.file_store.proofs.Making.{makes_more, makes_of}
 use Rattle.file_store.proofs.NewStores.{cut_moves, slice_get-drop, first_home-rest, first_home-order}
 use Rattle.file_store.proofs.Totals.{total_pages-rest, total_pages-set}
 use Rattle.file_store.proofs.Causes.{is_this}
@@ -19,15 +19,21 @@ write_file-requires g c =
     let below : c.loop-f.f < length c.loop-f.sources = omega (arith, inv.length, c.loop-f-test.true) in
     let e = total_pages-rest c.loop-f.sources c.loop-f.f c.index-sources-f.result below c.index-sources-f.is in
     let same = ap (λ s. page_count s.length) c.index-sources-f.is in
-    let homes = ap home_count inv.run.size in
+    let homes = ap (kind_home_count c.args.journals) inv.run.size in
     omega (arith, e, same, homes, inv.rest, c.requires)
 
 pub overflow_add-first : goal.overflow_add-first
 overflow_add-first g c = omega (arith, c.loop-f.invariant.rest, c.requires, c.pages-first.ensures.bound)
 
 pub returns-in_err-write_file-clause-run : goal.returns-in_err-write_file-clause-run
-returns-in_err-write_file-clause-run g c = one_more g.D.SectorDisk (IsFrom 8195) c.args.disk.now c.loop-f.disk c.write_file.new.disk c.loop-f.invariant.run
-    (of_more g.D.SectorDisk (IsFrom (home_sector c.loop-f.first)) (IsFrom 8195) c.loop-f.disk c.write_file.new.disk (λ k behind. omega (arith, behind)) c.write_file.ensures.run)
+returns-in_err-write_file-clause-run g c =
+    let inv = c.loop-f.invariant in
+    let below : c.loop-f.f < length c.loop-f.sources = omega (arith, inv.length, c.loop-f-test.true) in
+    let e = total_pages-rest c.loop-f.sources c.loop-f.f c.index-sources-f.result below c.index-sources-f.is in
+    let is = ap (λ s. page_count s.length) c.index-sources-f.is in
+    makes_more g.D.SectorDisk (IsHomesBetween c.args.journals 0 (total_pages c.args.sources.now)) c.args.disk.now c.loop-f.disk c.write_file.new.disk inv.run
+    (makes_of g.D.SectorDisk (IsHomesBetween c.args.journals c.loop-f.first (c.loop-f.first + page_count (get_or c.loop-f.sources c.loop-f.f c.index-sources-f.result).length)) (IsHomesBetween c.args.journals 0 (total_pages c.args.sources.now)) c.loop-f.disk c.write_file.new.disk
+    (λ k at. (omega (arith, at.0), omega (arith, at.1, e, is, inv.rest))) c.write_file.ensures.run)
 
 pub loop-f-preserved : goal.loop-f-preserved
 loop-f-preserved g c =
@@ -44,8 +50,9 @@ loop-f-preserved g c =
     ∙ slice_get_read c.loop-f.sources (length c.loop-f.sources) f c.index-sources-f.result refl below c.index-sources-f.is in
     let first : c.loop-f.first ≡ first_home sources f = let split = first_home-rest sources f in let behind = ap total_pages inv.behind in omega (arith, split, behind, inv.rest) in
     record {
-      run = one_more g.D.SectorDisk (IsFrom 8195) c.args.disk.now c.loop-f.disk c.write_file.new.disk inv.run
-          (of_more g.D.SectorDisk (IsFrom (home_sector c.loop-f.first)) (IsFrom 8195) c.loop-f.disk c.write_file.new.disk (λ k behind. omega (arith, behind)) w.run);
+      run = makes_more g.D.SectorDisk (IsHomesBetween c.args.journals 0 (total_pages c.args.sources.now)) c.args.disk.now c.loop-f.disk c.write_file.new.disk inv.run
+          (makes_of g.D.SectorDisk (IsHomesBetween c.args.journals c.loop-f.first (c.loop-f.first + page_count (get_or c.loop-f.sources c.loop-f.f c.index-sources-f.result).length)) (IsHomesBetween c.args.journals 0 (total_pages c.args.sources.now)) c.loop-f.disk c.write_file.new.disk
+          (λ k at. (omega (arith, at.0), omega (arith, at.1, e, is, inv.rest))) c.write_file.ensures.run);
       calm = c.in_ok-write_file.ensures.calm ∙ inv.calm;
       length = length-set c.loop-f.sources f c.write_file.new.source ∙ inv.length;
       rest = omega (arith, e, after, same, is, inv.rest, c.pages-first.ensures.count);
@@ -55,16 +62,16 @@ loop-f-preserved g c =
           (λ same.
           let source_is : get_or c.loop-f.sources f c.index-sources-f.result ≡ source = sym c.index-sources-f.is ∙ same_Some c.index-sources-f.result source (sym here ∙ ap (slice_get sources) (sym same) ∙ at) in
           let from : c.loop-f.first ≡ first_home sources h = first ∙ ap (first_home sources) (sym same) in
-          subst (λ n. HoldsPages g.R.Read.remaining source n (page_count source.length) (g.D.SectorDisk.content c.write_file.new.disk)) from
-          (subst (λ (s : FileSource g.row.R.Denot). HoldsPages g.R.Read.remaining s c.loop-f.first (page_count s.length) (g.D.SectorDisk.content c.write_file.new.disk)) source_is
+          subst (λ n. HoldsPages c.args.journals g.R.Read.remaining source n (page_count source.length) (g.D.SectorDisk.content c.write_file.new.disk)) from
+          (subst (λ (s : FileSource g.row.R.Denot). HoldsPages c.args.journals g.R.Read.remaining s c.loop-f.first (page_count s.length) (g.D.SectorDisk.content c.write_file.new.disk)) source_is
           (c.in_ok-write_file.ensures.pages keeps)))
           (λ other. λ k inside.
           let order = first_home-order sources h f source (omega (arith, less, other)) at in
-          cut_moves (first_home sources h + k) (bytes_inside source.length k) (page_given g.R.Read.remaining source k)
+          cut_moves c.args.journals (first_home sources h + k) (bytes_inside source.length k) (page_given g.R.Read.remaining source k)
           (g.D.SectorDisk.content c.loop-f.disk) (g.D.SectorDisk.content c.write_file.new.disk)
           (λ i lt. ⊎_elim (λ behind. absurd (omega (arith, behind, first, order, inside, lt)))
           (λ e. e)
-          ((w.run.touches keeps).content (home_sector (first_home sources h + k) + i)))
+          ((w.run.touches keeps).content (kind_home c.args.journals (first_home sources h + k) + i)))
           (inv.files (w.run.kept keeps) h source (omega (arith, less, other)) at k inside))
           (cases_eq h f);
       whole = λ h source told less at tells. ⊎_elim

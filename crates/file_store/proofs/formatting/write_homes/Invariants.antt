@@ -1,15 +1,15 @@
 use Rattle.std.proofs.Common.{◌≡◌, ◌+◌, drop, length}
-use Rattle.sync_journal.specs.Runs.{Runs}
-use Rattle.file_store.specs.Format.{total_pages, IsFrom, HoldsFiles, AreWhole}
+use Rattle.file_store.specs.Format.{total_pages, IsHomesBetween, HoldsFiles, AreWhole}
+use Rattle.file_store.specs.Making.{Makes}
 use Rattle.file_store.proofs.formatting.write_homes.Given as goal
 
 abbrev pub invariant-loop-f : goal.invariant-loop-f
 invariant-loop-f g l = record {
-  run : Runs g.D.SectorDisk (IsFrom 8195) l.initial.disk l.disk;
+  run : Makes g.D.SectorDisk (IsHomesBetween l.fn.journals 0 (total_pages l.initial.sources)) l.initial.disk l.disk;
   calm : g.D.SectorDisk.failures l.disk ≡ g.D.SectorDisk.failures l.initial.disk;
   length : length l.sources ≡ length l.initial.sources;
   rest : l.first + total_pages (drop l.f l.sources) ≡ total_pages l.initial.sources;
   behind : drop l.f l.sources ≡ drop l.f l.initial.sources;
   whole : AreWhole g.R.Read.remaining l.initial.sources l.f;
-  files : g.D.SectorDisk.keeps_model l.disk → HoldsFiles g.R.Read.remaining l.initial.sources l.f (g.D.SectorDisk.content l.disk);
+  files : g.D.SectorDisk.keeps_model l.disk → HoldsFiles l.fn.journals g.R.Read.remaining l.initial.sources l.f (g.D.SectorDisk.content l.disk);
 }

@@ -1,26 +1,37 @@
-use Rattle.std.proofs.Common.{ℕ, ◌+◌, ⊎_elim, List, sym, subst, arith}
-use Rattle.sync_journal.specs.Layout.{home_sector}
-use Rattle.sync_journal.proofs.Runs.{one_more, of_more}
+use Rattle.std.proofs.Common.{ℕ, ◌+◌, ⊎_elim, inl, inr, List, sym, subst, arith}
+use Rattle.sync_journal.specs.Kinds.{kind_home, kind_home_count}
 use Rattle.file_store.specs.Layout.{bytes_inside}
-use Rattle.file_store.specs.Format.{first_home, page_given, IsFrom, IsLayoutSector, IsDirectoryOf}
-use Rattle.file_store.proofs.NewStores.{cut_moves}
+use Rattle.file_store.specs.Format.{first_home, total_pages, page_given, IsFrom, IsTableSector, IsKindlessStoreOf, HasTables, IsLayoutSector, IsHomesBetween, IsUnmarkedSector, IsDirectoryOf}
+use Rattle.disk_model.proofs.Moments.{wider}
+use Rattle.sync_journal.specs.declared.store_journal.Journals.TheVariants.{Paired}
+use Rattle.file_store.proofs.Blocks.{behind_more, last_more}
+use Rattle.file_store.proofs.Formats.{table_between, kindless}
+use Rattle.file_store.proofs.Making.{makes_more, makes_of}
+use Rattle.file_store.proofs.NewStores.{cut_moves, good_given}
+use Rattle.file_store.proofs.Images.{homes_behind, layout_low, good_not_kind}
 use Rattle.file_store.proofs.formatting.write_unmarked.Goals as goal
 
 pub returns-in_err-write_homes-clause-run : goal.returns-in_err-write_homes-clause-run
-returns-in_err-write_homes-clause-run g c =
-    of_more g.D.SectorDisk (IsFrom 8195) (IsFrom 1) c.args.disk.now c.write_homes.new.disk (λ k behind. omega (arith, behind)) c.write_homes.ensures.run
+returns-in_err-write_homes-clause-run g c = let d = g.D.SectorDisk in
+    let pages = total_pages c.args.sources.now in
+    let W : ℕ → Type 0 = IsUnmarkedSector c.args.journals pages in
+    (makes_of d (IsHomesBetween c.args.journals 0 pages) W c.args.disk.now c.write_homes.new.disk (λ k at. inr at) c.write_homes.ensures.run)
 
 pub returns-in_err-write_layout-clause-run : goal.returns-in_err-write_layout-clause-run
-returns-in_err-write_layout-clause-run g c = one_more g.D.SectorDisk (IsFrom 1) c.args.disk.now c.write_homes.new.disk c.write_layout.new.disk
-    (of_more g.D.SectorDisk (IsFrom 8195) (IsFrom 1) c.args.disk.now c.write_homes.new.disk (λ k behind. omega (arith, behind)) c.write_homes.ensures.run)
-    (of_more g.D.SectorDisk IsLayoutSector (IsFrom 1) c.write_homes.new.disk c.write_layout.new.disk
-    (λ k at. ⊎_elim (λ e. omega (arith, e)) (λ e. omega (arith, e)) at) c.write_layout.ensures.run)
+returns-in_err-write_layout-clause-run g c = let d = g.D.SectorDisk in
+    let pages = total_pages c.args.sources.now in
+    let W : ℕ → Type 0 = IsUnmarkedSector c.args.journals pages in
+    makes_more d W c.args.disk.now c.write_homes.new.disk c.write_layout.new.disk
+    (makes_of d (IsHomesBetween c.args.journals 0 pages) W c.args.disk.now c.write_homes.new.disk (λ k at. inr at) c.write_homes.ensures.run)
+    (makes_of d (IsLayoutSector c.args.journals) W c.write_homes.new.disk c.write_layout.new.disk (λ k at. inl at) c.write_layout.ensures.run)
 
 pub returns-clause-run : goal.returns-clause-run
-returns-clause-run g c = one_more g.D.SectorDisk (IsFrom 1) c.args.disk.now c.write_homes.new.disk c.write_layout.new.disk
-    (of_more g.D.SectorDisk (IsFrom 8195) (IsFrom 1) c.args.disk.now c.write_homes.new.disk (λ k behind. omega (arith, behind)) c.write_homes.ensures.run)
-    (of_more g.D.SectorDisk IsLayoutSector (IsFrom 1) c.write_homes.new.disk c.write_layout.new.disk
-    (λ k at. ⊎_elim (λ e. omega (arith, e)) (λ e. omega (arith, e)) at) c.write_layout.ensures.run)
+returns-clause-run g c = let d = g.D.SectorDisk in
+    let pages = total_pages c.args.sources.now in
+    let W : ℕ → Type 0 = IsUnmarkedSector c.args.journals pages in
+    makes_more d W c.args.disk.now c.write_homes.new.disk c.write_layout.new.disk
+    (makes_of d (IsHomesBetween c.args.journals 0 pages) W c.args.disk.now c.write_homes.new.disk (λ k at. inr at) c.write_homes.ensures.run)
+    (makes_of d (IsLayoutSector c.args.journals) W c.write_homes.new.disk c.write_layout.new.disk (λ k at. inl at) c.write_layout.ensures.run)
 
 pub returns-clause-written : goal.returns-clause-written
 returns-clause-written g c = λ keeps.
@@ -28,13 +39,62 @@ returns-clause-written g c = λ keeps.
     let here = c.in_ok-write_layout.ensures in
     let sources = c.args.sources.now in
     record {
-      directory = subst (λ (s : List ℕ). IsDirectoryOf sources s) (sym (here.directory keeps)) c.directory_of-directory.ensures;
-      gate = here.gate keeps;
-      files = λ f source less at k inside. cut_moves (first_home sources f + k) (bytes_inside source.length k) (page_given g.R.Read.remaining source k)
+      of_kind = (here.head keeps).of_kind;
+      directory = subst (λ (s : List ℕ). IsDirectoryOf sources s) (sym (here.head keeps).directory) c.directory_of-directory.ensures;
+      gate = (here.head keeps).journal;
+      files = λ f source less at k inside. cut_moves c.args.journals (first_home sources f + k) (bytes_inside source.length k) (page_given g.R.Read.remaining source k)
           (g.D.SectorDisk.content c.write_homes.new.disk) (g.D.SectorDisk.content c.write_layout.new.disk)
           (λ i lt. ⊎_elim
-          (λ layout. absurd (⊎_elim {C = ⊥} (λ e. omega (arith, e)) (λ e. omega (arith, e)) layout))
+          (λ layout. absurd (let low = homes_behind c.args.journals in let at = layout_low c.args.journals _ layout in omega (arith, at.1, low)))
           (λ e. e)
-          ((w.run.touches keeps).content (home_sector (first_home sources f + k) + i)))
+          ((w.run.touches keeps).content (kind_home c.args.journals (first_home sources f + k) + i)))
           (c.in_ok-write_homes.ensures.files (w.run.kept keeps) f source less at k inside);
     }
+
+pub write_layout-requires-clause-good : goal.write_layout-requires-clause-good
+write_layout-requires-clause-good g c =
+    let sources = c.args.sources.now in
+    good_not_kind (kind_home_count c.args.journals (g.D.SectorDisk.sector_count c.args.disk.now)) c.directory_of-directory.result
+    (good_given (kind_home_count c.args.journals (g.D.SectorDisk.sector_count c.args.disk.now)) sources c.directory_of-directory.result c.requires.homes (omega arith) c.directory_of-directory.ensures)
+
+pub returns-in_err-write_homes-clause-epochs : goal.returns-in_err-write_homes-clause-epochs
+returns-in_err-write_homes-clause-epochs g c = λ keeps paired.
+    let d = g.D.SectorDisk in
+    let pages = total_pages c.args.sources.now in
+    inl (wider d (IsHomesBetween c.args.journals 0 pages) (IsFrom 8) c.args.disk.now c.write_homes.new.disk (λ k at. let low = homes_behind c.args.journals in omega (arith, at.0, low)) (c.write_homes.ensures.run.touches keeps))
+
+pub returns-in_err-write_layout-clause-epochs : goal.returns-in_err-write_layout-clause-epochs
+returns-in_err-write_layout-clause-epochs g c = λ keeps paired.
+    let d = g.D.SectorDisk in
+    let pages = total_pages c.args.sources.now in
+    let k1 = c.write_layout.ensures.run.kept keeps in
+    last_more d (IsTableSector Paired) (IsFrom 8) (HasTables Paired c.directory_of-directory.result) (IsKindlessStoreOf g.R.Read.remaining c.args.sources.now) c.args.disk.now c.write_homes.new.disk c.write_layout.new.disk
+    (wider d (IsHomesBetween c.args.journals 0 pages) (IsFrom 8) c.args.disk.now c.write_homes.new.disk (λ k at. let low = homes_behind c.args.journals in omega (arith, at.0, low)) (c.write_homes.ensures.run.touches k1))
+    (λ k at. (table_between k at).0)
+    (λ image same tables. kindless g.R.Read.remaining c.args.sources.now c.args.journals c.directory_of-directory.result (d.content c.write_homes.new.disk) image paired c.directory_of-directory.ensures
+    (c.in_ok-write_homes.ensures.files k1) same tables)
+    (c.write_layout.ensures.epochs keeps paired)
+
+pub returns-clause-epochs : goal.returns-clause-epochs
+returns-clause-epochs g c = λ keeps paired.
+    let d = g.D.SectorDisk in
+    let pages = total_pages c.args.sources.now in
+    let k1 = c.write_layout.ensures.run.kept keeps in
+    last_more d (IsTableSector Paired) (IsFrom 8) (HasTables Paired c.directory_of-directory.result) (IsKindlessStoreOf g.R.Read.remaining c.args.sources.now) c.args.disk.now c.write_homes.new.disk c.write_layout.new.disk
+    (wider d (IsHomesBetween c.args.journals 0 pages) (IsFrom 8) c.args.disk.now c.write_homes.new.disk (λ k at. let low = homes_behind c.args.journals in omega (arith, at.0, low)) (c.write_homes.ensures.run.touches k1))
+    (λ k at. (table_between k at).0)
+    (λ image same tables. kindless g.R.Read.remaining c.args.sources.now c.args.journals c.directory_of-directory.result (d.content c.write_homes.new.disk) image paired c.directory_of-directory.ensures
+    (c.in_ok-write_homes.ensures.files k1) same tables)
+    (c.write_layout.ensures.epochs keeps paired)
+
+pub returns-clause-kind_behind : goal.returns-clause-kind_behind
+returns-clause-kind_behind g c = λ keeps paired.
+    let d = g.D.SectorDisk in
+    let pages = total_pages c.args.sources.now in
+    let k1 = c.write_layout.ensures.run.kept keeps in
+    behind_more d (IsTableSector Paired) (IsFrom 8) (HasTables Paired c.directory_of-directory.result) (IsKindlessStoreOf g.R.Read.remaining c.args.sources.now) c.args.disk.now c.write_homes.new.disk c.write_layout.new.disk
+    (wider d (IsHomesBetween c.args.journals 0 pages) (IsFrom 8) c.args.disk.now c.write_homes.new.disk (λ k at. let low = homes_behind c.args.journals in omega (arith, at.0, low)) (c.write_homes.ensures.run.touches k1))
+    (λ k at. (table_between k at).0)
+    (λ image same tables. kindless g.R.Read.remaining c.args.sources.now c.args.journals c.directory_of-directory.result (d.content c.write_homes.new.disk) image paired c.directory_of-directory.ensures
+    (c.in_ok-write_homes.ensures.files k1) same tables)
+    (c.in_ok-write_layout.ensures.kind_behind keeps paired)

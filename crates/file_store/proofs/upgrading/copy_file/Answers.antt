@@ -3,12 +3,16 @@ use Rattle.std.proofs.lemmas.Bool.{cases_eq}
 use Rattle.disk_model.specs.Stop.{Image}
 use Rattle.disk_model.specs.Moments.{Nothing}
 use Rattle.disk_model.specs.Sectors.{part_of}
-use Rattle.sync_journal.specs.Layout.{layout_1, home_sector, IsPageSector}
-use Rattle.sync_journal.proofs.Runs.{one_more, of_more}
+use Rattle.disk_model.proofs.Moments.{asks_then, asks_wider}
+use Rattle.sync_journal.specs.Layout.{layout_before, home_count_in, IsPageSector}
+use Rattle.sync_journal.specs.Standing.{standing_in}
+use Rattle.sync_journal.specs.Kinds.{kind_home}
+use Rattle.sync_journal.proofs.Runs.{one_more}
 use Rattle.file_store.specs.Layout.{page_count}
 use Rattle.file_store.specs.Format.{HoldsPage}
 use Rattle.file_store.specs.Standing.{page_standing_in}
-use Rattle.file_store.specs.Upgrade.{IsFileSector}
+use Rattle.file_store.specs.Upgrade.{IsOldStore, IsFileSector, IsOldPage, old_place}
+use Rattle.file_store.proofs.Making.{makes_more, makes_page}
 use Rattle.file_store.proofs.Openings.{content_is}
 use Rattle.file_store.proofs.upgrading.copy_file.Goals as goal
 
@@ -16,9 +20,23 @@ pub returns-in_err-write_page-clause-run : goal.returns-in_err-write_page-clause
 returns-in_err-write_page-clause-run g c =
     let entry = c.args.entry in
     let below : c.loop-k.k < page_count entry.info.length = omega (arith, c.loop-k-test.true, c.pages-k-end.ensures) in
-    one_more g.E.SectorDisk (IsFileSector entry) c.args.new.now c.loop-k.new c.write_page.new.disk c.loop-k.invariant.run
-    (of_more g.E.SectorDisk (IsPageSector (8195 + 8 * c.from.result)) (IsFileSector entry) c.loop-k.new c.write_page.new.disk
-    (λ s inside. (entry.first + c.loop-k.k, (omega arith, omega (arith, below)), (omega (arith, inside.0, c.from.ensures), omega (arith, inside.1, c.from.ensures)))) c.write_page.ensures.run)
+    makes_more g.E.SectorDisk (IsFileSector c.args.journals entry) c.args.new.now c.loop-k.new c.write_page.new.disk c.loop-k.invariant.run
+    (makes_page g.E.SectorDisk (IsFileSector c.args.journals entry) (c.first_home-homes.result + 8 * c.from.result) c.loop-k.new c.write_page.new.disk
+    (λ s inside. (entry.first + c.loop-k.k, (omega arith, omega (arith, below)), (omega (arith, inside.0, c.from.ensures, c.first_home-homes.ensures.is), omega (arith, inside.1, c.from.ensures, c.first_home-homes.ensures.is)))) c.write_page.ensures.run c.write_page.ensures.asks)
+
+pub read_page-requires-clause-home : goal.read_page-requires-clause-home
+read_page-requires-clause-home g c =
+    let size = c.loop-k.invariant.old_run.size in
+    let below : c.loop-k.k < page_count c.args.entry.info.length = omega (arith, c.loop-k-test.true, c.pages-k-end.ensures) in
+    subst (λ b. c.args.entry.first + c.loop-k.k < home_count_in (layout_before b) (g.D.SectorDisk.sector_count c.loop-k.old)) (sym c.requires.before)
+    (subst (λ n. c.args.entry.first + c.loop-k.k < home_count_in (layout_before c.args.journals) n) (sym size) (omega (arith, below, c.requires.within)))
+
+pub read_page-requires-clause-found : goal.read_page-requires-clause-found
+read_page-requires-clause-found g c = λ keeps.
+    let inv = c.loop-k.invariant in
+    let was = inv.old_run.kept keeps in
+    subst (λ b. IsOldStore b (g.D.SectorDisk.content c.loop-k.old) c.args.store.now) (sym c.requires.before)
+    (subst (λ (image : Image). IsOldStore c.args.journals image c.args.store.now) (sym (content_is g.D.SectorDisk c.args.old.now c.loop-k.old (inv.old_run.touches keeps))) (c.requires.found was))
 
 pub loop-k-preserved : goal.loop-k-preserved
 loop-k-preserved g c =
@@ -32,20 +50,76 @@ loop-k-preserved g c =
     let new = n.content c.write_page.new.disk in
     record {
       old_run = one_more d Nothing c.args.old.now c.loop-k.old c.read_page.new.disk inv.old_run c.read_page.ensures.run;
-      run = one_more n (IsFileSector entry) c.args.new.now c.loop-k.new c.write_page.new.disk inv.run
-          (of_more n (IsPageSector (8195 + 8 * c.from.result)) (IsFileSector entry) c.loop-k.new c.write_page.new.disk
-          (λ s inside. (entry.first + c.loop-k.k, (omega arith, omega (arith, below)), (omega (arith, inside.0, c.from.ensures), omega (arith, inside.1, c.from.ensures)))) w.run);
+      asks_old = λ keeps.
+          let was = c.read_page.ensures.run.kept keeps in
+          let same = content_is d c.args.old.now c.loop-k.old (inv.old_run.touches was) in
+          asks_then d (IsOldPage c.args.journals old entry (c.loop-k.k + 1)) c.args.old.now c.loop-k.old c.read_page.new.disk
+          (asks_wider d (IsOldPage c.args.journals old entry c.loop-k.k) (IsOldPage c.args.journals old entry (c.loop-k.k + 1)) c.args.old.now c.loop-k.old (λ s at. (at.0, omega (arith, at.1), at.2)) (inv.asks_old was))
+          (asks_wider d (IsPageSector (old_place c.args.store.now.journal.journals (d.content c.loop-k.old) (entry.first + c.loop-k.k))) (IsOldPage c.args.journals old entry (c.loop-k.k + 1)) c.loop-k.old c.read_page.new.disk
+          (λ s at. (
+            c.loop-k.k,
+            omega arith,
+            subst (λ (image : Image). IsPageSector (old_place c.args.journals image (entry.first + c.loop-k.k)) s) same
+                (subst (λ b. IsPageSector (old_place b (d.content c.loop-k.old) (entry.first + c.loop-k.k)) s) c.requires.before at),
+          ))
+          (c.read_page.ensures.asks keeps));
+      run = makes_more n (IsFileSector c.args.journals entry) c.args.new.now c.loop-k.new c.write_page.new.disk inv.run
+          (makes_page g.E.SectorDisk (IsFileSector c.args.journals entry) (c.first_home-homes.result + 8 * c.from.result) c.loop-k.new c.write_page.new.disk
+          (λ s inside. (entry.first + c.loop-k.k, (omega arith, omega (arith, below)), (omega (arith, inside.0, c.from.ensures, c.first_home-homes.ensures.is), omega (arith, inside.1, c.from.ensures, c.first_home-homes.ensures.is)))) c.write_page.ensures.run c.write_page.ensures.asks);
       old_calm = c.in_ok-read_page.ensures.calm ∙ inv.old_calm;
       calm = c.in_ok-write_page.ensures.calm ∙ inv.calm;
       pages = λ keeps_old keeps j below_j.
           let was = c.read_page.ensures.run.kept keeps_old in
           let same = content_is d c.args.old.now c.loop-k.old (inv.old_run.touches was) in ⊎_elim
-          (λ here. subst (λ m. HoldsPage (entry.first + m) (page_standing_in layout_1 old m (Some entry)) new) (sym here)
-          (λ i lt. ap (λ m. new (8195 + 8 * m + i)) (sym c.from.ensures)
+          (λ here. subst (λ m. HoldsPage c.args.journals (entry.first + m) (page_standing_in (standing_in (layout_before c.args.journals) old) m (Some entry)) new) (sym here)
+          (λ i lt. ap (λ m. new (m + 8 * (entry.first + c.loop-k.k) + i)) (sym c.first_home-homes.ensures.is) ∙ ap (λ m. new (c.first_home-homes.result + 8 * m + i)) (sym c.from.ensures)
           ∙ c.in_ok-write_page.ensures.written keeps i lt
-          ∙ ap (λ page. part_of page i) (c.in_ok-read_page.ensures.page keeps_old ∙ ap (λ (image : Image). page_standing_in layout_1 image c.loop-k.k (Some entry)) same)))
-          (λ other. λ i lt. ⊎_elim {C = new (home_sector (entry.first + j) + i) ≡ n.content c.loop-k.new (home_sector (entry.first + j) + i)}
-          (λ at. absurd (omega (arith, at.0, at.1, c.from.ensures, other, lt))) (λ e. e) ((w.run.touches keeps).content (home_sector (entry.first + j) + i))
+          ∙ ap (λ page. part_of page i) (c.in_ok-read_page.ensures.page keeps_old
+          ∙ ap (λ b. page_standing_in (standing_in (layout_before b) (d.content c.loop-k.old)) c.loop-k.k (Some entry)) c.requires.before ∙ ap (λ (image : Image). page_standing_in (standing_in (layout_before c.args.journals) image) c.loop-k.k (Some entry)) same)))
+          (λ other. λ i lt. ⊎_elim {C = new (kind_home c.args.journals (entry.first + j) + i) ≡ n.content c.loop-k.new (kind_home c.args.journals (entry.first + j) + i)}
+          (λ at. absurd (omega (arith, at.0, at.1, c.from.ensures, other, lt, c.first_home-homes.ensures.is))) (λ e. e) ((w.run.touches keeps).content (kind_home c.args.journals (entry.first + j) + i))
           ∙ inv.pages was (w.run.kept keeps) j (omega (arith, below_j, other)) i lt)
           (cases_eq j c.loop-k.k);
     }
+
+pub returns-in_err-read_page-clause-asks_old : goal.returns-in_err-read_page-clause-asks_old
+returns-in_err-read_page-clause-asks_old g c = λ keeps.
+    let inv = c.loop-k.invariant in
+    let d = g.D.SectorDisk in
+    let entry = c.args.entry in
+    let old = d.content c.args.old.now in
+    let below : c.loop-k.k < page_count entry.info.length = omega (arith, c.loop-k-test.true, c.pages-k-end.ensures) in
+    let was = c.read_page.ensures.run.kept keeps in
+    let same = content_is d c.args.old.now c.loop-k.old (inv.old_run.touches was) in
+    let W = IsOldPage c.args.journals old entry (page_count entry.info.length) in
+    asks_then d W c.args.old.now c.loop-k.old c.read_page.new.disk
+    (asks_wider d (IsOldPage c.args.journals old entry c.loop-k.k) W c.args.old.now c.loop-k.old (λ s at. (at.0, omega (arith, at.1, below), at.2)) (inv.asks_old was))
+    (asks_wider d (IsPageSector (old_place c.args.store.now.journal.journals (d.content c.loop-k.old) (entry.first + c.loop-k.k))) W c.loop-k.old c.read_page.new.disk
+    (λ s at. (
+      c.loop-k.k,
+      below,
+      subst (λ (image : Image). IsPageSector (old_place c.args.journals image (entry.first + c.loop-k.k)) s) same
+          (subst (λ b. IsPageSector (old_place b (d.content c.loop-k.old) (entry.first + c.loop-k.k)) s) c.requires.before at),
+    ))
+    (c.read_page.ensures.asks keeps))
+
+pub returns-in_err-write_page-clause-asks_old : goal.returns-in_err-write_page-clause-asks_old
+returns-in_err-write_page-clause-asks_old g c = λ keeps.
+    let inv = c.loop-k.invariant in
+    let d = g.D.SectorDisk in
+    let entry = c.args.entry in
+    let old = d.content c.args.old.now in
+    let below : c.loop-k.k < page_count entry.info.length = omega (arith, c.loop-k-test.true, c.pages-k-end.ensures) in
+    let was = c.read_page.ensures.run.kept keeps in
+    let same = content_is d c.args.old.now c.loop-k.old (inv.old_run.touches was) in
+    let W = IsOldPage c.args.journals old entry (page_count entry.info.length) in
+    asks_then d W c.args.old.now c.loop-k.old c.read_page.new.disk
+    (asks_wider d (IsOldPage c.args.journals old entry c.loop-k.k) W c.args.old.now c.loop-k.old (λ s at. (at.0, omega (arith, at.1, below), at.2)) (inv.asks_old was))
+    (asks_wider d (IsPageSector (old_place c.args.store.now.journal.journals (d.content c.loop-k.old) (entry.first + c.loop-k.k))) W c.loop-k.old c.read_page.new.disk
+    (λ s at. (
+      c.loop-k.k,
+      below,
+      subst (λ (image : Image). IsPageSector (old_place c.args.journals image (entry.first + c.loop-k.k)) s) same
+          (subst (λ b. IsPageSector (old_place b (d.content c.loop-k.old) (entry.first + c.loop-k.k)) s) c.requires.before at),
+    ))
+    (c.read_page.ensures.asks keeps))

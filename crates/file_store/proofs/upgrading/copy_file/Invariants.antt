@@ -1,15 +1,17 @@
 use Rattle.std.proofs.Common.{◌≡◌}
-use Rattle.disk_model.specs.Moments.{Nothing}
+use Rattle.disk_model.specs.Moments.{AsksOnly, Nothing}
 use Rattle.sync_journal.specs.Runs.{Runs}
-use Rattle.file_store.specs.Upgrade.{IsFileSector, HoldsOldPages}
+use Rattle.file_store.specs.Making.{Makes}
+use Rattle.file_store.specs.Upgrade.{IsOldPage, IsFileSector, HoldsOldPages}
 use Rattle.file_store.proofs.upgrading.copy_file.Given as goal
 
 abbrev pub invariant-loop-k : goal.invariant-loop-k
 invariant-loop-k g l = record {
   old_run : Runs g.D.SectorDisk Nothing l.initial.old l.old;
-  run : Runs g.E.SectorDisk (IsFileSector l.entry) l.initial.new l.new;
+  asks_old : g.D.SectorDisk.keeps_model l.old → AsksOnly g.D.SectorDisk (IsOldPage l.fn.journals (g.D.SectorDisk.content l.initial.old) l.entry l.k) l.initial.old l.old;
+  run : Makes g.E.SectorDisk (IsFileSector l.fn.journals l.entry) l.initial.new l.new;
   old_calm : g.D.SectorDisk.failures l.old ≡ g.D.SectorDisk.failures l.initial.old;
   calm : g.E.SectorDisk.failures l.new ≡ g.E.SectorDisk.failures l.initial.new;
   pages : g.D.SectorDisk.keeps_model l.old → g.E.SectorDisk.keeps_model l.new
-      → HoldsOldPages (g.D.SectorDisk.content l.initial.old) l.entry l.k (g.E.SectorDisk.content l.new);
+      → HoldsOldPages l.fn.journals (g.D.SectorDisk.content l.initial.old) l.entry l.k (g.E.SectorDisk.content l.new);
 }

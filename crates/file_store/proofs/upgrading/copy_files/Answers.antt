@@ -1,22 +1,25 @@
-use Rattle.std.proofs.Common.{◌≡◌, ◌+◌, Some, sym, ap, subst, ◌∙◌, ⊎_elim, arith}
+use Rattle.std.proofs.Common.{◌≡◌, ◌+◌, Option, Some, sym, ap, subst, ◌∙◌, ⊎_elim, arith}
 use Rattle.std.proofs.lemmas.Bool.{cases_eq}
 use Rattle.disk_model.specs.Stop.{Image}
 use Rattle.disk_model.specs.Moments.{Nothing}
-use Rattle.sync_journal.specs.Layout.{layout_1, home_count_in, home_sector}
-use Rattle.sync_journal.proofs.Runs.{one_more, of_more}
+use Rattle.disk_model.proofs.Moments.{asks_then, asks_wider}
+use Rattle.sync_journal.specs.Layout.{layout_before, home_count_in}
+use Rattle.sync_journal.specs.Kinds.{kind_home}
+use Rattle.sync_journal.proofs.Runs.{one_more}
 use Rattle.file_store.specs.Layout.{page_count}
-use Rattle.file_store.specs.Format.{IsFrom}
 use Rattle.file_store.specs.Store.{entry_of}
-use Rattle.file_store.specs.Upgrade.{IsEntrySector, HoldsOldPages}
+use Rattle.file_store.specs.Upgrade.{IsEntrySector, IsFilesSector, IsOldEntry, IsOldFile, HoldsOldPages}
+use Rattle.file_store.specs.declared.directory.Entry.{Entry}
+use Rattle.file_store.proofs.Making.{makes_more, makes_of}
 use Rattle.file_store.proofs.Openings.{content_is}
-use Rattle.file_store.proofs.Upgrades.{entry_from, not_in_entry}
+use Rattle.file_store.proofs.Upgrades.{not_in_entry}
 use Rattle.file_store.proofs.upgrading.copy_files.Goals as goal
 
 pub returns-in_err-copy_entry-clause-run : goal.returns-in_err-copy_entry-clause-run
 returns-in_err-copy_entry-clause-run g c =
     let entry = entry_of c.args.store.now.directory c.loop-f.f in
-    one_more g.E.SectorDisk (IsFrom 8195) c.args.new.now c.loop-f.new c.copy_entry.new.new c.loop-f.invariant.run
-    (of_more g.E.SectorDisk (IsEntrySector entry) (IsFrom 8195) c.loop-f.new c.copy_entry.new.new (entry_from entry) c.copy_entry.ensures.run)
+    makes_more g.E.SectorDisk (IsFilesSector c.args.journals (entry_of c.args.store.now.directory)) c.args.new.now c.loop-f.new c.copy_entry.new.new c.loop-f.invariant.run
+    (makes_of g.E.SectorDisk (IsEntrySector c.args.journals entry) (IsFilesSector c.args.journals (entry_of c.args.store.now.directory)) c.loop-f.new c.copy_entry.new.new (λ k at. (c.loop-f.f, at)) c.copy_entry.ensures.run)
 
 pub loop-f-preserved : goal.loop-f-preserved
 loop-f-preserved g c =
@@ -27,10 +30,22 @@ loop-f-preserved g c =
     let directory = c.args.store.now.directory in
     let entry = entry_of directory c.loop-f.f in
     let new = n.content c.copy_entry.new.new in
+    let old = d.content c.args.old.now in
     record {
       old_run = one_more d Nothing c.args.old.now c.loop-f.old c.copy_entry.new.old inv.old_run w.old_run;
-      run = one_more n (IsFrom 8195) c.args.new.now c.loop-f.new c.copy_entry.new.new inv.run
-          (of_more n (IsEntrySector entry) (IsFrom 8195) c.loop-f.new c.copy_entry.new.new (entry_from entry) w.run);
+      asks_old = λ keeps.
+          let was = c.copy_entry.ensures.old_run.kept keeps in
+          let same = content_is d c.args.old.now c.loop-f.old (inv.old_run.touches was) in
+          let W = IsOldFile c.args.journals old in
+          asks_then d W c.args.old.now c.loop-f.old c.copy_entry.new.old (inv.asks_old was)
+          (asks_wider d (IsOldEntry c.args.journals (d.content c.loop-f.old) entry) W c.loop-f.old c.copy_entry.new.old
+          (λ k at. (
+            c.loop-f.f,
+            subst (λ (o : Option Entry). IsOldEntry c.args.journals old o k) ((c.requires.found (inv.old_run.kept was)).entries c.loop-f.f)
+                (subst (λ (image : Image). IsOldEntry c.args.journals image entry k) same at),
+          )) (c.copy_entry.ensures.asks_old keeps));
+      run = makes_more n (IsFilesSector c.args.journals (entry_of c.args.store.now.directory)) c.args.new.now c.loop-f.new c.copy_entry.new.new inv.run
+          (makes_of n (IsEntrySector c.args.journals entry) (IsFilesSector c.args.journals (entry_of c.args.store.now.directory)) c.loop-f.new c.copy_entry.new.new (λ k at. (c.loop-f.f, at)) c.copy_entry.ensures.run);
       old_calm = c.in_ok-copy_entry.ensures.causes.old_still (λ e. cc) ∙ inv.old_calm;
       calm = c.in_ok-copy_entry.ensures.causes.new_still (λ e. cc) ∙ inv.calm;
       files = λ keeps_old keeps h e less is.
@@ -38,11 +53,28 @@ loop-f-preserved g c =
           let first = inv.old_run.kept was in
           let same = content_is d c.args.old.now c.loop-f.old (inv.old_run.touches was) in
           let known : entry_of directory h ≡ Some e = (c.requires.found first).entries h ∙ is in ⊎_elim
-          (λ here. subst (λ (image : Image). HoldsOldPages image e (page_count e.info.length) new) same
+          (λ here. subst (λ (image : Image). HoldsOldPages c.args.journals image e (page_count e.info.length) new) same
           (c.in_ok-copy_entry.ensures.pages keeps_old keeps e (ap (entry_of directory) (sym here) ∙ known)))
-          (λ other. λ k inside i lt. ⊎_elim {C = new (home_sector (e.first + k) + i) ≡ n.content c.loop-f.new (home_sector (e.first + k) + i)}
-          (λ at. absurd (not_in_entry (home_count_in layout_1 (d.sector_count c.args.old.now)) (entry_of directory) c.requires.sound h c.loop-f.f k i e other known inside lt at))
-          (λ e. e) ((w.run.touches keeps).content (home_sector (e.first + k) + i))
+          (λ other. λ k inside i lt. ⊎_elim {C = new (kind_home c.args.journals (e.first + k) + i) ≡ n.content c.loop-f.new (kind_home c.args.journals (e.first + k) + i)}
+          (λ at. absurd (not_in_entry c.args.journals (home_count_in (layout_before c.args.journals) (d.sector_count c.args.old.now)) (entry_of directory) c.requires.sound h c.loop-f.f k i e other known inside lt at))
+          (λ e. e) ((w.run.touches keeps).content (kind_home c.args.journals (e.first + k) + i))
           ∙ inv.files was (w.run.kept keeps) h e (omega (arith, less, other)) is k inside i lt)
           (cases_eq h c.loop-f.f);
     }
+
+pub returns-in_err-copy_entry-clause-asks_old : goal.returns-in_err-copy_entry-clause-asks_old
+returns-in_err-copy_entry-clause-asks_old g c = λ keeps.
+    let inv = c.loop-f.invariant in
+    let d = g.D.SectorDisk in
+    let entry = entry_of c.args.store.now.directory c.loop-f.f in
+    let old = d.content c.args.old.now in
+    let was = c.copy_entry.ensures.old_run.kept keeps in
+    let same = content_is d c.args.old.now c.loop-f.old (inv.old_run.touches was) in
+    let W = IsOldFile c.args.journals old in
+    asks_then d W c.args.old.now c.loop-f.old c.copy_entry.new.old (inv.asks_old was)
+    (asks_wider d (IsOldEntry c.args.journals (d.content c.loop-f.old) entry) W c.loop-f.old c.copy_entry.new.old
+    (λ k at. (
+      c.loop-f.f,
+      subst (λ (o : Option Entry). IsOldEntry c.args.journals old o k) ((c.requires.found (inv.old_run.kept was)).entries c.loop-f.f)
+          (subst (λ (image : Image). IsOldEntry c.args.journals image entry k) same at),
+    )) (c.copy_entry.ensures.asks_old keeps))

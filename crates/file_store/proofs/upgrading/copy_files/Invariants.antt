@@ -1,16 +1,18 @@
 use Rattle.std.proofs.Common.{◌≡◌}
-use Rattle.disk_model.specs.Moments.{Nothing}
+use Rattle.disk_model.specs.Moments.{AsksOnly, Nothing}
 use Rattle.sync_journal.specs.Runs.{Runs}
-use Rattle.file_store.specs.Format.{IsFrom}
-use Rattle.file_store.specs.Upgrade.{HoldsOldFiles}
+use Rattle.file_store.specs.Making.{Makes}
+use Rattle.file_store.specs.Store.{entry_of}
+use Rattle.file_store.specs.Upgrade.{IsOldFile, IsFilesSector, HoldsOldFiles}
 use Rattle.file_store.proofs.upgrading.copy_files.Given as goal
 
 abbrev pub invariant-loop-f : goal.invariant-loop-f
 invariant-loop-f g l = record {
   old_run : Runs g.D.SectorDisk Nothing l.initial.old l.old;
-  run : Runs g.E.SectorDisk (IsFrom 8195) l.initial.new l.new;
+  asks_old : g.D.SectorDisk.keeps_model l.old → AsksOnly g.D.SectorDisk (IsOldFile l.fn.journals (g.D.SectorDisk.content l.initial.old)) l.initial.old l.old;
+  run : Makes g.E.SectorDisk (IsFilesSector l.fn.journals (entry_of l.store.directory)) l.initial.new l.new;
   old_calm : g.D.SectorDisk.failures l.old ≡ g.D.SectorDisk.failures l.initial.old;
   calm : g.E.SectorDisk.failures l.new ≡ g.E.SectorDisk.failures l.initial.new;
   files : g.D.SectorDisk.keeps_model l.old → g.E.SectorDisk.keeps_model l.new
-      → HoldsOldFiles (g.D.SectorDisk.content l.initial.old) l.f (g.E.SectorDisk.content l.new);
+      → HoldsOldFiles l.fn.journals (g.D.SectorDisk.content l.initial.old) l.f (g.E.SectorDisk.content l.new);
 }

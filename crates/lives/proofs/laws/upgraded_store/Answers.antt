@@ -1,9 +1,12 @@
 use Rattle.std.proofs.Common.{refl}
-use Rattle.lives.proofs.NewStores.{upgrade_stands, stopped_upgrade}
+use Rattle.lives.proofs.NewStores.{lived_before, upgrade_stands, stopped_upgrade}
 use Rattle.lives.proofs.laws.upgraded_store.Goals as goal
 
 pub returns-clause-stood : goal.returns-clause-stood
-returns-clause-stood g = λ sectors old layout journal. record { layout = layout; journal = journal; facts = λ f. refl; same = λ f k inside. refl }
+returns-clause-stood g = λ journals sectors old layout journal. record { layout = layout; journal = journal; facts = λ f. refl; same = λ f k inside. refl }
+
+pub returns-clause-lived : goal.returns-clause-lived
+returns-clause-lived g = lived_before
 
 pub returns-clause-made : goal.returns-clause-made
 returns-clause-made g = upgrade_stands

@@ -1,5 +1,5 @@
 use Rattle.std.specs.Prelude.{is_some}
-use Rattle.std.proofs.Common.{◌≡◌, Some, inl, refl, sym, ap, ◌∙◌, subst}
+use Rattle.std.proofs.Common.{◌≡◌, Some, inl, refl, sym, ap, ◌∙◌, subst, rules}
 use Rattle.std.specs.Prelude.{IsTrue}
 use Rattle.std.proofs.lemmas.Bool.{false≢true}
 use Rattle.disk_model.specs.Moments.{Nothing}
@@ -15,7 +15,8 @@ use Rattle.paging.proofs.Granting.{past_end-same}
 use Rattle.mapping.specs.Changes.{IsThatPage}
 use Rattle.mapping.proofs.Asking.{asks_slots_kept}
 use Rattle.mapping.proofs.Entering.{beside_around}
-use Rattle.mapping.proofs.OwnSteps.{behind_freed, shown_used, shown_datum, lives_found, whole_found, at_found, spaces_set, tables_set, rows_mid, rows_own, room_set, others_set, bare_set, slotted_set, files_set, bytes_set, own_set, entry_set, count_set, fit_first, behind_first, role_shared, fit_shared, spaces_shared, tables_shared, rows_shared, room_shared, others_shared, bare_shared, slotted_shared, files_shared, bytes_shared, own_shared, entry_shared, count_shared}
+use Rattle.mapping.proofs.NoTables.{no_table_freed}
+use Rattle.mapping.proofs.OwnSteps.{behind_freed, shown_used, shown_datum, lives_found, whole_found, at_found, spaces_set, tables_set, rows_mid, no_table_own, no_table_shared, rows_own, room_set, others_set, bare_set, slotted_set, files_set, bytes_set, own_set, entry_set, count_set, fit_first, behind_first, role_shared, fit_shared, spaces_shared, tables_shared, rows_shared, room_shared, others_shared, bare_shared, slotted_shared, files_shared, bytes_shared, own_shared, entry_shared, count_shared}
 use Rattle.mapping.proofs.Forms.{used_inside}
 use Rattle.mapping.proofs.Rows.{rows_freed}
 use Rattle.mapping.proofs.Settling.{forest_mid, root_mid}
@@ -27,15 +28,15 @@ pub take_copy-requires-clause-source : goal.take_copy-requires-clause-source
 take_copy-requires-clause-source g c =
     let old : Picture g.M.Levels.mode = picture_of c.args.core.now in
     used_inside old.frames c.args.shown.0 c.args.core.now.sound
-    (shown_used old c.args.spot.now.pid c.args.spot.now.page c.args.shown.0 c.args.attr c.args.core.now.sound c.requires.spot.linked c.requires.attr c.requires.resident c.requires.own c.requires.common)
+    (shown_used old c.args.spot.now.pid c.args.spot.now.page c.args.shown.0 c.args.attr c.args.core.now.sound c.requires.page.stands.linked c.requires.page.mapped c.requires.page.resident c.requires.own c.requires.common)
 
 pub take_copy-requires-clause-in_use : goal.take_copy-requires-clause-in_use
 take_copy-requires-clause-in_use g c =
-    shown_used (picture_of c.args.core.now) c.args.spot.now.pid c.args.spot.now.page c.args.shown.0 c.args.attr c.args.core.now.sound c.requires.spot.linked c.requires.attr c.requires.resident c.requires.own c.requires.common
+    shown_used (picture_of c.args.core.now) c.args.spot.now.pid c.args.spot.now.page c.args.shown.0 c.args.attr c.args.core.now.sound c.requires.page.stands.linked c.requires.page.mapped c.requires.page.resident c.requires.own c.requires.common
 
 pub take_copy-requires-clause-datum : goal.take_copy-requires-clause-datum
 take_copy-requires-clause-datum g c =
-    shown_datum (picture_of c.args.core.now) c.args.spot.now.pid c.args.spot.now.page c.args.shown.0 c.args.attr c.args.core.now.sound c.requires.spot.linked c.requires.attr c.requires.resident c.requires.own c.requires.common
+    shown_datum (picture_of c.args.core.now) c.args.spot.now.pid c.args.spot.now.page c.args.shown.0 c.args.attr c.args.core.now.sound c.requires.page.stands.linked c.requires.page.mapped c.requires.page.resident c.requires.own c.requires.common
 
 pub set_full-requires-clause-forest : goal.set_full-requires-clause-forest
 set_full-requires-clause-forest g c =
@@ -44,7 +45,7 @@ set_full-requires-clause-forest g c =
     let copy = c.in_ok-own.ensures.taken in
     let n = c.in_ok-own.own.0 in
     let r = c.args.spot.now.root.0 in
-    forest_mid copy.found mid c.args.spot.now.pid c.args.spot.now.page r n c.args.attr copy.fit copy.changes copy.role copy.count copy.noted (lives_found old c.args.spot.now.pid c.args.spot.now.page c.args.shown.0 c.args.attr c.args.core.now.sound c.requires.spot.linked c.requires.attr c.requires.resident c.requires.own c.requires.common mid n r copy c.requires.spot.root) (whole_found old c.args.spot.now.pid c.args.spot.now.page c.args.shown.0 c.args.attr c.args.core.now.sound c.requires.spot.linked c.requires.attr c.requires.resident c.requires.own c.requires.common mid n r copy c.requires.spot.root) (at_found old c.args.spot.now.pid c.args.spot.now.page c.args.shown.0 c.args.attr c.args.core.now.sound c.requires.spot.linked c.requires.attr c.requires.resident c.requires.own c.requires.common mid n r copy c.requires.spot.root)
+    forest_mid copy.found mid c.args.spot.now.pid c.args.spot.now.page r n c.args.attr copy.fit copy.changes copy.role copy.count copy.noted (lives_found old c.args.spot.now.pid c.args.spot.now.page c.args.shown.0 c.args.attr c.args.core.now.sound c.requires.page.stands.linked c.requires.page.mapped c.requires.page.resident c.requires.own c.requires.common mid n r copy c.requires.page.stands.root) (whole_found old c.args.spot.now.pid c.args.spot.now.page c.args.shown.0 c.args.attr c.args.core.now.sound c.requires.page.stands.linked c.requires.page.mapped c.requires.page.resident c.requires.own c.requires.common mid n r copy c.requires.page.stands.root) (at_found old c.args.spot.now.pid c.args.spot.now.page c.args.shown.0 c.args.attr c.args.core.now.sound c.requires.page.stands.linked c.requires.page.mapped c.requires.page.resident c.requires.own c.requires.common mid n r copy c.requires.page.stands.root)
 
 pub set_full-requires-clause-root : goal.set_full-requires-clause-root
 set_full-requires-clause-root g c =
@@ -53,7 +54,7 @@ set_full-requires-clause-root g c =
     let copy = c.in_ok-own.ensures.taken in
     let n = c.in_ok-own.own.0 in
     let r = c.args.spot.now.root.0 in
-    root_mid copy.found mid c.args.spot.now.pid c.args.spot.now.page r n c.args.attr copy.fit copy.changes copy.role copy.count copy.noted (lives_found old c.args.spot.now.pid c.args.spot.now.page c.args.shown.0 c.args.attr c.args.core.now.sound c.requires.spot.linked c.requires.attr c.requires.resident c.requires.own c.requires.common mid n r copy c.requires.spot.root) (whole_found old c.args.spot.now.pid c.args.spot.now.page c.args.shown.0 c.args.attr c.args.core.now.sound c.requires.spot.linked c.requires.attr c.requires.resident c.requires.own c.requires.common mid n r copy c.requires.spot.root) (at_found old c.args.spot.now.pid c.args.spot.now.page c.args.shown.0 c.args.attr c.args.core.now.sound c.requires.spot.linked c.requires.attr c.requires.resident c.requires.own c.requires.common mid n r copy c.requires.spot.root)
+    root_mid copy.found mid c.args.spot.now.pid c.args.spot.now.page r n c.args.attr copy.fit copy.changes copy.role copy.count copy.noted (lives_found old c.args.spot.now.pid c.args.spot.now.page c.args.shown.0 c.args.attr c.args.core.now.sound c.requires.page.stands.linked c.requires.page.mapped c.requires.page.resident c.requires.own c.requires.common mid n r copy c.requires.page.stands.root) (whole_found old c.args.spot.now.pid c.args.spot.now.page c.args.shown.0 c.args.attr c.args.core.now.sound c.requires.page.stands.linked c.requires.page.mapped c.requires.page.resident c.requires.own c.requires.common mid n r copy c.requires.page.stands.root) (at_found old c.args.spot.now.pid c.args.spot.now.page c.args.shown.0 c.args.attr c.args.core.now.sound c.requires.page.stands.linked c.requires.page.mapped c.requires.page.resident c.requires.own c.requires.common mid n r copy c.requires.page.stands.root)
 
 pub set_full-requires-clause-table : goal.set_full-requires-clause-table
 set_full-requires-clause-table g c =
@@ -62,7 +63,7 @@ set_full-requires-clause-table g c =
     let copy = c.in_ok-own.ensures.taken in
     let n = c.in_ok-own.own.0 in
     let r = c.args.spot.now.root.0 in
-    rows_mid old c.args.spot.now.pid c.args.spot.now.page c.args.shown.0 c.args.attr c.args.core.now.sound c.requires.spot.linked c.requires.attr c.requires.resident c.requires.own c.requires.common mid n r copy c.requires.spot.root c.args.spot.now.pid r _ c.args.spot.now.table.0 c.requires.spot.root c.requires.spot.table
+    rows_mid old c.args.spot.now.pid c.args.spot.now.page c.args.shown.0 c.args.attr c.args.core.now.sound c.requires.page.stands.linked c.requires.page.mapped c.requires.page.resident c.requires.own c.requires.common mid n r copy c.requires.page.stands.root c.args.spot.now.pid r _ c.args.spot.now.table.0 c.requires.page.stands.root c.requires.page.stands.table
 
 pub set_full-requires-clause-inside : goal.set_full-requires-clause-inside
 set_full-requires-clause-inside g c = c.in_ok-own.ensures.taken.inside
@@ -77,16 +78,16 @@ release-requires g c =
     let copy = c.in_ok-own.ensures.taken in
     let n = c.in_ok-own.own.0 in
     let r = c.args.spot.now.root.0 in
-    let inside = past_end-same old copy.found c.args.attr.backing copy.frees.pages.files.files ∙ c.requires.inside in
+    let inside = past_end-same old copy.found c.args.attr.backing copy.frees.pages.files.files ∙ c.requires.page.inside in
     let private = sym (ap is_private c.requires.was) ∙ sym c.is_private.ensures ∙ c.if-is_private.true in
-    let role = role_shared old c.args.spot.now.pid c.args.spot.now.page c.args.shown.0 c.args.attr c.args.core.now.sound c.requires.spot.linked c.requires.attr c.requires.resident c.requires.own c.requires.common mid n r copy c.requires.spot.root set sets beside c.requires.not_shared inside private in
+    let role = role_shared old c.args.spot.now.pid c.args.spot.now.page c.args.shown.0 c.args.attr c.args.core.now.sound c.requires.page.stands.linked c.requires.page.mapped c.requires.page.resident c.requires.own c.requires.common mid n r copy c.requires.page.stands.root set sets beside c.requires.page.not_shared inside private in
     record {
       inside = used_inside set.frames c.args.shown.0 c.set_full.new.core.sound (λ free. (let bad : Private ≡ Free = sym role ∙ free in (cc)));
       handed_out = (let P : Role → Type 0 = λ x. IsTrue (is_handed_out x) in subst P (sym role) refl);
     }
 
-pub returns-then-is_private-clause-moves : goal.returns-then-is_private-clause-moves
-returns-then-is_private-clause-moves g c =
+pub returns-then-is_private : goal.returns-then-is_private
+returns-then-is_private g c =
     let old : Picture g.M.Levels.mode = picture_of c.args.core.now in
     let mid : Picture g.M.Levels.mode = picture_of c.take_copy.new.core in
     let set : Picture g.M.Levels.mode = picture_of c.set_full.new.core in
@@ -95,24 +96,47 @@ returns-then-is_private-clause-moves g c =
     let copy = c.in_ok-own.ensures.taken in
     let n = c.in_ok-own.own.0 in
     let r = c.args.spot.now.root.0 in
-    let inside = past_end-same old copy.found c.args.attr.backing copy.frees.pages.files.files ∙ c.requires.inside in
+    let inside = past_end-same old copy.found c.args.attr.backing copy.frees.pages.files.files ∙ c.requires.page.inside in
     let private = sym (ap is_private c.requires.was) ∙ sym c.is_private.ensures ∙ c.if-is_private.true in
     let new : Picture g.M.Levels.mode = record set { frames = c.release.new.self } in
     let beside' : SameBeside set new = same_with set c.release.new.self in
     let releases = c.release.ensures.change in
     let done = c.in_ok-own.ensures in
     record {
-      fit = fit_shared old c.args.spot.now.pid c.args.spot.now.page c.args.shown.0 c.args.attr c.args.core.now.sound c.requires.spot.linked c.requires.attr c.requires.resident c.requires.own c.requires.common mid n r copy c.requires.spot.root set sets beside c.requires.not_shared inside private new releases beside';
-      swap = (let P : Swap _ → Type 0 = λ s. IsReady g.E.SectorDisk s in subst P (sym c.set_full.ensures.rest.swap) done.swap);
-      spaces = spaces_shared old c.args.spot.now.pid c.args.spot.now.page c.args.shown.0 c.args.attr c.args.core.now.sound c.requires.spot.linked c.requires.attr c.requires.resident c.requires.own c.requires.common mid n r copy c.requires.spot.root set sets beside c.requires.not_shared inside private new releases beside';
-      tables = tables_shared old c.args.spot.now.pid c.args.spot.now.page c.args.shown.0 c.args.attr c.args.core.now.sound c.requires.spot.linked c.requires.attr c.requires.resident c.requires.own c.requires.common mid n r copy c.requires.spot.root set sets beside c.requires.not_shared inside private new releases beside';
-      room = room_shared old c.args.spot.now.pid c.args.spot.now.page c.args.shown.0 c.args.attr c.args.core.now.sound c.requires.spot.linked c.requires.attr c.requires.resident c.requires.own c.requires.common mid n r copy c.requires.spot.root set sets beside c.requires.not_shared inside private new releases beside';
-      store = c.set_full.ensures.rest.store ∙ done.rest.store;
-      device = (let P : Swap _ → Type 0 = λ s. UsesDevice g.E.SectorDisk c.args.core.now.swap.pages.disk s.pages.disk in subst P (sym c.set_full.ensures.rest.swap) done.device);
+      own = own_shared old c.args.spot.now.pid c.args.spot.now.page c.args.shown.0 c.args.attr c.args.core.now.sound c.requires.page.stands.linked c.requires.page.mapped c.requires.page.resident c.requires.own c.requires.common mid n r copy c.requires.page.stands.root set sets beside c.requires.page.not_shared inside private new releases beside';
+      bytes = bytes_shared old c.args.spot.now.pid c.args.spot.now.page c.args.shown.0 c.args.attr c.args.core.now.sound c.requires.page.stands.linked c.requires.page.mapped c.requires.page.resident c.requires.own c.requires.common mid n r copy c.requires.page.stands.root set sets beside c.requires.page.not_shared inside private new releases beside';
+      entered = entry_shared old c.args.spot.now.pid c.args.spot.now.page c.args.shown.0 c.args.attr c.args.core.now.sound c.requires.page.stands.linked c.requires.page.mapped c.requires.page.resident c.requires.own c.requires.common mid n r copy c.requires.page.stands.root set sets beside c.requires.page.not_shared inside private new releases beside' c.requires.page.writable;
+      sole = count_shared old c.args.spot.now.pid c.args.spot.now.page c.args.shown.0 c.args.attr c.args.core.now.sound c.requires.page.stands.linked c.requires.page.mapped c.requires.page.resident c.requires.own c.requires.common mid n r copy c.requires.page.stands.root set sets beside c.requires.page.not_shared inside private new releases beside';
+      behind = λ x not_own. absurd (false≢true (sym not_own ∙ private));
+      keeps = record {
+        moves = record {
+          fit = fit_shared old c.args.spot.now.pid c.args.spot.now.page c.args.shown.0 c.args.attr c.args.core.now.sound c.requires.page.stands.linked c.requires.page.mapped c.requires.page.resident c.requires.own c.requires.common mid n r copy c.requires.page.stands.root set sets beside c.requires.page.not_shared inside private new releases beside';
+          swap = (let P : Swap _ → Type 0 = λ s. IsReady g.E.SectorDisk s in subst P (sym c.set_full.ensures.rest.swap) done.swap);
+          spaces = spaces_shared old c.args.spot.now.pid c.args.spot.now.page c.args.shown.0 c.args.attr c.args.core.now.sound c.requires.page.stands.linked c.requires.page.mapped c.requires.page.resident c.requires.own c.requires.common mid n r copy c.requires.page.stands.root set sets beside c.requires.page.not_shared inside private new releases beside';
+          tables = tables_shared old c.args.spot.now.pid c.args.spot.now.page c.args.shown.0 c.args.attr c.args.core.now.sound c.requires.page.stands.linked c.requires.page.mapped c.requires.page.resident c.requires.own c.requires.common mid n r copy c.requires.page.stands.root set sets beside c.requires.page.not_shared inside private new releases beside';
+          room = room_shared old c.args.spot.now.pid c.args.spot.now.page c.args.shown.0 c.args.attr c.args.core.now.sound c.requires.page.stands.linked c.requires.page.mapped c.requires.page.resident c.requires.own c.requires.common mid n r copy c.requires.page.stands.root set sets beside c.requires.page.not_shared inside private new releases beside';
+          store = c.set_full.ensures.rest.store ∙ done.rest.store;
+          device = (let P : Swap _ → Type 0 = λ s. UsesDevice g.E.SectorDisk c.args.core.now.swap.pages.disk s.pages.disk in subst P (sym c.set_full.ensures.rest.swap) done.device);
+        };
+        rows = rows_shared old c.args.spot.now.pid c.args.spot.now.page c.args.shown.0 c.args.attr c.args.core.now.sound c.requires.page.stands.linked c.requires.page.mapped c.requires.page.resident c.requires.own c.requires.common mid n r copy c.requires.page.stands.root set sets beside c.requires.page.not_shared inside private new releases beside';
+        no_table = no_table_shared old c.args.spot.now.pid c.args.spot.now.page c.args.shown.0 c.args.attr c.args.core.now.sound c.requires.page.stands.linked c.requires.page.mapped c.requires.page.resident c.requires.own c.requires.common mid n r copy c.requires.page.stands.root set sets beside c.requires.page.not_shared inside private new releases beside';
+        files = files_shared old c.args.spot.now.pid c.args.spot.now.page c.args.shown.0 c.args.attr c.args.core.now.sound c.requires.page.stands.linked c.requires.page.mapped c.requires.page.resident c.requires.own c.requires.common mid n r copy c.requires.page.stands.root set sets beside c.requires.page.not_shared inside private new releases beside';
+        others = others_shared old c.args.spot.now.pid c.args.spot.now.page c.args.shown.0 c.args.attr c.args.core.now.sound c.requires.page.stands.linked c.requires.page.mapped c.requires.page.resident c.requires.own c.requires.common mid n r copy c.requires.page.stands.root set sets beside c.requires.page.not_shared inside private new releases beside';
+        bare = bare_shared old c.args.spot.now.pid c.args.spot.now.page c.args.shown.0 c.args.attr c.args.core.now.sound c.requires.page.stands.linked c.requires.page.mapped c.requires.page.resident c.requires.own c.requires.common mid n r copy c.requires.page.stands.root set sets beside c.requires.page.not_shared inside private new releases beside';
+        slotted = slotted_shared old c.args.spot.now.pid c.args.spot.now.page c.args.shown.0 c.args.attr c.args.core.now.sound c.requires.page.stands.linked c.requires.page.mapped c.requires.page.resident c.requires.own c.requires.common mid n r copy c.requires.page.stands.root set sets beside c.requires.page.not_shared inside private new releases beside';
+      };
+      asks = asks_slots_kept g.E.SectorDisk c.args.core.now c.take_copy.new.core c.set_full.new.core (Some c.args.shown) Nothing (ap (λ (s : Swap _). s.pages) c.set_full.ensures.rest.swap) c.in_ok-own.ensures.asks;
+      stalls = record {
+        same = search rules;
+        frees = search rules;
+        refuses = search rules;
+        short = search rules;
+        cause = search rules;
+      };
     }
 
-pub returns-then-is_private-clause-own : goal.returns-then-is_private-clause-own
-returns-then-is_private-clause-own g c =
+pub returns-else-is_private : goal.returns-else-is_private
+returns-else-is_private g c =
     let old : Picture g.M.Levels.mode = picture_of c.args.core.now in
     let mid : Picture g.M.Levels.mode = picture_of c.take_copy.new.core in
     let set : Picture g.M.Levels.mode = picture_of c.set_full.new.core in
@@ -121,359 +145,73 @@ returns-then-is_private-clause-own g c =
     let copy = c.in_ok-own.ensures.taken in
     let n = c.in_ok-own.own.0 in
     let r = c.args.spot.now.root.0 in
-    let inside = past_end-same old copy.found c.args.attr.backing copy.frees.pages.files.files ∙ c.requires.inside in
-    let private = sym (ap is_private c.requires.was) ∙ sym c.is_private.ensures ∙ c.if-is_private.true in
-    let new : Picture g.M.Levels.mode = record set { frames = c.release.new.self } in
-    let beside' : SameBeside set new = same_with set c.release.new.self in
-    let releases = c.release.ensures.change in
-    own_shared old c.args.spot.now.pid c.args.spot.now.page c.args.shown.0 c.args.attr c.args.core.now.sound c.requires.spot.linked c.requires.attr c.requires.resident c.requires.own c.requires.common mid n r copy c.requires.spot.root set sets beside c.requires.not_shared inside private new releases beside'
-
-pub returns-then-is_private-clause-bytes : goal.returns-then-is_private-clause-bytes
-returns-then-is_private-clause-bytes g c =
-    let old : Picture g.M.Levels.mode = picture_of c.args.core.now in
-    let mid : Picture g.M.Levels.mode = picture_of c.take_copy.new.core in
-    let set : Picture g.M.Levels.mode = picture_of c.set_full.new.core in
-    let sets = c.set_full.ensures.sets in
-    let beside = beside_around c.take_copy.new.core c.set_full.new.core c.set_full.ensures.rest in
-    let copy = c.in_ok-own.ensures.taken in
-    let n = c.in_ok-own.own.0 in
-    let r = c.args.spot.now.root.0 in
-    let inside = past_end-same old copy.found c.args.attr.backing copy.frees.pages.files.files ∙ c.requires.inside in
-    let private = sym (ap is_private c.requires.was) ∙ sym c.is_private.ensures ∙ c.if-is_private.true in
-    let new : Picture g.M.Levels.mode = record set { frames = c.release.new.self } in
-    let beside' : SameBeside set new = same_with set c.release.new.self in
-    let releases = c.release.ensures.change in
-    bytes_shared old c.args.spot.now.pid c.args.spot.now.page c.args.shown.0 c.args.attr c.args.core.now.sound c.requires.spot.linked c.requires.attr c.requires.resident c.requires.own c.requires.common mid n r copy c.requires.spot.root set sets beside c.requires.not_shared inside private new releases beside'
-
-pub returns-then-is_private-clause-entry : goal.returns-then-is_private-clause-entry
-returns-then-is_private-clause-entry g c =
-    let old : Picture g.M.Levels.mode = picture_of c.args.core.now in
-    let mid : Picture g.M.Levels.mode = picture_of c.take_copy.new.core in
-    let set : Picture g.M.Levels.mode = picture_of c.set_full.new.core in
-    let sets = c.set_full.ensures.sets in
-    let beside = beside_around c.take_copy.new.core c.set_full.new.core c.set_full.ensures.rest in
-    let copy = c.in_ok-own.ensures.taken in
-    let n = c.in_ok-own.own.0 in
-    let r = c.args.spot.now.root.0 in
-    let inside = past_end-same old copy.found c.args.attr.backing copy.frees.pages.files.files ∙ c.requires.inside in
-    let private = sym (ap is_private c.requires.was) ∙ sym c.is_private.ensures ∙ c.if-is_private.true in
-    let new : Picture g.M.Levels.mode = record set { frames = c.release.new.self } in
-    let beside' : SameBeside set new = same_with set c.release.new.self in
-    let releases = c.release.ensures.change in
-    entry_shared old c.args.spot.now.pid c.args.spot.now.page c.args.shown.0 c.args.attr c.args.core.now.sound c.requires.spot.linked c.requires.attr c.requires.resident c.requires.own c.requires.common mid n r copy c.requires.spot.root set sets beside c.requires.not_shared inside private new releases beside' c.requires.writable
-
-pub returns-then-is_private-clause-sole : goal.returns-then-is_private-clause-sole
-returns-then-is_private-clause-sole g c =
-    let old : Picture g.M.Levels.mode = picture_of c.args.core.now in
-    let mid : Picture g.M.Levels.mode = picture_of c.take_copy.new.core in
-    let set : Picture g.M.Levels.mode = picture_of c.set_full.new.core in
-    let sets = c.set_full.ensures.sets in
-    let beside = beside_around c.take_copy.new.core c.set_full.new.core c.set_full.ensures.rest in
-    let copy = c.in_ok-own.ensures.taken in
-    let n = c.in_ok-own.own.0 in
-    let r = c.args.spot.now.root.0 in
-    let inside = past_end-same old copy.found c.args.attr.backing copy.frees.pages.files.files ∙ c.requires.inside in
-    let private = sym (ap is_private c.requires.was) ∙ sym c.is_private.ensures ∙ c.if-is_private.true in
-    let new : Picture g.M.Levels.mode = record set { frames = c.release.new.self } in
-    let beside' : SameBeside set new = same_with set c.release.new.self in
-    let releases = c.release.ensures.change in
-    count_shared old c.args.spot.now.pid c.args.spot.now.page c.args.shown.0 c.args.attr c.args.core.now.sound c.requires.spot.linked c.requires.attr c.requires.resident c.requires.own c.requires.common mid n r copy c.requires.spot.root set sets beside c.requires.not_shared inside private new releases beside'
-
-pub returns-then-is_private-clause-others : goal.returns-then-is_private-clause-others
-returns-then-is_private-clause-others g c =
-    let old : Picture g.M.Levels.mode = picture_of c.args.core.now in
-    let mid : Picture g.M.Levels.mode = picture_of c.take_copy.new.core in
-    let set : Picture g.M.Levels.mode = picture_of c.set_full.new.core in
-    let sets = c.set_full.ensures.sets in
-    let beside = beside_around c.take_copy.new.core c.set_full.new.core c.set_full.ensures.rest in
-    let copy = c.in_ok-own.ensures.taken in
-    let n = c.in_ok-own.own.0 in
-    let r = c.args.spot.now.root.0 in
-    let inside = past_end-same old copy.found c.args.attr.backing copy.frees.pages.files.files ∙ c.requires.inside in
-    let private = sym (ap is_private c.requires.was) ∙ sym c.is_private.ensures ∙ c.if-is_private.true in
-    let new : Picture g.M.Levels.mode = record set { frames = c.release.new.self } in
-    let beside' : SameBeside set new = same_with set c.release.new.self in
-    let releases = c.release.ensures.change in
-    others_shared old c.args.spot.now.pid c.args.spot.now.page c.args.shown.0 c.args.attr c.args.core.now.sound c.requires.spot.linked c.requires.attr c.requires.resident c.requires.own c.requires.common mid n r copy c.requires.spot.root set sets beside c.requires.not_shared inside private new releases beside'
-
-pub returns-then-is_private-clause-bare : goal.returns-then-is_private-clause-bare
-returns-then-is_private-clause-bare g c =
-    let old : Picture g.M.Levels.mode = picture_of c.args.core.now in
-    let mid : Picture g.M.Levels.mode = picture_of c.take_copy.new.core in
-    let set : Picture g.M.Levels.mode = picture_of c.set_full.new.core in
-    let sets = c.set_full.ensures.sets in
-    let beside = beside_around c.take_copy.new.core c.set_full.new.core c.set_full.ensures.rest in
-    let copy = c.in_ok-own.ensures.taken in
-    let n = c.in_ok-own.own.0 in
-    let r = c.args.spot.now.root.0 in
-    let inside = past_end-same old copy.found c.args.attr.backing copy.frees.pages.files.files ∙ c.requires.inside in
-    let private = sym (ap is_private c.requires.was) ∙ sym c.is_private.ensures ∙ c.if-is_private.true in
-    let new : Picture g.M.Levels.mode = record set { frames = c.release.new.self } in
-    let beside' : SameBeside set new = same_with set c.release.new.self in
-    let releases = c.release.ensures.change in
-    bare_shared old c.args.spot.now.pid c.args.spot.now.page c.args.shown.0 c.args.attr c.args.core.now.sound c.requires.spot.linked c.requires.attr c.requires.resident c.requires.own c.requires.common mid n r copy c.requires.spot.root set sets beside c.requires.not_shared inside private new releases beside'
-
-pub returns-then-is_private-clause-rows : goal.returns-then-is_private-clause-rows
-returns-then-is_private-clause-rows g c =
-    let old : Picture g.M.Levels.mode = picture_of c.args.core.now in
-    let mid : Picture g.M.Levels.mode = picture_of c.take_copy.new.core in
-    let set : Picture g.M.Levels.mode = picture_of c.set_full.new.core in
-    let sets = c.set_full.ensures.sets in
-    let beside = beside_around c.take_copy.new.core c.set_full.new.core c.set_full.ensures.rest in
-    let copy = c.in_ok-own.ensures.taken in
-    let n = c.in_ok-own.own.0 in
-    let r = c.args.spot.now.root.0 in
-    let inside = past_end-same old copy.found c.args.attr.backing copy.frees.pages.files.files ∙ c.requires.inside in
-    let private = sym (ap is_private c.requires.was) ∙ sym c.is_private.ensures ∙ c.if-is_private.true in
-    let new : Picture g.M.Levels.mode = record set { frames = c.release.new.self } in
-    let beside' : SameBeside set new = same_with set c.release.new.self in
-    let releases = c.release.ensures.change in
-    rows_shared old c.args.spot.now.pid c.args.spot.now.page c.args.shown.0 c.args.attr c.args.core.now.sound c.requires.spot.linked c.requires.attr c.requires.resident c.requires.own c.requires.common mid n r copy c.requires.spot.root set sets beside c.requires.not_shared inside private new releases beside'
-
-pub returns-then-is_private-clause-slotted : goal.returns-then-is_private-clause-slotted
-returns-then-is_private-clause-slotted g c =
-    let old : Picture g.M.Levels.mode = picture_of c.args.core.now in
-    let mid : Picture g.M.Levels.mode = picture_of c.take_copy.new.core in
-    let set : Picture g.M.Levels.mode = picture_of c.set_full.new.core in
-    let sets = c.set_full.ensures.sets in
-    let beside = beside_around c.take_copy.new.core c.set_full.new.core c.set_full.ensures.rest in
-    let copy = c.in_ok-own.ensures.taken in
-    let n = c.in_ok-own.own.0 in
-    let r = c.args.spot.now.root.0 in
-    let inside = past_end-same old copy.found c.args.attr.backing copy.frees.pages.files.files ∙ c.requires.inside in
-    let private = sym (ap is_private c.requires.was) ∙ sym c.is_private.ensures ∙ c.if-is_private.true in
-    let new : Picture g.M.Levels.mode = record set { frames = c.release.new.self } in
-    let beside' : SameBeside set new = same_with set c.release.new.self in
-    let releases = c.release.ensures.change in
-    slotted_shared old c.args.spot.now.pid c.args.spot.now.page c.args.shown.0 c.args.attr c.args.core.now.sound c.requires.spot.linked c.requires.attr c.requires.resident c.requires.own c.requires.common mid n r copy c.requires.spot.root set sets beside c.requires.not_shared inside private new releases beside'
-
-pub returns-then-is_private-clause-files : goal.returns-then-is_private-clause-files
-returns-then-is_private-clause-files g c =
-    let old : Picture g.M.Levels.mode = picture_of c.args.core.now in
-    let mid : Picture g.M.Levels.mode = picture_of c.take_copy.new.core in
-    let set : Picture g.M.Levels.mode = picture_of c.set_full.new.core in
-    let sets = c.set_full.ensures.sets in
-    let beside = beside_around c.take_copy.new.core c.set_full.new.core c.set_full.ensures.rest in
-    let copy = c.in_ok-own.ensures.taken in
-    let n = c.in_ok-own.own.0 in
-    let r = c.args.spot.now.root.0 in
-    let inside = past_end-same old copy.found c.args.attr.backing copy.frees.pages.files.files ∙ c.requires.inside in
-    let private = sym (ap is_private c.requires.was) ∙ sym c.is_private.ensures ∙ c.if-is_private.true in
-    let new : Picture g.M.Levels.mode = record set { frames = c.release.new.self } in
-    let beside' : SameBeside set new = same_with set c.release.new.self in
-    let releases = c.release.ensures.change in
-    files_shared old c.args.spot.now.pid c.args.spot.now.page c.args.shown.0 c.args.attr c.args.core.now.sound c.requires.spot.linked c.requires.attr c.requires.resident c.requires.own c.requires.common mid n r copy c.requires.spot.root set sets beside c.requires.not_shared inside private new releases beside'
-
-pub returns-then-is_private-clause-behind : goal.returns-then-is_private-clause-behind
-returns-then-is_private-clause-behind g c =
-    let old : Picture g.M.Levels.mode = picture_of c.args.core.now in
-    let mid : Picture g.M.Levels.mode = picture_of c.take_copy.new.core in
-    let set : Picture g.M.Levels.mode = picture_of c.set_full.new.core in
-    let sets = c.set_full.ensures.sets in
-    let beside = beside_around c.take_copy.new.core c.set_full.new.core c.set_full.ensures.rest in
-    let copy = c.in_ok-own.ensures.taken in
-    let n = c.in_ok-own.own.0 in
-    let r = c.args.spot.now.root.0 in
-    let inside = past_end-same old copy.found c.args.attr.backing copy.frees.pages.files.files ∙ c.requires.inside in
-    let private = sym (ap is_private c.requires.was) ∙ sym c.is_private.ensures ∙ c.if-is_private.true in
-    let new : Picture g.M.Levels.mode = record set { frames = c.release.new.self } in
-    let beside' : SameBeside set new = same_with set c.release.new.self in
-    let releases = c.release.ensures.change in
-    λ x not_own. absurd (false≢true (sym not_own ∙ private))
-
-pub returns-else-is_private-clause-moves : goal.returns-else-is_private-clause-moves
-returns-else-is_private-clause-moves g c =
-    let old : Picture g.M.Levels.mode = picture_of c.args.core.now in
-    let mid : Picture g.M.Levels.mode = picture_of c.take_copy.new.core in
-    let set : Picture g.M.Levels.mode = picture_of c.set_full.new.core in
-    let sets = c.set_full.ensures.sets in
-    let beside = beside_around c.take_copy.new.core c.set_full.new.core c.set_full.ensures.rest in
-    let copy = c.in_ok-own.ensures.taken in
-    let n = c.in_ok-own.own.0 in
-    let r = c.args.spot.now.root.0 in
-    let inside = past_end-same old copy.found c.args.attr.backing copy.frees.pages.files.files ∙ c.requires.inside in
+    let inside = past_end-same old copy.found c.args.attr.backing copy.frees.pages.files.files ∙ c.requires.page.inside in
     let common = sym (ap is_private c.requires.was) ∙ sym c.is_private.ensures ∙ c.if-is_private.false in
     let done = c.in_ok-own.ensures in
     record {
-      fit = fit_first old c.args.spot.now.pid c.args.spot.now.page c.args.shown.0 c.args.attr c.args.core.now.sound c.requires.spot.linked c.requires.attr c.requires.resident c.requires.own c.requires.common mid n r copy c.requires.spot.root set sets beside c.requires.not_shared inside common;
-      swap = (let P : Swap _ → Type 0 = λ s. IsReady g.E.SectorDisk s in subst P (sym c.set_full.ensures.rest.swap) done.swap);
-      spaces = spaces_set old c.args.spot.now.pid c.args.spot.now.page c.args.shown.0 c.args.attr c.args.core.now.sound c.requires.spot.linked c.requires.attr c.requires.resident c.requires.own c.requires.common mid n r copy c.requires.spot.root set sets beside c.requires.not_shared inside;
-      tables = tables_set old c.args.spot.now.pid c.args.spot.now.page c.args.shown.0 c.args.attr c.args.core.now.sound c.requires.spot.linked c.requires.attr c.requires.resident c.requires.own c.requires.common mid n r copy c.requires.spot.root set sets beside c.requires.not_shared inside;
-      room = room_set old c.args.spot.now.pid c.args.spot.now.page c.args.shown.0 c.args.attr c.args.core.now.sound c.requires.spot.linked c.requires.attr c.requires.resident c.requires.own c.requires.common mid n r copy c.requires.spot.root set sets beside c.requires.not_shared inside;
-      store = c.set_full.ensures.rest.store ∙ done.rest.store;
-      device = (let P : Swap _ → Type 0 = λ s. UsesDevice g.E.SectorDisk c.args.core.now.swap.pages.disk s.pages.disk in subst P (sym c.set_full.ensures.rest.swap) done.device);
+      own = own_set old c.args.spot.now.pid c.args.spot.now.page c.args.shown.0 c.args.attr c.args.core.now.sound c.requires.page.stands.linked c.requires.page.mapped c.requires.page.resident c.requires.own c.requires.common mid n r copy c.requires.page.stands.root set sets beside c.requires.page.not_shared inside;
+      bytes = bytes_set old c.args.spot.now.pid c.args.spot.now.page c.args.shown.0 c.args.attr c.args.core.now.sound c.requires.page.stands.linked c.requires.page.mapped c.requires.page.resident c.requires.own c.requires.common mid n r copy c.requires.page.stands.root set sets beside c.requires.page.not_shared inside;
+      entered = entry_set old c.args.spot.now.pid c.args.spot.now.page c.args.shown.0 c.args.attr c.args.core.now.sound c.requires.page.stands.linked c.requires.page.mapped c.requires.page.resident c.requires.own c.requires.common mid n r copy c.requires.page.stands.root set sets beside c.requires.page.not_shared inside c.requires.page.writable;
+      sole = count_set old c.args.spot.now.pid c.args.spot.now.page c.args.shown.0 c.args.attr c.args.core.now.sound c.requires.page.stands.linked c.requires.page.mapped c.requires.page.resident c.requires.own c.requires.common mid n r copy c.requires.page.stands.root set sets beside c.requires.page.not_shared inside;
+      behind = λ x not_own behind. behind_first old c.args.spot.now.pid c.args.spot.now.page c.args.shown.0 c.args.attr c.args.core.now.sound c.requires.page.stands.linked c.requires.page.mapped c.requires.page.resident c.requires.own c.requires.common mid n r copy c.requires.page.stands.root set sets beside c.requires.page.not_shared inside not_own x behind;
+      keeps = record {
+        moves = record {
+          fit = fit_first old c.args.spot.now.pid c.args.spot.now.page c.args.shown.0 c.args.attr c.args.core.now.sound c.requires.page.stands.linked c.requires.page.mapped c.requires.page.resident c.requires.own c.requires.common mid n r copy c.requires.page.stands.root set sets beside c.requires.page.not_shared inside common;
+          swap = (let P : Swap _ → Type 0 = λ s. IsReady g.E.SectorDisk s in subst P (sym c.set_full.ensures.rest.swap) done.swap);
+          spaces = spaces_set old c.args.spot.now.pid c.args.spot.now.page c.args.shown.0 c.args.attr c.args.core.now.sound c.requires.page.stands.linked c.requires.page.mapped c.requires.page.resident c.requires.own c.requires.common mid n r copy c.requires.page.stands.root set sets beside c.requires.page.not_shared inside;
+          tables = tables_set old c.args.spot.now.pid c.args.spot.now.page c.args.shown.0 c.args.attr c.args.core.now.sound c.requires.page.stands.linked c.requires.page.mapped c.requires.page.resident c.requires.own c.requires.common mid n r copy c.requires.page.stands.root set sets beside c.requires.page.not_shared inside;
+          room = room_set old c.args.spot.now.pid c.args.spot.now.page c.args.shown.0 c.args.attr c.args.core.now.sound c.requires.page.stands.linked c.requires.page.mapped c.requires.page.resident c.requires.own c.requires.common mid n r copy c.requires.page.stands.root set sets beside c.requires.page.not_shared inside;
+          store = c.set_full.ensures.rest.store ∙ done.rest.store;
+          device = (let P : Swap _ → Type 0 = λ s. UsesDevice g.E.SectorDisk c.args.core.now.swap.pages.disk s.pages.disk in subst P (sym c.set_full.ensures.rest.swap) done.device);
+        };
+        rows = rows_own old c.args.spot.now.pid c.args.spot.now.page c.args.shown.0 c.args.attr c.args.core.now.sound c.requires.page.stands.linked c.requires.page.mapped c.requires.page.resident c.requires.own c.requires.common mid n r copy c.requires.page.stands.root set sets beside c.requires.page.not_shared inside;
+        no_table = no_table_own old c.args.spot.now.pid c.args.spot.now.page c.args.shown.0 c.args.attr c.args.core.now.sound c.requires.page.stands.linked c.requires.page.mapped c.requires.page.resident c.requires.own c.requires.common mid n r copy c.requires.page.stands.root set sets beside c.requires.page.not_shared inside;
+        files = files_set old c.args.spot.now.pid c.args.spot.now.page c.args.shown.0 c.args.attr c.args.core.now.sound c.requires.page.stands.linked c.requires.page.mapped c.requires.page.resident c.requires.own c.requires.common mid n r copy c.requires.page.stands.root set sets beside c.requires.page.not_shared inside;
+        others = others_set old c.args.spot.now.pid c.args.spot.now.page c.args.shown.0 c.args.attr c.args.core.now.sound c.requires.page.stands.linked c.requires.page.mapped c.requires.page.resident c.requires.own c.requires.common mid n r copy c.requires.page.stands.root set sets beside c.requires.page.not_shared inside;
+        bare = bare_set old c.args.spot.now.pid c.args.spot.now.page c.args.shown.0 c.args.attr c.args.core.now.sound c.requires.page.stands.linked c.requires.page.mapped c.requires.page.resident c.requires.own c.requires.common mid n r copy c.requires.page.stands.root set sets beside c.requires.page.not_shared inside;
+        slotted = slotted_set old c.args.spot.now.pid c.args.spot.now.page c.args.shown.0 c.args.attr c.args.core.now.sound c.requires.page.stands.linked c.requires.page.mapped c.requires.page.resident c.requires.own c.requires.common mid n r copy c.requires.page.stands.root set sets beside c.requires.page.not_shared inside;
+      };
+      asks = asks_slots_kept g.E.SectorDisk c.args.core.now c.take_copy.new.core c.set_full.new.core (Some c.args.shown) Nothing (ap (λ (s : Swap _). s.pages) c.set_full.ensures.rest.swap) c.in_ok-own.ensures.asks;
+      stalls = record {
+        same = search rules;
+        frees = search rules;
+        refuses = search rules;
+        short = search rules;
+        cause = search rules;
+      };
     }
 
-pub returns-else-is_private-clause-own : goal.returns-else-is_private-clause-own
-returns-else-is_private-clause-own g c =
-    let old : Picture g.M.Levels.mode = picture_of c.args.core.now in
-    let mid : Picture g.M.Levels.mode = picture_of c.take_copy.new.core in
-    let set : Picture g.M.Levels.mode = picture_of c.set_full.new.core in
-    let sets = c.set_full.ensures.sets in
-    let beside = beside_around c.take_copy.new.core c.set_full.new.core c.set_full.ensures.rest in
-    let copy = c.in_ok-own.ensures.taken in
-    let n = c.in_ok-own.own.0 in
-    let r = c.args.spot.now.root.0 in
-    let inside = past_end-same old copy.found c.args.attr.backing copy.frees.pages.files.files ∙ c.requires.inside in
-    let common = sym (ap is_private c.requires.was) ∙ sym c.is_private.ensures ∙ c.if-is_private.false in
-    own_set old c.args.spot.now.pid c.args.spot.now.page c.args.shown.0 c.args.attr c.args.core.now.sound c.requires.spot.linked c.requires.attr c.requires.resident c.requires.own c.requires.common mid n r copy c.requires.spot.root set sets beside c.requires.not_shared inside
-
-pub returns-else-is_private-clause-bytes : goal.returns-else-is_private-clause-bytes
-returns-else-is_private-clause-bytes g c =
-    let old : Picture g.M.Levels.mode = picture_of c.args.core.now in
-    let mid : Picture g.M.Levels.mode = picture_of c.take_copy.new.core in
-    let set : Picture g.M.Levels.mode = picture_of c.set_full.new.core in
-    let sets = c.set_full.ensures.sets in
-    let beside = beside_around c.take_copy.new.core c.set_full.new.core c.set_full.ensures.rest in
-    let copy = c.in_ok-own.ensures.taken in
-    let n = c.in_ok-own.own.0 in
-    let r = c.args.spot.now.root.0 in
-    let inside = past_end-same old copy.found c.args.attr.backing copy.frees.pages.files.files ∙ c.requires.inside in
-    let common = sym (ap is_private c.requires.was) ∙ sym c.is_private.ensures ∙ c.if-is_private.false in
-    bytes_set old c.args.spot.now.pid c.args.spot.now.page c.args.shown.0 c.args.attr c.args.core.now.sound c.requires.spot.linked c.requires.attr c.requires.resident c.requires.own c.requires.common mid n r copy c.requires.spot.root set sets beside c.requires.not_shared inside
-
-pub returns-else-is_private-clause-entry : goal.returns-else-is_private-clause-entry
-returns-else-is_private-clause-entry g c =
-    let old : Picture g.M.Levels.mode = picture_of c.args.core.now in
-    let mid : Picture g.M.Levels.mode = picture_of c.take_copy.new.core in
-    let set : Picture g.M.Levels.mode = picture_of c.set_full.new.core in
-    let sets = c.set_full.ensures.sets in
-    let beside = beside_around c.take_copy.new.core c.set_full.new.core c.set_full.ensures.rest in
-    let copy = c.in_ok-own.ensures.taken in
-    let n = c.in_ok-own.own.0 in
-    let r = c.args.spot.now.root.0 in
-    let inside = past_end-same old copy.found c.args.attr.backing copy.frees.pages.files.files ∙ c.requires.inside in
-    let common = sym (ap is_private c.requires.was) ∙ sym c.is_private.ensures ∙ c.if-is_private.false in
-    entry_set old c.args.spot.now.pid c.args.spot.now.page c.args.shown.0 c.args.attr c.args.core.now.sound c.requires.spot.linked c.requires.attr c.requires.resident c.requires.own c.requires.common mid n r copy c.requires.spot.root set sets beside c.requires.not_shared inside c.requires.writable
-
-pub returns-else-is_private-clause-sole : goal.returns-else-is_private-clause-sole
-returns-else-is_private-clause-sole g c =
-    let old : Picture g.M.Levels.mode = picture_of c.args.core.now in
-    let mid : Picture g.M.Levels.mode = picture_of c.take_copy.new.core in
-    let set : Picture g.M.Levels.mode = picture_of c.set_full.new.core in
-    let sets = c.set_full.ensures.sets in
-    let beside = beside_around c.take_copy.new.core c.set_full.new.core c.set_full.ensures.rest in
-    let copy = c.in_ok-own.ensures.taken in
-    let n = c.in_ok-own.own.0 in
-    let r = c.args.spot.now.root.0 in
-    let inside = past_end-same old copy.found c.args.attr.backing copy.frees.pages.files.files ∙ c.requires.inside in
-    let common = sym (ap is_private c.requires.was) ∙ sym c.is_private.ensures ∙ c.if-is_private.false in
-    count_set old c.args.spot.now.pid c.args.spot.now.page c.args.shown.0 c.args.attr c.args.core.now.sound c.requires.spot.linked c.requires.attr c.requires.resident c.requires.own c.requires.common mid n r copy c.requires.spot.root set sets beside c.requires.not_shared inside
-
-pub returns-else-is_private-clause-others : goal.returns-else-is_private-clause-others
-returns-else-is_private-clause-others g c =
-    let old : Picture g.M.Levels.mode = picture_of c.args.core.now in
-    let mid : Picture g.M.Levels.mode = picture_of c.take_copy.new.core in
-    let set : Picture g.M.Levels.mode = picture_of c.set_full.new.core in
-    let sets = c.set_full.ensures.sets in
-    let beside = beside_around c.take_copy.new.core c.set_full.new.core c.set_full.ensures.rest in
-    let copy = c.in_ok-own.ensures.taken in
-    let n = c.in_ok-own.own.0 in
-    let r = c.args.spot.now.root.0 in
-    let inside = past_end-same old copy.found c.args.attr.backing copy.frees.pages.files.files ∙ c.requires.inside in
-    let common = sym (ap is_private c.requires.was) ∙ sym c.is_private.ensures ∙ c.if-is_private.false in
-    others_set old c.args.spot.now.pid c.args.spot.now.page c.args.shown.0 c.args.attr c.args.core.now.sound c.requires.spot.linked c.requires.attr c.requires.resident c.requires.own c.requires.common mid n r copy c.requires.spot.root set sets beside c.requires.not_shared inside
-
-pub returns-else-is_private-clause-bare : goal.returns-else-is_private-clause-bare
-returns-else-is_private-clause-bare g c =
-    let old : Picture g.M.Levels.mode = picture_of c.args.core.now in
-    let mid : Picture g.M.Levels.mode = picture_of c.take_copy.new.core in
-    let set : Picture g.M.Levels.mode = picture_of c.set_full.new.core in
-    let sets = c.set_full.ensures.sets in
-    let beside = beside_around c.take_copy.new.core c.set_full.new.core c.set_full.ensures.rest in
-    let copy = c.in_ok-own.ensures.taken in
-    let n = c.in_ok-own.own.0 in
-    let r = c.args.spot.now.root.0 in
-    let inside = past_end-same old copy.found c.args.attr.backing copy.frees.pages.files.files ∙ c.requires.inside in
-    let common = sym (ap is_private c.requires.was) ∙ sym c.is_private.ensures ∙ c.if-is_private.false in
-    bare_set old c.args.spot.now.pid c.args.spot.now.page c.args.shown.0 c.args.attr c.args.core.now.sound c.requires.spot.linked c.requires.attr c.requires.resident c.requires.own c.requires.common mid n r copy c.requires.spot.root set sets beside c.requires.not_shared inside
-
-pub returns-else-is_private-clause-rows : goal.returns-else-is_private-clause-rows
-returns-else-is_private-clause-rows g c =
-    let old : Picture g.M.Levels.mode = picture_of c.args.core.now in
-    let mid : Picture g.M.Levels.mode = picture_of c.take_copy.new.core in
-    let set : Picture g.M.Levels.mode = picture_of c.set_full.new.core in
-    let sets = c.set_full.ensures.sets in
-    let beside = beside_around c.take_copy.new.core c.set_full.new.core c.set_full.ensures.rest in
-    let copy = c.in_ok-own.ensures.taken in
-    let n = c.in_ok-own.own.0 in
-    let r = c.args.spot.now.root.0 in
-    let inside = past_end-same old copy.found c.args.attr.backing copy.frees.pages.files.files ∙ c.requires.inside in
-    let common = sym (ap is_private c.requires.was) ∙ sym c.is_private.ensures ∙ c.if-is_private.false in
-    rows_own old c.args.spot.now.pid c.args.spot.now.page c.args.shown.0 c.args.attr c.args.core.now.sound c.requires.spot.linked c.requires.attr c.requires.resident c.requires.own c.requires.common mid n r copy c.requires.spot.root set sets beside c.requires.not_shared inside
-
-pub returns-else-is_private-clause-slotted : goal.returns-else-is_private-clause-slotted
-returns-else-is_private-clause-slotted g c =
-    let old : Picture g.M.Levels.mode = picture_of c.args.core.now in
-    let mid : Picture g.M.Levels.mode = picture_of c.take_copy.new.core in
-    let set : Picture g.M.Levels.mode = picture_of c.set_full.new.core in
-    let sets = c.set_full.ensures.sets in
-    let beside = beside_around c.take_copy.new.core c.set_full.new.core c.set_full.ensures.rest in
-    let copy = c.in_ok-own.ensures.taken in
-    let n = c.in_ok-own.own.0 in
-    let r = c.args.spot.now.root.0 in
-    let inside = past_end-same old copy.found c.args.attr.backing copy.frees.pages.files.files ∙ c.requires.inside in
-    let common = sym (ap is_private c.requires.was) ∙ sym c.is_private.ensures ∙ c.if-is_private.false in
-    slotted_set old c.args.spot.now.pid c.args.spot.now.page c.args.shown.0 c.args.attr c.args.core.now.sound c.requires.spot.linked c.requires.attr c.requires.resident c.requires.own c.requires.common mid n r copy c.requires.spot.root set sets beside c.requires.not_shared inside
-
-pub returns-else-is_private-clause-files : goal.returns-else-is_private-clause-files
-returns-else-is_private-clause-files g c =
-    let old : Picture g.M.Levels.mode = picture_of c.args.core.now in
-    let mid : Picture g.M.Levels.mode = picture_of c.take_copy.new.core in
-    let set : Picture g.M.Levels.mode = picture_of c.set_full.new.core in
-    let sets = c.set_full.ensures.sets in
-    let beside = beside_around c.take_copy.new.core c.set_full.new.core c.set_full.ensures.rest in
-    let copy = c.in_ok-own.ensures.taken in
-    let n = c.in_ok-own.own.0 in
-    let r = c.args.spot.now.root.0 in
-    let inside = past_end-same old copy.found c.args.attr.backing copy.frees.pages.files.files ∙ c.requires.inside in
-    let common = sym (ap is_private c.requires.was) ∙ sym c.is_private.ensures ∙ c.if-is_private.false in
-    files_set old c.args.spot.now.pid c.args.spot.now.page c.args.shown.0 c.args.attr c.args.core.now.sound c.requires.spot.linked c.requires.attr c.requires.resident c.requires.own c.requires.common mid n r copy c.requires.spot.root set sets beside c.requires.not_shared inside
-
-pub returns-else-is_private-clause-behind : goal.returns-else-is_private-clause-behind
-returns-else-is_private-clause-behind g c =
-    let old : Picture g.M.Levels.mode = picture_of c.args.core.now in
-    let mid : Picture g.M.Levels.mode = picture_of c.take_copy.new.core in
-    let set : Picture g.M.Levels.mode = picture_of c.set_full.new.core in
-    let sets = c.set_full.ensures.sets in
-    let beside = beside_around c.take_copy.new.core c.set_full.new.core c.set_full.ensures.rest in
-    let copy = c.in_ok-own.ensures.taken in
-    let n = c.in_ok-own.own.0 in
-    let r = c.args.spot.now.root.0 in
-    let inside = past_end-same old copy.found c.args.attr.backing copy.frees.pages.files.files ∙ c.requires.inside in
-    let common = sym (ap is_private c.requires.was) ∙ sym c.is_private.ensures ∙ c.if-is_private.false in
-    λ x not_own behind. behind_first old c.args.spot.now.pid c.args.spot.now.page c.args.shown.0 c.args.attr c.args.core.now.sound c.requires.spot.linked c.requires.attr c.requires.resident c.requires.own c.requires.common mid n r copy c.requires.spot.root set sets beside c.requires.not_shared inside not_own x behind
-
-pub returns-in_err-own-clause-moves : goal.returns-in_err-own-clause-moves
-returns-in_err-own-clause-moves g c =
+pub returns-in_err-own : goal.returns-in_err-own
+returns-in_err-own g c =
     let done = c.in_err-own.ensures in
-    moves_freed g.E.SectorDisk c.args.core.now c.take_copy.new.core _ done.fit done.swap done.frees done.rest done.device
-
-pub returns-in_err-own-clause-bare : goal.returns-in_err-own-clause-bare
-returns-in_err-own-clause-bare g c = λ q p h other none. c.in_err-own.ensures.frees.entries q p h (inl none) ∙ none
-
-pub returns-in_err-own-clause-rows : goal.returns-in_err-own-clause-rows
-returns-in_err-own-clause-rows g c =
-    rows_freed (picture_of c.args.core.now) (picture_of c.take_copy.new.core) _ c.in_err-own.ensures.fit c.in_err-own.ensures.frees
-
-pub returns-in_err-own-clause-slotted : goal.returns-in_err-own-clause-slotted
-returns-in_err-own-clause-slotted g c =
-    slotted_frees (λ p. ⊥) (IsThatPage c.args.spot.now.pid c.args.spot.now.page) (picture_of c.args.core.now) (picture_of c.take_copy.new.core) _ c.in_err-own.ensures.frees
-
-pub returns-in_err-own-clause-behind : goal.returns-in_err-own-clause-behind
-returns-in_err-own-clause-behind g c = λ x not_own behind.
-    let old : Picture g.M.Levels.mode = picture_of c.args.core.now in
-    behind_freed old (picture_of c.take_copy.new.core) c.args.attr.backing c.args.shown.0 c.in_err-own.ensures.frees
-    (shown_datum old c.args.spot.now.pid c.args.spot.now.page c.args.shown.0 c.args.attr c.args.core.now.sound c.requires.spot.linked c.requires.attr c.requires.resident c.requires.own c.requires.common)
-    (c.requires.common not_own) x behind
+    record {
+      own = search rules;
+      bytes = search rules;
+      entered = search rules;
+      sole = search rules;
+      behind = λ x not_own behind.
+          let old : Picture g.M.Levels.mode = picture_of c.args.core.now in
+          behind_freed old (picture_of c.take_copy.new.core) c.args.attr.backing c.args.shown.0 c.in_err-own.ensures.frees
+          (shown_datum old c.args.spot.now.pid c.args.spot.now.page c.args.shown.0 c.args.attr c.args.core.now.sound c.requires.page.stands.linked c.requires.page.mapped c.requires.page.resident c.requires.own c.requires.common)
+          (c.requires.common not_own) x behind;
+      keeps = record {
+        moves = moves_freed g.E.SectorDisk c.args.core.now c.take_copy.new.core _ done.fit done.swap done.frees done.rest done.device;
+        rows = rows_freed (picture_of c.args.core.now) (picture_of c.take_copy.new.core) _ c.in_err-own.ensures.fit c.in_err-own.ensures.frees;
+        no_table = no_table_freed (picture_of c.args.core.now) (picture_of c.take_copy.new.core) _ done.frees;
+        files = search rules;
+        others = search rules;
+        bare = λ q p h other none. c.in_err-own.ensures.frees.entries q p h (inl none) ∙ none;
+        slotted = slotted_frees (λ p. ⊥) (IsThatPage c.args.spot.now.pid c.args.spot.now.page) (picture_of c.args.core.now) (picture_of c.take_copy.new.core) _ c.in_err-own.ensures.frees;
+      };
+      asks = search rules;
+      stalls = record {
+        same = search rules;
+        frees = search rules;
+        refuses = search rules;
+        short = search rules;
+        cause = search rules;
+      };
+    }
 
 pub set_full-requires-clause-user : goal.set_full-requires-clause-user
-set_full-requires-clause-user g c = ((c.requires.spot.linked.fit.granting.user c.args.spot.now.pid).user_pages c.args.spot.now.page (ap is_some c.requires.attr)).1
-
-pub returns-then-is_private-clause-asks : goal.returns-then-is_private-clause-asks
-returns-then-is_private-clause-asks g c =
-    asks_slots_kept g.E.SectorDisk c.args.core.now c.take_copy.new.core c.set_full.new.core (Some c.args.shown) Nothing (ap (λ (s : Swap _). s.pages) c.set_full.ensures.rest.swap) c.in_ok-own.ensures.asks
-
-pub returns-else-is_private-clause-asks : goal.returns-else-is_private-clause-asks
-returns-else-is_private-clause-asks g c =
-    asks_slots_kept g.E.SectorDisk c.args.core.now c.take_copy.new.core c.set_full.new.core (Some c.args.shown) Nothing (ap (λ (s : Swap _). s.pages) c.set_full.ensures.rest.swap) c.in_ok-own.ensures.asks
+set_full-requires-clause-user g c = ((c.requires.page.stands.linked.fit.granting.user c.args.spot.now.pid).user_pages c.args.spot.now.page (ap is_some c.requires.page.mapped)).1

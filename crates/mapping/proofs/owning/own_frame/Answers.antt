@@ -1,19 +1,19 @@
-use Rattle.std.proofs.Common.{◌≡◌, ◌≢◌, ℕ, Bool, true, false, Some, Result, Ok, Err, inl, inr, get_or, sym, ap, ◌∙◌, subst, arith}
-use Rattle.std.specs.Prelude.{IfOk, IfErr, OnErr}
+use Rattle.std.proofs.Common.{◌≡◌, ◌≢◌, ℕ, Bool, true, false, Some, Result, Ok, Err, inl, inr, get_or, sym, ap, ◌∙◌, subst, arith, rules}
+use Rattle.std.specs.Prelude.{OnErr}
 use Rattle.std.proofs.lemmas.Bool.{cases_Bool, false≢true}
 use Rattle.disk_model.specs.Moments.{Nothing}
 use Rattle.frames.specs.declared.role.Role.TheVariants.{Free, Table, Private}
 use Rattle.frames.specs.FrameTable.{bytes_of, count_of}
 use Rattle.sv39_walk.specs.Entry.{frame_of}
-use Rattle.paging.specs.Picture.{Picture, picture_of, entry, is_private, view}
+use Rattle.paging.specs.Picture.{Picture, picture_of, entry, is_private}
 use Rattle.paging.specs.Parts.{IsBehind}
-use Rattle.paging.specs.Calls.{Frees, Refuses}
 use Rattle.page_tables.specs.Leaves.{IsEntryOver}
 use Rattle.mapping.specs.Leaves.{IsFullEntry}
-use Rattle.mapping.specs.Asking.{AsksSlots}
+use Rattle.mapping.specs.OwnFrames.{CopiesPage}
 use Rattle.mapping.specs.Changes.{shown_frame, copied_frame, is_sole}
 use Rattle.mapping.proofs.Asking.{asks_slots_same}
 use Rattle.mapping.proofs.Forms.{mapped_page, used_inside, own_role, seat_zero, none_common}
+use Rattle.mapping.proofs.NoTables.{no_table_calm}
 use Rattle.mapping.proofs.OwnSteps.{shown_used, shown_own, shown_behind, common_when, several_when, full_own, own_view}
 use Rattle.mapping.proofs.Slotted.{slotted_calm}
 use Rattle.mapping.proofs.Steps.{moves_entered}
@@ -24,10 +24,10 @@ pub shown_frame-shown-requires-clause-number : goal.shown_frame-shown-requires-c
 shown_frame-shown-requires-clause-number g c =
     let old : Picture g.M.Levels.mode = picture_of c.args.core.now in
     let e = c.number_at-was.ensures in
-    let h = mapped_page old c.args.spot.now.pid c.args.spot.now.page c.args.attr c.requires.spot.linked.fit.granting c.requires.attr in
+    let h = mapped_page old c.args.spot.now.pid c.args.spot.now.page c.args.attr c.requires.page.stands.linked.fit.granting c.requires.page.mapped in
     λ private.
     let low = used_inside old.frames (frame_of (entry old c.args.spot.now.pid c.args.spot.now.page)) c.args.core.now.sound
-    (λ free. let bad : Private ≡ Free = sym (own_role old c.args.spot.now.pid c.args.spot.now.page c.requires.spot.linked.fit h (sym (ap is_private e) ∙ private)) ∙ free in (cc)) in
+    (λ free. let bad : Private ≡ Free = sym (own_role old c.args.spot.now.pid c.args.spot.now.page c.requires.page.stands.linked.fit h (sym (ap is_private e) ∙ private)) ∙ free in (cc)) in
     let most = c.args.core.now.sound.most in
     let is = ap frame_of e in
     omega (arith, low, most, is)
@@ -43,12 +43,12 @@ count-requires g c =
     let old : Picture g.M.Levels.mode = picture_of c.args.core.now in
     let e = c.number_at-was.ensures in
     let shown = c.shown_frame-shown.ensures ∙ ap (λ x. shown_frame old x c.args.attr.backing) e in
-    let h = mapped_page old c.args.spot.now.pid c.args.spot.now.page c.args.attr c.requires.spot.linked.fit.granting c.requires.attr in
+    let h = mapped_page old c.args.spot.now.pid c.args.spot.now.page c.args.attr c.requires.page.stands.linked.fit.granting c.requires.page.mapped in
     let own_of : is_private (entry old c.args.spot.now.pid c.args.spot.now.page) ≡ true → frame_of (entry old c.args.spot.now.pid c.args.spot.now.page) ≡ c.shown_frame-shown.result.0 = λ private. sym (shown ∙ shown_own old (entry old c.args.spot.now.pid c.args.spot.now.page) c.args.attr.backing private) in
     let behind_of : is_private (entry old c.args.spot.now.pid c.args.spot.now.page) ≡ false → IsBehind old c.args.attr.backing c.shown_frame-shown.result.0 = λ common.
     (let P : ℕ → Type 0 = λ x. IsBehind old c.args.attr.backing x in subst P (sym shown) (shown_behind old (entry old c.args.spot.now.pid c.args.spot.now.page) c.args.attr.backing common (c.requires.in_memory common))) in
     used_inside old.frames c.shown_frame-shown.result.0 c.args.core.now.sound
-    (shown_used old c.args.spot.now.pid c.args.spot.now.page c.shown_frame-shown.result.0 c.args.attr c.args.core.now.sound c.requires.spot.linked c.requires.attr c.requires.resident own_of behind_of)
+    (shown_used old c.args.spot.now.pid c.args.spot.now.page c.shown_frame-shown.result.0 c.args.attr c.args.core.now.sound c.requires.page.stands.linked c.requires.page.mapped c.requires.page.resident own_of behind_of)
 
 pub regrant-requires-clause-resident : goal.regrant-requires-clause-resident
 regrant-requires-clause-resident g c =
@@ -57,49 +57,12 @@ regrant-requires-clause-resident g c =
     let own = sym (ap is_private e) ∙ sym c.is_private.ensures ∙ c.if-is_private.true in
     λ none. false≢true (sym (none_common (entry old c.args.spot.now.pid c.args.spot.now.page) (seat_zero (entry old c.args.spot.now.pid c.args.spot.now.page) none)) ∙ own)
 
-pub returns-then-count-eq1-clause-moves : goal.returns-then-count-eq1-clause-moves
-returns-then-count-eq1-clause-moves g c = moves_entered g.E.SectorDisk c.args.core.now c.regrant.new.core c.args.spot.now.pid c.args.spot.now.page c.requires.swap c.regrant.ensures.enters
-
-pub returns-then-count-eq1-clause-own : goal.returns-then-count-eq1-clause-own
-returns-then-count-eq1-clause-own g c =
+pub returns-then-count-eq1 : goal.returns-then-count-eq1
+returns-then-count-eq1 g c =
     let old : Picture g.M.Levels.mode = picture_of c.args.core.now in
     let e = c.number_at-was.ensures in
     let shown = c.shown_frame-shown.ensures ∙ ap (λ x. shown_frame old x c.args.attr.backing) e in
-    let h = mapped_page old c.args.spot.now.pid c.args.spot.now.page c.args.attr c.requires.spot.linked.fit.granting c.requires.attr in
-    let own_of : is_private (entry old c.args.spot.now.pid c.args.spot.now.page) ≡ true → frame_of (entry old c.args.spot.now.pid c.args.spot.now.page) ≡ c.shown_frame-shown.result.0 = λ private. sym (shown ∙ shown_own old (entry old c.args.spot.now.pid c.args.spot.now.page) c.args.attr.backing private) in
-    let behind_of : is_private (entry old c.args.spot.now.pid c.args.spot.now.page) ≡ false → IsBehind old c.args.attr.backing c.shown_frame-shown.result.0 = λ common.
-    (let P : ℕ → Type 0 = λ x. IsBehind old c.args.attr.backing x in subst P (sym shown) (shown_behind old (entry old c.args.spot.now.pid c.args.spot.now.page) c.args.attr.backing common (c.requires.in_memory common))) in
-    let own = sym (ap is_private e) ∙ sym c.is_private.ensures ∙ c.if-is_private.true in
-    let frame = shown ∙ shown_own old (entry old c.args.spot.now.pid c.args.spot.now.page) c.args.attr.backing own in
-    let one = ap (count_of old.frames) (sym frame) ∙ sym c.count.ensures ∙ c.if-count-eq1.true in
-    c.regrant.ensures.enters.views c.args.spot.now.pid c.args.spot.now.page ∙ own_view old c.args.spot.now.pid c.args.spot.now.page c.args.attr c.requires.attr own
-    ∙ ap (λ k. Some (record { attr = c.args.attr; own = Some (bytes_of old.frames k) })) (sym (shown_own old (entry old c.args.spot.now.pid c.args.spot.now.page) c.args.attr.backing own))
-
-pub returns-then-count-eq1-clause-bytes : goal.returns-then-count-eq1-clause-bytes
-returns-then-count-eq1-clause-bytes g c =
-    let old : Picture g.M.Levels.mode = picture_of c.args.core.now in
-    let e = c.number_at-was.ensures in
-    let shown = c.shown_frame-shown.ensures ∙ ap (λ x. shown_frame old x c.args.attr.backing) e in
-    let h = mapped_page old c.args.spot.now.pid c.args.spot.now.page c.args.attr c.requires.spot.linked.fit.granting c.requires.attr in
-    let own_of : is_private (entry old c.args.spot.now.pid c.args.spot.now.page) ≡ true → frame_of (entry old c.args.spot.now.pid c.args.spot.now.page) ≡ c.shown_frame-shown.result.0 = λ private. sym (shown ∙ shown_own old (entry old c.args.spot.now.pid c.args.spot.now.page) c.args.attr.backing private) in
-    let behind_of : is_private (entry old c.args.spot.now.pid c.args.spot.now.page) ≡ false → IsBehind old c.args.attr.backing c.shown_frame-shown.result.0 = λ common.
-    (let P : ℕ → Type 0 = λ x. IsBehind old c.args.attr.backing x in subst P (sym shown) (shown_behind old (entry old c.args.spot.now.pid c.args.spot.now.page) c.args.attr.backing common (c.requires.in_memory common))) in
-    let own = sym (ap is_private e) ∙ sym c.is_private.ensures ∙ c.if-is_private.true in
-    let frame = shown ∙ shown_own old (entry old c.args.spot.now.pid c.args.spot.now.page) c.args.attr.backing own in
-    let one = ap (count_of old.frames) (sym frame) ∙ sym c.count.ensures ∙ c.if-count-eq1.true in
-    ap (bytes_of c.regrant.new.core.frames) frame
-    ∙ c.regrant.ensures.enters.calm.frames.bytes (frame_of (entry old c.args.spot.now.pid c.args.spot.now.page)) (λ t. (let bad : Private ≡ Table = sym (own_role old c.args.spot.now.pid c.args.spot.now.page c.requires.spot.linked.fit h own) ∙ t in (cc)))
-    ∙ ap (bytes_of old.frames) (sym (shown_own old (entry old c.args.spot.now.pid c.args.spot.now.page) c.args.attr.backing own))
-
-pub returns-then-count-eq1-clause-entry : goal.returns-then-count-eq1-clause-entry
-returns-then-count-eq1-clause-entry g c =
-    let old : Picture g.M.Levels.mode = picture_of c.args.core.now in
-    let e = c.number_at-was.ensures in
-    let shown = c.shown_frame-shown.ensures ∙ ap (λ x. shown_frame old x c.args.attr.backing) e in
-    let h = mapped_page old c.args.spot.now.pid c.args.spot.now.page c.args.attr c.requires.spot.linked.fit.granting c.requires.attr in
-    let own_of : is_private (entry old c.args.spot.now.pid c.args.spot.now.page) ≡ true → frame_of (entry old c.args.spot.now.pid c.args.spot.now.page) ≡ c.shown_frame-shown.result.0 = λ private. sym (shown ∙ shown_own old (entry old c.args.spot.now.pid c.args.spot.now.page) c.args.attr.backing private) in
-    let behind_of : is_private (entry old c.args.spot.now.pid c.args.spot.now.page) ≡ false → IsBehind old c.args.attr.backing c.shown_frame-shown.result.0 = λ common.
-    (let P : ℕ → Type 0 = λ x. IsBehind old c.args.attr.backing x in subst P (sym shown) (shown_behind old (entry old c.args.spot.now.pid c.args.spot.now.page) c.args.attr.backing common (c.requires.in_memory common))) in
+    let h = mapped_page old c.args.spot.now.pid c.args.spot.now.page c.args.attr c.requires.page.stands.linked.fit.granting c.requires.page.mapped in
     let own = sym (ap is_private e) ∙ sym c.is_private.ensures ∙ c.if-is_private.true in
     let frame = shown ∙ shown_own old (entry old c.args.spot.now.pid c.args.spot.now.page) c.args.attr.backing own in
     let one = ap (count_of old.frames) (sym frame) ∙ sym c.count.ensures ∙ c.if-count-eq1.true in
@@ -107,48 +70,44 @@ returns-then-count-eq1-clause-entry g c =
     let was = frame_of (entry old c.args.spot.now.pid c.args.spot.now.page) in
     let P : Bool → Type 0 = λ x. IsFullEntry old c.args.attr was x now in
     let Q : ℕ → Type 0 = λ x. IsEntryOver now c.args.attr.prot x true true true in
-    subst Q (sym frame) (full_own old c.args.attr was now one c.requires.writable (subst P own c.regrant.ensures.entry))
-
-pub returns-then-count-eq1-clause-sole : goal.returns-then-count-eq1-clause-sole
-returns-then-count-eq1-clause-sole g c =
-    let old : Picture g.M.Levels.mode = picture_of c.args.core.now in
-    let e = c.number_at-was.ensures in
-    let shown = c.shown_frame-shown.ensures ∙ ap (λ x. shown_frame old x c.args.attr.backing) e in
-    let h = mapped_page old c.args.spot.now.pid c.args.spot.now.page c.args.attr c.requires.spot.linked.fit.granting c.requires.attr in
-    let own_of : is_private (entry old c.args.spot.now.pid c.args.spot.now.page) ≡ true → frame_of (entry old c.args.spot.now.pid c.args.spot.now.page) ≡ c.shown_frame-shown.result.0 = λ private. sym (shown ∙ shown_own old (entry old c.args.spot.now.pid c.args.spot.now.page) c.args.attr.backing private) in
-    let behind_of : is_private (entry old c.args.spot.now.pid c.args.spot.now.page) ≡ false → IsBehind old c.args.attr.backing c.shown_frame-shown.result.0 = λ common.
-    (let P : ℕ → Type 0 = λ x. IsBehind old c.args.attr.backing x in subst P (sym shown) (shown_behind old (entry old c.args.spot.now.pid c.args.spot.now.page) c.args.attr.backing common (c.requires.in_memory common))) in
-    let own = sym (ap is_private e) ∙ sym c.is_private.ensures ∙ c.if-is_private.true in
-    let frame = shown ∙ shown_own old (entry old c.args.spot.now.pid c.args.spot.now.page) c.args.attr.backing own in
-    let one = ap (count_of old.frames) (sym frame) ∙ sym c.count.ensures ∙ c.if-count-eq1.true in
-    ap (λ cs. get_or cs c.shown_frame-shown.result.0 0) c.regrant.ensures.enters.calm.frames.counts ∙ ap (count_of old.frames) frame ∙ one
-
-pub returns-then-count-eq1-clause-behind : goal.returns-then-count-eq1-clause-behind
-returns-then-count-eq1-clause-behind g c =
-    let old : Picture g.M.Levels.mode = picture_of c.args.core.now in
-    let e = c.number_at-was.ensures in
-    let shown = c.shown_frame-shown.ensures ∙ ap (λ x. shown_frame old x c.args.attr.backing) e in
-    let h = mapped_page old c.args.spot.now.pid c.args.spot.now.page c.args.attr c.requires.spot.linked.fit.granting c.requires.attr in
-    let own_of : is_private (entry old c.args.spot.now.pid c.args.spot.now.page) ≡ true → frame_of (entry old c.args.spot.now.pid c.args.spot.now.page) ≡ c.shown_frame-shown.result.0 = λ private. sym (shown ∙ shown_own old (entry old c.args.spot.now.pid c.args.spot.now.page) c.args.attr.backing private) in
-    let behind_of : is_private (entry old c.args.spot.now.pid c.args.spot.now.page) ≡ false → IsBehind old c.args.attr.backing c.shown_frame-shown.result.0 = λ common.
-    (let P : ℕ → Type 0 = λ x. IsBehind old c.args.attr.backing x in subst P (sym shown) (shown_behind old (entry old c.args.spot.now.pid c.args.spot.now.page) c.args.attr.backing common (c.requires.in_memory common))) in
-    let own = sym (ap is_private e) ∙ sym c.is_private.ensures ∙ c.if-is_private.true in
-    let frame = shown ∙ shown_own old (entry old c.args.spot.now.pid c.args.spot.now.page) c.args.attr.backing own in
-    let one = ap (count_of old.frames) (sym frame) ∙ sym c.count.ensures ∙ c.if-count-eq1.true in
-    λ x not_own. absurd (false≢true (sym not_own ∙ own))
-
-pub returns-then-count-eq1-clause-bare : goal.returns-then-count-eq1-clause-bare
-returns-then-count-eq1-clause-bare g c = λ q p h other none. c.regrant.ensures.enters.calm.others q p h other ∙ none
-
-pub returns-then-count-eq1-clause-slotted : goal.returns-then-count-eq1-clause-slotted
-returns-then-count-eq1-clause-slotted g c = slotted_calm (λ p. ⊥) c.args.core.now c.regrant.new.core c.args.spot.now.pid c.args.spot.now.page c.regrant.ensures.enters.calm
+    record {
+      copies = record {
+        own = c.regrant.ensures.enters.views c.args.spot.now.pid c.args.spot.now.page ∙ own_view old c.args.spot.now.pid c.args.spot.now.page c.args.attr c.requires.page.mapped own
+            ∙ ap (λ k. Some (record { attr = c.args.attr; own = Some (bytes_of old.frames k) })) (sym (shown_own old (entry old c.args.spot.now.pid c.args.spot.now.page) c.args.attr.backing own));
+        bytes = ap (bytes_of c.regrant.new.core.frames) frame
+            ∙ c.regrant.ensures.enters.calm.frames.bytes (frame_of (entry old c.args.spot.now.pid c.args.spot.now.page)) (λ t. (let bad : Private ≡ Table = sym (own_role old c.args.spot.now.pid c.args.spot.now.page c.requires.page.stands.linked.fit h own) ∙ t in (cc)))
+            ∙ ap (bytes_of old.frames) (sym (shown_own old (entry old c.args.spot.now.pid c.args.spot.now.page) c.args.attr.backing own));
+        entered = subst Q (sym frame) (full_own old c.args.attr was now one c.requires.page.writable (subst P own c.regrant.ensures.entry));
+        sole = ap (λ cs. get_or cs c.shown_frame-shown.result.0 0) c.regrant.ensures.enters.calm.frames.counts ∙ ap (count_of old.frames) frame ∙ one;
+        behind = λ x not_own. absurd (false≢true (sym not_own ∙ own));
+        keeps = record {
+          moves = moves_entered g.E.SectorDisk c.args.core.now c.regrant.new.core c.args.spot.now.pid c.args.spot.now.page c.requires.swap c.regrant.ensures.enters;
+          rows = search rules;
+          no_table = no_table_calm c.args.core.now c.regrant.new.core c.args.spot.now.pid c.args.spot.now.page c.regrant.ensures.enters.calm;
+          files = search rules;
+          others = search rules;
+          bare = λ q p h other none. c.regrant.ensures.enters.calm.others q p h other ∙ none;
+          slotted = slotted_calm (λ p. ⊥) c.args.core.now c.regrant.new.core c.args.spot.now.pid c.args.spot.now.page c.regrant.ensures.enters.calm;
+        };
+        asks = asks_slots_same g.E.SectorDisk c.args.core.now c.regrant.new.core (copied_frame (picture_of c.args.core.now) c.args.spot.now.pid c.args.spot.now.page c.args.attr) Nothing c.regrant.ensures.enters.calm.swap;
+        stalls = record {
+          same = search rules;
+          frees = search rules;
+          refuses = search rules;
+          short = search rules;
+          cause = search rules;
+        };
+      };
+      calm = search rules;
+      wanted = search rules;
+    }
 
 pub copy_page-requires-clause-own : goal.copy_page-requires-clause-own
 copy_page-requires-clause-own g c =
     let old : Picture g.M.Levels.mode = picture_of c.args.core.now in
     let e = c.number_at-was.ensures in
     let shown = c.shown_frame-shown.ensures ∙ ap (λ x. shown_frame old x c.args.attr.backing) e in
-    let h = mapped_page old c.args.spot.now.pid c.args.spot.now.page c.args.attr c.requires.spot.linked.fit.granting c.requires.attr in
+    let h = mapped_page old c.args.spot.now.pid c.args.spot.now.page c.args.attr c.requires.page.stands.linked.fit.granting c.requires.page.mapped in
     let own_of : is_private (entry old c.args.spot.now.pid c.args.spot.now.page) ≡ true → frame_of (entry old c.args.spot.now.pid c.args.spot.now.page) ≡ c.shown_frame-shown.result.0 = λ private. sym (shown ∙ shown_own old (entry old c.args.spot.now.pid c.args.spot.now.page) c.args.attr.backing private) in
     let behind_of : is_private (entry old c.args.spot.now.pid c.args.spot.now.page) ≡ false → IsBehind old c.args.attr.backing c.shown_frame-shown.result.0 = λ common.
     (let P : ℕ → Type 0 = λ x. IsBehind old c.args.attr.backing x in subst P (sym shown) (shown_behind old (entry old c.args.spot.now.pid c.args.spot.now.page) c.args.attr.backing common (c.requires.in_memory common))) in
@@ -159,7 +118,7 @@ copy_page-requires-clause-common g c =
     let old : Picture g.M.Levels.mode = picture_of c.args.core.now in
     let e = c.number_at-was.ensures in
     let shown = c.shown_frame-shown.ensures ∙ ap (λ x. shown_frame old x c.args.attr.backing) e in
-    let h = mapped_page old c.args.spot.now.pid c.args.spot.now.page c.args.attr c.requires.spot.linked.fit.granting c.requires.attr in
+    let h = mapped_page old c.args.spot.now.pid c.args.spot.now.page c.args.attr c.requires.page.stands.linked.fit.granting c.requires.page.mapped in
     let own_of : is_private (entry old c.args.spot.now.pid c.args.spot.now.page) ≡ true → frame_of (entry old c.args.spot.now.pid c.args.spot.now.page) ≡ c.shown_frame-shown.result.0 = λ private. sym (shown ∙ shown_own old (entry old c.args.spot.now.pid c.args.spot.now.page) c.args.attr.backing private) in
     let behind_of : is_private (entry old c.args.spot.now.pid c.args.spot.now.page) ≡ false → IsBehind old c.args.attr.backing c.shown_frame-shown.result.0 = λ common.
     (let P : ℕ → Type 0 = λ x. IsBehind old c.args.attr.backing x in subst P (sym shown) (shown_behind old (entry old c.args.spot.now.pid c.args.spot.now.page) c.args.attr.backing common (c.requires.in_memory common))) in
@@ -170,34 +129,18 @@ copy_page-requires-clause-was g c =
     let old : Picture g.M.Levels.mode = picture_of c.args.core.now in
     let e = c.number_at-was.ensures in
     let shown = c.shown_frame-shown.ensures ∙ ap (λ x. shown_frame old x c.args.attr.backing) e in
-    let h = mapped_page old c.args.spot.now.pid c.args.spot.now.page c.args.attr c.requires.spot.linked.fit.granting c.requires.attr in
+    let h = mapped_page old c.args.spot.now.pid c.args.spot.now.page c.args.attr c.requires.page.stands.linked.fit.granting c.requires.page.mapped in
     let own_of : is_private (entry old c.args.spot.now.pid c.args.spot.now.page) ≡ true → frame_of (entry old c.args.spot.now.pid c.args.spot.now.page) ≡ c.shown_frame-shown.result.0 = λ private. sym (shown ∙ shown_own old (entry old c.args.spot.now.pid c.args.spot.now.page) c.args.attr.backing private) in
     let behind_of : is_private (entry old c.args.spot.now.pid c.args.spot.now.page) ≡ false → IsBehind old c.args.attr.backing c.shown_frame-shown.result.0 = λ common.
     (let P : ℕ → Type 0 = λ x. IsBehind old c.args.attr.backing x in subst P (sym shown) (shown_behind old (entry old c.args.spot.now.pid c.args.spot.now.page) c.args.attr.backing common (c.requires.in_memory common))) in
     e
 
-pub returns-clause-own : goal.returns-clause-own
-returns-clause-own g c =
-    let old : Picture g.M.Levels.mode = picture_of c.args.core.now in
-    let e = c.number_at-was.ensures in
-    let shown = c.shown_frame-shown.ensures ∙ ap (λ x. shown_frame old x c.args.attr.backing) e in
-    let P : ℕ → Type 0 = λ x. IfOk c.copy_page.result (λ n. view (picture_of c.copy_page.new.core) c.args.spot.now.pid c.args.spot.now.page ≡ Some (record { attr = c.args.attr; own = Some (bytes_of old.frames x) })) in
-    subst P shown c.copy_page.ensures.own
-
-pub returns-clause-bytes : goal.returns-clause-bytes
-returns-clause-bytes g c =
-    let old : Picture g.M.Levels.mode = picture_of c.args.core.now in
-    let e = c.number_at-was.ensures in
-    let shown = c.shown_frame-shown.ensures ∙ ap (λ x. shown_frame old x c.args.attr.backing) e in
-    let P : ℕ → Type 0 = λ x. IfOk c.copy_page.result (λ n. bytes_of c.copy_page.new.core.frames n.0 ≡ bytes_of old.frames x) in
-    subst P shown c.copy_page.ensures.bytes
-
 on_err_same : {T E : Type 0} (Q : Type 0) (r : Result T E) → Q → OnErr r Q
 on_err_same Q (Ok n) q = tt
 on_err_same Q (Err s) q = q
 
-pub returns-clause-wanted : goal.returns-clause-wanted
-returns-clause-wanted g c =
+pub returns : goal.returns
+returns g c =
     let old : Picture g.M.Levels.mode = picture_of c.args.core.now in
     let e = c.number_at-was.ensures in
     let shown = c.shown_frame-shown.ensures ∙ ap (λ x. shown_frame old x c.args.attr.backing) e in
@@ -212,49 +155,9 @@ returns-clause-wanted g c =
           several_when old was (λ one. many (ap (count_of old.frames) frame ∙ one)))
       | inr common ↦ common_when old was common
     ] in
-    on_err_same _ c.copy_page.result not_sole
-
-pub returns-clause-calm : goal.returns-clause-calm
-returns-clause-calm g c =
-    let old : Picture g.M.Levels.mode = picture_of c.args.core.now in
-    let e = c.number_at-was.ensures in
-    let shown = c.shown_frame-shown.ensures ∙ ap (λ x. shown_frame old x c.args.attr.backing) e in
-    let was = entry old c.args.spot.now.pid c.args.spot.now.page in
-    let not_sole : is_sole old was ≡ false = elim (cases_Bool (is_private was)) [
-      | inl own ↦ (
-          let frame = shown ∙ shown_own old was c.args.attr.backing own in
-          let many : count_of old.frames c.shown_frame-shown.result.0 ≢ 1 = elim c.else-is_private.branch [
-            | else-is_private-via-then-is_private+else-count-eq1 w ↦ (λ one. w.if-count-eq1.false (w.count.ensures ∙ one))
-            | else-is_private-via-else-is_private w ↦ absurd (false≢true (sym w.if-is_private.false ∙ c.is_private.ensures ∙ ap is_private e ∙ own))
-          ] in
-          several_when old was (λ one. many (ap (count_of old.frames) frame ∙ one)))
-      | inr common ↦ common_when old was common
-    ] in
-    λ sole. absurd (false≢true (sym not_sole ∙ sole))
-
-pub returns-clause-frees : goal.returns-clause-frees
-returns-clause-frees g c =
-    let old : Picture g.M.Levels.mode = picture_of c.args.core.now in
-    let e = c.number_at-was.ensures in
-    let shown = c.shown_frame-shown.ensures ∙ ap (λ x. shown_frame old x c.args.attr.backing) e in
-    let P : ℕ → Type 0 = λ x. OnErr c.copy_page.result (Frees old (picture_of c.copy_page.new.core) (Some (record { 0 = x }))) in
-    subst P shown c.copy_page.ensures.frees
-
-pub returns-clause-refuses : goal.returns-clause-refuses
-returns-clause-refuses g c =
-    let old : Picture g.M.Levels.mode = picture_of c.args.core.now in
-    let e = c.number_at-was.ensures in
-    let shown = c.shown_frame-shown.ensures ∙ ap (λ x. shown_frame old x c.args.attr.backing) e in
-    let P : ℕ → Type 0 = λ x. IfErr c.copy_page.result (Refuses (picture_of c.copy_page.new.core) (Some (record { 0 = x }))) in
-    subst P shown c.copy_page.ensures.refuses
-
-pub returns-then-count-eq1-clause-asks : goal.returns-then-count-eq1-clause-asks
-returns-then-count-eq1-clause-asks g c = asks_slots_same g.E.SectorDisk c.args.core.now c.regrant.new.core (copied_frame (picture_of c.args.core.now) c.args.spot.now.pid c.args.spot.now.page c.args.attr) Nothing c.regrant.ensures.enters.calm.swap
-
-pub returns-clause-asks : goal.returns-clause-asks
-returns-clause-asks g c =
-    let old : Picture g.M.Levels.mode = picture_of c.args.core.now in
-    let e = c.number_at-was.ensures in
-    let shown = c.shown_frame-shown.ensures ∙ ap (λ x. shown_frame old x c.args.attr.backing) e in
-    let P : ℕ → Type 0 = λ x. AsksSlots g.E.SectorDisk c.args.core.now c.copy_page.new.core (Some (record { 0 = x })) Nothing in
-    subst P shown c.copy_page.ensures.asks
+    let P : ℕ → Type 0 = λ x. CopiesPage g.E.SectorDisk c.args.core.now c.copy_page.new.core c.args.spot.now.pid c.args.spot.now.page c.args.attr (record { 0 = x }) c.copy_page.result in
+    record {
+      copies = subst P shown c.copy_page.ensures;
+      calm = λ sole. absurd (false≢true (sym not_sole ∙ sole));
+      wanted = on_err_same _ c.copy_page.result not_sole;
+    }

@@ -1,36 +1,44 @@
-use Rattle.std.proofs.Common.{Some, None, refl, arith}
+use Rattle.std.proofs.Common.{Some, None, inl, inr, refl, rules, arith}
 use Rattle.paging.specs.Picture.{picture_of}
 use Rattle.mapping.specs.Asking.{IsSectorOfPage, IsSectorOfFile}
 use Rattle.mapping.proofs.Asking.{no_new_same, asks_slots_same}
 use Rattle.mapping.proofs.AskedIn.{store_same}
 use Rattle.mapping.proofs.BroughtIn.{reads_none, brings_none}
+use Rattle.mapping.proofs.NoTables.{no_table_none}
 use Rattle.mapping.proofs.Slotted.{slotted_same}
 use Rattle.mapping.proofs.Steps.{device_none}
 use Rattle.mapping.proofs.page_in.cached.Goals as goal
 
-pub returns-in-Frame-clause-proceeds : goal.returns-in-Frame-clause-proceeds
-returns-in-Frame-clause-proceeds g c = record {
-  fit = c.requires.fit;
-  ready = c.requires.store;
-  swap = c.requires.swap;
-  spaces = record { root = λ pid. refl; at = λ pid k. refl };
-  tables = λ pid r p e. omega arith;
-  room = record { frames = refl; slots = refl };
-  reads = reads_none g.D.SectorDisk c.args.core.now.store c.args.core.now.store refl;
-  device = device_none g.E.SectorDisk c.args.core.now.swap.pages.disk;
-}
-
-pub returns-in-Frame-clause-slotted : goal.returns-in-Frame-clause-slotted
-returns-in-Frame-clause-slotted g c = slotted_same _ _ (picture_of c.args.core.now) (picture_of c.args.core.now) (λ p. refl) (λ q p h. refl)
-
-pub returns-in-Frame-clause-brings : goal.returns-in-Frame-clause-brings
-returns-in-Frame-clause-brings g c = λ kept. brings_none g.D.SectorDisk c.args.core.now.store.disk c.args.core.now.store.disk _ (picture_of c.args.core.now)
-
-pub returns-in-Frame-clause-asks : goal.returns-in-Frame-clause-asks
-returns-in-Frame-clause-asks g c = asks_slots_same g.E.SectorDisk c.args.core.now c.args.core.now None (IsSectorOfPage (picture_of c.args.core.now) c.args.page) refl
-
-pub returns-in-Frame-clause-asks_store : goal.returns-in-Frame-clause-asks_store
-returns-in-Frame-clause-asks_store g c = store_same g.D.SectorDisk (IsSectorOfFile c.args.core.now.store c.args.page) c.args.core.now.store c.args.core.now.store refl
-
-pub returns-in-Frame-clause-asks_later : goal.returns-in-Frame-clause-asks_later
-returns-in-Frame-clause-asks_later g c = no_new_same (picture_of c.args.core.now) (Some c.in-Frame.frame) (IsSectorOfPage (picture_of c.args.core.now) c.args.page)
+pub returns-in-Frame-clause-pages_in : goal.returns-in-Frame-clause-pages_in
+returns-in-Frame-clause-pages_in g c =
+    let core = c.args.core.now in
+    let page = c.args.page in
+    record {
+      placed = search rules;
+      only = inr (λ n ne. refl);
+      proceeds = record {
+        fit = c.requires.fit;
+        ready = c.requires.store;
+        swap = c.requires.swap;
+        spaces = record { root = λ pid. refl; at = λ pid k. refl };
+        tables = λ pid r p e. omega arith;
+        room = record { frames = refl; slots = refl };
+        reads = reads_none g.D.SectorDisk core.store core.store refl;
+        device = device_none g.E.SectorDisk core.swap.pages.disk;
+      };
+      brings = λ kept. brings_none g.D.SectorDisk core.store.disk core.store.disk _ (picture_of core);
+      keeps = record { views = λ q k. refl; touched = λ p. refl };
+      bare = λ q k h none. none;
+      rows = λ q r row n lives there. there;
+      no_table = no_table_none (picture_of core);
+      slotted = slotted_same _ _ (picture_of core) (picture_of core) (λ p. refl) (λ q p h. refl);
+      read = inl refl;
+      asks = asks_slots_same g.E.SectorDisk core core None (IsSectorOfPage (picture_of core) page) refl;
+      asks_store = store_same g.D.SectorDisk (IsSectorOfFile core.store page) core.store core.store refl;
+      asks_later = no_new_same (picture_of core) (Some c.in-Frame.frame) (IsSectorOfPage (picture_of core) page);
+      cause = (refl, refl, refl);
+      home = tt;
+      frees = tt;
+      refuses = tt;
+      short = tt;
+    }

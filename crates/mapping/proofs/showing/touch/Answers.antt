@@ -100,6 +100,7 @@ returns-clause-enters g c =
         swap = rest.swap;
         refused = c.set_full.ensures.not_refused;
         frames = sets.2.kept;
+        pointers = λ n i m points. (sets.2.pointers n i m).0 points;
         place = λ p. beside.place p ∙ place p;
         others = λ q p h other. (full_set mid new c.args.spot.now.pid c.args.spot.now.page r c.args.attr c.args.frame.0 false linked c.requires.spot.root c.requires.attr sets beside).others q p h other
             ∙ entry_marked old mid c.args.stored c.args.frame.0 refl refl (λ q. refl) (λ q k. refl) (λ x. refl) place c.mark_dirty.ensures.touched c.mark_dirty.ensures.others.touched (λ f. refl) c.requires.cached q p;

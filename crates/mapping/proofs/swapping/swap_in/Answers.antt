@@ -1,8 +1,8 @@
 use Rattle.vm_types.specs.Limits.{top_level}
 use Rattle.std.specs.Prelude.{is_some}
-use Rattle.std.proofs.Common.{◌≡◌, ◌≢◌, ℕ, ◌+◌, ◌*◌, ◌<◌, ◌^◌, inl, Some, None, get_or, refl, sym, ap, ◌∙◌, subst, arith}
+use Rattle.std.proofs.Common.{◌≡◌, ◌≢◌, ℕ, ◌+◌, ◌*◌, ◌<◌, ◌^◌, inl, Some, None, get_or, refl, sym, ap, ◌∙◌, subst, arith, rules}
 use Rattle.frames.specs.declared.role.Role.TheVariants.{Free, Table}
-use Rattle.frames.specs.FrameTable.{IsFrame, role_of, with_bytes}
+use Rattle.frames.specs.FrameTable.{IsFrame, IsFull, role_of, with_bytes}
 use Rattle.swap.specs.Slots.{SlotTable, IsInUse, slots_of}
 use Rattle.page_tables.specs.declared.forms.Entry.{Entry}
 use Rattle.page_tables.specs.Entry.{number_of, IsEntry, IsPageEntry}
@@ -30,7 +30,8 @@ use Rattle.mapping.specs.Changes.{IsThatPage}
 use Rattle.mapping.proofs.Asking.{asks_swap}
 use Rattle.mapping.proofs.AskedIn.{asks_read}
 use Rattle.mapping.proofs.Slotted.{slotted_frees}
-use Rattle.mapping.proofs.SwappedIn.{lives_of, whole_of, at_of, slot_set, slot_used, fit_in, spaces_in, tables_in, rows_written, rows_in, room_in, others_in, bare_in, slotted_in, files_in, seen_in, entry_in}
+use Rattle.mapping.proofs.SwappedIn.{lives_of, whole_of, at_of, slot_set, slot_used, fit_in, spaces_in, tables_in, rows_written, no_table_in, rows_in, room_in, others_in, bare_in, slotted_in, files_in, seen_in, entry_in}
+use Rattle.mapping.proofs.NoTables.{no_table_freed}
 use Rattle.mapping.proofs.Rows.{rows_freed}
 use Rattle.mapping.proofs.Settling.{forest_mid, root_mid}
 use Rattle.mapping.proofs.Steps.{frees_any, moves_freed, device_then}
@@ -66,8 +67,9 @@ get-requires-clause-in_use g c =
     let P : SlotTable → Type 0 = λ x. IsInUse x k in
     subst P (sym took.own.slots) (slot_used old taken c.args.spot.now.pid c.args.spot.now.page n k r c.args.attr took c.requires.spot.linked lives c.requires.attr c.requires.away number low taken (changes_taken took.found taken n c.args.spot.now.page took.own) took.own.takes.kind_set took.own.takes.counted took.own.noted)
 
-pub returns-in-Ok-clause-moves : goal.returns-in-Ok-clause-moves
-returns-in-Ok-clause-moves g c =
+pub returns-in-Ok : goal.returns-in-Ok
+unfolding entry
+returns-in-Ok g c =
     let old : Picture g.M.Levels.mode = picture_of c.args.core.now in
     let taken : Picture g.M.Levels.mode = picture_of c.take_own.new.self in
     let took = c.in_ok-frame.ensures.taken in
@@ -76,8 +78,7 @@ returns-in-Ok-clause-moves g c =
     let r = c.args.spot.now.root.0 in
     let lives : old.root c.args.spot.now.pid ≡ Some r = c.requires.spot.root in
     let here = mapped_page old c.args.spot.now.pid c.args.spot.now.page c.args.attr c.requires.spot.linked.fit.granting c.requires.attr in
-    let number : entry old c.args.spot.now.pid c.args.spot.now.page ≡ k * 1024 + 2 =
-    sym c.number_at.ensures ∙ sym c.decode.ensures.number ∙ ap number_of c.in-Swapped.is in
+    let number : entry old c.args.spot.now.pid c.args.spot.now.page ≡ k * 1024 + 2 = sym c.number_at.ensures ∙ sym c.decode.ensures.number ∙ ap number_of c.in-Swapped.is in
     let low : k < 2 ^ 32 = (let P : Entry → Type 0 = λ e. IsEntry e in subst P c.in-Swapped.is c.decode.ensures.form) in
     let written : Picture g.M.Levels.mode = record taken { slots = slots_of c.get.new.self; frames = with_bytes c.take_own.new.self.frames n c.get.new.to } in
     let changes : ChangesFrame took.found written n = changes_written took.found taken n c.args.spot.now.page took.own (slots_of c.get.new.self) c.get.ensures.same c.get.new.to in
@@ -86,123 +87,64 @@ returns-in-Ok-clause-moves g c =
     let beside = beside_around _ c.set_full.new.core c.set_full.ensures.rest in
     let t = slots_of c.release.new.self in
     let done = c.in_ok-frame.ensures in
+    let also : ℕ → Type 0 = λ j. IsSectorOfCopy old c.args.spot.now.pid c.args.spot.now.page j in
+    let read = asks_read g.E.SectorDisk c.args.core.now c.take_own.new.self c.get.new.self None also k (λ j is. (k, ap seat number ∙ away_seat k low, is)) c.in_ok-frame.ensures.asked c.get.ensures.asks in
     record {
-      fit = fit_in old taken c.args.spot.now.pid c.args.spot.now.page n k r c.args.attr took c.requires.spot.linked lives c.requires.attr c.requires.away number low written changes took.own.takes.kind_set took.own.takes.counted took.own.noted set sets beside t c.release.ensures.releases;
-      swap = ready_released g.E.SectorDisk c.get.new.self c.set_full.new.core.swap c.release.new.self c.set_full.ensures.rest.swap c.release.ensures.pages c.release.ensures.releases.others.total c.get.ensures.ready;
-      spaces = spaces_in old taken c.args.spot.now.pid c.args.spot.now.page n k r c.args.attr took c.requires.spot.linked lives c.requires.attr c.requires.away number low written changes took.own.takes.kind_set took.own.takes.counted took.own.noted set sets beside t c.release.ensures.releases;
-      tables = tables_in old taken c.args.spot.now.pid c.args.spot.now.page n k r c.args.attr took c.requires.spot.linked lives c.requires.attr c.requires.away number low written changes took.own.takes.kind_set took.own.takes.counted took.own.noted set sets beside t c.release.ensures.releases;
-      room = room_in old taken c.args.spot.now.pid c.args.spot.now.page n k r c.args.attr took c.requires.spot.linked lives c.requires.attr c.requires.away number low written changes took.own.takes.kind_set took.own.takes.counted took.own.noted set sets beside t c.release.ensures.releases;
-      store = c.set_full.ensures.rest.store ∙ done.rest.store;
-      device = (let P : Swap _ → Type 0 = λ x. UsesDevice g.E.SectorDisk c.args.core.now.swap.pages.disk x.pages.disk in let Q : Pages _ → Type 0 = λ x. UsesDevice g.E.SectorDisk c.args.core.now.swap.pages.disk x.disk in
-          subst Q (sym c.release.ensures.pages) (subst P (sym c.set_full.ensures.rest.swap)
-          (device_then g.E.SectorDisk c.args.core.now.swap.pages.disk c.take_own.new.self.swap.pages.disk c.get.new.self.pages.disk done.device
-          (record { size = c.get.ensures.size; kept = c.get.ensures.kept; later = c.get.ensures.cause.later }))));
+      entered = full_count written (record set { slots = t }) c.args.attr n (entry set c.args.spot.now.pid c.args.spot.now.page) (ap (λ cs. get_or cs n 0) sets.2.kept.counts)
+          (entry_in old taken c.args.spot.now.pid c.args.spot.now.page n k r c.args.attr took c.requires.spot.linked lives c.requires.attr c.requires.away number low written changes took.own.takes.kind_set took.own.takes.counted took.own.noted set sets beside t c.release.ensures.releases);
+      sole = ap (λ cs. get_or cs c.in_ok-frame.frame.0 0) c.set_full.ensures.sets.2.kept.counts ∙ c.in_ok-frame.ensures.taken.own.takes.counted;
+      seen = λ model.
+          let old : Picture g.M.Levels.mode = picture_of c.args.core.now in
+          let taken : Picture g.M.Levels.mode = picture_of c.take_own.new.self in
+          let took = c.in_ok-frame.ensures.taken in
+          let n = c.in_ok-frame.frame.0 in
+          let k = c.in-Swapped.slot.0 in
+          let r = c.args.spot.now.root.0 in
+          let lives : old.root c.args.spot.now.pid ≡ Some r = c.requires.spot.root in
+          let here = mapped_page old c.args.spot.now.pid c.args.spot.now.page c.args.attr c.requires.spot.linked.fit.granting c.requires.attr in
+          let number : entry old c.args.spot.now.pid c.args.spot.now.page ≡ k * 1024 + 2 =
+          sym c.number_at.ensures ∙ sym c.decode.ensures.number ∙ ap number_of c.in-Swapped.is in
+          let low : k < 2 ^ 32 = (let P : Entry → Type 0 = λ e. IsEntry e in subst P c.in-Swapped.is c.decode.ensures.form) in
+          let written : Picture g.M.Levels.mode = record taken { slots = slots_of c.get.new.self; frames = with_bytes c.take_own.new.self.frames n c.get.new.to } in
+          let changes : ChangesFrame took.found written n = changes_written took.found taken n c.args.spot.now.page took.own (slots_of c.get.new.self) c.get.ensures.same c.get.new.to in
+          let set : Picture g.M.Levels.mode = picture_of c.set_full.new.core in
+          let sets = c.set_full.ensures.sets in
+          let beside = beside_around _ c.set_full.new.core c.set_full.ensures.rest in
+          let t = slots_of c.release.new.self in
+          let inside : IsFrame c.take_own.new.self.frames n = (let same = took.own.takes.others.frames in let low = took.own.takes.inside in omega (arith, same, low)) in
+          let M : Pages _ → Type 0 = λ x. g.E.SectorDisk.keeps_model x.disk in
+          let N : Swap _ → Type 0 = λ x. g.E.SectorDisk.keeps_model x.pages.disk in
+          let got = c.in-Ok.ensures.gives (subst N c.set_full.ensures.rest.swap (subst M c.release.ensures.pages model)) in
+          seen_in old taken c.args.spot.now.pid c.args.spot.now.page n k r c.args.attr took c.requires.spot.linked lives c.requires.attr c.requires.away number low written changes took.own.takes.kind_set took.own.takes.counted took.own.noted set sets beside t c.release.ensures.releases (with_bytes-same c.take_own.new.self.frames n c.get.new.to inside ∙ got ∙ ap (λ u. u.bytes k) took.own.slots);
+      keeps = record {
+        moves = record {
+          fit = fit_in old taken c.args.spot.now.pid c.args.spot.now.page n k r c.args.attr took c.requires.spot.linked lives c.requires.attr c.requires.away number low written changes took.own.takes.kind_set took.own.takes.counted took.own.noted set sets beside t c.release.ensures.releases;
+          swap = ready_released g.E.SectorDisk c.get.new.self c.set_full.new.core.swap c.release.new.self c.set_full.ensures.rest.swap c.release.ensures.pages c.release.ensures.releases.others.total c.get.ensures.ready;
+          spaces = spaces_in old taken c.args.spot.now.pid c.args.spot.now.page n k r c.args.attr took c.requires.spot.linked lives c.requires.attr c.requires.away number low written changes took.own.takes.kind_set took.own.takes.counted took.own.noted set sets beside t c.release.ensures.releases;
+          tables = tables_in old taken c.args.spot.now.pid c.args.spot.now.page n k r c.args.attr took c.requires.spot.linked lives c.requires.attr c.requires.away number low written changes took.own.takes.kind_set took.own.takes.counted took.own.noted set sets beside t c.release.ensures.releases;
+          room = room_in old taken c.args.spot.now.pid c.args.spot.now.page n k r c.args.attr took c.requires.spot.linked lives c.requires.attr c.requires.away number low written changes took.own.takes.kind_set took.own.takes.counted took.own.noted set sets beside t c.release.ensures.releases;
+          store = c.set_full.ensures.rest.store ∙ done.rest.store;
+          device = (let P : Swap _ → Type 0 = λ x. UsesDevice g.E.SectorDisk c.args.core.now.swap.pages.disk x.pages.disk in let Q : Pages _ → Type 0 = λ x. UsesDevice g.E.SectorDisk c.args.core.now.swap.pages.disk x.disk in
+              subst Q (sym c.release.ensures.pages) (subst P (sym c.set_full.ensures.rest.swap)
+              (device_then g.E.SectorDisk c.args.core.now.swap.pages.disk c.take_own.new.self.swap.pages.disk c.get.new.self.pages.disk done.device
+              (record { size = c.get.ensures.size; kept = c.get.ensures.kept; later = c.get.ensures.cause.later }))));
+        };
+        rows = rows_in old taken c.args.spot.now.pid c.args.spot.now.page n k r c.args.attr took c.requires.spot.linked lives c.requires.attr c.requires.away number low written changes took.own.takes.kind_set took.own.takes.counted took.own.noted set sets beside t c.release.ensures.releases;
+        no_table = no_table_in old taken c.args.spot.now.pid c.args.spot.now.page n k r c.args.attr took c.requires.spot.linked lives c.requires.attr c.requires.away number low written changes took.own.takes.kind_set took.own.takes.counted took.own.noted set sets beside t c.release.ensures.releases;
+        files = files_in old taken c.args.spot.now.pid c.args.spot.now.page n k r c.args.attr took c.requires.spot.linked lives c.requires.attr c.requires.away number low written changes took.own.takes.kind_set took.own.takes.counted took.own.noted set sets beside t c.release.ensures.releases;
+        others = others_in old taken c.args.spot.now.pid c.args.spot.now.page n k r c.args.attr took c.requires.spot.linked lives c.requires.attr c.requires.away number low written changes took.own.takes.kind_set took.own.takes.counted took.own.noted set sets beside t c.release.ensures.releases;
+        bare = bare_in old taken c.args.spot.now.pid c.args.spot.now.page n k r c.args.attr took c.requires.spot.linked lives c.requires.attr c.requires.away number low written changes took.own.takes.kind_set took.own.takes.counted took.own.noted set sets beside t c.release.ensures.releases;
+        slotted = slotted_in old taken c.args.spot.now.pid c.args.spot.now.page n k r c.args.attr took c.requires.spot.linked lives c.requires.attr c.requires.away number low written changes took.own.takes.kind_set took.own.takes.counted took.own.noted set sets beside t c.release.ensures.releases;
+      };
+      asks = asks_between g.E.SectorDisk (MayAsk old (IsFull old.frames) None also) c.args.core.now.swap c.args.core.now.swap c.get.new.self c.release.new.self refl (c.release.ensures.pages ∙ ap (λ (s : Swap _). s.pages) c.set_full.ensures.rest.swap) read;
+      stalls = record {
+        same = search rules;
+        frees = search rules;
+        refuses = search rules;
+        short = search rules;
+        cause = search rules;
+      };
     }
-
-pub returns-in-Ok-clause-others : goal.returns-in-Ok-clause-others
-returns-in-Ok-clause-others g c =
-    let old : Picture g.M.Levels.mode = picture_of c.args.core.now in
-    let taken : Picture g.M.Levels.mode = picture_of c.take_own.new.self in
-    let took = c.in_ok-frame.ensures.taken in
-    let n = c.in_ok-frame.frame.0 in
-    let k = c.in-Swapped.slot.0 in
-    let r = c.args.spot.now.root.0 in
-    let lives : old.root c.args.spot.now.pid ≡ Some r = c.requires.spot.root in
-    let here = mapped_page old c.args.spot.now.pid c.args.spot.now.page c.args.attr c.requires.spot.linked.fit.granting c.requires.attr in
-    let number : entry old c.args.spot.now.pid c.args.spot.now.page ≡ k * 1024 + 2 =
-    sym c.number_at.ensures ∙ sym c.decode.ensures.number ∙ ap number_of c.in-Swapped.is in
-    let low : k < 2 ^ 32 = (let P : Entry → Type 0 = λ e. IsEntry e in subst P c.in-Swapped.is c.decode.ensures.form) in
-    let written : Picture g.M.Levels.mode = record taken { slots = slots_of c.get.new.self; frames = with_bytes c.take_own.new.self.frames n c.get.new.to } in
-    let changes : ChangesFrame took.found written n = changes_written took.found taken n c.args.spot.now.page took.own (slots_of c.get.new.self) c.get.ensures.same c.get.new.to in
-    let set : Picture g.M.Levels.mode = picture_of c.set_full.new.core in
-    let sets = c.set_full.ensures.sets in
-    let beside = beside_around _ c.set_full.new.core c.set_full.ensures.rest in
-    let t = slots_of c.release.new.self in
-    others_in old taken c.args.spot.now.pid c.args.spot.now.page n k r c.args.attr took c.requires.spot.linked lives c.requires.attr c.requires.away number low written changes took.own.takes.kind_set took.own.takes.counted took.own.noted set sets beside t c.release.ensures.releases
-
-pub returns-in-Ok-clause-bare : goal.returns-in-Ok-clause-bare
-returns-in-Ok-clause-bare g c =
-    let old : Picture g.M.Levels.mode = picture_of c.args.core.now in
-    let taken : Picture g.M.Levels.mode = picture_of c.take_own.new.self in
-    let took = c.in_ok-frame.ensures.taken in
-    let n = c.in_ok-frame.frame.0 in
-    let k = c.in-Swapped.slot.0 in
-    let r = c.args.spot.now.root.0 in
-    let lives : old.root c.args.spot.now.pid ≡ Some r = c.requires.spot.root in
-    let here = mapped_page old c.args.spot.now.pid c.args.spot.now.page c.args.attr c.requires.spot.linked.fit.granting c.requires.attr in
-    let number : entry old c.args.spot.now.pid c.args.spot.now.page ≡ k * 1024 + 2 =
-    sym c.number_at.ensures ∙ sym c.decode.ensures.number ∙ ap number_of c.in-Swapped.is in
-    let low : k < 2 ^ 32 = (let P : Entry → Type 0 = λ e. IsEntry e in subst P c.in-Swapped.is c.decode.ensures.form) in
-    let written : Picture g.M.Levels.mode = record taken { slots = slots_of c.get.new.self; frames = with_bytes c.take_own.new.self.frames n c.get.new.to } in
-    let changes : ChangesFrame took.found written n = changes_written took.found taken n c.args.spot.now.page took.own (slots_of c.get.new.self) c.get.ensures.same c.get.new.to in
-    let set : Picture g.M.Levels.mode = picture_of c.set_full.new.core in
-    let sets = c.set_full.ensures.sets in
-    let beside = beside_around _ c.set_full.new.core c.set_full.ensures.rest in
-    let t = slots_of c.release.new.self in
-    bare_in old taken c.args.spot.now.pid c.args.spot.now.page n k r c.args.attr took c.requires.spot.linked lives c.requires.attr c.requires.away number low written changes took.own.takes.kind_set took.own.takes.counted took.own.noted set sets beside t c.release.ensures.releases
-
-pub returns-in-Ok-clause-rows : goal.returns-in-Ok-clause-rows
-returns-in-Ok-clause-rows g c =
-    let old : Picture g.M.Levels.mode = picture_of c.args.core.now in
-    let taken : Picture g.M.Levels.mode = picture_of c.take_own.new.self in
-    let took = c.in_ok-frame.ensures.taken in
-    let n = c.in_ok-frame.frame.0 in
-    let k = c.in-Swapped.slot.0 in
-    let r = c.args.spot.now.root.0 in
-    let lives : old.root c.args.spot.now.pid ≡ Some r = c.requires.spot.root in
-    let here = mapped_page old c.args.spot.now.pid c.args.spot.now.page c.args.attr c.requires.spot.linked.fit.granting c.requires.attr in
-    let number : entry old c.args.spot.now.pid c.args.spot.now.page ≡ k * 1024 + 2 =
-    sym c.number_at.ensures ∙ sym c.decode.ensures.number ∙ ap number_of c.in-Swapped.is in
-    let low : k < 2 ^ 32 = (let P : Entry → Type 0 = λ e. IsEntry e in subst P c.in-Swapped.is c.decode.ensures.form) in
-    let written : Picture g.M.Levels.mode = record taken { slots = slots_of c.get.new.self; frames = with_bytes c.take_own.new.self.frames n c.get.new.to } in
-    let changes : ChangesFrame took.found written n = changes_written took.found taken n c.args.spot.now.page took.own (slots_of c.get.new.self) c.get.ensures.same c.get.new.to in
-    let set : Picture g.M.Levels.mode = picture_of c.set_full.new.core in
-    let sets = c.set_full.ensures.sets in
-    let beside = beside_around _ c.set_full.new.core c.set_full.ensures.rest in
-    let t = slots_of c.release.new.self in
-    rows_in old taken c.args.spot.now.pid c.args.spot.now.page n k r c.args.attr took c.requires.spot.linked lives c.requires.attr c.requires.away number low written changes took.own.takes.kind_set took.own.takes.counted took.own.noted set sets beside t c.release.ensures.releases
-
-pub returns-in-Ok-clause-slotted : goal.returns-in-Ok-clause-slotted
-returns-in-Ok-clause-slotted g c =
-    let old : Picture g.M.Levels.mode = picture_of c.args.core.now in
-    let taken : Picture g.M.Levels.mode = picture_of c.take_own.new.self in
-    let took = c.in_ok-frame.ensures.taken in
-    let n = c.in_ok-frame.frame.0 in
-    let k = c.in-Swapped.slot.0 in
-    let r = c.args.spot.now.root.0 in
-    let lives : old.root c.args.spot.now.pid ≡ Some r = c.requires.spot.root in
-    let here = mapped_page old c.args.spot.now.pid c.args.spot.now.page c.args.attr c.requires.spot.linked.fit.granting c.requires.attr in
-    let number : entry old c.args.spot.now.pid c.args.spot.now.page ≡ k * 1024 + 2 =
-    sym c.number_at.ensures ∙ sym c.decode.ensures.number ∙ ap number_of c.in-Swapped.is in
-    let low : k < 2 ^ 32 = (let P : Entry → Type 0 = λ e. IsEntry e in subst P c.in-Swapped.is c.decode.ensures.form) in
-    let written : Picture g.M.Levels.mode = record taken { slots = slots_of c.get.new.self; frames = with_bytes c.take_own.new.self.frames n c.get.new.to } in
-    let changes : ChangesFrame took.found written n = changes_written took.found taken n c.args.spot.now.page took.own (slots_of c.get.new.self) c.get.ensures.same c.get.new.to in
-    let set : Picture g.M.Levels.mode = picture_of c.set_full.new.core in
-    let sets = c.set_full.ensures.sets in
-    let beside = beside_around _ c.set_full.new.core c.set_full.ensures.rest in
-    let t = slots_of c.release.new.self in
-    slotted_in old taken c.args.spot.now.pid c.args.spot.now.page n k r c.args.attr took c.requires.spot.linked lives c.requires.attr c.requires.away number low written changes took.own.takes.kind_set took.own.takes.counted took.own.noted set sets beside t c.release.ensures.releases
-
-pub returns-in-Ok-clause-files : goal.returns-in-Ok-clause-files
-returns-in-Ok-clause-files g c =
-    let old : Picture g.M.Levels.mode = picture_of c.args.core.now in
-    let taken : Picture g.M.Levels.mode = picture_of c.take_own.new.self in
-    let took = c.in_ok-frame.ensures.taken in
-    let n = c.in_ok-frame.frame.0 in
-    let k = c.in-Swapped.slot.0 in
-    let r = c.args.spot.now.root.0 in
-    let lives : old.root c.args.spot.now.pid ≡ Some r = c.requires.spot.root in
-    let here = mapped_page old c.args.spot.now.pid c.args.spot.now.page c.args.attr c.requires.spot.linked.fit.granting c.requires.attr in
-    let number : entry old c.args.spot.now.pid c.args.spot.now.page ≡ k * 1024 + 2 =
-    sym c.number_at.ensures ∙ sym c.decode.ensures.number ∙ ap number_of c.in-Swapped.is in
-    let low : k < 2 ^ 32 = (let P : Entry → Type 0 = λ e. IsEntry e in subst P c.in-Swapped.is c.decode.ensures.form) in
-    let written : Picture g.M.Levels.mode = record taken { slots = slots_of c.get.new.self; frames = with_bytes c.take_own.new.self.frames n c.get.new.to } in
-    let changes : ChangesFrame took.found written n = changes_written took.found taken n c.args.spot.now.page took.own (slots_of c.get.new.self) c.get.ensures.same c.get.new.to in
-    let set : Picture g.M.Levels.mode = picture_of c.set_full.new.core in
-    let sets = c.set_full.ensures.sets in
-    let beside = beside_around _ c.set_full.new.core c.set_full.ensures.rest in
-    let t = slots_of c.release.new.self in
-    files_in old taken c.args.spot.now.pid c.args.spot.now.page n k r c.args.attr took c.requires.spot.linked lives c.requires.attr c.requires.away number low written changes took.own.takes.kind_set took.own.takes.counted took.own.noted set sets beside t c.release.ensures.releases
 
 pub set_full-requires-clause-forest : goal.set_full-requires-clause-forest
 set_full-requires-clause-forest g c =
@@ -272,64 +214,9 @@ release-requires g c =
     let changes : ChangesFrame took.found written n = changes_written took.found taken n c.args.spot.now.page took.own (slots_of c.get.new.self) c.get.ensures.same c.get.new.to in
     slot_set old taken c.args.spot.now.pid c.args.spot.now.page n k r c.args.attr took c.requires.spot.linked lives c.requires.attr c.requires.away number low written changes took.own.takes.kind_set took.own.takes.counted took.own.noted (picture_of c.set_full.new.core) c.set_full.ensures.sets (beside_around _ c.set_full.new.core c.set_full.ensures.rest)
 
-pub returns-in-Ok-clause-entry : goal.returns-in-Ok-clause-entry
-unfolding entry
-returns-in-Ok-clause-entry g c =
-    let old : Picture g.M.Levels.mode = picture_of c.args.core.now in
-    let taken : Picture g.M.Levels.mode = picture_of c.take_own.new.self in
-    let took = c.in_ok-frame.ensures.taken in
-    let n = c.in_ok-frame.frame.0 in
-    let k = c.in-Swapped.slot.0 in
-    let r = c.args.spot.now.root.0 in
-    let lives : old.root c.args.spot.now.pid ≡ Some r = c.requires.spot.root in
-    let here = mapped_page old c.args.spot.now.pid c.args.spot.now.page c.args.attr c.requires.spot.linked.fit.granting c.requires.attr in
-    let number : entry old c.args.spot.now.pid c.args.spot.now.page ≡ k * 1024 + 2 =
-    sym c.number_at.ensures ∙ sym c.decode.ensures.number ∙ ap number_of c.in-Swapped.is in
-    let low : k < 2 ^ 32 = (let P : Entry → Type 0 = λ e. IsEntry e in subst P c.in-Swapped.is c.decode.ensures.form) in
-    let written : Picture g.M.Levels.mode = record taken { slots = slots_of c.get.new.self; frames = with_bytes c.take_own.new.self.frames n c.get.new.to } in
-    let changes : ChangesFrame took.found written n = changes_written took.found taken n c.args.spot.now.page took.own (slots_of c.get.new.self) c.get.ensures.same c.get.new.to in
-    let set : Picture g.M.Levels.mode = picture_of c.set_full.new.core in
-    let sets = c.set_full.ensures.sets in
-    let beside = beside_around _ c.set_full.new.core c.set_full.ensures.rest in
-    let t = slots_of c.release.new.self in
-    full_count written (record set { slots = t }) c.args.attr n (entry set c.args.spot.now.pid c.args.spot.now.page) (ap (λ cs. get_or cs n 0) sets.2.kept.counts)
-    (entry_in old taken c.args.spot.now.pid c.args.spot.now.page n k r c.args.attr took c.requires.spot.linked lives c.requires.attr c.requires.away number low written changes took.own.takes.kind_set took.own.takes.counted took.own.noted set sets beside t c.release.ensures.releases)
-
-pub returns-in-Ok-clause-sole : goal.returns-in-Ok-clause-sole
-returns-in-Ok-clause-sole g c =
-    ap (λ cs. get_or cs c.in_ok-frame.frame.0 0) c.set_full.ensures.sets.2.kept.counts ∙ c.in_ok-frame.ensures.taken.own.takes.counted
-
-pub returns-in-Ok-clause-seen : goal.returns-in-Ok-clause-seen
-returns-in-Ok-clause-seen g c = λ model.
-    let old : Picture g.M.Levels.mode = picture_of c.args.core.now in
-    let taken : Picture g.M.Levels.mode = picture_of c.take_own.new.self in
-    let took = c.in_ok-frame.ensures.taken in
-    let n = c.in_ok-frame.frame.0 in
-    let k = c.in-Swapped.slot.0 in
-    let r = c.args.spot.now.root.0 in
-    let lives : old.root c.args.spot.now.pid ≡ Some r = c.requires.spot.root in
-    let here = mapped_page old c.args.spot.now.pid c.args.spot.now.page c.args.attr c.requires.spot.linked.fit.granting c.requires.attr in
-    let number : entry old c.args.spot.now.pid c.args.spot.now.page ≡ k * 1024 + 2 =
-    sym c.number_at.ensures ∙ sym c.decode.ensures.number ∙ ap number_of c.in-Swapped.is in
-    let low : k < 2 ^ 32 = (let P : Entry → Type 0 = λ e. IsEntry e in subst P c.in-Swapped.is c.decode.ensures.form) in
-    let written : Picture g.M.Levels.mode = record taken { slots = slots_of c.get.new.self; frames = with_bytes c.take_own.new.self.frames n c.get.new.to } in
-    let changes : ChangesFrame took.found written n = changes_written took.found taken n c.args.spot.now.page took.own (slots_of c.get.new.self) c.get.ensures.same c.get.new.to in
-    let set : Picture g.M.Levels.mode = picture_of c.set_full.new.core in
-    let sets = c.set_full.ensures.sets in
-    let beside = beside_around _ c.set_full.new.core c.set_full.ensures.rest in
-    let t = slots_of c.release.new.self in
-    let inside : IsFrame c.take_own.new.self.frames n = (let same = took.own.takes.others.frames in let low = took.own.takes.inside in omega (arith, same, low)) in
-    let M : Pages _ → Type 0 = λ x. g.E.SectorDisk.keeps_model x.disk in
-    let N : Swap _ → Type 0 = λ x. g.E.SectorDisk.keeps_model x.pages.disk in
-    let got = c.in-Ok.ensures.gives (subst N c.set_full.ensures.rest.swap (subst M c.release.ensures.pages model)) in
-    seen_in old taken c.args.spot.now.pid c.args.spot.now.page n k r c.args.attr took c.requires.spot.linked lives c.requires.attr c.requires.away number low written changes took.own.takes.kind_set took.own.takes.counted took.own.noted set sets beside t c.release.ensures.releases (with_bytes-same c.take_own.new.self.frames n c.get.new.to inside ∙ got ∙ ap (λ u. u.bytes k) took.own.slots)
-
-pub returns-in-Err-clause-short : goal.returns-in-Err-clause-short
+pub returns-in-Err : goal.returns-in-Err
 unfolding IsShort
-returns-in-Err-clause-short g c = tt
-
-pub returns-in-Err-clause-moves : goal.returns-in-Err-clause-moves
-returns-in-Err-clause-moves g c =
+returns-in-Err g c =
     let old : Picture g.M.Levels.mode = picture_of c.args.core.now in
     let taken : Picture g.M.Levels.mode = picture_of c.take_own.new.self in
     let took = c.in_ok-frame.ensures.taken in
@@ -340,170 +227,72 @@ returns-in-Err-clause-moves g c =
     let datum : role_of c.release-in-Err.new.self n ≢ Table = λ table. (let bad : Free ≡ Table = sym free ∙ table in (cc)) in
     let frees = frees_then old took.found new None (frees_any old took.found _ took.frees) (frees_spent took.found new n took.fit changes free) in
     let done = c.in_ok-frame.ensures in
-    moves_freed g.E.SectorDisk c.args.core.now _ _ (fit_spent took.found new n took.fit changes datum free) c.get.ensures.ready frees
-    (record { store = done.rest.store; roots = done.rest.roots; regions = done.rest.regions })
-    (device_then g.E.SectorDisk c.args.core.now.swap.pages.disk c.take_own.new.self.swap.pages.disk c.get.new.self.pages.disk done.device
-    (record { size = c.get.ensures.size; kept = c.get.ensures.kept; later = c.get.ensures.cause.later }))
+    let k = c.in-Swapped.slot.0 in
+    let number : entry old c.args.spot.now.pid c.args.spot.now.page ≡ k * 1024 + 2 = sym c.number_at.ensures ∙ sym c.decode.ensures.number ∙ ap number_of c.in-Swapped.is in
+    let low : k < 2 ^ 32 = (let P : Entry → Type 0 = λ e. IsEntry e in subst P c.in-Swapped.is c.decode.ensures.form) in
+    let also : ℕ → Type 0 = λ j. IsSectorOfCopy old c.args.spot.now.pid c.args.spot.now.page j in
+    let read = asks_read g.E.SectorDisk c.args.core.now c.take_own.new.self c.get.new.self None also k (λ j is. (k, ap seat number ∙ away_seat k low, is)) c.in_ok-frame.ensures.asked c.get.ensures.asks in
+    record {
+      entered = search rules;
+      sole = search rules;
+      seen = λ model.
+          let old : Picture g.M.Levels.mode = picture_of c.args.core.now in
+          let taken : Picture g.M.Levels.mode = picture_of c.take_own.new.self in
+          let took = c.in_ok-frame.ensures.taken in
+          let n = c.in_ok-frame.frame.0 in
+          let new : Picture g.M.Levels.mode = record taken { slots = slots_of c.get.new.self; frames = c.release-in-Err.new.self } in
+          let changes : ChangesFrame took.found new n = changes_spent took.found taken n c.args.spot.now.page took.own (slots_of c.get.new.self) c.get.ensures.same c.get.new.to c.release-in-Err.new.self c.release-in-Err.ensures.change in
+          let free : role_of c.release-in-Err.new.self n ≡ Free = c.release-in-Err.ensures.change.freed took.own.takes.counted in
+          let datum : role_of c.release-in-Err.new.self n ≢ Table = λ table. (let bad : Free ≡ Table = sym free ∙ table in (cc)) in
+          let frees = frees_then old took.found new None (frees_any old took.found _ took.frees) (frees_spent took.found new n took.fit changes free) in
+          frees.pages.views;
+      keeps = record {
+        moves = moves_freed g.E.SectorDisk c.args.core.now _ _ (fit_spent took.found new n took.fit changes datum free) c.get.ensures.ready frees
+            (record { store = done.rest.store; roots = done.rest.roots; regions = done.rest.regions })
+            (device_then g.E.SectorDisk c.args.core.now.swap.pages.disk c.take_own.new.self.swap.pages.disk c.get.new.self.pages.disk done.device
+            (record { size = c.get.ensures.size; kept = c.get.ensures.kept; later = c.get.ensures.cause.later }));
+        rows = rows_freed old new _ (fit_spent took.found new n took.fit changes datum free) frees;
+        no_table = no_table_freed old new _ frees;
+        files = frees.pages.files;
+        others = λ q p other. frees.pages.views q p;
+        bare = λ q p h other none. frees.entries q p h (inl none) ∙ none;
+        slotted = slotted_frees (λ p. ⊥) (IsThatPage c.args.spot.now.pid c.args.spot.now.page) old new _ frees;
+      };
+      asks = read;
+      stalls = record {
+        same = frees.pages.views;
+        frees = frees;
+        refuses = search rules;
+        short = tt;
+        cause = search rules;
+      };
+    }
 
-pub returns-in-Err-clause-others : goal.returns-in-Err-clause-others
-returns-in-Err-clause-others g c =
-    let old : Picture g.M.Levels.mode = picture_of c.args.core.now in
-    let taken : Picture g.M.Levels.mode = picture_of c.take_own.new.self in
-    let took = c.in_ok-frame.ensures.taken in
-    let n = c.in_ok-frame.frame.0 in
-    let new : Picture g.M.Levels.mode = record taken { slots = slots_of c.get.new.self; frames = c.release-in-Err.new.self } in
-    let changes : ChangesFrame took.found new n = changes_spent took.found taken n c.args.spot.now.page took.own (slots_of c.get.new.self) c.get.ensures.same c.get.new.to c.release-in-Err.new.self c.release-in-Err.ensures.change in
-    let free : role_of c.release-in-Err.new.self n ≡ Free = c.release-in-Err.ensures.change.freed took.own.takes.counted in
-    let datum : role_of c.release-in-Err.new.self n ≢ Table = λ table. (let bad : Free ≡ Table = sym free ∙ table in (cc)) in
-    let frees = frees_then old took.found new None (frees_any old took.found _ took.frees) (frees_spent took.found new n took.fit changes free) in
-    λ q p other. frees.pages.views q p
-
-pub returns-in-Err-clause-bare : goal.returns-in-Err-clause-bare
-returns-in-Err-clause-bare g c =
-    let old : Picture g.M.Levels.mode = picture_of c.args.core.now in
-    let taken : Picture g.M.Levels.mode = picture_of c.take_own.new.self in
-    let took = c.in_ok-frame.ensures.taken in
-    let n = c.in_ok-frame.frame.0 in
-    let new : Picture g.M.Levels.mode = record taken { slots = slots_of c.get.new.self; frames = c.release-in-Err.new.self } in
-    let changes : ChangesFrame took.found new n = changes_spent took.found taken n c.args.spot.now.page took.own (slots_of c.get.new.self) c.get.ensures.same c.get.new.to c.release-in-Err.new.self c.release-in-Err.ensures.change in
-    let free : role_of c.release-in-Err.new.self n ≡ Free = c.release-in-Err.ensures.change.freed took.own.takes.counted in
-    let datum : role_of c.release-in-Err.new.self n ≢ Table = λ table. (let bad : Free ≡ Table = sym free ∙ table in (cc)) in
-    let frees = frees_then old took.found new None (frees_any old took.found _ took.frees) (frees_spent took.found new n took.fit changes free) in
-    λ q p h other none. frees.entries q p h (inl none) ∙ none
-
-pub returns-in-Err-clause-rows : goal.returns-in-Err-clause-rows
-returns-in-Err-clause-rows g c =
-    let old : Picture g.M.Levels.mode = picture_of c.args.core.now in
-    let taken : Picture g.M.Levels.mode = picture_of c.take_own.new.self in
-    let took = c.in_ok-frame.ensures.taken in
-    let n = c.in_ok-frame.frame.0 in
-    let new : Picture g.M.Levels.mode = record taken { slots = slots_of c.get.new.self; frames = c.release-in-Err.new.self } in
-    let changes : ChangesFrame took.found new n = changes_spent took.found taken n c.args.spot.now.page took.own (slots_of c.get.new.self) c.get.ensures.same c.get.new.to c.release-in-Err.new.self c.release-in-Err.ensures.change in
-    let free : role_of c.release-in-Err.new.self n ≡ Free = c.release-in-Err.ensures.change.freed took.own.takes.counted in
-    let datum : role_of c.release-in-Err.new.self n ≢ Table = λ table. (let bad : Free ≡ Table = sym free ∙ table in (cc)) in
-    let frees = frees_then old took.found new None (frees_any old took.found _ took.frees) (frees_spent took.found new n took.fit changes free) in
-    rows_freed old new _ (fit_spent took.found new n took.fit changes datum free) frees
-
-pub returns-in-Err-clause-slotted : goal.returns-in-Err-clause-slotted
-returns-in-Err-clause-slotted g c =
-    let old : Picture g.M.Levels.mode = picture_of c.args.core.now in
-    let taken : Picture g.M.Levels.mode = picture_of c.take_own.new.self in
-    let took = c.in_ok-frame.ensures.taken in
-    let n = c.in_ok-frame.frame.0 in
-    let new : Picture g.M.Levels.mode = record taken { slots = slots_of c.get.new.self; frames = c.release-in-Err.new.self } in
-    let changes : ChangesFrame took.found new n = changes_spent took.found taken n c.args.spot.now.page took.own (slots_of c.get.new.self) c.get.ensures.same c.get.new.to c.release-in-Err.new.self c.release-in-Err.ensures.change in
-    let free : role_of c.release-in-Err.new.self n ≡ Free = c.release-in-Err.ensures.change.freed took.own.takes.counted in
-    let datum : role_of c.release-in-Err.new.self n ≢ Table = λ table. (let bad : Free ≡ Table = sym free ∙ table in (cc)) in
-    let frees = frees_then old took.found new None (frees_any old took.found _ took.frees) (frees_spent took.found new n took.fit changes free) in
-    slotted_frees (λ p. ⊥) (IsThatPage c.args.spot.now.pid c.args.spot.now.page) old new _ frees
-
-pub returns-in-Err-clause-frees : goal.returns-in-Err-clause-frees
-returns-in-Err-clause-frees g c =
-    let old : Picture g.M.Levels.mode = picture_of c.args.core.now in
-    let taken : Picture g.M.Levels.mode = picture_of c.take_own.new.self in
-    let took = c.in_ok-frame.ensures.taken in
-    let n = c.in_ok-frame.frame.0 in
-    let new : Picture g.M.Levels.mode = record taken { slots = slots_of c.get.new.self; frames = c.release-in-Err.new.self } in
-    let changes : ChangesFrame took.found new n = changes_spent took.found taken n c.args.spot.now.page took.own (slots_of c.get.new.self) c.get.ensures.same c.get.new.to c.release-in-Err.new.self c.release-in-Err.ensures.change in
-    let free : role_of c.release-in-Err.new.self n ≡ Free = c.release-in-Err.ensures.change.freed took.own.takes.counted in
-    let datum : role_of c.release-in-Err.new.self n ≢ Table = λ table. (let bad : Free ≡ Table = sym free ∙ table in (cc)) in
-    let frees = frees_then old took.found new None (frees_any old took.found _ took.frees) (frees_spent took.found new n took.fit changes free) in
-    frees
-
-pub returns-in-Err-clause-same : goal.returns-in-Err-clause-same
-returns-in-Err-clause-same g c =
-    let old : Picture g.M.Levels.mode = picture_of c.args.core.now in
-    let taken : Picture g.M.Levels.mode = picture_of c.take_own.new.self in
-    let took = c.in_ok-frame.ensures.taken in
-    let n = c.in_ok-frame.frame.0 in
-    let new : Picture g.M.Levels.mode = record taken { slots = slots_of c.get.new.self; frames = c.release-in-Err.new.self } in
-    let changes : ChangesFrame took.found new n = changes_spent took.found taken n c.args.spot.now.page took.own (slots_of c.get.new.self) c.get.ensures.same c.get.new.to c.release-in-Err.new.self c.release-in-Err.ensures.change in
-    let free : role_of c.release-in-Err.new.self n ≡ Free = c.release-in-Err.ensures.change.freed took.own.takes.counted in
-    let datum : role_of c.release-in-Err.new.self n ≢ Table = λ table. (let bad : Free ≡ Table = sym free ∙ table in (cc)) in
-    let frees = frees_then old took.found new None (frees_any old took.found _ took.frees) (frees_spent took.found new n took.fit changes free) in
-    frees.pages.views
-
-pub returns-in-Err-clause-seen : goal.returns-in-Err-clause-seen
-returns-in-Err-clause-seen g c = λ model.
-    let old : Picture g.M.Levels.mode = picture_of c.args.core.now in
-    let taken : Picture g.M.Levels.mode = picture_of c.take_own.new.self in
-    let took = c.in_ok-frame.ensures.taken in
-    let n = c.in_ok-frame.frame.0 in
-    let new : Picture g.M.Levels.mode = record taken { slots = slots_of c.get.new.self; frames = c.release-in-Err.new.self } in
-    let changes : ChangesFrame took.found new n = changes_spent took.found taken n c.args.spot.now.page took.own (slots_of c.get.new.self) c.get.ensures.same c.get.new.to c.release-in-Err.new.self c.release-in-Err.ensures.change in
-    let free : role_of c.release-in-Err.new.self n ≡ Free = c.release-in-Err.ensures.change.freed took.own.takes.counted in
-    let datum : role_of c.release-in-Err.new.self n ≢ Table = λ table. (let bad : Free ≡ Table = sym free ∙ table in (cc)) in
-    let frees = frees_then old took.found new None (frees_any old took.found _ took.frees) (frees_spent took.found new n took.fit changes free) in
-    frees.pages.views
-
-pub returns-in-Err-clause-files : goal.returns-in-Err-clause-files
-returns-in-Err-clause-files g c =
-    let old : Picture g.M.Levels.mode = picture_of c.args.core.now in
-    let taken : Picture g.M.Levels.mode = picture_of c.take_own.new.self in
-    let took = c.in_ok-frame.ensures.taken in
-    let n = c.in_ok-frame.frame.0 in
-    let new : Picture g.M.Levels.mode = record taken { slots = slots_of c.get.new.self; frames = c.release-in-Err.new.self } in
-    let changes : ChangesFrame took.found new n = changes_spent took.found taken n c.args.spot.now.page took.own (slots_of c.get.new.self) c.get.ensures.same c.get.new.to c.release-in-Err.new.self c.release-in-Err.ensures.change in
-    let free : role_of c.release-in-Err.new.self n ≡ Free = c.release-in-Err.ensures.change.freed took.own.takes.counted in
-    let datum : role_of c.release-in-Err.new.self n ≢ Table = λ table. (let bad : Free ≡ Table = sym free ∙ table in (cc)) in
-    let frees = frees_then old took.found new None (frees_any old took.found _ took.frees) (frees_spent took.found new n took.fit changes free) in
-    frees.pages.files
-
-pub returns-in_err-frame-clause-moves : goal.returns-in_err-frame-clause-moves
-returns-in_err-frame-clause-moves g c =
+pub returns-in_err-frame : goal.returns-in_err-frame
+returns-in_err-frame g c =
     let done = c.in_err-frame.ensures in
-    moves_freed g.E.SectorDisk c.args.core.now c.take_own.new.self _ done.fit done.swap done.frees done.rest done.device
-
-pub returns-in_err-frame-clause-frees : goal.returns-in_err-frame-clause-frees
-returns-in_err-frame-clause-frees g c =
-    on_err c.from_residual.result _ (frees_any (picture_of c.args.core.now) (picture_of c.take_own.new.self) _ c.in_err-frame.ensures.frees)
-
-pub returns-in_err-frame-clause-bare : goal.returns-in_err-frame-clause-bare
-returns-in_err-frame-clause-bare g c = λ q p h other none. c.in_err-frame.ensures.frees.entries q p h (inl none) ∙ none
-
-pub returns-in_err-frame-clause-rows : goal.returns-in_err-frame-clause-rows
-returns-in_err-frame-clause-rows g c =
-    rows_freed (picture_of c.args.core.now) (picture_of c.take_own.new.self) _ c.in_err-frame.ensures.fit c.in_err-frame.ensures.frees
-
-pub returns-in_err-frame-clause-slotted : goal.returns-in_err-frame-clause-slotted
-returns-in_err-frame-clause-slotted g c =
-    slotted_frees (λ p. ⊥) (IsThatPage c.args.spot.now.pid c.args.spot.now.page) (picture_of c.args.core.now) (picture_of c.take_own.new.self) _ c.in_err-frame.ensures.frees
+    record {
+      entered = search rules;
+      sole = search rules;
+      seen = search rules;
+      keeps = record {
+        moves = moves_freed g.E.SectorDisk c.args.core.now c.take_own.new.self _ done.fit done.swap done.frees done.rest done.device;
+        rows = rows_freed (picture_of c.args.core.now) (picture_of c.take_own.new.self) _ c.in_err-frame.ensures.fit c.in_err-frame.ensures.frees;
+        no_table = no_table_freed (picture_of c.args.core.now) (picture_of c.take_own.new.self) _ done.frees;
+        files = search rules;
+        others = search rules;
+        bare = λ q p h other none. c.in_err-frame.ensures.frees.entries q p h (inl none) ∙ none;
+        slotted = slotted_frees (λ p. ⊥) (IsThatPage c.args.spot.now.pid c.args.spot.now.page) (picture_of c.args.core.now) (picture_of c.take_own.new.self) _ c.in_err-frame.ensures.frees;
+      };
+      asks = asks_swap g.E.SectorDisk c.args.core.now c.take_own.new.self None (IsSectorOfCopy (picture_of c.args.core.now) c.args.spot.now.pid c.args.spot.now.page) c.in_err-frame.ensures.asked;
+      stalls = record {
+        same = search rules;
+        frees = on_err c.from_residual.result _ (frees_any (picture_of c.args.core.now) (picture_of c.take_own.new.self) _ c.in_err-frame.ensures.frees);
+        refuses = search rules;
+        short = search rules;
+        cause = search rules;
+      };
+    }
 
 pub set_full-requires-clause-user : goal.set_full-requires-clause-user
 set_full-requires-clause-user g c = ((c.requires.spot.linked.fit.granting.user c.args.spot.now.pid).user_pages c.args.spot.now.page (ap is_some c.requires.attr)).1
-
-pub returns-in-Ok-clause-asks : goal.returns-in-Ok-clause-asks
-returns-in-Ok-clause-asks g c =
-    let old : Picture g.M.Levels.mode = picture_of c.args.core.now in
-    let taken : Picture g.M.Levels.mode = picture_of c.take_own.new.self in
-    let took = c.in_ok-frame.ensures.taken in
-    let n = c.in_ok-frame.frame.0 in
-    let k = c.in-Swapped.slot.0 in
-    let r = c.args.spot.now.root.0 in
-    let here = mapped_page old c.args.spot.now.pid c.args.spot.now.page c.args.attr c.requires.spot.linked.fit.granting c.requires.attr in
-    let number : entry old c.args.spot.now.pid c.args.spot.now.page ≡ k * 1024 + 2 =
-    sym c.number_at.ensures ∙ sym c.decode.ensures.number ∙ ap number_of c.in-Swapped.is in
-    let low : k < 2 ^ 32 = (let P : Entry → Type 0 = λ e. IsEntry e in subst P c.in-Swapped.is c.decode.ensures.form) in
-    let also : ℕ → Type 0 = λ j. IsSectorOfCopy old c.args.spot.now.pid c.args.spot.now.page j in
-    let read = asks_read g.E.SectorDisk c.args.core.now c.take_own.new.self c.get.new.self None also k (λ j is. (k, ap seat number ∙ away_seat k low, is)) c.in_ok-frame.ensures.asked c.get.ensures.asks in
-    asks_between g.E.SectorDisk (MayAsk old None also) c.args.core.now.swap c.args.core.now.swap c.get.new.self c.release.new.self refl (c.release.ensures.pages ∙ ap (λ (s : Swap _). s.pages) c.set_full.ensures.rest.swap) read
-
-pub returns-in-Err-clause-asks : goal.returns-in-Err-clause-asks
-returns-in-Err-clause-asks g c =
-    let old : Picture g.M.Levels.mode = picture_of c.args.core.now in
-    let taken : Picture g.M.Levels.mode = picture_of c.take_own.new.self in
-    let took = c.in_ok-frame.ensures.taken in
-    let n = c.in_ok-frame.frame.0 in
-    let k = c.in-Swapped.slot.0 in
-    let r = c.args.spot.now.root.0 in
-    let here = mapped_page old c.args.spot.now.pid c.args.spot.now.page c.args.attr c.requires.spot.linked.fit.granting c.requires.attr in
-    let number : entry old c.args.spot.now.pid c.args.spot.now.page ≡ k * 1024 + 2 =
-    sym c.number_at.ensures ∙ sym c.decode.ensures.number ∙ ap number_of c.in-Swapped.is in
-    let low : k < 2 ^ 32 = (let P : Entry → Type 0 = λ e. IsEntry e in subst P c.in-Swapped.is c.decode.ensures.form) in
-    let also : ℕ → Type 0 = λ j. IsSectorOfCopy old c.args.spot.now.pid c.args.spot.now.page j in
-    let read = asks_read g.E.SectorDisk c.args.core.now c.take_own.new.self c.get.new.self None also k (λ j is. (k, ap seat number ∙ away_seat k low, is)) c.in_ok-frame.ensures.asked c.get.ensures.asks in
-    read
-
-pub returns-in_err-frame-clause-asks : goal.returns-in_err-frame-clause-asks
-returns-in_err-frame-clause-asks g c =
-    asks_swap g.E.SectorDisk c.args.core.now c.take_own.new.self None (IsSectorOfCopy (picture_of c.args.core.now) c.args.spot.now.pid c.args.spot.now.page) c.in_err-frame.ensures.asked

@@ -5,8 +5,7 @@ use Rattle.file_store.specs.Standing.{StandsFor}
 use Rattle.file_store.specs.Store.{IsReadyStore}
 use Rattle.swap.specs.Slots.{slots_of}
 use Rattle.swap.specs.declared.pages.Pages.{Pages as Swap_pages}
-use Rattle.sync_journal.specs.Journal.{live_homes}
-use Rattle.sync_journal.specs.Layout.{IsCommitted}
+use Rattle.sync_journal.specs.Kinds.{IsStoreUsed}
 use Rattle.sync_journal.specs.declared.faults.CommitFault.TheVariants.{Source}
 use Rattle.vm_types.specs.Msync.{committed}
 use Rattle.vm_types.specs.declared.refusal.Stall.TheVariants.{SwapDevice}
@@ -249,7 +248,7 @@ returns-in-Err-Source-clause-still g c = λ none. absurd (none SwapDevice refl)
 pub returns-in-Ok-clause-asks_store : goal.returns-in-Ok-clause-asks_store
 returns-in-Ok-clause-asks_store g c =
     let old = c.args.core.now in
-    let P : FileStore g.row.D.Denot → Type 0 = λ x. AsksOnly g.D.SectorDisk (IsCommitted (live_homes old.store.journal)) old.store.disk x.disk in
+    let P : FileStore g.row.D.Denot → Type 0 = λ x. AsksOnly g.D.SectorDisk (IsStoreUsed old.store.journal) old.store.disk x.disk in
     subst P (sym c.settle.ensures.beside.store) c.in-Ok.ensures.asks_device
 
 pub returns-in-Ok-clause-asks_slots : goal.returns-in-Ok-clause-asks_slots

@@ -13,6 +13,6 @@ returns-in-Some-clause-way g c =
     let old_table = (let P : Option FrameNo → Type 0 = λ t. IfSome t (λ n. IsTableOf c.args.core.now.frames top root (c.args.page / 512) n.0) in subst P c.in-Some.is c.requires.way.table) in
     let Q : Option FrameNo → Type 0 = λ t. IfSome t (λ n. IsTableOf new top root (c.args.page / 512) n.0) in
     record {
-      root = c.grant_linked.ensures.proceeds.spaces.root c.args.pid ∙ c.requires.way.root;
+      root = c.grant_linked.ensures.serves.proceeds.spaces.root c.args.pid ∙ c.requires.way.root;
       table = subst Q (sym c.in-Some.is) (c.grant_linked.ensures.rows c.args.pid root _ c.in-Some.table.0 c.requires.way.root old_table);
     }

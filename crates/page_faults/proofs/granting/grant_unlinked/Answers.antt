@@ -2,14 +2,18 @@ use Rattle.std.proofs.Common.{inl, inr, Option, None, refl, sym, ap, ◌∙◌, 
 use Rattle.std.specs.Prelude.{IsSome}
 use Rattle.vm_types.specs.declared.region.Attr.{Attr}
 use Rattle.disk_model.specs.Moments.{Nothing}
-use Rattle.paging.specs.Picture.{Picture, picture_of}
+use Rattle.frames.specs.FrameTable.{IsFull}
+use Rattle.paging.specs.Picture.{picture_of}
+use Rattle.mapping.specs.Changes.{IsWhole}
 use Rattle.mapping.proofs.Forms.{mapped_page}
-use Rattle.page_faults.specs.Wants.{ForTable, ShowsFile}
-use Rattle.page_faults.proofs.Asking.{asks_less, asks_back}
+use Rattle.mapping.proofs.TablesGiven.{links_on}
+use Rattle.page_faults.specs.Wants.{ForTable, LacksTable, ShowsFile}
+use Rattle.page_faults.proofs.Asking.{asks_less, asks_back, tables_out}
 use Rattle.page_faults.proofs.Linked.{open_still, calm_back, read_back, away_back, ready_back, brings_back, stalled_back, stalled_tables}
+use Rattle.page_faults.proofs.Serving.{serves_stall}
 use Rattle.page_faults.proofs.Slotted.{slotted_none, slotted_back}
 use Rattle.page_faults.proofs.Steps.{proceeds_moves, proceeds_after, brings_none, on_ok_then, counts_then}
-use Rattle.page_faults.proofs.Wanted.{stalled_as, root_live, root_lives, whole_or}
+use Rattle.page_faults.proofs.Wanted.{root_live, root_lives, whole_or}
 use Rattle.page_faults.proofs.granting.grant_unlinked.Goals as goal
 
 pub link_tables-requires-clause-live : goal.link_tables-requires-clause-live
@@ -18,38 +22,35 @@ link_tables-requires-clause-live g c = root_lives ((picture_of c.args.core.now).
 pub link_tables-requires-clause-mapped : goal.link_tables-requires-clause-mapped
 link_tables-requires-clause-mapped g c = let P : Option Attr → Type 0 = λ x. IsSome x in subst P (sym c.requires.allowed.mapped) refl
 
-pub returns-in_err-table-clause-proceeds : goal.returns-in_err-table-clause-proceeds
-returns-in_err-table-clause-proceeds g c =
-    proceeds_moves g.D.SectorDisk g.E.SectorDisk c.args.core.now c.link_tables.new.core c.requires.store c.in_err-table.ensures.moves
-
-pub returns-in_err-table-clause-brings : goal.returns-in_err-table-clause-brings
-returns-in_err-table-clause-brings g c kept =
-    let old : Picture g.M.Levels.mode = picture_of c.args.core.now in
-    let files = c.in_err-table.ensures.pages.files in
-    brings_none g.D.SectorDisk c.args.core.now.store.disk c.link_tables.new.core.store.disk (ShowsFile old c.args.pid c.args.page) old (picture_of c.link_tables.new.core) files.held files.files
-
-pub returns-in_err-table-clause-calm : goal.returns-in_err-table-clause-calm
-returns-in_err-table-clause-calm g c unwanted =
-    let old : Picture g.M.Levels.mode = picture_of c.args.core.now in
-    elim (whole_or old c.args.pid c.args.page (root_live old c.args.pid c.requires.lives)) [
-      | inl whole ↦ absurd (c.in_err-table.ensures.idle whole).1
-      | inr lacks ↦ absurd (unwanted (ForTable lacks))
-    ]
-
-pub returns-in_err-table-clause-read : goal.returns-in_err-table-clause-read
-returns-in_err-table-clause-read g c = inl c.in_err-table.ensures.moves.store
-
-pub returns-in_err-table-clause-stalled : goal.returns-in_err-table-clause-stalled
-returns-in_err-table-clause-stalled g c =
-    let old : Picture g.M.Levels.mode = picture_of c.args.core.now in
+pub returns-in_err-table : goal.returns-in_err-table
+returns-in_err-table g c =
+    let pid = c.args.pid in
+    let page = c.args.page in
+    let before = c.args.core.now in
+    let after = c.link_tables.new.core in
+    let old = picture_of before in
+    let new = picture_of after in
+    let lives = root_live old pid c.requires.lives in
     let done = c.in_err-table.ensures in
-    let lives = root_live old c.args.pid c.requires.lives in
-    elim (whole_or old c.args.pid c.args.page lives) [
+    let lacks = (elim (whole_or old pid page lives) as (λ x. LacksTable old pid page) [
       | inl whole ↦ absurd (done.idle whole).1
-      | inr lacks ↦ stalled_as g.D.SectorDisk g.E.SectorDisk c.args.core.now c.link_tables.new.core c.args.pid c.args.page c.args.access c.from_residual.result c.in_err-table.field-0.0 c.from_residual.ensures.1
-          (stalled_tables c.args.core.now c.link_tables.new.core c.args.pid c.args.page lives done.pages (λ whole. (done.idle whole).0) g.D.SectorDisk g.E.SectorDisk done.moves
-          c.args.access c.in_err-table.field-0.0 done.cause done.short done.refuses done.wanted lacks)
-    ]
+      | inr lacks ↦ lacks
+    ]) in
+    serves_stall g.D.SectorDisk g.E.SectorDisk before after pid page c.args.attr c.args.access c.from_residual.result c.in_err-table.field-0.0 c.from_residual.ensures.1
+    (record {
+      proceeds = proceeds_moves g.D.SectorDisk g.E.SectorDisk before after c.requires.store done.moves;
+      brings = λ kept. brings_none g.D.SectorDisk before.store.disk after.store.disk (ShowsFile old pid page) old new done.pages.files.held done.pages.files.files;
+      others = λ q k other. done.pages.views q k;
+      slotted = slotted_none old new pid page done.slotted;
+      calm = λ unwanted. absurd (unwanted (ForTable lacks));
+      tables = done.tables;
+      pointers = done.tried.1.pointers;
+      read = inl done.moves.store;
+      asks = asks_less g.D.SectorDisk g.E.SectorDisk before after pid page c.args.access (IsFull after.frames) None Nothing done.moves.store (λ k none. absurd none)
+          (tables_out old new pid page c.args.access done.tried.0 lacks done.tried.1 done.tables) done.asks;
+    })
+    (stalled_tables before after pid page lives done.pages (λ whole. (done.idle whole).0) g.D.SectorDisk g.E.SectorDisk done.moves c.args.access c.in_err-table.field-0.0 done.cause done.short done.refuses
+    done.wanted lacks)
 
 pub root_of-root-requires : goal.root_of-root-requires
 root_of-root-requires g c =
@@ -74,80 +75,39 @@ grant_linked-requires-clause-allowed g c =
     let done = c.in_ok-table.ensures in
     open_still (picture_of c.args.core.now) (picture_of c.link_tables.new.core) c.args.pid c.args.page c.args.access c.args.attr done.pages.at done.pages.files.files c.requires.allowed
 
-pub returns-clause-proceeds : goal.returns-clause-proceeds
-returns-clause-proceeds g c =
-    proceeds_after g.D.SectorDisk g.E.SectorDisk c.args.core.now c.link_tables.new.core c.grant_linked.new.core c.in_ok-table.ensures.moves c.grant_linked.ensures.proceeds
-
-pub returns-clause-brings : goal.returns-clause-brings
-returns-clause-brings g c =
-    let old : Picture g.M.Levels.mode = picture_of c.args.core.now in
-    let done = c.in_ok-table.ensures in
-    brings_back c.args.core.now c.link_tables.new.core c.args.pid c.args.page (root_live old c.args.pid c.requires.lives) done.pages (λ whole. (done.idle whole).0)
-    g.D.SectorDisk g.E.SectorDisk done.moves c.grant_linked.new.core c.grant_linked.ensures.brings
-
-pub returns-clause-ready : goal.returns-clause-ready
-returns-clause-ready g c trusted =
-    let old : Picture g.M.Levels.mode = picture_of c.args.core.now in
-    let done = c.in_ok-table.ensures in
+pub returns : goal.returns
+returns g c =
+    let pid = c.args.pid in
+    let page = c.args.page in
+    let attr = c.args.attr in
+    let access = c.args.access in
+    let before = c.args.core.now in
+    let between = c.link_tables.new.core in
+    let after = c.grant_linked.new.core in
+    let old = picture_of before in
+    let lives = root_live old pid c.requires.lives in
     let at = c.requires.allowed.mapped in
-    let lives = root_live old c.args.pid c.requires.lives in
-    ready_back c.args.core.now c.link_tables.new.core c.args.pid c.args.page lives done.pages (λ whole. (done.idle whole).0) (picture_of c.grant_linked.new.core) c.args.attr c.args.access
-    c.grant_linked.result at
-    (c.grant_linked.ensures.ready (λ away. trusted (away_back c.args.core.now c.link_tables.new.core c.args.pid c.args.page lives done.pages (λ whole. (done.idle whole).0)
-    (mapped_page old c.args.pid c.args.page c.args.attr c.requires.fit.granting at) done.bare away)))
-
-pub returns-clause-calm : goal.returns-clause-calm
-returns-clause-calm g c =
-    let old : Picture g.M.Levels.mode = picture_of c.args.core.now in
-    let done = c.in_ok-table.ensures in
-    calm_back c.args.core.now c.link_tables.new.core c.args.pid c.args.page (root_live old c.args.pid c.requires.lives) done.pages (λ whole. (done.idle whole).0)
-    c.grant_linked.new.core c.args.access c.grant_linked.ensures.calm
-
-pub returns-clause-read : goal.returns-clause-read
-returns-clause-read g c =
-    let old : Picture g.M.Levels.mode = picture_of c.args.core.now in
-    let done = c.in_ok-table.ensures in
-    read_back c.args.core.now c.link_tables.new.core c.args.pid c.args.page (root_live old c.args.pid c.requires.lives) done.pages (λ whole. (done.idle whole).0)
-    done.whole done.gives done.tables c.grant_linked.new.core.store done.moves.store c.grant_linked.ensures.read
-
-pub returns-clause-counts : goal.returns-clause-counts
-returns-clause-counts g c =
-    let done = c.in_ok-table.ensures in
-    on_ok_then _ _ c.grant_linked.result
-    (counts_then g.D.SectorDisk g.E.SectorDisk c.args.core.now c.link_tables.new.core c.grant_linked.new.core (done.cause.0, ap (λ s. g.D.SectorDisk.failures s.disk) done.moves.store, done.cause.1))
-    c.grant_linked.ensures.counts
-
-pub returns-clause-stalled : goal.returns-clause-stalled
-returns-clause-stalled g c =
-    let old : Picture g.M.Levels.mode = picture_of c.args.core.now in
-    let done = c.in_ok-table.ensures in
-    stalled_back c.args.core.now c.link_tables.new.core c.args.pid c.args.page (root_live old c.args.pid c.requires.lives) done.pages (λ whole. (done.idle whole).0)
-    g.D.SectorDisk g.E.SectorDisk done.moves done.whole done.gives done.tables c.grant_linked.new.core c.args.access c.grant_linked.result done.cause.0 done.cause.1 c.grant_linked.ensures.stalled
-
-pub returns-in_err-table-clause-others : goal.returns-in_err-table-clause-others
-returns-in_err-table-clause-others g c = λ q k other. c.in_err-table.ensures.pages.views q k
-
-pub returns-clause-others : goal.returns-clause-others
-returns-clause-others g c = λ q k other. c.grant_linked.ensures.others q k other ∙ c.in_ok-table.ensures.pages.views q k
-
-pub returns-in_err-table-clause-slotted : goal.returns-in_err-table-clause-slotted
-returns-in_err-table-clause-slotted g c =
-    slotted_none (picture_of c.args.core.now) (picture_of c.link_tables.new.core) c.args.pid c.args.page c.in_err-table.ensures.slotted
-
-pub returns-clause-slotted : goal.returns-clause-slotted
-returns-clause-slotted g c =
-    let done = c.in_ok-table.ensures in
-    slotted_back (picture_of c.args.core.now) (picture_of c.link_tables.new.core) c.args.pid c.args.page (picture_of c.grant_linked.new.core) done.pages done.slotted c.grant_linked.ensures.slotted
-
-pub returns-in_err-table-clause-asks : goal.returns-in_err-table-clause-asks
-returns-in_err-table-clause-asks g c =
-    let done = c.in_err-table.ensures in
-    asks_less g.D.SectorDisk g.E.SectorDisk c.args.core.now c.link_tables.new.core c.args.pid c.args.page None Nothing done.moves.store (λ k none. absurd none) done.asks
-
-pub returns-clause-asks : goal.returns-clause-asks
-returns-clause-asks g c =
-    let old : Picture g.M.Levels.mode = picture_of c.args.core.now in
-    let done = c.in_ok-table.ensures in
-    asks_back g.D.SectorDisk g.E.SectorDisk c.args.core.now c.link_tables.new.core c.grant_linked.new.core c.args.pid c.args.page c.requires.fit (root_live old c.args.pid c.requires.lives)
-    (mapped_page old c.args.pid c.args.page c.args.attr c.requires.fit.granting c.requires.allowed.mapped) (λ whole. (done.idle whole).0) done.moves done.pages done.bare done.slotted
-    done.asks_later done.asks c.grant_linked.ensures.asks
+    let inside = mapped_page old pid page attr c.requires.fit.granting at in
+    let first = c.in_ok-table.ensures in
+    let idle = λ (whole : IsWhole old pid page). (first.idle whole).0 in
+    let then = c.grant_linked.ensures.serves in
+    let r = c.grant_linked.result in
+    record {
+      tends = record {
+        proceeds = proceeds_after g.D.SectorDisk g.E.SectorDisk before between after first.moves then.proceeds;
+        brings = brings_back before between pid page lives first.pages idle g.D.SectorDisk g.E.SectorDisk first.moves after then.brings;
+        others = λ q k other. then.others q k other ∙ first.pages.views q k;
+        slotted = slotted_back old (picture_of between) pid page (picture_of after) first.pages first.slotted then.slotted;
+        calm = calm_back before between pid page lives first.pages idle after access then.calm;
+        read = read_back before between pid page lives first.pages idle first.whole first.gives first.tables after.store first.moves.store then.read;
+        tables = links_on old (picture_of between) (picture_of after) pid page (then.proceeds.spaces.root pid) then.pointers first.tables then.tables;
+        pointers = λ n i m points. then.pointers n i m (first.gives.pointers n i m points);
+        asks = asks_back g.D.SectorDisk g.E.SectorDisk before between after pid page access c.requires.fit lives inside idle first.moves first.pages first.bare first.slotted first.whole first.gives first.tables
+            first.asks_later first.asks then.asks;
+      };
+      entered = then.entered;
+      ready = λ trusted. ready_back before between pid page lives first.pages idle (picture_of after) attr access r at
+          (then.ready (λ away. trusted (away_back before between pid page lives first.pages idle inside first.bare away)));
+      counts = on_ok_then _ _ r (counts_then g.D.SectorDisk g.E.SectorDisk before between after (first.cause.0, ap (λ s. g.D.SectorDisk.failures s.disk) first.moves.store, first.cause.1)) then.counts;
+      stalled = stalled_back before between pid page lives first.pages idle g.D.SectorDisk g.E.SectorDisk first.moves first.whole first.gives first.tables after access r first.cause.0 first.cause.1 then.stalled;
+    }

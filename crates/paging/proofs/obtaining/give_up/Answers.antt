@@ -65,11 +65,11 @@ returns-in_err-evict-in-Ok-clause-tried g c =
 
 pub returns-in_err-evict-in-Ok-clause-asked : goal.returns-in_err-evict-in-Ok-clause-asked
 returns-in_err-evict-in-Ok-clause-asked g c = asked_tried g.E.SectorDisk c.args.core.now c.choose-choice.new.core _ c.args.keep c.in-Ok.victim.0
-    c.choose-choice.ensures.marks c.choose-choice.ensures.looked c.in-Ok.ensures.found c.evict.ensures.gives c.evict.ensures.asks c.evict.ensures.asked
+    c.choose-choice.ensures.marks c.choose-choice.ensures.looked c.in-Ok.ensures.found c.evict.ensures.gives c.evict.ensures.asks c.evict.ensures.asked c.requires.full
 
 pub returns-in_ok-evict-in-Ok-clause-asked : goal.returns-in_ok-evict-in-Ok-clause-asked
 returns-in_ok-evict-in-Ok-clause-asked g c = asked_tried g.E.SectorDisk c.args.core.now c.choose-choice.new.core _ c.args.keep c.in-Ok.victim.0
-    c.choose-choice.ensures.marks c.choose-choice.ensures.looked c.in-Ok.ensures.found c.evict.ensures.gives c.evict.ensures.asks c.evict.ensures.asked
+    c.choose-choice.ensures.marks c.choose-choice.ensures.looked c.in-Ok.ensures.found c.evict.ensures.gives c.evict.ensures.asks c.evict.ensures.asked c.requires.full
 
 pub returns-in_ok-evict-in-Ok-clause-one : goal.returns-in_ok-evict-in-Ok-clause-one
 returns-in_ok-evict-in-Ok-clause-one g c = one_tried g.E.SectorDisk c.args.core.now c.choose-choice.new.core c.evict.new.core c.choose-choice.ensures.looked.swap c.in_ok-evict-in-Ok.ensures.one

@@ -25,7 +25,7 @@ loop-pid-init g c =
       ready = c.requires.ready;
       handing = subst P (sym is) c.requires.handing;
       spares = spares_none c.args.frame.0 c.args.slot.0 (picture_of core);
-      plain = record { store = refl; roots = refl; regions = refl; refused = refl };
+      plain = record { store = refl; roots = refl; regions = refl; refused = refl; looks = refl };
       pages = refl;
       passed = first_seat (picture_of core) 0 c.in-Some.page (InFrame c.args.frame.0) c.requires.handing.share.fit.rooted;
     }
@@ -48,6 +48,7 @@ loop-pid-preserved g c =
         roots = done.plain.roots ∙ kept.plain.roots;
         regions = done.plain.regions ∙ kept.plain.regions;
         refused = done.plain.refused ∙ kept.plain.refused;
+        looks = done.plain.looks ∙ kept.plain.looks;
       };
       pages = done.pages ∙ kept.pages;
       passed = λ q less. elim (cases_eq q c.loop-pid.pid) [

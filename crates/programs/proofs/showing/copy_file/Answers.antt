@@ -4,6 +4,7 @@ use Rattle.std.proofs.lemmas.List.{take-append-drop}
 use Rattle.std.specs.Io.KnownBytes.{Appends}
 use Rattle.disk_model.specs.Moments.{Nothing}
 use Rattle.disk_model.proofs.Moments.{then}
+use Rattle.programs.proofs.Asking.{asks_page}
 use Rattle.programs.proofs.Copies.{begins_more, next_piece, all_pages}
 use Rattle.programs.proofs.showing.copy_file.Goals as goal
 
@@ -33,6 +34,9 @@ loop-k-preserved g c =
       kept = λ keeps. i.kept (e.kept keeps);
       calm = e.calm ∙ i.calm;
       files = e.files ∙ i.files;
+      journal = e.journal ∙ i.journal;
+      asks = asks_page g.D.SectorDisk c.args.store.now c.loop-k.store c.copy_page.new.store.disk c.args.file k i.files i.journal
+          (file.0, file.1, subst (λ n. 4096 * k < n) (sym file.2) inside) i.asks e.asks;
       ready = e.ready;
       touches = λ keeps. then g.D.SectorDisk Nothing c.args.store.now.disk c.loop-k.store.disk c.copy_page.new.store.disk (i.touches (e.kept keeps)) (e.touches keeps);
       written = λ keeps bytes is.
@@ -56,3 +60,13 @@ pub returns-in-Err-clause-touches : goal.returns-in-Err-clause-touches
 returns-in-Err-clause-touches g c = λ keeps.
     let e = c.in-Err.ensures in
     then g.D.SectorDisk Nothing c.args.store.now.disk c.loop-k.store.disk c.copy_page.new.store.disk (c.loop-k.invariant.touches (e.kept keeps)) (e.touches keeps)
+
+pub returns-in-Err-clause-asks : goal.returns-in-Err-clause-asks
+returns-in-Err-clause-asks g c =
+    let k = c.loop-k.k in
+    let i = c.loop-k.invariant in
+    let file = c.requires.file in
+    let count : c.div_ceil-k-end.result ≡ (c.args.length + 4095) / 4096 = search rules in
+    let inside : 4096 * k < c.args.length = omega (arith, count, c.loop-k-test.true) in
+    asks_page g.D.SectorDisk c.args.store.now c.loop-k.store c.copy_page.new.store.disk c.args.file k i.files i.journal
+    (file.0, file.1, subst (λ n. 4096 * k < n) (sym file.2) inside) i.asks c.in-Err.ensures.asks

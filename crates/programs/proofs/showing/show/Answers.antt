@@ -1,7 +1,9 @@
 use Rattle.std.proofs.Common.{refl, sym, ap, ◌∙◌, subst, Err}
 use Rattle.disk_model.specs.Moments.{LeavesOnly}
 use Rattle.file_store.specs.Standing.{StandsAs}
+use Rattle.programs.proofs.Asking.{keeps_to, keeps_unopened}
 use Rattle.programs.proofs.Copies.{same_open, opened_bytes, opened_info, still_stands}
+use Rattle.programs.specs.Showing.{KeepsToFile}
 use Rattle.programs.proofs.showing.show.Goals as goal
 
 pub returns-in-Ok-show_opened-clause-shown : goal.returns-in-Ok-show_opened-clause-shown
@@ -97,3 +99,19 @@ returns-in-Err-show_opened-clause-err_in_a_row g c = λ keeps synced before stoo
     subst (λ d. LeavesOnly g.D.SectorDisk c.args.disk d (StandsAs sectors before)) (sym c.into_disk.ensures)
     (still_stands g.D.SectorDisk c.args.disk c.in-Ok.store.disk c.show_opened.new.store.disk _ (c.in-Ok.ensures.in_a_row first synced before stood)
     (λ image may files pages was. c.in-Ok.ensures.now first image may files pages (stood files pages was)) (c.show_opened.ensures.touches kept))
+
+pub returns-in-Ok-show_opened-clause-asks : goal.returns-in-Ok-show_opened-clause-asks
+returns-in-Ok-show_opened-clause-asks g c =
+    let e = c.in-Ok.ensures in
+    let shown = c.show_opened.ensures in
+    keeps_to g.D.SectorDisk c.args.disk c.in-Ok.store c.show_opened.new.store.disk c.args.file e.closed e.ready shown.kept e.touches shown.touches e.asks shown.asks
+
+pub returns-in-Err-show_opened-clause-err_asks : goal.returns-in-Err-show_opened-clause-err_asks
+returns-in-Err-show_opened-clause-err_asks g c =
+    let e = c.in-Ok.ensures in
+    let shown = c.show_opened.ensures in
+    subst (λ d. KeepsToFile g.D.SectorDisk c.args.file c.args.disk d) (sym c.into_disk.ensures)
+    (keeps_to g.D.SectorDisk c.args.disk c.in-Ok.store c.show_opened.new.store.disk c.args.file e.closed e.ready shown.kept e.touches shown.touches e.asks shown.asks)
+
+pub returns-in-Err-clause-err_asks : goal.returns-in-Err-clause-err_asks
+returns-in-Err-clause-err_asks g c = keeps_unopened g.D.SectorDisk c.args.disk c.in-Err.disk c.args.file c.in-Err.ensures.err_touches c.in-Err.ensures.err_asks

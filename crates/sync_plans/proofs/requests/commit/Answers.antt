@@ -4,11 +4,11 @@ use Rattle.disk_model.specs.Moments.{LeavesOnly, LeavesNow}
 use Rattle.file_store.specs.Standing.{StandsFor}
 use Rattle.file_store.specs.Commit.{ArePages, StandsForEither}
 use Rattle.batches.specs.Pages.{HasReadOnly}
-use Rattle.sync_journal.specs.Layout.{IsOutside}
+use Rattle.sync_journal.specs.Kinds.{IsOutsideOf}
 use Rattle.file_store.specs.Store.{PutsHomesOrNone}
 use Rattle.sync_plans.specs.Pages.{lent_page}
 use Rattle.sync_plans.specs.Requests.{KeepsOutside, HasLayout}
-use Rattle.sync_plans.proofs.Runs.{when_open, then_committed, laid_out, same_files}
+use Rattle.sync_plans.proofs.Runs.{when_open, then_committed, laid_out, same_files, still_outside}
 use Rattle.sync_plans.proofs.requests.commit.Goals as goal
 
 pub returns-in-Ok-commit-clause-any_moment : goal.returns-in-Ok-commit-clause-any_moment
@@ -60,7 +60,8 @@ returns-in-Ok-commit-clause-outside g c = λ k.
     let opened = c.in-Ok.ensures.homes k1 (g.D.SectorDisk.content c.in-Ok.store.disk) (record { kept = λ n. inr refl }) in
     let done = c.in-Ok-commit.ensures.homes k2 tt (g.D.SectorDisk.content c.commit.new.self.disk) (record { kept = λ n. inr refl }) in
     subst (λ d. KeepsOutside (g.D.SectorDisk.sector_count c.args.disk) (g.D.SectorDisk.content c.args.disk) (g.D.SectorDisk.content d)) (sym c.into_disk-in-Ok-commit.ensures)
-    (λ n out. done.outside n (subst (λ (s : ℕ). IsOutside s n) (sym c.in-Ok.ensures.size) out) ∙ opened.outside n out)
+    (λ n out. done.outside n (subst (λ (s : ℕ). IsOutsideOf (g.D.SectorDisk.content c.in-Ok.store.disk) s n) (sym c.in-Ok.ensures.size)
+    (still_outside (g.D.SectorDisk.sector_count c.args.disk) (g.D.SectorDisk.content c.args.disk) (g.D.SectorDisk.content c.in-Ok.store.disk) opened.outside n out)) ∙ opened.outside n out)
 
 pub returns-in-Ok-commit-clause-store : goal.returns-in-Ok-commit-clause-store
 returns-in-Ok-commit-clause-store g c = λ k. let k1 = c.commit.ensures.kept (subst g.D.SectorDisk.keeps_model c.into_disk-in-Ok-commit.ensures k) in record { layout = c.in-Ok.ensures.good_layout k1; journal = c.in-Ok.ensures.good_journal k1 }

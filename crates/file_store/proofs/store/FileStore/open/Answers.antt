@@ -1,4 +1,5 @@
 use Rattle.std.proofs.Common.{Err, ap}
+use Rattle.file_store.proofs.Causes.{same_Err}
 use Rattle.file_store.proofs.Images.{stands_kept}
 use Rattle.file_store.proofs.Openings.{files_stand}
 use Rattle.file_store.proofs.store.FileStore.open.Goals as goal
@@ -33,3 +34,6 @@ returns-in-Err-clause-err_moment g c = λ k synced.
 pub returns-in-Err-clause-err_in_a_row : goal.returns-in-Err-clause-err_in_a_row
 returns-in-Err-clause-err_in_a_row g c = λ k synced first was.
     files_stand g.D.SectorDisk c.args.disk c.mount.new.disk (g.D.SectorDisk.sector_count c.args.disk) first was (c.mount.ensures.any_moment k synced)
+
+pub returns-in-Err-clause-unwritten : goal.returns-in-Err-clause-unwritten
+returns-in-Err-clause-unwritten g c = λ k not_device. c.in-Err.ensures.unwritten k (λ is. not_device (same_Err _ _ is))

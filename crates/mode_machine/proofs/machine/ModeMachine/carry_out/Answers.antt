@@ -2,7 +2,7 @@ use Rattle.std.proofs.Common.{◌≡◌, true, false, refl, sym, ap, ◌∙◌}
 use Rattle.vm_types.specs.Replies.{reply_of}
 use Rattle.vm_types.specs.declared.command.Command.TheVariants.{Spawn, Fork, Exit, Mmap, Munmap, Mprotect, Dontneed, Load, Store, Fetch}
 use Rattle.mode_machine.proofs.Accesses.{accessed, keeps_denied, faults_live, load_live, store_live, fetch_live}
-use Rattle.mode_machine.proofs.Flat.{carried, unread, unswapped, keeps_all, reads_as, stays_halted}
+use Rattle.mode_machine.proofs.Flat.{carried, halted_accesses, keeps_all, reads_as, stays_halted, unread, unswapped}
 use Rattle.mode_machine.proofs.machine.ModeMachine.carry_out.Goals as goal
 
 pub returns-then-self-clause-meets : goal.returns-then-self-clause-meets
@@ -167,3 +167,6 @@ returns-in-Msync-clause-denied g c = record {
   faulted = λ other. absurd (let never : true ≡ false = rw c.in-Msync.is at other in cc);
   halted = λ stopped. absurd (let never : false ≡ true = sym c.if-self.false ∙ stopped in cc);
 }
+
+pub returns-then-self-clause-accesses : goal.returns-then-self-clause-accesses
+returns-then-self-clause-accesses g c = halted_accesses g.D.SectorDisk g.E.SectorDisk c.args.self.now.core c.args.command

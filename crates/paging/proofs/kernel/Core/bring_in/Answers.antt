@@ -1,7 +1,8 @@
-use Rattle.std.proofs.Common.{◌≡◌, inl, inr, None, refl, sym, ap, ◌∙◌, subst, ℕ}
+use Rattle.std.proofs.Common.{◌≡◌, ◌<◌, inl, inr, None, refl, sym, ap, ◌∙◌, subst, ℕ}
 use Rattle.std.specs.Option.{option_map}
 use Rattle.vm_types.specs.declared.object.PageKey.{PageKey}
 use Rattle.vm_types.specs.declared.object.PageKey.TheVariants.{File}
+use Rattle.file_store.specs.Standing.{AreBounded}
 use Rattle.file_store.specs.Store.{entry_of, files_of}
 use Rattle.frames.specs.declared.role.Role.TheVariants.{Free, Table, Private, Cache}
 use Rattle.frames.specs.FrameTable.{role_of}
@@ -145,3 +146,21 @@ returns-in-Err-clause-tried g c =
     let gives = frame_taken old found None c.in_ok-obtain.field-0.0 c.in-Ok.frame.0 c.obtain.ensures.frees c.in_ok-obtain.ensures.gives (needed_of c.args.self.now c.obtain.new.core c.obtain.ensures.needed) takes.inside takes.was_free in
     wants_taken c.args.self.now c.obtain.new.core _ c.in-Ok.frame.0 c.obtain.ensures.needed takes.was_free
     (gives_taken old found _ c.in-Ok.frame.0 c.obtain.ensures.fit (spent g c).frames takes.was_free (λ t. (let bad = sym (freed g c) ∙ t in (cc))) (λ pid. refl) gives)
+
+pub invariant_of-self-clause-bounded : goal.invariant_of-self-clause-bounded
+invariant_of-self-clause-bounded g c = subst (λ d. AreBounded (λ f. option_map (λ e. e.info) (entry_of d f))) (sym c.in-Ok-read_page.ensures.files) c.obtain.new.core.bounded
+
+pub invariant_of-self-clause-page_count : goal.invariant_of-self-clause-page_count
+invariant_of-self-clause-page_count g c =
+    let same = (frames_written c.obtain.new.core.frames c.take.new.self c.in-Ok.frame.0 c.read_page.new.to c.in-Ok.ensures.taken).frames in
+    c.obtain.new.core.page_count ∙ sym same
+
+pub invariant_of-self-clause-node_count : goal.invariant_of-self-clause-node_count
+invariant_of-self-clause-node_count g c =
+    let same = (frames_written c.obtain.new.core.frames c.take.new.self c.in-Ok.frame.0 c.read_page.new.to c.in-Ok.ensures.taken).frames in
+    c.set_place.ensures.others.frames ∙ c.obtain.new.core.node_count ∙ sym same
+
+pub invariant_of-self-clause-hand_inside : goal.invariant_of-self-clause-hand_inside
+invariant_of-self-clause-hand_inside g c =
+    let same = (frames_written c.obtain.new.core.frames c.take.new.self c.in-Ok.frame.0 c.read_page.new.to c.in-Ok.ensures.taken).frames in
+    subst (λ (n : ℕ). c.obtain.new.core.clock.hand < n) (sym same) c.obtain.new.core.hand_inside

@@ -1,12 +1,27 @@
-use Rattle.std.proofs.Common.{subst}
+use Rattle.std.proofs.Common.{OnOk, ap, sym, subst, ◌≡◌, ◌+◌, ◌∙◌}
+use Rattle.disk_model.specs.Sectors.{joined}
 use Rattle.disk_model.proofs.Moments.{asks_named}
-use Rattle.sync_journal.specs.Layout.{layout_1, IsPageSector}
+use Rattle.disk_model.proofs.Pieces.{joined-same}
+use Rattle.sync_journal.specs.Layout.{layout_before, IsPageSector}
 use Rattle.sync_journal.specs.Map.{place_of}
 use Rattle.sync_journal.specs.OldJournal.{old_homes}
-use Rattle.sync_journal.specs.Standing.{place_or_home_in}
+use Rattle.sync_journal.specs.Standing.{standing_in, place_or_home_in}
+use Rattle.sync_journal.proofs.OldJournals.{stands_there}
 use Rattle.sync_journal.proofs.old_journal.OldJournal.read.Goals as goal
 
 pub returns-clause-asks : goal.returns-clause-asks
 returns-clause-asks g c =
-    asks_named g.D.SectorDisk (IsPageSector (place_or_home_in layout_1 c.args.home (place_of (old_homes c.args.self.now) c.args.home))) (IsPageSector c.stands_at.result)
+    let layout = layout_before c.args.self.now.journals in
+    asks_named g.D.SectorDisk (IsPageSector (place_or_home_in layout c.args.home (place_of (old_homes c.args.self.now) c.args.home))) (IsPageSector c.stands_at.result)
     c.args.disk.now c.read_page.new.disk (λ k inside. subst (λ first. IsPageSector first k) c.stands_at.ensures.at inside) c.read_page.ensures.asks
+
+pub returns-clause-page : goal.returns-clause-page
+returns-clause-page g c = λ keeps.
+    let layout = layout_before c.args.self.now.journals in
+    let homes = old_homes c.args.self.now in
+    let content = g.D.SectorDisk.content c.args.disk.now in
+    let found = c.requires.found (c.read_page.ensures.kept keeps) in
+    let same : joined (λ i. content (c.stands_at.result + i)) 8 ≡ joined (standing_in layout content c.args.home) 8 =
+    joined-same 8 (λ i. content (c.stands_at.result + i)) (standing_in layout content c.args.home)
+    (λ i lt. ap (λ first. content (first + i)) c.stands_at.ensures.at ∙ stands_there layout homes content c.args.home i found) in
+    subst (λ bytes. OnOk c.read_page.result (c.read_page.new.to ≡ bytes)) same (c.read_page.ensures.read keeps)

@@ -1,0 +1,76 @@
+-- A store of layout 3, made from sync to sync.
+use Rattle.std.proofs.Common.{◌≡◌, ◌⊎◌, ◌≤◌, ℕ, ⊎_elim, inl, inr, Result, Ok, Err, OnOk, List, refl, sym, ap, subst, ◌∙◌, arith}
+use Rattle.disk_model.specs.Stop.{Image}
+use Rattle.disk_model.specs.Moments.{Touches}
+use Rattle.disk_model.specs.declared.sector_disk.SectorDisk.{Ghosts}
+use Rattle.disk_model.proofs.Moments.{then, wider}
+use Rattle.sync_journal.specs.declared.store_journal.Journals.TheVariants.{Single, Paired}
+use Rattle.sync_journal.specs.declared.store_journal.Journals.{Journals}
+use Rattle.sync_journal.specs.Kinds.{kind_of}
+use Rattle.sync_journal.specs.Blocks.{LeavesInBlocks}
+use Rattle.file_store.specs.Layout.{turn_mark, IsMark}
+use Rattle.file_store.specs.Format.{IsFrom, IsKindSector, IsMarkSector}
+use Rattle.file_store.specs.Blocks.{MakesByBlocks, KindBehind, KindLast}
+use Rattle.file_store.specs.Blocks.MakesByBlocks.{Unmarked, OfKind, Marked}
+
+pub single_paired : ◌≡◌ {A = Journals} Single Paired → ⊥
+single_paired e = cc
+
+-- after Ok
+pub on_ok : {T E P : Type 0} (r : Result T E) → P → OnOk r P
+on_ok (Ok x) p = p
+on_ok (Err e) p = tt
+
+module _ {D : Type 0} (g : Ghosts D) where
+  -- more is written before
+  pub behind_more : (V W : ℕ → Type 0) (Q R : Image → Type 0) (old mid new : D) → Touches g W old mid → ((k : ℕ) → V k → W k)
+      → ((c : Image) → ((k : ℕ) → V k ⊎ (c k ≡ g.content mid k)) → Q c → R c) → KindBehind g V Q mid new → KindBehind g W R old new
+  behind_more V W Q R old mid new first more into b = record {
+    tables = b.tables;
+    before = then g W old mid b.tables first (wider g V W mid b.tables more b.before);
+    synced = b.synced;
+    holds = into (g.content b.tables) b.before.content b.holds;
+    kind = b.kind;
+  }
+
+  pub last_more : (V W : ℕ → Type 0) (Q R : Image → Type 0) (old mid new : D) → Touches g W old mid → ((k : ℕ) → V k → W k)
+      → ((c : Image) → ((k : ℕ) → V k ⊎ (c k ≡ g.content mid k)) → Q c → R c) → KindLast g V Q mid new → KindLast g W R old new
+  last_more V W Q R old mid new first more into = ⊎_elim (λ run. inl (then g W old mid new first (wider g V W mid new more run)))
+      (λ b. inr (behind_more V W Q R old mid new first more into b))
+
+  module _ (Whole : Image → Type 0) (old : D) (synced : (k : ℕ) → g.unsynced old k → ⊥) (unmarked : IsMark (g.content old 0) → ⊥) where
+    abbrev pub IfPaired : Image → Type 0
+    IfPaired c = kind_of c ≡ Paired → c 0 ≡ turn_mark → Whole c
+
+    -- the block of the mark is not touched
+    pub first_epoch : (new : D) → Touches g (IsFrom 8) old new → LeavesInBlocks g (IsFrom 8) IfPaired old new
+    first_epoch new run = record {
+      writes = run;
+      each = λ d touched c may kind marked. ⊎_elim
+          (λ at. absurd (⊎_elim (synced at.0) (λ far. omega (arith, far, at.1)) (touched.unsynced at.0 at.2)))
+          (λ same. ⊎_elim (λ far. absurd (omega (arith, far))) (λ kept. absurd (unmarked (inr (inr (sym (same ∙ kept) ∙ marked))))) (touched.content 0))
+          (may.kept 0);
+    }
+
+    module _ (Q : Image → Type 0) (whole : (mid c : Image) → Q mid → ((k : ℕ) → 8 ≤ k → c k ≡ mid k) → kind_of c ≡ Paired → c 0 ≡ turn_mark → Whole c) where
+      -- it alone is
+      head_epoch : (W : ℕ → Type 0) (mid new : D) → ((k : ℕ) → W k → k ≤ 1) → ((k : ℕ) → g.unsynced mid k → ⊥) → Q (g.content mid) → Touches g W mid new → LeavesInBlocks g W IfPaired mid new
+      head_epoch W mid new low mid_synced holds run = record {
+        writes = run;
+        each = λ d touched c may. whole (g.content mid) c holds (λ k far. ⊎_elim
+            (λ at. absurd (⊎_elim (mid_synced at.0) (λ inside. let first = low at.0 inside in omega (arith, first, at.1, far)) (touched.unsynced at.0 at.2)))
+            (λ same. ⊎_elim (λ inside. absurd (let first = low k inside in omega (arith, first, far))) (λ kept. same ∙ kept) (touched.content k))
+            (may.kept k));
+      }
+
+      pub made_last : (new : D) → KindLast g (IsFrom 8) Q old new → MakesByBlocks g IfPaired old new
+      made_last new = ⊎_elim (λ run. Unmarked (first_epoch new run))
+          (λ b. OfKind b.tables (first_epoch b.tables b.before) (head_epoch IsKindSector b.tables new (λ k at. omega (arith, at)) b.synced b.holds b.kind))
+
+      -- and then the mark
+      pub made_marked : (mid new : D) → ((k : ℕ) → g.unsynced mid k → ⊥) → ((c d : Image) → ((k : ℕ) → 8 ≤ k → d k ≡ c k) → Q c → Q d)
+          → KindBehind g (IsFrom 8) Q old mid → Touches g IsMarkSector mid new → MakesByBlocks g IfPaired old new
+      made_marked mid new mid_synced moves b marks = Marked b.tables mid (first_epoch b.tables b.before)
+          (head_epoch IsKindSector b.tables mid (λ k at. omega (arith, at)) b.synced b.holds b.kind)
+          (head_epoch IsMarkSector mid new (λ k at. omega (arith, at)) mid_synced
+          (moves (g.content b.tables) (g.content mid) (λ k far. ⊎_elim (λ at. absurd (omega (arith, at, far))) (λ same. same) (b.kind.content k)) b.holds) marks)

@@ -1,0 +1,37 @@
+use Rattle.std.proofs.Common.{◌≡◌, ℕ, inl, inr, ap, sym, refl, ◌∙◌, arith}
+use Rattle.sync_journal.specs.declared.store_journal.Journals.TheVariants.{Single, Paired}
+use Rattle.file_store.specs.Format.{IsLayoutSector}
+use Rattle.file_store.proofs.Making.{makes_more, makes_write, makes_synced}
+use Rattle.file_store.proofs.NewStores.{one_head}
+use Rattle.file_store.proofs.formatting.write_one.Goals as goal
+
+pub returns-in_err-write-clause-run : goal.returns-in_err-write-clause-run
+returns-in_err-write-clause-run g c = let d = g.D.SectorDisk in
+    let W : ℕ → Type 0 = IsLayoutSector Single in
+    (makes_write d W c.directory.result c.args.disk.now c.write.new.self (inr (inl c.directory.ensures.is)) c.write.ensures.size c.write.ensures.kept c.write.ensures.cause.later c.write.ensures.asks c.write.ensures.others c.write.ensures.unsynced c.write.ensures.time)
+
+pub returns-in_err-write-2-clause-run : goal.returns-in_err-write-2-clause-run
+returns-in_err-write-2-clause-run g c = let d = g.D.SectorDisk in
+    let W : ℕ → Type 0 = IsLayoutSector Single in
+    (makes_more d W c.args.disk.now c.write.new.self c.write-2.new.self
+    (makes_write d W c.directory.result c.args.disk.now c.write.new.self (inr (inl c.directory.ensures.is)) c.write.ensures.size c.write.ensures.kept c.write.ensures.cause.later c.write.ensures.asks c.write.ensures.others c.write.ensures.unsynced c.write.ensures.time)
+    (makes_write d W 2 c.write.new.self c.write-2.new.self (inr (inr refl)) c.write-2.ensures.size c.write-2.ensures.kept c.write-2.ensures.cause.later c.write-2.ensures.asks c.write-2.ensures.others c.write-2.ensures.unsynced c.write-2.ensures.time))
+
+pub returns-clause-run : goal.returns-clause-run
+returns-clause-run g c = let d = g.D.SectorDisk in
+    let W : ℕ → Type 0 = IsLayoutSector Single in
+    (makes_synced d W c.args.disk.now c.write-2.new.self c.sync.new.self
+    (makes_more d W c.args.disk.now c.write.new.self c.write-2.new.self
+    (makes_write d W c.directory.result c.args.disk.now c.write.new.self (inr (inl c.directory.ensures.is)) c.write.ensures.size c.write.ensures.kept c.write.ensures.cause.later c.write.ensures.asks c.write.ensures.others c.write.ensures.unsynced c.write.ensures.time)
+    (makes_write d W 2 c.write.new.self c.write-2.new.self (inr (inr refl)) c.write-2.ensures.size c.write-2.ensures.kept c.write-2.ensures.cause.later c.write-2.ensures.asks c.write-2.ensures.others c.write-2.ensures.unsynced c.write-2.ensures.time))
+    c.sync.ensures.size c.sync.ensures.kept c.sync.ensures.cause.later c.sync.ensures.asks c.sync.ensures.same c.sync.ensures.unsynced c.sync.ensures.time)
+
+pub returns-clause-head : goal.returns-clause-head
+returns-clause-head g c = λ keeps.
+    let k2 = c.sync.ensures.kept keeps in
+    let k1 = c.write-2.ensures.kept k2 in
+    let at : c.directory.result ≡ 1 = c.directory.ensures.is in
+    one_head c.sync.result c.args.directory.now (g.D.SectorDisk.content c.sync.new.self) c.requires.good
+    (ap (λ image. image 1) (c.sync.ensures.same keeps) ∙ (c.write-2.ensures.others k2).others 1 (λ e. omega (arith, e))
+    ∙ ap (λ n. g.D.SectorDisk.content c.write.new.self n) (sym at) ∙ c.in_ok-write.ensures.written k1)
+    (ap (λ image. image 2) (c.sync.ensures.same keeps) ∙ c.in_ok-write-2.ensures.written k2)

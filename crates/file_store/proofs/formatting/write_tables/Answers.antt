@@ -1,0 +1,38 @@
+use Rattle.std.proofs.Common.{◌≡◌, ℕ, inl, inr, ap, sym, refl, ◌∙◌, arith}
+use Rattle.sync_journal.specs.declared.store_journal.Journals.TheVariants.{Single, Paired}
+use Rattle.file_store.specs.Format.{IsTableSector}
+use Rattle.file_store.proofs.Making.{makes_more, makes_write}
+use Rattle.file_store.proofs.NewStores.{tables_at}
+use Rattle.file_store.proofs.formatting.write_tables.Goals as goal
+
+pub returns-in_err-write-clause-run : goal.returns-in_err-write-clause-run
+returns-in_err-write-clause-run g c = let d = g.D.SectorDisk in
+    let W : ℕ → Type 0 = IsTableSector Paired in
+    (makes_write d W c.directory.result c.args.disk.now c.write.new.self (inl c.directory.ensures.is) c.write.ensures.size c.write.ensures.kept c.write.ensures.cause.later c.write.ensures.asks c.write.ensures.others c.write.ensures.unsynced c.write.ensures.time)
+
+pub returns-in_err-write-2-clause-run : goal.returns-in_err-write-2-clause-run
+returns-in_err-write-2-clause-run g c = let d = g.D.SectorDisk in
+    let W : ℕ → Type 0 = IsTableSector Paired in
+    (makes_more d W c.args.disk.now c.write.new.self c.write-2.new.self
+    (makes_write d W c.directory.result c.args.disk.now c.write.new.self (inl c.directory.ensures.is) c.write.ensures.size c.write.ensures.kept c.write.ensures.cause.later c.write.ensures.asks c.write.ensures.others c.write.ensures.unsynced c.write.ensures.time)
+    (makes_write d W 16 c.write.new.self c.write-2.new.self (inr (inl refl)) c.write-2.ensures.size c.write-2.ensures.kept c.write-2.ensures.cause.later c.write-2.ensures.asks c.write-2.ensures.others c.write-2.ensures.unsynced c.write-2.ensures.time))
+
+pub returns-clause-run : goal.returns-clause-run
+returns-clause-run g c = let d = g.D.SectorDisk in
+    let W : ℕ → Type 0 = IsTableSector Paired in
+    (makes_more d W c.args.disk.now c.write-2.new.self c.write-3.new.self
+    (makes_more d W c.args.disk.now c.write.new.self c.write-2.new.self
+    (makes_write d W c.directory.result c.args.disk.now c.write.new.self (inl c.directory.ensures.is) c.write.ensures.size c.write.ensures.kept c.write.ensures.cause.later c.write.ensures.asks c.write.ensures.others c.write.ensures.unsynced c.write.ensures.time)
+    (makes_write d W 16 c.write.new.self c.write-2.new.self (inr (inl refl)) c.write-2.ensures.size c.write-2.ensures.kept c.write-2.ensures.cause.later c.write-2.ensures.asks c.write-2.ensures.others c.write-2.ensures.unsynced c.write-2.ensures.time))
+    (makes_write d W 24 c.write-2.new.self c.write-3.new.self (inr (inr refl)) c.write-3.ensures.size c.write-3.ensures.kept c.write-3.ensures.cause.later c.write-3.ensures.asks c.write-3.ensures.others c.write-3.ensures.unsynced c.write-3.ensures.time))
+
+pub returns-clause-tables : goal.returns-clause-tables
+returns-clause-tables g c = λ keeps.
+    let k2 = c.write-3.ensures.kept keeps in
+    let k1 = c.write-2.ensures.kept k2 in
+    let at : c.directory.result ≡ 9 = c.directory.ensures.is in
+    tables_at c.write-3.result c.args.directory.now (g.D.SectorDisk.content c.write-3.new.self)
+    ((c.write-3.ensures.others keeps).others 9 (λ e. omega (arith, e)) ∙ (c.write-2.ensures.others k2).others 9 (λ e. omega (arith, e))
+    ∙ ap (λ n. g.D.SectorDisk.content c.write.new.self n) (sym at) ∙ c.in_ok-write.ensures.written k1)
+    ((c.write-3.ensures.others keeps).others 16 (λ e. omega (arith, e)) ∙ c.in_ok-write-2.ensures.written k2)
+    (c.write-3.ensures.written keeps)

@@ -1,0 +1,99 @@
+-- What is asked of a device where a file is shown.
+use Rattle.std.proofs.Common.{◌≡◌, ℕ, ◌<◌, ◌+◌, ◌*◌, List, [], Option, Some, sym, ap, subst, ◌∙◌, inl, inr, arith}
+use Rattle.std.proofs.lemmas.Option.{same_Some}
+use Rattle.std.specs.Option.{option_map}
+use Rattle.disk_model.specs.Stop.{Image}
+use Rattle.disk_model.specs.Moments.{Touches, Nothing, AsksOnly}
+use Rattle.disk_model.proofs.Moments.{asks_then, asks_wider}
+use Rattle.disk_model.specs.declared.sector_disk.SectorDisk.{Ghosts}
+use Rattle.vm_types.specs.declared.file.FileInfo.{FileInfo}
+use Rattle.sync_journal.specs.Layout.{IsPageSector}
+use Rattle.sync_journal.specs.Map.{place_among, place_of}
+use Rattle.sync_journal.specs.Standing.{place_or_home}
+use Rattle.sync_journal.specs.Turns.{turn_stands}
+use Rattle.sync_journal.specs.Kinds.{is_kind, kind_when, kind_of, kind_home, journal_kind, journal_stands, store_live, IsOutsideOf, IsStoreRecovered}
+use Rattle.sync_journal.specs.declared.store_journal.Journals.{Journals}
+use Rattle.sync_journal.specs.declared.store_journal.StoreJournal.{StoreJournal}
+use Rattle.sync_journal.specs.declared.store_journal.StoreJournal.TheVariants.{One, InTurn}
+use Rattle.file_store.proofs.Images.{same_head, entry_same}
+use Rattle.file_store.proofs.Outside.{left_outside}
+use Rattle.file_store.specs.declared.directory.Directory.{Directory}
+use Rattle.file_store.specs.declared.directory.Entry.{Entry}
+use Rattle.file_store.specs.declared.store.FileStore.{FileStore}
+use Rattle.file_store.specs.Standing.{IsAskedToOpen, IsPageOf, directory_entry}
+use Rattle.file_store.specs.Store.{IsReadyStore, IsSectorOf, entry_of, files_of, home_in, home_of}
+use Rattle.programs.proofs.Copies.{has_entry, same_content}
+use Rattle.programs.specs.Showing.{IsAskedToShow, IsInHomesOf, IsSectorOfFile, KeepsToFile}
+
+-- where nothing stands in a journal alone, a page stands in its home
+at_home : (journal : StoreJournal) (h k : ℕ) → store_live journal ≡ [] → IsPageSector (journal_stands journal h) k → IsPageSector (kind_home (journal_kind journal) h) k
+unfolding place_among
+at_home (One journal) h k none sector = subst (λ (s : List ℕ). IsPageSector (place_or_home h (place_of s h)) k) none sector
+at_home (InTurn journal) h k none sector = subst (λ (s : List ℕ). IsPageSector (turn_stands journal.second h (place_of s h)) k) none sector
+
+-- the home of a page
+first_and_page : (directory : Directory) (f page : ℕ) (entry : Entry) → entry_of directory f ≡ Some entry → home_of directory (record { file = f; page = page }) ≡ entry.first + page
+unfolding home_of
+first_and_page directory f page entry is = ap (λ (e : Option Entry). home_in e page) is
+
+module _ {D : Type 0} (g : Ghosts D) where
+  -- a page of a file is read after those before
+  pub asks_page : (first mid : FileStore D) (new : D) (f page : ℕ) → mid.directory ≡ first.directory → mid.journal ≡ first.journal → IsPageOf (files_of first) f page
+      → AsksOnly g (IsSectorOfFile first f) first.disk mid.disk → AsksOnly g (IsSectorOf mid (record { file = f; page = page })) mid.disk new
+      → AsksOnly g (IsSectorOfFile first f) first.disk new
+  asks_page first mid new f page files journal inside before read =
+      asks_then g (IsSectorOfFile first f) first.disk mid.disk new before
+      (asks_wider g (IsSectorOf mid (record { file = f; page = page })) (IsSectorOfFile first f) mid.disk new (λ k sector. (page, inside, moved k sector)) read)
+    where
+      moved : (k : ℕ) → IsSectorOf mid (record { file = f; page = page }) k → IsSectorOf first (record { file = f; page = page }) k
+      moved k sector =
+          subst (λ (j : StoreJournal). IsPageSector (journal_stands j (home_of first.directory (record { file = f; page = page }))) k) journal
+          (subst (λ (d : Directory). IsPageSector (journal_stands mid.journal (home_of d (record { file = f; page = page }))) k) files sector)
+
+  -- the sectors of an opened store's file are those of its homes
+  in_homes : (old : D) (store : FileStore D) (f k : ℕ) → store_live store.journal ≡ [] → kind_of (g.content old) ≡ journal_kind store.journal → ((n : ℕ) → entry_of store.directory n ≡ directory_entry (g.content old) n)
+      → IsSectorOfFile store f k → IsInHomesOf (g.content old) f k
+  in_homes old store f k none kind same sector =
+      let page = sector.0 in
+      let info = sector.1.0 in
+      let found = has_entry (entry_of store.directory f) info sector.1.1 in
+      let entry = found.0 in
+      let length : entry.info ≡ info = same_Some entry.info info (sym (ap (option_map (λ (e : Entry). e.info)) found.1) ∙ sector.1.1) in
+      let inside : 4096 * page < entry.info.length = subst (λ (i : FileInfo). 4096 * page < i.length) (sym length) sector.1.2 in
+      let home = first_and_page store.directory f page entry found.1 in (
+        entry,
+        entry.first + page,
+        sym (same f) ∙ found.1,
+        (omega arith, omega (arith, inside)),
+        subst (λ (h : ℕ). IsPageSector (kind_home (kind_of (g.content old)) h) k) home
+            (subst (λ (j : Journals). IsPageSector (kind_home j (home_of store.directory (record { file = f; page = page }))) k) (sym kind) (at_home store.journal _ k none sector.2)),
+      )
+
+  -- a store that was opened, and of which a file was shown then
+  pub keeps_to : (old : D) (store : FileStore D) (new : D) (f : ℕ) → store_live store.journal ≡ [] → IsReadyStore g store
+      → (g.keeps_model new → g.keeps_model store.disk) → (g.keeps_model store.disk → Touches g (IsStoreRecovered (g.content old) (g.sector_count old)) old store.disk)
+      → (g.keeps_model new → Touches g Nothing store.disk new) → (g.keeps_model store.disk → AsksOnly g (IsAskedToOpen (g.content old)) old store.disk)
+      → AsksOnly g (IsSectorOfFile store f) store.disk new → KeepsToFile g f old new
+  keeps_to old store new f none ready kept opened read asked shown = record {
+    asks = λ keeps.
+        let first = kept keeps in
+        let around = left_outside g (g.sector_count old) (g.content old) old store.disk (opened first) in
+        let head = same_head (g.sector_count old) (g.content old) (g.content store.disk) around in
+        let rest = ready.at_rest first in
+        let kind : kind_of (g.content old) ≡ journal_kind store.journal = sym (ap (λ (s : List ℕ). kind_when (is_kind s)) head.kind) ∙ rest.journal.kind in
+        let same : (n : ℕ) → entry_of store.directory n ≡ directory_entry (g.content old) n =
+        λ n. rest.directory n ∙ entry_same (g.content old) (g.content store.disk) head n in
+        asks_then g (IsAskedToShow (g.content old) f) old store.disk new
+        (asks_wider g (IsAskedToOpen (g.content old)) (IsAskedToShow (g.content old) f) old store.disk (λ k a. inl a) (asked first))
+        (asks_wider g (IsSectorOfFile store f) (IsAskedToShow (g.content old) f) store.disk new (λ k s. inr (in_homes old store f k none kind same s)) shown);
+    outside = λ keeps k out.
+        ap (λ (image : Image). image k) (same_content g store.disk new (read keeps)) ∙ left_outside g (g.sector_count old) (g.content old) old store.disk (opened (kept keeps)) k out;
+  }
+
+  -- an image that was not opened
+  pub keeps_unopened : (old new : D) (f : ℕ) → (g.keeps_model new → Touches g (IsStoreRecovered (g.content old) (g.sector_count old)) old new)
+      → (g.keeps_model new → AsksOnly g (IsAskedToOpen (g.content old)) old new) → KeepsToFile g f old new
+  keeps_unopened old new f opened asked = record {
+    asks = λ keeps. asks_wider g (IsAskedToOpen (g.content old)) (IsAskedToShow (g.content old) f) old new (λ k a. inl a) (asked keeps);
+    outside = λ keeps. left_outside g (g.sector_count old) (g.content old) old new (opened keeps);
+  }

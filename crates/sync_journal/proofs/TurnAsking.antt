@@ -1,0 +1,141 @@
+-- Which sectors two journals in turn ask for.
+use Rattle.std.proofs.Common.{◌≡◌, ◌⊎◌, ◌<◌, ◌≤◌, ◌+◌, ℕ, Bool, not, List, [], length, get_or, None, inl, inr, ⊎_elim, sym, subst, arith}
+use Rattle.disk_model.specs.Stop.{Image, Names, NamesOnce}
+use Rattle.disk_model.specs.Moments.{AsksOnly}
+use Rattle.disk_model.proofs.Moments.{asks_named, asks_once, asks_then}
+use Rattle.disk_model.proofs.Naming.{once_named, once_apart, once_wider}
+use Rattle.disk_model.specs.declared.sector_disk.SectorDisk.{Ghosts}
+use Rattle.sync_journal.specs.Layout.{IsPageSector}
+use Rattle.sync_journal.specs.Map.{AreHomes, place_of, home_in}
+use Rattle.sync_journal.specs.Journal.{live_homes}
+use Rattle.sync_journal.specs.Turns.{turn_gate, start_of, turn_body, turn_home, turn_map, named_in, IsTurnSector, IsTurnGate, IsTurnPart, IsTurnFilled, IsTurnCopy, IsTurnUsed, IsTurnAsked, IsTurnAskedIn, IsNamedFor}
+use Rattle.sync_journal.specs.declared.turns.TurnJournal.{TurnJournal}
+use Rattle.sync_journal.proofs.Copies.{distinct_homes}
+use Rattle.sync_journal.proofs.Images.{no_place}
+use Rattle.sync_journal.proofs.InTurn.{start_low, start_high, apart, home_high}
+
+-- Over how often each sector had been asked for, at three moments.
+module _ (before mid now : ℕ → ℕ) (second : Bool) where
+  -- a page more of the body
+  pub filled_more : (j first : ℕ) → first ≡ turn_body second j → NamesOnce (IsTurnFilled second j) before mid → Names (IsPageSector first) mid now
+      → NamesOnce (IsTurnFilled second (j + 1)) before now
+  filled_more j first at so_far page = once_apart (IsTurnFilled second j) (IsPageSector first) (IsTurnFilled second (j + 1)) before mid now
+      (λ k inside. (inside.0, omega (arith, inside.1))) (λ k inside. (omega (arith, inside.0, at), omega (arith, inside.1, at))) (λ k one two. omega (arith, one.1, two.0, at))
+      so_far (once_named (IsPageSector first) (IsPageSector first) mid now (λ k inside. inside) page)
+
+  -- and the map after the body
+  pub part_asks : (n first : ℕ) → first ≡ start_of second → NamesOnce (IsTurnFilled second n) before mid → Names (IsPageSector first) mid now → NamesOnce (IsTurnPart second n) before now
+  part_asks n first at so_far map = once_apart (IsTurnFilled second n) (IsPageSector first) (IsTurnPart second n) before mid now
+      (λ k inside. (omega (arith, inside.0), inside.1)) (λ k inside. (omega (arith, inside.0, at), omega (arith, inside.1, at))) (λ k one two. omega (arith, one.0, two.1, at))
+      so_far (once_named (IsPageSector first) (IsPageSector first) mid now (λ k inside. inside) map)
+
+  pub map_asks : (first : ℕ) → first ≡ start_of second → Names (IsPageSector first) before now → NamesOnce (IsTurnPart second 0) before now
+  map_asks first at map = once_named (IsTurnPart second 0) (IsPageSector first) before now (λ k inside. (omega (arith, inside.0, at), omega (arith, inside.1, at))) map
+
+  pub body_alone : (n : ℕ) → NamesOnce (IsTurnFilled second n) before now → NamesOnce (IsTurnPart second n) before now
+  body_alone n body = once_wider (IsTurnFilled second n) (IsTurnPart second n) before now (λ k inside. (omega (arith, inside.0), inside.1)) body
+
+  -- a page more copied home, or passed over
+  pub copy_more : (count : ℕ) (homes but : List ℕ) → AreHomes count homes → (j from : ℕ) → j < length homes → from ≡ turn_body second j
+      → NamesOnce (IsTurnCopy second homes but j) before mid
+      → NamesOnce (λ k. (place_of but (get_or homes j 0) ≡ None) × (IsPageSector from k ⊎ IsPageSector (turn_home (get_or homes j 0)) k)) mid now
+      → NamesOnce (IsTurnCopy second homes but (j + 1)) before now
+  copy_more count homes but are j from below at so_far page = once_apart (IsTurnCopy second homes but j) Here (IsTurnCopy second homes but (j + 1)) before mid now earlier next two so_far page
+    where
+      Here : ℕ → Type 0
+      Here k = (place_of but (get_or homes j 0) ≡ None) × (IsPageSector from k ⊎ IsPageSector (turn_home (get_or homes j 0)) k)
+
+      earlier : (k : ℕ) → IsTurnCopy second homes but j k → IsTurnCopy second homes but (j + 1) k
+      earlier k was = (was.0, omega (arith, was.1), was.2, was.3)
+
+      next : (k : ℕ) → Here k → IsTurnCopy second homes but (j + 1) k
+      next k is = (j, omega arith, is.0, ⊎_elim (λ body. inl (omega (arith, body.0, at), omega (arith, body.1, at))) (λ home. inr home) is.1)
+
+      two : (k : ℕ) → IsTurnCopy second homes but j k → Here k → ⊥
+      two k was is =
+          let few = are.few in
+          let high = start_high second in
+          let less = was.1 in
+          ⊎_elim
+          (λ body. ⊎_elim (λ body'. omega (arith, body.1, body'.0, at, less)) (λ home'. omega (arith, body.1, home'.0, few, below, less, high)) is.1)
+          (λ home. ⊎_elim (λ body'. omega (arith, home.0, body'.1, at, few, below, high))
+          (λ home'. distinct_homes count homes was.0 j are (omega (arith, less, below)) below (λ e. omega (arith, e, less)) (omega (arith, home.0, home.1, home'.0, home'.1))) is.1)
+          was.3
+
+pub copy_wider : (second : Bool) (homes but : List ℕ) (n m : ℕ) → n ≤ m → (k : ℕ) → IsTurnCopy second homes but n k → IsTurnCopy second homes but m k
+copy_wider second homes but n m more k was = (was.0, omega (arith, was.1, more), was.2, was.3)
+
+-- A commit to these homes over the live ones.
+module _ (second : Bool) (live homes : List ℕ) (few : length live ≤ 1023) (fits : length homes ≤ 1023) where
+  abbrev pub Prepared : ℕ → Type 0
+  Prepared k = IsTurnPart (not second) (length homes) k ⊎ IsTurnCopy second live homes (length live) k
+
+  in_journal : (k : ℕ) → IsTurnPart (not second) (length homes) k → IsTurnSector (not second) k
+  in_journal k part = (part.0, omega (arith, part.1, fits))
+
+  -- the other journal, and then what is copied
+  pub prepared_asks : (before mid now : ℕ → ℕ) → NamesOnce (IsTurnPart (not second) (length homes)) before mid → NamesOnce (IsTurnCopy second live homes (length live)) mid now
+      → NamesOnce Prepared before now
+  prepared_asks before mid now stages copies = once_apart (IsTurnPart (not second) (length homes)) (IsTurnCopy second live homes (length live)) Prepared before mid now
+      (λ k part. inl part) (λ k copy. inr copy)
+      (λ k part copy. (let less = copy.1 in ⊎_elim (λ body. apart second k (omega (arith, body.0), omega (arith, body.1, less, few)) (in_journal k part))
+      (λ home. home_high (not second) k (omega (arith, home.0)) (in_journal k part)) copy.3))
+      stages copies
+
+  -- and then the gate
+  pub used_asks : (before mid now : ℕ → ℕ) → NamesOnce Prepared before mid → NamesOnce IsTurnGate mid now → NamesOnce (IsTurnUsed second live homes) before now
+  used_asks before mid now prepares names = once_apart Prepared IsTurnGate (IsTurnUsed second live homes) before mid now
+      (λ k inside. inr inside) (λ k gate. inl gate)
+      (λ k inside gate. (let low = start_low second in let low' = start_low (not second) in
+      ⊎_elim (λ part. omega (arith, part.0, gate, low')) (λ copy. ⊎_elim (λ body. omega (arith, body.0, gate, low)) (λ home. omega (arith, home.0, gate)) copy.3) inside))
+      prepares names
+
+  pub prepared_used : (before now : ℕ → ℕ) → NamesOnce Prepared before now → NamesOnce (IsTurnUsed second live homes) before now
+  prepared_used before now = once_wider Prepared (IsTurnUsed second live homes) before now (λ k inside. inr inside)
+
+  pub part_used : (before now : ℕ → ℕ) → NamesOnce (IsTurnPart (not second) (length homes)) before now → NamesOnce (IsTurnUsed second live homes) before now
+  part_used before now = once_wider (IsTurnPart (not second) (length homes)) (IsTurnUsed second live homes) before now (λ k part. inr (inl part))
+
+-- said of the number of pages alone
+pub used_more : (second : Bool) (live homes : List ℕ) (pages : ℕ) → length homes ≤ pages → (k : ℕ) → IsTurnUsed second live homes k → IsTurnAsked second live pages k
+used_more second live homes pages more k = ⊎_elim (λ gate. inl gate) (⊎_elim
+    (λ part. inr (inl (part.0, omega (arith, part.1, more))))
+    (λ copy. inr (inr (copy.0, copy.1, no_place (λ j. get_or [] j 0) (get_or live copy.0 0), copy.3))))
+
+-- A recovery.
+module _ {D : Type 0} (g : Ghosts D) (image : Image) where
+  pub look_gate : (old new : D) → Names (λ k. k ≡ turn_gate) (g.asked old) (g.asked new) → AsksOnly g (IsTurnAskedIn image) old new
+  look_gate old new names = asks_named g (IsTurnAskedIn image) (λ k. k ≡ turn_gate) old new (λ k here. inl here) names
+
+  pub look_map : (second : Bool) (first : ℕ) (old mid new : D) → named_in image ≡ second → first ≡ start_of second → Names (λ k. k ≡ turn_gate) (g.asked old) (g.asked mid)
+      → Names (IsPageSector first) (g.asked mid) (g.asked new) → AsksOnly g (IsTurnAskedIn image) old new
+  look_map second first old mid new gate at names map = asks_then g (IsTurnAskedIn image) old mid new (look_gate old mid names)
+      (asks_named g (IsTurnAskedIn image) (IsPageSector first) mid new
+      (λ k inside. inr (inl (subst (λ b. IsPageSector (start_of b) k) (sym gate) (omega (arith, inside.0, at), omega (arith, inside.1, at))))) map)
+
+  pub recovery_asks : (journal : TurnJournal) (old read new : D) → IsNamedFor journal image → AsksOnly g (IsTurnAskedIn image) old read
+      → NamesOnce (λ k. (0 < journal.live.count) × IsTurnUsed journal.second (live_homes journal.live) [] k) (g.asked read) (g.asked new) → AsksOnly g (IsTurnAskedIn image) old new
+  recovery_asks journal old read new names looks once = asks_then g (IsTurnAskedIn image) old read new looks
+      (asks_once g (IsTurnAskedIn image) (λ k. (0 < journal.live.count) × IsTurnUsed journal.second (live_homes journal.live) [] k) read new inside once)
+    where
+      inside : (k : ℕ) → (0 < journal.live.count) × IsTurnUsed journal.second (live_homes journal.live) [] k → IsTurnAskedIn image k
+      inside k used =
+          let counts = names.count in
+          let some = used.0 in
+          ⊎_elim (λ gate. inl gate) (⊎_elim
+          (λ part. inr (inr (omega (arith, some, counts), inl (let moved = subst (λ b. IsTurnPart (not b) 0 k) (sym names.gate) part in (moved.0, omega (arith, moved.1))))))
+          (λ copy.
+          (let long = names.long in
+          let less = copy.1 in
+          let below : copy.0 < journal.live.count = omega (arith, less, long) in
+          inr (inr (
+            omega (arith, some, counts),
+            inr (
+              copy.0,
+              omega (arith, below, counts),
+              ⊎_elim
+                  (λ body. inl (subst (λ b. IsPageSector (turn_body b copy.0) k) (sym names.gate) body))
+                  (λ home. inr (subst (λ h. IsPageSector (turn_home h) k) (sym (names.each copy.0 below)) home)) copy.3,
+            ),
+          )))))
+          used.1

@@ -1,0 +1,190 @@
+-- Two journals in turn: layout 3. A gate of two outcomes says which of them stands over the homes, and so a commit takes two syncs.
+-- The format is our own. What it has to keep is failure-atomic msync (Park, Kelly and Shen, "Failure-Atomic msync()", EuroSys 2013).
+use Rattle.std.specs.Prelude.{ℕ, ◌+◌, ◌-◌, ◌*◌, ◌/◌, ◌<◌, ◌≤◌, ◌⊎◌, ◌≡◌, Bool, true, false, not, List, [], length, slice_index, Option, Some, None, min}
+use Rattle.disk_model.specs.Sectors.{part_of, joined}
+use Rattle.disk_model.specs.Stop.{Image}
+use Rattle.disk_model.specs.Moments.{LeavesNow, LeavesOnly}
+use Rattle.disk_model.specs.declared.sector_disk.SectorDisk.{Ghosts}
+use Rattle.sync_journal.specs.Layout.{page_limit, home_limit, IsPageSector}
+use Rattle.sync_journal.specs.Gate.{is_open_sector}
+use Rattle.sync_journal.specs.Map.{count_in, home_in, place_among, place_of, IsBadMap}
+use Rattle.sync_journal.specs.Journal.{live_homes}
+use Rattle.sync_journal.specs.declared.turns.TurnJournal.{TurnJournal}
+
+-- the gate, alone in its block of 4,096 bytes: the bytes `GATEOPEN` 64 times name the second journal, any others the first
+abbrev pub turn_gate : ℕ
+turn_gate = 16
+
+-- the first sector of the first home page
+abbrev pub turn_homes : ℕ
+turn_homes = 16408
+
+-- the first sector of the first or of the second journal: of its map, which has eight
+abbrev pub start_of : Bool → ℕ
+start_of false = 24
+start_of true = 8216
+
+-- the first sector of page j of a journal's body
+abbrev pub turn_body : Bool → ℕ → ℕ
+turn_body second j = start_of second + 8 + 8 * j
+
+-- the first sector of home page h
+abbrev pub turn_home : ℕ → ℕ
+turn_home h = turn_homes + 8 * h
+
+-- how many home pages a device of so many sectors has
+abbrev pub turn_home_count : ℕ → ℕ
+turn_home_count sectors = min ((sectors - turn_homes) / 8) home_limit
+
+-- which journal an image's gate names
+abbrev pub named_in : Image → Bool
+named_in image = is_open_sector (image turn_gate)
+
+-- the map of a journal
+abbrev pub turn_map : Bool → Image → List ℕ
+turn_map second image = joined (λ i. image (start_of second + i)) 8
+
+-- the place at which a journal's map names home h, if any
+abbrev pub place_in : Bool → Image → ℕ → Option ℕ
+place_in second image h = place_among (home_in (turn_map second image)) h (count_in (turn_map second image))
+
+-- where home page h stands if a journal names it at this place
+abbrev pub turn_stands : Bool → ℕ → Option ℕ → ℕ
+turn_stands second h None = turn_home h
+turn_stands second h (Some j) = turn_body second j
+
+-- sector i of the page that stands for home page h under this journal
+abbrev pub stands_under : Bool → Image → ℕ → ℕ → List ℕ
+stands_under second image h i = image (turn_stands second h (place_in second image h) + i)
+
+-- and under that which the gate names: what the image stands for
+abbrev pub turn_standing : Image → ℕ → ℕ → List ℕ
+turn_standing image h i = stands_under (named_in image) image h i
+
+-- the map of the named journal is one that no commit writes
+abbrev pub IsBadUnder : Bool → ℕ → Image → Type 0
+IsBadUnder second sectors image = IsBadMap page_limit (turn_home_count sectors) (turn_map second image)
+
+abbrev pub IsBadTurn : ℕ → Image → Type 0
+IsBadTurn sectors image = IsBadUnder (named_in image) sectors image
+
+-- a sector of a journal
+abbrev pub IsTurnSector : Bool → ℕ → Type 0
+IsTurnSector second k = (start_of second ≤ k) × (k < start_of second + 8192)
+
+-- the gate
+abbrev pub IsTurnGate : ℕ → Type 0
+IsTurnGate k = k ≡ turn_gate
+
+-- the block of the gate, in which nothing else stands
+abbrev pub IsGateBlock : ℕ → Type 0
+IsGateBlock k = IsPageSector turn_gate k
+
+-- a sector of one of these homes
+abbrev pub IsTurnHome : List ℕ → ℕ → Type 0
+IsTurnHome homes k = (j : ℕ) × (j < length homes) × IsPageSector (turn_home (slice_index homes j)) k
+
+-- what the first sync of a commit makes durable: the journal that is not named, and homes that the named one covers
+abbrev pub IsTurnStaged : Bool → List ℕ → ℕ → Type 0
+IsTurnStaged second homes k = IsTurnSector (not second) k ⊎ IsTurnHome homes k
+
+-- what a commit over these live homes writes
+abbrev pub IsTurnCommitted : Bool → List ℕ → ℕ → Type 0
+IsTurnCommitted second homes k = IsTurnGate k ⊎ IsTurnStaged second homes k
+
+-- the layout mark, the directory, and what lies behind the last home page
+abbrev pub IsTurnOutside : ℕ → ℕ → Type 0
+IsTurnOutside sectors k = (k < turn_gate) ⊎ (turn_home (turn_home_count sectors) ≤ k)
+
+-- a journal's map, and the first n pages of its body
+abbrev pub IsTurnPart : Bool → ℕ → ℕ → Type 0
+IsTurnPart second n k = (start_of second ≤ k) × (k < turn_body second n)
+
+-- the first n pages of a journal's body
+abbrev pub IsTurnFilled : Bool → ℕ → ℕ → Type 0
+IsTurnFilled second n k = (turn_body second 0 ≤ k) × (k < turn_body second n)
+
+-- what the first n of these homes are copied from and to, but for those that the other list names
+abbrev pub IsTurnCopy : Bool → List ℕ → List ℕ → ℕ → ℕ → Type 0
+IsTurnCopy second homes but n k = (j : ℕ) × (j < n) × (place_of but (slice_index homes j) ≡ None)
+    × (IsPageSector (turn_body second j) k ⊎ IsPageSector (turn_home (slice_index homes j)) k)
+
+-- what a commit to these homes over the live ones asks for: the gate, as much of the journal that is not named as it fills,
+-- and what is copied home
+abbrev pub IsTurnUsed : Bool → List ℕ → List ℕ → ℕ → Type 0
+IsTurnUsed second live homes k = IsTurnGate k ⊎ (IsTurnPart (not second) (length homes) k ⊎ IsTurnCopy second live homes (length live) k)
+
+-- and what one of so many pages may ask for, whichever homes they have
+abbrev pub IsTurnAsked : Bool → List ℕ → ℕ → ℕ → Type 0
+IsTurnAsked second live pages k = IsTurnGate k ⊎ (IsTurnPart (not second) pages k ⊎ IsTurnCopy second live [] (length live) k)
+
+-- what the pages that this map names are copied from and to
+abbrev pub IsNamedCopy : Bool → List ℕ → ℕ → Type 0
+IsNamedCopy second map k = (j : ℕ) × (j < count_in map) × (IsPageSector (turn_body second j) k ⊎ IsPageSector (turn_home (home_in map j)) k)
+
+-- what a recovery of this image asks for: the gate, the map of the journal that it names, and where that has pages the other
+-- map and what is copied home
+abbrev pub IsTurnAskedIn : Image → ℕ → Type 0
+IsTurnAskedIn image k = IsTurnGate k ⊎ (IsPageSector (start_of (named_in image)) k ⊎ ((0 < count_in (turn_map (named_in image) image))
+    × (IsPageSector (start_of (not (named_in image))) k ⊎ IsNamedCopy (named_in image) (turn_map (named_in image) image) k)))
+
+-- what a recovery of a device of so many sectors of layout 3 writes: gate, map of the journal that is not named, homes
+abbrev pub IsTurnRecovered : ℕ → ℕ → Type 0
+IsTurnRecovered sectors k = (turn_gate ≤ k) × (k < turn_home (turn_home_count sectors))
+
+-- The image stands for these pages, of eight sectors each.
+pub record TurnStandsFor (pages : ℕ → ℕ → List ℕ) (image : Image) : Type 0 where
+  pub each : (h i : ℕ) → i < 8 → turn_standing image h i ≡ pages h i
+
+abbrev pub TurnStandsForEither : (ℕ → ℕ → List ℕ) → (ℕ → ℕ → List ℕ) → Image → Type 0
+TurnStandsForEither before after image = TurnStandsFor before image ⊎ TurnStandsFor after image
+
+-- An image that a stop may leave where the device held this content: what it stands for has `Stands`, its journal is
+-- bad only where that of the content was, and nothing outside the gate, the journals and the homes is changed.
+pub record IsTurnKept (sectors : ℕ) (content : Image) (Stands : Image → Type 0) (image : Image) : Type 0 where
+  pub stands : Stands image
+  pub journal : IsBadTurn sectors image → IsBadTurn sectors content
+  pub outside : (k : ℕ) → IsTurnOutside sectors k → image k ≡ content k
+
+-- An image that a stop may leave where the device held the old one, and that stands for the same home pages.
+abbrev pub TurnsStandAs : ℕ → Image → Image → Type 0
+TurnsStandAs sectors old image = IsTurnKept sectors old (TurnStandsFor (turn_standing old)) image
+
+-- A journal's body holds the first n of these pages.
+abbrev pub HoldsIn : Bool → ℕ → (ℕ → List ℕ) → Image → Type 0
+HoldsIn second n pages image = (j i : ℕ) → j < n → i < 8 → image (turn_body second j + i) ≡ part_of (pages j) i
+
+-- The first n of these homes hold what a journal's body held, but for those that the other list names.
+abbrev pub AreCopiedBut : Bool → List ℕ → List ℕ → ℕ → Image → Image → Type 0
+AreCopiedBut second homes but n old new = (j i : ℕ) → j < n → place_of but (slice_index homes j) ≡ None → i < 8
+    → new (turn_home (slice_index homes j) + i) ≡ old (turn_body second j + i)
+
+-- The image's gate names the journal, and its map the live homes.
+pub record IsNamedFor (journal : TurnJournal) (image : Image) : Type 0 where
+  pub gate : named_in image ≡ journal.second
+  pub count : count_in (turn_map (named_in image) image) ≡ journal.live.count
+  pub long : length (live_homes journal.live) ≡ journal.live.count
+  pub each : (j : ℕ) → j < journal.live.count → home_in (turn_map (named_in image) image) j ≡ slice_index (live_homes journal.live) j
+
+module _ {D : Type 0} (g : Ghosts D) where
+  -- Every image that a stop at some moment from old to new might have left stands for the home pages of old.
+  abbrev pub KeepsTurns : D → D → Type 0
+  KeepsTurns old new = LeavesOnly g old new (TurnsStandAs (g.sector_count old) (g.content old))
+
+  -- What the device holds between two commits of a journal with these live homes: the gate names the journal, whose map is
+  -- good and names them at their places; every other home page stands in its home; and nothing is unsynced but in the other
+  -- journal.
+  pub record IsTurnRest (second : Bool) (live : List ℕ) (d : D) : Type 0 where
+    pub gate : named_in (g.content d) ≡ second
+    pub good : IsBadUnder second (g.sector_count d) (g.content d) → ⊥
+    pub covers : (h j : ℕ) → place_of live h ≡ Some j → place_in second (g.content d) h ≡ Some j
+    pub home : (h i : ℕ) → i < 8 → place_of live h ≡ None → stands_under second (g.content d) h i ≡ g.content d (turn_home h + i)
+    pub synced : (k : ℕ) → g.unsynced d k → IsTurnSector (not second) k
+
+  -- The device is at rest again, and stands for these pages now and after every stop. Outside the gate, the journals and
+  -- the homes it holds this content.
+  pub record IsTurnSettled (sectors : ℕ) (content : Image) (second : Bool) (live : List ℕ) (new : D) (pages : ℕ → ℕ → List ℕ) : Type 0 where
+    pub rest : IsTurnRest second live new
+    pub stands : TurnStandsFor pages (g.content new)
+    pub outside : (k : ℕ) → IsTurnOutside sectors k → g.content new k ≡ content k
+    pub left : LeavesNow g new (IsTurnKept sectors content (TurnStandsFor pages))
