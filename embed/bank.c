@@ -1,9 +1,9 @@
 /* A bank: accounts in file 0, a ledger in file 1. Each transfer changes two accounts' pages and the ledger's, and one
-   fam_commit makes it durable. `bank IMAGE TRACKER run SEED` transfers until it is killed and writes the number of each
+   kefs_commit makes it durable. `bank IMAGE TRACKER run SEED` transfers until it is killed and writes the number of each
    transfer that was acknowledged. `bank IMAGE TRACKER check` tells the ledger's number and whether both files fit: the
    accounts sum to 0, and the ledger's digest is the sum of each account times its place, which half a transfer would
    change. TRACKER is scan, signal, caller or lazy. */
-#include "fam.h"
+#include "kefs.h"
 #include <stdio.h>
 #include <stdlib.h>
 #include <string.h>
@@ -13,7 +13,7 @@ enum { PAGES = 256, PER_PAGE = 512, ACCOUNTS = PAGES * PER_PAGE };
 struct ledger { uint64_t number, from, to, amount; int64_t digest; };
 
 static int failed(const char *call, int result) {
-  fprintf(stderr, "bank: %s: %s: %s\n", call, fam_name(result), fam_strerror(result));
+  fprintf(stderr, "bank: %s: %s: %s\n", call, kefs_name(result), kefs_strerror(result));
   return 1;
 }
 
@@ -25,41 +25,41 @@ static int check(const int64_t *accounts, const struct ledger *ledger) {
 }
 
 /* The stores are named for the one tracker that has to be told of them. */
-static int transfer(fam_image *image, int64_t *accounts, struct ledger *ledger) {
+static int transfer(kefs_image *image, int64_t *accounts, struct ledger *ledger) {
   uint64_t a = (uint64_t)random() % ACCOUNTS, b = (uint64_t)random() % ACCOUNTS, amount = (uint64_t)random() % 1000;
   accounts[a] -= (int64_t)amount;
   accounts[b] += (int64_t)amount;
   ledger->digest += (int64_t)amount * ((int64_t)b - (int64_t)a);
   ledger->number++, ledger->from = a, ledger->to = b, ledger->amount = amount;
-  int result = fam_dirty(image, &accounts[a], sizeof *accounts);
-  if (result == FAM_OK) result = fam_dirty(image, &accounts[b], sizeof *accounts);
-  if (result == FAM_OK) result = fam_dirty(image, ledger, sizeof *ledger);
-  return result == FAM_OK ? fam_commit(image, NULL, 0, NULL) : result;
+  int result = kefs_mark_dirty(image, &accounts[a], sizeof *accounts);
+  if (result == KEFS_OK) result = kefs_mark_dirty(image, &accounts[b], sizeof *accounts);
+  if (result == KEFS_OK) result = kefs_mark_dirty(image, ledger, sizeof *ledger);
+  return result == KEFS_OK ? kefs_commit(image, NULL, 0, NULL) : result;
 }
 
-static int run(fam_image *image, int64_t *accounts, struct ledger *ledger) {
+static int run(kefs_image *image, int64_t *accounts, struct ledger *ledger) {
   for (;;) {
     char line[32];
     int result = transfer(image, accounts, ledger);
-    if (result != FAM_OK) return failed("transfer", result);
+    if (result != KEFS_OK) return failed("transfer", result);
     int n = sprintf(line, "%lu\n", (unsigned long)ledger->number);
     if (write(1, line, (size_t)n) != n) return 1;
   }
 }
 
 static unsigned flags_of(const char *tracker) {
-  return strcmp(tracker, "signal") == 0 ? FAM_TRACK_SIGNAL : strcmp(tracker, "caller") == 0 ? FAM_TRACK_CALLER
-    : strcmp(tracker, "lazy") == 0 ? FAM_TRACK_SCAN | FAM_LAZY : FAM_TRACK_SCAN;
+  return strcmp(tracker, "signal") == 0 ? KEFS_TRACK_SIGNAL : strcmp(tracker, "caller") == 0 ? KEFS_TRACK_CALLER
+    : strcmp(tracker, "lazy") == 0 ? KEFS_TRACK_SCAN | KEFS_LAZY : KEFS_TRACK_SCAN;
 }
 
 int main(int argc, char **argv) {
-  fam_image *image;
+  kefs_image *image;
   void *accounts, *ledger;
   if (argc < 4) return 2;
-  int result = fam_open(&image, argv[1], flags_of(argv[2]));
-  if (result == FAM_OK) result = fam_map(image, 0, NULL, &accounts, NULL);
-  if (result == FAM_OK) result = fam_map(image, 1, NULL, &ledger, NULL);
-  if (result != FAM_OK) return failed(argv[1], result);
+  int result = kefs_open(&image, argv[1], flags_of(argv[2]));
+  if (result == KEFS_OK) result = kefs_map(image, 0, NULL, &accounts, NULL);
+  if (result == KEFS_OK) result = kefs_map(image, 1, NULL, &ledger, NULL);
+  if (result != KEFS_OK) return failed(argv[1], result);
   if (strcmp(argv[3], "check") == 0) return check(accounts, ledger);
   srandom((unsigned)atoi(argv[4]));
   return run(image, accounts, ledger);

@@ -2,15 +2,15 @@
    commit in random order, so that a noisy device is noisy for each. It prints a line for each mode: its name and the quartiles of the
    time of a commit in microseconds.
 
-   fam     fam_commit alone, its stores made before
+   kefs     kefs_commit alone, its stores made before
    calls   the device calls of such a commit alone, from ready buffers: what a plan costs at least
-   stored  the stores and fam_commit; msync: stores to a shared mapping and msync(MS_SYNC), which is not atomic; sqlite: as many rows of
+   stored  the stores and kefs_commit; msync: stores to a shared mapping and msync(MS_SYNC), which is not atomic; sqlite: as many rows of
            a page, with WAL and synchronous=FULL, where the system has libsqlite3
 
-   bench open FOLDER MIB: times of fam_open and fam_map of one file of so many MiB, read whole and FAM_LAZY; then the median time of
-   a commit of one page, and how much memory of the process all that takes. */
+   bench open FOLDER MIB: times of kefs_open and kefs_map of one file of so many MiB, read whole and KEFS_LAZY; then the median time of
+   a commit of one page, fresh and after a store to each 2 MiB, and how much memory of the process all that takes. */
 #define _GNU_SOURCE
-#include "fam.h"
+#include "kefs.h"
 #include <dlfcn.h>
 #include <fcntl.h>
 #include <stdio.h>
@@ -20,16 +20,16 @@
 #include <time.h>
 #include <unistd.h>
 
-enum { PAGES = 1024, PAGE = FAM_PAGE, SECTOR = 512, VALUE = 4000, WARM_UP = 20 };
-enum mode { FAM, CALLS, STORED, MSYNC, SQLITE, MODES };
-static const char *const NAMES[MODES] = {"fam", "calls", "stored", "msync", "sqlite"};
+enum { PAGES = 1024, PAGE = KEFS_PAGE, SECTOR = 512, VALUE = 4000, WARM_UP = 20 };
+enum mode { KEFS, CALLS, STORED, MSYNC, SQLITE, MODES };
+static const char *const NAMES[MODES] = {"kefs", "calls", "stored", "msync", "sqlite"};
 static unsigned char value[PAGE], journal[PAGES * PAGE], homes[PAGES * PAGE];
 static int chosen[PAGES], before[PAGES], count; /* the pages of this commit and of the one before, in their order */
 
 static void die(const char *what) { perror(what), exit(1); }
 
 static void must(int result, const char *what) {
-  if (result != FAM_OK) fprintf(stderr, "bench: %s: %s\n", what, fam_strerror(result)), exit(1);
+  if (result != KEFS_OK) fprintf(stderr, "bench: %s: %s\n", what, kefs_strerror(result)), exit(1);
 }
 
 static double now(void) {
@@ -42,34 +42,34 @@ static void store(unsigned char *at) {
   for (int i = 0; i < count; i++) memcpy(at + chosen[i] * PAGE, value, PAGE);
 }
 
-/* fam */
+/* kefs */
 
-static fam_image *images[MODES];
+static kefs_image *images[MODES];
 static unsigned char *mapped[MODES];
 
-static void open_fam(enum mode mode, const char *path, uint32_t pages, unsigned flags) {
-  struct fam_file file = {pages * PAGE, 0, NULL};
+static void open_kefs(enum mode mode, const char *path, uint32_t pages, unsigned flags) {
+  struct kefs_file file = {pages * PAGE, 0, NULL};
   void *at;
   unlink(path);
-  must(fam_format(path, 0600, &file, 1), path);
-  must(fam_open(&images[mode], path, flags), path);
-  must(fam_map(images[mode], 0, NULL, &at, NULL), path);
+  must(kefs_format(path, 0600, &file, 1), path);
+  must(kefs_open(&images[mode], path, flags), path);
+  must(kefs_map(images[mode], 0, NULL, &at, NULL), path);
   mapped[mode] = at;
 }
 
 /* Each page is written once before, so that the file system has a place for each block. */
-static void settle_fam(enum mode mode) {
-  struct fam_range halves[] = {{mapped[mode], PAGES / 2 * PAGE}, {mapped[mode] + PAGES / 2 * PAGE, PAGES / 2 * PAGE}};
+static void settle_kefs(enum mode mode) {
+  struct kefs_range halves[] = {{mapped[mode], PAGES / 2 * PAGE}, {mapped[mode] + PAGES / 2 * PAGE, PAGES / 2 * PAGE}};
   for (int round = 0; round < 4; round++) {
     for (int i = 0; i < PAGES; i++) mapped[mode][i * PAGE] = (unsigned char)(round + 1);
-    must(fam_commit(images[mode], &halves[round % 2], 1, NULL), "fam_commit");
+    must(kefs_commit(images[mode], &halves[round % 2], 1, NULL), "kefs_commit");
   }
-  must(fam_rollback(images[mode], NULL, 0), "fam_rollback");
+  must(kefs_rollback(images[mode], NULL, 0), "kefs_rollback");
 }
 
-static void commit_fam(enum mode mode) {
-  struct fam_range all = {mapped[mode], PAGES * PAGE};
-  must(fam_commit(images[mode], &all, 1, NULL), "fam_commit");
+static void commit_kefs(enum mode mode) {
+  struct kefs_range all = {mapped[mode], PAGES * PAGE};
+  must(kefs_commit(images[mode], &all, 1, NULL), "kefs_commit");
 }
 
 /* Device calls */
@@ -156,12 +156,12 @@ static void commit_sqlite(void) {
 static unsigned char *shared;
 
 static double timed(enum mode mode) {
-  if (mode == FAM) store(mapped[FAM]);
+  if (mode == KEFS) store(mapped[KEFS]);
   double start = now();
   switch (mode) {
-    case FAM: commit_fam(FAM); break;
+    case KEFS: commit_kefs(KEFS); break;
     case CALLS: make_calls(); break;
-    case STORED: store(mapped[STORED]), commit_fam(STORED); break;
+    case STORED: store(mapped[STORED]), commit_kefs(STORED); break;
     case MSYNC:
       store(shared);
       if (msync(shared, PAGES * PAGE, MS_SYNC) != 0) die("msync");
@@ -193,8 +193,8 @@ static void choose_pages(unsigned long round) {
 
 static void open_all(void) {
   memset(journal, 1, sizeof journal), memset(homes, 2, sizeof homes);
-  open_fam(FAM, "bench.img", PAGES, 0), open_fam(STORED, "bench.stored", PAGES, 0);
-  settle_fam(FAM), settle_fam(STORED);
+  open_kefs(KEFS, "bench.img", PAGES, 0), open_kefs(STORED, "bench.stored", PAGES, 0);
+  settle_kefs(KEFS), settle_kefs(STORED);
   device = new_file("bench.calls", 3 * PAGES), plain = new_file("bench.plain", PAGES);
   shared = mmap(NULL, PAGES * PAGE, PROT_READ | PROT_WRITE, MAP_SHARED, plain, 0);
   if (shared == MAP_FAILED) die("mmap");
@@ -207,7 +207,7 @@ static int time_commits(int commits) {
   for (int m = 0; m < modes; m++) taken[m] = calloc((size_t)commits, sizeof(double));
   srandom(42);
   for (int r = -WARM_UP; r < commits; r++) {
-    int turn[MODES] = {FAM, CALLS, STORED, MSYNC, SQLITE};
+    int turn[MODES] = {KEFS, CALLS, STORED, MSYNC, SQLITE};
     shuffle(turn, modes, modes);
     choose_pages((unsigned long)(r + WARM_UP));
     for (int m = 0; m < modes; m++) {
@@ -234,37 +234,48 @@ static size_t own_memory(void) {
 }
 
 /* The median time of a commit of one page. */
-static double time_commit(fam_image *image, unsigned char *at, size_t length) {
+static double time_commit(kefs_image *image, unsigned char *at, size_t length) {
   enum { COMMITS = 51 };
   double times[COMMITS];
   for (int i = 0; i < COMMITS; i++) {
     unsigned char *page = at + (size_t)random() % (length / PAGE) * PAGE;
     *page = (unsigned char)(i + 1);
-    must(fam_dirty(image, page, 1), "fam_dirty");
+    must(kefs_mark_dirty(image, page, 1), "kefs_mark_dirty");
     double start = now();
-    must(fam_commit(image, NULL, 0, NULL), "fam_commit");
+    must(kefs_commit(image, NULL, 0, NULL), "kefs_commit");
     times[i] = now() - start;
   }
   qsort(times, COMMITS, sizeof(double), by_time);
   return times[COMMITS / 2];
 }
 
+/* Stores to one page of each 2 MiB: the kernel splits a large page at the first store to it. */
+static void wear(kefs_image *image, unsigned char *at, size_t length) {
+  for (size_t offset = 0; offset < length; offset += 2 << 20) {
+    at[offset] = 1;
+    must(kefs_mark_dirty(image, at + offset, 1), "kefs_mark_dirty");
+  }
+  must(kefs_commit(image, NULL, 0, NULL), "kefs_commit");
+}
+
 static void time_opening(const char *name, unsigned flags) {
-  fam_image *image;
+  kefs_image *image;
   void *at;
   size_t length, memory = own_memory();
   double start = now();
-  must(fam_open(&image, "bench.img", flags), name), must(fam_map(image, 0, NULL, &at, &length), name);
-  double opened = now() - start, committed = time_commit(image, at, length);
-  printf("%-12s opened in %.0f us, %zu MiB of memory, a commit of a page %.0f us\n", name, opened, own_memory() - memory, committed);
-  must(fam_close(image), name);
+  must(kefs_open(&image, "bench.img", flags), name), must(kefs_map(image, 0, NULL, &at, &length), name);
+  double opened = now() - start, fresh = time_commit(image, at, length);
+  wear(image, at, length);
+  double worn = time_commit(image, at, length);
+  printf("%-12s opened in %.0f us, %zu MiB of memory, a commit of a page %.0f us, after wear %.0f us\n", name, opened, own_memory() - memory, fresh, worn);
+  must(kefs_close(image), name);
 }
 
 static int time_openings(uint32_t mib) {
-  open_fam(FAM, "bench.img", mib << 8, FAM_LAZY);
-  must(fam_close(images[FAM]), "bench.img");
-  time_opening("scan", FAM_TRACK_SCAN), time_opening("scan, lazy", FAM_TRACK_SCAN | FAM_LAZY);
-  time_opening("caller", FAM_TRACK_CALLER), time_opening("caller, lazy", FAM_TRACK_CALLER | FAM_LAZY);
+  open_kefs(KEFS, "bench.img", mib << 8, KEFS_LAZY);
+  must(kefs_close(images[KEFS]), "bench.img");
+  time_opening("scan", KEFS_TRACK_SCAN), time_opening("scan, lazy", KEFS_TRACK_SCAN | KEFS_LAZY);
+  time_opening("caller", KEFS_TRACK_CALLER), time_opening("caller, lazy", KEFS_TRACK_CALLER | KEFS_LAZY);
   unlink("bench.img");
   return 0;
 }
@@ -273,5 +284,5 @@ int main(int argc, char **argv) {
   if (argc < 4 || chdir(argv[2]) != 0) return 2;
   if (strcmp(argv[1], "open") == 0) return time_openings((uint32_t)atoi(argv[3]));
   count = atoi(argv[3]);
-  return argc < 5 || count < 1 || count > FAM_MOST_PAGES ? 2 : time_commits(atoi(argv[4]));
+  return argc < 5 || count < 1 || count > KEFS_MOST_PAGES ? 2 : time_commits(atoi(argv[4]));
 }

@@ -1,6 +1,6 @@
-/* check FOLDER: tries every call of fam.h on images that it makes in FOLDER, with each tracker that the system has. */
+/* check FOLDER: tries every call of kefs.h on images that it makes in FOLDER, with each tracker that the system has. */
 #define _GNU_SOURCE
-#include "fam.h"
+#include "kefs.h"
 #include <errno.h>
 #include <fcntl.h>
 #include <pthread.h>
@@ -14,7 +14,7 @@
 #include <sys/wait.h>
 #include <unistd.h>
 
-enum { PAGE = FAM_PAGE };
+enum { PAGE = KEFS_PAGE };
 static int checks;
 
 static void check_that(int holds, const char *what, int line) {
@@ -25,23 +25,23 @@ static void check_that(int holds, const char *what, int line) {
 
 static void check_result(int wanted, int result, const char *call, int line) {
   checks++;
-  if (result != wanted) fprintf(stderr, "check.c:%d: %s returned %d (%s: %s)\n", line, call, result, fam_name(result), fam_strerror(result)), exit(1);
+  if (result != wanted) fprintf(stderr, "check.c:%d: %s returned %d (%s: %s)\n", line, call, result, kefs_name(result), kefs_strerror(result)), exit(1);
 }
 #define RETURNS(wanted, call) check_result(wanted, call, #call, __LINE__)
-#define DONE(call) RETURNS(FAM_OK, call)
+#define DONE(call) RETURNS(KEFS_OK, call)
 
 /* What most tests use: an image of three files, 8 pages, a page and a bit, and a read-only page of 'r'. */
-static unsigned flags; /* of the tracker that is tried, and FAM_LAZY */
+static unsigned flags; /* of the tracker that is tried, and KEFS_LAZY */
 static const char *path = "check.img";
-static fam_image *image;
+static kefs_image *image;
 static unsigned char *a, *b;
 
 static void make_image(uint32_t pages) {
   static char r[PAGE];
   memset(r, 'r', sizeof r);
-  struct fam_file files[] = {{PAGE * pages, 0, NULL}, {PAGE + 904, 0, NULL}, {PAGE, FAM_FILE_READ_ONLY, r}, {0, 0, NULL}};
+  struct kefs_file files[] = {{PAGE * pages, 0, NULL}, {PAGE + 904, 0, NULL}, {PAGE, KEFS_FILE_READ_ONLY, r}, {0, 0, NULL}};
   unlink(path);
-  DONE(fam_format(path, 0600, files, 4));
+  DONE(kefs_format(path, 0600, files, 4));
 }
 
 static void write_at(off_t offset, const void *bytes, size_t length) {
@@ -52,17 +52,17 @@ static void write_at(off_t offset, const void *bytes, size_t length) {
 
 static unsigned char *mapped(unsigned file) {
   void *at;
-  DONE(fam_map(image, file, NULL, &at, NULL));
+  DONE(kefs_map(image, file, NULL, &at, NULL));
   return at;
 }
 
 static void open_and_map(void) {
-  DONE(fam_open(&image, path, flags));
+  DONE(kefs_open(&image, path, flags));
   a = mapped(0), b = mapped(1);
 }
 
 static void open_again(void) {
-  DONE(fam_close(image));
+  DONE(kefs_close(image));
   open_and_map();
 }
 
@@ -73,25 +73,25 @@ static void begin(void) {
 
 static void store(unsigned char *at, unsigned char value) {
   *(volatile unsigned char *)at = value;
-  if ((flags & FAM_TRACK_CALLER) != 0) DONE(fam_dirty(image, at, 1));
+  if ((flags & KEFS_TRACK_CALLER) != 0) DONE(kefs_mark_dirty(image, at, 1));
 }
 
 static size_t committed(void) {
   size_t taken = 99;
-  DONE(fam_commit(image, NULL, 0, &taken));
+  DONE(kefs_commit(image, NULL, 0, &taken));
   return taken;
 }
 
 static size_t written(void) {
   size_t pages = 99;
-  DONE(fam_written(image, NULL, 0, &pages));
+  DONE(kefs_count_dirty(image, NULL, 0, &pages));
   return pages;
 }
 
 static int tracks_by(unsigned tracker) {
-  struct fam_stat stat = {.size = sizeof stat};
-  DONE(fam_stat(image, &stat));
-  return strcmp(stat.tracker, tracker == FAM_TRACK_SCAN ? "scan" : tracker == FAM_TRACK_SIGNAL ? "signal" : "caller") == 0;
+  struct kefs_stat stat = {.size = sizeof stat};
+  DONE(kefs_stat(image, &stat));
+  return strcmp(stat.tracker, tracker == KEFS_TRACK_SCAN ? "scan" : tracker == KEFS_TRACK_SIGNAL ? "signal" : "caller") == 0;
 }
 
 /* Commits */
@@ -106,20 +106,20 @@ static void commits_are_durable(void) {
   open_again();
   CHECK(a[0] == 1 && a[7 * PAGE + 5] == 2 && b[PAGE + 903] == 3 && b[PAGE + 904] == 0);
   CHECK(committed() == 0);
-  DONE(fam_close(image));
+  DONE(kefs_close(image));
 }
 
 static void commits_follow_one_another(void) {
   begin();
   for (int i = 1; i <= 50; i++) {
     for (int k = i % 3; k < 8; k += 1 + i % 4) store(a + k * PAGE + i, (unsigned char)(i + k));
-    DONE(fam_msync(image, i % 2 ? NULL : a, i % 2 ? 0 : 8 * PAGE));
+    DONE(kefs_msync(image, i % 2 ? NULL : a, i % 2 ? 0 : 8 * PAGE));
   }
   unsigned char kept[8 * PAGE];
   memcpy(kept, a, sizeof kept);
   open_again();
   CHECK(memcmp(kept, a, sizeof kept) == 0);
-  DONE(fam_close(image));
+  DONE(kefs_close(image));
 }
 
 /* A home is written by the commit after that of its page, when the page in memory may have later stores, which no commit took. */
@@ -128,52 +128,52 @@ static void homes_have_what_was_committed(void) {
   store(a, 1), store(b + PAGE, 2);
   CHECK(committed() == 2);
   store(a, 3), store(b + PAGE, 4), store(a + PAGE, 5);
-  DONE(fam_msync(image, a + PAGE, 1));
+  DONE(kefs_msync(image, a + PAGE, 1));
   CHECK(written() == 2);
   open_again();
   CHECK(a[0] == 1 && b[PAGE] == 2 && a[PAGE] == 5);
-  DONE(fam_close(image));
+  DONE(kefs_close(image));
 }
 
 static void ranges_choose_pages(void) {
   begin();
   for (int k = 0; k < 8; k++) store(a + k * PAGE, 1);
   store(b, 1);
-  struct fam_range ranges[] = {{a + PAGE - 1, 2}, {a + PAGE, 1}, {b + 100, 10}, {a + 5 * PAGE, 0}, {NULL, PAGE}, {a + 7 * PAGE, SIZE_MAX}};
+  struct kefs_range ranges[] = {{a + PAGE - 1, 2}, {a + PAGE, 1}, {b + 100, 10}, {a + 5 * PAGE, 0}, {NULL, PAGE}, {a + 7 * PAGE, SIZE_MAX}};
   size_t pages;
-  DONE(fam_written(image, ranges, 5, &pages));
+  DONE(kefs_count_dirty(image, ranges, 5, &pages));
   CHECK(pages == 3);
-  DONE(fam_commit(image, ranges, 5, &pages));
+  DONE(kefs_commit(image, ranges, 5, &pages));
   CHECK(pages == 3 && written() == 6);
-  DONE(fam_written(image, ranges + 5, 1, &pages));
+  DONE(kefs_count_dirty(image, ranges + 5, 1, &pages));
   CHECK(pages == 1);
-  RETURNS(EINVAL, fam_commit(image, NULL, 1, NULL));
+  RETURNS(EINVAL, kefs_commit(image, NULL, 1, NULL));
   open_again();
   for (int k = 0; k < 8; k++) CHECK(a[k * PAGE] == (k < 2));
   CHECK(b[0] == 1);
-  DONE(fam_close(image));
+  DONE(kefs_close(image));
 }
 
 static void too_many_pages_are_refused_and_not_for_good(void) {
   make_image(1030);
   open_and_map();
   for (int k = 0; k < 1030; k++) store(a + k * PAGE, 1);
-  RETURNS(FAM_TOO_MANY, fam_commit(image, NULL, 0, NULL));
-  CHECK(strstr(fam_errmsg(image), "1023") != NULL && written() == 1030);
-  struct fam_range parts[] = {{a, 1023 * PAGE}, {a + 1023 * PAGE, 7 * PAGE}};
+  RETURNS(KEFS_TOO_MANY, kefs_commit(image, NULL, 0, NULL));
+  CHECK(strstr(kefs_errmsg(image), "1023") != NULL && written() == 1030);
+  struct kefs_range parts[] = {{a, 1023 * PAGE}, {a + 1023 * PAGE, 7 * PAGE}};
   size_t taken;
-  DONE(fam_commit(image, parts, 1, &taken));
+  DONE(kefs_commit(image, parts, 1, &taken));
   CHECK(taken == 1023);
-  DONE(fam_commit(image, parts + 1, 1, &taken));
+  DONE(kefs_commit(image, parts + 1, 1, &taken));
   CHECK(taken == 7);
   for (int k = 0; k < 1030; k++) store(a + k * PAGE, 2);
-  RETURNS(FAM_TOO_MANY, fam_commit(image, NULL, 0, NULL));
-  DONE(fam_rollback(image, NULL, 0));
+  RETURNS(KEFS_TOO_MANY, kefs_commit(image, NULL, 0, NULL));
+  DONE(kefs_rollback(image, NULL, 0));
   store(a + 3 * PAGE, 3);
   CHECK(committed() == 1);
   open_again();
   for (int k = 0; k < 1030; k++) CHECK(a[k * PAGE] == (k == 3 ? 3 : 1));
-  DONE(fam_close(image));
+  DONE(kefs_close(image));
 }
 
 static void a_roll_back_shows_what_is_durable(void) {
@@ -185,17 +185,17 @@ static void a_roll_back_shows_what_is_durable(void) {
   CHECK(committed() == 1);
   for (int k = 0; k < 8; k++) store(a + k * PAGE, 3);
   store(b + PAGE + 10, 3), store(b + PAGE + 904, 3);
-  struct fam_range first = {a, 2 * PAGE};
-  DONE(fam_rollback(image, &first, 1));
+  struct kefs_range first = {a, 2 * PAGE};
+  DONE(kefs_rollback(image, &first, 1));
   CHECK(a[0] == 2 && a[PAGE] == 1 && a[2 * PAGE] == 3 && written() == 7);
-  DONE(fam_rollback(image, NULL, 0));
+  DONE(kefs_rollback(image, NULL, 0));
   for (int k = 1; k < 8; k++) CHECK(a[k * PAGE] == 1);
   CHECK(b[PAGE] == 1 && b[PAGE + 10] == 0 && b[PAGE + 904] == 0 && written() == 0 && committed() == 0);
   store(a + PAGE, 4);
   CHECK(committed() == 1);
   open_again();
   CHECK(a[0] == 2 && a[PAGE] == 4 && a[2 * PAGE] == 1);
-  DONE(fam_close(image));
+  DONE(kefs_close(image));
 }
 
 /* Mapping */
@@ -204,25 +204,25 @@ static void a_mapping_has_its_file(void) {
   void *at, *there = mmap(NULL, 16 * PAGE, PROT_NONE, MAP_PRIVATE | MAP_ANONYMOUS, -1, 0);
   size_t length = 1;
   begin();
-  DONE(fam_length(image, 1, &length));
+  DONE(kefs_length(image, 1, &length));
   CHECK(length == PAGE + 904);
-  RETURNS(FAM_NO_FILE, fam_map(image, 4, NULL, &at, NULL));
-  RETURNS(FAM_NO_FILE, fam_length(image, 64, &length));
-  DONE(fam_map(image, 3, NULL, &at, &length));
+  RETURNS(KEFS_NO_FILE, kefs_map(image, 4, NULL, &at, NULL));
+  RETURNS(KEFS_NO_FILE, kefs_length(image, 64, &length));
+  DONE(kefs_map(image, 3, NULL, &at, &length));
   CHECK(at == NULL && length == 0);
-  DONE(fam_map(image, 0, a, &at, &length));
+  DONE(kefs_map(image, 0, a, &at, &length));
   CHECK(at == a && length == 8 * PAGE);
-  RETURNS(EEXIST, fam_map(image, 0, a + PAGE, &at, &length));
-  RETURNS(EINVAL, fam_map(image, 2, a + 1, &at, NULL));
-  RETURNS(EEXIST, fam_map(image, 2, there, &at, NULL));
+  RETURNS(EEXIST, kefs_map(image, 0, a + PAGE, &at, &length));
+  RETURNS(EINVAL, kefs_map(image, 2, a + 1, &at, NULL));
+  RETURNS(EEXIST, kefs_map(image, 2, there, &at, NULL));
   munmap(there, 16 * PAGE);
-  DONE(fam_map(image, 2, there, &at, NULL));
+  DONE(kefs_map(image, 2, there, &at, NULL));
   CHECK(at == there && *(unsigned char *)at == 'r' && ((unsigned char *)at)[PAGE - 1] == 'r');
-  RETURNS(FAM_READ_ONLY, fam_dirty(image, at, 1));
-  DONE(fam_unmap(image, 2));
-  RETURNS(FAM_NO_FILE, fam_unmap(image, 2));
-  DONE(fam_close(image));
-  DONE(fam_close(NULL));
+  RETURNS(KEFS_READ_ONLY, kefs_mark_dirty(image, at, 1));
+  DONE(kefs_unmap(image, 2));
+  RETURNS(KEFS_NO_FILE, kefs_unmap(image, 2));
+  DONE(kefs_close(image));
+  DONE(kefs_close(NULL));
 }
 
 static void a_new_mapping_reads_the_open_journal(void) {
@@ -232,11 +232,11 @@ static void a_new_mapping_reads_the_open_journal(void) {
   store(a + 2 * PAGE, 2), store(b + PAGE, 2);
   CHECK(committed() == 2);
   store(a, 9);
-  DONE(fam_unmap(image, 0));
+  DONE(kefs_unmap(image, 0));
   a = mapped(0);
   for (int k = 0; k < 8; k++) CHECK(a[k * PAGE] == (k == 2 ? 2 : 1));
   CHECK(b[PAGE] == 2 && written() == 0);
-  DONE(fam_close(image));
+  DONE(kefs_close(image));
 }
 
 /* The format leaves open what the home of a last page holds past the file's end. */
@@ -248,21 +248,21 @@ static void bytes_past_the_end_read_as_zeros(void) {
   open_and_map();
   CHECK(b[PAGE + 903] == 'g' && b[PAGE + 904] == 0 && b[2 * PAGE - 1] == 0);
   store(b + PAGE + 904, 1);
-  DONE(fam_rollback(image, NULL, 0));
+  DONE(kefs_rollback(image, NULL, 0));
   CHECK(b[PAGE + 903] == 'g' && b[PAGE + 904] == 0 && committed() == 0);
-  DONE(fam_close(image));
+  DONE(kefs_close(image));
 }
 
 static void bytes_outside_of_mappings_are_refused(void) {
   begin();
-  RETURNS(FAM_BAD_RANGE, fam_dirty(image, &checks, 1));
-  RETURNS(FAM_BAD_RANGE, fam_dirty(image, a + 7 * PAGE, PAGE + 1));
-  RETURNS(FAM_BAD_RANGE, fam_touch(image, a, SIZE_MAX));
-  DONE(fam_dirty(image, a + 7 * PAGE, PAGE));
-  DONE(fam_dirty(image, a, 0));
-  DONE(fam_touch(image, a, 8 * PAGE));
+  RETURNS(KEFS_BAD_RANGE, kefs_mark_dirty(image, &checks, 1));
+  RETURNS(KEFS_BAD_RANGE, kefs_mark_dirty(image, a + 7 * PAGE, PAGE + 1));
+  RETURNS(KEFS_BAD_RANGE, kefs_touch(image, a, SIZE_MAX));
+  DONE(kefs_mark_dirty(image, a + 7 * PAGE, PAGE));
+  DONE(kefs_mark_dirty(image, a, 0));
+  DONE(kefs_touch(image, a, 8 * PAGE));
   CHECK(written() == 1);
-  DONE(fam_close(image));
+  DONE(kefs_close(image));
 }
 
 static void system_calls_reach_mapped_memory(void) {
@@ -270,17 +270,17 @@ static void system_calls_reach_mapped_memory(void) {
   begin();
   CHECK(pipe(pipes) == 0 && write(pipes[1], "abcdefgh", 8) == 8);
   ssize_t stored = read(pipes[0], a + 3 * PAGE, 2);
-  if (tracks_by(FAM_TRACK_SIGNAL) || (flags & FAM_LAZY) != 0) CHECK(stored == -1 && errno == EFAULT);
-  if (tracks_by(FAM_TRACK_SIGNAL) || tracks_by(FAM_TRACK_CALLER)) DONE(fam_dirty(image, a + 3 * PAGE, 6));
-  DONE(fam_touch(image, a + 3 * PAGE, 2));
+  if (tracks_by(KEFS_TRACK_SIGNAL) || (flags & KEFS_LAZY) != 0) CHECK(stored == -1 && errno == EFAULT);
+  if (tracks_by(KEFS_TRACK_SIGNAL) || tracks_by(KEFS_TRACK_CALLER)) DONE(kefs_mark_dirty(image, a + 3 * PAGE, 6));
+  DONE(kefs_touch(image, a + 3 * PAGE, 2));
   if (stored < 0) stored = read(pipes[0], a + 3 * PAGE, 2);
   CHECK(stored == 2 && memcmp(a + 3 * PAGE, "ab", 2) == 0 && committed() == 1);
-  if ((flags & FAM_LAZY) != 0) CHECK(write(pipes[1], b, 2) == -1 && errno == EFAULT);
-  DONE(fam_touch(image, b, 2));
+  if ((flags & KEFS_LAZY) != 0) CHECK(write(pipes[1], b, 2) == -1 && errno == EFAULT);
+  DONE(kefs_touch(image, b, 2));
   CHECK(write(pipes[1], b, 2) == 2 && written() == 0);
   open_again();
   CHECK(memcmp(a + 3 * PAGE, "ab", 2) == 0);
-  DONE(fam_close(image));
+  DONE(kefs_close(image));
   close(pipes[0]), close(pipes[1]);
 }
 
@@ -289,29 +289,29 @@ static void system_calls_reach_mapped_memory(void) {
 static void two_images_are_apart(void) {
   const char *first = path;
   begin();
-  fam_image *kept = image;
+  kefs_image *kept = image;
   unsigned char *kept_a = a;
   path = "other.img";
   begin();
   store(a, 7);
   CHECK(written() == 1);
-  fam_image *other = image;
+  kefs_image *other = image;
   image = kept;
   store(kept_a, 6);
   size_t pages;
-  DONE(fam_commit(kept, NULL, 0, &pages));
+  DONE(kefs_commit(kept, NULL, 0, &pages));
   CHECK(pages == 1);
-  RETURNS(FAM_BAD_RANGE, fam_dirty(kept, a, 1));
-  DONE(fam_close(kept));
+  RETURNS(KEFS_BAD_RANGE, kefs_mark_dirty(kept, a, 1));
+  DONE(kefs_close(kept));
   image = other;
   CHECK(committed() == 1);
   open_again();
   CHECK(a[0] == 7);
-  DONE(fam_close(image));
+  DONE(kefs_close(image));
   path = first;
   open_and_map();
   CHECK(a[0] == 6);
-  DONE(fam_close(image));
+  DONE(kefs_close(image));
 }
 
 static size_t resident(void) {
@@ -326,27 +326,27 @@ static void readers_stand_beside_each_other(void) {
   begin();
   store(a, 1), store(b + PAGE, 2);
   CHECK(committed() == 2);
-  fam_image *other;
-  RETURNS(FAM_BUSY, fam_open(&other, path, FAM_NOWAIT | FAM_RDONLY));
-  DONE(fam_close(image)); /* with an open journal */
-  unsigned lazy = flags & FAM_LAZY;
-  DONE(fam_open(&image, path, FAM_RDONLY | lazy));
-  DONE(fam_open(&other, path, FAM_RDONLY | FAM_NOWAIT | lazy));
+  kefs_image *other;
+  RETURNS(KEFS_BUSY, kefs_open(&other, path, KEFS_NOWAIT | KEFS_RDONLY));
+  DONE(kefs_close(image)); /* with an open journal */
+  unsigned lazy = flags & KEFS_LAZY;
+  DONE(kefs_open(&image, path, KEFS_RDONLY | lazy));
+  DONE(kefs_open(&other, path, KEFS_RDONLY | KEFS_NOWAIT | lazy));
   a = mapped(0), b = mapped(1);
   CHECK(a[0] == 1 && a[PAGE] == 0 && b[PAGE] == 2 && mapped(2)[5] == 'r');
-  RETURNS(FAM_READ_ONLY, fam_commit(image, NULL, 0, NULL));
-  RETURNS(FAM_READ_ONLY, fam_dirty(image, a, 1));
-  struct fam_stat stat = {.size = sizeof stat};
-  DONE(fam_stat(other, &stat));
+  RETURNS(KEFS_READ_ONLY, kefs_commit(image, NULL, 0, NULL));
+  RETURNS(KEFS_READ_ONLY, kefs_mark_dirty(image, a, 1));
+  struct kefs_stat stat = {.size = sizeof stat};
+  DONE(kefs_stat(other, &stat));
   CHECK(strcmp(stat.tracker, "none") == 0 && stat.recovered == 0 && stat.written_bytes == 0);
-  DONE(fam_close(other));
-  RETURNS(FAM_BUSY, fam_open(&other, path, FAM_NOWAIT));
+  DONE(kefs_close(other));
+  RETURNS(KEFS_BUSY, kefs_open(&other, path, KEFS_NOWAIT));
   CHECK(other == NULL);
-  DONE(fam_close(image));
-  DONE(fam_open(&image, path, 0));
-  DONE(fam_stat(image, &stat));
+  DONE(kefs_close(image));
+  DONE(kefs_open(&image, path, 0));
+  DONE(kefs_stat(image, &stat));
   CHECK(stat.recovered == 2 && stat.written_bytes == 2 * PAGE + 512 && stat.syncs == 2);
-  DONE(fam_close(image));
+  DONE(kefs_close(image));
 }
 
 static sigjmp_buf elsewhere;
@@ -357,19 +357,28 @@ static void on_other_fault(int number) {
   siglongjmp(elsewhere, 1);
 }
 
-/* The memory is not a child's, and each call is refused there; none takes the parent's marks. */
-static int in_child(void) {
+/* ThreadSanitizer maps memory of its own in a child, where nothing is. */
+#ifdef __SANITIZE_THREAD__
+static int is_mapped_in_child(void) { return 0; }
+#else
+static int is_mapped_in_child(void) {
   seen = 0;
   if (sigsetjmp(elsewhere, 1) == 0) return *(volatile unsigned char *)a == 1 ? 2 : 3;
-  if (seen != SIGSEGV) return 4;
+  return seen != SIGSEGV;
+}
+#endif
+
+/* The memory is not a child's, and each call is refused there; none takes the parent's marks. */
+static int in_child(void) {
+  if (is_mapped_in_child() != 0) return 4;
   size_t n;
   void *at;
-  struct fam_stat stat = {.size = sizeof stat};
-  struct fam_range all = {a, 1};
-  int refused = fam_commit(image, NULL, 0, NULL) == FAM_FORKED && fam_msync(image, a, 1) == FAM_FORKED && fam_written(image, &all, 1, &n) == FAM_FORKED
-    && fam_rollback(image, NULL, 0) == FAM_FORKED && fam_dirty(image, a, 1) == FAM_FORKED && fam_touch(image, a, 1) == FAM_FORKED
-    && fam_map(image, 0, NULL, &at, NULL) == FAM_FORKED && fam_unmap(image, 0) == FAM_FORKED && fam_length(image, 0, &n) == FAM_FORKED
-    && fam_stat(image, &stat) == FAM_FORKED;
+  struct kefs_stat stat = {.size = sizeof stat};
+  struct kefs_range all = {a, 1};
+  int refused = kefs_commit(image, NULL, 0, NULL) == KEFS_FORKED && kefs_msync(image, a, 1) == KEFS_FORKED && kefs_count_dirty(image, &all, 1, &n) == KEFS_FORKED
+    && kefs_rollback(image, NULL, 0) == KEFS_FORKED && kefs_mark_dirty(image, a, 1) == KEFS_FORKED && kefs_touch(image, a, 1) == KEFS_FORKED
+    && kefs_map(image, 0, NULL, &at, NULL) == KEFS_FORKED && kefs_unmap(image, 0) == KEFS_FORKED && kefs_length(image, 0, &n) == KEFS_FORKED
+    && kefs_stat(image, &stat) == KEFS_FORKED;
   return refused ? 0 : 1;
 }
 
@@ -391,7 +400,7 @@ static void a_child_takes_nothing_from_its_parent(void) {
   CHECK(committed() == 1);
   open_again();
   CHECK(a[0] == 2);
-  DONE(fam_close(image));
+  DONE(kefs_close(image));
   close(to_child[0]), close(to_child[1]);
 }
 
@@ -403,35 +412,35 @@ static void a_child_has_images_of_its_own(void) {
   CHECK(pipe(to_child) == 0);
   pid_t child = fork();
   if (child == 0) {
-    fam_image *inherited = image;
+    kefs_image *inherited = image;
     if (read(to_child[0], &c, 1) != 1) _exit(2);
     open_and_map();
     store(a, 8);
-    if (committed() != 1 || fam_commit(inherited, NULL, 0, NULL) != FAM_FORKED || fam_close(inherited) != FAM_FORKED) _exit(3);
-    _exit(fam_close(image) == FAM_OK ? 0 : 4);
+    if (committed() != 1 || kefs_commit(inherited, NULL, 0, NULL) != KEFS_FORKED || kefs_close(inherited) != KEFS_FORKED) _exit(3);
+    _exit(kefs_close(image) == KEFS_OK ? 0 : 4);
   }
-  DONE(fam_close(image));
-  DONE(fam_open(&image, path, flags | FAM_NOWAIT));
-  DONE(fam_close(image));
+  DONE(kefs_close(image));
+  DONE(kefs_open(&image, path, flags | KEFS_NOWAIT));
+  DONE(kefs_close(image));
   CHECK(write(to_child[1], "x", 1) == 1 && status_of(child) == 0);
   open_and_map();
   CHECK(a[0] == 8);
-  DONE(fam_close(image));
+  DONE(kefs_close(image));
   close(to_child[0]), close(to_child[1]);
 }
 
 /* Threads */
 
 enum { STORED_PAGES = 64 };
-static volatile int stored_all;
+static int stored_all;
 
 static void *store_on(void *rounds) {
   for (unsigned long n = 1; n < (unsigned long)(uintptr_t)rounds; n++) {
     unsigned char *at = a + n % STORED_PAGES * PAGE;
     *(volatile unsigned long *)at = n;
-    if ((flags & FAM_TRACK_CALLER) != 0) fam_dirty(image, at, sizeof n);
+    if ((flags & KEFS_TRACK_CALLER) != 0) kefs_mark_dirty(image, at, sizeof n);
   }
-  stored_all = 1;
+  __atomic_store_n(&stored_all, 1, __ATOMIC_SEQ_CST);
   return NULL;
 }
 
@@ -443,13 +452,13 @@ static void stores_during_commits_are_not_lost(void) {
     open_and_map();
     stored_all = 0;
     CHECK(pthread_create(&thread, NULL, store_on, (void *)(uintptr_t)(20000 + 7919 * round)) == 0);
-    while (!stored_all) DONE(fam_commit(image, NULL, 0, NULL));
+    while (!__atomic_load_n(&stored_all, __ATOMIC_SEQ_CST)) DONE(kefs_commit(image, NULL, 0, NULL));
     pthread_join(thread, NULL);
     committed();
     memcpy(kept, a, sizeof kept);
     open_again();
     for (int k = 0; k < STORED_PAGES; k++) CHECK(memcmp(kept + k * PAGE, a + k * PAGE, PAGE) == 0);
-    DONE(fam_close(image));
+    DONE(kefs_close(image));
   }
 }
 
@@ -470,7 +479,7 @@ static void other_faults_are_passed_on(void) {
   if (sigsetjmp(elsewhere, 1) == 0) *(volatile unsigned char *)mapped(2) = 1;
   CHECK(seen == SIGSEGV);
   munmap(closed, PAGE);
-  DONE(fam_close(image));
+  DONE(kefs_close(image));
 }
 
 static void a_failing_device_halts(void) {
@@ -482,36 +491,36 @@ static void a_failing_device_halts(void) {
   CHECK(getrlimit(RLIMIT_FSIZE, &kept) == 0);
   small.rlim_max = kept.rlim_max;
   CHECK(setrlimit(RLIMIT_FSIZE, &small) == 0);
-  RETURNS(FAM_DEVICE, fam_commit(image, NULL, 0, NULL));
+  RETURNS(KEFS_DEVICE, kefs_commit(image, NULL, 0, NULL));
   CHECK(setrlimit(RLIMIT_FSIZE, &kept) == 0);
-  CHECK(strstr(fam_errmsg(image), "pwrite of 4096 bytes at sector 8195") != NULL);
-  RETURNS(FAM_HALTED, fam_commit(image, NULL, 0, NULL));
-  RETURNS(FAM_HALTED, fam_rollback(image, NULL, 0));
+  CHECK(strstr(kefs_errmsg(image), "pwrite of 4096 bytes at sector 8195") != NULL);
+  RETURNS(KEFS_HALTED, kefs_commit(image, NULL, 0, NULL));
+  RETURNS(KEFS_HALTED, kefs_rollback(image, NULL, 0));
   open_again();
   CHECK(a[0] == 1 && a[PAGE] == 0);
-  DONE(fam_close(image));
+  DONE(kefs_close(image));
 }
 
 static void pages_are_read_late(void) {
   enum { PAGES = 16384 };
-  if ((flags & FAM_LAZY) == 0) return;
+  if ((flags & KEFS_LAZY) == 0) return;
   make_image(PAGES);
-  DONE(fam_open(&image, path, flags));
+  DONE(kefs_open(&image, path, flags));
   size_t before = resident();
   a = mapped(0);
   CHECK(a[0] == 0 && a[(PAGES - 1) * PAGE] == 0 && resident() - before < PAGES / 16);
-  struct fam_stat stat = {.size = sizeof stat};
-  DONE(fam_stat(image, &stat));
+  struct kefs_stat stat = {.size = sizeof stat};
+  DONE(kefs_stat(image, &stat));
   CHECK(stat.lazy == 1);
   store(a + 5000 * PAGE, 1), store(a + 5001 * PAGE, 1);
   CHECK(committed() == 2);
   for (int k = 4990; k < 5010; k++) CHECK(a[k * PAGE] == (k == 5000 || k == 5001));
   store(a + 5002 * PAGE, 1);
-  DONE(fam_rollback(image, NULL, 0));
+  DONE(kefs_rollback(image, NULL, 0));
   CHECK(a[5002 * PAGE] == 0 && committed() == 0);
   open_again();
   for (int k = 4990; k < 5010; k++) CHECK(a[k * PAGE] == (k == 5000 || k == 5001));
-  DONE(fam_close(image));
+  DONE(kefs_close(image));
 }
 
 /* What no tracker changes */
@@ -519,15 +528,19 @@ static void pages_are_read_late(void) {
 static void what_is_no_image_is_refused(void) {
   static const char *const name = "none.img";
   unlink(name);
-  RETURNS(ENOENT, fam_open(&image, name, 0));
+  RETURNS(ENOENT, kefs_open(&image, name, 0));
   int fd = open(name, O_RDWR | O_CREAT, 0600);
-  RETURNS(FAM_NOT_IMAGE, fam_open(&image, name, 0));
+  RETURNS(KEFS_NOT_IMAGE, kefs_open(&image, name, 0));
   for (int i = 0; i < 9000; i++) CHECK(write(fd, "no image", 8) == 8);
-  RETURNS(FAM_NOT_IMAGE, fam_open(&image, name, 0));
-  RETURNS(FAM_NOT_IMAGE, fam_open(&image, ".", FAM_RDONLY));
+  RETURNS(KEFS_NOT_IMAGE, kefs_open(&image, name, 0));
+  for (int i = 0; i < 64; i++) CHECK(pwrite(fd, "FAMSYNC3", 8, 8 * i) == 8);
+  RETURNS(KEFS_NOT_IMAGE, kefs_open(&image, name, 0));
+  CHECK(strstr(kefs_errmsg(NULL), "layout 3") != NULL);
+  RETURNS(KEFS_NOT_IMAGE, kefs_open(&image, ".", KEFS_RDONLY));
   CHECK(image == NULL);
-  RETURNS(EINVAL, fam_open(&image, path, 64));
-  RETURNS(EINVAL, fam_open(&image, path, FAM_TRACK_SCAN | FAM_TRACK_CALLER));
+  RETURNS(EINVAL, kefs_open(&image, path, 128));
+  RETURNS(EINVAL, kefs_open(&image, path, KEFS_CREATE));
+  RETURNS(EINVAL, kefs_open(&image, path, KEFS_TRACK_SCAN | KEFS_TRACK_CALLER));
   close(fd);
 }
 
@@ -537,37 +550,37 @@ static void a_bad_journal_is_refused(void) {
   make_image(8);
   write_at(1024, gate, sizeof gate);
   write_at(1536, "\377\377\0\0", 4);
-  RETURNS(FAM_BAD_JOURNAL, fam_open(&image, path, 0));
-  RETURNS(FAM_BAD_JOURNAL, fam_open(&image, path, FAM_RDONLY));
+  RETURNS(KEFS_BAD_JOURNAL, kefs_open(&image, path, 0));
+  RETURNS(KEFS_BAD_JOURNAL, kefs_open(&image, path, KEFS_RDONLY));
 }
 
 static void bad_files_are_not_formatted(void) {
-  struct fam_file files[65] = {{1, 0, NULL}};
+  struct kefs_file files[65] = {{1, 0, NULL}};
   unlink(path);
-  RETURNS(EINVAL, fam_format(path, 0600, files, 65));
-  files[0].flags = 2;
-  RETURNS(EINVAL, fam_format(path, 0600, files, 1));
+  RETURNS(EINVAL, kefs_format(path, 0600, files, 65));
+  files[0].flags = 4;
+  RETURNS(EINVAL, kefs_format(path, 0600, files, 1));
   CHECK(access(path, F_OK) != 0);
   files[0].flags = 0;
-  DONE(fam_format(path, 0600, files, 64));
-  RETURNS(EEXIST, fam_format(path, 0600, files, 1));
-  RETURNS(ENOENT, fam_format("no/such", 0600, files, 1));
+  DONE(kefs_format(path, 0600, files, 64));
+  RETURNS(EEXIST, kefs_format(path, 0600, files, 1));
+  RETURNS(ENOENT, kefs_format("no/such", 0600, files, 1));
 }
 
 static void results_have_words(void) {
-  CHECK(fam_version() == FAM_VERSION_NUMBER);
-  CHECK(strcmp(fam_name(FAM_OK), "FAM_OK") == 0 && strcmp(fam_name(EIO), "errno") == 0 && strcmp(fam_name(-5), "unknown") == 0);
-  for (int result = FAM_FORKED; result <= FAM_NOT_IMAGE; result++)
-    CHECK(strncmp(fam_name(result), "FAM_", 4) == 0 && strcmp(fam_strerror(result), "unknown result") != 0);
-  CHECK(strcmp(fam_strerror(EBUSY), "Device or resource busy") == 0 && strcmp(fam_strerror(99999), "unknown errno value") == 0);
+  CHECK(kefs_version() == KEFS_VERSION_NUMBER);
+  CHECK(strcmp(kefs_name(KEFS_OK), "KEFS_OK") == 0 && strcmp(kefs_name(EIO), "errno") == 0 && strcmp(kefs_name(-5), "unknown") == 0);
+  for (int result = KEFS_FORKED; result <= KEFS_NOT_IMAGE; result++)
+    CHECK(strncmp(kefs_name(result), "KEFS_", 4) == 0 && strcmp(kefs_strerror(result), "unknown result") != 0);
+  CHECK(strcmp(kefs_strerror(EBUSY), "Device or resource busy") == 0 && strcmp(kefs_strerror(99999), "unknown errno value") == 0);
   begin();
-  CHECK(strcmp(fam_errmsg(image), "") == 0);
-  struct fam_stat stat = {.size = 8};
-  RETURNS(EINVAL, fam_stat(image, &stat));
+  CHECK(strcmp(kefs_errmsg(image), "") == 0);
+  struct kefs_stat stat = {.size = 8};
+  RETURNS(EINVAL, kefs_stat(image, &stat));
   stat.size = sizeof stat;
-  DONE(fam_stat(image, &stat));
+  DONE(kefs_stat(image, &stat));
   CHECK(stat.files == 4 && stat.pages == 11 && stat.most_pages == 1023);
-  DONE(fam_close(image));
+  DONE(kefs_close(image));
 }
 
 static void (*const with_each_tracker[])(void) = {
@@ -581,21 +594,21 @@ static void (*const once[])(void) = {what_is_no_image_is_refused, a_bad_journal_
 
 int main(int argc, char **argv) {
   static const struct { unsigned flags; const char *name; } trackers[] = {
-    {FAM_TRACK_SCAN, "scan"}, {FAM_TRACK_SIGNAL, "signal"}, {FAM_TRACK_CALLER, "caller"},
-    {FAM_TRACK_SCAN | FAM_LAZY, "scan, lazy"}, {FAM_TRACK_CALLER | FAM_LAZY, "caller, lazy"}};
+    {KEFS_TRACK_SCAN, "scan"}, {KEFS_TRACK_SIGNAL, "signal"}, {KEFS_TRACK_CALLER, "caller"},
+    {KEFS_TRACK_SCAN | KEFS_LAZY, "scan, lazy"}, {KEFS_TRACK_CALLER | KEFS_LAZY, "caller, lazy"}};
   if (argc != 2 || chdir(argv[1]) != 0) return 2;
   signal(SIGSEGV, on_other_fault), signal(SIGXFSZ, SIG_IGN);
   for (size_t i = 0; i < sizeof once / sizeof *once; i++) once[i]();
   for (size_t t = 0; t < sizeof trackers / sizeof *trackers; t++) {
     flags = trackers[t].flags;
     make_image(8);
-    if (fam_open(&image, path, flags) == FAM_NO_TRACKER) {
+    if (kefs_open(&image, path, flags) == KEFS_NO_TRACKER) {
       printf("check: tracker %s: the system has none\n", trackers[t].name);
       continue;
     }
-    DONE(fam_close(image));
+    DONE(kefs_close(image));
     for (size_t i = 0; i < sizeof with_each_tracker / sizeof *with_each_tracker; i++) with_each_tracker[i]();
-    printf("check: tracker %s: passed\n", trackers[t].name);
+    printf("check: tracker %s: passed\n", trackers[t].name), fflush(stdout);
   }
   printf("check: %d checks passed\n", checks);
   return 0;

@@ -3,16 +3,16 @@
 #include <errno.h>
 #include <string.h>
 
-/* The pages of the mapped files that belong to some ranges, or all pages where there are none: one range of one file after the
+/* The pages of the mapped files that belong to some ranges, or all pages where `ranges` is NULL: one range of one file after the
    other. */
-struct spans { struct fam_image *image; const struct fam_range *ranges; size_t count, range; unsigned file; };
+struct spans { struct kefs_image *image; const struct kefs_range *ranges; size_t count, range; unsigned file; };
 
-static struct spans spans_of(struct fam_image *image, const struct fam_range *ranges, size_t count) {
+static struct spans spans_of(struct kefs_image *image, const struct kefs_range *ranges, size_t count) {
   return (struct spans){image, ranges, count, 0, 0};
 }
 
 /* The pages of a mapped file that have a byte of a range: none where `first` is `end`. */
-static struct span span_of(struct mapping *mapping, const struct fam_range *range) {
+static struct span span_of(struct mapping *mapping, const struct kefs_range *range) {
   uintptr_t start = (uintptr_t)mapping->at, end = start + mapping->pages * PAGE;
   uintptr_t from = (uintptr_t)range->at, to = range->length > UINTPTR_MAX - from ? UINTPTR_MAX : from + range->length;
   if (from < start) from = start;
@@ -22,13 +22,13 @@ static struct span span_of(struct mapping *mapping, const struct fam_range *rang
 }
 
 static int next_span(struct spans *it, struct span *span) {
-  static const struct fam_range everything = {NULL, SIZE_MAX};
-  size_t ranges = it->count == 0 ? 1 : it->count;
+  static const struct kefs_range everything = {NULL, SIZE_MAX};
+  size_t ranges = it->ranges == NULL ? 1 : it->count;
   for (; it->range < ranges; it->range++, it->file = 0) {
-    while (it->file < FAM_FILES) {
+    while (it->file < KEFS_FILES) {
       struct mapping *mapping = &it->image->mappings[it->file++];
       if (mapping->at == NULL || mapping->file.read_only) continue;
-      *span = span_of(mapping, it->count == 0 ? &everything : &it->ranges[it->range]);
+      *span = span_of(mapping, it->ranges == NULL ? &everything : &it->ranges[it->range]);
       if (span->first < span->end) return 1;
     }
   }
@@ -46,92 +46,131 @@ static size_t next_marked(const struct mapping *mapping, size_t k, size_t end) {
   return end;
 }
 
-/* Takes a page that is written, where it was not taken before. */
+/* Takes a page that is dirty, where it was not taken before. */
 static int take_page(struct mapping *mapping, size_t k) {
-  unsigned char written = WRITTEN;
-  return __atomic_compare_exchange_n(&mapping->marks[k], &written, TAKEN, 0, __ATOMIC_SEQ_CST, __ATOMIC_SEQ_CST);
+  unsigned char wanted = DIRTY;
+  return __atomic_compare_exchange_n(&mapping->marks[k], &wanted, TAKEN, 0, __ATOMIC_SEQ_CST, __ATOMIC_SEQ_CST);
 }
 
-/* What was stored to since it was taken has WRITTEN too, and keeps it. */
+/* What was stored to since it was taken has DIRTY too, and keeps it. */
 static void let_go(struct mapping *mapping, size_t k, int done) {
-  if (!done) add_mark(&mapping->marks[k], WRITTEN);
+  if (!done) add_mark(&mapping->marks[k], DIRTY);
   drop_mark(&mapping->marks[k], TAKEN);
 }
 
-static void let_all_go(struct fam_image *image, int done) {
+void let_all_go(struct kefs_image *image, int done) {
+  if (done && image->taken > 0) image->stat.commits++, image->stat.committed_pages += image->taken, note_homes(image);
   for (size_t i = 0; i < image->taken; i++) let_go(&image->mappings[image->pages[i].file], image->pages[i].page, done);
   image->taken = 0;
 }
 
-/* Puts the written pages of a span into the commit. */
-static int take_span(struct fam_image *image, const struct span *span) {
+/* Puts the dirty pages of a span into the commit. */
+static int take_span(struct kefs_image *image, const struct span *span) {
   struct mapping *mapping = span->mapping;
   for (size_t k = next_marked(mapping, span->first, span->end); k < span->end; k = next_marked(mapping, k + 1, span->end)) {
     if (!take_page(mapping, k)) continue;
-    if (image->taken == FAM_MOST_PAGES) {
+    if (image->taken == KEFS_MOST_PAGES) {
       let_go(mapping, k, 0);
-      return fail(image, FAM_TOO_MANY, "over %d pages are written", FAM_MOST_PAGES);
+      return fail(image, KEFS_TOO_MANY, "over %d pages are dirty", KEFS_MOST_PAGES);
     }
     image->pages[image->taken] = (struct famsync_page){(uint8_t)(mapping - image->mappings), (uint32_t)k};
     image->page_bytes[image->taken++] = (struct famsync_bytes){mapping->at + k * PAGE};
   }
-  return FAM_OK;
+  return KEFS_OK;
 }
 
 /* Each page is noted, taken and sealed in this order; see open_pages for the reason. */
-static int take(struct fam_image *image, const struct fam_range *ranges, size_t count) {
+static int take(struct kefs_image *image, const struct kefs_range *ranges, size_t count) {
   struct spans it = spans_of(image, ranges, count);
   struct span span;
   while (next_span(&it, &span)) {
     size_t before = image->taken;
-    int number = note_written(&span), result = number == FAM_OK ? take_span(image, &span) : fail(image, number, "looking for written pages");
-    if (result != FAM_OK) return result;
-    number = image->taken > before ? seal(&span) : FAM_OK;
-    if (number != FAM_OK) return fail(image, number, "closing written pages");
+    int number = note_dirty(&span), result = number == KEFS_OK ? take_span(image, &span) : fail(image, number, "looking for dirty pages");
+    if (result != KEFS_OK) return result;
+    number = image->taken > before ? seal(&span) : KEFS_OK;
+    if (number != KEFS_OK) return fail(image, number, "closing dirty pages");
   }
-  return FAM_OK;
+  return KEFS_OK;
 }
 
 static int result_of(uint32_t answer) {
   switch (answer) {
-    case FAMSYNC_OK: return FAM_OK;
-    case FAMSYNC_BAD_JOURNAL: return FAM_BAD_JOURNAL;
-    case FAMSYNC_NO_ROOM: return FAM_TOO_MANY;
-    default: return FAM_NOT_IMAGE; /* another program has written over the layout: no other refusal is left */
+    case FAMSYNC_OK: return KEFS_OK;
+    case FAMSYNC_BAD_JOURNAL: return KEFS_BAD_JOURNAL;
+    case FAMSYNC_NO_ROOM: return KEFS_TOO_MANY;
+    default: return KEFS_NOT_IMAGE; /* another program has written over the layout: no other refusal is left */
   }
 }
 
-static int commit_taken(struct fam_image *image) {
+static int commit_taken(struct kefs_image *image) {
   struct famsync_plan *scratch = image->scratch, *plan = image->plan;
-  if (image->taken == 0) return FAM_OK;
+  int result = image->taken == 0 ? KEFS_OK : take_homes(image);
+  if (image->taken == 0 || result != KEFS_OK) return result;
   uint32_t answer = famsync_commit(&image->handle, image->bytes, image->sectors, scratch->calls, scratch->rows, &plan->used,
                                    plan->calls, plan->rows, image->pages, image->taken, image->page_bytes, image->taken);
   if (answer != FAMSYNC_OK) return fail(image, result_of(answer), "no plan for %zu pages (%u)", image->taken, (unsigned)answer);
-  int result = carry_out(image);
-  image->stat.commits += result == FAM_OK;
-  image->stat.committed_pages += result == FAM_OK ? image->taken : 0;
+  return carry_out(image);
+}
+
+/* Where the device has no room, as a file system may find out late, the image is recovered at once and goes on, with the pages still
+   dirty. Should that fail too, it stays halted. */
+static int go_on(struct kefs_image *image, int result) {
+  image->outcome = IN_DOUBT;
+  if (result == KEFS_DEVICE) return result;
+  char kept[sizeof image->message];
+  memcpy(kept, image->message, sizeof kept);
+  if (recover_in_place(image) != KEFS_OK) return KEFS_DEVICE;
+  memcpy(image->message, kept, sizeof kept);
+  return image->outcome == IS_AFTER ? KEFS_OK : result;
+}
+
+/* A page of a commit that failed stays taken, until kefs_recover says what became of it. */
+static int commit(struct kefs_image *image, const struct kefs_range *ranges, size_t count, size_t *taken) {
+  int result = take(image, ranges, count);
+  ignore_reads(1);
+  if (result == KEFS_OK) result = commit_taken(image);
+  ignore_reads(0);
+  size_t pages = image->taken;
+  if (image->halted) result = go_on(image, result);
+  if (image->halted) return result;
+  if (result == KEFS_OK && taken != NULL) *taken = pages;
+  let_all_go(image, result == KEFS_OK);
   return result;
 }
 
-static int check_ranges(struct fam_image *image, const struct fam_range *ranges, size_t count) {
-  return ranges == NULL && count > 0 ? fail(image, EINVAL, "no ranges") : FAM_OK;
+static int check_ranges(struct kefs_image *image, const struct kefs_range *ranges, size_t count) {
+  return ranges == NULL && count > 0 ? fail(image, EINVAL, "no ranges") : KEFS_OK;
 }
 
-int fam_commit(fam_image *image, const struct fam_range *ranges, size_t count, size_t *taken) {
+int kefs_commit(kefs_image *image, const struct kefs_range *ranges, size_t count, size_t *taken) {
   int result = enter(image);
-  if (result != FAM_OK) return result;
-  if (image->read_only) return leave(image, fail(image, FAM_READ_ONLY, "fam_commit"));
+  if (result != KEFS_OK) return result;
+  if (image->read_only) return leave(image, fail(image, KEFS_READ_ONLY, "kefs_commit"));
   result = check_ranges(image, ranges, count);
-  if (result == FAM_OK) result = take(image, ranges, count);
-  if (result == FAM_OK) result = commit_taken(image);
-  if (result == FAM_OK && taken != NULL) *taken = image->taken;
-  let_all_go(image, result == FAM_OK);
+  if (result == KEFS_OK) result = commit(image, ranges, count, taken);
   return leave(image, result);
 }
 
-int fam_msync(fam_image *image, const void *at, size_t length) {
-  struct fam_range range = {at, length};
-  return fam_commit(image, &range, at == NULL ? 0 : 1, NULL);
+/* The pages of bytes that lie in one mapped file of this image. */
+static int whole_span(const struct kefs_image *image, const void *at, size_t length, struct span *span) {
+  if (is_forked(image)) return KEFS_FORKED;
+  struct mapping *mapping = mapping_at(at);
+  if (mapping == NULL || mapping->image != image) return KEFS_BAD_RANGE;
+  size_t offset = (size_t)((const unsigned char *)at - mapping->at), end = length == 0 ? 0 : (offset + length + PAGE - 1) / PAGE;
+  if (length > mapping->pages * PAGE - offset) return KEFS_BAD_RANGE;
+  *span = (struct span){mapping, length == 0 ? 0 : offset / PAGE, end};
+  return KEFS_OK;
+}
+
+int kefs_msync(kefs_image *image, const void *at, size_t length) {
+  struct span span;
+  struct kefs_range range = {at, length};
+  if (at == NULL) return kefs_commit(image, NULL, 0, NULL);
+  int result = whole_span(image, at, length, &span);
+  if (result == KEFS_FORKED) return result;
+  if (result == KEFS_OK) return kefs_commit(image, &range, 1, NULL);
+  int entered = enter(image);
+  return entered == KEFS_OK ? leave(image, fail(image, result, "%zu bytes at %p", length, at)) : entered;
 }
 
 /* A page that is counted is taken, so that no other range counts it too, and then let go. */
@@ -147,80 +186,69 @@ static void uncount_span(const struct span *span) {
     let_go(span->mapping, k, 0);
 }
 
-static int count_written(struct fam_image *image, const struct fam_range *ranges, size_t count, size_t *pages) {
+static int count_dirty(struct kefs_image *image, const struct kefs_range *ranges, size_t count, size_t *pages) {
   struct spans it = spans_of(image, ranges, count);
   struct span span;
-  int number = FAM_OK;
+  int number = KEFS_OK;
   size_t found = 0;
-  while (number == FAM_OK && next_span(&it, &span)) {
-    number = note_written(&span);
-    if (number == FAM_OK) found += count_span(&span);
+  while (number == KEFS_OK && next_span(&it, &span)) {
+    number = note_dirty(&span);
+    if (number == KEFS_OK) found += count_span(&span);
   }
   for (it = spans_of(image, ranges, count); next_span(&it, &span);) uncount_span(&span);
-  if (number != FAM_OK) return fail(image, number, "looking for written pages");
+  if (number != KEFS_OK) return fail(image, number, "looking for dirty pages");
   *pages = found;
-  return FAM_OK;
+  return KEFS_OK;
 }
 
-int fam_written(fam_image *image, const struct fam_range *ranges, size_t count, size_t *pages) {
+int kefs_count_dirty(kefs_image *image, const struct kefs_range *ranges, size_t count, size_t *pages) {
   int result = enter(image);
-  if (result != FAM_OK) return result;
+  if (result != KEFS_OK) return result;
   result = check_ranges(image, ranges, count);
-  if (result == FAM_OK) result = count_written(image, ranges, count, pages);
+  if (result == KEFS_OK) result = count_dirty(image, ranges, count, pages);
   return leave(image, result);
 }
 
 /* The marks are dropped when the stores of the roll back itself are forgotten. */
 static int roll_back_span(const struct span *span) {
   struct mapping *mapping = span->mapping;
-  int number = note_written(span);
-  if (number != FAM_OK) return number;
+  int number = note_dirty(span);
+  if (number != KEFS_OK) return number;
   for (size_t k = next_marked(mapping, span->first, span->end); k < span->end; k = next_marked(mapping, k + 1, span->end))
     copy_durable(mapping, k, mapping->at + k * PAGE);
   number = forget_stores(span);
   for (size_t k = next_marked(mapping, span->first, span->end); k < span->end; k = next_marked(mapping, k + 1, span->end))
-    drop_mark(&mapping->marks[k], WRITTEN);
+    drop_mark(&mapping->marks[k], DIRTY);
   return number;
 }
 
-int fam_rollback(fam_image *image, const struct fam_range *ranges, size_t count) {
+int kefs_rollback(kefs_image *image, const struct kefs_range *ranges, size_t count) {
   int result = enter(image);
-  if (result != FAM_OK) return result;
+  if (result != KEFS_OK) return result;
   result = check_ranges(image, ranges, count);
   struct spans it = spans_of(image, ranges, count);
   struct span span;
-  while (result == FAM_OK && next_span(&it, &span)) {
+  while (result == KEFS_OK && next_span(&it, &span)) {
     int number = roll_back_span(&span);
-    if (number != FAM_OK) result = fail(image, number, "forgetting stores");
+    if (number != KEFS_OK) result = fail(image, number, "forgetting stores");
   }
   return leave(image, result);
 }
 
-/* The pages of bytes that lie in one mapped file of this image. */
-static int whole_span(const struct fam_image *image, const void *at, size_t length, struct span *span) {
-  if (is_forked(image)) return FAM_FORKED;
-  struct mapping *mapping = mapping_at(at);
-  if (mapping == NULL || mapping->image != image) return FAM_BAD_RANGE;
-  size_t offset = (size_t)((const unsigned char *)at - mapping->at);
-  if (length > mapping->pages * PAGE - offset) return FAM_BAD_RANGE;
-  *span = (struct span){mapping, offset / PAGE, (offset + length + PAGE - 1) / PAGE};
-  return FAM_OK;
-}
-
-int fam_touch(fam_image *image, const void *at, size_t length) {
+int kefs_touch(kefs_image *image, const void *at, size_t length) {
   struct span span;
   int result = whole_span(image, at, length, &span);
-  if (result != FAM_OK) return result;
+  if (result != KEFS_OK) return result;
   int number = fill_missing(&span);
-  return number == EIO ? FAM_DEVICE : number;
+  return number == EIO ? KEFS_DEVICE : number;
 }
 
-int fam_dirty(fam_image *image, const void *at, size_t length) {
+int kefs_mark_dirty(kefs_image *image, const void *at, size_t length) {
   struct span span;
   int result = whole_span(image, at, length, &span);
-  if (result == FAM_OK && (image->read_only || span.mapping->file.read_only)) result = FAM_READ_ONLY;
-  if (result != FAM_OK || span.first == span.end) return result;
+  if (result == KEFS_OK && (image->read_only || span.mapping->file.read_only)) result = KEFS_READ_ONLY;
+  if (result != KEFS_OK || span.first == span.end) return result;
   int number = fill_missing(&span);
-  if (number == FAM_OK) number = open_pages(&span);
-  return number == EIO ? FAM_DEVICE : number;
+  if (number == KEFS_OK) number = open_pages(&span);
+  return number == EIO ? KEFS_DEVICE : number;
 }

@@ -11,8 +11,8 @@ def timed(pages):
 
 
 print(f"{folder}, {commits} commits: times as multiples")
-print("pages  fam_commit in us  over its device calls  with its stores over msync  over SQLite")
+print("pages  kefs_commit in us  over its device calls  with its stores over msync  over SQLite")
 for pages in (1, 10, 100, 1000):
     times = timed(pages)
     over = lambda a, b: f"{times[a][1] / times[b][1]:.2f} ({times[a][0] / times[b][0]:.2f}, {times[a][2] / times[b][2]:.2f})" if b in times else "-"
-    print(f"{pages:5}  {times['fam'][1]:16.1f}  {over('fam', 'calls'):>21}  {over('stored', 'msync'):>26}  {over('stored', 'sqlite'):>18}")
+    print(f"{pages:5}  {times['kefs'][1]:16.1f}  {over('kefs', 'calls'):>21}  {over('stored', 'msync'):>26}  {over('stored', 'sqlite'):>18}")

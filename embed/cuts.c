@@ -1,68 +1,104 @@
-/* cuts FOLDER COMMITS: power cuts and failing calls within fam_commit. The pwrite, pwritev, fdatasync and fsync that the library calls
-   are those of this program, so that it is the library's own calls that are looked at, in their order. Before each call of
-   each commit four power cuts are simulated, which leave the sectors that were not synced as they were, as they became, or
-   each of them one of these, cut in its midst or of any bytes. Each image that is left is opened, and has to hold the files as
-   before or as after the commit, and after it as after. Then each call fails once. */
+/* cuts FOLDER COMMITS [kept|blocks]: power cuts and failing calls within commits, openings, recoveries in place and the making of an
+   image. The calls on files that the library makes are those of this program, so that it is the library's own calls that are
+   looked at, in their order. Before each of them power cuts are simulated, which leave the sectors that were not synced as
+   they were, as they became, or each of them one of these, cut in its midst or of any bytes. Each image that is left is
+   opened, and has to hold the files as before or as after the commit, and after it as after. Then each call fails once, and,
+   where COMMITS is 40 or more, in the opening or recovery that follows each call again. A sync that fails leaves its sectors unsynced and clean: some have
+   reached the disk, no later sync writes the others, and reads show them until the system is told to drop what it keeps.
+
+   kept     a control: the system keeps what it has, whatever it is told. Some images have to be torn then.
+   blocks   power is cut, and each block of 4,096 bytes that has an unsynced sector may hold any bytes, in all its sectors. Layout 2
+            does not stand that. */
 #define _GNU_SOURCE
-#include "fam.h"
+#include "kefs.h"
 #include <errno.h>
 #include <fcntl.h>
+#include <stdarg.h>
 #include <stdint.h>
 #include <stdio.h>
 #include <stdlib.h>
 #include <string.h>
+#include <sys/mman.h>
 #include <sys/syscall.h>
 #include <sys/uio.h>
 #include <unistd.h>
 
-enum { PAGE = FAM_PAGE, SECTOR = 512, PAGES = 12, BYTES = SECTOR * 8195 + PAGE * PAGES, SECTORS = BYTES / SECTOR, FILLINGS = 4 };
+enum { PAGE = KEFS_PAGE, SECTOR = 512, PAGES = 12, BYTES = SECTOR * 8195 + PAGE * PAGES, SECTORS = BYTES / SECTOR, FILLINGS = 4 };
+enum { BLOCK = 8, FIRST_PAGES = 8 }; /* sectors of a block; pages of file 0 */
+enum model { DROPS, KEEPS, BLOCKS };
+static const char *const PATH = "cuts.img";
 
-/* The device: what is synced, what a read gives, and which sectors were written since the last sync. */
-static unsigned char synced[BYTES], cached[BYTES], left[BYTES], unsynced[SECTORS];
-static int watched = -1; /* the descriptor whose calls are noted, or -1 */
-static long calls, failing = -1, cuts, bad;
+/* The device: what the disk holds, what a read gives, and which sectors the next sync writes. */
+static unsigned char disk[BYTES], cached[BYTES], left[BYTES], dirty[SECTORS], *left_file;
+static enum model model;
+static int watched = -1;    /* the descriptor whose calls are noted, or -1 */
+static int is_cutting;      /* power is cut before each call */
+static long calls, failing; /* noted calls, and the one that fails, or 0 */
+static int failing_number = EIO, reaching; /* with what, and how many of four dirty sectors reach the disk in a sync that fails */
+static long cuts, bad, failures;
 static unsigned char before[PAGES * PAGE], after[PAGES * PAGE];
 
 static void die(const char *what) { perror(what), exit(1); }
 
 static void must(int result, const char *what) {
-  if (result != FAM_OK) fprintf(stderr, "cuts: %s: %s\n", what, fam_strerror(result)), exit(1);
+  if (result != KEFS_OK) fprintf(stderr, "cuts: %s: %s: %s\n", what, kefs_name(result), kefs_strerror(result)), exit(1);
 }
+
+static void expect(int holds, const char *what, int line) {
+  if (!holds) fprintf(stderr, "cuts.c:%d: not so: %s\n", line, what);
+  bad += !holds;
+}
+#define EXPECT(condition) expect((condition) != 0, #condition, __LINE__)
 
 /* Cuts */
 
-static void fill_sector(int filling, size_t sector) {
+static void fill_sector(int way, size_t sector) {
   unsigned char *to = left + SECTOR * sector;
-  int way = filling < 2 ? filling : (int)(random() % 4);
   size_t cut = way == 0 ? 0 : way == 1 ? SECTOR : (size_t)random() % SECTOR;
   memcpy(to, cached + SECTOR * sector, cut);
   for (size_t i = 0; way == 3 && i < SECTOR; i++) to[i] = (unsigned char)random();
 }
 
-static int is_left(fam_image *image, const unsigned char *files) {
-  void *first, *second;
-  must(fam_map(image, 0, NULL, &first, NULL), "map"), must(fam_map(image, 1, NULL, &second, NULL), "map");
-  return memcmp(first, files, 8 * PAGE) == 0 && memcmp(second, files + 8 * PAGE, 4 * PAGE) == 0;
+static int is_dirty_block(size_t sector) {
+  size_t first = sector / BLOCK * BLOCK;
+  return first + BLOCK <= SECTORS && memchr(dirty + first, 1, BLOCK) != NULL;
 }
 
-static void check_left(const char *path, int is_over) {
-  fam_image *image;
-  must(fam_open(&image, path, FAM_TRACK_CALLER), path);
-  bad += !is_left(image, after) && (is_over || !is_left(image, before));
-  must(fam_close(image), path);
+static void fill_left(int filling) {
+  memcpy(left, disk, sizeof left);
+  for (size_t s = 0; s < SECTORS; s++) {
+    int is_torn = model == BLOCKS && filling >= 2 && is_dirty_block(s);
+    if (dirty[s] || is_torn) fill_sector(filling < 2 ? filling : (int)(random() % 4), s);
+  }
+}
+
+/* Writes to the file left.img what it does not hold already. */
+static void write_left(void) {
+  for (size_t at = 0; at < BYTES; at += SECTOR)
+    if (memcmp(left_file + at, left + at, SECTOR) != 0) memcpy(left_file + at, left + at, SECTOR);
+}
+
+static int is_held(kefs_image *image, const unsigned char *files) {
+  void *first, *second;
+  must(kefs_map(image, 0, NULL, &first, NULL), "map"), must(kefs_map(image, 1, NULL, &second, NULL), "map");
+  return memcmp(first, files, FIRST_PAGES * PAGE) == 0 && memcmp(second, files + FIRST_PAGES * PAGE, (PAGES - FIRST_PAGES) * PAGE) == 0;
+}
+
+static int is_whole(int is_over) {
+  kefs_image *image;
+  if (kefs_open(&image, "left.img", KEFS_TRACK_CALLER) != KEFS_OK) return 0;
+  int holds = is_held(image, after) || (!is_over && is_held(image, before));
+  must(kefs_close(image), "left.img");
+  return holds;
 }
 
 static void cut_power(int is_over) {
   int fd = watched;
   watched = -1;
   for (int filling = 0; filling < FILLINGS; filling++, cuts++) {
-    memcpy(left, synced, sizeof left);
-    for (size_t s = 0; s < SECTORS; s++)
-      if (unsynced[s]) fill_sector(filling, s);
-    int copy = open("cut.img", O_RDWR | O_CREAT, 0600);
-    if (write(copy, left, sizeof left) != (ssize_t)sizeof left) die("cut.img");
-    close(copy);
-    check_left("cut.img", is_over);
+    fill_left(filling);
+    write_left();
+    bad += !is_whole(is_over);
   }
   watched = fd;
 }
@@ -71,9 +107,9 @@ static void cut_power(int is_over) {
 
 static int fails(void) {
   calls++;
-  if (failing < 0) cut_power(0);
+  if (is_cutting) cut_power(0);
   if (failing != calls) return 0;
-  errno = EIO;
+  errno = failing_number;
   return 1;
 }
 
@@ -81,7 +117,7 @@ ssize_t pwritev(int fd, const struct iovec *parts, int count, off_t at) {
   ssize_t made = 0;
   if (fd == watched && fails()) return -1;
   for (const struct iovec *part = parts; part < parts + count; at += (off_t)part++->iov_len) {
-    if (fd == watched) memcpy(cached + at, part->iov_base, part->iov_len), memset(unsynced + at / SECTOR, 1, part->iov_len / SECTOR);
+    if (fd == watched) memcpy(cached + at, part->iov_base, part->iov_len), memset(dirty + at / SECTOR, 1, part->iov_len / SECTOR);
     if (syscall(SYS_pwrite64, fd, part->iov_base, part->iov_len, at) != (ssize_t)part->iov_len) die("pwrite");
     made += (ssize_t)part->iov_len;
   }
@@ -92,26 +128,55 @@ ssize_t pwrite(int fd, const void *from, size_t bytes, off_t at) { return pwrite
 
 int fdatasync(int fd) {
   if (fd != watched) return 0; /* what is left of an image has only to be read */
-  if (fails()) return -1;
-  memcpy(synced, cached, sizeof synced);
-  memset(unsynced, 0, sizeof unsynced);
+  int is_failing = fails();
+  for (size_t s = 0; s < SECTORS; s++)
+    if (dirty[s] && (!is_failing || random() % 4 < reaching)) memcpy(disk + SECTOR * s, cached + SECTOR * s, SECTOR);
+  memset(dirty, 0, sizeof dirty);
+  return is_failing ? errno = failing_number, -1 : 0;
+}
+
+int fsync(int fd) { return fdatasync(fd); }
+
+/* What is dropped is read from the disk again. */
+int posix_fadvise(int fd, off_t at, off_t length, int advice) {
+  if (fd != watched || advice != POSIX_FADV_DONTNEED || at != 0 || length != 0 || model == KEEPS) return 0;
+  for (size_t s = 0; s < SECTORS; s++) {
+    if (dirty[s] || memcmp(cached + SECTOR * s, disk + SECTOR * s, SECTOR) == 0) continue;
+    memcpy(cached + SECTOR * s, disk + SECTOR * s, SECTOR);
+    if (syscall(SYS_pwrite64, fd, disk + SECTOR * s, SECTOR, SECTOR * s) != SECTOR) die("pwrite");
+  }
   return 0;
 }
 
-int fsync(int fd) { return fd == watched ? fdatasync(fd) : 0; }
+/* An opening of the image, or of a file that is to become one, is watched from here on. */
+static int is_making, has_no_unnamed;
+
+int open(const char *path, int flags, ...) {
+  va_list more;
+  va_start(more, flags);
+  mode_t mode = (flags & (O_CREAT | O_TMPFILE)) != 0 ? va_arg(more, mode_t) : 0;
+  va_end(more);
+  int is_unnamed = (flags & O_TMPFILE) == O_TMPFILE;
+  if (is_unnamed && has_no_unnamed) return errno = EOPNOTSUPP, -1;
+  int fd = (int)syscall(SYS_openat, AT_FDCWD, path, flags, mode);
+  if (is_making ? is_unnamed || (flags & O_CREAT) != 0 : strcmp(path, PATH) == 0) watched = fd;
+  return fd;
+}
 
 /* Commits */
 
-static fam_image *image;
+static kefs_image *image;
 static unsigned char *files[2];
 
-static unsigned char *page_at(int k) { return k < 8 ? files[0] + k * PAGE : files[1] + (k - 8) * PAGE; }
+static unsigned char *page_at(int k) { return k < FIRST_PAGES ? files[0] + k * PAGE : files[1] + (k - FIRST_PAGES) * PAGE; }
 
-static void open_image(void) {
+static int try_opening(void) {
   void *at[2];
-  must(fam_open(&image, "cuts.img", 0), "cuts.img");
-  must(fam_map(image, 0, NULL, &at[0], NULL), "map"), must(fam_map(image, 1, NULL, &at[1], NULL), "map");
+  int result = kefs_open(&image, PATH, 0);
+  if (result != KEFS_OK) return result;
+  must(kefs_map(image, 0, NULL, &at[0], NULL), "map"), must(kefs_map(image, 1, NULL, &at[1], NULL), "map");
   files[0] = at[0], files[1] = at[1];
+  return KEFS_OK;
 }
 
 static void store_some(void) {
@@ -123,56 +188,213 @@ static void store_some(void) {
   for (int k = 0; k < PAGES; k++) memcpy(after + k * PAGE, page_at(k), PAGE);
 }
 
-static void commit_some(void) {
+static void commit_some(int with_cuts) {
   store_some();
-  must(fam_commit(image, NULL, 0, NULL), "commit");
+  is_cutting = with_cuts;
+  must(kefs_commit(image, NULL, 0, NULL), "commit");
+  is_cutting = 0;
+  if (with_cuts) cut_power(1);
 }
 
-/* The descriptor of the image is the lowest one that was free before the opening. */
-static int next_descriptor(void) {
-  int fd = open("/dev/null", O_RDONLY);
-  close(fd);
-  return fd;
+static void close_image(void) {
+  must(kefs_close(image), "close");
+  watched = -1;
 }
 
-static void try_cuts(int commits) {
-  for (int i = 0; i < commits; i++) {
-    commit_some();
-    cut_power(1);
-  }
-}
-
-/* Fails call `n` of a commit, which has the homes of another to write: 0 where it makes fewer calls. */
-static int try_failure(long n) {
+/* Begins on a device that holds a new image, all of it synced. */
+static void begin(void) {
+  struct kefs_file specs[] = {{FIRST_PAGES * PAGE, 0, NULL}, {(PAGES - FIRST_PAGES) * PAGE, 0, NULL}};
+  unlink(PATH);
+  must(kefs_format(PATH, 0600, specs, 2), PATH);
+  int fd = open("/dev/null", O_RDONLY), from = (int)syscall(SYS_openat, AT_FDCWD, PATH, O_RDONLY);
+  if (pread(from, disk, sizeof disk, 0) != (ssize_t)sizeof disk) die(PATH);
+  close(fd), close(from);
+  memcpy(cached, disk, sizeof cached);
+  memset(dirty, 0, sizeof dirty), memset(before, 0, sizeof before), memset(after, 0, sizeof after);
   failing = 0;
-  commit_some();
+  must(try_opening(), PATH);
+}
+
+/* Failing calls */
+
+/* Makes call `n` fail in a commit that has the homes of another to write: KEFS_OK where it makes fewer calls. */
+static int fail_commit(long n) {
+  commit_some(0);
   store_some();
   calls = 0, failing = n;
-  int result = fam_commit(image, NULL, 0, NULL);
-  failing = 0;
-  if (result == FAM_OK) return 0;
-  bad += result != FAM_DEVICE || fam_commit(image, NULL, 0, NULL) != FAM_HALTED || fam_rollback(image, NULL, 0) != FAM_HALTED || fam_errmsg(image)[0] == 0;
-  must(fam_close(image), "close");
-  open_image();
-  int is_after = is_left(image, after), is_before = is_left(image, before);
-  bad += !is_after && !is_before;
+  int result = kefs_commit(image, NULL, 0, NULL);
+  if (calls < n) failing = 0;
+  return result;
+}
+
+/* The files that stand are those before or after; from here on they alone are right. */
+static void settle_on(int is_after) {
   if (!is_after) memcpy(after, before, sizeof after);
+  else memcpy(before, after, sizeof before);
+  cut_power(1);
+}
+
+/* Opens the image, whose call `m` fails where it is not 0, until it opens. */
+static void open_with_failure(long m) {
+  calls = 0, failing = m, is_cutting = 1;
+  for (int result = try_opening(); result != KEFS_OK; result = try_opening()) {
+    EXPECT(result == KEFS_DEVICE && kefs_errmsg(NULL)[0] != 0);
+    failing = 0;
+  }
+  failing = is_cutting = 0;
+  int is_after = is_held(image, after);
+  EXPECT(is_after || is_held(image, before));
+  settle_on(is_after);
+}
+
+static int are_equal(const unsigned char *wanted) {
+  int equal = 1;
+  for (int k = 0; k < PAGES; k++) equal &= memcmp(page_at(k), wanted + k * PAGE, PAGE) == 0;
+  return equal;
+}
+
+/* Recovers it in place in the same way. What was stored is there, and is to be committed yet where the files are as before. */
+static void recover_with_failure(long m) {
+  static unsigned char stored[PAGES * PAGE];
+  int stands = 9;
+  size_t pages;
+  memcpy(stored, after, sizeof stored);
+  EXPECT(kefs_commit(image, NULL, 0, NULL) == KEFS_HALTED && kefs_rollback(image, NULL, 0) == KEFS_HALTED && kefs_errmsg(image)[0] != 0);
+  calls = 0, failing = m, is_cutting = 1;
+  for (int result = kefs_recover(image, &stands); result != KEFS_OK; result = kefs_recover(image, &stands)) {
+    EXPECT(result == KEFS_DEVICE && stands == 9);
+    failing = 0;
+  }
+  failing = is_cutting = 0;
+  EXPECT((stands == KEFS_BEFORE || stands == KEFS_AFTER) && are_equal(stored));
+  must(kefs_count_dirty(image, NULL, 0, &pages), "written");
+  EXPECT((pages == 0) == (stands == KEFS_AFTER));
+  settle_on(stands == KEFS_AFTER);
+  must(kefs_commit(image, NULL, 0, NULL), "commit");
+  memcpy(after, stored, sizeof after);
+  cut_power(1);
+}
+
+/* Call `n` of a commit fails, and call `m` of what follows: 0 where a commit has no such call. */
+static int try_failure(long n, long m, int in_place) {
+  reaching = (int)(random() % 3) * 2;
+  int result = fail_commit(n);
+  if (failing == 0) return must(result, "commit"), 0;
+  failing = 0, failures++;
+  EXPECT(result == KEFS_DEVICE);
+  if (in_place) recover_with_failure(m);
+  else close_image(), open_with_failure(m);
+  commit_some(1);
   return 1;
 }
 
+/* A device without room is recovered from at once: the commit is refused, or stands. */
+static int try_full_device(long n) {
+  static unsigned char stored[PAGES * PAGE];
+  failing_number = ENOSPC, reaching = (int)(random() % 3) * 2;
+  int result = fail_commit(n), is_tried = failing != 0;
+  failing = 0, failing_number = EIO;
+  if (!is_tried) return must(result, "commit"), 0;
+  failures++;
+  EXPECT(result == ENOSPC || result == KEFS_OK);
+  memcpy(stored, after, sizeof stored);
+  EXPECT(are_equal(stored));
+  settle_on(result == KEFS_OK);
+  must(kefs_commit(image, NULL, 0, NULL), "commit");
+  memcpy(after, stored, sizeof after);
+  cut_power(1);
+  return 1;
+}
+
+/* With under 40 commits no call of an opening or recovery fails. */
+static void try_failures(int commits) {
+  for (long m = 0; m < (commits < 40 ? 1 : 8); m++)
+    for (int in_place = 0; in_place < 2; in_place++)
+      for (long n = 1; try_failure(n, m, in_place);) n++;
+  for (long n = 1; model == DROPS && try_full_device(n);) n++;
+}
+
+/* Making an image */
+
+static unsigned char content[PAGES * PAGE];
+static long names;
+
+/* What has no name is gone after a cut, and what has one has to be whole on the disk. */
+static int is_ready(void) {
+  memcpy(left, disk, sizeof left), memcpy(after, content, sizeof after);
+  int fd = watched;
+  write_left();
+  is_making = 0, watched = -1;
+  int holds = memchr(dirty, 1, sizeof dirty) == NULL && is_whole(1);
+  is_making = 1, watched = fd;
+  return holds;
+}
+
+int linkat(int from_folder, const char *from, int to_folder, const char *to, int flags) {
+  if (is_making) EXPECT(is_ready() && access(PATH, F_OK) != 0), names++;
+  if (is_making && fails()) return -1;
+  return (int)syscall(SYS_linkat, from_folder, from, to_folder, to, flags);
+}
+
+int link(const char *from, const char *to) { return linkat(AT_FDCWD, from, AT_FDCWD, to, 0); }
+
+int fallocate(int fd, int mode, off_t at, off_t length) {
+  if (fd == watched && fails()) return -1;
+  return (int)syscall(SYS_fallocate, fd, mode, at, length);
+}
+
+/* Makes an image, and has call `n` fail where it is not 0: whether there was such a call. */
+static int make_image(long n, int number) {
+  struct kefs_file specs[] = {{FIRST_PAGES * PAGE, 0, content}, {(PAGES - FIRST_PAGES) * PAGE, KEFS_FILE_SPARSE, content + FIRST_PAGES * PAGE}};
+  unlink(PATH);
+  memset(disk, 0, sizeof disk), memset(cached, 0, sizeof cached), memset(dirty, 0, sizeof dirty);
+  is_making = 1, calls = 0, failing = n, failing_number = number;
+  int result = kefs_format(PATH, 0600, specs, 2), is_tried = calls >= n;
+  is_making = 0, failing = 0, failing_number = EIO, watched = -1;
+  EXPECT(result == (n == 0 || !is_tried ? KEFS_OK : number == EIO ? KEFS_DEVICE : number));
+  EXPECT((access(PATH, F_OK) == 0) == (result == KEFS_OK));
+  char found[99] = "";
+  FILE *others = popen("ls | grep -c new-", "r");
+  EXPECT(others != NULL && fgets(found, sizeof found, others) != NULL && atoi(found) == 0);
+  pclose(others);
+  return n != 0 && is_tried;
+}
+
+static void try_making(void) {
+  for (size_t i = 0; i < sizeof content; i++) content[i] = (unsigned char)random();
+  for (has_no_unnamed = 0; has_no_unnamed < 2; has_no_unnamed++) {
+    make_image(0, EIO);
+    for (long n = 1; make_image(n, n % 3 == 0 ? ENOSPC : n % 3 == 1 ? EIO : EDQUOT); n++) failures++;
+  }
+  has_no_unnamed = 0;
+  EXPECT(names >= 4);
+  printf("cuts: making an image: named %ld times, each time whole and synced, %ld failing calls: %ld bad\n", names, failures, bad);
+}
+
+static void open_left(void) {
+  int fd = (int)syscall(SYS_openat, AT_FDCWD, "left.img", O_RDWR | O_CREAT, 0600);
+  if (fd < 0 || ftruncate(fd, BYTES) != 0) die("left.img");
+  left_file = mmap(NULL, BYTES, PROT_READ | PROT_WRITE, MAP_SHARED, fd, 0);
+  if (left_file == MAP_FAILED) die("left.img");
+  close(fd);
+}
+
+static int tell(int commits) {
+  static const char *const words[] = {
+    "", ", as it has to be where the system keeps what it cached", ", as it is with layout 2 where a block of 4,096 bytes is torn"};
+  printf("cuts: %ld power cuts in %d commits, openings and recoveries, %ld failing calls: %ld bad%s\n", cuts, commits, failures, bad, words[model]);
+  return model == DROPS ? bad > 0 || failures < 20 : bad == 0;
+}
+
 int main(int argc, char **argv) {
-  struct fam_file specs[] = {{8 * PAGE, 0, NULL}, {4 * PAGE, 0, NULL}};
   if (argc < 3 || chdir(argv[1]) != 0) return 2;
-  unlink("cuts.img");
-  must(fam_format("cuts.img", 0600, specs, 2), "cuts.img");
-  int fd = next_descriptor();
-  open_image();
-  if (pread(fd, synced, sizeof synced, 0) != (ssize_t)sizeof synced) die("cuts.img");
-  memcpy(cached, synced, sizeof cached);
-  watched = fd;
-  try_cuts(atoi(argv[2]));
-  long failures = 1;
-  while (try_failure(failures)) failures++;
-  printf("cuts: %ld power cuts in %s commits, %ld failing calls: %ld bad\n", cuts, argv[2], failures - 1, bad);
-  return bad > 0 || cuts == 0 || failures < 9;
+  model = argc < 4 ? DROPS : strcmp(argv[3], "kept") == 0 ? KEEPS : BLOCKS;
+  open_left();
+  if (model == DROPS) try_making();
+  if (bad > 0) return 1;
+  failures = 0;
+  begin();
+  for (int i = 0; i < atoi(argv[2]); i++) commit_some(1);
+  if (model != BLOCKS) try_failures(atoi(argv[2]));
+  return tell(atoi(argv[2]));
 }

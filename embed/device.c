@@ -2,9 +2,35 @@
 #define _GNU_SOURCE
 #include "internal.h"
 #include <errno.h>
+#include <fcntl.h>
 #include <string.h>
 #include <sys/uio.h>
 #include <unistd.h>
+
+/* Opening */
+
+/* Those of the three lowest descriptors that are free are taken for the time being, so that no line which another thread
+   writes to a closed stream gets into the file. */
+int open_high(const char *path, int flags, mode_t mode) {
+  int low[3], count = 0, fd;
+  while ((fd = open("/", O_PATH | O_CLOEXEC)) >= 0 && fd <= 2 && count < 3) low[count++] = fd;
+  if (fd >= 0) close(fd);
+  fd = move_high(open(path, flags, mode));
+  int number = errno;
+  while (count > 0) close(low[--count]);
+  errno = number;
+  return fd;
+}
+
+int move_high(int fd) {
+  if (fd < 0 || fd > 2) return fd;
+  int moved = fcntl(fd, F_DUPFD_CLOEXEC, 3), number = errno;
+  close(fd);
+  errno = number;
+  return moved;
+}
+
+/* Calls */
 
 /* Writes parts one after the other. It changes them. */
 static int write_parts(int fd, struct iovec *parts, int count, off_t offset) {
@@ -16,7 +42,7 @@ static int write_parts(int fd, struct iovec *parts, int count, off_t offset) {
     for (; count > 0 && (size_t)made >= parts->iov_len; parts++, count--) made -= (ssize_t)parts->iov_len;
     if (made > 0) parts->iov_base = (char *)parts->iov_base + made, parts->iov_len -= (size_t)made;
   }
-  return FAM_OK;
+  return KEFS_OK;
 }
 
 int write_all(int fd, const void *bytes, size_t length, off_t offset) {
@@ -33,20 +59,48 @@ int read_all(int fd, void *to, size_t length, off_t offset) {
     if (made <= 0) return made < 0 ? errno : EIO;
     at += made, length -= (size_t)made, offset += made;
   }
-  return FAM_OK;
+  return KEFS_OK;
 }
 
 int sync_data(int fd) {
   while (fdatasync(fd) != 0)
     if (errno != EINTR) return errno;
-  return FAM_OK;
+  return KEFS_OK;
 }
 
-static int halt(struct fam_image *image, const char *call, size_t bytes, uint64_t sector, int number) {
+int take_room(int fd, off_t offset, off_t length) {
+  while (fallocate(fd, 0, offset, length) != 0) {
+    if (errno == EOPNOTSUPP || errno == ENOSYS) return KEFS_OK;
+    if (errno != EINTR) return errno;
+  }
+  return KEFS_OK;
+}
+
+static uint32_t home_of(const struct kefs_image *image, size_t i) {
+  return image->files[image->pages[i].file].first_home + image->pages[i].page;
+}
+
+/* A commit is refused before its first call where there is no room: after it the image would have to be recovered. */
+int take_homes(struct kefs_image *image) {
+  for (size_t i = 0; i < image->taken && image->roomless != NULL; i++) {
+    uint32_t home = home_of(image, i);
+    if (!bit_of(image->roomless, home)) continue;
+    int number = take_room(image->fd, home_offset(home), PAGE);
+    if (number != KEFS_OK)
+      return fail(image, device_result(number), "room for page %u of file %u: %s", (unsigned)image->pages[i].page, (unsigned)image->pages[i].file,
+                  kefs_strerror(number));
+    clear_bit(image->roomless, home);
+  }
+  return KEFS_OK;
+}
+
+static int halt(struct kefs_image *image, size_t call, size_t bytes, int number) {
   famsync_failed(&image->handle);
   image->halted = 1;
-  fail(image, number, "%s of %zu bytes at sector %llu", call, bytes, (unsigned long long)sector);
-  return FAM_DEVICE;
+  image->failed = call;
+  if (bytes == 0) return fail(image, device_result(number), "fdatasync: %s", kefs_strerror(number));
+  unsigned long long sector = image->plan->calls[call].sector;
+  return fail(image, device_result(number), "pwrite of %zu bytes at sector %llu: %s", bytes, sector, kefs_strerror(number));
 }
 
 /* One call of the system writes as many parts. */
@@ -54,7 +108,7 @@ enum { MOST_PARTS = 256 };
 
 /* Where the bytes of a call lie. A page of a mapped file is written from there, once, to the journal; its home is written from the journal, so
    that both are the same whatever is stored to the page meanwhile. */
-static struct iovec bytes_of(const struct fam_image *image, size_t k) {
+static struct iovec bytes_of(const struct kefs_image *image, size_t k) {
   const struct famsync_call *call = &image->plan->calls[k];
   const void *at = call->kind == FAMSYNC_WRITE  ? image->plan->rows[k]
                    : call->kind == FAMSYNC_LENT ? image->page_bytes[call->from].at
@@ -63,7 +117,7 @@ static struct iovec bytes_of(const struct fam_image *image, size_t k) {
 }
 
 /* The writes of neighbouring sectors from call `first` on, and where their bytes lie, neighbouring bytes as one part. */
-static size_t gather(const struct fam_image *image, size_t first, struct iovec *parts, int *count) {
+static size_t gather(const struct kefs_image *image, size_t first, struct iovec *parts, int *count) {
   const struct famsync_plan *plan = image->plan;
   uint64_t sector = plan->calls[first].sector;
   size_t i = first;
@@ -83,19 +137,24 @@ static size_t length_of(const struct iovec *parts, int count) {
   return length;
 }
 
-int carry_out(struct fam_image *image) {
+static int make_call(struct kefs_image *image, size_t call, struct iovec *parts, int count, size_t bytes) {
+  if (bytes == 0) return sync_data(image->fd);
+  return write_parts(image->fd, parts, count, (off_t)(SECTOR * image->plan->calls[call].sector));
+}
+
+int carry_out(struct kefs_image *image) {
   const struct famsync_plan *plan = image->plan;
   struct iovec parts[MOST_PARTS];
+  forget_places(image);
   for (size_t i = 0; i < plan->used;) {
-    int count, is_sync = plan->calls[i].kind == FAMSYNC_SYNC;
-    uint64_t sector = plan->calls[i].sector;
-    size_t made = is_sync ? 1 : gather(image, i, parts, &count), bytes = is_sync ? 0 : length_of(parts, count);
-    int number = is_sync ? sync_data(image->fd) : write_parts(image->fd, parts, count, (off_t)(SECTOR * sector));
-    if (number != FAM_OK) return halt(image, is_sync ? "fdatasync" : "pwrite", bytes, sector, number);
+    int count = 0, is_sync = plan->calls[i].kind == FAMSYNC_SYNC;
+    size_t made = is_sync ? 1 : gather(image, i, parts, &count), bytes = length_of(parts, count);
+    int number = make_call(image, i, parts, count, bytes);
+    if (number != KEFS_OK) return halt(image, i, bytes, number);
     image->stat.written_bytes += bytes;
     image->stat.syncs += (uint64_t)is_sync;
     i += made;
   }
   famsync_done(&image->handle);
-  return FAM_OK;
+  return KEFS_OK;
 }

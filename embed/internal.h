@@ -1,30 +1,36 @@
-/* What the parts of libfam share. None of it is for programs that use the library. */
-#ifndef FAM_INTERNAL_H
-#define FAM_INTERNAL_H
-/* The calls of fam.h alone are seen from outside of the library. */
+/* What the parts of libkefs share. None of it is for programs that use the library. */
+#ifndef KEFS_INTERNAL_H
+#define KEFS_INTERNAL_H
+/* The calls of kefs.h alone are seen from outside of the library. */
 #pragma GCC visibility push(default)
-#include "fam.h"
+#include "kefs.h"
 #pragma GCC visibility pop
 #include "famsync.h"
 #include <pthread.h>
 #include <stdint.h>
 #include <sys/types.h>
 
-enum { PAGE = FAM_PAGE, SECTOR = 512 };
+enum { PAGE = KEFS_PAGE, SECTOR = 512 };
 
-/* How the written pages of an image are found (fam.h says what each tracker does). */
+/* A page of the journal: its home and its place there. */
+struct place { uint32_t home, place; };
+
+/* What a failed commit has left: nothing has failed; it is not known whether the files are before or after; or which of them stands. */
+enum outcome { NO_FAILURE, IN_DOUBT, IS_BEFORE, IS_AFTER };
+
+/* How the dirty pages of an image are found (kefs.h says what each tracker does). */
 enum tracker { TRACKER_NONE, TRACKER_SCAN, TRACKER_SIGNAL, TRACKER_CALLER };
 
-/* The mark of a page. A commit takes a page by turning WRITTEN into TAKEN. A store that is noted from then on adds WRITTEN
-   again, so that the page stays written after the commit. */
-enum { WRITTEN = 1, TAKEN = 2 };
+/* The mark of a page. A commit takes a page by turning DIRTY into TAKEN. A store that is noted from then on adds DIRTY
+   again, so that the page stays dirty after the commit. */
+enum { DIRTY = 1, TAKEN = 2 };
 
 /* An entry of the image's directory. */
 struct file { int present, read_only; uint32_t first_home, length; };
 
 /* A mapped file. */
 struct mapping {
-  struct fam_image *image;
+  struct kefs_image *image;
   unsigned char *at; /* NULL: the file is not mapped */
   size_t pages;
   unsigned char *marks; /* one a page, changed by atomic operations alone */
@@ -35,34 +41,42 @@ struct mapping {
 /* The pages `first` to `end` of a mapped file, `end` not included. */
 struct span { struct mapping *mapping; size_t first, end; };
 
-struct fam_image {
+struct kefs_image {
   pthread_mutex_t lock;
+  int cancel; /* the cancel state of the thread that has the lock */
   uint64_t generation; /* of the process that opened it */
   int fd;
-  int read_only; /* opened with FAM_RDONLY */
-  int halted;    /* a device call failed */
+  int read_only; /* opened with KEFS_RDONLY */
+  int halted;    /* a device call of a plan failed, */
+  size_t failed; /* which had this number in the plan, */
+  enum outcome outcome; /* and this became of the commit, whose pages are still taken */
   enum tracker tracker;
   int lazy;
   int faults, pagemap; /* the userfaultfd and /proc/self/pagemap, or -1 */
   const unsigned char *bytes; /* the host file, mapped shared and never written here */
   size_t sectors;
+  unsigned char *roomless; /* a bit for each home that may have no room on the device yet, or NULL: each has */
   struct famsync_handle handle;
   struct famsync_plan *scratch, *plan;
-  struct file files[FAM_FILES];
-  struct mapping mappings[FAM_FILES];
-  struct famsync_page pages[FAM_MOST_PAGES]; /* what a commit takes, `taken` of them, and where their bytes lie */
-  struct famsync_bytes page_bytes[FAM_MOST_PAGES];
+  struct file files[KEFS_FILES];
+  struct mapping mappings[KEFS_FILES];
+  struct famsync_page pages[KEFS_MOST_PAGES]; /* what a commit takes, `taken` of them, and where their bytes lie */
+  struct famsync_bytes page_bytes[KEFS_MOST_PAGES];
   size_t taken;
-  struct fam_stat stat;
-  char message[200]; /* fam_errmsg */
+  struct place places[KEFS_MOST_PAGES]; /* the journal's pages by their homes, `placed` of them, or -1: to be read anew */
+  int placed;
+  pthread_mutex_t backups; /* one backup at a time */
+  unsigned char *late;     /* a bit for each home that a backup has to copy yet, or NULL */
+  struct kefs_stat stat;
+  char message[200]; /* kefs_errmsg */
 };
 
 /* process.c: what belongs to the whole process. */
 
-/* A number that this process has, and no child that inherits its handles: FAM_OK or ENOMEM. */
+/* A number that this process has, and no child that inherits its handles: KEFS_OK or ENOMEM. */
 int this_generation(uint64_t *generation);
-int is_forked(const struct fam_image *image);
-/* Makes a mapping known to mapping_at: FAM_OK or ENOMEM. */
+int is_forked(const struct kefs_image *image);
+/* Makes a mapping known to mapping_at: KEFS_OK or ENOMEM. */
 int add_region(struct mapping *mapping);
 void remove_region(struct mapping *mapping);
 /* The mapped file of this process that has the byte at this address, or NULL. Signal handlers may call it. */
@@ -70,57 +84,137 @@ struct mapping *mapping_at(const void *address);
 
 /* results.c */
 
-/* Writes the image's message, and returns the result. */
-int fail(struct fam_image *image, int result, const char *format, ...) __attribute__((format(printf, 3, 4)));
+/* Writes the image's message, or that of the thread where there is no image, and returns the result. */
+int fail(struct kefs_image *image, int result, const char *format, ...) __attribute__((format(printf, 3, 4)));
+/* Makes the image's message that of the thread. */
+void keep_message(const struct kefs_image *image);
+/* The result that an errno value of a device call gives: ENOSPC and EDQUOT as they are, else KEFS_DEVICE. */
+int device_result(int number);
 
 /* layout.c: what docs/FORMATS.md says of an image. */
 
+enum { DIRECTORY_SECTOR = 1, GATE_SECTOR = 2, MAP_SECTOR = 3, BODY_SECTOR = 11, FIRST_HOME_SECTOR = 8195, MOST_HOMES = 1 << 30 };
+static const uint32_t PRESENT_BIT = 1u << 31, READ_ONLY_BIT = 1u << 30, HOME_BITS = (1u << 30) - 1;
+
+static inline const unsigned char *sector_at(const struct kefs_image *image, size_t sector) { return image->bytes + SECTOR * sector; }
+
+static inline uint32_t number_at(const unsigned char *at) {
+  return at[0] | (uint32_t)at[1] << 8 | (uint32_t)at[2] << 16 | (uint32_t)at[3] << 24;
+}
+
+/* Of a file of so many bytes. */
+static inline uint64_t pages_of(uint32_t length) { return ((uint64_t)length + PAGE - 1) / PAGE; }
+
+/* An entry of the directory, of eight bytes. */
+struct file read_entry(const unsigned char *entry);
 /* How many home pages a host file of so many sectors has. It is an image. */
 uint64_t home_pages(size_t sectors);
-void read_directory(struct fam_image *image);
+void read_directory(struct kefs_image *image);
+/* Whether a sector that is the journal's gate has it open. */
+int is_open_gate(const unsigned char *sector);
+/* Whether the image's gate says what this row of a plan, which was to be written there, says. */
+int gate_says(const struct kefs_image *image, const unsigned char *row);
 /* How many pages the journal holds: 0 where its gate is closed. */
-uint32_t journal_pages(const struct fam_image *image);
+uint32_t journal_pages(const struct kefs_image *image);
 /* The home page of page `i` of the journal. */
-uint32_t journal_home(const struct fam_image *image, uint32_t i);
+uint32_t journal_home(const struct kefs_image *image, uint32_t i);
 /* The durable bytes of a home page, where they lie in the image. */
-const unsigned char *durable_page(const struct fam_image *image, uint32_t home);
+const unsigned char *durable_page(struct kefs_image *image, uint32_t home);
+/* Has the places of the journal's pages read anew, after calls of a plan. */
+void forget_places(struct kefs_image *image);
 off_t home_offset(uint32_t home);
 /* Page `k` of a mapped file as it is durable, with zeros past the file's end. */
 void copy_durable(const struct mapping *mapping, size_t k, unsigned char *to);
+/* Writes what a new image has beside its homes: the directory, its gate being closed; and the mark, which comes last. Each returns KEFS_OK or
+   an errno value. */
+int write_directory(int fd, const unsigned char *directory);
+int write_mark(int fd);
+/* Whether sector 0, which has to be there, is these eight bytes again and again. */
+int has_mark(const struct kefs_image *image, const char *mark);
+/* The sector that is the image's directory. */
+const unsigned char *directory_of(const struct kefs_image *image);
 
 /* device.c */
 
-/* Each returns FAM_OK or an errno value. */
+/* Opens a file as open(2), at a descriptor over those of the standard streams, which programs write to though they are closed. */
+int open_high(const char *path, int flags, mode_t mode);
+/* Moves a descriptor there, where it is one: the new one, or -1 and errno. */
+int move_high(int fd);
+/* Each returns KEFS_OK or an errno value. */
 int write_all(int fd, const void *bytes, size_t length, off_t offset);
 int read_all(int fd, void *to, size_t length, off_t offset);
 int sync_data(int fd);
-/* Makes the calls of the image's plan: FAM_OK or FAM_DEVICE. */
-int carry_out(struct fam_image *image);
+/* Takes room on the device for these bytes of a file: KEFS_OK, also where the file system can't do so, or an errno value. */
+int take_room(int fd, off_t offset, off_t length);
+/* Takes room for the homes of the pages that are taken, before any call of a plan: KEFS_OK, or the image's result. */
+int take_homes(struct kefs_image *image);
+/* Makes the calls of the image's plan: KEFS_OK, or a result; then the image is halted. */
+int carry_out(struct kefs_image *image);
+
+/* create.c: new files that get their names when they are whole. */
+
+struct new_file { const char *path; char *unfinished; int fd; };
+/* Makes a file without a name, or with one of its own in the same folder: KEFS_OK or an errno value. */
+int begin_file(struct new_file *file, const char *path, unsigned permissions);
+/* Gives it its name, durably; where something has it, EEXIST. */
+int name_file(struct new_file *file);
+/* Lets it go: without its name it is gone. */
+void end_file(struct new_file *file);
+/* The result that an errno value of a new file gives. */
+int new_file_result(int number);
+
+/* open.c */
+
+/* The process that took a lock of this file, as /proc/locks says, or 0. It may have ended, and a child of it have the lock. */
+int holder_of(int fd);
+/* Syncs the host file, and has what is cached of it read anew: a plan begins on an image that the device holds, and a reader gives
+   out nothing that a power cut could take back. KEFS_OK or the image's result. */
+int settle(struct kefs_image *image);
+/* Carries out the journal of a host file that is settled: KEFS_OK or a result. A reader makes no call of the plan: it reads through the
+   open journal, and commits nothing. */
+int recover(struct kefs_image *image);
+/* Settles and recovers a halted image, and lets the pages of the commit that failed go: KEFS_OK, or the image's result. */
+int recover_in_place(struct kefs_image *image);
 
 /* trackers.c */
 
-/* Chooses the tracker that the flags of fam_open ask for: FAM_OK, FAM_NO_TRACKER or an errno value. */
-int begin_tracking(struct fam_image *image, unsigned flags);
-void end_tracking(struct fam_image *image);
-/* Reads the pages of a new mapping, or has them read later, and tracks it from here on: FAM_OK or an errno value. */
+/* Chooses the tracker that the flags of an opening ask for: KEFS_OK, KEFS_NO_TRACKER or an errno value. */
+int begin_tracking(struct kefs_image *image, unsigned flags);
+void end_tracking(struct kefs_image *image);
+/* Reads the pages of a new mapping, or has them read later, and tracks it from here on: KEFS_OK or an errno value. */
 int load(struct mapping *mapping);
-/* Marks the pages that were written since the last look: FAM_OK or an errno value. */
-int note_written(const struct span *span);
-/* Has the next store to each of these pages noted, where note_written has not done so. It comes after their marks were taken. */
+/* Marks the pages that were stored to since the last look: KEFS_OK or an errno value. */
+int note_dirty(const struct span *span);
+/* Has the next store to each of these pages noted, where note_dirty has not done so. It comes after their marks were taken. */
 int seal(const struct span *span);
 /* Forgets the stores to these pages that no mark names yet. */
 int forget_stores(const struct span *span);
-/* Marks the pages as written, and lets system calls store to them. */
+/* Marks the pages as dirty, and lets system calls store to them. */
 int open_pages(const struct span *span);
-/* Reads those of the pages that were not read yet: FAM_OK or an errno value. */
+/* Reads those of the pages that were not read yet: KEFS_OK or an errno value. */
 int fill_missing(const struct span *span);
 
-/* fam.c */
+/* commits.c */
 
-/* Takes the image's lock for a call: FAM_OK, or the reason why there can be no call. */
-int enter(struct fam_image *image);
+/* Lets the pages of a commit go that are taken. */
+void let_all_go(struct kefs_image *image, int done);
+
+/* backup.c */
+
+/* Notes homes that a commit has changed, for a backup that has copied them before. */
+void note_homes(struct kefs_image *image);
+
+/* kefs.c */
+
+/* Memory of zeros that takes room only where it is touched, or NULL. */
+void *new_memory(size_t length);
+void drop_memory(const void *at, size_t length);
+
+/* Takes the image's lock for a call: KEFS_OK, or the reason why there can be no call. `enter_halted` takes a halted image too. */
+int enter(struct kefs_image *image);
+int enter_halted(struct kefs_image *image);
 /* Lets the lock go, and returns the result. */
-int leave(struct fam_image *image, int result);
+int leave(struct kefs_image *image, int result);
 
 /* A byte that other threads and signal handlers change. */
 static inline unsigned char add_mark(unsigned char *mark, unsigned char bits) {
@@ -129,6 +223,23 @@ static inline unsigned char add_mark(unsigned char *mark, unsigned char bits) {
 
 static inline unsigned char drop_mark(unsigned char *mark, unsigned char bits) {
   return __atomic_fetch_and(mark, (unsigned char)~bits, __ATOMIC_SEQ_CST);
+}
+
+static inline size_t mapped_bytes(const struct kefs_image *image) { return SECTOR * image->sectors + 1; }
+/* Of a bit for each home. */
+static inline size_t bits_bytes(const struct kefs_image *image) { return (size_t)image->stat.pages / 8 + 1; }
+
+static inline int bit_of(const unsigned char *bits, size_t k) { return bits[k / 8] >> k % 8 & 1; }
+static inline void set_bit(unsigned char *bits, size_t k) { bits[k / 8] |= (unsigned char)(1 << k % 8); }
+static inline void clear_bit(unsigned char *bits, size_t k) { bits[k / 8] &= (unsigned char)~(1 << k % 8); }
+
+/* For the time between, ThreadSanitizer notes no read of this thread: a page may be stored to while a commit reads it, and then it
+   stays dirty. In a program without it these are no calls. */
+extern void AnnotateIgnoreReadsBegin(const char *file, int line) __attribute__((weak));
+extern void AnnotateIgnoreReadsEnd(const char *file, int line) __attribute__((weak));
+static inline void ignore_reads(int on) {
+  if (on && AnnotateIgnoreReadsBegin != NULL) AnnotateIgnoreReadsBegin(__FILE__, __LINE__);
+  if (!on && AnnotateIgnoreReadsEnd != NULL) AnnotateIgnoreReadsEnd(__FILE__, __LINE__);
 }
 
 #endif

@@ -1,6 +1,6 @@
 """Manual pages, made of what is written elsewhere, so that nothing is said twice.
 
-manuals.py header HEADER VERSION            fam(3): the comments and declarations of a C header, in their order
+manuals.py header HEADER VERSION            kefs(3): the comments and declarations of a C header, in their order
 manuals.py program NAME VERSION PAGE...     NAME(1): the section of that name of the first page that has one, and the part of that page on all
                                             programs. Where the section has no headings, it gets those of a manual page
 manuals.py usage NAME VERSION PURPOSE       NAME(1): what the program says of its use, from standard input"""
@@ -24,13 +24,13 @@ def title(name, section, version):
     return [f".TH {name.upper()} {section} \"\" \"Kefsdalv {version}\""]
 
 
-# fam(3)
+# kefs(3)
 
 
 def without_guards(text):
     """The header from its first comment on, without what only a compiler needs."""
     text = re.sub(r"#ifdef __cplusplus\n.*?#endif\n", "", text, flags=re.DOTALL)
-    return re.sub(r"^#(ifndef FAM_H|define FAM_H|include .*|endif)\n", "", text, flags=re.MULTILINE)
+    return re.sub(r"^#(ifndef KEFS_H|define KEFS_H|include .*|endif)\n", "", text, flags=re.MULTILINE)
 
 
 def comment_text(comment):
@@ -67,9 +67,9 @@ def described(comment, code):
 def header_page(path, version):
     with open(path, encoding="utf-8") as file:
         parts = list(header_parts(without_guards(file.read())))
-    calls = [line for _, code in parts for line in code.split("\n") if re.match(r"(int|const char \*)\s?\*?fam_\w+\(", line)]
-    page = title("fam", 3, version) + [".SH NAME", "fam \\- failure\\-atomic msync on a program's own memory", ".SH SYNOPSIS"]
-    page += verbatim(["#include <fam.h>", *calls]) + [".PP", "Link with \\fB\\-lfam\\fP.", ".SH DESCRIPTION"]
+    calls = [line for _, code in parts for line in code.split("\n") if re.match(r"(int|const char \*)\s?\*?kefs_\w+\(", line)]
+    page = title("kefs", 3, version) + [".SH NAME", "kefs \\- failure\\-atomic msync on a program's own memory", ".SH SYNOPSIS"]
+    page += verbatim(["#include <kefs.h>", *calls]) + [".PP", "Link with \\fB\\-lkefs\\fP.", ".SH DESCRIPTION"]
     for comment, code in parts:
         page += described(comment, code)
     return page + [".SH SEE ALSO", ".BR msync (2),", ".BR pagefmt (1),", ".BR pagecat (1),", ".BR pagesync (1)"]
@@ -152,7 +152,7 @@ def usage_page(name, version, purpose, text):
     synopsis, *rest = blocks(text)
     page = title(name, 1, version) + [".SH NAME", escaped(f"{name} - {purpose}"), ".SH SYNOPSIS"]
     page += [escaped(line.removeprefix("usage: ")) for line in synopsis] + [".SH DESCRIPTION"]
-    return page + [line for lines in rest for line in usage_block(lines)] + [".SH SEE ALSO", ".BR fam (3),", ".BR pagecat (1)"]
+    return page + [line for lines in rest for line in usage_block(lines)] + [".SH SEE ALSO", ".BR kefs (3),", ".BR pagecat (1)"]
 
 
 def main(words):

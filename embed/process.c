@@ -22,14 +22,14 @@ static int make_generation(void) {
   /* A child forked while another thread holds the lock would find it held for ever. */
   pthread_atfork(lock_process, unlock_process, unlock_process);
   generation_now = at;
-  return FAM_OK;
+  return KEFS_OK;
 }
 
 int this_generation(uint64_t *generation) {
   static uint64_t last;
   lock_process();
-  int number = generation_now == NULL ? make_generation() : FAM_OK;
-  if (number == FAM_OK) {
+  int number = generation_now == NULL ? make_generation() : KEFS_OK;
+  if (number == KEFS_OK) {
     if (*generation_now == 0) *generation_now = ++last;
     *generation = *generation_now;
   }
@@ -37,7 +37,7 @@ int this_generation(uint64_t *generation) {
   return number;
 }
 
-int is_forked(const struct fam_image *image) { return image->generation != *generation_now; }
+int is_forked(const struct kefs_image *image) { return image->generation != *generation_now; }
 
 /* Regions are looked up by signal handlers, with no lock. So one that was made is never freed, but used again; its start is 0
    while it is not in use, and is written last. */
@@ -68,7 +68,7 @@ int add_region(struct mapping *mapping) {
   struct region *region = free_region();
   if (region != NULL) use_region(region, mapping);
   unlock_process();
-  return region == NULL ? ENOMEM : FAM_OK;
+  return region == NULL ? ENOMEM : KEFS_OK;
 }
 
 void remove_region(struct mapping *mapping) {

@@ -1,29 +1,30 @@
 /* Results in words. */
 #define _GNU_SOURCE
 #include "internal.h"
+#include <errno.h>
 #include <stdarg.h>
 #include <stdio.h>
 #include <string.h>
 
 static const struct { int result; const char *name, *text; } RESULTS[] = {
-  {FAM_OK, "FAM_OK", "it was done"},
-  {FAM_NOT_IMAGE, "FAM_NOT_IMAGE", "the file has no layout of a store"},
-  {FAM_BAD_JOURNAL, "FAM_BAD_JOURNAL", "the image's journal is open with a map that no commit writes"},
-  {FAM_BUSY, "FAM_BUSY", "another process or handle has the image open"},
-  {FAM_NO_FILE, "FAM_NO_FILE", "the image has no such file, or it is not mapped"},
-  {FAM_TOO_MANY, "FAM_TOO_MANY", "a commit takes at most 1023 written pages"},
-  {FAM_READ_ONLY, "FAM_READ_ONLY", "the image or the file may only be read"},
-  {FAM_BAD_RANGE, "FAM_BAD_RANGE", "the bytes do not lie in one mapped file"},
-  {FAM_DEVICE, "FAM_DEVICE", "a read, write or sync of the image failed"},
-  {FAM_HALTED, "FAM_HALTED", "the image has to be closed and opened again, since its device failed"},
-  {FAM_NO_TRACKER, "FAM_NO_TRACKER", "the system has not the tracker that was asked for"},
-  {FAM_FORKED, "FAM_FORKED", "the image was opened by a parent process"},
+  {KEFS_OK, "KEFS_OK", "it was done"},
+  {KEFS_NOT_IMAGE, "KEFS_NOT_IMAGE", "the file has no layout of a store"},
+  {KEFS_BAD_JOURNAL, "KEFS_BAD_JOURNAL", "the image's journal is open with a map that no commit writes"},
+  {KEFS_BUSY, "KEFS_BUSY", "another process or handle has the image open"},
+  {KEFS_NO_FILE, "KEFS_NO_FILE", "the image has no such file, or it is not mapped"},
+  {KEFS_TOO_MANY, "KEFS_TOO_MANY", "a commit takes at most 1023 dirty pages"},
+  {KEFS_READ_ONLY, "KEFS_READ_ONLY", "the image or the file may only be read"},
+  {KEFS_BAD_RANGE, "KEFS_BAD_RANGE", "the bytes do not lie in one mapped file"},
+  {KEFS_DEVICE, "KEFS_DEVICE", "a read, write or sync of the image failed"},
+  {KEFS_HALTED, "KEFS_HALTED", "the image has to be recovered or closed, since its device failed"},
+  {KEFS_NO_TRACKER, "KEFS_NO_TRACKER", "the system has not the tracker that was asked for"},
+  {KEFS_FORKED, "KEFS_FORKED", "the image was opened by a parent process"},
 };
 enum { COUNT = sizeof RESULTS / sizeof *RESULTS };
 
-int fam_version(void) { return FAM_VERSION_NUMBER; }
+int kefs_version(void) { return KEFS_VERSION_NUMBER; }
 
-const char *fam_strerror(int result) {
+const char *kefs_strerror(int result) {
   if (result > 0) {
     const char *text = strerrordesc_np(result);
     return text != NULL ? text : "unknown errno value";
@@ -33,20 +34,35 @@ const char *fam_strerror(int result) {
   return "unknown result";
 }
 
-const char *fam_name(int result) {
+const char *kefs_name(int result) {
   for (size_t i = 0; i < COUNT; i++)
     if (RESULTS[i].result == result) return RESULTS[i].name;
   return result > 0 ? "errno" : "unknown";
 }
 
-const char *fam_errmsg(const fam_image *image) { return image->message; }
+enum { MESSAGE = sizeof ((struct kefs_image *)0)->message };
+static _Thread_local char opening_message[MESSAGE];
 
-int fail(struct fam_image *image, int result, const char *format, ...) {
-  va_list words;
-  va_start(words, format);
-  int used = vsnprintf(image->message, sizeof image->message, format, words);
-  va_end(words);
-  if (used >= 0 && (size_t)used < sizeof image->message)
-    snprintf(image->message + used, sizeof image->message - (size_t)used, ": %s", fam_strerror(result));
+const char *kefs_errmsg(const kefs_image *image) { return image == NULL ? opening_message : image->message; }
+
+void keep_message(const struct kefs_image *image) { memcpy(opening_message, image->message, MESSAGE); }
+
+/* A message that ends in the words of an errno value gets no more. */
+static int ends_in(const char *message, size_t length, const char *words) {
+  size_t more = strlen(words);
+  return length >= more && strcmp(message + length - more, words) == 0;
+}
+
+int fail(struct kefs_image *image, int result, const char *format, ...) {
+  char *message = image == NULL ? opening_message : image->message;
+  const char *words = kefs_strerror(result);
+  va_list more;
+  va_start(more, format);
+  int used = vsnprintf(message, MESSAGE, format, more);
+  va_end(more);
+  if (used >= 0 && used < MESSAGE && result != KEFS_DEVICE && !ends_in(message, (size_t)used, words))
+    snprintf(message + used, (size_t)(MESSAGE - used), ": %s", words);
   return result;
 }
+
+int device_result(int number) { return number == ENOSPC || number == EDQUOT ? number : KEFS_DEVICE; }

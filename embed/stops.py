@@ -1,9 +1,10 @@
-"""stops.py LIBRARY COMMITS: lists the plans of random commits, stops each plan before each of its calls and at its end, with
-the unsynced sectors as they were, as they became, torn in their midst or of any bytes, and opens what is left. It has to
-stand for the files before or after, and at the end for those after."""
+"""stops.py LIBRARY COMMITS [LAYOUT]: lists the plans of random commits on an image of layout 2, or of LAYOUT, stops
+each plan before each of its calls and at its end, with the unsynced sectors as they were, as they became, torn in their midst or of any
+bytes, and opens what is left. It has to stand for the files before or after, and at the end for those after."""
 import ctypes as c, random, sys
-from images import HOMES, new_image
-ROOM, LENGTHS = 16384, [20000, 9000, 1]
+from images import LAYOUTS, new_image
+ROOM, LENGTHS, LAYOUT = 16384, [20000, 9000, 1], int(sys.argv[3]) if len(sys.argv) > 3 else 2
+HOMES = LAYOUTS[LAYOUT].homes
 WRITE, SYNC, LENT, COPY = 1, 2, 3, 4
 
 
@@ -89,7 +90,7 @@ def stops(image, calls, before, after):
 
 random.seed(1)
 kinds = set()
-image, bad, tried, places = new_image(LENGTHS), 0, 0, [(f, k) for f, n in enumerate(LENGTHS) for k in range((n + 4095) // 4096)]
+image, bad, tried, places = new_image(LENGTHS, layout=LAYOUT), 0, 0, [(f, k) for f, n in enumerate(LENGTHS) for k in range((n + 4095) // 4096)]
 for _ in range(int(sys.argv[2])):
     pages = random.sample(places, random.randint(1, len(places)))
     answer, calls = committed(image, pages, [random.randbytes(4096) for _ in pages])
@@ -97,6 +98,7 @@ for _ in range(int(sys.argv[2])):
     following = bytes(carried_out(image, calls))
     wrong, more = stops(image, calls, homes(image), homes(following))
     bad, tried, image = bad + wrong, tried + more, following
-assert len(kinds) == 4, f"calls of the kinds {kinds} alone"
-print(f"stops {tried} in {sys.argv[2]} commits: {bad} bad")
+# of layout 3 a plan writes a home by its sectors
+assert len(kinds) == (4 if LAYOUT == 2 else 3), f"calls of the kinds {kinds} alone"
+print(f"stops {tried} in {sys.argv[2]} commits of layout {LAYOUT}: {bad} bad")
 sys.exit(bad > 0)

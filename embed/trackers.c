@@ -9,6 +9,7 @@
 #include <sys/ioctl.h>
 #include <sys/mman.h>
 #include <sys/syscall.h>
+#include <ucontext.h>
 #include <unistd.h>
 
 /* PAGEMAP_SCAN of Linux 6.7 and later, and the features of userfaultfd that go with it, for older headers. */
@@ -43,14 +44,14 @@ static size_t copy_homes(const struct mapping *mapping, size_t first, size_t end
 
 /* EAGAIN: the process's memory was being changed; again. */
 int fill_missing(const struct span *span) {
-  if (!span->mapping->image->lazy) return FAM_OK;
+  if (!span->mapping->image->lazy) return KEFS_OK;
   for (size_t k = span->first; k < span->end;) {
     size_t read = copy_homes(span->mapping, k, span->end);
     if (read > 0) k += read;
     else if (errno == EEXIST) k++;
     else if (errno != EAGAIN) return errno == ENOMEM ? ENOMEM : EIO;
   }
-  return FAM_OK;
+  return KEFS_OK;
 }
 
 static int fill_around(const struct mapping *mapping, size_t k) {
@@ -78,26 +79,57 @@ static void pass_on(const struct sigaction *before, int number, siginfo_t *info,
 /* The pages are opened first and marked then. A commit takes the marks, closes the pages and writes them, in this order; so a
    store that follows this comes before the close, and the mark that is set here stays for the next commit, or it faults again.
    Were the mark set first, a commit could take it, write the page, and let the store through after that with no mark. Each page
-   that is open alone is a mapping of the kernel, of which there are some 65,000; then all of the file is opened. */
-int open_pages(const struct span *span) {
-  struct span all = {span->mapping, 0, span->mapping->pages}, opened = *span;
-  if (span->mapping->image->tracker == TRACKER_SIGNAL) {
-    if (mprotect(page_at(span->mapping, opened.first), (opened.end - opened.first) * PAGE, PROT_READ | PROT_WRITE) != 0) {
-      opened = all;
-      if (mprotect(span->mapping->at, all.end * PAGE, PROT_READ | PROT_WRITE) != 0) return errno;
-    }
-  }
-  for (size_t k = opened.first; k < opened.end; k++) add_mark(&span->mapping->marks[k], WRITTEN);
-  return FAM_OK;
+   that is open alone is a mapping of the kernel, of which there are some 65,000. When there can be no more, the pages between
+   these and the nearest one that is open are opened too, which takes no further mapping; or, where none is, all of the file. */
+static int open_span(const struct span *span) {
+  return mprotect(page_at(span->mapping, span->first), (span->end - span->first) * PAGE, PROT_READ | PROT_WRITE) == 0 ? KEFS_OK : errno;
 }
 
-/* The first store to a page that is not written. */
+static int is_dirty(const struct mapping *mapping, size_t k) { return (__atomic_load_n(&mapping->marks[k], __ATOMIC_SEQ_CST) & DIRTY) != 0; }
+
+static struct span up_to_open_page(const struct span *span) {
+  size_t below = span->first, above = span->end;
+  while (below > 0 && !is_dirty(span->mapping, below - 1)) below--;
+  while (above < span->mapping->pages && !is_dirty(span->mapping, above)) above++;
+  int has_below = below > 0, has_above = above < span->mapping->pages;
+  if (has_below && (!has_above || span->first - below <= above - span->end)) return (struct span){span->mapping, below, span->end};
+  return has_above ? (struct span){span->mapping, span->first, above} : (struct span){span->mapping, 0, span->mapping->pages};
+}
+
+/* Opens these pages, or more: which ones. */
+static int open_some(const struct span *span, struct span *opened) {
+  *opened = *span;
+  if (span->mapping->image->tracker != TRACKER_SIGNAL || span->first == span->end || open_span(opened) == KEFS_OK) return KEFS_OK;
+  *opened = up_to_open_page(span);
+  if (open_span(opened) == KEFS_OK) return KEFS_OK;
+  *opened = (struct span){span->mapping, 0, span->mapping->pages};
+  return open_span(opened);
+}
+
+int open_pages(const struct span *span) {
+  struct span opened;
+  int number = open_some(span, &opened);
+  if (number != KEFS_OK) return number;
+  for (size_t k = opened.first; k < opened.end; k++) add_mark(&span->mapping->marks[k], DIRTY);
+  return KEFS_OK;
+}
+
+/* Whether the access was a store, where the processor says so: a jump into mapped memory would fault again for ever. */
+static int is_store(const void *context) {
+#ifdef __x86_64__
+  return (((const ucontext_t *)context)->uc_mcontext.gregs[REG_ERR] & 2) != 0;
+#else
+  return (void)context, 1;
+#endif
+}
+
+/* The first store to a page that is not dirty. */
 static void on_store(int number, siginfo_t *info, void *context) {
   int kept = errno;
   struct mapping *mapping = info->si_code == SEGV_ACCERR ? mapping_at(info->si_addr) : NULL;
-  int ours = mapping != NULL && mapping->image->tracker == TRACKER_SIGNAL && !mapping->file.read_only;
+  int ours = mapping != NULL && mapping->image->tracker == TRACKER_SIGNAL && !mapping->file.read_only && is_store(context);
   size_t k = ours ? (size_t)((unsigned char *)info->si_addr - mapping->at) / PAGE : 0;
-  if (!ours || open_pages(&(struct span){mapping, k, k + 1}) != FAM_OK) pass_on(&before_store, number, info, context);
+  if (!ours || open_pages(&(struct span){mapping, k, k + 1}) != KEFS_OK) pass_on(&before_store, number, info, context);
   errno = kept;
 }
 
@@ -113,7 +145,7 @@ static int installed_store = ENOSYS, installed_missing = ENOSYS;
 
 static int install(int number, void (*handler)(int, siginfo_t *, void *), struct sigaction *before) {
   struct sigaction ours = {.sa_sigaction = handler, .sa_flags = SA_SIGINFO | SA_ONSTACK};
-  return sigaction(number, &ours, before) == 0 ? FAM_OK : errno;
+  return sigaction(number, &ours, before) == 0 ? KEFS_OK : errno;
 }
 
 static void install_store(void) { installed_store = install(SIGSEGV, on_store, &before_store); }
@@ -121,21 +153,36 @@ static void install_missing(void) { installed_missing = install(SIGBUS, on_missi
 
 /* Choosing */
 
+/* A descriptor, or -1 and errno. */
 static int open_faults(uint64_t features) {
-  int fd = (int)syscall(SYS_userfaultfd, O_CLOEXEC | USER_MODE_ONLY);
+  int fd = move_high((int)syscall(SYS_userfaultfd, O_CLOEXEC | USER_MODE_ONLY));
   struct uffdio_api api = {.api = UFFD_API, .features = features};
   if (fd >= 0 && ioctl(fd, UFFDIO_API, &api) == 0) return fd;
+  int number = errno;
   if (fd >= 0) close(fd);
+  errno = number;
   return -1;
 }
 
-static int begin_scans(struct fam_image *image, uint64_t features) {
+/* Whether a system that has not the scan, or does not grant it, fails so. Any other failure is none of that. */
+static int has_no_scan(int number) {
+  return number == ENOSYS || number == EPERM || number == EINVAL || number == ENOTTY || number == ENOENT || number == EACCES;
+}
+
+static int try_scans(struct kefs_image *image, uint64_t features) {
   struct scan none = {.size = sizeof none};
   image->faults = open_faults(WP_ASYNC | WP_UNPOPULATED | features);
-  image->pagemap = open("/proc/self/pagemap", O_RDONLY | O_CLOEXEC);
-  if (image->faults >= 0 && image->pagemap >= 0 && ioctl(image->pagemap, SCAN, &none) >= 0) return FAM_OK;
+  if (image->faults < 0) return errno;
+  image->pagemap = open_high("/proc/self/pagemap", O_RDONLY | O_CLOEXEC, 0);
+  if (image->pagemap < 0) return errno;
+  return ioctl(image->pagemap, SCAN, &none) >= 0 ? KEFS_OK : errno;
+}
+
+static int begin_scans(struct kefs_image *image, uint64_t features) {
+  int number = try_scans(image, features);
+  if (number == KEFS_OK) return image->tracker = TRACKER_SCAN, KEFS_OK;
   end_tracking(image);
-  return FAM_NO_TRACKER;
+  return has_no_scan(number) ? KEFS_NO_TRACKER : number;
 }
 
 static int begin_signals(void) {
@@ -150,28 +197,26 @@ static int begin_laziness(void) {
   return installed_missing;
 }
 
-static int begin_caller(struct fam_image *image, enum tracker tracker) {
+static int begin_caller(struct kefs_image *image, enum tracker tracker) {
   image->tracker = tracker;
   if (image->lazy) image->faults = open_faults(SIGBUS_ON_MISSING);
+  if (image->faults < 0 && image->lazy && !has_no_scan(errno)) return errno;
   if (image->faults < 0) image->lazy = 0;
-  return FAM_OK;
+  return KEFS_OK;
 }
 
-int begin_tracking(struct fam_image *image, unsigned flags) {
-  image->lazy = (flags & FAM_LAZY) != 0 && begin_laziness() == FAM_OK;
+int begin_tracking(struct kefs_image *image, unsigned flags) {
+  image->lazy = (flags & KEFS_LAZY) != 0 && begin_laziness() == KEFS_OK;
   if (image->read_only) return begin_caller(image, TRACKER_NONE);
-  if ((flags & FAM_TRACK_CALLER) != 0) return begin_caller(image, TRACKER_CALLER);
-  if ((flags & FAM_TRACK_SIGNAL) == 0 && begin_scans(image, image->lazy ? SIGBUS_ON_MISSING : 0) == FAM_OK) {
-    image->tracker = TRACKER_SCAN;
-    return FAM_OK;
-  }
-  if ((flags & FAM_TRACK_SCAN) != 0) return FAM_NO_TRACKER;
+  if ((flags & KEFS_TRACK_CALLER) != 0) return begin_caller(image, TRACKER_CALLER);
+  int result = (flags & KEFS_TRACK_SIGNAL) == 0 ? begin_scans(image, image->lazy ? SIGBUS_ON_MISSING : 0) : KEFS_NO_TRACKER;
+  if (result != KEFS_NO_TRACKER || (flags & KEFS_TRACK_SCAN) != 0) return result;
   image->tracker = TRACKER_SIGNAL;
   image->lazy = 0;
   return begin_signals();
 }
 
-void end_tracking(struct fam_image *image) {
+void end_tracking(struct kefs_image *image) {
   if (image->faults >= 0) close(image->faults);
   if (image->pagemap >= 0) close(image->pagemap);
   image->faults = image->pagemap = -1;
@@ -181,30 +226,30 @@ void end_tracking(struct fam_image *image) {
 
 static int register_faults(struct mapping *mapping, uint64_t mode) {
   struct uffdio_register all = {.range = {(uintptr_t)mapping->at, mapping->pages * PAGE}, .mode = mode};
-  return ioctl(mapping->image->faults, UFFDIO_REGISTER, &all) == 0 ? FAM_OK : errno;
+  return ioctl(mapping->image->faults, UFFDIO_REGISTER, &all) == 0 ? KEFS_OK : errno;
 }
 
 static int protect(struct mapping *mapping) {
   struct uffdio_writeprotect all = {.range = {(uintptr_t)mapping->at, mapping->pages * PAGE}, .mode = UFFDIO_WRITEPROTECT_MODE_WP};
-  return ioctl(mapping->image->faults, UFFDIO_WRITEPROTECT, &all) == 0 ? FAM_OK : errno;
+  return ioctl(mapping->image->faults, UFFDIO_WRITEPROTECT, &all) == 0 ? KEFS_OK : errno;
 }
 
 static int put_page(struct mapping *mapping, size_t k) {
   unsigned char bytes[PAGE];
   copy_durable(mapping, k, bytes);
-  if (!mapping->image->lazy) return memcpy(page_at(mapping, k), bytes, PAGE), FAM_OK;
+  if (!mapping->image->lazy) return memcpy(page_at(mapping, k), bytes, PAGE), KEFS_OK;
   uint64_t mode = mapping->image->tracker == TRACKER_SCAN ? UFFDIO_COPY_MODE_WP : 0;
   struct uffdio_copy copy = {.dst = (uintptr_t)page_at(mapping, k), .src = (uintptr_t)bytes, .len = PAGE, .mode = mode};
   while (ioctl(mapping->image->faults, UFFDIO_COPY, &copy) != 0)
-    if (errno != EAGAIN) return errno == EEXIST ? FAM_OK : errno;
-  return FAM_OK;
+    if (errno != EAGAIN) return errno == EEXIST ? KEFS_OK : errno;
+  return KEFS_OK;
 }
 
 /* Reads the pages whose bytes are not those of their homes: the pages of the journal, and a last page that zeros end. */
 static int put_others(struct mapping *mapping) {
   uint32_t first = mapping->file.first_home, count = journal_pages(mapping->image);
-  int number = mapping->file.length % PAGE == 0 ? FAM_OK : put_page(mapping, mapping->pages - 1);
-  for (uint32_t i = 0; i < count && number == FAM_OK; i++) {
+  int number = mapping->file.length % PAGE == 0 ? KEFS_OK : put_page(mapping, mapping->pages - 1);
+  for (uint32_t i = 0; i < count && number == KEFS_OK; i++) {
     uint32_t home = journal_home(mapping->image, i);
     if (home >= first && home - first < mapping->pages) number = put_page(mapping, home - first);
   }
@@ -214,27 +259,27 @@ static int put_others(struct mapping *mapping) {
 /* Large pages take fewer faults now, and fewer entries to look through in each scan. The first store to one splits it. */
 static int read_homes(struct mapping *mapping) {
   madvise(mapping->at, mapping->pages * PAGE, MADV_HUGEPAGE);
-  return read_all(mapping->image->fd, mapping->at, mapping->pages * PAGE, home_offset(mapping->file.first_home)) == FAM_OK ? FAM_OK : EIO;
+  return read_all(mapping->image->fd, mapping->at, mapping->pages * PAGE, home_offset(mapping->file.first_home)) == KEFS_OK ? KEFS_OK : EIO;
 }
 
 int load(struct mapping *mapping) {
-  struct fam_image *image = mapping->image;
+  struct kefs_image *image = mapping->image;
   uint64_t write_mode = image->tracker == TRACKER_SCAN ? UFFDIO_REGISTER_MODE_WP : 0;
   int number = image->lazy ? register_faults(mapping, UFFDIO_REGISTER_MODE_MISSING | write_mode) : read_homes(mapping);
-  if (number == FAM_OK) number = put_others(mapping);
-  if (number == FAM_OK && !image->lazy && image->tracker == TRACKER_SCAN) {
+  if (number == KEFS_OK) number = put_others(mapping);
+  if (number == KEFS_OK && !image->lazy && image->tracker == TRACKER_SCAN) {
     number = register_faults(mapping, write_mode);
-    if (number == FAM_OK) number = protect(mapping);
+    if (number == KEFS_OK) number = protect(mapping);
   }
   int closed = image->tracker == TRACKER_SIGNAL || image->read_only || mapping->file.read_only;
-  if (number == FAM_OK && closed && mprotect(mapping->at, mapping->pages * PAGE, PROT_READ) != 0) number = errno;
+  if (number == KEFS_OK && closed && mprotect(mapping->at, mapping->pages * PAGE, PROT_READ) != 0) number = errno;
   return number;
 }
 
 /* Noting stores */
 
 /* Marks the pages that the kernel says were stored to since the last look, and begins anew. A page that was not read yet has
-   no protection, as a written one, but is neither present nor swapped. Where all pages were read the kernel is not asked for
+   no protection, as a dirty one, but is neither present nor swapped. Where all pages were read the kernel is not asked for
    that, which takes it twice as long. */
 static int look(const struct span *span, unsigned char mark) {
   struct mapping *mapping = span->mapping;
@@ -249,15 +294,15 @@ static int look(const struct span *span, unsigned char mark) {
     for (int i = 0; i < count; i++)
       for (uint64_t at = found[i].start; at < found[i].end; at += PAGE) add_mark(&mapping->marks[(at - (uintptr_t)mapping->at) / PAGE], mark);
   }
-  return FAM_OK;
+  return KEFS_OK;
 }
 
-int note_written(const struct span *span) { return span->mapping->image->tracker == TRACKER_SCAN ? look(span, WRITTEN) : FAM_OK; }
+int note_dirty(const struct span *span) { return span->mapping->image->tracker == TRACKER_SCAN ? look(span, DIRTY) : KEFS_OK; }
 
 /* A scan has protected the pages already. */
 int seal(const struct span *span) {
-  if (span->mapping->image->tracker != TRACKER_SIGNAL) return FAM_OK;
-  return mprotect(page_at(span->mapping, span->first), (span->end - span->first) * PAGE, PROT_READ) == 0 ? FAM_OK : errno;
+  if (span->mapping->image->tracker != TRACKER_SIGNAL) return KEFS_OK;
+  return mprotect(page_at(span->mapping, span->first), (span->end - span->first) * PAGE, PROT_READ) == 0 ? KEFS_OK : errno;
 }
 
 int forget_stores(const struct span *span) { return span->mapping->image->tracker == TRACKER_SCAN ? look(span, 0) : seal(span); }

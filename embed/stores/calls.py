@@ -1,5 +1,5 @@
 """calls.py FILE SEED COUNT: makes random calls on a file and prints what each of them gave. What it prints has to be the same
-under famrun as without."""
+under kefsrun as without."""
 import mmap
 import os
 import random
@@ -10,6 +10,8 @@ path, rng = sys.argv[1], random.Random(int(sys.argv[2]))
 fd = os.open(path, os.O_RDWR | os.O_CREAT, 0o644)
 os.ftruncate(fd, MOST)
 mapped = mmap.mmap(fd, MOST)
+other = os.dup(fd)  # it has one place with fd
+folder = os.open("/", os.O_RDONLY)
 
 
 def some():
@@ -37,6 +39,25 @@ def gathered(call, *words):
     return call(fd, parts, *words), b"".join(parts)
 
 
+def appended():
+    """Writes at the end, through a descriptor whose place is elsewhere."""
+    if os.fstat(fd).st_size > MOST // 2:
+        return 0
+    with open(path, "ab", buffering=0) as end:
+        end.seek(0)
+        return end.write(some()), end.tell()
+
+
+def grown():
+    """A mapping of one page that grows, what is stored behind its first end, and that it is in the file."""
+    if os.fstat(fd).st_size < 8192:
+        return 0
+    with mmap.mmap(fd, 4096) as small:
+        small.resize(8192)
+        small[8000:8004] = rng.randbytes(4)
+    return os.pread(fd, 8, 7998)
+
+
 def reopened():
     """Another descriptor, at times one that cuts the file off."""
     other = os.open(path, os.O_RDWR | (os.O_TRUNC if rng.random() < 0.2 else 0))
@@ -62,6 +83,12 @@ CALLS = (
     mapped.flush,
     stored,
     reopened,
+    appended,
+    grown,
+    lambda: os.write(other, some()) if os.lseek(other, 0, os.SEEK_CUR) < MOST // 2 else 0,
+    lambda: os.posix_fallocate(fd, place(), 1 + rng.randrange(5000)),
+    lambda: os.truncate(path, place()),
+    lambda: (os.stat(path, dir_fd=folder).st_size, os.path.getsize(path)),
 )
 for number in range(int(sys.argv[3])):
     k = rng.randrange(len(CALLS))

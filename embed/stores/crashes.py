@@ -1,12 +1,12 @@
-"""crashes.py OUT STATES [SEED]: what power cuts leave of four stores, alone and over fam, as a table in Markdown.
+"""crashes.py OUT STATES [SEED]: what power cuts leave of four stores, alone and over kefs, as a table in Markdown.
 
-OUT holds what `run` builds. Of each store STATES states are tried over fam, in equal parts over its rows, and of each row at most ALONE_MOST alone:
+OUT holds what `run` builds. Of each store STATES states are tried over kefs, in equal parts over its rows, and of each row at most ALONE_MOST alone:
 a third of them in each model of powercuts.py, in rounds of one recorded run each. A state is bad where `workload check` finds it as after no transaction, where the store refuses, crashes or hangs, and where a
-transaction is missing that was acknowledged. Alone a store may repair itself first. Over fam it may not; the state is read twice, apart from the
-library (tools/imagecat) and by famrun, and has to be the same.
+transaction is missing that was acknowledged. Alone a store may repair itself first. Over kefs it may not; the state is read twice, apart from the
+library (tools/imagecat) and by kefsrun, and has to be the same.
 
 The last row is a control: a disk that ignores one sync in three, over which no library keeps anything whole. Where no state of it is bad this
-test is blind. The exit status is 1 then, or where a state over fam is bad, else 0.
+test is blind. The exit status is 1 then, or where a state over kefs is bad, else 0.
 """
 import collections
 import contextlib
@@ -32,7 +32,7 @@ PATIENCE = 20  # seconds
 
 
 class Row(NamedTuple):
-    """A store, how it makes a transaction durable, and its mode in workload.c. `commit_at`: the option of famrun over fam; None where it is
+    """A store, how it makes a transaction durable, and its mode in workload.c. `commit_at`: the option of kefsrun over kefs; None where it is
     only tried alone."""
 
     store: str
@@ -107,10 +107,10 @@ def read_apart(image):
 
 
 class Trial:
-    """One row, alone or over fam, in a folder of its own."""
+    """One row, alone or over kefs, in a folder of its own."""
 
-    def __init__(self, row, out, folder, is_fam):
-        self.row, self.out, self.folder, self.is_fam = row, out, folder, is_fam
+    def __init__(self, row, out, folder, is_kefs):
+        self.row, self.out, self.folder, self.is_kefs = row, out, folder, is_kefs
         self.store = next(it for it in OWN if row.mode.startswith(it))
 
     def path(self, name):
@@ -118,18 +118,18 @@ class Trial:
         return os.path.join(self.folder, name)
 
     def workload(self, name, *words):
-        """The command that runs the workload on a data file, over the image of the same name where it is over fam."""
+        """The command that runs the workload on a data file, over the image of the same name where it is over kefs."""
         command = [os.path.join(self.out, "workload"), self.row.mode, self.path(f"{name}.db"), *words]
-        return [*self.famrun(name), *command] if self.is_fam else command
+        return [*self.kefsrun(name), *command] if self.is_kefs else command
 
-    def famrun(self, name):
-        """The words of famrun before a command."""
-        return [os.path.join(self.out, "famrun"), "-m", str(ROOM), "-c", self.row.commit_at, self.path(f"{name}.img"), self.path(f"{name}.db"), "--"]
+    def kefsrun(self, name):
+        """The words of kefsrun before a command."""
+        return [os.path.join(self.out, "kefsrun"), "-m", str(ROOM), "-c", self.row.commit_at, self.path(f"{name}.img"), self.path(f"{name}.db"), "--"]
 
     def recorded(self, seed):
         """Runs the workload: the bytes of the file, or of the image, before the recorded part, and the trace of that."""
         self.clear("run")
-        file, trace = self.path("run.img" if self.is_fam else "run.db"), self.path("run.trace")
+        file, trace = self.path("run.img" if self.is_kefs else "run.db"), self.path("run.trace")
         self.must_run(self.workload("run", "run", str(seed), str(BEFORE)))
         with open(file, "rb") as content:
             base = content.read()
@@ -157,7 +157,7 @@ class Trial:
 
     def verdict(self, state, log, seed, acknowledged):
         """What a state is."""
-        if not self.is_fam:
+        if not self.is_kefs:
             return self.verdict_of_plain(state, log, seed, acknowledged)[0]
         written(self.path("cut.img"), state)
         content = read_apart(self.path("cut.img"))
@@ -173,10 +173,10 @@ class Trial:
         refused = False
         for tool in OWN[self.store]:
             self.place(content, log)
-            refused |= ran([*tool, *(["-onr"] if self.is_fam and self.store == "kyoto" else []), self.path("state.db")])[0] != 0
+            refused |= ran([*tool, *(["-onr"] if self.is_kefs and self.store == "kyoto" else []), self.path("state.db")])[0] != 0
         self.place(content, log)
         words = [os.path.join(self.out, "workload"), self.row.mode, self.path("state.db"), "check", str(seed)]
-        status, text = ran([*words, "unrepaired"] if self.is_fam else words)
+        status, text = ran([*words, "unrepaired"] if self.is_kefs else words)
         return Verdict(verdict_of(status, text, acknowledged), refused), text
 
 
@@ -232,9 +232,9 @@ def say_row(row, alone, over):
 
 
 def table(out, folder, states, seed):
-    """Prints the table and, below it, what was found over fam; gives the exit status."""
+    """Prints the table and, below it, what was found over kefs; gives the exit status."""
     print("Bad states; in brackets those that the store's own tools refuse, bad or not.\n")
-    print("| Store | alone: page | sector | torn | over fam: page | sector | torn |\n|---|---|---|---|---|---|---|", flush=True)
+    print("| Store | alone: page | sector | torn | over kefs: page | sector | torn |\n|---|---|---|---|---|---|---|", flush=True)
     found = collections.defaultdict(collections.Counter)
     rows_over = collections.Counter(row.store for row in ROWS if row.commit_at is not None)
     for row in ROWS:
@@ -242,7 +242,7 @@ def table(out, folder, states, seed):
         over = NOT_TRIED if row.commit_at is None else tried(Trial(row, out, folder, True), -(-states // rows_over[row.store]), seed)
         say_kinds(row, "alone", alone)
         if over is not NOT_TRIED:
-            say_kinds(row, "over fam", over)
+            say_kinds(row, "over kefs", over)
             for tally in over.values():
                 found[row.store].update(tally)
         say_row(row, alone, over)
@@ -251,7 +251,7 @@ def table(out, folder, states, seed):
     say_row(CONTROL, NOT_TRIED, control)
     print()
     for name, tally in found.items():
-        print(f"{name}: {sum(tally.values()) - tally['own']} states over fam, {bad(tally)} bad")
+        print(f"{name}: {sum(tally.values()) - tally['own']} states over kefs, {bad(tally)} bad")
     blind = not any(bad(tally) for tally in control.values())
     if blind:
         print("crashes: the control has no bad state: this test is blind")

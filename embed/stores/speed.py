@@ -1,4 +1,4 @@
-"""speed.py OUT FOLDER ROUNDS TRANSACTIONS: how long a transaction of the workload takes alone and over fam, as a table in Markdown.
+"""speed.py OUT FOLDER ROUNDS TRANSACTIONS: how long a transaction of the workload takes alone and over kefs, as a table in Markdown.
 
 In each round every store runs TRANSACTIONS transactions in each of its ways, in random order, so that a noisy device is noisy for all. A
 number is the median over the rounds, in brackets the least and the greatest. OUT holds what `run` builds; FOLDER says which device it is."""
@@ -11,7 +11,7 @@ import tempfile
 import time
 
 ROOM = "2M"
-# The mode of workload.c, and famrun's option over fam.
+# The mode of workload.c, and kefsrun's option over kefs.
 STORES = {
     "LMDB": (("lmdb", None), ("lmdb-writemap", None), ("lmdb-writemap", "part")),
     "Kyoto Cabinet": (("kyoto", None), ("kyoto-transactions", None), ("kyoto", "fsync")),
@@ -24,7 +24,7 @@ def command(out, folder, mode, commit_at, transactions):
     """Runs so many transactions, on the same data file each time."""
     name = os.path.join(folder, f"{mode}.{commit_at or 'alone'}")
     words = [os.path.join(out, "workload"), mode, f"{name}.db", "run", "1", str(transactions)]
-    over = [os.path.join(out, "famrun"), "-m", ROOM, "-c", commit_at, f"{name}.img", f"{name}.db", "--"] if commit_at else []
+    over = [os.path.join(out, "kefsrun"), "-m", ROOM, "-c", commit_at, f"{name}.img", f"{name}.db", "--"] if commit_at else []
     return over + words
 
 
@@ -42,7 +42,7 @@ def main(out, parent, rounds, transactions):
     for store, all_ways in STORES.items():
         for mode, commit_at in all_ways:
             times = taken[mode, commit_at]
-            over = ", over fam" if commit_at else ""
+            over = ", over kefs" if commit_at else ""
             print(f"| {store} | `{mode}`{over} | {statistics.median(times):.2f} ({min(times):.2f} to {max(times):.2f}) |")
 
 

@@ -1,19 +1,25 @@
-/* famrun: runs a program on an image of libfam in place of its one data file. The work is done by famrun.so (bridge.c), which stands beside
-   this program and is preloaded; here are its options, what has to be so before it can begin, and clear words where it is not. */
+/* kefsrun: runs a program on an image of libkefs in place of its one data file. The work is done by kefsrun.so (bridge.c and the
+   files beside it), which stands beside this program and is preloaded; here are its options, what has to be so before it can begin, and clear words where it is not. */
 #define _GNU_SOURCE
-#include "fam.h"
+#include "kefs.h"
+#include <elf.h>
 #include <errno.h>
 #include <fcntl.h>
 #include <limits.h>
+#include <linux/filter.h>
+#include <linux/seccomp.h>
+#include <stddef.h>
 #include <stdio.h>
 #include <stdlib.h>
 #include <string.h>
 #include <sys/mman.h>
+#include <sys/prctl.h>
 #include <sys/stat.h>
+#include <sys/syscall.h>
 #include <unistd.h>
 
 static const char usage[] =
-  "usage: famrun [-v] [-c every|fsync|part] [-m LENGTH [-i]] IMAGE DATAFILE -- COMMAND [ARGUMENT...]\n"
+  "usage: kefsrun [-v] [-c every|fsync|part] [-m LENGTH [-i]] IMAGE DATAFILE -- COMMAND [ARGUMENT...]\n"
   "\n"
   "Runs COMMAND, whose reads, writes and mappings of DATAFILE go to IMAGE. What COMMAND syncs becomes durable all at once:\n"
   "after a crash or a power cut IMAGE holds what one of its syncs left, the last one that returned or a later one.\n"
@@ -27,14 +33,17 @@ static const char usage[] =
   "  -c part    not an msync of the whole mapping: for LMDB with MDB_WRITEMAP, which syncs its root page after it\n"
   "  -v         says at the end how many commits there were\n"
   "\n"
+  "COMMAND may be any program: a copy by tar or cp has the bytes of DATAFILE. What can't be done to it, as rename, is refused in a line. One process has\n"
+  "IMAGE at a time, and a shell that redirects to or from DATAFILE is one; stat alone holds nothing.\n"
+  "\n"
   "A commit takes at most 1,023 pages of 4,096 bytes; a larger one fails with E2BIG. COMMAND has to be linked dynamically. Its exit status is\n"
-  "famrun's; 2 is a wrong word here, 125 another failure of famrun, 126 and 127 a COMMAND that cannot be run or is not there.\n";
+  "kefsrun's; 2 is a wrong word here, 125 another failure of kefsrun, 126 and 127 a COMMAND that cannot be run or is not there.\n";
 
 struct options { const char *commit_at, *image, *data; uint32_t length; int is_verbose, is_import; char **command; };
 
 /* Says what failed and ends the program with status 125. */
 _Noreturn static void quit(const char *what, const char *why) {
-  fprintf(stderr, "famrun: %s: %s\n", what, why);
+  fprintf(stderr, "kefsrun: %s: %s\n", what, why);
   exit(125);
 }
 
@@ -72,11 +81,11 @@ static struct options options_of(int count, char **words) {
 
 /* Makes the image of a data file that may grow to `most` bytes and has `length` of them now, those at `bytes`; NULL: none. */
 static void format(const char *path, uint32_t most, uint64_t length, const void *bytes) {
-  unsigned char page[FAM_PAGE] = {0};
+  unsigned char page[KEFS_PAGE] = {0};
   memcpy(page, &length, sizeof length);
-  struct fam_file files[2] = {{.length = most, .content = bytes}, {.length = FAM_PAGE, .content = page}};
-  int result = fam_format(path, 0644, files, 2);
-  if (result != FAM_OK) quit(path, fam_strerror(result));
+  struct kefs_file files[2] = {{.length = most, .content = bytes}, {.length = KEFS_PAGE, .content = page}};
+  int result = kefs_format(path, 0644, files, 2);
+  if (result != KEFS_OK) quit(path, kefs_strerror(result));
 }
 
 /* Makes the image of the bytes that the data file has, with zeros after them. Only then the file gets its other name. */
@@ -112,7 +121,7 @@ static void make_data_file(const char *path) {
   if (fd < 0 || fstat(fd, &st) != 0) quit(path, strerror(errno));
   close(fd);
   if (!S_ISREG(st.st_mode)) quit(path, "no regular file");
-  if (st.st_size != 0) quit(path, "has bytes of its own; under famrun the image has them and this file is empty. -m LENGTH -i takes them into a new image; else move it away first");
+  if (st.st_size != 0) quit(path, "has bytes of its own; under kefsrun the image has them and this file is empty. -m LENGTH -i takes them into a new image; else move it away first");
 }
 
 /* A word of the environment that is an absolute path. */
@@ -122,31 +131,81 @@ static void set_path(const char *name, const char *path) {
   setenv(name, absolute, 1);
 }
 
-/* famrun.so, which stands beside this program, before what is preloaded already. */
+/* kefsrun.so, which stands beside this program, before what is preloaded already. */
 static void preload(void) {
   char path[PATH_MAX + 16], list[2 * PATH_MAX];
   ssize_t length = readlink("/proc/self/exe", path, PATH_MAX);
   if (length <= 0) quit("/proc/self/exe", strerror(errno));
   path[length] = 0;
-  strcpy(strrchr(path, '/'), "/famrun.so");
+  strcpy(strrchr(path, '/'), "/kefsrun.so");
   if (access(path, R_OK) != 0) quit(path, strerror(errno));
   const char *others = getenv("LD_PRELOAD");
   if (snprintf(list, sizeof list, "%s%s%s", path, others == NULL ? "" : ":", others == NULL ? "" : others) >= (int)sizeof list) quit("LD_PRELOAD", "is too long");
   setenv("LD_PRELOAD", list, 1);
 }
 
+/* The file that execvp would run; "" where there is none. */
+static void find_command(const char *name, char path[PATH_MAX]) {
+  const char *folder = getenv("PATH"), *end;
+  snprintf(path, PATH_MAX, "%s", name);
+  if (strchr(name, '/') != NULL || folder == NULL) return;
+  for (; *folder != 0; folder = *end == 0 ? end : end + 1) {
+    end = strchrnul(folder, ':');
+    snprintf(path, PATH_MAX, "%.*s/%s", (int)(end - folder), folder, name);
+    if (access(path, X_OK) == 0) return;
+  }
+  *path = 0;
+}
+
+/* Whether a file is a program that no loader links: one of ELF without an interpreter. */
+static int is_static(int fd) {
+  Elf64_Ehdr head;
+  Elf64_Phdr part;
+  if (pread(fd, &head, sizeof head, 0) != sizeof head || memcmp(head.e_ident, ELFMAG, SELFMAG) != 0 || head.e_ident[EI_CLASS] != ELFCLASS64) return 0;
+  for (int i = 0; i < head.e_phnum; i++) {
+    if (pread(fd, &part, sizeof part, (off_t)(head.e_phoff + (size_t)i * head.e_phentsize)) != sizeof part) return 0;
+    if (part.p_type == PT_INTERP) return 0;
+  }
+  return 1;
+}
+
+/* A program that would not load kefsrun.so would see the empty file, and no error. */
+static void look_at_command(const char *name) {
+  char path[PATH_MAX];
+  find_command(name, path);
+  int fd = open(path, O_RDONLY | O_CLOEXEC);
+  if (fd < 0) return;
+  if (is_static(fd)) quit(name, "is linked statically, so it would see the empty file");
+  close(fd);
+}
+
+/* io_uring's reads and writes are made by the system itself: programs do without it where there is none. Systems without seccomp go on with it. For the filter no
+   program may gain rights by exec, as sudo does; such a one would not load kefsrun.so. */
+static void refuse_rings(void) {
+  struct sock_filter rows[] = {
+    BPF_STMT(BPF_LD | BPF_W | BPF_ABS, offsetof(struct seccomp_data, nr)),
+    BPF_JUMP(BPF_JMP | BPF_JEQ | BPF_K, SYS_io_uring_setup, 0, 1),
+    BPF_STMT(BPF_RET | BPF_K, SECCOMP_RET_ERRNO | ENOSYS),
+    BPF_STMT(BPF_RET | BPF_K, SECCOMP_RET_ALLOW),
+  };
+  struct sock_fprog filter = {sizeof rows / sizeof *rows, rows};
+  if (prctl(PR_SET_NO_NEW_PRIVS, 1, 0, 0, 0) == 0) prctl(PR_SET_SECCOMP, SECCOMP_MODE_FILTER, &filter);
+}
+
 int main(int count, char **words) {
   struct options options = options_of(count, words);
+  look_at_command(options.command[0]);
   make_image(&options);
   make_data_file(options.data);
-  set_path("FAM_IMAGE", options.image);
-  set_path("FAM_FILE", options.data);
-  setenv("FAM_COMMIT_AT", options.commit_at, 1);
-  if (options.is_verbose) setenv("FAM_VERBOSE", "1", 1);
-  else unsetenv("FAM_VERBOSE");
+  set_path("KEFS_IMAGE", options.image);
+  set_path("KEFS_FILE", options.data);
+  setenv("KEFS_COMMIT_AT", options.commit_at, 1);
+  if (options.is_verbose) setenv("KEFS_VERBOSE", "1", 1);
+  else unsetenv("KEFS_VERBOSE");
   preload();
+  refuse_rings();
   execvp(options.command[0], options.command);
   int number = errno;
-  fprintf(stderr, "famrun: %s: %s\n", options.command[0], strerror(number));
+  fprintf(stderr, "kefsrun: %s: %s\n", options.command[0], strerror(number));
   return number == ENOENT ? 127 : 126;
 }

@@ -1,0 +1,124 @@
+/* A whole image of what is durable, made while other threads commit. */
+#define _GNU_SOURCE
+#include "internal.h"
+#include <errno.h>
+#include <stdlib.h>
+#include <string.h>
+#include <unistd.h>
+
+enum { CHUNK = 256, ROUNDS = 3 }; /* homes that are copied in one turn, and rounds over all that is late */
+
+struct backup { struct kefs_image *image; struct new_file file; unsigned char *late, *chunk; };
+
+void note_homes(struct kefs_image *image) {
+  for (size_t i = 0; i < image->taken && image->late != NULL; i++)
+    set_bit(image->late, image->files[image->pages[i].file].first_home + image->pages[i].page);
+}
+
+/* The homes from `first` on that are late, and follow each other: how many, at most a chunk. */
+static size_t late_homes(const struct backup *backup, uint64_t *first) {
+  uint64_t homes = backup->image->stat.pages, end;
+  while (*first < homes && !bit_of(backup->late, *first)) *first += *first % 8 == 0 && backup->late[*first / 8] == 0 ? 8 : 1;
+  if (*first >= homes) return 0;
+  for (end = *first; end < homes && end - *first < CHUNK && bit_of(backup->late, end);) end++;
+  return (size_t)(end - *first);
+}
+
+/* Reads homes as they are durable. From here on a commit makes them late again. */
+static int read_homes(struct backup *backup, uint64_t first, size_t count) {
+  for (uint64_t home = first; home < first + count; home++) {
+    memcpy(backup->chunk + (home - first) * PAGE, durable_page(backup->image, (uint32_t)home), PAGE);
+    clear_bit(backup->late, home);
+  }
+  return KEFS_OK;
+}
+
+static int is_zero(const unsigned char *bytes) { return bytes[0] == 0 && memcmp(bytes, bytes + 1, PAGE - 1) == 0; }
+
+/* In the first round the file is all zeros yet. */
+static int write_homes(struct backup *backup, uint64_t first, size_t count, int round) {
+  int number = KEFS_OK;
+  for (size_t i = 0, end; i < count && number == KEFS_OK; i = end) {
+    int skipped = round == 0 && is_zero(backup->chunk + i * PAGE);
+    for (end = i + 1; end < count && !skipped && !(round == 0 && is_zero(backup->chunk + end * PAGE));) end++;
+    if (!skipped) number = write_all(backup->file.fd, backup->chunk + i * PAGE, (end - i) * PAGE, home_offset((uint32_t)(first + i)));
+  }
+  return number;
+}
+
+/* Copies what is late, a chunk a turn. */
+static int copy_late(struct backup *backup, int round) {
+  uint64_t first = 0;
+  for (;;) {
+    int result = enter(backup->image);
+    if (result != KEFS_OK) return result;
+    size_t count = late_homes(backup, &first);
+    leave(backup->image, count == 0 ? KEFS_OK : read_homes(backup, first, count));
+    if (count == 0) return KEFS_OK;
+    int number = write_homes(backup, first, count, round);
+    if (number != KEFS_OK) return number;
+    first += count;
+  }
+}
+
+/* The last round is one turn: what it leaves is as after one commit. */
+static int copy_last(struct backup *backup) {
+  uint64_t first = 0;
+  int result = enter(backup->image), number = KEFS_OK;
+  if (result != KEFS_OK) return result;
+  for (size_t count; number == KEFS_OK && (count = late_homes(backup, &first)) > 0; first += count) {
+    read_homes(backup, first, count);
+    number = write_homes(backup, first, count, ROUNDS);
+  }
+  if (number == KEFS_OK) number = write_directory(backup->file.fd, directory_of(backup->image));
+  return leave(backup->image, number);
+}
+
+static int fill_file(struct backup *backup) {
+  struct kefs_image *image = backup->image;
+  off_t length = home_offset(0) + (off_t)(PAGE * image->stat.pages);
+  int result = ftruncate(backup->file.fd, length) == 0 ? KEFS_OK : errno;
+  if (result == KEFS_OK) result = take_room(backup->file.fd, 0, image->roomless == NULL && !image->read_only ? length : home_offset(0));
+  for (int round = 0; round < ROUNDS && result == KEFS_OK; round++) result = copy_late(backup, round);
+  if (result == KEFS_OK && fdatasync(backup->file.fd) != 0) result = errno; /* so that the last turn is short */
+  if (result == KEFS_OK) result = copy_last(backup);
+  if (result == KEFS_OK) result = write_mark(backup->file.fd);
+  if (result == KEFS_OK && fsync(backup->file.fd) != 0) result = errno;
+  return result == KEFS_OK ? name_file(&backup->file) : result;
+}
+
+/* From here on commits note what they change, or no longer. */
+static int watch(struct kefs_image *image, unsigned char *late) {
+  int result = enter_halted(image);
+  if (result != KEFS_OK) return result;
+  image->late = late;
+  return leave(image, image->halted && late != NULL ? KEFS_HALTED : KEFS_OK);
+}
+
+static int back_up(struct kefs_image *image, const char *path, unsigned permissions) {
+  struct backup backup = {image, {path, NULL, -1}, malloc(bits_bytes(image)), malloc((size_t)CHUNK * PAGE)};
+  int result = backup.late == NULL || backup.chunk == NULL ? ENOMEM : KEFS_OK;
+  if (result == KEFS_OK) memset(backup.late, 0xff, bits_bytes(image));
+  if (result == KEFS_OK) result = begin_file(&backup.file, path, permissions);
+  if (result == KEFS_OK) result = watch(image, backup.late);
+  if (result == KEFS_OK) result = fill_file(&backup);
+  watch(image, NULL);
+  end_file(&backup.file);
+  free(backup.late);
+  free(backup.chunk);
+  return result;
+}
+
+/* The state of cancelling is that of the whole call, which takes many turns. */
+int kefs_backup(kefs_image *image, const char *path, unsigned permissions) {
+  int cancel;
+  if (is_forked(image)) return KEFS_FORKED;
+  pthread_setcancelstate(PTHREAD_CANCEL_DISABLE, &cancel);
+  pthread_mutex_lock(&image->backups);
+  int result = back_up(image, path, permissions), entered = enter_halted(image);
+  if (result > 0) result = fail(image, new_file_result(result), "backup to %s: %s", path, kefs_strerror(result));
+  if (entered == KEFS_OK) leave(image, KEFS_OK);
+  pthread_mutex_unlock(&image->backups);
+  pthread_setcancelstate(cancel, &cancel);
+  return result;
+}

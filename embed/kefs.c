@@ -1,0 +1,172 @@
+/* Images: turns, closing, mapping, facts. */
+#define _GNU_SOURCE
+#include "internal.h"
+#include <errno.h>
+#include <fcntl.h>
+#include <stdlib.h>
+#include <string.h>
+#include <sys/file.h>
+#include <sys/mman.h>
+#include <sys/stat.h>
+#include <unistd.h>
+
+/* Turns */
+
+/* A thread that is cancelled in a call would leave the lock behind. */
+int enter_halted(struct kefs_image *image) {
+  int cancel;
+  if (is_forked(image)) return KEFS_FORKED;
+  pthread_setcancelstate(PTHREAD_CANCEL_DISABLE, &cancel);
+  pthread_mutex_lock(&image->lock);
+  image->cancel = cancel;
+  return KEFS_OK;
+}
+
+int enter(struct kefs_image *image) {
+  int result = enter_halted(image);
+  return result == KEFS_OK && image->halted ? leave(image, KEFS_HALTED) : result;
+}
+
+int leave(struct kefs_image *image, int result) {
+  int cancel = image->cancel;
+  pthread_mutex_unlock(&image->lock);
+  pthread_setcancelstate(cancel, &cancel);
+  return result;
+}
+
+void *new_memory(size_t length) {
+  void *at = mmap(NULL, length, PROT_READ | PROT_WRITE, MAP_PRIVATE | MAP_ANONYMOUS | MAP_NORESERVE, -1, 0);
+  return at == MAP_FAILED ? NULL : at;
+}
+
+void drop_memory(const void *at, size_t length) {
+  if (at != NULL) munmap((void *)(uintptr_t)at, length);
+}
+
+/* Closing */
+
+static void drop_mapping(struct mapping *mapping) {
+  remove_region(mapping);
+  drop_memory(mapping->at, mapping->pages * PAGE);
+  drop_memory(mapping->marks, mapping->pages);
+  *mapping = (struct mapping){0};
+}
+
+/* A child has not inherited the mapped files: something else may be mapped there. */
+static void forget_mapping(struct mapping *mapping) { drop_memory(mapping->marks, mapping->pages); }
+
+static void drop_mappings(struct kefs_image *image, int forked) {
+  for (int f = 0; f < KEFS_FILES; f++) {
+    if (image->mappings[f].at == NULL) continue;
+    if (forked) forget_mapping(&image->mappings[f]);
+    else drop_mapping(&image->mappings[f]);
+  }
+}
+
+static int close_image(struct kefs_image *image) {
+  int forked = image->generation != 0 && is_forked(image);
+  drop_mappings(image, forked);
+  end_tracking(image);
+  drop_memory(image->bytes, mapped_bytes(image));
+  drop_memory(image->scratch, sizeof *image->scratch);
+  drop_memory(image->plan, sizeof *image->plan);
+  drop_memory(image->roomless, bits_bytes(image));
+  if (image->fd >= 0 && !forked) flock(image->fd, LOCK_UN); /* a child that still has the descriptor would hold the lock */
+  if (image->fd >= 0) close(image->fd);
+  if (!forked) pthread_mutex_destroy(&image->lock), pthread_mutex_destroy(&image->backups);
+  free(image);
+  return forked ? KEFS_FORKED : KEFS_OK;
+}
+
+int kefs_close(kefs_image *image) {
+  int cancel;
+  if (image == NULL) return KEFS_OK;
+  pthread_setcancelstate(PTHREAD_CANCEL_DISABLE, &cancel);
+  int result = close_image(image);
+  pthread_setcancelstate(cancel, &cancel);
+  return result;
+}
+
+/* Mapping */
+
+static int file_of(struct kefs_image *image, unsigned file) {
+  return file < KEFS_FILES && image->files[file].present ? KEFS_OK : fail(image, KEFS_NO_FILE, "file %u", file);
+}
+
+/* After mlockall(MCL_FUTURE) the system fills what is mapped with zeros at once, and a page that is there counts as read. So it is
+   mapped closed, and unlocked before it is opened. A child does not inherit the memory: its pages would be neither tracked
+   nor, where they are read late, read there. */
+static int map_at(struct mapping *mapping, void *wanted) {
+  int place = wanted == NULL ? 0 : MAP_FIXED_NOREPLACE;
+  size_t bytes = mapping->pages * PAGE;
+  void *at = mmap(wanted, bytes, PROT_NONE, MAP_PRIVATE | MAP_ANONYMOUS | MAP_NORESERVE | place, -1, 0);
+  if (at == MAP_FAILED) return errno;
+  mapping->at = at;
+  if (wanted != NULL && at != wanted) return EEXIST; /* kernels before 4.17 */
+  if (mapping->image->lazy && munlock(at, bytes) != 0) return errno;
+  if (mprotect(at, bytes, PROT_READ | PROT_WRITE) != 0) return errno;
+  return madvise(at, bytes, MADV_DONTFORK) == 0 ? KEFS_OK : errno;
+}
+
+static int new_mapping(struct kefs_image *image, unsigned file, void *wanted) {
+  struct mapping *mapping = &image->mappings[file];
+  *mapping = (struct mapping){.image = image, .file = image->files[file], .pages = ((size_t)image->files[file].length + PAGE - 1) / PAGE};
+  mapping->marks = new_memory(mapping->pages);
+  int result = mapping->marks == NULL ? ENOMEM : map_at(mapping, wanted);
+  if (result == KEFS_OK) result = load(mapping);
+  if (result == KEFS_OK) result = add_region(mapping);
+  if (result == KEFS_OK) return KEFS_OK;
+  drop_mapping(mapping);
+  return fail(image, result == EIO ? KEFS_DEVICE : result, "mapping file %u: %s", file, kefs_strerror(result));
+}
+
+static int map_file(struct kefs_image *image, unsigned file, void *wanted) {
+  struct mapping *mapping = &image->mappings[file];
+  if ((uintptr_t)wanted % PAGE != 0) return fail(image, EINVAL, "%p is not the beginning of a page", wanted);
+  if (image->files[file].length == 0) return KEFS_OK;
+  if (mapping->at == NULL) return new_mapping(image, file, wanted);
+  return wanted == NULL || wanted == mapping->at ? KEFS_OK : fail(image, EEXIST, "file %u is mapped at %p", file, (void *)mapping->at);
+}
+
+int kefs_map(kefs_image *image, unsigned file, void *wanted, void **at, size_t *length) {
+  int result = enter(image);
+  if (result != KEFS_OK) return result;
+  result = file_of(image, file);
+  if (result == KEFS_OK) result = map_file(image, file, wanted);
+  if (result == KEFS_OK) *at = image->mappings[file].at;
+  if (result == KEFS_OK && length != NULL) *length = image->files[file].length;
+  return leave(image, result);
+}
+
+int kefs_unmap(kefs_image *image, unsigned file) {
+  int result = enter(image);
+  if (result != KEFS_OK) return result;
+  if (file >= KEFS_FILES || image->mappings[file].at == NULL) return leave(image, fail(image, KEFS_NO_FILE, "file %u", file));
+  drop_mapping(&image->mappings[file]);
+  return leave(image, KEFS_OK);
+}
+
+int kefs_length(kefs_image *image, unsigned file, size_t *length) {
+  int result = enter(image);
+  if (result != KEFS_OK) return result;
+  result = file_of(image, file);
+  if (result == KEFS_OK) *length = image->files[file].length;
+  return leave(image, result);
+}
+
+/* Facts */
+
+int kefs_stat(kefs_image *image, struct kefs_stat *to) {
+  static const char *const names[] = {"none", "scan", "signal", "caller"};
+  int result = enter(image);
+  if (result != KEFS_OK) return result;
+  if (to->size < sizeof *to) return leave(image, fail(image, EINVAL, "size %zu", to->size));
+  size_t size = to->size;
+  *to = image->stat;
+  to->size = size;
+  to->most_pages = KEFS_MOST_PAGES;
+  to->tracker = names[image->tracker];
+  to->lazy = (uint32_t)image->lazy;
+  to->layout = 2;
+  return leave(image, KEFS_OK);
+}

@@ -1,0 +1,284 @@
+/* kefs.h, version 1.0: failure-atomic msync on a program's own memory (Park, Kelly and Shen, "Failure-Atomic msync()",
+   EuroSys 2013), over the proved plans of libfamsync.a. An image is one host file that holds up to 64 files of fixed
+   lengths, under 2^32 bytes each (docs/FORMATS.md). A program maps some of them, stores to the memory, and commits
+   what it has stored.
+
+   After a commit has returned KEFS_OK each page that it took is durable, in all files at once. After a crash or a
+   power cut at any moment the files are as after some prefix of the commits, each of them whole, and no commit that
+   returned KEFS_OK is missing. That a plan of device calls does so is proved; that this library makes the calls of
+   the plan and finds each dirty page is C, and tested. All of it rests on a host file that no other program writes
+   or maps while it is open here, and on a device that keeps what was synced. Of what was not synced a cut may leave any
+   bytes in each sector of 512 bytes that was written, and in no other: where a device or a file system writes blocks of
+   4,096 bytes and may leave one of them torn, the image is not kept whole.
+
+   Results. A call that can fail returns an int: KEFS_OK (0), an errno value (over 0), or one of enum kefs_result (under
+   0). Errno itself is not part of the interface. An out-pointer is written only with KEFS_OK, but for the handle of an
+   opening. Strings that are returned are not freed. Any call on an image may return KEFS_FORKED, and any but
+   kefs_close, kefs_recover, kefs_mark_dirty and kefs_touch KEFS_HALTED; a call's own comment names its other results.
+   The library maps the host file to read it: where the device fails such a read, the process gets a SIGBUS, as with any
+   mapped file.
+
+   Pages are of 4,096 bytes (KEFS_PAGE), from a file's byte 0 on. A dirty page is one that was stored to since it
+   was mapped, last committed or rolled back.
+
+   Threads. Calls on one image may come from any threads: a lock of the image takes them one after the other.
+   kefs_mark_dirty and kefs_touch do not wait for it, and come only while their bytes are mapped. Calls on different
+   images do not wait for each other. Stores to mapped memory may go on during any call but kefs_rollback of the same
+   bytes and the kefs_close or kefs_unmap of their file; no call may run beside the kefs_close of its image. Of a page
+   that is stored to while kefs_commit runs, any mix of older and newer bytes becomes durable, and the page stays dirty:
+   the next commit takes it again. So a program that wants whole transactions holds its own lock over its stores and
+   over kefs_commit. No call may be made in a signal handler. No call is a cancellation point of pthread_cancel, and
+   each takes up to 96 KiB of its thread's stack.
+
+   Fork. A child has no image and no mapping: an access of the memory is a SIGSEGV there, and each call on an inherited
+   handle returns KEFS_FORKED and does nothing. Only kefs_close in a child lets go the handle and the file descriptors
+   that the child inherited; the parent's image stays as it is. A child may open images of its own. Where the parent is
+   killed, the image stays locked until each child that inherited the descriptor has ended, called exec, or called
+   kefs_close.
+
+   Trackers. How the dirty pages are found, by the flags of kefs_open:
+   - scan: PAGEMAP_SCAN and an asynchronous userfaultfd, of Linux 6.7 or later. The kernel notes stores, those of
+     read(2) and other system calls included.
+   - signal: dirty pages alone may be stored to, and a handler of SIGSEGV notes the first store to each other page.
+     Where the process has so many mappings that the kernel allows no more (some 65,000), pages beside it count as dirty
+     too. A system call that stores to a page that is not dirty, as read(2) into mapped memory, fails with EFAULT: call
+     kefs_mark_dirty on the bytes before. The handler passes a fault that is not of a mapped file on to the handler that
+     was there before; it has to stay installed, and no thread may block the signal while it stores.
+   - caller: nothing is noted but what kefs_mark_dirty names. The fastest one; a store that was not named may or may not
+     become durable. */
+#ifndef KEFS_H
+#define KEFS_H
+#include <stddef.h>
+#include <stdint.h>
+#ifdef __cplusplus
+extern "C" {
+#endif
+
+#define KEFS_VERSION_MAJOR 1
+#define KEFS_VERSION_MINOR 0
+#define KEFS_VERSION_PATCH 0
+/* 1,000,000 * major + 1,000 * minor + patch. */
+#define KEFS_VERSION_NUMBER (KEFS_VERSION_MAJOR * 1000000 + KEFS_VERSION_MINOR * 1000 + KEFS_VERSION_PATCH)
+
+enum {
+  KEFS_PAGE = 4096,       /* bytes of a page */
+  KEFS_FILES = 64,        /* files of an image at most, numbered from 0 on */
+  KEFS_MOST_PAGES = 1023  /* pages of one commit at most */
+};
+
+enum kefs_result {
+  KEFS_OK = 0,
+  KEFS_NOT_IMAGE = -31001,   /* the host file has no layout of a store: never an image, of an older layout, or damaged */
+  KEFS_BAD_JOURNAL = -31002, /* the image's journal is open with a map that no commit writes */
+  KEFS_BUSY = -31003,        /* another process or handle has the image open, and the wait for it is over */
+  KEFS_NO_FILE = -31004,     /* the image has no file of this number, or the file is not mapped where it has to be */
+  KEFS_TOO_MANY = -31005,    /* over 1,023 dirty pages in one commit */
+  KEFS_READ_ONLY = -31006,   /* the image was opened with KEFS_RDONLY, or the file may only be read */
+  KEFS_BAD_RANGE = -31007,   /* bytes that do not lie in one mapped file */
+  KEFS_DEVICE = -31008,      /* a read, write or sync of the host file failed */
+  KEFS_HALTED = -31009,      /* a commit before this call returned KEFS_DEVICE: kefs_recover or kefs_close has to follow */
+  KEFS_NO_TRACKER = -31010,  /* the system has not the tracker that the flags ask for */
+  KEFS_FORKED = -31011       /* the handle is of a parent process */
+};
+
+/* An open image. */
+typedef struct kefs_image kefs_image;
+
+/* The KEFS_VERSION_NUMBER of the library that runs. Never fails. */
+int kefs_version(void);
+
+/* One line of English that says what a result means, errno values too; never NULL. */
+const char *kefs_strerror(int result);
+
+/* The name of a result, as "KEFS_BUSY"; "errno" for an errno value, and "unknown" for anything else. Never NULL. */
+const char *kefs_name(int result);
+
+/* What went wrong in the last call on this image that failed, as "pwrite of 4096 bytes at sector 8195: Input/output
+   error". Where `image` is NULL: in this thread's last kefs_open, kefs_open_with or kefs_format that failed. "" where
+   none has failed; never NULL. It holds until the next such call. kefs_mark_dirty, kefs_touch and a call that returns
+   KEFS_FORKED leave none. */
+const char *kefs_errmsg(const kefs_image *image);
+
+/* Making an image */
+
+/* Flags of a file. */
+enum {
+  KEFS_FILE_READ_ONLY = 1, /* no program may store to it */
+  KEFS_FILE_SPARSE = 2     /* its length is a bound: a page takes room on the device when it is first committed */
+};
+
+/* A file of a new image. */
+struct kefs_file {
+  uint32_t length;     /* in bytes, 0 to 4,294,967,295; it never changes */
+  uint32_t flags;      /* some of KEFS_FILE_READ_ONLY and KEFS_FILE_SPARSE, or 0 */
+  const void *content; /* `length` bytes, or NULL: zeros */
+};
+
+/* Makes an image at `path`, where nothing may be, of `count` files, 0 to 64, that get the numbers from 0 on, with these
+   access permissions (as 0644, less the umask). It is durable when the call returns. Its room on the device is taken,
+   but that of sparse files, where the file system can do so. A stop at any moment, and a failure, leave the whole image
+   at `path`, or nothing there. (Where the file system has no unnamed files, a stop may leave a file
+   `path`.new-PID-NUMBER, which may be removed.)
+   EINVAL: over 64 files, or a flag that is none. EEXIST: something is at `path`. EFBIG: the files need over 2^30 pages,
+   or the file system has no files so large. ENOSPC, EDQUOT: there is no room. ENOMEM. KEFS_DEVICE: a write or a sync
+   failed. Other errno values as of open(2) and linkat(2). */
+int kefs_format(const char *path, unsigned permissions, const struct kefs_file *files, size_t count);
+
+/* Opening and closing */
+
+/* Flags of an opening. At most one tracker: with none it is scan, or else signal where the system has no scan;
+   kefs_stat says which. */
+enum {
+  KEFS_RDONLY = 1,        /* reads only, beside other readers, and writes nothing: an open journal is read through */
+  KEFS_NOWAIT = 2,        /* KEFS_BUSY at once, where the call would wait until another one lets the image go */
+  KEFS_TRACK_SCAN = 4,
+  KEFS_TRACK_SIGNAL = 8,
+  KEFS_TRACK_CALLER = 16,
+  KEFS_LAZY = 32,         /* reads a page when it is first touched */
+  KEFS_CREATE = 64        /* of kefs_open_with: makes the image where nothing is at the path */
+};
+
+/* KEFS_LAZY. kefs_map costs nothing for each page, and memory is taken for the pages that are touched alone. A system
+   call that touches a page that was not read yet fails with EFAULT: kefs_touch reads it before. A handler of SIGBUS
+   is installed as that of SIGSEGV is. Where the system has no userfaultfd, and under KEFS_TRACK_SIGNAL,
+   the flag changes nothing. */
+
+/* Opens the image at `path` and locks it by flock(2): against every other opening, or with KEFS_RDONLY against those
+   without. It waits for the lock, for ever where this thread holds it by another handle, and carries out what a stop or
+   the last commit left in the journal, but not with KEFS_RDONLY. Of what it reads it lets the system drop its cached
+   copy first, so that it sees what the device holds, after a sync that failed too. *image is NULL where it fails;
+   kefs_errmsg(NULL) tells more.
+   EINVAL: a flag that is none, two trackers, or KEFS_CREATE. ENOMEM. ENOSYS: the system's pages are not of 4,096 bytes.
+   EINTR: a signal came while it waited. ENOSPC, EDQUOT: there is no room to carry the journal out. KEFS_BUSY,
+   KEFS_NOT_IMAGE, KEFS_BAD_JOURNAL, KEFS_NO_TRACKER, KEFS_DEVICE. Other errno values as of open(2), of userfaultfd(2)
+   too (EMFILE). */
+int kefs_open(kefs_image **image, const char *path, unsigned flags);
+
+/* What an opening may be given besides. Zeros, but for `size`, change nothing. */
+struct kefs_options {
+  size_t size;                  /* sizeof (struct kefs_options), so that a later version may have more fields */
+  uint32_t wait;                /* milliseconds to wait for the lock at most, then KEFS_BUSY; 0: no limit */
+  uint32_t permissions;         /* with KEFS_CREATE these three, as of kefs_format: access permissions, */
+  const struct kefs_file *files; /* files */
+  size_t count;                 /* and how many they are */
+};
+
+/* kefs_open with options. With KEFS_CREATE, where nothing is at `path`, the image is made first, as kefs_format does
+   it; an image that is there is opened with the files that it has.
+   EINVAL: as of kefs_open and of kefs_format, KEFS_CREATE with KEFS_RDONLY or without options, or a `size` that is less
+   than that of version 1.0. Other results as of kefs_open and, with KEFS_CREATE, of kefs_format. */
+int kefs_open_with(kefs_image **image, const char *path, unsigned flags, const struct kefs_options *options);
+
+/* Unmaps all files and lets the image go; NULL does nothing. What was not committed is lost. The handle is gone
+   whatever is returned: KEFS_OK, or KEFS_FORKED in a child of the process that opened it. */
+int kefs_close(kefs_image *image);
+
+/* Mapping */
+
+/* Maps a file, whole, at the address `wanted` (NULL: anywhere), and says where it is and how many bytes it has. Past
+   its end the last page reads as zeros, and stores there are dropped by a commit. The memory may be stored to, but
+   not of a read-only file or with KEFS_RDONLY. *at is NULL for an empty file. Of a mapped file the mapping that is
+   there is given. `length` may be NULL.
+   KEFS_NO_FILE: no such file. EINVAL: `wanted` is no multiple of 4,096. EEXIST: something is mapped there, or the
+   file is mapped elsewhere.
+   ENOMEM. KEFS_DEVICE: a read failed. */
+int kefs_map(kefs_image *image, unsigned file, void *wanted, void **at, size_t *length);
+
+/* Unmaps a file. What was not committed of it is lost. KEFS_NO_FILE: it is not mapped. */
+int kefs_unmap(kefs_image *image, unsigned file);
+
+/* The length of a file in bytes. KEFS_NO_FILE: no such file. */
+int kefs_length(kefs_image *image, unsigned file, size_t *length);
+
+/* Commits */
+
+/* `length` bytes of mapped memory from `at` on, which need not lie in one file. A page belongs to a range that has a
+   byte of it. Where a call takes ranges, NULL stands for all mapped files; a list of no ranges that is not NULL is of
+   no page. */
+struct kefs_range { const void *at; size_t length; };
+
+/* Makes the dirty pages of `count` ranges durable, in all files at once, or all dirty pages where `ranges` is NULL.
+   How many they were goes to *taken, where it is not NULL; where there are none, no device call is made. Bytes of a
+   range that lie in no mapping count for nothing.
+   KEFS_TOO_MANY: over 1,023 pages; nothing was done. The way on is to commit fewer ranges at a time, or kefs_rollback.
+   KEFS_READ_ONLY: opened with KEFS_RDONLY. EINVAL: `ranges` is NULL and `count` is not 0. ENOMEM: nothing was done.
+   ENOSPC, EDQUOT: there is no room on the device, of a sparse file mostly; nothing was done, the pages are dirty still,
+   and the image goes on. KEFS_NOT_IMAGE, KEFS_BAD_JOURNAL: another program has written over the host file; nothing was
+   done.
+   KEFS_DEVICE: a device call failed, and the commit is durable, whole, or it is not: kefs_recover says which, and so
+   do kefs_close and kefs_open. */
+int kefs_commit(kefs_image *image, const struct kefs_range *ranges, size_t count, size_t *taken);
+
+/* The form of msync(2): kefs_commit of one range, or of everything where `at` is NULL. KEFS_BAD_RANGE: the bytes do not
+   lie in one mapped file. Other results as of kefs_commit. */
+int kefs_msync(kefs_image *image, const void *at, size_t length);
+
+/* Which files stand after a commit that failed. */
+enum { KEFS_BEFORE = 0, KEFS_AFTER = 1 };
+
+/* Recovery in place, after KEFS_DEVICE: syncs the host file, reads the journal anew as an opening does, and carries it
+   out. All mappings stay where they are, with what was stored to them. *stands says what became of the commit that
+   failed: KEFS_AFTER, it is durable, and of its pages those alone are dirty that were stored to since; or KEFS_BEFORE,
+   it is not, and its pages are dirty. KEFS_BEFORE too where no commit had failed; then nothing is done. `stands` may be
+   NULL.
+   ENOSPC, EDQUOT, KEFS_DEVICE: the device failed again, and the image stays halted: kefs_recover may be called again.
+   KEFS_NOT_IMAGE, KEFS_BAD_JOURNAL: what the device holds is no image any more. ENOMEM. */
+int kefs_recover(kefs_image *image, int *stands);
+
+/* How many pages kefs_commit of these ranges would take now: for a program that ends a transaction before it grows too
+   large. Over 1,023 is an answer like any other. With KEFS_RDONLY it is 0.
+   EINVAL: as of kefs_commit. */
+int kefs_count_dirty(kefs_image *image, const struct kefs_range *ranges, size_t count, size_t *pages);
+
+/* Brings the dirty pages of these ranges back to what is durable, all dirty pages where `ranges` is NULL: a
+   transaction that is given up. No store may be made to them meanwhile.
+   EINVAL: as of kefs_commit. ENOMEM: some pages may be back and others not. */
+int kefs_rollback(kefs_image *image, const struct kefs_range *ranges, size_t count);
+
+/* Says that these bytes were or will be stored to: their pages count as dirty, none where `length` is 0. It has to be
+   called with KEFS_TRACK_CALLER, after the store, or before it with no commit in between. Under KEFS_TRACK_SIGNAL
+   system calls may store to the bytes after it, until the next commit or roll back that takes them.
+   KEFS_BAD_RANGE: the bytes do not lie in one mapped file. KEFS_READ_ONLY: the file or the image may only be read.
+   Nothing was done then. ENOMEM and
+   KEFS_DEVICE: as of kefs_touch. */
+int kefs_mark_dirty(kefs_image *image, const void *at, size_t length);
+
+/* Reads the pages of these bytes where KEFS_LAZY left them unread, so that a system call may touch them; else it does
+   nothing.
+   KEFS_BAD_RANGE: the bytes do not lie in one mapped file. ENOMEM. KEFS_DEVICE: a read failed. */
+int kefs_touch(kefs_image *image, const void *at, size_t length);
+
+/* Backup */
+
+/* Makes an image at `path`, where nothing may be, as kefs_format does, whose files are as the last commit left them,
+   also where this image was opened with KEFS_RDONLY. Other threads may store and commit meanwhile: a commit waits for a
+   part of the copy, a MiB mostly, and the copy has all commits that returned before some moment of the call, and no
+   later one. (A copy that is made without this call, beside a program that commits, may be torn.)
+   EEXIST, ENOSPC, EDQUOT, EFBIG, ENOMEM, other errno values: as of kefs_format. KEFS_DEVICE: a read, a write or a sync
+   failed, of either file. No failure halts this image. */
+int kefs_backup(kefs_image *image, const char *path, unsigned permissions);
+
+/* Facts */
+
+struct kefs_stat {
+  size_t size;              /* in: sizeof (struct kefs_stat), so that a later version may have more fields */
+  uint32_t files;           /* how many files the image has */
+  uint32_t most_pages;      /* of one commit: 1,023 */
+  uint64_t pages;           /* home pages of the image, those of no file included */
+  uint64_t recovered;       /* pages that the opening brought from the journal to their homes */
+  uint64_t commits;         /* since the opening, as are the next three: commits that took a page and returned KEFS_OK */
+  uint64_t committed_pages; /* pages that they took */
+  uint64_t written_bytes;   /* bytes written to the host file */
+  uint64_t syncs;           /* syncs of the host file */
+  const char *tracker;      /* "scan", "signal" or "caller"; "none" with KEFS_RDONLY */
+  uint32_t lazy;            /* 1 where pages are read when they are first touched, else 0 */
+  uint32_t layout;          /* 2, of docs/FORMATS.md */
+};
+
+/* Says facts of the image. EINVAL: `size` is less than that of version 1.0. */
+int kefs_stat(kefs_image *image, struct kefs_stat *to);
+
+#ifdef __cplusplus
+}
+#endif
+#endif

@@ -1,0 +1,407 @@
+"""Failure-atomic msync from Python: the calls of kefs.h (libkefs.so.1), whose comments say what each does and when it fails.
+
+    import kefs
+
+    kefs.format("bank.img", [1 << 20, kefs.File(4096, read_only=True, content=terms)])
+    with kefs.open("bank.img") as image:
+        accounts = image.map(0)                  # a memoryview: slices, struct.pack_into, numpy.frombuffer
+        with image.transaction():                # committed at its end, rolled back where an exception leaves it
+            accounts[0:8] = (1).to_bytes(8, "little")
+
+An errno value is raised as OSError, each other result as an exception of its own, all of them of class Error. When its image is closed or
+its file unmapped, the memoryview that map() gave is released, so that Python refuses each use of it; but where others were made of it
+that still live, as slices and arrays, closing and unmapping are refused with BufferError, and nothing was done. A child of os.fork has no
+image: its memoryviews are released, and what was made of them is of zeros that no commit takes.
+The library is looked for as the environment's KEFS_LIBRARY says, beside this file, and where the system has libraries."""
+
+import contextlib
+import ctypes
+import gc
+import mmap
+import os
+import sys
+import threading
+import weakref
+from typing import NamedTuple
+
+RDONLY, NOWAIT, TRACK_SCAN, TRACK_SIGNAL, TRACK_CALLER, LAZY = 1, 2, 4, 8, 16, 32
+PAGE, MOST_PAGES = 4096, 1023
+BEFORE, AFTER = 0, 1
+_CREATE = 64
+
+
+class Error(Exception):
+    """A result of the library that is under 0, its `result`."""
+
+    result = 0
+
+    def __init__(self, message=""):
+        text = _library().kefs_strerror(self.result).decode()
+        super().__init__(f"{text} ({message})" if message else text)
+
+
+class NotImage(Error):
+    result = -31001
+
+
+class BadJournal(Error):
+    result = -31002
+
+
+class Busy(Error):
+    result = -31003
+
+
+class NoFile(Error):
+    result = -31004
+
+
+class TooMany(Error):
+    result = -31005
+
+
+class ReadOnly(Error):
+    result = -31006
+
+
+class BadRange(Error):
+    result = -31007
+
+
+class Device(Error):
+    result = -31008
+
+
+class Halted(Error):
+    result = -31009
+
+
+class NoTracker(Error):
+    result = -31010
+
+
+class Forked(Error):
+    result = -31011
+
+
+ERRORS = {error.result: error for error in Error.__subclasses__()}
+
+
+class File(NamedTuple):
+    """A file of a new image: `length` bytes, which are those of `content` with zeros after them. A sparse one takes room on the device
+    as its pages are committed."""
+
+    length: int
+    read_only: bool = False
+    content: bytes = b""
+    sparse: bool = False
+
+
+class _File(ctypes.Structure):
+    _fields_ = [("length", ctypes.c_uint32), ("flags", ctypes.c_uint32), ("content", ctypes.c_char_p)]
+
+
+class _Options(ctypes.Structure):
+    _fields_ = [("size", ctypes.c_size_t), ("wait", ctypes.c_uint32), ("permissions", ctypes.c_uint32), ("files", ctypes.c_void_p), ("count", ctypes.c_size_t)]
+
+
+class _Range(ctypes.Structure):
+    _fields_ = [("at", ctypes.c_void_p), ("length", ctypes.c_size_t)]
+
+
+class _Stat(ctypes.Structure):
+    _fields_ = [("size", ctypes.c_size_t), ("files", ctypes.c_uint32), ("most_pages", ctypes.c_uint32)] + [
+        (name, ctypes.c_uint64) for name in ("pages", "recovered", "commits", "committed_pages", "written_bytes", "syncs")
+    ] + [("tracker", ctypes.c_char_p), ("lazy", ctypes.c_uint32), ("layout", ctypes.c_uint32)]
+
+
+_CALLS = {
+    "kefs_format": (ctypes.c_char_p, ctypes.c_uint, ctypes.c_void_p, ctypes.c_size_t),
+    "kefs_open_with": (ctypes.c_void_p, ctypes.c_char_p, ctypes.c_uint, ctypes.c_void_p),
+    "kefs_close": (ctypes.c_void_p,),
+    "kefs_map": (ctypes.c_void_p, ctypes.c_uint, ctypes.c_void_p, ctypes.c_void_p, ctypes.c_void_p),
+    "kefs_unmap": (ctypes.c_void_p, ctypes.c_uint),
+    "kefs_length": (ctypes.c_void_p, ctypes.c_uint, ctypes.c_void_p),
+    "kefs_commit": (ctypes.c_void_p, ctypes.c_void_p, ctypes.c_size_t, ctypes.c_void_p),
+    "kefs_count_dirty": (ctypes.c_void_p, ctypes.c_void_p, ctypes.c_size_t, ctypes.c_void_p),
+    "kefs_rollback": (ctypes.c_void_p, ctypes.c_void_p, ctypes.c_size_t),
+    "kefs_recover": (ctypes.c_void_p, ctypes.c_void_p),
+    "kefs_backup": (ctypes.c_void_p, ctypes.c_char_p, ctypes.c_uint),
+    "kefs_mark_dirty": (ctypes.c_void_p, ctypes.c_void_p, ctypes.c_size_t),
+    "kefs_touch": (ctypes.c_void_p, ctypes.c_void_p, ctypes.c_size_t),
+    "kefs_stat": (ctypes.c_void_p, ctypes.c_void_p),
+    "kefs_strerror": (ctypes.c_int,),
+    "kefs_errmsg": (ctypes.c_void_p,),
+    "kefs_version": (),
+}
+_loaded = None
+
+
+def _library():
+    """The C library, loaded when it is first needed."""
+    global _loaded
+    if _loaded is None:
+        beside = os.path.join(os.path.dirname(os.path.abspath(__file__)), "libkefs.so.1")
+        name = os.environ.get("KEFS_LIBRARY") or (beside if os.path.exists(beside) else "libkefs.so.1")
+        library = ctypes.CDLL(name)
+        for call, arguments in _CALLS.items():
+            getattr(library, call).argtypes = arguments
+        library.kefs_strerror.restype = library.kefs_errmsg.restype = ctypes.c_char_p
+        _loaded = library
+    return _loaded
+
+
+def _check(result, message="", path=None):
+    if result > 0:
+        raise OSError(result, os.strerror(result), path)
+    if result < 0:
+        raise ERRORS.get(result, Error)(message)
+
+
+def version():
+    """The library's version: a million times the major number, a thousand times the minor one, and the patch."""
+    return _library().kefs_version()
+
+
+def _array(files):
+    """The files of a new image as the library takes them. Each is a File, or a length in bytes."""
+    specs = [file if isinstance(file, File) else File(file) for file in files]
+    for spec in specs:
+        if not 0 <= spec.length < 1 << 32 or len(spec.content) > spec.length:
+            raise ValueError("a file has 0 to 4294967295 bytes, and no more content")
+    array = (_File * len(specs))()
+    for entry, spec in zip(array, specs):
+        content = bytes(spec.content).ljust(spec.length, b"\0") if spec.content else None
+        entry.length, entry.flags, entry.content = spec.length, spec.read_only | spec.sparse << 1, content
+    return array
+
+
+def _last_message():
+    return _library().kefs_errmsg(None).decode(errors="replace")
+
+
+def format(path, files, permissions=0o644):
+    """Makes an image at `path`, where nothing may be. Each file is a File, or a length in bytes."""
+    array = _array(files)
+    result = _library().kefs_format(os.fsencode(path), permissions, array, len(array))
+    _check(result, _last_message(), path)
+
+
+class _Mapped:
+    """The bytes of a mapped file, and the memoryview that is given out of them."""
+
+    def __init__(self, at, length, read_only):
+        self.bytes = (ctypes.c_ubyte * length).from_address(at) if at else bytearray()
+        self.at, self.length, self.read_only, self.view = at, length, read_only, None
+
+    def whole(self):
+        """The memoryview, made anew where it was released."""
+        if self.view is None or _is_released(self.view):
+            view = memoryview(self.bytes).cast("B")
+            self.view = view.toreadonly() if self.at and self.read_only else view
+        return self.view
+
+    def refuse_where_used(self):
+        """Raises BufferError where other memoryviews of these bytes live, or arrays over them. Each refers to the bytes, or to
+        the buffer that all memoryviews made of one another share."""
+        if self.view is not None and not _is_released(self.view):
+            (buffer,) = gc.get_referents(self.view)
+            views = sys.getrefcount(buffer) - 2  # the variable, and the argument of the call
+            del buffer
+            if views > 1 or sys.getrefcount(self.bytes) > 3:  # the attribute, the buffer and the argument
+                raise BufferError("a view of the mapped file is still in use")
+        elif sys.getrefcount(self.bytes) > 2:
+            raise BufferError("a view of the mapped file is still in use")
+
+    def release(self):
+        """Releases the memoryview. BufferError: an array has it."""
+        if self.view is not None:
+            self.view.release()
+            self.view = None
+
+
+def _is_released(view):
+    try:
+        return view.nbytes < 0
+    except ValueError:
+        return True
+
+
+_images = weakref.WeakSet()
+
+
+def _leave_parent():
+    """In a child of os.fork: the mapped memory was not inherited. Zeros stand in its place, where a view that lives may look."""
+    libc = ctypes.CDLL(None, use_errno=True)
+    libc.mmap.restype = ctypes.c_void_p
+    libc.mmap.argtypes = (ctypes.c_void_p, ctypes.c_size_t, ctypes.c_int, ctypes.c_int, ctypes.c_int, ctypes.c_long)
+    for image in list(_images):
+        image._lock = threading.RLock()
+        for mapped in image._mapped.values():
+            if mapped.at:
+                fixed, closed = mmap.MAP_PRIVATE | mmap.MAP_ANONYMOUS | 0x4000 | 0x10, mmap.PROT_READ | mmap.PROT_WRITE  # MAP_NORESERVE, MAP_FIXED
+                libc.mmap(mapped.at, mapped.length, closed, fixed, -1, 0)
+            with contextlib.suppress(BufferError):
+                mapped.release()
+
+
+os.register_at_fork(after_in_child=_leave_parent)
+
+
+class Image:
+    """An open image. It is closed by close(), or at the end of a `with`. Threads may share it: a call waits for the one before."""
+
+    def __init__(self, path, flags=0, wait=0, create=None, permissions=0o644):
+        handle, options = ctypes.c_void_p(), _Options(size=ctypes.sizeof(_Options), wait=wait, permissions=permissions)
+        self._handle, self._mapped, self._lock = None, {}, threading.RLock()
+        if create is not None:
+            array, flags = _array(create), flags | _CREATE
+            options.files, options.count = ctypes.cast(array, ctypes.c_void_p), len(array)
+        result = _library().kefs_open_with(ctypes.byref(handle), os.fsencode(path), flags, ctypes.byref(options))
+        _check(result, _last_message(), path)
+        self._handle = handle
+        _images.add(self)
+
+    def _call(self, name, *arguments):
+        with self._lock:
+            if self._handle is None:
+                raise ValueError("the image is closed")
+            result = getattr(_library(), name)(self._handle, *arguments)
+            if result != 0:
+                _check(result, "" if result == Forked.result else _library().kefs_errmsg(self._handle).decode(errors="replace"))
+
+    def map(self, file, wanted=None):
+        """The bytes of a file as a memoryview, at the address `wanted` where it is given. It takes no store where the file or the image may
+        only be read."""
+        at, length = ctypes.c_void_p(), ctypes.c_size_t()
+        with self._lock:
+            self._call("kefs_map", file, wanted, ctypes.byref(at), ctypes.byref(length))
+            if file not in self._mapped:
+                self._mapped[file] = _Mapped(at.value, length.value, bool(at.value) and self._is_read_only(at))
+            return self._mapped[file].whole()
+
+    def _is_read_only(self, at):
+        return _library().kefs_mark_dirty(self._handle, at, 0) == ReadOnly.result
+
+    def _release(self, files):
+        """Releases the memoryviews of these mapped files. BufferError: a view that was made of one is in use; then none was
+        released, but where an array is made of the memoryview itself."""
+        for file in files:
+            self._mapped[file].refuse_where_used()
+        for file in files:
+            self._mapped[file].release()
+
+    def unmap(self, file):
+        """Unmaps a file: what was not committed of it is lost. BufferError: a view of it is in use, as a slice; nothing was done."""
+        with self._lock:
+            if file in self._mapped:
+                self._release([file])
+            self._call("kefs_unmap", file)
+            self._mapped.pop(file, None)
+
+    def length(self, file):
+        """The length of a file in bytes."""
+        length = ctypes.c_size_t()
+        self._call("kefs_length", file, ctypes.byref(length))
+        return length.value
+
+    def commit(self, *ranges):
+        """Makes the dirty pages of these memoryviews durable, all at once, or all dirty pages where none is given. Returns how many."""
+        return self._counted("kefs_commit", ranges)
+
+    def count_dirty(self, *ranges):
+        """How many pages a commit of these ranges would take now."""
+        return self._counted("kefs_count_dirty", ranges)
+
+    def rollback(self, *ranges):
+        """Brings the dirty pages of these ranges back to what is durable."""
+        self._call("kefs_rollback", *_ranges(ranges))
+
+    def recover(self):
+        """Recovery in place after Device was raised: BEFORE or AFTER, as the commit that failed is not durable or is. All views stay."""
+        stands = ctypes.c_int()
+        self._call("kefs_recover", ctypes.byref(stands))
+        return stands.value
+
+    def backup(self, path, permissions=0o644):
+        """Makes an image at `path`, where nothing may be, that is as the last commit has left this one."""
+        self._call("kefs_backup", os.fsencode(path), permissions)
+
+    def mark_dirty(self, view):
+        """Says that these bytes were or will be stored to."""
+        self._call("kefs_mark_dirty", _address(view), view.nbytes)
+
+    def touch(self, view):
+        """Reads the pages of these bytes, so that a system call may touch them."""
+        self._call("kefs_touch", _address(view), view.nbytes)
+
+    @contextlib.contextmanager
+    def transaction(self, *ranges):
+        """Commits these ranges at its end, or all that was written; where an exception leaves it, or the commit is refused, rolls them back."""
+        try:
+            yield self
+            self.commit(*ranges)
+        except BaseException as error:
+            if not isinstance(error, (Device, Halted, Forked)):
+                self.rollback(*ranges)
+            raise
+
+    def stat(self):
+        """Facts of the image, as a dictionary with the names of struct kefs_stat."""
+        facts = _Stat(size=ctypes.sizeof(_Stat))
+        self._call("kefs_stat", ctypes.byref(facts))
+        found = {name: getattr(facts, name) for name, _ in _Stat._fields_[1:]}
+        return {**found, "tracker": facts.tracker.decode(), "lazy": bool(facts.lazy)}
+
+    def close(self):
+        """Lets the image go. What was not committed is lost. It may come again. BufferError: a view that was made of a memoryview of map()
+        is in use, as a slice or an array; the image stays open then."""
+        with self._lock:
+            if self._handle is None:
+                return
+            self._release(list(self._mapped))
+            self._mapped.clear()
+            handle, self._handle = self._handle, None
+            _check(_library().kefs_close(handle))
+
+    def _counted(self, name, ranges):
+        count = ctypes.c_size_t()
+        self._call(name, *_ranges(ranges), ctypes.byref(count))
+        return count.value
+
+    def __enter__(self):
+        return self
+
+    def __exit__(self, *_):
+        self.close()
+
+
+class _Buffer(ctypes.Structure):
+    """Python's Py_buffer, which says where the bytes of a view lie, of a read-only one too."""
+
+    _fields_ = [("buf", ctypes.c_void_p), ("obj", ctypes.py_object), ("len", ctypes.c_ssize_t), ("itemsize", ctypes.c_ssize_t)] + [
+        (name, ctypes.c_int) for name in ("readonly", "ndim")
+    ] + [(name, ctypes.c_void_p) for name in ("format", "shape", "strides", "suboffsets", "internal")]
+
+
+def _address(view):
+    """Where the bytes of a mapped file, or of a part of it, lie."""
+    buffer = _Buffer()
+    ctypes.pythonapi.PyObject_GetBuffer(ctypes.py_object(view), ctypes.byref(buffer), 0)
+    try:
+        return buffer.buf
+    finally:
+        ctypes.pythonapi.PyBuffer_Release(ctypes.byref(buffer))
+
+
+def _ranges(views):
+    """The array and the count that the calls take."""
+    array = (_Range * len(views))(*[_Range(_address(view), view.nbytes) for view in views])
+    return (array, len(views)) if views else (None, 0)
+
+
+def open(path, flags=0, wait=0, create=None, permissions=0o644):
+    """Opens an image: kefs.RDONLY, kefs.NOWAIT, kefs.LAZY and a tracker are the flags. Another opening of it is waited for, at most `wait`
+    milliseconds where that is not 0. `create` is the files of the image, as of format(), that is made where nothing is at the path. Use it
+    in a `with`."""
+    return Image(path, flags, wait, create, permissions)

@@ -1,0 +1,204 @@
+/* cases CASE FILE OTHER: makes calls on FILE that Python does not make, for test_kefsrun.py, which says what they have to leave. Each case has a line on standard
+   output, or none. */
+#define _GNU_SOURCE
+#include <aio.h>
+#include <errno.h>
+#include <fcntl.h>
+#include <linux/fs.h>
+#include <pthread.h>
+#include <signal.h>
+#include <stdint.h>
+#include <stdio.h>
+#include <stdlib.h>
+#include <string.h>
+#include <sys/ioctl.h>
+#include <sys/mman.h>
+#include <sys/stat.h>
+#include <sys/time.h>
+#include <sys/wait.h>
+#include <unistd.h>
+
+static const char *path, *other;
+
+static void must(int is, const char *what) {
+  if (is) return;
+  perror(what);
+  exit(1);
+}
+
+static int opened(const char *name) {
+  int fd = open(name, O_RDWR | O_CREAT, 0600);
+  must(fd >= 0, name);
+  return fd;
+}
+
+static void put(int fd, const char *text, off_t at) { must(pwrite(fd, text, strlen(text), at) == (ssize_t)strlen(text), text); }
+
+/* The number of a descriptor that was closed goes to another file, by calls of which fclose is one that no library sees. */
+static void fclosed(void) {
+  int fd = opened(path);
+  put(fd, "the store's", 0);
+  must(fclose(fdopen(fd, "r+")) == 0, "fclose");
+  must(opened(other) == fd, "the same number");
+  put(fd, "the other's", 0);
+}
+
+static void closed_by_the_system(void) {
+  int fd = opened(path);
+  put(fd, "the store's", 0);
+  must(syscall(436, fd, fd, 0) == 0, "close_range"); /* its number in each architecture */
+  must(opened(other) == fd, "the same number");
+  put(fd, "the other's", 0);
+}
+
+/* A mapping that grows, as that of a hash. */
+static void remapped(void) {
+  int fd = opened(path);
+  must(ftruncate(fd, 3 * 4096) == 0, "ftruncate");
+  char *at = mmap(NULL, 4096, PROT_READ | PROT_WRITE, MAP_SHARED, fd, 0);
+  must(at != MAP_FAILED, "mmap");
+  strcpy(at, "begin");
+  char *grown = mremap(at, 4096, 3 * 4096, MREMAP_MAYMOVE);
+  must(grown != MAP_FAILED, "mremap");
+  strcpy(grown + 2 * 4096, "end");
+  must(fsync(fd) == 0, "fsync");
+  char *place = mmap(NULL, 4096, PROT_NONE, MAP_PRIVATE | MAP_ANONYMOUS, -1, 0);
+  int is_moved = mremap(grown, 4096, 4096, MREMAP_MAYMOVE | MREMAP_FIXED, place) != MAP_FAILED;
+  printf("%s %s, moved: %d %d\n", grown, grown + 2 * 4096, is_moved, errno == ENOTSUP);
+}
+
+/* Threads that lengthen the file, each by every fourth of 64 words. */
+static int shared_fd;
+static pthread_barrier_t together;
+static void *lengthen(void *first) {
+  pthread_barrier_wait(&together);
+  for (long word = (long)(intptr_t)first; word < 64; word += 4) put(shared_fd, "12345678", 8 * word);
+  return NULL;
+}
+
+static void threads(void) {
+  int wrong = 0;
+  struct stat st;
+  pthread_t thread[4];
+  shared_fd = opened(path);
+  pthread_barrier_init(&together, NULL, 4);
+  for (int round = 0; round < 2000; round++) {
+    must(ftruncate(shared_fd, 0) == 0, "ftruncate");
+    for (long k = 0; k < 4; k++) must(pthread_create(&thread[k], NULL, lengthen, (void *)(intptr_t)k) == 0, "thread");
+    for (int k = 0; k < 4; k++) pthread_join(thread[k], NULL);
+    must(fstat(shared_fd, &st) == 0, "fstat");
+    wrong += st.st_size != 8 * 64;
+  }
+  printf("wrong: %d\n", wrong);
+}
+
+/* A child of vfork has the memory of its parent, and descriptors of its own. */
+static void vforked(void) {
+  int fd = opened(path);
+  pid_t child = vfork();
+  if (child == 0) {
+    close(fd);
+    _exit(0);
+  }
+  must(waitpid(child, NULL, 0) == child, "waitpid");
+  put(fd, "after", 0);
+  must(fsync(fd) == 0, "fsync");
+  kill(getpid(), SIGKILL);
+}
+
+static void written_stream(void) {
+  FILE *stream = fopen(path, "w");
+  must(stream != NULL && fputs("one, two", stream) >= 0 && fseek(stream, -3, SEEK_END) == 0 && fputs("three", stream) >= 0, "fopen w");
+  must(fflush(stream) == 0 && fsync(fileno(stream)) == 0, "fsync");
+  must(fputs(", not synced", stream) >= 0 && fflush(stream) == 0, "fputs");
+  kill(getpid(), SIGKILL);
+}
+
+/* A stream that is still open at the end of the program. */
+static void open_stream(void) {
+  FILE *stream = fopen(path, "a");
+  must(stream != NULL && fputs("at the end", stream) >= 0, "fopen a");
+}
+
+static void read_stream(void) {
+  char line[64] = "";
+  FILE *stream = fopen(path, "r");
+  must(stream != NULL && fgets(line, sizeof line, stream) != NULL && fclose(stream) == 0, "fopen r");
+  printf("%s", line);
+}
+
+static void reopened_stream(void) { printf("%d\n", freopen(path, "r", stdin) == NULL && errno == ENOTSUP); }
+
+static void facts(void) {
+  struct stat st;
+  struct statx stx;
+  put(opened(path), "12345", 0);
+  must(fstatat(AT_FDCWD, path, &st, 0) == 0 && statx(AT_FDCWD, path, 0, STATX_SIZE, &stx) == 0, "stat");
+  printf("%ld %ld %d\n", (long)st.st_size, (long)stx.stx_size, (int)st.st_blocks);
+}
+
+static void allocated(void) {
+  int fd = opened(path);
+  struct stat st;
+  put(fd, "x", 0);
+  must(posix_fallocate(fd, 0, 5000) == 0 && fallocate(fd, FALLOC_FL_KEEP_SIZE, 0, 9000) == 0 && fstat(fd, &st) == 0, "fallocate");
+  int past = posix_fallocate(fd, 0, (1 << 16) + 1), flow = posix_fallocate(fd, INT64_MAX, 9);
+  int hole = fallocate(fd, FALLOC_FL_PUNCH_HOLE | FALLOC_FL_KEEP_SIZE, 0, 1);
+  printf("%ld %d %d %d\n", (long)st.st_size, past == EFBIG, flow == EFBIG, hole == -1 && errno == EOPNOTSUPP);
+}
+
+static void asynchronous(void) {
+  struct aiocb job = {.aio_fildes = opened(path), .aio_buf = "lost", .aio_nbytes = 4};
+  printf("%d\n", aio_write(&job) == -1 && errno == EOPNOTSUPP);
+}
+
+/* Some file systems would clone the empty file. */
+static void cloned(void) {
+  int to = opened(other), from = opened(path);
+  struct file_clone_range range = {.src_fd = from};
+  printf("%d %d\n", ioctl(to, FICLONE, from) == -1 && errno == EXDEV, ioctl(to, FICLONERANGE, &range) == -1 && errno == EXDEV);
+}
+
+static void called(void) {
+  put(opened(path), "before exec", 0);
+  execl("/bin/echo", "echo", "after", (char *)NULL);
+}
+static void ended(void) {
+  put(opened(path), "before _exit", 0);
+  _exit(0);
+}
+static void ended_quickly(void) {
+  put(opened(path), "before quick_exit", 0);
+  quick_exit(0);
+}
+
+/* A signal ends the program, mostly in the midst of a sync. */
+static void end(int number) {
+  (void)number;
+  _exit(0);
+}
+static void interrupted(void) {
+  int fd = opened(path);
+  struct itimerval soon = {.it_value.tv_usec = 20000};
+  signal(SIGALRM, end);
+  must(setitimer(ITIMER_REAL, &soon, NULL) == 0, "setitimer");
+  for (;;) {
+    put(fd, "whole", 0);
+    must(fsync(fd) == 0, "fsync");
+  }
+}
+
+static const struct { const char *name; void (*run)(void); } cases[] = {
+  {"fclosed", fclosed}, {"closed_by_the_system", closed_by_the_system}, {"remapped", remapped}, {"threads", threads}, {"vforked", vforked},
+  {"written_stream", written_stream}, {"open_stream", open_stream}, {"read_stream", read_stream}, {"reopened_stream", reopened_stream}, {"facts", facts},
+  {"allocated", allocated}, {"asynchronous", asynchronous}, {"cloned", cloned}, {"called", called}, {"ended", ended}, {"ended_quickly", ended_quickly},
+  {"interrupted", interrupted},
+};
+
+int main(int count, char **words) {
+  if (count != 4) return 2;
+  path = words[2], other = words[3];
+  for (size_t i = 0; i < sizeof cases / sizeof *cases; i++)
+    if (strcmp(cases[i].name, words[1]) == 0) return cases[i].run(), 0;
+  return 2;
+}
