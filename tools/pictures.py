@@ -1,4 +1,4 @@
-"""Pictures as SVG: rectangles and words on a white ground, and the two that the documents show. tools/stopmap and bench/run write them."""
+"""Pictures as SVG: rectangles and words on a white ground, and the three that the documents show. tools/stopmap and bench/run write them."""
 import math
 import re
 from itertools import groupby
@@ -106,6 +106,65 @@ def acknowledged(picture, stops, left, cell, top):
         picture.box(x, top - 8, width, 2, INK)
         picture.word(x + width / 2, top - 14, f"{number} acknowledged" if count > 4 else str(number), anchor="middle")
         column += count
+
+
+# Of two maps side by side: a sector of a page, and a gate or a sync.
+NARROW, WIDE, HIGH = 9, 22, 22
+
+
+def two_maps(stops, turns):
+    """The same msyncs in layout 2 and in layout 3, side by side: a column for each write and sync, a row for each filling."""
+    left, top, between = 150, 92, 60
+    second = left + sum(map(width_of, stops)) + between
+    bottom = top + HIGH * len(FILLINGS)
+    picture = Picture(second + sum(map(width_of, turns)) + 20, bottom + 84)
+    picture.word(10, 22, "Two msyncs of a page, the power cut at every write and sync: which of them stand?", size=15)
+    for row, filling in enumerate(FILLINGS):
+        picture.word(left - 8, top + HIGH * row + 15, filling, anchor="end")
+    for x, name, row in ((left, "layout 2: one journal", stops), (second, "layout 3: two journals in turn", turns)):
+        picture.word(x, top - 36, f"{name}, {sum(it.part == 'sync' for it in row) - 1} syncs", size=13)
+        one_map(picture, row, x, top)
+    for place, number in enumerate(("0", "1", "2")):
+        picture.box(left + 120 * place, bottom + 54, 14, 14, LEFT[int(number)])
+        picture.word(left + 120 * place + 20, bottom + 66, f"after {number} msync{'' if number == '1' else 's'}")
+    torn = sum("-" in it.left for it in [*stops, *turns])
+    picture.word(left + 360, bottom + 66, f"torn: {torn}", color=BAD if torn else INK)
+    return picture.text()
+
+
+def width_of(stop):
+    return WIDE if stop.part in ("sync", "gate") else NARROW
+
+
+def one_map(picture, stops, left, top):
+    """The columns of a layout; numbers stand in those of gates and syncs."""
+    x, bottom, places = left, top + HIGH * len(FILLINGS), []
+    for stop in stops:
+        width = width_of(stop)
+        places.append(x)
+        for row, number in enumerate(stop.left):
+            picture.box(x, top + HIGH * row, width - (2 if width == WIDE else 1), HIGH - 2, BAD if number == "-" else LEFT[int(number) % len(LEFT)])
+            if width == WIDE:
+                picture.word(x + (width - 2) / 2, top + HIGH * row + 14, number, anchor="middle", size=11)
+        x += width
+    for wanted, at in (("part", bottom), ("acknowledged", top - 24)):
+        for said, row in groupby(range(len(stops)), key=lambda k: getattr(stops[k], wanted)):
+            row = list(row)
+            first, width = places[row[0]], places[row[-1]] + width_of(stops[row[-1]]) - places[row[0]] - 2
+            if wanted == "part":
+                named(picture, said, first, width, at, len(row) > 1)
+            else:
+                picture.box(first, at + 16, width, 2, INK)
+                picture.word(first + width / 2, at + 10, f"{said} acknowledged", anchor="middle", size=11)
+
+
+def named(picture, part, x, width, bottom, is_row):
+    """What was to be written, under its columns."""
+    picture.box(x, bottom + 3, width, 2, INK)
+    if is_row:
+        picture.word(x + width / 2, bottom + 20, part, anchor="middle")
+    else:
+        picture.word(x + width / 2 + 4, bottom + 12, part, anchor="end", turned=True)
 
 
 class Row(NamedTuple):
