@@ -24,6 +24,13 @@ impl Clock {
         Clock { hand: 0 }
     }
 
+    /// The frame where the next look goes.
+    pub fn hand(&self) -> FrameNo
+        ensures { result.0 ≡ self.now.hand }
+    {
+        FrameNo(self.hand)
+    }
+
     /// Looks from the hand onward, round and round: the first frame that may be given up and whose mark is clear is chosen,
     /// the marks of those that may be given up and were passed on the way are cleared, and the hand then stands just past
     /// the choice. It takes at most two rounds of looks.

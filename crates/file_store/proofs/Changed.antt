@@ -1,8 +1,9 @@
 -- What a commit makes of the files.
-use Rattle.std.proofs.Common.{◌≡◌, ◌≢◌, ℕ, zero, suc, ◌+◌, ◌*◌, ◌<◌, ◌≤◌, ◌⊎◌, ⊎_elim, inl, inr, Bool, List, length, get_or, take, slice_get, slice_index, Option, Some, None, cond, false, eqb, refl, sym, ap, subst, ◌∙◌, arith}
+use Rattle.std.proofs.Common.{◌≡◌, ◌≢◌, ℕ, zero, suc, ◌+◌, ◌*◌, ◌<◌, ◌≤◌, ◌⊎◌, ⊎_elim, inl, inr, Bool, List, map, length, get_or, take, slice_get, slice_index, Option, Some, None, cond, false, eqb, refl, sym, ap, subst, ◌∙◌, arith}
 use Rattle.std.proofs.lemmas.Bool.{cases_eq, cases_lt, eq-eqb}
 use Rattle.std.proofs.lemmas.Bool.Decides.{nat_tests}
-use Rattle.std.proofs.lemmas.List.{length-take-le, get_or-take}
+use Rattle.std.proofs.lemmas.List.{length-take-le, get_or-take, length-map, get_or-map}
+use Rattle.std.proofs.lemmas.Grind.{same_number_lists}
 use Rattle.std.proofs.lemmas.Option.{same_Some, slice_get-get_or, slice_get_within}
 use Rattle.disk_model.specs.Stop.{Image}
 use Rattle.sync_journal.specs.Kinds.{kind_home_count, StoreStandsFor, StoreStandsForEither, IsStoreKept}
@@ -17,7 +18,7 @@ use Rattle.file_store.specs.declared.directory.Directory.{Directory}
 use Rattle.file_store.specs.Layout.{trimmed, bytes_inside}
 use Rattle.file_store.specs.Directory.{IsSoundDirectory, IsHomeOf}
 use Rattle.file_store.specs.Standing.{IsPageOf, StandsFor, standing, directory_entry, page_standing, standing_page}
-use Rattle.file_store.specs.Store.{entry_of, home_of, inside_of, inside_at, IsEntryPage, PutsHomes, PutsHomesOrNone}
+use Rattle.file_store.specs.Store.{entry_of, home_of, homes_of_pages, inside_of, inside_at, IsEntryPage, PutsHomes, PutsHomesOrNone}
 use Rattle.file_store.specs.Commit.{cut_page, ArePages, Changes, StandsForEither}
 use Rattle.disk_model.proofs.Pieces.{joined-same, joined_parts}
 use Rattle.file_store.proofs.Pieces.{trimmed-trimmed, length-trimmed}
@@ -57,6 +58,13 @@ homes_front directory list homes few each entries = record {
 
 no_page : FilePage
 no_page = record { file = 0; page = 0 }
+
+-- they are these homes, one after the other
+pub homes_mapped : (directory : Directory) (list : List FilePage) (homes : List ℕ) → AreHomesOf directory list homes → homes ≡ homes_of_pages directory list
+homes_mapped directory list homes of_list = same_number_lists homes (map (home_of directory) list) (of_list.size ∙ sym (length-map list (home_of directory)))
+    (λ k below.
+    let inside : k < length list = omega (arith, below, of_list.size) in
+    of_list.each k (get_or list k no_page) (slice_get-get_or list k no_page inside) ∙ sym (get_or-map (home_of directory) list k no_page 0 inside))
 
 at_place : (list : List FilePage) (i : ℕ) → i < length list → (p : FilePage) × (slice_get list i ≡ Some p)
 at_place list i lt = (get_or list i no_page, slice_get-get_or list i no_page lt)

@@ -5,6 +5,7 @@ pub mod Rests
 pub mod Images
 pub mod Homes
 pub mod Openings
+pub mod Resumes
 pub mod Outside
 pub mod Asking
 pub mod Causes

@@ -3,9 +3,11 @@ use Rattle.std.proofs.Common.{◌≡◌, ◌<◌, ◌≤◌, ℕ, false, List, O
 use Rattle.disk_model.specs.Stop.{Image, MayLeave}
 use Rattle.disk_model.specs.Moments.{Nothing, Touches, LeavesOnly}
 use Rattle.disk_model.specs.declared.sector_disk.SectorDisk.{Ghosts}
-use Rattle.disk_model.proofs.Moments.{weaker}
+use Rattle.disk_model.proofs.Moments.{weaker, then}
 use Rattle.sync_journal.specs.Kinds.{StoreStandsAs, KeepsStore}
-use Rattle.sync_journal.proofs.InKinds.{while_reading, while_recovering}
+use Rattle.sync_journal.specs.Blocks.{MayLeaveBlocks, LeavesInBlocks, RecoversInBlocks}
+use Rattle.sync_journal.proofs.InTurn.{blocks_weaker, commits_weaker}
+use Rattle.sync_journal.proofs.InKinds.{while_reading, while_recovering, same_store}
 use Rattle.sync_journal.specs.Kinds.{is_kind, kind_when, kind_of, kind_home_count}
 use Rattle.sync_journal.specs.Layout.{layout_before, home_count_in}
 use Rattle.sync_journal.specs.declared.store_journal.Journals.{Journals}
@@ -14,6 +16,7 @@ use Rattle.file_store.specs.declared.version.Version.{Version}
 use Rattle.file_store.specs.declared.directory.Entry.{Entry}
 use Rattle.file_store.specs.Versions.{version_at, version_before, version_of, homes_of, count_of, directory_of, mark_of}
 use Rattle.file_store.specs.Directory.{IsSoundDirectory, AreGood}
+use Rattle.file_store.specs.Blocks.{OpensByBlocks}
 use Rattle.file_store.specs.Standing.{StandsAs, IsHeadIn, IsBadLayoutIn}
 use Rattle.file_store.proofs.Images.{sector_kind, stands_kept, layout_is_good_in}
 use Rattle.file_store.proofs.Reading.{same_content}
@@ -71,3 +74,43 @@ module _ {D : Type 0} (g : Ghosts D) where
       → LeavesOnly g old new (StoreStandsAs sectors (g.content old)) → LeavesOnly g old new (StandsAs sectors first)
   files_stand old new sectors first was homes = weaker g old new (StoreStandsAs sectors (g.content old)) (StandsAs sectors first)
       (λ image kept. stands_as_again sectors first (g.content old) image was (stands_kept sectors (g.content old) image kept)) homes
+
+  -- where a stop spoils whole blocks
+  pub reads_by_blocks : (P : Image → Type 0) (old new : D) → ((k : ℕ) → g.unsynced old k → ⊥) → P (g.content old) → Touches g Nothing old new → LeavesInBlocks g Nothing P old new
+  reads_by_blocks P old new synced stands run = record {
+    writes = run;
+    each = λ d reads image may. subst P (sym (same d reads image may)) stands;
+  }
+    where
+      same : (d : D) → Touches g Nothing old d → (image : Image) → MayLeaveBlocks (g.content d) (g.unsynced d) image → image ≡ g.content old
+      same d reads image may = λ t k. ⊎_elim {C = image k ≡ g.content old k} (λ block. absurd (still_synced old d reads synced block.0 block.2))
+          (λ e. e ∙ same_content g old d reads k) (may.kept k) t
+
+  pub opens_by_blocks : (old mid new : D) → g.sector_count mid ≡ g.sector_count old → ((k : ℕ) → g.unsynced old k → ⊥) → Touches g Nothing old mid
+      → RecoversInBlocks g (StoreStandsAs (g.sector_count mid) (g.content mid)) mid new → OpensByBlocks g (StoreStandsAs (g.sector_count old) (g.content old)) old new
+  opens_by_blocks old mid new size synced run recovery = ⊎_elim
+      (λ reads. inl (reads_by_blocks P old new synced here (then g Nothing old mid new run reads)))
+      (λ after. inr (after.0, reads_by_blocks P old after.0 synced here (then g Nothing old mid after.0 run after.1), after.2, after.3, after.4))
+      (subst (λ (n : ℕ). RecoversInBlocks g (StoreStandsAs n (g.content old)) mid new) size
+      (subst (λ (image : Image). RecoversInBlocks g (StoreStandsAs (g.sector_count mid) image) mid new) (content_is old mid run) recovery))
+    where
+      P : Image → Type 0
+      P = StoreStandsAs (g.sector_count old) (g.content old)
+
+      here : P (g.content old)
+      here = same_store (g.sector_count old) (g.content old) (g.content old) refl
+
+  pub files_by_blocks : (old new : D) (sectors : ℕ) (first : Image) → StandsAs sectors first (g.content old)
+      → OpensByBlocks g (StoreStandsAs sectors (g.content old)) old new → OpensByBlocks g (StandsAs sectors first) old new
+  files_by_blocks old new sectors first was = ⊎_elim
+      (λ reads. inl (blocks_weaker g Nothing P Q old new more reads))
+      (λ run. inr (run.0, blocks_weaker g Nothing P Q old run.0 more run.1, run.2, run.3, commits_weaker g P Q more run.2 run.3 run.0 new run.4))
+    where
+      P : Image → Type 0
+      P = StoreStandsAs sectors (g.content old)
+
+      Q : Image → Type 0
+      Q = StandsAs sectors first
+
+      more : (image : Image) → P image → Q image
+      more image kept = stands_as_again sectors first (g.content old) image was (stands_kept sectors (g.content old) image kept)

@@ -1,5 +1,5 @@
 -- An open store.
-use Rattle.std.specs.Prelude.{ℕ, ◌+◌, ◌*◌, ◌^◌, ◌<◌, ◌≤◌, ◌≡◌, ◌⊎◌, List, [], slice_get, Option, Some, None, get_or}
+use Rattle.std.specs.Prelude.{ℕ, ◌+◌, ◌*◌, ◌^◌, ◌<◌, ◌≤◌, ◌≡◌, ◌⊎◌, List, [], map, slice_get, Option, Some, None, get_or}
 use Rattle.std.specs.Option.{option_map}
 use Rattle.vm_types.specs.declared.file.FileInfo.{FileInfo}
 use Rattle.disk_model.specs.declared.sector_disk.SectorDisk.{Ghosts}
@@ -67,6 +67,10 @@ home_in (Some e) k = e.first + k
 -- the home page of a page
 unfoldable pub home_of : Directory → FilePage → ℕ
 home_of directory p = home_in (entry_of directory p.file) p.page
+
+-- and those of a list of pages
+abbrev pub homes_of_pages : Directory → List FilePage → List ℕ
+homes_of_pages directory list = map (home_of directory) list
 
 module _ {D : Type 0} where
   -- one of the eight sectors in which this page stands: in the body where the journal is live with it, otherwise in its home

@@ -5,9 +5,10 @@ ghost use Rattle.vm_types.specs.declared.file.FilePage.{FilePage};
 ghost use Rattle.disk_model.specs.Moments.{LeavesOnly, LeavesNow, Touches, AsksOnly};
 ghost use Rattle.sync_journal.specs.Layout.{page_limit};
 ghost use Rattle.sync_journal.specs.Kinds.{IsStoreCommitted, IsStoreUsed, StoreStandsAs, AsksEachOnce};
+ghost use Rattle.sync_journal.specs.Blocks.{StoreCommitsInBlocks};
 ghost use Rattle.sync_journal.specs.Source.{HasCauses, Asks};
 ghost use Rattle.file_store.specs.Standing.{StandsFor};
-ghost use Rattle.file_store.specs.Store.{files_of, home_of, IsEntryPage, IsReadyStore, PutsHomes, PutsHomesOrNone};
+ghost use Rattle.file_store.specs.Store.{files_of, home_of, homes_of_pages, IsEntryPage, IsReadyStore, PutsHomes, PutsHomesOrNone};
 ghost use Rattle.file_store.specs.Commit.{ArePages, Changes, StandsForEither};
 
 use crate::directory::Directory;
@@ -40,7 +41,7 @@ impl<D: SectorDisk> FileStore<D> {
         // The device is asked for the gate, the journals, and the homes of the commit before alone.
         ensures asks_device { AsksOnly D.SectorDisk (IsStoreUsed self.old.journal) self.old.disk self.new.disk }
         // And for no sector more often than it takes.
-        ensures once { AsksEachOnce D.SectorDisk self.old.journal (length pages.now) self.old.disk self.new.disk }
+        ensures once { AsksEachOnce D.SectorDisk self.old.journal (homes_of_pages self.old.directory pages.now) self.old.disk self.new.disk }
         ensures causes { HasCauses (D.failures self.old.disk) (D.failures self.new.disk) (S.failures source.old) (S.failures source.new) result }
         // No sector is written but the gate, the journals, and the homes of the commit before.
         ensures touches { D.keeps_model self.new.disk → Touches D.SectorDisk (IsStoreCommitted self.old.journal) self.old.disk self.new.disk }
@@ -54,6 +55,12 @@ impl<D: SectorDisk> FileStore<D> {
             → (files : ℕ → Option FileInfo) (before after : ℕ → ℕ → List ℕ) → LeavesNow D.SectorDisk self.old.disk (StandsFor (D.sector_count self.old.disk) files before)
             → Changes files pages.now (S.pages source.old) before after
             → LeavesOnly D.SectorDisk self.old.disk self.new.disk (StandsForEither (D.sector_count self.old.disk) files before after) }
+
+        // Of layout 3 even one that spoils whole blocks of 4,096 bytes.
+        ensures blocks { D.keeps_model self.new.disk → S.keeps_model source.new
+            → (files : ℕ → Option FileInfo) (before after : ℕ → ℕ → List ℕ) → LeavesNow D.SectorDisk self.old.disk (StandsFor (D.sector_count self.old.disk) files before)
+            → Changes files pages.now (S.pages source.old) before after
+            → StoreCommitsInBlocks D.SectorDisk self.old.journal (StandsForEither (D.sector_count self.old.disk) files before after) self.old.disk self.new.disk }
 
         // After Ok every image of a stop from now on stands for the files after.
         ensures ok { D.keeps_model self.new.disk → S.keeps_model source.new

@@ -186,15 +186,8 @@ impl Directory {
         true
     }
 
-    /// The entry of file `n`.
-    pub(crate) fn entry(&self, n: u8) -> Option<Entry>
-        ensures { result ≡ entry_of self.now n }
-    {
-        *self.entries.get(usize::from(n))?
-    }
-
     /// The entry of a file of any number.
-    pub(crate) fn entry_at(&self, n: usize) -> Option<Entry>
+    pub(crate) fn entry(&self, n: usize) -> Option<Entry>
         ensures entry { result ≡ entry_of self.now n }
         ensures number { IsSome result → n < file_limit }
     {
@@ -207,7 +200,7 @@ impl Directory {
         requires { IsEntryPage self.now page }
         ensures { result ≡ home_of self.now page }
     {
-        let Some(entry) = self.entry(page.file) else {
+        let Some(entry) = self.entry(usize::from(page.file)) else {
             unreachable!();
         };
         entry.first + page.page

@@ -11,9 +11,9 @@ ghost use Rattle.file_store.specs.Blocks.{MakesByBlocks, KindBehind, KindLast};
 ghost use Rattle.file_store.specs.Making.{Makes};
 
 use crate::faults::FormatFault;
-use crate::layout::{GATE, KIND_SECTOR, MARK_SECTOR, TURN_MAP, is_any_mark, turn_mark_bytes};
+use crate::layout::{GATE, KIND_SECTOR, MARK_SECTOR, TURN_MAP};
 use crate::sources::{FileSource, directory_of, is_too_large};
-use crate::version::{Version, first_home, mark};
+use crate::version::{Version, first_home, is_any_mark};
 use disk_model::{DiskFault, SECTOR_BYTES, SectorDisk};
 use std::io::Read;
 use sync_journal::{Journals, PAGE_SECTORS, TURN_GATE, write_page};
@@ -244,7 +244,7 @@ fn write_kind<D: SectorDisk>(disk: &mut D) -> Result<(), DiskFault>
     ensures kind { D.keeps_model disk.new → OnOk result (D.content disk.new 1 ≡ turn_kind) }
     ensures synced { D.keeps_model disk.new → OnOk result ((k : ℕ) → D.unsynced disk.new k → ⊥) }
 {
-    disk.write(KIND_SECTOR, turn_mark_bytes())?;
+    disk.write(KIND_SECTOR, Version::Three.mark())?;
     disk.sync()
 }
 
@@ -272,6 +272,6 @@ pub(crate) fn write_mark<D: SectorDisk>(disk: &mut D, journals: Journals) -> Res
     ensures marked { D.keeps_model disk.new → OnOk result (D.content disk.new 0 ≡ mark_of (version_at journals)) }
     ensures synced { D.keeps_model disk.new → OnOk result ((k : ℕ) → D.unsynced disk.new k → ⊥) }
 {
-    disk.write(MARK_SECTOR, mark(journals))?;
+    disk.write(MARK_SECTOR, Version::of_kind(journals).mark())?;
     disk.sync()
 }

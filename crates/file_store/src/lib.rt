@@ -37,6 +37,7 @@ mod layout;
 mod old_store;
 mod opening;
 mod pages;
+mod resuming;
 mod room;
 mod sources;
 mod store;

@@ -10,15 +10,16 @@ ghost use Rattle.sync_journal.specs.Runs.{Runs};
 ghost use Rattle.file_store.specs.Directory.{IsSoundDirectory, IsBadDirectory, AreGood};
 ghost use Rattle.file_store.specs.Standing.{IsBadLayoutIn, IsBadLayout, IsBadJournal, IsHeadIn, IsAskedToOpen, StandsAs, AreBounded, entry_at, directory_entry};
 ghost use Rattle.file_store.specs.Stops.{LeftInARow};
+ghost use Rattle.file_store.specs.Blocks.{OpensByBlocks};
 ghost use Rattle.file_store.specs.Versions.{version_at, version_of, homes_of, count_of, directory_of, mark_of};
 ghost use Rattle.file_store.specs.Store.{IsReadyStore, IsMounted, entry_of, files_of};
 
 use crate::directory::Directory;
 use crate::faults::OpenFault;
-use crate::layout::{KIND_SECTOR, MARK_SECTOR, is_mark, is_turn_kind, is_turn_mark};
+use crate::layout::{KIND_SECTOR, MARK_SECTOR};
 use crate::room::HomeRoom;
 use crate::store::FileStore;
-use crate::version::Version;
+use crate::version::{Version, is_turn_kind};
 use disk_model::{SECTOR_BYTES, SectorDisk};
 use sync_journal::{FIRST_HOME, Journals, StoreJournal, TURN_HOMES};
 
@@ -63,6 +64,9 @@ impl<D: SectorDisk> FileStore<D> {
             → LeavesOnly D.SectorDisk disk store.disk (StandsAs (D.sector_count disk) (D.content disk))) }
         ensures in_a_row { IfOk result (λ store. D.keeps_model store.disk → ((k : ℕ) → D.unsynced disk k → ⊥) → (first : Image) → StandsAs (D.sector_count disk) first (D.content disk)
             → LeavesOnly D.SectorDisk disk store.disk (StandsAs (D.sector_count disk) first)) }
+        // Of layout 3 even every image of a stop that spoils whole blocks of 4,096 bytes does.
+        ensures blocks { IfOk result (λ store. D.keeps_model store.disk → ((k : ℕ) → D.unsynced disk k → ⊥) → kind_of (D.content disk) ≡ Paired
+            → (first : Image) → StandsAs (D.sector_count disk) first (D.content disk) → OpensByBlocks D.SectorDisk (StandsAs (D.sector_count disk) first) disk store.disk) }
 
         ensures err_size { IfErr result (λ e. D.sector_count e.1 ≡ D.sector_count disk) }
         ensures err_kept { IfErr result (λ e. D.keeps_model e.1 → D.keeps_model disk) }
@@ -81,6 +85,8 @@ impl<D: SectorDisk> FileStore<D> {
             → LeavesOnly D.SectorDisk disk e.1 (StandsAs (D.sector_count disk) (D.content disk))) }
         ensures err_in_a_row { IfErr result (λ e. D.keeps_model e.1 → ((k : ℕ) → D.unsynced disk k → ⊥) → (first : Image) → StandsAs (D.sector_count disk) first (D.content disk)
             → LeavesOnly D.SectorDisk disk e.1 (StandsAs (D.sector_count disk) first)) }
+        ensures err_blocks { IfErr result (λ e. D.keeps_model e.1 → ((k : ℕ) → D.unsynced disk k → ⊥) → kind_of (D.content disk) ≡ Paired
+            → (first : Image) → StandsAs (D.sector_count disk) first (D.content disk) → OpensByBlocks D.SectorDisk (StandsAs (D.sector_count disk) first) disk e.1) }
     {
         let mut disk = disk;
         match mount(&mut disk) {
@@ -118,6 +124,8 @@ fn mount<D: SectorDisk>(disk: &mut D) -> Result<(Directory, StoreJournal), OpenF
     ensures touches { D.keeps_model disk.new → Touches D.SectorDisk (IsStoreRecovered (D.content disk.old) (D.sector_count disk.old)) disk.old disk.new }
     ensures closed_unwritten { D.keeps_model disk.new → IsStoreClosed (D.content disk.old) → Touches D.SectorDisk Nothing disk.old disk.new }
     ensures any_moment { D.keeps_model disk.new → ((k : ℕ) → D.unsynced disk.old k → ⊥) → KeepsStore D.SectorDisk disk.old disk.new }
+    ensures blocks { D.keeps_model disk.new → ((k : ℕ) → D.unsynced disk.old k → ⊥) → kind_of (D.content disk.old) ≡ Paired
+        → OpensByBlocks D.SectorDisk (StoreStandsAs (D.sector_count disk.old) (D.content disk.old)) disk.old disk.new }
 {
     let found = read_head(disk)?;
     let journal = StoreJournal::recover(disk, found.0)?;
@@ -125,7 +133,7 @@ fn mount<D: SectorDisk>(disk: &mut D) -> Result<(Directory, StoreJournal), OpenF
 }
 
 /// Reads mark, kind and directory of a store of layout 2 or 3. Of layout 2 the kind is the directory.
-fn read_head<D: SectorDisk>(disk: &mut D) -> Result<(Journals, Directory), OpenFault>
+pub(crate) fn read_head<D: SectorDisk>(disk: &mut D) -> Result<(Journals, Directory), OpenFault>
     ensures run { Runs D.SectorDisk Nothing disk.old disk.new }
     ensures asks { D.keeps_model disk.new → AsksOnly D.SectorDisk (IsHeadIn (version_of (D.content disk.old))) disk.old disk.new }
     ensures room { IfOk result (λ found. kind_homes found.0 ≤ D.sector_count disk.old) }
@@ -164,10 +172,10 @@ fn read_mark<D: SectorDisk>(disk: &mut D) -> Result<Journals, OpenFault>
     }
     let mut sector = [0; SECTOR_BYTES];
     disk.read(MARK_SECTOR, &mut sector)?;
-    if is_turn_mark(&sector) {
+    if Version::Three.marks(&sector) {
         return Ok(Journals::Paired);
     }
-    if is_mark(&sector) {
+    if Version::Two.marks(&sector) {
         return Ok(Journals::Single);
     }
     Err(OpenFault::BadLayout)

@@ -27,7 +27,7 @@ impl<D: SectorDisk> FileStore<D> {
     pub fn file(&self, n: u8) -> Option<FileInfo>
         ensures { result ≡ files_of self.now n }
     {
-        self.directory.entry(n).map(|entry| entry.info)
+        self.directory.entry(usize::from(n)).map(|entry| entry.info)
     }
 
     /// The facts of the file of any number, or none where the store has no such file.
@@ -35,7 +35,7 @@ impl<D: SectorDisk> FileStore<D> {
         ensures info { result ≡ files_of self.now n }
         ensures number { IsSome result → n < file_limit }
     {
-        self.directory.entry_at(n as usize).map(|entry| entry.info)
+        self.directory.entry(n as usize).map(|entry| entry.info)
     }
 
     /// The device.
@@ -67,7 +67,7 @@ impl<D: SectorDisk> FileStore<D> {
         ensures touches { D.keeps_model self.new.disk → Touches D.SectorDisk Nothing self.old.disk self.new.disk }
         ensures page { D.keeps_model self.new.disk → OnOk result (to.new ≡ standing_page (D.content self.old.disk) page.file page.page) }
     {
-        let Some(entry) = self.directory.entry(page.file) else {
+        let Some(entry) = self.directory.entry(usize::from(page.file)) else {
             unreachable!();
         };
         self.journal

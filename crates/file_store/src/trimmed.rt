@@ -27,7 +27,7 @@ impl<S> Trimmed<'_, S> {
         let Some(page) = self.pages.get(i) else {
             return PAGE_BYTES;
         };
-        match self.directory.entry(page.file) {
+        match self.directory.entry(usize::from(page.file)) {
             Some(entry) => entry.info.bytes_inside(page.page),
             None => PAGE_BYTES,
         }

@@ -20,9 +20,9 @@ ghost use Rattle.file_store.specs.Upgrade.{IsOldStore, IsTooSmall, IsFileSector,
 use crate::directory::{Directory, Entry};
 use crate::faults::UpgradeFault;
 use crate::formatting::{write_layout, write_mark};
-use crate::layout::{FILES, MARK_SECTOR, is_any_mark};
+use crate::layout::{FILES, MARK_SECTOR};
 use crate::old_store::OldStore;
-use crate::version::{first_home, homes};
+use crate::version::{first_home, homes, is_any_mark};
 use disk_model::{SECTOR_BYTES, SectorDisk};
 use sync_journal::{Journals, PAGE_SECTORS, write_page};
 
@@ -192,7 +192,7 @@ fn copy_entry<D: SectorDisk, E: SectorDisk>(
     ensures pages { D.keeps_model old.new → E.keeps_model new.new → OnOk result ((e : AnEntry) → entry_of store.now.directory f ≡ Some e
         → HoldsOldPages journals (D.content old.old) e (page_count e.info.length) (E.content new.new)) }
 {
-    match store.directory.entry_at(f) {
+    match store.directory.entry(f) {
         Some(entry) => copy_file(store, entry, old, new, journals),
         None => Ok(()),
     }

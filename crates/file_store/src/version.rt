@@ -1,12 +1,42 @@
 //! The layouts of stores.
 ghost use Rattle.std.specs.Prelude.{◌≡◌, ◌≤◌, ◌↔◌, IsTrue};
-ghost use Rattle.sync_journal.specs.Kinds.{kind_homes, kind_home_count, kind_home};
+ghost use Rattle.sync_journal.specs.Kinds.{is_kind, kind_homes, kind_home_count, kind_home};
+ghost use Rattle.file_store.specs.Layout.{IsMark};
 ghost use Rattle.file_store.specs.Versions.{version_at, version_before, homes_of, count_of, directory_of, mark_of};
 
-use crate::layout::{is_mark, is_old_mark, is_turn_mark, mark_bytes, turn_mark_bytes};
 use sync_journal::{
     FIRST_HOME, Journals, OLD_FIRST_HOME, TURN_HOMES, home_count, old_home_count, turn_home_count,
 };
+
+const OLD_MARK: &[u8; 512] = b"\
+    FAMSYNC1FAMSYNC1FAMSYNC1FAMSYNC1FAMSYNC1FAMSYNC1FAMSYNC1FAMSYNC1\
+    FAMSYNC1FAMSYNC1FAMSYNC1FAMSYNC1FAMSYNC1FAMSYNC1FAMSYNC1FAMSYNC1\
+    FAMSYNC1FAMSYNC1FAMSYNC1FAMSYNC1FAMSYNC1FAMSYNC1FAMSYNC1FAMSYNC1\
+    FAMSYNC1FAMSYNC1FAMSYNC1FAMSYNC1FAMSYNC1FAMSYNC1FAMSYNC1FAMSYNC1\
+    FAMSYNC1FAMSYNC1FAMSYNC1FAMSYNC1FAMSYNC1FAMSYNC1FAMSYNC1FAMSYNC1\
+    FAMSYNC1FAMSYNC1FAMSYNC1FAMSYNC1FAMSYNC1FAMSYNC1FAMSYNC1FAMSYNC1\
+    FAMSYNC1FAMSYNC1FAMSYNC1FAMSYNC1FAMSYNC1FAMSYNC1FAMSYNC1FAMSYNC1\
+    FAMSYNC1FAMSYNC1FAMSYNC1FAMSYNC1FAMSYNC1FAMSYNC1FAMSYNC1FAMSYNC1";
+
+const MARK: &[u8; 512] = b"\
+    FAMSYNC2FAMSYNC2FAMSYNC2FAMSYNC2FAMSYNC2FAMSYNC2FAMSYNC2FAMSYNC2\
+    FAMSYNC2FAMSYNC2FAMSYNC2FAMSYNC2FAMSYNC2FAMSYNC2FAMSYNC2FAMSYNC2\
+    FAMSYNC2FAMSYNC2FAMSYNC2FAMSYNC2FAMSYNC2FAMSYNC2FAMSYNC2FAMSYNC2\
+    FAMSYNC2FAMSYNC2FAMSYNC2FAMSYNC2FAMSYNC2FAMSYNC2FAMSYNC2FAMSYNC2\
+    FAMSYNC2FAMSYNC2FAMSYNC2FAMSYNC2FAMSYNC2FAMSYNC2FAMSYNC2FAMSYNC2\
+    FAMSYNC2FAMSYNC2FAMSYNC2FAMSYNC2FAMSYNC2FAMSYNC2FAMSYNC2FAMSYNC2\
+    FAMSYNC2FAMSYNC2FAMSYNC2FAMSYNC2FAMSYNC2FAMSYNC2FAMSYNC2FAMSYNC2\
+    FAMSYNC2FAMSYNC2FAMSYNC2FAMSYNC2FAMSYNC2FAMSYNC2FAMSYNC2FAMSYNC2";
+
+const TURN_MARK: &[u8; 512] = b"\
+    FAMSYNC3FAMSYNC3FAMSYNC3FAMSYNC3FAMSYNC3FAMSYNC3FAMSYNC3FAMSYNC3\
+    FAMSYNC3FAMSYNC3FAMSYNC3FAMSYNC3FAMSYNC3FAMSYNC3FAMSYNC3FAMSYNC3\
+    FAMSYNC3FAMSYNC3FAMSYNC3FAMSYNC3FAMSYNC3FAMSYNC3FAMSYNC3FAMSYNC3\
+    FAMSYNC3FAMSYNC3FAMSYNC3FAMSYNC3FAMSYNC3FAMSYNC3FAMSYNC3FAMSYNC3\
+    FAMSYNC3FAMSYNC3FAMSYNC3FAMSYNC3FAMSYNC3FAMSYNC3FAMSYNC3FAMSYNC3\
+    FAMSYNC3FAMSYNC3FAMSYNC3FAMSYNC3FAMSYNC3FAMSYNC3FAMSYNC3FAMSYNC3\
+    FAMSYNC3FAMSYNC3FAMSYNC3FAMSYNC3FAMSYNC3FAMSYNC3FAMSYNC3FAMSYNC3\
+    FAMSYNC3FAMSYNC3FAMSYNC3FAMSYNC3FAMSYNC3FAMSYNC3FAMSYNC3FAMSYNC3";
 
 /// The layout of a store.
 #[derive(Clone, Copy, Debug, PartialEq, Eq)]
@@ -74,16 +104,37 @@ impl Version {
         }
     }
 
+    /// What sector 0 of every store holds, and of layout 3 sector 1 too.
+    pub(crate) fn mark(self) -> &'static [u8; 512]
+        ensures { result.now ≡ mark_of self }
+    {
+        match self {
+            Version::One => OLD_MARK,
+            Version::Two => MARK,
+            Version::Three => TURN_MARK,
+        }
+    }
+
     /// Whether a sector is the mark.
     pub(crate) fn marks(self, sector: &[u8; 512]) -> bool
         ensures { IsTrue result ↔ (sector.now ≡ mark_of self) }
     {
-        match self {
-            Version::One => is_old_mark(sector),
-            Version::Two => is_mark(sector),
-            Version::Three => is_turn_mark(sector),
-        }
+        sector.as_slice() == self.mark().as_slice()
     }
+}
+
+/// Whether a sector is the mark of any layout.
+pub(crate) fn is_any_mark(sector: &[u8; 512]) -> bool
+    ensures { IsTrue result ↔ IsMark sector.now }
+{
+    Version::Two.marks(sector) || Version::One.marks(sector) || Version::Three.marks(sector)
+}
+
+/// Whether sector 1 is the kind of layout 3.
+pub(crate) fn is_turn_kind(sector: &[u8; 512]) -> bool
+    ensures { result ≡ is_kind sector.now }
+{
+    sector.as_slice() == Version::Three.mark().as_slice()
 }
 
 /// The first sector of the first home page of a store of this kind.
@@ -105,15 +156,5 @@ pub(crate) fn homes(journals: Journals, sectors: u64) -> u64
     match journals {
         Journals::Single => home_count(sectors),
         Journals::Paired => turn_home_count(sectors),
-    }
-}
-
-/// The mark of a store of this kind.
-pub(crate) fn mark(journals: Journals) -> &'static [u8; 512]
-    ensures { result.now ≡ mark_of (version_at journals) }
-{
-    match journals {
-        Journals::Single => mark_bytes(),
-        Journals::Paired => turn_mark_bytes(),
     }
 }

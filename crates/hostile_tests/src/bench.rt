@@ -113,17 +113,9 @@ impl Case<'_> {
         }
     }
 
-    /// Whether the gate says that an msync is done that comes after so many others, where its sector holds that filling. Two journals
-    /// are named in turn: the second by what opens a gate, and the first by other bytes, of which the old ones are none.
-    fn is_done(&self, others: usize, filling: usize) -> bool {
-        match self.journals {
-            Journals::Paired if others % 2 == 1 => filling != OPEN && filling != OLD,
-            _ => filling == OPEN,
-        }
-    }
-
     /// What the homes hold once the store was opened that a run left, with that filling of its unsynced sectors: that is what the
-    /// judge says, with an msync that failed only where the gate's sector is filled with what says that it is done.
+    /// judge says, with an msync that failed only where the gate's sector is filled with what says that it is done. Two journals are
+    /// named in turn: the second by what opens a gate, and the first by other bytes, of which the old ones are none.
     pub(crate) fn standing(
         &self,
         alloc: Global,
@@ -133,7 +125,11 @@ impl Case<'_> {
     ) -> Result<Vec<u8>, Fail> {
         let write = told.store.disk.writes();
         let at_gate = self.gates.get(judge.synced) == Some(&write);
-        let is_done = at_gate && self.is_done(judge.synced, filling);
+        let is_named = match self.journals {
+            Journals::Paired if judge.synced % 2 == 1 => filling != OPEN && filling != OLD,
+            _ => filling == OPEN,
+        };
+        let is_done = at_gate && is_named;
         let wanted = match &judge.before {
             Some(before) if !is_done => before.clone()?,
             _ => judge.flat.durable(alloc)?,

@@ -88,19 +88,12 @@ fn stop_at(
 }
 
 #[test]
-fn stopped_recoveries_of_a_partial_page_change_nothing(rt: HostRuntime) -> Result<(), Fail> {
-    let image = PARTIAL_PAGE.image(rt.alloc())?;
-    for write in 1..=17 {
-        stop_at(rt.alloc(), &PARTIAL_PAGE, &image, write, &EACH)?;
-    }
-    Ok(())
-}
-
-#[test]
-fn stopped_recoveries_of_two_files_change_nothing(rt: HostRuntime) -> Result<(), Fail> {
-    let image = TWO_FILES.image(rt.alloc())?;
-    for write in 1..=25 {
-        stop_at(rt.alloc(), &TWO_FILES, &image, write, &EACH)?;
+fn stopped_recoveries_of_an_msync_change_nothing(rt: HostRuntime) -> Result<(), Fail> {
+    for (case, writes) in [(PARTIAL_PAGE, 17), (TWO_FILES, 25)] {
+        let image = case.image(rt.alloc())?;
+        for write in 1..=writes {
+            stop_at(rt.alloc(), &case, &image, write, &EACH)?;
+        }
     }
     Ok(())
 }

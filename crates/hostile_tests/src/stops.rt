@@ -7,28 +7,21 @@ use crate::cases::{
 };
 use std::test::Fail;
 
-/// First the home of the first msync's page is written, then the gate is closed, and only then the map, the body and the gate of
-/// the second.
+/// Before the second msync of a page first the home of the first one's is written, then the gate is closed, and only then come the
+/// map, the body and the gate. Of two journals in turn the other one is written first, and homes that the new one doesn't take, and
+/// then the gate. Several pages are all old or all new.
 #[test]
-fn a_page_is_old_or_new(rt: HostRuntime) -> Result<(), Fail> {
-    for case in [ONE_PAGE, PARTIAL_PAGE, TWO_PROCESSES, PAGE_IN_THE_JOURNAL] {
-        case.try_each(rt.alloc(), true)?;
-    }
-    Ok(())
-}
-
-/// Of two journals in turn the other one is written first, and homes that the new one doesn't take, and then the gate.
-#[test]
-fn a_page_is_old_or_new_in_turn(rt: HostRuntime) -> Result<(), Fail> {
-    for case in [ONE_PAGE_IN_TURN, TWO_PAGES_IN_TURN] {
-        case.try_each(rt.alloc(), true)?;
-    }
-    Ok(())
-}
-
-#[test]
-fn several_pages_are_all_old_or_all_new(rt: HostRuntime) -> Result<(), Fail> {
-    for case in [TWO_FILES_TWICE, PAGES_IN_SLOTS] {
+fn pages_are_all_old_or_all_new(rt: HostRuntime) -> Result<(), Fail> {
+    for case in [
+        ONE_PAGE,
+        PARTIAL_PAGE,
+        TWO_PROCESSES,
+        PAGE_IN_THE_JOURNAL,
+        ONE_PAGE_IN_TURN,
+        TWO_PAGES_IN_TURN,
+        TWO_FILES_TWICE,
+        PAGES_IN_SLOTS,
+    ] {
         case.try_each(rt.alloc(), true)?;
     }
     Ok(())

@@ -102,76 +102,83 @@ fn stores_are_read_with_each_width(rt: HostRuntime) {
 }
 
 #[test]
-fn mappings_are_read_with_each_placing(rt: HostRuntime) {
-    for (line, placing) in [
-        (
-            b"mmap 1 0x22000 0x1000 rw- shared 0 0x2000".as_slice(),
-            Placing::Hint,
-        ),
-        (
-            b"mmap 1 0x22000 0x1000 rw- shared 0 0x2000 fixed",
-            Placing::Fixed,
-        ),
-        (
-            b"mmap 1 0x22000 4096 rw- shared 0 8192 noreplace",
-            Placing::NoReplace,
-        ),
-    ] {
-        let shared = MapSource::Shared {
-            file: 0,
-            offset: 0x2000,
-        };
-        assert_eq!(rt;
-            parse_line(line),
-            mapping(Prot::READ | Prot::WRITE, shared, placing)
-        );
-    }
-}
-
-#[test]
-fn mappings_are_read_with_each_source(rt: HostRuntime) {
+fn mappings_are_read_with_each_source_and_placing(rt: HostRuntime) {
+    let (read_write, write) = (Prot::READ | Prot::WRITE, Prot::WRITE);
+    let shared = MapSource::Shared {
+        file: 0,
+        offset: 0x2000,
+    };
     let private = MapSource::Private {
         file: 63,
         offset: 0x100000000000,
     };
-    for (line, source, placing) in [
+    for (line, prot, source, placing) in [
         (
-            b"mmap 1 0x22000 4096 -w- anon".as_slice(),
+            b"mmap 1 0x22000 0x1000 rw- shared 0 0x2000".as_slice(),
+            read_write,
+            shared,
+            Placing::Hint,
+        ),
+        (
+            b"mmap 1 0x22000 0x1000 rw- shared 0 0x2000 fixed",
+            read_write,
+            shared,
+            Placing::Fixed,
+        ),
+        (
+            b"mmap 1 0x22000 4096 rw- shared 0 8192 noreplace",
+            read_write,
+            shared,
+            Placing::NoReplace,
+        ),
+        (
+            b"mmap 1 0x22000 4096 -w- anon",
+            write,
             MapSource::Anon,
             Placing::Hint,
         ),
         (
             b"mmap 1 0x22000 0x1000 -w- anon noreplace",
+            write,
             MapSource::Anon,
             Placing::NoReplace,
         ),
         (
             b"mmap 1 0x22000 0x1000 -w- common",
+            write,
             MapSource::Common,
             Placing::Hint,
         ),
         (
             b"mmap 1 0x22000 0x1000 -w- common fixed",
+            write,
             MapSource::Common,
             Placing::Fixed,
         ),
         (
             b"mmap 1 0x22000 4096 -w- common noreplace",
+            write,
             MapSource::Common,
             Placing::NoReplace,
         ),
         (
             b"mmap 1 0x22000 0x1000 -w- private 63 0x100000000000",
+            write,
             private,
             Placing::Hint,
         ),
         (
             b"mmap 1 0x22000 0x1000 -w- private 0x3f 0x100000000000 fixed",
+            write,
             private,
             Placing::Fixed,
         ),
     ] {
-        assert_eq!(rt; parse_line(line), mapping(Prot::WRITE, source, placing));
+        assert_eq!(rt;
+            parse_line(line),
+            mapping(prot, source, placing),
+            "at {line:?}"
+        );
     }
 }
 
@@ -203,6 +210,7 @@ fn changes_of_mappings_are_read(rt: HostRuntime) {
     );
 }
 
+/// A line has at most 256 bytes.
 #[test]
 fn other_lines_are_bad(rt: HostRuntime) {
     for line in [
@@ -284,10 +292,6 @@ fn other_lines_are_bad(rt: HostRuntime) {
     ] {
         assert_eq!(rt; parse_line(line), Err(BadLine), "at {line:?}");
     }
-}
-
-#[test]
-fn lines_have_at_most_256_bytes(rt: HostRuntime) {
     let mut line = [b'0'; 257];
     line[..9].copy_from_slice(b"load 1 0x");
     line[249..256].copy_from_slice(b"10000 1");

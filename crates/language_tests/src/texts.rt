@@ -64,10 +64,19 @@ fn each_reply_has_its_text(rt: HostRuntime) {
     );
     expect(&rt, Reply::Halted, b"halted\n");
     assert_eq!(rt; bad_line_text(), b"bad line\n".as_slice());
+    // A reply that is no history, as a machine hands it out.
+    let past_the_end = Fault {
+        cause: 13,
+        code: Code::BusAdrerr,
+        addr: 0x12000,
+    };
+    let mut out = [0; 1024];
+    let len = answer_text(&Answer::Faulted(past_the_end), &mut out);
+    assert_eq!(rt; &out[..len], b"fault 13 BUS_ADRERR 0x12000\n".as_slice());
 }
 
 #[test]
-fn each_error_has_its_number_and_its_name(rt: HostRuntime) {
+fn each_error_and_each_stall_has_its_number_and_its_name(rt: HostRuntime) {
     for (want, errno) in [
         (b"error 3 ESRCH\n".as_slice(), Errno::ESRCH),
         (b"error 5 EIO\n", Errno::EIO),
@@ -82,10 +91,6 @@ fn each_error_has_its_number_and_its_name(rt: HostRuntime) {
     ] {
         expect(&rt, Reply::Refused(errno), want);
     }
-}
-
-#[test]
-fn each_stall_has_its_number_and_its_name(rt: HostRuntime) {
     for (want, stall) in [
         (b"stall 1 NOFRAMES\n".as_slice(), Stall::NoFrames),
         (b"stall 2 NOSWAP\n", Stall::NoSwap),
@@ -121,17 +126,4 @@ fn a_history_has_a_line_for_each_fault(rt: HostRuntime) {
     assert_eq!(rt; &out[..len], want);
     expect(&rt, Reply::Past(history), want);
     expect(&rt, Reply::Past(History::new()), b"faults 0\n");
-}
-
-/// A reply that is no history, as a machine hands it out.
-#[test]
-fn an_answer_has_the_text_of_its_reply(rt: HostRuntime) {
-    let past_the_end = Fault {
-        cause: 13,
-        code: Code::BusAdrerr,
-        addr: 0x12000,
-    };
-    let mut out = [0; 1024];
-    let len = answer_text(&Answer::Faulted(past_the_end), &mut out);
-    assert_eq!(rt; &out[..len], b"fault 13 BUS_ADRERR 0x12000\n".as_slice());
 }

@@ -22,7 +22,7 @@ pub(crate) fn equal<T: PartialEq + Debug + Drop>(rt: &impl Abort, got: T, want: 
 }
 
 /// What a stop leaves of a device on which a store of one file of one page of zeros was made, or none; its call `failing` fails.
-fn image(alloc: Global, formatted: bool, failing: Option<u64>) -> Result<SimDisk, Fail> {
+pub(crate) fn image(alloc: Global, formatted: bool, failing: Option<u64>) -> Result<SimDisk, Fail> {
     let mut disk = SimDisk::new(alloc, 8203)?;
     if formatted {
         let mut files: [FileSource<&[u8]>; 1] = [FileSource {
@@ -121,7 +121,7 @@ fn storing(rt: &impl Abort, byte: u64) -> Command {
 }
 
 /// The reply to a load of a byte.
-fn value(value: u64) -> Reply {
+pub(crate) fn value(value: u64) -> Reply {
     Reply::Value {
         width: Width::One,
         value,

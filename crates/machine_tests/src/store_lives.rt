@@ -1,37 +1,16 @@
 //! Two lives of a store on a device in memory, the second of which is stopped in the gate of its msync.
-use disk_model::{SectorDisk, SimDisk};
-use file_store::{FileSource, format};
+use crate::machines::{equal, image, value};
+use disk_model::SimDisk;
 use lives::{
     boot_after_lives, flat_run, formatted_lives, live, lives_boot, lives_in_a_row, new_store,
     one_content, one_more_life, trace_life, two_lives, upgraded_lives, upgraded_store,
 };
 use machine::Config;
 use std::alloc::Global;
-use std::fmt::Debug;
-use std::process::Abort;
 use std::test::Fail;
-use sync_journal::Journals;
 use vm_types::{
     Command, Errno, MapSource, Mode, MsyncMode, Placing, Prot, Reply, StoredValue, Width,
 };
-
-/// Ends the test where the value isn't the one that is wanted. A test that said `assert_eq!` itself would be proved to
-/// end well at each place.
-fn equal<T: PartialEq + Debug + Drop>(rt: &impl Abort, got: T, want: T) {
-    assert_eq!(rt; got, want);
-}
-
-/// A device with a store of one file, of one page of zeros.
-fn formatted(alloc: Global) -> Result<SimDisk, Fail> {
-    let mut disk = SimDisk::new(alloc, 8195 + 8)?;
-    let mut files: [FileSource<&[u8]>; 1] = [FileSource {
-        read_only: false,
-        length: 4096,
-        bytes: None,
-    }];
-    format(&mut disk, Journals::Single, &mut files)?;
-    Ok(disk)
-}
 
 // Who may write may read as well.
 const MAP: Command = Command::Mmap {
@@ -96,7 +75,8 @@ fn found(alloc: Global, store: &SimDisk, gate: &[(u64, [u8; 512])]) -> Result<Re
 
 /// A store on which a life, of three levels of page tables, has made a byte durable.
 fn after_one_life(alloc: Global) -> Result<(Reply, SimDisk), Fail> {
-    lived(alloc, Mode::Sv39, formatted(alloc)?, &storing(0x11)?)
+    let store = image(alloc, true, None)?;
+    lived(alloc, Mode::Sv39, store, &storing(0x11)?)
 }
 
 /// A second life there, of four levels, makes another byte durable; the last sector that its msync writes is the gate.
@@ -112,40 +92,33 @@ fn stopped_in_its_gate(alloc: Global, store: &SimDisk) -> Result<(Reply, SimDisk
     lived(alloc, Mode::Sv48, second, &storing(0x22)?)
 }
 
-fn byte(value: u64) -> Reply {
-    Reply::Value {
-        width: Width::One,
-        value,
-    }
-}
-
 /// Either the msync of the first life counts, or both do: the gate has the bytes of before, those of neither, or those of after.
 #[test]
 fn the_second_life_stops_in_its_gate(rt: HostRuntime) -> Result<(), Fail> {
     let alloc = rt.alloc();
     let (first, store) = after_one_life(alloc)?;
     equal(&rt, first, Reply::Done);
-    equal(&rt, found(alloc, &store, &[])?, byte(0x11));
+    equal(&rt, found(alloc, &store, &[])?, value(0x11));
     let (second, stopped) = stopped_in_its_gate(alloc, &store)?;
     equal(&rt, second, Reply::Refused(Errno::EIO));
-    equal(&rt, found(alloc, &stopped, &[])?, byte(0x11));
+    equal(&rt, found(alloc, &stopped, &[])?, value(0x11));
     equal(
         &rt,
         found(alloc, &stopped, &[(2, [0x5a; 512])])?,
-        byte(0x11),
+        value(0x11),
     );
     let mut open = [0; 512];
     for i in 0..512_usize {
         open[i] = b"GATEOPEN"[i % 8];
     }
-    equal(&rt, found(alloc, &stopped, &[(2, open)])?, byte(0x22));
+    equal(&rt, found(alloc, &stopped, &[(2, open)])?, value(0x22));
     Ok(())
 }
 
 /// The laws of that store.
 #[test]
 fn laws_hold(rt: HostRuntime) -> Result<(), Fail> {
-    let store = formatted(rt.alloc())?;
+    let store = image(rt.alloc(), true, None)?;
     let reader: &[u8] = &[];
     new_store(&reader);
     lives_in_a_row(&store, &store);

@@ -9,11 +9,11 @@ use frames::{Frames, Role};
 use std::alloc::{AllocError, Global};
 use std::marker::{Model, PhantomData};
 use vm_types::{FrameNo, Levels, NoFree};
-use walk_buffer::TranslationBuffer;
+use walk_buffer::{Line, TranslationBuffer};
 
 /// Physical memory of 8 to 65,536 frames, as `Frames`, whose page tables are those of the mode, with a buffer of translations, and for each frame a
 /// note of 16 bytes that says which pages may name it. In contracts it is the bytes, the role and the share count of each frame: no call but `hits`
-/// tells what the buffer has, and none but `kinds_over` and `page_over` what is noted.
+/// and `line` tells what the buffer has, and none but `kinds_over` and `page_over` what is noted.
 #[derive(Drop)]
 pub struct Memory<M: Levels> {
     pub(crate) frames: Frames,
@@ -40,6 +40,7 @@ impl<M: Levels> Memory<M> {
     ghost use Rattle.frames.specs.declared.role.Role.TheVariants.{Free, Private};
     ghost use Rattle.frames.specs.FrameTable.{frame_count, bytes_of, count_of, IsSound, IsFresh, IsFull, IsHeld, is_handed_out, Takes, Shares, Releases, with_bytes};
     ghost use Rattle.page_tables.specs.Tree.{IsSpare};
+    ghost use Rattle.mapped_memory.specs.Kept.{IsLeafOf};
     ghost use Rattle.mapped_memory.specs.Lending.{LendsFrame};
 
     /// Memory of `count` frames, 8 to 65,536, all of them free but frame 0.
@@ -62,6 +63,14 @@ impl<M: Levels> Memory<M> {
     /// How many walks found their page's line in the buffer; it stays at its greatest value. No clause speaks of it.
     pub fn hits(&self) -> u64 {
         self.hits
+    }
+
+    /// The line at place `index`, under 64, of the buffer: the leaf in which the walk to its page ends. That there is one no clause says.
+    pub fn line(&self, index: usize) -> Option<Line>
+        requires { index < 64 }
+        ensures { IfSome result (λ line. IsLeafOf M.mode self.now line.root.0 line.page line.leaf.0) }
+    {
+        self.buffer.line(index)
     }
 
     /// The number of frames, 8 to 65,536. The second clause is what is true of memory at all times.

@@ -1,7 +1,6 @@
 //! Where pages of files and objects are, and the touched ones.
 use crate::bench::equal;
 use page_cache::{PageCache, Place, TooMany};
-use std::alloc::{AllocError, Global};
 use std::process::Abort;
 use std::test::Fail;
 use vm_types::{FilePage, FrameNo, MSYNC_PAGES, ObjectPage, PageKey, SlotNo};
@@ -62,11 +61,12 @@ fn a_page_goes_to_frames_to_slots_and_home(rt: HostRuntime) -> Result<(), Fail> 
 
 // Of the touched pages 1,024 are of file 5, three of file 1, and one each of file 6, of an object and of file 0, where it is the
 // last page that a file can have; page 6 of file 1 is in a frame and not touched.
-fn filled(rt: &impl Abort, alloc: Global) -> Result<PageCache, AllocError> {
-    let mut cache = PageCache::new(alloc, 1100, 0)?;
+#[test]
+fn a_row_lists_its_touched_pages_once(rt: HostRuntime) -> Result<(), Fail> {
+    let mut cache = PageCache::new(rt.alloc(), 1100, 0)?;
     for n in 0..1024 {
         let frame = Place::Frame(FrameNo(n));
-        put(rt, &mut cache, file(5, n), frame, true);
+        put(&rt, &mut cache, file(5, n), frame, true);
     }
     for (n, page, touched) in [
         (1024, file(1, 5), true),
@@ -81,14 +81,8 @@ fn filled(rt: &impl Abort, alloc: Global) -> Result<PageCache, AllocError> {
         ),
         (1030, file(0, u32::MAX), true),
     ] {
-        put(rt, &mut cache, page, Place::Frame(FrameNo(n)), touched);
+        put(&rt, &mut cache, page, Place::Frame(FrameNo(n)), touched);
     }
-    Ok(cache)
-}
-
-#[test]
-fn a_row_lists_its_touched_pages_once(rt: HostRuntime) -> Result<(), Fail> {
-    let cache = filled(&rt, rt.alloc())?;
     let none = FilePage { file: 63, page: 0 };
     let mut list = [none; MSYNC_PAGES];
     for (file, first, count, used, listed) in [

@@ -79,13 +79,30 @@ fn split_and_merge<M: Levels>(rt: &impl Abort) {
 }
 
 #[test]
-fn pages_split_and_merge(rt: HostRuntime) {
+fn pages_split_and_merge_up_to_the_last_page_of_the_mode(rt: HostRuntime) {
     split_and_merge::<Sv39>(&rt);
     split_and_merge::<Sv48>(&rt);
+    // The first address that Sv39 has no page for, and the last page of Sv48.
+    let (small, large) = (Regions::<Sv39>::new(), Regions::<Sv48>::new());
+    for (addr, pages, first, second) in [
+        (0x3f_ffff_f000, 1, 0x3ff_ffff, 0x3ff_ffff),
+        (0x3f_ffff_f000, 2, 0x10, 0x3ff_ffff),
+        (0x40_0000_0000, 1, 0x10, 0x400_0000),
+        (0x7fff_ffff_f000, 1, 0x10, 0x7_ffff_ffff),
+        (0x7fff_ffff_f000, 2, 0x10, 0x10),
+        (0x8000_0000_0000, 1, 0x10, 0x10),
+    ] {
+        let places = (small.place(addr, pages), large.place(addr, pages));
+        equal(
+            &rt,
+            (addr, places),
+            (addr, (Vpn::new::<Sv39>(first), Vpn::new::<Sv48>(second))),
+        );
+    }
 }
 
 #[test]
-fn more_than_256_runs_are_refused(rt: HostRuntime) {
+fn a_map_has_256_runs_and_tells_what_its_pages_are(rt: HostRuntime) {
     let mut regions = Regions::<Sv39>::new();
     let mapped = Change::Map(Prot::READ | Prot::WRITE, Some(0));
     equal(&rt, runs_after(&rt, &mut regions, 0x10, 511, mapped), Ok(1));
@@ -105,11 +122,7 @@ fn more_than_256_runs_are_refused(rt: HostRuntime) {
         runs_after(&rt, &mut regions, 0x20e, 1, barred),
         Ok(256),
     );
-}
-
-#[test]
-fn a_map_tells_what_its_pages_are(rt: HostRuntime) {
-    let mut regions = Regions::<Sv39>::new();
+    regions.clear();
     let mapped = Change::Map(Prot::READ, Some(0));
     equal(&rt, runs_after(&rt, &mut regions, 0x20, 5, mapped), Ok(1));
     let copy = regions.copied();
@@ -135,25 +148,4 @@ fn a_map_tells_what_its_pages_are(rt: HostRuntime) {
         [copy.first_on(0x10, key), copy.first_on(0x23, key)],
         [Some(page), None],
     );
-}
-
-// The first address that Sv39 has no page for, and the last page of Sv48.
-#[test]
-fn the_mode_has_a_last_page(rt: HostRuntime) {
-    let (small, large) = (Regions::<Sv39>::new(), Regions::<Sv48>::new());
-    for (addr, pages, first, second) in [
-        (0x3f_ffff_f000, 1, 0x3ff_ffff, 0x3ff_ffff),
-        (0x3f_ffff_f000, 2, 0x10, 0x3ff_ffff),
-        (0x40_0000_0000, 1, 0x10, 0x400_0000),
-        (0x7fff_ffff_f000, 1, 0x10, 0x7_ffff_ffff),
-        (0x7fff_ffff_f000, 2, 0x10, 0x10),
-        (0x8000_0000_0000, 1, 0x10, 0x10),
-    ] {
-        let places = (small.place(addr, pages), large.place(addr, pages));
-        equal(
-            &rt,
-            (addr, places),
-            (addr, (Vpn::new::<Sv39>(first), Vpn::new::<Sv48>(second))),
-        );
-    }
 }

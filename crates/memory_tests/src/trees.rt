@@ -176,14 +176,6 @@ fn tables_are_given_back<M: Levels>(rt: &impl Abort, alloc: Global) -> Result<()
 
 #[test]
 fn entries_stand_and_tables_are_given_back(rt: HostRuntime) -> Result<(), Fail> {
-    entries_stand::<Sv39>(&rt, rt.alloc())?;
-    entries_stand::<Sv48>(&rt, rt.alloc())?;
-    tables_are_given_back::<Sv39>(&rt, rt.alloc())?;
-    tables_are_given_back::<Sv48>(&rt, rt.alloc())
-}
-
-#[test]
-fn entries_of_pages_in_frames(rt: HostRuntime) {
     let own = Grant {
         frame: FrameNo(5),
         private: true,
@@ -205,6 +197,10 @@ fn entries_of_pages_in_frames(rt: HostRuntime) {
         ],
         [FIFTH, Entry::Leaf(Pte(0x2459)), PARKED],
     );
+    entries_stand::<Sv39>(&rt, rt.alloc())?;
+    entries_stand::<Sv48>(&rt, rt.alloc())?;
+    tables_are_given_back::<Sv39>(&rt, rt.alloc())?;
+    tables_are_given_back::<Sv48>(&rt, rt.alloc())
 }
 
 #[test]

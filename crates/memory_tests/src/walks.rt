@@ -58,13 +58,9 @@ fn walks_end_in_places_and_reasons(rt: HostRuntime) {
             (second, last, addr, Some(want), Some(want)),
         );
     }
-}
-
-// Tables 1 to 3 have one entry each, the first. A leaf above the last level maps 512, 512^2 or 512^3 pages, and its frame is a multiple
-// of as many; an address is canonical where its highest bits are all alike (RISC-V Privileged Specification, "Virtual Address
-// Translation Process", and "Sv39", "Sv48").
-#[test]
-fn leaves_of_each_level_and_addresses_of_both_halves(rt: HostRuntime) {
+    // Tables 1 to 3 have one entry each, the first. A leaf above the last level maps 512, 512^2 or 512^3 pages, and its frame is a multiple
+    // of as many; an address is canonical where its highest bits are all alike (RISC-V Privileged Specification, "Virtual Address
+    // Translation Process", and "Sv39", "Sv48").
     for (entries, addr, three_levels, four_levels) in [
         ([0x1d7, 0, 0], 0, Ok(Phys(0)), Ok(Phys(0))),
         ([0x15d7, 0, 0], 0, Err(Misaligned), Err(Misaligned)),
@@ -99,7 +95,7 @@ fn leaves_of_each_level_and_addresses_of_both_halves(rt: HostRuntime) {
 }
 
 #[test]
-fn fields_of_addresses(rt: HostRuntime) {
+fn fields_of_addresses_and_bits_of_entries(rt: HostRuntime) {
     for (addr, places, offset) in [
         (0x11387, [0, 0, 0, 17], 903),
         (0x3f_ffff_ffff, [0, 255, 511, 511], 4095),
@@ -114,10 +110,6 @@ fn fields_of_addresses(rt: HostRuntime) {
         ];
         equal(&rt, (found, addr % 4096), (places, offset));
     }
-}
-
-#[test]
-fn bits_of_entries(rt: HostRuntime) {
     for (number, bits, frame) in [
         (0xc01, [true, true, false, false], 3),
         (0x15d7, [true, false, true, false], 5),

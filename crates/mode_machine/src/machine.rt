@@ -1,5 +1,5 @@
 //! The machine of one mode: commands in, replies out, over a store that survives stops.
-ghost use Rattle.std.specs.Prelude.{◌≡◌, ◌≤◌, ◌<◌, is_some, true};
+ghost use Rattle.std.specs.Prelude.{◌≡◌, ◌≤◌, ◌<◌, ◌↔◌, is_some, true, IfSome, IsNone};
 ghost use Rattle.vm_types.specs.State.{State, IsRunning};
 ghost use Rattle.mode_machine.specs.Machine.{IsCaused, IsSoundMachine, IsReadable, KeepsIfDenied, Shows, Meets};
 ghost use Rattle.mapping.specs.Changes.{KeepsRoom};
@@ -57,6 +57,16 @@ impl<D: SectorDisk, E: SectorDisk, M: Levels> ModeMachine<D, E, M> {
         ensures ends { (s : State) → Shows D.SectorDisk E.SectorDisk self.now s → result ≡ is_some s.ends }
     {
         self.halted
+    }
+
+    /// All memory as one value, to be looked at; `None` exactly where the machine has halted.
+    pub fn memory(&self) -> Option<&Core<D, E, M>>
+        requires sound { IsSoundMachine D.SectorDisk E.SectorDisk self.now }
+        ensures memory { IfSome result (λ core. core.now ≡ self.now.core) }
+        ensures fit { IfSome result (λ core. IsFit (picture_of core.now)) }
+        ensures none { IsNone result ↔ (self.now.halted ≡ true) }
+    {
+        if self.halted { None } else { Some(&self.core) }
     }
 
     /// Carries out one command, as `step` does, and returns the reply in the few bytes that all but a history take. `None` where

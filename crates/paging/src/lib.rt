@@ -26,7 +26,9 @@ mod obtaining;
 mod processes;
 mod shares;
 mod steps;
+mod views;
 
 pub use kernel::{Core, PLACES};
 pub use leaves::{Change, change_leaves, page_over};
 pub use obtaining::obtain;
+pub use views::{Content, content_of, next_over};

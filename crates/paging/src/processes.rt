@@ -13,7 +13,16 @@ use vm_types::{FrameNo, Levels, Pid};
 
 impl<D, E, M: Levels> Core<D, E, M> {
     ghost use Rattle.std.specs.Prelude.{IfSome, is_some};
+    ghost use Rattle.frames.specs.FrameTable.{IsFrame};
     ghost use Rattle.paging.specs.Parts.{IsFit};
+
+    /// The frame that is looked at first when one is to be given up.
+    pub fn hand(&self) -> FrameNo
+        ensures hand { result.0 ≡ self.now.clock.hand }
+        ensures inside { IsFrame self.now.frames result.0 }
+    {
+        self.clock.hand()
+    }
 
     /// The process of that number, exactly where it lives.
     pub fn live(&self, number: u64) -> Option<Pid>

@@ -21,11 +21,6 @@ const FAULTS: [Step; 7] = [
     Go(Visit(0x20ff8, Load(One), Byte(1), 0x1d7)),
 ];
 
-#[test]
-fn faults_and_a_page_of_zeros(rt: HostRuntime) -> Result<(), Fail> {
-    follow(&rt, rt.alloc(), (0, 0), &FAULTS)
-}
-
 /// All that show a page of the file show one frame, until one of them has a copy. D of a shared page is clear until that is
 /// touched, and again after an msync.
 const SHOWN: [Step; 9] = [
@@ -41,6 +36,7 @@ const SHOWN: [Step; 9] = [
 ];
 
 #[test]
-fn one_frame_for_a_page_of_a_file(rt: HostRuntime) -> Result<(), Fail> {
+fn accesses_fault_or_show_a_page(rt: HostRuntime) -> Result<(), Fail> {
+    follow(&rt, rt.alloc(), (0, 0), &FAULTS)?;
     follow(&rt, rt.alloc(), (0, 0), &SHOWN)
 }

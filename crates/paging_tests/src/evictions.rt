@@ -22,11 +22,6 @@ const WITHOUT_SLOTS: [Step; 8] = [
     Go(Visit(0x10000, Load(One), Byte(1), 0xd7)),
 ];
 
-#[test]
-fn what_stays_without_a_slot(rt: HostRuntime) -> Result<(), Fail> {
-    follow(&rt, rt.alloc(), (0, 0), &WITHOUT_SLOTS)
-}
-
 /// Seven own pages, the first of them a copy of the file's page, in four frames and three slots.
 const OWN: [Step; 13] = [
     Go(Visit(0x30000, Store(1), Byte(7), 0x1d7)),
@@ -44,11 +39,6 @@ const OWN: [Step; 13] = [
     Free(1),
 ];
 
-#[test]
-fn own_pages_come_back_from_their_slots(rt: HostRuntime) -> Result<(), Fail> {
-    follow(&rt, rt.alloc(), (4, 0), &OWN)
-}
-
 /// A page of the file that is touched goes to a slot, and is touched when it comes back.
 const TOUCHED: [Step; 9] = [
     Go(Visit(0x10000, Store(1), Byte(7), 0xd7)),
@@ -61,11 +51,6 @@ const TOUCHED: [Step; 9] = [
     Page(File(FIRST), Frame(FrameNo(5)), true),
     Free(3),
 ];
-
-#[test]
-fn a_touched_page_comes_back_from_its_slot(rt: HostRuntime) -> Result<(), Fail> {
-    follow(&rt, rt.alloc(), (4, 0), &TOUCHED)
-}
 
 /// A page of the file that is shown at two pages goes home from both, and both show it again. Its frame had an own page meanwhile.
 const SHOWN_TWICE: [Step; 11] = [
@@ -83,6 +68,9 @@ const SHOWN_TWICE: [Step; 11] = [
 ];
 
 #[test]
-fn a_page_goes_home_from_two_pages(rt: HostRuntime) -> Result<(), Fail> {
+fn pages_stay_or_go_and_come_back(rt: HostRuntime) -> Result<(), Fail> {
+    follow(&rt, rt.alloc(), (0, 0), &WITHOUT_SLOTS)?;
+    follow(&rt, rt.alloc(), (4, 0), &OWN)?;
+    follow(&rt, rt.alloc(), (4, 0), &TOUCHED)?;
     follow(&rt, rt.alloc(), (4, 0), &SHOWN_TWICE)
 }

@@ -36,11 +36,6 @@ const COMMON: [Step; 13] = [
     Page(Object(OBJECT), Frame(FrameNo(6)), true),
 ];
 
-#[test]
-fn pages_of_an_object_come_back(rt: HostRuntime) -> Result<(), Fail> {
-    follow(&rt, rt.alloc(), (4, 0), &COMMON)
-}
-
 /// The same page goes to a slot, comes back, and goes again.
 const AWAY: [Visit; 10] = [
     Visit(0x40000, Store(1), Byte(0), 0xd7),
@@ -81,7 +76,8 @@ fn forget_away<M: Levels>(rt: &impl Abort, core: &mut Core<SimDisk, SimDisk, M>)
 }
 
 #[test]
-fn a_page_of_an_object_is_forgotten(rt: HostRuntime) -> Result<(), Fail> {
+fn pages_of_an_object_come_back_until_they_are_forgotten(rt: HostRuntime) -> Result<(), Fail> {
+    follow(&rt, rt.alloc(), (4, 0), &COMMON)?;
     forget_away(&rt, &mut started::<Sv39>(rt.alloc(), 4, 0)?);
     forget_away(&rt, &mut started::<Sv48>(rt.alloc(), 4, 0)?);
     Ok(())

@@ -24,11 +24,6 @@ const REFUSED: [Step; 5] = [
     Msync(1, 0x10000, 0x7000, Sync, Done),
 ];
 
-#[test]
-fn refuses_in_order(rt: HostRuntime) -> Result<(), Fail> {
-    follow(&rt, rt.alloc(), (0, 0), &REFUSED)
-}
-
 /// Of the last page 904 bytes are inside the file: the others become zeros. The journal's first page begins at sector 11, and byte
 /// 903 is byte 391 of its second sector.
 const TAIL: [Step; 9] = [
@@ -42,11 +37,6 @@ const TAIL: [Step; 9] = [
     Stored(12, 392, 0),
     Go(Visit(0x15388, Load(One), Byte(0), 0x57)),
 ];
-
-#[test]
-fn commits_what_was_stored(rt: HostRuntime) -> Result<(), Fail> {
-    follow(&rt, rt.alloc(), (0, 0), &TAIL)
-}
 
 /// A page in a slot becomes durable from there, and is at home then. The slot was filled by eight calls of the swap device: where
 /// the ninth fails, by which it would be read, the page stays touched.
@@ -69,6 +59,8 @@ const FROM_A_SLOT: [Step; 15] = [
 ];
 
 #[test]
-fn commits_from_a_slot(rt: HostRuntime) -> Result<(), Fail> {
+fn refuses_in_order_and_commits_what_was_stored(rt: HostRuntime) -> Result<(), Fail> {
+    follow(&rt, rt.alloc(), (0, 0), &REFUSED)?;
+    follow(&rt, rt.alloc(), (0, 0), &TAIL)?;
     follow(&rt, rt.alloc(), (4, 9), &FROM_A_SLOT)
 }

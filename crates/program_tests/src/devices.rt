@@ -214,18 +214,13 @@ fn expect_told(
 }
 
 #[test]
-fn a_start_that_fails_is_told(rt: HostRuntime) -> Result<(), Fail> {
+fn a_failed_start_and_a_refused_upgrade_are_told(rt: HostRuntime) -> Result<(), Fail> {
     for (fault, told) in BOOT_FAULTS {
         expect_told(&rt, "pagerun", ProgramFault::Boot(fault), told)?;
     }
-    let no_memory = ProgramFault::OutOfMemory;
-    expect_told(&rt, "pagerun", no_memory, b"pagerun: out of memory\n")
-}
-
-#[test]
-fn a_refused_upgrade_is_told(rt: HostRuntime) -> Result<(), Fail> {
     for (fault, told) in UPGRADE_FAULTS {
         expect_told(&rt, "pagefmt", ProgramFault::Upgrade(fault), told)?;
     }
-    Ok(())
+    let no_memory = ProgramFault::OutOfMemory;
+    expect_told(&rt, "pagerun", no_memory, b"pagerun: out of memory\n")
 }

@@ -84,11 +84,6 @@ const MADE: [(&str, &[Step<'static>]); 3] = [
     ),
 ];
 
-#[test]
-fn images_are_made(rt: HostRuntime) -> Result<(), Fail> {
-    carry_out_all(&rt, &MADE)
-}
-
 /// What is in the way of an image stays.
 const IN_THE_WAY: [(&str, &[Step<'static>]); 3] = [
     (
@@ -164,11 +159,6 @@ const IN_THE_WAY: [(&str, &[Step<'static>]); 3] = [
     ),
 ];
 
-#[test]
-fn what_is_in_the_way_of_an_image_stays(rt: HostRuntime) -> Result<(), Fail> {
-    carry_out_all(&rt, &IN_THE_WAY)
-}
-
 /// 64 files, and one more.
 #[test]
 fn a_store_has_at_most_64_files(rt: HostRuntime) -> Result<(), Fail> {
@@ -235,23 +225,10 @@ const IS_A_BAD_SPEC: [Step<'static>; 2] = [
 ];
 
 #[test]
-fn bad_specs_are_told_before_a_file_is_made(rt: HostRuntime) -> Result<(), Fail> {
+fn images_are_made_where_specs_and_paths_serve(rt: HostRuntime) -> Result<(), Fail> {
+    carry_out_all(&rt, &MADE)?;
+    carry_out_all(&rt, &IN_THE_WAY)?;
     carry_out_for_each(&rt, &BAD_SPECS, &IS_A_BAD_SPEC)
-}
-
-#[test]
-fn a_source_that_ends_early_is_a_fault(rt: HostRuntime) -> Result<(), Fail> {
-    let mut disk = SimDisk::new(rt.alloc(), 8195 + 16)?;
-    let mut sources: [FileSource<&[u8]>; 1] = [FileSource {
-        read_only: false,
-        length: 5001,
-        bytes: Some(&[b'A'; 5000]),
-    }];
-    assert_eq!(rt;
-        format(&mut disk, Journals::Single, &mut sources),
-        Err(FormatFault::Source)
-    );
-    Ok(())
 }
 
 /// A file of the kernel that has fewer bytes than it says, as a file that was cut while it was read.
@@ -273,7 +250,17 @@ const ENDS_EARLY: [Step<'static>; 2] = [
 ];
 
 #[test]
-fn a_host_file_that_ends_early_is_a_fault(rt: HostRuntime) -> Result<(), Fail> {
+fn a_source_that_ends_early_is_a_fault(rt: HostRuntime) -> Result<(), Fail> {
+    let mut disk = SimDisk::new(rt.alloc(), 8195 + 16)?;
+    let mut sources: [FileSource<&[u8]>; 1] = [FileSource {
+        read_only: false,
+        length: 5001,
+        bytes: Some(&[b'A'; 5000]),
+    }];
+    assert_eq!(rt;
+        format(&mut disk, Journals::Single, &mut sources),
+        Err(FormatFault::Source)
+    );
     match fs::metadata(&rt, CUT) {
         Ok(metadata) if metadata.len() == 4096 => carry_out(&rt, "source", &ENDS_EARLY),
         // This system has no such file.

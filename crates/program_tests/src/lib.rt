@@ -6,6 +6,8 @@ mod devices;
 #[cfg(test)]
 mod images;
 #[cfg(test)]
+mod looks;
+#[cfg(test)]
 mod refusals;
 #[cfg(test)]
 mod runs;

@@ -44,11 +44,6 @@ const OTHER_WORDS: [Step<'static>; 34] = [
     Refuses(Stops, &["--help"]),
 ];
 
-#[test]
-fn other_words_are_refused(rt: HostRuntime) -> Result<(), Fail> {
-    carry_out(&rt, "words", &OTHER_WORDS)
-}
-
 /// What no program opens as an image, and the image is opened before SWAP is made. Here `@` is its path.
 const IS_NO_IMAGE: [Step<'static>; 4] = [
     Fails(Run, &["@", UNMADE], "pagerun: cannot open @\n"),
@@ -63,14 +58,6 @@ const IS_NO_SOURCE: [Step<'static>; 3] = [
     Fails(Format, &["new", UNMADE, "ro:@"], "pagefmt: cannot open @\n"),
     File(UNMADE, IsMissing),
 ];
-
-#[test]
-fn what_is_no_regular_file_is_not_opened(rt: HostRuntime) -> Result<(), Fail> {
-    let devices = ["/dev/null", "/dev/zero", "/dev/tty"];
-    carry_out_for_each(&rt, &devices, &IS_NO_IMAGE)?;
-    carry_out_for_each(&rt, &devices, &IS_NO_SOURCE)?;
-    carry_out_for_each(&rt, &["/tmp/none/none", "/tmp"], &IS_NO_IMAGE)
-}
 
 /// Files in two places, names that stay on one line, and specs and sizes that do not serve.
 const PLACES: [(&str, &[Step<'static>]); 4] = [
@@ -151,7 +138,12 @@ const PLACES: [(&str, &[Step<'static>]); 4] = [
 ];
 
 #[test]
-fn a_path_names_one_file(rt: HostRuntime) -> Result<(), Fail> {
+fn other_words_and_paths_that_do_not_serve_are_refused(rt: HostRuntime) -> Result<(), Fail> {
+    carry_out(&rt, "words", &OTHER_WORDS)?;
+    let devices = ["/dev/null", "/dev/zero", "/dev/tty"];
+    carry_out_for_each(&rt, &devices, &IS_NO_IMAGE)?;
+    carry_out_for_each(&rt, &devices, &IS_NO_SOURCE)?;
+    carry_out_for_each(&rt, &["/tmp/none/none", "/tmp"], &IS_NO_IMAGE)?;
     carry_out_all(&rt, &PLACES)
 }
 

@@ -184,11 +184,6 @@ load 1 0x11388 1\nload 1 0x12000 1\nmsync 1 0x10000 12288 sync\nload 1 0x11388 1
     ),
 ];
 
-#[test]
-fn traces_are_run_on_images(rt: HostRuntime) -> Result<(), Fail> {
-    carry_out_all(&rt, &RUNS)
-}
-
 /// Files that are written out.
 const SHOWN: [(&str, &[Step<'static>]); 4] = [
     // A file is cut at its length.
@@ -279,7 +274,8 @@ const SHOWN: [(&str, &[Step<'static>]); 4] = [
 ];
 
 #[test]
-fn files_are_written_out(rt: HostRuntime) -> Result<(), Fail> {
+fn traces_are_run_on_images_and_files_written_out(rt: HostRuntime) -> Result<(), Fail> {
+    carry_out_all(&rt, &RUNS)?;
     carry_out_all(&rt, &SHOWN)
 }
 

@@ -102,16 +102,6 @@ const UNSYNCED_NEW: [Step<'static>; 1] = [Fails(
     "pagefmt: upgrade 4 NEWDEVICE\n",
 )];
 
-#[test]
-fn a_new_that_cannot_be_synced_is_the_fault_of_its_device(rt: HostRuntime) -> Result<(), Fail> {
-    if has_unsynced(&rt) {
-        carry_out(&rt, "unsynced_new", &OLD)?;
-        carry_out(&rt, "unsynced_new", &UNSYNCED_NEW)?;
-        carry_out(&rt, "unsynced_new", &UNCHANGED)?;
-    }
-    Ok(())
-}
-
 /// The image is as it was.
 const UNCHANGED: [Step<'static>; 2] = [
     Files(TwoFiles::Alike, "@old", "@before"),
@@ -124,6 +114,11 @@ fn an_upgraded_image_holds_what_the_old_one_stands_for(rt: HostRuntime) -> Resul
         carry_out(&rt, test, &OLD)?;
         carry_out(&rt, test, steps)?;
         carry_out(&rt, test, &UNCHANGED)?;
+    }
+    if has_unsynced(&rt) {
+        carry_out(&rt, "unsynced_new", &OLD)?;
+        carry_out(&rt, "unsynced_new", &UNSYNCED_NEW)?;
+        carry_out(&rt, "unsynced_new", &UNCHANGED)?;
     }
     Ok(())
 }
@@ -199,11 +194,6 @@ const REFUSED: [(&str, &[Step<'static>]); 2] = [
         ],
     ),
 ];
-
-#[test]
-fn a_refused_upgrade_takes_back_what_it_made(rt: HostRuntime) -> Result<(), Fail> {
-    carry_out_all(&rt, &REFUSED)
-}
 
 /// Makes a byte of the first page of a file durable, and then one of the second.
 const TWO_MSYNCS: &[u8] =
@@ -294,7 +284,9 @@ const IN_TURN: [(&str, &[Step<'static>]); 3] = [
     ),
 ];
 
+/// A refused upgrade takes back what it made.
 #[test]
-fn images_of_two_journals_are_made_and_used(rt: HostRuntime) -> Result<(), Fail> {
+fn upgrades_are_refused_and_images_of_two_journals_are_used(rt: HostRuntime) -> Result<(), Fail> {
+    carry_out_all(&rt, &REFUSED)?;
     carry_out_all(&rt, &IN_TURN)
 }

@@ -1,15 +1,15 @@
 //! The program that runs traces.
 ghost use Rattle.std.specs.Prelude.{◌≡◌, ◌⊎◌, ◌≤◌, IfOk, true, false};
-ghost use Rattle.machine.specs.Machine.{halted_of};
+ghost use Rattle.machine.specs.Machine.{halted_of, IsSoundMachine};
 ghost use Rattle.programs.specs.Faults.{end_status};
 
 use crate::faults::{ProgramFault, report};
 use crate::files::{Access, open_disk, settled};
 use crate::places::held_places;
-use crate::words::run_words;
-use disk_model::{FileContents, SectorDisk, Unknown};
+use crate::words::{RunWords, run_words};
+use disk_model::{FileContents, FileDisk, SectorDisk, Unknown};
 use machine::{BootFault, Machine};
-use runner::{RunEnd, run_on};
+use runner::{RunEnd, run};
 use std::fs::{File, Files};
 use std::io::{Read, Write};
 use vm_types::PAGE_BYTES;
@@ -52,12 +52,29 @@ fn run_image<
 {
     let words = run_words(rt.alloc(), words)?;
     let _places = held_places(rt)?;
+    let mut machine = boot_image::<C, K, R>(rt, &words)?;
+    let end = run(reader, writer, &mut machine);
+    status_of(end, &machine)
+}
+
+/// Opens the files of these words, IMAGE first, makes SWAP where it is missing and lengthens it, and boots a machine on them. The standard streams
+/// have their numbers by then (`held_places`).
+///
+/// # Errors
+///
+/// `CannotOpen` of the file that can't be had, or of a SWAP that can't be synced, and `Boot` where no machine starts.
+pub fn boot_image<'a, C: FileContents, K: FileContents, R: Files<File = File> + AllocGlobal>(
+    rt: &R,
+    words: &RunWords<'a>,
+) -> Result<Machine<FileDisk<C>, FileDisk<K>>, ProgramFault<'a>>
+    ensures sound { IfOk result (λ m. IsSoundMachine ⟦<FileDisk<C> as SectorDisk>⟧ ⟦<FileDisk<K> as SectorDisk>⟧ m) }
+{
     let store = open_disk::<C, R>(rt, words.image, Access::Write, 0)?;
     let length = swap_bytes(words.config.slots);
     let swap = open_disk::<K, R>(rt, words.swap, Access::Make, length)?;
     let swap = settled(swap, ProgramFault::CannotOpen(words.swap))?;
-    match run_on(rt.alloc(), words.config, store, swap, reader, writer) {
-        Ok((end, machine)) => status_of(end, &machine),
+    match Machine::boot(rt.alloc(), words.config, store, swap) {
+        Ok(machine) => Ok(machine),
         Err((fault, store)) => Err(ProgramFault::Boot(told(fault, store.is_settled()))),
     }
 }
@@ -75,7 +92,11 @@ fn told(fault: BootFault, is_settled: bool) -> BootFault
 }
 
 /// The exit status at the end of a run: of a trace that ran to its end 3 where the machine has halted, else 0.
-fn status_of<'a, D: SectorDisk, E: SectorDisk>(
+///
+/// # Errors
+///
+/// `ReadFailed` and `WriteFailed` where the run ended so.
+pub fn status_of<'a, D: SectorDisk, E: SectorDisk>(
     end: RunEnd,
     machine: &Machine<D, E>,
 ) -> Result<u8, ProgramFault<'a>>

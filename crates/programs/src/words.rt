@@ -48,7 +48,7 @@ pub(crate) struct CatWords<'a> {
 
 /// The words of `pagerun IMAGE SWAP [FRAMES SLOTS [sv39|sv48]]`.
 #[derive(Clone, Copy, Debug, PartialEq, Eq)]
-pub(crate) struct RunWords<'a> {
+pub struct RunWords<'a> {
     pub image: &'a str,
     pub swap: &'a str,
     pub config: Config,
@@ -115,10 +115,11 @@ fn upgrade_words<'a>(
 }
 
 /// Reads the words of `pagerun`.
-pub(crate) fn run_words<'a>(
-    alloc: Global,
-    words: &'a [String],
-) -> Result<RunWords<'a>, ProgramFault<'a>> {
+///
+/// # Errors
+///
+/// `Usage` where they are others, and `OutOfMemory` where the host has no memory.
+pub fn run_words<'a>(alloc: Global, words: &'a [String]) -> Result<RunWords<'a>, ProgramFault<'a>> {
     let command = Command::new(alloc, "pagerun")
         .no_binary_name(true)
         .arg(Arg::new(alloc, "IMAGE").required(true))?

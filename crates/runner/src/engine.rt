@@ -32,9 +32,9 @@ pub enum RunEnd {
     WriteFault,
 }
 
-// The reader failed.
-#[derive(Drop)]
-struct ReadFault;
+/// The reader failed.
+#[derive(Clone, Copy, Debug, PartialEq, Eq)]
+pub struct ReadFault;
 
 // Adds the text of the history. (It stays out of the way of the other replies, since a history takes some 400 bytes.)
 #[cold]
@@ -224,8 +224,12 @@ fn finish<W: Write, D: SectorDisk, E: SectorDisk>(
     }
 }
 
-// One call of the reader: how many bytes came, 0 only where it was interrupted, or `None` at its end.
-fn read_once<R: Read>(reader: &mut R, input: &mut [u8]) -> Result<Option<usize>, ReadFault>
+/// One call of the reader: how many bytes came, 0 only where it was interrupted, or `None` at its end.
+///
+/// # Errors
+///
+/// `ReadFault` where the reader failed.
+pub fn read_once<R: Read>(reader: &mut R, input: &mut [u8]) -> Result<Option<usize>, ReadFault>
     requires { 0 < length input.old }
     ensures bound { IfOk result (λ read. IfSome read (λ n. n ≤ length input.new)) }
     ensures bytes { MatchResult result

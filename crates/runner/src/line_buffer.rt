@@ -8,7 +8,7 @@ const KEPT_BYTES: usize = 257;
 
 /// The first 257 bytes of a line. In contracts it is those bytes.
 #[derive(Drop)]
-pub(crate) struct LineBuffer {
+pub struct LineBuffer {
     bytes: [u8; 257],
     len: usize,
 }
@@ -25,7 +25,7 @@ impl Model for LineBuffer {
 
 impl LineBuffer {
     /// A line of no bytes.
-    pub(crate) fn new() -> Self
+    pub fn new() -> Self
         ensures { result ≡ [] }
     {
         LineBuffer {
@@ -35,21 +35,21 @@ impl LineBuffer {
     }
 
     /// The bytes that are kept.
-    pub(crate) fn as_slice(&self) -> &[u8]
+    pub fn as_slice(&self) -> &[u8]
         ensures { result.now ≡ self.now }
     {
         &self.bytes[..self.len]
     }
 
     /// Whether the line has no bytes.
-    pub(crate) fn is_empty(&self) -> bool
+    pub fn is_empty(&self) -> bool
         ensures { result ≡ (length self.now == 0) }
     {
         self.len == 0
     }
 
     /// Goes on by bytes. Those behind the line's first 257 are dropped.
-    pub(crate) fn extend(&mut self, bytes: &[u8])
+    pub fn extend(&mut self, bytes: &[u8])
         ensures { self.new ≡ take 257 (self.old ++ bytes.now) }
     {
         let count = bytes.len().min(KEPT_BYTES - self.len);
@@ -59,7 +59,7 @@ impl LineBuffer {
     }
 
     /// Begins a new line.
-    pub(crate) fn clear(&mut self)
+    pub fn clear(&mut self)
         ensures { self.new ≡ [] }
     {
         self.len = 0;

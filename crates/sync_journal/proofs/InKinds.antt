@@ -113,6 +113,21 @@ module _ (sectors : ℕ) (content : Image) (was : kind_of content ≡ Paired) wh
       here : kind_of (g.content new) ≡ Paired
       here = ap (λ sector. kind_when (is_kind sector)) (settled.outside 1 (inl (omega arith))) ∙ was
 
+-- Which journals are two in turn.
+pub single_alone : ◌≡◌ {A = Journals} Single Paired → ⊥
+single_alone e = cc
+
+pub one_alone : (journal : Journal) (turns : TurnJournal) → ◌≡◌ {A = StoreJournal} (One journal) (InTurn turns) → ⊥
+one_alone journal turns e = cc
+
+turns_or : TurnJournal → StoreJournal → TurnJournal
+turns_or other (One journal) = other
+turns_or other (InTurn turns) = turns
+
+pub same_turns : (journal turns : TurnJournal) → ◌≡◌ {A = StoreJournal} (InTurn journal) (InTurn turns) → journal ≡ turns
+unfolding turns_or
+same_turns journal turns e = ap (turns_or journal) e
+
 -- An image of the same sectors stands for the same.
 pub same_store : (sectors : ℕ) (content image : Image) → image ≡ content → StoreStandsAs sectors content image
 same_store sectors content image same = subst (StoreStandsAs sectors content) (sym same) (record {

@@ -17,7 +17,7 @@ use Rattle.sync_journal.proofs.Images.{Means, no_place, place_means, place_same}
 use Rattle.sync_journal.proofs.Phases.{not_bad}
 use Rattle.sync_journal.specs.Layout.{IsPageSector}
 use Rattle.sync_journal.specs.Runs.{Runs}
-use Rattle.sync_journal.specs.Blocks.{IsSameBlock, LeavesInBlocks, CommitsInBlocks}
+use Rattle.sync_journal.specs.Blocks.{IsSameBlock, LeavesInBlocks, CommitsInBlocks, RecoversInBlocks}
 use Rattle.sync_journal.proofs.Runs.{one_more, of_more}
 use Rattle.sync_journal.proofs.Copies.{distinct_homes}
 
@@ -583,6 +583,16 @@ none_settled g sectors content second pages new settled = record {
 pub blocks_weaker : {D : Type 0} (g : Ghosts D) (W : ℕ → Type 0) (P Q : Image → Type 0) (old new : D) → ((image : Image) → P image → Q image)
     → LeavesInBlocks g W P old new → LeavesInBlocks g W Q old new
 blocks_weaker g W P Q old new more run = record { writes = run.writes; each = λ d wrote image may. more image (run.each d wrote image may) }
+
+-- a commit and a recovery
+module _ {D : Type 0} (g : Ghosts D) (P Q : Image → Type 0) (more : (image : Image) → P image → Q image) where
+  pub commits_weaker : (second : Bool) (live : List ℕ) (old new : D) → CommitsInBlocks g second live P old new → CommitsInBlocks g second live Q old new
+  commits_weaker second live old new = ⊎_elim (λ staged. inl (blocks_weaker g (IsTurnStaged second live) P Q old new more staged))
+      (λ named. inr (named.0, blocks_weaker g (IsTurnStaged second live) P Q old named.0 more named.1, blocks_weaker g IsTurnGate P Q named.0 new more named.2))
+
+  pub recovers_weaker : (old new : D) → RecoversInBlocks g P old new → RecoversInBlocks g Q old new
+  recovers_weaker old new = ⊎_elim (λ reads. inl reads)
+      (λ run. inr (run.0, run.1, run.2, run.3, commits_weaker run.2 run.3 run.0 new run.4))
 
 -- no homes are good homes
 pub none_are : (count : ℕ) → AreHomes count []

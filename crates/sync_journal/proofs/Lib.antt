@@ -16,3 +16,4 @@ pub mod Since
 pub mod InTurn
 pub mod TurnAsking
 pub mod InKinds
+pub mod Resuming

@@ -5,7 +5,11 @@ use Rattle.std.specs.Prelude.{ℕ, ◌/◌, ◌≡◌, ◌⊎◌, Bool, List}
 use Rattle.disk_model.specs.Stop.{Image}
 use Rattle.disk_model.specs.Moments.{Touches, Nothing}
 use Rattle.disk_model.specs.declared.sector_disk.SectorDisk.{Ghosts}
+use Rattle.sync_journal.specs.Journal.{live_homes}
 use Rattle.sync_journal.specs.Turns.{IsTurnGate, IsTurnStaged}
+use Rattle.sync_journal.specs.declared.turns.TurnJournal.{TurnJournal}
+use Rattle.sync_journal.specs.declared.store_journal.StoreJournal.{StoreJournal}
+use Rattle.sync_journal.specs.declared.store_journal.StoreJournal.TheVariants.{InTurn}
 
 -- two sectors of one block of 4,096 bytes
 abbrev pub IsSameBlock : ℕ → ℕ → Type 0
@@ -27,6 +31,10 @@ module _ {D : Type 0} (g : Ghosts D) where
   abbrev pub CommitsInBlocks : Bool → List ℕ → (Image → Type 0) → D → D → Type 0
   CommitsInBlocks second live P old new = LeavesInBlocks (IsTurnStaged second live) P old new
       ⊎ ((mid : D) × LeavesInBlocks (IsTurnStaged second live) P old mid × LeavesInBlocks IsTurnGate P mid new)
+
+  -- A commit of a store's journal, where that is two in turn. Blocks of layout 2 hold more than what is written.
+  abbrev pub StoreCommitsInBlocks : StoreJournal → (Image → Type 0) → D → D → Type 0
+  StoreCommitsInBlocks journal P old new = (turns : TurnJournal) → journal ≡ InTurn turns → CommitsInBlocks turns.second (live_homes turns.live) P old new
 
   -- A recovery: it writes nothing, or commits no pages after a look.
   abbrev pub RecoversInBlocks : (Image → Type 0) → D → D → Type 0

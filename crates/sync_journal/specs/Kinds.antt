@@ -10,7 +10,7 @@ use Rattle.sync_journal.specs.Map.{count_in, home_in, place_of}
 use Rattle.sync_journal.specs.Standing.{standing, place_or_home, IsBadJournal, IsAskedIn}
 use Rattle.sync_journal.specs.Commit.{IsAtRest, AsksInTwo}
 use Rattle.sync_journal.specs.Journal.{live_homes}
-use Rattle.sync_journal.specs.Turns.{turn_gate, turn_homes, turn_home, turn_home_count, turn_standing, turn_stands, turn_map, named_in, IsTurnGate, IsTurnSector, IsTurnHome, IsTurnCommitted, IsBadTurn, IsTurnOutside, IsTurnRecovered, IsTurnAsked, IsTurnAskedIn, IsTurnRest}
+use Rattle.sync_journal.specs.Turns.{turn_gate, turn_homes, turn_home, turn_home_count, turn_standing, turn_stands, turn_map, named_in, IsTurnGate, IsTurnSector, IsTurnHome, IsTurnCommitted, IsBadTurn, IsTurnOutside, IsTurnRecovered, IsTurnUsed, IsTurnAsked, IsTurnAskedIn, IsTurnRest}
 use Rattle.sync_journal.specs.declared.store_journal.Journals.{Journals}
 use Rattle.sync_journal.specs.declared.store_journal.Journals.TheVariants.{Single, Paired}
 use Rattle.sync_journal.specs.declared.store_journal.StoreJournal.{StoreJournal}
@@ -134,10 +134,10 @@ IsStoreUsed (One journal) k = IsCommitted (live_homes journal) k
 IsStoreUsed (InTurn journal) k = IsTurnAsked journal.second (live_homes journal.live) page_limit k
 
 module _ {D : Type 0} (g : Ghosts D) where
-  -- A commit of so many pages asks for no sector more often than it takes: of two journals in turn once at most.
-  abbrev pub AsksEachOnce : StoreJournal → ℕ → D → D → Type 0
-  AsksEachOnce (One journal) pages old new = AsksInTwo g (live_homes journal) pages old new
-  AsksEachOnce (InTurn journal) pages old new = NamesOnce (IsTurnAsked journal.second (live_homes journal.live) pages) (g.asked old) (g.asked new)
+  -- A commit to these homes asks for no sector more often than it takes: of two journals in turn once at most, and for no page that it takes again.
+  abbrev pub AsksEachOnce : StoreJournal → List ℕ → D → D → Type 0
+  AsksEachOnce (One journal) homes old new = AsksInTwo g (live_homes journal) (length homes) old new
+  AsksEachOnce (InTurn journal) homes old new = NamesOnce (IsTurnUsed journal.second (live_homes journal.live) homes) (g.asked old) (g.asked new)
 
   -- Every image that a stop at some moment from old to new might have left stands for the home pages of old.
   abbrev pub KeepsStore : D → D → Type 0

@@ -12,3 +12,4 @@ pub mod Stops
 pub mod Turns
 pub mod Blocks
 pub mod Kinds
+pub mod Resuming

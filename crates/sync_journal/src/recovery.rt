@@ -69,7 +69,7 @@ pub fn stops_in_a_row<D: SectorDisk>(_disk: &D)
 {}
 
 // Recovers a device that has nothing unsynced.
-fn recover_synced<D: SectorDisk>(disk: &mut D) -> Result<(), RecoverFault>
+pub(crate) fn recover_synced<D: SectorDisk>(disk: &mut D) -> Result<(), RecoverFault>
     requires room { first_home_sector ≤ D.sector_count disk.old }
     requires synced { D.keeps_model disk.old → (k : ℕ) → D.unsynced disk.old k → ⊥ }
 

@@ -4,16 +4,18 @@ ghost use Rattle.disk_model.specs.Stop.{HasCause};
 ghost use Rattle.disk_model.specs.Stop.{Image};
 ghost use Rattle.disk_model.specs.Moments.{LeavesOnly, Touches, AsksOnly, Nothing};
 ghost use Rattle.disk_model.specs.Sectors.{joined};
+ghost use Rattle.sync_journal.specs.Blocks.{StoreCommitsInBlocks, RecoversInBlocks};
 ghost use Rattle.sync_journal.specs.Layout.{IsPageSector};
 ghost use Rattle.sync_journal.specs.Map.{AreHomes};
 ghost use Rattle.sync_journal.specs.Commit.{changed};
 ghost use Rattle.sync_journal.specs.Source.{Asks, HasCauses};
+ghost use Rattle.sync_journal.specs.Runs.{Runs};
 
 use crate::faults::{CommitFault, RecoverFault};
 use crate::journal::Journal;
-use crate::recovery::recover;
+use crate::recovery::{recover, recover_synced};
 use crate::source::PageSource;
-use crate::turns::TurnJournal;
+use crate::turns::{TurnJournal, find_named};
 use disk_model::{DiskFault, SectorDisk};
 
 /// The journals that a store has: its layout. Sector 1 of a store says which.
@@ -35,7 +37,9 @@ pub enum StoreJournal {
 }
 
 impl StoreJournal {
+    ghost use Rattle.sync_journal.specs.declared.store_journal.Journals.TheVariants.{Paired};
     ghost use Rattle.sync_journal.specs.Kinds.{kind_of, kind_homes, kind_home_count, store_standing, IsBadStore, StoreStandsFor, StoreStandsForEither, IsStoreKept, StoreStandsAs, KeepsStore, IsOutsideOf, IsStoreClosed, IsStoreRecovered, IsStoreCommitted, IsStoreUsed, IsStoreAsked, AsksEachOnce, journal_kind, journal_stands, store_live, IsStoreRest, IsStoreSettled};
+    ghost use Rattle.sync_journal.specs.Resuming.{IsKindResumed, IsResumed, IsRefusedFor};
 
     /// Makes the pages that the source gives durable, all at once.
     pub fn commit<D: SectorDisk, S: PageSource>(
@@ -56,7 +60,7 @@ impl StoreJournal {
         ensures asks { Asks S.PageSource source.old source.new }
         // The device is asked for the gate, the journal that is filled, and what is copied home, and for no sector more often than it takes.
         ensures asks_device { AsksOnly D.SectorDisk (IsStoreUsed self.old) disk.old disk.new }
-        ensures once { AsksEachOnce D.SectorDisk self.old (length homes.now) disk.old disk.new }
+        ensures once { AsksEachOnce D.SectorDisk self.old homes.now disk.old disk.new }
         ensures causes { HasCauses (D.failures disk.old) (D.failures disk.new) (S.failures source.old) (S.failures source.new) result }
         ensures kind { journal_kind self.new ≡ journal_kind self.old }
 
@@ -64,6 +68,11 @@ impl StoreJournal {
         ensures any_moment { D.keeps_model disk.new → S.keeps_model source.new → LeavesOnly D.SectorDisk disk.old disk.new
             (IsStoreKept (D.sector_count disk.old) (D.content disk.old) (StoreStandsForEither (store_standing (D.content disk.old))
             (changed (store_standing (D.content disk.old)) homes.now (S.pages source.old)))) }
+
+        // Of two journals in turn even one that spoils whole blocks of 4,096 bytes.
+        ensures blocks { D.keeps_model disk.new → S.keeps_model source.new → StoreCommitsInBlocks D.SectorDisk self.old
+            (IsStoreKept (D.sector_count disk.old) (D.content disk.old) (StoreStandsForEither (store_standing (D.content disk.old))
+            (changed (store_standing (D.content disk.old)) homes.now (S.pages source.old)))) disk.old disk.new }
 
         ensures ok { D.keeps_model disk.new → S.keeps_model source.new → OnOk result (IsStoreSettled D.SectorDisk (D.sector_count disk.old)
             (D.content disk.old) self.new disk.new (changed (store_standing (D.content disk.old)) homes.now (S.pages source.old))) }
@@ -124,6 +133,10 @@ impl StoreJournal {
         ensures any_moment { D.keeps_model disk.new → ((k : ℕ) → D.unsynced disk.old k → ⊥) → LeavesOnly D.SectorDisk disk.old disk.new
             (IsStoreKept (D.sector_count disk.old) (D.content disk.old) (StoreStandsFor (store_standing (D.content disk.old)))) }
 
+        // Of two journals in turn even one that spoils whole blocks of 4,096 bytes.
+        ensures blocks { D.keeps_model disk.new → journals ≡ Paired
+            → RecoversInBlocks D.SectorDisk (StoreStandsAs (D.sector_count disk.old) (D.content disk.old)) disk.old disk.new }
+
         // And for what stood before an earlier stop, whose image the device holds.
         ensures in_a_row { D.keeps_model disk.new → ((k : ℕ) → D.unsynced disk.old k → ⊥) → (first : Image)
             → StoreStandsAs (D.sector_count disk.old) first (D.content disk.old)
@@ -136,6 +149,42 @@ impl StoreJournal {
             }
             Journals::Paired => {
                 let journal = TurnJournal::recover(disk)?;
+                Ok(StoreJournal::InTurn(journal))
+            }
+        }
+    }
+
+    /// Takes the journal up as it stands on a device of which nothing is unsynced. Of two journals in turn nothing is written: the pages of the
+    /// one that the gate names stay there, for the next commit to copy home. Of one journal an open one is carried out, since a commit
+    /// begins with a closed gate. Nothing is synced first: the bytes of a gate that is not on the device yet may name either journal after a
+    /// stop, so that they are is for the caller to know; who doesn't takes `recover`.
+    ///
+    /// # Errors
+    ///
+    /// Those of `recover`.
+    pub fn resume<D: SectorDisk>(
+        disk: &mut D,
+        journals: Journals,
+    ) -> Result<StoreJournal, RecoverFault>
+        requires room { kind_homes journals ≤ D.sector_count disk.old }
+        requires kind { D.keeps_model disk.old → kind_of (D.content disk.old) ≡ journals }
+        requires synced { D.keeps_model disk.old → (k : ℕ) → D.unsynced disk.old k → ⊥ }
+
+        ensures run { Runs D.SectorDisk (IsKindResumed journals (D.sector_count disk.old)) disk.old disk.new }
+        ensures asks { D.keeps_model disk.new → AsksOnly D.SectorDisk (IsStoreAsked (D.content disk.old)) disk.old disk.new }
+        ensures closed_unwritten { D.keeps_model disk.new → IsStoreClosed (D.content disk.old) → Touches D.SectorDisk Nothing disk.old disk.new }
+        // Every image of a stop at any moment of the call stands for the same pages.
+        ensures any_moment { D.keeps_model disk.new → KeepsStore D.SectorDisk disk.old disk.new }
+        ensures ok { IfOk result (λ journal. IsResumed D.SectorDisk journals disk.old disk.new journal) }
+        ensures err { IsRefusedFor D.SectorDisk disk.old disk.new result }
+    {
+        match journals {
+            Journals::Single => {
+                recover_synced(disk)?;
+                Ok(StoreJournal::One(Journal::closed()))
+            }
+            Journals::Paired => {
+                let journal = find_named(disk)?;
                 Ok(StoreJournal::InTurn(journal))
             }
         }

@@ -216,7 +216,7 @@ fn start(second: bool) -> u64
 }
 
 // Reads the gate and the map of the journal that it names, whose pages are then live.
-fn find_named<D: SectorDisk>(disk: &mut D) -> Result<TurnJournal, RecoverFault>
+pub(crate) fn find_named<D: SectorDisk>(disk: &mut D) -> Result<TurnJournal, RecoverFault>
     requires room { turn_homes ≤ D.sector_count disk.old }
     requires synced { D.keeps_model disk.old → (k : ℕ) → D.unsynced disk.old k → ⊥ }
     ensures run { Runs D.SectorDisk Nothing disk.old disk.new }

@@ -50,6 +50,15 @@ not_written call n before = ⊎_elim
     ])
     (cases_eq call.kind 1)
 
+pub not_written_behind : (call : Call) (n : ℕ) → (call.kind ≡ 1 → call.sector + 1 ≤ n) → (call.kind ≢ 1 → call.sector + 8 ≤ n) → writes_to (Some call) n ≡ false
+not_written_behind call n sector page = ⊎_elim
+    (λ one. let behind = sector one in rw (eq-eqb call.kind 1 one) (ne_eqb n call.sector (λ here. omega (arith, here, behind))))
+    (λ other. let behind = page other in elim (cases_Bool (writes_to (Some call) n)) [
+      | inl writes ↦ let to = page_written_to call n other writes in absurd (let within = to.1.1 in omega (arith, behind, within))
+      | inr not ↦ not
+    ])
+    (cases_eq call.kind 1)
+
 pub sync_writes_none : (call : Call) (n : ℕ) → call.kind ≡ 2 → writes_to (Some call) n ≡ false
 sync_writes_none call n syncs = rw syncs refl
 

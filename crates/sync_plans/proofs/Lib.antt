@@ -1,4 +1,4 @@
 mod Runs
 mod Growth
 pub mod Theorem
-pub mod Least
+pub mod Untouched

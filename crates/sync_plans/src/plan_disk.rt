@@ -28,8 +28,9 @@ pub(crate) struct PlanDisk<'a> {
     pub rows: &'a mut [[u8; 512]],
     /// How many calls are listed.
     pub used: usize,
-    /// No listed write is of a sector below this one.
-    pub least: u64,
+    /// Sectors that no listed call writes: at first all, and then, where a call writes among them, those on the side of the page
+    /// that was read last. A commit copies pages home out of one journal while it fills the other, or before it does.
+    pub untouched: Span,
     /// The first sector of the page that was read last.
     read: u64,
     /// The lent page that is looked for next, and the sector behind the page that was written last.
@@ -46,7 +47,38 @@ pub(crate) struct PlanDisk<'a> {
     ghost sources: { AreSources (lent_page lent.now) calls.now used },
     ghost filled: { full ≡ true → used ≡ 16384 },
     ghost calm: { full ≡ false → failures.number ≡ 0 },
-    ghost below: { (n : ℕ) → n < least → is_written calls.now 0 used n ≡ false },
+    ghost bounded: { untouched.high < 2 ^ 64 },
+    ghost between: { (n : ℕ) → untouched.low ≤ n → n < untouched.high → is_written calls.now 0 used n ≡ false },
+}
+
+/// The sectors from `low` to below `high`.
+#[derive(Clone, Copy)]
+pub(crate) struct Span {
+    pub low: u64,
+    pub high: u64,
+}
+
+impl Span {
+    /// Those of them that are left without the sectors from `first` to below `end`: the ones on the side of `kept`.
+    fn without(self, first: u64, end: u64, kept: u64) -> Span
+        ensures low { self.low ≤ result.low }
+        ensures high { result.high ≤ self.high }
+        ensures out { (n : ℕ) → result.low ≤ n → n < result.high → (n < first) ⊎ (end ≤ n) }
+    {
+        if end <= self.low || self.high <= first {
+            self
+        } else if kept < first {
+            Span {
+                low: self.low,
+                high: first,
+            }
+        } else {
+            Span {
+                low: end,
+                high: self.high,
+            }
+        }
+    }
 }
 
 /// Whether a call writes to sector `n`.
@@ -58,6 +90,14 @@ fn writes(call: Call, n: u64) -> bool
     } else {
         call.kind >= LENT && call.sector <= n && n - call.sector < 8
     }
+}
+
+/// How many sectors a call writes that is no sync.
+fn written_sectors(call: Call) -> u64
+    ensures one { call.kind ≡ 1 → result ≡ 1 }
+    ensures page { call.kind ≢ 1 → result ≡ 8 }
+{
+    if call.kind == WRITE { 1 } else { 8 }
 }
 
 /// Which sector of its page a call writes to sector `n`.
@@ -105,7 +145,10 @@ impl<'a> PlanDisk<'a> {
             calls,
             rows,
             used: 0,
-            least: u64::MAX,
+            untouched: Span {
+                low: 0,
+                high: u64::MAX,
+            },
             read: u64::MAX,
             next: 0,
             after: 0,
@@ -119,7 +162,7 @@ impl<'a> PlanDisk<'a> {
     fn list(&mut self, call: Call, bytes: &[u8; 512]) -> Result<(), DiskFault>
         requires call { IsCall (length self.old.image.now) call }
         requires lent { call.kind ≡ 3 → length (pages_of self.old call.from) ≡ 4096 }
-        requires unwritten { call.kind ≡ 4 → call.from + 8 ≤ self.old.least }
+        requires unwritten { call.kind ≡ 4 → (self.old.untouched.low ≤ call.from) × (call.from + 8 ≤ self.old.untouched.high) }
         ensures image { self.new.image.now ≡ self.old.image.now }
         ensures lent { self.new.lent.now ≡ self.old.lent.now }
         ensures asked { self.new.asked ≡ self.old.asked }
@@ -133,7 +176,7 @@ impl<'a> PlanDisk<'a> {
             self.failures.raise();
             return Err(DiskFault);
         }
-        self.least = self.least_with(call);
+        self.untouched = self.untouched_with(call);
         self.calls[self.used] = call;
         let rows = &mut *self.rows;
         keep_row(&mut rows[self.used], call, bytes);
@@ -170,7 +213,7 @@ impl<'a> PlanDisk<'a> {
         requires call { IsCall (length self.old.image.now) call }
         requires names { NamesPage (pages_of self.old) (row self.old.image.now) call.sector from.now call }
         requires lent { call.kind ≡ 3 → length (pages_of self.old call.from) ≡ 4096 }
-        requires unwritten { call.kind ≡ 4 → call.from + 8 ≤ self.old.least }
+        requires unwritten { call.kind ≡ 4 → (self.old.untouched.low ≤ call.from) × (call.from + 8 ≤ self.old.untouched.high) }
         ensures asked { self.new.asked ≡ self.old.asked }
         ensures size { length self.new.image.now ≡ length self.old.image.now }
         ensures kept { self.new.full ≡ false → self.old.full ≡ false }
@@ -208,16 +251,17 @@ impl<'a> PlanDisk<'a> {
         Ok(())
     }
 
-    /// A sector of which no listed write is below, nor this call.
-    fn least_with(&self, call: Call) -> u64
-        ensures below { result ≤ self.now.least }
-        ensures written { (n : ℕ) → n < result → writes_to (Some call) n ≡ false }
+    /// The untouched sectors, once this call is listed too.
+    fn untouched_with(&self, call: Call) -> Span
+        ensures low { self.now.untouched.low ≤ result.low }
+        ensures high { result.high ≤ self.now.untouched.high }
+        ensures written { (n : ℕ) → result.low ≤ n → n < result.high → writes_to (Some call) n ≡ false }
     {
         if call.kind == SYNC {
-            self.least
-        } else {
-            self.least.min(call.sector)
+            return self.untouched;
         }
+        let end = call.sector.saturating_add(written_sectors(call));
+        self.untouched.without(call.sector, end, self.read)
     }
 
     /// A call that writes this page to the sectors from `n` on, and names where its bytes lie. What was read last is looked
@@ -228,7 +272,7 @@ impl<'a> PlanDisk<'a> {
         ensures sector { IfSome result (λ call. call.sector ≡ n) }
         ensures sources { IfSome result (λ call. NamesPage (pages_of self.now) (row self.now.image.now) n page.now call) }
         ensures lent { IfSome result (λ call. call.kind ≡ 3 → length (pages_of self.now call.from) ≡ 4096) }
-        ensures unwritten { IfSome result (λ call. call.kind ≡ 4 → call.from + 8 ≤ self.now.least) }
+        ensures unwritten { IfSome result (λ call. call.kind ≡ 4 → (self.now.untouched.low ≤ call.from) × (call.from + 8 ≤ self.now.untouched.high)) }
     {
         if self.holds(self.read, page) {
             return Some(Call {
@@ -247,14 +291,14 @@ impl<'a> PlanDisk<'a> {
         None
     }
 
-    /// Whether the image has this page in the sectors from `at` on, all of them below each that is written.
+    /// Whether the image has this page in the sectors from `at` on, none of which is written.
     fn holds(&self, at: u64, page: &[u8; 4096]) -> bool
-        ensures below { IsTrue result → at + 8 ≤ self.now.least }
+        ensures untouched { IsTrue result → (self.now.untouched.low ≤ at) × (at + 8 ≤ self.now.untouched.high) }
         ensures inside { IsTrue result → at + 8 ≤ length self.now.image.now }
         ensures here { IsTrue result → (i : ℕ) → i < 8 → row self.now.image.now (at + i) ≡ part_of page.now i }
     {
-        let end = self.least.min(self.image.len() as u64);
-        if end < 8 || at > end - 8 {
+        let end = self.untouched.high.min(self.image.len() as u64);
+        if at < self.untouched.low || end < 8 || at > end - 8 {
             return false;
         }
         for (i, sector) in parts(page).iter().enumerate() {
@@ -270,7 +314,7 @@ impl<'a> PlanDisk<'a> {
         requires { n < length self.now.image.now }
         ensures { result.now ≡ content_of self.now n }
     {
-        if n < self.least {
+        if self.untouched.low <= n && n < self.untouched.high {
             return &self.image[n as usize];
         }
         for i in 0..self.used {

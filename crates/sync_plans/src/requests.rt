@@ -78,6 +78,7 @@ pub(crate) fn facts<D: SectorDisk + Drop>(
     disk: D,
     file: u8,
 ) -> (D, Result<Option<FileInfo>, Refusal>)
+    requires synced { D.keeps_model disk → (k : ℕ) → D.unsynced disk k → ⊥ }
     ensures cause { IfErr result.1 (λ refusal. refusal ≡ Refusal.Device → D.failures disk < D.failures result.0) }
     ensures facts { D.keeps_model result.0 → IfOk result.1 (λ info. info ≡ file_info (D.content disk) file) }
     ensures store { D.keeps_model result.0 → OnOk result.1 (IsStore (D.sector_count disk) (D.content disk)) }
@@ -86,7 +87,7 @@ pub(crate) fn facts<D: SectorDisk + Drop>(
     ensures pages { IfErr result.1 (λ refusal. refusal ≡ Refusal.BadPages → ⊥) }
     ensures read_only { IfErr result.1 (λ refusal. refusal ≡ Refusal.ReadOnly → ⊥) }
 {
-    match FileStore::open(disk) {
+    match FileStore::resume(disk) {
         Ok(store) => {
             let info = store.file(file);
             (store.into_disk(), Ok(info))
@@ -101,6 +102,7 @@ pub(crate) fn read<D: SectorDisk + Drop>(
     page: FilePage,
     to: &mut [u8; 4096],
 ) -> (D, Result<(), Refusal>)
+    requires synced { D.keeps_model disk → (k : ℕ) → D.unsynced disk k → ⊥ }
     ensures cause { IfErr result.1 (λ refusal. refusal ≡ Refusal.Device → D.failures disk < D.failures result.0) }
     ensures page { D.keeps_model result.0 → (files : ℕ → Option FileInfo) (pages : ℕ → ℕ → List ℕ) → LeavesNow D.SectorDisk disk (StandsFor (D.sector_count disk) files pages)
         → IsPageOf files page.file page.page → OnOk result.1 (to.new ≡ pages page.file page.page) }
@@ -111,7 +113,7 @@ pub(crate) fn read<D: SectorDisk + Drop>(
     ensures pages { D.keeps_model result.0 → IfErr result.1 (λ refusal. refusal ≡ Refusal.BadPages → IsPageOf (file_info (D.content disk)) page.file page.page → ⊥) }
     ensures read_only { IfErr result.1 (λ refusal. refusal ≡ Refusal.ReadOnly → ⊥) }
 {
-    let mut store = match FileStore::open(disk) {
+    let mut store = match FileStore::resume(disk) {
         Ok(store) => store,
         Err((fault, disk)) => return (disk, Err(unopened(fault))),
     };
@@ -151,7 +153,7 @@ pub(crate) fn commit<D: SectorDisk + Drop>(
     ensures pages { D.keeps_model result.0 → IfErr result.1 (λ refusal. refusal ≡ Refusal.BadPages → ArePages (file_info (D.content disk)) pages.now → ⊥) }
     ensures read_only { D.keeps_model result.0 → IfErr result.1 (λ refusal. refusal ≡ Refusal.ReadOnly → AreReadOnly (D.content disk) pages.now) }
 {
-    let mut store = match FileStore::open(disk) {
+    let mut store = match FileStore::resume(disk) {
         Ok(store) => store,
         Err((fault, disk)) => return (disk, Err(unopened(fault))),
     };

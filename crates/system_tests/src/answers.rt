@@ -22,7 +22,11 @@ fn traces_are_answered(rt: HostRuntime) -> Result<(), Fail> {
     expect_all(rt.alloc(), 4096, &processes::ROWS)?;
     expect_all(rt.alloc(), 4096, &histories::ROWS)?;
     expect_all(rt.alloc(), 8192, &shared_pages::ROWS)?;
-    expect_all(rt.alloc(), 32768, &mappings::ROWS)
+    expect_all(rt.alloc(), 32768, &mappings::ROWS)?;
+    for exchange in memory::LETTERS {
+        expect(rt.alloc(), &image_of_letters(rt.alloc())?, exchange)?;
+    }
+    Ok(())
 }
 
 /// 64 frames, over a page of zeros.
@@ -37,24 +41,13 @@ const SV48: Setting = Setting {
     armed: Armed::Nothing,
 };
 
+/// Four levels have rows of their own, and so have pages that wait for frames and slots.
 #[test]
-fn four_levels_are_answered(rt: HostRuntime) -> Result<(), Fail> {
+fn machines_of_other_sizes_answer(rt: HostRuntime) -> Result<(), Fail> {
     for exchange in four_levels::ROWS {
         expect_in(rt.alloc(), SV48, exchange)?;
     }
-    expect_in(rt.alloc(), PLAIN, four_levels::IN_THREE_LEVELS)
-}
-
-#[test]
-fn a_read_only_file_is_kept(rt: HostRuntime) -> Result<(), Fail> {
-    for exchange in memory::LETTERS {
-        expect(rt.alloc(), &image_of_letters(rt.alloc())?, exchange)?;
-    }
-    Ok(())
-}
-
-#[test]
-fn pages_wait_for_frames_and_slots(rt: HostRuntime) -> Result<(), Fail> {
+    expect_in(rt.alloc(), PLAIN, four_levels::IN_THREE_LEVELS)?;
     for (config, exchange) in evictions::ROWS {
         let setting = Setting {
             length: 0x8000,
@@ -219,15 +212,6 @@ msync 1 0x10000 4096 sync\n",
     (FEW_FRAMES, EIGHT_PAGES_SYNCED, EIGHT_PAGES_SHOWN),
 ];
 
-#[test]
-fn the_next_machine_sees_what_was_synced(rt: HostRuntime) -> Result<(), Fail> {
-    for (setting, exchange, shown) in NEXT {
-        let disk = left_in(rt.alloc(), setting, exchange)?;
-        expect(rt.alloc(), &disk, shown)?;
-    }
-    Ok(())
-}
-
 /// A trace, and what the pages of the file begin with after a stop; all else is zeros.
 const LEFT: [(Setting, Exchange, &[&[u8]]); 2] = [
     // What another process stored is made durable as well, and is touched anew by its next store.
@@ -245,7 +229,11 @@ store 2 0x10001 1 0x0b\nmsync 1 0x10000 4096 sync\nstore 2 0x10001 1 0x0c\nmsync
 ];
 
 #[test]
-fn a_stop_leaves_what_was_synced(rt: HostRuntime) -> Result<(), Fail> {
+fn the_next_machine_and_a_stop_have_what_was_synced(rt: HostRuntime) -> Result<(), Fail> {
+    for (setting, exchange, shown) in NEXT {
+        let disk = left_in(rt.alloc(), setting, exchange)?;
+        expect(rt.alloc(), &disk, shown)?;
+    }
     for (setting, exchange, starts) in LEFT {
         let disk = left_in(rt.alloc(), setting, exchange)?;
         expect_file(rt.alloc(), &disk, 0, starts)?;

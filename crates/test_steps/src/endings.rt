@@ -2,6 +2,7 @@
 use crate::looks::{same, same_number};
 use crate::names::{named, start_of};
 use crate::steps::Program;
+use looking::pagelook;
 use programs::{pagecat, pagefmt, pagerun};
 use std::io::{Read, Write};
 use std::test::Fail;
@@ -59,6 +60,7 @@ pub(crate) fn refuses(
     let errors: &[u8] = match program {
         Program::Format => b"pagefmt: usage\n",
         Program::Run => b"pagerun: usage\n",
+        Program::Look => b"pagelook: usage\n",
         Program::Cat => b"pagecat: usage\n",
         Program::Stops => b"pagestops: usage\n",
     };
@@ -100,6 +102,7 @@ fn ran_with<I: Read, O: Write>(
     let status = match program {
         Program::Format => pagefmt(rt, words, reader, writer, &mut errors),
         Program::Run => pagerun(rt, words, reader, writer, &mut errors),
+        Program::Look => pagelook(rt, words, reader, writer, &mut errors),
         Program::Cat => pagecat(rt, words, reader, writer, &mut errors),
         Program::Stops => pagestops(rt, words, reader, writer, &mut errors),
     };

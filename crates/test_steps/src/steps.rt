@@ -5,6 +5,7 @@
 pub enum Program {
     Format,
     Run,
+    Look,
     Cat,
     Stops,
 }

@@ -1,5 +1,5 @@
 //! The lines, each at the place of its page.
-ghost use Rattle.std.specs.Prelude.{ℕ, ◌≡◌, ◌≢◌, ◌<◌, ◌%◌, ◌⊎◌, ◌^◌, Some, None, false, true, IfSome, IsNone};
+ghost use Rattle.std.specs.Prelude.{ℕ, ◌≡◌, ◌≢◌, ◌<◌, ◌%◌, ◌⊎◌, ◌^◌, Some, None, false, true, IfNone, IfSome, IsNone};
 ghost use Rattle.sv39_walk.specs.Entry.{frame_of};
 ghost use Rattle.walk_buffer.specs.Lines.{Agrees, Gives, lets, line_at, place_of};
 
@@ -38,6 +38,18 @@ impl TranslationBuffer {
             Some(line) if line.root == root && line.page == page && lets(line.leaf, access) => {
                 Some(line.leaf.frame_number())
             }
+            _ => None,
+        }
+    }
+
+    /// The line at place `index`, under 64; `None` exactly where no page of that place has one.
+    pub fn line(&self, index: usize) -> Option<Line>
+        requires { index < 64 }
+        ensures some { IfSome result (λ line. (place_of line.page ≡ index) × (line_at self.now line.root.0 line.page ≡ Some line.leaf.0)) }
+        ensures none { IfNone result ((root page : ℕ) → place_of page ≡ index → line_at self.now root page ≡ None) }
+    {
+        match self.lines[index] {
+            Some(line) if place_of(line.page) == index => Some(line),
             _ => None,
         }
     }

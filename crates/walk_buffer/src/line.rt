@@ -8,8 +8,8 @@ use vm_types::{FrameNo, Vpn};
 /// A translation that is kept: the tree, by its root table, the page, and its leaf, which names a frame by a number under 2^32.
 #[derive(Clone, Copy, Debug, PartialEq, Eq)]
 pub struct Line {
-    pub(crate) root: FrameNo,
-    pub(crate) page: Vpn,
-    pub(crate) leaf: Pte,
+    pub root: FrameNo,
+    pub page: Vpn,
+    pub leaf: Pte,
     pub(crate) ghost small: { frame_of leaf.0 < 2 ^ 32 },
 }

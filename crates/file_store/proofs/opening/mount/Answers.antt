@@ -1,4 +1,4 @@
-use Rattle.std.proofs.Common.{◌≡◌, ℕ, ◌≤◌, Err, ⊎_elim, sym, ap, subst, ◌∙◌}
+use Rattle.std.proofs.Common.{◌≡◌, ℕ, ◌≤◌, Err, ⊎_elim, inl, refl, sym, ap, subst, ◌∙◌}
 use Rattle.disk_model.specs.Stop.{Image}
 use Rattle.disk_model.specs.Moments.{Nothing, Touches}
 use Rattle.disk_model.proofs.Moments.{then}
@@ -12,7 +12,9 @@ use Rattle.file_store.specs.Store.{entry_of}
 use Rattle.file_store.proofs.Asking.{head_asks, opening_asks}
 use Rattle.file_store.proofs.Causes.{journal_from, fault_cases, on_err, is_this, same_Err}
 use Rattle.file_store.proofs.Images.{same_head, entry_same}
-use Rattle.file_store.proofs.Openings.{content_is, recovery_leaves}
+use Rattle.sync_journal.proofs.InKinds.{same_store}
+use Rattle.sync_journal.specs.Kinds.{StoreStandsAs}
+use Rattle.file_store.proofs.Openings.{content_is, recovery_leaves, reads_by_blocks, opens_by_blocks}
 use Rattle.file_store.proofs.opening.mount.Goals as goal
 
 -- mark, kind or directory can't be read, or are bad
@@ -163,3 +165,23 @@ returns-clause-ok g c =
           done.good k (subst (λ (n : ℕ). IsBadStore n (g.D.SectorDisk.content c.read_head.new.disk)) (sym run.size) (subst (λ (image : Image). IsBadStore (g.D.SectorDisk.sector_count old) image) (sym same) bad));
       stands = λ k. (settled_since g.D.SectorDisk old c.read_head.new.disk c.recover.new.disk (run.touches (c.recover.ensures.kept k)) journal run.size (done.ok k)).left;
     }
+
+pub returns-in_err-found-clause-blocks : goal.returns-in_err-found-clause-blocks
+returns-in_err-found-clause-blocks g c = λ k synced paired.
+    let sectors = g.D.SectorDisk.sector_count c.args.disk.now in
+    let image = g.D.SectorDisk.content c.args.disk.now in
+    inl (reads_by_blocks g.D.SectorDisk (StoreStandsAs sectors image) c.args.disk.now c.read_head.new.disk synced (same_store sectors image image refl) (c.read_head.ensures.run.touches k))
+
+pub returns-in_err-journal-clause-blocks : goal.returns-in_err-journal-clause-blocks
+returns-in_err-journal-clause-blocks g c = λ k synced paired.
+    let k1 = c.recover.ensures.kept k in
+    let head = c.read_head.ensures in
+    opens_by_blocks g.D.SectorDisk c.args.disk.now c.read_head.new.disk c.recover.new.disk head.run.size synced (head.run.touches k1)
+    (c.recover.ensures.blocks k (sym (c.in_ok-found.ensures.kind k1) ∙ paired))
+
+pub returns-clause-blocks : goal.returns-clause-blocks
+returns-clause-blocks g c = λ k synced paired.
+    let k1 = c.recover.ensures.kept k in
+    let head = c.read_head.ensures in
+    opens_by_blocks g.D.SectorDisk c.args.disk.now c.read_head.new.disk c.recover.new.disk head.run.size synced (head.run.touches k1)
+    (c.recover.ensures.blocks k (sym (c.in_ok-found.ensures.kind k1) ∙ paired))

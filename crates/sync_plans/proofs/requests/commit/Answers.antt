@@ -17,12 +17,12 @@ returns-in-Ok-commit-clause-any_moment g c = λ k files before after left change
     let k2 = subst g.D.SectorDisk.keeps_model e k in
     let k1 = c.commit.ensures.kept k2 in
     let sectors = g.D.SectorDisk.sector_count c.args.disk in
-    let size = c.in-Ok.ensures.size in
-    let opened = when_open g.D.SectorDisk sectors files before c.args.disk c.in-Ok.store.disk left (c.in-Ok.ensures.now k1) in
+    let size = c.in-Ok.ensures.run.size in
+    let opened = when_open g.D.SectorDisk sectors files before c.args.disk c.in-Ok.store.disk left (c.in-Ok.ensures.ok.found.stands k1) in
     let run = c.commit.ensures.any_moment k2 tt files before after
     (subst (λ (s : ℕ). LeavesNow g.D.SectorDisk c.in-Ok.store.disk (StandsFor s files before)) (sym size) opened) changes in
     subst (λ d. LeavesOnly g.D.SectorDisk c.args.disk d (StandsForEither sectors files before after)) (sym e)
-    (then_committed g.D.SectorDisk sectors files before c.args.disk c.in-Ok.store.disk left after c.commit.new.self.disk (c.in-Ok.ensures.any_moment k1 (c.requires.synced (c.in-Ok.ensures.kept k1)))
+    (then_committed g.D.SectorDisk sectors files before c.args.disk c.in-Ok.store.disk left after c.commit.new.self.disk (c.in-Ok.ensures.run.any_moment k1)
     (subst (λ (s : ℕ). LeavesOnly g.D.SectorDisk c.in-Ok.store.disk c.commit.new.self.disk (StandsForEither s files before after)) size run))
 
 pub returns-in-Ok-commit-clause-ok : goal.returns-in-Ok-commit-clause-ok
@@ -31,8 +31,8 @@ returns-in-Ok-commit-clause-ok g c = λ k files before after left changes.
     let k2 = subst g.D.SectorDisk.keeps_model e k in
     let k1 = c.commit.ensures.kept k2 in
     let sectors = g.D.SectorDisk.sector_count c.args.disk in
-    let size = c.in-Ok.ensures.size in
-    let opened = when_open g.D.SectorDisk sectors files before c.args.disk c.in-Ok.store.disk left (c.in-Ok.ensures.now k1) in
+    let size = c.in-Ok.ensures.run.size in
+    let opened = when_open g.D.SectorDisk sectors files before c.args.disk c.in-Ok.store.disk left (c.in-Ok.ensures.ok.found.stands k1) in
     let now = c.in-Ok-commit.ensures.ok k2 tt files before after
     (subst (λ (s : ℕ). LeavesNow g.D.SectorDisk c.in-Ok.store.disk (StandsFor s files before)) (sym size) opened) changes in
     subst (λ d. LeavesNow g.D.SectorDisk d (StandsFor sectors files after)) (sym e)
@@ -48,28 +48,28 @@ returns-in-Ok-commit-clause-layout_moment g c = λ k.
     let sectors = g.D.SectorDisk.sector_count disk in
     let given = lent_page c.args.bytes.now in
     let run = subst (λ (s : ℕ). LeavesOnly g.D.SectorDisk mid new (PutsHomesOrNone s c.in-Ok.store.directory c.args.pages.now given (g.D.SectorDisk.content mid)))
-    c.in-Ok.ensures.size (c.commit.ensures.homes_moment k2 tt) in
+    c.in-Ok.ensures.run.size (c.commit.ensures.homes_moment k2 tt) in
     subst (λ d. LeavesOnly g.D.SectorDisk disk d (HasLayout sectors)) (sym c.into_disk-in-Ok-commit.ensures)
-    (laid_out g.D.SectorDisk sectors c.in-Ok.store.directory c.args.pages.now given disk mid new (c.in-Ok.ensures.good_layout k1) (c.in-Ok.ensures.good_journal k1)
-    (c.in-Ok.ensures.any_moment k1 (c.requires.synced (c.in-Ok.ensures.kept k1))) (c.in-Ok.ensures.now k1) run)
+    (laid_out g.D.SectorDisk sectors c.in-Ok.store.directory c.args.pages.now given disk mid new (c.in-Ok.ensures.ok.found.good_layout k1) (c.in-Ok.ensures.ok.found.good_journal k1)
+    (c.in-Ok.ensures.run.any_moment k1) (c.in-Ok.ensures.ok.found.stands k1) run)
 
 pub returns-in-Ok-commit-clause-outside : goal.returns-in-Ok-commit-clause-outside
 returns-in-Ok-commit-clause-outside g c = λ k.
     let k2 = subst g.D.SectorDisk.keeps_model c.into_disk-in-Ok-commit.ensures k in
     let k1 = c.commit.ensures.kept k2 in
-    let opened = c.in-Ok.ensures.homes k1 (g.D.SectorDisk.content c.in-Ok.store.disk) (record { kept = λ n. inr refl }) in
+    let opened = c.in-Ok.ensures.ok.found.homes k1 (g.D.SectorDisk.content c.in-Ok.store.disk) (record { kept = λ n. inr refl }) in
     let done = c.in-Ok-commit.ensures.homes k2 tt (g.D.SectorDisk.content c.commit.new.self.disk) (record { kept = λ n. inr refl }) in
     subst (λ d. KeepsOutside (g.D.SectorDisk.sector_count c.args.disk) (g.D.SectorDisk.content c.args.disk) (g.D.SectorDisk.content d)) (sym c.into_disk-in-Ok-commit.ensures)
-    (λ n out. done.outside n (subst (λ (s : ℕ). IsOutsideOf (g.D.SectorDisk.content c.in-Ok.store.disk) s n) (sym c.in-Ok.ensures.size)
+    (λ n out. done.outside n (subst (λ (s : ℕ). IsOutsideOf (g.D.SectorDisk.content c.in-Ok.store.disk) s n) (sym c.in-Ok.ensures.run.size)
     (still_outside (g.D.SectorDisk.sector_count c.args.disk) (g.D.SectorDisk.content c.args.disk) (g.D.SectorDisk.content c.in-Ok.store.disk) opened.outside n out)) ∙ opened.outside n out)
 
 pub returns-in-Ok-commit-clause-store : goal.returns-in-Ok-commit-clause-store
-returns-in-Ok-commit-clause-store g c = λ k. let k1 = c.commit.ensures.kept (subst g.D.SectorDisk.keeps_model c.into_disk-in-Ok-commit.ensures k) in record { layout = c.in-Ok.ensures.good_layout k1; journal = c.in-Ok.ensures.good_journal k1 }
+returns-in-Ok-commit-clause-store g c = λ k. let k1 = c.commit.ensures.kept (subst g.D.SectorDisk.keeps_model c.into_disk-in-Ok-commit.ensures k) in record { layout = c.in-Ok.ensures.ok.found.good_layout k1; journal = c.in-Ok.ensures.ok.found.good_journal k1 }
 
 pub returns-in-Ok-commit-clause-writable : goal.returns-in-Ok-commit-clause-writable
 returns-in-Ok-commit-clause-writable g c = λ k.
     let k1 = c.commit.ensures.kept (subst g.D.SectorDisk.keeps_model c.into_disk-in-Ok-commit.ensures k) in
-    let same = same_files g.D.SectorDisk c.args.disk c.in-Ok.store (c.in-Ok.ensures.good_layout k1) (c.in-Ok.ensures.good_journal k1) (c.in-Ok.ensures.now k1) (c.in-Ok.ensures.ready.at_rest k1) in
+    let same = same_files g.D.SectorDisk c.args.disk c.in-Ok.store (c.in-Ok.ensures.ok.found.good_layout k1) (c.in-Ok.ensures.ok.found.good_journal k1) (c.in-Ok.ensures.ok.found.stands k1) (c.in-Ok.ensures.ok.ready.at_rest k1) in
     record {
       pages = subst (λ (files : ℕ → Option FileInfo). ArePages files c.args.pages.now) same c.in-Ok-check_pages.ensures.good;
       written = λ has. c.in-Ok-check_pages.ensures.written (subst (λ (files : ℕ → Option FileInfo). HasReadOnly files c.args.pages.now) (sym same) has);
@@ -78,13 +78,13 @@ returns-in-Ok-commit-clause-writable g c = λ k.
 pub returns-in-Err-check_pages-clause-pages : goal.returns-in-Err-check_pages-clause-pages
 returns-in-Err-check_pages-clause-pages g c = λ k is pages.
     let k1 = subst g.D.SectorDisk.keeps_model c.into_disk.ensures k in
-    let same = same_files g.D.SectorDisk c.args.disk c.in-Ok.store (c.in-Ok.ensures.good_layout k1) (c.in-Ok.ensures.good_journal k1) (c.in-Ok.ensures.now k1) (c.in-Ok.ensures.ready.at_rest k1) in
+    let same = same_files g.D.SectorDisk c.args.disk c.in-Ok.store (c.in-Ok.ensures.ok.found.good_layout k1) (c.in-Ok.ensures.ok.found.good_journal k1) (c.in-Ok.ensures.ok.found.stands k1) (c.in-Ok.ensures.ok.ready.at_rest k1) in
     c.in-Err-check_pages.ensures.bad_pages (c.untaken.ensures.pages is) (subst (λ (files : ℕ → Option FileInfo). ArePages files c.args.pages.now) (sym same) pages)
 
 pub returns-in-Err-check_pages-clause-read_only : goal.returns-in-Err-check_pages-clause-read_only
 returns-in-Err-check_pages-clause-read_only g c = λ k is.
     let k1 = subst g.D.SectorDisk.keeps_model c.into_disk.ensures k in
-    let same = same_files g.D.SectorDisk c.args.disk c.in-Ok.store (c.in-Ok.ensures.good_layout k1) (c.in-Ok.ensures.good_journal k1) (c.in-Ok.ensures.now k1) (c.in-Ok.ensures.ready.at_rest k1) in
+    let same = same_files g.D.SectorDisk c.args.disk c.in-Ok.store (c.in-Ok.ensures.ok.found.good_layout k1) (c.in-Ok.ensures.ok.found.good_journal k1) (c.in-Ok.ensures.ok.found.stands k1) (c.in-Ok.ensures.ok.ready.at_rest k1) in
     let found = c.in-Err-check_pages.ensures.read_only (c.untaken.ensures.read_only is) in
     record {
       pages = subst (λ (files : ℕ → Option FileInfo). ArePages files c.args.pages.now) same found.0;
@@ -92,8 +92,8 @@ returns-in-Err-check_pages-clause-read_only g c = λ k is.
     }
 
 pub returns-in-Err-clause-layout : goal.returns-in-Err-clause-layout
-returns-in-Err-clause-layout g c = λ k is. c.in-Err.ensures.bad_layout k (c.unopened.ensures.layout is)
+returns-in-Err-clause-layout g c = λ k is. c.in-Err.ensures.err.bad_layout k (c.unopened.ensures.layout is)
 
 pub returns-in-Err-clause-journal : goal.returns-in-Err-clause-journal
 returns-in-Err-clause-journal g c = λ k is.
-    let e = c.unopened.ensures.journal is in record { layout = c.in-Err.ensures.layout_first k e; journal = c.in-Err.ensures.bad_journal k e }
+    let e = c.unopened.ensures.journal is in record { layout = c.in-Err.ensures.err.layout_first k e; journal = c.in-Err.ensures.err.bad_journal k e }

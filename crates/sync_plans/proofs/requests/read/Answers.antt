@@ -8,7 +8,7 @@ pub returns-in-Ok-read_page-clause-page : goal.returns-in-Ok-read_page-clause-pa
 returns-in-Ok-read_page-clause-page g c = λ k files pages left inside.
     let disk = c.in-Ok.store.disk in
     let k2 = subst g.D.SectorDisk.keeps_model c.into_disk-in-Ok-read_page.ensures k in
-    let opened = when_open g.D.SectorDisk (g.D.SectorDisk.sector_count c.args.disk) files pages c.args.disk disk left (c.in-Ok.ensures.now (c.read_page.ensures.kept k2)) in
+    let opened = when_open g.D.SectorDisk (g.D.SectorDisk.sector_count c.args.disk) files pages c.args.disk disk left (c.in-Ok.ensures.ok.found.stands (c.read_page.ensures.kept k2)) in
     let stands = opened (g.D.SectorDisk.content disk) (record { kept = λ n. inr refl }) in
     c.in-Ok-read_page.ensures.page k2 ∙ stands.same c.args.page.file c.args.page.page inside
 
@@ -16,20 +16,20 @@ pub returns-in-Ok-read_page-clause-inside : goal.returns-in-Ok-read_page-clause-
 returns-in-Ok-read_page-clause-inside g c = λ k.
     let k1 = c.read_page.ensures.kept (subst g.D.SectorDisk.keeps_model c.into_disk-in-Ok-read_page.ensures k) in
     let is : IsTrue c.check_page.result = search rules in
-    subst (λ (files : ℕ → Option FileInfo). IsPageOf files c.args.page.file c.args.page.page) (same_files g.D.SectorDisk c.args.disk c.in-Ok.store (c.in-Ok.ensures.good_layout k1) (c.in-Ok.ensures.good_journal k1) (c.in-Ok.ensures.now k1) (c.in-Ok.ensures.ready.at_rest k1)) (c.check_page.ensures.0 is)
+    subst (λ (files : ℕ → Option FileInfo). IsPageOf files c.args.page.file c.args.page.page) (same_files g.D.SectorDisk c.args.disk c.in-Ok.store (c.in-Ok.ensures.ok.found.good_layout k1) (c.in-Ok.ensures.ok.found.good_journal k1) (c.in-Ok.ensures.ok.found.stands k1) (c.in-Ok.ensures.ok.ready.at_rest k1)) (c.check_page.ensures.0 is)
 
 pub returns-then-not-check_page-clause-pages : goal.returns-then-not-check_page-clause-pages
 returns-then-not-check_page-clause-pages g c = λ k is inside.
     let k1 = subst g.D.SectorDisk.keeps_model c.into_disk.ensures k in
     let not : IsTrue c.check_page.result → ⊥ = search rules in
-    not (c.check_page.ensures.1 (subst (λ (files : ℕ → Option FileInfo). IsPageOf files c.args.page.file c.args.page.page) (sym (same_files g.D.SectorDisk c.args.disk c.in-Ok.store (c.in-Ok.ensures.good_layout k1) (c.in-Ok.ensures.good_journal k1) (c.in-Ok.ensures.now k1) (c.in-Ok.ensures.ready.at_rest k1))) inside))
+    not (c.check_page.ensures.1 (subst (λ (files : ℕ → Option FileInfo). IsPageOf files c.args.page.file c.args.page.page) (sym (same_files g.D.SectorDisk c.args.disk c.in-Ok.store (c.in-Ok.ensures.ok.found.good_layout k1) (c.in-Ok.ensures.ok.found.good_journal k1) (c.in-Ok.ensures.ok.found.stands k1) (c.in-Ok.ensures.ok.ready.at_rest k1))) inside))
 
 pub returns-in-Ok-read_page-clause-store : goal.returns-in-Ok-read_page-clause-store
-returns-in-Ok-read_page-clause-store g c = λ k. let k1 = c.read_page.ensures.kept (subst g.D.SectorDisk.keeps_model c.into_disk-in-Ok-read_page.ensures k) in record { layout = c.in-Ok.ensures.good_layout k1; journal = c.in-Ok.ensures.good_journal k1 }
+returns-in-Ok-read_page-clause-store g c = λ k. let k1 = c.read_page.ensures.kept (subst g.D.SectorDisk.keeps_model c.into_disk-in-Ok-read_page.ensures k) in record { layout = c.in-Ok.ensures.ok.found.good_layout k1; journal = c.in-Ok.ensures.ok.found.good_journal k1 }
 
 pub returns-in-Err-clause-layout : goal.returns-in-Err-clause-layout
-returns-in-Err-clause-layout g c = λ k is. c.in-Err.ensures.bad_layout k (c.unopened.ensures.layout is)
+returns-in-Err-clause-layout g c = λ k is. c.in-Err.ensures.err.bad_layout k (c.unopened.ensures.layout is)
 
 pub returns-in-Err-clause-journal : goal.returns-in-Err-clause-journal
 returns-in-Err-clause-journal g c = λ k is.
-    let e = c.unopened.ensures.journal is in record { layout = c.in-Err.ensures.layout_first k e; journal = c.in-Err.ensures.bad_journal k e }
+    let e = c.unopened.ensures.journal is in record { layout = c.in-Err.ensures.err.layout_first k e; journal = c.in-Err.ensures.err.bad_journal k e }

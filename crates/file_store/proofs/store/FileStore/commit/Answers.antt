@@ -1,5 +1,4 @@
-use Rattle.std.proofs.Common.{◌≡◌, ℕ, length, take, subst, arith, rules}
-use Rattle.std.proofs.lemmas.List.{length-take-le}
+use Rattle.std.proofs.Common.{◌≡◌, ℕ, List, length, take, subst, arith, rules}
 use Rattle.std.proofs.lemmas.Result.{on_ok_weaker}
 use Rattle.disk_model.proofs.Moments.{weaker}
 use Rattle.file_store.specs.Layout.{trimmed}
@@ -10,9 +9,11 @@ use Rattle.file_store.proofs.Reading.{has_content}
 use Rattle.file_store.proofs.Homes.{entry_page}
 use Rattle.file_store.proofs.Images.{stands_kept}
 use Rattle.file_store.proofs.Rests.{ready_again, ready_with}
-use Rattle.file_store.proofs.Changed.{are_homes, homes_front, stands_changed, stands_either, homes_put, homes_either}
+use Rattle.file_store.proofs.Changed.{are_homes, homes_front, homes_mapped, stands_changed, stands_either, homes_put, homes_either}
 use Rattle.file_store.proofs.store.FileStore.commit.Goals as goal
 use Rattle.sync_journal.specs.Commit.{changed}
+use Rattle.sync_journal.specs.Journal.{live_homes}
+use Rattle.sync_journal.proofs.InTurn.{commits_weaker}
 use Rattle.sync_journal.specs.Kinds.{journal_kind, StoreStandsFor, StoreStandsForEither, IsStoreKept, AsksEachOnce}
 
 pub fill_homes-requires-clause-inside : goal.fill_homes-requires-clause-inside
@@ -60,6 +61,26 @@ returns-clause-any_moment g c = λ k ks files before after left changes.
     (StandsForEither sectors files before after)
     (λ image kept. stands_either (journal_kind c.args.self.now.journal) sectors directory list homes given old image c.requires.ready.sound rest.directory of_list files before after was changes kept)
     (c.commit.ensures.any_moment k ks')
+
+pub returns-clause-blocks : goal.returns-clause-blocks
+returns-clause-blocks g c = λ k ks files before after left changes turns is.
+    let ks' : g.S.PageSource.keeps_model c.commit.new.source.source.now = search rules in
+    let sectors = g.D.SectorDisk.sector_count c.args.self.now.disk in
+    let directory = c.args.self.now.directory in
+    let list = c.args.pages.now in
+    let given = g.S.PageSource.pages c.args.source.now in
+    let old = g.D.SectorDisk.content c.args.self.now.disk in
+    let homes = take (length list) c.fill_homes.new.homes in
+    let rest = c.requires.ready.at_rest (c.commit.ensures.kept k) in
+    let long : length c.fill_homes.new.homes ≡ 1023 = c.fill_homes.ensures.long in
+    let of_list = homes_front directory list c.fill_homes.new.homes (let few = c.requires.pages.few in omega (arith, few, long)) c.fill_homes.ensures.homes
+    (λ i p at. entry_page (journal_kind c.args.self.now.journal) sectors directory c.requires.ready.sound p (c.requires.pages.inside i p at)) in
+    let was = has_content g.D.SectorDisk c.args.self.now.disk (StandsFor sectors files before) left in
+    commits_weaker g.D.SectorDisk
+    (IsStoreKept sectors old (StoreStandsForEither (standing old) (changed (standing old) homes (λ i. trimmed (inside_at directory list i) (given i)))))
+    (StandsForEither sectors files before after)
+    (λ image kept. stands_either (journal_kind c.args.self.now.journal) sectors directory list homes given old image c.requires.ready.sound rest.directory of_list files before after was changes kept)
+    turns.second (live_homes turns.live) c.args.self.now.disk c.commit.new.disk (c.commit.ensures.blocks k ks' turns is)
 
 pub returns-clause-ok : goal.returns-clause-ok
 returns-clause-ok g c = λ k ks files before after left changes.
@@ -136,10 +157,14 @@ returns-clause-source_homes g c = λ k is. (c.commit.ensures.source k is).left
 
 pub returns-clause-once : goal.returns-clause-once
 returns-clause-once g c =
-    let few = c.requires.pages.few in
-    let long = c.fill_homes.ensures.long in
-    subst (λ (n : ℕ). AsksEachOnce g.D.SectorDisk c.args.self.now.journal n c.args.self.now.disk c.commit.new.disk)
-    (length-take-le (length c.args.pages.now) c.fill_homes.new.homes (omega (arith, few, long))) c.commit.ensures.once
+    let sectors = g.D.SectorDisk.sector_count c.args.self.now.disk in
+    let directory = c.args.self.now.directory in
+    let list = c.args.pages.now in
+    let long : length c.fill_homes.new.homes ≡ 1023 = c.fill_homes.ensures.long in
+    let of_list = homes_front directory list c.fill_homes.new.homes (let few = c.requires.pages.few in omega (arith, few, long)) c.fill_homes.ensures.homes
+    (λ i p at. entry_page (journal_kind c.args.self.now.journal) sectors directory c.requires.ready.sound p (c.requires.pages.inside i p at)) in
+    subst (λ (homes : List ℕ). AsksEachOnce g.D.SectorDisk c.args.self.now.journal homes c.args.self.now.disk c.commit.new.disk)
+    (homes_mapped directory list (take (length list) c.fill_homes.new.homes) of_list) c.commit.ensures.once
 
 pub returns-clause-ready_after_source : goal.returns-clause-ready_after_source
 returns-clause-ready_after_source g c = λ is.

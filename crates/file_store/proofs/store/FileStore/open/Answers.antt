@@ -1,7 +1,7 @@
 use Rattle.std.proofs.Common.{Err, ap}
 use Rattle.file_store.proofs.Causes.{same_Err}
 use Rattle.file_store.proofs.Images.{stands_kept}
-use Rattle.file_store.proofs.Openings.{files_stand}
+use Rattle.file_store.proofs.Openings.{files_stand, files_by_blocks}
 use Rattle.file_store.proofs.store.FileStore.open.Goals as goal
 
 pub returns-in-Err-clause-bad_layout : goal.returns-in-Err-clause-bad_layout
@@ -37,3 +37,11 @@ returns-in-Err-clause-err_in_a_row g c = λ k synced first was.
 
 pub returns-in-Err-clause-unwritten : goal.returns-in-Err-clause-unwritten
 returns-in-Err-clause-unwritten g c = λ k not_device. c.in-Err.ensures.unwritten k (λ is. not_device (same_Err _ _ is))
+
+pub returns-in-Ok-clause-blocks : goal.returns-in-Ok-clause-blocks
+returns-in-Ok-clause-blocks g c = λ k synced paired first was.
+    files_by_blocks g.D.SectorDisk c.args.disk c.mount.new.disk (g.D.SectorDisk.sector_count c.args.disk) first was (c.mount.ensures.blocks k synced paired)
+
+pub returns-in-Err-clause-err_blocks : goal.returns-in-Err-clause-err_blocks
+returns-in-Err-clause-err_blocks g c = λ k synced paired first was.
+    files_by_blocks g.D.SectorDisk c.args.disk c.mount.new.disk (g.D.SectorDisk.sector_count c.args.disk) first was (c.mount.ensures.blocks k synced paired)

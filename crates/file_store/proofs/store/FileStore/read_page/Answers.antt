@@ -1,6 +1,7 @@
 use Rattle.std.proofs.Common.{◌<◌, sym, ap, subst, ◌∙◌}
 use Rattle.sync_journal.specs.Kinds.{journal_kind, kind_home_count}
 use Rattle.file_store.specs.Standing.{standing}
+use Rattle.file_store.specs.Store.{entry_of}
 use Rattle.disk_model.specs.Sectors.{joined}
 use Rattle.file_store.proofs.Asking.{page_asks}
 use Rattle.file_store.proofs.Homes.{entry_page, home_inside, home_of-entry}
@@ -24,7 +25,7 @@ returns-clause-page g c = λ k.
     let image = g.D.SectorDisk.content c.args.self.now.disk in
     let directory = c.args.self.now.directory in
     let rest = c.requires.ready.at_rest (c.in_ok-read.ensures.kept k) in
-    let in_directory = sym c.entry.ensures ∙ c.in-Some.is in
+    let in_directory = ap (entry_of directory) (sym c.from.ensures) ∙ sym c.entry.ensures.entry ∙ c.in-Some.is in
     let home = c.home_of.ensures ∙ home_of-entry directory c.args.page c.in-Some.entry in_directory in
     page_read image c.args.page.file c.args.page.page c.in-Some.entry c.bytes_inside.result c.read.new.to c.trim.new.page
     (sym (rest.directory c.args.page.file) ∙ in_directory) c.bytes_inside.ensures.inside

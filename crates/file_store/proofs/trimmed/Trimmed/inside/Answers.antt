@@ -13,12 +13,12 @@ pub returns-in-Some-entry : goal.returns-in-Some-entry
 returns-in-Some-entry g c =
     let at : slice_get c.args.self.now.pages.now c.args.i ≡ Some c.in-Some.page.now =
     slice_get_read c.args.self.now.pages.now (length c.args.self.now.pages.now) c.args.i c.in-Some.page.now refl c.in-Some.ensures.lookup.3.0 c.in-Some.ensures.lookup.1 in
-    let entry : entry_of c.args.self.now.directory.now c.in-Some.page.now.file ≡ Some c.in-Some-entry.entry = sym c.entry.ensures ∙ c.in-Some-entry.is in
+    let entry : entry_of c.args.self.now.directory.now c.in-Some.page.now.file ≡ Some c.in-Some-entry.entry = ap (entry_of c.args.self.now.directory.now) (sym c.from.ensures) ∙ sym c.entry.ensures.entry ∙ c.in-Some-entry.is in
     c.bytes_inside.ensures.inside ∙ sym (ap (inside_of c.args.self.now.directory.now) at ∙ inside_of-entry c.args.self.now.directory.now c.in-Some.page.now c.in-Some-entry.entry entry)
 
 pub returns-in-None : goal.returns-in-None
 returns-in-None g c =
     let at : slice_get c.args.self.now.pages.now c.args.i ≡ Some c.in-Some.page.now =
     slice_get_read c.args.self.now.pages.now (length c.args.self.now.pages.now) c.args.i c.in-Some.page.now refl c.in-Some.ensures.lookup.3.0 c.in-Some.ensures.lookup.1 in
-    let entry : entry_of c.args.self.now.directory.now c.in-Some.page.now.file ≡ None = sym c.entry.ensures ∙ c.in-None.is in
+    let entry : entry_of c.args.self.now.directory.now c.in-Some.page.now.file ≡ None = ap (entry_of c.args.self.now.directory.now) (sym c.from.ensures) ∙ sym c.entry.ensures.entry ∙ c.in-None.is in
     sym (ap (inside_of c.args.self.now.directory.now) at ∙ inside_of-none c.args.self.now.directory.now c.in-Some.page.now entry)

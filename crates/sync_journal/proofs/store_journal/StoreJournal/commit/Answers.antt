@@ -4,13 +4,15 @@ use Rattle.sync_journal.specs.Journal.{live_homes}
 use Rattle.sync_journal.specs.Kinds.{journal_kind}
 use Rattle.sync_journal.specs.declared.turns.TurnJournal.{TurnJournal}
 use Rattle.sync_journal.proofs.Replays.{on_ok_both}
-use Rattle.sync_journal.proofs.InKinds.{one_either, one_changed, one_settled, two_either, two_changed, two_before, two_settled}
-use Rattle.std.proofs.Common.{length, arith}
+use Rattle.sync_journal.proofs.InKinds.{one_either, one_changed, one_settled, two_either, two_changed, two_before, two_settled, one_alone, same_turns}
 use Rattle.disk_model.specs.Moments.{AsksOnly}
 use Rattle.disk_model.proofs.Moments.{asks_once}
-use Rattle.disk_model.proofs.Naming.{once_wider}
 use Rattle.sync_journal.specs.Turns.{IsTurnUsed, IsTurnAsked}
-use Rattle.sync_journal.specs.Kinds.{IsStoreUsed, AsksEachOnce}
+use Rattle.sync_journal.specs.Kinds.{IsStoreUsed, AsksEachOnce, StoreStandsForEither, IsStoreKept, store_standing}
+use Rattle.disk_model.specs.Stop.{Image}
+use Rattle.sync_journal.specs.Commit.{changed}
+use Rattle.sync_journal.specs.Blocks.{CommitsInBlocks}
+use Rattle.sync_journal.proofs.InTurn.{commits_weaker}
 use Rattle.sync_journal.proofs.TurnAsking.{used_more}
 use Rattle.sync_journal.proofs.store_journal.StoreJournal.commit.Goals as goal
 use Rattle.std.proofs.Common.{sym, subst}
@@ -102,10 +104,22 @@ returns-in-InTurn-clause-asks_device g c =
 
 pub returns-in-InTurn-clause-once : goal.returns-in-InTurn-clause-once
 returns-in-InTurn-clause-once g c =
+    subst (λ j. AsksEachOnce g.D.SectorDisk j c.args.homes.now c.args.disk.now c.commit-in-InTurn.new.disk) (sym c.in-InTurn.is) c.commit-in-InTurn.ensures.once
+
+pub returns-in-One-clause-blocks : goal.returns-in-One-clause-blocks
+returns-in-One-clause-blocks g c = λ keeps gives turns is. absurd (one_alone _ turns (sym c.in-One.is ∙ is))
+
+pub returns-in-InTurn-clause-blocks : goal.returns-in-InTurn-clause-blocks
+returns-in-InTurn-clause-blocks g c = λ keeps gives turns is.
     let d = g.D.SectorDisk in
+    let old = c.args.disk.now in
+    let new = c.commit-in-InTurn.new.disk in
+    let e = c.commit-in-InTurn.ensures in
     let journal = c.in-InTurn.journal in
+    let kind = (c.requires.rest (e.kept keeps)).kind ∙ ap journal_kind c.in-InTurn.is in
     let homes = c.args.homes.now in
-    let live = live_homes journal.live in
-    subst (λ j. AsksEachOnce d j (length homes) c.args.disk.now c.commit-in-InTurn.new.disk) (sym c.in-InTurn.is)
-    (once_wider (IsTurnUsed journal.second live homes) (IsTurnAsked journal.second live (length homes)) (d.asked c.args.disk.now) (d.asked c.commit-in-InTurn.new.disk)
-    (used_more journal.second live homes (length homes) (omega arith)) c.commit-in-InTurn.ensures.once)
+    let pages = g.S.PageSource.pages c.args.source.now in
+    let Either : Image → Type 0
+    = IsStoreKept (d.sector_count old) (d.content old) (StoreStandsForEither (store_standing (d.content old)) (changed (store_standing (d.content old)) homes pages)) in
+    subst (λ (t : TurnJournal). CommitsInBlocks d t.second (live_homes t.live) Either old new) (same_turns journal turns (sym c.in-InTurn.is ∙ is))
+    (commits_weaker d _ Either (two_either (d.sector_count old) (d.content old) kind homes pages) journal.second (live_homes journal.live) old new (e.blocks keeps gives))

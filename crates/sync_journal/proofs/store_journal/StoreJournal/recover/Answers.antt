@@ -1,6 +1,7 @@
 use Rattle.std.proofs.Common.{refl, ◌∙◌}
 use Rattle.disk_model.proofs.Moments.{weaker}
-use Rattle.sync_journal.proofs.InKinds.{one_as_before, two_as_before, two_before, two_settled, store_since}
+use Rattle.sync_journal.proofs.InKinds.{one_as_before, two_as_before, two_before, two_settled, store_since, single_alone}
+use Rattle.sync_journal.proofs.InTurn.{recovers_weaker}
 use Rattle.sync_journal.proofs.store_journal.StoreJournal.recover.Goals as goal
 use Rattle.std.proofs.Common.{sym, subst}
 use Rattle.disk_model.specs.Moments.{Touches}
@@ -117,3 +118,23 @@ returns-in_ok-journal-in-Paired-clause-bad_unwritten g c = λ keeps bad.
     let d = g.D.SectorDisk in
     let old = c.args.disk.now in
     c.recover-in-Paired.ensures.bad_unwritten keeps (subst (λ b. IsKindBad b (d.sector_count old) (d.content old)) (c.requires.kind (c.recover-in-Paired.ensures.kept keeps) ∙ c.in-Paired.is) bad)
+
+pub returns-in_err-journal-in-Paired-clause-blocks : goal.returns-in_err-journal-in-Paired-clause-blocks
+returns-in_err-journal-in-Paired-clause-blocks g c = λ keeps paired.
+    let d = g.D.SectorDisk in
+    let old = c.args.disk.now in
+    let e = c.recover-in-Paired.ensures in
+    recovers_weaker d _ _ (two_as_before (d.sector_count old) (d.content old) (c.requires.kind (e.kept keeps) ∙ c.in-Paired.is)) old c.recover-in-Paired.new.disk (e.blocks keeps)
+
+pub returns-in_ok-journal-in-Paired-clause-blocks : goal.returns-in_ok-journal-in-Paired-clause-blocks
+returns-in_ok-journal-in-Paired-clause-blocks g c = λ keeps paired.
+    let d = g.D.SectorDisk in
+    let old = c.args.disk.now in
+    let e = c.recover-in-Paired.ensures in
+    recovers_weaker d _ _ (two_as_before (d.sector_count old) (d.content old) (c.requires.kind (e.kept keeps) ∙ c.in-Paired.is)) old c.recover-in-Paired.new.disk (e.blocks keeps)
+
+pub returns-in_err-recover-in-Single-clause-blocks : goal.returns-in_err-recover-in-Single-clause-blocks
+returns-in_err-recover-in-Single-clause-blocks g c = λ keeps paired. absurd (single_alone (sym c.in-Single.is ∙ paired))
+
+pub returns-in_ok-recover-in-Single-clause-blocks : goal.returns-in_ok-recover-in-Single-clause-blocks
+returns-in_ok-recover-in-Single-clause-blocks g c = λ keeps paired. absurd (single_alone (sym c.in-Single.is ∙ paired))

@@ -5,7 +5,7 @@ use Rattle.sync_plans.proofs.Growth.{writes_here, written, passed, untouched}
 use Rattle.sync_plans.proofs.plan_disk.PlanDisk.held.Goals as goal
 
 pub returns-then-n-self : goal.returns-then-n-self
-returns-then-n-self c = let s = c.args.self.now in sym (untouched s.calls.now s.rows.now (pages_of s) (row s.image.now) s.used c.args.n (s.below c.args.n c.if-n-self.true))
+returns-then-n-self c = let s = c.args.self.now in sym (untouched s.calls.now s.rows.now (pages_of s) (row s.image.now) s.used c.args.n (s.between c.args.n c.if-self-n.true c.if-n-self.true))
 
 pub bytes-requires-clause-here : goal.bytes-requires-clause-here
 bytes-requires-clause-here c =

@@ -1,7 +1,7 @@
 use Rattle.std.proofs.Common.{◌≡◌, ◌<◌, ◌∙◌, true, false, length, sym, arith}
 use Rattle.std.proofs.lemmas.List.{length-set}
 use Rattle.sync_plans.specs.PlanDisk.{pages_of}
-use Rattle.sync_plans.proofs.Least.{behind_written, all_behind, sources_behind, all_listed, sources_listed, listed, still_below}
+use Rattle.sync_plans.proofs.Untouched.{behind_written, all_behind, sources_behind, all_listed, sources_listed, listed, still_untouched}
 use Rattle.sync_plans.proofs.plan_disk.PlanDisk.list.Goals as goal
 
 pub invariant_of-self-3 : goal.invariant_of-self-3
@@ -16,7 +16,9 @@ invariant_of-self-3 c =
       sources = sources_behind s.calls.now s.used c.args.call room (pages_of s) s.sources;
       filled = s.filled;
       calm = s.calm;
-      below = λ n lt. behind_written s.calls.now s.used c.args.call room n ∙ s.below n (omega (arith, lt, c.least_with-self.ensures.below));
+      bounded = omega (arith, s.bounded, c.untouched_with-self.ensures.high);
+      between = λ n low high. behind_written s.calls.now s.used c.args.call room n
+          ∙ s.between n (omega (arith, low, c.untouched_with-self.ensures.low)) (omega (arith, high, c.untouched_with-self.ensures.high));
     }
 
 pub invariant_of-self-4 : goal.invariant_of-self-4
@@ -28,10 +30,13 @@ invariant_of-self-4 c =
       rows_long = length-set s.rows.now s.used c.keep_row.new.to ∙ s.rows_long;
       within = omega (arith, c.if-self-ge-ROOM.false);
       all = all_listed s.calls.now s.used c.args.call room (length s.image.now) s.all c.requires.call;
-      sources = sources_listed s.calls.now s.used c.args.call room (pages_of s) s.least s.sources s.below c.requires.lent c.requires.unwritten;
+      sources = sources_listed s.calls.now s.used c.args.call room (pages_of s) s.untouched.low s.untouched.high s.sources s.between c.requires.lent c.requires.unwritten;
       filled = λ full. let e : true ≡ false = sym full ∙ c.if-self.false in cc;
       calm = s.calm;
-      below = λ n lt. still_below s.calls.now s.used c.args.call room c.least_with-self.result n (λ k less. s.below k (omega (arith, less, c.least_with-self.ensures.below))) (c.least_with-self.ensures.written n lt) lt;
+      bounded = omega (arith, s.bounded, c.untouched_with-self.ensures.high);
+      between = λ n low high. still_untouched s.calls.now s.used c.args.call room n
+          (s.between n (omega (arith, low, c.untouched_with-self.ensures.low)) (omega (arith, high, c.untouched_with-self.ensures.high)))
+          (c.untouched_with-self.ensures.written n low high);
     }
 
 pub returns-clause-lists : goal.returns-clause-lists

@@ -1,6 +1,0 @@
-use Rattle.sync_journal.specs.Kinds.{is_kind}
-use Rattle.file_store.proofs.layout.is_turn_kind.Goals as goal
-
-pub returns : goal.returns
-unfolding is_kind
-returns c = cc

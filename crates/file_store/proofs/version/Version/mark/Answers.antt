@@ -1,0 +1,18 @@
+use Rattle.std.proofs.Common.{sym, ap}
+use Rattle.sync_journal.specs.Kinds.{turn_kind}
+use Rattle.file_store.specs.Layout.{mark, old_mark}
+use Rattle.file_store.specs.Versions.{mark_of}
+use Rattle.file_store.specs.declared.version.Version.{Version}
+use Rattle.file_store.proofs.version.Version.mark.Goals as goal
+
+pub returns-in-One : goal.returns-in-One
+unfolding old_mark
+returns-in-One c = sym (ap (λ (v : Version). mark_of v) c.in-One.is)
+
+pub returns-in-Two : goal.returns-in-Two
+unfolding mark
+returns-in-Two c = sym (ap (λ (v : Version). mark_of v) c.in-Two.is)
+
+pub returns-in-Three : goal.returns-in-Three
+unfolding turn_kind
+returns-in-Three c = sym (ap (λ (v : Version). mark_of v) c.in-Three.is)

@@ -1,0 +1,6 @@
+use Rattle.sync_journal.specs.Kinds.{is_kind}
+use Rattle.file_store.proofs.version.is_turn_kind.Goals as goal
+
+pub returns : goal.returns
+unfolding is_kind
+returns c = cc

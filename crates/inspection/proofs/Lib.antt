@@ -1,0 +1,6 @@
+mod Entries
+mod Mappers
+mod Steps
+mod Told
+mod Trees
+mod Ways

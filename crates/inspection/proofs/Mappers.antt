@@ -1,0 +1,76 @@
+-- Only live processes have pages over a frame.
+use Rattle.vm_types.specs.Limits.{top_level}
+use Rattle.std.proofs.Common.{◌≡◌, ◌⊎◌, ℕ, ◌≤◌, ◌<◌, ◌≢◌, Option, Some, None, true, false, refl, sym, ap, ◌∙◌, subst, inl, inr, arith}
+use Rattle.std.proofs.lemmas.Bool.{cases_eq, false≢true}
+use Rattle.std.proofs.lemmas.Bool.Decides.{nat_tests}
+use Rattle.std.specs.Prelude.{◌==◌, if◌then◌else◌}
+use Rattle.paging.specs.declared.leaves.Change.TheVariants as Kinds
+use Rattle.paging.specs.Leaves.{IsOver, concerns}
+use Rattle.paging.specs.Picture.{Picture, entry, entry_in}
+use Rattle.paging.specs.Parts.{IsFit}
+use Rattle.page_tables.specs.Tree.{IsPage}
+use Rattle.inspection.specs.Frames.{IsBefore, IsFrom, IsMapper}
+use Rattle.inspection.specs.declared.frame_views.Mapper.{Mapper}
+
+none_or_some : (o : Option ℕ) → (o ≡ None) ⊎ ((r : ℕ) × (o ≡ Some r))
+none_or_some None = inl refl
+none_or_some (Some r) = inr (r, refl)
+
+module _ {mode : ℕ} (c : Picture mode) (n p k : ℕ) where
+  entry_none : c.root p ≡ None → entry c p k ≡ 0
+  unfolding entry
+  entry_none none = ap (λ r. entry_in mode c.frames r k) none
+
+  pub over_lives : IsOver c Kinds.Forget n p k → (r : ℕ) × (c.root p ≡ Some r)
+  over_lives over = elim (none_or_some (c.root p)) [
+    | inl none ↦ absurd (false≢true (sym (ap (concerns Kinds.Forget) (entry_none none)) ∙ over.concerned))
+    | inr some ↦ some
+  ]
+
+  pub over_numbers : IsFit c → IsOver c Kinds.Forget n p k → p < 65
+  over_numbers fit over = let lives = over_lives over in let numbers = fit.rooted.numbers p lives.0 lives.1 in omega (arith, numbers.1)
+
+low_here : (number pid page low : ℕ) → low ≡ (if number == pid then page else 0) → number ≡ pid → low ≡ page
+low_here number pid page low is same = let test : (number == pid) ≡ true = grind (arith, nat_tests, same) in is ∙ rw test refl
+
+low_later : (number pid page low : ℕ) → low ≡ (if number == pid then page else 0) → number ≢ pid → low ≡ 0
+low_later number pid page low is other = let test : (number == pid) ≡ false = grind (arith, nat_tests, other) in is ∙ rw test refl
+
+-- the first page over a frame in the first process that has one
+module _ {mode : ℕ} (c : Picture mode) (n pid page number low : ℕ) (least : pid ≤ number) (is : low ≡ (if number == pid then page else 0))
+    (passed : (p k : ℕ) → p < number → IsFrom pid page p k → IsPage (top_level mode) k → IsOver c Kinds.Forget n p k → ⊥) where
+  from_low : (p k : ℕ) → p ≡ number → IsFrom pid page p k → low ≤ k
+  from_low p k at (inl here) = let e = low_here number pid page low is (sym at ∙ here.0) in omega (arith, e, here.1)
+  from_low p k at (inr later) = let e = low_later number pid page low is (λ same. omega (arith, at, same, later)) in omega (arith, e)
+
+  from_page : (k : ℕ) → low ≤ k → IsFrom pid page number k
+  from_page k le = elim (cases_eq number pid) [
+    | inl same ↦ inl (same, (let e = low_here number pid page low is same in omega (arith, e, le)))
+    | inr other ↦ inr (omega (arith, least, other))
+  ]
+
+  first_low : (p k : ℕ) → p ≡ number → IsFrom number low p k → low ≤ k
+  first_low p k at (inl here) = here.1
+  first_low p k at (inr later) = absurd (omega (arith, at, later))
+
+  pub mapper_on : (m : Mapper) → m.pid ≡ number → IsMapper c n number low m → IsMapper c n pid page m
+  mapper_on m at first = record {
+    from = (
+        let P : ℕ → Type 0 = λ x. IsFrom pid page x m.page in
+        subst P (sym at) (from_page m.page (first_low m.pid m.page at first.from)));
+    over = first.over;
+    entry = first.entry;
+    none_before = λ p k from before inside over. elim before [
+      | inl earlier ↦ passed p k (omega (arith, earlier, at)) from inside over
+      | inr same ↦ first.none_before p k (inl (same.0 ∙ at, from_low p k (same.0 ∙ at) from)) (inr same) inside over
+    ];
+  }
+
+-- no page of one process comes before the first of it
+pub only_first : {mode : ℕ} (c : Picture mode) (n number low pid page : ℕ) → pid ≡ number → ((j : ℕ) → low ≤ j → j < page → IsOver c Kinds.Forget n pid j → ⊥)
+    → (p k : ℕ) → IsFrom number low p k → IsBefore pid page p k → IsOver c Kinds.Forget n p k → ⊥
+only_first c n number low pid page at none p k (inl here) (inl earlier) over = omega (arith, here.0, earlier, at)
+only_first c n number low pid page at none p k (inr later) (inl earlier) over = omega (arith, later, earlier, at)
+only_first c n number low pid page at none p k (inr later) (inr same) over = omega (arith, later, same.0, at)
+only_first c n number low pid page at none p k (inl here) (inr same) over =
+    let P : ℕ → Type 0 = λ x. IsOver c Kinds.Forget n x k in none k here.1 same.1 (subst P same.0 over)

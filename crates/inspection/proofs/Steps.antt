@@ -1,0 +1,37 @@
+-- One step on the way to a page leads to the next.
+use Rattle.vm_types.specs.Limits.{top_level}
+use Rattle.std.proofs.Common.{◌≡◌, ℕ, suc, ◌-◌, ◌<◌, true, sym, ap, ◌∙◌, subst, arith}
+use Rattle.frames.specs.FrameTable.{FrameTable}
+use Rattle.sv39_walk.specs.Entry.{entry_at, frame_of, is_pointer}
+use Rattle.sv39_walk.specs.Walk.{index_of}
+use Rattle.page_tables.specs.Tree.{IsTable, Points, Way, last_table, page_entry}
+use Rattle.page_tables.proofs.Ends.{last_is, last_entry-is, missing_of-is, page_entry-whole}
+use Rattle.page_tables.proofs.Ways.{next_table}
+use Rattle.paging.specs.Picture.{Picture}
+use Rattle.paging.specs.Parts.{IsFit}
+use Rattle.inspection.specs.Walks.{IsStep}
+use Rattle.inspection.specs.declared.walks.Step.{Step}
+
+-- the entry of the lowest table on a way is the page's
+pub last_entry : (t : FrameTable) (top root page n : ℕ) → Way t top root page (top - 0) n → page_entry t top root page ≡ entry_at t n (index_of page 0)
+last_entry t top root page n way =
+    let is : last_table t page top root ≡ (0, n) = last_is t top root page 0 n (omega arith) way (λ h. absurd (omega (arith, h))) in
+    page_entry-whole t top root page (missing_of-is t top root page ∙ ap (λ p. p.0) is)
+    ∙ last_entry-is t top root page ∙ ap (λ p. entry_at t p.1 (index_of page p.0)) is
+
+module _ {mode : ℕ} (c : Picture mode) (pid page : ℕ) (step : Step) (fit : IsFit c) (is : IsStep c pid page step) (pointer : is_pointer step.entry.0 ≡ true) where
+  pub points : Points c.frames step.table.0 (index_of page step.level) (frame_of step.entry.0)
+  points =
+      let P : ℕ → Type 0 = λ x. Points c.frames step.table.0 (index_of page step.level) (frame_of x) in
+      subst P (sym is.says.entry) (next_table c.frames page step.level step.table.0 is.table (sym (ap is_pointer is.says.entry) ∙ pointer))
+
+  pub below : IsTable c.frames (frame_of step.entry.0)
+  below = fit.rooted.forest.onto_tables _ _ _ points
+
+  pub way_below : 0 < step.level → Way c.frames (top_level mode) is.root page (top_level mode - (step.level - 1)) (frame_of step.entry.0)
+  way_below some =
+      let deeper : suc (top_level mode - step.level) ≡ top_level mode - (step.level - 1) = omega (arith, some, is.level) in
+      let at : step.level ≡ top_level mode - (top_level mode - step.level) = omega (arith, is.level) in
+      let W : ℕ → Type 0 = λ d. Way c.frames (top_level mode) is.root page d (frame_of step.entry.0) in
+      let Q : ℕ → Type 0 = λ l. Points c.frames step.table.0 (index_of page l) (frame_of step.entry.0) in
+      subst W deeper (step.table.0, is.way, subst Q at points)

@@ -1,0 +1,16 @@
+use Rattle.vm_types.specs.Limits.{top_level, user_start, user_end}
+use Rattle.std.proofs.Common.{◌≡◌, ℕ, ◌-◌, ◌<◌, ◌≤◌}
+use Rattle.page_tables.specs.Tree.{IsPage}
+use Rattle.paging.specs.Picture.{picture_of, entry}
+use Rattle.inspection.proofs.pages.next_entry.Given as goal
+
+-- no page before this one has an entry
+abbrev pub invariant-loop-page : goal.invariant-loop-page
+invariant-loop-page g l = record {
+  above : user_start ≤ l.at;
+  from : l.low ≤ l.at;
+  passed : (k : ℕ) → l.low ≤ k → k < l.at → IsPage (top_level g.M.Levels.mode) k → entry (picture_of l.core) l.pid k ≡ 0;
+}
+
+abbrev pub decreases-loop-page : goal.decreases-loop-page
+decreases-loop-page g l = user_end g.M.Levels.mode - l.at

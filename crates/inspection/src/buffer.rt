@@ -1,0 +1,28 @@
+//! The lines of the buffer of translations, and the clock's hand.
+ghost use Rattle.std.specs.Prelude.{◌≡◌, IfSome};
+ghost use Rattle.frames.specs.FrameTable.{IsFrame};
+ghost use Rattle.mapped_memory.specs.Kept.{IsLeafOf};
+
+use paging::Core;
+use vm_types::{FrameNo, Levels};
+use walk_buffer::{Line, PLACES};
+
+/// The line at place `index` of the buffer of translations: the leaf in which the walk to its page ends. `None` where that place has no line,
+/// which no clause says, or there is no such place.
+pub(crate) fn line<D, E, M: Levels>(core: &Core<D, E, M>, index: usize) -> Option<Line>
+    ensures { IfSome result (λ line. IsLeafOf M.mode core.now.frames line.root.0 line.page line.leaf.0) }
+{
+    if index < PLACES {
+        core.frames.line(index)
+    } else {
+        None
+    }
+}
+
+/// The frame that is looked at first when one is to be given up.
+pub(crate) fn hand<D, E, M: Levels>(core: &Core<D, E, M>) -> FrameNo
+    ensures hand { result.0 ≡ core.now.clock.hand }
+    ensures inside { IsFrame core.now.frames result.0 }
+{
+    core.hand()
+}

@@ -1,0 +1,26 @@
+//! Where pages of files and of shared anonymous memory lie.
+ghost use Rattle.std.specs.Prelude.{◌≡◌};
+ghost use Rattle.paging.specs.Picture.{picture_of};
+
+use page_cache::Place;
+use paging::Core;
+use vm_types::{Levels, PageKey};
+
+/// A page of a file or of shared anonymous memory as it is.
+#[derive(Clone, Copy, Debug, PartialEq, Eq)]
+pub struct PageView {
+    pub place: Place,
+    /// Whether it was stored to and isn't durable yet.
+    pub is_touched: bool,
+}
+
+/// Where a page of a file or of shared anonymous memory lies, and whether it is touched.
+pub(crate) fn page_view<D, E, M: Levels>(core: &Core<D, E, M>, page: PageKey) -> PageView
+    ensures place { result.place ≡ (picture_of core.now).place page }
+    ensures touched { result.is_touched ≡ (picture_of core.now).touched page }
+{
+    PageView {
+        place: core.cache.place(page),
+        is_touched: core.cache.is_touched(page),
+    }
+}

@@ -1,0 +1,143 @@
+//! Where page tables stand in the trees of the processes.
+ghost use Rattle.std.specs.Prelude.{◌≡◌, ◌^◌, ◌<◌, ◌≤◌, true, IfSome, IfNone};
+ghost use Rattle.vm_types.specs.Limits.{top_level, table_entries};
+ghost use Rattle.page_tables.specs.Tree.{IsPage, IsTable};
+ghost use Rattle.paging.specs.Picture.{picture_of, is_live};
+ghost use Rattle.paging.specs.Parts.{IsFit};
+ghost use Rattle.inspection.specs.Tables.{HaveOneWay, IsLevelOnWay, IsOffWay, IsOutOf, IsPlaceOf};
+
+use crate::pages::next_run;
+use crate::walks::{next_step, root_step};
+use page_ranges::{gap_end, table_end, user_page};
+use paging::Core;
+use sv39_walk::TABLE_ENTRIES;
+use vm_types::{FrameNo, Levels, PROCESSES, Pid, Vpn};
+
+/// Where a table stands in the tree of a process.
+#[derive(Clone, Copy, Debug, PartialEq, Eq)]
+pub struct TablePlace {
+    pub pid: Pid,
+    /// The table's level: 0 is the lowest.
+    pub level: u32,
+    /// The first page of those on whose way it is.
+    pub first: u64,
+}
+
+/// Where the table in frame `n` stands; `None` exactly where that frame has no table.
+pub(crate) fn place_of_table<D, E, M: Levels>(
+    core: &Core<D, E, M>,
+    n: FrameNo,
+) -> Option<TablePlace>
+    requires fit { IsFit (picture_of core.now) }
+    ensures some { IfSome result (IsPlaceOf (picture_of core.now) n.0) }
+    ensures none { IfNone result (IsTable core.now.frames n.0 → ⊥) }
+{
+    for number in 1..PROCESSES as u64 + 1 {
+        if let Some(place) = place_of_number(core, number, n) {
+            return Some(place);
+        }
+    }
+    None
+}
+
+// The same in the tree of the process of that number, where it lives.
+fn place_of_number<D, E, M: Levels>(
+    core: &Core<D, E, M>,
+    number: u64,
+    n: FrameNo,
+) -> Option<TablePlace>
+    requires fit { IsFit (picture_of core.now) }
+    ensures some { IfSome result (IsPlaceOf (picture_of core.now) n.0) }
+    ensures none { IfNone result (IsOutOf (picture_of core.now) number n.0) }
+{
+    let pid = core.live(number)?;
+    place_in_tree(core, pid, n)
+}
+
+// The same in the tree of a live process.
+fn place_in_tree<D, E, M: Levels>(core: &Core<D, E, M>, pid: Pid, n: FrameNo) -> Option<TablePlace>
+    requires fit { IsFit (picture_of core.now) }
+    requires live { is_live (picture_of core.now) pid ≡ true }
+    ensures some { IfSome result (IsPlaceOf (picture_of core.now) n.0) }
+    ensures none { IfNone result (IsOutOf (picture_of core.now) pid n.0) }
+{
+    // (the root is on the way to any page)
+    if let Some(place) = place_on_way(core, pid, 0, n) {
+        return Some(place);
+    }
+    let mut low = 0;
+    while let Some(run) = next_run(core, pid, low) {
+        let page = user_page::<M>(run.first);
+        if let Some(place) = place_on_way(core, pid, page.get(), n) {
+            return Some(place);
+        }
+        low = way_end(core, pid, page);
+    }
+    None
+}
+
+// The same on the way to one page.
+fn place_on_way<D, E, M: Levels>(
+    core: &Core<D, E, M>,
+    pid: Pid,
+    page: u64,
+    n: FrameNo,
+) -> Option<TablePlace>
+    requires fit { IsFit (picture_of core.now) }
+    requires inside { IsPage (top_level M.mode) page }
+    ensures some { IfSome result (IsPlaceOf (picture_of core.now) n.0) }
+    ensures none { IfNone result (IsOffWay (picture_of core.now) pid page n.0) }
+{
+    let level = level_on_way(core, pid, page, n)?;
+    let span = span_of(level + 1);
+    Some(TablePlace {
+        pid,
+        level,
+        first: page / span * span,
+    })
+}
+
+// The level of a table on the way to a page.
+fn level_on_way<D, E, M: Levels>(
+    core: &Core<D, E, M>,
+    pid: Pid,
+    page: u64,
+    n: FrameNo,
+) -> Option<u32>
+    requires fit { IsFit (picture_of core.now) }
+    ensures some { IfSome result (IsLevelOnWay (picture_of core.now) pid page n.0) }
+    ensures none { IfNone result (IsOffWay (picture_of core.now) pid page n.0) }
+{
+    let mut step = root_step(core, pid, page)?;
+    while step.table != n {
+        step = next_step(core, pid, page, step)?;
+    }
+    Some(step.level)
+}
+
+// The first page past those whose way goes through the same tables.
+fn way_end<D, E, M: Levels>(core: &Core<D, E, M>, pid: Pid, page: Vpn) -> u64
+    requires fit { IsFit (picture_of core.now) }
+    requires live { is_live (picture_of core.now) pid ≡ true }
+    ensures further { page < result }
+    ensures one_way { HaveOneWay (picture_of core.now) pid page result }
+{
+    match gap_end(core, pid, page) {
+        Some(end) => end,
+        None => table_end(page),
+    }
+}
+
+// How many pages stand in the place of one entry of a table of that level.
+fn span_of(level: u32) -> u64
+    requires { level ≤ 4 }
+    ensures { result ≡ table_entries ^ level }
+{
+    match level {
+        0 => 1,
+        1 => TABLE_ENTRIES,
+        2 => TABLE_ENTRIES * TABLE_ENTRIES,
+        3 => TABLE_ENTRIES * TABLE_ENTRIES * TABLE_ENTRIES,
+        _ => TABLE_ENTRIES * TABLE_ENTRIES * TABLE_ENTRIES * TABLE_ENTRIES,
+    }
+}

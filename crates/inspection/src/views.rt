@@ -1,0 +1,218 @@
+//! What a machine holds, told as values to whoever looks inside: nothing here changes anything, and nothing above knows how memory is kept.
+ghost use Rattle.std.specs.Prelude.{ℕ, ◌≡◌, ◌≤◌, ◌<◌, ◌+◌, ◌↔◌, true, false, None, IfNone, IfSome, IsNone};
+ghost use Rattle.vm_types.specs.Limits.{top_level};
+ghost use Rattle.frames.specs.FrameTable.{IsFrame, count_of};
+ghost use Rattle.sv39_walk.specs.Entry.{is_pointer};
+ghost use Rattle.page_tables.specs.Tree.{IsTable};
+ghost use Rattle.mapped_memory.specs.Kept.{IsLeafOf};
+ghost use Rattle.regions.specs.RunList.{IsNextRun};
+ghost use Rattle.paging.specs.Picture.{is_live};
+ghost use Rattle.inspection.specs.Frames.{Holds, HoldsData, HasNoMapper, IsMapper};
+ghost use Rattle.inspection.specs.Machines.{hand_of, memory_of};
+ghost use Rattle.inspection.specs.Pages.{HasNoEntry, IsNextEntry};
+ghost use Rattle.inspection.specs.Slots.{SlotHolds};
+ghost use Rattle.inspection.specs.Tables.{IsPlaceOf};
+ghost use Rattle.inspection.specs.Walks.{IsStep};
+ghost use Rattle.machine.specs.Machine.{bits_of, halted_of, mode_of, slots_of, IsSoundMachine};
+
+use crate::frame_views::{FrameView, Mapper};
+use crate::pages::PageEntry;
+use crate::places::PageView;
+use crate::slots::SlotView;
+use crate::tables::TablePlace;
+use crate::walks::Step;
+use crate::{buffer, frame_views, pages, places, slots, tables, walks};
+use disk_model::SectorDisk;
+use machine::Machine;
+use regions::Run;
+use vm_types::{FrameNo, PageKey, Pid, SlotNo};
+use walk_buffer::Line;
+
+/// What the root table of a process says on the way to page number `page`, whatever that number; `None` exactly where no such process lives, or
+/// the machine has halted.
+pub fn root_step<D: SectorDisk, E: SectorDisk>(
+    machine: &Machine<D, E>,
+    pid: Pid,
+    page: u64,
+) -> Option<Step>
+    requires sound { IsSoundMachine D.SectorDisk E.SectorDisk machine.now }
+    ensures running { IfSome result (λ _. halted_of machine.now ≡ false) }
+    ensures some { IfSome result (IsStep (memory_of machine.now) pid page) }
+    ensures level { IfSome result (λ step. step.level ≡ top_level (bits_of (mode_of machine.now))) }
+    ensures none { IfNone result (halted_of machine.now ≡ false → is_live (memory_of machine.now) pid ≡ false) }
+{
+    match machine {
+        Machine::Sv39(machine) => walks::root_step(machine.memory()?, pid, page),
+        Machine::Sv48(machine) => walks::root_step(machine.memory()?, pid, page),
+    }
+}
+
+/// What the next table says on the way to a page, one level below a step that was returned for that page; `None` exactly where the way ends with
+/// that step, at the lowest level or where its entry is no pointer, or the machine has halted.
+pub fn next_step<D: SectorDisk, E: SectorDisk>(
+    machine: &Machine<D, E>,
+    pid: Pid,
+    page: u64,
+    step: Step,
+) -> Option<Step>
+    requires sound { IsSoundMachine D.SectorDisk E.SectorDisk machine.now }
+    requires step { IsStep (memory_of machine.now) pid page step }
+    ensures running { IfSome result (λ _. halted_of machine.now ≡ false) }
+    ensures some { IfSome result (λ next. IsStep (memory_of machine.now) pid page next × (next.level + 1 ≡ step.level)) }
+    ensures pointer { IfSome result (λ next. is_pointer step.entry.0 ≡ true) }
+    ensures none { IfNone result (halted_of machine.now ≡ false → 0 < step.level → is_pointer step.entry.0 ≡ false) }
+{
+    match machine {
+        Machine::Sv39(machine) => walks::next_step(machine.memory()?, pid, page, step),
+        Machine::Sv48(machine) => walks::next_step(machine.memory()?, pid, page, step),
+    }
+}
+
+/// What frame `n` holds, and how many share it; `None` exactly where memory has no frame of that number, or the machine has halted.
+pub fn frame_view<D: SectorDisk, E: SectorDisk>(
+    machine: &Machine<D, E>,
+    n: FrameNo,
+) -> Option<FrameView>
+    requires sound { IsSoundMachine D.SectorDisk E.SectorDisk machine.now }
+    ensures running { IfSome result (λ _. halted_of machine.now ≡ false) }
+    ensures inside { IfSome result (λ _. IsFrame (memory_of machine.now).frames n.0) }
+    ensures holds { IfSome result (λ view. Holds (memory_of machine.now) n.0 view.holding) }
+    ensures shares { IfSome result (λ view. view.shares ≡ count_of (memory_of machine.now).frames n.0) }
+    ensures none { IfNone result (halted_of machine.now ≡ false → IsFrame (memory_of machine.now).frames n.0 → ⊥) }
+{
+    match machine {
+        Machine::Sv39(machine) => frame_views::frame_view(machine.memory()?, n),
+        Machine::Sv48(machine) => frame_views::frame_view(machine.memory()?, n),
+    }
+}
+
+/// What slot `n` holds, and how many share it; `None` exactly where there is no slot of that number, or the machine has halted.
+pub fn slot_view<D: SectorDisk, E: SectorDisk>(
+    machine: &Machine<D, E>,
+    n: SlotNo,
+) -> Option<SlotView>
+    requires sound { IsSoundMachine D.SectorDisk E.SectorDisk machine.now }
+    ensures running { IfSome result (λ _. halted_of machine.now ≡ false) }
+    ensures inside { IfSome result (λ _. n.0 < slots_of machine.now) }
+    ensures holds { IfSome result (λ view. SlotHolds (memory_of machine.now) n.0 view.holding) }
+    ensures shares { IfSome result (λ view. view.shares ≡ (memory_of machine.now).slots.count n.0) }
+    ensures none { IfNone result (halted_of machine.now ≡ false → slots_of machine.now ≤ n.0) }
+{
+    match machine {
+        Machine::Sv39(machine) => slots::slot_view(machine.memory()?, n),
+        Machine::Sv48(machine) => slots::slot_view(machine.memory()?, n),
+    }
+}
+
+/// The first page over frame `n`, which holds an own copy or a page of a file or of shared anonymous memory, in the order of processes and pages,
+/// from page number `page` of process number `pid` on; `None` exactly where there is none, the frame holds no such page, or the machine has halted.
+pub fn next_mapper<D: SectorDisk, E: SectorDisk>(
+    machine: &Machine<D, E>,
+    n: FrameNo,
+    pid: u64,
+    page: u64,
+) -> Option<Mapper>
+    requires sound { IsSoundMachine D.SectorDisk E.SectorDisk machine.now }
+    ensures running { IfSome result (λ _. halted_of machine.now ≡ false) }
+    ensures some { IfSome result (IsMapper (memory_of machine.now) n.0 pid page) }
+    ensures none { IfNone result (halted_of machine.now ≡ false → HoldsData (memory_of machine.now) n.0 → HasNoMapper (memory_of machine.now) n.0 pid page) }
+{
+    match machine {
+        Machine::Sv39(machine) => frame_views::next_mapper(machine.memory()?, n, pid, page),
+        Machine::Sv48(machine) => frame_views::next_mapper(machine.memory()?, n, pid, page),
+    }
+}
+
+/// The pages of one run of a process that come first from page number `page` on, to the run's end; `None` exactly where the process has no page
+/// from there on or doesn't live, or the machine has halted.
+pub fn next_run<D: SectorDisk, E: SectorDisk>(
+    machine: &Machine<D, E>,
+    pid: Pid,
+    page: u64,
+) -> Option<Run>
+    requires sound { IsSoundMachine D.SectorDisk E.SectorDisk machine.now }
+    ensures running { IfSome result (λ _. halted_of machine.now ≡ false) }
+    ensures some { IfSome result (IsNextRun (bits_of (mode_of machine.now)) ((memory_of machine.now).at pid) page) }
+    ensures none { IfNone result (halted_of machine.now ≡ false → (k : ℕ) → page ≤ k → (memory_of machine.now).at pid k ≡ None) }
+{
+    match machine {
+        Machine::Sv39(machine) => pages::next_run(machine.memory()?, pid, page),
+        Machine::Sv48(machine) => pages::next_run(machine.memory()?, pid, page),
+    }
+}
+
+/// The first page of a process from page number `page` on that has an entry, with that entry; `None` exactly where none has, or the machine has
+/// halted.
+pub fn next_entry<D: SectorDisk, E: SectorDisk>(
+    machine: &Machine<D, E>,
+    pid: Pid,
+    page: u64,
+) -> Option<PageEntry>
+    requires sound { IsSoundMachine D.SectorDisk E.SectorDisk machine.now }
+    ensures running { IfSome result (λ _. halted_of machine.now ≡ false) }
+    ensures some { IfSome result (IsNextEntry (memory_of machine.now) pid page) }
+    ensures none { IfNone result (halted_of machine.now ≡ false → HasNoEntry (memory_of machine.now) pid page) }
+{
+    match machine {
+        Machine::Sv39(machine) => pages::next_entry(machine.memory()?, pid, page),
+        Machine::Sv48(machine) => pages::next_entry(machine.memory()?, pid, page),
+    }
+}
+
+/// Where a page of a file or of shared anonymous memory lies, and whether it is touched; `None` exactly where the machine has halted.
+pub fn page_view<D: SectorDisk, E: SectorDisk>(
+    machine: &Machine<D, E>,
+    page: PageKey,
+) -> Option<PageView>
+    requires sound { IsSoundMachine D.SectorDisk E.SectorDisk machine.now }
+    ensures place { IfSome result (λ view. view.place ≡ (memory_of machine.now).place page) }
+    ensures touched { IfSome result (λ view. view.is_touched ≡ (memory_of machine.now).touched page) }
+    ensures none { IsNone result ↔ (halted_of machine.now ≡ true) }
+{
+    match machine {
+        Machine::Sv39(machine) => Some(places::page_view(machine.memory()?, page)),
+        Machine::Sv48(machine) => Some(places::page_view(machine.memory()?, page)),
+    }
+}
+
+/// Where the table in frame `n` stands; `None` exactly where that frame has no table, or the machine has halted.
+pub fn place_of_table<D: SectorDisk, E: SectorDisk>(
+    machine: &Machine<D, E>,
+    n: FrameNo,
+) -> Option<TablePlace>
+    requires sound { IsSoundMachine D.SectorDisk E.SectorDisk machine.now }
+    ensures running { IfSome result (λ _. halted_of machine.now ≡ false) }
+    ensures some { IfSome result (IsPlaceOf (memory_of machine.now) n.0) }
+    ensures none { IfNone result (halted_of machine.now ≡ false → IsTable (memory_of machine.now).frames n.0 → ⊥) }
+{
+    match machine {
+        Machine::Sv39(machine) => tables::place_of_table(machine.memory()?, n),
+        Machine::Sv48(machine) => tables::place_of_table(machine.memory()?, n),
+    }
+}
+
+/// The line at place `index` of the buffer of translations: the leaf in which the walk to its page ends. `None` where that place, one of 64, has no
+/// line, which no clause says, or the machine has halted.
+pub fn line<D: SectorDisk, E: SectorDisk>(machine: &Machine<D, E>, index: usize) -> Option<Line>
+    requires sound { IsSoundMachine D.SectorDisk E.SectorDisk machine.now }
+    ensures running { IfSome result (λ _. halted_of machine.now ≡ false) }
+    ensures leaf { IfSome result (λ line. IsLeafOf (bits_of (mode_of machine.now)) (memory_of machine.now).frames line.root.0 line.page line.leaf.0) }
+{
+    match machine {
+        Machine::Sv39(machine) => buffer::line(machine.memory()?, index),
+        Machine::Sv48(machine) => buffer::line(machine.memory()?, index),
+    }
+}
+
+/// The frame that is looked at first when one is to be given up; `None` exactly where the machine has halted.
+pub fn hand<D: SectorDisk, E: SectorDisk>(machine: &Machine<D, E>) -> Option<FrameNo>
+    requires sound { IsSoundMachine D.SectorDisk E.SectorDisk machine.now }
+    ensures hand { IfSome result (λ n. n.0 ≡ hand_of machine.now) }
+    ensures inside { IfSome result (λ n. IsFrame (memory_of machine.now).frames n.0) }
+    ensures none { IsNone result ↔ (halted_of machine.now ≡ true) }
+{
+    match machine {
+        Machine::Sv39(machine) => Some(buffer::hand(machine.memory()?)),
+        Machine::Sv48(machine) => Some(buffer::hand(machine.memory()?)),
+    }
+}

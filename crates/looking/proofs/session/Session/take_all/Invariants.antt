@@ -1,0 +1,9 @@
+use Rattle.std.proofs.Common.{◌<◌, length}
+use Rattle.machine.specs.Machine.{IsSoundMachine}
+use Rattle.looking.proofs.session.Session.take_all.Given as goal
+
+abbrev pub invariant-loop-i : goal.invariant-loop-i
+invariant-loop-i g l = record {
+  input : 0 < length l.input;
+  sound : IsSoundMachine g.D.SectorDisk g.E.SectorDisk l.machine;
+}

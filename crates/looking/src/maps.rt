@@ -1,0 +1,144 @@
+//! Answers about the pages of a process.
+ghost use Rattle.machine.specs.Machine.{IsSoundMachine};
+
+use crate::ledger::frame_in;
+use crate::texts::{BackingText, ProtText, bytes_before};
+use disk_model::SectorDisk;
+use inspection::{FrameView, Run};
+use machine::Machine;
+use std::fmt::{self, Display, Formatter};
+use std::io::{self, Write};
+use sv39_walk::Pte;
+use vm_types::{FrameNo, Pid};
+
+/// The pages of a run, counted by their entries (proc_pid_smaps(5)).
+#[derive(Clone, Copy, Default)]
+struct RunCounts {
+    /// Over a frame but the zero page.
+    resident: u64,
+    /// Over the zero page.
+    zeros: u64,
+    /// With an own copy in a frame.
+    own: u64,
+    /// With an own copy that others share.
+    shared: u64,
+    /// With an own copy in a slot.
+    swapped: u64,
+    /// With A.
+    accessed: u64,
+    /// With D.
+    dirty: u64,
+}
+
+impl Display for RunCounts {
+    fn fmt<W: fmt::Write>(&self, f: &mut Formatter<W>) -> fmt::Result {
+        write!(
+            f,
+            "resident {} zero {} own {} shared {}",
+            self.resident, self.zeros, self.own, self.shared
+        )?;
+        write!(
+            f,
+            " swapped {} accessed {} dirty {}",
+            self.swapped, self.accessed, self.dirty
+        )
+    }
+}
+
+impl RunCounts {
+    /// Counts a page by its entry, and by the frame that this names.
+    fn add(&mut self, entry: Pte, frame: Option<FrameView>) {
+        let counted = RunCounts::of(entry, frame);
+        self.resident = self.resident.saturating_add(counted.resident);
+        self.zeros = self.zeros.saturating_add(counted.zeros);
+        self.own = self.own.saturating_add(counted.own);
+        self.shared = self.shared.saturating_add(counted.shared);
+        self.swapped = self.swapped.saturating_add(counted.swapped);
+        self.accessed = self.accessed.saturating_add(counted.accessed);
+        self.dirty = self.dirty.saturating_add(counted.dirty);
+    }
+
+    /// One page.
+    fn of(entry: Pte, frame: Option<FrameView>) -> RunCounts {
+        let is_over_frame = frame.is_some();
+        let is_over_zeros = frame_in(entry) == Some(FrameNo(0));
+        let is_own = is_over_frame && entry.is_private();
+        let shares = match frame {
+            Some(view) => view.shares,
+            None => 0,
+        };
+        RunCounts {
+            resident: u64::from(is_over_frame && !is_over_zeros),
+            zeros: u64::from(is_over_zeros),
+            own: u64::from(is_own),
+            shared: u64::from(is_own && shares > 1),
+            swapped: u64::from(entry.is_swapped()),
+            accessed: u64::from(entry.is_valid() && entry.is_accessed()),
+            dirty: u64::from(entry.is_valid() && entry.is_dirty()),
+        }
+    }
+}
+
+/// `?maps P`: a line for each run of pages.
+pub(crate) fn tell_maps<W: Write, D: SectorDisk, E: SectorDisk>(
+    machine: &Machine<D, E>,
+    pid: Pid,
+    out: &mut W,
+) -> io::Result<()>
+    requires { IsSoundMachine D.SectorDisk E.SectorDisk machine.now }
+{
+    let mut low = 0;
+    for i in 0..u64::MAX {
+        let Some(run) = inspection::next_run(machine, pid, low) else {
+            break;
+        };
+        tell_run(machine, pid, &run, out)?;
+        low = run.end;
+    }
+    Ok(())
+}
+
+fn tell_run<W: Write, D: SectorDisk, E: SectorDisk>(
+    machine: &Machine<D, E>,
+    pid: Pid,
+    run: &Run,
+    out: &mut W,
+) -> io::Result<()>
+    requires { IsSoundMachine D.SectorDisk E.SectorDisk machine.now }
+{
+    let (first, end) = (bytes_before(run.first), bytes_before(run.end));
+    let (prot, backing) = (ProtText(run.attr.prot), BackingText(run.attr.backing));
+    let pages = run.end.saturating_sub(run.first);
+    let counts = counts_of(machine, pid, run);
+    writeln!(
+        out,
+        "  0x{first:x}-0x{end:x} {prot} {backing}  pages {pages} {counts}"
+    )
+}
+
+/// What the entries of a run's pages say.
+fn counts_of<D: SectorDisk, E: SectorDisk>(
+    machine: &Machine<D, E>,
+    pid: Pid,
+    run: &Run,
+) -> RunCounts
+    requires { IsSoundMachine D.SectorDisk E.SectorDisk machine.now }
+{
+    let mut counts = RunCounts::default();
+    let mut low = run.first;
+    for i in 0..u64::MAX {
+        let Some(found) = inspection::next_entry(machine, pid, low) else {
+            break;
+        };
+        if found.page.get() >= run.end {
+            break;
+        }
+        let frame = match frame_in(found.entry) {
+            Some(frame) => inspection::frame_view(machine, frame),
+            None => None,
+        };
+        counts.add(found.entry, frame);
+        low = found.page.get() + 1;
+    }
+    counts
+}

@@ -1,0 +1,405 @@
+//! Lines in, replies and answers out.
+ghost use Rattle.std.specs.Prelude.{ℕ, List, ◌≡◌, ◌<◌, length, true, false, IfSome};
+ghost use Rattle.machine.specs.Machine.{IsSoundMachine};
+ghost use Rattle.runner.specs.Session.{Answers};
+ghost use Rattle.looking.specs.Lines.{is_aside};
+
+use crate::answers::answer_question;
+use crate::ledger::{Inquiry, Ledger};
+use crate::questions::{Question, question_in};
+use crate::targets::Target;
+use disk_model::SectorDisk;
+use machine::Machine;
+use memchr::memchr;
+use runner::{LineBuffer, RunEnd, answer_line, read_once};
+use std::alloc::{AllocError, Global};
+use std::io::{self, Read, Write};
+use trace_lang::{MAX_LINE_BYTES, parse_line};
+use vm_types::Command;
+
+/// The most bytes of one read: 32 KiB.
+pub(crate) const READ_BYTES: usize = 32768;
+
+/// What is kept from one line to the next, beside the machine.
+#[derive(Drop)]
+pub(crate) struct Session {
+    line: LineBuffer,
+    ledger: Ledger,
+    text: [u8; 1024],
+}
+
+/// What a command came to, by the first letter of its reply.
+#[derive(Clone, Copy)]
+enum Outcome {
+    Done,
+    Refused,
+    Faulted,
+    Stalled,
+    Halted,
+}
+
+/// A command that is to be carried out, and what stood before it.
+#[derive(Clone, Copy)]
+struct Pending {
+    command: Command,
+    /// The page of an access.
+    target: Option<Target>,
+    /// How many accesses had found a translation kept.
+    hits: u64,
+}
+
+impl Session {
+    /// The session of a machine that has just started. No later call takes memory of the host.
+    ///
+    /// # Errors
+    /// `AllocError` where the host has not enough memory.
+    pub(crate) fn new<D: SectorDisk, E: SectorDisk>(
+        alloc: Global,
+        machine: &Machine<D, E>,
+    ) -> Result<Session, AllocError>
+        requires { IsSoundMachine D.SectorDisk E.SectorDisk machine.now }
+    {
+        let ledger = Ledger::new(alloc, machine)?;
+        Ok(Session {
+            line: LineBuffer::new(),
+            ledger,
+            text: [0; 1024],
+        })
+    }
+
+    /// Takes lines from the reader until its end, and answers each. What was written is flushed before more is read.
+    pub(crate) fn take_all<R: Read, W: Write, D: SectorDisk, E: SectorDisk>(
+        &mut self,
+        reader: &mut R,
+        machine: &mut Machine<D, E>,
+        out: &mut W,
+    ) -> RunEnd
+        requires { IsSoundMachine D.SectorDisk E.SectorDisk machine.old }
+        ensures { IsSoundMachine D.SectorDisk E.SectorDisk machine.new }
+    {
+        let mut input = [0; READ_BYTES];
+        for i in 0..u64::MAX {
+            match self.turn(&mut input, reader, machine, out) {
+                None => {}
+                Some(end) => return end,
+            }
+        }
+        RunEnd::ReadFault
+    }
+
+    /// One read, and what its bytes ask for. `None`: the run goes on.
+    fn turn<R: Read, W: Write, D: SectorDisk, E: SectorDisk>(
+        &mut self,
+        input: &mut [u8],
+        reader: &mut R,
+        machine: &mut Machine<D, E>,
+        out: &mut W,
+    ) -> Option<RunEnd>
+        requires input { 0 < length input.old }
+        requires sound { IsSoundMachine D.SectorDisk E.SectorDisk machine.old }
+        ensures { IsSoundMachine D.SectorDisk E.SectorDisk machine.new }
+    {
+        match read_once(reader, input) {
+            Ok(Some(count)) => self.take_piece(&input[..count], machine, out),
+            Ok(None) => self.finish(machine, out),
+            Err(_) => Some(RunEnd::ReadFault),
+        }
+    }
+
+    /// Goes on by a piece of the input, and flushes. `None`: all was written.
+    fn take_piece<W: Write, D: SectorDisk, E: SectorDisk>(
+        &mut self,
+        piece: &[u8],
+        machine: &mut Machine<D, E>,
+        out: &mut W,
+    ) -> Option<RunEnd>
+        requires { IsSoundMachine D.SectorDisk E.SectorDisk machine.old }
+        ensures { IsSoundMachine D.SectorDisk E.SectorDisk machine.new }
+    {
+        match self.run_piece(piece, machine, out) {
+            Ok(()) => flushed(out),
+            Err(_) => Some(RunEnd::WriteFault),
+        }
+    }
+
+    /// Takes the last line, which no newline ended.
+    fn finish<W: Write, D: SectorDisk, E: SectorDisk>(
+        &mut self,
+        machine: &mut Machine<D, E>,
+        out: &mut W,
+    ) -> Option<RunEnd>
+        requires { IsSoundMachine D.SectorDisk E.SectorDisk machine.old }
+        ensures { IsSoundMachine D.SectorDisk E.SectorDisk machine.new }
+    {
+        if !self.line.is_empty() && self.take_open_line(machine, out).is_err() {
+            return Some(RunEnd::WriteFault);
+        }
+        match flushed(out) {
+            None => Some(RunEnd::Done),
+            fault => fault,
+        }
+    }
+
+    /// Takes the lines that end in a piece of the input, and keeps the beginning of the next.
+    fn run_piece<W: Write, D: SectorDisk, E: SectorDisk>(
+        &mut self,
+        piece: &[u8],
+        machine: &mut Machine<D, E>,
+        out: &mut W,
+    ) -> io::Result<()>
+        requires { IsSoundMachine D.SectorDisk E.SectorDisk machine.old }
+        ensures { IsSoundMachine D.SectorDisk E.SectorDisk machine.new }
+    {
+        let mut rest = piece;
+        while let Some(at) = line_end(rest) {
+            self.end_line(&rest[..at], machine, out)?;
+            rest = &rest[at + 1..];
+        }
+        self.line.extend(rest);
+        Ok(())
+    }
+
+    /// Takes the line that these bytes end. One that stands whole in them is taken where it stands.
+    fn end_line<W: Write, D: SectorDisk, E: SectorDisk>(
+        &mut self,
+        bytes: &[u8],
+        machine: &mut Machine<D, E>,
+        out: &mut W,
+    ) -> io::Result<()>
+        requires { IsSoundMachine D.SectorDisk E.SectorDisk machine.old }
+        ensures { IsSoundMachine D.SectorDisk E.SectorDisk machine.new }
+    {
+        if self.line.is_empty() && bytes.len() <= MAX_LINE_BYTES {
+            return take_line(bytes, &mut self.ledger, &mut self.text, machine, out);
+        }
+        self.line.extend(bytes);
+        self.take_open_line(machine, out)
+    }
+
+    /// Takes the line that is kept, and begins a new one.
+    fn take_open_line<W: Write, D: SectorDisk, E: SectorDisk>(
+        &mut self,
+        machine: &mut Machine<D, E>,
+        out: &mut W,
+    ) -> io::Result<()>
+        requires { IsSoundMachine D.SectorDisk E.SectorDisk machine.old }
+        ensures { IsSoundMachine D.SectorDisk E.SectorDisk machine.new }
+    {
+        let taken = take_line(
+            self.line.as_slice(),
+            &mut self.ledger,
+            &mut self.text,
+            machine,
+            out,
+        );
+        self.line.clear();
+        taken
+    }
+}
+
+/// Where the first line of these bytes ends.
+fn line_end(bytes: &[u8]) -> Option<usize>
+    ensures { IfSome result (λ at. at < length bytes.now) }
+{
+    memchr(b'\n', bytes)
+}
+
+/// Gives all bytes to the writer. `None`: it took them.
+fn flushed<W: Write>(out: &mut W) -> Option<RunEnd> {
+    match out.flush() {
+        Ok(()) => None,
+        Err(_) => Some(RunEnd::WriteFault),
+    }
+}
+
+/// Takes one line: a comment, a question, or a line of the trace.
+fn take_line<W: Write, D: SectorDisk, E: SectorDisk>(
+    line: &[u8],
+    ledger: &mut Ledger,
+    text: &mut [u8; 1024],
+    machine: &mut Machine<D, E>,
+    out: &mut W,
+) -> io::Result<()>
+    requires { IsSoundMachine D.SectorDisk E.SectorDisk machine.old }
+    ensures sound { IsSoundMachine D.SectorDisk E.SectorDisk machine.new }
+    ensures aside { is_aside line.now ≡ true → machine.new ≡ machine.old }
+    ensures answers { is_aside line.now ≡ false → (text : List ℕ) × Answers D.SectorDisk E.SectorDisk machine.old line.now text machine.new }
+{
+    match line {
+        [b'#', ..] => echo(line, out),
+        [b'?', question @ ..] => {
+            echo(line, out)?;
+            ask(question, ledger, machine, out)
+        }
+        _ => follow(line, ledger, text, machine, out),
+    }
+}
+
+/// Writes a line as it came; of one that is too long for a command its first 256 bytes.
+fn echo<W: Write>(line: &[u8], out: &mut W) -> io::Result<()> {
+    let count = line.len().min(MAX_LINE_BYTES);
+    out.write_all(&line[..count])?;
+    out.write_all(b"\n")
+}
+
+/// Answers a question, or says what may be asked.
+fn ask<W: Write, D: SectorDisk, E: SectorDisk>(
+    text: &[u8],
+    ledger: &mut Ledger,
+    machine: &Machine<D, E>,
+    out: &mut W,
+) -> io::Result<()>
+    requires { IsSoundMachine D.SectorDisk E.SectorDisk machine.now }
+{
+    match question_in(text) {
+        Ok(Question::Watch(is_on)) => {
+            ledger.is_watching = is_on;
+            Ok(())
+        }
+        Ok(question) => answer_question(question, &ledger.counts, machine, out),
+        Err(misasked) => writeln!(out, "  {misasked}"),
+    }
+}
+
+/// Runs a line of the trace, writes its reply, and then what it did inside where that is watched.
+fn follow<W: Write, D: SectorDisk, E: SectorDisk>(
+    line: &[u8],
+    ledger: &mut Ledger,
+    text: &mut [u8; 1024],
+    machine: &mut Machine<D, E>,
+    out: &mut W,
+) -> io::Result<()>
+    requires { IsSoundMachine D.SectorDisk E.SectorDisk machine.old }
+    ensures sound { IsSoundMachine D.SectorDisk E.SectorDisk machine.new }
+    ensures answers { (text : List ℕ) × Answers D.SectorDisk E.SectorDisk machine.old line.now text machine.new }
+{
+    let pending = match parse_line(line) {
+        Ok(command) => Some(Pending::new(command, machine)),
+        Err(_) => None,
+    };
+    let count = answer_line(line, machine, text);
+    let reply = &text[..count];
+    out.write_all(reply)?;
+    match pending {
+        Some(pending) => pending.settle(Outcome::of(reply), ledger, machine, out),
+        None => Ok(()),
+    }
+}
+
+impl Outcome {
+    /// By the first letter of a reply's text, which are those of `error`, `fault`, `stall` and `halted`, or of none of them.
+    fn of(reply: &[u8]) -> Outcome {
+        match reply.first() {
+            Some(b'e') => Outcome::Refused,
+            Some(b'f') => Outcome::Faulted,
+            Some(b's') => Outcome::Stalled,
+            Some(b'h') => Outcome::Halted,
+            _ => Outcome::Done,
+        }
+    }
+}
+
+impl Pending {
+    fn new<D: SectorDisk, E: SectorDisk>(command: Command, machine: &Machine<D, E>) -> Pending
+        requires { IsSoundMachine D.SectorDisk E.SectorDisk machine.now }
+    {
+        let target = match command {
+            Command::Load { pid, addr, .. }
+            | Command::Store { pid, addr, .. }
+            | Command::Fetch { pid, addr } => Target::new(machine, pid, addr),
+            _ => None,
+        };
+        Pending {
+            command,
+            target,
+            hits: machine.hits(),
+        }
+    }
+
+    /// Counts the command, and tells what it did.
+    fn settle<W: Write, D: SectorDisk, E: SectorDisk>(
+        &self,
+        outcome: Outcome,
+        ledger: &mut Ledger,
+        machine: &Machine<D, E>,
+        out: &mut W,
+    ) -> io::Result<()>
+        requires { IsSoundMachine D.SectorDisk E.SectorDisk machine.now }
+    {
+        ledger.counts.commands.add();
+        match self.command {
+            Command::Load { .. } => ledger.counts.accesses.loads.add(),
+            Command::Store { .. } => ledger.counts.accesses.stores.add(),
+            Command::Fetch { .. } => ledger.counts.accesses.fetches.add(),
+            Command::PastFaults => return Ok(()),
+            _ => return self.settle_call(outcome, ledger, machine, out),
+        }
+        self.settle_access(outcome, ledger, machine, out)
+    }
+
+    /// What an access did. One that faulted or was refused has changed nothing.
+    fn settle_access<W: Write, D: SectorDisk, E: SectorDisk>(
+        &self,
+        outcome: Outcome,
+        ledger: &mut Ledger,
+        machine: &Machine<D, E>,
+        out: &mut W,
+    ) -> io::Result<()>
+        requires { IsSoundMachine D.SectorDisk E.SectorDisk machine.now }
+    {
+        let accesses = &mut ledger.counts.accesses;
+        match (outcome, &self.target) {
+            (Outcome::Refused | Outcome::Halted, _) | (Outcome::Done, None) => accesses
+                .refused
+                .add(),
+            (Outcome::Faulted, _) => accesses.faults.add(),
+            (Outcome::Done, Some(_)) if machine.hits() != self.hits => accesses.hits.add(),
+            (Outcome::Done, Some(target)) => return ledger.compare_access(target, machine, out),
+            (Outcome::Stalled, _) => {
+                accesses.stalls.add();
+                return ledger.compare_all(&self.inquiry(ledger), machine, out);
+            }
+        }
+        Ok(())
+    }
+
+    /// What a call did. One that was refused has changed nothing.
+    fn settle_call<W: Write, D: SectorDisk, E: SectorDisk>(
+        &self,
+        outcome: Outcome,
+        ledger: &mut Ledger,
+        machine: &Machine<D, E>,
+        out: &mut W,
+    ) -> io::Result<()>
+        requires { IsSoundMachine D.SectorDisk E.SectorDisk machine.now }
+    {
+        let calls = &mut ledger.counts.calls;
+        match outcome {
+            Outcome::Refused | Outcome::Faulted | Outcome::Halted => {
+                calls.refused.add();
+                return Ok(());
+            }
+            Outcome::Stalled => calls.stalled.add(),
+            Outcome::Done => {
+                if let Command::Msync { .. } = self.command {
+                    calls.msyncs.add();
+                }
+            }
+        }
+        ledger.compare_all(&self.inquiry(ledger), machine, out)
+    }
+
+    /// What is asked of all frames. Only a spawn, a fork and an access want frames, so only these have others given up.
+    fn inquiry(&self, ledger: &Ledger) -> Inquiry<'_> {
+        let is_asking = match self.command {
+            Command::Spawn | Command::Fork { .. } => true,
+            _ => self.target.is_some(),
+        };
+        Inquiry {
+            target: self.target.as_ref(),
+            gained: None,
+            is_asking,
+            is_watched: ledger.is_watching,
+        }
+    }
+}

@@ -1,0 +1,159 @@
+//! How things are called in what is told.
+
+use inspection::{Holding, TablePlace};
+use std::fmt::{self, Display, Formatter};
+use sv39_walk::Pte;
+use vm_types::{Backing, PAGE_BYTES, PageKey, Prot};
+
+/// A page of a file or of shared anonymous memory, as `page 3 of file 0`.
+#[derive(Drop)]
+pub(crate) struct PageText(pub PageKey);
+
+impl Display for PageText {
+    fn fmt<W: fmt::Write>(&self, f: &mut Formatter<W>) -> fmt::Result {
+        match self.0 {
+            PageKey::File(page) => write!(f, "page {} of file {}", page.page, page.file),
+            PageKey::Object(page) => write!(f, "page {} of object {}", page.page, page.object),
+        }
+    }
+}
+
+/// The lowest eight bits of a valid entry by their letters, with `-` for each that is clear (RISC-V Privileged Specification, "Sv39 page table
+/// entry").
+#[derive(Drop)]
+pub(crate) struct BitsText(pub Pte);
+
+impl Display for BitsText {
+    fn fmt<W: fmt::Write>(&self, f: &mut Formatter<W>) -> fmt::Result {
+        let mut rest = self.0.to_u64();
+        for letter in ['V', 'R', 'W', 'X', 'U', 'G', 'A', 'D'] {
+            f.write_char(if rest % 2 == 1 { letter } else { '-' })?;
+            rest /= 2;
+        }
+        Ok(())
+    }
+}
+
+/// What an entry says: only where V is set are its other bits those of the specification, so only then they are shown.
+#[derive(Drop)]
+pub(crate) struct EntryText(pub Pte);
+
+impl Display for EntryText {
+    fn fmt<W: fmt::Write>(&self, f: &mut Formatter<W>) -> fmt::Result {
+        let entry = self.0;
+        if entry.to_u64() == 0 {
+            return write!(f, "nothing");
+        }
+        if entry.is_pointer() {
+            return write!(f, "{} table in frame {}", BitsText(entry), entry.frame());
+        }
+        if entry.is_swapped() {
+            return write!(f, "slot {}", entry.frame());
+        }
+        write!(f, "{} frame {}", StateText(entry), entry.frame())?;
+        if entry.is_private() {
+            return write!(f, " own");
+        }
+        Ok(())
+    }
+}
+
+/// The bits of an entry over a frame, or `parked` where it keeps the frame and allows nothing.
+#[derive(Drop)]
+pub(crate) struct StateText(pub Pte);
+
+impl Display for StateText {
+    fn fmt<W: fmt::Write>(&self, f: &mut Formatter<W>) -> fmt::Result {
+        if self.0.is_valid() {
+            write!(f, "{}", BitsText(self.0))
+        } else {
+            write!(f, "parked")
+        }
+    }
+}
+
+/// A permission, as `rw-`.
+#[derive(Drop)]
+pub(crate) struct ProtText(pub Prot);
+
+impl Display for ProtText {
+    fn fmt<W: fmt::Write>(&self, f: &mut Formatter<W>) -> fmt::Result {
+        f.write_char(if self.0.is_readable() { 'r' } else { '-' })?;
+        f.write_char(if self.0.is_writable() { 'w' } else { '-' })?;
+        f.write_char(if self.0.is_executable() { 'x' } else { '-' })
+    }
+}
+
+/// What stands behind pages, with the number and the offset of the first, in the words of an mmap line.
+#[derive(Drop)]
+pub(crate) struct BackingText(pub Backing);
+
+impl Display for BackingText {
+    fn fmt<W: fmt::Write>(&self, f: &mut Formatter<W>) -> fmt::Result {
+        match self.0 {
+            Backing::Anon => write!(f, "anon"),
+            Backing::Private(page) => write!(
+                f,
+                "private {} 0x{:x}",
+                page.file,
+                bytes_before(u64::from(page.page))
+            ),
+            Backing::Shared(page) => write!(
+                f,
+                "shared {} 0x{:x}",
+                page.file,
+                bytes_before(u64::from(page.page))
+            ),
+            Backing::Common(page) => write!(
+                f,
+                "common {} 0x{:x}",
+                page.object,
+                bytes_before(page.page)
+            ),
+        }
+    }
+}
+
+/// How many bytes stand before a page of that number.
+pub(crate) fn bytes_before(page: u64) -> u64 {
+    page.saturating_mul(PAGE_BYTES as u64)
+}
+
+/// A table by its place, as the root of its process or by its level and the first of its pages.
+#[derive(Drop)]
+pub(crate) struct TableText<'a> {
+    pub place: &'a TablePlace,
+    /// The level of a root.
+    pub top: u32,
+}
+
+impl Display for TableText<'_> {
+    fn fmt<W: fmt::Write>(&self, f: &mut Formatter<W>) -> fmt::Result {
+        let (pid, level, first) = (self.place.pid, self.place.level, self.place.first);
+        if level == self.top {
+            write!(f, "the root of process {}", pid.get())
+        } else {
+            write!(
+                f,
+                "a table of process {}, level {level}, from page 0x{first:x} on",
+                pid.get()
+            )
+        }
+    }
+}
+
+/// What a frame holds.
+#[derive(Drop)]
+pub(crate) struct HoldingText(pub Holding);
+
+impl Display for HoldingText {
+    fn fmt<W: fmt::Write>(&self, f: &mut Formatter<W>) -> fmt::Result {
+        match self.0 {
+            Holding::Nothing => write!(f, "free"),
+            Holding::Zeros => write!(f, "the zero page"),
+            Holding::Table => write!(f, "a table"),
+            Holding::Own(page) => write!(f, "own copy of page 0x{page:x}"),
+            Holding::Page(page) => write!(f, "{}", PageText(page)),
+        }
+    }
+}

@@ -1,0 +1,103 @@
+//! The way of an address through the page tables of its process.
+ghost use Rattle.std.specs.Prelude.{ℕ, ◌<◌, ◌≤◌, IfSome};
+ghost use Rattle.inspection.specs.Walks.{IsStep};
+ghost use Rattle.machine.specs.Machine.{IsSoundMachine};
+ghost use Rattle.inspection.specs.Machines.{memory_of};
+
+use disk_model::SectorDisk;
+use inspection::Step;
+use machine::Machine;
+use sv39_walk::{Pte, TABLE_ENTRIES};
+use vm_types::{Levels, Pid, Sv39, Sv48};
+
+/// What the tables on the way to a page say, from the root on: four at most.
+#[derive(Clone, Copy)]
+pub(crate) struct Way {
+    pub steps: [Option<Step>; 4],
+}
+
+impl Way {
+    /// The way to a page of a process; without a step where no such process lives or the machine has halted.
+    pub(crate) fn new<D: SectorDisk, E: SectorDisk>(
+        machine: &Machine<D, E>,
+        pid: Pid,
+        page: u64,
+    ) -> Way
+        requires { IsSoundMachine D.SectorDisk E.SectorDisk machine.now }
+    {
+        let root = inspection::root_step(machine, pid, page);
+        let second = step_below(machine, pid, page, root);
+        let third = step_below(machine, pid, page, second);
+        let fourth = step_below(machine, pid, page, third);
+        Way {
+            steps: [root, second, third, fourth],
+        }
+    }
+
+    /// What the last table on the way says.
+    pub(crate) fn last(&self) -> Option<Step> {
+        let [root, second, third, fourth] = self.steps;
+        fourth.or(third).or(second).or(root)
+    }
+
+    /// The entry of the page itself; `None` where a table is missing on the way.
+    pub(crate) fn entry(&self) -> Option<Pte> {
+        match self.last() {
+            Some(
+                Step {
+                    level: 0,
+                    entry,
+                    ..
+                },
+            ) => Some(entry),
+            _ => None,
+        }
+    }
+}
+
+/// The next step behind one.
+fn step_below<D: SectorDisk, E: SectorDisk>(
+    machine: &Machine<D, E>,
+    pid: Pid,
+    page: u64,
+    step: Option<Step>,
+) -> Option<Step>
+    requires sound { IsSoundMachine D.SectorDisk E.SectorDisk machine.now }
+    requires step { IfSome step (IsStep (memory_of machine.now) pid page) }
+    ensures { IfSome result (IsStep (memory_of machine.now) pid page) }
+{
+    match step {
+        Some(step) => inspection::next_step(machine, pid, page, step),
+        None => None,
+    }
+}
+
+/// How many pages stand in the place of one entry of a table of that level.
+pub(crate) fn pages_of_entry(level: u32) -> u64
+    ensures { 0 < result }
+{
+    match level {
+        0 => 1,
+        1 => TABLE_ENTRIES,
+        2 => TABLE_ENTRIES * TABLE_ENTRIES,
+        _ => TABLE_ENTRIES * TABLE_ENTRIES * TABLE_ENTRIES,
+    }
+}
+
+/// The level of a root table.
+pub(crate) fn top_level<D, E>(machine: &Machine<D, E>) -> u32
+    ensures { result ≤ 3 }
+{
+    match machine {
+        Machine::Sv39(_) => Sv39::top_level(),
+        Machine::Sv48(_) => Sv48::top_level(),
+    }
+}
+
+/// One past the last user page.
+pub(crate) fn user_end<D, E>(machine: &Machine<D, E>) -> u64 {
+    match machine {
+        Machine::Sv39(_) => Sv39::user_end(),
+        Machine::Sv48(_) => Sv48::user_end(),
+    }
+}
