@@ -27,7 +27,7 @@ static size_t late_homes(const struct backup *backup, uint64_t *first) {
 /* Reads homes as they are durable. From here on a commit makes them late again. */
 static int read_homes(struct backup *backup, uint64_t first, size_t count) {
   for (uint64_t home = first; home < first + count; home++) {
-    memcpy(backup->chunk + (home - first) * PAGE, durable_page(backup->image, (uint32_t)home), PAGE);
+    copy_home(backup->image, (uint32_t)home, backup->chunk + (home - first) * PAGE);
     clear_bit(backup->late, home);
   }
   return KEFS_OK;
@@ -41,7 +41,7 @@ static int write_homes(struct backup *backup, uint64_t first, size_t count, int 
   for (size_t i = 0, end; i < count && number == KEFS_OK; i = end) {
     int skipped = round == 0 && is_zero(backup->chunk + i * PAGE);
     for (end = i + 1; end < count && !skipped && !(round == 0 && is_zero(backup->chunk + end * PAGE));) end++;
-    if (!skipped) number = write_all(backup->file.fd, backup->chunk + i * PAGE, (end - i) * PAGE, home_offset((uint32_t)(first + i)));
+    if (!skipped) number = write_all(backup->file.fd, backup->chunk + i * PAGE, (end - i) * PAGE, home_offset(&LAYOUT_3, (uint32_t)(first + i)));
   }
   return number;
 }
@@ -74,16 +74,16 @@ static int copy_last(struct backup *backup) {
   return leave(backup->image, number);
 }
 
+/* A new image, so of layout 3, whatever that of the copied one. */
 static int fill_file(struct backup *backup) {
   struct kefs_image *image = backup->image;
-  off_t length = home_offset(0) + (off_t)(PAGE * image->stat.pages);
+  off_t length = home_offset(&LAYOUT_3, 0) + (off_t)(PAGE * image->stat.pages);
   int result = ftruncate(backup->file.fd, length) == 0 ? KEFS_OK : errno;
-  if (result == KEFS_OK) result = take_room(backup->file.fd, 0, image->roomless == NULL && !image->read_only ? length : home_offset(0));
+  if (result == KEFS_OK) result = take_room(backup->file.fd, 0, image->roomless == NULL && !image->read_only ? length : first_room(0));
   for (int round = 0; round < ROUNDS && result == KEFS_OK; round++) result = copy_late(backup, round);
   if (result == KEFS_OK && fdatasync(backup->file.fd) != 0) result = errno; /* so that the last turn is short */
   if (result == KEFS_OK) result = copy_last(backup);
-  if (result == KEFS_OK) result = write_mark(backup->file.fd);
-  if (result == KEFS_OK && fsync(backup->file.fd) != 0) result = errno;
+  if (result == KEFS_OK) result = finish_image(backup->file.fd);
   return result == KEFS_OK ? name_file(&backup->file) : result;
 }
 

@@ -1,30 +1,33 @@
-/* bench commits FOLDER PAGES COMMITS: times commits of so many random pages of a file of 1,024 pages, of several modes in turn, commit by
-   commit in random order, so that a noisy device is noisy for each. It prints a line for each mode: its name and the quartiles of the
-   time of a commit in microseconds.
+/* bench commits FOLDER PAGES COMMITS [hot|spread] [SYNC]: times commits of so many pages of a file of 1,024 pages, of several modes in turn, commit by
+   commit in random order, so that a noisy device is noisy for each. The pages are the same ones each time (hot) or others (spread, unless given). SYNC is
+   how many microseconds each sync takes at least, so that a slower device can be had, alike for all. It prints a line for each mode: its name, the quartiles
+   and the mean of the time of a commit in microseconds, and how many syncs one makes.
 
    kefs     kefs_commit alone, its stores made before
-   calls   the device calls of such a commit alone, from ready buffers: what a plan costs at least
-   stored  the stores and kefs_commit; msync: stores to a shared mapping and msync(MS_SYNC), which is not atomic; sqlite: as many rows of
-           a page, with WAL and synchronous=FULL, where the system has libsqlite3
+   calls    the device calls of that commit alone, as they were made, from ready buffers: what its plan costs at least
+   stored   the stores and kefs_commit; msync: stores to a shared mapping and msync(MS_SYNC), which is not atomic; wal, delete: as many rows of a page in
+            SQLite, with a log and synchronous=FULL, and with a rollback journal; lmdb: in LMDB, as it is by default; each where its library is there
+
+   bench worn FOLDER MIB COMMITS [SYNC]: times commits of one random page of one file of 4 MiB, and of one of MIB MiB, in turn, with each tracker, after
+   a store to each 2 MiB of both; with scan, of all that is mapped and (ranges) of a range of that page.
 
    bench open FOLDER MIB: times of kefs_open and kefs_map of one file of so many MiB, read whole and KEFS_LAZY; then the median time of
-   a commit of one page, fresh and after a store to each 2 MiB, and how much memory of the process all that takes. */
+   a commit of one page, fresh and after a store to each 2 MiB, and how much memory of the process all that takes.
+
+   bench sync FOLDER: the quartiles of the time of a write of a page and its fdatasync. */
 #define _GNU_SOURCE
-#include "kefs.h"
+#include "tests.h"
 #include <dlfcn.h>
-#include <fcntl.h>
-#include <stdio.h>
-#include <stdlib.h>
-#include <string.h>
 #include <sys/mman.h>
+#include <sys/syscall.h>
+#include <sys/uio.h>
 #include <time.h>
-#include <unistd.h>
 
 enum { PAGES = 1024, PAGE = KEFS_PAGE, SECTOR = 512, VALUE = 4000, WARM_UP = 20 };
-enum mode { KEFS, CALLS, STORED, MSYNC, SQLITE, MODES };
-static const char *const NAMES[MODES] = {"kefs", "calls", "stored", "msync", "sqlite"};
-static unsigned char value[PAGE], journal[PAGES * PAGE], homes[PAGES * PAGE];
-static int chosen[PAGES], before[PAGES], count; /* the pages of this commit and of the one before, in their order */
+enum mode { KEFS, CALLS, STORED, MSYNC, WAL, DELETE, LMDB, MODES };
+static const char *const NAMES[MODES] = {"kefs", "calls", "stored", "msync", "wal", "delete", "lmdb"};
+static unsigned char value[PAGE], ready[PAGES * PAGE + PAGE]; /* a page to be stored, and the bytes of the bare calls */
+static int chosen[PAGES], count, is_hot;             /* the pages of a commit, in their order */
 
 static void die(const char *what) { perror(what), exit(1); }
 
@@ -38,6 +41,63 @@ static double now(void) {
   return (double)t.tv_sec * 1e6 + (double)t.tv_nsec * 1e-3;
 }
 
+/* Calls of the system, which are those of the libraries too: syncs are counted, and take as long as they are told to; those of a commit are kept. */
+
+struct call { off_t at; size_t bytes; }; /* a write, or a sync, which has no bytes */
+static struct call kept[4096];
+static size_t kept_calls, syncs;
+static int is_keeping;
+static double sync_time;
+
+static void keep(off_t at, size_t bytes) {
+  if (is_keeping && kept_calls < sizeof kept / sizeof *kept) kept[kept_calls++] = (struct call){at, bytes};
+}
+
+static int end_sync(double start, long result) {
+  double left = start + sync_time - now();
+  syncs++;
+  if (sync_time > 0 && left > 0) nanosleep(&(struct timespec){(time_t)(left / 1e6), (long)(left * 1e3) % 1000000000}, NULL);
+  return (int)result;
+}
+
+int fdatasync(int fd) {
+  double start = now();
+  keep(0, 0);
+  return end_sync(start, syscall(SYS_fdatasync, fd));
+}
+
+int fsync(int fd) {
+  double start = now();
+  return end_sync(start, syscall(SYS_fsync, fd));
+}
+
+int msync(void *at, size_t length, int flags) {
+  double start = now();
+  long result = syscall(SYS_msync, at, length, flags);
+  return (flags & MS_SYNC) != 0 ? end_sync(start, result) : (int)result;
+}
+
+static ssize_t end_write(int fd, double start, ssize_t result) {
+  if ((fcntl(fd, F_GETFL) & O_DSYNC) != 0) end_sync(start, 0);
+  return result;
+}
+
+ssize_t pwrite(int fd, const void *from, size_t length, off_t at) {
+  double start = now();
+  keep(at, length);
+  return end_write(fd, start, syscall(SYS_pwrite64, fd, from, length, at));
+}
+
+ssize_t pwrite64(int fd, const void *from, size_t length, off_t at) { return pwrite(fd, from, length, at); }
+
+ssize_t pwritev(int fd, const struct iovec *parts, int number, off_t at) {
+  double start = now();
+  size_t length = 0;
+  for (int i = 0; i < number; i++) length += parts[i].iov_len;
+  keep(at, length);
+  return end_write(fd, start, syscall(SYS_pwritev, fd, parts, number, (long)at, 0));
+}
+
 static void store(unsigned char *at) {
   for (int i = 0; i < count; i++) memcpy(at + chosen[i] * PAGE, value, PAGE);
 }
@@ -47,76 +107,74 @@ static void store(unsigned char *at) {
 static kefs_image *images[MODES];
 static unsigned char *mapped[MODES];
 
+/* Each home is written once before, so that the file system has a place for each block. */
+static void write_homes(const char *path, uint32_t pages) {
+  int fd = open(path, O_RDWR);
+  for (uint32_t k = 0; k < pages; k += PAGES)
+    if (pwrite(fd, ready, PAGES * PAGE, SECTOR * image_sectors()->homes + (off_t)PAGE * k) != PAGES * PAGE) die(path);
+  fsync(fd), close(fd);
+}
+
 static void open_kefs(enum mode mode, const char *path, uint32_t pages, unsigned flags) {
   struct kefs_file file = {pages * PAGE, 0, NULL};
   void *at;
   unlink(path);
-  must(kefs_format(path, 0600, &file, 1), path);
+  must(format_image(path, 0600, &file, 1), path);
+  write_homes(path, pages);
   must(kefs_open(&images[mode], path, flags), path);
   must(kefs_map(images[mode], 0, NULL, &at, NULL), path);
   mapped[mode] = at;
 }
 
-/* Each page is written once before, so that the file system has a place for each block. */
+/* And so is each page of a journal. */
 static void settle_kefs(enum mode mode) {
-  struct kefs_range halves[] = {{mapped[mode], PAGES / 2 * PAGE}, {mapped[mode] + PAGES / 2 * PAGE, PAGES / 2 * PAGE}};
+  struct kefs_range parts[] = {{mapped[mode], 1023 * PAGE}, {mapped[mode] + PAGE, 1023 * PAGE}};
   for (int round = 0; round < 4; round++) {
     for (int i = 0; i < PAGES; i++) mapped[mode][i * PAGE] = (unsigned char)(round + 1);
-    must(kefs_commit(images[mode], &halves[round % 2], 1, NULL), "kefs_commit");
+    must(kefs_commit(images[mode], &parts[round % 2], 1, NULL), "kefs_commit");
   }
   must(kefs_rollback(images[mode], NULL, 0), "kefs_rollback");
 }
 
-static void commit_kefs(enum mode mode) {
-  struct kefs_range all = {mapped[mode], PAGES * PAGE};
-  must(kefs_commit(images[mode], &all, 1, NULL), "kefs_commit");
+static void commit_kefs(enum mode mode) { must(kefs_commit(images[mode], NULL, 0, NULL), "kefs_commit"); }
+
+static void commit_and_keep(void) {
+  kept_calls = 0, is_keeping = 1;
+  commit_kefs(KEFS);
+  is_keeping = 0;
 }
 
 /* Device calls */
 
 static int device, plain;
 
-static int new_file(const char *path, int pages) {
+static int new_file(const char *path, size_t bytes) {
   int fd = open(path, O_RDWR | O_CREAT | O_TRUNC, 0600);
-  for (int i = 0; i < pages; i++)
-    if (write(fd, journal, PAGE) != PAGE) die(path);
+  for (size_t at = 0; at < bytes; at += PAGE)
+    if (write(fd, ready, PAGE) != PAGE) die(path);
   fsync(fd);
   return fd;
 }
 
-static void put(const unsigned char *from, size_t bytes, off_t sector) {
-  if (pwrite(device, from, bytes, SECTOR * sector) != (ssize_t)bytes) die("pwrite");
-}
-
-static void sync_device(void) {
-  if (fdatasync(device) != 0) die("fdatasync");
-}
-
-/* As docs/FORMATS.md has one msync: the homes of the commit before, the gate closed, the body and the map, the gate opened. Neighbouring
-   homes are one write, as in the library. Each page has its own bytes in memory. */
 static void make_calls(void) {
-  for (int i = 0; i < count;) {
-    int first = i++;
-    while (i < count && before[i] == before[i - 1] + 1) i++;
-    put(homes + first * PAGE, (size_t)(i - first) * PAGE, 8195 + 8 * (off_t)before[first]);
+  for (size_t i = 0; i < kept_calls; i++) {
+    const struct call *call = &kept[i];
+    if (call->bytes == 0 ? fdatasync(device) != 0 : pwrite(device, ready, call->bytes, call->at) != (ssize_t)call->bytes) die("bench.calls");
   }
-  sync_device(), put(value, SECTOR, 2), sync_device();
-  put(journal, (size_t)count * PAGE, 11), put(value, PAGE, 3), sync_device();
-  put(value, SECTOR, 2), sync_device();
 }
 
-/* SQLite, whose headers are not needed. */
-
-static int (*open_base)(const char *, void **), (*execute)(void *, const char *, void *, void *, void *);
-static int (*prepare)(void *, const char *, int, void **, void *), (*bind_blob)(void *, int, const void *, int, void *);
-static int (*bind_int)(void *, int, int), (*step)(void *), (*reset)(void *);
-static void *base, *update, *begin, *end;
+/* SQLite and LMDB, whose headers are not needed. */
 
 static void *called(void *library, const char *name) {
   void *found = dlsym(library, name);
   if (found == NULL) die(name);
   return found;
 }
+
+static int (*open_base)(const char *, void **), (*execute)(void *, const char *, void *, void *, void *);
+static int (*prepare)(void *, const char *, int, void **, void *), (*bind_blob)(void *, int, const void *, int, void *);
+static int (*bind_int)(void *, int, int), (*step)(void *), (*reset)(void *);
+static struct base { void *base, *update, *begin, *end; } bases[MODES];
 
 static int load_sqlite(void) {
   void *library = dlopen("libsqlite3.so.0", RTLD_NOW);
@@ -128,16 +186,24 @@ static int load_sqlite(void) {
   return 1;
 }
 
-static int open_sqlite(void) {
-  if (!load_sqlite()) return 0;
-  unlink("bench.db"), unlink("bench.db-wal"), unlink("bench.db-shm");
-  if (open_base("bench.db", &base) != 0) die("bench.db");
-  execute(base, "pragma page_size=4096; pragma journal_mode=WAL; pragma synchronous=FULL; create table t(id integer primary key, b blob)", 0, 0, 0);
-  execute(base, "with recursive c(i) as (select 0 union all select i+1 from c where i<1023) insert into t select i, zeroblob(4000) from c", 0, 0, 0);
-  execute(base, "pragma wal_checkpoint(TRUNCATE)", 0, 0, 0);
-  prepare(base, "update t set b=? where id=?", -1, &update, 0);
-  prepare(base, "begin immediate", -1, &begin, 0), prepare(base, "commit", -1, &end, 0);
-  return 1;
+static void unlink_all(const char *path) {
+  static const char *const ends[] = {"", "-wal", "-shm", "-journal", "-lock"};
+  char name[64];
+  for (size_t i = 0; i < sizeof ends / sizeof *ends; i++) snprintf(name, sizeof name, "%s%s", path, ends[i]), unlink(name);
+}
+
+static void open_sqlite(enum mode mode, const char *path, const char *journal) {
+  struct base *it = &bases[mode];
+  char words[200];
+  unlink_all(path);
+  if (open_base(path, &it->base) != 0) die(path);
+  snprintf(words, sizeof words, "pragma page_size=4096; pragma journal_mode=%s; pragma synchronous=FULL", journal);
+  execute(it->base, words, 0, 0, 0);
+  execute(it->base, "create table t(id integer primary key, b blob)", 0, 0, 0);
+  execute(it->base, "with recursive c(i) as (select 0 union all select i+1 from c where i<1023) insert into t select i, zeroblob(4000) from c", 0, 0, 0);
+  execute(it->base, "pragma wal_checkpoint(TRUNCATE)", 0, 0, 0);
+  prepare(it->base, "update t set b=? where id=?", -1, &it->update, 0);
+  prepare(it->base, "begin immediate", -1, &it->begin, 0), prepare(it->base, "commit", -1, &it->end, 0);
 }
 
 static void run_statement(void *statement) {
@@ -145,10 +211,45 @@ static void run_statement(void *statement) {
   reset(statement);
 }
 
-static void commit_sqlite(void) {
-  run_statement(begin);
-  for (int i = 0; i < count; i++) bind_blob(update, 1, value, VALUE, 0), bind_int(update, 2, chosen[i]), run_statement(update);
-  run_statement(end);
+static void commit_sqlite(enum mode mode) {
+  const struct base *it = &bases[mode];
+  run_statement(it->begin);
+  for (int i = 0; i < count; i++) bind_blob(it->update, 1, value, VALUE, 0), bind_int(it->update, 2, chosen[i]), run_statement(it->update);
+  run_statement(it->end);
+}
+
+struct bytes { size_t length; void *at; };
+static int (*begin_map)(void *, void *, unsigned, void **), (*put)(void *, unsigned, struct bytes *, struct bytes *, unsigned), (*end_map)(void *);
+static void *map;
+static unsigned table;
+
+static void put_rows(const int *rows, int number) {
+  void *transaction;
+  if (begin_map(map, NULL, 0, &transaction) != 0) die("mdb_txn_begin");
+  for (int i = 0; i < number; i++) {
+    unsigned key = (unsigned)rows[i];
+    struct bytes name = {sizeof key, &key}, row = {VALUE, value};
+    if (put(transaction, table, &name, &row, 0) != 0) die("mdb_put");
+  }
+  if (end_map(transaction) != 0) die("mdb_txn_commit");
+}
+
+/* MDB_NOSUBDIR and MDB_INTEGERKEY. */
+static int open_lmdb(const char *path) {
+  void *library = dlopen("liblmdb.so.0", RTLD_NOW), *transaction;
+  int all[PAGES];
+  if (library == NULL) return 0;
+  int (*create)(void **), (*bound)(void *, size_t), (*open_map)(void *, const char *, unsigned, mode_t);
+  int (*open_table)(void *, const char *, unsigned, unsigned *);
+  *(void **)&create = called(library, "mdb_env_create"), *(void **)&bound = called(library, "mdb_env_set_mapsize");
+  *(void **)&open_map = called(library, "mdb_env_open"), *(void **)&open_table = called(library, "mdb_dbi_open");
+  *(void **)&begin_map = called(library, "mdb_txn_begin"), *(void **)&put = called(library, "mdb_put"), *(void **)&end_map = called(library, "mdb_txn_commit");
+  unlink_all(path);
+  if (create(&map) != 0 || bound(map, 64u << 20) != 0 || open_map(map, path, 0x4000, 0600) != 0) die(path);
+  if (begin_map(map, NULL, 0, &transaction) != 0 || open_table(transaction, NULL, 0x08, &table) != 0 || end_map(transaction) != 0) die(path);
+  for (int i = 0; i < PAGES; i++) all[i] = i;
+  put_rows(all, PAGES);
+  return 1;
 }
 
 /* Commits */
@@ -159,14 +260,15 @@ static double timed(enum mode mode) {
   if (mode == KEFS) store(mapped[KEFS]);
   double start = now();
   switch (mode) {
-    case KEFS: commit_kefs(KEFS); break;
+    case KEFS: commit_and_keep(); break;
     case CALLS: make_calls(); break;
     case STORED: store(mapped[STORED]), commit_kefs(STORED); break;
     case MSYNC:
       store(shared);
       if (msync(shared, PAGES * PAGE, MS_SYNC) != 0) die("msync");
       break;
-    default: commit_sqlite();
+    case LMDB: put_rows(chosen, count); break;
+    default: commit_sqlite(mode);
   }
   return now() - start;
 }
@@ -174,51 +276,127 @@ static double timed(enum mode mode) {
 static int in_order(const void *a, const void *b) { return *(const int *)a - *(const int *)b; }
 static int by_time(const void *a, const void *b) { return (*(const double *)a > *(const double *)b) - (*(const double *)a < *(const double *)b); }
 
+static void say_times(const char *name, double *times, int number, double each_syncs) {
+  double sum = 0;
+  for (int i = 0; i < number; i++) sum += times[i];
+  qsort(times, (size_t)number, sizeof *times, by_time);
+  printf("%s %.2f %.2f %.2f %.2f %.2f\n", name, times[number / 4], times[number / 2], times[3 * number / 4], sum / number, each_syncs);
+}
+
 static void shuffle(int *numbers, int all, int first) {
   for (int i = 0; i < first; i++) {
-    int j = i + (int)(random() % (all - i)), kept = numbers[i];
-    numbers[i] = numbers[j], numbers[j] = kept;
+    int j = i + (int)(random() % (all - i)), other = numbers[i];
+    numbers[i] = numbers[j], numbers[j] = other;
   }
 }
 
 static void choose_pages(unsigned long round) {
   static int all[PAGES];
   for (int i = 0; i < PAGES && round == 0; i++) all[i] = i;
-  memcpy(before, chosen, sizeof before);
+  for (int w = 0; w < PAGE / 8; w++) ((unsigned long *)(void *)value)[w] += round + (unsigned long)w;
+  if (is_hot && round > 0) return;
   shuffle(all, PAGES, count);
   memcpy(chosen, all, sizeof chosen);
   qsort(chosen, (size_t)count, sizeof *chosen, in_order);
-  for (int w = 0; w < PAGE / 8; w++) ((unsigned long *)(void *)value)[w] += round + (unsigned long)w;
 }
 
-static void open_all(void) {
-  memset(journal, 1, sizeof journal), memset(homes, 2, sizeof homes);
+/* The modes whose libraries are there. */
+static int open_all(int *modes) {
+  int number = 0;
+  memset(ready, 1, sizeof ready);
   open_kefs(KEFS, "bench.img", PAGES, 0), open_kefs(STORED, "bench.stored", PAGES, 0);
   settle_kefs(KEFS), settle_kefs(STORED);
-  device = new_file("bench.calls", 3 * PAGES), plain = new_file("bench.plain", PAGES);
+  device = new_file("bench.calls", (size_t)SECTOR * 16408 + PAGES * PAGE), plain = new_file("bench.plain", PAGES * PAGE);
   shared = mmap(NULL, PAGES * PAGE, PROT_READ | PROT_WRITE, MAP_SHARED, plain, 0);
   if (shared == MAP_FAILED) die("mmap");
+  for (enum mode mode = KEFS; mode <= MSYNC; mode++) modes[number++] = (int)mode;
+  if (load_sqlite()) {
+    open_sqlite(WAL, "bench.wal", "WAL"), open_sqlite(DELETE, "bench.delete", "DELETE");
+    modes[number++] = WAL, modes[number++] = DELETE;
+  }
+  if (open_lmdb("bench.lmdb")) modes[number++] = LMDB;
+  return number;
 }
 
 static int time_commits(int commits) {
-  open_all();
-  int modes = open_sqlite() ? MODES : SQLITE;
   double *taken[MODES];
-  for (int m = 0; m < modes; m++) taken[m] = calloc((size_t)commits, sizeof(double));
+  size_t made[MODES] = {0};
+  int turn[MODES], number = open_all(turn);
+  for (int m = 0; m < MODES; m++) taken[m] = calloc((size_t)commits, sizeof(double));
   srandom(42);
   for (int r = -WARM_UP; r < commits; r++) {
-    int turn[MODES] = {KEFS, CALLS, STORED, MSYNC, SQLITE};
-    shuffle(turn, modes, modes);
+    if (r > -WARM_UP) shuffle(turn, number, number); /* calls that are made again have to be kept first */
     choose_pages((unsigned long)(r + WARM_UP));
-    for (int m = 0; m < modes; m++) {
+    for (int m = 0; m < number; m++) {
+      size_t before = syncs;
       double time = timed((enum mode)turn[m]);
-      if (r >= 0) taken[turn[m]][r] = time;
+      if (r >= 0) taken[turn[m]][r] = time, made[turn[m]] += syncs - before;
     }
   }
-  for (int m = 0; m < modes; m++) {
-    qsort(taken[m], (size_t)commits, sizeof(double), by_time);
-    printf("%s %.2f %.2f %.2f\n", NAMES[m], taken[m][commits / 4], taken[m][commits / 2], taken[m][3 * commits / 4]);
+  qsort(turn, (size_t)number, sizeof *turn, in_order);
+  for (int m = 0; m < number; m++) say_times(NAMES[turn[m]], taken[turn[m]], commits, (double)made[turn[m]] / commits);
+  return 0;
+}
+
+/* A worn file */
+
+/* Stores to one page of each 2 MiB: the kernel splits a large page at the first store to it. */
+static void wear(kefs_image *image, unsigned char *at, size_t length) {
+  for (size_t offset = 0; offset < length; offset += 2 << 20) {
+    at[offset] = 1;
+    must(kefs_mark_dirty(image, at + offset, 1), "kefs_mark_dirty");
   }
+  must(kefs_commit(image, NULL, 0, NULL), "kefs_commit");
+}
+
+static int has_ranges;
+
+static double time_one(kefs_image *image, unsigned char *at, size_t length, int value_of) {
+  struct kefs_range page = {at + (size_t)random() % (length / PAGE) * PAGE, PAGE};
+  *(unsigned char *)(uintptr_t)page.at = (unsigned char)value_of;
+  must(kefs_mark_dirty(image, page.at, 1), "kefs_mark_dirty");
+  double start = now();
+  must(kefs_commit(image, has_ranges ? &page : NULL, has_ranges ? 1 : 0, NULL), "kefs_commit");
+  return now() - start;
+}
+
+static void time_worn_with(const char *name, unsigned flags, size_t mib, int commits) {
+  static const char *const paths[] = {"bench.small", "bench.large"};
+  size_t lengths[] = {4u << 20, mib << 20};
+  double *taken[2] = {calloc((size_t)commits, sizeof(double)), calloc((size_t)commits, sizeof(double))};
+  char words[64];
+  for (int i = 0; i < 2; i++) open_kefs((enum mode)i, paths[i], (uint32_t)(lengths[i] / PAGE), flags), wear(images[i], mapped[i], lengths[i]);
+  for (int r = -WARM_UP; r < commits; r++)
+    for (int i = 0; i < 2; i++) {
+      double time = time_one(images[i], mapped[i], lengths[i], r);
+      if (r >= 0) taken[i][r] = time;
+    }
+  for (int i = 0; i < 2; i++) {
+    snprintf(words, sizeof words, "%s-%zu", name, lengths[i] >> 20);
+    say_times(words, taken[i], commits, 0);
+    must(kefs_close(images[i]), paths[i]), unlink(paths[i]), free(taken[i]);
+  }
+}
+
+static int time_worn(size_t mib, int commits) {
+  time_worn_with("scan", KEFS_TRACK_SCAN, mib, commits), time_worn_with("signal", KEFS_TRACK_SIGNAL, mib, commits);
+  time_worn_with("caller", KEFS_TRACK_CALLER, mib, commits);
+  has_ranges = 1;
+  time_worn_with("ranges", KEFS_TRACK_SCAN, mib, commits);
+  return 0;
+}
+
+static int time_syncs(void) {
+  enum { SYNCS = 300 };
+  double taken[SYNCS];
+  int fd = new_file("bench.syncs", PAGES * PAGE);
+  for (int i = 0; i < SYNCS; i++) {
+    double start = now();
+    if (pwrite(fd, ready, PAGE, random() % PAGES * PAGE) != PAGE || fdatasync(fd) != 0) die("bench.syncs");
+    taken[i] = now() - start;
+  }
+  say_times("sync", taken, SYNCS, 1);
+  unlink("bench.syncs");
   return 0;
 }
 
@@ -226,7 +404,7 @@ static int time_commits(int commits) {
 
 /* MiB of the process's own memory, without what it shares with the page cache. */
 static size_t own_memory(void) {
-  size_t all, here, shared_here;
+  size_t all = 0, here = 0, shared_here = 0;
   FILE *facts = fopen("/proc/self/statm", "r");
   if (facts == NULL || fscanf(facts, "%zu %zu %zu", &all, &here, &shared_here) != 3) die("statm");
   fclose(facts);
@@ -237,25 +415,9 @@ static size_t own_memory(void) {
 static double time_commit(kefs_image *image, unsigned char *at, size_t length) {
   enum { COMMITS = 51 };
   double times[COMMITS];
-  for (int i = 0; i < COMMITS; i++) {
-    unsigned char *page = at + (size_t)random() % (length / PAGE) * PAGE;
-    *page = (unsigned char)(i + 1);
-    must(kefs_mark_dirty(image, page, 1), "kefs_mark_dirty");
-    double start = now();
-    must(kefs_commit(image, NULL, 0, NULL), "kefs_commit");
-    times[i] = now() - start;
-  }
+  for (int i = 0; i < COMMITS; i++) times[i] = time_one(image, at, length, i + 1);
   qsort(times, COMMITS, sizeof(double), by_time);
   return times[COMMITS / 2];
-}
-
-/* Stores to one page of each 2 MiB: the kernel splits a large page at the first store to it. */
-static void wear(kefs_image *image, unsigned char *at, size_t length) {
-  for (size_t offset = 0; offset < length; offset += 2 << 20) {
-    at[offset] = 1;
-    must(kefs_mark_dirty(image, at + offset, 1), "kefs_mark_dirty");
-  }
-  must(kefs_commit(image, NULL, 0, NULL), "kefs_commit");
 }
 
 static void time_opening(const char *name, unsigned flags) {
@@ -280,9 +442,18 @@ static int time_openings(uint32_t mib) {
   return 0;
 }
 
+/* Word `k` as a number, or 0. */
+static int number_of(int argc, char **argv, int k) { return k < argc ? atoi(argv[k]) : 0; }
+
 int main(int argc, char **argv) {
-  if (argc < 4 || chdir(argv[2]) != 0) return 2;
-  if (strcmp(argv[1], "open") == 0) return time_openings((uint32_t)atoi(argv[3]));
-  count = atoi(argv[3]);
-  return argc < 5 || count < 1 || count > KEFS_MOST_PAGES ? 2 : time_commits(atoi(argv[4]));
+  if (argc < 3 || chdir(argv[2]) != 0) return 2;
+  count = number_of(argc, argv, 3);
+  if (strcmp(argv[1], "sync") == 0) return time_syncs();
+  if (strcmp(argv[1], "open") == 0 && count > 0) return time_openings((uint32_t)count);
+  int commits = number_of(argc, argv, 4), is_worn = strcmp(argv[1], "worn") == 0;
+  is_hot = argc > 5 && strcmp(argv[5], "hot") == 0;
+  sync_time = number_of(argc, argv, is_worn ? 5 : 6);
+  if (commits < 1 || count < 1) return 2;
+  if (is_worn) return time_worn((size_t)count, commits);
+  return count > KEFS_MOST_PAGES ? 2 : time_commits(commits);
 }

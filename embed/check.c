@@ -1,6 +1,7 @@
-/* check FOLDER: tries every call of kefs.h on images that it makes in FOLDER, with each tracker that the system has. */
+/* check FOLDER: tries every call of kefs.h on images that it makes in FOLDER, with each tracker that the system has. The images are of layout 3, or of
+   that which the environment's LAYOUT says. */
 #define _GNU_SOURCE
-#include "kefs.h"
+#include "tests.h"
 #include <errno.h>
 #include <fcntl.h>
 #include <pthread.h>
@@ -41,7 +42,7 @@ static void make_image(uint32_t pages) {
   memset(r, 'r', sizeof r);
   struct kefs_file files[] = {{PAGE * pages, 0, NULL}, {PAGE + 904, 0, NULL}, {PAGE, KEFS_FILE_READ_ONLY, r}, {0, 0, NULL}};
   unlink(path);
-  DONE(kefs_format(path, 0600, files, 4));
+  DONE(format_image(path, 0600, files, 4));
 }
 
 static void write_at(off_t offset, const void *bytes, size_t length) {
@@ -122,6 +123,47 @@ static void commits_follow_one_another(void) {
   DONE(kefs_close(image));
 }
 
+static unsigned long syncs(void) {
+  struct kefs_stat stat = {.size = sizeof stat};
+  DONE(kefs_stat(image, &stat));
+  return (unsigned long)stat.syncs;
+}
+
+static void a_commit_takes_so_many_syncs(void) {
+  begin();
+  for (int k = 0; k < 8; k++) {
+    unsigned long before = syncs();
+    for (int page = 0; page <= k; page++) store(a + page * PAGE, (unsigned char)k);
+    CHECK(committed() == (size_t)k + 1);
+    if (k > 0) CHECK(syncs() - before == image_sectors()->syncs);
+  }
+  DONE(kefs_close(image));
+}
+
+/* A page that two commits take has its home written by the first one after them that does not: until then it stands in a journal alone, and is read, rolled
+   back and recovered from there. */
+static void pages_that_stay_in_a_journal_are_read_there(void) {
+  begin();
+  for (int k = 0; k < 8; k++) store(a + k * PAGE, 1);
+  CHECK(committed() == 8);
+  for (int n = 2; n < 8; n++) {
+    store(a, (unsigned char)n), store(a + n * PAGE, (unsigned char)n);
+    CHECK(committed() == 2);
+    store(a, 99), store(a + n * PAGE, 99);
+    DONE(kefs_rollback(image, NULL, 0));
+    for (int k = 0; k < 8; k++) CHECK(a[k * PAGE] == (k == 0 ? n : k > n || k == 1 ? 1 : k));
+    if (n % 2 == 0) open_again();
+    DONE(kefs_unmap(image, 0));
+    a = mapped(0);
+    for (int k = 0; k < 8; k++) CHECK(a[k * PAGE] == (k == 0 ? n : k > n || k == 1 ? 1 : k));
+  }
+  DONE(kefs_close(image));
+  DONE(kefs_open(&image, path, KEFS_RDONLY | (flags & KEFS_LAZY)));
+  a = mapped(0);
+  for (int k = 0; k < 8; k++) CHECK(a[k * PAGE] == (k == 0 ? 7 : k == 1 ? 1 : k));
+  DONE(kefs_close(image));
+}
+
 /* A home is written by the commit after that of its page, when the page in memory may have later stores, which no commit took. */
 static void homes_have_what_was_committed(void) {
   begin();
@@ -173,6 +215,32 @@ static void too_many_pages_are_refused_and_not_for_good(void) {
   CHECK(committed() == 1);
   open_again();
   for (int k = 0; k < 1030; k++) CHECK(a[k * PAGE] == (k == 3 ? 3 : 1));
+  DONE(kefs_close(image));
+}
+
+/* A file of over 2 MiB, whose marks are looked at in parts. */
+static void scattered_pages_are_found(void) {
+  enum { MANY = 2600 };
+  static unsigned char wanted[MANY], dirty[MANY];
+  memset(wanted, 0, sizeof wanted), memset(dirty, 0, sizeof dirty);
+  make_image(MANY);
+  open_and_map();
+  for (int round = 1; round < 60; round++) {
+    size_t pages = 0, taken, first = (size_t)random() % MANY, end = first + (size_t)random() % (MANY - first) + 1;
+    for (int i = (int)(random() % 20); i >= 0; i--) {
+      size_t k = (size_t)random() % MANY;
+      store(a + k * PAGE, (unsigned char)round), dirty[k] = 1, wanted[k] = (unsigned char)round;
+    }
+    if (round % 3 == 0) first = 0, end = MANY;
+    for (size_t k = first; k < end; k++) pages += dirty[k], dirty[k] = 0;
+    struct kefs_range some = {a + first * PAGE, (end - first) * PAGE};
+    if (round % 5 == 0) CHECK(written() >= pages);
+    DONE(kefs_commit(image, &some, 1, &taken));
+    CHECK(taken == pages);
+  }
+  committed();
+  open_again();
+  for (int k = 0; k < MANY; k++) CHECK(a[k * PAGE] == wanted[k]);
   DONE(kefs_close(image));
 }
 
@@ -244,7 +312,7 @@ static void bytes_past_the_end_read_as_zeros(void) {
   char garbage[PAGE];
   memset(garbage, 'g', sizeof garbage);
   make_image(8);
-  write_at(512 * 8195 + 9 * PAGE, garbage, PAGE);
+  write_at(512 * image_sectors()->homes + 9 * PAGE, garbage, PAGE);
   open_and_map();
   CHECK(b[PAGE + 903] == 'g' && b[PAGE + 904] == 0 && b[2 * PAGE - 1] == 0);
   store(b + PAGE + 904, 1);
@@ -345,7 +413,7 @@ static void readers_stand_beside_each_other(void) {
   DONE(kefs_close(image));
   DONE(kefs_open(&image, path, 0));
   DONE(kefs_stat(image, &stat));
-  CHECK(stat.recovered == 2 && stat.written_bytes == 2 * PAGE + 512 && stat.syncs == 2);
+  CHECK(stat.recovered == 2 && stat.written_bytes == 2 * PAGE + image_sectors()->opening_bytes && stat.syncs == image_sectors()->opening_syncs);
   DONE(kefs_close(image));
 }
 
@@ -493,7 +561,7 @@ static void a_failing_device_halts(void) {
   CHECK(setrlimit(RLIMIT_FSIZE, &small) == 0);
   RETURNS(KEFS_DEVICE, kefs_commit(image, NULL, 0, NULL));
   CHECK(setrlimit(RLIMIT_FSIZE, &kept) == 0);
-  CHECK(strstr(kefs_errmsg(image), "pwrite of 4096 bytes at sector 8195") != NULL);
+  CHECK(strstr(kefs_errmsg(image), "pwrite of ") != NULL && strstr(kefs_errmsg(image), " bytes at sector ") != NULL);
   RETURNS(KEFS_HALTED, kefs_commit(image, NULL, 0, NULL));
   RETURNS(KEFS_HALTED, kefs_rollback(image, NULL, 0));
   open_again();
@@ -533,23 +601,34 @@ static void what_is_no_image_is_refused(void) {
   RETURNS(KEFS_NOT_IMAGE, kefs_open(&image, name, 0));
   for (int i = 0; i < 9000; i++) CHECK(write(fd, "no image", 8) == 8);
   RETURNS(KEFS_NOT_IMAGE, kefs_open(&image, name, 0));
-  for (int i = 0; i < 64; i++) CHECK(pwrite(fd, "FAMSYNC3", 8, 8 * i) == 8);
-  RETURNS(KEFS_NOT_IMAGE, kefs_open(&image, name, 0));
-  CHECK(strstr(kefs_errmsg(NULL), "layout 3") != NULL);
+  for (int i = 0; i < 128; i++) CHECK(pwrite(fd, "FAMSYNC3", 8, 8 * i) == 8);
+  RETURNS(KEFS_NOT_IMAGE, kefs_open(&image, name, 0)); /* mark and kind of too short a file */
   RETURNS(KEFS_NOT_IMAGE, kefs_open(&image, ".", KEFS_RDONLY));
   CHECK(image == NULL);
-  RETURNS(EINVAL, kefs_open(&image, path, 128));
+  RETURNS(EINVAL, kefs_open(&image, path, 256));
   RETURNS(EINVAL, kefs_open(&image, path, KEFS_CREATE));
   RETURNS(EINVAL, kefs_open(&image, path, KEFS_TRACK_SCAN | KEFS_TRACK_CALLER));
   close(fd);
 }
 
-static void a_bad_journal_is_refused(void) {
-  char gate[512];
-  for (int i = 0; i < 512; i += 8) memcpy(gate + i, "GATEOPEN", 8);
+static void write_sector(long sector, const char *eight) {
+  char bytes[512];
+  for (int i = 0; i < 512; i += 8) memcpy(bytes + i, eight, 8);
+  write_at(512 * sector, bytes, sizeof bytes);
+}
+
+/* As a torn write of the mark may leave it. */
+static void the_mark_of_another_layout_is_refused(void) {
   make_image(8);
-  write_at(1024, gate, sizeof gate);
-  write_at(1536, "\377\377\0\0", 4);
+  write_sector(0, image_layout() == 2 ? "FAMSYNC3" : "FAMSYNC2");
+  RETURNS(KEFS_NOT_IMAGE, kefs_open(&image, path, 0));
+  RETURNS(KEFS_NOT_IMAGE, kefs_open(&image, path, KEFS_RDONLY));
+}
+
+static void a_bad_journal_is_refused(void) {
+  make_image(8);
+  write_sector(image_sectors()->gate, "GATEOPEN");
+  write_at(512 * image_sectors()->map, "\377\377\0\0", 4);
   RETURNS(KEFS_BAD_JOURNAL, kefs_open(&image, path, 0));
   RETURNS(KEFS_BAD_JOURNAL, kefs_open(&image, path, KEFS_RDONLY));
 }
@@ -579,18 +658,21 @@ static void results_have_words(void) {
   RETURNS(EINVAL, kefs_stat(image, &stat));
   stat.size = sizeof stat;
   DONE(kefs_stat(image, &stat));
-  CHECK(stat.files == 4 && stat.pages == 11 && stat.most_pages == 1023);
+  CHECK(stat.files == 4 && stat.pages == 11 && stat.most_pages == 1023 && stat.layout == (uint32_t)image_layout());
   DONE(kefs_close(image));
 }
 
 static void (*const with_each_tracker[])(void) = {
-  commits_are_durable, commits_follow_one_another, homes_have_what_was_committed, ranges_choose_pages,
-  too_many_pages_are_refused_and_not_for_good, a_roll_back_shows_what_is_durable, a_mapping_has_its_file, a_new_mapping_reads_the_open_journal,
+  commits_are_durable, commits_follow_one_another, a_commit_takes_so_many_syncs, pages_that_stay_in_a_journal_are_read_there,
+  homes_have_what_was_committed, ranges_choose_pages,
+  too_many_pages_are_refused_and_not_for_good, scattered_pages_are_found, a_roll_back_shows_what_is_durable, a_mapping_has_its_file,
+  a_new_mapping_reads_the_open_journal,
   bytes_past_the_end_read_as_zeros, bytes_outside_of_mappings_are_refused, system_calls_reach_mapped_memory,
   two_images_are_apart, readers_stand_beside_each_other, a_child_takes_nothing_from_its_parent,
   a_child_has_images_of_its_own, stores_during_commits_are_not_lost, other_faults_are_passed_on,
   a_failing_device_halts, pages_are_read_late};
-static void (*const once[])(void) = {what_is_no_image_is_refused, a_bad_journal_is_refused, bad_files_are_not_formatted, results_have_words};
+static void (*const once[])(void) = {
+  what_is_no_image_is_refused, the_mark_of_another_layout_is_refused, a_bad_journal_is_refused, bad_files_are_not_formatted, results_have_words};
 
 int main(int argc, char **argv) {
   static const struct { unsigned flags; const char *name; } trackers[] = {
@@ -610,6 +692,6 @@ int main(int argc, char **argv) {
     for (size_t i = 0; i < sizeof with_each_tracker / sizeof *with_each_tracker; i++) with_each_tracker[i]();
     printf("check: tracker %s: passed\n", trackers[t].name), fflush(stdout);
   }
-  printf("check: %d checks passed\n", checks);
+  printf("check: layout %d, %d checks passed\n", image_layout(), checks);
   return 0;
 }

@@ -36,12 +36,30 @@ static int next_span(struct spans *it, struct span *span) {
 }
 
 /* The first page from `k` on whose mark is not 0, or `end`. Eight marks are looked at together. */
-static size_t next_marked(const struct mapping *mapping, size_t k, size_t end) {
+static size_t next_mark(const struct mapping *mapping, size_t k, size_t end) {
   typedef uint64_t __attribute__((may_alias)) eight_marks;
   while (k < end) {
     if (k % 8 == 0 && __atomic_load_n((const eight_marks *)(mapping->marks + k), __ATOMIC_SEQ_CST) == 0) k += 8;
     else if (__atomic_load_n(&mapping->marks[k], __ATOMIC_SEQ_CST) != 0) return k;
     else k++;
+  }
+  return end;
+}
+
+/* The end of the area that page `k` is in, or `end` where that comes first. */
+static size_t area_end(size_t k, size_t end) {
+  size_t next = (k / AREA + 1) * AREA;
+  return next < end ? next : end;
+}
+
+static int is_clean(const struct mapping *mapping, size_t k) { return __atomic_load_n(&mapping->areas[k / AREA], __ATOMIC_SEQ_CST) == 0; }
+
+/* The first page from `k` on whose mark is not 0, in an area that is not clean, or `end`. */
+static size_t next_marked(const struct mapping *mapping, size_t k, size_t end) {
+  while (k < end) {
+    size_t stop = area_end(k, end), found = is_clean(mapping, k) ? stop : next_mark(mapping, k, stop);
+    if (found < stop) return found;
+    k = stop;
   }
   return end;
 }
@@ -54,7 +72,7 @@ static int take_page(struct mapping *mapping, size_t k) {
 
 /* What was stored to since it was taken has DIRTY too, and keeps it. */
 static void let_go(struct mapping *mapping, size_t k, int done) {
-  if (!done) add_mark(&mapping->marks[k], DIRTY);
+  if (!done) mark_dirty(mapping, k);
   drop_mark(&mapping->marks[k], TAKEN);
 }
 
@@ -64,11 +82,14 @@ void let_all_go(struct kefs_image *image, int done) {
   image->taken = 0;
 }
 
-/* Puts the dirty pages of a span into the commit. */
-static int take_span(struct kefs_image *image, const struct span *span) {
-  struct mapping *mapping = span->mapping;
-  for (size_t k = next_marked(mapping, span->first, span->end); k < span->end; k = next_marked(mapping, k + 1, span->end)) {
-    if (!take_page(mapping, k)) continue;
+/* Puts the dirty pages of an area, or a part of one, into the commit. Where one stays dirty, since a range before has taken it or as one too many, the area
+   stays so. */
+static int take_area(struct kefs_image *image, struct mapping *mapping, size_t first, size_t end) {
+  for (size_t k = next_mark(mapping, first, end); k < end; k = next_mark(mapping, k + 1, end)) {
+    if (!take_page(mapping, k)) {
+      set_area(mapping, k, 1);
+      continue;
+    }
     if (image->taken == KEFS_MOST_PAGES) {
       let_go(mapping, k, 0);
       return fail(image, KEFS_TOO_MANY, "over %d pages are dirty", KEFS_MOST_PAGES);
@@ -77,6 +98,19 @@ static int take_span(struct kefs_image *image, const struct span *span) {
     image->page_bytes[image->taken++] = (struct famsync_bytes){mapping->at + k * PAGE};
   }
   return KEFS_OK;
+}
+
+/* Puts the dirty pages of a span into the commit. */
+static int take_span(struct kefs_image *image, const struct span *span) {
+  struct mapping *mapping = span->mapping;
+  int result = KEFS_OK;
+  for (size_t k = span->first, end; k < span->end && result == KEFS_OK; k = end) {
+    end = area_end(k, span->end);
+    if (is_clean(mapping, k)) continue;
+    if (k % AREA == 0 && end == area_end(k, mapping->pages)) set_area(mapping, k, 0);
+    result = take_area(image, mapping, k, end);
+  }
+  return result;
 }
 
 /* Each page is noted, taken and sealed in this order; see open_pages for the reason. */
@@ -102,14 +136,20 @@ static int result_of(uint32_t answer) {
   }
 }
 
-static int commit_taken(struct kefs_image *image) {
+static int carry_out_taken(struct kefs_image *image) {
   struct famsync_plan *scratch = image->scratch, *plan = image->plan;
-  int result = image->taken == 0 ? KEFS_OK : take_homes(image);
-  if (image->taken == 0 || result != KEFS_OK) return result;
   uint32_t answer = famsync_commit(&image->handle, image->bytes, image->sectors, scratch->calls, scratch->rows, &plan->used,
                                    plan->calls, plan->rows, image->pages, image->taken, image->page_bytes, image->taken);
   if (answer != FAMSYNC_OK) return fail(image, result_of(answer), "no plan for %zu pages (%u)", image->taken, (unsigned)answer);
   return carry_out(image);
+}
+
+static int commit_taken(struct kefs_image *image) {
+  int result = image->taken == 0 ? KEFS_OK : take_rooms(image);
+  if (result == KEFS_OK && image->taken > 0) result = begin_change(image);
+  if (result == KEFS_OK && image->taken > 0) result = carry_out_taken(image);
+  end_change(image);
+  return result;
 }
 
 /* Where the device has no room, as a file system may find out late, the image is recovered at once and goes on, with the pages still

@@ -7,10 +7,12 @@
    reached the disk, no later sync writes the others, and reads show them until the system is told to drop what it keeps.
 
    kept     a control: the system keeps what it has, whatever it is told. Some images have to be torn then.
-   blocks   power is cut, and each block of 4,096 bytes that has an unsynced sector may hold any bytes, in all its sectors. Layout 2
-            does not stand that. */
+   blocks   power is cut, and each block of 4,096 bytes that has an unsynced sector may hold any bytes, in all its sectors. Layout 3
+            stands that, and layout 2 does not, which is the control: some of its images have to be torn.
+
+   The images are of layout 3, or of that which the environment's LAYOUT says; those that the library makes are of layout 3. */
 #define _GNU_SOURCE
-#include "kefs.h"
+#include "tests.h"
 #include <errno.h>
 #include <fcntl.h>
 #include <stdarg.h>
@@ -23,17 +25,20 @@
 #include <sys/uio.h>
 #include <unistd.h>
 
-enum { PAGE = KEFS_PAGE, SECTOR = 512, PAGES = 12, BYTES = SECTOR * 8195 + PAGE * PAGES, SECTORS = BYTES / SECTOR, FILLINGS = 4 };
+enum { PAGE = KEFS_PAGE, SECTOR = 512, PAGES = 12, MOST_SECTORS = 16408 + 8 * PAGES, MOST_BYTES = SECTOR * MOST_SECTORS, FILLINGS = 4 };
 enum { BLOCK = 8, FIRST_PAGES = 8 }; /* sectors of a block; pages of file 0 */
 enum model { DROPS, KEEPS, BLOCKS };
 static const char *const PATH = "cuts.img";
 
 /* The device: what the disk holds, what a read gives, and which sectors the next sync writes. */
-static unsigned char disk[BYTES], cached[BYTES], left[BYTES], dirty[SECTORS], *left_file;
+static unsigned char disk[MOST_BYTES], cached[MOST_BYTES], left[MOST_BYTES], dirty[MOST_SECTORS], *left_file;
+static size_t bytes, sectors;  /* of the image */
+static unsigned char used[MOST_SECTORS]; /* what commits of so few pages can write: of the rest of the journals nothing is looked at */
 static enum model model;
 static int watched = -1;    /* the descriptor whose calls are noted, or -1 */
 static int is_cutting;      /* power is cut before each call */
-static long calls, failing; /* noted calls, and the one that fails, or 0 */
+static enum kind { ANY, GATE_WRITE, SYNC, KINDS } counted; /* which calls are noted, */
+static long calls, failing; /* how many they were, and the one that fails, or 0 */
 static int failing_number = EIO, reaching; /* with what, and how many of four dirty sectors reach the disk in a sync that fails */
 static long cuts, bad, failures;
 static unsigned char before[PAGES * PAGE], after[PAGES * PAGE];
@@ -50,6 +55,24 @@ static void expect(int holds, const char *what, int line) {
 }
 #define EXPECT(condition) expect((condition) != 0, #condition, __LINE__)
 
+static void use(size_t first, size_t end) { memset(used + first / BLOCK * BLOCK, 1, (end + BLOCK - 1) / BLOCK * BLOCK - first / BLOCK * BLOCK); }
+
+/* A journal is a map of a block and a body. */
+static void use_image(int layout) {
+  size_t homes = layout == 2 ? 8195 : 16408, journals = BLOCK * (1 + PAGES);
+  sectors = homes + BLOCK * PAGES, bytes = SECTOR * sectors;
+  memset(used, 0, sizeof used);
+  if (layout == 2) use(0, 3 + journals);
+  else use(0, 24 + journals), use(8216, 8216 + journals);
+  use(homes, sectors);
+}
+
+/* The first used sector from `s` on, or `sectors`. */
+static size_t next_used(size_t s) {
+  while (s < sectors && !used[s]) s++;
+  return s;
+}
+
 /* Cuts */
 
 static void fill_sector(int way, size_t sector) {
@@ -61,21 +84,21 @@ static void fill_sector(int way, size_t sector) {
 
 static int is_dirty_block(size_t sector) {
   size_t first = sector / BLOCK * BLOCK;
-  return first + BLOCK <= SECTORS && memchr(dirty + first, 1, BLOCK) != NULL;
+  return first + BLOCK <= sectors && memchr(dirty + first, 1, BLOCK) != NULL;
 }
 
 static void fill_left(int filling) {
-  memcpy(left, disk, sizeof left);
-  for (size_t s = 0; s < SECTORS; s++) {
+  for (size_t s = next_used(0); s < sectors; s = next_used(s + 1)) {
     int is_torn = model == BLOCKS && filling >= 2 && is_dirty_block(s);
+    memcpy(left + SECTOR * s, disk + SECTOR * s, SECTOR);
     if (dirty[s] || is_torn) fill_sector(filling < 2 ? filling : (int)(random() % 4), s);
   }
 }
 
 /* Writes to the file left.img what it does not hold already. */
 static void write_left(void) {
-  for (size_t at = 0; at < BYTES; at += SECTOR)
-    if (memcmp(left_file + at, left + at, SECTOR) != 0) memcpy(left_file + at, left + at, SECTOR);
+  for (size_t s = next_used(0); s < sectors; s = next_used(s + 1))
+    if (memcmp(left_file + SECTOR * s, left + SECTOR * s, SECTOR) != 0) memcpy(left_file + SECTOR * s, left + SECTOR * s, SECTOR);
 }
 
 static int is_held(kefs_image *image, const unsigned char *files) {
@@ -105,31 +128,38 @@ static void cut_power(int is_over) {
 
 /* The library's calls */
 
-static int fails(void) {
-  calls++;
+static int fails(enum kind kind) {
   if (is_cutting) cut_power(0);
-  if (failing != calls) return 0;
+  if (counted != ANY && counted != kind) return 0;
+  if (++calls != failing) return 0;
   errno = failing_number;
   return 1;
 }
 
+static void note_write(const struct iovec *part, off_t at) {
+  size_t first = (size_t)at / SECTOR, count = part->iov_len / SECTOR;
+  if (first + count > sectors || memchr(used + first, 0, count) != NULL) fprintf(stderr, "cuts: a write at sector %zu\n", first), exit(1);
+  memcpy(cached + at, part->iov_base, part->iov_len);
+  memset(dirty + first, 1, count);
+}
+
 ssize_t pwritev(int fd, const struct iovec *parts, int count, off_t at) {
   ssize_t made = 0;
-  if (fd == watched && fails()) return -1;
+  if (fd == watched && fails(at == SECTOR * image_sectors()->gate ? GATE_WRITE : ANY)) return -1;
   for (const struct iovec *part = parts; part < parts + count; at += (off_t)part++->iov_len) {
-    if (fd == watched) memcpy(cached + at, part->iov_base, part->iov_len), memset(dirty + at / SECTOR, 1, part->iov_len / SECTOR);
+    if (fd == watched) note_write(part, at);
     if (syscall(SYS_pwrite64, fd, part->iov_base, part->iov_len, at) != (ssize_t)part->iov_len) die("pwrite");
     made += (ssize_t)part->iov_len;
   }
   return made;
 }
 
-ssize_t pwrite(int fd, const void *from, size_t bytes, off_t at) { return pwritev(fd, &(struct iovec){(void *)(uintptr_t)from, bytes}, 1, at); }
+ssize_t pwrite(int fd, const void *from, size_t length, off_t at) { return pwritev(fd, &(struct iovec){(void *)(uintptr_t)from, length}, 1, at); }
 
 int fdatasync(int fd) {
   if (fd != watched) return 0; /* what is left of an image has only to be read */
-  int is_failing = fails();
-  for (size_t s = 0; s < SECTORS; s++)
+  int is_failing = fails(SYNC);
+  for (size_t s = next_used(0); s < sectors; s = next_used(s + 1))
     if (dirty[s] && (!is_failing || random() % 4 < reaching)) memcpy(disk + SECTOR * s, cached + SECTOR * s, SECTOR);
   memset(dirty, 0, sizeof dirty);
   return is_failing ? errno = failing_number, -1 : 0;
@@ -140,7 +170,7 @@ int fsync(int fd) { return fdatasync(fd); }
 /* What is dropped is read from the disk again. */
 int posix_fadvise(int fd, off_t at, off_t length, int advice) {
   if (fd != watched || advice != POSIX_FADV_DONTNEED || at != 0 || length != 0 || model == KEEPS) return 0;
-  for (size_t s = 0; s < SECTORS; s++) {
+  for (size_t s = next_used(0); s < sectors; s = next_used(s + 1)) {
     if (dirty[s] || memcmp(cached + SECTOR * s, disk + SECTOR * s, SECTOR) == 0) continue;
     memcpy(cached + SECTOR * s, disk + SECTOR * s, SECTOR);
     if (syscall(SYS_pwrite64, fd, disk + SECTOR * s, SECTOR, SECTOR * s) != SECTOR) die("pwrite");
@@ -205,10 +235,11 @@ static void close_image(void) {
 static void begin(void) {
   struct kefs_file specs[] = {{FIRST_PAGES * PAGE, 0, NULL}, {(PAGES - FIRST_PAGES) * PAGE, 0, NULL}};
   unlink(PATH);
-  must(kefs_format(PATH, 0600, specs, 2), PATH);
-  int fd = open("/dev/null", O_RDONLY), from = (int)syscall(SYS_openat, AT_FDCWD, PATH, O_RDONLY);
-  if (pread(from, disk, sizeof disk, 0) != (ssize_t)sizeof disk) die(PATH);
-  close(fd), close(from);
+  must(format_image(PATH, 0600, specs, 2), PATH);
+  watched = -1;
+  int from = (int)syscall(SYS_openat, AT_FDCWD, PATH, O_RDONLY);
+  if (pread(from, disk, bytes, 0) != (ssize_t)bytes) die(PATH);
+  close(from);
   memcpy(cached, disk, sizeof cached);
   memset(dirty, 0, sizeof dirty), memset(before, 0, sizeof before), memset(after, 0, sizeof after);
   failing = 0;
@@ -217,12 +248,13 @@ static void begin(void) {
 
 /* Failing calls */
 
-/* Makes call `n` fail in a commit that has the homes of another to write: KEFS_OK where it makes fewer calls. */
-static int fail_commit(long n) {
+/* Makes call `n` of a kind fail in a commit that has the homes of another to write: KEFS_OK where it makes fewer of them. */
+static int fail_commit(long n, enum kind kind) {
   commit_some(0);
   store_some();
-  calls = 0, failing = n;
+  calls = 0, failing = n, counted = kind;
   int result = kefs_commit(image, NULL, 0, NULL);
+  counted = ANY;
   if (calls < n) failing = 0;
   return result;
 }
@@ -275,10 +307,10 @@ static void recover_with_failure(long m) {
   cut_power(1);
 }
 
-/* Call `n` of a commit fails, and call `m` of what follows: 0 where a commit has no such call. */
-static int try_failure(long n, long m, int in_place) {
+/* Call `n` of a kind of a commit fails, and call `m` of what follows: 0 where a commit has no such call. */
+static int try_failure(long n, long m, enum kind kind, int in_place) {
   reaching = (int)(random() % 3) * 2;
-  int result = fail_commit(n);
+  int result = fail_commit(n, kind);
   if (failing == 0) return must(result, "commit"), 0;
   failing = 0, failures++;
   EXPECT(result == KEFS_DEVICE);
@@ -292,7 +324,7 @@ static int try_failure(long n, long m, int in_place) {
 static int try_full_device(long n) {
   static unsigned char stored[PAGES * PAGE];
   failing_number = ENOSPC, reaching = (int)(random() % 3) * 2;
-  int result = fail_commit(n), is_tried = failing != 0;
+  int result = fail_commit(n, ANY), is_tried = failing != 0;
   failing = 0, failing_number = EIO;
   if (!is_tried) return must(result, "commit"), 0;
   failures++;
@@ -306,11 +338,12 @@ static int try_full_device(long n) {
   return 1;
 }
 
-/* With under 40 commits no call of an opening or recovery fails. */
+/* With under 40 commits no call of an opening or recovery fails. Some commits make fewer calls than others, so those that every commit makes are tried
+   by their kind too. */
 static void try_failures(int commits) {
   for (long m = 0; m < (commits < 40 ? 1 : 8); m++)
-    for (int in_place = 0; in_place < 2; in_place++)
-      for (long n = 1; try_failure(n, m, in_place);) n++;
+    for (int tried = 0; tried < 2 * KINDS; tried++)
+      for (long n = 1; try_failure(n, m, (enum kind)(tried / 2), tried % 2);) n++;
   for (long n = 1; model == DROPS && try_full_device(n);) n++;
 }
 
@@ -321,7 +354,7 @@ static long names;
 
 /* What has no name is gone after a cut, and what has one has to be whole on the disk. */
 static int is_ready(void) {
-  memcpy(left, disk, sizeof left), memcpy(after, content, sizeof after);
+  memcpy(left, disk, bytes), memcpy(after, content, sizeof after);
   int fd = watched;
   write_left();
   is_making = 0, watched = -1;
@@ -332,14 +365,14 @@ static int is_ready(void) {
 
 int linkat(int from_folder, const char *from, int to_folder, const char *to, int flags) {
   if (is_making) EXPECT(is_ready() && access(PATH, F_OK) != 0), names++;
-  if (is_making && fails()) return -1;
+  if (is_making && fails(ANY)) return -1;
   return (int)syscall(SYS_linkat, from_folder, from, to_folder, to, flags);
 }
 
 int link(const char *from, const char *to) { return linkat(AT_FDCWD, from, AT_FDCWD, to, 0); }
 
 int fallocate(int fd, int mode, off_t at, off_t length) {
-  if (fd == watched && fails()) return -1;
+  if (fd == watched && fails(ANY)) return -1;
   return (int)syscall(SYS_fallocate, fd, mode, at, length);
 }
 
@@ -371,30 +404,35 @@ static void try_making(void) {
   printf("cuts: making an image: named %ld times, each time whole and synced, %ld failing calls: %ld bad\n", names, failures, bad);
 }
 
-static void open_left(void) {
-  int fd = (int)syscall(SYS_openat, AT_FDCWD, "left.img", O_RDWR | O_CREAT, 0600);
-  if (fd < 0 || ftruncate(fd, BYTES) != 0) die("left.img");
-  left_file = mmap(NULL, BYTES, PROT_READ | PROT_WRITE, MAP_SHARED, fd, 0);
+/* A file of zeros for images of that layout. */
+static void open_left(int layout) {
+  if (left_file != NULL) munmap(left_file, bytes);
+  use_image(layout);
+  int fd = (int)syscall(SYS_openat, AT_FDCWD, "left.img", O_RDWR | O_CREAT | O_TRUNC, 0600);
+  if (fd < 0 || ftruncate(fd, (off_t)bytes) != 0) die("left.img");
+  left_file = mmap(NULL, bytes, PROT_READ | PROT_WRITE, MAP_SHARED, fd, 0);
   if (left_file == MAP_FAILED) die("left.img");
   close(fd);
 }
 
 static int tell(int commits) {
-  static const char *const words[] = {
-    "", ", as it has to be where the system keeps what it cached", ", as it is with layout 2 where a block of 4,096 bytes is torn"};
-  printf("cuts: %ld power cuts in %d commits, openings and recoveries, %ld failing calls: %ld bad%s\n", cuts, commits, failures, bad, words[model]);
-  return model == DROPS ? bad > 0 || failures < 20 : bad == 0;
+  static const char *const words[] = {"", ", where the system keeps what it cached", ", where a block of 4,096 bytes is torn"};
+  int is_control = model == KEEPS || (model == BLOCKS && image_layout() == 2);
+  printf("cuts: layout %d, %ld power cuts in %d commits, openings and recoveries, %ld failing calls: %ld bad%s%s\n", image_layout(), cuts, commits, failures,
+         bad, words[model], is_control ? ": a control, some have to be" : "");
+  return is_control ? bad == 0 : bad > 0 || failures < 10;
 }
 
 int main(int argc, char **argv) {
   if (argc < 3 || chdir(argv[1]) != 0) return 2;
   model = argc < 4 ? DROPS : strcmp(argv[3], "kept") == 0 ? KEEPS : BLOCKS;
-  open_left();
-  if (model == DROPS) try_making();
+  open_left(3);
+  if (model == DROPS && image_layout() == 3) try_making();
   if (bad > 0) return 1;
   failures = 0;
+  open_left(image_layout());
   begin();
   for (int i = 0; i < atoi(argv[2]); i++) commit_some(1);
-  if (model != BLOCKS) try_failures(atoi(argv[2]));
+  if (model != BLOCKS || image_layout() == 3) try_failures(atoi(argv[2]));
   return tell(atoi(argv[2]));
 }

@@ -80,18 +80,31 @@ static uint32_t home_of(const struct kefs_image *image, size_t i) {
   return image->files[image->pages[i].file].first_home + image->pages[i].page;
 }
 
+/* Which of two journals a commit writes to is the plan's affair, and the next one writes to the other. */
+static int take_journals(struct kefs_image *image) {
+  for (int j = 0; j < 2 && image->taken > image->roomy; j++) {
+    off_t map = image->layout->journals[j];
+    int number = map == 0 ? KEFS_OK : take_room(image->fd, SECTOR * map, (off_t)SECTOR * MAP_SECTORS + (off_t)PAGE * (off_t)image->taken);
+    if (number != KEFS_OK) return fail(image, device_result(number), "room for %zu pages in the journal: %s", image->taken, kefs_strerror(number));
+  }
+  if (image->taken > image->roomy) image->roomy = image->taken;
+  return KEFS_OK;
+}
+
 /* A commit is refused before its first call where there is no room: after it the image would have to be recovered. */
-int take_homes(struct kefs_image *image) {
-  for (size_t i = 0; i < image->taken && image->roomless != NULL; i++) {
+int take_rooms(struct kefs_image *image) {
+  if (image->roomless == NULL) return KEFS_OK;
+  int result = take_journals(image);
+  for (size_t i = 0; i < image->taken && result == KEFS_OK; i++) {
     uint32_t home = home_of(image, i);
     if (!bit_of(image->roomless, home)) continue;
-    int number = take_room(image->fd, home_offset(home), PAGE);
+    int number = take_room(image->fd, home_offset(image->layout, home), PAGE);
     if (number != KEFS_OK)
       return fail(image, device_result(number), "room for page %u of file %u: %s", (unsigned)image->pages[i].page, (unsigned)image->pages[i].file,
                   kefs_strerror(number));
     clear_bit(image->roomless, home);
   }
-  return KEFS_OK;
+  return result;
 }
 
 static int halt(struct kefs_image *image, size_t call, size_t bytes, int number) {

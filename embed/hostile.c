@@ -1,8 +1,9 @@
 /* hostile FOLDER: programs that a library has to live through: closed streams, locked memory, cancelled threads, replaced files, kills
    while an image is made, few descriptors, small stacks, full devices, jumps into mapped memory, and the like. Each case is
-   a process of its own, which has to end well and in time, once or with each tracker that the system has. */
+   a process of its own, which has to end well and in time, once or with each tracker that the system has. Images are of layout 3, or of that which the
+   environment's LAYOUT says, but those that the case itself makes. */
 #define _GNU_SOURCE
-#include "kefs.h"
+#include "tests.h"
 #include <dirent.h>
 #include <dlfcn.h>
 #include <errno.h>
@@ -41,14 +42,18 @@ static void check_result(int wanted, int result, const char *call, int line) {
 #define RETURNS(wanted, call) check_result(wanted, call, #call, __LINE__)
 #define DONE(call) RETURNS(KEFS_OK, call)
 
-static void make_file(const char *path, uint32_t pages, unsigned char byte) {
+typedef int maker(const char *path, unsigned permissions, const struct kefs_file *files, size_t count);
+
+static void make_file_by(maker *make, const char *path, uint32_t pages, unsigned char byte) {
   unsigned char *content = byte == 0 ? NULL : malloc((size_t)pages * PAGE);
   if (content != NULL) memset(content, byte, (size_t)pages * PAGE);
   struct kefs_file file = {pages * PAGE, 0, content};
   unlink(path);
-  DONE(kefs_format(path, 0600, &file, 1));
+  DONE(make(path, 0600, &file, 1));
   free(content);
 }
+
+static void make_file(const char *path, uint32_t pages, unsigned char byte) { make_file_by(format_image, path, pages, byte); }
 
 static unsigned char *open_file(const char *path, kefs_image **to) {
   void *at;
@@ -78,11 +83,13 @@ static void open_again(void) {
   a = open_file(PATH, &image);
 }
 
-static double now(void) {
+static double seconds_of(clockid_t clock) {
   struct timespec time;
-  clock_gettime(CLOCK_MONOTONIC, &time);
+  clock_gettime(clock, &time);
   return (double)time.tv_sec + (double)time.tv_nsec * 1e-9;
 }
+
+static double now(void) { return seconds_of(CLOCK_MONOTONIC); }
 
 /* The exit status of a child, or -1 where a signal ended it. */
 static int status_of(pid_t child) {
@@ -98,6 +105,15 @@ static long page_bytes;
 int fallocate(int fd, int mode, off_t at, off_t length) {
   if (no_room != 0) return errno = no_room, -1;
   return (int)syscall(SYS_fallocate, fd, mode, at, length);
+}
+
+/* Closes pages, and stores to the first one at once where it is told to. */
+static int is_storing;
+
+int mprotect(void *at, size_t length, int protection) {
+  int result = (int)syscall(SYS_mprotect, at, length, protection);
+  if (is_storing && protection == PROT_READ) is_storing = 0, *(volatile unsigned char *)at = 9;
+  return result;
 }
 
 long sysconf(int name) {
@@ -303,28 +319,51 @@ static void few_pages_are_marked_where_mappings_are_short(void) {
   DONE(kefs_close(image));
 }
 
+/* The second range finds a page that the first one has taken, and that was stored to since: it is for the next commit. */
+static void a_store_between_two_ranges_is_not_lost(void) {
+  size_t taken;
+  if ((flags & KEFS_TRACK_SIGNAL) == 0) return;
+  begin(PAGES, 0);
+  struct kefs_range twice[] = {{a, PAGES * PAGE}, {a, PAGES * PAGE}};
+  store(a, 1);
+  is_storing = 1;
+  DONE(kefs_commit(image, twice, 2, &taken));
+  CHECK(taken == 1 && is_storing == 0 && a[0] == 9 && written() == 1);
+  DONE(kefs_commit(image, NULL, 0, &taken));
+  CHECK(taken == 1 && written() == 0);
+  open_again();
+  CHECK(a[0] == 9);
+  DONE(kefs_close(image));
+}
+
 static void a_sparse_file_takes_room_as_it_fills(void) {
   struct kefs_file sparse[] = {{PAGES * PAGE, 0, NULL}, {64u << 20, KEFS_FILE_SPARSE, NULL}, {PAGES * PAGE, 0, NULL}};
   struct stat there;
   void *at;
   unlink(PATH);
-  DONE(kefs_format(PATH, 0600, sparse, 3));
-  CHECK(stat(PATH, &there) == 0 && there.st_size > 64 << 20 && there.st_blocks * 512 < 8 << 20);
+  DONE(format_image(PATH, 0600, sparse, 3));
+  CHECK(stat(PATH, &there) == 0 && there.st_size > 64 << 20 && there.st_blocks * 512 < 1 << 20);
   DONE(kefs_open(&image, PATH, flags));
   DONE(kefs_map(image, 1, NULL, &at, NULL));
   a = at;
   for (no_room = ENOSPC; no_room == ENOSPC; no_room = no_room == ENOSPC ? EDQUOT : 0) {
     store(a + 7777 * (size_t)PAGE, 1), store(a + 9 * PAGE, 2);
     RETURNS(no_room, kefs_commit(image, NULL, 0, NULL));
-    CHECK(written() == 2 && strstr(kefs_errmsg(image), "room for page") != NULL);
+    CHECK(written() == 2 && strstr(kefs_errmsg(image), "room for 2 pages in the journal") != NULL);
   }
+  no_room = 0;
+  DONE(kefs_commit(image, NULL, 0, NULL));
+  store(a + 100 * PAGE, 3);
+  no_room = ENOSPC;
+  RETURNS(ENOSPC, kefs_commit(image, NULL, 0, NULL));
+  CHECK(written() == 1 && strstr(kefs_errmsg(image), "room for page 100 of file 1") != NULL);
   no_room = 0;
   DONE(kefs_commit(image, NULL, 0, NULL));
   DONE(kefs_close(image));
   DONE(kefs_open(&image, PATH, flags));
   DONE(kefs_map(image, 1, NULL, &at, NULL));
   a = at;
-  CHECK(a[7777 * (size_t)PAGE] == 1 && a[9 * PAGE] == 2 && written() == 0);
+  CHECK(a[7777 * (size_t)PAGE] == 1 && a[9 * PAGE] == 2 && a[100 * PAGE] == 3 && written() == 0);
   DONE(kefs_close(image));
 }
 
@@ -349,7 +388,7 @@ static void an_opening_takes_the_file_that_has_the_name(void) {
 }
 
 static void make_for_ever(void) {
-  for (;;) make_file(PATH, 4096, 3);
+  for (;;) make_file_by(kefs_format, PATH, 4096, 3);
 }
 
 static int other_files(const char *begin) {
@@ -434,16 +473,16 @@ static void other_page_sizes_are_refused(void) {
   CHECK(strstr(kefs_errmsg(NULL), "65536") != NULL);
 }
 
-/* Rolls all of a file back, with so many pages in the journal: the seconds. */
+/* Rolls all of a file back, with so many pages in the journal: the seconds of the processor. */
 static double timed_roll_back(uint32_t pages, uint32_t journal) {
   flags = KEFS_TRACK_CALLER;
   begin(pages, 0);
   for (uint32_t k = 0; k < journal; k++) store(a + (size_t)k * (pages / journal) * PAGE, 1);
   DONE(kefs_commit(image, NULL, 0, NULL));
   DONE(kefs_mark_dirty(image, a, (size_t)pages * PAGE));
-  double start = now();
+  double start = seconds_of(CLOCK_THREAD_CPUTIME_ID);
   DONE(kefs_rollback(image, NULL, 0));
-  double taken = now() - start;
+  double taken = seconds_of(CLOCK_THREAD_CPUTIME_ID) - start;
   DONE(kefs_close(image));
   return taken;
 }
@@ -551,7 +590,7 @@ struct test { void (*run)(void); const char *name; };
 static const struct test with_each_tracker[] = {
   TEST(lines_to_closed_streams_reach_no_image), TEST(locked_memory_is_read), TEST(a_cancelled_thread_leaves_no_lock),
   TEST(a_jump_into_mapped_memory_is_a_fault), TEST(no_bytes_are_no_pages), TEST(small_stacks_suffice), TEST(a_backup_beside_commits_is_whole),
-  TEST(few_pages_are_marked_where_mappings_are_short), TEST(a_sparse_file_takes_room_as_it_fills)};
+  TEST(few_pages_are_marked_where_mappings_are_short), TEST(a_store_between_two_ranges_is_not_lost), TEST(a_sparse_file_takes_room_as_it_fills)};
 static const struct test once[] = {
   TEST(an_opening_takes_the_file_that_has_the_name), TEST(a_kill_leaves_a_whole_image_or_none), TEST(want_of_descriptors_changes_no_tracker),
   TEST(a_full_device_is_told), TEST(what_is_no_file_is_refused_at_once), TEST(other_page_sizes_are_refused),
@@ -602,6 +641,6 @@ int main(int argc, char **argv) {
     for (size_t i = 0; i < sizeof with_each_tracker / sizeof *with_each_tracker; i++)
       if (argc < 3 || strcmp(argv[2], with_each_tracker[i].name) == 0) try(&with_each_tracker[i], trackers[t].name);
   }
-  printf("hostile: %d cases: %d failed, %d skipped\n", tried, failed, skipped);
+  printf("hostile: layout %d, %d cases: %d failed, %d skipped\n", image_layout(), tried, failed, skipped);
   return failed > 0;
 }

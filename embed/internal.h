@@ -23,7 +23,7 @@ enum tracker { TRACKER_NONE, TRACKER_SCAN, TRACKER_SIGNAL, TRACKER_CALLER };
 
 /* The mark of a page. A commit takes a page by turning DIRTY into TAKEN. A store that is noted from then on adds DIRTY
    again, so that the page stays dirty after the commit. */
-enum { DIRTY = 1, TAKEN = 2 };
+enum { DIRTY = 1, TAKEN = 2, AREA = 512 };
 
 /* An entry of the image's directory. */
 struct file { int present, read_only; uint32_t first_home, length; };
@@ -33,7 +33,8 @@ struct mapping {
   struct kefs_image *image;
   unsigned char *at; /* NULL: the file is not mapped */
   size_t pages;
-  unsigned char *marks; /* one a page, changed by atomic operations alone */
+  unsigned char *marks; /* one a page, changed by atomic operations alone; */
+  unsigned char *areas; /* and one of each AREA pages: 0 where the mark of none of them is DIRTY */
   struct file file;
   struct region *region;
 };
@@ -41,21 +42,34 @@ struct mapping {
 /* The pages `first` to `end` of a mapped file, `end` not included. */
 struct span { struct mapping *mapping; size_t first, end; };
 
+/* What a writer tells readers (readers.c). */
+struct turns {
+  int shares;  /* the file system has the locks for it */
+  int changes; /* the file is being changed, or may be half made */
+  int hurries; /* it has waited for readers too long */
+  int is_new;  /* the next state is not one commit after `state` */
+  off_t state; /* the byte that says so, or 0 */
+};
+
 struct kefs_image {
   pthread_mutex_t lock;
   int cancel; /* the cancel state of the thread that has the lock */
   uint64_t generation; /* of the process that opened it */
   int fd;
-  int read_only; /* opened with KEFS_RDONLY */
+  int read_only; /* opened with KEFS_RDONLY or KEFS_SNAPSHOT */
+  struct turns turns;
+  struct snapshot *snapshot; /* with KEFS_SNAPSHOT, or NULL */
   int halted;    /* a device call of a plan failed, */
   size_t failed; /* which had this number in the plan, */
   enum outcome outcome; /* and this became of the commit, whose pages are still taken */
   enum tracker tracker;
   int lazy;
   int faults, pagemap; /* the userfaultfd and /proc/self/pagemap, or -1 */
-  const unsigned char *bytes; /* the host file, mapped shared and never written here */
+  const unsigned char *bytes; /* the host file, mapped shared and never written here; of a snapshot, the copy */
   size_t sectors;
-  unsigned char *roomless; /* a bit for each home that may have no room on the device yet, or NULL: each has */
+  const struct layout *layout;
+  unsigned char *roomless; /* a bit for each home that may have no room on the device yet, or NULL: each has, and the journals */
+  size_t roomy;            /* so many pages of a journal have room where `roomless` is there */
   struct famsync_handle handle;
   struct famsync_plan *scratch, *plan;
   struct file files[KEFS_FILES];
@@ -65,6 +79,7 @@ struct kefs_image {
   size_t taken;
   struct place places[KEFS_MOST_PAGES]; /* the journal's pages by their homes, `placed` of them, or -1: to be read anew */
   int placed;
+  const unsigned char *body; /* where these pages lie */
   pthread_mutex_t backups; /* one backup at a time */
   unsigned char *late;     /* a bit for each home that a backup has to copy yet, or NULL */
   struct kefs_stat stat;
@@ -93,7 +108,18 @@ int device_result(int number);
 
 /* layout.c: what docs/FORMATS.md says of an image. */
 
-enum { DIRECTORY_SECTOR = 1, GATE_SECTOR = 2, MAP_SECTOR = 3, BODY_SECTOR = 11, FIRST_HOME_SECTOR = 8195, MOST_HOMES = 1 << 30 };
+enum { KIND_SECTOR = 1, MAP_SECTORS = 8, MOST_HOMES = 1 << 30 };
+
+/* Where an image has its parts, by their first sectors. A journal is a map and, behind it, a body. */
+struct layout {
+  uint32_t number;
+  const char *mark; /* eight bytes */
+  uint32_t directory, gate;
+  uint32_t journals[2]; /* the one that a gate of other bytes names, or 0: none; and the one that an open gate names */
+  uint32_t homes;
+};
+extern const struct layout LAYOUT_2, LAYOUT_3; /* new images are of layout 3 */
+
 static const uint32_t PRESENT_BIT = 1u << 31, READ_ONLY_BIT = 1u << 30, HOME_BITS = (1u << 30) - 1;
 
 static inline const unsigned char *sector_at(const struct kefs_image *image, size_t sector) { return image->bytes + SECTOR * sector; }
@@ -107,28 +133,38 @@ static inline uint64_t pages_of(uint32_t length) { return ((uint64_t)length + PA
 
 /* An entry of the directory, of eight bytes. */
 struct file read_entry(const unsigned char *entry);
-/* How many home pages a host file of so many sectors has. It is an image. */
-uint64_t home_pages(size_t sectors);
+/* The layout that an image has by its kind, whether or not its mark is that of it. */
+const struct layout *layout_of(const struct kefs_image *image);
+/* How many home pages the host file has. It is an image. */
+uint64_t home_pages(const struct kefs_image *image);
 void read_directory(struct kefs_image *image);
 /* Whether a sector that is the journal's gate has it open. */
 int is_open_gate(const unsigned char *sector);
 /* Whether the image's gate says what this row of a plan, which was to be written there, says. */
 int gate_says(const struct kefs_image *image, const unsigned char *row);
-/* How many pages the journal holds: 0 where its gate is closed. */
+/* The map of the journal that the gate names, or NULL: it names none. */
+const unsigned char *journal_map(const struct kefs_image *image);
+/* How many pages that journal holds: 0 where there is none. */
 uint32_t journal_pages(const struct kefs_image *image);
-/* The home page of page `i` of the journal. */
+/* The home page of page `i` of it. */
 uint32_t journal_home(const struct kefs_image *image, uint32_t i);
 /* The durable bytes of a home page, where they lie in the image. */
 const unsigned char *durable_page(struct kefs_image *image, uint32_t home);
+/* Copies them. A home that may have no room is read by a call: one that is touched in a mapping takes room on tmpfs, or fails with SIGBUS. No page of the
+   journal has such a home. */
+void copy_home(struct kefs_image *image, uint32_t home, unsigned char *to);
 /* Has the places of the journal's pages read anew, after calls of a plan. */
 void forget_places(struct kefs_image *image);
-off_t home_offset(uint32_t home);
+off_t home_offset(const struct layout *layout, uint32_t home);
 /* Page `k` of a mapped file as it is durable, with zeros past the file's end. */
 void copy_durable(const struct mapping *mapping, size_t k, unsigned char *to);
-/* Writes what a new image has beside its homes: the directory, its gate being closed; and the mark, which comes last. Each returns KEFS_OK or
-   an errno value. */
+/* What a new image has beside its homes, its journals having no page: its directory; and what comes last: a sync of all that was written, kind
+   and mark, each with a sync of its own. Each returns KEFS_OK or an errno value. */
 int write_directory(int fd, const unsigned char *directory);
-int write_mark(int fd);
+int finish_image(int fd);
+/* How many bytes at the beginning of a new image take room from the first: up to its homes, or where its journals take theirs as commits need it
+   up to the map that its gate names. */
+off_t first_room(int has_journals);
 /* Whether sector 0, which has to be there, is these eight bytes again and again. */
 int has_mark(const struct kefs_image *image, const char *mark);
 /* The sector that is the image's directory. */
@@ -146,8 +182,8 @@ int read_all(int fd, void *to, size_t length, off_t offset);
 int sync_data(int fd);
 /* Takes room on the device for these bytes of a file: KEFS_OK, also where the file system can't do so, or an errno value. */
 int take_room(int fd, off_t offset, off_t length);
-/* Takes room for the homes of the pages that are taken, before any call of a plan: KEFS_OK, or the image's result. */
-int take_homes(struct kefs_image *image);
+/* Takes room in the journals for the pages that are taken, and for their homes, before any call of a plan: KEFS_OK, or the image's result. */
+int take_rooms(struct kefs_image *image);
 /* Makes the calls of the image's plan: KEFS_OK, or a result; then the image is halted. */
 int carry_out(struct kefs_image *image);
 
@@ -165,16 +201,41 @@ int new_file_result(int number);
 
 /* open.c */
 
+/* Of a clock that is never set back. */
+long milliseconds(void);
 /* The process that took a lock of this file, as /proc/locks says, or 0. It may have ended, and a child of it have the lock. */
 int holder_of(int fd);
 /* Syncs the host file, and has what is cached of it read anew: a plan begins on an image that the device holds, and a reader gives
    out nothing that a power cut could take back. KEFS_OK or the image's result. */
 int settle(struct kefs_image *image);
 /* Carries out the journal of a host file that is settled: KEFS_OK or a result. A reader makes no call of the plan: it reads through the
-   open journal, and commits nothing. */
+   journal, and commits nothing. */
 int recover(struct kefs_image *image);
-/* Settles and recovers a halted image, and lets the pages of the commit that failed go: KEFS_OK, or the image's result. */
+/* Settles and recovers a halted image, lets the pages of the commit that failed go, and readers in: KEFS_OK, or the image's result. */
 int recover_in_place(struct kefs_image *image);
+
+/* readers.c */
+
+/* Locks the host file for a writer, in so many milliseconds, -1 for no limit, and begins a change of it: KEFS_OK, EWOULDBLOCK or an errno value. */
+int lock_to_write(struct kefs_image *image, long limit);
+/* Waits for readers' turns, and keeps others from them: KEFS_OK, or the image's result, when nothing was done. It does nothing where a change was
+   begun. */
+int begin_change(struct kefs_image *image);
+/* Lets readers in, but to a halted image: the file is as after a commit, and synced. */
+void end_change(struct kefs_image *image);
+/* In a change: KEFS_OK, or KEFS_BUSY where a reader may be reading still. */
+int await_readers(struct kefs_image *image);
+/* Lets all these locks go. */
+void end_turns(struct kefs_image *image);
+
+/* Gives an image a snapshot, which waits so many milliseconds: KEFS_OK or ENOMEM. */
+int begin_snapshot(struct kefs_image *image, long limit);
+void end_snapshot(struct kefs_image *image);
+/* Reads the used pages of the host file into it, with the journal carried out: KEFS_OK or the image's result. ESTALE: the file has no name any
+   more. */
+int read_snapshot(struct kefs_image *image);
+/* Maps a file of it to read: KEFS_OK or an errno value. */
+int map_snapshot(struct mapping *mapping, void *wanted);
 
 /* trackers.c */
 
@@ -224,6 +285,16 @@ static inline unsigned char add_mark(unsigned char *mark, unsigned char bits) {
 static inline unsigned char drop_mark(unsigned char *mark, unsigned char bits) {
   return __atomic_fetch_and(mark, (unsigned char)~bits, __ATOMIC_SEQ_CST);
 }
+
+static inline void set_area(struct mapping *mapping, size_t k, unsigned char mark) { __atomic_store_n(&mapping->areas[k / AREA], mark, __ATOMIC_SEQ_CST); }
+
+/* A commit clears the mark of an area before it looks at those of its pages: so one that is set meanwhile is seen by it, or the area's mark stays. */
+static inline void mark_dirty(struct mapping *mapping, size_t k) {
+  add_mark(&mapping->marks[k], DIRTY);
+  set_area(mapping, k, 1);
+}
+
+static inline size_t areas_of(const struct mapping *mapping) { return mapping->pages / AREA + 1; }
 
 static inline size_t mapped_bytes(const struct kefs_image *image) { return SECTOR * image->sectors + 1; }
 /* Of a bit for each home. */

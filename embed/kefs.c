@@ -45,15 +45,20 @@ void drop_memory(const void *at, size_t length) {
 
 /* Closing */
 
+static void drop_marks(struct mapping *mapping) {
+  drop_memory(mapping->marks, mapping->pages);
+  drop_memory(mapping->areas, areas_of(mapping));
+}
+
 static void drop_mapping(struct mapping *mapping) {
   remove_region(mapping);
   drop_memory(mapping->at, mapping->pages * PAGE);
-  drop_memory(mapping->marks, mapping->pages);
+  drop_marks(mapping);
   *mapping = (struct mapping){0};
 }
 
 /* A child has not inherited the mapped files: something else may be mapped there. */
-static void forget_mapping(struct mapping *mapping) { drop_memory(mapping->marks, mapping->pages); }
+static void forget_mapping(struct mapping *mapping) { drop_marks(mapping); }
 
 static void drop_mappings(struct kefs_image *image, int forked) {
   for (int f = 0; f < KEFS_FILES; f++) {
@@ -67,11 +72,12 @@ static int close_image(struct kefs_image *image) {
   int forked = image->generation != 0 && is_forked(image);
   drop_mappings(image, forked);
   end_tracking(image);
+  end_snapshot(image);
   drop_memory(image->bytes, mapped_bytes(image));
   drop_memory(image->scratch, sizeof *image->scratch);
   drop_memory(image->plan, sizeof *image->plan);
   drop_memory(image->roomless, bits_bytes(image));
-  if (image->fd >= 0 && !forked) flock(image->fd, LOCK_UN); /* a child that still has the descriptor would hold the lock */
+  if (image->fd >= 0 && !forked) end_turns(image), flock(image->fd, LOCK_UN); /* a child that still has the descriptor would hold the locks */
   if (image->fd >= 0) close(image->fd);
   if (!forked) pthread_mutex_destroy(&image->lock), pthread_mutex_destroy(&image->backups);
   free(image);
@@ -112,8 +118,10 @@ static int new_mapping(struct kefs_image *image, unsigned file, void *wanted) {
   struct mapping *mapping = &image->mappings[file];
   *mapping = (struct mapping){.image = image, .file = image->files[file], .pages = ((size_t)image->files[file].length + PAGE - 1) / PAGE};
   mapping->marks = new_memory(mapping->pages);
-  int result = mapping->marks == NULL ? ENOMEM : map_at(mapping, wanted);
-  if (result == KEFS_OK) result = load(mapping);
+  mapping->areas = new_memory(areas_of(mapping));
+  int has_memory = mapping->marks != NULL && mapping->areas != NULL;
+  int result = !has_memory ? ENOMEM : image->snapshot != NULL ? map_snapshot(mapping, wanted) : map_at(mapping, wanted);
+  if (result == KEFS_OK && image->snapshot == NULL) result = load(mapping);
   if (result == KEFS_OK) result = add_region(mapping);
   if (result == KEFS_OK) return KEFS_OK;
   drop_mapping(mapping);
@@ -167,6 +175,6 @@ int kefs_stat(kefs_image *image, struct kefs_stat *to) {
   to->most_pages = KEFS_MOST_PAGES;
   to->tracker = names[image->tracker];
   to->lazy = (uint32_t)image->lazy;
-  to->layout = 2;
+  to->layout = image->layout->number;
   return leave(image, KEFS_OK);
 }

@@ -1,15 +1,15 @@
-/* kefs.h, version 1.0: failure-atomic msync on a program's own memory (Park, Kelly and Shen, "Failure-Atomic msync()",
+/* kefs.h, version 1.1: failure-atomic msync on a program's own memory (Park, Kelly and Shen, "Failure-Atomic msync()",
    EuroSys 2013), over the proved plans of libfamsync.a. An image is one host file that holds up to 64 files of fixed
    lengths, under 2^32 bytes each (docs/FORMATS.md). A program maps some of them, stores to the memory, and commits
-   what it has stored.
+   what it has stored. New images are of layout 3, and those of layout 2 are opened too.
 
    After a commit has returned KEFS_OK each page that it took is durable, in all files at once. After a crash or a
    power cut at any moment the files are as after some prefix of the commits, each of them whole, and no commit that
    returned KEFS_OK is missing. That a plan of device calls does so is proved; that this library makes the calls of
    the plan and finds each dirty page is C, and tested. All of it rests on a host file that no other program writes
    or maps while it is open here, and on a device that keeps what was synced. Of what was not synced a cut may leave any
-   bytes in each sector of 512 bytes that was written, and in no other: where a device or a file system writes blocks of
-   4,096 bytes and may leave one of them torn, the image is not kept whole.
+   bytes in each sector of 512 bytes that was written, and, with layout 3, in each block of 4,096 bytes that has such a
+   sector; in no other. (In an image of layout 2 a block that is torn in all its sectors may be one that had other parts.)
 
    Results. A call that can fail returns an int: KEFS_OK (0), an errno value (over 0), or one of enum kefs_result (under
    0). Errno itself is not part of the interface. An out-pointer is written only with KEFS_OK, but for the handle of an
@@ -55,7 +55,7 @@ extern "C" {
 #endif
 
 #define KEFS_VERSION_MAJOR 1
-#define KEFS_VERSION_MINOR 0
+#define KEFS_VERSION_MINOR 1
 #define KEFS_VERSION_PATCH 0
 /* 1,000,000 * major + 1,000 * minor + patch. */
 #define KEFS_VERSION_NUMBER (KEFS_VERSION_MAJOR * 1000000 + KEFS_VERSION_MINOR * 1000 + KEFS_VERSION_PATCH)
@@ -68,12 +68,12 @@ enum {
 
 enum kefs_result {
   KEFS_OK = 0,
-  KEFS_NOT_IMAGE = -31001,   /* the host file has no layout of a store: never an image, of an older layout, or damaged */
-  KEFS_BAD_JOURNAL = -31002, /* the image's journal is open with a map that no commit writes */
+  KEFS_NOT_IMAGE = -31001,   /* the host file has no layout of a store: never an image, of layout 1, or damaged */
+  KEFS_BAD_JOURNAL = -31002, /* the image's journal has a map that no commit writes */
   KEFS_BUSY = -31003,        /* another process or handle has the image open, and the wait for it is over */
   KEFS_NO_FILE = -31004,     /* the image has no file of this number, or the file is not mapped where it has to be */
   KEFS_TOO_MANY = -31005,    /* over 1,023 dirty pages in one commit */
-  KEFS_READ_ONLY = -31006,   /* the image was opened with KEFS_RDONLY, or the file may only be read */
+  KEFS_READ_ONLY = -31006,   /* the image was opened with KEFS_RDONLY or KEFS_SNAPSHOT, or the file may only be read */
   KEFS_BAD_RANGE = -31007,   /* bytes that do not lie in one mapped file */
   KEFS_DEVICE = -31008,      /* a read, write or sync of the host file failed */
   KEFS_HALTED = -31009,      /* a commit before this call returned KEFS_DEVICE: kefs_recover or kefs_close has to follow */
@@ -93,7 +93,7 @@ const char *kefs_strerror(int result);
 /* The name of a result, as "KEFS_BUSY"; "errno" for an errno value, and "unknown" for anything else. Never NULL. */
 const char *kefs_name(int result);
 
-/* What went wrong in the last call on this image that failed, as "pwrite of 4096 bytes at sector 8195: Input/output
+/* What went wrong in the last call on this image that failed, as "pwrite of 4096 bytes at sector 16408: Input/output
    error". Where `image` is NULL: in this thread's last kefs_open, kefs_open_with or kefs_format that failed. "" where
    none has failed; never NULL. It holds until the next such call. kefs_mark_dirty, kefs_touch and a call that returns
    KEFS_FORKED leave none. */
@@ -104,7 +104,8 @@ const char *kefs_errmsg(const kefs_image *image);
 /* Flags of a file. */
 enum {
   KEFS_FILE_READ_ONLY = 1, /* no program may store to it */
-  KEFS_FILE_SPARSE = 2     /* its length is a bound: a page takes room on the device when it is first committed */
+  KEFS_FILE_SPARSE = 2     /* its length is a bound: a page takes room on the device when it is first committed, and so
+                              do the journals of an image that has such a file */
 };
 
 /* A file of a new image. */
@@ -115,8 +116,9 @@ struct kefs_file {
 };
 
 /* Makes an image at `path`, where nothing may be, of `count` files, 0 to 64, that get the numbers from 0 on, with these
-   access permissions (as 0644, less the umask). It is durable when the call returns. Its room on the device is taken,
-   but that of sparse files, where the file system can do so. A stop at any moment, and a failure, leave the whole image
+   access permissions (as 0644, less the umask). It is durable when the call returns. It has 8,400,896 bytes beside its
+   files. Its room on the device is taken, where the file system can do so, but where a file is sparse that of 16,384
+   bytes and of the other files: the rest follows as commits need it, at most 8 MiB for the journals. A stop at any moment, and a failure, leave the whole image
    at `path`, or nothing there. (Where the file system has no unnamed files, a stop may leave a file
    `path`.new-PID-NUMBER, which may be removed.)
    EINVAL: over 64 files, or a flag that is none. EEXIST: something is at `path`. EFBIG: the files need over 2^30 pages,
@@ -129,13 +131,14 @@ int kefs_format(const char *path, unsigned permissions, const struct kefs_file *
 /* Flags of an opening. At most one tracker: with none it is scan, or else signal where the system has no scan;
    kefs_stat says which. */
 enum {
-  KEFS_RDONLY = 1,        /* reads only, beside other readers, and writes nothing: an open journal is read through */
+  KEFS_RDONLY = 1,        /* reads only, beside other readers, and writes nothing: a journal with pages is read through */
   KEFS_NOWAIT = 2,        /* KEFS_BUSY at once, where the call would wait until another one lets the image go */
   KEFS_TRACK_SCAN = 4,
   KEFS_TRACK_SIGNAL = 8,
   KEFS_TRACK_CALLER = 16,
   KEFS_LAZY = 32,         /* reads a page when it is first touched */
-  KEFS_CREATE = 64        /* of kefs_open_with: makes the image where nothing is at the path */
+  KEFS_CREATE = 64,       /* of kefs_open_with: makes the image where nothing is at the path */
+  KEFS_SNAPSHOT = 128     /* reads only, beside one writer and any readers: the files as after some commit */
 };
 
 /* KEFS_LAZY. kefs_map costs nothing for each page, and memory is taken for the pages that are touched alone. A system
@@ -143,9 +146,17 @@ enum {
    is installed as that of SIGSEGV is. Where the system has no userfaultfd, and under KEFS_TRACK_SIGNAL,
    the flag changes nothing. */
 
-/* Opens the image at `path` and locks it by flock(2): against every other opening, or with KEFS_RDONLY against those
-   without. It waits for the lock, for ever where this thread holds it by another handle, and carries out what a stop or
-   the last commit left in the journal, but not with KEFS_RDONLY. Of what it reads it lets the system drop its cached
+/* KEFS_SNAPSHOT. The image's used pages are copied into memory, and the mapped files show them as they were after the newest
+   commit, all of it, until kefs_refresh brings a newer one. KEFS_RDONLY, KEFS_LAZY and trackers change nothing then. The image is
+   not kept from others: a process may have it open to write meanwhile, and be killed or open it again. An opening, and a refresh,
+   waits for the commit or the opening that is under way, and these wait for readers that are copying, in turns of some
+   megabytes; for one that makes no progress, a second, and then they go on and it copies again. A writer that is none of this
+   library's version 1.1 or later (pagesync, pagerun) is KEFS_BUSY, and such a one may find the image in use while a snapshot is
+   copied. */
+
+/* Opens the image at `path` and locks it by flock(2): against every other opening but those with KEFS_SNAPSHOT, or with KEFS_RDONLY
+   against those without. It waits for the lock, for ever where this thread holds it by another handle, and carries out what a stop or
+   the last commit left in the journal, but not with KEFS_RDONLY or KEFS_SNAPSHOT. Of what it reads it lets the system drop its cached
    copy first, so that it sees what the device holds, after a sync that failed too. *image is NULL where it fails;
    kefs_errmsg(NULL) tells more.
    EINVAL: a flag that is none, two trackers, or KEFS_CREATE. ENOMEM. ENOSYS: the system's pages are not of 4,096 bytes.
@@ -157,7 +168,8 @@ int kefs_open(kefs_image **image, const char *path, unsigned flags);
 /* What an opening may be given besides. Zeros, but for `size`, change nothing. */
 struct kefs_options {
   size_t size;                  /* sizeof (struct kefs_options), so that a later version may have more fields */
-  uint32_t wait;                /* milliseconds to wait for the lock at most, then KEFS_BUSY; 0: no limit */
+  uint32_t wait;                /* milliseconds to wait for the lock at most, then KEFS_BUSY; 0: no limit. With KEFS_SNAPSHOT
+                                   of each kefs_refresh too */
   uint32_t permissions;         /* with KEFS_CREATE these three, as of kefs_format: access permissions, */
   const struct kefs_file *files; /* files */
   size_t count;                 /* and how many they are */
@@ -165,7 +177,7 @@ struct kefs_options {
 
 /* kefs_open with options. With KEFS_CREATE, where nothing is at `path`, the image is made first, as kefs_format does
    it; an image that is there is opened with the files that it has.
-   EINVAL: as of kefs_open and of kefs_format, KEFS_CREATE with KEFS_RDONLY or without options, or a `size` that is less
+   EINVAL: as of kefs_open and of kefs_format, KEFS_CREATE to read or without options, or a `size` that is less
    than that of version 1.0. Other results as of kefs_open and, with KEFS_CREATE, of kefs_format. */
 int kefs_open_with(kefs_image **image, const char *path, unsigned flags, const struct kefs_options *options);
 
@@ -177,7 +189,7 @@ int kefs_close(kefs_image *image);
 
 /* Maps a file, whole, at the address `wanted` (NULL: anywhere), and says where it is and how many bytes it has. Past
    its end the last page reads as zeros, and stores there are dropped by a commit. The memory may be stored to, but
-   not of a read-only file or with KEFS_RDONLY. *at is NULL for an empty file. Of a mapped file the mapping that is
+   not of a read-only file or of an image that was opened to read. *at is NULL for an empty file. Of a mapped file the mapping that is
    there is given. `length` may be NULL.
    KEFS_NO_FILE: no such file. EINVAL: `wanted` is no multiple of 4,096. EEXIST: something is mapped there, or the
    file is mapped elsewhere.
@@ -201,9 +213,9 @@ struct kefs_range { const void *at; size_t length; };
    How many they were goes to *taken, where it is not NULL; where there are none, no device call is made. Bytes of a
    range that lie in no mapping count for nothing.
    KEFS_TOO_MANY: over 1,023 pages; nothing was done. The way on is to commit fewer ranges at a time, or kefs_rollback.
-   KEFS_READ_ONLY: opened with KEFS_RDONLY. EINVAL: `ranges` is NULL and `count` is not 0. ENOMEM: nothing was done.
-   ENOSPC, EDQUOT: there is no room on the device, of a sparse file mostly; nothing was done, the pages are dirty still,
-   and the image goes on. KEFS_NOT_IMAGE, KEFS_BAD_JOURNAL: another program has written over the host file; nothing was
+   KEFS_READ_ONLY: opened with KEFS_RDONLY or KEFS_SNAPSHOT. EINVAL: `ranges` is NULL and `count` is not 0. ENOMEM: nothing was done.
+   ENOSPC, EDQUOT: there is no room on the device, where a file is sparse mostly; nothing was done, the pages are dirty
+   still, and the image goes on. KEFS_NOT_IMAGE, KEFS_BAD_JOURNAL: another program has written over the host file; nothing was
    done.
    KEFS_DEVICE: a device call failed, and the commit is durable, whole, or it is not: kefs_recover says which, and so
    do kefs_close and kefs_open. */
@@ -222,11 +234,12 @@ enum { KEFS_BEFORE = 0, KEFS_AFTER = 1 };
    it is not, and its pages are dirty. KEFS_BEFORE too where no commit had failed; then nothing is done. `stands` may be
    NULL.
    ENOSPC, EDQUOT, KEFS_DEVICE: the device failed again, and the image stays halted: kefs_recover may be called again.
-   KEFS_NOT_IMAGE, KEFS_BAD_JOURNAL: what the device holds is no image any more. ENOMEM. */
+   KEFS_BUSY: a reader has been copying for over a second, and the image stays halted too. KEFS_NOT_IMAGE,
+   KEFS_BAD_JOURNAL: what the device holds is no image any more. ENOMEM. */
 int kefs_recover(kefs_image *image, int *stands);
 
 /* How many pages kefs_commit of these ranges would take now: for a program that ends a transaction before it grows too
-   large. Over 1,023 is an answer like any other. With KEFS_RDONLY it is 0.
+   large. Over 1,023 is an answer like any other. Of an image that was opened to read it is 0.
    EINVAL: as of kefs_commit. */
 int kefs_count_dirty(kefs_image *image, const struct kefs_range *ranges, size_t count, size_t *pages);
 
@@ -248,12 +261,26 @@ int kefs_mark_dirty(kefs_image *image, const void *at, size_t length);
    KEFS_BAD_RANGE: the bytes do not lie in one mapped file. ENOMEM. KEFS_DEVICE: a read failed. */
 int kefs_touch(kefs_image *image, const void *at, size_t length);
 
+/* Readers beside a writer */
+
+/* Of an image that was opened with KEFS_SNAPSHOT: brings its mapped files, where they are, to what the newest commit has left,
+   and all of them at once: a commit that returned before this call is in it. *changed, which may be NULL, is 1 where a byte of them
+   may differ from before, else 0. No other thread may use the mapped memory meanwhile. After any result but KEFS_OK they are
+   as they were. Where the writer has not committed since, it waits for nobody and copies nothing; after one commit it copies that one's
+   pages, and else it compares all used pages.
+   EINVAL: `image` is NULL, or was not opened so. KEFS_BUSY: the wait of the opening's options, or with KEFS_NOWAIT any wait, is over.
+   EINTR: a signal came while it waited. ESTALE: the image was replaced or removed, and no name leads to it any more: the
+   way on is kefs_close and kefs_open. ENOMEM. KEFS_NOT_IMAGE, KEFS_BAD_JOURNAL: another program has cut the file or
+   written over it. ENOLCK: the file system has no locks of byte ranges. ENOSPC, EDQUOT, KEFS_DEVICE: a read or a sync failed. */
+int kefs_refresh(kefs_image *image, int *changed);
+
 /* Backup */
 
 /* Makes an image at `path`, where nothing may be, as kefs_format does, whose files are as the last commit left them,
-   also where this image was opened with KEFS_RDONLY. Other threads may store and commit meanwhile: a commit waits for a
-   part of the copy, a MiB mostly, and the copy has all commits that returned before some moment of the call, and no
-   later one. (A copy that is made without this call, beside a program that commits, may be torn.)
+   also where this image was opened to read. It is of layout 3, whatever that of this one. Other threads may store and
+   commit meanwhile: a commit waits for a part of the copy, a MiB mostly, and the copy has all commits that returned before
+   some moment of the call, and no later one. (A copy that is made without this call, beside a program that commits, may be
+   torn.)
    EEXIST, ENOSPC, EDQUOT, EFBIG, ENOMEM, other errno values: as of kefs_format. KEFS_DEVICE: a read, a write or a sync
    failed, of either file. No failure halts this image. */
 int kefs_backup(kefs_image *image, const char *path, unsigned permissions);
@@ -270,9 +297,9 @@ struct kefs_stat {
   uint64_t committed_pages; /* pages that they took */
   uint64_t written_bytes;   /* bytes written to the host file */
   uint64_t syncs;           /* syncs of the host file */
-  const char *tracker;      /* "scan", "signal" or "caller"; "none" with KEFS_RDONLY */
+  const char *tracker;      /* "scan", "signal" or "caller"; "none" of an image that was opened to read */
   uint32_t lazy;            /* 1 where pages are read when they are first touched, else 0 */
-  uint32_t layout;          /* 2, of docs/FORMATS.md */
+  uint32_t layout;          /* 2 or 3, of docs/FORMATS.md */
 };
 
 /* Says facts of the image. EINVAL: `size` is less than that of version 1.0. */

@@ -24,7 +24,7 @@ import threading
 import weakref
 from typing import NamedTuple
 
-RDONLY, NOWAIT, TRACK_SCAN, TRACK_SIGNAL, TRACK_CALLER, LAZY = 1, 2, 4, 8, 16, 32
+RDONLY, NOWAIT, TRACK_SCAN, TRACK_SIGNAL, TRACK_CALLER, LAZY, SNAPSHOT = 1, 2, 4, 8, 16, 32, 128
 PAGE, MOST_PAGES = 4096, 1023
 BEFORE, AFTER = 0, 1
 _CREATE = 64
@@ -126,6 +126,7 @@ _CALLS = {
     "kefs_count_dirty": (ctypes.c_void_p, ctypes.c_void_p, ctypes.c_size_t, ctypes.c_void_p),
     "kefs_rollback": (ctypes.c_void_p, ctypes.c_void_p, ctypes.c_size_t),
     "kefs_recover": (ctypes.c_void_p, ctypes.c_void_p),
+    "kefs_refresh": (ctypes.c_void_p, ctypes.c_void_p),
     "kefs_backup": (ctypes.c_void_p, ctypes.c_char_p, ctypes.c_uint),
     "kefs_mark_dirty": (ctypes.c_void_p, ctypes.c_void_p, ctypes.c_size_t),
     "kefs_touch": (ctypes.c_void_p, ctypes.c_void_p, ctypes.c_size_t),
@@ -323,6 +324,13 @@ class Image:
         self._call("kefs_recover", ctypes.byref(stands))
         return stands.value
 
+    def refresh(self):
+        """Of an image that was opened with SNAPSHOT: brings its views to what the newest commit has left, and says whether a byte of them may
+        differ. No other thread may use them meanwhile. Where it raises they are as they were."""
+        changed = ctypes.c_int()
+        self._call("kefs_refresh", ctypes.byref(changed))
+        return bool(changed.value)
+
     def backup(self, path, permissions=0o644):
         """Makes an image at `path`, where nothing may be, that is as the last commit has left this one."""
         self._call("kefs_backup", os.fsencode(path), permissions)
@@ -401,7 +409,7 @@ def _ranges(views):
 
 
 def open(path, flags=0, wait=0, create=None, permissions=0o644):
-    """Opens an image: kefs.RDONLY, kefs.NOWAIT, kefs.LAZY and a tracker are the flags. Another opening of it is waited for, at most `wait`
-    milliseconds where that is not 0. `create` is the files of the image, as of format(), that is made where nothing is at the path. Use it
-    in a `with`."""
+    """Opens an image: kefs.RDONLY or kefs.SNAPSHOT, kefs.NOWAIT, kefs.LAZY and a tracker are the flags. Another opening of it is waited for, at most
+    `wait` milliseconds where that is not 0; with SNAPSHOT only the commit that is under way, and by each refresh() too. `create` is the files of the
+    image, as of format(), that is made where nothing is at the path. Use it in a `with`."""
     return Image(path, flags, wait, create, permissions)

@@ -41,7 +41,7 @@ static struct finding check_entry(const struct kefs_image *image, unsigned f) {
   struct file file = read_entry(entry);
   int is_zero = memcmp(entry, "\0\0\0\0\0\0\0", 8) == 0;
   if (!file.present) return is_zero ? found(KEFS_OK, "", 0, 0) : found(KEFS_NOT_IMAGE, "entry %lu of the directory is of no file, and not zero", f, 0);
-  if (file.first_home + pages_of(file.length) > home_pages(image->sectors))
+  if (file.first_home + pages_of(file.length) > home_pages(image))
     return found(KEFS_NOT_IMAGE, "file %lu does not end within the image", f, 0);
   for (unsigned g = 0; g < f; g++) {
     struct file other = read_entry(directory_of(image) + 8 * g);
@@ -54,23 +54,31 @@ static struct finding check_entry(const struct kefs_image *image, unsigned f) {
 
 static struct finding check_journal(const struct kefs_image *image) {
   uint32_t pages = journal_pages(image);
-  if (pages > KEFS_MOST_PAGES) return found(KEFS_BAD_JOURNAL, "the journal is open with %lu pages", pages, 0);
+  if (pages > KEFS_MOST_PAGES) return found(KEFS_BAD_JOURNAL, "the journal has %lu pages", pages, 0);
   for (uint32_t i = 0; i < pages; i++) {
-    if (journal_home(image, i) >= home_pages(image->sectors)) return found(KEFS_BAD_JOURNAL, "page %lu of the journal has no home", i, 0);
+    if (journal_home(image, i) >= home_pages(image)) return found(KEFS_BAD_JOURNAL, "page %lu of the journal has no home", i, 0);
     for (uint32_t j = 0; j < i; j++)
       if (journal_home(image, i) == journal_home(image, j)) return found(KEFS_BAD_JOURNAL, "pages %lu and %lu of the journal have one home", j, i);
   }
   return found(KEFS_OK, "", 0, 0);
 }
 
-static struct finding check_layout(const struct kefs_image *image) {
+/* A mark and a kind of two layouts are what a torn write of the mark may leave. */
+static struct finding check_mark(const struct kefs_image *image) {
   if (image->sectors == 0) return found(KEFS_NOT_IMAGE, "it has less than a sector", 0, 0);
+  if (has_mark(image, image->layout->mark)) return found(KEFS_OK, "", 0, 0);
   if (has_mark(image, "FAMSYNC1")) return found(KEFS_NOT_IMAGE, "it has layout 1; 'pagefmt upgrade' makes one of layout 2 of it", 0, 0);
-  if (has_mark(image, "FAMSYNC3")) return found(KEFS_NOT_IMAGE, "it has layout 3, which 'pagerun' and its like open", 0, 0);
-  if (!has_mark(image, "FAMSYNC2")) return found(KEFS_NOT_IMAGE, "sector 0 is not the mark of an image", 0, 0);
-  if (image->sectors < FIRST_HOME_SECTOR) return found(KEFS_NOT_IMAGE, "it has %lu sectors, under %lu", image->sectors, FIRST_HOME_SECTOR);
+  if (has_mark(image, LAYOUT_2.mark)) return found(KEFS_NOT_IMAGE, "sector 0 is the mark of layout 2, and sector 1 the kind of layout 3", 0, 0);
+  if (has_mark(image, LAYOUT_3.mark)) return found(KEFS_NOT_IMAGE, "sector 0 is the mark of layout 3, and sector 1 is not its kind", 0, 0);
+  return found(KEFS_NOT_IMAGE, "sector 0 is not the mark of an image", 0, 0);
+}
+
+static struct finding check_layout(const struct kefs_image *image) {
+  struct finding finding = check_mark(image);
+  if (finding.result != KEFS_OK) return finding;
+  if (image->sectors < image->layout->homes) return found(KEFS_NOT_IMAGE, "it has %lu sectors, under %lu", image->sectors, image->layout->homes);
   for (unsigned f = 0; f < KEFS_FILES; f++) {
-    struct finding finding = check_entry(image, f);
+    finding = check_entry(image, f);
     if (finding.result != KEFS_OK) return finding;
   }
   return check_journal(image);
@@ -87,15 +95,23 @@ static void tell_files(const struct kefs_image *image) {
   }
 }
 
+static void tell_journal(const struct kefs_image *image) {
+  const struct layout *layout = image->layout;
+  unsigned long pages = journal_pages(image);
+  int is_open = is_open_gate(sector_at(image, layout->gate));
+  if (layout->journals[0] != 0) printf("journal: %d of two, %lu pages\n", is_open, pages);
+  else if (is_open) printf("journal: open, %lu pages\n", pages);
+  else printf("journal: closed\n");
+}
+
 static void tell_image(const struct kefs_image *image) {
   struct stat there;
   if (fstat(image->fd, &there) == 0)
     printf("size: %llu bytes, of which %llu have room on the device\n", (unsigned long long)there.st_size, (unsigned long long)there.st_blocks * 512);
-  if (image->sectors < FIRST_HOME_SECTOR || !has_mark(image, "FAMSYNC2")) return;
-  printf("layout: 2, %llu pages\n", (unsigned long long)home_pages(image->sectors));
+  if (image->sectors < image->layout->homes || !has_mark(image, image->layout->mark)) return;
+  printf("layout: %lu, %llu pages\n", (unsigned long)image->layout->number, (unsigned long long)home_pages(image));
   tell_files(image);
-  if (is_open_gate(sector_at(image, GATE_SECTOR))) printf("journal: open, %lu pages\n", (unsigned long)journal_pages(image));
-  else printf("journal: closed\n");
+  tell_journal(image);
 }
 
 /* Whether a writer has it, so that what was read may be half made. */
@@ -117,6 +133,7 @@ static int tell(const char *path) {
   void *bytes = mmap(NULL, mapped_bytes(&image), PROT_READ, MAP_SHARED, image.fd, 0);
   if (bytes == MAP_FAILED) return failed(path, strerror(errno));
   image.bytes = bytes;
+  image.layout = layout_of(&image);
   tell_image(&image);
   struct finding finding = check_layout(&image);
   if (is_in_use(&image)) return printf("would open: not now\n"), 1;

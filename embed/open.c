@@ -17,16 +17,16 @@
 struct opening { const char *path; unsigned flags; struct kefs_options options; };
 
 static int check_flags(unsigned flags, const struct kefs_options *options) {
-  unsigned trackers = flags & (KEFS_TRACK_SCAN | KEFS_TRACK_SIGNAL | KEFS_TRACK_CALLER), all = 2 * KEFS_CREATE - 1;
+  unsigned trackers = flags & (KEFS_TRACK_SCAN | KEFS_TRACK_SIGNAL | KEFS_TRACK_CALLER), all = 2 * KEFS_SNAPSHOT - 1;
   if ((flags & ~all) != 0 || (trackers & (trackers - 1)) != 0) return fail(NULL, EINVAL, "flags %#x", flags);
   if (options != NULL && options->size < sizeof *options) return fail(NULL, EINVAL, "size %zu of the options", options->size);
   if ((flags & KEFS_CREATE) == 0) return KEFS_OK;
-  return options == NULL || (flags & KEFS_RDONLY) != 0 ? fail(NULL, EINVAL, "KEFS_CREATE without options, or to read") : KEFS_OK;
+  return options == NULL || (flags & (KEFS_RDONLY | KEFS_SNAPSHOT)) != 0 ? fail(NULL, EINVAL, "KEFS_CREATE without options, or to read") : KEFS_OK;
 }
 
 /* Locking */
 
-static long milliseconds(void) {
+long milliseconds(void) {
   struct timespec now;
   clock_gettime(CLOCK_MONOTONIC, &now);
   return now.tv_sec * 1000 + now.tv_nsec / 1000000;
@@ -63,11 +63,18 @@ static int lock_until(int fd, int kind, uint32_t wait) {
   return KEFS_OK;
 }
 
+/* Milliseconds that it waits, or -1: for ever. */
+static long limit_of(const struct opening *opening) {
+  return (opening->flags & KEFS_NOWAIT) != 0 ? 0 : opening->options.wait == 0 ? -1 : (long)opening->options.wait;
+}
+
+/* A snapshot locks nothing but while it is read. */
 static int lock_file(struct kefs_image *image, const struct opening *opening) {
-  int kind = image->read_only ? LOCK_SH : LOCK_EX, number;
-  if ((opening->flags & KEFS_NOWAIT) != 0) number = lock_until(image->fd, kind, 0);
-  else if (opening->options.wait != 0) number = lock_until(image->fd, kind, opening->options.wait);
-  else number = flock(image->fd, kind) == 0 ? KEFS_OK : errno;
+  long limit = limit_of(opening);
+  int number = KEFS_OK;
+  if (!image->read_only) number = lock_to_write(image, limit);
+  else if (image->snapshot == NULL && limit >= 0) number = lock_until(image->fd, LOCK_SH, (uint32_t)limit);
+  else if (image->snapshot == NULL) number = flock(image->fd, LOCK_SH) == 0 ? KEFS_OK : errno;
   return number == EWOULDBLOCK ? is_busy(image, opening) : number == KEFS_OK ? KEFS_OK : fail(image, number, "locking %s", opening->path);
 }
 
@@ -112,8 +119,10 @@ static int lock_path(struct kefs_image *image, const struct opening *opening) {
 
 /* After a sync that failed the system may hold bytes that it takes for written and the device has not: a later sync succeeds and
    does not write them. So what it holds is dropped, once nothing of it waits to be written, and read anew. A page stays where it
-   is mapped, so the pages of the image's own mapping are let go first. */
+   is mapped, or being read, so the pages of the image's own mapping are let go first, and no reader may be in its turn. */
 int settle(struct kefs_image *image) {
+  int result = await_readers(image);
+  if (result != KEFS_OK) return result;
   if (image->bytes != NULL) madvise((void *)(uintptr_t)image->bytes, SECTOR * image->sectors, MADV_DONTNEED);
   if (fsync(image->fd) != 0) return fail(image, device_result(errno), "fsync: %s", strerror(errno));
   posix_fadvise(image->fd, 0, 0, POSIX_FADV_DONTNEED);
@@ -152,11 +161,6 @@ static int result_of(uint32_t answer) {
   }
 }
 
-/* The plans are of stores of layouts 2 and 3, and this library of layout 2 alone: another image is refused before a byte of it is written. */
-static int check_mark(struct kefs_image *image) {
-  return image->sectors > 0 && has_mark(image, "FAMSYNC3") ? fail(image, KEFS_NOT_IMAGE, "an image of layout 3") : KEFS_OK;
-}
-
 int recover(struct kefs_image *image) {
   struct famsync_plan *scratch = image->scratch, *plan = image->plan;
   uint32_t answer = famsync_open(&image->handle, image->bytes, image->sectors, scratch->calls, scratch->rows, &plan->used, plan->calls, plan->rows);
@@ -167,12 +171,14 @@ int recover(struct kefs_image *image) {
 }
 
 static int read_image(struct kefs_image *image) {
+  if (image->snapshot != NULL) return read_snapshot(image);
   int result = settle(image);
   if (result == KEFS_OK) result = map_host_file(image);
-  if (result == KEFS_OK) result = check_mark(image);
-  if (result == KEFS_OK) result = recover(image);
   if (result != KEFS_OK) return result;
-  image->stat.pages = home_pages(image->sectors);
+  image->layout = layout_of(image);
+  result = recover(image);
+  if (result != KEFS_OK) return result;
+  image->stat.pages = home_pages(image);
   read_directory(image);
   return find_room(image);
 }
@@ -190,16 +196,28 @@ static struct kefs_image *new_image(void) {
   return image;
 }
 
+/* A snapshot may find only when it reads the file that it was replaced: then it begins again. */
+static int lock_and_read(struct kefs_image *image, const struct opening *opening) {
+  int result;
+  do {
+    result = lock_path(image, opening);
+    if (result == KEFS_OK) result = read_image(image);
+  } while (image->snapshot != NULL && result == ESTALE);
+  return result;
+}
+
 static int open_image(struct kefs_image *image, const struct opening *opening) {
   if (image->scratch == NULL || image->plan == NULL) return fail(image, ENOMEM, "room for plans");
   if (sysconf(_SC_PAGESIZE) != PAGE) return fail(image, ENOSYS, "pages of %ld bytes", sysconf(_SC_PAGESIZE));
   int result = this_generation(&image->generation);
   if (result != KEFS_OK) return fail(image, result, "beginning");
-  image->read_only = (opening->flags & KEFS_RDONLY) != 0;
-  result = lock_path(image, opening);
-  if (result == KEFS_OK) result = read_image(image);
+  image->read_only = (opening->flags & (KEFS_RDONLY | KEFS_SNAPSHOT)) != 0;
+  int is_snapshot = (opening->flags & KEFS_SNAPSHOT) != 0;
+  if (is_snapshot) result = begin_snapshot(image, limit_of(opening));
+  if (result == KEFS_OK) result = lock_and_read(image, opening);
   if (result != KEFS_OK) return result;
-  result = begin_tracking(image, opening->flags);
+  end_change(image);
+  result = begin_tracking(image, is_snapshot ? 0 : opening->flags);
   return result == KEFS_OK ? KEFS_OK : fail(image, result, "tracking");
 }
 
@@ -229,7 +247,7 @@ int kefs_open(kefs_image **to, const char *path, unsigned flags) { return kefs_o
 
 /* Recovery in place */
 
-/* A plan ends in the gate's write and a sync. Before these the commit cannot stand; after one of them failed, the gate tells. */
+/* A plan ends in the gate's write and a sync, in either layout. Before these the commit cannot stand; after one of them failed, the gate tells. */
 static enum outcome outcome_of(const struct kefs_image *image) {
   const struct famsync_plan *plan = image->plan;
   if (image->taken == 0 || image->failed + 2 < plan->used) return IS_BEFORE;
@@ -245,6 +263,8 @@ int recover_in_place(struct kefs_image *image) {
   if (result != KEFS_OK) return result;
   let_all_go(image, image->outcome == IS_AFTER);
   image->halted = 0;
+  image->turns.is_new = 1;
+  end_change(image);
   return KEFS_OK;
 }
 

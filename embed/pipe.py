@@ -1,7 +1,8 @@
-"""pipe.py PAGESYNC IMAGE: speaks the requests of pagesync (docs/FORMATS.md) and checks its answers, refusals and locks."""
+"""pipe.py PAGESYNC IMAGE [LAYOUT]: speaks the requests of pagesync (docs/FORMATS.md), on an image of layout 3 or of LAYOUT, and checks its answers,
+refusals and locks."""
 import subprocess, sys
-from images import HOMES, new_image
-program, path = sys.argv[1], sys.argv[2]
+from images import new_image
+program, path, layout = sys.argv[1], sys.argv[2], int(sys.argv[3]) if len(sys.argv) > 3 else 3
 
 
 def page(file, number, byte):
@@ -25,7 +26,7 @@ def shown(file, number):
 
 
 with open(path, "wb") as image:
-    image.write(new_image([1100 * 4096, 5000, 1], read_only=[2]))
+    image.write(new_image([1100 * 4096, 5000, 1], read_only=[2], layout=layout))
 expect(b"", 0, b"")
 expect(page(0, 3, 7) + page(1, 1, 8) + b"commit\n" + b"read 0 3\n", 0, b"ok\nok\n" + bytes([7]) * 4096)
 assert shown(1, 1) == bytes([8]) * 904 + bytes(4096 - 904)
@@ -45,4 +46,4 @@ holder.stdin.flush()
 assert holder.stdout.read(3) == b"ok\n"
 assert ran(b"")[0] == 1, "the image is not locked"
 holder.communicate()
-print("pagesync: answers, refusals and the lock are as they should be")
+print(f"pagesync: layout {layout}, answers, refusals and the lock are as they should be")

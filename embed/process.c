@@ -46,7 +46,7 @@ static struct region *regions;
 
 static struct region *free_region(void) {
   for (struct region *it = regions; it != NULL; it = it->next)
-    if (it->start == 0) return it;
+    if (__atomic_load_n(&it->start, __ATOMIC_SEQ_CST) == 0) return it;
   struct region *made = calloc(1, sizeof *made);
   if (made == NULL) return NULL;
   made->next = regions;

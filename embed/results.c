@@ -9,7 +9,7 @@
 static const struct { int result; const char *name, *text; } RESULTS[] = {
   {KEFS_OK, "KEFS_OK", "it was done"},
   {KEFS_NOT_IMAGE, "KEFS_NOT_IMAGE", "the file has no layout of a store"},
-  {KEFS_BAD_JOURNAL, "KEFS_BAD_JOURNAL", "the image's journal is open with a map that no commit writes"},
+  {KEFS_BAD_JOURNAL, "KEFS_BAD_JOURNAL", "the image's journal has a map that no commit writes"},
   {KEFS_BUSY, "KEFS_BUSY", "another process or handle has the image open"},
   {KEFS_NO_FILE, "KEFS_NO_FILE", "the image has no such file, or it is not mapped"},
   {KEFS_TOO_MANY, "KEFS_TOO_MANY", "a commit takes at most 1023 dirty pages"},

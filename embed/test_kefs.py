@@ -1,7 +1,8 @@
 """python3 -m unittest test_kefs: the Python binding, over KEFS_LIBRARY, and images that it makes against those of images.py and, where
-crates/pagefmt is built, of pagefmt."""
+crates/pagefmt is built, of pagefmt. Images that are not made by the library are of both layouts."""
 
 import ctypes
+import errno
 import gc
 import os
 import struct
@@ -12,7 +13,7 @@ import threading
 import unittest
 
 import kefs
-from images import new_image, with_open_journal
+from images import LAYOUTS, new_image, with_journal, with_open_journal
 
 HERE = os.path.dirname(os.path.abspath(__file__))
 KEFSCHECK = os.path.join(HERE, "out/kefscheck")
@@ -22,6 +23,17 @@ PAGEFMT = os.environ.get("PAGEFMT", os.path.join(HERE, "../crates/pagefmt/out/pa
 def content(path):
     with open(path, "rb") as file:
         return file.read()
+
+
+def live_images(lengths, pages, read_only=()):
+    """Images with these pages, by their homes, in the journal that the gate names: of layout 2, and of layout 3 in either one."""
+    new = new_image(lengths, read_only, 3)
+    return with_open_journal(new_image(lengths, read_only), pages), with_journal(new, pages, 3, opened=False), with_open_journal(new, pages, 3)
+
+
+def image_layout(image):
+    """The layout that an image has by its kind."""
+    return 3 if image[512:1024] == LAYOUTS[3].mark * 64 else 2
 
 
 class Images(unittest.TestCase):
@@ -38,7 +50,7 @@ class Images(unittest.TestCase):
 
     def test_a_new_image_is_as_the_format_says(self):
         kefs.format(self.path, [3 * 4096, kefs.File(5000, read_only=True), 0, 1])
-        self.assertEqual(content(self.path), new_image([3 * 4096, 5000, 0, 1], read_only=[1]))
+        self.assertEqual(content(self.path), new_image([3 * 4096, 5000, 0, 1], read_only=[1], layout=3))
         self.assertRaises(FileExistsError, kefs.format, self.path, [1])
         self.assertRaises(ValueError, kefs.format, self.path + "2", [1 << 32])
 
@@ -50,7 +62,7 @@ class Images(unittest.TestCase):
             with open(os.path.join(self.folder, name), "wb") as file:
                 file.write(given)
         specs = ["zero:12288", "ro:two", "rw:three", "rw:two", "zero:1"]
-        subprocess.run([PAGEFMT, "new", "made", *specs], cwd=self.folder, check=True)
+        subprocess.run([PAGEFMT, "new3", "made", *specs], cwd=self.folder, check=True)
         two = kefs.File(9001, content=bytes_of_two)
         kefs.format(self.path, [12288, two._replace(read_only=True), 0, two, 1])
         self.assertEqual(content(self.path), content(os.path.join(self.folder, "made")))
@@ -106,15 +118,45 @@ class Images(unittest.TestCase):
             self.assertEqual((image.commit(), image.stat()["tracker"]), (1, "caller"))
 
     def test_a_reader(self):
+        for image in live_images([2 * 4096], {1: b"j" * 4096}):
+            self.read_beside_another(image)
+
+    def read_beside_another(self, before):
         with open(self.path, "wb") as file:
-            file.write(with_open_journal(new_image([2 * 4096]), {1: b"j" * 4096}))
-        before = content(self.path)
+            file.write(before)
         for flags in (kefs.RDONLY, kefs.RDONLY | kefs.LAZY):
             with kefs.open(self.path, flags) as image, kefs.open(self.path, flags | kefs.NOWAIT) as beside:
                 self.assertEqual(bytes(image.map(0)), bytes(4096) + b"j" * 4096)
                 self.assertRaises(kefs.ReadOnly, beside.commit)
                 self.assertRaises(kefs.Busy, kefs.open, self.path, kefs.NOWAIT)
         self.assertEqual(content(self.path), before)
+
+    def test_a_snapshot_beside_a_writer(self):
+        with self.opened() as image, kefs.open(self.path, kefs.SNAPSHOT, wait=100) as reader:
+            view, seen = image.map(0), reader.map(0)
+            part = seen[4096:]
+            with image.transaction():
+                view[4096] = 5
+            self.assertEqual((part[0], reader.refresh(), part[0], seen[4096], reader.refresh()), (0, True, 5, 5, False))
+            self.assertRaises(TypeError, seen.__setitem__, 0, 1)
+            self.assertRaises(kefs.ReadOnly, reader.commit)
+            with self.assertRaises(OSError) as caught:
+                image.refresh()
+            self.assertEqual(caught.exception.errno, errno.EINVAL)
+            self.assertRaises(BufferError, reader.close)
+            part.release()
+            del part
+            reader.close()
+            self.assertRaises(ValueError, reader.refresh)
+            self.assertRaises(ValueError, lambda: seen[0])
+
+    def test_a_snapshot_of_a_replaced_image(self):
+        self.opened().close()
+        with kefs.open(self.path, kefs.SNAPSHOT) as reader:
+            os.unlink(self.path)
+            with self.assertRaises(OSError) as caught:
+                reader.refresh()
+            self.assertEqual(caught.exception.errno, errno.ESTALE)
 
     def test_read_only_views_take_no_store(self):
         kefs.format(self.path, [1, kefs.File(4, read_only=True, content=b"abcd")])
@@ -210,6 +252,28 @@ class Images(unittest.TestCase):
                 kefs.open(self.path, wait=20)
             self.assertIn(f"process {os.getpid()} has", str(caught.exception))
 
+    def test_images_of_both_layouts(self):
+        for number, before in enumerate(live_images([2 * 4096, 5000], {1: b"j" * 4096, 3: b"k" * 4096})):
+            with open(self.path, "wb") as file:
+                file.write(before)
+            with kefs.open(self.path) as image:
+                self.assertEqual((image.stat()["layout"], image.stat()["recovered"]), (2 if number == 0 else 3, 2))
+                self.assertEqual((bytes(image.map(0)), bytes(image.map(1))), (bytes(4096) + b"j" * 4096, bytes(4096) + b"k" * 904))
+                with image.transaction():
+                    image.map(0)[5] = 7
+                image.backup(self.path + str(number))
+            with kefs.open(self.path) as image, kefs.open(self.path + str(number)) as copy:
+                self.assertEqual((image.map(0)[5], bytes(copy.map(0)), bytes(copy.map(1))), (7, bytes(image.map(0)), bytes(image.map(1))))
+                self.assertEqual((copy.stat()["layout"], copy.stat()["recovered"]), (3, 0))
+            self.assertEqual(content(self.path)[512 * LAYOUTS[image_layout(before)].directory :][:512], content(self.path + str(number))[512 * 9 :][:512])
+
+    def test_a_new_image_takes_room(self):
+        for name, file, room in (("1", 4096, 512 * 16408 + 4096), ("2", kefs.File(4096, sparse=True), 16384)):
+            kefs.format(self.path + name, [file])
+            facts = os.stat(self.path + name)
+            self.assertEqual(facts.st_size, 512 * 16408 + 4096)
+            self.assertIn(facts.st_blocks * 512 - room, (0, 4096))  # some file systems count a block of their own
+
     def test_a_backup(self):
         with self.opened() as image:
             view = image.map(0)
@@ -293,41 +357,50 @@ class Checks(unittest.TestCase):
         return status, lines.decode().splitlines()[1:]
 
     def test_a_whole_image(self):
-        image = with_open_journal(new_image([8192, 5000, 0], read_only=[1]), {1: b"j" * 4096, 3: b"k" * 4096})
-        files = ["layout: 2, 4 pages", "file 0: 8192 bytes, 2 pages from home 0 on", "file 1: 5000 bytes, 2 pages from home 2 on, read-only", "file 2: 0 bytes, 0 pages from home 4 on"]
-        self.assertEqual(self.told_of(image), (0, [*files, "journal: open, 2 pages", "would open: yes"]))
-        self.assertEqual(self.told("dump", self.path, "0"), (0, bytes(4096) + b"j" * 4096, ""))
-        self.assertEqual(self.told("dump", self.path, "1"), (0, bytes(4096) + b"k" * 904, ""))
-        self.assertEqual(self.told("dump", self.path, "3")[0], 1)
+        images = live_images([8192, 5000, 0], {1: b"j" * 4096, 3: b"k" * 4096}, read_only=[1])
+        files = ["file 0: 8192 bytes, 2 pages from home 0 on", "file 1: 5000 bytes, 2 pages from home 2 on, read-only"]
+        files.append("file 2: 0 bytes, 0 pages from home 4 on")
+        for image, layout, journal in zip(images, (2, 3, 3), ("open", "0 of two", "1 of two")):
+            self.assertEqual(self.told_of(image), (0, [f"layout: {layout}, 4 pages", *files, f"journal: {journal}, 2 pages", "would open: yes"]))
+            self.assertEqual(self.told("dump", self.path, "0"), (0, bytes(4096) + b"j" * 4096, ""))
+            self.assertEqual(self.told("dump", self.path, "1"), (0, bytes(4096) + b"k" * 904, ""))
+            self.assertEqual(self.told("dump", self.path, "3")[0], 1)
+        self.assertEqual(self.told_of(new_image([1]))[1][2:], ["journal: closed", "would open: yes"])
 
     def test_an_image_in_use(self):
         with kefs.open(self.path, create=[4096]) as image:
             image.map(0)[0] = 65
             image.commit()
             status, lines, _ = self.told(self.path)
-            self.assertEqual((status, lines.decode().splitlines()[-3:]), (1, ["journal: open, 1 pages", f"in use: by process {os.getpid()}", "would open: not now"]))
+            self.assertEqual((status, lines.decode().splitlines()[-3:]), (1, ["journal: 1 of two, 1 pages", f"in use: by process {os.getpid()}", "would open: not now"]))
             self.assertEqual(self.told("dump", self.path, "0")[::2], (1, f"kefscheck: {self.path}: process {os.getpid()} has {self.path}: another process or handle has the image open\n"))
 
     def test_damaged_images(self):
-        whole = with_open_journal(new_image([8192, 5000]), {1: bytes(4096)})
-        damages = {
-            (0, b"X"): "sector 0 is not the mark",
-            (512 + 4, b"\xff\xff"): "file 0 does not end within",
-            (512 + 8, b"\1"): "files 0 and 1 share a page",
-            (512 + 80, b"\1"): "entry 10 of the directory is of no file",
-            (1536, b"\0\4"): "the journal is open with 1024 pages",
-            (1540, b"\4"): "page 0 of the journal has no home",
-            (1536, b"\2\0\0\0\1\0\0\0\1"): "pages 0 and 1 of the journal have one home",
-        }
-        for (at, damage), words in damages.items():
-            status, lines = self.told_of(whole[:at] + damage + whole[at + len(damage) :])
-            result = kefs.BadJournal if at > 1024 else kefs.NotImage
-            name = "KEFS_BAD_JOURNAL" if at > 1024 else "KEFS_NOT_IMAGE"
-            self.assertEqual((status, lines[-1].startswith(f"would open: no, {name}: {words}")), (1, True), lines)
-            self.assertRaises(result, kefs.open, self.path)
-        self.assertEqual(self.told_of(whole[: 512 * 100])[1], ["would open: no, KEFS_NOT_IMAGE: it has 100 sectors, under 8195"])
+        for layout, other, words in ((2, 3, "sector 0 is the mark of layout 3, and sector 1 is not its kind"),
+                                     (3, 2, "sector 0 is the mark of layout 2, and sector 1 the kind of layout 3")):
+            whole, places = with_open_journal(new_image([8192, 5000], layout=layout), {1: bytes(4096)}, layout), LAYOUTS[layout]
+            directory, journal = 512 * places.directory, 512 * places.journals[1]
+            damages = {
+                (0, b"X"): "sector 0 is not the mark",
+                (0, LAYOUTS[other].mark * 64): words,
+                (directory + 4, b"\xff\xff"): "file 0 does not end within",
+                (directory + 8, b"\1"): "files 0 and 1 share a page",
+                (directory + 80, b"\1"): "entry 10 of the directory is of no file",
+                (journal, b"\0\4"): "the journal has 1024 pages",
+                (journal + 4, b"\4"): "page 0 of the journal has no home",
+                (journal, b"\2\0\0\0\1\0\0\0\1"): "pages 0 and 1 of the journal have one home",
+            }
+            for (at, damage), reason in damages.items():
+                self.try_damaged(whole[:at] + damage + whole[at + len(damage) :], at >= journal, reason)
+            self.assertEqual(self.told_of(whole[: 512 * 100])[1], [f"would open: no, KEFS_NOT_IMAGE: it has 100 sectors, under {places.homes}"])
         self.assertEqual(self.told_of(b"")[1], ["would open: no, KEFS_NOT_IMAGE: it has less than a sector"])
         self.assertIn("upgrade", self.told_of(new_image([1], layout=1))[1][0])
+
+    def try_damaged(self, image, is_journal, reason):
+        status, lines = self.told_of(image)
+        name = "KEFS_BAD_JOURNAL" if is_journal else "KEFS_NOT_IMAGE"
+        self.assertEqual((status, lines[-1].startswith(f"would open: no, {name}: {reason}")), (1, True), lines)
+        self.assertRaises(kefs.BadJournal if is_journal else kefs.NotImage, kefs.open, self.path)
 
     def test_other_words(self):
         self.assertEqual(self.told()[0], 2)

@@ -34,7 +34,8 @@ enum { AROUND = 16 };
 /* Reads the pages from `first` on that follow each other unread, up to `end`: how many, or 0 and errno. */
 static size_t copy_homes(const struct mapping *mapping, size_t first, size_t end) {
   uint64_t mode = mapping->image->tracker == TRACKER_SCAN ? UFFDIO_COPY_MODE_WP : 0;
-  const unsigned char *from = mapping->image->bytes + home_offset(mapping->file.first_home + (uint32_t)first);
+  const struct kefs_image *image = mapping->image;
+  const unsigned char *from = image->bytes + home_offset(image->layout, mapping->file.first_home + (uint32_t)first);
   struct uffdio_copy copy = {.dst = (uintptr_t)page_at(mapping, first), .src = (uintptr_t)from, .len = (end - first) * PAGE, .mode = mode};
   if (ioctl(mapping->image->faults, UFFDIO_COPY, &copy) == 0) return end - first;
   if (copy.copy > 0) return (size_t)copy.copy / PAGE;
@@ -110,7 +111,7 @@ int open_pages(const struct span *span) {
   struct span opened;
   int number = open_some(span, &opened);
   if (number != KEFS_OK) return number;
-  for (size_t k = opened.first; k < opened.end; k++) add_mark(&span->mapping->marks[k], DIRTY);
+  for (size_t k = opened.first; k < opened.end; k++) mark_dirty(span->mapping, k);
   return KEFS_OK;
 }
 
@@ -258,8 +259,9 @@ static int put_others(struct mapping *mapping) {
 
 /* Large pages take fewer faults now, and fewer entries to look through in each scan. The first store to one splits it. */
 static int read_homes(struct mapping *mapping) {
+  const struct kefs_image *image = mapping->image;
   madvise(mapping->at, mapping->pages * PAGE, MADV_HUGEPAGE);
-  return read_all(mapping->image->fd, mapping->at, mapping->pages * PAGE, home_offset(mapping->file.first_home)) == KEFS_OK ? KEFS_OK : EIO;
+  return read_all(image->fd, mapping->at, mapping->pages * PAGE, home_offset(image->layout, mapping->file.first_home)) == KEFS_OK ? KEFS_OK : EIO;
 }
 
 int load(struct mapping *mapping) {
@@ -278,10 +280,15 @@ int load(struct mapping *mapping) {
 
 /* Noting stores */
 
-/* Marks the pages that the kernel says were stored to since the last look, and begins anew. A page that was not read yet has
-   no protection, as a dirty one, but is neither present nor swapped. Where all pages were read the kernel is not asked for
+static void mark_pages(struct mapping *mapping, const struct scanned *found) {
+  size_t end = (found->end - (uintptr_t)mapping->at) / PAGE;
+  for (size_t k = (found->start - (uintptr_t)mapping->at) / PAGE; k < end; k++) mark_dirty(mapping, k);
+}
+
+/* Marks the pages that the kernel says were stored to since the last look, or forgets that they were, and begins anew. A page that was not read yet
+   has no protection, as a dirty one, but is neither present nor swapped. Where all pages were read the kernel is not asked for
    that, which takes it twice as long. */
-static int look(const struct span *span, unsigned char mark) {
+static int look(const struct span *span, int is_marking) {
   struct mapping *mapping = span->mapping;
   struct scanned found[128];
   struct scan scan = {.size = sizeof scan, .flags = PROTECT_MATCHING | CHECK_ASYNC, .walk_end = (uintptr_t)page_at(mapping, span->first),
@@ -291,13 +298,12 @@ static int look(const struct span *span, unsigned char mark) {
     scan.start = scan.walk_end;
     int count = ioctl(mapping->image->pagemap, SCAN, &scan);
     if (count < 0) return errno;
-    for (int i = 0; i < count; i++)
-      for (uint64_t at = found[i].start; at < found[i].end; at += PAGE) add_mark(&mapping->marks[(at - (uintptr_t)mapping->at) / PAGE], mark);
+    for (int i = 0; i < count && is_marking; i++) mark_pages(mapping, &found[i]);
   }
   return KEFS_OK;
 }
 
-int note_dirty(const struct span *span) { return span->mapping->image->tracker == TRACKER_SCAN ? look(span, DIRTY) : KEFS_OK; }
+int note_dirty(const struct span *span) { return span->mapping->image->tracker == TRACKER_SCAN ? look(span, 1) : KEFS_OK; }
 
 /* A scan has protected the pages already. */
 int seal(const struct span *span) {
