@@ -1,20 +1,22 @@
-"""Msyncs by the order of their writes in docs/FORMATS.md, of layouts 2 and 3, and what a stop at each write and sync leaves, as pagestops prints it. It runs no
-program, and shares no code with one; tests/tools compares its lines of layout 2 with those of pagestops."""
-from typing import NamedTuple
+"""Msyncs by the order of their writes in docs/FORMATS.md, of layouts 2 and 3, and what a stop at each write and sync leaves, as pagestops prints it; beside them a
+plain msync, which writes pages where they belong, and tears. It runs no program, and shares no code with one; tests/tools compares its lines of layout 2 with
+those of pagestops."""
+from typing import NamedTuple, Optional
 
 OPEN, ZEROS = b"GATEOPEN" * 64, bytes(512)
 FILLINGS = (None, ZEROS, b"\xff" * 512, OPEN[:256] + ZEROS[:256], OPEN)
 
 
 class Layout(NamedTuple):
-    """The sectors of the gate and of the first home, and those of the journals that a closed gate names, if any, and an open one."""
+    """The sectors of the gate, if any, and of the first home, and those of the journals that a closed gate names, if any, and an open one."""
 
-    gate: int
+    gate: Optional[int]
     homes: int
     journals: tuple
 
 
-LAYOUTS = {2: Layout(2, 8195, (None, 3)), 3: Layout(16, 16408, (24, 8216))}
+PLAIN = 0  # no layout: a file without a journal
+LAYOUTS = {PLAIN: Layout(None, 0, (None, None)), 2: Layout(2, 8195, (None, 3)), 3: Layout(16, 16408, (24, 8216))}
 
 
 def sectors_of(first, content):
@@ -22,10 +24,11 @@ def sectors_of(first, content):
 
 
 class Disk:
-    """What is synced, what is written since, and a line for each write and sync that was stopped. A stop spoils sectors, or as many together."""
+    """What is synced, what is written since, and a line for each write and sync that was stopped. A stop spoils sectors, or as many together. The sync that is
+    event `drop` succeeds and syncs nothing."""
 
-    def __init__(self, layout, together=1):
-        self.layout, self.together, self.synced, self.unsynced = layout, together, {}, {}
+    def __init__(self, layout, together=1, drop=None):
+        self.layout, self.together, self.drop, self.synced, self.unsynced = layout, together, drop, {}, {}
         self.stops, self.done = [], 0
 
     def stop(self, part, sectors):
@@ -41,18 +44,21 @@ class Disk:
 
     def sync(self):
         self.stop("sync", self.unsynced)
-        self.synced.update(self.unsynced)
-        self.unsynced = {}
+        if len(self.stops) != self.drop:
+            self.synced.update(self.unsynced)
+            self.unsynced = {}
 
     def page(self, image, first):
         return b"".join(image.get(first + k, ZEROS) for k in range(8))
 
     def pages(self, image, count):
-        """The home pages that the image stands for."""
+        """The home pages that the image stands for; none where its journal is bad."""
         start, live = self.layout.journals[image.get(self.layout.gate) == OPEN], []
         if start is not None:
             numbers = memoryview(self.page(image, start)).cast("I").tolist()
             live = numbers[1:1 + numbers[0]]
+            if numbers[0] > 1023:
+                return []
         return [self.page(image, start + 8 + 8 * live.index(k) if k in live else self.layout.homes + 8 * k) for k in range(count)]
 
 
@@ -90,15 +96,26 @@ def in_turn(disk, live, pages):
     disk.sync()
 
 
-def stops_of_msyncs(number, msyncs, together=1):
-    """The lines of pagestops for msyncs, each a list of homes, on a new store of that layout: an opening syncs, and then they come. A stop spoils sectors,
-    or blocks of so many."""
-    count = 1 + max(home for homes in msyncs for home in homes)
-    disk, live, after = Disk(LAYOUTS[number], together), {}, [[bytes(4096)] * count]
+def in_place(disk, live, pages):
+    """A plain msync: the pages are written where they belong."""
+    for home, page in pages.items():
+        disk.write("page", disk.layout.homes + 8 * home, page)
     disk.sync()
+
+
+MSYNCS = {PLAIN: in_place, 2: in_one, 3: in_turn}
+
+
+def stops_of_msyncs(number, msyncs, together=1, drop=None):
+    """The lines of pagestops for msyncs, each a list of homes, on a new store of that layout: an opening syncs, and then they come. Of no layout (PLAIN) it is a
+    file that nobody opens. A stop spoils sectors, or blocks of so many, and the sync that is event `drop` is none."""
+    count = 1 + max(home for homes in msyncs for home in homes)
+    disk, live, after = Disk(LAYOUTS[number], together, drop), {}, [[bytes(4096)] * count]
+    if number != PLAIN:
+        disk.sync()
     for place, homes in enumerate(msyncs):
         pages = {home: bytes([place + 1]) * 4096 for home in homes}
-        (in_turn if number == 3 else in_one)(disk, live, pages)
+        MSYNCS[number](disk, live, pages)
         disk.done, live = place + 1, pages
         after.append([pages.get(k, page) for k, page in enumerate(after[-1])])
     lines = [line(disk, event, stop, after) for event, stop in enumerate(disk.stops, 1)]

@@ -1,4 +1,4 @@
-"""Pictures as SVG: rectangles and words on a white ground, and the three that the documents show. tools/stopmap and bench/run write them."""
+"""Pictures as SVG, rectangles and words on a white ground: those that the documents show, and a map of stops as text. tools/stopmap and bench/run write them."""
 import math
 import re
 from itertools import groupby
@@ -8,7 +8,7 @@ from xml.sax.saxutils import escape
 INK, PALE = "#222222", "#999999"
 # Of stops: what is left of a file after no msync, after one, two ..; and of a bad one.
 LEFT, BAD = ("#d9d9d9", "#5b9bd5", "#70ad47", "#ffc000", "#a678de"), "#e03030"
-FILLINGS = ("as last synced", "zeros", "ones (ff)", "half a gate, zeros", "an open gate")
+FILLINGS = ("old bytes", "zeros", "ones", "half a gate", "a whole gate")
 BAR = "#5b9bd5"
 
 
@@ -26,6 +26,12 @@ class Picture:
         turn = f' transform="rotate(-90 {x:g} {y:g})"' if turned else ""
         self.parts.append(f'<text x="{x:g}" y="{y:g}" text-anchor="{anchor}" font-size="{size}" fill="{color}"{turn}>{escape(text)}</text>')
 
+    def line(self, points, color, dashes=""):
+        """A line from point to point."""
+        through = " ".join(f"{x:.1f},{y:.1f}" for x, y in points)
+        dash = f' stroke-dasharray="{dashes}"' if dashes else ""
+        self.parts.append(f'<polyline points="{through}" fill="none" stroke="{color}" stroke-width="2"{dash}/>')
+
     def text(self):
         head = f'<svg xmlns="http://www.w3.org/2000/svg" width="{self.width}" height="{self.height}" viewBox="0 0 {self.width} {self.height}" font-family="sans-serif">'
         return "\n".join([head, f'<rect width="{self.width}" height="{self.height}" fill="white"/>', *self.parts, "</svg>", ""])
@@ -41,6 +47,7 @@ class Stop(NamedTuple):
 
 
 STOP = re.compile(r"stop (\d+) (\w+) acknowledged (\d+) left ([-\d ]+?)(?: BAD)?")
+PARTS = "body: the new pages, written aside; map: where they belong; gate: the sector that makes them count; home: a page's place in the file"
 
 
 def stops_of(lines):
@@ -113,23 +120,48 @@ NARROW, WIDE, HIGH = 9, 22, 22
 
 
 def two_maps(stops, turns):
-    """The same msyncs in layout 2 and in layout 3, side by side: a column for each write and sync, a row for each filling."""
-    left, top, between = 150, 92, 60
-    second = left + sum(map(width_of, stops)) + between
+    """The same msyncs in layout 2 and in layout 3."""
+    maps = [(f"{name}, {sum(it.part == 'sync' for it in row) - 1} syncs", row)
+            for name, row in (("layout 2: one journal", stops), ("layout 3: two journals in turn", turns))]
+    return side_by_side("Two msyncs of a page, the power cut at every write and sync: which of them stand?", maps)
+
+
+def torn_map(stops, plain):
+    """The same msyncs of this store and of a plain msync, whose pages are written where they belong."""
+    maps = [("a plain msync", plain), ("an msync of this store", stops)]
+    return side_by_side("Two msyncs of a page, the power cut at every write and sync: what is left of the file?", maps, PARTS)
+
+
+def side_by_side(title, maps, note=""):
+    """Maps with their names, side by side: a column for each write and sync, a row for each filling."""
+    left, top, between, lefts = 150, 92, 60, []
+    for _, stops in maps:
+        lefts.append(left if not lefts else end + between)
+        end = lefts[-1] + sum(map(width_of, stops))
     bottom = top + HIGH * len(FILLINGS)
-    picture = Picture(second + sum(map(width_of, turns)) + 20, bottom + 84)
-    picture.word(10, 22, "Two msyncs of a page, the power cut at every write and sync: which of them stand?", size=15)
+    picture = Picture(end + 20, bottom + 84 + 22 * bool(note))
+    picture.word(10, 22, title, size=15)
+    picture.word(left - 8, top - 8, "unsynced sectors hold", anchor="end", size=11, color=PALE)
     for row, filling in enumerate(FILLINGS):
         picture.word(left - 8, top + HIGH * row + 15, filling, anchor="end")
-    for x, name, row in ((left, "layout 2: one journal", stops), (second, "layout 3: two journals in turn", turns)):
-        picture.word(x, top - 36, f"{name}, {sum(it.part == 'sync' for it in row) - 1} syncs", size=13)
-        one_map(picture, row, x, top)
+    for x, (name, stops) in zip(lefts, maps):
+        picture.word(x, top - 36, name, size=13)
+        one_map(picture, stops, x, top)
     for place, number in enumerate(("0", "1", "2")):
         picture.box(left + 120 * place, bottom + 54, 14, 14, LEFT[int(number)])
         picture.word(left + 120 * place + 20, bottom + 66, f"after {number} msync{'' if number == '1' else 's'}")
-    torn = sum("-" in it.left for it in [*stops, *turns])
-    picture.word(left + 360, bottom + 66, f"torn: {torn}", color=BAD if torn else INK)
+    torn(picture, left + 360, bottom + 66, maps)
+    if note:
+        picture.word(left, bottom + 90, note)
     return picture.text()
+
+
+def torn(picture, x, y, maps):
+    """Says how many stops of all maps may leave a torn file, and what color that is."""
+    count = sum("-" in stop.left for _, stops in maps for stop in stops)
+    if count:
+        picture.box(x, y - 12, 14, 14, BAD)
+    picture.word(x + 20 * bool(count), y, f"torn: {count}", color=BAD if count else INK)
 
 
 def width_of(stop):
@@ -156,6 +188,20 @@ def one_map(picture, stops, left, top):
             else:
                 picture.box(first, at + 16, width, 2, INK)
                 picture.word(first + width / 2, at + 10, f"{said} acknowledged", anchor="middle", size=11)
+
+
+def text_map(name, stops):
+    """The lines of a map in letters: a column for each write and sync, those of one part side by side, and - for what is torn."""
+    groups = [list(row) for _, row in groupby(stops, key=lambda it: (it.acknowledged, it.part))]
+    bars = [before and before[0].acknowledged != row[0].acknowledged for before, row in zip([None, *groups], groups)]
+
+    def line(head, words):
+        cells = (("| " if bar else "") + word.ljust(max(len(row[0].part), len(row))) for bar, word, row in zip(bars, words, groups))
+        return f"{head:16}{' '.join(cells)}".rstrip()
+
+    said = [str(row[0].acknowledged) if place == 0 or bars[place] else "" for place, row in enumerate(groups)]
+    rows = [line(f"  {filling}", ("".join(it.left[k] for it in row) for row in groups)) for k, filling in enumerate(FILLINGS)]
+    return [line(name, (row[0].part for row in groups)), *rows, line("  acknowledged", said)]
 
 
 def named(picture, part, x, width, bottom, is_row):
@@ -225,3 +271,52 @@ def spoken(row):
         if row.taken >= size:
             return f"{figures(row.taken / size)} {unit}"
     return f"{figures(row.taken)} ns"
+
+
+class FaultRow(NamedTuple):
+    """A line of tools/faults: a program in so many frames, and its counts by their names."""
+
+    program: str
+    frames: int
+    counts: dict
+
+
+def fault_rows(lines):
+    """The rows of a table of tools/faults; ValueError where it has none, or one that is not like its head."""
+    head, *rows = [it.split() for it in lines if it.strip()] or [[]]
+    if head[:2] != ["program", "frames"] or not rows or any(len(it) != len(head) for it in rows):
+        raise ValueError("no table of tools/faults")
+    return [FaultRow(it[0], int(it[1]), dict(zip(head[2:], map(int, it[2:])))) for it in rows]
+
+
+PROGRAMS = ("#1f5fbf", "#b03060", "#2f8f4f", "#8a5a00", "#6040a0", "#00808a")
+
+
+def fault_lines(rows):
+    """Major page faults and pages read from slots of each program, over the frames: each step to the right is twice the frames, each upwards ten times the count."""
+    left, top, wide, high = 90, 60, 520, 330
+    sizes = sorted({it.frames for it in rows})
+    most = max(1, math.ceil(math.log10(max(2, *(it.counts["major"] for it in rows)))))
+    span = math.log2(sizes[-1] / sizes[0]) or 1
+
+    def place(frames, count):
+        return left + wide * math.log2(frames / sizes[0]) / span, top + high - high * math.log10(max(count, 1)) / most
+
+    picture = Picture(left + wide + 160, top + high + 60)
+    picture.word(10, 22, "Major page faults (lines), and pages read from slots (dashed)", size=15)
+    for power in range(most + 1):
+        y = place(sizes[0], 10 ** power)[1]
+        picture.box(left, y, wide, 1, "#dddddd")
+        picture.word(left - 8, y + 4, f"{10 ** power:,}", anchor="end")
+    for frames in sizes:
+        x = place(frames, 1)[0]
+        picture.box(x, top, 1, high, "#eeeeee")
+        picture.word(x, top + high + 18, f"{frames:,}", anchor="middle")
+    picture.word(left + wide / 2, top + high + 42, "frames of 4,096 bytes", anchor="middle")
+    for row, program in enumerate(dict.fromkeys(it.program for it in rows)):
+        color = PROGRAMS[row % len(PROGRAMS)]
+        own = sorted((it for it in rows if it.program == program), key=lambda it: it.frames)
+        for name, dashes in (("major", ""), ("from-slot", "5 4")):
+            picture.line([place(it.frames, it.counts[name]) for it in own], color, dashes)
+        picture.word(left + wide + 14, top + 14 + 20 * row, program, size=14, color=color)
+    return picture.text()
